@@ -1,0 +1,38 @@
+-- The control word of a fragment, a number below 2 ^ 64.
+--
+--   bit 0         epoch: 1 in the first round of a ring, 0 in the second, and so on
+--   bit 1         this is the first fragment of its call
+--   bit 2         this fragment only acknowledges
+--   bits 3 to 15  reserved, zero
+--   bits 16 to 31 message number
+--   bits 32 to 47 circuit
+--   bits 48 to 63 how many fragments of the other direction its writer has read, modulo 65,536
+use Rattle.std.specs.Prelude.{◌≡◌, ℕ, ◌+◌, ◌*◌, ◌/◌, ◌%◌, ◌^◌, ◌==◌, ◌&&◌, Bool, if◌then◌else◌, List}
+use Rattle.std.specs.List.{list_all}
+use Rattle.fl_base.specs.declared.fragment.Frag.{Frag}
+
+abbrev pub epoch_of : ℕ → ℕ
+epoch_of word = word % 2
+
+abbrev pub first_of : ℕ → Bool
+first_of word = word / 2 % 2 == 1
+
+abbrev pub reserved_of : ℕ → ℕ
+reserved_of word = word / 8 % 8192
+
+abbrev pub message_of : ℕ → ℕ
+message_of word = word / 65536 % 65536
+
+abbrev pub circuit_of : ℕ → ℕ
+circuit_of word = word / 2 ^ 32 % 65536
+
+abbrev pub told_of : ℕ → ℕ
+told_of word = word / 2 ^ 48
+
+-- the control word of a call's fragment, with epoch 0 and nothing told
+abbrev pub control_word : Bool → ℕ → ℕ → ℕ
+control_word first message circuit = (if first then 2 else 0) + 65536 * message + 2 ^ 32 * circuit
+
+-- a fragment that only acknowledges: bit 2 is set, bits 1 and 3 to 47 and all payload words are 0
+abbrev pub is_ack_only : Frag → Bool
+is_ack_only frag = (frag.control / 2 % 2 ^ 47 == 2) && list_all (λ w. w == 0) frag.words

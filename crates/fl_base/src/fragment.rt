@@ -1,0 +1,79 @@
+//! One cache line of a channel, and its control word (the bits stand in `specs/Control.antt`).
+
+ghost use Rattle.std.specs.Prelude.{◌≡◌, ◌+◌, ◌*◌, ◌^◌, ◌/◌, ◌%◌, ◌-◌, ◌≤◌, ◌<◌};
+ghost use Rattle.fl_base.specs.Control.{epoch_of, first_of, reserved_of, message_of, circuit_of, told_of, control_word, is_ack_only};
+
+use crate::identity::{Circuit, MsgNo};
+
+/// Seven payload words and a control word: what a core writes and another reads as one line.
+#[derive(Clone, Copy, Debug, PartialEq, Eq)]
+pub struct Frag {
+    /// The payload, little-endian words.
+    pub words: [u64; 7],
+    /// Epoch, first bit, message number, circuit and the count told (`specs/Control.antt`).
+    pub control: u64,
+}
+
+/// The control word of a call's fragment, with epoch 0 and nothing told.
+///
+/// `first` says that it is the first fragment of its call.
+pub fn control(first: bool, msg: MsgNo, circuit: Circuit) -> u64
+    ensures word { result ≡ control_word first msg.0 circuit.0 }
+    ensures first_read { first_of result ≡ first }
+    ensures message_read { message_of result ≡ msg.0 }
+    ensures circuit_read { circuit_of result ≡ circuit.0 }
+    ensures epoch_read { epoch_of result ≡ 0 }
+    ensures reserved_read { reserved_of result ≡ 0 }
+    ensures told_read { told_of result ≡ 0 }
+{
+    let first_bit = if first { 2 } else { 0 };
+    first_bit + 65_536 * u64::from(msg.0) + 4_294_967_296 * u64::from(circuit.0)
+}
+
+impl Frag {
+    /// The epoch bit: 1 in the first round of a ring, 0 in the second, and so on.
+    pub fn epoch(&self) -> u64
+        ensures { result ≡ epoch_of self.now.control }
+    {
+        self.control % 2
+    }
+
+    /// Whether this is the first fragment of its call.
+    pub fn is_first(&self) -> bool
+        ensures { result ≡ first_of self.now.control }
+    {
+        self.control / 2 % 2 == 1
+    }
+
+    /// The number of the message that this fragment is part of.
+    pub fn msg(&self) -> MsgNo
+        ensures { result.0 ≡ message_of self.now.control }
+    {
+        MsgNo((self.control / 65_536 % 65_536) as u16)
+    }
+
+    /// The circuit on the link that this fragment travels; 0 off links.
+    pub fn circuit(&self) -> Circuit
+        ensures { result.0 ≡ circuit_of self.now.control }
+    {
+        Circuit((self.control / 4_294_967_296 % 65_536) as u16)
+    }
+
+    /// Bits 48 to 63: how many fragments of the other direction the writer has read, modulo 65,536.
+    pub fn told(&self) -> u16
+        ensures { result ≡ told_of self.now.control }
+    {
+        let word = self.control;
+        (word / 281_474_976_710_656) as u16
+    }
+
+    /// Whether the fragment is wholly of the acknowledging form: bit 2 set, bits 1 and 3 to 47 and
+    /// all payload words 0.
+    pub fn is_ack_only(&self) -> bool
+        ensures { result ≡ is_ack_only self.now }
+    {
+        let blank = self.words.iter().all(|word| *word == 0);
+        let bits = self.control / 2 % 140_737_488_355_328;
+        bits == 2 && blank
+    }
+}
