@@ -7,7 +7,7 @@
 --   bits 16 to 31 message number
 --   bits 32 to 47 circuit
 --   bits 48 to 63 how many fragments of the other direction its writer has read, modulo 65,536
-use Rattle.std.specs.Prelude.{◌≡◌, ℕ, ◌+◌, ◌*◌, ◌/◌, ◌%◌, ◌^◌, ◌==◌, ◌&&◌, Bool, if◌then◌else◌, List}
+use Rattle.std.specs.Prelude.{ℕ, ◌+◌, ◌*◌, ◌/◌, ◌%◌, ◌^◌, ◌==◌, ◌&&◌, Bool, if◌then◌else◌}
 use Rattle.std.specs.List.{list_all}
 use Rattle.fl_base.specs.declared.fragment.Frag.{Frag}
 

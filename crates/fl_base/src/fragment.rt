@@ -1,6 +1,7 @@
 //! One cache line of a channel, and its control word (the bits stand in `specs/Control.antt`).
 
-ghost use Rattle.std.specs.Prelude.{◌≡◌, ◌+◌, ◌*◌, ◌^◌, ◌/◌, ◌%◌, ◌-◌, ◌≤◌, ◌<◌};
+ghost use Rattle.std.specs.Prelude.{◌≡◌, ◌+◌, ◌*◌, ◌^◌, ◌/◌, ◌%◌, ◌-◌, ◌≤◌, ◌<◌, ◌==◌};
+ghost use Rattle.std.specs.List.{list_all};
 ghost use Rattle.fl_base.specs.Control.{epoch_of, first_of, reserved_of, message_of, circuit_of, told_of, control_word, is_ack_only};
 
 use crate::identity::{Circuit, MsgNo};
@@ -67,13 +68,24 @@ impl Frag {
         (word / 281_474_976_710_656) as u16
     }
 
+    // Bit 2 is set, and bits 1 and 3 to 47 are 0.
+    fn has_ack_bits(&self) -> bool
+        ensures { result ≡ (self.now.control / 2 % 2 ^ 47 == 2) }
+    {
+        self.control / 2 % 140_737_488_355_328 == 2
+    }
+
     /// Whether the fragment is wholly of the acknowledging form: bit 2 set, bits 1 and 3 to 47 and
     /// all payload words 0.
     pub fn is_ack_only(&self) -> bool
         ensures { result ≡ is_ack_only self.now }
     {
-        let blank = self.words.iter().all(|word| *word == 0);
-        let bits = self.control / 2 % 140_737_488_355_328;
-        bits == 2 && blank
+        self.has_ack_bits() && is_blank(&self.words)
     }
+}
+
+fn is_blank(words: &[u64]) -> bool
+    ensures { result ≡ list_all (λ word. word == 0) words.now }
+{
+    words.iter().all(|word| *word == 0)
 }
