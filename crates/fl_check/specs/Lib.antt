@@ -1,1 +1,2 @@
 pub mod Interface
+pub mod Sizes

@@ -1,1 +1,18 @@
+//! Three lists over one table: each node is in the idle list, in the polled list, in the pending
+//! list, or in none. Lists are linked by indexes into the table, so each call costs the same
+//! whatever the number of nodes, and none after `Lists::new` takes memory.
+//!
+//! Contract for the layers above: a `Lists` is three lists of numbers (`specs/Threads.antt`), and
+//! each call says which lists it leaves. How the table holds them stands in `specs/Table.antt`.
+//!
+//! - `place.rt`: `Place`, which of the three lists
+//! - `node.rt`: a node, and how one is taken out of its list and put at the back of another
+//! - `lists.rt`: `Lists`
 #![tactic(auto)]
+
+mod lists;
+mod node;
+mod place;
+
+pub use lists::Lists;
+pub use place::Place;

@@ -1,0 +1,3 @@
+pub mod Value
+pub mod Fits
+pub mod Plan

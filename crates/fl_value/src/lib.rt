@@ -1,1 +1,6 @@
+//! Values and calls.
 #![tactic(auto)]
+
+mod value;
+
+pub use value::{Call, PlanNo, Value};

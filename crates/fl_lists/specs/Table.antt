@@ -1,0 +1,95 @@
+-- How one table of nodes holds three lists.
+use Rattle.std.specs.Prelude.{ℕ, ◌≡◌, ◌≢◌, ◌+◌, ◌-◌, ◌<◌, ◌≤◌, ◌==◌, Bool, true, false, if◌then◌else◌, List, [], ◌∷◌, length, zero, suc, Option, Some, None, slice_index_or, slice_get}
+use Rattle.fl_lists.specs.declared.place.Place.{Place}
+use Rattle.fl_lists.specs.declared.place.Place.TheVariants.{Idle, Polled, Pending}
+use Rattle.fl_lists.specs.declared.node.Node.{Node}
+use Rattle.fl_lists.specs.Threads.{Threads, is_in, NoRepeat}
+
+-- a node that is in no list
+abbrev pub free_node : Node
+free_node = record { prev = 0; next = 0; place = None }
+
+abbrev pub node_at : List Node → ℕ → Node
+node_at nodes i = slice_index_or nodes i free_node
+
+abbrev pub next_at : List Node → ℕ → ℕ
+next_at nodes i = (node_at nodes i).next
+
+abbrev pub prev_at : List Node → ℕ → ℕ
+prev_at nodes i = (node_at nodes i).prev
+
+abbrev pub place_at : List Node → ℕ → Option Place
+place_at nodes i = (node_at nodes i).place
+
+-- `right` now comes after `left`, and nothing else has changed
+pub record Joined (old new : List Node) (left right : ℕ) : Type 0 where
+  pub nexts : (k : ℕ) → next_at new k ≡ (if k == left then right else next_at old k)
+  pub prevs : (k : ℕ) → prev_at new k ≡ (if k == right then left else prev_at old k)
+  pub places : (k : ℕ) → place_at new k ≡ place_at old k
+  pub size : length new ≡ length old
+
+-- the neighbours of `at` are now each other's, and `at` is in no list
+pub record TakenOut (old new : List Node) (at : ℕ) : Type 0 where
+  pub nexts : (k : ℕ) → k ≢ at → next_at new k ≡ (if k == prev_at old at then next_at old at else next_at old k)
+  pub prevs : (k : ℕ) → k ≢ at → prev_at new k ≡ (if k == next_at old at then prev_at old at else prev_at old k)
+  pub places : (k : ℕ) → place_at new k ≡ (if k == at then None else place_at old k)
+  pub size : length new ≡ length old
+
+-- `at` now stands between what was the last node of the list and its head
+pub record PutBefore (old new : List Node) (at head : ℕ) (place : Place) : Type 0 where
+  pub nexts : (k : ℕ) → next_at new k ≡ (if k == at then head else (if k == prev_at old head then at else next_at old k))
+  pub prevs : (k : ℕ) → prev_at new k ≡ (if k == head then at else (if k == at then prev_at old head else prev_at old k))
+  pub places : (k : ℕ) → place_at new k ≡ (if k == at then Some place else place_at old k)
+  pub size : length new ≡ length old
+
+-- beside `moved`, at most `most` nodes or heads differ
+pub record ChangesFew (most moved : ℕ) (old new : List Node) : Type 0 where
+  pub changed : List ℕ
+  pub few : length changed ≤ most
+  pub others : (k : ℕ) → k ≢ moved → is_in k changed ≡ false → node_at new k ≡ node_at old k
+
+-- the last three nodes of the table are the heads of the three lists
+abbrev pub head_of : ℕ → Place → ℕ
+head_of len Idle = len - 3
+head_of len Polled = len - 2
+head_of len Pending = len - 1
+
+-- `next` leads from a over the list to b, and `prev` leads back
+abbrev pub Chain : (ℕ → ℕ) → (ℕ → ℕ) → ℕ → List ℕ → ℕ → Type 0
+Chain next prev a [] b = (next a ≡ b) × (prev b ≡ a)
+Chain next prev a (x ∷ xs) b = (next a ≡ x) × ((prev x ≡ a) × Chain next prev x xs b)
+
+-- a head and its list: a ring of different nodes, which are just the nodes of this place
+pub record Ring (nodes : List Node) (head : ℕ) (place : Place) (xs : List ℕ) : Type 0 where
+  pub chain : Chain (next_at nodes) (prev_at nodes) head xs head
+  pub once : NoRepeat (head ∷ xs)
+  pub placed : (k : ℕ) → is_in k (head ∷ xs) ≡ true → place_at nodes k ≡ Some place
+  pub listed : (k : ℕ) → place_at nodes k ≡ Some place → is_in k (head ∷ xs) ≡ true
+
+-- the nodes from a on, until the head comes
+abbrev pub walk : (ℕ → ℕ) → ℕ → ℕ → ℕ → List ℕ
+walk next head zero a = []
+walk next head (suc steps) a = if a == head then [] else a ∷ walk next head steps (next a)
+
+-- the list in this place: from the first node on, by `next`
+abbrev pub list_from : List Node → Place → List ℕ
+list_from nodes place =
+    let head = head_of (length nodes) place in walk (next_at nodes) head (length nodes) (next_at nodes head)
+
+abbrev pub threads_of : List Node → Threads
+threads_of nodes = record {
+  size = length nodes - 3;
+  idle = list_from nodes Idle;
+  polled = list_from nodes Polled;
+  pending = list_from nodes Pending;
+}
+
+-- the table holds three heads, and each list is a ring
+pub record IsTable (nodes : List Node) : Type 0 where
+  pub heads : 3 ≤ length nodes
+  pub ring : (place : Place) → Ring nodes (head_of (length nodes) place) place (list_from nodes place)
+
+-- what callers see of a `Lists`: its three lists, and the table that holds them
+pub record Threaded : Type 0 where
+  pub lists : Threads
+  pub table : List Node

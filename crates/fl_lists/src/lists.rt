@@ -1,0 +1,130 @@
+//! The three lists over one table.
+
+ghost use Rattle.std.specs.Prelude.{◌≡◌, ◌<◌, ◌++◌, length, IfOk, IsSome, IsNone, MatchOption, slice_get};
+ghost use Rattle.fl_lists.specs.Threads.{
+    Threads, list_at, place_of, unlinked, pushed, moved, popped, empty, IsApart
+};
+ghost use Rattle.fl_lists.specs.Table.{head_of, node_at, next_at, place_at, ChangesFew};
+
+use crate::node::{FREE, Node, head, put_before, take_out};
+use crate::place::Place;
+use std::alloc::{AllocError, Global};
+use std::marker::Model;
+
+/// Three lists, idle, polled and pending, of the numbers below a size; each number is in one list
+/// at most.
+///
+/// The nodes of the numbers come first in the table, and behind them the heads of the lists.
+#[derive(Drop)]
+pub struct Lists {
+    nodes: Vec<Node>,
+}
+
+impl Model for Lists {
+    ghost use Rattle.fl_lists.specs.Table.{Threaded, threads_of, IsTable};
+
+    ghost Value = { Threaded };
+
+    ghost view = { λ a. record { lists = threads_of a.nodes.items; table = a.nodes.items } };
+
+    ghost invariant = { λ a. IsTable a.nodes.items };
+}
+
+/// The index of the head of a list, in a table of `len` nodes.
+fn head_index(len: usize, place: Place) -> usize
+    requires heads { 3 ≤ len }
+    ensures index { result ≡ head_of len place }
+    ensures within { result < len }
+{
+    match place {
+        Place::Idle => len - 3,
+        Place::Polled => len - 2,
+        Place::Pending => len - 1,
+    }
+}
+
+impl Lists {
+    /// Empty lists of the numbers below `size`.
+    ///
+    /// Errors: want of memory. No other call of `Lists` takes memory.
+    pub fn new(alloc: Global, size: usize) -> Result<Lists, AllocError>
+        ensures made { IfOk result (λ made. made.lists ≡ empty size) }
+        ensures apart { IfOk result (λ made. IsApart made.lists) }
+    {
+        let Some(len) = size.checked_add(3) else {
+            return Err(AllocError);
+        };
+        let mut nodes = vec![in alloc; FREE; len]?;
+        for place in [Place::Idle, Place::Polled, Place::Pending] {
+            let at = head_index(len, place);
+            nodes[at] = head(at, place);
+        }
+        Ok(Lists { nodes })
+    }
+
+    /// The list that `c` is in; `None` where it is in none.
+    pub fn place_of(&self, c: usize) -> Option<Place>
+        requires below { c < self.now.lists.size }
+        ensures place { result ≡ place_of self.now.lists c }
+        ensures apart { IsApart self.now.lists }
+    {
+        self.nodes[c].place
+    }
+
+    /// The first of a list; `None` where it is empty.
+    pub fn front(&self, place: Place) -> Option<usize>
+        ensures first { result ≡ slice_get (list_at self.now.lists place) 0 }
+        ensures apart { IsApart self.now.lists }
+    {
+        let head = head_index(self.nodes.len(), place);
+        let first = self.nodes[head].next;
+        if first == head { None } else { Some(first) }
+    }
+
+    /// Puts `c`, which is in no list, at the back of one.
+    pub fn push_back(&mut self, c: usize, place: Place)
+        requires below { c < self.old.lists.size }
+        requires free { place_of self.old.lists c ≡ None }
+        ensures lists { self.new.lists ≡ pushed self.old.lists c place }
+        ensures few { ChangesFew 2 c self.old.table self.new.table }
+        ensures apart { IsApart self.new.lists }
+    {
+        let head = head_index(self.nodes.len(), place);
+        put_before(&mut self.nodes, c, head, place);
+    }
+
+    /// Takes `c` out of the list that it is in.
+    pub fn unlink(&mut self, c: usize)
+        requires below { c < self.old.lists.size }
+        requires linked { IsSome (place_of self.old.lists c) }
+        ensures lists { self.new.lists ≡ unlinked self.old.lists c }
+        ensures few { ChangesFew 2 c self.old.table self.new.table }
+        ensures apart { IsApart self.new.lists }
+    {
+        take_out(&mut self.nodes, c);
+    }
+
+    /// Moves `c` from the list that it is in to the back of one, which may be the same.
+    pub fn move_to_back(&mut self, c: usize, place: Place)
+        requires below { c < self.old.lists.size }
+        requires linked { IsSome (place_of self.old.lists c) }
+        ensures lists { self.new.lists ≡ moved self.old.lists c place }
+        ensures few { ChangesFew 4 c self.old.table self.new.table }
+        ensures apart { IsApart self.new.lists }
+    {
+        self.unlink(c);
+        self.push_back(c, place);
+    }
+
+    /// Takes the first out of a list; `None` where it is empty.
+    pub fn pop_front(&mut self, place: Place) -> Option<usize>
+        ensures first { result ≡ slice_get (list_at self.old.lists place) 0 }
+        ensures lists { self.new.lists ≡ popped self.old.lists place }
+        ensures few { MatchOption result (self.new ≡ self.old) (λ c. ChangesFew 2 c self.old.table self.new.table) }
+        ensures apart { IsApart self.new.lists }
+    {
+        let first = self.front(place)?;
+        self.unlink(first);
+        Some(first)
+    }
+}

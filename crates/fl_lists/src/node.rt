@@ -1,0 +1,71 @@
+//! The table of nodes. A list is a ring: its head is a node of the table too, `next` goes from the
+//! head through the list and back to the head, and `prev` goes the other way.
+
+ghost use Rattle.std.specs.Prelude.{◌≡◌, ◌<◌, length};
+ghost use Rattle.fl_lists.specs.Table.{next_at, prev_at, place_at, Joined, TakenOut, PutBefore};
+
+use crate::place::Place;
+
+/// A node of the table.
+#[derive(Clone, Copy, Debug)]
+pub struct Node {
+    /// The index of the node before this one; before the first stands the head.
+    pub prev: usize,
+    /// The index of the node after this one; after the last stands the head.
+    pub next: usize,
+    /// The list that this node is in.
+    pub place: Option<Place>,
+}
+
+/// A node in no list.
+pub const FREE: Node = Node {
+    prev: 0,
+    next: 0,
+    place: None,
+};
+
+/// The head of an empty list at index `at`.
+pub fn head(at: usize, place: Place) -> Node
+    ensures node { result ≡ record { prev = at; next = at; place = Some place } }
+{
+    Node {
+        prev: at,
+        next: at,
+        place: Some(place),
+    }
+}
+
+/// Makes `right` the node after `left`.
+fn join(nodes: &mut [Node], left: usize, right: usize)
+    requires left_below { left < length nodes.old }
+    requires right_below { right < length nodes.old }
+    ensures joined { Joined nodes.old nodes.new left right }
+{
+    nodes[left].next = right;
+    nodes[right].prev = left;
+}
+
+/// Takes node `at` out of its list: its neighbours become neighbours of each other.
+pub fn take_out(nodes: &mut [Node], at: usize)
+    requires below { at < length nodes.old }
+    requires prev_below { prev_at nodes.old at < length nodes.old }
+    requires next_below { next_at nodes.old at < length nodes.old }
+    ensures taken { TakenOut nodes.old nodes.new at }
+{
+    let Node { prev, next, .. } = nodes[at];
+    join(nodes, prev, next);
+    nodes[at] = FREE;
+}
+
+/// Puts node `at` at the back of the list whose head is at `head`.
+pub fn put_before(nodes: &mut [Node], at: usize, head: usize, place: Place)
+    requires below { at < length nodes.old }
+    requires head_below { head < length nodes.old }
+    requires last_below { prev_at nodes.old head < length nodes.old }
+    ensures put { PutBefore nodes.old nodes.new at head place }
+{
+    let last = nodes[head].prev;
+    join(nodes, last, at);
+    join(nodes, at, head);
+    nodes[at].place = Some(place);
+}
