@@ -7,7 +7,7 @@
 --   bits 16 to 31 message number
 --   bits 32 to 47 circuit
 --   bits 48 to 63 how many fragments of the other direction its writer has read, modulo 65,536
-use Rattle.std.specs.Prelude.{ℕ, ◌+◌, ◌*◌, ◌/◌, ◌%◌, ◌^◌, ◌==◌, ◌&&◌, Bool, if◌then◌else◌}
+use Rattle.std.specs.Prelude.{ℕ, ◌+◌, ◌-◌, ◌*◌, ◌/◌, ◌%◌, ◌^◌, ◌==◌, ◌&&◌, Bool, if◌then◌else◌}
 use Rattle.std.specs.List.{list_all}
 use Rattle.fl_base.specs.declared.fragment.Frag.{Frag}
 
@@ -36,3 +36,11 @@ control_word first message circuit = (if first then 2 else 0) + 65536 * message 
 -- a fragment that only acknowledges: bit 2 is set, bits 1 and 3 to 47 and all payload words are 0
 abbrev pub is_ack_only : Frag → Bool
 is_ack_only frag = (frag.control / 2 % 2 ^ 47 == 2) && list_all (λ w. w == 0) frag.words
+
+-- the fragment with this epoch bit
+abbrev pub with_epoch : ℕ → Frag → Frag
+with_epoch epoch frag = record { words = frag.words; control = frag.control - frag.control % 2 + epoch }
+
+-- the fragment, its epoch set aside
+abbrev pub bare : Frag → Frag
+bare frag = with_epoch 0 frag

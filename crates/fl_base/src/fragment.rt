@@ -1,8 +1,8 @@
 //! One cache line of a channel, and its control word (the bits stand in `specs/Control.antt`).
 
-ghost use Rattle.std.specs.Prelude.{◌≡◌, ◌+◌, ◌*◌, ◌^◌, ◌/◌, ◌%◌, ◌-◌, ◌≤◌, ◌<◌, ◌==◌};
+ghost use Rattle.std.specs.Prelude.{◌≡◌, ◌+◌, ◌*◌, ◌^◌, ◌/◌, ◌%◌, ◌-◌, ◌≤◌, ◌<◌, ◌==◌, if◌then◌else◌};
 ghost use Rattle.std.specs.List.{list_all};
-ghost use Rattle.fl_base.specs.Control.{epoch_of, first_of, reserved_of, message_of, circuit_of, told_of, control_word, is_ack_only};
+ghost use Rattle.fl_base.specs.Control.{epoch_of, first_of, reserved_of, message_of, circuit_of, told_of, control_word, is_ack_only, with_epoch};
 
 use crate::identity::{Circuit, MsgNo};
 
@@ -37,6 +37,17 @@ impl Frag {
         ensures { result ≡ epoch_of self.now.control }
     {
         self.control % 2
+    }
+
+    /// The same fragment with this epoch bit.
+    pub fn with_epoch(&self, epoch: bool) -> Frag
+        ensures { result ≡ with_epoch (if epoch then 1 else 0) self.now }
+    {
+        let control = self.control;
+        Frag {
+            words: self.words,
+            control: control - control % 2 + u64::from(epoch),
+        }
     }
 
     /// Whether this is the first fragment of its call.

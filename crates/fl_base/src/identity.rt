@@ -1,5 +1,8 @@
 //! Numbers with a meaning of their own, so that none is taken for another.
 
+ghost use Rattle.std.specs.Prelude.{◌≡◌};
+ghost use Rattle.fl_base.specs.Ends.{other, peer};
+
 /// A core of the machine, from 0.
 #[derive(Clone, Copy, Debug, PartialEq, Eq, PartialOrd, Ord, Hash)]
 pub struct CoreId(pub u8);
@@ -23,6 +26,44 @@ pub struct IRef(pub u32);
 /// A message of an interface, from 0 in order of declaration.
 #[derive(Clone, Copy, Debug, PartialEq, Eq, PartialOrd, Ord, Hash)]
 pub struct MsgNo(pub u16);
+
+/// One of a binding's two ends: the client's, or the service's.
+#[derive(Clone, Copy, Debug, PartialEq, Eq)]
+pub enum Side {
+    Client,
+    Server,
+}
+
+impl Side {
+    /// The other end's side.
+    pub fn other(self) -> Side
+        ensures { result ≡ other self }
+    {
+        match self {
+            Side::Client => Side::Server,
+            Side::Server => Side::Client,
+        }
+    }
+}
+
+/// An end: of which binding, from 0 in order of accepted binds, and on which side.
+#[derive(Clone, Copy, Debug, PartialEq, Eq)]
+pub struct EndId {
+    pub binding: usize,
+    pub side: Side,
+}
+
+impl EndId {
+    /// The binding's other end.
+    pub fn peer(self) -> EndId
+        ensures { result ≡ peer self }
+    {
+        EndId {
+            binding: self.binding,
+            side: self.side.other(),
+        }
+    }
+}
 
 /// A stretch of a text: the bytes from `start` up to, and without, `end`.
 #[derive(Clone, Copy, Debug, PartialEq, Eq)]

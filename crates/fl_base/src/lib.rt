@@ -14,7 +14,7 @@ mod identity;
 mod limits;
 
 pub use fragment::{Frag, control};
-pub use identity::{ChanId, Circuit, CoreId, IRef, LinkId, MsgNo, Span};
+pub use identity::{ChanId, Circuit, CoreId, EndId, IRef, LinkId, MsgNo, Side, Span};
 pub use limits::{
     FRAG_BYTES, MAX_BINDINGS, MAX_CHANNELS, MAX_CORES, MAX_DISPATCHERS, MAX_INTERFACES,
     MAX_PAYLOAD, MAX_QUEUE, MAX_SERVICES, PAYLOAD_WORDS,
