@@ -1,2 +1,11 @@
 pub mod Interface
 pub mod Sizes
+pub mod ScalarsOnly
+pub mod Depth
+pub mod Payload
+pub mod Known
+pub mod Places
+pub mod Checks
+pub mod Faults
+pub mod Views
+pub mod Outcome

@@ -1,6 +1,24 @@
 //! Interfaces: what a checked text stands for.
 #![tactic(auto)]
 
+mod arguments;
+mod checker;
+mod declarations;
+mod declared;
+mod duplicate;
+mod fault;
 mod interface;
+mod measured;
+mod parts;
+mod payload;
+mod same;
+mod scalars;
+mod types;
+mod words;
 
+pub use checker::{check, one_outcome};
+pub use fault::{CheckFault, Rule};
 pub use interface::{ArgType, FixedType, Interface, Message, Scalar, Word};
+
+#[cfg(test)]
+mod tests;

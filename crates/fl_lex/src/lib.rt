@@ -1,6 +1,25 @@
-//! The tokens of an interface's text.
+//! The lexer of interface texts: bytes to tokens.
+//!
+//! Contract for the layers above: [`lex`] gives the tokens that the bytes spell, each the longest
+//! that stands at its place, or the first fault of the text. What that means stands in
+//! `specs/Spelling.antt` and `specs/Outcome.antt`.
+//!
+//! - `token.rt`: tokens
+//! - `fault.rt`: what can be wrong with a text
+//! - `class.rt`: what a byte may begin
+//! - `front.rt`: the token or gap at the front of a text
+//! - `lexer.rt`: a whole text
 #![tactic(auto)]
 
+mod class;
+mod fault;
+mod front;
+mod lexer;
+#[cfg(test)]
+mod tests;
 mod token;
 
+pub use class::ByteClass;
+pub use fault::LexFault;
+pub use lexer::{MAX_TEXT, joined_tokens, lex, one_outcome};
 pub use token::{Mark, Token, TokenKind, Tokens};

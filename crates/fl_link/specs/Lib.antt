@@ -1,0 +1,6 @@
+pub mod Stamp
+pub mod Cursor
+pub mod Looks
+pub mod Queue
+pub mod Pass
+pub mod Faults

@@ -1,5 +1,6 @@
 -- The three lists that a `Lists` holds, and what each call makes of them.
-use Rattle.std.specs.Prelude.{ℕ, ◌≡◌, ◌<◌, ◌==◌, ◌||◌, not, Bool, true, false, if◌then◌else◌, List, [], ◌∷◌, ◌++◌, filter, drop, Option, Some, None}
+use Rattle.std.specs.Prelude.{ℕ, ◌≡◌, ◌<◌, ◌==◌, not, Bool, true, false, if◌then◌else◌, List, [], ◌∷◌, ◌++◌, filter, drop, Option, Some, None}
+use Rattle.std.specs.List.{list_any}
 use Rattle.fl_lists.specs.declared.place.Place.{Place}
 use Rattle.fl_lists.specs.declared.place.Place.TheVariants.{Idle, Polled, Pending}
 
@@ -24,8 +25,7 @@ with_list w Pending xs = record w { pending = xs }
 
 -- whether c is in a list
 abbrev pub is_in : ℕ → List ℕ → Bool
-is_in c [] = false
-is_in c (x ∷ xs) = (c == x) || is_in c xs
+is_in c xs = list_any (λ x. x == c) xs
 
 -- the list that c is in
 abbrev pub place_of : Threads → ℕ → Option Place

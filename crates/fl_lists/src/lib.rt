@@ -16,3 +16,6 @@ mod place;
 
 pub use lists::Lists;
 pub use place::Place;
+
+#[cfg(test)]
+mod tests;

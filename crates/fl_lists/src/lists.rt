@@ -1,10 +1,8 @@
 //! The three lists over one table.
 
-ghost use Rattle.std.specs.Prelude.{◌≡◌, ◌<◌, ◌++◌, length, IfOk, IsSome, IsNone, MatchOption, slice_get};
-ghost use Rattle.fl_lists.specs.Threads.{
-    Threads, list_at, place_of, unlinked, pushed, moved, popped, empty, IsApart
-};
-ghost use Rattle.fl_lists.specs.Table.{head_of, node_at, next_at, place_at, ChangesFew};
+ghost use Rattle.std.specs.Prelude.{◌≡◌, ◌<◌, ◌≤◌, IfOk, IfSome, IsSome, MatchOption, slice_get};
+ghost use Rattle.fl_lists.specs.Threads.{list_at, place_of, unlinked, pushed, moved, popped, empty, IsApart};
+ghost use Rattle.fl_lists.specs.Table.{head_of, ChangesFew};
 
 use crate::node::{FREE, Node, head, put_before, take_out};
 use crate::place::Place;
@@ -14,7 +12,10 @@ use std::marker::Model;
 /// Three lists, idle, polled and pending, of the numbers below a size; each number is in one list
 /// at most.
 ///
-/// The nodes of the numbers come first in the table, and behind them the heads of the lists.
+/// The nodes of the numbers come first in the table, and behind them the heads of the lists: the
+/// node after a head is the first of its list, and the node before it is the last. So a number
+/// that is put in or taken out changes two nodes beside its own (clauses `few`), and nothing is
+/// ever searched for.
 #[derive(Drop)]
 pub struct Lists {
     nodes: Vec<Node>,
@@ -55,11 +56,18 @@ impl Lists {
             return Err(AllocError);
         };
         let mut nodes = vec![in alloc; FREE; len]?;
-        for place in [Place::Idle, Place::Polled, Place::Pending] {
-            let at = head_index(len, place);
-            nodes[at] = head(at, place);
-        }
+        nodes[len - 3] = head(len - 3, Place::Idle);
+        nodes[len - 2] = head(len - 2, Place::Polled);
+        nodes[len - 1] = head(len - 1, Place::Pending);
         Ok(Lists { nodes })
+    }
+
+    /// The nodes are the numbers below this.
+    pub fn size(&self) -> usize
+        ensures size { result ≡ self.now.lists.size }
+        ensures apart { IsApart self.now.lists }
+    {
+        self.nodes.len() - 3
     }
 
     /// The list that `c` is in; `None` where it is in none.
@@ -74,6 +82,7 @@ impl Lists {
     /// The first of a list; `None` where it is empty.
     pub fn front(&self, place: Place) -> Option<usize>
         ensures first { result ≡ slice_get (list_at self.now.lists place) 0 }
+        ensures within { IfSome result (λ c. c < self.now.lists.size) }
         ensures apart { IsApart self.now.lists }
     {
         let head = head_index(self.nodes.len(), place);
@@ -119,6 +128,7 @@ impl Lists {
     /// Takes the first out of a list; `None` where it is empty.
     pub fn pop_front(&mut self, place: Place) -> Option<usize>
         ensures first { result ≡ slice_get (list_at self.old.lists place) 0 }
+        ensures within { IfSome result (λ c. c < self.old.lists.size) }
         ensures lists { self.new.lists ≡ popped self.old.lists place }
         ensures few { MatchOption result (self.new ≡ self.old) (λ c. ChangesFew 2 c self.old.table self.new.table) }
         ensures apart { IsApart self.new.lists }

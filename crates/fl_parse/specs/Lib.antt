@@ -1,1 +1,7 @@
 pub mod Tree
+pub mod Grammar
+pub mod Reading
+pub mod Parts
+pub mod Outcome
+pub mod Printed
+pub mod Written

@@ -87,6 +87,7 @@ declaration_of (Rpc name args) = rpc_of (name_of name) (map directed_of args.ite
 
 abbrev pub tree_of : Tree → TheTree
 tree_of t = record {
-    name = name_of t.name;
-    description = option_map (λ d. d.now) t.description;
-    declarations = map declaration_of t.declarations.items }
+  name = name_of t.name;
+  description = option_map (λ d. d.now) t.description;
+  declarations = map declaration_of t.declarations.items;
+}

@@ -1,8 +1,21 @@
 //! The tree of an interface's text.
 #![tactic(auto)]
 
+mod fault;
+mod parser;
+mod parts;
+mod printer;
+mod reading;
+mod stop;
 mod tree;
 
+pub use fault::ParseFault;
+pub use parser::{one_outcome, parse};
+pub use printer::{print, printed_tokens};
 pub use tree::{
-    Argument, Declaration, Direction, DirectedArgument, Field, MessageKind, Name, Number, Shape, Tree,
+    Argument, Declaration, DirectedArgument, Direction, Field, MessageKind, Name, Number, Shape,
+    Tree,
 };
+
+#[cfg(test)]
+mod tests;

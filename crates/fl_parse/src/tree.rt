@@ -26,17 +26,37 @@ pub struct Tree<'a> {
 #[derive(Debug, Drop)]
 pub enum Declaration<'a> {
     /// `alias NEW OLD;`
-    Alias { new: Name<'a>, old: Name<'a> },
+    Alias {
+        new: Name<'a>,
+        old: Name<'a>,
+    },
     /// `typedef OLD NEW;` or `typedef OLD NEW[COUNT];`
-    Typedef { old: Name<'a>, new: Name<'a>, count: Option<Number> },
+    Typedef {
+        old: Name<'a>,
+        new: Name<'a>,
+        count: Option<Number>,
+    },
     /// `typedef enum { MEMBERS } NAME;`
-    Enumeration { members: Vec<Name<'a>>, name: Name<'a> },
+    Enumeration {
+        members: Vec<Name<'a>>,
+        name: Name<'a>,
+    },
     /// `typedef struct { FIELDS } NAME;`
-    Structure { fields: Vec<Field<'a>>, name: Name<'a> },
+    Structure {
+        fields: Vec<Field<'a>>,
+        name: Name<'a>,
+    },
     /// `message NAME(ARGUMENTS);`, or `call` or `response` in its place
-    Message { kind: MessageKind, name: Name<'a>, args: Vec<Argument<'a>> },
+    Message {
+        kind: MessageKind,
+        name: Name<'a>,
+        args: Vec<Argument<'a>>,
+    },
     /// `rpc NAME(ARGUMENTS);`, each argument with its direction
-    Rpc { name: Name<'a>, args: Vec<DirectedArgument<'a>> },
+    Rpc {
+        name: Name<'a>,
+        args: Vec<DirectedArgument<'a>>,
+    },
 }
 
 /// The word that a message is declared with; the three mean the same.
@@ -78,7 +98,10 @@ pub enum Shape<'a> {
     /// `[NUMBER]`: a string with a bound.
     Bounded(Number),
     /// `[LENGTH]` or `[LENGTH, BOUND]`: a sized array.
-    Sized { length: Name<'a>, bound: Option<Number> },
+    Sized {
+        length: Name<'a>,
+        bound: Option<Number>,
+    },
 }
 
 /// An argument of an rpc.

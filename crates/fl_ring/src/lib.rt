@@ -1,1 +1,30 @@
+//! Rings: links whose fragments stand as words in a table, one cache line each.
+//!
+//! Contract for the layers above: a ring is a bounded queue (`fl_link`), and its words stand as
+//! the definition of a way says (`specs/Way.antt`): every fragment from the number told on is in
+//! its slot with the epoch of its round, and the other slots have the other epoch.
+//!
+//! - `one_ring.rt`: `OneRing`, one direction with an acknowledgement word
+//! - `one_duo.rt`: `OneDuo`, two directions whose acknowledgements ride in control words
+//! - `halves.rt`: one side of it
+//! - `counts.rt`: how a 16-bit number names a full count
+//! - `slots.rt`: one slot of eight words
+//! - `fault.rt`: why no ring was made
 #![tactic(auto)]
+
+mod counts;
+mod duo_side;
+mod fault;
+mod halves;
+mod one_duo;
+mod one_ring;
+mod slots;
+
+pub use counts::count_from;
+pub use duo_side::DuoSide;
+pub use fault::RingFault;
+pub use one_duo::{OneDuo, Which};
+pub use one_ring::OneRing;
+
+#[cfg(test)]
+mod tests;

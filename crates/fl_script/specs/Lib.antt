@@ -1,0 +1,12 @@
+pub mod Lines
+pub mod Commands
+pub mod Read
+pub mod Text
+pub mod Answers
+pub mod Transcript
+pub mod Calls
+pub mod Items
+pub mod Texts
+pub mod Places
+pub mod Shown
+pub mod Runs

@@ -1,3 +1,9 @@
 pub mod Value
 pub mod Fits
 pub mod Plan
+pub mod CallText
+pub mod Fault
+pub mod Resolve
+pub mod Printed
+pub mod Tape
+pub mod Groups

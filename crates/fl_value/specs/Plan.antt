@@ -1,6 +1,6 @@
 -- The order in which a plan lays a call's arguments out.
 use Rattle.std.specs.Prelude.{ℕ, ◌==◌, Bool, true, false, List, ◌++◌, filter}
-use Rattle.fl_check.specs.Interface.{TheArgType, fixed, text, sized}
+use Rattle.fl_check.specs.Interface.{TheArgType, fixed}
 use Rattle.fl_check.specs.Sizes.{align_of}
 use Rattle.fl_value.specs.declared.value.PlanNo.{PlanNo}
 use Rattle.fl_value.specs.declared.value.PlanNo.TheVariants.{One, Two}

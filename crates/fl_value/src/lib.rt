@@ -1,6 +1,32 @@
-//! Values and calls.
+//! Values, calls, and their text: which values a type has, which calls fit an interface, what a
+//! call's text says, how a call is printed, and the tape that stub code runs on.
+//!
+//! Contract for the layers above: [`read_call`] gives the one call that a text spells
+//! (`specs/CallText.antt`), or the first of faults 90, 41 and 42; what [`print_call`] writes of a
+//! fitting call reads as that call.
+//!
+//! - `value.rt`: `Value`, `Call`, `PlanNo`
+//! - `fitting.rt`: which values a type has, and which calls fit
+//! - `tokens.rt`, `reader.rt`, `calls.rt`: a text's tokens, its values, and the whole call
+//! - `printing.rt`: calls as text
+//! - `tape.rt`: a call's numbers in the plan's order
+//! - `fault.rt`: why there is no call
 #![tactic(auto)]
 
+mod calls;
+mod fault;
+mod fitting;
+mod printing;
+mod reader;
+mod tape;
+#[cfg(test)]
+mod tests;
+mod tokens;
 mod value;
 
+pub use calls::{CallText, one_reading, read_call, read_call_text, resolve};
+pub use fault::ValueFault;
+pub use fitting::fits;
+pub use printing::{print_call, printed_call_read, printed_reads};
+pub use tape::flatten;
 pub use value::{Call, PlanNo, Value};

@@ -1,0 +1,3 @@
+pub use Rattle.fl_lists.specs.Threads
+pub mod Faults
+pub mod Waiting

@@ -1,0 +1,4 @@
+pub mod Exchange
+pub mod Contents
+pub mod Moves
+pub mod Shows

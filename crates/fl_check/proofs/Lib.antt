@@ -1,0 +1,9 @@
+pub mod Sames
+pub mod Layouts
+pub mod FirstFaults
+pub mod Walks
+pub mod Lists
+pub mod Halves
+pub mod Firsts
+pub mod Limits
+pub mod NameSets

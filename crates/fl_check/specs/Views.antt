@@ -1,0 +1,32 @@
+-- What the checker keeps, as definitions see it.
+use Rattle.std.specs.Prelude.{ℕ, ◌≤◌, List, map}
+use Rattle.fl_check.specs.Sizes.{size_of}
+use Rattle.fl_check.specs.declared.words.Names.{Names}
+use Rattle.fl_check.specs.declared.declared.KnownType.{KnownType}
+use Rattle.fl_check.specs.declared.declared.Declared.{Declared}
+use Rattle.fl_check.specs.declared.payload.Checked.{Checked}
+use Rattle.fl_check.specs.declared.payload.Checked.TheVariants.{Fixed, Text, Sized}
+use Rattle.fl_check.specs.Interface.{TheArgType, fixed, text, sized, type_of, message_of}
+use Rattle.fl_check.specs.Known.{Named, Before}
+
+-- the names of a list of names
+abbrev pub list_of : Names → List (List ℕ)
+list_of names = map (λ name. name.now) names.set.keys
+
+abbrev pub named_of : KnownType → Named
+named_of k = record { name = k.name.now; type = type_of k.measured.fixed }
+
+abbrev pub before_of : Declared → Before
+before_of d = record { types = map named_of d.types.items; messages = map message_of d.messages.items }
+
+-- the type of an argument that keeps the rules
+abbrev pub checked_of : Checked → TheArgType
+checked_of (Fixed measured) = fixed (type_of measured.fixed)
+checked_of (Text bound) = text bound
+checked_of (Sized bound element) = sized bound (type_of element.fixed)
+
+-- a bound of at most 4,096, and types of at most 4,096 bytes
+abbrev pub IsBounded : TheArgType → Type 0
+IsBounded (fixed t) = size_of t ≤ 4096
+IsBounded (text bound) = bound ≤ 4096
+IsBounded (sized bound t) = (bound ≤ 4096) × (size_of t ≤ 4096)

@@ -1,0 +1,57 @@
+//! From a tree to the interface it stands for.
+
+ghost use Rattle.std.specs.Prelude.{◌≡◌, OnOk, IfOk, IfErr, IfSome, None, IsTrue, map};
+ghost use Rattle.fl_check.specs.Interface.{interface_of};
+ghost use Rattle.fl_check.specs.Known.{nothing_declared, after_all};
+ghost use Rattle.fl_check.specs.Places.{places_from};
+ghost use Rattle.fl_check.specs.Checks.{first_fault, Checks, CheckOutcome, is_within_limits};
+ghost use Rattle.fl_check.specs.Faults.{Tells};
+ghost use Rattle.fl_check.specs.Outcome.{outcome_of};
+ghost use Rattle.fl_check.specs.Views.{before_of};
+ghost use Rattle.fl_parse.specs.Tree.{TheTree, tree_of, declaration_of};
+
+use crate::declared::Declared;
+use crate::fault::CheckFault;
+use crate::interface::Interface;
+use crate::words::word_of;
+use fl_parse::{Declaration, Tree};
+use std::alloc::Global;
+
+/// The interface that a tree stands for.
+///
+/// Declarations are looked at in order, the parts of each from left to right, then the declaration as
+/// a whole. The first fault is answered, and of several at one place the one of the least number.
+///
+/// # Errors
+/// E10 to E21 at the word or number where the rule is broken, or E99 for want of memory.
+pub fn check(alloc: Global, tree: &Tree) -> Result<Interface, CheckFault>
+    ensures outcome { IfSome (outcome_of result) (λ outcome. Checks (tree_of tree.now) outcome) }
+    ensures limits { IfOk result (λ i. IsTrue (is_within_limits (interface_of i))) }
+{
+    let declared = declare_all(alloc, &tree.declarations)?;
+    let name = word_of(alloc, tree.name.text)?;
+    Ok(Interface {
+        name,
+        messages: declared.messages,
+    })
+}
+
+/// A law: a tree has one outcome, an interface or a fault.
+pub fn one_outcome()
+    ensures unique { (tree : TheTree) (a b : CheckOutcome) → Checks tree a → Checks tree b → a ≡ b }
+{}
+
+fn declare_all<'a>(
+    alloc: Global,
+    declarations: &[Declaration<'a>],
+) -> Result<Declared<'a>, CheckFault>
+    ensures sound { OnOk result (first_fault (places_from nothing_declared (map declaration_of declarations.now)) ≡ None) }
+    ensures after { IfOk result (λ d. before_of d ≡ after_all nothing_declared (map declaration_of declarations.now)) }
+    ensures fault { IfErr result (λ e. Tells e (first_fault (places_from nothing_declared (map declaration_of declarations.now)))) }
+{
+    let mut declared = Declared::new(alloc);
+    for declaration in declarations {
+        declared.declare(alloc, declaration)?;
+    }
+    Ok(declared)
+}

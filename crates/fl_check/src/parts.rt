@@ -1,0 +1,127 @@
+//! The parts of declarations in their order: enumerators and fields.
+
+ghost use Rattle.std.specs.Prelude.{◌≡◌, ◌≤◌, ◌<◌, ◌+◌, ◌∷◌, [], ◌++◌, OnOk, IfOk, IfErr, IfSome, option_map, None, map, length, false};
+ghost use Rattle.fl_check.specs.Interface.{type_of, structure, fields_from};
+ghost use Rattle.fl_check.specs.Known.{is_among, counted, field_type};
+ghost use Rattle.fl_check.specs.Places.{other_place, listed_place, member_places, field_place, field_places, count_places};
+ghost use Rattle.fl_check.specs.Checks.{first_fault};
+ghost use Rattle.fl_check.specs.Faults.{Tells};
+ghost use Rattle.fl_check.specs.Views.{before_of, list_of};
+ghost use Rattle.fl_parse.specs.Tree.{name_of, number_of, field_of};
+
+use crate::declared::Declared;
+use crate::fault::{CheckFault, Rule};
+use crate::measured::{Fields, Measured};
+use crate::types::{broken, check_count};
+use crate::words::Names;
+use fl_parse::{Field, Name, Number};
+use std::alloc::{AllocError, Global};
+
+/// A name that isn't counted: it stands once among these.
+#[tactic(auto, unfolding(crate::specs::Checks::first_fault, crate::specs::Places::other_place))]
+pub fn other_name(names: &Names, name: &Name) -> Result<(), CheckFault>
+    ensures absent { OnOk result (is_among (list_of names.now) name.now.text.now ≡ false) }
+    ensures sound { OnOk result (first_fault (other_place (list_of names.now) (name_of name.now) ∷ []) ≡ None) }
+    ensures fault { IfErr result (λ e. Tells e (first_fault (other_place (list_of names.now) (name_of name.now) ∷ []))) }
+{
+    if names.contains(name.text) {
+        return Err(broken(Rule::NameTwice, name.at));
+    }
+    Ok(())
+}
+
+/// A name of a list that has at most 32, after so many that count: it stands once among these.
+#[tactic(auto, unfolding(crate::specs::Checks::first_fault, crate::specs::Places::listed_place))]
+pub fn listed_name(names: &Names, counted_before: usize, name: &Name) -> Result<(), CheckFault>
+    ensures absent { OnOk result (is_among (list_of names.now) name.now.text.now ≡ false) }
+    ensures sound { OnOk result (first_fault (listed_place (list_of names.now) counted_before (name_of name.now) ∷ []) ≡ None) }
+    ensures few { OnOk result (counted_before < 32) }
+    ensures fault { IfErr result (λ e. Tells e (first_fault (listed_place (list_of names.now) counted_before (name_of name.now) ∷ []))) }
+{
+    if names.contains(name.text) {
+        return Err(broken(Rule::NameTwice, name.at));
+    }
+    if counted_before >= 32 {
+        return Err(broken(Rule::TooMany, name.at));
+    }
+    Ok(())
+}
+
+/// The names of an enum: none stands twice.
+pub fn members(alloc: Global, members: &[Name]) -> Result<(), CheckFault>
+    ensures sound { OnOk result (first_fault (member_places [] (map name_of members.now)) ≡ None) }
+    ensures fault { IfErr result (λ e. Tells e (first_fault (member_places [] (map name_of members.now)))) }
+{
+    let mut names = Names::new(alloc);
+    for member in members {
+        other_name(&names, member)?;
+        names.push(member.text)?;
+    }
+    Ok(())
+}
+
+/// A type, or the fixed array that a count makes of it.
+pub fn counted(
+    alloc: Global,
+    measured: Measured,
+    count: Option<Number>,
+) -> Result<Measured, CheckFault>
+    requires size { measured.size ≤ 4096 }
+    requires depth { measured.depth ≤ 16 }
+    requires arrays { measured.arrays ≤ 7 }
+    ensures sound { OnOk result (first_fault (count_places (option_map number_of count)) ≡ None) }
+    ensures stands { IfOk result (λ m. type_of m.fixed ≡ counted (option_map number_of count) (type_of measured.fixed)) }
+    ensures size { IfOk result (λ m. m.size ≤ 4194304) }
+    ensures depth { IfOk result (λ m. m.depth ≤ 17) }
+    ensures arrays { IfOk result (λ m. m.arrays ≤ 8) }
+    ensures fault { IfErr result (λ e. Tells e (first_fault (count_places (option_map number_of count)))) }
+{
+    check_count(count)?;
+    let Some(number) = count else {
+        return Ok(measured);
+    };
+    let array = measured.array(alloc, number.value)?;
+    Ok(array)
+}
+
+impl<'a> Declared<'a> {
+    /// A field after those whose names these are.
+    #[tactic(auto, using(crate::proofs::FirstFaults::places))]
+    pub fn field(
+        &self,
+        alloc: Global,
+        names: &mut Names<'a>,
+        field: &Field<'a>,
+    ) -> Result<Measured, CheckFault>
+        ensures sound { OnOk result (first_fault (field_place (before_of self.now) (list_of names.old) (field_of field.now)) ≡ None) }
+        ensures names { OnOk result (list_of names.new ≡ list_of names.old ++ field.now.name.text.now ∷ []) }
+        ensures len { OnOk result (length (list_of names.new) ≡ length (list_of names.old) + 1) }
+        ensures few { OnOk result (length (list_of names.old) < 32) }
+        ensures stands { IfOk result (λ m. type_of m.fixed ≡ field_type (before_of self.now) (field_of field.now)) }
+        ensures size { IfOk result (λ m. m.size ≤ 4194304) }
+        ensures depth { IfOk result (λ m. m.depth ≤ 17) }
+        ensures arrays { IfOk result (λ m. m.arrays ≤ 8) }
+        ensures fault { IfErr result (λ e. Tells e (first_fault (field_place (before_of self.now) (list_of names.old) (field_of field.now)))) }
+    {
+        let measured = self.fixed_type(alloc, &field.type_name)?;
+        listed_name(names, names.len(), &field.name)?;
+        names.push(field.name.text)?;
+        counted(alloc, measured, field.count)
+    }
+
+    /// The struct of these fields.
+    #[tactic(auto, using(crate::proofs::FirstFaults::places))]
+    pub fn structure(&self, alloc: Global, fields: &[Field<'a>]) -> Result<Measured, CheckFault>
+        ensures sound { OnOk result (first_fault (field_places (before_of self.now) [] (map field_of fields.now)) ≡ None) }
+        ensures stands { IfOk result (λ m. type_of m.fixed ≡ structure (fields_from (map (field_type (before_of self.now)) (map field_of fields.now)))) }
+        ensures fault { IfErr result (λ e. Tells e (first_fault (field_places (before_of self.now) [] (map field_of fields.now)))) }
+    {
+        let mut names = Names::new(alloc);
+        let mut laid = Fields::new(alloc);
+        for field in fields {
+            let measured = self.field(alloc, &mut names, field)?;
+            laid.push(measured)?;
+        }
+        Ok(laid.into_struct())
+    }
+}

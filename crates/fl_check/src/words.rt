@@ -1,0 +1,141 @@
+//! Built-in names, and lists of names.
+
+ghost use Rattle.std.specs.Prelude.{◌≡◌, ◌++◌, ◌∷◌, [], ◌+◌, map, length, OnOk, IfOk, false};
+ghost use Rattle.std.specs.Str.{bytes_eq};
+ghost use Rattle.fl_check.specs.Known.{scalar_named, is_string, is_capability, is_built_in, is_among};
+ghost use Rattle.fl_check.specs.Views.{list_of};
+
+use crate::interface::{Scalar, Word};
+use indexmap::IndexSet;
+use std::alloc::{AllocError, Global};
+
+/// The scalar type of a name.
+#[tactic(auto, unfolding(crate::specs::Known::scalar_named))]
+pub fn scalar_named(name: &[u8]) -> Option<Scalar>
+    ensures exact { result ≡ scalar_named name.now }
+{
+    if name == b"uint8".as_slice() {
+        return Some(Scalar::Uint8);
+    }
+    if name == b"int8".as_slice() {
+        return Some(Scalar::Int8);
+    }
+    if name == b"bool".as_slice() {
+        return Some(Scalar::Bool);
+    }
+    if name == b"char".as_slice() {
+        return Some(Scalar::Char);
+    }
+    if name == b"uint16".as_slice() {
+        return Some(Scalar::Uint16);
+    }
+    if name == b"int16".as_slice() {
+        return Some(Scalar::Int16);
+    }
+    if name == b"uint32".as_slice() {
+        return Some(Scalar::Uint32);
+    }
+    if name == b"int32".as_slice() {
+        return Some(Scalar::Int32);
+    }
+    if name == b"iref".as_slice() {
+        return Some(Scalar::Iref);
+    }
+    if name == b"uint64".as_slice() {
+        return Some(Scalar::Uint64);
+    }
+    if name == b"int64".as_slice() {
+        return Some(Scalar::Int64);
+    }
+    if name == b"uintptr".as_slice() {
+        return Some(Scalar::Uintptr);
+    }
+    if name == b"intptr".as_slice() {
+        return Some(Scalar::Intptr);
+    }
+    if name == b"size".as_slice() {
+        return Some(Scalar::Size);
+    }
+    if name == b"errval".as_slice() {
+        return Some(Scalar::Errval);
+    }
+    None
+}
+
+#[tactic(auto, unfolding(crate::specs::Known::is_string))]
+pub fn is_string(name: &[u8]) -> bool
+    ensures exact { result ≡ is_string name.now }
+{
+    name == b"string".as_slice()
+}
+
+#[tactic(auto, unfolding(crate::specs::Known::is_capability))]
+pub fn is_capability(name: &[u8]) -> bool
+    ensures exact { result ≡ is_capability name.now }
+{
+    name == b"cap".as_slice() || name == b"give_away_cap".as_slice()
+}
+
+/// Whether no declaration may take the name of a type.
+#[tactic(auto, unfolding(crate::specs::Known::is_built_in))]
+pub fn is_built_in(name: &[u8]) -> bool
+    ensures exact { result ≡ is_built_in name.now }
+{
+    scalar_named(name).is_some() || (is_string(name) || is_capability(name))
+}
+
+/// Names that stand before, in order, none twice.
+#[derive(Debug, Drop)]
+pub struct Names<'a> {
+    pub set: IndexSet<&'a [u8]>,
+}
+
+impl<'a> Names<'a> {
+    pub fn new(alloc: Global) -> Names<'a>
+        ensures none { list_of result ≡ [] }
+    {
+        Names {
+            set: IndexSet::new(alloc),
+        }
+    }
+
+    pub fn len(&self) -> usize
+        ensures exact { result ≡ length (list_of self.now) }
+    {
+        self.set.len()
+    }
+
+    pub fn contains(&self, name: &[u8]) -> bool
+        ensures exact { result ≡ is_among (list_of self.now) name.now }
+    {
+        self.set.contains(name)
+    }
+
+    /// Adds a name that isn't among them.
+    pub fn push(&mut self, name: &'a [u8]) -> Result<(), AllocError>
+        requires new { is_among (list_of self.old) name.now ≡ false }
+        ensures more { OnOk result (list_of self.new ≡ list_of self.old ++ name.now ∷ []) }
+        ensures len { OnOk result (length (list_of self.new) ≡ length (list_of self.old) + 1) }
+    {
+        self.set.insert(name)?;
+        Ok(())
+    }
+}
+
+/// A word of its own memory.
+pub fn word_of(alloc: Global, text: &[u8]) -> Result<Word, AllocError>
+    ensures equal { IfOk result (λ w. w.bytes.items ≡ text.now) }
+{
+    Ok(Word {
+        bytes: text.to_vec(alloc)?,
+    })
+}
+
+/// A word that begins with a name and ends in an ending.
+pub fn word_with(alloc: Global, text: &[u8], ending: &[u8]) -> Result<Word, AllocError>
+    ensures joined { IfOk result (λ w. w.bytes.items ≡ text.now ++ ending.now) }
+{
+    let mut bytes = text.to_vec(alloc)?;
+    bytes.extend_from_slice(ending)?;
+    Ok(Word { bytes })
+}

@@ -1,0 +1,76 @@
+//! What a byte of a text may begin, and what may follow.
+
+ghost use Rattle.std.specs.Prelude.{◌≡◌};
+ghost use Rattle.fl_lex.specs.Spelling.{class_of, is_word_byte, is_digit, is_on_line, is_described};
+
+use crate::token::Mark;
+
+/// What a byte may begin. Bytes from 128 up begin nothing.
+#[derive(Clone, Copy, Debug, PartialEq, Eq)]
+pub enum ByteClass {
+    /// A letter or `_`: a word.
+    Letter,
+    /// A number.
+    Digit,
+    /// Bytes 9 to 13 and 32, which part tokens.
+    Blank,
+    /// A description.
+    Quote,
+    /// A comment, with `/` or `*` behind it.
+    Slash,
+    /// One of the marks.
+    Mark(Mark),
+    /// Nothing.
+    Other,
+}
+
+/// What a byte may begin.
+#[tactic(auto, unfolding(crate::specs::Spelling::class_of, crate::specs::Spelling::mark_class))]
+pub(crate) fn class_of(byte: u8) -> ByteClass
+    ensures class { result ≡ class_of byte }
+{
+    match byte {
+        b'A'..=b'Z' | b'a'..=b'z' | b'_' => ByteClass::Letter,
+        b'0'..=b'9' => ByteClass::Digit,
+        9..=13 | b' ' => ByteClass::Blank,
+        b'"' => ByteClass::Quote,
+        b'/' => ByteClass::Slash,
+        b'{' => ByteClass::Mark(Mark::OpenBrace),
+        b'}' => ByteClass::Mark(Mark::CloseBrace),
+        b'(' => ByteClass::Mark(Mark::OpenParen),
+        b')' => ByteClass::Mark(Mark::CloseParen),
+        b'[' => ByteClass::Mark(Mark::OpenBracket),
+        b']' => ByteClass::Mark(Mark::CloseBracket),
+        b',' => ByteClass::Mark(Mark::Comma),
+        b';' => ByteClass::Mark(Mark::Semicolon),
+        _ => ByteClass::Other,
+    }
+}
+
+/// A letter, a digit or `_`.
+pub(crate) fn is_word_byte(byte: u8) -> bool
+    ensures class { result ≡ is_word_byte byte }
+{
+    matches!(class_of(byte), ByteClass::Letter | ByteClass::Digit)
+}
+
+/// A decimal digit.
+pub(crate) fn is_digit(byte: u8) -> bool
+    ensures class { result ≡ is_digit byte }
+{
+    matches!(class_of(byte), ByteClass::Digit)
+}
+
+/// Any byte but a line feed.
+pub(crate) fn is_on_line(byte: u8) -> bool
+    ensures class { result ≡ is_on_line byte }
+{
+    byte != b'\n'
+}
+
+/// Any byte but a quote and a line feed.
+pub(crate) fn is_described(byte: u8) -> bool
+    ensures class { result ≡ is_described byte }
+{
+    byte != b'"' && byte != b'\n'
+}

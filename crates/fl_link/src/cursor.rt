@@ -1,0 +1,87 @@
+//! An index that goes round the places of a ring.
+
+ghost use Rattle.std.specs.Prelude.{◌≡◌, ◌+◌, ◌^◌, ◌/◌, ◌%◌, ◌<◌, ◌≤◌};
+ghost use Rattle.fl_link.specs.Cursor.{TheCursor, epoch_at};
+
+use std::marker::Model;
+
+/// An index from 0 up, with its place in a ring of `size` places and the epoch of its round.
+///
+/// Place and epoch are kept beside the index, so that no step divides.
+#[derive(Debug, Drop)]
+pub struct Cursor {
+    index: u64,
+    size: usize,
+    place: usize,
+    epoch: u64,
+}
+
+impl Model for Cursor {
+    ghost use Rattle.std.specs.Prelude.{◌≡◌, ◌<◌, ◌%◌, ◌^◌};
+    ghost use Rattle.fl_link.specs.Cursor.{TheCursor, epoch_at};
+
+    ghost Value = { TheCursor };
+
+    ghost view = { λ c. record { index = c.index; size = c.size } };
+
+    ghost invariant = { λ c. (0 < c.size) × (c.place ≡ c.index % c.size) × (c.epoch ≡ epoch_at c.size c.index) };
+}
+
+impl Cursor {
+    /// The cursor at index 0 of a ring of `size` places.
+    pub fn new(size: usize) -> Cursor
+        requires { 0 < size }
+        ensures start { result ≡ record { index = 0; size = size } }
+    {
+        Cursor {
+            index: 0,
+            size,
+            place: 0,
+            epoch: 1,
+        }
+    }
+
+    /// How many times it advanced.
+    pub fn index(&self) -> u64
+        ensures index { result ≡ self.now.index }
+    {
+        self.index
+    }
+
+    /// How many places the ring has.
+    pub fn size(&self) -> usize
+        ensures size { result ≡ self.now.size }
+        ensures some { 0 < result }
+    {
+        self.size
+    }
+
+    /// The place in the ring: the index modulo the number of places.
+    pub fn place(&self) -> usize
+        ensures place { result ≡ self.now.index % self.now.size }
+        ensures within { result < self.now.size }
+    {
+        self.place
+    }
+
+    /// The epoch of this round: 1 in the first, 0 in the second, and so on.
+    pub fn epoch(&self) -> u64
+        ensures epoch { result ≡ epoch_at self.now.size self.now.index }
+        ensures bit { result < 2 }
+    {
+        self.epoch
+    }
+
+    /// Goes on to the next index.
+    pub fn advance(&mut self)
+        requires { self.old.index + 1 < 2 ^ 64 }
+        ensures next { self.new ≡ record { index = self.old.index + 1; size = self.old.size } }
+    {
+        self.index += 1;
+        self.place += 1;
+        if self.place == self.size {
+            self.place = 0;
+            self.epoch = 1 - self.epoch;
+        }
+    }
+}

@@ -1,0 +1,217 @@
+//! A bounded queue of fragments: a link with one owner.
+
+ghost use Rattle.std.specs.Prelude.{◌≡◌, ◌+◌, ◌*◌, ◌^◌, ◌/◌, ◌%◌, ◌<◌, ◌≤◌, ◌-◌, ◌↔◌, ℕ, ◌≢◌, IsTrue, true, false, [], IfOk, OnOk, Ok, Err, refl};
+ghost use Rattle.fl_base.specs.declared.fragment.Frag.{Frag};
+ghost use Rattle.fl_base.specs.Control.{is_ack_only};
+ghost use Rattle.fl_link.specs.Stamp.{bare};
+ghost use Rattle.fl_link.specs.Looks.{placed, no_room, spent, saw, saw_ack, found, found_ack, peeked, taken, tells};
+ghost use Rattle.fl_link.specs.Queue.{TheQueue, QueuePuts, QueueTakes, next_epoch_of, used, front_of, has_room, MayHave};
+
+use crate::cursor::Cursor;
+use crate::fault::{LinkFault, PutFault};
+use crate::sides::{PutSide, Sight, TakeSide, Told};
+use crate::stamps::{SPENT, stamp};
+use fl_base::{Frag, MAX_QUEUE};
+use std::alloc::Global;
+use std::collections::VecDeque;
+use std::marker::Model;
+
+/// A queue of fragments with a greatest length.
+///
+/// A `local` queue, within one core, frees a slot when its fragment is taken, and its epoch is
+/// always 1. An `acked` queue counts as a ring does: a slot is free once its fragment is told, and
+/// the epoch changes with each round.
+#[derive(Drop)]
+pub struct QueueLink {
+    items: VecDeque<Frag>,
+    capacity: usize,
+    acked: bool,
+    untold: usize,
+    next: Cursor,
+}
+
+impl Model for QueueLink {
+    ghost use Rattle.std.specs.Prelude.{◌≡◌, ◌+◌, ◌<◌, ◌≤◌, ◌^◌, length, true, false};
+    ghost use Rattle.std.specs.VecDeque.{deque_capacity};
+    ghost use Rattle.fl_link.specs.Queue.{TheQueue};
+
+    ghost Value = { TheQueue };
+
+    ghost view = { λ q. record { items = q.items.items; untold = q.untold; sent = q.next.index; capacity = q.capacity; acked = q.acked } };
+
+    ghost invariant = { λ q. (q.capacity ≤ deque_capacity q.items) × (q.next.size ≡ q.capacity) × (0 < q.capacity) × (q.capacity ≤ 1024) × (length q.items.items + q.untold ≤ q.capacity) × (q.next.index ≤ 2 ^ 62) × (q.acked ≡ false → (q.next.index ≡ 0) × (q.untold ≡ 0)) };
+}
+
+impl QueueLink {
+    /// A queue within one core, of `size` slots, from 1 to 1,024 (else E32); E99 where there is no
+    /// memory for them. A slot is free once its fragment is taken.
+    pub fn local(alloc: Global, size: usize) -> Result<QueueLink, LinkFault>
+        ensures made { IfOk result (λ q. q ≡ record { items = []; untold = 0; sent = 0; capacity = size; acked = false }) }
+        ensures sized { OnOk result (MayHave false size) }
+        ensures bad_size { (result ≡ Err LinkFault.BadSize) ↔ (¬ MayHave false size) }
+    {
+        if size == 0 || size > MAX_QUEUE {
+            return Err(LinkFault::BadSize);
+        }
+        QueueLink::make(alloc, size, false)
+    }
+
+    /// A queue that frees a slot once its fragment is told, and counts epochs as a ring does. Its
+    /// `size` is a power of two from 2 to 1,024 (else E32); E99 where there is no memory for them.
+    pub fn acked(alloc: Global, size: usize) -> Result<QueueLink, LinkFault>
+        ensures made { IfOk result (λ q. q ≡ record { items = []; untold = 0; sent = 0; capacity = size; acked = true }) }
+        ensures sized { OnOk result (MayHave true size) }
+        ensures bad_size { (result ≡ Err LinkFault.BadSize) ↔ (¬ MayHave true size) }
+    {
+        if size < 2 || size > MAX_QUEUE || !size.is_power_of_two() {
+            return Err(LinkFault::BadSize);
+        }
+        QueueLink::make(alloc, size, true)
+    }
+
+    fn make(alloc: Global, size: usize, acked: bool) -> Result<QueueLink, LinkFault>
+        requires some { 0 < size }
+        requires few { size ≤ 1024 }
+        ensures made { IfOk result (λ q. q ≡ record { items = []; untold = 0; sent = 0; capacity = size; acked = acked }) }
+        ensures refused { result ≢ Err LinkFault.BadSize }
+    {
+        let Ok(items) = VecDeque::with_capacity(alloc, size) else {
+            return Err(LinkFault::Memory);
+        };
+        Ok(QueueLink {
+            items,
+            capacity: size,
+            acked,
+            untold: 0,
+            next: Cursor::new(size),
+        })
+    }
+
+    /// Whether a put would find room.
+    pub fn room(&self) -> bool
+        ensures room { result ≡ has_room self.now }
+    {
+        self.next.index() < SPENT && self.items.len() + self.untold < self.capacity
+    }
+
+    /// Puts the fragment last, with the epoch due and telling nothing. Where every slot is in use
+    /// it is E30, and after 2^62 fragments of an `acked` queue E33.
+    pub fn put(&mut self, frag: &Frag) -> Result<(), PutFault>
+        ensures placed { OnOk result (QueuePuts self.old (placed (bare frag.now)) self.new) }
+        ensures full { result ≡ Err PutFault.Full → QueuePuts self.old no_room self.new }
+        ensures spent { result ≡ Err PutFault.Spent → QueuePuts self.old spent self.new }
+    {
+        if self.next.index() == SPENT {
+            return Err(PutFault::Spent);
+        }
+        if self.items.len() + self.untold == self.capacity {
+            return Err(PutFault::Full);
+        }
+        let stamped = stamp(frag, self.next.epoch(), 0);
+        self.items.push_back(stamped).unwrap();
+        if self.acked {
+            self.next.advance();
+        }
+        Ok(())
+    }
+
+    /// The epoch bit of the fragment that is put next: always 1 in a `local` queue.
+    pub fn next_epoch(&self) -> u64
+        ensures epoch { result ≡ next_epoch_of self.now }
+    {
+        self.next.epoch()
+    }
+
+    /// The first fragment, which is left there.
+    pub fn peek(&self) -> Sight
+        ensures look { QueueTakes self.now (peeked result) self.now }
+        ensures front { peeked result ≡ front_of self.now.items }
+        ensures of_call { (frag : Frag) → result ≡ Sight.Data frag → is_ack_only frag ≡ false }
+    {
+        match self.items.front() {
+            None => Sight::Empty,
+            Some(frag) if frag.is_ack_only() => Sight::Acknowledgement,
+            Some(frag) => Sight::Data(*frag),
+        }
+    }
+
+    /// Takes the first fragment. In a `local` queue its slot is free at once.
+    pub fn take(&mut self) -> Sight
+        ensures look { QueueTakes self.old (taken result) self.new }
+        ensures data { (frag : Frag) → front_of self.old.items ≡ saw frag → taken result ≡ found frag }
+        ensures acknowledgement { front_of self.old.items ≡ saw_ack → taken result ≡ found_ack }
+    {
+        let Some(frag) = self.items.pop_front() else {
+            return Sight::Empty;
+        };
+        if self.acked {
+            self.untold += 1;
+        }
+        if frag.is_ack_only() {
+            return Sight::Acknowledgement;
+        }
+        Sight::Data(frag)
+    }
+
+    /// Tells what was taken: those slots of an `acked` queue are free then. A `local` queue has
+    /// nothing to tell.
+    pub fn tell(&mut self) -> Told
+        ensures tell { QueueTakes self.old (tells (Ok result)) self.new }
+    {
+        if !self.acked {
+            return Told::Nothing;
+        }
+        self.untold = 0;
+        Told::Written
+    }
+}
+
+impl PutSide for QueueLink {
+    ghost puts = { QueuePuts };
+
+    ghost has_room = { has_room };
+
+    ghost epoch_of = { next_epoch_of };
+
+    ghost told_of = { λ _. 0 };
+
+    ghost known_of = { λ _. 0 };
+
+    fn room(&self) -> bool {
+        QueueLink::room(self)
+    }
+
+    fn put(&mut self, frag: &Frag) -> Result<(), PutFault> {
+        QueueLink::put(self, frag)
+    }
+
+    fn next_epoch(&self) -> u64 {
+        QueueLink::next_epoch(self)
+    }
+
+    fn next_told(&self) -> u16 {
+        0
+    }
+
+    fn known(&self) -> u64 {
+        0
+    }
+}
+
+impl TakeSide for QueueLink {
+    ghost takes = { QueueTakes };
+
+    ghost front = { λ s. front_of s.items };
+
+    fn peek(&mut self) -> Sight {
+        QueueLink::peek(self)
+    }
+
+    fn take(&mut self) -> Sight {
+        QueueLink::take(self)
+    }
+
+    fn tell(&mut self) -> Result<Told, PutFault> {
+        Ok(QueueLink::tell(self))
+    }
+}

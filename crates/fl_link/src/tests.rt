@@ -1,0 +1,126 @@
+//! Worked examples: queues that fill, and a fragment passed on.
+
+ghost use Rattle.std.specs.Prelude.{◌≡◌, false};
+ghost use Rattle.fl_base.specs.Control.{is_ack_only};
+
+use crate::{Link, LinkFault, Passed, PutFault, PutSide, QueueLink, Sight, TakeSide, Told, pass};
+use fl_base::Frag;
+use std::test::Fail;
+
+// The only fragment of `ping(v)`, message 0 of its interface.
+fn ping(v: u64) -> Frag {
+    Frag {
+        words: [v, 0, 0, 0, 0, 0, 0],
+        control: 2,
+    }
+}
+
+fn arrived(v: u64, control: u64) -> Sight {
+    Sight::Data(Frag {
+        words: [v, 0, 0, 0, 0, 0, 0],
+        control,
+    })
+}
+
+// Fills the link, and says how many fragments found room.
+fn fill<L: Link>(link: &mut L, from: u64) -> u64 {
+    for v in 0..8 {
+        if link.put(&ping_of(from, v)).is_err() {
+            return v;
+        }
+    }
+    8
+}
+
+fn ping_of(from: u64, v: u64) -> Frag
+    ensures data { is_ack_only result ≡ false }
+{
+    Frag {
+        words: [from % 1000 + v % 1000, 0, 0, 0, 0, 0, 0],
+        control: 2,
+    }
+}
+
+#[test]
+fn sizes(rt: HostRuntime) {
+    for (size, local, acked) in [
+        (0, false, false),
+        (1, true, false),
+        (2, true, true),
+        (3, true, false),
+        (1_024, true, true),
+        (1_025, false, false),
+    ] {
+        assert_eq!(rt;
+            QueueLink::local(rt.alloc(), size).is_ok(),
+            local,
+            "local {size}"
+        );
+        assert_eq!(rt;
+            QueueLink::acked(rt.alloc(), size).is_ok(),
+            acked,
+            "acked {size}"
+        );
+    }
+}
+
+#[test]
+fn numbers(rt: HostRuntime) {
+    assert_eq!(rt; PutFault::Full.number(), 30);
+    assert_eq!(rt; PutFault::Spent.number(), 33);
+    assert_eq!(rt; LinkFault::BadSize.number(), 32);
+    assert_eq!(rt; LinkFault::Memory.number(), 99);
+}
+
+#[test]
+fn local_frees_by_take(rt: HostRuntime) -> Result<(), Fail> {
+    let mut queue = QueueLink::local(rt.alloc(), 2)?;
+    assert_eq!(rt; queue.put(&ping(7)), Ok(()));
+    assert_eq!(rt; queue.put(&ping(8)), Ok(()));
+    assert!(rt; !queue.room());
+    assert_eq!(rt; queue.put(&ping(9)), Err(PutFault::Full));
+    assert_eq!(rt; queue.peek(), arrived(7, 3));
+    assert_eq!(rt; queue.take(), arrived(7, 3));
+    assert_eq!(rt; queue.put(&ping(9)), Ok(()));
+    assert_eq!(rt; queue.tell(), Told::Nothing);
+    assert_eq!(rt; queue.take(), arrived(8, 3));
+    assert_eq!(rt; queue.take(), arrived(9, 3));
+    assert_eq!(rt; queue.take(), Sight::Empty);
+    Ok(())
+}
+
+#[test]
+fn acked_frees_by_tell(rt: HostRuntime) -> Result<(), Fail> {
+    let mut queue = QueueLink::acked(rt.alloc(), 2)?;
+    assert_eq!(rt; fill(&mut queue, 1), 2);
+    assert_eq!(rt; queue.take(), arrived(1, 3));
+    assert_eq!(rt; queue.put(&ping(9)), Err(PutFault::Full));
+    assert_eq!(rt; queue.tell(), Told::Written);
+    assert_eq!(rt; queue.next_epoch(), 0);
+    assert_eq!(rt; queue.put(&ping(9)), Ok(()));
+    assert_eq!(rt; queue.take(), arrived(2, 3));
+    assert_eq!(rt; queue.take(), arrived(9, 2));
+    Ok(())
+}
+
+#[test]
+fn passes_on(rt: HostRuntime) -> Result<(), Fail> {
+    let mut from = QueueLink::acked(rt.alloc(), 4)?;
+    let mut to = QueueLink::local(rt.alloc(), 1)?;
+    assert_eq!(rt; pass(&mut from, &mut to), Passed::Nothing);
+    assert_eq!(rt; fill(&mut from, 5), 4);
+    assert_eq!(rt; pass(&mut from, &mut to), Passed::Moved);
+    assert_eq!(rt; pass(&mut from, &mut to), Passed::Full);
+    assert_eq!(rt; to.take(), arrived(5, 3));
+    assert_eq!(rt; from.peek(), arrived(6, 3));
+    assert_eq!(rt; (to.next_told(), to.known()), (0, 0));
+    let acknowledgement = Frag {
+        words: [0; 7],
+        control: 4,
+    };
+    let mut acknowledges = QueueLink::local(rt.alloc(), 1)?;
+    assert_eq!(rt; acknowledges.put(&acknowledgement), Ok(()));
+    assert_eq!(rt; pass(&mut acknowledges, &mut to), Passed::Acknowledged);
+    assert_eq!(rt; acknowledges.take(), Sight::Empty);
+    Ok(())
+}

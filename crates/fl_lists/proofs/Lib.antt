@@ -1,0 +1,4 @@
+pub mod Members
+pub mod Chains
+pub mod Rings
+pub mod Tables

@@ -1,0 +1,511 @@
+-- A whole table after a node is taken out or put in, and what the three lists are then.
+use Rattle.std.proofs.Common.{◌≡◌, ◌≢◌, ℕ, ◌+◌, ◌-◌, ◌<◌, ◌≤◌, ◌==◌, true, false, if◌then◌else◌, inl, inr, List, [], ◌∷◌, ◌++◌, length, sym, ◌∙◌, ap, subst, refl, arith, Option, Some, None, get_or, drop, slice_get, IsSome, is_some, take, set, replicate, length-append}
+use Rattle.std.proofs.lemmas.Bool.{false≢true, eqb-true, eqb-false, eq-eqb, ne_eqb, cases_eq, cases_lt, cases_Bool, or_cases, or_parts, or_from, or_left, or_right, cond-true, cond-false}
+use Rattle.std.proofs.lemmas.List.{take_at, get_or_read, get_or-set_same, get_or-set_other, get_or-replicate, get_or_past, length-set, length-replicate}
+use Rattle.fl_lists.specs.declared.place.Place.{Place}
+use Rattle.fl_lists.specs.declared.place.Place.TheVariants.{Idle, Polled, Pending}
+use Rattle.fl_lists.specs.declared.node.Node.{Node}
+use Rattle.fl_lists.specs.Threads.{Threads, list_at, is_in, without, place_of, unlinked, pushed, popped, NoRepeat, IsApart}
+use Rattle.fl_lists.specs.Table.{free_node, node_at, next_at, prev_at, place_at, TakenOut, PutBefore, ChangesFew, head_of, Chain, Ring, list_from, threads_of, IsTable, Threaded}
+use Rattle.fl_lists.proofs.Members.{different, first_is_in, without_first, without_none, left_out}
+use Rattle.fl_lists.proofs.Rings.{same_or_not, placed_below, list_is, prev_placed, next_placed, last_placed, in_list, ring_without, ring_push, ring_besides_out, ring_besides_in}
+
+-- two values with the same lists are the same
+pub same_threads : (v w : Threads) → v.size ≡ w.size → ((p : Place) → list_at v p ≡ list_at w p) → v ≡ w
+same_threads v w size lists =
+    let make : ℕ → List ℕ → List ℕ → List ℕ → Threads =
+    λ n a b c. record { size = n; idle = a; polled = b; pending = c } in
+    ap (λ (n : ℕ). make n v.idle v.polled v.pending) size ∙ ap (λ (a : List ℕ). make w.size a v.polled v.pending) (lists Idle)
+    ∙ ap (λ (b : List ℕ). make w.size w.idle b v.pending) (lists Polled) ∙ ap (make w.size w.idle w.polled) (lists Pending)
+
+pub same_node : (m n : Node) → m.prev ≡ n.prev → m.next ≡ n.next → m.place ≡ n.place → m ≡ n
+same_node m n prev next place =
+    let make : ℕ → ℕ → Option Place → Node = λ a b p. record { prev = a; next = b; place = p } in
+    ap (λ (a : ℕ). make a m.next m.place) prev ∙ ap (λ (b : ℕ). make n.prev b m.place) next ∙ ap (make n.prev n.next) place
+
+list_there : (nodes : List Node) (p : Place) → list_at (threads_of nodes) p ≡ list_from nodes p
+list_there nodes Idle = refl
+list_there nodes Polled = refl
+list_there nodes Pending = refl
+
+pub pushed_size : (w : Threads) (c : ℕ) (p : Place) → (pushed w c p).size ≡ w.size
+pushed_size w c Idle = refl
+pushed_size w c Polled = refl
+pushed_size w c Pending = refl
+
+pub pushed_this : (w : Threads) (c : ℕ) (p : Place) → list_at (pushed w c p) p ≡ list_at w p ++ c ∷ []
+pushed_this w c Idle = refl
+pushed_this w c Polled = refl
+pushed_this w c Pending = refl
+
+pub pushed_other : (w : Threads) (c : ℕ) (p q : Place) → q ≢ p → list_at (pushed w c p) q ≡ list_at w q
+pushed_other w c Idle Idle ne = absurd (ne refl)
+pushed_other w c Idle Polled ne = refl
+pushed_other w c Idle Pending ne = refl
+pushed_other w c Polled Idle ne = refl
+pushed_other w c Polled Polled ne = absurd (ne refl)
+pushed_other w c Polled Pending ne = refl
+pushed_other w c Pending Idle ne = refl
+pushed_other w c Pending Polled ne = refl
+pushed_other w c Pending Pending ne = absurd (ne refl)
+
+pub unlinked_list : (w : Threads) (c : ℕ) (p : Place) → list_at (unlinked w c) p ≡ without c (list_at w p)
+unlinked_list w c Idle = refl
+unlinked_list w c Polled = refl
+unlinked_list w c Pending = refl
+
+-- the heads stand behind the nodes
+head_behind : (len c : ℕ) (p : Place) → c < len - 3 → c ≢ head_of len p
+head_behind len c Idle h e = omega arith
+head_behind len c Polled h e = omega arith
+head_behind len c Pending h e = omega arith
+
+pub head_within : (len : ℕ) (p : Place) → 3 ≤ len → head_of len p < len
+head_within len Idle h = omega arith
+head_within len Polled h = omega arith
+head_within len Pending h = omega arith
+
+-- a table with these rings has these lists
+rings_give : (nodes : List Node) (w : Threads) → 3 ≤ length nodes → length nodes - 3 ≡ w.size
+    → ((p : Place) → Ring nodes (head_of (length nodes) p) p (list_at w p)) → IsTable nodes × (threads_of nodes ≡ w)
+rings_give nodes w heads size rings =
+    let same : (p : Place) → list_from nodes p ≡ list_at w p =
+    λ p. list_is nodes (head_of (length nodes) p) p (list_at w p) (rings p) in (
+      record {
+        heads = heads;
+        ring = λ p. subst (λ (ys : List ℕ). Ring nodes (head_of (length nodes) p) p ys) (sym (same p)) (rings p);
+      },
+      same_threads (threads_of nodes) w size (λ p. list_there nodes p ∙ same p),
+    )
+
+module _ (nodes : List Node) (table : IsTable nodes) where
+  ring_at : (p : Place) → Ring nodes (head_of (length nodes) p) p (list_at (threads_of nodes) p)
+  ring_at p =
+      subst (λ (ys : List ℕ). Ring nodes (head_of (length nodes) p) p ys) (sym (list_there nodes p)) (table.ring p)
+
+  listed_at : (c : ℕ) (p : Place) → c < length nodes - 3 → place_at nodes c ≡ Some p → is_in c (list_at (threads_of nodes) p) ≡ true
+  listed_at c p below h = in_list nodes _ p _ (ring_at p) c h (head_behind (length nodes) c p below)
+
+  placed_at : (c : ℕ) (p : Place) → is_in c (list_at (threads_of nodes) p) ≡ true → place_at nodes c ≡ Some p
+  placed_at c p i = (ring_at p).placed c (or_right _ _ i)
+
+  -- no list has a head, so its nodes stand before the heads
+  node_below : (c : ℕ) (p : Place) → is_in c (list_at (threads_of nodes) p) ≡ true → c < length nodes - 3
+  node_below c p i =
+      let here = placed_at c p i in
+      let within : c < length nodes = placed_below nodes c p here in
+      let no_head : (q : Place) → c ≢ head_of (length nodes) q = λ q e.
+      let at_head : place_at nodes (head_of (length nodes) q) ≡ Some q = (ring_at q).placed _ (first_is_in (head_of (length nodes) q) (list_at (threads_of nodes) q)) in
+      let there : place_at nodes c ≡ Some q = subst (λ (z : ℕ). place_at nodes z ≡ Some q) (sym e) at_head in
+      let same : q ≡ p = cc (there, here) in
+      different c (head_of (length nodes) p) _ i (ring_at p).once.0 (e ∙ ap (head_of (length nodes)) same) in
+      let idle = no_head Idle in
+      let polled = no_head Polled in
+      let pending = no_head Pending in
+      let heads = table.heads in
+      omega arith
+
+  pub apart_lists : IsApart (threads_of nodes)
+  apart_lists = record {
+    once = λ p. (ring_at p).once.1;
+    one_list = λ p q c i j. let here = placed_at c p i in let there = placed_at c q j in cc (here, there);
+    below = λ p c i. node_below c p i;
+  }
+
+  missing_at : (c : ℕ) (p : Place) → place_at nodes c ≡ None → is_in c (list_at (threads_of nodes) p) ≡ false
+  missing_at c p free = elim (cases_Bool (is_in c (list_at (threads_of nodes) p))) [
+    | inl i ↦ let here = placed_at c p i in absurd (cc (free, here))
+    | inr missed ↦ missed
+  ]
+
+  -- the place that a node tells is the list that it is in
+  pub place_is : (c : ℕ) → c < length nodes - 3 → place_of (threads_of nodes) c ≡ place_at nodes c
+  place_is c below = go (place_at nodes c) refl where
+    w : Threads
+    w = threads_of nodes
+
+    other : (p q : Place) → place_at nodes c ≡ Some p → p ≢ q → is_in c (list_at w q) ≡ false
+    other p q h ne = elim (cases_Bool (is_in c (list_at w q))) [
+      | inl i ↦ let there = placed_at c q i in absurd (ne (cc (h, there)))
+      | inr missed ↦ missed
+    ]
+
+    go : (o : Option Place) → place_at nodes c ≡ o → place_of w c ≡ o
+    go None h =
+        cond-false _ _ _ (missing_at c Idle h) ∙ cond-false _ _ _ (missing_at c Polled h)
+        ∙ cond-false _ _ _ (missing_at c Pending h)
+    go (Some Idle) h = cond-true _ _ _ (listed_at c Idle below h)
+    go (Some Polled) h =
+        cond-false _ _ _ (other Polled Idle h (λ e. cc)) ∙ cond-true _ _ _ (listed_at c Polled below h)
+    go (Some Pending) h =
+        cond-false _ _ _ (other Pending Idle h (λ e. cc)) ∙ cond-false _ _ _ (other Pending Polled h (λ e. cc))
+        ∙ cond-true _ _ _ (listed_at c Pending below h)
+
+  -- where c is in a list, its neighbours and itself are of one place
+  pub neighbours : (c : ℕ) (p : Place) → c < length nodes - 3 → place_at nodes c ≡ Some p
+      → (place_at nodes (prev_at nodes c) ≡ Some p) × (place_at nodes (next_at nodes c) ≡ Some p)
+  neighbours c p below h =
+      let i = listed_at c p below h in
+      (prev_placed nodes _ p _ (ring_at p) c i, next_placed nodes _ p _ (ring_at p) c i)
+
+  pub last_below : (p : Place) → prev_at nodes (head_of (length nodes) p) < length nodes
+  last_below p = placed_below nodes _ p (last_placed nodes _ p _ (ring_at p))
+
+  pub table_out : (new : List Node) (c : ℕ) (p : Place) → TakenOut nodes new c → c < length nodes - 3 → place_at nodes c ≡ Some p
+      → IsTable new × (threads_of new ≡ unlinked (threads_of nodes) c)
+  table_out new c p t below h =
+      let near = neighbours c p below h in
+      let old_rings : (q : Place) → Ring new (head_of (length nodes) q) q (without c (list_at (threads_of nodes) q)) =
+      λ q. elim (same_or_not q p) [
+        | inl e ↦ ring_without nodes _ q _ (ring_at q) new c t (listed_at c q below (h ∙ ap (λ (z : Place). Some z) (sym e)))
+        | inr ne ↦ ring_besides_out nodes _ q _ (ring_at q) new c p t ne h near.0 near.1
+      ] in
+      let size = t.size in
+      let heads = table.heads in
+      rings_give new (unlinked (threads_of nodes) c) (omega arith) (ap (λ (n : ℕ). n - 3) size) (λ q.
+      subst (λ (n : ℕ). Ring new (head_of n q) q (list_at (unlinked (threads_of nodes) c) q)) (sym size)
+      (subst (λ (ys : List ℕ). Ring new (head_of (length nodes) q) q ys) (sym (unlinked_list (threads_of nodes) c q)) (old_rings q)))
+
+  pub table_in : (new : List Node) (c : ℕ) (p : Place) → PutBefore nodes new c (head_of (length nodes) p) p → place_at nodes c ≡ None
+      → IsTable new × (threads_of new ≡ pushed (threads_of nodes) c p)
+  table_in new c p t free =
+      let w = threads_of nodes in
+      let at_head : place_at nodes (head_of (length nodes) p) ≡ Some p = (ring_at p).placed _ (first_is_in (head_of (length nodes) p) (list_at (threads_of nodes) p)) in
+      let at_last = last_placed nodes _ p _ (ring_at p) in
+      let old_rings : (q : Place) → Ring new (head_of (length nodes) q) q (list_at (pushed (threads_of nodes) c p) q) =
+      λ q. elim (same_or_not p q) [
+        | inl e ↦
+            subst (λ (z : Place). Ring new (head_of (length nodes) z) z (list_at (pushed (threads_of nodes) c p) z)) e
+            (subst (λ (ys : List ℕ). Ring new (head_of (length nodes) p) p ys) (sym (pushed_this (threads_of nodes) c p))
+            (ring_push nodes _ p _ (ring_at p) new c t free))
+        | inr ne ↦
+            subst (λ (ys : List ℕ). Ring new (head_of (length nodes) q) q ys)
+            (sym (pushed_other (threads_of nodes) c p q (λ s. ne (sym s))))
+            (ring_besides_in nodes _ q _ (ring_at q) new c _ p t (λ s. ne (sym s)) free at_head at_last)
+      ] in
+      let size = t.size in
+      let heads = table.heads in
+      rings_give new (pushed (threads_of nodes) c p) (omega arith)
+      (ap (λ (n : ℕ). n - 3) size ∙ sym (pushed_size (threads_of nodes) c p)) (λ q.
+      subst (λ (n : ℕ). Ring new (head_of n q) q (list_at (pushed (threads_of nodes) c p) q)) (sym size) (old_rings q))
+
+  -- what comes after a head is the first of its list
+  pub front_is : (p : Place) (head : ℕ) → head ≡ head_of (length nodes) p
+      → (if next_at nodes head == head then None else Some (next_at nodes head)) ≡ slice_get (list_at (threads_of nodes) p) 0
+  front_is p head e = subst (λ (h : ℕ). (if next_at nodes h == h then None else Some (next_at nodes h)) ≡ slice_get (list_at (threads_of nodes) p) 0) (sym e)
+      (go (head_of (length nodes) p) (list_at (threads_of nodes) p) (ring_at p).chain (ring_at p).once) where
+        go : (h : ℕ) (xs : List ℕ) → Chain (next_at nodes) (prev_at nodes) h xs h → NoRepeat (h ∷ xs)
+            → (if next_at nodes h == h then None else Some (next_at nodes h)) ≡ slice_get xs 0
+        go h [] chain once = cond-true _ _ _ (eq-eqb _ _ chain.0)
+        go h (x ∷ xs) chain once =
+            cond-false _ _ _ (ne_eqb _ _ (λ s. eqb-false x h (or_parts _ _ once.0).0 (sym chain.0 ∙ s)))
+            ∙ ap (λ (z : ℕ). Some z) chain.0
+
+-- at most two nodes beside c have other links
+pub few_out : (old new : List Node) (c : ℕ) → TakenOut old new c → ChangesFew 2 c old new
+few_out old new c t = record {
+  changed = prev_at old c ∷ (next_at old c ∷ []);
+  few = omega arith;
+  others = λ k ne missing.
+      let parts = or_parts (prev_at old c == k) _ missing in
+      let at_prev : k ≢ prev_at old c = λ e. eqb-false _ _ parts.0 (sym e) in
+      let at_next : k ≢ next_at old c = λ e. eqb-false _ _ (or_parts _ _ parts.1).0 (sym e) in
+      same_node _ _ (t.prevs k ne ∙ cond-false _ _ _ (ne_eqb _ _ at_next)) (t.nexts k ne ∙ cond-false _ _ _ (ne_eqb _ _ at_prev))
+      (t.places k ∙ cond-false _ _ _ (ne_eqb _ _ ne));
+}
+
+pub few_in : (old new : List Node) (c head : ℕ) (p : Place) → PutBefore old new c head p → ChangesFew 2 c old new
+few_in old new c head p t = record {
+  changed = prev_at old head ∷ (head ∷ []);
+  few = omega arith;
+  others = λ k ne missing.
+      let parts = or_parts (prev_at old head == k) _ missing in
+      let at_last : k ≢ prev_at old head = λ e. eqb-false _ _ parts.0 (sym e) in
+      let at_head : k ≢ head = λ e. eqb-false _ _ (or_parts _ _ parts.1).0 (sym e) in
+      same_node _ _ (t.prevs k ∙ cond-false _ _ _ (ne_eqb _ _ at_head) ∙ cond-false _ _ _ (ne_eqb _ _ ne))
+      (t.nexts k ∙ cond-false _ _ _ (ne_eqb _ _ ne) ∙ cond-false _ _ _ (ne_eqb _ _ at_last))
+      (t.places k ∙ cond-false _ _ _ (ne_eqb _ _ ne));
+}
+
+missing_in_both : (k : ℕ) (xs ys : List ℕ) → is_in k (xs ++ ys) ≡ false → (is_in k xs ≡ false) × (is_in k ys ≡ false)
+missing_in_both k [] ys h = (refl, h)
+missing_in_both k (x ∷ xs) ys h =
+    let parts = or_parts (x == k) (is_in k (xs ++ ys)) h in
+    let rest = missing_in_both k xs ys parts.1 in
+    (or_from _ _ parts.0 rest.0, rest.1)
+
+pub few_both : (m n c : ℕ) (old between new : List Node) → ChangesFew m c old between → ChangesFew n c between new → ChangesFew (m + n) c old new
+few_both m n c old between new f g = record {
+  changed = f.changed ++ g.changed;
+  few = let a = f.few in let b = g.few in omega (arith, length-append f.changed g.changed);
+  others = λ k ne missing.
+      let parts = missing_in_both k f.changed g.changed missing in
+      g.others k ne parts.1 ∙ f.others k ne parts.0;
+}
+
+-- what a Vec holds after a write to all of its elements
+pub written : (len : ℕ) (old new : List Node) → length old ≡ len → length new ≡ length old → take len (new ++ drop (length new) old) ≡ new
+written len old new a b = grind (arith, take_at new (drop (length new) old) len)
+
+some_place : (o : Option Place) → IsSome o → (p : Place) × (o ≡ Some p)
+some_place (Some p) h = (p, refl)
+some_place None h = absurd (false≢true h)
+
+-- a table that holds these lists, and in which few nodes differ from before
+pub record Left (c : ℕ) (before : Threaded) (xs : List Node) (w : Threads) : Type 0 where
+  pub table : IsTable xs
+  pub lists : threads_of xs ≡ w
+  pub few : ChangesFew 2 c before.table xs
+  pub apart : IsApart (threads_of xs)
+
+pub apart_now : (items : List Node) (now : Threaded) → IsTable items → record { lists = threads_of items; table = items } ≡ now → IsApart now.lists
+apart_now items now table seen = subst (λ (w : Threaded). IsApart w.lists) seen (apart_lists items table)
+
+-- what `unlink` and `push_back` need of the table, and what they leave
+module _ (items : List Node) (c : ℕ) (now : Threaded) (table : IsTable items) (seen : record { lists = threads_of items; table = items } ≡ now) (below : c < now.lists.size) where
+  below_here : c < length items - 3
+  below_here = subst (λ (w : Threaded). c < w.lists.size) (sym seen) below
+
+  pub place_here : place_of now.lists c ≡ place_at items c
+  place_here = subst (λ (w : Threaded). place_of w.lists c ≡ place_at items c) seen (place_is items table c below_here)
+
+  pub read_place : (x : Node) → x ≡ get_or items c x → x.place ≡ place_of now.lists c
+  read_place x e =
+      let here = below_here in
+      ap (λ (n : Node). n.place) (get_or_read items c x (omega arith) e free_node) ∙ sym place_here
+
+  pub linked_here : IsSome (place_of now.lists c) → (p : Place) × (place_at items c ≡ Some p)
+  linked_here h =
+      let there = subst (λ (w : Threaded). IsSome (place_of w.lists c)) (sym seen) h in
+      let found = some_place _ there in
+      (found.0, sym (place_is items table c below_here) ∙ found.1)
+
+  pub free_here : place_of now.lists c ≡ None → place_at items c ≡ None
+  free_here h =
+      let there = subst (λ (w : Threaded). place_of w.lists c ≡ None) (sym seen) h in
+      sym (place_is items table c below_here) ∙ there
+
+  pub prev_below : IsSome (place_of now.lists c) → prev_at items c < length items
+  prev_below h = let found = linked_here h in placed_below items _ found.0 (neighbours items table c found.0 below_here found.1).0
+
+  pub next_below : IsSome (place_of now.lists c) → next_at items c < length items
+  next_below h = let found = linked_here h in placed_below items _ found.0 (neighbours items table c found.0 below_here found.1).1
+
+  -- the table after `unlink` has written it back
+  pub unlinks : (lent new : List Node) (len : ℕ) → lent ≡ items → length lent ≡ len → length new ≡ length lent → TakenOut lent new c
+      → IsSome (place_of now.lists c) → Left c now (take len (new ++ drop (length new) items)) (unlinked now.lists c)
+  unlinks lent new len same long kept t h =
+      let whole = written len items new (ap length (sym same) ∙ long) (kept ∙ ap length same) in
+      let t_here = subst (λ (xs : List Node). TakenOut xs new c) same t in
+      let found = linked_here h in
+      let out = table_out items table new c found.0 t_here below_here found.1 in
+      subst (λ (xs : List Node). Left c now xs (unlinked now.lists c)) (sym whole) record {
+        table = out.0;
+        lists = out.1 ∙ ap (λ (w : Threaded). unlinked w.lists c) seen;
+        few = subst (λ (w : Threaded). ChangesFew 2 c w.table new) seen (few_out items new c t_here);
+        apart = apart_lists new out.0;
+      }
+
+  -- the table after `push_back` has written it back
+  pub pushes : (lent new : List Node) (len head : ℕ) (p : Place) → head ≡ head_of (length items) p → lent ≡ items → length lent ≡ len
+      → length new ≡ length lent → PutBefore lent new c head p
+      → place_of now.lists c ≡ None → Left c now (take len (new ++ drop (length new) items)) (pushed now.lists c p)
+  pushes lent new len head p e same long kept t h =
+      let whole = written len items new (ap length (sym same) ∙ long) (kept ∙ ap length same) in
+      let t_here = subst (λ (xs : List Node). PutBefore xs new c head p) same t in
+      let t_head = subst (λ (k : ℕ). PutBefore items new c k p) e t_here in
+      let come = table_in items table new c p t_head (free_here h) in
+      subst (λ (xs : List Node). Left c now xs (pushed now.lists c p)) (sym whole) record {
+        table = come.0;
+        lists = come.1 ∙ ap (λ (w : Threaded). pushed w.lists c p) seen;
+        few = subst (λ (w : Threaded). ChangesFew 2 c w.table new) seen (few_in items new c head p t_here);
+        apart = apart_lists new come.0;
+      }
+
+-- a node that was taken out is free
+pub free_after : (w : Threads) (c : ℕ) → place_of (unlinked w c) c ≡ None
+free_after w c =
+    cond-false _ _ _ (left_out c w.idle) ∙ cond-false _ _ _ (left_out c w.polled) ∙ cond-false _ _ _ (left_out c w.pending)
+
+-- what is in a list has a place
+pub linked_in : (w : Threads) (p : Place) (c : ℕ) → is_in c (list_at w p) ≡ true → IsSome (place_of w c)
+linked_in w p c i = elim (cases_Bool (is_in c w.idle)) [
+  | inl a ↦ some_is (cond-true _ _ _ a)
+  | inr a ↦ elim (cases_Bool (is_in c w.polled)) [
+    | inl b ↦ some_is (cond-false _ _ _ a ∙ cond-true _ _ _ b)
+    | inr b ↦ elim (cases_Bool (is_in c w.pending)) [
+      | inl d ↦ some_is (cond-false _ _ _ a ∙ cond-false _ _ _ b ∙ cond-true _ _ _ d)
+      | inr d ↦ absurd (nowhere p i a b d)
+    ]
+  ]
+] where
+  some_is : {q : Place} → place_of w c ≡ Some q → IsSome (place_of w c)
+  some_is e = ap (λ (o : Option Place). is_some o) e
+
+  nowhere : (q : Place) → is_in c (list_at w q) ≡ true → is_in c w.idle ≡ false → is_in c w.polled ≡ false → is_in c w.pending ≡ false → ⊥
+  nowhere Idle h a b d = false≢true (sym a ∙ h)
+  nowhere Polled h a b d = false≢true (sym b ∙ h)
+  nowhere Pending h a b d = false≢true (sym d ∙ h)
+
+pub front_in : (xs : List ℕ) (c : ℕ) → slice_get xs 0 ≡ Some c → is_in c xs ≡ true
+front_in [] c h = absurd (cc h)
+front_in (x ∷ xs) c h = let e : x ≡ c = cc h in or_left _ _ (eq-eqb x c e)
+
+front_out : (xs : List ℕ) (c : ℕ) → NoRepeat xs → slice_get xs 0 ≡ Some c → without c xs ≡ drop 1 xs
+front_out [] c once h = absurd (cc h)
+front_out (x ∷ xs) c once h =
+    let e : x ≡ c = cc h in
+    without_first c x xs e ∙ without_none c xs (ap (λ (z : ℕ). is_in z xs) (sym e) ∙ once.0)
+
+-- to take out the first of a list is to drop it there
+pub pop_is : (w : Threads) (p : Place) (c : ℕ) → IsApart w → slice_get (list_at w p) 0 ≡ Some c → unlinked w c ≡ popped w p
+pop_is w p c apart h = go p here (front_out (list_at w p) c (apart.once p) h) where
+  here : is_in c (list_at w p) ≡ true
+  here = front_in (list_at w p) c h
+
+  stays : (r : Place) → is_in c (list_at w r) ≡ true → (q : Place) → r ≢ q → without c (list_at w q) ≡ list_at w q
+  stays r i q ne = without_none c (list_at w q) (elim (cases_Bool (is_in c (list_at w q))) [
+    | inl j ↦ absurd (ne (apart.one_list r q c i j))
+    | inr missed ↦ missed
+  ])
+
+  go : (r : Place) → is_in c (list_at w r) ≡ true → without c (list_at w r) ≡ drop 1 (list_at w r) → unlinked w c ≡ popped w r
+  go Idle i e = same_threads _ _ refl (λ q. at_idle q i e) where
+    at_idle : (q : Place) → is_in c w.idle ≡ true → without c w.idle ≡ drop 1 w.idle → list_at (unlinked w c) q ≡ list_at (popped w Idle) q
+    at_idle Idle i e = e
+    at_idle Polled i e = stays Idle i Polled (λ s. cc)
+    at_idle Pending i e = stays Idle i Pending (λ s. cc)
+  go Polled i e = same_threads _ _ refl (λ q. at_polled q i e) where
+    at_polled : (q : Place) → is_in c w.polled ≡ true → without c w.polled ≡ drop 1 w.polled → list_at (unlinked w c) q ≡ list_at (popped w Polled) q
+    at_polled Idle i e = stays Polled i Idle (λ s. cc)
+    at_polled Polled i e = e
+    at_polled Pending i e = stays Polled i Pending (λ s. cc)
+  go Pending i e = same_threads _ _ refl (λ q. at_pending q i e) where
+    at_pending : (q : Place) → is_in c w.pending ≡ true → without c w.pending ≡ drop 1 w.pending → list_at (unlinked w c) q ≡ list_at (popped w Pending) q
+    at_pending Idle i e = stays Pending i Idle (λ s. cc)
+    at_pending Polled i e = stays Pending i Polled (λ s. cc)
+    at_pending Pending i e = e
+
+head_alone : ℕ → Place → Node
+head_alone at p = record { prev = at; next = at; place = Some p }
+
+-- a head that points to itself is the ring of an empty list
+ring_alone : (nodes : List Node) (head : ℕ) (p : Place) → node_at nodes head ≡ head_alone head p
+    → ((k : ℕ) → k ≢ head → place_at nodes k ≢ Some p) → Ring nodes head p []
+unfolding head_alone
+ring_alone nodes head p here others = record {
+  chain = (ap (λ (n : Node). n.next) here, ap (λ (n : Node). n.prev) here);
+  once = (refl, tt);
+  placed = λ k i. elim (or_cases (head == k) false i) [
+    | inl e ↦ ap (place_at nodes) (sym (eqb-true head k e)) ∙ ap (λ (n : Node). n.place) here
+    | inr never ↦ absurd (false≢true never)
+  ];
+  listed = λ k h. elim (cases_eq k head) [
+    | inl e ↦ or_left _ _ (eq-eqb head k (sym e))
+    | inr ne ↦ absurd (others k ne h)
+  ];
+}
+
+-- a table of free nodes in which three heads have been written
+pub first_is_table : (items : List Node) (len : ℕ) (a b d : Node) → 3 ≤ len → items ≡ replicate len free_node
+    → a ≡ record { prev = len - 3; next = len - 3; place = Some Idle } → b ≡ record { prev = len - 2; next = len - 2; place = Some Polled }
+    → d ≡ record { prev = len - 1; next = len - 1; place = Some Pending }
+    → IsTable (set (set (set items (len - 3) a) (len - 2) b) (len - 1) d)
+unfolding head_alone
+first_is_table items len a b d heads free is_a is_b is_d = (rings_give nodes w heads_there size rings).0 where
+  nodes : List Node
+  nodes = set (set (set items (len - 3) a) (len - 2) b) (len - 1) d
+
+  w : Threads
+  w = record { size = len - 3; idle = []; polled = []; pending = [] }
+
+  long : length items ≡ len
+  long = ap length free ∙ length-replicate len free_node
+
+  long_1 : length (set items (len - 3) a) ≡ len
+  long_1 = length-set items (len - 3) a ∙ long
+
+  long_2 : length (set (set items (len - 3) a) (len - 2) b) ≡ len
+  long_2 = length-set (set items (len - 3) a) (len - 2) b ∙ long_1
+
+  long_3 : length nodes ≡ len
+  long_3 = length-set (set (set items (len - 3) a) (len - 2) b) (len - 1) d ∙ long_2
+
+  heads_there : 3 ≤ length nodes
+  heads_there = omega (arith, long_3)
+
+  size : length nodes - 3 ≡ w.size
+  size = ap (λ (n : ℕ). n - 3) long_3
+
+  at_d : node_at nodes (len - 1) ≡ d
+  at_d = get_or-set_same (set (set items (len - 3) a) (len - 2) b) (len - 1) d free_node (omega (arith, long_2))
+
+  at_b : node_at nodes (len - 2) ≡ b
+  at_b =
+      get_or-set_other (set (set items (len - 3) a) (len - 2) b) (len - 1) (len - 2) d free_node (omega arith)
+      ∙ get_or-set_same (set items (len - 3) a) (len - 2) b free_node (omega (arith, long_1))
+
+  at_a : node_at nodes (len - 3) ≡ a
+  at_a =
+      get_or-set_other (set (set items (len - 3) a) (len - 2) b) (len - 1) (len - 3) d free_node (omega arith)
+      ∙ get_or-set_other (set items (len - 3) a) (len - 2) (len - 3) b free_node (omega arith)
+      ∙ get_or-set_same items (len - 3) a free_node (omega (arith, long))
+
+  free_at : (k : ℕ) → node_at items k ≡ free_node
+  free_at k = elim (cases_lt k len) [
+    | inl below ↦ ap (λ (xs : List Node). node_at xs k) free ∙ get_or-replicate len k free_node free_node below
+    | inr past ↦ get_or_past items k free_node (omega (arith, long))
+  ]
+
+  elsewhere : (k : ℕ) → k ≢ len - 3 → k ≢ len - 2 → k ≢ len - 1 → place_at nodes k ≡ None
+  elsewhere k not_a not_b not_d = ap (λ (n : Node). n.place)
+      (get_or-set_other (set (set items (len - 3) a) (len - 2) b) (len - 1) k d free_node not_d
+      ∙ get_or-set_other (set items (len - 3) a) (len - 2) k b free_node not_b
+      ∙ get_or-set_other items (len - 3) k a free_node not_a ∙ free_at k)
+
+  place_a : (k : ℕ) → k ≡ len - 3 → place_at nodes k ≡ Some Idle
+  place_a k e = ap (place_at nodes) e ∙ ap (λ (n : Node). n.place) (at_a ∙ is_a)
+
+  place_b : (k : ℕ) → k ≡ len - 2 → place_at nodes k ≡ Some Polled
+  place_b k e = ap (place_at nodes) e ∙ ap (λ (n : Node). n.place) (at_b ∙ is_b)
+
+  place_d : (k : ℕ) → k ≡ len - 1 → place_at nodes k ≡ Some Pending
+  place_d k e = ap (place_at nodes) e ∙ ap (λ (n : Node). n.place) (at_d ∙ is_d)
+
+  only : (p : Place) (k : ℕ) → k ≢ head_of len p → place_at nodes k ≢ Some p
+  only p k ne h = elim (cases_eq k (len - 3)) [
+    | inl e ↦ other_head Idle (place_a k e) e
+    | inr not_a ↦ elim (cases_eq k (len - 2)) [
+      | inl e ↦ other_head Polled (place_b k e) e
+      | inr not_b ↦ elim (cases_eq k (len - 1)) [
+        | inl e ↦ other_head Pending (place_d k e) e
+        | inr not_d ↦ let none = elsewhere k not_a not_b not_d in cc (none, h)
+      ]
+    ]
+  ] where
+    other_head : (q : Place) → place_at nodes k ≡ Some q → k ≡ head_of len q → ⊥
+    other_head q there at = let same : q ≡ p = cc (there, h) in ne (at ∙ ap (head_of len) same)
+
+  alone : (p : Place) → Ring nodes (head_of len p) p []
+  alone Idle = ring_alone nodes (len - 3) Idle (at_a ∙ is_a) (only Idle)
+  alone Polled = ring_alone nodes (len - 2) Polled (at_b ∙ is_b) (only Polled)
+  alone Pending = ring_alone nodes (len - 1) Pending (at_d ∙ is_d) (only Pending)
+
+  rings : (p : Place) → Ring nodes (head_of (length nodes) p) p (list_at w p)
+  rings Idle = subst (λ (n : ℕ). Ring nodes (head_of n Idle) Idle []) (sym long_3) (alone Idle)
+  rings Polled = subst (λ (n : ℕ). Ring nodes (head_of n Polled) Polled []) (sym long_3) (alone Polled)
+  rings Pending = subst (λ (n : ℕ). Ring nodes (head_of n Pending) Pending []) (sym long_3) (alone Pending)
+
+-- what comes after a head, if it isn't the head, is a node
+pub front_within : (nodes : List Node) (now : Threaded) (p : Place) (head len : ℕ) (first : Node) → IsTable nodes
+    → record { lists = threads_of nodes; table = nodes } ≡ now
+    → head ≡ head_of len p → len ≡ length nodes → first ≡ get_or nodes head first → first.next ≢ head
+    → first.next < now.lists.size
+front_within nodes now p head len first table seen at long read other =
+    let here : head ≡ head_of (length nodes) p = at ∙ ap (λ (n : ℕ). head_of n p) long in
+    let heads = table.heads in
+    let below : head < length nodes = subst (λ (h : ℕ). h < length nodes) (sym here) (head_within (length nodes) p heads) in
+    let next : first.next ≡ next_at nodes head = ap (λ (n : Node). n.next) (get_or_read nodes head first below read free_node) in
+    let told = sym (front_is nodes table p head here) ∙ cond-false _ _ _ (ne_eqb _ _ (λ e. other (next ∙ e))) in
+    let within = node_below nodes table (next_at nodes head) p (front_in _ _ told) in
+    subst (λ (w : Threaded). first.next < w.lists.size) seen (subst (λ (k : ℕ). k < length nodes - 3) (sym next) within)

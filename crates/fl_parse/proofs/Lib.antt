@@ -1,0 +1,9 @@
+pub mod Laws
+pub mod Choices
+pub mod Lists
+pub mod Productions
+pub mod Loops
+pub mod Outcomes
+pub mod Texts
+pub mod Writes
+pub mod Prints

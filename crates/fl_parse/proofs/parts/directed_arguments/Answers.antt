@@ -1,0 +1,75 @@
+use Rattle.std.proofs.Common.{◌≡◌, ◌<◌, Bool, true, false, [], ◌∷◌, ◌++◌, length, map, arith, sym, refl, ◌∙◌}
+use Rattle.std.proofs.lemmas.Result.{err_from_is_err_and}
+use Rattle.std.proofs.lemmas.List.{map_push, length-map}
+use Rattle.fl_lex.specs.declared.token.Mark.TheVariants.{CloseParen, Comma}
+use Rattle.fl_lex.specs.Token.{TheToken, token_of}
+use Rattle.fl_parse.specs.Tree.{directed_of}
+use Rattle.fl_parse.specs.Grammar.{is_mark}
+use Rattle.fl_parse.specs.Reading.{begins, behind_comma, directed_at, all_directed_at}
+use Rattle.fl_parse.proofs.Choices.{shorter}
+use Rattle.fl_parse.proofs.Lists.{mark_starts, then_starts, behind_comma_reads}
+use Rattle.fl_parse.proofs.Productions.{directed_reads}
+use Rattle.fl_parse.proofs.Loops.{left_stops, left_goes, separated_none, separated_stops, separated_begun, comma_stops, behind_comma_is, behind_comma_stops}
+use Rattle.fl_parse.proofs.parts.directed_arguments.Goals as goal
+
+abbrev closes : TheToken → Bool
+closes token = is_mark token CloseParen
+
+abbrev separates : TheToken → Bool
+separates token = is_mark token Comma
+
+pub returns-then-begins_with : goal.returns-then-begins_with
+unfolding all_directed_at
+returns-then-begins_with c =
+    let ended : begins closes (map token_of c.args.tokens.now) ≡ true = sym c.if-begins_with.ensures.exact in
+    rw c.new-arguments.ensures.items (record { reads = separated_none closes directed_at (map token_of c.args.tokens.now) ended })
+
+pub returns-in_err-first : goal.returns-in_err-first
+unfolding all_directed_at
+returns-in_err-first c =
+    let p = err_from_is_err_and c.from_residual.result c.from_residual.ensures.1 in
+    let more : begins closes (map token_of c.args.tokens.now) ≡ false = sym c.if-begins_with.ensures.exact in
+    rw (p.1, p.2) (record { reads = separated_stops closes directed_at (map token_of c.args.tokens.now) c.in_err-first.field-0.0 more c.in_err-first.ensures.reads })
+
+pub loop-rest-init : goal.loop-rest-init
+unfolding all_directed_at
+loop-rest-init c =
+    let more : begins closes (map token_of c.args.tokens.now) ≡ false = sym c.if-begins_with.ensures.exact in
+    rw (c.in_ok-push.ensures.items, c.new-arguments.ensures.items)
+    (separated_begun closes directed_at (map token_of c.args.tokens.now) (directed_of c.in_ok-first.first) (map token_of c.in_ok-first.rest.now) more c.in_ok-first.ensures.reads)
+
+pub returns-in_err-after_comma : goal.returns-in_err-after_comma
+returns-in_err-after_comma c =
+    let p = err_from_is_err_and c.from_residual-in_err-after_comma.result c.from_residual-in_err-after_comma.ensures.1 in
+    let more : begins closes (map token_of c.loop-rest.rest.now) ≡ false = sym c.loop-rest-test.ensures.exact in
+    rw (p.1, p.2) (record {
+      reads = left_stops closes c.in_err-after_comma.field-0.0 (behind_comma_reads directed_reads) c.loop-rest.invariant more
+          (comma_stops directed_at (map token_of c.loop-rest.rest.now) c.in_err-after_comma.field-0.0 c.in_err-after_comma.ensures.reads);
+    })
+
+pub returns-in_err-next : goal.returns-in_err-next
+returns-in_err-next c =
+    let p = err_from_is_err_and c.from_residual-in_err-next.result c.from_residual-in_err-next.ensures.1 in
+    let more : begins closes (map token_of c.loop-rest.rest.now) ≡ false = sym c.loop-rest-test.ensures.exact in
+    rw (p.1, p.2) (record {
+      reads = left_stops closes c.in_err-next.field-0.0 (behind_comma_reads directed_reads) c.loop-rest.invariant more
+          (behind_comma_stops directed_at (map token_of c.loop-rest.rest.now) (map token_of c.in_ok-after_comma.after_comma.now) c.in_err-next.field-0.0
+          c.in_ok-after_comma.ensures.reads c.in_err-next.ensures.reads);
+    })
+
+pub loop-rest-smaller : goal.loop-rest-smaller
+loop-rest-smaller c =
+    let whole = behind_comma_is directed_at (map token_of c.loop-rest.rest.now) (map token_of c.in_ok-after_comma.after_comma.now) c.in_ok-after_comma.ensures.reads ∙ c.in_ok-next.ensures.reads in
+    let less : length (map token_of c.in_ok-next.after.now) < length (map token_of c.loop-rest.rest.now) =
+    shorter separates true (behind_comma_reads directed_reads) (then_starts separates true (mark_starts Comma Comma true refl)) (map token_of c.loop-rest.rest.now) (map token_of c.in_ok-next.after.now) (directed_of c.in_ok-next.next) whole in
+    omega (arith, less, length-map c.in_ok-next.after.now token_of, length-map c.loop-rest.rest.now token_of)
+
+pub loop-rest-preserved : goal.loop-rest-preserved
+loop-rest-preserved c =
+    let e : map directed_of c.push-in-loop-rest.new.self.items ≡ map directed_of c.loop-rest.arguments.items ++ directed_of c.in_ok-next.next ∷ [] =
+    rw c.in_ok-push-2.ensures.items (map_push _ c.loop-rest.arguments.items c.in_ok-next.next) in
+    let more : begins closes (map token_of c.loop-rest.rest.now) ≡ false = sym c.loop-rest-test.ensures.exact in
+    let whole = behind_comma_is directed_at (map token_of c.loop-rest.rest.now) (map token_of c.in_ok-after_comma.after_comma.now) c.in_ok-after_comma.ensures.reads ∙ c.in_ok-next.ensures.reads in
+    let less : length (map token_of c.in_ok-next.after.now) < length (map token_of c.loop-rest.rest.now) =
+    shorter separates true (behind_comma_reads directed_reads) (then_starts separates true (mark_starts Comma Comma true refl)) (map token_of c.loop-rest.rest.now) (map token_of c.in_ok-next.after.now) (directed_of c.in_ok-next.next) whole in
+    rw e (left_goes closes (behind_comma directed_at) (directed_of c.in_ok-next.next) (map token_of c.in_ok-next.after.now) c.loop-rest.invariant more whole less)

@@ -1,0 +1,15 @@
+use Rattle.std.proofs.Common.{map, length}
+use Rattle.fl_lex.specs.declared.token.Mark.TheVariants.{CloseParen}
+use Rattle.fl_lex.specs.Token.{token_of}
+use Rattle.fl_parse.specs.Tree.{directed_of}
+use Rattle.fl_parse.specs.Grammar.{is_mark}
+use Rattle.fl_parse.specs.Reading.{many_at, behind_comma, directed_at, all_directed_at}
+use Rattle.fl_parse.proofs.Loops.{Left}
+use Rattle.fl_parse.proofs.parts.directed_arguments.Given as goal
+
+abbrev pub invariant-loop-rest : goal.invariant-loop-rest
+invariant-loop-rest l =
+    Left (many_at (λ token. is_mark token CloseParen) (behind_comma directed_at)) (all_directed_at (map token_of l.fn.tokens)) (map directed_of l.arguments.items) (map token_of l.rest)
+
+abbrev pub decreases-loop-rest : goal.decreases-loop-rest
+decreases-loop-rest l = length l.rest

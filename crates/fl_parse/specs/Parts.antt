@@ -1,0 +1,36 @@
+-- What the parser reads single tokens as, as contracts see it.
+use Rattle.fl_parse.specs.declared.parts.Inside as insides
+use Rattle.fl_parse.specs.declared.parts.Inside.TheVariants as inside_variants
+use Rattle.fl_parse.specs.declared.parser.Opening as openings
+use Rattle.fl_parse.specs.declared.parser.Opening.TheVariants as opening_variants
+use Rattle.fl_parse.specs.declared.parser.Defined as defineds
+use Rattle.fl_parse.specs.declared.parser.Defined.TheVariants as defined_variants
+use Rattle.std.specs.Prelude.{ℕ, map}
+use Rattle.fl_lex.specs.Token.{token_of}
+use Rattle.fl_parse.specs.declared.stop.Stop.{Stop}
+use Rattle.fl_parse.specs.declared.stop.Stop.TheVariants as stops
+use Rattle.fl_parse.specs.declared.fault.ParseFault.{ParseFault}
+use Rattle.fl_parse.specs.declared.fault.ParseFault.TheVariants as faults
+use Rattle.fl_parse.specs.Reading.{place_of}
+use Rattle.fl_parse.specs.Tree.{name_of, number_of}
+use Rattle.fl_parse.specs.Grammar.{Inside, bound_word, length_word, Opening, alias_word, typedef_word, message_word, rpc_word, Defined, enum_word, struct_word, type_word}
+
+abbrev pub inside_of : insides.Inside → Inside
+inside_of (inside_variants.Bound value) = bound_word (number_of value)
+inside_of (inside_variants.Length length) = length_word (name_of length)
+
+abbrev pub opening_of : openings.Opening → Opening
+opening_of opening_variants.Alias = alias_word
+opening_of opening_variants.Typedef = typedef_word
+opening_of (opening_variants.Message kind) = message_word kind
+opening_of opening_variants.Rpc = rpc_word
+
+abbrev pub defined_of : defineds.Defined → Defined
+defined_of defined_variants.Enumeration = enum_word
+defined_of defined_variants.Structure = struct_word
+defined_of (defined_variants.Type name) = type_word (name_of name)
+
+-- the fault that a stop comes to, in a text that ends at end
+abbrev pub stop_fault : Stop → ℕ → ParseFault
+stop_fault stops.Memory end = faults.Memory
+stop_fault (stops.Unexpected rest) end = faults.NotExpected (place_of (map token_of rest.now) end)

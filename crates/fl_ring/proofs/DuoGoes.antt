@@ -1,0 +1,99 @@
+-- Each call of a side as a step of the ring.
+use Rattle.std.proofs.Common.{ℕ, ◌≡◌, ◌<◌, ◌≤◌, ◌+◌, ◌-◌, ◌/◌, ◌%◌, ◌^◌, true, false, nat_le, List, [], ◌∷◌, ◌++◌, length, ap, subst, ◌∙◌, sym, refl, arith}
+use Rattle.std.proofs.lemmas.Bool.{leb-true, leb-false}
+use Rattle.fl_base.specs.declared.fragment.Frag.{Frag}
+use Rattle.fl_base.specs.Control.{told_of, is_ack_only}
+use Rattle.fl_link.specs.Cursor.{epoch_at}
+use Rattle.fl_link.specs.Stamp.{bare}
+use Rattle.fl_link.specs.Looks.{placed, found, found_ack, told}
+use Rattle.fl_link.proofs.Carried.{stamped-bare}
+use Rattle.fl_ring.specs.Counts.{count_from, known_after}
+use Rattle.fl_ring.specs.Duo.{TheHalf, HalfPuts, HalfTakes, with_known, with_written, with_arrived, with_taken, written, free, counts_by, looked, got, acknowledgement}
+use Rattle.fl_ring.specs.Halves.{InStep, half_of}
+use Rattle.fl_ring.specs.declared.halves.Half.{Half}
+use Rattle.fl_ring.proofs.Numbers.{count_again}
+use Rattle.fl_ring.proofs.Ways.{length-standing}
+use Rattle.fl_ring.proofs.RingSteps.{front_data, front_ack}
+use Rattle.fl_ring.proofs.DuoSteps.{next_of, take_steps, taken_half, waits}
+
+-- a put where enough slots are free by the count that it counts by
+pub put_goes : (n : ℕ) (ws ws' : List ℕ) (a m a' b : Half) (frag : Frag) → InStep n ws a b → a.put.index < 2 ^ 62
+    → m ≡ record a { known = counts_by n 2 (half_of n ws a b) } → nat_le 2 (free n a.put.index m.known) ≡ true
+    → half_of n ws' a' b ≡ with_written (half_of n ws m b) → half_of n ws' b a' ≡ with_arrived (half_of n ws b m) (written n (half_of n ws m b) frag)
+    → HalfPuts n (half_of n ws a b) (half_of n ws b a) (placed (bare frag)) (half_of n ws' a' b) (half_of n ws' b a')
+put_goes n ws ws' a m a' b frag s unspent known room mine theirs =
+    let h : TheHalf = half_of n ws a b in
+    let k : ℕ = counts_by n 2 h in
+    let enough : nat_le 2 (free n a.put.index k) ≡ true = subst (λ (x : Half). nat_le 2 (free n a.put.index x.known) ≡ true) known room in
+    let t : half_of n ws' a' b ≡ with_written (with_known h k) = mine ∙ ap (λ (x : Half). with_written (half_of n ws x b)) known in
+    let q : half_of n ws' b a' ≡ with_arrived (half_of n ws b a) (written n h frag) = theirs ∙ ap (λ (x : Half). with_arrived (half_of n ws b x) (written n (half_of n ws x b) frag)) known in
+    (unspent, leb-true 2 (free n a.put.index k) enough, t, q ∙ ap (λ (f : Frag). with_arrived (half_of n ws b a) f) (sym (stamped-bare frag (epoch_at n a.put.index) (got h % 65536))))
+
+-- a tell where enough is untold and a slot is free
+pub tell_goes : (n : ℕ) (ws ws' : List ℕ) (a m a' b : Half) → InStep n ws a b → n / 2 ≤ length (half_of n ws a b).read → a.put.index < 2 ^ 62
+    → m ≡ record a { known = counts_by n 1 (half_of n ws a b) } → nat_le 1 (free n a.put.index m.known) ≡ true
+    → half_of n ws' a' b ≡ with_written (half_of n ws m b) → half_of n ws' b a' ≡ with_arrived (half_of n ws b m) (written n (half_of n ws m b) acknowledgement)
+    → HalfTakes n (half_of n ws a b) (half_of n ws b a) told (half_of n ws' a' b) (half_of n ws' b a')
+tell_goes n ws ws' a m a' b s much unspent known room mine theirs =
+    let h : TheHalf = half_of n ws a b in
+    let k : ℕ = counts_by n 1 h in
+    let enough : nat_le 1 (free n a.put.index k) ≡ true = subst (λ (x : Half). nat_le 1 (free n a.put.index x.known) ≡ true) known room in (
+      much,
+      unspent,
+      leb-true 1 (free n a.put.index k) enough,
+      mine ∙ ap (λ (x : Half). with_written (half_of n ws x b)) known,
+      theirs ∙ ap (λ (x : Half). with_arrived (half_of n ws b x) (written n (half_of n ws x b) acknowledgement)) known,
+    )
+
+-- a take, after the look that found the fragment
+pub record Took (n : ℕ) (ws : List ℕ) (a a' b : Half) (frag : Frag) : Type 0 where
+  pub steps : InStep n ws a' b
+  pub rest : List Frag
+  pub first : (half_of n ws a b).waiting ≡ frag ∷ rest
+  pub mine : half_of n ws a' b ≡ with_taken (half_of n ws a b) frag rest
+  pub theirs : half_of n ws b a' ≡ half_of n ws b a
+
+pub take_goes : (n : ℕ) (ws : List ℕ) (a m a' b : Half) (frag : Frag) (rest : List Frag) → (half_of n ws a b).waiting ≡ frag ∷ rest
+    → m ≡ record a { known = count_from a.known (told_of frag.control) } → InStep n ws m b → a' ≡ record m { take = next_of m.take } → Took n ws a a' b frag
+take_goes n ws a m a' b frag rest first known s next =
+    let k : ℕ = count_from a.known (told_of frag.control) in
+    let one : Half = record a { known = k } in
+    let steps_one : InStep n ws one b = subst (λ (x : Half). InStep n ws x b) known s in
+    let stays : k ≡ known_after k (half_of n ws one b).waiting = sym (ap (λ (xs : List Frag). known_after k xs) first ∙ count_again a.known (told_of frag.control)) in
+    let there = waits n ws a b frag rest first in
+    let h : TheHalf = half_of n ws a b in
+    let known_is : known_after k h.waiting ≡ looked h = sym stays ∙ sym (ap (λ (xs : List Frag). known_after a.known xs) first) in
+    let end : a' ≡ record one { take = next_of a.take } = next ∙ ap (λ (x : Half). let y : Half = record x { take = next_of x.take } in y) known in
+    let all : Took n ws a (record one { take = next_of a.take }) b frag = record {
+      steps = take_steps n ws one b (next_of a.take) steps_one there stays refl;
+      rest = rest;
+      first = first;
+      mine = taken_half n ws one b frag rest steps_one first stays
+          ∙ ap (λ (x : ℕ). let y : TheHalf = record { sent = h.sent; known = x; told = h.told; read = h.read ++ frag ∷ []; waiting = rest } in y) known_is;
+      theirs = refl;
+    } in
+    subst (λ (x : Half). Took n ws a x b frag) (sym end) all
+
+pub took_data : (n : ℕ) (ws : List ℕ) (a a' b : Half) (frag : Frag) → Took n ws a a' b frag → is_ack_only frag ≡ false
+    → HalfTakes n (half_of n ws a b) (half_of n ws b a) (found (bare frag)) (half_of n ws a' b) (half_of n ws b a')
+took_data n ws a a' b frag t plain = (front_data (half_of n ws a b).waiting frag t.rest t.first plain, (frag, t.rest, t.first, t.mine), t.theirs)
+
+pub took_ack : (n : ℕ) (ws : List ℕ) (a a' b : Half) (frag : Frag) → Took n ws a a' b frag → is_ack_only frag ≡ true
+    → HalfTakes n (half_of n ws a b) (half_of n ws b a) found_ack (half_of n ws a' b) (half_of n ws b a')
+took_ack n ws a a' b frag t ack = (front_ack (half_of n ws a b).waiting frag t.rest t.first ack, (frag, t.rest, t.first, t.mine), t.theirs)
+
+-- where a slot is free, the next index is within
+pub room_for : (k n sent known : ℕ) → 0 < k → nat_le k (free n sent known) ≡ true → sent + 1 ≤ known + n
+room_for k n sent known some enough = omega (arith, leb-true k (free n sent known) enough)
+
+-- how many are read and untold
+pub untold_is : (n : ℕ) (ws : List ℕ) (a b : Half) → InStep n ws a b → length (half_of n ws a b).read ≡ a.take.index - a.told
+untold_is n ws a b s = length-standing b.base n ws a.told (a.take.index - a.told)
+
+-- where too few slots are free after a look
+pub too_few : (n k : ℕ) (ws : List ℕ) (a m b : Half) → m ≡ record a { known = counts_by n k (half_of n ws a b) } → nat_le k (free n a.put.index m.known) ≡ false
+    → (free n a.put.index (counts_by n k (half_of n ws a b)) < k) × (half_of n ws m b ≡ with_known (half_of n ws a b) (counts_by n k (half_of n ws a b))) × (half_of n ws b m ≡ half_of n ws b a)
+too_few n k ws a m b known short =
+    let c : ℕ = counts_by n k (half_of n ws a b) in
+    let none : nat_le k (free n a.put.index c) ≡ false = subst (λ (x : Half). nat_le k (free n a.put.index x.known) ≡ false) known short in
+    (leb-false k (free n a.put.index c) none, ap (λ (x : Half). half_of n ws x b) known, ap (λ (x : Half). half_of n ws b x) known)

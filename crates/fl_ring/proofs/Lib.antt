@@ -1,0 +1,11 @@
+pub mod Places
+pub mod Ways
+pub mod SlotWrites
+pub mod RingSteps
+pub mod Numbers
+pub mod DuoSteps
+pub mod DuoLooks
+pub mod DuoWrites
+pub mod DuoGoes
+pub mod DuoViews
+pub mod Published

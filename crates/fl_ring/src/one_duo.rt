@@ -1,0 +1,167 @@
+//! A ring of two directions with one owner.
+
+ghost use Rattle.std.specs.Prelude.{◌≡◌, ◌≢◌, ◌+◌, ◌*◌, ◌-◌, ◌^◌, ◌/◌, ◌%◌, ◌<◌, ◌≤◌, ◌↔◌, ℕ, true, false, nat_le, nat_lt, ◌&&◌, [], List, length, IfOk, OnOk, Ok, Err};
+ghost use Rattle.fl_base.specs.declared.fragment.Frag.{Frag};
+ghost use Rattle.fl_base.specs.Control.{is_ack_only};
+ghost use Rattle.fl_link.specs.Stamp.{bare};
+ghost use Rattle.fl_link.specs.Cursor.{epoch_at};
+ghost use Rattle.fl_link.specs.Looks.{placed, no_room, spent, peeked, taken, tells};
+ghost use Rattle.fl_ring.specs.Duo.{TheDuo, DuoPuts, DuoTakes, DuoStands, MayHaveSlots, CountsAreNear, side_of, across, got, half_has_room, new_half};
+
+use crate::fault::RingFault;
+use crate::halves::{Half, peek_at, put_at, room_at, take_at, tell_at};
+use fl_base::{Frag, MAX_QUEUE};
+use fl_link::{PutFault, Sight, Told};
+use std::alloc::Global;
+use std::marker::Model;
+
+/// The name of a side.
+#[derive(Clone, Copy, Debug, PartialEq, Eq)]
+pub enum Which {
+    /// The side whose slots come first.
+    One,
+    /// The side across.
+    Two,
+}
+
+/// Two directions of N slots each in one table of 16N words, without acknowledgement words: every
+/// control word that a side writes tells how many fragments it has taken.
+#[derive(Drop)]
+pub struct OneDuo {
+    words: Vec<u64>,
+    one: Half,
+    two: Half,
+}
+
+impl Model for OneDuo {
+    ghost use Rattle.std.specs.Prelude.{◌≡◌};
+    ghost use Rattle.fl_ring.specs.Duo.{TheDuo};
+
+    ghost Value = { TheDuo };
+
+    ghost use Rattle.fl_ring.specs.Halves.{InStep, duo_of};
+
+    ghost view = { λ d. duo_of d.one.put.size d.words.items d.one d.two };
+
+    ghost invariant = { λ d. (d.one.base ≡ 0) × InStep d.one.put.size d.words.items d.one d.two };
+}
+
+impl OneDuo {
+    /// A ring of `size` slots each way, a power of two from 4 to 1,024 (else E32); E99 where there
+    /// is no memory for them.
+    pub fn new(alloc: Global, size: usize) -> Result<OneDuo, RingFault>
+        ensures made { IfOk result (λ d. d ≡ record { size = size; one = new_half; two = new_half }) }
+        ensures sized { OnOk result (MayHaveSlots size) }
+        ensures bad_size { (result ≡ Err RingFault.BadSize) ↔ (¬ MayHaveSlots size) }
+    {
+        if size < 4 || size > MAX_QUEUE || !size.is_power_of_two() {
+            return Err(RingFault::BadSize);
+        }
+        let Ok(words) = vec![in alloc; 0; 16 * size] else {
+            return Err(RingFault::Memory);
+        };
+        Ok(OneDuo {
+            words,
+            one: Half::new(0, 8 * size, size),
+            two: Half::new(8 * size, 0, size),
+        })
+    }
+
+    /// Puts a fragment at this side, which tells all that the side has taken. E33 after 2^62
+    /// fragments; else E30 where, after a look at the other side's first fragment if too few slots
+    /// were free, fewer than two are free. The fragment isn't one that only acknowledges.
+    pub fn put(&mut self, which: Which, frag: &Frag) -> Result<(), PutFault>
+        requires { is_ack_only frag.now ≡ false }
+        ensures placed { OnOk result (DuoPuts which self.old (placed (bare frag.now)) self.new) }
+        ensures full { result ≡ Err PutFault.Full → DuoPuts which self.old no_room self.new }
+        ensures spent { result ≡ Err PutFault.Spent → DuoPuts which self.old spent self.new }
+    {
+        match which {
+            Which::One => put_at(&mut self.words, &mut self.one, frag),
+            Which::Two => put_at(&mut self.words, &mut self.two, frag),
+        }
+    }
+
+    /// What stands first for this side, which is left there. The side knows then what it tells.
+    pub fn peek(&mut self, which: Which) -> Sight
+        ensures look { DuoTakes which self.old (peeked result) self.new }
+        ensures of_call { (frag : Frag) → result ≡ Sight.Data frag → is_ack_only frag ≡ false }
+    {
+        match which {
+            Which::One => peek_at(&self.words, &mut self.one),
+            Which::Two => peek_at(&self.words, &mut self.two),
+        }
+    }
+
+    /// Takes what stands first for this side.
+    pub fn take(&mut self, which: Which) -> Sight
+        ensures look { DuoTakes which self.old (taken result) self.new }
+    {
+        match which {
+            Which::One => take_at(&self.words, &mut self.one),
+            Which::Two => take_at(&self.words, &mut self.two),
+        }
+    }
+
+    /// Tells what this side has taken, by a fragment that only acknowledges: where at least half of
+    /// the slots are read and untold (else there is nothing to tell). E30 where, after a look at the
+    /// other side's first fragment if no slot was free, none is; also after 2^62 fragments.
+    pub fn tell(&mut self, which: Which) -> Result<Told, PutFault>
+        ensures tell { DuoTakes which self.old (tells result) self.new }
+        ensures never_spent { result ≢ Err PutFault.Spent }
+    {
+        match which {
+            Which::One => tell_at(&mut self.words, &mut self.one),
+            Which::Two => tell_at(&mut self.words, &mut self.two),
+        }
+    }
+
+    /// The table: the slots that side one writes, then those of side two. For tests.
+    pub fn words(&self) -> &[u64]
+        ensures stands { DuoStands result.now self.now }
+    {
+        self.words.as_slice()
+    }
+
+    /// Whether a put at this side would find room, by what the side knows.
+    pub fn room(&self, which: Which) -> bool
+        ensures room { result ≡ half_has_room self.now.size (side_of which self.now) }
+    {
+        match which {
+            Which::One => room_at(&self.one),
+            Which::Two => room_at(&self.two),
+        }
+    }
+
+    /// The epoch bit of the fragment that this side puts next.
+    pub fn next_epoch(&self, which: Which) -> u64
+        ensures epoch { result ≡ epoch_at self.now.size (side_of which self.now).sent }
+    {
+        match which {
+            Which::One => self.one.put.epoch(),
+            Which::Two => self.two.put.epoch(),
+        }
+    }
+
+    /// Bits 48 to 63 of the fragment that this side puts next: how many it has taken, modulo 65,536.
+    pub fn next_told(&self, which: Which) -> u16
+        ensures told { result ≡ got (side_of which self.now) % 65536 }
+    {
+        match which {
+            Which::One => (self.one.take.index() % 65_536) as u16,
+            Which::Two => (self.two.take.index() % 65_536) as u16,
+        }
+    }
+
+    /// How many of its fragments this side knows to be taken. That number was told, and the side
+    /// has put no more than its slots beyond it: so 16 bits of a count name it.
+    pub fn known(&self, which: Which) -> u64
+        ensures known { result ≡ (side_of which self.now).known }
+        ensures near { CountsAreNear self.now.size (side_of which self.now) (across which self.now) }
+    {
+        match which {
+            Which::One => self.one.known,
+            Which::Two => self.two.known,
+        }
+    }
+}

@@ -1,0 +1,7 @@
+mod LineLemmas
+mod CommandLemmas
+mod ScriptLemmas
+mod ItemLemmas
+mod ExecLemmas
+mod OneTranscript
+mod TextLemmas

@@ -1,0 +1,9 @@
+pub mod Counting
+pub mod Scan
+pub mod Once
+pub mod Reading
+pub mod Nested
+pub mod Words
+pub mod Prints
+pub mod Round
+pub mod Tapes

@@ -1,0 +1,9 @@
+use Rattle.std.proofs.Common.{length, ◌≤◌}
+use Rattle.fl_value.specs.CallText.{Blanks}
+use Rattle.fl_value.proofs.tokens.skip_blanks.Given as goal
+
+abbrev pub invariant-loop-rest : goal.invariant-loop-rest
+invariant-loop-rest l = record { blank : Blanks l.bytes l.rest; shorter : length l.rest ≤ length l.bytes }
+
+abbrev pub decreases-loop-rest : goal.decreases-loop-rest
+decreases-loop-rest l = length l.rest

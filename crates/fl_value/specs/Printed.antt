@@ -1,0 +1,89 @@
+-- How a call is printed: one text for each call.
+use Rattle.std.specs.Prelude.{ℕ, ℤ, pos, negsuc, ◌+◌, ◌/◌, ◌%◌, ◌^◌, ◌==◌, ◌&&◌, nat_lt, nat_le, Bool, true, if◌then◌else◌, List, [], ◌∷◌, ◌++◌, ◌≤◌, Option, Some, None, slice_get, ◌≡◌, ◌<◌}
+use Rattle.std.specs.List.{flat_map, list_all}
+use Rattle.std.specs.Char.{digit_char}
+use Rattle.std.specs.Fmt.{signed_decimal}
+use Rattle.fl_check.specs.Interface.{TheType, scalar, enumeration, structure, array, TheTypes, no_more, field, TheArgType, fixed, text, sized, TheMessage, TheInterface}
+use Rattle.fl_value.specs.CallText.{IsWord, greatest_depth}
+use Rattle.fl_value.specs.Fits.{fits_of}
+use Rattle.fl_value.specs.Resolve.{named_from}
+use Rattle.fl_value.specs.Value.{TheCall, Datum, number, string, elements, fields, Data, nothing_more, also, data_from}
+
+-- bytes 32 to 126 as they are, but `\"` and `\\`; all others as `\x` and two lower-case digits
+abbrev pub printed_byte : ℕ → List ℕ
+printed_byte b =
+    if b == 34 then 92 ∷ 34 ∷ []
+    else if b == 92 then 92 ∷ 92 ∷ []
+    else if nat_le 32 b && nat_le b 126 then b ∷ []
+    else 92 ∷ 120 ∷ digit_char (b / 16) ∷ digit_char (b % 16) ∷ []
+
+abbrev pub printed_text : List ℕ → List ℕ
+printed_text bytes = 34 ∷ (flat_map printed_byte bytes ++ 34 ∷ [])
+
+-- numbers in their shortest form, and `, ` between values
+abbrev mutual
+  pub printed_value : Datum → List ℕ
+  printed_value (number z) = signed_decimal z
+  printed_value (string bytes) = printed_text bytes
+  printed_value (elements ds) = 91 ∷ (printed_values ds ++ 93 ∷ [])
+  printed_value (fields ds) = 123 ∷ (printed_values ds ++ 125 ∷ [])
+
+  pub printed_values : Data → List ℕ
+  printed_values nothing_more = []
+  printed_values (also d ds) = printed_value d ++ printed_more ds
+
+  -- `, ` before each
+  pub printed_more : Data → List ℕ
+  printed_more nothing_more = []
+  printed_more (also d ds) = 44 ∷ 32 ∷ (printed_value d ++ printed_more ds)
+
+abbrev pub printed_call : List ℕ → List Datum → List ℕ
+printed_call name values = name ++ 40 ∷ (printed_values (data_from values) ++ 41 ∷ [])
+
+-- `, ` before a value, but the first
+abbrev pub separator : ℕ → List ℕ
+separator index = if index == 0 then [] else 44 ∷ 32 ∷ []
+
+-- numbers of at most 20 digits, and bytes in texts
+abbrev pub is_short : ℤ → Bool
+is_short (pos n) = nat_lt n (10 ^ 20)
+is_short (negsuc n) = nat_lt (n + 1) (10 ^ 20)
+
+abbrev mutual
+  pub is_printable : Datum → Bool
+  is_printable (number z) = is_short z
+  is_printable (string bytes) = list_all (λ b. nat_lt b 256) bytes
+  is_printable (elements ds) = are_printable ds
+  is_printable (fields ds) = are_printable ds
+
+  pub are_printable : Data → Bool
+  are_printable nothing_more = true
+  are_printable (also d ds) = is_printable d && are_printable ds
+
+-- an enum has at most 2 ^ 32 enumerators
+abbrev mutual
+  pub has_small_enums : TheType → Bool
+  has_small_enums (scalar s) = true
+  has_small_enums (enumeration n) = nat_le n (2 ^ 32)
+  has_small_enums (structure ts) = have_small_enums ts
+  has_small_enums (array n t) = has_small_enums t
+
+  pub have_small_enums : TheTypes → Bool
+  have_small_enums no_more = true
+  have_small_enums (field t ts) = has_small_enums t && have_small_enums ts
+
+abbrev pub argument_has_small_enums : TheArgType → Bool
+argument_has_small_enums (fixed t) = has_small_enums t
+argument_has_small_enums (text max) = true
+argument_has_small_enums (sized max t) = has_small_enums t
+
+-- a call that an interface prints and reads: it fits, its message is the first of its name, which is a
+-- word, and its values nest at most 20 deep
+pub record HasText (i : TheInterface) (m : TheMessage) (c : TheCall) : Type 0 where
+  pub fits : fits_of i c ≡ true
+  pub message : slice_get i.messages c.msg ≡ Some m
+  pub small_enums : list_all argument_has_small_enums m.args ≡ true
+  pub named : named_from m.name i.messages 0 ≡ Some c.msg
+  pub few : c.msg < 2 ^ 16
+  pub word : IsWord m.name
+  pub shallow : greatest_depth (data_from c.args) ≤ 20

@@ -1,0 +1,160 @@
+//! Calls from their text, and which call of an interface a text is.
+
+ghost use Rattle.std.specs.Prelude.{Result, ◌≡◌, ℕ, ◌++◌, ◌≤◌, List, map, length, IfOk, IfErr, IfSome, IfNone};
+ghost use Rattle.std.specs.List.{prefix_len};
+ghost use Rattle.fl_check.specs.Interface.{interface_of, message_of};
+ghost use Rattle.fl_value.specs.Value.{Datum, TheCall, datum_of};
+ghost use Rattle.fl_value.specs.CallText.{IsWord, is_letter, is_word_byte, StopsAt, SpellsCall};
+ghost use Rattle.fl_value.specs.declared.fault.ValueFault.{ValueFault};
+ghost use Rattle.fl_value.specs.Fault.{Refuses};
+ghost use Rattle.fl_value.specs.Resolve.{named_from, resolved, Answers, AnswersUnlessMemory, ComesTo, ReadsAs};
+
+use crate::fault::ValueFault;
+use crate::fitting::fits;
+use crate::reader::read_values;
+use crate::tokens::{read_mark, skip_blanks};
+use crate::value::{Call, Value};
+use fl_base::MsgNo;
+use fl_check::{Interface, Message, Word};
+use std::alloc::Global;
+
+/// How deep arrays and structs may nest in a call's text; its parentheses don't count.
+const MAX_DEPTH: u32 = 20;
+
+/// The longest name in bytes.
+const MAX_WORD: usize = 64;
+
+/// A call's text, read: the name of a message, and values. No interface has been asked yet.
+#[derive(Debug, Drop)]
+pub struct CallText {
+    pub name: Word,
+    pub args: Vec<Value>,
+}
+
+fn is_letter(byte: u8) -> bool
+    ensures same { result ≡ is_letter byte }
+{
+    byte.is_ascii_alphabetic() || byte == b'_'
+}
+
+fn is_word_byte(byte: u8) -> bool
+    ensures same { result ≡ is_word_byte byte }
+{
+    is_letter(byte) || byte.is_ascii_digit()
+}
+
+/// How many letters, digits and `_` the bytes begin with.
+fn count_word_bytes(bytes: &[u8]) -> usize
+    ensures same { result ≡ prefix_len is_word_byte bytes.now }
+    ensures within { result ≤ length bytes.now }
+{
+    for (count, byte) in bytes.iter().enumerate() {
+        if !is_word_byte(*byte) {
+            return count;
+        }
+    }
+    bytes.len()
+}
+
+/// The word that the bytes begin with, and what follows it.
+fn read_word(bytes: &[u8]) -> Option<(&[u8], &[u8])>
+    ensures word { IfSome result (λ r. IsWord r.0.now) }
+    ensures split { IfSome result (λ r. bytes.now ≡ r.0.now ++ r.1.now) }
+    ensures stops { IfSome result (λ r. StopsAt is_word_byte r.1.now) }
+    ensures none { IfNone result ((word rest : List ℕ) → IsWord word → StopsAt is_word_byte rest → bytes.now ≡ word ++ rest → ⊥) }
+{
+    let [first, ..] = bytes else {
+        return None;
+    };
+    if !is_letter(*first) {
+        return None;
+    }
+    let count = count_word_bytes(bytes);
+    if count > MAX_WORD {
+        return None;
+    }
+    Some((&bytes[..count], &bytes[count..]))
+}
+
+/// The name and the values that a call's text spells: `name(v, v)`, where a value is a number, a
+/// text in quotes, `[v, v]` for an array or `{v, v}` for a struct.
+///
+/// # Errors
+///
+/// `NotACall` where the bytes spell no call, and `Memory`.
+pub fn read_call_text(alloc: Global, bytes: &[u8]) -> Result<CallText, ValueFault>
+    ensures found { IfOk result (λ t. SpellsCall bytes.now t.name.bytes.items (map datum_of t.args.items)) }
+    ensures fault { IfErr result (λ e. Refuses e ((name : List ℕ) (values : List Datum) → SpellsCall bytes.now name values → ⊥)) }
+{
+    let Some((name, after)) = read_word(skip_blanks(bytes)) else {
+        return Err(ValueFault::NotACall);
+    };
+    let Some(inside) = read_mark(after, b'(') else {
+        return Err(ValueFault::NotACall);
+    };
+    let (args, end) = read_values(alloc, inside, b')', MAX_DEPTH)?;
+    if !skip_blanks(end).is_empty() {
+        return Err(ValueFault::NotACall);
+    }
+    let bytes = Vec::from_slice(alloc, name)?;
+    Ok(CallText {
+        name: Word { bytes },
+        args,
+    })
+}
+
+/// The number of the first message of this name.
+fn number_of_message(messages: &[Message], name: &[u8]) -> Option<usize>
+    ensures same { result ≡ named_from name.now (map message_of messages.now) 0 }
+{
+    for (number, message) in messages.iter().enumerate() {
+        if message.name.bytes.as_slice() == name {
+            return Some(number);
+        }
+    }
+    None
+}
+
+/// The call that a text is at an interface.
+///
+/// # Errors
+///
+/// `NoSuchMessage` where no message has the name, else `DoesNotFit` where the values don't have the
+/// message's types.
+pub fn resolve(interface: &Interface, text: CallText) -> Result<Call, ValueFault>
+    ensures exact { Answers result (resolved (interface_of interface.now) text.name.bytes.items (map datum_of text.args.items)) }
+{
+    let Some(number) = number_of_message(&interface.messages, &text.name.bytes) else {
+        return Err(ValueFault::NoSuchMessage);
+    };
+    let Ok(number) = u16::try_from(number) else {
+        return Err(ValueFault::NoSuchMessage);
+    };
+    let call = Call {
+        msg: MsgNo(number),
+        args: text.args,
+    };
+    if !fits(&call, interface) {
+        return Err(ValueFault::DoesNotFit);
+    }
+    Ok(call)
+}
+
+/// A text spells at most one name and one list of values.
+pub fn one_reading()
+    ensures reading { (bytes one other : List ℕ) (values others : List Datum) → SpellsCall bytes one values → SpellsCall bytes other others → (one ≡ other) × (values ≡ others) }
+{}
+
+/// The call that the bytes spell at an interface.
+///
+/// # Errors
+///
+/// `NotACall` where the bytes spell no call, else `NoSuchMessage`, else `DoesNotFit`, as [`resolve`];
+/// and `Memory`.
+pub fn read_call(alloc: Global, bytes: &[u8], interface: &Interface) -> Result<Call, ValueFault>
+    ensures exact { ReadsAs (interface_of interface.now) bytes.now result }
+    ensures only { (answer : Result TheCall ValueFault) → ComesTo (interface_of interface.now) bytes.now answer → AnswersUnlessMemory result answer }
+{
+    let text = read_call_text(alloc, bytes)?;
+    resolve(interface, text)
+}

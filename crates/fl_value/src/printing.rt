@@ -1,0 +1,133 @@
+//! Calls as text, each in one form: what answers show.
+
+ghost use Rattle.std.specs.Prelude.{◌≡◌, ◌++◌, ◌∷◌, [], ◌<◌, ◌≤◌, ℕ, List, true, OnOk, map};
+ghost use Rattle.std.specs.Char.{digit_char};
+ghost use Rattle.std.specs.Fmt.{signed_decimal};
+ghost use Rattle.fl_check.specs.Interface.{TheInterface, TheMessage};
+ghost use Rattle.fl_value.specs.Resolve.{ComesTo};
+ghost use Rattle.fl_value.specs.Value.{TheCall, Datum, datum_of, data_from};
+ghost use Rattle.fl_value.specs.Printed.{printed_byte, printed_text, printed_value, printed_values, printed_call, separator, are_printable, HasText};
+ghost use Rattle.fl_value.specs.CallText.{IsWord, SpellsCall, greatest_depth};
+
+use crate::value::Value;
+use std::alloc::{AllocError, Global};
+
+/// The lower-case hexadecimal digit of a number below 16.
+fn hex_digit(number: u8) -> u8
+    requires below { number < 16 }
+    ensures same { result ≡ digit_char number }
+{
+    if number < 10 {
+        b'0' + number
+    } else {
+        b'a' - 10 + number
+    }
+}
+
+/// Appends a byte of a text.
+fn print_byte(out: &mut Vec<u8>, byte: u8) -> Result<(), AllocError>
+    ensures printed { OnOk result (out.new.items ≡ out.old.items ++ printed_byte byte) }
+{
+    match byte {
+        b'"' => out.extend_from_slice(b"\\\""),
+        b'\\' => out.extend_from_slice(b"\\\\"),
+        b' '..=b'~' => out.extend_from_slice(&[byte]),
+        _ => out.extend_from_slice(&[b'\\', b'x', hex_digit(byte / 16), hex_digit(byte % 16)]),
+    }
+}
+
+/// Appends a text in quotes.
+fn print_text(out: &mut Vec<u8>, bytes: &[u8]) -> Result<(), AllocError>
+    ensures printed { OnOk result (out.new.items ≡ out.old.items ++ printed_text bytes.now) }
+{
+    out.push(b'"')?;
+    for byte in bytes {
+        print_byte(out, *byte)?;
+    }
+    out.push(b'"')?;
+    Ok(())
+}
+
+/// Appends a number in its shortest form.
+fn print_number(alloc: Global, out: &mut Vec<u8>, number: i128) -> Result<(), AllocError>
+    ensures printed { OnOk result (out.new.items ≡ out.old.items ++ signed_decimal number) }
+{
+    let text = number.to_string(alloc)?;
+    out.extend_from_slice(text.as_bytes())
+}
+
+/// Appends what stands between a value and the one before it.
+fn print_separator(out: &mut Vec<u8>, index: usize) -> Result<(), AllocError>
+    ensures printed { OnOk result (out.new.items ≡ out.old.items ++ separator index) }
+{
+    if index == 0 {
+        return Ok(());
+    }
+    out.extend_from_slice(b", ")
+}
+
+/// Appends a value.
+#[cycle(printing)]
+fn print_value(alloc: Global, out: &mut Vec<u8>, value: &Value) -> Result<(), AllocError>
+    ensures printed { OnOk result (out.new.items ≡ out.old.items ++ printed_value (datum_of value.now)) }
+{
+    match value {
+        Value::Int(number) => print_number(alloc, out, *number),
+        Value::Text(bytes) => print_text(out, bytes),
+        Value::List(values) => {
+            out.push(b'[')?;
+            print_values(alloc, out, values)?;
+            out.push(b']')?;
+            Ok(())
+        }
+        Value::Fields(values) => {
+            out.push(b'{')?;
+            print_values(alloc, out, values)?;
+            out.push(b'}')?;
+            Ok(())
+        }
+    }
+}
+
+/// Appends values with `, ` between any two.
+#[cycle(printing)]
+fn print_values(alloc: Global, out: &mut Vec<u8>, values: &[Value]) -> Result<(), AllocError>
+    ensures printed { OnOk result (out.new.items ≡ out.old.items ++ printed_values (data_from (map datum_of values.now))) }
+{
+    for (index, value) in values.iter().enumerate() {
+        print_separator(out, index)?;
+        print_value(alloc, out, value)?;
+    }
+    Ok(())
+}
+
+/// Appends the text of a call: its name, and its arguments between parentheses.
+///
+/// # Errors
+///
+/// Where memory runs out; `out` may then have a part of the text at its end.
+pub fn print_call(
+    alloc: Global,
+    out: &mut Vec<u8>,
+    name: &[u8],
+    args: &[Value],
+) -> Result<(), AllocError>
+    ensures printed { OnOk result (out.new.items ≡ out.old.items ++ printed_call name.now (map datum_of args.now)) }
+{
+    out.extend_from_slice(name)?;
+    out.push(b'(')?;
+    print_values(alloc, out, args)?;
+    out.push(b')')?;
+    Ok(())
+}
+
+/// What is printed of a call reads as that call: its name a word, its numbers of at most 20 digits,
+/// its arrays and structs nested at most 20 deep.
+pub fn printed_reads()
+    ensures reading { (name : List ℕ) (values : List Datum) → IsWord name → are_printable (data_from values) ≡ true → greatest_depth (data_from values) ≤ 20 → SpellsCall (printed_call name values) name values }
+{}
+
+/// What is printed of a call that fits an interface reads as that call there.
+pub fn printed_call_read()
+    ensures reading { (i : TheInterface) (m : TheMessage) (c : TheCall) → HasText i m c → ComesTo i (printed_call m.name c.args) (Ok c) }
+{}

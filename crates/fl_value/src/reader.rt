@@ -1,0 +1,96 @@
+//! Values and calls from their text.
+
+ghost use Rattle.std.specs.Prelude.{◌≡◌, ℕ, ◌+◌, ◌<◌, ◌≤◌, List, map, true, length, IfOk, IfErr, IfSome, IfNone};
+ghost use Rattle.fl_value.specs.Value.{Datum, Data, datum_of, data_from};
+ghost use Rattle.fl_value.specs.CallText.{SpellsValue, SpellsValues, Listed, Enclosed, Token, a_mark, is_mark, is_close, depth_of, greatest_depth};
+ghost use Rattle.fl_value.specs.Fault.{Refuses};
+
+use crate::fault::ValueFault;
+use crate::tokens::{read_mark, read_number, read_text};
+use crate::value::Value;
+use std::alloc::Global;
+
+/// The value that the bytes begin with, its arrays and structs nested at most so deep, and what
+/// follows it.
+#[cycle(values)]
+fn read_value(alloc: Global, bytes: &[u8], depth: u32) -> Result<(Value, &[u8]), ValueFault>
+    ensures found { IfOk result (λ r. SpellsValue (datum_of r.0) bytes.now r.1.now) }
+    ensures shallow { IfOk result (λ r. depth_of (datum_of r.0) ≤ depth) }
+    ensures shorter { IfOk result (λ r. length r.1.now < length bytes.now) }
+    ensures fault { IfErr result (λ e. Refuses e ((d : Datum) (rest : List ℕ) → depth_of d ≤ depth → SpellsValue d bytes.now rest → ⊥)) }
+{
+    if let Some((number, rest)) = read_number(bytes) {
+        return Ok((Value::Int(number), rest));
+    }
+    if let Some((text, rest)) = read_text(alloc, bytes)? {
+        return Ok((Value::Text(text), rest));
+    }
+    if let Some((values, rest)) = read_nested(alloc, bytes, b'[', b']', depth)? {
+        return Ok((Value::List(values), rest));
+    }
+    if let Some((values, rest)) = read_nested(alloc, bytes, b'{', b'}', depth)? {
+        return Ok((Value::Fields(values), rest));
+    }
+    Err(ValueFault::NotACall)
+}
+
+/// The values between an opening and a closing mark, and what follows them; none where the opening
+/// mark doesn't stand.
+#[cycle(values)]
+fn read_nested(
+    alloc: Global,
+    bytes: &[u8],
+    opening: u8,
+    closing: u8,
+    depth: u32,
+) -> Result<Option<(Vec<Value>, &[u8])>, ValueFault>
+    requires opening { is_mark opening ≡ true }
+    requires closing { is_close closing ≡ true }
+    ensures found { IfOk result (λ o. IfSome o (λ r. Enclosed opening closing (data_from (map datum_of r.0.items)) bytes.now r.1.now)) }
+    ensures shallow { IfOk result (λ o. IfSome o (λ r. 1 + greatest_depth (data_from (map datum_of r.0.items)) ≤ depth)) }
+    ensures shorter { IfOk result (λ o. IfSome o (λ r. length r.1.now < length bytes.now)) }
+    ensures none { IfOk result (λ o. IfNone o ((rest : List ℕ) → Token (a_mark opening) bytes.now rest → ⊥)) }
+    ensures fault { IfErr result (λ e. Refuses e ((ds : Data) (rest : List ℕ) → 1 + greatest_depth ds ≤ depth → Enclosed opening closing ds bytes.now rest → ⊥)) }
+    ensures opened { IfErr result (λ e. (rest : List ℕ) × Token (a_mark opening) bytes.now rest) }
+{
+    let Some(inside) = read_mark(bytes, opening) else {
+        return Ok(None);
+    };
+    if depth == 0 {
+        return Err(ValueFault::NotACall);
+    }
+    let found = read_values(alloc, inside, closing, depth - 1)?;
+    Ok(Some(found))
+}
+
+/// The values up to a closing mark, with a comma between any two, and what follows the mark.
+#[cycle(values)]
+pub(crate) fn read_values(
+    alloc: Global,
+    bytes: &[u8],
+    closing: u8,
+    depth: u32,
+) -> Result<(Vec<Value>, &[u8]), ValueFault>
+    requires closing { is_close closing ≡ true }
+    ensures found { IfOk result (λ r. Listed closing (data_from (map datum_of r.0.items)) bytes.now r.1.now) }
+    ensures shallow { IfOk result (λ r. greatest_depth (data_from (map datum_of r.0.items)) ≤ depth) }
+    ensures shorter { IfOk result (λ r. length r.1.now < length bytes.now) }
+    ensures fault { IfErr result (λ e. Refuses e ((ds : Data) (rest : List ℕ) → greatest_depth ds ≤ depth → Listed closing ds bytes.now rest → ⊥)) }
+{
+    let mut values = Vec::new(alloc);
+    if let Some(rest) = read_mark(bytes, closing) {
+        return Ok((values, rest));
+    }
+    let mut start = bytes;
+    loop {
+        let (value, after) = read_value(alloc, start, depth)?;
+        values.push(value)?;
+        let Some(next) = read_mark(after, b',') else {
+            let Some(rest) = read_mark(after, closing) else {
+                return Err(ValueFault::NotACall);
+            };
+            return Ok((values, rest));
+        };
+        start = next;
+    }
+}

@@ -1,0 +1,280 @@
+//! A call as the tape that stub code runs on: its scalars' bits and its lengths, one number after
+//! another, in the plan's order of arguments.
+
+ghost use Rattle.std.specs.Prelude.{◌≡◌, ◌++◌, ◌==◌, ◌≤◌, ◌%◌, ◌^◌, ◌-◌, length, map, filter, IfOk, OnOk, pos};
+ghost use Rattle.std.specs.List.{zip, flat_map};
+ghost use Rattle.fl_check.specs.Interface.{type_of, arg_type_of, fields_from, interface_of};
+ghost use Rattle.fl_check.specs.Sizes.{scalar_size, align_of, greatest_align};
+ghost use Rattle.fl_value.specs.Value.{datum_of, data_from, call_of};
+ghost use Rattle.fl_value.specs.Fits.{count_of, scalar_bits};
+ghost use Rattle.fl_value.specs.Plan.{arranged};
+ghost use Rattle.fl_value.specs.Tape.{raw_of, value_tape, fields_tape, elements_tape, argument_tape, tape_of_argument, kind, tape_of};
+ghost use Rattle.fl_value.specs.Groups.{in_group, group_tape};
+
+use crate::value::{Call, PlanNo, Value};
+use fl_check::{ArgType, FixedType, Interface, Scalar};
+use std::alloc::{AllocError, Global};
+
+/// Arguments that a plan lays out together.
+#[derive(Clone, Copy, Debug, PartialEq, Eq)]
+pub(crate) enum Group {
+    /// Every argument.
+    All,
+    /// Fixed arguments of one alignment.
+    FixedAt(u32),
+    /// Strings and sized arrays.
+    Dynamic,
+}
+
+/// How many bits a scalar has.
+fn scalar_bits(scalar: Scalar) -> u32
+    ensures same { result ≡ scalar_bits scalar }
+    ensures most { result ≤ 64 }
+{
+    match scalar {
+        Scalar::Uint8 | Scalar::Int8 | Scalar::Bool | Scalar::Char => 8,
+        Scalar::Uint16 | Scalar::Int16 => 16,
+        Scalar::Uint32 | Scalar::Int32 | Scalar::Iref => 32,
+        Scalar::Uint64
+        | Scalar::Int64
+        | Scalar::Uintptr
+        | Scalar::Intptr
+        | Scalar::Size
+        | Scalar::Errval => 64,
+    }
+}
+
+/// A number's low bits, two's complement.
+fn raw(bits: u32, number: i128) -> u64
+    requires most { bits ≤ 64 }
+    ensures same { result ≡ raw_of bits number }
+{
+    let above = 1u128 << bits;
+    if number >= 0 {
+        (number as u128 % above) as u64
+    } else {
+        (above - 1 - (-1 - number) as u128 % above) as u64
+    }
+}
+
+/// Appends a value's numbers.
+#[cycle(tapes)]
+fn push_value(tape: &mut Vec<u64>, fixed: &FixedType, value: &Value) -> Result<(), AllocError>
+    ensures tape { OnOk result (tape.new.items ≡ tape.old.items ++ value_tape (type_of fixed.now) (datum_of value.now)) }
+{
+    match fixed {
+        FixedType::Scalar(scalar) => match value {
+            Value::Int(number) => {
+                tape.push(raw(scalar_bits(*scalar), *number))?;
+                Ok(())
+            }
+            _ => Ok(()),
+        },
+        FixedType::Enumeration(_) => match value {
+            Value::Int(number) => {
+                tape.push(raw(32, *number))?;
+                Ok(())
+            }
+            _ => Ok(()),
+        },
+        FixedType::Structure(fields) => match value {
+            Value::Fields(values) => push_fields(tape, fields, values),
+            _ => Ok(()),
+        },
+        FixedType::Array(_, element) => match value {
+            Value::List(values) => push_elements(tape, element, values),
+            _ => Ok(()),
+        },
+    }
+}
+
+/// Appends the numbers of a struct's fields.
+#[cycle(tapes)]
+fn push_fields(
+    tape: &mut Vec<u64>,
+    fields: &[FixedType],
+    values: &[Value],
+) -> Result<(), AllocError>
+    ensures tape { OnOk result (tape.new.items ≡ tape.old.items ++ fields_tape (fields_from (map type_of fields.now)) (data_from (map datum_of values.now))) }
+{
+    for (index, field) in fields.iter().enumerate() {
+        let Some(value) = values.get(index) else {
+            return Ok(());
+        };
+        push_value(tape, field, value)?;
+    }
+    Ok(())
+}
+
+/// Appends the numbers of elements of one type.
+#[cycle(tapes)]
+fn push_elements(
+    tape: &mut Vec<u64>,
+    element: &FixedType,
+    values: &[Value],
+) -> Result<(), AllocError>
+    ensures tape { OnOk result (tape.new.items ≡ tape.old.items ++ elements_tape (type_of element.now) (data_from (map datum_of values.now))) }
+{
+    for value in values {
+        push_value(tape, element, value)?;
+    }
+    Ok(())
+}
+
+/// Appends a string's bytes.
+fn push_bytes(tape: &mut Vec<u64>, bytes: &[u8]) -> Result<(), AllocError>
+    ensures tape { OnOk result (tape.new.items ≡ tape.old.items ++ bytes.now) }
+{
+    for byte in bytes {
+        tape.push(u64::from(*byte))?;
+    }
+    Ok(())
+}
+
+/// How many values there are.
+#[tactic(auto, using(crate::proofs::Counting::count_from))]
+fn count(values: &[Value]) -> u64
+    ensures same { result ≡ count_of (data_from (map datum_of values.now)) }
+{
+    values.len() as u64
+}
+
+/// Appends an argument's numbers.
+fn push_argument(tape: &mut Vec<u64>, argument: &ArgType, value: &Value) -> Result<(), AllocError>
+    ensures tape { OnOk result (tape.new.items ≡ tape.old.items ++ argument_tape (arg_type_of argument.now) (datum_of value.now)) }
+{
+    match argument {
+        ArgType::Fixed(fixed) => push_value(tape, fixed, value),
+        ArgType::Text(_) => match value {
+            Value::Text(bytes) => {
+                tape.push(bytes.len() as u64)?;
+                push_bytes(tape, bytes)
+            }
+            _ => Ok(()),
+        },
+        ArgType::Sized(_, element) => match value {
+            Value::List(values) => {
+                tape.push(count(values))?;
+                push_elements(tape, element, values)
+            }
+            _ => Ok(()),
+        },
+    }
+}
+
+/// A scalar's size in bytes, which is its alignment.
+fn scalar_size(scalar: Scalar) -> u32
+    ensures same { result ≡ scalar_size scalar }
+{
+    match scalar {
+        Scalar::Uint8 | Scalar::Int8 | Scalar::Bool | Scalar::Char => 1,
+        Scalar::Uint16 | Scalar::Int16 => 2,
+        Scalar::Uint32 | Scalar::Int32 | Scalar::Iref => 4,
+        Scalar::Uint64
+        | Scalar::Int64
+        | Scalar::Uintptr
+        | Scalar::Intptr
+        | Scalar::Size
+        | Scalar::Errval => 8,
+    }
+}
+
+/// A type's alignment in bytes.
+#[cycle(alignments)]
+fn alignment(fixed: &FixedType) -> u32
+    ensures same { result ≡ align_of (type_of fixed.now) }
+{
+    match fixed {
+        FixedType::Scalar(scalar) => scalar_size(*scalar),
+        FixedType::Enumeration(_) => 4,
+        FixedType::Structure(fields) => greatest_alignment(fields),
+        FixedType::Array(_, element) => alignment(element),
+    }
+}
+
+/// The greatest alignment of some fields; 1 of none.
+#[cycle(alignments)]
+fn greatest_alignment(fields: &[FixedType]) -> u32
+    ensures same { result ≡ greatest_align (fields_from (map type_of fields.now)) }
+{
+    let mut greatest = 1;
+    for field in fields {
+        greatest = alignment(field).max(greatest);
+    }
+    greatest
+}
+
+/// Whether an argument is in a group.
+fn is_in_group(group: Group, argument: &ArgType) -> bool
+    ensures same { result ≡ in_group group (arg_type_of argument.now) }
+{
+    match group {
+        Group::All => true,
+        Group::FixedAt(align) => match argument {
+            ArgType::Fixed(fixed) => alignment(fixed) == align,
+            _ => false,
+        },
+        Group::Dynamic => match argument {
+            ArgType::Fixed(_) => false,
+            _ => true,
+        },
+    }
+}
+
+/// Appends the numbers of a group's arguments, in declared order.
+fn push_group(
+    tape: &mut Vec<u64>,
+    group: Group,
+    arguments: &[ArgType],
+    values: &[Value],
+) -> Result<(), AllocError>
+    ensures tape { OnOk result (tape.new.items ≡ tape.old.items ++ group_tape group (zip (map arg_type_of arguments.now) (map datum_of values.now))) }
+{
+    for (index, argument) in arguments.iter().enumerate() {
+        let Some(value) = values.get(index) else {
+            return Ok(());
+        };
+        if !is_in_group(group, argument) {
+            continue;
+        }
+        push_argument(tape, argument, value)?;
+    }
+    Ok(())
+}
+
+/// Appends the numbers of all arguments, in the plan's order.
+fn push_arguments(
+    tape: &mut Vec<u64>,
+    plan: PlanNo,
+    arguments: &[ArgType],
+    values: &[Value],
+) -> Result<(), AllocError>
+    ensures tape { OnOk result (tape.new.items ≡ tape.old.items ++ flat_map tape_of_argument (arranged kind plan (zip (map arg_type_of arguments.now) (map datum_of values.now)))) }
+{
+    match plan {
+        PlanNo::One => push_group(tape, Group::All, arguments, values),
+        PlanNo::Two => {
+            push_group(tape, Group::FixedAt(8), arguments, values)?;
+            push_group(tape, Group::FixedAt(4), arguments, values)?;
+            push_group(tape, Group::FixedAt(2), arguments, values)?;
+            push_group(tape, Group::FixedAt(1), arguments, values)?;
+            push_group(tape, Group::Dynamic, arguments, values)
+        }
+    }
+}
+
+/// The tape of a call.
+pub fn flatten(
+    alloc: Global,
+    interface: &Interface,
+    call: &Call,
+    plan: PlanNo,
+) -> Result<Vec<u64>, AllocError>
+    ensures tape { IfOk result (λ v. v.items ≡ tape_of plan (interface_of interface.now) (call_of call.now)) }
+{
+    let mut tape = Vec::new(alloc);
+    if let Some(message) = interface.messages.get(usize::from(call.msg.0)) {
+        push_arguments(&mut tape, plan, &message.args, &call.args)?;
+    }
+    Ok(tape)
+}

@@ -1,0 +1,64 @@
+-- What lists of fragments mean. The epoch and the count told, which change from one writing to the next,
+-- are set aside.
+use Rattle.std.specs.Prelude.{◌≡◌, ℕ, ◌*◌, ◌/◌, ◌%◌, ◌^◌, ◌<◌, ◌≤◌, true, List, [], ◌++◌, map, take, length, ◌⊎◌, All}
+use Rattle.std.specs.List.{flat_map}
+use Rattle.fl_base.specs.declared.fragment.Frag.{Frag}
+use Rattle.fl_check.specs.Interface.{TheInterface}
+use Rattle.fl_value.specs.Value.{TheCall}
+use Rattle.fl_value.specs.Fits.{fits_of}
+use Rattle.fl_value.specs.declared.value.PlanNo.{PlanNo}
+use Rattle.fl_wire.specs.Words.{interface_words_fit}
+use Rattle.fl_wire.specs.Payload.{count, frags_of, frags_on}
+
+-- a fragment with epoch 0 and nothing told
+abbrev pub plain : Frag → Frag
+plain f = record { words = f.words; control = 2 * (f.control / 2 % 2 ^ 47) }
+
+-- the fragments mean the call, on a circuit
+abbrev pub Means : PlanNo → TheInterface → List Frag → TheCall → ℕ → Type 0
+Means plan i frags c circuit = map plain frags ≡ frags_on circuit plan i c
+
+-- the fragments are some of the first of a fitting call, and not all
+pub record IsPart (plan : PlanNo) (i : TheInterface) (frags : List Frag) : Type 0 where
+  pub call : TheCall
+  pub fits : fits_of i call ≡ true
+  pub short : length frags < count plan i call
+  pub front : map plain frags ≡ take (length frags) (frags_of plan i call)
+
+-- calls that fit the interface
+abbrev pub AllFit : TheInterface → List TheCall → Type 0
+AllFit i cs = All (λ c. fits_of i c ≡ true) cs
+
+-- the fragments are those of fitting calls and then a rest, which is empty or part of a fitting call
+pub record Reads (plan : PlanNo) (i : TheInterface) (frags : List Frag) (calls : List TheCall) (rest : List Frag) : Type 0 where
+  pub whole : List Frag
+  pub joined : frags ≡ whole ++ rest
+  pub fit : AllFit i calls
+  pub mean : map plain whole ≡ flat_map (frags_of plan i) calls
+  pub part : (rest ≡ []) ⊎ IsPart plan i rest
+
+-- no list of fitting calls has fragments that begin so
+abbrev pub IsWrong : PlanNo → TheInterface → List Frag → Type 0
+IsWrong plan i frags =
+    (calls : List TheCall) (more : List Frag) → AllFit i calls
+    → flat_map (frags_of plan i) calls ≡ map plain frags ++ more → ⊥
+
+-- fragments, with epoch 0 and nothing told, that are empty or some of the first of a fitting call
+pub record Starts (plan : PlanNo) (i : TheInterface) (frags : List Frag) (call : TheCall) : Type 0 where
+  pub fits : fits_of i call ≡ true
+  pub short : length frags < count plan i call
+  pub front : frags ≡ take (length frags) (frags_of plan i call)
+
+abbrev pub IsRest : PlanNo → TheInterface → List Frag → Type 0
+IsRest plan i frags = (frags ≡ []) ⊎ ((call : TheCall) × Starts plan i frags call)
+
+-- no list of fragments has two readings
+abbrev pub OneReading : Type 0
+OneReading = (plan : PlanNo) (i : TheInterface) (cs ds : List TheCall) (x y : List Frag) → interface_words_fit i ≡ true
+    → AllFit i cs → AllFit i ds → IsRest plan i x → IsRest plan i y
+    → flat_map (frags_of plan i) cs ++ x ≡ flat_map (frags_of plan i) ds ++ y → (cs ≡ ds) × (x ≡ y)
+
+-- a fitting call whose fragments begin with those of another is that one
+abbrev pub NoneBeginsWithAnother : Type 0
+NoneBeginsWithAnother = (plan : PlanNo) (i : TheInterface) (c d : TheCall) → interface_words_fit i ≡ true → fits_of i c ≡ true → fits_of i d ≡ true
+    → count plan i c ≤ count plan i d → frags_of plan i c ≡ take (count plan i c) (frags_of plan i d) → c ≡ d

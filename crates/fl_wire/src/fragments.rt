@@ -1,0 +1,97 @@
+//! The fragments of a payload.
+
+ghost use Rattle.std.specs.Prelude.{◌≡◌, ℕ, ◌+◌, ◌-◌, ◌*◌, ◌/◌, ◌%◌, ◌^◌, ◌<◌, ◌≤◌, true, drop, slice_index, slice_get, map, IfOk};
+ghost use Rattle.fl_check.specs.Interface.{interface_of};
+ghost use Rattle.fl_value.specs.Value.{call_of};
+ghost use Rattle.fl_value.specs.Fits.{fits_of};
+ghost use Rattle.fl_wire.specs.Leaves.{scalars_only_of};
+ghost use Rattle.fl_wire.specs.Payload.{count_for, frag_on, frags_of, word};
+
+use crate::encode::payload;
+use fl_base::{Circuit, FRAG_BYTES, Frag, MsgNo, control};
+use fl_check::Interface;
+use fl_value::{Call, PlanNo};
+use std::alloc::{AllocError, Global};
+
+/// How many fragments a payload of so many bytes takes: one for each 56 bytes or part of them, and one
+/// for none.
+pub fn fragment_count(len: usize) -> usize
+    ensures count { result ≡ count_for len }
+{
+    let full = len / FRAG_BYTES;
+    if len % FRAG_BYTES == 0 && len > 0 {
+        full
+    } else {
+        full + 1
+    }
+}
+
+// What follows the first `k` fragments' bytes.
+fn rest_from(payload: &[u8], k: usize) -> &[u8]
+    ensures rest { result.now ≡ drop (56 * k) payload.now }
+{
+    match k.checked_mul(FRAG_BYTES) {
+        Some(start) if start < payload.len() => &payload[start..],
+        _ => &[],
+    }
+}
+
+// Word `index` of some bytes, little-endian, with zeros after the end.
+fn word_at(bytes: &[u8], index: usize) -> u64
+    requires small { index < 7 }
+    ensures word { result ≡ word bytes.now index }
+{
+    let start = 8 * index;
+    let byte = |k: usize| bytes.get(start + k).copied().unwrap_or(0);
+    u64::from_le_bytes([
+        byte(0),
+        byte(1),
+        byte(2),
+        byte(3),
+        byte(4),
+        byte(5),
+        byte(6),
+        byte(7),
+    ])
+}
+
+/// Fragment `k` of a message with these payload bytes, with epoch 0 and circuit 0.
+pub fn fragment(payload: &[u8], msg: MsgNo, k: usize) -> Frag
+    ensures frag { result ≡ frag_on 0 msg.0 payload.now k }
+{
+    let rest = rest_from(payload, k);
+    Frag {
+        words: [
+            word_at(rest, 0),
+            word_at(rest, 1),
+            word_at(rest, 2),
+            word_at(rest, 3),
+            word_at(rest, 4),
+            word_at(rest, 5),
+            word_at(rest, 6),
+        ],
+        control: control(k == 0, msg, Circuit(0)),
+    }
+}
+
+/// Fragment `k` of a call, with epoch 0 and circuit 0; none past the last one.
+///
+/// Fails only where memory runs out.
+pub fn fragment_at(
+    alloc: Global,
+    interface: &Interface,
+    call: &Call,
+    k: usize,
+    plan: PlanNo,
+) -> Result<Option<Frag>, AllocError>
+    requires scalars { scalars_only_of (interface_of interface.now) ≡ true }
+    requires fits { fits_of (interface_of interface.now) (call_of call.now) ≡ true }
+    ensures frag { IfOk result (λ found. found ≡ slice_get (frags_of plan (interface_of interface.now) (call_of call.now)) k) }
+{
+    let bytes = payload(alloc, interface, plan, call)?;
+    if k < fragment_count(bytes.len()) {
+        Ok(Some(fragment(&bytes, call.msg, k)))
+    } else {
+        Ok(None)
+    }
+}

@@ -1,0 +1,6 @@
+mod Lists
+mod Outcomes
+mod Streams
+mod Taking
+mod Stepping
+mod Turning
