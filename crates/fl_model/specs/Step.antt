@@ -120,8 +120,12 @@ fresh_direction slots = record { accepted = []; written = 0; taken = 0; queue = 
 
 abbrev pub fresh_binding : ℕ → ℕ → ℕ → ℕ → Binding
 fresh_binding i client server slots = record {
-    interface = i; client_at = client; server_at = server;
-    to_server = fresh_direction slots; to_client = fresh_direction slots }
+  interface = i;
+  client_at = client;
+  server_at = server;
+  to_server = fresh_direction slots;
+  to_client = fresh_direction slots;
+}
 
 -- one more end, which waits
 abbrev pub gains : EndId → Dispatcher → Dispatcher
@@ -144,7 +148,7 @@ abbrev pub bound : State → ℕ → ℕ → ℕ → ℕ → State
 bound s i client server slots =
     let n = length s.bindings in
     gain (gain (record s { bindings = s.bindings ++ fresh_binding i client server slots ∷ [] })
-        (record { binding = n; side = Client }) client) (record { binding = n; side = Server }) server
+    (record { binding = n; side = Client }) client) (record { binding = n; side = Server }) server
 
 abbrev pub bind_to : State → ℕ → ℕ → ℕ → Option Service → Outcome
 bind_to s client i slots None = says s (refused 70)
@@ -152,7 +156,7 @@ bind_to s client i slots (Some service) =
     if not (service.interface == i) then says s (refused 72)
     else if not (nat_le 1 slots && nat_le slots 1024) then says s (refused 32)
     else if nat_lt 1024 (ends_after s client service.dispatcher (slice_get s.dispatchers client))
-        || nat_lt 1024 (ends_after s service.dispatcher client (slice_get s.dispatchers service.dispatcher)) then says s (refused 54)
+    || nat_lt 1024 (ends_after s service.dispatcher client (slice_get s.dispatchers service.dispatcher)) then says s (refused 54)
     else record { state = bound s i client service.dispatcher slots; answer = done }
 
 abbrev pub service_at : State → Option ℕ → Option Service
@@ -203,9 +207,9 @@ write_by s e b (Some entry) =
     if not (is_busy entry d) then says s nothing
     else if not (has_room d.queue) then says s full
     else
-        let after = writes e d in
-        let b2 = with_outgoing b e.side after in
-        record { state = trigger (with_binding s e.binding b2) (peer e) (Some b2); answer = progress entry after }
+    let after = writes e d in
+    let b2 = with_outgoing b e.side after in
+    record { state = trigger (with_binding s e.binding b2) (peer e) (Some b2); answer = progress entry after }
 
 abbrev pub write_at : State → EndId → Option Binding → Outcome
 write_at s e None = says s (refused 92)
@@ -230,8 +234,9 @@ take_by s n d e rest b entry (label ∷ labels) =
     let before = incoming b e.side in
     let after = takes labels before in
     record {
-        state = with_dispatcher (with_binding s e.binding (with_incoming b e.side after)) n (goes_back e rest after.queue d);
-        answer = taken_answer e (slice_get (handled entry after) (length (handled entry before))) }
+      state = with_dispatcher (with_binding s e.binding (with_incoming b e.side after)) n (goes_back e rest after.queue d);
+      answer = taken_answer e (slice_get (handled entry after) (length (handled entry before)));
+    }
 
 abbrev pub turn_by : State → ℕ → Dispatcher → EndId → List EndId → Binding → Option Entry → Outcome
 turn_by s n d e rest b None = says s nothing

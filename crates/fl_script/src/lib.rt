@@ -21,6 +21,8 @@ mod piece;
 mod printing;
 mod running;
 mod script;
+#[cfg(test)]
+mod tests;
 mod text;
 
 pub use law::one_transcript;

@@ -1,0 +1,43 @@
+-- A run of the queue machine: what was asked and what was answered, event after event, and of these
+-- the calls that an end got accepted and those that it handled.
+use Rattle.std.specs.Prelude.{if◌then◌else◌, List, [], ◌∷◌, ◌++◌}
+use Rattle.fl_base.specs.declared.identity.EndId.{EndId}
+use Rattle.fl_value.specs.Value.{TheCall}
+use Rattle.fl_model.specs.Machine.{State}
+use Rattle.fl_model.specs.Step.{TheEvent, call, TheAnswer, accepted, handle, step, same_end}
+
+-- an event, and the answer that it got
+pub record Exchange : Type 0 where
+  pub event : TheEvent
+  pub answer : TheAnswer
+
+-- events, one after another, each with its answer
+abbrev pub run : State → List TheEvent → List Exchange
+run s [] = []
+run s (v ∷ vs) = record { event = v; answer = (step s v).answer } ∷ run (step s v).state vs
+
+-- the call that an end makes, where it's accepted
+abbrev pub accepted_in : EndId → TheEvent → TheAnswer → List TheCall
+accepted_in e (call f c) accepted = if same_end e f then c ∷ [] else []
+accepted_in e event answer = []
+
+-- the call that is handled at an end
+abbrev pub handled_in : EndId → TheAnswer → List TheCall
+handled_in e (handle f c) = if same_end e f then c ∷ [] else []
+handled_in e answer = []
+
+abbrev pub accepted_by : EndId → Exchange → List TheCall
+accepted_by e x = accepted_in e x.event x.answer
+
+abbrev pub handled_by : EndId → Exchange → List TheCall
+handled_by e x = handled_in e x.answer
+
+-- the calls of a run that were accepted at an end, in order
+abbrev pub calls_accepted : EndId → List Exchange → List TheCall
+calls_accepted e [] = []
+calls_accepted e (x ∷ xs) = accepted_by e x ++ calls_accepted e xs
+
+-- the calls of a run that were handled at an end, in order
+abbrev pub calls_handled : EndId → List Exchange → List TheCall
+calls_handled e [] = []
+calls_handled e (x ∷ xs) = handled_by e x ++ calls_handled e xs
