@@ -1,4 +1,4 @@
-//! Scripts from outside, with their transcripts, the numbers' limits, and memory that is refused.
+//! Scripts from outside, with their transcripts, and the longest script.
 
 use crate::{ExecFault, exec};
 use std::alloc::Global;
