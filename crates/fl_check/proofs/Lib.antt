@@ -7,3 +7,4 @@ pub mod Halves
 pub mod Firsts
 pub mod Limits
 pub mod NameSets
+pub mod NameMaps

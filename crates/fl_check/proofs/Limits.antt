@@ -12,10 +12,11 @@ use Rattle.fl_check.specs.Depth.{is_too_big}
 use Rattle.std.specs.List.{All}
 use Rattle.std.specs.Str.{bytes_eq}
 use Rattle.std.proofs.lemmas.List.Elements.{All-nil, All-cons, All-head, All-tail, All-push}
-use Rattle.fl_check.specs.Interface.{TheType, scalar, enumeration, structure, fields_from, fixed, text, TheMessage}
+use Rattle.fl_check.specs.Interface.{TheType, scalar, enumeration, structure, fields_from, fixed, text, TheMessage, TheInterface}
 use Rattle.fl_check.specs.Known.{is_string, is_capability, is_built_in, scalar_named, is_among, Named, Before, declared_as, type_named, bound_or, message_from, stands_for, counted, field_type, argument_type, after, after_all, nothing_declared, call_name, response_name, ins, outs, if_in, if_out}
 use Rattle.fl_check.specs.Places.{Place, rule, fixed_type_place, plain_type_place, string_place, new_type_place, whole_type_place, count_place, count_places, bound_place, bound_places, listed_place, other_place, member_places, field_place, field_places, argument_place, argument_places, whole_message_place, message_name_place, rpc_name_place, declaration_places, places_from, arguments_of, argument_names, some_too_long, type_names, is_unknown, is_too_long, message_names}
-use Rattle.fl_check.specs.Checks.{IsSound, is_well_made, are_well_made, is_type_within, is_argument_within, are_arguments_within, is_message_within, are_messages_within, are_distinct, is_within_limits, count_of, interface_from, places}
+use Rattle.fl_check.specs.Checks.{IsSound, is_well_made, are_well_made, is_type_within, is_argument_within, are_arguments_within, is_message_within, are_messages_within, are_distinct, is_within_limits, count_of, interface_from, places, first_fault, Checks, checked}
+use Rattle.fl_check.proofs.Firsts.{all_sound}
 use Rattle.fl_parse.specs.Tree.{TheName, TheNumber, TheField, TheShape, plain, bounded, sized as sized_shape, TheArgument, TheDirected, TheDeclaration, alias_of, typedef_of, enum_of, struct_of, message_of, rpc_of, TheTree}
 
 -- ---- tests
@@ -248,7 +249,7 @@ differ a b true q e =
     let s = (bytes_eq-Decides b a).0 (sym q) in
     let t = (bytes_eq-Decides a b).1 (sym s) in cc
 
-among_push : (xs : List (List ℕ)) (n x : List ℕ) → is_among xs x ≡ false → bytes_eq n x ≡ false → is_among (xs ++ n ∷ []) x ≡ false
+pub among_push : (xs : List (List ℕ)) (n x : List ℕ) → is_among xs x ≡ false → bytes_eq n x ≡ false → is_among (xs ++ n ∷ []) x ≡ false
 among_push [] n x e h = ap (λ v. v || false) h
 among_push (y ∷ xs) n x e h =
     let p = or_left (bytes_eq y x) (is_among xs x) e in
@@ -335,7 +336,7 @@ unfolding whole_message_place
 too_long_sound n t e = not_broken 21 t e
 
 -- the two names of an rpc differ
-other_name : (n : TheName) (r : Bool) → r ≡ bytes_eq (call_name n) (response_name n) → r ≡ false
+pub other_name : (n : TheName) (r : Bool) → r ≡ bytes_eq (call_name n) (response_name n) → r ≡ false
 other_name n false q = refl
 other_name n true q =
     let e = (bytes_eq-Decides (call_name n) (response_name n)).0 (sym q) in
@@ -429,3 +430,9 @@ within_limits tree s =
     let ms = (after_all nothing_declared tree.declarations).messages in
     both (nat_le (length ms) 256) (are_distinct (name_list ms) && are_messages_within ms) (le-leb (length ms) 256 k.few)
     (both (are_distinct (name_list ms)) (are_messages_within ms) k.distinct k.messages)
+
+-- a tree without a fault is checked, and what it stands for is within the limits
+pub accepted : (tree : TheTree) (i : TheInterface) → first_fault (places tree) ≡ None → i ≡ interface_from tree → Checks tree (checked i) × (is_within_limits i ≡ true)
+accepted tree i n e =
+    let s = all_sound (places tree) n in
+    ((s, e), ap is_within_limits e ∙ within_limits tree s)

@@ -15,7 +15,7 @@ turned_step a b false false p q = refl
 turned_step a b true false p q = let s = (bytes_eq-Decides a b).0 (sym p) in let t = (bytes_eq-Decides b a).1 (sym s) in cc
 turned_step a b false true p q = let s = (bytes_eq-Decides b a).0 (sym q) in let t = (bytes_eq-Decides a b).1 (sym s) in cc
 
-turned : (a b : List ℕ) → bytes_eq a b ≡ bytes_eq b a
+pub turned : (a b : List ℕ) → bytes_eq a b ≡ bytes_eq b a
 turned a b = turned_step a b (bytes_eq a b) (bytes_eq b a) refl refl
 
 pub among_set : (ks : List (Bor (List ℕ))) (q : List ℕ) → list_any (λ (k : Bor (List ℕ)). bytes_eq q k.now) ks ≡ is_among (map now_of ks) q

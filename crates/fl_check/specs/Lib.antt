@@ -9,3 +9,5 @@ pub mod Checks
 pub mod Faults
 pub mod Views
 pub mod Outcome
+pub mod Position
+pub mod Explained

@@ -6,18 +6,26 @@ use Rattle.fl_check.specs.declared.declared.KnownType.{KnownType}
 use Rattle.fl_check.specs.declared.declared.Declared.{Declared}
 use Rattle.fl_check.specs.declared.payload.Checked.{Checked}
 use Rattle.fl_check.specs.declared.payload.Checked.TheVariants.{Fixed, Text, Sized}
-use Rattle.fl_check.specs.Interface.{TheArgType, fixed, text, sized, type_of, message_of}
+use Rattle.std.specs.Borrow.{Bor}
+use Rattle.std.specs.Global.{Vec}
+use Rattle.fl_check.specs.declared.interface.ArgType.{ArgType}
+use Rattle.fl_check.specs.Interface.{TheArgType, fixed, text, sized, type_of, arg_type_of, TheMessage}
 use Rattle.fl_check.specs.Known.{Named, Before}
 
 -- the names of a list of names
 abbrev pub list_of : Names → List (List ℕ)
 list_of names = map (λ name. name.now) names.set.keys
 
-abbrev pub named_of : KnownType → Named
-named_of k = record { name = k.name.now; type = type_of k.measured.fixed }
+-- a declared type with its name
+abbrev pub named_of : Bor (List ℕ) × KnownType → Named
+named_of k = record { name = k.0.now; type = type_of k.1.measured.fixed }
+
+-- a declared message: its name's bytes and its arguments
+abbrev pub declared_message : Vec ℕ × Vec ArgType → TheMessage
+declared_message m = record { name = m.0.items; args = map arg_type_of m.1.items }
 
 abbrev pub before_of : Declared → Before
-before_of d = record { types = map named_of d.types.items; messages = map message_of d.messages.items }
+before_of d = record { types = map named_of d.types.entries; messages = map declared_message d.messages.entries }
 
 -- the type of an argument that keeps the rules
 abbrev pub checked_of : Checked → TheArgType

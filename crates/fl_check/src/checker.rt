@@ -30,10 +30,8 @@ pub fn check(alloc: Global, tree: &Tree) -> Result<Interface, CheckFault>
 {
     let declared = declare_all(alloc, &tree.declarations)?;
     let name = word_of(alloc, tree.name.text)?;
-    Ok(Interface {
-        name,
-        messages: declared.messages,
-    })
+    let messages = declared.into_messages(alloc)?;
+    Ok(Interface { name, messages })
 }
 
 /// A law: a tree has one outcome, an interface or a fault.

@@ -1,7 +1,6 @@
 //! Declarations, each by its rules in their order.
 
-ghost use Rattle.std.specs.Prelude.{◌≡◌, ◌∷◌, [], ◌++◌, OnOk, IfErr, None, map, option_map, codes};
-ghost use Rattle.fl_check.specs.Interface.{arg_type_of};
+ghost use Rattle.std.specs.Prelude.{◌≡◌, ◌∷◌, [], ◌++◌, OnOk, IfErr, None, map, option_map, false};
 ghost use Rattle.fl_check.specs.Known.{is_among, after, call_name, response_name};
 ghost use Rattle.fl_check.specs.Places.{message_names, message_name_place, rpc_name_place, whole_message_place, declaration_places};
 ghost use Rattle.fl_check.specs.Checks.{first_fault};
@@ -11,13 +10,12 @@ ghost use Rattle.fl_parse.specs.Tree.{name_of, number_of, field_of, argument_of,
 
 use crate::declared::Declared;
 use crate::fault::{CheckFault, Rule};
-use crate::interface::{ArgType, Message, Word};
 use crate::measured::Measured;
 use crate::parts::{counted, members};
 use crate::types::broken;
-use crate::words::{word_of, word_with};
+use crate::words::joined;
 use fl_parse::{Argument, Declaration, DirectedArgument, Field, MessageKind, Name, Number};
-use std::alloc::{AllocError, Global};
+use std::alloc::Global;
 
 /// The messages of a declaration, one of which has a payload that is too long or none has.
 #[tactic(auto, unfolding(crate::specs::Checks::first_fault, crate::specs::Places::whole_message_place))]
@@ -32,26 +30,16 @@ fn whole_message(name: &Name, too_long: bool) -> Result<(), CheckFault>
 }
 
 impl<'a> Declared<'a> {
-    fn has_message(&self, name: &[u8]) -> bool
-        ensures exact { result ≡ is_among (message_names (before_of self.now)) name.now }
-    {
-        for message in &self.messages {
-            if message.name.bytes.as_slice() == name {
-                return true;
-            }
-        }
-        false
-    }
-
     #[tactic(auto, unfolding(crate::specs::Checks::first_fault, crate::specs::Places::message_name_place))]
     fn message_name(&self, name: &Name) -> Result<(), CheckFault>
+        ensures absent { OnOk result (is_among (message_names (before_of self.now)) name.now.text.now ≡ false) }
         ensures sound { OnOk result (first_fault (message_name_place (before_of self.now) (name_of name.now) ∷ []) ≡ None) }
         ensures fault { IfErr result (λ e. Tells e (first_fault (message_name_place (before_of self.now) (name_of name.now) ∷ []))) }
     {
         if self.has_message(name.text) {
             return Err(broken(Rule::MessageNameTaken, name.at));
         }
-        if self.messages.len() >= 256 {
+        if self.count_messages() >= 256 {
             return Err(broken(Rule::TooMany, name.at));
         }
         Ok(())
@@ -61,23 +49,17 @@ impl<'a> Declared<'a> {
     fn rpc_name(&self, name: &Name, call: &[u8], response: &[u8]) -> Result<(), CheckFault>
         requires call { call.now ≡ call_name (name_of name.now) }
         requires response { response.now ≡ response_name (name_of name.now) }
+        ensures no_call { OnOk result (is_among (message_names (before_of self.now)) call.now ≡ false) }
+        ensures no_response { OnOk result (is_among (message_names (before_of self.now)) response.now ≡ false) }
         ensures sound { OnOk result (first_fault (rpc_name_place (before_of self.now) (name_of name.now) ∷ []) ≡ None) }
         ensures fault { IfErr result (λ e. Tells e (first_fault (rpc_name_place (before_of self.now) (name_of name.now) ∷ []))) }
     {
         if self.has_message(call) || self.has_message(response) {
             return Err(broken(Rule::MessageNameTaken, name.at));
         }
-        if self.messages.len() >= 255 || name.text.len() > 55 {
+        if self.count_messages() >= 255 || name.text.len() > 55 {
             return Err(broken(Rule::TooMany, name.at));
         }
-        Ok(())
-    }
-
-    fn add_message(&mut self, name: Word, args: Vec<ArgType>) -> Result<(), AllocError>
-        ensures types { OnOk result ((before_of self.new).types ≡ (before_of self.old).types) }
-        ensures messages { OnOk result ((before_of self.new).messages ≡ (before_of self.old).messages ++ record { name = name.bytes.items; args = map arg_type_of args.items } ∷ []) }
-    {
-        self.messages.push(Message { name, args })?;
         Ok(())
     }
 
@@ -160,8 +142,7 @@ impl<'a> Declared<'a> {
         self.message_name(name)?;
         let payload = self.arguments(alloc, args)?;
         whole_message(name, payload.is_too_long())?;
-        let word = word_of(alloc, name.text)?;
-        self.add_message(word, payload.args)?;
+        self.push_message(name.text.to_vec(alloc)?, payload.args)?;
         Ok(())
     }
 
@@ -176,13 +157,13 @@ impl<'a> Declared<'a> {
         ensures after { OnOk result (before_of self.new ≡ after (before_of self.old) (rpc_of (name_of name.now) (map directed_of args.now))) }
         ensures fault { IfErr result (λ e. Tells e (first_fault (declaration_places (before_of self.old) (rpc_of (name_of name.now) (map directed_of args.now))))) }
     {
-        let call = word_with(alloc, name.text, b"_call".as_slice())?;
-        let response = word_with(alloc, name.text, b"_response".as_slice())?;
-        self.rpc_name(name, &call.bytes, &response.bytes)?;
+        let call = joined(alloc, name.text, b"_call".as_slice())?;
+        let response = joined(alloc, name.text, b"_response".as_slice())?;
+        self.rpc_name(name, &call, &response)?;
         let halves = self.directed(alloc, args)?;
         whole_message(name, halves.ins.is_too_long() || halves.outs.is_too_long())?;
-        self.add_message(call, halves.ins.args)?;
-        self.add_message(response, halves.outs.args)?;
+        self.push_message(call, halves.ins.args)?;
+        self.push_message(response, halves.outs.args)?;
         Ok(())
     }
 

@@ -2,38 +2,107 @@
 
 ghost use Rattle.std.specs.Prelude.{◌≤◌};
 
-use crate::interface::Message;
+use crate::interface::{ArgType, Message, Word};
 use crate::measured::Measured;
-use std::alloc::Global;
+use indexmap::IndexMap;
+use std::alloc::{AllocError, Global};
 
 /// A declared type, which is never too big.
 #[derive(Debug, Drop)]
-pub struct KnownType<'a> {
-    pub name: &'a [u8],
+pub struct KnownType {
     pub measured: Measured,
     ghost small: { measured.size ≤ 4096 },
     ghost shallow: { measured.depth ≤ 16 },
     ghost few_arrays: { measured.arrays ≤ 7 },
 }
 
-/// The types and messages that are declared so far, in order.
+/// The types and messages that are declared so far, by their names and in order.
 #[derive(Debug, Drop)]
 pub struct Declared<'a> {
-    pub types: Vec<KnownType<'a>>,
-    pub messages: Vec<Message>,
+    pub types: IndexMap<&'a [u8], KnownType>,
+    pub messages: IndexMap<Vec<u8>, Vec<ArgType>>,
 }
 
 impl<'a> Declared<'a> {
-    ghost use Rattle.std.specs.Prelude.{◌≡◌};
-    ghost use Rattle.fl_check.specs.Known.{nothing_declared};
+    ghost use Rattle.std.specs.Prelude.{◌≡◌, ◌++◌, ◌∷◌, [], map, OnOk, IfOk, option_map, length, false};
+    ghost use Rattle.fl_check.specs.Interface.{type_of, arg_type_of, message_of};
+    ghost use Rattle.fl_check.specs.Known.{nothing_declared, declared_as, is_among};
+    ghost use Rattle.fl_check.specs.Places.{type_names, message_names};
     ghost use Rattle.fl_check.specs.Views.{before_of};
 
     pub fn new(alloc: Global) -> Declared<'a>
         ensures nothing { before_of result ≡ nothing_declared }
     {
         Declared {
-            types: Vec::new(alloc),
-            messages: Vec::new(alloc),
+            types: IndexMap::new(alloc),
+            messages: IndexMap::new(alloc),
         }
+    }
+
+    /// The declared type of a name.
+    pub fn find(&self, name: &[u8]) -> Option<&KnownType>
+        ensures exact { option_map (λ k. type_of k.now.measured.fixed) result ≡ declared_as (before_of self.now).types name.now }
+    {
+        self.types.get(name)
+    }
+
+    pub fn has_type(&self, name: &[u8]) -> bool
+        ensures exact { result ≡ is_among (type_names (before_of self.now)) name.now }
+    {
+        self.types.contains_key(name)
+    }
+
+    pub fn has_message(&self, name: &[u8]) -> bool
+        ensures exact { result ≡ is_among (message_names (before_of self.now)) name.now }
+    {
+        self.messages.contains_key(name)
+    }
+
+    /// So many types are declared.
+    pub fn count_types(&self) -> usize
+        ensures exact { result ≡ length (before_of self.now).types }
+    {
+        self.types.len()
+    }
+
+    /// So many messages are declared.
+    pub fn count_messages(&self) -> usize
+        ensures exact { result ≡ length (before_of self.now).messages }
+    {
+        self.messages.len()
+    }
+
+    /// Adds a type of a name that no declared type has.
+    pub fn push_type(&mut self, name: &'a [u8], known: KnownType) -> Result<(), AllocError>
+        requires new { is_among (type_names (before_of self.old)) name.now ≡ false }
+        ensures types { OnOk result ((before_of self.new).types ≡ (before_of self.old).types ++ record { name = name.now; type = type_of known.measured.fixed } ∷ []) }
+        ensures messages { OnOk result ((before_of self.new).messages ≡ (before_of self.old).messages) }
+    {
+        self.types.insert(name, known)?;
+        Ok(())
+    }
+
+    /// Adds a message of a name that no declared message has.
+    pub fn push_message(&mut self, name: Vec<u8>, args: Vec<ArgType>) -> Result<(), AllocError>
+        requires new { is_among (message_names (before_of self.old)) name.items ≡ false }
+        ensures types { OnOk result ((before_of self.new).types ≡ (before_of self.old).types) }
+        ensures messages { OnOk result ((before_of self.new).messages ≡ (before_of self.old).messages ++ record { name = name.items; args = map arg_type_of args.items } ∷ []) }
+    {
+        self.messages.insert(name, args)?;
+        Ok(())
+    }
+
+    /// The messages that are declared, in order.
+    pub fn into_messages(self, alloc: Global) -> Result<Vec<Message>, AllocError>
+        ensures same { IfOk result (λ ms. map message_of ms.items ≡ (before_of self.entry).messages) }
+    {
+        let mut messages = Vec::with_capacity(alloc, self.messages.len())?;
+        for (name, args) in self.messages {
+            messages.push(Message {
+                name: Word { bytes: name },
+                args,
+            })?;
+        }
+        Ok(messages)
     }
 }

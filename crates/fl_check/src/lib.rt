@@ -6,19 +6,23 @@ mod checker;
 mod declarations;
 mod declared;
 mod duplicate;
+mod explained;
 mod fault;
 mod interface;
 mod measured;
 mod parts;
 mod payload;
+mod position;
 mod same;
 mod scalars;
 mod types;
 mod words;
 
 pub use checker::{check, one_outcome};
+pub use explained::{Explained, TextFault};
 pub use fault::{CheckFault, Rule};
 pub use interface::{ArgType, FixedType, Interface, Message, Scalar, Word};
+pub use position::Position;
 
 #[cfg(test)]
 mod tests;

@@ -1,386 +1,132 @@
-//! Worked trees: each is a text's, with the offsets that its words have there.
+//! Worked texts: what each is refused for and where, or that it is accepted.
 
-use crate::{CheckFault, Interface, check};
-use fl_parse::{
-    Argument, Declaration, DirectedArgument, Direction, Field, MessageKind, Name, Number, Shape,
-    Tree,
-};
+use crate::{Interface, TextFault, check};
+use fl_lex::lex;
+use fl_parse::parse;
 use std::alloc::{AllocError, Global};
 use std::test::Fail;
 
-fn word(text: &[u8], at: usize) -> Name<'_> {
-    Name { text, at }
+fn read(alloc: Global, text: &[u8]) -> Result<Interface, TextFault> {
+    let tokens = lex(alloc, text)?;
+    let tree = parse(alloc, &tokens)?;
+    let interface = check(alloc, &tree)?;
+    Ok(interface)
 }
 
-fn number(value: u32, at: usize) -> Number {
-    Number { value, at }
-}
-
-fn field<'a>(kind: Name<'a>, name: Name<'a>, count: Option<Number>) -> Field<'a> {
-    Field {
-        type_name: kind,
-        name,
-        count,
-    }
-}
-
-fn plain<'a>(kind: Name<'a>, name: Name<'a>) -> Argument<'a> {
-    Argument {
-        type_name: kind,
-        name,
-        shape: Shape::Plain,
-    }
-}
-
-fn text_of(bound: Number) -> Argument<'static> {
-    Argument {
-        type_name: word(b"string", 24),
-        name: word(b"s", 31),
-        shape: Shape::Bounded(bound),
-    }
-}
-
-fn sized<'a>(
-    kind: Name<'a>,
-    name: Name<'a>,
-    length: Name<'a>,
-    bound: Option<Number>,
-) -> Argument<'a> {
-    Argument {
-        type_name: kind,
-        name,
-        shape: Shape::Sized { length, bound },
-    }
-}
-
-fn tree(declarations: Vec<Declaration<'_>>) -> Tree<'_> {
-    Tree {
-        name: word(b"i", 10),
-        description: None,
-        declarations,
-    }
-}
-
-fn one(alloc: Global, declaration: Declaration<'_>) -> Result<Tree<'_>, AllocError> {
-    let mut declarations = Vec::new(alloc);
-    declarations.push(declaration)?;
-    Ok(tree(declarations))
-}
-
-fn message<'a>(
-    alloc: Global,
-    name: Name<'a>,
-    args: &[Argument<'a>],
-) -> Result<Declaration<'a>, AllocError> {
-    Ok(Declaration::Message {
-        kind: MessageKind::Message,
-        name,
-        args: args.to_vec(alloc)?,
-    })
-}
-
-fn structure<'a>(
-    alloc: Global,
-    fields: &[Field<'a>],
-    name: Name<'a>,
-) -> Result<Declaration<'a>, AllocError> {
-    Ok(Declaration::Structure {
-        fields: fields.to_vec(alloc)?,
-        name,
-    })
-}
-
-/// The number and offset of a fault; none where the tree is accepted.
-fn fault(answer: Result<Interface, CheckFault>) -> Option<(u8, Option<usize>)> {
-    match answer {
+/// The number and offset of a text's fault; none where the text is accepted.
+fn fault(alloc: Global, text: &[u8]) -> Option<(u8, Option<usize>)> {
+    match read(alloc, text) {
         Ok(_) => None,
         Err(fault) => Some((fault.number(), fault.offset())),
     }
 }
 
-fn answer(
-    alloc: Global,
-    declaration: Declaration<'_>,
-) -> Result<Option<(u8, Option<usize>)>, AllocError> {
-    let tree = one(alloc, declaration)?;
-    Ok(fault(check(alloc, &tree)))
-}
+const REFUSED: [(&str, u8, usize); 34] = [
+    // E10: a built-in name, whatever else is wrong there
+    ("interface i { alias uint8 uint16; }", 10, 20),
+    ("interface i { alias give_away_cap nope; }", 10, 20),
+    ("interface i { alias u uint8; typedef enum { } u; }", 10, 46),
+    // E11
+    ("interface i { alias u v; }", 11, 22),
+    ("interface i { message m(t x); alias t uint8; }", 11, 24),
+    ("interface i { typedef struct { t a; } t; }", 11, 31),
+    ("interface i { message m(u x, cap c, nope y); }", 11, 24),
+    ("interface i { typedef nope uint8[0]; }", 11, 22),
+    // E12: one of an rpc's two names, too
+    ("interface i { call m(); message m(cap c); }", 12, 32),
+    ("interface i { message f_response(); rpc f(); }", 12, 40),
+    ("interface i { rpc f(); response f_call(); }", 12, 32),
+    // E13: a length's name, too
+    (
+        "interface i { typedef struct { uint8 a; uint8 a; } t; }",
+        13,
+        46,
+    ),
+    ("interface i { typedef enum { a, b, a } e; }", 13, 35),
+    ("interface i { message m(uint8 n[n]); }", 13, 32),
+    ("interface i { rpc f(in uint8 x, out uint8 x); }", 13, 42),
+    // E14
+    ("interface i { message m(cap c); }", 14, 24),
+    ("interface i { rpc f(in cap c); }", 14, 23),
+    ("interface i { typedef give_away_cap c; }", 14, 22),
+    // E15
+    ("interface i { typedef enum { } c; }", 15, 31),
+    ("interface i { typedef struct { } c; }", 15, 33),
+    // E16, before the whole type's E17
+    ("interface i { typedef uint8 t[0]; }", 16, 30),
+    ("interface i { typedef uint64 t[1025]; }", 16, 31),
+    (
+        "interface i { typedef struct { uint8 a[1025]; } t; }",
+        16,
+        39,
+    ),
+    // E17: 4,097 bytes, and 4,104
+    (
+        "interface i { typedef uint8 k[1024]; typedef struct { k a[4]; uint8 b; } t; }",
+        17,
+        73,
+    ),
+    ("interface i { typedef uint64 t[513]; }", 17, 29),
+    // E18
+    ("interface i { message m(string s[n, 4]); }", 18, 24),
+    ("interface i { alias s string; }", 18, 22),
+    // E19: an rpc's name of 56 bytes
+    (
+        "interface i { rpc a123456789b123456789c123456789d123456789e123456789f12345(); }",
+        19,
+        18,
+    ),
+    // E20
+    ("interface i { message m(string s[4097]); }", 20, 33),
+    ("interface i { message m(string s[0]); }", 20, 33),
+    ("interface i { message m(uint8 s[n, 4097]); }", 20, 35),
+    // E21, after the parts; for an rpc in either half
+    ("interface i { message m(uint64 x[n, 4096]); }", 21, 22),
+    (
+        "interface i { rpc f(in uint8 a, out uint64 x[n, 4096]); }",
+        21,
+        18,
+    ),
+    (
+        "interface i { message m(uint64 x[n, 4096], cap c); }",
+        14,
+        43,
+    ),
+];
 
 #[test]
-fn first_faults(rt: HostRuntime) -> Result<(), Fail> {
+fn refused(rt: HostRuntime) -> Result<(), Fail> {
     let alloc = rt.alloc();
-    let alias = Declaration::Alias {
-        new: word(b"u", 20),
-        old: word(b"v", 22),
-    };
-    assert_eq!(rt; answer(alloc, alias)?, Some((11, Some(22))));
-    let array_of_texts = sized(
-        word(b"string", 24),
-        word(b"s", 31),
-        word(b"n", 33),
-        Some(number(4, 36)),
-    );
-    assert_eq!(rt;
-        answer(alloc, message(alloc, word(b"m", 22), &[array_of_texts])?)?,
-        Some((18, Some(24)))
-    );
-    let empty = Declaration::Enumeration {
-        members: Vec::new(alloc),
-        name: word(b"c", 31),
-    };
-    assert_eq!(rt; answer(alloc, empty)?, Some((15, Some(31))));
-    let twice = [
-        field(word(b"uint8", 31), word(b"a", 37), None),
-        field(word(b"uint8", 40), word(b"a", 46), None),
-    ];
-    assert_eq!(rt;
-        answer(alloc, structure(alloc, &twice, word(b"t", 51))?)?,
-        Some((13, Some(46)))
-    );
-    let capability = DirectedArgument {
-        direction: Direction::In,
-        argument: plain(word(b"cap", 23), word(b"c", 27)),
-    };
-    let rpc = Declaration::Rpc {
-        name: word(b"f", 18),
-        args: [capability].to_vec(alloc)?,
-    };
-    assert_eq!(rt; answer(alloc, rpc)?, Some((14, Some(23))));
-    let none = Declaration::Typedef {
-        old: word(b"uint8", 22),
-        new: word(b"t", 28),
-        count: Some(number(0, 30)),
-    };
-    assert_eq!(rt; answer(alloc, none)?, Some((16, Some(30))));
-    let builtin = Declaration::Alias {
-        new: word(b"give_away_cap", 20),
-        old: word(b"nope", 34),
-    };
-    assert_eq!(rt; answer(alloc, builtin)?, Some((10, Some(20))));
-    Ok(())
-}
-
-#[test]
-fn bounds(rt: HostRuntime) -> Result<(), Fail> {
-    let alloc = rt.alloc();
-    let of = |bound: u32| sized(
-        word(b"uint64", 24),
-        word(b"x", 31),
-        word(b"n", 33),
-        Some(number(bound, 36)),
-    );
-    assert_eq!(rt;
-        answer(alloc, message(alloc, word(b"m", 22), &[of(4096)])?)?,
-        Some((21, Some(22)))
-    );
-    assert_eq!(rt;
-        answer(alloc, message(alloc, word(b"m", 22), &[of(4095)])?)?,
-        None
-    );
-    assert_eq!(rt;
-        answer(
-            alloc,
-            message(alloc, word(b"m", 22), &[text_of(number(4097, 33))])?
-        )?,
-        Some((20, Some(33)))
-    );
-    assert_eq!(rt;
-        answer(
-            alloc,
-            message(alloc, word(b"m", 22), &[text_of(number(4096, 33))])?
-        )?,
-        None
-    );
-    let own_length = sized(word(b"uint8", 24), word(b"n", 30), word(b"n", 32), None);
-    assert_eq!(rt;
-        answer(alloc, message(alloc, word(b"m", 22), &[own_length])?)?,
-        Some((13, Some(32)))
-    );
-    Ok(())
-}
-
-/// Types in one another: `typedef uint8 a[1]; typedef a b[1];` and so on, or structs in place of arrays.
-fn nested(
-    alloc: Global,
-    levels: usize,
-    arrays: bool,
-) -> Result<Option<(u8, Option<usize>)>, AllocError> {
-    let mut declarations = Vec::new(alloc);
-    let mut old = word(b"uint8", 0);
-    for (i, name) in b"abcdefghijklmnopqrstuvwxyz"
-        .chunks(1)
-        .enumerate()
-        .take(levels)
-    {
-        let new = word(name, i);
-        if arrays {
-            declarations.push(Declaration::Typedef {
-                old,
-                new,
-                count: Some(number(1, 0)),
-            })?;
-        } else {
-            declarations.push(structure(alloc, &[field(old, word(b"x", 0), None)], new)?)?;
-        }
-        old = new;
+    for (text, number, at) in REFUSED {
+        assert_eq!(rt; fault(alloc, text.as_bytes()), Some((number, Some(at))));
     }
-    let tree = tree(declarations);
-    Ok(fault(check(alloc, &tree)))
-}
-
-#[test]
-fn depth(rt: HostRuntime) -> Result<(), Fail> {
-    let alloc = rt.alloc();
-    assert_eq!(rt; nested(alloc, 7, true)?, None);
-    assert_eq!(rt; nested(alloc, 8, true)?, Some((17, Some(7))));
-    assert_eq!(rt; nested(alloc, 16, false)?, None);
-    assert_eq!(rt; nested(alloc, 17, false)?, Some((17, Some(16))));
     Ok(())
 }
 
-fn array_of(count: u32, kind: &[u8]) -> Declaration<'_> {
-    Declaration::Typedef {
-        old: word(kind, 22),
-        new: word(b"t", 30),
-        count: Some(number(count, 32)),
-    }
-}
-
-#[test]
-fn sizes(rt: HostRuntime) -> Result<(), Fail> {
-    let alloc = rt.alloc();
-    assert_eq!(rt; answer(alloc, array_of(1024, b"uint32"))?, None);
-    assert_eq!(rt;
-        answer(alloc, array_of(1025, b"uint8"))?,
-        Some((16, Some(32)))
-    );
-    assert_eq!(rt;
-        answer(alloc, array_of(1024, b"uint64"))?,
-        Some((17, Some(30)))
-    );
-    let whole = [field(word(b"uint64", 31), word(b"a", 38), Some(number(512, 40)))];
-    assert_eq!(rt;
-        answer(alloc, structure(alloc, &whole, word(b"t", 50))?)?,
-        None
-    );
-    let more = [
-        field(word(b"uint64", 31), word(b"a", 38), Some(number(512, 40))),
-        field(word(b"uint8", 46), word(b"b", 52), None),
-    ];
-    assert_eq!(rt;
-        answer(alloc, structure(alloc, &more, word(b"t", 60))?)?,
-        Some((17, Some(60)))
-    );
-    Ok(())
-}
-
-/// So many types or messages, each of a name of its own.
-fn many(
-    alloc: Global,
-    count: usize,
-    types: bool,
-) -> Result<Option<(u8, Option<usize>)>, AllocError> {
-    let mut text = Vec::new(alloc);
-    for first in b'a'..=b'q' {
-        for second in b'a'..=b'q' {
-            text.push(first)?;
-            text.push(second)?;
-        }
-    }
-    let mut declarations = Vec::new(alloc);
-    for (i, name) in text.as_slice().chunks(2).enumerate().take(count) {
-        if types {
-            declarations.push(Declaration::Alias {
-                new: word(name, i),
-                old: word(b"size", 1000),
-            })?;
-        } else {
-            declarations.push(message(alloc, word(name, i), &[])?)?;
-        }
-    }
-    let tree = tree(declarations);
-    Ok(fault(check(alloc, &tree)))
-}
-
-#[test]
-fn numbers(rt: HostRuntime) -> Result<(), Fail> {
-    let alloc = rt.alloc();
-    assert_eq!(rt; many(alloc, 256, true)?, None);
-    assert_eq!(rt; many(alloc, 257, true)?, Some((19, Some(256))));
-    assert_eq!(rt; many(alloc, 256, false)?, None);
-    assert_eq!(rt; many(alloc, 257, false)?, Some((19, Some(256))));
-    Ok(())
-}
-
-fn rpc_named(name: &[u8]) -> Name<'_> {
-    word(name, 18)
-}
-
-#[test]
-fn rpc_names(rt: HostRuntime) -> Result<(), Fail> {
-    let alloc = rt.alloc();
-    let long = rpc_named(b"a123456789b123456789c123456789d123456789e123456789f12345");
-    let rpc = Declaration::Rpc {
-        name: long,
-        args: Vec::new(alloc),
-    };
-    assert_eq!(rt; answer(alloc, rpc)?, Some((19, Some(18))));
-    let fits = rpc_named(b"a123456789b123456789c123456789d123456789e123456789f1234");
-    let rpc = Declaration::Rpc {
-        name: fits,
-        args: Vec::new(alloc),
-    };
-    assert_eq!(rt; answer(alloc, rpc)?, None);
-    let mut declarations = Vec::new(alloc);
-    declarations.push(message(alloc, word(b"f_response", 22), &[])?)?;
-    declarations.push(Declaration::Rpc {
-        name: word(b"f", 40),
-        args: Vec::new(alloc),
-    })?;
-    let tree = tree(declarations);
-    assert_eq!(rt; fault(check(alloc, &tree)), Some((12, Some(40))));
-    Ok(())
-}
-
-/// `typedef enum { x, y, } c; alias u uint32; typedef struct { u a; c b[2]; } t; call q(t x);
-/// rpc f(in u x, out string s[9]);`
-fn whole(alloc: Global) -> Result<Tree<'static>, AllocError> {
-    let mut declarations = Vec::new(alloc);
-    declarations.push(Declaration::Enumeration {
-        members: [word(b"x", 0), word(b"y", 0)].to_vec(alloc)?,
-        name: word(b"c", 0),
-    })?;
-    declarations.push(Declaration::Alias {
-        new: word(b"u", 0),
-        old: word(b"uint32", 0),
-    })?;
-    let fields = [
-        field(word(b"u", 0), word(b"a", 0), None),
-        field(word(b"c", 0), word(b"b", 0), Some(number(2, 0))),
-    ];
-    declarations.push(structure(alloc, &fields, word(b"t", 0))?)?;
-    declarations.push(message(alloc, word(b"q", 0), &[plain(word(b"t", 0), word(b"x", 0))])?)?;
-    let args = [
-        DirectedArgument {
-            direction: Direction::In,
-            argument: plain(word(b"u", 0), word(b"x", 0)),
-        },
-        DirectedArgument {
-            direction: Direction::Out,
-            argument: text_of(number(9, 0)),
-        },
-    ];
-    declarations.push(Declaration::Rpc {
-        name: word(b"f", 0),
-        args: args.to_vec(alloc)?,
-    })?;
-    Ok(tree(declarations))
-}
+const ACCEPTED: [&str; 5] = [
+    "interface i { typedef uint8 k[1024]; typedef struct { k a[4]; } t; }",
+    "interface i { rpc a123456789b123456789c123456789d123456789e123456789f1234(); message a123456789b123456789c123456789d123456789e123456789f1234(); }",
+    "interface i { message m(string s[4096], uint8 n[l, 4096], uint8 k[j, 1]); }",
+    "interface i { message m(uint64 x[n, 4095]); }",
+    "interface i { alias size_ size; alias i size_; message i(i i); }",
+];
 
 #[test]
 fn accepted(rt: HostRuntime) -> Result<(), Fail> {
     let alloc = rt.alloc();
-    let interface = check(alloc, &whole(alloc)?)?;
+    for text in ACCEPTED {
+        assert_eq!(rt; fault(alloc, text.as_bytes()), None);
+    }
+    Ok(())
+}
+
+const LONG: &str =
+    "interface i \"a \\ b\" { typedef enum { x, y, } c; alias u uint32; typedef struct { u a; c b[2]; } t; call q(t x); rpc f(in u x, out string s[9]); };";
+
+#[test]
+fn long_text(rt: HostRuntime) -> Result<(), Fail> {
+    let alloc = rt.alloc();
+    let interface = read(alloc, LONG.as_bytes())?;
     let names = ["q", "f_call", "f_response"];
     assert_eq!(rt; interface.messages.len(), names.len());
     for (message, name) in interface.messages.iter().zip(names) {
@@ -389,8 +135,183 @@ fn accepted(rt: HostRuntime) -> Result<(), Fail> {
     let copy = interface.duplicate(alloc)?;
     assert!(rt; interface.same(&copy));
     assert!(rt; !interface.scalars_only());
-    let other = check(alloc, &one(alloc, message(alloc, word(b"q", 0), &[])?)?)?;
+    let other = read(alloc, b"interface i { message q(uint8 x); }".as_slice())?;
     assert!(rt; !interface.same(&other));
     assert!(rt; other.scalars_only());
+    Ok(())
+}
+
+/// A text in which each of so many items has a name of its own, of two letters.
+fn repeated(
+    alloc: Global,
+    begin: &str,
+    item: (&str, &str),
+    count: usize,
+    end: &str,
+) -> Result<Vec<u8>, AllocError> {
+    let mut names = Vec::new(alloc);
+    for first in b'a'..=b'q' {
+        for second in b'a'..=b'q' {
+            names.push(first)?;
+            names.push(second)?;
+        }
+    }
+    let mut text = begin.as_bytes().to_vec(alloc)?;
+    for name in names.as_slice().chunks(2).take(count) {
+        text.extend_from_slice(item.0.as_bytes())?;
+        text.extend_from_slice(name)?;
+        text.extend_from_slice(item.1.as_bytes())?;
+    }
+    text.extend_from_slice(end.as_bytes())?;
+    Ok(text)
+}
+
+#[test]
+fn numbers(rt: HostRuntime) -> Result<(), Fail> {
+    let alloc = rt.alloc();
+    let begin = "interface i { ";
+    let types = ("alias ", " size;");
+    let messages = ("message ", "();");
+    let more = ", uint8 ";
+    let cases = [
+        (begin, types, 256, "}", None),
+        (begin, types, 257, "}", Some((19, Some(3604)))),
+        (begin, messages, 256, "}", None),
+        (begin, messages, 257, "}", Some((19, Some(3350)))),
+        // an rpc is two messages
+        (begin, messages, 254, "rpc f(); }", None),
+        (begin, messages, 255, "rpc f(); }", Some((19, Some(3333)))),
+        // fields, and arguments: length names don't count
+        (
+            "interface i { typedef struct { ",
+            ("size ", ";"),
+            32,
+            "} t; }",
+            None,
+        ),
+        (
+            "interface i { typedef struct { ",
+            ("size ", ";"),
+            33,
+            "} t; }",
+            Some((19, Some(292))),
+        ),
+        (
+            "interface i { message m(char x[n]",
+            (more, ""),
+            31,
+            "); }",
+            None,
+        ),
+        (
+            "interface i { message m(char x[n]",
+            (more, ""),
+            32,
+            "); }",
+            Some((19, Some(351))),
+        ),
+        // an rpc's are counted together
+        (
+            "interface i { rpc f(out char x",
+            (", in uint8 ", ""),
+            31,
+            "); }",
+            None,
+        ),
+        (
+            "interface i { rpc f(out char x",
+            (", in uint8 ", ""),
+            32,
+            "); }",
+            Some((19, Some(444))),
+        ),
+    ];
+    for (begin, item, count, end, wanted) in cases {
+        let text = repeated(alloc, begin, item, count, end)?;
+        assert_eq!(rt; fault(alloc, &text), wanted);
+    }
+    Ok(())
+}
+
+/// Types in one another, from the inside out: `a` for a fixed array, else a struct. The second answer is
+/// where the last one's name stands.
+fn nested(alloc: Global, kinds: &str) -> Result<(Vec<u8>, usize), AllocError> {
+    let mut text = b"interface i { ".as_slice().to_vec(alloc)?;
+    let mut inner: &[u8] = b"bool".as_slice();
+    let mut at = 0;
+    let names = b"abcdefghijklmnopqrstuvwxyz".chunks(1);
+    for (kind, name) in kinds.as_bytes().iter().zip(names) {
+        text.extend_from_slice(b"typedef ".as_slice())?;
+        if *kind == b'a' {
+            text.extend_from_slice(inner)?;
+            text.push(b' ')?;
+            at = text.len();
+            text.extend_from_slice(name)?;
+            text.extend_from_slice(b"[1];".as_slice())?;
+        } else {
+            text.extend_from_slice(b"struct { ".as_slice())?;
+            text.extend_from_slice(inner)?;
+            text.extend_from_slice(b" x; } ".as_slice())?;
+            at = text.len();
+            text.extend_from_slice(name)?;
+            text.push(b';')?;
+        }
+        inner = name;
+    }
+    text.push(b'}')?;
+    Ok((text, at))
+}
+
+#[test]
+fn depth(rt: HostRuntime) -> Result<(), Fail> {
+    let alloc = rt.alloc();
+    // seven fixed arrays on a path and no more, and sixteen of both kinds
+    let cases = [
+        ("aaaaaaa", true),
+        ("aaaaaaaa", false),
+        ("asasasasasasas", true),
+        ("asasasasasasasa", false),
+        ("ssssssssssssssss", true),
+        ("sssssssssssssssss", false),
+        ("asasasasasasasss", true),
+        ("asasasasasasassss", false),
+    ];
+    for (kinds, fits) in cases {
+        let (text, at) = nested(alloc, kinds)?;
+        let wanted = if fits { None } else { Some((17, Some(at))) };
+        assert_eq!(rt; fault(alloc, &text), wanted);
+    }
+    Ok(())
+}
+
+const EXPLAINED: [(&str, &str); 4] = [
+    (
+        "interface i { message m(cap c); }",
+        "line 1, column 25: messages carry no capabilities",
+    ),
+    (
+        "interface i {\n\tmessage m(uint8 x,\n\t\tuint8 x);\n}\n",
+        "line 3, column 9: this name stands twice in one list",
+    ),
+    (
+        "interface i {\n",
+        "line 2, column 1: this isn't expected here",
+    ),
+    (
+        "interface i { }\r\n/*",
+        "line 2, column 1: this comment isn't closed",
+    ),
+];
+
+#[test]
+fn explained(rt: HostRuntime) -> Result<(), Fail> {
+    let alloc = rt.alloc();
+    for (text, wanted) in EXPLAINED {
+        let words = match read(alloc, text.as_bytes()) {
+            Ok(_) => format!(in alloc; "accepted")?,
+            Err(fault) => format!(in alloc; "{}", fault.explain(text.as_bytes()))?,
+        };
+        assert_eq!(rt; words.as_str(), wanted);
+    }
     Ok(())
 }

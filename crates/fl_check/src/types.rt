@@ -1,12 +1,12 @@
 //! The rules on types and their names, each at its place.
 
-ghost use Rattle.std.specs.Prelude.{◌≡◌, ◌≤◌, ◌∷◌, [], ◌++◌, OnOk, OnErr, IfOk, IfErr, IfSome, option_map, None, if◌then◌else◌};
+ghost use Rattle.std.specs.Prelude.{◌≡◌, ◌≤◌, ◌∷◌, [], ◌++◌, OnOk, OnErr, IfOk, IfErr, IfSome, option_map, None, false, if◌then◌else◌};
 ghost use Rattle.fl_check.specs.Interface.{type_of, fixed, text};
-ghost use Rattle.fl_check.specs.Known.{is_among, is_string, Named, Before, declared_as, type_named, stands_for};
+ghost use Rattle.fl_check.specs.Known.{is_among, is_string, type_named, stands_for};
 ghost use Rattle.fl_check.specs.Places.{fixed_type_place, plain_type_place, string_place, new_type_place, whole_type_place, count_places, bound_places, type_names};
 ghost use Rattle.fl_check.specs.Checks.{first_fault};
 ghost use Rattle.fl_check.specs.Faults.{Tells};
-ghost use Rattle.fl_check.specs.Views.{before_of, named_of, checked_of, IsBounded};
+ghost use Rattle.fl_check.specs.Views.{before_of, checked_of, IsBounded};
 ghost use Rattle.fl_parse.specs.Tree.{name_of, number_of};
 
 use crate::declared::{Declared, KnownType};
@@ -27,29 +27,6 @@ pub fn broken(rule: Rule, at: usize) -> CheckFault
 }
 
 impl<'a> Declared<'a> {
-    /// The declared type of a name.
-    pub fn find(&self, name: &[u8]) -> Option<&KnownType<'a>>
-        ensures exact { option_map (λ k. type_of k.now.measured.fixed) result ≡ declared_as (before_of self.now).types name.now }
-    {
-        for known in &self.types {
-            if known.name == name {
-                return Some(known);
-            }
-        }
-        None
-    }
-
-    pub fn has_type(&self, name: &[u8]) -> bool
-        ensures exact { result ≡ is_among (type_names (before_of self.now)) name.now }
-    {
-        for known in &self.types {
-            if known.name == name {
-                return true;
-            }
-        }
-        false
-    }
-
     /// The fixed type of a name, built in or declared before.
     pub fn resolve(&self, alloc: Global, name: &[u8]) -> Result<Option<Measured>, AllocError>
         ensures exact { IfOk result (λ found. option_map (λ m. type_of m.fixed) found ≡ type_named (before_of self.now) name.now) }
@@ -112,6 +89,7 @@ impl<'a> Declared<'a> {
     /// The name of a new type, which is empty where it is of an enum or struct with nothing in it.
     #[tactic(auto, unfolding(crate::specs::Checks::first_fault, crate::specs::Places::new_type_place))]
     pub fn new_type(&self, name: &Name, empty: bool) -> Result<(), CheckFault>
+        ensures absent { OnOk result (is_among (type_names (before_of self.now)) name.now.text.now ≡ false) }
         ensures sound { OnOk result (first_fault (new_type_place (before_of self.now) (name_of name.now) empty ∷ []) ≡ None) }
         ensures fault { IfErr result (λ e. Tells e (first_fault (new_type_place (before_of self.now) (name_of name.now) empty ∷ []))) }
     {
@@ -121,15 +99,16 @@ impl<'a> Declared<'a> {
         if empty {
             return Err(broken(Rule::NothingInIt, name.at));
         }
-        if self.types.len() >= 256 {
+        if self.count_types() >= 256 {
             return Err(broken(Rule::TooMany, name.at));
         }
         Ok(())
     }
 
-    /// Declares a type, if it isn't too big.
+    /// Declares a type of a name that isn't taken, if it isn't too big.
     #[tactic(auto, unfolding(crate::specs::Checks::first_fault, crate::specs::Places::whole_type_place))]
     pub fn add_type(&mut self, name: &Name<'a>, measured: Measured) -> Result<(), CheckFault>
+        requires new { is_among (type_names (before_of self.old)) name.now.text.now ≡ false }
         ensures sound { OnOk result (first_fault (whole_type_place (name_of name.now) (type_of measured.fixed) ∷ []) ≡ None) }
         ensures types { OnOk result ((before_of self.new).types ≡ (before_of self.old).types ++ record { name = name.now.text.now; type = type_of measured.fixed } ∷ []) }
         ensures messages { OnOk result ((before_of self.new).messages ≡ (before_of self.old).messages) }
@@ -138,10 +117,7 @@ impl<'a> Declared<'a> {
         if measured.is_too_big() {
             return Err(broken(Rule::TooBig, name.at));
         }
-        self.types.push(KnownType {
-            name: name.text,
-            measured,
-        })?;
+        self.push_type(name.text, KnownType { measured })?;
         Ok(())
     }
 }

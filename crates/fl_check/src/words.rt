@@ -10,56 +10,29 @@ use indexmap::IndexSet;
 use std::alloc::{AllocError, Global};
 
 /// The scalar type of a name.
-#[tactic(auto, unfolding(crate::specs::Known::scalar_named))]
+#[tactic(auto, unfolding(crate::specs::Known::scalar_named), using(std::proofs::lemmas::Slice::Eq::text_from_reads))]
 pub fn scalar_named(name: &[u8]) -> Option<Scalar>
     ensures exact { result ≡ scalar_named name.now }
 {
-    if name == b"uint8".as_slice() {
-        return Some(Scalar::Uint8);
-    }
-    if name == b"int8".as_slice() {
-        return Some(Scalar::Int8);
-    }
-    if name == b"bool".as_slice() {
-        return Some(Scalar::Bool);
-    }
-    if name == b"char".as_slice() {
-        return Some(Scalar::Char);
-    }
-    if name == b"uint16".as_slice() {
-        return Some(Scalar::Uint16);
-    }
-    if name == b"int16".as_slice() {
-        return Some(Scalar::Int16);
-    }
-    if name == b"uint32".as_slice() {
-        return Some(Scalar::Uint32);
-    }
-    if name == b"int32".as_slice() {
-        return Some(Scalar::Int32);
-    }
-    if name == b"iref".as_slice() {
-        return Some(Scalar::Iref);
-    }
-    if name == b"uint64".as_slice() {
-        return Some(Scalar::Uint64);
-    }
-    if name == b"int64".as_slice() {
-        return Some(Scalar::Int64);
-    }
-    if name == b"uintptr".as_slice() {
-        return Some(Scalar::Uintptr);
-    }
-    if name == b"intptr".as_slice() {
-        return Some(Scalar::Intptr);
-    }
-    if name == b"size".as_slice() {
-        return Some(Scalar::Size);
-    }
-    if name == b"errval".as_slice() {
-        return Some(Scalar::Errval);
-    }
-    None
+    let kind = match name {
+        b"uint8" => Scalar::Uint8,
+        b"int8" => Scalar::Int8,
+        b"bool" => Scalar::Bool,
+        b"char" => Scalar::Char,
+        b"uint16" => Scalar::Uint16,
+        b"int16" => Scalar::Int16,
+        b"uint32" => Scalar::Uint32,
+        b"int32" => Scalar::Int32,
+        b"iref" => Scalar::Iref,
+        b"uint64" => Scalar::Uint64,
+        b"int64" => Scalar::Int64,
+        b"uintptr" => Scalar::Uintptr,
+        b"intptr" => Scalar::Intptr,
+        b"size" => Scalar::Size,
+        b"errval" => Scalar::Errval,
+        _ => return None,
+    };
+    Some(kind)
 }
 
 #[tactic(auto, unfolding(crate::specs::Known::is_string))]
@@ -131,11 +104,11 @@ pub fn word_of(alloc: Global, text: &[u8]) -> Result<Word, AllocError>
     })
 }
 
-/// A word that begins with a name and ends in an ending.
-pub fn word_with(alloc: Global, text: &[u8], ending: &[u8]) -> Result<Word, AllocError>
-    ensures joined { IfOk result (λ w. w.bytes.items ≡ text.now ++ ending.now) }
+/// The bytes of a name and an ending behind it.
+pub fn joined(alloc: Global, text: &[u8], ending: &[u8]) -> Result<Vec<u8>, AllocError>
+    ensures joined { IfOk result (λ bytes. bytes.items ≡ text.now ++ ending.now) }
 {
     let mut bytes = text.to_vec(alloc)?;
     bytes.extend_from_slice(ending)?;
-    Ok(Word { bytes })
+    Ok(bytes)
 }

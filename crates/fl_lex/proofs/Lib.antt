@@ -1,7 +1,9 @@
 pub mod Cuts
 pub mod Items
 pub mod Lexing
+pub mod Numbers
 pub mod Outcomes
 pub mod Runs
+pub mod Shortest
 pub mod Signs
 pub mod Turns

@@ -2,7 +2,7 @@
 
 ghost use Rattle.std.specs.Prelude.{◌≡◌, ◌≤◌, ◌++◌, IfSome, IfOk, IfErr, OnOk, length, map, Some};
 ghost use Rattle.fl_lex.specs.Outcome.{Lexes, outcome_of, AreTokensIn, OneOutcome};
-ghost use Rattle.fl_lex.specs.Joined.{JoinedLexes};
+ghost use Rattle.fl_lex.specs.Joined.{JoinedLexes, JoinedIsShortest, NumberIsShortest};
 ghost use Rattle.fl_lex.specs.Spelling.{token_in};
 ghost use Rattle.fl_lex.specs.Front.{item_of};
 ghost use Rattle.fl_lex.specs.declared.fault.LexFault.TheVariants.{Memory};
@@ -70,8 +70,11 @@ pub fn one_outcome()
     ensures one { OneOutcome }
 {}
 
-/// Tokens written one behind another, with one blank between two words or numbers and no other, are
-/// lexed as the same tokens, where the text isn't too long.
+/// Tokens written one behind another, with one blank where two would run into one and no other, are
+/// lexed as the same tokens, where the text isn't too long. No text of these tokens is shorter, and no
+/// digits of a number are fewer than those without zeros before them.
 pub fn joined_tokens()
     ensures lexed { JoinedLexes }
+    ensures shortest { JoinedIsShortest }
+    ensures number { NumberIsShortest }
 {}

@@ -13,7 +13,7 @@ fn fault_of(rt: &HostRuntime, text: &[u8]) -> (u8, Option<usize>) {
 
 #[test]
 fn faults(rt: HostRuntime) {
-    let rows: [(&[u8], u8, usize); 19] = [
+    let rows: [(&[u8], u8, usize); 30] = [
         (b"interface i { /* }", 2, 14),
         (b"interface i { message m(nope x); - }", 1, 33),
         (b"a - b", 1, 2),
@@ -24,8 +24,17 @@ fn faults(rt: HostRuntime) {
         (b"/*/", 2, 0),
         (b"/* // \n", 2, 0),
         (b"// /* \n /*", 2, 8),
+        (b"/**", 2, 0),
+        (b"/*/ */ /*", 2, 7),
+        (b"/* * /", 2, 0),
+        (b"a//b\x80\n\x80", 1, 6),
+        (b"a.b", 1, 1),
+        (b"a\\", 1, 1),
         (b"x \"abc", 3, 2),
         (b"\"a\nb\"", 3, 0),
+        (b"\"a\"\"", 3, 3),
+        (b"\"a\\\" b\"", 3, 6),
+        (b"4x 1000001y", 5, 3),
         (b"x 1000001", 5, 2),
         (b"00001000001", 5, 0),
         (b"99999999999999999999999999", 5, 0),
@@ -34,6 +43,8 @@ fn faults(rt: HostRuntime) {
         (b"\"open\n 1000001", 3, 0),
         (b"- /*", 1, 0),
         (b"/* \" - ", 2, 0),
+        (b"\"/*\" /*", 2, 5),
+        (b"1000000 1000001 1000002", 5, 8),
     ];
     for (text, number, at) in rows {
         assert_eq!(rt;

@@ -76,6 +76,10 @@ abbrev pub front_of : List Frag → Look
 front_of [] = missed
 front_of (frag ∷ rest) = look_at frag
 
+-- this fragment stands first
+abbrev pub BeginsWith : List Frag → Frag → Type 0
+BeginsWith items frag = (rest : List Frag) × (items ≡ frag ∷ rest)
+
 -- how many slots a queue may have: any number where a take frees, else a power of two
 abbrev pub MayHave : Bool → ℕ → Type 0
 MayHave false n = (0 < n) × (n ≤ 1024)

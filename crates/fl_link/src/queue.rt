@@ -5,7 +5,7 @@ ghost use Rattle.fl_base.specs.declared.fragment.Frag.{Frag};
 ghost use Rattle.fl_base.specs.Control.{is_ack_only};
 ghost use Rattle.fl_link.specs.Stamp.{bare};
 ghost use Rattle.fl_link.specs.Looks.{placed, no_room, spent, saw, saw_ack, found, found_ack, peeked, taken, tells};
-ghost use Rattle.fl_link.specs.Queue.{TheQueue, QueuePuts, QueueTakes, next_epoch_of, used, front_of, has_room, MayHave};
+ghost use Rattle.fl_link.specs.Queue.{TheQueue, QueuePuts, QueueTakes, next_epoch_of, used, front_of, BeginsWith, has_room, MayHave};
 
 use crate::cursor::Cursor;
 use crate::fault::{LinkFault, PutFault};
@@ -126,6 +126,7 @@ impl QueueLink {
     pub fn peek(&self) -> Sight
         ensures look { QueueTakes self.now (peeked result) self.now }
         ensures front { peeked result ≡ front_of self.now.items }
+        ensures whole { (frag : Frag) → result ≡ Sight.Data frag → BeginsWith self.now.items frag }
         ensures of_call { (frag : Frag) → result ≡ Sight.Data frag → is_ack_only frag ≡ false }
     {
         match self.items.front() {
@@ -139,6 +140,7 @@ impl QueueLink {
     pub fn take(&mut self) -> Sight
         ensures look { QueueTakes self.old (taken result) self.new }
         ensures data { (frag : Frag) → front_of self.old.items ≡ saw frag → taken result ≡ found frag }
+        ensures whole { (frag : Frag) → result ≡ Sight.Data frag → BeginsWith self.old.items frag }
         ensures acknowledgement { front_of self.old.items ≡ saw_ack → taken result ≡ found_ack }
     {
         let Some(frag) = self.items.pop_front() else {

@@ -5,6 +5,7 @@ ghost use Rattle.fl_base.specs.Control.{is_ack_only};
 
 use crate::{Link, LinkFault, Passed, PutFault, PutSide, QueueLink, Sight, TakeSide, Told, pass};
 use fl_base::Frag;
+use std::process::Abort;
 use std::test::Fail;
 
 // The only fragment of `ping(v)`, message 0 of its interface.
@@ -64,6 +65,22 @@ fn sizes(rt: HostRuntime) {
     }
 }
 
+fn has_room_or_no_memory(rt: &impl Abort, made: Result<QueueLink, LinkFault>) {
+    match made {
+        Ok(queue) => assert!(rt; queue.room()),
+        Err(fault) => assert_eq!(rt; fault, LinkFault::Memory),
+    }
+}
+
+// The one allocation of each maker is made, or refused with the fault that says so.
+#[test]
+fn memory(rt: HostRuntime) {
+    for size in [2, 1_024] {
+        has_room_or_no_memory(&rt, QueueLink::local(rt.alloc(), size));
+        has_room_or_no_memory(&rt, QueueLink::acked(rt.alloc(), size));
+    }
+}
+
 #[test]
 fn numbers(rt: HostRuntime) {
     assert_eq!(rt; PutFault::Full.number(), 30);
@@ -100,6 +117,23 @@ fn acked_frees_by_tell(rt: HostRuntime) -> Result<(), Fail> {
     assert_eq!(rt; queue.put(&ping(9)), Ok(()));
     assert_eq!(rt; queue.take(), arrived(2, 3));
     assert_eq!(rt; queue.take(), arrived(9, 2));
+    Ok(())
+}
+
+// Bit 2 alone makes no acknowledgement: the rest has to be 0 too.
+#[test]
+fn acknowledges_by_its_whole_form(rt: HostRuntime) -> Result<(), Fail> {
+    let mut queue = QueueLink::local(rt.alloc(), 1)?;
+    for (word, control, data) in [(0, 4, false), (1, 4, true), (0, 6, true), (0, 12, true)] {
+        let frag = Frag {
+            words: [0, 0, 0, 0, 0, 0, word],
+            control,
+        };
+        assert_eq!(rt; queue.put(&frag), Ok(()));
+        let seen = queue.peek();
+        assert_eq!(rt; seen != Sight::Acknowledgement, data, "control {control}");
+        assert_eq!(rt; queue.take(), seen);
+    }
     Ok(())
 }
 

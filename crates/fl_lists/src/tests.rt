@@ -28,6 +28,17 @@ fn pushes_moves_and_takes_out(rt: HostRuntime) -> Result<(), Fail> {
     Ok(())
 }
 
+// The one allocation is made, or refused with the error that says so.
+#[test]
+fn memory(rt: HostRuntime) {
+    for size in [1, 1_024] {
+        if let Ok(lists) = Lists::new(rt.alloc(), size) {
+            assert_eq!(rt; lists.size(), size);
+            assert_eq!(rt; lists.place_of(size - 1), None);
+        }
+    }
+}
+
 #[test]
 fn no_nodes(rt: HostRuntime) -> Result<(), Fail> {
     let mut lists = Lists::new(rt.alloc(), 0)?;

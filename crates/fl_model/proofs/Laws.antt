@@ -14,7 +14,6 @@ use Rattle.fl_check.specs.Interface.{TheInterface}
 use Rattle.fl_value.specs.Value.{TheCall}
 use Rattle.fl_value.specs.Fits.{fits_of}
 use Rattle.fl_value.specs.declared.value.PlanNo.{PlanNo}
-use Rattle.fl_wire.specs.Leaves.{scalars_only_of}
 use Rattle.fl_wire.proofs.Readings.{count_positive, length_frags}
 use Rattle.fl_model.specs.Machine.{Entry, Label, next_of, Direction, Binding, Dispatcher, Service, State, start, outgoing, incoming, with_outgoing, dispatcher_of, count, total, whole_in, handled, is_busy, has_room, stream}
 use Rattle.fl_model.specs.Step.{TheEvent, add_interface, add_dispatcher, export, bind_local, call, show, write, turn, done, accepted, nothing, full, refused, Outcome, says, step, accepts, writes, takes, same_side, same_end, trigger, trigger_at, gain, gain_at, fresh_direction, fresh_binding, bound, bind_to, service_at, ends_after, call_by, call_at, show_by, show_at, show_frag, write_by, write_at, progress, taken_answer, take_by, turn_by, turn_on, turn_first, turn_at, with_binding}
@@ -30,20 +29,20 @@ abbrev pub added : Option TheCall → List TheCall
 added None = []
 added (Some c) = c ∷ []
 
-either : {A : Type 0} (P : A → Type 0) (b : Bool) (x y : A) → (b ≡ true → P x) → (b ≡ false → P y) → P (if b then x else y)
+pub either : {A : Type 0} (P : A → Type 0) (b : Bool) (x y : A) → (b ≡ true → P x) → (b ≡ false → P y) → P (if b then x else y)
 either P true x y f g = f refl
 either P false x y f g = g refl
 
-picks_first : {A : Type 0} (b : Bool) (x y : A) → b ≡ true → (if b then x else y) ≡ x
+pub picks_first : {A : Type 0} (b : Bool) (x y : A) → b ≡ true → (if b then x else y) ≡ x
 picks_first b x y h = ap (λ (t : Bool). if t then x else y) h
 
-picks_second : {A : Type 0} (b : Bool) (x y : A) → b ≡ false → (if b then x else y) ≡ y
+pub picks_second : {A : Type 0} (b : Bool) (x y : A) → b ≡ false → (if b then x else y) ≡ y
 picks_second b x y h = ap (λ (t : Bool). if t then x else y) h
 
-at_most : (a b : ℕ) → nat_le a b ≡ true → a ≤ b
+pub at_most : (a b : ℕ) → nat_le a b ≡ true → a ≤ b
 at_most a b h = grind (arith, nat_tests, h)
 
-below : (a b : ℕ) → nat_le a b ≡ false → b < a
+pub below : (a b : ℕ) → nat_le a b ≡ false → b < a
 below a b h = grind (arith, nat_tests, h)
 
 is_most : (a b : ℕ) → a ≤ b → nat_le a b ≡ true
@@ -55,10 +54,10 @@ is_below a b h = grind (arith, nat_tests, h)
 at_least : (a b : ℕ) → nat_lt a b ≡ false → b ≤ a
 at_least a b h = grind (arith, nat_tests, h)
 
-less : (a b : ℕ) → nat_lt a b ≡ true → a < b
+pub less : (a b : ℕ) → nat_lt a b ≡ true → a < b
 less a b h = grind (arith, nat_tests, h)
 
-not_false : (b : Bool) → not b ≡ false → b ≡ true
+pub not_false : (b : Bool) → not b ≡ false → b ≡ true
 not_false true h = refl
 not_false false h = sym h
 
@@ -121,12 +120,12 @@ whole_grows e (c ∷ cs) n =
 
 -- Lists.
 
-set_here : {X : Type 0} (xs : List X) (i : ℕ) (x y : X) → slice_get xs i ≡ Some x → slice_get (slice_set xs i y) i ≡ Some y
+pub set_here : {X : Type 0} (xs : List X) (i : ℕ) (x y : X) → slice_get xs i ≡ Some x → slice_get (slice_set xs i y) i ≡ Some y
 set_here [] i x y e = absurd (cc)
 set_here (z ∷ xs) zero x y e = refl
 set_here (z ∷ xs) (suc i) x y e = set_here xs i x y e
 
-set_other : {X : Type 0} (xs : List X) (i j : ℕ) (y : X) → (j ≡ i → ⊥) → slice_get (slice_set xs i y) j ≡ slice_get xs j
+pub set_other : {X : Type 0} (xs : List X) (i j : ℕ) (y : X) → (j ≡ i → ⊥) → slice_get (slice_set xs i y) j ≡ slice_get xs j
 set_other [] i j y h = refl
 set_other (z ∷ xs) zero zero y h = absurd (h refl)
 set_other (z ∷ xs) zero (suc j) y h = refl
@@ -268,12 +267,9 @@ interface_added s i p e acc hnd h =
     let more : State = record s { interfaces = s.interfaces ++ x ∷ [] } in
     let grown : Outcome = record { state = more; answer = done } in
     let P : Outcome → Type 0 = Keeps e acc hnd (add_interface i p) in
-    let rest : Outcome = if not (scalars_only_of i) then says s (refused 93) else grown in
-    either P (nat_le 64 (length s.interfaces)) (says s (refused 94)) rest
+    either P (nat_le 64 (length s.interfaces)) (says s (refused 94)) grown
     (λ q. idle s e acc hnd h)
-    (λ q. either P (not (scalars_only_of i)) (says s (refused 93)) grown
-    (λ r. idle s e acc hnd h)
-    (λ r. idle more e acc hnd (interface_push s.interfaces x (slice_get s.bindings e.binding) e.side acc hnd h)))
+    (λ q. idle more e acc hnd (interface_push s.interfaces x (slice_get s.bindings e.binding) e.side acc hnd h))
 
 dispatcher_added : (s : State) (core : ℕ) (e : EndId) (acc hnd : List TheCall)
     → Holds s e acc hnd → Keeps e acc hnd (add_dispatcher core) (step s (add_dispatcher core))
@@ -295,9 +291,16 @@ exported s d i e acc hnd h =
     let x : Service = record { dispatcher = d; interface = i } in
     let more : State = record s { services = s.services ++ x ∷ [] } in
     let grown : Outcome = record { state = more; answer = done } in
-    either (Keeps e acc hnd (export d i)) (nat_le 256 (length s.services)) (says s (refused 94)) grown
+    let P : Outcome → Type 0 = Keeps e acc hnd (export d i) in
+    let third : Outcome = if nat_le 256 (length s.services) then says s (refused 94) else grown in
+    let second : Outcome = if nat_le (length s.interfaces) i then says s (refused 92) else third in
+    either P (nat_le (length s.dispatchers) d) (says s (refused 92)) second
     (λ q. idle s e acc hnd h)
-    (λ q. idle more e acc hnd h)
+    (λ q. either P (nat_le (length s.interfaces) i) (says s (refused 92)) third
+    (λ r. idle s e acc hnd h)
+    (λ r. either P (nat_le 256 (length s.services)) (says s (refused 94)) grown
+    (λ t. idle s e acc hnd h)
+    (λ t. idle more e acc hnd h)))
 
 bound_holds : (s : State) (i client server slots : ℕ) (e : EndId) (acc hnd : List TheCall) → i < length s.interfaces
     → Holds s e acc hnd → Holds (bound s i client server slots) e acc hnd
@@ -333,13 +336,16 @@ bind_keeps : (s : State) (client i : ℕ) (named : Option ℕ) (slots : ℕ) (e 
     → Holds s e acc hnd → Keeps e acc hnd (bind_local client i named slots) (step s (bind_local client i named slots))
 bind_keeps s client i named slots e acc hnd h =
     let P : Outcome → Type 0 = Keeps e acc hnd (bind_local client i named slots) in
-    let second : Outcome = bind_to s client i slots (service_at s named) in
-    let first : Outcome = if nat_le 1024 (length s.bindings) then says s (refused 94) else second in
-    either P (nat_le (length s.interfaces) i) (says s (refused 92)) first
+    let third : Outcome = bind_to s client i slots (service_at s named) in
+    let second : Outcome = if nat_le 1024 (length s.bindings) then says s (refused 94) else third in
+    let first : Outcome = if nat_le (length s.interfaces) i then says s (refused 92) else second in
+    either P (nat_le (length s.dispatchers) client) (says s (refused 92)) first
+    (λ p. idle s e acc hnd h)
+    (λ p. either P (nat_le (length s.interfaces) i) (says s (refused 92)) second
     (λ q. idle s e acc hnd h)
-    (λ q. either P (nat_le 1024 (length s.bindings)) (says s (refused 94)) second
+    (λ q. either P (nat_le 1024 (length s.bindings)) (says s (refused 94)) third
     (λ r. idle s e acc hnd h)
-    (λ r. bind_to_keeps s client i named slots (service_at s named) e acc hnd (below (length s.interfaces) i q) h))
+    (λ r. bind_to_keeps s client i named slots (service_at s named) e acc hnd (below (length s.interfaces) i q) h)))
 
 -- A call.
 
@@ -367,7 +373,10 @@ call_by_keeps s f c b (Some entry) e acc hnd r q h =
     let grown : Outcome = record { state = now; answer = accepted } in
     let rest : Outcome = if is_busy entry d then says s (refused 40) else grown in
     let mine : List TheCall = if same_end (peer e) f then c ∷ [] else [] in
-    either P (not (fits_of entry.interface c)) (says s (refused 42)) rest
+    let known : Outcome = if not (fits_of entry.interface c) then says s (refused 42) else rest in
+    either P (nat_le (length entry.interface.messages) c.msg) (says s (refused 41)) known
+    (λ n. idle s e acc hnd h)
+    (λ n. either P (not (fits_of entry.interface c)) (says s (refused 42)) rest
     (λ p. idle s e acc hnd h)
     (λ p. either P (is_busy entry d) (says s (refused 40)) grown
     (λ t. idle s e acc hnd h)
@@ -375,7 +384,7 @@ call_by_keeps s f c b (Some entry) e acc hnd r q h =
     (λ y st. subst (λ ds. Stand entry (accepts d c) (acc ++ ds) (hnd ++ [])) (sym (picks_first (same_end (peer e) f) (c ∷ []) [] y))
     (subst (λ ds. Stand entry (accepts d c) (acc ++ c ∷ []) ds) (sym (append-nil hnd)) (stand_call entry d c acc hnd st)))
     (λ y. (ap (λ ds. acc ++ ds) (picks_second (same_end (peer e) f) (c ∷ []) [] y) ∙ append-nil acc, append-nil hnd))
-    h))
+    h)))
 
 call_at_keeps : (s : State) (f : EndId) (c : TheCall) (o : Option Binding) (e : EndId) (acc hnd : List TheCall)
     → slice_get s.bindings f.binding ≡ o → Holds s e acc hnd → Keeps e acc hnd (call f c) (call_at s f c o)
@@ -461,7 +470,7 @@ accepted_turn : (e f : EndId) (n : ℕ) (o : Option TheCall) → accepted_in e (
 accepted_turn e f n o = refl
 
 -- the peer's writer is the end that takes
-same_taker : (m k : ℕ) (side taker : Side) → same_direction m side k (other taker) ≡ ((m == k) && same_side side taker)
+pub same_taker : (m k : ℕ) (side taker : Side) → same_direction m side k (other taker) ≡ ((m == k) && same_side side taker)
 same_taker m k Client Client = refl
 same_taker m k Client Server = refl
 same_taker m k Server Client = refl
@@ -511,7 +520,7 @@ turn_at_keeps s n (Some w) e acc hnd h = turn_first_keeps s n w w.pending e acc 
 
 -- Every event, and every run.
 
-step_keeps : (s : State) (v : TheEvent) (e : EndId) (acc hnd : List TheCall) → Holds s e acc hnd → Keeps e acc hnd v (step s v)
+pub step_keeps : (s : State) (v : TheEvent) (e : EndId) (acc hnd : List TheCall) → Holds s e acc hnd → Keeps e acc hnd v (step s v)
 step_keeps s (add_interface i p) e acc hnd h = interface_added s i p e acc hnd h
 step_keeps s (add_dispatcher core) e acc hnd h = dispatcher_added s core e acc hnd h
 step_keeps s (export d i) e acc hnd h = exported s d i e acc hnd h

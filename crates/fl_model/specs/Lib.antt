@@ -1,3 +1,4 @@
 pub mod Machine
 pub mod Step
 pub mod Runs
+pub mod Waitsets

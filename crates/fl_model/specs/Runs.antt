@@ -1,10 +1,10 @@
 -- A run of the queue machine: what was asked and what was answered, event after event, and of these
 -- the calls that an end got accepted and those that it handled.
-use Rattle.std.specs.Prelude.{if◌then◌else◌, List, [], ◌∷◌, ◌++◌}
+use Rattle.std.specs.Prelude.{◌≡◌, ◌≤◌, ◌&&◌, nat_le, Bool, false, if◌then◌else◌, List, [], ◌∷◌, ◌++◌, slice_get, Some}
 use Rattle.fl_base.specs.declared.identity.EndId.{EndId}
 use Rattle.fl_value.specs.Value.{TheCall}
-use Rattle.fl_model.specs.Machine.{State}
-use Rattle.fl_model.specs.Step.{TheEvent, call, TheAnswer, accepted, handle, step, same_end}
+use Rattle.fl_model.specs.Machine.{State, Entry, Direction, Binding, total, outgoing}
+use Rattle.fl_model.specs.Step.{TheEvent, call, TheAnswer, accepted, handle, refused, step, same_end}
 
 -- an event, and the answer that it got
 pub record Exchange : Type 0 where
@@ -41,3 +41,22 @@ calls_accepted e (x ∷ xs) = accepted_by e x ++ calls_accepted e xs
 abbrev pub calls_handled : EndId → List Exchange → List TheCall
 calls_handled e [] = []
 calls_handled e (x ∷ xs) = handled_by e x ++ calls_handled e xs
+
+-- the state after events
+abbrev pub reached : State → List TheEvent → State
+reached s [] = s
+reached s (v ∷ vs) = reached (step s v).state vs
+
+-- no more fragments are taken than were written, and none is written that no accepted call has
+pub record Counted (entry : Entry) (d : Direction) : Type 0 where
+  pub taken : d.taken ≤ d.written
+  pub written : d.written ≤ total entry d.accepted
+
+-- what an end of a binding sends is counted by the binding's interface, which is there
+abbrev pub IsCounted : State → EndId → Binding → Type 0
+IsCounted s e b = (entry : Entry) × (slice_get s.interfaces b.interface ≡ Some entry) × Counted entry (outgoing b e.side)
+
+-- the faults of received fragments: what follows the fragments before it in no call
+abbrev pub tells_wire_fault : TheAnswer → Bool
+tells_wire_fault (refused n) = nat_le 60 n && nat_le n 67
+tells_wire_fault answer = false

@@ -11,7 +11,6 @@ use Rattle.fl_check.specs.Interface.{TheInterface}
 use Rattle.fl_value.specs.Value.{TheCall}
 use Rattle.fl_value.specs.Fits.{fits_of}
 use Rattle.fl_value.specs.declared.value.PlanNo.{PlanNo}
-use Rattle.fl_wire.specs.Leaves.{scalars_only_of}
 use Rattle.fl_model.specs.Machine.{Entry, Label, next_of, Queue, Direction, Binding, Dispatcher, Service, State, outgoing, incoming, dispatcher_of, with_outgoing, with_incoming, total, stream, handled, is_busy, last_count, has_room}
 
 pub data TheEvent : Type 0 where
@@ -100,7 +99,6 @@ trigger s e (Some b) = trigger_at s e (dispatcher_of b e.side) (slice_get s.disp
 abbrev pub add_interface_to : State → TheInterface → PlanNo → Outcome
 add_interface_to s i p =
     if nat_le 64 (length s.interfaces) then says s (refused 94)
-    else if not (scalars_only_of i) then says s (refused 93)
     else record { state = record s { interfaces = s.interfaces ++ record { interface = i; plan = p } ∷ [] }; answer = done }
 
 -- there is one core, number 0
@@ -110,9 +108,12 @@ add_dispatcher_to s core =
     else if nat_lt 0 core then says s (refused 73)
     else record { state = record s { dispatchers = s.dispatchers ++ record { ends = 0; idle = []; pending = [] } ∷ [] }; answer = done }
 
+-- the dispatcher and the interface have to be there
 abbrev pub export_from : State → ℕ → ℕ → Outcome
 export_from s d i =
-    if nat_le 256 (length s.services) then says s (refused 94)
+    if nat_le (length s.dispatchers) d then says s (refused 92)
+    else if nat_le (length s.interfaces) i then says s (refused 92)
+    else if nat_le 256 (length s.services) then says s (refused 94)
     else record { state = record s { services = s.services ++ record { dispatcher = d; interface = i } ∷ [] }; answer = done }
 
 abbrev pub fresh_direction : ℕ → Direction
@@ -163,16 +164,19 @@ abbrev pub service_at : State → Option ℕ → Option Service
 service_at s None = None
 service_at s (Some n) = slice_get s.services n
 
+-- the client's dispatcher and the interface have to be there
 abbrev pub bind : State → ℕ → ℕ → Option ℕ → ℕ → Outcome
 bind s client i service slots =
-    if nat_le (length s.interfaces) i then says s (refused 92)
+    if nat_le (length s.dispatchers) client then says s (refused 92)
+    else if nat_le (length s.interfaces) i then says s (refused 92)
     else if nat_le 1024 (length s.bindings) then says s (refused 94)
     else bind_to s client i slots (service_at s service)
 
 abbrev pub call_by : State → EndId → TheCall → Binding → Option Entry → Outcome
 call_by s e c b None = says s (refused 92)
 call_by s e c b (Some entry) =
-    if not (fits_of entry.interface c) then says s (refused 42)
+    if nat_le (length entry.interface.messages) c.msg then says s (refused 41)
+    else if not (fits_of entry.interface c) then says s (refused 42)
     else if is_busy entry (outgoing b e.side) then says s (refused 40)
     else record { state = with_binding s e.binding (with_outgoing b e.side (accepts (outgoing b e.side) c)); answer = accepted }
 

@@ -7,3 +7,7 @@ pub mod Outcomes
 pub mod Texts
 pub mod Writes
 pub mod Prints
+pub mod Moves
+pub mod Shrinks
+pub mod Aside
+pub mod RoundTrip

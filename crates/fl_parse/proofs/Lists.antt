@@ -36,22 +36,23 @@ pub so_true : {A : Type 0} (b : Bool) (x y : A) → if_so b x ≡ Some y → b �
 so_true true x y e = refl
 so_true false x y e = cc
 
+-- a mark that passes the test of another is it
+pub same_true : (a b : Mark) → same_mark a b ≡ true → a ≡ b
+same_true OpenBrace OpenBrace h = refl
+same_true CloseBrace CloseBrace h = refl
+same_true OpenParen OpenParen h = refl
+same_true CloseParen CloseParen h = refl
+same_true OpenBracket OpenBracket h = refl
+same_true CloseBracket CloseBracket h = refl
+same_true Comma Comma h = refl
+same_true Semicolon Semicolon h = refl
+same_true a b h = cc
+
 pub kind_mark_true : (kind : TokenKind) (mark other : Mark) (answer : Bool) → same_mark mark other ≡ answer → kind_is_mark kind mark ≡ true → kind_is_mark kind other ≡ answer
 kind_mark_true kinds.Word mark other answer e h = cc
 kind_mark_true (kinds.Number value) mark other answer e h = cc
 kind_mark_true kinds.Description mark other answer e h = cc
 kind_mark_true (kinds.Mark found) mark other answer e h = ap (λ m. same_mark m other) (same_true found mark h) ∙ e
-  where
-    same_true : (a b : Mark) → same_mark a b ≡ true → a ≡ b
-    same_true OpenBrace OpenBrace h = refl
-    same_true CloseBrace CloseBrace h = refl
-    same_true OpenParen OpenParen h = refl
-    same_true CloseParen CloseParen h = refl
-    same_true OpenBracket OpenBracket h = refl
-    same_true CloseBracket CloseBracket h = refl
-    same_true Comma Comma h = refl
-    same_true Semicolon Semicolon h = refl
-    same_true a b h = cc
 
 -- a mark begins with itself, and with no other
 pub mark_starts : (mark other : Mark) (answer : Bool) → same_mark mark other ≡ answer

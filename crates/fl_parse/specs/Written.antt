@@ -1,12 +1,12 @@
 -- The tokens that a tree is printed as, and trees with the places of their words and numbers aside.
-use Rattle.std.specs.Prelude.{◌≡◌, ℕ, Bool, true, false, ◌&&◌, List, [], ◌∷◌, ◌++◌, Option, Some, None, option_map, map, codes, if◌then◌else◌}
+use Rattle.std.specs.Prelude.{◌≡◌, ℕ, List, [], ◌∷◌, ◌++◌, Option, Some, None, option_map, map, codes}
 use Rattle.std.specs.List.{flat_map}
 use Rattle.std.specs.Fmt.{decimal}
 use Rattle.fl_lex.specs.declared.token.Mark.{Mark}
 use Rattle.fl_lex.specs.declared.token.Mark.TheVariants.{OpenBrace, CloseBrace, OpenParen, CloseParen, OpenBracket, CloseBracket, Comma, Semicolon}
-use Rattle.fl_lex.specs.declared.token.TokenKind.{TokenKind}
 use Rattle.fl_lex.specs.declared.token.TokenKind.TheVariants as kinds
 use Rattle.fl_lex.specs.Token.{TheToken}
+use Rattle.fl_lex.specs.Joined.{sign_of, joined}
 use Rattle.fl_parse.specs.Tree.{TheName, TheNumber, TheField, TheShape, plain, bounded, sized, TheArgument, TheDirected, TheDeclaration, alias_of, typedef_of, enum_of, struct_of, message_of, rpc_of, TheTree}
 use Rattle.fl_parse.specs.Grammar.{Derives}
 use Rattle.fl_parse.specs.Printed.{kind_text, direction_text, printed}
@@ -125,27 +125,10 @@ tokens_of_tree tree =
     a_word (codes "interface") ∷ a_name tree.name
     ∷ (description_tokens tree.description ++ a_mark OpenBrace ∷ (flat_map declaration_tokens tree.declarations ++ a_mark CloseBrace ∷ []))
 
--- Tokens as text: their texts joined, with a blank where two would run into one.
-
--- a word or a number
-abbrev pub runs_on : TokenKind → Bool
-runs_on kinds.Word = true
-runs_on (kinds.Number value) = true
-runs_on _ = false
-
--- the text behind a token that runs on or doesn't
-abbrev pub text_behind : Bool → List TheToken → List ℕ
-text_behind before [] = []
-text_behind before (token ∷ rest) =
-    (if before && runs_on token.kind then codes " " else []) ++ token.text ++ text_behind (runs_on token.kind) rest
-
-abbrev pub text_of : List TheToken → List ℕ
-text_of = text_behind false
-
 -- What a tree of some tokens is printed as is the text of tokens that are written for it, places aside.
 abbrev pub PrintedDerives : Type 0
 PrintedDerives = (tokens : List TheToken) (tree : TheTree) → Derives tokens tree → Derives (tokens_of_tree tree) (spans_aside tree)
 
--- The printed text is that of these tokens.
+-- The printed text is that of these tokens, joined.
 abbrev pub PrintedIsText : Type 0
-PrintedIsText = (tree : TheTree) → printed tree ≡ text_of (tokens_of_tree tree)
+PrintedIsText = (tree : TheTree) → printed tree ≡ joined (map sign_of (tokens_of_tree tree))

@@ -11,7 +11,7 @@ mod tree;
 
 pub use fault::ParseFault;
 pub use parser::{one_outcome, parse};
-pub use printer::{print, printed_tokens};
+pub use printer::{print, printed_tokens, round_trip};
 pub use tree::{
     Argument, Declaration, DirectedArgument, Direction, Field, MessageKind, Name, Number, Shape,
     Tree,

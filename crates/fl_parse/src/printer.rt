@@ -3,6 +3,7 @@
 ghost use Rattle.std.specs.Prelude.{◌≡◌, ◌++◌, map, option_map, OnOk, IfOk};
 ghost use Rattle.std.specs.List.{flat_map};
 ghost use Rattle.fl_parse.specs.Tree.{name_of, number_of, field_of, shape_of, argument_of, directed_of, declaration_of, tree_of, alias_of, typedef_of, enum_of, struct_of, message_of, rpc_of};
+ghost use Rattle.fl_parse.specs.RoundTrip.{IsShortestText, RoundTrip};
 ghost use Rattle.fl_parse.specs.Written.{PrintedDerives, PrintedIsText};
 ghost use Rattle.fl_parse.specs.Printed.{name_text, number_text, count_text, field_text, bound_text, shape_text, argument_text, directed_text, direction_text, kind_text, declaration_text, with_commas, printed};
 
@@ -304,24 +305,35 @@ fn print_declarations(
     Ok(())
 }
 
-/// The text of a tree: its tokens without the optional ends, one blank between two words and no other.
-/// No text of the tree is shorter.
-///
-/// # Errors
-///
-/// Where memory runs out.
-pub fn print(alloc: Global, tree: &Tree) -> Result<Vec<u8>, AllocError>
-    ensures printed { IfOk result (λ text. text.items ≡ printed (tree_of tree.now)) }
+/// Appends a tree.
+fn print_tree(alloc: Global, out: &mut Vec<u8>, tree: &Tree) -> Result<(), AllocError>
+    ensures printed { OnOk result (out.new.items ≡ out.old.items ++ printed (tree_of tree.now)) }
 {
-    let mut out = Vec::new(alloc);
     out.extend_from_slice(b"interface ")?;
     out.extend_from_slice(tree.name.text)?;
     if let Some(description) = tree.description {
         out.extend_from_slice(description)?;
     }
     out.push(b'{')?;
-    print_declarations(alloc, &mut out, &tree.declarations)?;
+    print_declarations(alloc, out, &tree.declarations)?;
     out.push(b'}')?;
+    Ok(())
+}
+
+/// The text of a tree: its tokens without the optional ends, one blank between two words and no other.
+/// Where the tree comes from a text, as what [`crate::parse`] gives of lexed tokens does, this text is
+/// lexed and parsed to the same tree, the places of its words and numbers aside, and no text of the
+/// tree is shorter.
+///
+/// # Errors
+///
+/// Where memory runs out.
+pub fn print(alloc: Global, tree: &Tree) -> Result<Vec<u8>, AllocError>
+    ensures printed { IfOk result (λ text. text.items ≡ printed (tree_of tree.now)) }
+    ensures again { IfOk result (λ text. IsShortestText (tree_of tree.now) text.items) }
+{
+    let mut out = Vec::new(alloc);
+    print_tree(alloc, &mut out, tree)?;
     Ok(out)
 }
 
@@ -329,4 +341,10 @@ pub fn print(alloc: Global, tree: &Tree) -> Result<Vec<u8>, AllocError>
 pub fn printed_tokens()
     ensures derives { PrintedDerives }
     ensures text { PrintedIsText }
+{}
+
+/// What the tree of a text is printed as is lexed and parsed to the same tree, places aside, and is no
+/// longer than any text of that tree.
+pub fn round_trip()
+    ensures round_trip { RoundTrip }
 {}

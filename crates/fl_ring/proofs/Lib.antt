@@ -9,3 +9,13 @@ pub mod DuoWrites
 pub mod DuoGoes
 pub mod DuoViews
 pub mod Published
+pub mod SharedWays
+pub mod SharedTables
+pub mod SharedSteps
+pub mod SharedRuns
+pub mod SharedMakes
+pub mod SharedLooks
+pub mod SharedDuos
+pub mod SharedDuoSteps
+pub mod SharedDuoRuns
+pub mod SharedDuoMakes

@@ -5,3 +5,9 @@ pub mod Counts
 pub mod Duo
 pub mod Halves
 pub mod Side
+pub mod SharedWay
+pub mod SharedTable
+pub mod SharedRing
+pub mod SharedSeats
+pub mod SharedDuo
+pub mod SharedSides

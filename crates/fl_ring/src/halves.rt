@@ -6,6 +6,7 @@ ghost use Rattle.fl_base.specs.Control.{told_of, is_ack_only};
 ghost use Rattle.fl_link.specs.Stamp.{bare};
 ghost use Rattle.fl_link.specs.Cursor.{TheCursor};
 ghost use Rattle.fl_link.specs.Looks.{Look, placed, no_room, spent, peeked, taken, tells};
+ghost use Rattle.fl_link.specs.Queue.{BeginsWith};
 ghost use Rattle.fl_ring.specs.Counts.{count_from};
 ghost use Rattle.fl_ring.specs.Duo.{HalfPuts, HalfTakes, counts_by, free, looked, with_written, with_arrived, written};
 ghost use Rattle.fl_ring.specs.Halves.{InStep, half_of, Goes};
@@ -141,6 +142,8 @@ pub(crate) fn put_at(words: &mut Vec<u64>, mine: &mut Half, frag: &Frag) -> Resu
 pub(crate) fn peek_at(words: &[u64], mine: &mut Half) -> Sight
     requires { (n : ℕ) × (theirs : Half) × InStep n words.now mine.old theirs }
     ensures look { Goes HalfTakes words.now mine.old (peeked result) words.now mine.new }
+    ensures whole { (n : ℕ) (theirs : Half) → InStep n words.now mine.old theirs
+        → (frag : Frag) → result ≡ Sight.Data frag → BeginsWith (half_of n words.now mine.old theirs).waiting frag }
     ensures of_call { (frag : Frag) → result ≡ Sight.Data frag → is_ack_only frag ≡ false }
 {
     match look_back(words, mine) {
@@ -154,6 +157,8 @@ pub(crate) fn peek_at(words: &[u64], mine: &mut Half) -> Sight
 pub(crate) fn take_at(words: &[u64], mine: &mut Half) -> Sight
     requires { (n : ℕ) × (theirs : Half) × InStep n words.now mine.old theirs }
     ensures look { Goes HalfTakes words.now mine.old (taken result) words.now mine.new }
+    ensures whole { (n : ℕ) (theirs : Half) → InStep n words.now mine.old theirs
+        → (frag : Frag) → result ≡ Sight.Data frag → BeginsWith (half_of n words.now mine.old theirs).waiting frag }
 {
     let Some(frag) = look_back(words, mine) else {
         return Sight::Empty;

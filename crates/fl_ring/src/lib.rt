@@ -8,6 +8,7 @@
 //! - `one_duo.rt`: `OneDuo`, two directions whose acknowledgements ride in control words
 //! - `halves.rt`: one side of it
 //! - `counts.rt`: how a 16-bit number names a full count
+//! - `shared.rt`: `ring` and `duo`, whose two sides may be in two threads
 //! - `slots.rt`: one slot of eight words
 //! - `fault.rt`: why no ring was made
 #![tactic(auto)]
@@ -18,6 +19,7 @@ mod fault;
 mod halves;
 mod one_duo;
 mod one_ring;
+mod shared;
 mod slots;
 
 pub use counts::count_from;
@@ -25,6 +27,9 @@ pub use duo_side::DuoSide;
 pub use fault::RingFault;
 pub use one_duo::{OneDuo, Which};
 pub use one_ring::OneRing;
+pub use shared::{RingRx, RingTx, SharedSide, duo, duo_from, ring, settle, settle_duo};
 
+#[cfg(test)]
+mod shared_tests;
 #[cfg(test)]
 mod tests;

@@ -6,6 +6,7 @@ ghost use Rattle.fl_base.specs.Control.{is_ack_only};
 ghost use Rattle.fl_link.specs.Stamp.{bare};
 ghost use Rattle.fl_link.specs.Cursor.{epoch_at};
 ghost use Rattle.fl_link.specs.Looks.{placed, no_room, spent, peeked, taken, tells};
+ghost use Rattle.fl_link.specs.Queue.{BeginsWith};
 ghost use Rattle.fl_ring.specs.Duo.{TheDuo, DuoPuts, DuoTakes, DuoStands, MayHaveSlots, CountsAreNear, side_of, across, got, half_has_room, new_half};
 
 use crate::fault::RingFault;
@@ -85,6 +86,7 @@ impl OneDuo {
     /// What stands first for this side, which is left there. The side knows then what it tells.
     pub fn peek(&mut self, which: Which) -> Sight
         ensures look { DuoTakes which self.old (peeked result) self.new }
+        ensures whole { (frag : Frag) → result ≡ Sight.Data frag → BeginsWith (side_of which self.old).waiting frag }
         ensures of_call { (frag : Frag) → result ≡ Sight.Data frag → is_ack_only frag ≡ false }
     {
         match which {
@@ -96,6 +98,7 @@ impl OneDuo {
     /// Takes what stands first for this side.
     pub fn take(&mut self, which: Which) -> Sight
         ensures look { DuoTakes which self.old (taken result) self.new }
+        ensures whole { (frag : Frag) → result ≡ Sight.Data frag → BeginsWith (side_of which self.old).waiting frag }
     {
         match which {
             Which::One => take_at(&self.words, &mut self.one),

@@ -5,7 +5,7 @@ ghost use Rattle.fl_base.specs.declared.fragment.Frag.{Frag};
 ghost use Rattle.fl_base.specs.Control.{is_ack_only};
 ghost use Rattle.fl_link.specs.Stamp.{bare};
 ghost use Rattle.fl_link.specs.Looks.{placed, no_room, spent, saw, saw_ack, found, found_ack, peeked, taken, tells};
-ghost use Rattle.fl_link.specs.Queue.{next_epoch_of, has_room, front_of, MayHave};
+ghost use Rattle.fl_link.specs.Queue.{next_epoch_of, has_room, front_of, BeginsWith, MayHave};
 ghost use Rattle.fl_ring.specs.Ring.{TheRing, queue_of, RingPuts, RingTakes, RingStands};
 
 use crate::fault::RingFault;
@@ -95,6 +95,7 @@ impl OneRing {
     pub fn peek(&self) -> Sight
         ensures look { RingTakes self.now (peeked result) self.now }
         ensures front { peeked result ≡ front_of self.now.items }
+        ensures whole { (frag : Frag) → result ≡ Sight.Data frag → BeginsWith self.now.items frag }
         ensures of_call { (frag : Frag) → result ≡ Sight.Data frag → is_ack_only frag ≡ false }
     {
         match self.first() {
@@ -108,6 +109,7 @@ impl OneRing {
     pub fn take(&mut self) -> Sight
         ensures look { RingTakes self.old (taken result) self.new }
         ensures data { (frag : Frag) → front_of self.old.items ≡ saw frag → taken result ≡ found frag }
+        ensures whole { (frag : Frag) → result ≡ Sight.Data frag → BeginsWith self.old.items frag }
         ensures acknowledgement { front_of self.old.items ≡ saw_ack → taken result ≡ found_ack }
     {
         let Some(frag) = self.first() else {

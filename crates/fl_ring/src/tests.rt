@@ -28,7 +28,7 @@ fn arrived(v: u64, control: u64) -> Sight {
     })
 }
 
-// A caller that knows only the traits: puts until there is no room, and says how often it could.
+// Callers that know only the traits. This one puts until there is no room, and says how often it could.
 fn fill<L: Link>(link: &mut L) -> u64 {
     for v in 0..8 {
         if link.put(&ping(v)).is_err() {
@@ -36,6 +36,23 @@ fn fill<L: Link>(link: &mut L) -> u64 {
         }
     }
     8
+}
+
+// What the putting side says of itself: room, epoch due, count told next, count known.
+fn said<P: PutSide>(side: &P) -> (bool, u64, u16, u64) {
+    (
+        side.room(),
+        side.next_epoch(),
+        side.next_told(),
+        side.known(),
+    )
+}
+
+// What a look sees, which the take gets; and whether the tell after it wrote.
+fn look_take_tell<T: TakeSide>(side: &mut T) -> (Sight, Sight, bool) {
+    let seen = side.peek();
+    let got = side.take();
+    (seen, got, side.tell() == Ok(Told::Written))
 }
 
 // What is done through a lent side is done to the ring.
@@ -110,9 +127,12 @@ fn tell(ring: &mut OneRing) -> Told {
 #[test]
 fn a_ring_of_two(rt: HostRuntime) -> Result<(), Fail> {
     let mut ring = OneRing::new(rt.alloc(), 2)?;
-    assert_eq!(rt; fill(&mut ring), 2);
+    assert_eq!(rt; put(&mut ring, 7), Ok(()));
+    assert_eq!(rt; put(&mut ring, 7), Ok(()));
+    assert_eq!(rt; word(ring.words(), 7), Some(3));
     assert_eq!(rt; word(ring.words(), 15), Some(3));
-    assert_eq!(rt; take(&mut ring), arrived(0, 3));
+    assert_eq!(rt; put(&mut ring, 7), Err(PutFault::Full));
+    assert_eq!(rt; take(&mut ring), arrived(7, 3));
     assert_eq!(rt; put(&mut ring, 7), Err(PutFault::Full));
     assert_eq!(rt; tell(&mut ring), Told::Written);
     assert_eq!(rt; word(ring.words(), 16), Some(1));
@@ -139,17 +159,78 @@ fn a_duo_of_four(rt: HostRuntime) -> Result<(), Fail> {
     Ok(())
 }
 
+// Ten fragments go through each kind of link in turn, so that each wraps round.
 #[test]
 fn passes_through_each(rt: HostRuntime) -> Result<(), Fail> {
-    let mut queue = QueueLink::acked(rt.alloc(), 2)?;
+    let mut local = QueueLink::local(rt.alloc(), 1)?;
+    let mut acked = QueueLink::acked(rt.alloc(), 2)?;
     let mut ring = OneRing::new(rt.alloc(), 2)?;
     let mut duo = OneDuo::new(rt.alloc(), 4)?;
-    assert_eq!(rt; fill(&mut queue), 2);
-    assert_eq!(rt; pass(&mut queue, &mut ring), Passed::Moved);
-    assert_eq!(rt; pass(&mut ring, &mut duo.side(Which::One)), Passed::Moved);
-    assert_eq!(rt; pass(&mut duo.side(Which::Two), &mut queue), Passed::Full);
-    assert_eq!(rt; take_at(&mut duo, Which::Two), arrived(0, 3));
+    for v in 0..10 {
+        assert_eq!(rt;
+            pass(&mut duo.side(Which::Two), &mut local),
+            Passed::Nothing
+        );
+        assert_eq!(rt; PutSide::put(&mut local, &ping(v)), Ok(()));
+        assert_eq!(rt; pass(&mut local, &mut acked), Passed::Moved);
+        assert_eq!(rt; pass(&mut acked, &mut ring), Passed::Moved);
+        assert_eq!(rt; pass(&mut ring, &mut duo.side(Which::One)), Passed::Moved);
+        assert_eq!(rt; pass(&mut duo.side(Which::Two), &mut local), Passed::Moved);
+        assert_eq!(rt; TakeSide::take(&mut local), arrived(v, 3));
+        assert_eq!(rt; TakeSide::tell(&mut acked), Ok(Told::Written));
+        assert_eq!(rt; tell(&mut ring), Told::Written);
+        // side two tells each second one, by a fragment of its own
+        let (told, passed) = match v % 2 {
+            0 => (Told::Nothing, Passed::Nothing),
+            _ => (Told::Written, Passed::Acknowledged),
+        };
+        assert_eq!(rt; tell_at(&mut duo, Which::Two), Ok(told));
+        assert_eq!(rt; pass(&mut duo.side(Which::One), &mut local), passed);
+    }
     Ok(())
+}
+
+#[test]
+fn each_tells_of_itself(rt: HostRuntime) -> Result<(), Fail> {
+    let mut local = QueueLink::local(rt.alloc(), 2)?;
+    let mut acked = QueueLink::acked(rt.alloc(), 2)?;
+    let mut ring = OneRing::new(rt.alloc(), 2)?;
+    let mut duo = OneDuo::new(rt.alloc(), 4)?;
+    assert_eq!(rt; (fill(&mut local), fill(&mut acked)), (2, 2));
+    assert_eq!(rt; (fill(&mut ring), fill(&mut duo.side(Which::Two))), (2, 3));
+    assert_eq!(rt; said(&local), (false, 1, 0, 0));
+    assert_eq!(rt; said(&acked), (false, 0, 0, 0));
+    assert_eq!(rt; said(&ring), (false, 0, 0, 0));
+    assert_eq!(rt; said(&duo.side(Which::Two)), (false, 1, 0, 0));
+    let first = arrived(0, 3);
+    assert_eq!(rt; look_take_tell(&mut local), (first, first, false));
+    assert_eq!(rt; look_take_tell(&mut acked), (first, first, true));
+    assert_eq!(rt; look_take_tell(&mut ring), (first, first, true));
+    assert_eq!(rt;
+        look_take_tell(&mut duo.side(Which::One)),
+        (first, first, false)
+    );
+    assert_eq!(rt; said(&local), (true, 1, 0, 0));
+    assert_eq!(rt; said(&acked), (true, 0, 0, 0));
+    assert_eq!(rt; said(&ring), (true, 0, 0, 1));
+    assert_eq!(rt; said(&duo.side(Which::Two)), (false, 1, 0, 0));
+    assert_eq!(rt; said(&duo.side(Which::One)), (true, 1, 1, 0));
+    Ok(())
+}
+
+// The one allocation of each maker is made, or refused with the fault that says so.
+#[test]
+fn memory(rt: HostRuntime) {
+    for size in [4, 1_024] {
+        match OneRing::new(rt.alloc(), size) {
+            Ok(ring) => assert!(rt; ring.room()),
+            Err(fault) => assert_eq!(rt; fault, RingFault::Memory),
+        }
+        match OneDuo::new(rt.alloc(), size) {
+            Ok(duo) => assert!(rt; duo.room(Which::One)),
+            Err(fault) => assert_eq!(rt; fault, RingFault::Memory),
+        }
+    }
 }
 
 #[test]

@@ -1,5 +1,5 @@
 -- A script has one transcript: at most one effect stands in what an item does.
-use Rattle.std.proofs.Common.{◌≡◌, ◌∙◌, inl, inr, List, [], ◌∷◌, ◌++◌, ℕ, sym, ap, subst, refl, Bool, true, false}
+use Rattle.std.proofs.Common.{◌≡◌, ◌∙◌, inl, inr, List, [], ◌∷◌, ◌++◌, ℕ, sym, ap, subst, refl, Bool, true, false, append_assoc, append-nil}
 use Rattle.std.specs.Prelude.{codes}
 use Rattle.std.specs.Bool.{MatchBool}
 use Rattle.fl_lex.specs.Outcome.{LexOutcome, lexed, lex_fault, Lexes}
@@ -10,7 +10,7 @@ use Rattle.fl_check.specs.Checks.{CheckOutcome, checked, check_fault, Checks}
 use Rattle.fl_value.specs.Value.{Datum}
 use Rattle.fl_value.specs.CallText.{SpellsCall}
 use Rattle.fl_script.specs.Text.{TextOutcome, checked_as, ParsedMeans, LexedMeans, TextMeans}
-use Rattle.fl_script.specs.Transcript.{Script, Effect, Item, a_line, a_block, open_block, Does, LineDoes, CallDoes, Writes, Transcript, items_of, beginning, too_long, line, after_text, after_call, end_id}
+use Rattle.fl_script.specs.Transcript.{Script, Effect, Item, a_line, a_block, open_block, Does, LineDoes, CallDoes, Writes, WritesFront, IsFront, Transcript, TranscriptFront, items_of, beginning, too_long, line, after_text, after_call, end_id}
 use Rattle.fl_script.specs.Commands.{EndName, Line, silent, command, calls, opens_block, unread}
 
 abbrev pub OneLexing : Type 0
@@ -81,3 +81,39 @@ pub from_laws : ((text : List ℕ) (a b : LexOutcome) → Lexes text a → Lexes
     → ((bytes one other : List ℕ) (values others : List Datum) → SpellsCall bytes one values → SpellsCall bytes other others → (one ≡ other) × (values ≡ others))
     → (bytes a b : List ℕ) → Transcript bytes a → Transcript bytes b → a ≡ b
 from_laws l p k r = one_transcript l p k r
+
+-- Fronts.
+
+-- a front of the first part is a front of both
+front_before : (front whole rest : List ℕ) → IsFront front whole → IsFront front (whole ++ rest)
+front_before front whole rest (more, e) = (more ++ rest, ap (λ (t : List ℕ). t ++ rest) e ∙ append_assoc front more rest)
+
+front_behind : (first front whole : List ℕ) → IsFront front whole → IsFront (first ++ front) (first ++ whole)
+front_behind first front whole (more, e) = (more, ap (λ (t : List ℕ). first ++ t) e ∙ sym (append_assoc first front more))
+
+front_of_writing : OneLexing → OneParsing → OneChecking → OneCalling → (s : Script) (items : List Item) (front whole : List ℕ)
+    → WritesFront s items front → Writes s items whole → IsFront front whole
+front_of_writing l p k r s [] front whole x y = ([], y ∙ sym (append-nil front ∙ x))
+front_of_writing l p k r s (item ∷ items) front whole (inl x) y = (whole, ap (λ (t : List ℕ). t ++ whole) (sym x))
+front_of_writing l p k r s (item ∷ items) front whole (inr (e, d, inl x)) (f, n, g, v, t) =
+    let same : e ≡ f = one_effect l p k r s item e f d g in
+    subst (λ (z : List ℕ). IsFront front z) (ap (λ (z : Effect). z.text ++ n) same ∙ sym t) (front_before front e.text n x)
+front_of_writing l p k r s (item ∷ items) front whole (inr (e, d, inr (m, w, q))) (f, n, g, v, t) =
+    let same : e ≡ f = one_effect l p k r s item e f d g in
+    let rest : IsFront m n = front_of_writing l p k r e.after items m n w (subst (λ (z : Effect). Writes z.after items n) (sym same) v) in
+    subst (λ (z : List ℕ). IsFront z whole) (sym q)
+    (subst (λ (z : List ℕ). IsFront (e.text ++ m) z) (ap (λ (z : Effect). z.text ++ n) same ∙ sym t) (front_behind e.text m n rest))
+
+either_front : (t : Bool) (F W : List ℕ → Type 0) (fixed front whole : List ℕ) → ((x y : List ℕ) → F x → W y → IsFront x y)
+    → MatchBool t (IsFront front fixed) (F front) → MatchBool t (whole ≡ fixed) (W whole) → IsFront front whole
+either_front true F W fixed front whole one x y = subst (λ (z : List ℕ). IsFront front z) (sym y) x
+either_front false F W fixed front whole one x y = one front whole x y
+
+pub fronts_from_laws : ((text : List ℕ) (a b : LexOutcome) → Lexes text a → Lexes text b → a ≡ b)
+    → ((tokens : TheTokens) (a b : ParseOutcome) → Parses tokens a → Parses tokens b → a ≡ b)
+    → ((tree : TheTree) (a b : CheckOutcome) → Checks tree a → Checks tree b → a ≡ b)
+    → ((bytes one other : List ℕ) (values others : List Datum) → SpellsCall bytes one values → SpellsCall bytes other others → (one ≡ other) × (values ≡ others))
+    → (bytes front whole : List ℕ) → TranscriptFront bytes front → Transcript bytes whole → IsFront front whole
+fronts_from_laws l p k r bytes front whole x y =
+    either_front (too_long bytes) (WritesFront beginning (items_of bytes)) (Writes beginning (items_of bytes)) (line (codes "refused E91")) front whole
+    (front_of_writing l p k r beginning (items_of bytes)) x y

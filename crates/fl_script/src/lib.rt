@@ -1,7 +1,8 @@
 //! Scripts: what each line asks for, and the transcript.
 //!
 //! Contract for the program: what [`exec`] writes is the transcript of what it read
-//! (`specs/Transcript.antt`), and a script has one transcript ([`one_transcript`]).
+//! (`specs/Transcript.antt`), and a script has one transcript ([`one_transcript`]); what it leaves on a
+//! fault is a front of that ([`front_of_the_transcript`]).
 //!
 //! - `running.rt`: `exec`, which reads a script whole, runs it, and writes line by line
 //! - `item.rt`: a script's items, which are lines and `idl` blocks
@@ -9,7 +10,7 @@
 //! - `text.rt`, `calls.rt`: interfaces' texts, and calls as text
 //! - `script.rt`: a running script, its names and its world; each item's answer
 //! - `names.rt`, `printing.rt`: tables of names, and the texts of answers
-//! - `law.rt`: a script has one transcript
+//! - `law.rt`: a script has one transcript, and fronts are of it
 #![tactic(auto)]
 
 mod calls;
@@ -25,5 +26,5 @@ mod script;
 mod tests;
 mod text;
 
-pub use law::one_transcript;
+pub use law::{front_of_the_transcript, one_transcript};
 pub use running::{ExecFault, MAX_SCRIPT, exec};

@@ -1,5 +1,8 @@
 //! Scripts from outside, with their transcripts, and the longest script.
 
+mod limits;
+mod streams;
+
 use crate::{ExecFault, exec};
 use std::alloc::Global;
 use std::process::Abort;

@@ -7,3 +7,7 @@ pub mod Words
 pub mod Prints
 pub mod Round
 pub mod Tapes
+pub mod Turns
+pub mod Bits
+pub mod Ranked
+pub mod Untaped

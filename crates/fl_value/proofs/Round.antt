@@ -1,6 +1,6 @@
 -- A call that fits an interface is printed, and read as that call.
-use Rattle.std.proofs.Common.{◌≡◌, ◌≤◌, ◌<◌, ◌+◌, ◌^◌, ◌&&◌, ℕ, ℤ, pos, negsuc, zero, suc, cond, List, [], ◌∷◌, length, arith, refl, ap, sym, subst, ◌∙◌, Bool, true, false, ltb, leb, Option, Some, None, Result, Ok, Err, get_or}
-use Rattle.std.specs.List.{slice_get, list_all}
+use Rattle.std.proofs.Common.{◌≡◌, ◌≤◌, ◌+◌, ◌^◌, ◌&&◌, ℕ, ℤ, pos, negsuc, cond, List, [], ◌∷◌, length, arith, refl, ap, sym, ◌∙◌, Bool, true, ltb, leb, Result, Ok, Err}
+use Rattle.std.specs.List.{list_all}
 use Rattle.std.specs.Cmp.{first_so, second_so}
 use Rattle.std.proofs.lemmas.Bool.{ltb-true, lt-ltb, leb-true, false≢true}
 use Rattle.fl_check.specs.declared.interface.Scalar.{Scalar}
@@ -10,7 +10,7 @@ use Rattle.fl_value.specs.Value.{Datum, number, string, elements, fields, Data, 
 use Rattle.fl_value.specs.declared.value.Call.{Call}
 use Rattle.fl_value.specs.declared.fault.ValueFault.{ValueFault}
 use Rattle.fl_value.specs.declared.fault.ValueFault.TheVariants.{NotACall, NoSuchMessage, DoesNotFit, Memory}
-use Rattle.fl_value.specs.Fits.{least_above, how_many_below, is_scalar_value, is_enumerator, count_of, has_type, have_types, all_have_type, is_text_byte, is_argument, are_arguments, fit_message, fits_of}
+use Rattle.fl_value.specs.Fits.{least_above, how_many_below, is_scalar_value, is_enumerator, count_of, has_type, have_types, all_have_type, is_text_byte, is_argument, are_arguments, fit_message}
 use Rattle.fl_value.specs.Printed.{is_short, is_printable, are_printable, has_small_enums, have_small_enums, argument_has_small_enums, printed_call, HasText}
 use Rattle.fl_value.specs.CallText.{SpellsCall}
 use Rattle.fl_value.specs.Resolve.{where_fitting, resolved_at, resolved, ComesTo, Answers, AnswersUnlessMemory}

@@ -1,8 +1,8 @@
 -- The tape and the groups of arguments.
-use Rattle.std.proofs.Common.{◌≡◌, ◌≤◌, ◌<◌, ◌+◌, ℕ, zero, suc, max, List, [], ◌∷◌, ◌++◌, filter, arith, refl, ap, sym, subst, ◌∙◌, Bool, true, false}
+use Rattle.std.proofs.Common.{◌≡◌, ◌≤◌, List, [], ◌∷◌, filter, arith, refl, ap, true}
 use Rattle.std.specs.List.{flat_map}
-use Rattle.fl_check.specs.Interface.{TheType, TheTypes, no_more, field}
-use Rattle.fl_check.specs.Sizes.{align_of, greatest_align}
+use Rattle.fl_check.specs.Interface.{TheTypes, no_more, field}
+use Rattle.fl_check.specs.Sizes.{greatest_align}
 use Rattle.fl_value.specs.declared.tape.Group.TheVariants.{All}
 use Rattle.fl_value.specs.Tape.{Argument, tape_of_argument}
 use Rattle.fl_value.specs.Groups.{group_tape}

@@ -1,6 +1,6 @@
 -- Groups of arguments that a plan lays out together: plan 1 has one; plan 2 has one for each alignment of
 -- fixed arguments, and one for strings and sized arrays.
-use Rattle.std.specs.Prelude.{Bool, true, List, ◌++◌, filter}
+use Rattle.std.specs.Prelude.{Bool, true, List, filter}
 use Rattle.std.specs.List.{flat_map}
 use Rattle.std.specs.Prelude.{ℕ}
 use Rattle.fl_check.specs.Interface.{TheArgType}

@@ -7,3 +7,5 @@ pub mod Resolve
 pub mod Printed
 pub mod Tape
 pub mod Groups
+pub mod Taken
+pub mod Ranks

@@ -2,7 +2,7 @@
 -- arguments. Stub code reads a call from its tape, and writes a tape for the call that it takes.
 use Rattle.std.specs.Prelude.{ℕ, ℤ, pos, negsuc, ◌-◌, ◌%◌, ◌^◌, List, [], ◌∷◌, ◌++◌, length, slice_get, Option, Some, None}
 use Rattle.std.specs.List.{zip, flat_map}
-use Rattle.fl_check.specs.Interface.{TheType, scalar, enumeration, structure, array, TheTypes, no_more, field, TheArgType, fixed, text, sized, TheMessage, TheInterface}
+use Rattle.fl_check.specs.Interface.{TheType, scalar, enumeration, structure, array, TheTypes, field, TheArgType, fixed, text, sized, TheMessage, TheInterface}
 use Rattle.fl_value.specs.declared.value.PlanNo.{PlanNo}
 use Rattle.fl_value.specs.Value.{Datum, number, string, elements, fields, Data, nothing_more, also, TheCall}
 use Rattle.fl_value.specs.Fits.{scalar_bits, count_of}

@@ -3,25 +3,29 @@
 //!
 //! Contract for the layers above: [`read_call`] gives the one call that a text spells
 //! (`specs/CallText.antt`), or the first of faults 90, 41 and 42; what [`print_call`] writes of a
-//! fitting call reads as that call.
+//! fitting call reads as that call. [`unflatten`] gives a call exactly where a fitting call of that
+//! message has the tape (`specs/Taken.antt`).
 //!
 //! - `value.rt`: `Value`, `Call`, `PlanNo`
 //! - `fitting.rt`: which values a type has, and which calls fit
 //! - `tokens.rt`, `reader.rt`, `calls.rt`: a text's tokens, its values, and the whole call
 //! - `printing.rt`: calls as text
-//! - `tape.rt`: a call's numbers in the plan's order
+//! - `tape.rt`, `untape.rt`: a call's numbers in the plan's order, and a call back from them
+//! - `order.rt`: arguments from the plan's order back into the declared one
 //! - `fault.rt`: why there is no call
 #![tactic(auto)]
 
 mod calls;
 mod fault;
 mod fitting;
+mod order;
 mod printing;
 mod reader;
 mod tape;
 #[cfg(test)]
 mod tests;
 mod tokens;
+mod untape;
 mod value;
 
 pub use calls::{CallText, one_reading, read_call, read_call_text, resolve};
@@ -29,4 +33,5 @@ pub use fault::ValueFault;
 pub use fitting::fits;
 pub use printing::{print_call, printed_call_read, printed_reads};
 pub use tape::flatten;
+pub use untape::{one_call_of_a_tape, unflatten};
 pub use value::{Call, PlanNo, Value};

@@ -181,7 +181,7 @@ fn scalar_size(scalar: Scalar) -> u32
 
 /// A type's alignment in bytes.
 #[cycle(alignments)]
-fn alignment(fixed: &FixedType) -> u32
+pub(crate) fn alignment(fixed: &FixedType) -> u32
     ensures same { result ≡ align_of (type_of fixed.now) }
 {
     match fixed {
@@ -205,7 +205,7 @@ fn greatest_alignment(fields: &[FixedType]) -> u32
 }
 
 /// Whether an argument is in a group.
-fn is_in_group(group: Group, argument: &ArgType) -> bool
+pub(crate) fn is_in_group(group: Group, argument: &ArgType) -> bool
     ensures same { result ≡ in_group group (arg_type_of argument.now) }
 {
     match group {

@@ -39,6 +39,82 @@ fn read_and_print(
     Ok(out)
 }
 
+fn fixed(scalar: Scalar) -> ArgType {
+    ArgType::Fixed(FixedType::Scalar(scalar))
+}
+
+/// A struct of a bool and a byte.
+fn point(alloc: Global) -> Result<FixedType, AllocError> {
+    let mut fields = Vec::new(alloc);
+    fields.push(FixedType::Scalar(Scalar::Bool))?;
+    fields.push(FixedType::Scalar(Scalar::Uint8))?;
+    Ok(FixedType::Structure(fields))
+}
+
+/// Arguments of alignments 1, 2 and 8, and between them a text and a sized array.
+fn six_arguments(alloc: Global) -> Result<Interface, AllocError> {
+    let pair = FixedType::Array(2, Box::new(alloc, FixedType::Scalar(Scalar::Uint8))?);
+    let mut args = Vec::new(alloc);
+    args.push(fixed(Scalar::Bool))?;
+    args.push(ArgType::Text(4))?;
+    args.push(fixed(Scalar::Uint16))?;
+    args.push(ArgType::Fixed(pair))?;
+    args.push(ArgType::Sized(4, FixedType::Scalar(Scalar::Uint32)))?;
+    args.push(fixed(Scalar::Int64))?;
+    let mut messages = Vec::new(alloc);
+    messages.push(Message {
+        name: word(alloc, b"m")?,
+        args,
+    })?;
+    Ok(Interface {
+        name: word(alloc, b"i")?,
+        messages,
+    })
+}
+
+/// The number of the fault of a call's text.
+fn fault_of(alloc: Global, interface: &Interface, text: &[u8]) -> Option<u8> {
+    match read_call(alloc, text, interface) {
+        Ok(_) => None,
+        Err(fault) => Some(fault.number()),
+    }
+}
+
+/// Whether both texts are calls of a message of one argument, and come back from their tapes.
+fn accepts(alloc: Global, argument: ArgType, one: &[u8], other: &[u8]) -> Result<bool, Fail> {
+    let m = interface(alloc, b"m", argument)?;
+    Ok(comes_back(alloc, &m, one)? && comes_back(alloc, &m, other)?)
+}
+
+/// Whether both texts are calls that don't fit a message of one argument.
+fn refuses(alloc: Global, argument: ArgType, one: &[u8], other: &[u8]) -> Result<bool, Fail> {
+    let m = interface(alloc, b"m", argument)?;
+    Ok(fault_of(alloc, &m, one) == Some(42) && fault_of(alloc, &m, other) == Some(42))
+}
+
+/// Whether a call in its printed form fits and comes back from its tape, under both plans.
+fn comes_back(alloc: Global, interface: &Interface, text: &[u8]) -> Result<bool, Fail> {
+    let call = read_call(alloc, text, interface)?;
+    let mut same = fits(&call, interface);
+    for plan in [PlanNo::One, PlanNo::Two] {
+        let tape = flatten(alloc, interface, &call, plan)?;
+        let mut out = Vec::new(alloc);
+        if let Some(back) = unflatten(alloc, interface, call.msg, &tape, plan)? {
+            print_call(alloc, &mut out, b"m", &back.args)?;
+        }
+        same = same && out.as_slice() == text;
+    }
+    Ok(same)
+}
+
+/// Whether no call of a message of one argument has the tape, under either plan.
+fn is_no_tape(alloc: Global, argument: ArgType, tape: &[u64]) -> Result<bool, Fail> {
+    let m = interface(alloc, b"m", argument)?;
+    let one = unflatten(alloc, &m, MsgNo(0), tape, PlanNo::One)?;
+    let two = unflatten(alloc, &m, MsgNo(0), tape, PlanNo::Two)?;
+    Ok(one.is_none() && two.is_none())
+}
+
 #[test]
 fn numbers_are_read_and_printed(rt: HostRuntime) -> Result<(), Fail> {
     let alloc = rt.alloc();
@@ -178,5 +254,214 @@ fn the_tape_follows_the_plan(rt: HostRuntime) -> Result<(), Fail> {
         flatten(alloc, &m, &call, PlanNo::Two)?.as_slice(),
         [5, 128, 2, 104, 105].as_slice()
     );
+    one_call_of_a_tape();
+    Ok(())
+}
+
+#[test]
+fn faults_come_in_order(rt: HostRuntime) -> Result<(), Fail> {
+    let alloc = rt.alloc();
+    let m = interface(alloc, b"ping", fixed(Scalar::Uint32))?;
+    assert_eq!(rt; fault_of(alloc, &m, b"ping(4294967296)"), Some(42));
+    assert_eq!(rt; fault_of(alloc, &m, b"ping(\"x\")"), Some(42));
+    assert_eq!(rt; fault_of(alloc, &m, b"ping(1, 2)"), Some(42));
+    assert_eq!(rt; fault_of(alloc, &m, b"ping()"), Some(42));
+    assert_eq!(rt; fault_of(alloc, &m, b"pong(\"x\")"), Some(41));
+    assert_eq!(rt; fault_of(alloc, &m, b"pong(7"), Some(90));
+    assert_eq!(rt; fault_of(alloc, &m, b"ping(7) 8"), Some(90));
+    assert_eq!(rt; fault_of(alloc, &m, b""), Some(90));
+    assert_eq!(rt; fault_of(alloc, &m, b"ping(4294967295)"), None);
+    Ok(())
+}
+
+#[test]
+fn each_scalar_has_its_range(rt: HostRuntime) -> Result<(), Fail> {
+    let alloc = rt.alloc();
+    for scalar in [Scalar::Uint8, Scalar::Char] {
+        assert!(rt; accepts(alloc, fixed(scalar), b"m(0)", b"m(255)")?);
+        assert!(rt; refuses(alloc, fixed(scalar), b"m(-1)", b"m(256)")?);
+    }
+    assert!(rt; accepts(alloc, fixed(Scalar::Bool), b"m(0)", b"m(1)")?);
+    assert!(rt; refuses(alloc, fixed(Scalar::Bool), b"m(-1)", b"m(2)")?);
+    assert!(rt; accepts(alloc, fixed(Scalar::Int8), b"m(-128)", b"m(127)")?);
+    assert!(rt; refuses(alloc, fixed(Scalar::Int8), b"m(-129)", b"m(128)")?);
+    assert!(rt; accepts(alloc, fixed(Scalar::Uint16), b"m(0)", b"m(65535)")?);
+    assert!(rt; refuses(alloc, fixed(Scalar::Uint16), b"m(-1)", b"m(65536)")?);
+    assert!(rt; accepts(alloc, fixed(Scalar::Int16), b"m(-32768)", b"m(32767)")?);
+    assert!(rt; refuses(alloc, fixed(Scalar::Int16), b"m(-32769)", b"m(32768)")?);
+    for scalar in [Scalar::Uint32, Scalar::Iref] {
+        assert!(rt; accepts(alloc, fixed(scalar), b"m(0)", b"m(4294967295)")?);
+        assert!(rt; refuses(alloc, fixed(scalar), b"m(-1)", b"m(4294967296)")?);
+    }
+    assert!(rt;
+        accepts(
+            alloc,
+            fixed(Scalar::Int32),
+            b"m(-2147483648)",
+            b"m(2147483647)"
+        )?
+    );
+    assert!(rt;
+        refuses(
+            alloc,
+            fixed(Scalar::Int32),
+            b"m(-2147483649)",
+            b"m(2147483648)"
+        )?
+    );
+    for scalar in [
+        Scalar::Uint64,
+        Scalar::Uintptr,
+        Scalar::Size,
+        Scalar::Errval,
+    ] {
+        assert!(rt; accepts(alloc, fixed(scalar), b"m(0)", b"m(18446744073709551615)")?);
+        assert!(rt; refuses(alloc, fixed(scalar), b"m(-1)", b"m(18446744073709551616)")?);
+    }
+    for scalar in [Scalar::Int64, Scalar::Intptr] {
+        assert!(rt;
+            accepts(
+                alloc,
+                fixed(scalar),
+                b"m(-9223372036854775808)",
+                b"m(9223372036854775807)",
+            )?
+        );
+        assert!(rt;
+            refuses(
+                alloc,
+                fixed(scalar),
+                b"m(-9223372036854775809)",
+                b"m(9223372036854775808)",
+            )?
+        );
+    }
+    let colour = || ArgType::Fixed(FixedType::Enumeration(3));
+    assert!(rt; accepts(alloc, colour(), b"m(0)", b"m(2)")?);
+    assert!(rt; refuses(alloc, colour(), b"m(-1)", b"m(3)")?);
+    let pair = FixedType::Array(2, Box::new(alloc, FixedType::Scalar(Scalar::Uint8))?);
+    assert!(rt; accepts(alloc, ArgType::Fixed(pair), b"m([0, 0])", b"m([255, 255])")?);
+    let pair = FixedType::Array(2, Box::new(alloc, FixedType::Scalar(Scalar::Uint8))?);
+    assert!(rt; refuses(alloc, ArgType::Fixed(pair), b"m([1])", b"m({1, 2})")?);
+    assert!(rt;
+        accepts(
+            alloc,
+            ArgType::Fixed(point(alloc)?),
+            b"m({0, 1})",
+            b"m({1, 0})"
+        )?
+    );
+    assert!(rt;
+        refuses(
+            alloc,
+            ArgType::Fixed(point(alloc)?),
+            b"m({1})",
+            b"m([1, 2])"
+        )?
+    );
+    assert!(rt; accepts(alloc, ArgType::Text(2), b"m(\"\")", b"m(\"hi\")")?);
+    assert!(rt; refuses(alloc, ArgType::Text(2), b"m(\"hip\")", b"m(\"\\x00\")")?);
+    let bytes = || ArgType::Sized(2, FixedType::Scalar(Scalar::Uint8));
+    assert!(rt; accepts(alloc, bytes(), b"m([])", b"m([1, 2])")?);
+    assert!(rt; refuses(alloc, bytes(), b"m([1, 2, 3])", b"m([256])")?);
+    Ok(())
+}
+
+#[test]
+fn a_tape_gives_the_call_back(rt: HostRuntime) -> Result<(), Fail> {
+    let alloc = rt.alloc();
+    for scalar in [
+        Scalar::Uint8,
+        Scalar::Bool,
+        Scalar::Char,
+        Scalar::Uint16,
+        Scalar::Uint32,
+        Scalar::Iref,
+        Scalar::Uint64,
+        Scalar::Uintptr,
+        Scalar::Size,
+        Scalar::Errval,
+    ] {
+        assert!(rt; comes_back(alloc, &interface(alloc, b"m", fixed(scalar))?, b"m(1)")?);
+    }
+    for scalar in [
+        Scalar::Int8,
+        Scalar::Int16,
+        Scalar::Int32,
+        Scalar::Int64,
+        Scalar::Intptr,
+    ] {
+        assert!(rt; comes_back(alloc, &interface(alloc, b"m", fixed(scalar))?, b"m(-128)")?);
+        assert!(rt; comes_back(alloc, &interface(alloc, b"m", fixed(scalar))?, b"m(127)")?);
+    }
+    let most = interface(alloc, b"m", fixed(Scalar::Uint64))?;
+    assert!(rt; comes_back(alloc, &most, b"m(18446744073709551615)")?);
+    let least = interface(alloc, b"m", fixed(Scalar::Int64))?;
+    assert!(rt; comes_back(alloc, &least, b"m(-9223372036854775808)")?);
+    let colour = ArgType::Fixed(FixedType::Enumeration(3));
+    assert!(rt; comes_back(alloc, &interface(alloc, b"m", colour)?, b"m(2)")?);
+    let points = ArgType::Sized(4, point(alloc)?);
+    assert!(rt;
+        comes_back(
+            alloc,
+            &interface(alloc, b"m", points)?,
+            b"m([{1, 7}, {0, 255}])"
+        )?
+    );
+    let texts = interface(alloc, b"m", ArgType::Text(4))?;
+    assert!(rt; comes_back(alloc, &texts, b"m(\"\")")?);
+    assert!(rt; comes_back(alloc, &texts, b"m(\"\\x01\\xffab\")")?);
+    let all = six_arguments(alloc)?;
+    assert!(rt; comes_back(alloc, &all, b"m(1, \"hi\", 5, [1, 2], [7, 8, 9], -1)")?);
+    Ok(())
+}
+
+#[test]
+fn plan_two_puts_wider_arguments_first(rt: HostRuntime) -> Result<(), Fail> {
+    let alloc = rt.alloc();
+    let all = six_arguments(alloc)?;
+    let call = read_call(alloc, b"m(1, \"hi\", 5, [1, 2], [7, 8, 9], -1)", &all)?;
+    assert_eq!(rt;
+        flatten(alloc, &all, &call, PlanNo::One)?.as_slice(),
+        [1, 2, 104, 105, 5, 1, 2, 3, 7, 8, 9, 0xffff_ffff_ffff_ffff].as_slice()
+    );
+    assert_eq!(rt;
+        flatten(alloc, &all, &call, PlanNo::Two)?.as_slice(),
+        [0xffff_ffff_ffff_ffff, 5, 1, 1, 2, 2, 104, 105, 3, 7, 8, 9].as_slice()
+    );
+    Ok(())
+}
+
+#[test]
+fn a_bad_tape_gives_no_call(rt: HostRuntime) -> Result<(), Fail> {
+    let alloc = rt.alloc();
+    assert!(rt; is_no_tape(alloc, fixed(Scalar::Bool), &[2])?);
+    assert!(rt; is_no_tape(alloc, fixed(Scalar::Uint8), &[256])?);
+    assert!(rt; is_no_tape(alloc, fixed(Scalar::Char), &[256])?);
+    assert!(rt; is_no_tape(alloc, fixed(Scalar::Int8), &[256])?);
+    assert!(rt; is_no_tape(alloc, fixed(Scalar::Uint16), &[0x1_0000])?);
+    assert!(rt; is_no_tape(alloc, fixed(Scalar::Int16), &[0x1_0000])?);
+    assert!(rt; is_no_tape(alloc, fixed(Scalar::Uint32), &[0x1_0000_0000])?);
+    assert!(rt; is_no_tape(alloc, fixed(Scalar::Int32), &[0xffff_ffff_8000_0000])?);
+    assert!(rt; is_no_tape(alloc, fixed(Scalar::Uint64), &[])?);
+    assert!(rt; is_no_tape(alloc, fixed(Scalar::Uint64), &[1, 2])?);
+    assert!(rt; is_no_tape(alloc, ArgType::Fixed(FixedType::Enumeration(3)), &[3])?);
+    assert!(rt; is_no_tape(alloc, ArgType::Fixed(point(alloc)?), &[1])?);
+    assert!(rt; is_no_tape(alloc, ArgType::Fixed(point(alloc)?), &[1, 2, 3])?);
+    assert!(rt; is_no_tape(alloc, ArgType::Text(2), &[])?);
+    assert!(rt; is_no_tape(alloc, ArgType::Text(2), &[2, 104])?);
+    assert!(rt; is_no_tape(alloc, ArgType::Text(2), &[3, 104, 105, 112])?);
+    assert!(rt; is_no_tape(alloc, ArgType::Text(2), &[1, 0])?);
+    assert!(rt; is_no_tape(alloc, ArgType::Text(2), &[1, 256])?);
+    assert!(rt; is_no_tape(alloc, ArgType::Text(2), &[0xffff_ffff_ffff_ffff, 104])?);
+    let bools = || ArgType::Sized(2, FixedType::Scalar(Scalar::Bool));
+    assert!(rt; is_no_tape(alloc, bools(), &[3, 0, 1, 0])?);
+    assert!(rt; is_no_tape(alloc, bools(), &[2, 0])?);
+    assert!(rt; is_no_tape(alloc, bools(), &[2, 0, 2])?);
+    assert!(rt; is_no_tape(alloc, bools(), &[1, 0, 1])?);
+    let m = interface(alloc, b"m", fixed(Scalar::Bool))?;
+    assert!(rt; unflatten(alloc, &m, MsgNo(0), &[1], PlanNo::Two)?.is_some());
+    assert!(rt; unflatten(alloc, &m, MsgNo(1), &[1], PlanNo::Two)?.is_none());
+    assert!(rt; unflatten(alloc, &m, MsgNo(65535), &[], PlanNo::One)?.is_none());
     Ok(())
 }

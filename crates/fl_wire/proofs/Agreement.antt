@@ -14,8 +14,9 @@ use Rattle.fl_check.specs.Sizes.{scalar_size, align_of, greatest_align}
 use Rattle.fl_value.specs.Value.{Datum, number, string, elements, fields, Data, nothing_more, also}
 use Rattle.fl_value.specs.Fits.{has_type, have_types, all_have_type, count_of, is_argument, are_arguments, is_scalar_value, is_enumerator, least_above, how_many_below, is_text_byte}
 use Rattle.fl_value.specs.Plan.{is_dynamic}
-use Rattle.fl_wire.specs.Leaves.{Leaf, gap, whole, single, bits_of, value_onto, fields_onto, elements_onto, bytes_onto, Argument, argument_onto, arguments_onto, start_onto}
-use Rattle.fl_wire.specs.Payload.{size, place, payload_at}
+use Rattle.fl_layout.specs.Leaves.{Leaf, gap, whole, single, bits_of, value_onto, fields_onto, elements_onto, bytes_onto, Argument, argument_onto, arguments_onto, start_onto}
+use Rattle.fl_layout.specs.Places.{size, place}
+use Rattle.fl_wire.specs.Payload.{payload_at}
 use Rattle.fl_value.specs.declared.value.PlanNo.{PlanNo}
 use Rattle.fl_value.specs.declared.value.PlanNo.TheVariants.{One, Two}
 use Rattle.fl_wire.specs.Classes.{class_of, fixed_class, in_class, in_classes}
@@ -96,7 +97,7 @@ leaf_byte w a j low f h over =
     let longer : size (whole w a ∷ low) ≤ size f = subst (λ (ls : List Leaf). size (whole w a ∷ low) ≤ size ls) (sym over.is) (grows over.more (whole w a ∷ low)) in
     (same ∙ keeps over.more (whole w a ∷ low) p inside ∙ at_place (whole w a) low p j h refl, omega (arith, inside, longer))
 
-bytes_equal : (w a b : ℕ) (low f g : List Leaf) → Over (whole w a ∷ low) f → Over (whole w b ∷ low) g → Agree f g → (j : ℕ) → j < w → byte_at j a ≡ byte_at j b
+pub bytes_equal : (w a b : ℕ) (low f g : List Leaf) → Over (whole w a ∷ low) f → Over (whole w b ∷ low) g → Agree f g → (j : ℕ) → j < w → byte_at j a ≡ byte_at j b
 bytes_equal w a b low f g over_f over_g agree j h =
     let (left, inside) = leaf_byte w a j low f h over_f in
     let (right, also_inside) = leaf_byte w b j low g h over_g in
@@ -119,7 +120,7 @@ same_8 a b la lb e f g h i j k l =
     sym (from_le_bytes-to_le_bytes_8 a la) ∙ ap (from_le_bytes w64) same ∙ from_le_bytes-to_le_bytes_8 b lb
 
 -- numbers below 2 ^ (8 * w) with equal bytes
-same_number : (w : ℕ) → IsAlign w → (a b : ℕ) → a < 2 ^ (8 * w) → b < 2 ^ (8 * w) → ((j : ℕ) → j < w → byte_at j a ≡ byte_at j b) → a ≡ b
+pub same_number : (w : ℕ) → IsAlign w → (a b : ℕ) → a < 2 ^ (8 * w) → b < 2 ^ (8 * w) → ((j : ℕ) → j < w → byte_at j a ≡ byte_at j b) → a ≡ b
 same_number w (inl e) a b la lb h =
     let P : ℕ → Type 0 = λ v. a < 2 ^ (8 * v) → b < 2 ^ (8 * v) → ((j : ℕ) → j < v → byte_at j a ≡ byte_at j b) → a ≡ b in
     subst P (sym e) (λ la lb h. omega (arith, la, lb, h 0 (omega arith))) la lb h
@@ -158,7 +159,7 @@ abbrev pub InRange : ℕ → ℕ → ℤ → Type 0
 InRange high low (pos n) = n < high
 InRange high low (negsuc n) = n < low
 
-bits_told : (width high low : ℕ) → high + low ≤ 2 ^ (8 * width) → (x y : ℤ) → InRange high low x → InRange high low y → bits_of width x ≡ bits_of width y → x ≡ y
+pub bits_told : (width high low : ℕ) → high + low ≤ 2 ^ (8 * width) → (x y : ℤ) → InRange high low x → InRange high low y → bits_of width x ≡ bits_of width y → x ≡ y
 bits_told width high low room (pos n) (pos m) hx hy e = ap pos e
 bits_told width high low room (negsuc n) (negsuc m) hx hy e = ap negsuc (omega (arith, room, hx, hy, e))
 bits_told width high low room (pos n) (negsuc m) hx hy e = absurd (omega (arith, room, hx, hy, e))
@@ -177,7 +178,7 @@ enum_range n (pos k) h = ltb-true k n h
 enum_range n (negsuc k) h = absurd (false≢true h)
 
 -- numbers of one kind whose leaves agree
-number_told : (w high below : ℕ) → IsAlign w → high + below ≤ 2 ^ (8 * w) → (x y : ℤ) → InRange high below x → InRange high below y → (low f g : List Leaf)
+pub number_told : (w high below : ℕ) → IsAlign w → high + below ≤ 2 ^ (8 * w) → (x y : ℤ) → InRange high below x → InRange high below y → (low f g : List Leaf)
     → Over (whole w (bits_of w x) ∷ low) f → Over (whole w (bits_of w y) ∷ low) g → Agree f g → x ≡ y
 number_told w high below align room x y hx hy low f g over_f over_g agree =
     bits_told w high below room x y hx hy

@@ -1,5 +1,5 @@
 -- Arguments in the plan's order, class by class.
-use Rattle.std.proofs.Common.{◌≡◌, ℕ, pos, negsuc, zero, suc, ◌+◌, ◌-◌, ◌*◌, ◌^◌, ◌<◌, ◌≤◌, Bool, true, false, ◌⊎◌, inl, inr, ⊎_elim, List, [], ◌∷◌, ◌++◌, map, length, drop, refl, sym, ◌∙◌, ap, subst, arith, cond, ltb, eqb, append_assoc, min, max, lit≤}
+use Rattle.std.proofs.Common.{◌≡◌, ℕ, pos, negsuc, zero, suc, ◌+◌, ◌-◌, ◌*◌, ◌^◌, ◌<◌, ◌≤◌, Bool, true, false, inl, inr, ⊎_elim, List, [], ◌∷◌, ◌++◌, map, length, drop, refl, sym, ◌∙◌, ap, subst, arith, cond, ltb, eqb, append_assoc, min, max, lit≤}
 use Rattle.std.specs.Prelude.{filter, slice_get, Option, Some, None}
 use Rattle.std.specs.List.{zip, list_all}
 use Rattle.std.proofs.lemmas.List.{append-nil, drop_all}
@@ -14,8 +14,9 @@ use Rattle.fl_value.specs.Fits.{is_argument, are_arguments, fit_message, least_a
 use Rattle.fl_value.specs.Plan.{arranged, is_fixed_at, is_dynamic}
 use Rattle.fl_value.specs.declared.value.PlanNo.{PlanNo}
 use Rattle.fl_value.specs.declared.value.PlanNo.TheVariants.{One, Two}
-use Rattle.fl_wire.specs.Leaves.{Leaf, leaves, Argument, kind, argument_onto, arguments_onto, argument_types, types_of, is_number_type}
+use Rattle.fl_layout.specs.Leaves.{Leaf, leaves, Argument, kind, argument_onto, arguments_onto, argument_types, types_of, is_number_type}
 use Rattle.fl_wire.specs.Classes.{class_of, fixed_class, in_class, in_classes, number_width, number_of, fits_width, IsWordSized}
+pub use Rattle.fl_wire.specs.Classes.{IsAlign}
 
 -- ---- two lists side by side
 
@@ -149,9 +150,6 @@ arguments_fit None ds h = absurd (false≢true h)
 arguments_fit (Some m) ds h = h
 
 -- ---- alignments
-
-abbrev pub IsAlign : ℕ → Type 0
-IsAlign n = (n ≡ 1) ⊎ ((n ≡ 2) ⊎ ((n ≡ 4) ⊎ (n ≡ 8)))
 
 pub align_along : (m n : ℕ) → m ≡ n → IsAlign n → IsAlign m
 align_along m n e h = subst IsAlign (sym e) h

@@ -11,8 +11,9 @@ use Rattle.fl_check.specs.Interface.{TheInterface}
 use Rattle.fl_value.specs.Value.{TheCall}
 use Rattle.fl_value.specs.declared.value.PlanNo.{PlanNo}
 use Rattle.fl_check.specs.Sizes.{round_up}
-use Rattle.fl_wire.specs.Leaves.{Leaf, leaves, whole}
-use Rattle.fl_wire.specs.Payload.{size, place, payload_at, payload_bytes, payload_of, word, count, count_for, frag_on, frags_of}
+use Rattle.fl_layout.specs.Leaves.{Leaf, leaves, whole}
+use Rattle.fl_layout.specs.Places.{size, place, count, count_for}
+use Rattle.fl_wire.specs.Payload.{payload_at, payload_bytes, payload_of, word, frag_on, frags_of}
 
 pub length_payload : (ls : List Leaf) → length (payload_bytes ls) ≡ size ls
 length_payload ls = length-map-range_with_len (payload_at ls) 0 (size ls)

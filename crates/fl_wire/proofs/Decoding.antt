@@ -18,10 +18,11 @@ use Rattle.fl_check.specs.Sizes.{scalar_size}
 use Rattle.fl_value.specs.Value.{Datum, number, string, TheCall}
 use Rattle.fl_value.specs.Fits.{is_argument, are_arguments, least_above, how_many_below, is_scalar_value}
 use Rattle.fl_value.specs.declared.value.PlanNo.{PlanNo}
-use Rattle.fl_wire.specs.Leaves.{leaves, Argument, is_number_type, argument_types, arguments_onto}
-use Rattle.fl_wire.specs.Payload.{size, payload_of, word, frag_on, frags_of, count}
+use Rattle.fl_layout.specs.Leaves.{leaves, Argument, is_number_type, argument_types, arguments_onto}
+use Rattle.fl_layout.specs.Places.{size, count}
+use Rattle.fl_wire.specs.Payload.{payload_of, word, frag_on, frags_of}
 use Rattle.fl_wire.specs.Classes.{class_of, in_classes}
-use Rattle.fl_wire.specs.Standing.{firsts, fitting, words_in, HoldsPayload, raw_of, ReadBelow, signed_half, number_back, values_back}
+use Rattle.fl_wire.specs.Standing.{words_in, HoldsPayload, raw_of, signed_half, number_back}
 use Rattle.fl_wire.proofs.Bytes.{get_made}
 use Rattle.fl_wire.proofs.Arguments.{numbers_only, leaves_classes}
 use Rattle.fl_wire.proofs.Agreement.{class_small}
@@ -29,7 +30,7 @@ use Rattle.fl_wire.proofs.Readings.{window_of, window_at, window_small, byte_of_
 
 -- ---- numbers from their bits
 
-half_room : (s : Scalar) → (signed_half (fixed (scalar s)) ≡ 0) ⊎ ((least_above s ≡ signed_half (fixed (scalar s))) × (2 ^ (8 * scalar_size s) ≡ 2 * signed_half (fixed (scalar s))))
+pub half_room : (s : Scalar) → (signed_half (fixed (scalar s)) ≡ 0) ⊎ ((least_above s ≡ signed_half (fixed (scalar s))) × (2 ^ (8 * scalar_size s) ≡ 2 * signed_half (fixed (scalar s))))
 half_room Uint8 = inl refl
 half_room Int8 = inr (refl, refl)
 half_room BoolType = inl refl
@@ -46,15 +47,15 @@ half_room Intptr = inr (refl, refl)
 half_room Size = inl refl
 half_room Errval = inl refl
 
-abbrev back_from : ℕ → ℕ → ℤ
+abbrev pub back_from : ℕ → ℕ → ℤ
 back_from half bits = cond (ltb 0 half && leb half bits) (pos bits -ℤ pos (2 * half)) (pos bits)
 
-back_low : (half n : ℕ) → (half ≡ 0) ⊎ (n < half) → back_from half n ≡ pos n
+pub back_low : (half n : ℕ) → (half ≡ 0) ⊎ (n < half) → back_from half n ≡ pos n
 back_low half n (inl e) = rw e refl
 back_low half n (inr h) = rw (lt-leb half n h) (
     elim (ltb 0 half) as (λ v. cond (v && false) (pos n -ℤ pos (2 * half)) (pos n) ≡ pos n) [ true ↦ refl | false ↦ refl ])
 
-back_high : (half m bits : ℕ) → m < half → bits + 1 + m ≡ 2 * half → back_from half bits ≡ negsuc m
+pub back_high : (half m bits : ℕ) → m < half → bits + 1 + m ≡ 2 * half → back_from half bits ≡ negsuc m
 back_high half m bits h e = rw (lt-ltb 0 half (omega (arith, h)), le-leb half bits (omega (arith, h, e))) (omega (arith, ints, h, e))
 
 scalar_back : (s : Scalar) (z : ℤ) → is_scalar_value s z ≡ true → number_back (fixed (scalar s)) (raw_of (fixed (scalar s), number z)) ≡ z
@@ -76,46 +77,9 @@ number_told (fixed (enumeration n)) (number (pos m)) k h = refl
 number_told (fixed (enumeration n)) (number (negsuc m)) k h = absurd (false≢true h)
 number_told t d k h = cc
 
--- the arguments back from their bits
-pub values_told : (args : List Argument) → numbers_only args ≡ true → fitting args ≡ true → values_back (firsts args) (map raw_of args) ≡ map (λ (a : Argument). a.1) args
-values_told [] k h = refl
-values_told (a ∷ args) k h =
-    let one = number_told a.0 a.1 (first_so (is_number_type a.0) _ k) (first_so (is_argument a.0 a.1) _ h) in
-    let rest = values_told args (second_so (is_number_type a.0) _ k) (second_so (is_argument a.0 a.1) _ h) in
-    ap (λ (d : Datum). d ∷ values_back (firsts args) (map raw_of args)) one ∙ ap (λ (ds : List Datum). a.1 ∷ ds) rest
-
--- all numbers have been read
-pub raws_told : (plan : PlanNo) (args : List Argument) (raws : List ℕ) → length raws ≡ length args → ReadBelow plan 5 args raws → raws ≡ map raw_of args
-raws_told plan args raws long r = ext_get_or 0 raws (map raw_of args) (long ∙ sym (length-map args raw_of))
-    (λ k h. r.at k (omega (arith, h, long)) (subst (λ (n : ℕ). n < 5) (sym (get_or-map (λ (a : Argument). class_of plan a.0) args k (text 0, string []) 0 (omega (arith, h, long))))
-    (class_small plan (get_or args k (text 0, string [])).0)))
-
-pub zip_firsts : (ts : List TheArgType) (ds : List Datum) → are_arguments ts ds ≡ true → firsts (zip ts ds) ≡ ts
-zip_firsts [] ds h = refl
-zip_firsts (t ∷ ts) [] h = absurd (false≢true h)
-zip_firsts (t ∷ ts) (d ∷ ds) h = ap (λ (us : List TheArgType). t ∷ us) (zip_firsts ts ds (second_so (is_argument t d) _ h))
-
-pub zip_seconds : (ts : List TheArgType) (ds : List Datum) → are_arguments ts ds ≡ true → map (λ (a : Argument). a.1) (zip ts ds) ≡ ds
-zip_seconds [] [] h = refl
-zip_seconds [] (d ∷ ds) h = absurd (false≢true h)
-zip_seconds (t ∷ ts) [] h = absurd (false≢true h)
-zip_seconds (t ∷ ts) (d ∷ ds) h = ap (λ (us : List Datum). d ∷ us) (zip_seconds ts ds (second_so (is_argument t d) _ h))
-
-back_none : (ts : List TheArgType) → values_back ts [] ≡ []
-back_none [] = refl
-back_none (t ∷ ts) = refl
-
--- where the pairs of two lists run out, so does the shorter one
-pub back_done : {T : Type 0} (f : T → TheArgType) (ts : List T) (raws : List ℕ) (n : ℕ) → n ≡ min (length ts) (length raws)
-    → values_back (map f (drop n ts)) (drop n raws) ≡ []
-back_done f ts raws n e = ⊎_elim
-    (λ (short : length ts < length raws). rw (drop_all n ts (omega (arith, e, short))) refl)
-    (λ (short : length raws ≤ length ts). rw (drop_all n raws (omega (arith, e, short))) (back_none (map f (drop n ts))))
-    (cases_lt (length ts) (length raws))
-
 -- ---- what the first fragments of a call hold
 
-byte_of_list : (r n : ℕ) → r < 8 → get_or (to_le_bytes w64 n) r 0 ≡ byte_at r n
+pub byte_of_list : (r n : ℕ) → r < 8 → get_or (to_le_bytes w64 n) r 0 ≡ byte_at r n
 byte_of_list zero n h = refl
 byte_of_list (suc zero) n h = refl
 byte_of_list (suc (suc zero)) n h = refl
@@ -168,10 +132,6 @@ front_message plan i c k frags f h e some small is =
     let same : Some f ≡ Some (frag_on 0 c.msg (payload_of plan i c) 0) = is ∙ front_get plan i c k 0 frags h e some in
     let control : f.control ≡ control_word true c.msg 0 = control_same f (frag_on 0 c.msg (payload_of plan i c) 0) same in
     omega (arith, control, small)
-
--- all that the reading of a call's first fragments rests on
-pub front_args : (plan : PlanNo) (i : TheInterface) (c : TheCall) → leaves plan i c ≡ arguments_onto false (in_classes plan 5 0 (zip (argument_types i c.msg) c.args)) []
-front_args plan i c = leaves_classes plan i c
 
 -- a call that is cut short, and one that is whole
 pub short_count : (size count k : ℕ) → count ≡ max 1 ((size + 55) / 56) → 56 * k < size → k < count

@@ -1,6 +1,13 @@
 pub mod Bytes
 pub mod Arguments
+pub mod Encoding
 pub mod Agreement
 pub mod Readings
 pub mod Numbers
 pub mod Decoding
+pub mod Steps
+pub mod Sites
+pub mod Parts
+pub mod Calls
+pub mod Fronts
+pub mod Defaults

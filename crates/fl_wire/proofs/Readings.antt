@@ -1,10 +1,10 @@
 -- Fragments and the calls that they mean.
-use Rattle.std.proofs.Common.{◌≡◌, ℕ, zero, suc, ◌+◌, ◌-◌, ◌*◌, ◌/◌, ◌%◌, ◌^◌, ◌<◌, ◌≤◌, true, false, inl, inr, ⊎_elim, List, [], ◌∷◌, ◌++◌, map, length, get_or, take, slice_index, refl, sym, ◌∙◌, ap, subst, arith, cond, ltb, leb, ◌&&◌, append_assoc, max}
+use Rattle.std.proofs.Common.{◌≡◌, ℕ, zero, suc, ◌+◌, ◌-◌, ◌*◌, ◌/◌, ◌%◌, ◌^◌, ◌<◌, ◌≤◌, true, false, ◌⊎◌, inl, inr, ⊎_elim, List, [], ◌∷◌, ◌++◌, map, length, get_or, take, slice_index, refl, sym, ◌∙◌, ap, subst, arith, cond, ltb, leb, ◌&&◌, append_assoc, max}
 use Rattle.std.specs.Prelude.{slice_get}
 use Rattle.std.specs.List.{range_with_len, zip, list_all, flat_map}
 use Rattle.std.specs.Int.{byte_at, to_le_bytes, w64}
 use Rattle.std.proofs.lemmas.Nat.{le_bytes_8, mod_below}
-use Rattle.std.proofs.lemmas.List.{length-append, get_or_past, take-append-le, append_cancel_left, get_or-take, take_at, take-take}
+use Rattle.std.proofs.lemmas.List.{length-append, length-map, map-append, get_or_past, take-append-le, append_cancel_left, get_or-take, take_at, take-take}
 use Rattle.std.proofs.lemmas.List.FromFn.{length-map-range_with_len, get_or-map-range_with_len}
 use Rattle.std.proofs.lemmas.Bool.{cases_lt}
 use Rattle.fl_base.specs.declared.fragment.Frag.{Frag}
@@ -12,12 +12,13 @@ use Rattle.fl_check.specs.Interface.{TheInterface, TheMessage}
 use Rattle.fl_value.specs.Value.{Datum, TheCall}
 use Rattle.fl_value.specs.Fits.{fits_of, are_arguments}
 use Rattle.fl_value.specs.declared.value.PlanNo.{PlanNo}
-use Rattle.fl_wire.specs.Leaves.{Leaf, leaves, argument_types, types_of, arguments_onto}
+use Rattle.fl_layout.specs.Leaves.{Leaf, leaves, argument_types, types_of, arguments_onto}
 use Rattle.fl_wire.specs.Classes.{in_classes}
 use Rattle.std.specs.Cmp.{first_so, second_so}
-use Rattle.fl_wire.specs.Payload.{size, place, payload_at, payload_bytes, payload_of, count, word, frag_on, frags_of}
+use Rattle.fl_layout.specs.Places.{size, place, count}
+use Rattle.fl_wire.specs.Payload.{payload_at, payload_bytes, payload_of, word, frag_on, frags_of}
 use Rattle.fl_wire.specs.Words.{interface_words_fit, argument_words_fit}
-use Rattle.fl_wire.specs.Reading.{AllFit, IsRest}
+use Rattle.fl_wire.specs.Reading.{plain, AllFit, IsRest, IsPart, Reads}
 use Rattle.fl_wire.proofs.Bytes.{length_payload, get_payload, past_end}
 use Rattle.fl_wire.proofs.Arguments.{leaves_classes, arguments_fit}
 use Rattle.fl_wire.proofs.Agreement.{Agree, values_agree}
@@ -40,7 +41,7 @@ pub size_in_frags : (plan : PlanNo) (i : TheInterface) (c : TheCall) → size (l
 size_in_frags plan i c = covered (size (leaves plan i c))
 
 -- every payload byte is a byte
-byte_small : (j n : ℕ) → byte_at j n < 256
+pub byte_small : (j n : ℕ) → byte_at j n < 256
 byte_small zero n = mod_below n 256 (omega arith)
 byte_small (suc j) n = mod_below (n / 256 ^ suc j) 256 (omega arith)
 
@@ -213,3 +214,38 @@ one_reading plan i (c ∷ cs) (d ∷ ds) x y w hc hd rx ry e =
     let rest = append_cancel_left (frags_of plan i c) (joined plan i cs x) (joined plan i ds y) (e' ∙ ap (λ (b : TheCall). frags_of plan i b ++ joined plan i ds y) (sym same)) in
     let (tails, rests) = one_reading plan i cs ds x y w (rest_fit i c cs hc) (rest_fit i d ds hd) rx ry rest in
     (cons_same c d cs ds same tails, rests)
+
+-- ---- the same of what fragments read as, their epochs and counts told set aside
+
+plain_rest : (plan : PlanNo) (i : TheInterface) (x : List Frag) → (x ≡ []) ⊎ IsPart plan i x → IsRest plan i (map plain x)
+plain_rest plan i x (inl none) = inl (ap (map plain) none)
+plain_rest plan i x (inr part) = inr (
+  part.call,
+  record {
+    fits = part.fits;
+    short = subst (λ (n : ℕ). n < count plan i part.call) (sym (length-map x plain)) part.short;
+    front = part.front ∙ ap (λ (n : ℕ). take n (frags_of plan i part.call)) (sym (length-map x plain));
+  },
+)
+
+plain_joined : (plan : PlanNo) (i : TheInterface) (frags : List Frag) (cs : List TheCall) (x : List Frag) → Reads plan i frags cs x → map plain frags ≡ joined plan i cs (map plain x)
+plain_joined plan i frags cs x r = ap (map plain) r.joined ∙ map-append plain r.whole x ∙ ap (λ (fs : List Frag). fs ++ map plain x) r.mean
+
+-- ends of one list that are as long as each other
+ends_same : (a b x y : List Frag) → a ++ x ≡ b ++ y → length x ≡ length y → x ≡ y
+ends_same [] [] x y e long = e
+ends_same [] (g ∷ b) x y e long =
+    let lengths : length x ≡ length (g ∷ b) + length y = ap length e ∙ length-append (g ∷ b) y in
+    absurd (omega (arith, lengths, long))
+ends_same (f ∷ a) [] x y e long =
+    let lengths : length (f ∷ a) + length x ≡ length y = sym (length-append (f ∷ a) x) ∙ ap length e in
+    absurd (omega (arith, lengths, long))
+ends_same (f ∷ a) (g ∷ b) x y e long = let tails : a ++ x ≡ b ++ y = cc in ends_same a b x y tails long
+
+pub reads_once : (plan : PlanNo) (i : TheInterface) (frags : List Frag) (cs ds : List TheCall) (x y : List Frag) → interface_words_fit i ≡ true
+    → Reads plan i frags cs x → Reads plan i frags ds y → (cs ≡ ds) × (x ≡ y)
+reads_once plan i frags cs ds x y w r s =
+    let (calls, rests) = one_reading plan i cs ds (map plain x) (map plain y) w r.fit s.fit (plain_rest plan i x r.part) (plain_rest plan i y s.part)
+    (sym (plain_joined plan i frags cs x r) ∙ plain_joined plan i frags ds y s) in
+    let long : length x ≡ length y = sym (length-map x plain) ∙ ap length rests ∙ length-map y plain in
+    (calls, ends_same r.whole s.whole x y (sym r.joined ∙ s.joined) long)

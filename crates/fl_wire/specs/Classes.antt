@@ -1,12 +1,16 @@
 -- The plan's order of arguments by classes: the arguments of class 0 as declared, then those of class 1, and
 -- so on to class 4.
-use Rattle.std.specs.Prelude.{◌≤◌, ℕ, ℤ, pos, negsuc, ◌*◌, ◌^◌, nat_lt, suc, zero, ◌+◌, ◌==◌, nat_eq, Bool, if◌then◌else◌, List, [], ◌++◌, filter}
+use Rattle.std.specs.Prelude.{◌≡◌, ◌⊎◌, ◌≤◌, ℕ, ℤ, pos, negsuc, ◌*◌, ◌^◌, nat_lt, suc, zero, ◌+◌, ◌==◌, nat_eq, Bool, if◌then◌else◌, List, [], ◌++◌, filter}
 use Rattle.fl_check.specs.Interface.{scalar, enumeration, TheArgType, fixed, text, sized}
 use Rattle.fl_check.specs.Sizes.{align_of, scalar_size}
 use Rattle.fl_value.specs.Value.{Datum, number, string, elements, fields}
 use Rattle.fl_value.specs.declared.value.PlanNo.{PlanNo}
 use Rattle.fl_value.specs.declared.value.PlanNo.TheVariants.{One, Two}
-use Rattle.fl_wire.specs.Leaves.{Argument}
+use Rattle.fl_layout.specs.Leaves.{Argument}
+
+-- the alignments that types have, which are the widths that numbers have
+abbrev pub IsAlign : ℕ → Type 0
+IsAlign n = (n ≡ 1) ⊎ ((n ≡ 2) ⊎ ((n ≡ 4) ⊎ (n ≡ 8)))
 
 -- fixed arguments of alignment 8, 4, 2 and 1
 abbrev pub fixed_class : ℕ → ℕ

@@ -1,6 +1,9 @@
-pub mod Leaves
 pub mod Payload
 pub mod Reading
 pub mod Classes
 pub mod Words
 pub mod Standing
+pub mod Shapes
+pub mod Fault
+pub mod Wrong
+pub mod Alive

@@ -1,23 +1,14 @@
--- The payload of a call, by places, and its fragments.
-use Rattle.std.specs.Prelude.{ℕ, ◌+◌, ◌-◌, ◌*◌, ◌/◌, ◌==◌, ◌&&◌, nat_lt, nat_le, max, if◌then◌else◌, List, [], ◌∷◌, map, slice_index}
+-- The payload of a call, by the places of its leaves, and its fragments.
+use Rattle.std.specs.Prelude.{ℕ, ◌+◌, ◌-◌, ◌*◌, ◌==◌, ◌&&◌, nat_lt, nat_le, if◌then◌else◌, List, [], ◌∷◌, map, slice_index}
 use Rattle.std.specs.List.{range_with_len}
 use Rattle.std.specs.Int.{byte_at, from_le_bytes, w64}
 use Rattle.fl_base.specs.declared.fragment.Frag.{Frag}
 use Rattle.fl_base.specs.Control.{control_word}
 use Rattle.fl_check.specs.Interface.{TheInterface}
-use Rattle.fl_check.specs.Sizes.{round_up}
 use Rattle.fl_value.specs.Value.{TheCall}
 use Rattle.fl_value.specs.declared.value.PlanNo.{PlanNo}
-use Rattle.fl_wire.specs.Leaves.{Leaf, leaves}
-
--- how many bytes some leaves take, each at the next multiple of its alignment
-abbrev pub size : List Leaf → ℕ
-size [] = 0
-size (leaf ∷ before) = round_up (size before) leaf.align + leaf.width
-
--- where a leaf stands, after those before it
-abbrev pub place : Leaf → List Leaf → ℕ
-place leaf before = round_up (size before) leaf.align
+use Rattle.fl_layout.specs.Leaves.{Leaf, leaves}
+use Rattle.fl_layout.specs.Places.{size, place, count}
 
 -- each leaf's bytes stand at its place, little-endian, and every other byte is 0
 abbrev pub payload_at : List Leaf → ℕ → ℕ
@@ -33,14 +24,6 @@ payload_bytes ls = map (payload_at ls) (range_with_len 0 (size ls))
 -- the payload of a call
 abbrev pub payload_of : PlanNo → TheInterface → TheCall → List ℕ
 payload_of plan i c = payload_bytes (leaves plan i c)
-
--- how many fragments so many payload bytes take
-abbrev pub count_for : ℕ → ℕ
-count_for bytes = max 1 ((bytes + 55) / 56)
-
--- how many fragments a call takes
-abbrev pub count : PlanNo → TheInterface → TheCall → ℕ
-count plan i c = count_for (size (leaves plan i c))
 
 -- the next 8 payload bytes as a word, zeros after the end
 abbrev pub word : List ℕ → ℕ → ℕ
@@ -61,8 +44,3 @@ frags_on circuit plan i c =
 -- the fragments of a call off links
 abbrev pub frags_of : PlanNo → TheInterface → TheCall → List Frag
 frags_of plan i c = frags_on 0 plan i c
-
--- the number of fragments of a list of calls
-abbrev pub total : PlanNo → TheInterface → List TheCall → ℕ
-total plan i [] = 0
-total plan i (c ∷ cs) = count plan i c + total plan i cs

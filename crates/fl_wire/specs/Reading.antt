@@ -8,7 +8,8 @@ use Rattle.fl_value.specs.Value.{TheCall}
 use Rattle.fl_value.specs.Fits.{fits_of}
 use Rattle.fl_value.specs.declared.value.PlanNo.{PlanNo}
 use Rattle.fl_wire.specs.Words.{interface_words_fit}
-use Rattle.fl_wire.specs.Payload.{count, frags_of, frags_on}
+use Rattle.fl_layout.specs.Places.{count}
+use Rattle.fl_wire.specs.Payload.{frags_of, frags_on}
 
 -- a fragment with epoch 0 and nothing told
 abbrev pub plain : Frag → Frag
@@ -62,3 +63,8 @@ OneReading = (plan : PlanNo) (i : TheInterface) (cs ds : List TheCall) (x y : Li
 abbrev pub NoneBeginsWithAnother : Type 0
 NoneBeginsWithAnother = (plan : PlanNo) (i : TheInterface) (c d : TheCall) → interface_words_fit i ≡ true → fits_of i c ≡ true → fits_of i d ≡ true
     → count plan i c ≤ count plan i d → frags_of plan i c ≡ take (count plan i c) (frags_of plan i d) → c ≡ d
+
+-- no list of fragments reads in two ways
+abbrev pub ReadsOnce : Type 0
+ReadsOnce = (plan : PlanNo) (i : TheInterface) (frags : List Frag) (cs ds : List TheCall) (x y : List Frag) → interface_words_fit i ≡ true
+    → Reads plan i frags cs x → Reads plan i frags ds y → (cs ≡ ds) × (x ≡ y)

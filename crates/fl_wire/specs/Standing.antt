@@ -1,4 +1,4 @@
--- What a reader of fragments knows: their bytes, the leaves that stand under others, and the numbers read so far.
+-- What a reader of fragments knows: their bytes, the leaves that stand under others, and numbers by their bits.
 use Rattle.std.specs.Prelude.{◌≡◌, ℕ, ℤ, pos, ◌-ℤ◌, ◌-◌, ◌*◌, ◌/◌, ◌%◌, ◌^◌, ◌<◌, ◌&&◌, nat_lt, nat_le, if◌then◌else◌, Bool, List, ◌++◌, [], ◌∷◌, map, length, slice_index, slice_get, Option, Some, None}
 use Rattle.std.specs.List.{list_all}
 use Rattle.std.specs.Int.{byte_at}
@@ -7,7 +7,7 @@ use Rattle.fl_check.specs.Interface.{scalar, TheArgType, fixed}
 use Rattle.fl_value.specs.Value.{Datum, number}
 use Rattle.fl_value.specs.Fits.{is_argument, is_signed, scalar_bits}
 use Rattle.fl_value.specs.declared.value.PlanNo.{PlanNo}
-use Rattle.fl_wire.specs.Leaves.{Leaf, Argument, bits_of}
+use Rattle.fl_layout.specs.Leaves.{Leaf, Argument, bits_of}
 use Rattle.fl_wire.specs.Payload.{payload_at}
 use Rattle.fl_wire.specs.Classes.{class_of, number_width, number_of}
 
@@ -40,13 +40,6 @@ pub record HoldsPayload (frags : List Frag) (full : List Leaf) : Type 0 where
 abbrev pub raw_of : Argument → ℕ
 raw_of a = bits_of (number_width a.0) (number_of a.1)
 
-abbrev pub classes_of : PlanNo → List Argument → List ℕ
-classes_of plan args = map (λ (a : Argument). class_of plan a.0) args
-
--- the numbers of the arguments in the classes below one have been read
-pub record ReadBelow (plan : PlanNo) (class : ℕ) (args : List Argument) (raws : List ℕ) : Type 0 where
-  pub at : (k : ℕ) → k < length args → slice_index (classes_of plan args) k < class → slice_index raws k ≡ slice_index (map raw_of args) k
-
 -- the numbers from this one on stand for those below 0; 0 for types without a sign
 abbrev pub signed_half : TheArgType → ℕ
 signed_half (fixed (scalar s)) = if is_signed s then 2 ^ (scalar_bits s - 1) else 0
@@ -55,14 +48,3 @@ signed_half t = 0
 -- the number that has these bits
 abbrev pub number_back : TheArgType → ℕ → ℤ
 number_back t bits = if nat_lt 0 (signed_half t) && nat_le (signed_half t) bits then pos bits -ℤ pos (2 * signed_half t) else pos bits
-
--- beside those, the numbers of the arguments in that class whose index is below one have been read
-pub record ReadFront (plan : PlanNo) (class n : ℕ) (args : List Argument) (raws : List ℕ) : Type 0 where
-  pub below : ReadBelow plan class args raws
-  pub front : (k : ℕ) → k < length args → slice_index (classes_of plan args) k ≡ class → k < n → slice_index raws k ≡ slice_index (map raw_of args) k
-
--- the arguments that have these bits
-abbrev pub values_back : List TheArgType → List ℕ → List Datum
-values_back [] raws = []
-values_back (t ∷ ts) [] = []
-values_back (t ∷ ts) (r ∷ rs) = number (number_back t r) ∷ values_back ts rs

@@ -1,42 +1,80 @@
 //! The payload of a call.
 
-ghost use Rattle.std.specs.Prelude.{◌≡◌, ℕ, pos, ◌+◌, ◌-◌, ◌*◌, ◌%◌, ◌^◌, ◌<◌, ◌≤◌, ◌⊎◌, true, false, List, [], ◌∷◌, ◌++◌, map, length, replicate, OnOk, IfOk};
+ghost use Rattle.std.specs.Prelude.{◌≡◌, ℕ, ℤ, pos, ◌+◌, ◌-◌, ◌*◌, ◌%◌, ◌^◌, ◌<◌, ◌≤◌, ◌⊎◌, true, false, List, [], ◌∷◌, ◌++◌, map, length, take, replicate, OnOk, IfOk};
 ghost use Rattle.std.specs.List.{zip, list_all};
-ghost use Rattle.fl_check.specs.Interface.{arg_type_of, interface_of};
-ghost use Rattle.fl_check.specs.Sizes.{round_up};
-ghost use Rattle.fl_value.specs.Value.{datum_of, call_of};
-ghost use Rattle.fl_value.specs.Fits.{fits_of, are_arguments, is_argument};
-ghost use Rattle.fl_wire.specs.Leaves.{Leaf, gap, whole, bits_of, is_number_type, scalars_only_of, argument_onto, arguments_onto};
-ghost use Rattle.fl_wire.specs.Payload.{payload_bytes, payload_of, size};
-ghost use Rattle.fl_wire.specs.Classes.{in_class, in_classes, number_width, number_of, fits_width};
+ghost use Rattle.std.specs.Int.{to_le_bytes, w64};
+ghost use Rattle.fl_check.specs.Interface.{type_of, fields_from, arg_type_of, interface_of};
+ghost use Rattle.fl_check.specs.Sizes.{round_up, align_of, greatest_align};
+ghost use Rattle.fl_value.specs.Value.{datum_of, data_from, call_of};
+ghost use Rattle.fl_value.specs.Fits.{count_of, fits_of, has_type, have_types, all_have_type, are_arguments, is_argument, is_text_byte};
+ghost use Rattle.fl_value.specs.Plan.{arranged, is_dynamic};
+ghost use Rattle.fl_layout.specs.Leaves.{Leaf, gap, whole, bits_of, kind, value_onto, fields_onto, elements_onto, bytes_onto, argument_onto, arguments_onto};
+ghost use Rattle.fl_layout.specs.Places.{size};
+ghost use Rattle.fl_wire.specs.Payload.{payload_bytes, payload_of};
+ghost use Rattle.fl_wire.specs.Classes.{IsAlign, in_class, in_classes, fits_width};
 
-use crate::types::{CLASSES, arguments_of, class_in, width_of};
-use fl_check::{ArgType, Interface};
+use crate::types::{CLASSES, alignment, arguments_of, class_for, is_dynamic};
+use fl_base::FRAG_BYTES;
+use fl_check::{ArgType, FixedType, Interface};
 use fl_value::{Call, PlanNo, Value};
 use std::alloc::{AllocError, Global};
 
+// How many bytes are missing up to the next multiple of an alignment.
+fn missing(len: usize, align: usize) -> usize
+    requires align { IsAlign align }
+    ensures missing { result ≡ round_up len align - len }
+    ensures few { result < 8 }
+{
+    match align {
+        1 => 0,
+        2 => len % 2,
+        4 => (4 - len % 4) % 4,
+        _ => (8 - len % 8) % 8,
+    }
+}
+
 // Zeros up to the next multiple of an alignment.
 fn align_to(out: &mut Vec<u8>, align: usize) -> Result<(), AllocError>
-    requires align { (align ≡ 1) ⊎ ((align ≡ 2) ⊎ ((align ≡ 4) ⊎ (align ≡ 8))) }
+    requires align { IsAlign align }
     ensures ok { OnOk result (out.new.items ≡ out.old.items ++ replicate (round_up (length out.old.items) align - length out.old.items) 0) }
 {
-    let missing = (align - out.len() % align) % align;
-    out.extend_from_slice(&[0; 8][..missing])
+    out.extend_from_slice(&[0; 8][..missing(out.len(), align)])
+}
+
+// A leaf without a byte: what follows starts at a multiple of the alignment.
+fn put_gap(out: &mut Vec<u8>, align: usize) -> Result<(), AllocError>
+    requires align { IsAlign align }
+    ensures ok { OnOk result ((before : List Leaf) → out.old.items ≡ payload_bytes before → out.new.items ≡ payload_bytes (gap align ∷ before)) }
+{
+    align_to(out, align)
+}
+
+// So many low bytes of a number.
+fn put_low_bytes(out: &mut Vec<u8>, width: usize, number: u64) -> Result<(), AllocError>
+    requires width { IsAlign width }
+    ensures ok { OnOk result (out.new.items ≡ out.old.items ++ take width (to_le_bytes w64 number)) }
+{
+    let bytes = number.to_le_bytes();
+    match width {
+        1 => out.extend_from_slice(&bytes[..1]),
+        2 => out.extend_from_slice(&bytes[..2]),
+        4 => out.extend_from_slice(&bytes[..4]),
+        _ => out.extend_from_slice(&bytes),
+    }
 }
 
 // A number's low bytes, at the next multiple of their number.
 fn put_number(out: &mut Vec<u8>, width: usize, number: u64) -> Result<(), AllocError>
-    requires width { (width ≡ 1) ⊎ ((width ≡ 2) ⊎ ((width ≡ 4) ⊎ (width ≡ 8))) }
+    requires width { IsAlign width }
     ensures ok { OnOk result ((before : List Leaf) → out.old.items ≡ payload_bytes before → out.new.items ≡ payload_bytes (whole width number ∷ before)) }
 {
     align_to(out, width)?;
-    out.extend_from_slice(&number.to_le_bytes()[..width])?;
-    Ok(())
+    put_low_bytes(out, width, number)
 }
 
 // How many numbers so many bytes hold.
 fn modulus(width: usize) -> i128
-    requires width { (width ≡ 1) ⊎ ((width ≡ 2) ⊎ ((width ≡ 4) ⊎ (width ≡ 8))) }
+    requires width { IsAlign width }
     ensures modulus { result ≡ pos (2 ^ (8 * width)) }
 {
     match width {
@@ -48,13 +86,11 @@ fn modulus(width: usize) -> i128
 }
 
 // The bits of a number, in so many bytes, two's complement.
-fn bits(width: usize, value: &Value) -> u64
-    requires width { (width ≡ 1) ⊎ ((width ≡ 2) ⊎ ((width ≡ 4) ⊎ (width ≡ 8))) }
-    requires fits { fits_width width (number_of (datum_of value.now)) ≡ true }
-    ensures bits { result ≡ bits_of width (number_of (datum_of value.now)) }
+fn bits(width: usize, number: i128) -> u64
+    requires width { IsAlign width }
+    requires fits { fits_width width number ≡ true }
+    ensures bits { result ≡ bits_of width number }
 {
-    let Value::Int(number) = value else { return 0 };
-    let number = *number;
     let raw = if number < 0 {
         number + modulus(width)
     } else {
@@ -63,18 +99,128 @@ fn bits(width: usize, value: &Value) -> u64
     raw as u64
 }
 
-// An argument's bytes, at their place.
-fn put_argument(out: &mut Vec<u8>, ty: &ArgType, value: &Value) -> Result<(), AllocError>
-    requires number { is_number_type (arg_type_of ty.now) ≡ true }
-    requires fits { is_argument (arg_type_of ty.now) (datum_of value.now) ≡ true }
-    ensures ok { OnOk result ((before : List Leaf) → out.old.items ≡ payload_bytes before → out.new.items ≡ payload_bytes (argument_onto (arg_type_of ty.now) (datum_of value.now) before)) }
+// A value of a type with that alignment, which is also a number's width.
+#[cycle(values)]
+fn put_value(
+    out: &mut Vec<u8>,
+    ty: &FixedType,
+    align: usize,
+    value: &Value,
+) -> Result<(), AllocError>
+    requires aligned { align ≡ align_of (type_of ty.now) }
+    requires fits { has_type (type_of ty.now) (datum_of value.now) ≡ true }
+    ensures ok { OnOk result ((before : List Leaf) → out.old.items ≡ payload_bytes before → out.new.items ≡ payload_bytes (value_onto (type_of ty.now) (datum_of value.now) before)) }
 {
-    let width = width_of(ty);
-    put_number(out, width, bits(width, value))?;
+    match ty {
+        FixedType::Scalar(_) => match value {
+            Value::Int(number) => put_number(out, align, bits(align, *number)),
+            _ => Ok(()),
+        },
+        FixedType::Enumeration(count) => {
+            let _count = *count;
+            match value {
+                Value::Int(number) => put_number(out, align, bits(align, *number)),
+                _ => Ok(()),
+            }
+        }
+        FixedType::Structure(fields) => match value {
+            Value::Fields(values) => put_struct(out, fields, align, values),
+            _ => Ok(()),
+        },
+        FixedType::Array(_, element) => match value {
+            Value::List(values) => put_elements(out, element, align, values),
+            _ => Ok(()),
+        },
+    }
+}
+
+// A struct of that alignment: it begins and ends at a multiple of it.
+#[cycle(values)]
+fn put_struct(
+    out: &mut Vec<u8>,
+    fields: &[FixedType],
+    align: usize,
+    values: &[Value],
+) -> Result<(), AllocError>
+    requires aligned { align ≡ greatest_align (fields_from (map type_of fields.now)) }
+    requires fit { have_types (fields_from (map type_of fields.now)) (data_from (map datum_of values.now)) ≡ true }
+    ensures ok { OnOk result ((before : List Leaf) → out.old.items ≡ payload_bytes before → out.new.items ≡ payload_bytes (gap align ∷ fields_onto (fields_from (map type_of fields.now)) (data_from (map datum_of values.now)) (gap align ∷ before))) }
+{
+    put_gap(out, align)?;
+    put_fields(out, fields, values)?;
+    put_gap(out, align)
+}
+
+// The fields of a struct, in order.
+#[cycle(values)]
+fn put_fields(out: &mut Vec<u8>, fields: &[FixedType], values: &[Value]) -> Result<(), AllocError>
+    requires fit { have_types (fields_from (map type_of fields.now)) (data_from (map datum_of values.now)) ≡ true }
+    ensures ok { OnOk result ((before : List Leaf) → out.old.items ≡ payload_bytes before → out.new.items ≡ payload_bytes (fields_onto (fields_from (map type_of fields.now)) (data_from (map datum_of values.now)) before)) }
+{
+    for (field, value) in fields.iter().zip(values) {
+        put_value(out, field, alignment(field), value)?;
+    }
     Ok(())
 }
 
-// The arguments of one class, one after another.
+// Elements of one type, which has that alignment.
+#[cycle(values)]
+fn put_elements(
+    out: &mut Vec<u8>,
+    element: &FixedType,
+    align: usize,
+    values: &[Value],
+) -> Result<(), AllocError>
+    requires aligned { align ≡ align_of (type_of element.now) }
+    requires fit { all_have_type (type_of element.now) (data_from (map datum_of values.now)) ≡ true }
+    ensures ok { OnOk result ((before : List Leaf) → out.old.items ≡ payload_bytes before → out.new.items ≡ payload_bytes (elements_onto (type_of element.now) (data_from (map datum_of values.now)) before)) }
+{
+    for value in values {
+        put_value(out, element, align, value)?;
+    }
+    Ok(())
+}
+
+// A string: its length in 8 bytes, then its bytes.
+fn put_text(out: &mut Vec<u8>, bytes: &[u8]) -> Result<(), AllocError>
+    requires text { list_all is_text_byte bytes.now ≡ true }
+    ensures ok { OnOk result ((before : List Leaf) → out.old.items ≡ payload_bytes before → out.new.items ≡ payload_bytes (bytes_onto bytes.now (whole 8 (length bytes.now) ∷ before))) }
+{
+    put_number(out, 8, bytes.len() as u64)?;
+    out.extend_from_slice(bytes)?;
+    Ok(())
+}
+
+// A sized array: its length in 8 bytes, then its elements.
+#[tactic(auto, using(crate::proofs::Encoding::count_from))]
+fn put_sized(out: &mut Vec<u8>, element: &FixedType, values: &[Value]) -> Result<(), AllocError>
+    requires fit { all_have_type (type_of element.now) (data_from (map datum_of values.now)) ≡ true }
+    ensures ok { OnOk result ((before : List Leaf) → out.old.items ≡ payload_bytes before → out.new.items ≡ payload_bytes (elements_onto (type_of element.now) (data_from (map datum_of values.now)) (whole 8 (count_of (data_from (map datum_of values.now))) ∷ before))) }
+{
+    put_number(out, 8, values.len() as u64)?;
+    put_elements(out, element, alignment(element), values)
+}
+
+// An argument's leaves, at their places.
+fn put_argument(out: &mut Vec<u8>, ty: &ArgType, value: &Value) -> Result<(), AllocError>
+    requires fits { is_argument (arg_type_of ty.now) (datum_of value.now) ≡ true }
+    ensures ok { OnOk result ((before : List Leaf) → out.old.items ≡ payload_bytes before → out.new.items ≡ payload_bytes (argument_onto (arg_type_of ty.now) (datum_of value.now) before)) }
+{
+    match ty {
+        ArgType::Fixed(fixed) => put_value(out, fixed, alignment(fixed), value),
+        ArgType::Text(_) => match value {
+            Value::Text(bytes) => put_text(out, bytes),
+            _ => Ok(()),
+        },
+        ArgType::Sized(_, element) => match value {
+            Value::List(values) => put_sized(out, element, values),
+            _ => Ok(()),
+        },
+    }
+}
+
+// The arguments of one class, one after another. What follows a string or a sized array starts at a
+// multiple of 8.
 fn put_class(
     out: &mut Vec<u8>,
     plan: PlanNo,
@@ -82,36 +228,54 @@ fn put_class(
     types: &[ArgType],
     values: &[Value],
 ) -> Result<(), AllocError>
-    requires numbers { list_all is_number_type (map arg_type_of types.now) ≡ true }
     requires fit { are_arguments (map arg_type_of types.now) (map datum_of values.now) ≡ true }
     ensures ok { OnOk result ((before : List Leaf) → out.old.items ≡ payload_bytes before → out.new.items ≡ payload_bytes (arguments_onto false (in_class plan class (zip (map arg_type_of types.now) (map datum_of values.now))) before)) }
 {
+    let mut after_dynamic = false;
     for (ty, value) in types.iter().zip(values) {
-        if class_in(plan, ty) == class {
-            put_argument(out, ty, value)?;
+        if class_for(plan, ty) != class {
+            continue;
         }
+        if after_dynamic {
+            put_gap(out, 8)?;
+        }
+        put_argument(out, ty, value)?;
+        after_dynamic = is_dynamic(ty);
     }
     Ok(())
 }
 
-// The arguments of a message's call.
+// The arguments of plan 2's classes, one class after another.
+fn put_classes(out: &mut Vec<u8>, types: &[ArgType], values: &[Value]) -> Result<(), AllocError>
+    requires fit { are_arguments (map arg_type_of types.now) (map datum_of values.now) ≡ true }
+    ensures ok { OnOk result ((before : List Leaf) → out.old.items ≡ payload_bytes before → out.new.items ≡ payload_bytes (arguments_onto false (in_classes PlanNo.Two 5 0 (zip (map arg_type_of types.now) (map datum_of values.now))) before)) }
+{
+    for class in 0..CLASSES {
+        put_class(out, PlanNo::Two, class, types, values)?;
+    }
+    Ok(())
+}
+
+// The arguments of a message's call, in the plan's order.
 fn put_arguments(
     out: &mut Vec<u8>,
     plan: PlanNo,
     types: &[ArgType],
     values: &[Value],
 ) -> Result<(), AllocError>
-    requires numbers { list_all is_number_type (map arg_type_of types.now) ≡ true }
     requires fit { are_arguments (map arg_type_of types.now) (map datum_of values.now) ≡ true }
-    ensures ok { OnOk result ((before : List Leaf) → out.old.items ≡ payload_bytes before → out.new.items ≡ payload_bytes (arguments_onto false (in_classes plan 5 0 (zip (map arg_type_of types.now) (map datum_of values.now))) before)) }
+    ensures ok { OnOk result ((before : List Leaf) → out.old.items ≡ payload_bytes before → out.new.items ≡ payload_bytes (arguments_onto false (arranged kind plan (zip (map arg_type_of types.now) (map datum_of values.now))) before)) }
 {
-    for class in 0..CLASSES {
-        put_class(out, plan, class, types, values)?;
+    match plan {
+        PlanNo::One => put_class(out, plan, 0, types, values),
+        PlanNo::Two => put_classes(out, types, values),
     }
-    Ok(())
 }
 
 /// The payload of a call: each number little-endian at its place under the plan, every other byte 0.
+///
+/// Each byte is written once. Plan 2 goes over the arguments' types once for each class. The alignment of an
+/// array's elements is found once, and that of a field each time that a value of its struct is written.
 ///
 /// Fails only where memory runs out.
 pub fn payload(
@@ -120,11 +284,10 @@ pub fn payload(
     plan: PlanNo,
     call: &Call,
 ) -> Result<Vec<u8>, AllocError>
-    requires scalars { scalars_only_of (interface_of interface.now) ≡ true }
     requires fits { fits_of (interface_of interface.now) (call_of call.now) ≡ true }
     ensures payload { IfOk result (λ v. v.items ≡ payload_of plan (interface_of interface.now) (call_of call.now)) }
 {
-    let mut out = Vec::new(alloc);
+    let mut out = Vec::with_capacity(alloc, FRAG_BYTES)?;
     put_arguments(
         &mut out,
         plan,

@@ -4,8 +4,8 @@ ghost use Rattle.std.specs.Prelude.{◌≡◌, ℕ, ◌+◌, ◌-◌, ◌*◌, �
 ghost use Rattle.fl_check.specs.Interface.{interface_of};
 ghost use Rattle.fl_value.specs.Value.{call_of};
 ghost use Rattle.fl_value.specs.Fits.{fits_of};
-ghost use Rattle.fl_wire.specs.Leaves.{scalars_only_of};
-ghost use Rattle.fl_wire.specs.Payload.{count_for, frag_on, frags_of, word};
+ghost use Rattle.fl_layout.specs.Places.{count_for};
+ghost use Rattle.fl_wire.specs.Payload.{frag_on, frags_of, word};
 
 use crate::encode::payload;
 use fl_base::{Circuit, FRAG_BYTES, Frag, MsgNo, control};
@@ -74,7 +74,8 @@ pub fn fragment(payload: &[u8], msg: MsgNo, k: usize) -> Frag
     }
 }
 
-/// Fragment `k` of a call, with epoch 0 and circuit 0; none past the last one.
+/// Fragment `k` of a call, with epoch 0 and circuit 0; none past the last one. Each call makes the whole
+/// payload: who wants all fragments calls [`payload`] once, and [`fragment`] for each.
 ///
 /// Fails only where memory runs out.
 pub fn fragment_at(
@@ -84,7 +85,6 @@ pub fn fragment_at(
     k: usize,
     plan: PlanNo,
 ) -> Result<Option<Frag>, AllocError>
-    requires scalars { scalars_only_of (interface_of interface.now) ≡ true }
     requires fits { fits_of (interface_of interface.now) (call_of call.now) ≡ true }
     ensures frag { IfOk result (λ found. found ≡ slice_get (frags_of plan (interface_of interface.now) (call_of call.now)) k) }
 {

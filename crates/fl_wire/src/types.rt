@@ -1,20 +1,21 @@
-//! Widths and classes of arguments' types.
+//! Widths, alignments and classes of arguments' types.
 
 ghost use Rattle.std.specs.Prelude.{◌≡◌, ℕ, true, map};
-ghost use Rattle.fl_check.specs.Interface.{arg_type_of, interface_of};
-ghost use Rattle.fl_check.specs.Sizes.{scalar_size};
-ghost use Rattle.fl_wire.specs.Leaves.{argument_types, is_number_type};
-ghost use Rattle.fl_wire.specs.Classes.{IsWordSized, class_of, number_width};
+ghost use Rattle.fl_check.specs.Interface.{arg_type_of, type_of, fields_from, interface_of};
+ghost use Rattle.fl_check.specs.Sizes.{scalar_size, align_of, greatest_align};
+ghost use Rattle.fl_layout.specs.Leaves.{argument_types};
+ghost use Rattle.fl_value.specs.Plan.{is_dynamic};
+ghost use Rattle.fl_wire.specs.Classes.{class_of};
 
 use fl_base::MsgNo;
 use fl_check::{ArgType, FixedType, Interface, Scalar};
 use fl_value::PlanNo;
 
 /// How many classes of arguments a plan may have: it lays them out class by class.
-pub const CLASSES: u8 = 5;
+pub(crate) const CLASSES: u8 = 5;
 
-// The bytes of a scalar.
-fn bytes_of(scalar: Scalar) -> usize
+/// The bytes of a scalar, which are its alignment.
+pub(crate) fn scalar_size(scalar: Scalar) -> usize
     ensures size { result ≡ scalar_size scalar }
 {
     match scalar {
@@ -30,37 +31,61 @@ fn bytes_of(scalar: Scalar) -> usize
     }
 }
 
-/// The bytes of a scalar or enum argument; 0 for others.
-pub fn width_of(ty: &ArgType) -> usize
-    ensures width { result ≡ number_width (arg_type_of ty.now) }
-    ensures sized { IsWordSized (arg_type_of ty.now) }
+/// A type's alignment in bytes. It goes over the fields of a struct.
+#[cycle(alignments)]
+pub(crate) fn alignment(fixed: &FixedType) -> usize
+    ensures same { result ≡ align_of (type_of fixed.now) }
+{
+    match fixed {
+        FixedType::Scalar(scalar) => scalar_size(*scalar),
+        FixedType::Enumeration(_) => 4,
+        FixedType::Structure(fields) => greatest_alignment(fields),
+        FixedType::Array(_, element) => alignment(element),
+    }
+}
+
+/// The greatest alignment of some fields; 1 of none.
+#[cycle(alignments)]
+pub(crate) fn greatest_alignment(fields: &[FixedType]) -> usize
+    ensures same { result ≡ greatest_align (fields_from (map type_of fields.now)) }
+{
+    let mut greatest = 1;
+    for field in fields {
+        greatest = alignment(field).max(greatest);
+    }
+    greatest
+}
+
+/// Whether an argument is a string or a sized array.
+pub(crate) fn is_dynamic(ty: &ArgType) -> bool
+    ensures same { result ≡ is_dynamic (arg_type_of ty.now) }
 {
     match ty {
-        ArgType::Fixed(FixedType::Scalar(scalar)) => bytes_of(*scalar),
-        ArgType::Fixed(FixedType::Enumeration(count)) => {
-            let _count = *count;
-            4
-        }
-        _ => 0,
+        ArgType::Fixed(_) => false,
+        _ => true,
     }
 }
 
 /// The place of an argument's type in the plan's order.
-pub fn class_in(plan: PlanNo, ty: &ArgType) -> u8
-    requires number { is_number_type (arg_type_of ty.now) ≡ true }
+pub(crate) fn class_for(plan: PlanNo, ty: &ArgType) -> u8
     ensures class { result ≡ class_of plan (arg_type_of ty.now) }
 {
-    match (plan, width_of(ty)) {
-        (PlanNo::One, _) => 0,
-        (PlanNo::Two, 8) => 0,
-        (PlanNo::Two, 4) => 1,
-        (PlanNo::Two, 2) => 2,
-        (PlanNo::Two, _) => 3,
+    match plan {
+        PlanNo::One => 0,
+        PlanNo::Two => match ty {
+            ArgType::Fixed(fixed) => match alignment(fixed) {
+                8 => 0,
+                4 => 1,
+                2 => 2,
+                _ => 3,
+            },
+            _ => 4,
+        },
     }
 }
 
 /// The types of a message's arguments; none where there is no such message.
-pub fn arguments_of(interface: &Interface, msg: MsgNo) -> &[ArgType]
+pub(crate) fn arguments_of(interface: &Interface, msg: MsgNo) -> &[ArgType]
     ensures types { map arg_type_of result.now ≡ argument_types (interface_of interface.now) msg.0 }
 {
     match interface.messages.get(usize::from(msg.0)) {

@@ -1,6 +1,7 @@
 -- The events of a world that shows a state.
-use Rattle.std.proofs.Common.{◌≡◌, refl, sym, ◌∙◌, ap, subst, ℕ, ◌+◌, ◌^◌, ◌<◌, ◌≤◌, not, Bool, true, false, if◌then◌else◌, List, [], ◌∷◌, ◌++◌, length, map, filter, slice_get, slice_set, Option, Some, None, option_map, is_some, get_or, arith}
+use Rattle.std.proofs.Common.{◌≡◌, refl, sym, ◌∙◌, ap, subst, ℕ, ◌+◌, ◌^◌, ◌<◌, ◌≤◌, nat_le, nat_lt, not, Bool, true, false, if◌then◌else◌, List, [], ◌∷◌, ◌++◌, length, map, filter, slice_get, slice_set, Option, Some, None, option_map, is_some, get_or, arith}
 use Rattle.std.proofs.lemmas.List.{length-set, map-set}
+use Rattle.std.proofs.lemmas.Bool.Decides.{nat_tests}
 use Rattle.std.proofs.lemmas.Option.{slice_get_read, slice_get_past, slice_get-map}
 use Rattle.fl_base.specs.declared.fragment.Frag.{Frag}
 use Rattle.fl_base.specs.declared.identity.Side.{Side}
@@ -10,8 +11,9 @@ use Rattle.fl_base.specs.Ends.{other, peer}
 use Rattle.fl_value.specs.Value.{TheCall}
 use Rattle.fl_value.specs.Fits.{fits_of}
 use Rattle.std.specs.List.{list_any}
-use Rattle.fl_wire.specs.Leaves.{leaves}
-use Rattle.fl_wire.specs.Payload.{payload_of, count, count_for}
+use Rattle.fl_layout.specs.Leaves.{leaves}
+use Rattle.fl_layout.specs.Places.{count, count_for}
+use Rattle.fl_wire.specs.Payload.{payload_of}
 use Rattle.fl_wire.proofs.Bytes.{length_payload}
 use Rattle.fl_model.specs.Machine as machine
 use Rattle.fl_model.specs.Machine.{Entry, Dispatcher, Service, State, stream, is_busy, has_room, next_of}
@@ -28,6 +30,12 @@ picks_first b x y h = ap (λ (t : Bool). if t then x else y) h
 
 pub picks_second : {A : Type 0} (b : Bool) (x y : A) → b ≡ false → (if b then x else y) ≡ y
 picks_second b x y h = ap (λ (t : Bool). if t then x else y) h
+
+reaches : (a b : ℕ) → a ≤ b → nat_le a b ≡ true
+reaches a b h = grind (arith, nat_tests, h)
+
+above : (a b : ℕ) → b < a → nat_le a b ≡ false
+above a b h = grind (arith, nat_tests, h)
 
 -- an element of a list, and its view
 pub there : {A B : Type 0} (f : A → B) (xs : List A) (n : ℕ) (x : A) → n < length xs → x ≡ get_or xs n x → slice_get (map f xs) n ≡ Some (f x)
@@ -151,37 +159,60 @@ call_is : (s : State) (e : EndId) (c : TheCall) (b : machine.Binding) (entry : E
     → step s (Step.call e c) ≡ Step.call_by s e c b (Some entry)
 call_is s e c b entry p q = ap (Step.call_at s e c) p ∙ ap (Step.call_by s e c b) q
 
+-- a message of the interface has a number below their count
+pub known_message : (entry other : Entry) (c : TheCall) → other ≡ entry → c.msg < length entry.interface.messages
+    → nat_le (length other.interface.messages) c.msg ≡ false
+known_message entry other c same h =
+    ap (λ (i : Entry). nat_le (length i.interface.messages) c.msg) same ∙ above (length entry.interface.messages) c.msg h
+
+pub call_unknown : (w : TheWorld) (e : EndId) (c : TheCall) (x : TheBinding) (entry : Entry)
+    → slice_get w.bindings e.binding ≡ Some x → slice_get w.interfaces x.interface ≡ Some entry
+    → length entry.interface.messages ≤ c.msg → Steps w w (Step.call e c) (refused 41)
+call_unknown w e c x entry p q past = steps_by w w (Step.call e c) (refused 41) (λ (bs : List machine.Binding) (h : Stands w bs).
+    let b = found h e.binding x p in
+    let same : b.shows.entry ≡ entry = same_entry b.shows entry q in
+    let yes : nat_le (length b.shows.entry.interface.messages) c.msg ≡ true =
+    ap (λ (i : Entry). nat_le (length i.interface.messages) c.msg) same ∙ reaches (length entry.interface.messages) c.msg past in
+    goes_by (call_is (state w bs) e c b.binding b.shows.entry b.stands (known_there b.shows)
+    ∙ picks_first (nat_le (length b.shows.entry.interface.messages) c.msg) _ _ yes)
+    (stays h (refused 41)))
+
 pub call_unfit : (w : TheWorld) (e : EndId) (c : TheCall) (x : TheBinding) (entry : Entry)
     → slice_get w.bindings e.binding ≡ Some x → slice_get w.interfaces x.interface ≡ Some entry
+    → c.msg < length entry.interface.messages
     → fits_of entry.interface c ≡ false → Steps w w (Step.call e c) (refused 42)
-call_unfit w e c x entry p q unfit = steps_by w w (Step.call e c) (refused 42) (λ (bs : List machine.Binding) (h : Stands w bs).
+call_unfit w e c x entry p q known unfit = steps_by w w (Step.call e c) (refused 42) (λ (bs : List machine.Binding) (h : Stands w bs).
     let b = found h e.binding x p in
     let same : b.shows.entry ≡ entry = same_entry b.shows entry q in
     let no : fits_of b.shows.entry.interface c ≡ false = ap (λ (i : Entry). fits_of i.interface c) same ∙ unfit in
     goes_by (call_is (state w bs) e c b.binding b.shows.entry b.stands (known_there b.shows)
+    ∙ picks_second (nat_le (length b.shows.entry.interface.messages) c.msg) _ _ (known_message entry b.shows.entry c same known)
     ∙ picks_first (not (fits_of b.shows.entry.interface c)) _ _ (ap not no))
     (stays h (refused 42)))
 
 pub call_busy : (w : TheWorld) (e : EndId) (c : TheCall) (x : TheBinding) (entry : Entry) (s : TheSending)
     → slice_get w.bindings e.binding ≡ Some x → slice_get w.interfaces x.interface ≡ Some entry
+    → c.msg < length entry.interface.messages
     → fits_of entry.interface c ≡ true → (outgoing x e.side).sending ≡ Some s → Steps w w (Step.call e c) (refused 40)
-call_busy w e c x entry s p q fit busy = steps_by w w (Step.call e c) (refused 40) (λ (bs : List machine.Binding) (h : Stands w bs).
+call_busy w e c x entry s p q known fit busy = steps_by w w (Step.call e c) (refused 40) (λ (bs : List machine.Binding) (h : Stands w bs).
     let b = found h e.binding x p in
     let same : b.shows.entry ≡ entry = same_entry b.shows entry q in
     let yes : fits_of b.shows.entry.interface c ≡ true = ap (λ (i : Entry). fits_of i.interface c) same ∙ fit in
     let full_is : is_busy b.shows.entry (machine.outgoing b.binding e.side) ≡ true =
     busy_is b.shows.entry e (outgoing x e.side) (machine.outgoing b.binding e.side) s busy (shows_out b.shows e.side) in
     goes_by (call_is (state w bs) e c b.binding b.shows.entry b.stands (known_there b.shows)
+    ∙ picks_second (nat_le (length b.shows.entry.interface.messages) c.msg) _ _ (known_message entry b.shows.entry c same known)
     ∙ picks_second (not (fits_of b.shows.entry.interface c)) _ _ (ap not yes)
     ∙ picks_first (is_busy b.shows.entry (machine.outgoing b.binding e.side)) _ _ full_is)
     (stays h (refused 40)))
 
 pub call_goes : (w : TheWorld) (e : EndId) (c : TheCall) (x : TheBinding) (entry : Entry) (bindings : List TheBinding)
     → slice_get w.bindings e.binding ≡ Some x → slice_get w.interfaces x.interface ≡ Some entry
+    → c.msg < length entry.interface.messages
     → fits_of entry.interface c ≡ true → c.msg < 2 ^ 16 → (outgoing x e.side).sending ≡ None
     → bindings ≡ slice_set w.bindings e.binding (with_outgoing x e.side (record (outgoing x e.side) { sending = Some (begun entry c) }))
     → Steps w (record w { bindings = bindings }) (Step.call e c) accepted
-call_goes w e c x entry bindings p q fit small idle made =
+call_goes w e c x entry bindings p q known fit small idle made =
     let v : TheWorld = record w { bindings = bindings } in
     steps_by w v (Step.call e c) accepted (λ (bs : List machine.Binding) (h : Stands w bs).
     let b = found h e.binding x p in
@@ -200,6 +231,7 @@ call_goes w e c x entry bindings p q fit small idle made =
     subst (λ (xs : List TheBinding). Shows (record w { bindings = xs }) (state w (slice_set bs e.binding (machine.with_outgoing b.binding e.side (accepts d c))))) made_so
     (record { interfaces = refl; dispatchers = refl; services = refl; count = after.0; bindings = after.1 }) in
     goes_by (call_is (state w bs) e c b.binding b.shows.entry b.stands (known_there b.shows)
+    ∙ picks_second (nat_le (length b.shows.entry.interface.messages) c.msg) _ _ (known_message entry b.shows.entry c same known)
     ∙ picks_second (not (fits_of b.shows.entry.interface c)) _ _ (ap not yes)
     ∙ picks_second (is_busy b.shows.entry d) _ _ free)
     (record { shown = shown; answered = refl }))

@@ -17,7 +17,7 @@ use Rattle.fl_model.specs.Machine.{Entry, Label, count, total, stream, whole_in,
 use Rattle.fl_model.specs.Step.{accepts, writes, fresh_direction, written, progress}
 use Rattle.fl_world.specs.Contents.{TheSending, TheDirection, begun, frag_at, next_frag, advanced, unwritten}
 use Rattle.fl_world.specs.Moves.{fresh, put}
-use Rattle.fl_world.specs.Shows.{AllFit, IsLast, Current, Short, ShowsDirection}
+use Rattle.fl_world.specs.Shows.{AllSendable, IsLast, Current, Short, ShowsDirection}
 use Rattle.fl_world.proofs.Lists.{slice_get_end, slice_get_next, map-map}
 
 -- Fragments.
@@ -83,13 +83,13 @@ total-append e (c ∷ cs) ds =
     let b : count e c + total e (cs ++ ds) ≡ n + (total e cs + total e ds) = ap (λ k. n + k) a in
     omega arith
 
-pub AllFit-append : (e : Entry) (cs ds : List TheCall) → AllFit e cs → AllFit e ds → AllFit e (cs ++ ds)
-AllFit-append e [] ds h k = k
-AllFit-append e (c ∷ cs) ds h k = (h.0, h.1, AllFit-append e cs ds h.2 k)
+pub AllSendable-append : (e : Entry) (cs ds : List TheCall) → AllSendable e cs → AllSendable e ds → AllSendable e (cs ++ ds)
+AllSendable-append e [] ds h k = k
+AllSendable-append e (c ∷ cs) ds h k = (h.0, h.1, AllSendable-append e cs ds h.2 k)
 
-pub AllFit-right : (e : Entry) (cs ds : List TheCall) → AllFit e (cs ++ ds) → AllFit e ds
-AllFit-right e [] ds h = h
-AllFit-right e (c ∷ cs) ds h = AllFit-right e cs ds h.2
+pub AllSendable-right : (e : Entry) (cs ds : List TheCall) → AllSendable e (cs ++ ds) → AllSendable e ds
+AllSendable-right e [] ds h = h
+AllSendable-right e (c ∷ cs) ds h = AllSendable-right e cs ds h.2
 
 -- an end is busy in the machine where a call is in transmission in the world
 length-unwritten : (s : TheSending) → length (unwritten (Some s)) ≡ s.count - s.at
@@ -179,7 +179,7 @@ accepted_shows e who x d c q fit small h =
       calls = ap (λ cs. cs ++ c ∷ []) h.calls ∙ append_assoc h.finished h.left (c ∷ []);
       gives = h.gives;
       short = short_push e (length x.parts) h.left c h.short;
-      fit = AllFit-append e d.accepted (c ∷ []) h.fit (fit, small, tt);
+      fit = AllSendable-append e d.accepted (c ∷ []) h.fit (fit, small, tt);
     }
 
 -- The fragment that a write puts.

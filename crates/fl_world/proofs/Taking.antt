@@ -15,9 +15,9 @@ use Rattle.fl_model.specs.Machine.{Entry, Label, count, total, stream, whole_in,
 use Rattle.fl_model.specs.Step.{takes}
 use Rattle.fl_world.specs.Contents.{TheDirection, begun, unwritten}
 use Rattle.fl_world.specs.Moves.{Tells}
-use Rattle.fl_world.specs.Shows.{AllFit, Short, ShowsDirection}
+use Rattle.fl_world.specs.Shows.{AllSendable, Short, ShowsDirection}
 use Rattle.fl_world.proofs.Lists.{front, take_whole, slice_get_last, slice_get_end}
-use Rattle.fl_world.proofs.Streams.{bare-frags, stream-append, length-stream, AllFit-right, some_fragment, count_is, at_least}
+use Rattle.fl_world.proofs.Streams.{bare-frags, stream-append, length-stream, AllSendable-right, some_fragment, count_is, at_least}
 
 -- the bare fragments of calls
 bare-stream : (e : Entry) (c : TheCall) (cs : List TheCall)
@@ -70,8 +70,8 @@ first_call {e} {who} {x} {d} h f rest q =
 call_fits : {e : Entry} {who : EndId} {x : TheDirection} {d : machine.Direction} (h : ShowsDirection e who x d)
     {f : Frag} (n : NextCall e h.left x.parts f) → (fits_of e.interface n.call ≡ true) × (n.call.msg < 2 ^ 16)
 call_fits {e} {who} {x} {d} h n =
-    let a : AllFit e (h.finished ++ h.left) = subst (AllFit e) h.calls h.fit in
-    let b : AllFit e (n.call ∷ n.rest) = subst (AllFit e) n.left_is (AllFit-right e h.finished h.left a) in
+    let a : AllSendable e (h.finished ++ h.left) = subst (AllSendable e) h.calls h.fit in
+    let b : AllSendable e (n.call ∷ n.rest) = subst (AllSendable e) n.left_is (AllSendable-right e h.finished h.left a) in
     (b.0, b.1)
 
 -- What is handled.

@@ -12,7 +12,6 @@ use Rattle.fl_base.specs.Ends.{other, peer}
 use Rattle.fl_check.specs.Interface.{TheInterface}
 use Rattle.fl_value.specs.Value.{TheCall}
 use Rattle.fl_value.specs.declared.value.PlanNo.{PlanNo}
-use Rattle.fl_wire.specs.Leaves.{scalars_only_of}
 use Rattle.fl_model.specs.Machine as machine
 use Rattle.fl_model.specs.Machine.{Entry, Dispatcher, Service, State, Label, handled, next_of}
 use Rattle.fl_model.specs.Step
@@ -171,9 +170,9 @@ at_more is e n (Some x) (Some b) h = record {
 }
 
 pub interface_goes : (w : TheWorld) (i : TheInterface) (plan : PlanNo) (interfaces : List Entry)
-    → length w.interfaces < 64 → scalars_only_of i ≡ true → interfaces ≡ w.interfaces ++ record { interface = i; plan = plan } ∷ []
+    → length w.interfaces < 64 → interfaces ≡ w.interfaces ++ record { interface = i; plan = plan } ∷ []
     → Steps w (record w { interfaces = interfaces }) (Step.add_interface i plan) done
-interface_goes w i plan interfaces room scalars made =
+interface_goes w i plan interfaces room made =
     steps_by w (record w { interfaces = interfaces }) (Step.add_interface i plan) done (λ (bs : List machine.Binding) (h : Stands w bs).
     let e : Entry = record { interface = i; plan = plan } in
     let s2 : State = record (state w bs) { interfaces = w.interfaces ++ e ∷ [] } in
@@ -186,8 +185,7 @@ interface_goes w i plan interfaces room scalars made =
       count = h.count;
       bindings = λ n. at_more w.interfaces e n (slice_get w.bindings n) (slice_get bs n) (h.each n);
     }) in
-    goes_by (picks_second (nat_le 64 (length w.interfaces)) _ _ (not_most 64 (length w.interfaces) room)
-    ∙ picks_second (not (scalars_only_of i)) _ _ (ap not scalars))
+    goes_by (picks_second (nat_le 64 (length w.interfaces)) _ _ (not_most 64 (length w.interfaces) room))
     (record { shown = shown; answered = refl }))
 
 -- Bindings.
@@ -263,39 +261,40 @@ fresh_binding_shows is entry n i client server slots q = record {
 
 -- the checks before the last one
 bind_comes : (w : TheWorld) (bs : List machine.Binding) (h : Stands w bs) (client i : ℕ) (service : Option ℕ) (slots : ℕ) (offered : Service)
-    → i < length w.interfaces → length w.bindings < 1024
+    → client < length w.dispatchers → i < length w.interfaces → length w.bindings < 1024
     → Some offered ≡ Step.service_at (state w bs) service → offered.interface ≡ i → 1 ≤ slots → slots ≤ 1024
     → step (state w bs) (Step.bind_local client i service slots)
     ≡ (if nat_lt 1024 (Step.ends_after (state w bs) client offered.dispatcher (slice_get w.dispatchers client))
     || nat_lt 1024 (Step.ends_after (state w bs) offered.dispatcher client (slice_get w.dispatchers offered.dispatcher))
     then says (state w bs) (refused 54)
     else record { state = Step.bound (state w bs) i client offered.dispatcher slots; answer = done })
-bind_comes w bs h client i service slots offered known few found_service same low high =
+bind_comes w bs h client i service slots offered there known few found_service same low high =
     let counted : length bs ≡ length w.bindings = h.count in
     let matches : (offered.interface == i) ≡ true = eq-eqb offered.interface i same in
     let within : (nat_le 1 slots && nat_le slots 1024) ≡ true = grind (arith, nat_tests, low, high) in
-    picks_second (nat_le (length w.interfaces) i) _ _ (not_most (length w.interfaces) i known)
+    picks_second (nat_le (length w.dispatchers) client) _ _ (not_most (length w.dispatchers) client there)
+    ∙ picks_second (nat_le (length w.interfaces) i) _ _ (not_most (length w.interfaces) i known)
     ∙ picks_second (nat_le 1024 (length bs)) _ _ (not_most 1024 (length bs) (omega arith))
     ∙ ap (Step.bind_to (state w bs) client i slots) (sym found_service)
     ∙ picks_second (not (offered.interface == i)) _ _ (ap not matches)
     ∙ picks_second (not (nat_le 1 slots && nat_le slots 1024)) _ _ (ap not within)
 
 pub bind_crowded : (w : TheWorld) (client i : ℕ) (service : Option ℕ) (slots : ℕ) (offered : Service)
-    → i < length w.interfaces → length w.bindings < 1024
+    → client < length w.dispatchers → i < length w.interfaces → length w.bindings < 1024
     → ((s : State) → Shows w s → Some offered ≡ Step.service_at s service) → offered.interface ≡ i → 1 ≤ slots → slots ≤ 1024
     → ((s : State) → (nat_lt 1024 (Step.ends_after s client offered.dispatcher (slice_get w.dispatchers client))
     || nat_lt 1024 (Step.ends_after s offered.dispatcher client (slice_get w.dispatchers offered.dispatcher))) ≡ true)
     → Steps w w (Step.bind_local client i service slots) (refused 54)
-bind_crowded w client i service slots offered known few found_service same low high crowded =
+bind_crowded w client i service slots offered there known few found_service same low high crowded =
     steps_by w w (Step.bind_local client i service slots) (refused 54) (λ (bs : List machine.Binding) (h : Stands w bs).
-    goes_by (bind_comes w bs h client i service slots offered known few
+    goes_by (bind_comes w bs h client i service slots offered there known few
     (found_service (state w bs) (record { interfaces = refl; dispatchers = refl; services = refl; count = h.count; bindings = h.each })) same low high
     ∙ picks_first _ _ _ (crowded (state w bs)))
     (stays h (refused 54)))
 
 pub bind_goes : (w : TheWorld) (client i : ℕ) (service : Option ℕ) (slots : ℕ) (offered : Service)
     (bindings : List TheBinding) (dispatchers : List Dispatcher)
-    → i < length w.interfaces → length w.bindings < 1024
+    → client < length w.dispatchers → i < length w.interfaces → length w.bindings < 1024
     → ((s : State) → Shows w s → Some offered ≡ Step.service_at s service) → offered.interface ≡ i → 1 ≤ slots → slots ≤ 1024
     → ((s : State) → (nat_lt 1024 (Step.ends_after s client offered.dispatcher (slice_get w.dispatchers client))
     || nat_lt 1024 (Step.ends_after s offered.dispatcher client (slice_get w.dispatchers offered.dispatcher))) ≡ false)
@@ -303,7 +302,7 @@ pub bind_goes : (w : TheWorld) (client i : ℕ) (service : Option ℕ) (slots : 
     → dispatchers ≡ gained (gained w.dispatchers (record { binding = length w.bindings; side = Client }) client)
     (record { binding = length w.bindings; side = Server }) offered.dispatcher
     → Steps w (record w { bindings = bindings; dispatchers = dispatchers }) (Step.bind_local client i service slots) done
-bind_goes w client i service slots offered bindings dispatchers known few found_service same low high room made grown =
+bind_goes w client i service slots offered bindings dispatchers there known few found_service same low high room made grown =
     let v : TheWorld = record w { bindings = bindings; dispatchers = dispatchers } in
     steps_by w v (Step.bind_local client i service slots) done (λ (bs : List machine.Binding) (h : Stands w bs).
     let server : ℕ = offered.dispatcher in
@@ -327,7 +326,7 @@ bind_goes w client i service slots offered bindings dispatchers known few found_
     let shown : Shows v s2 =
     subst (λ (xs : List TheBinding). Shows (record w { bindings = xs; dispatchers = dispatchers }) s2) (sym made)
     (record { interfaces = refl; dispatchers = refl; services = refl; count = more; bindings = each }) in
-    goes_by (bind_comes w bs h client i service slots offered known few
+    goes_by (bind_comes w bs h client i service slots offered there known few
     (found_service (state w bs) (record { interfaces = refl; dispatchers = refl; services = refl; count = h.count; bindings = h.each })) same low high
     ∙ picks_second _ _ _ (room (state w bs))
     ∙ ap (λ (t : State). let o : Outcome = record { state = t; answer = done } in o) bound_is)

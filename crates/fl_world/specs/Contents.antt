@@ -8,7 +8,8 @@ use Rattle.fl_base.specs.Control.{with_epoch}
 use Rattle.fl_base.specs.Ends.{other}
 use Rattle.fl_check.specs.Interface.{interface_of}
 use Rattle.fl_value.specs.Value.{TheCall}
-use Rattle.fl_wire.specs.Payload.{payload_of, count, frag_on}
+use Rattle.fl_layout.specs.Places.{count}
+use Rattle.fl_wire.specs.Payload.{payload_of, frag_on}
 use Rattle.fl_model.specs.Machine as machine
 use Rattle.fl_world.specs.declared.directions.Sending.{Sending}
 use Rattle.fl_world.specs.declared.directions.Direction.{Direction}

@@ -7,7 +7,7 @@ use Rattle.fl_world.specs.declared.events.Event.TheVariants.{Interface, Dispatch
 use Rattle.fl_world.specs.declared.answers.Answer.{Answer}
 use Rattle.fl_world.specs.declared.answers.Answer.TheVariants.{Done, Accepted, Nothing, Full, Written, Handle, Part, Words, Refused}
 use Rattle.fl_world.specs.declared.answers.Refusal.{Refusal}
-use Rattle.fl_world.specs.declared.answers.Refusal.TheVariants.{Slots, Busy, Arguments, Channels, Service, OtherInterface, Core, Name, NotNow, Limit}
+use Rattle.fl_world.specs.declared.answers.Refusal.TheVariants.{Slots, Busy, Message, Arguments, Channels, Service, OtherInterface, Core, Name, Limit}
 use Rattle.fl_model.specs.Step.{TheEvent, add_interface, add_dispatcher, export, bind_local, call, show, write, turn, TheAnswer, done, accepted, nothing, full, written, handle, part, words, refused}
 
 abbrev pub event_of : Event → TheEvent
@@ -24,13 +24,13 @@ event_of (Turn dispatcher) = turn dispatcher
 abbrev pub fault_number : Refusal → ℕ
 fault_number Slots = 32
 fault_number Busy = 40
+fault_number Message = 41
 fault_number Arguments = 42
 fault_number Channels = 54
 fault_number Service = 70
 fault_number OtherInterface = 72
 fault_number Core = 73
 fault_number Name = 92
-fault_number NotNow = 93
 fault_number Limit = 94
 
 abbrev pub answer_of : Answer → TheAnswer

@@ -5,7 +5,8 @@ use Rattle.fl_base.specs.declared.identity.EndId.{EndId}
 use Rattle.fl_base.specs.Control.{bare}
 use Rattle.fl_value.specs.Value.{TheCall, call_of}
 use Rattle.fl_value.specs.Fits.{fits_of}
-use Rattle.fl_wire.specs.Payload.{count, frags_of}
+use Rattle.fl_layout.specs.Places.{count}
+use Rattle.fl_wire.specs.Payload.{frags_of}
 use Rattle.fl_model.specs.Machine as machine
 use Rattle.fl_model.specs.Step.{gains, triggered}
 use Rattle.fl_world.specs.declared.directions.Wrote.{Wrote}

@@ -12,10 +12,10 @@ use Rattle.fl_model.specs.Machine.{Entry, State, count, stream, next_of}
 use Rattle.fl_model.specs.Step.{TheEvent, TheAnswer, step}
 use Rattle.fl_world.specs.Contents.{TheSending, TheDirection, TheBinding, TheWorld, begun, unwritten}
 
--- the calls fit the interface, and their messages' numbers have 16 bits
-abbrev pub AllFit : Entry → List TheCall → Type 0
-AllFit e [] = Unit {0}
-AllFit e (c ∷ cs) = (fits_of e.interface c ≡ true) × (c.msg < 2 ^ 16) × AllFit e cs
+-- the calls can be sent: they fit the interface, and their messages' numbers have 16 bits
+abbrev pub AllSendable : Entry → List TheCall → Type 0
+AllSendable e [] = Unit {0}
+AllSendable e (c ∷ cs) = (fits_of e.interface c ≡ true) × (c.msg < 2 ^ 16) × AllSendable e cs
 
 -- the call in transmission is the last accepted one, and a fragment of it isn't written
 pub record IsLast (e : Entry) (s : TheSending) (calls : List TheCall) : Type 0 where
@@ -55,7 +55,7 @@ pub record ShowsDirection (e : Entry) (who : EndId) (x : TheDirection) (d : mach
   pub calls : d.accepted ≡ finished ++ left
   pub gives : map bare took ≡ map bare (stream e finished) ++ x.parts
   pub short : Short e (length x.parts) left
-  pub fit : AllFit e d.accepted
+  pub fit : AllSendable e d.accepted
 
 -- a binding, with its place
 pub record ShowsBinding (interfaces : List Entry) (n : ℕ) (x : TheBinding) (b : machine.Binding) : Type 0 where

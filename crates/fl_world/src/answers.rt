@@ -37,6 +37,8 @@ pub enum Refusal {
     Slots,
     #[error("the end is busy")]
     Busy,
+    #[error("no such message")]
+    Message,
     #[error("the arguments do not fit")]
     Arguments,
     #[error("the waitset is full")]
@@ -49,8 +51,6 @@ pub enum Refusal {
     Core,
     #[error("no such name")]
     Name,
-    #[error("not in this state")]
-    NotNow,
     #[error("over a limit")]
     Limit,
 }
@@ -63,13 +63,13 @@ impl Refusal {
         match self {
             Refusal::Slots => 32,
             Refusal::Busy => 40,
+            Refusal::Message => 41,
             Refusal::Arguments => 42,
             Refusal::Channels => 54,
             Refusal::Service => 70,
             Refusal::OtherInterface => 72,
             Refusal::Core => 73,
             Refusal::Name => 92,
-            Refusal::NotNow => 93,
             Refusal::Limit => 94,
         }
     }

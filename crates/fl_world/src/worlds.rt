@@ -15,7 +15,7 @@ use crate::answers::{Answer, Refusal};
 use crate::bindings::Binding;
 use crate::directions::{Sending, Took, Wrote};
 use crate::dispatchers::Dispatcher;
-use crate::entries::{Entry, has_scalars_only};
+use crate::entries::Entry;
 use crate::events::Event;
 use fl_base::{
     CoreId, EndId, MAX_BINDINGS, MAX_CHANNELS, MAX_DISPATCHERS, MAX_INTERFACES, MAX_QUEUE,
@@ -138,9 +138,6 @@ impl World {
         if self.interfaces.len() >= MAX_INTERFACES {
             return Ok(Answer::Refused(Refusal::Limit));
         }
-        if !has_scalars_only(&interface) {
-            return Ok(Answer::Refused(Refusal::NotNow));
-        }
         self.interfaces.push(Entry { interface, plan })?;
         Ok(Answer::Done)
     }
@@ -164,6 +161,12 @@ impl World {
         ensures ok { IfOk result (λ a. Steps (contents_of self.old) (contents_of self.new) (export dispatcher interface) (answer_of a)) }
         ensures err { OnErr result (contents_of self.new ≡ contents_of self.old) }
     {
+        if dispatcher >= self.dispatchers.len() {
+            return Ok(Answer::Refused(Refusal::Name));
+        }
+        if interface >= self.interfaces.len() {
+            return Ok(Answer::Refused(Refusal::Name));
+        }
         if self.services.len() >= MAX_SERVICES {
             return Ok(Answer::Refused(Refusal::Limit));
         }
@@ -191,6 +194,9 @@ impl World {
         ensures ok { IfOk result (λ a. Steps (contents_of self.old) (contents_of self.new) (bind_local client interface service slots) (answer_of a)) }
         ensures err { OnErr result (contents_of self.new ≡ contents_of self.old) }
     {
+        if client >= self.dispatchers.len() {
+            return Ok(Answer::Refused(Refusal::Name));
+        }
         if interface >= self.interfaces.len() {
             return Ok(Answer::Refused(Refusal::Name));
         }
@@ -242,6 +248,9 @@ impl World {
         let Some(entry) = self.interfaces.get(binding.interface) else {
             return Ok(Answer::Refused(Refusal::Name));
         };
+        if usize::from(call.msg.0) >= entry.interface.messages.len() {
+            return Ok(Answer::Refused(Refusal::Message));
+        }
         if !fits(&call, &entry.interface) {
             return Ok(Answer::Refused(Refusal::Arguments));
         }

@@ -1,4 +1,4 @@
-use Rattle.std.proofs.Common.{◌≡◌, ◌++◌, map, ap, sym, ◌∙◌, subst, rules}
+use Rattle.std.proofs.Common.{map}
 use Rattle.std.specs.List.{zip}
 use Rattle.fl_check.specs.Interface.{arg_type_of}
 use Rattle.fl_value.specs.Value.{datum_of}

@@ -1,9 +1,9 @@
 use Rattle.std.proofs.Common.{◌≡◌, true, false, List, drop, map, length}
-use Rattle.std.specs.List.{zip, list_all}
+use Rattle.std.specs.List.{zip}
 use Rattle.fl_check.specs.Interface.{arg_type_of}
 use Rattle.fl_value.specs.Value.{datum_of}
 use Rattle.fl_value.specs.Fits.{are_arguments}
-use Rattle.fl_wire.specs.Leaves.{Leaf, is_number_type, arguments_onto}
+use Rattle.fl_layout.specs.Leaves.{Leaf, arguments_onto}
 use Rattle.fl_wire.specs.Payload.{payload_bytes}
 use Rattle.fl_wire.specs.Classes.{in_class}
 use Rattle.fl_wire.proofs.encode.put_class.Given as goal
@@ -14,8 +14,7 @@ invariant-loop-ty l =
     let ts = map arg_type_of (drop (length l.yielded) l.types) in
     let ds = map datum_of (drop (length l.yielded) l.values) in
     record {
-      numbers : list_all is_number_type ts ≡ true;
       fit : are_arguments ts ds ≡ true;
       written : (before : List Leaf) → l.fn.out.items ≡ payload_bytes before → (now : List Leaf) × (l.out.items ≡ payload_bytes now)
-          × (arguments_onto false (in_class l.plan l.class (zip ts ds)) now ≡ arguments_onto false (in_class l.plan l.class (zip (map arg_type_of l.types) (map datum_of l.values))) before);
+          × (arguments_onto l.after_dynamic (in_class l.plan l.class (zip ts ds)) now ≡ arguments_onto false (in_class l.plan l.class (zip (map arg_type_of l.types) (map datum_of l.values))) before);
     }

@@ -1,7 +1,8 @@
 use Rattle.std.proofs.Common.{◌∙◌, ap, List, ℕ, Some}
 use Rattle.fl_check.specs.Interface.{interface_of}
 use Rattle.fl_value.specs.Value.{call_of}
-use Rattle.fl_wire.specs.Payload.{frag_on, count_for}
+use Rattle.fl_layout.specs.Places.{count_for}
+use Rattle.fl_wire.specs.Payload.{frag_on}
 use Rattle.fl_wire.proofs.Bytes.{frag_of_payload, no_frag_past}
 use Rattle.fl_wire.proofs.fragments.fragment_at.Goals as goal
 

@@ -1,11 +1,11 @@
-use Rattle.std.proofs.Common.{◌≡◌, true, List, [], ◌∷◌, map, refl, ap, subst, sym, get_or}
+use Rattle.std.proofs.Common.{◌≡◌, true, List, [], ◌∷◌, map, refl, subst, sym}
 use Rattle.std.specs.Prelude.{slice_get}
 use Rattle.std.specs.List.{list_all}
 use Rattle.fl_check.specs.declared.interface.Scalar.{Scalar}
 use Rattle.fl_check.specs.Interface.{TheArgType, TheMessage, fixed, scalar, interface_of}
-use Rattle.fl_value.specs.Value.{Datum, number, datum_of}
+use Rattle.fl_value.specs.Value.{Datum, datum_of}
 use Rattle.fl_value.specs.Fits.{are_arguments, fit_message}
-use Rattle.fl_wire.specs.Leaves.{is_number_type}
+use Rattle.fl_layout.specs.Leaves.{is_number_type}
 use Rattle.fl_wire.proofs.tests.sent_and_read.Goals as goal
 
 numbers : (ss : List Scalar) → list_all is_number_type (map (λ s. fixed (scalar s)) ss) ≡ true
@@ -28,14 +28,12 @@ one_fits : (ms : List TheMessage) (ts : List TheArgType) (ds : List Datum) → a
 one_fits [] ts ds e h = cc
 one_fits (m ∷ ms) ts ds e h = subst (λ (us : List TheArgType). are_arguments us ds ≡ true) (sym (head_is m.args ts (args_of ms) [] e)) h
 
-pub payload-requires-clause-scalars : goal.payload-requires-clause-scalars
-payload-requires-clause-scalars c =
-    one_scalars (interface_of c.in_ok-interface.interface).messages _ c.in_ok-interface.ensures.message (numbers c.args.scalars.now)
-
-pub payload-requires-clause-fits : goal.payload-requires-clause-fits
-payload-requires-clause-fits c =
-    one_fits (interface_of c.in_ok-interface.interface).messages _ (map datum_of c.in_ok-values_of.field-0.items) c.in_ok-interface.ensures.message
-    (subst (λ (ds : List Datum). are_arguments (map (λ s. fixed (scalar s)) c.args.scalars.now) ds ≡ true) (sym c.in_ok-values_of.ensures.values) c.requires.fits)
+pub payload-requires : goal.payload-requires
+payload-requires c =
+    record {
+      fits = one_fits (interface_of c.in_ok-interface.interface).messages _ (map datum_of c.in_ok-values_of.field-0.items) c.in_ok-interface.ensures.message
+          (subst (λ (ds : List Datum). are_arguments (map (λ s. fixed (scalar s)) c.args.scalars.now) ds ≡ true) (sym c.in_ok-values_of.ensures.values) c.requires.fits);
+    }
 
 pub read_call_frags-requires : goal.read_call_frags-requires
 read_call_frags-requires c = record { scalars = one_scalars (interface_of c.in_ok-interface.interface).messages _ c.in_ok-interface.ensures.message (numbers c.args.scalars.now) }
@@ -43,10 +41,9 @@ read_call_frags-requires c = record { scalars = one_scalars (interface_of c.in_o
 pub read_call_frags-requires-2 : goal.read_call_frags-requires-2
 read_call_frags-requires-2 c = record { scalars = one_scalars (interface_of c.in_ok-interface.interface).messages _ c.in_ok-interface.ensures.message (numbers c.args.scalars.now) }
 
-pub fragment_at-requires-clause-scalars : goal.fragment_at-requires-clause-scalars
-fragment_at-requires-clause-scalars c = one_scalars (interface_of c.in_ok-interface.interface).messages _ c.in_ok-interface.ensures.message (numbers c.args.scalars.now)
-
-pub fragment_at-requires-clause-fits : goal.fragment_at-requires-clause-fits
-fragment_at-requires-clause-fits c =
-    one_fits (interface_of c.in_ok-interface.interface).messages _ (map datum_of c.in_ok-values_of.field-0.items) c.in_ok-interface.ensures.message
-    (subst (λ (ds : List Datum). are_arguments (map (λ s. fixed (scalar s)) c.args.scalars.now) ds ≡ true) (sym c.in_ok-values_of.ensures.values) c.requires.fits)
+pub fragment_at-requires : goal.fragment_at-requires
+fragment_at-requires c =
+    record {
+      fits = one_fits (interface_of c.in_ok-interface.interface).messages _ (map datum_of c.in_ok-values_of.field-0.items) c.in_ok-interface.ensures.message
+          (subst (λ (ds : List Datum). are_arguments (map (λ s. fixed (scalar s)) c.args.scalars.now) ds ≡ true) (sym c.in_ok-values_of.ensures.values) c.requires.fits);
+    }

@@ -1,6 +1,6 @@
 use Rattle.std.proofs.Common.{◌≡◌, ◌∙◌, ap, length, vec_len}
 use Rattle.fl_value.specs.Value.{call_of}
-use Rattle.fl_wire.specs.Payload.{count_for}
+use Rattle.fl_layout.specs.Places.{count_for}
 use Rattle.fl_world.specs.Contents.{entry_of}
 use Rattle.fl_world.proofs.Stepping.{begun_is}
 use Rattle.fl_world.proofs.directions.Sending.new.Goals as goal

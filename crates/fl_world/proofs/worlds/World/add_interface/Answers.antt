@@ -14,5 +14,4 @@ returns-clause-ok c =
     let counted : c.len.result ≡ vec_len is = c.len.ensures in
     interface_goes (contents_of c.args.self.now) (interface_of c.args.interface) c.args.plan (map entry_of c.push.new.self.items)
     (omega arith)
-    (sym c.has_scalars_only.ensures.scalars ∙ c.if-not-has_scalars_only.false)
     (ap (map entry_of) c.in_ok-push.ensures.items ∙ map-append entry_of is.items _)

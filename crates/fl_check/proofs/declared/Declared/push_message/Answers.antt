@@ -1,0 +1,9 @@
+use Rattle.std.proofs.Common.{refl}
+use Rattle.fl_check.specs.Interface.{TheMessage}
+use Rattle.fl_check.specs.Views.{declared_message}
+use Rattle.fl_check.proofs.NameMaps.{push}
+use Rattle.fl_check.proofs.declared.Declared.push_message.Goals as goal
+
+pub returns-clause-messages : goal.returns-clause-messages
+returns-clause-messages c =
+    push (λ k. k.items) declared_message (λ (m : TheMessage). m.name) (λ e. refl) c.args.self.now.messages.entries c.insert.new.self.entries c.args.name c.args.args c.in_ok-insert.ensures.entries c.requires.new

@@ -1,0 +1,13 @@
+use Rattle.std.proofs.Common.{◌≡◌, rules}
+use Rattle.fl_check.specs.Known.{call_name, response_name}
+use Rattle.fl_check.specs.Views.{before_of}
+use Rattle.fl_parse.specs.Tree.{name_of}
+use Rattle.fl_check.proofs.NameMaps.{second_new}
+use Rattle.fl_check.proofs.declared.Declared.rpc.Goals as goal
+
+pub push_message-requires-2 : goal.push_message-requires-2
+push_message-requires-2 c =
+    let n = name_of c.args.name.now in
+    let p : c.in_ok-call.call.items ≡ call_name (name_of c.args.name.now) = search rules in
+    let q : c.in_ok-response.response.items ≡ response_name (name_of c.args.name.now) = search rules in
+    record { new = second_new (before_of c.args.self.now).messages (before_of c.push_message.new.self).messages _ n c.in_ok-response.response.items c.in_ok-push_message.ensures.messages p q (rw c.deref-2.ensures.value at c.in_ok-rpc_name.ensures.no_response) }

@@ -1,0 +1,11 @@
+pub mod Rounding
+pub mod Sizes
+pub mod Ends
+pub mod Order
+pub mod Witness
+pub mod Bounds
+pub mod Tapes
+pub mod Lengths
+pub mod Measures
+pub mod Arranging
+pub mod Found

@@ -1,0 +1,134 @@
+-- What a plan keeps of an argument, and where arguments end one after another.
+use Rattle.std.specs.Prelude.{ℕ, pos, ◌+◌, ◌*◌, ◌==◌, ◌&&◌, nat_le, max, Bool, true, false, List, [], ◌∷◌, ◌++◌, map, filter, length, get_or}
+use Rattle.std.specs.List.{zip, range_with_len, list_all}
+use Rattle.fl_check.specs.Interface.{TheType, scalar, enumeration, structure, array, TheTypes, no_more, field, TheArgType, fixed, text, sized, TheMessage}
+use Rattle.fl_check.specs.Sizes.{size_of, align_of, round_up}
+use Rattle.fl_value.specs.declared.value.PlanNo.{PlanNo}
+use Rattle.fl_value.specs.declared.value.PlanNo.TheVariants.{One, Two}
+use Rattle.fl_value.specs.Plan.{arranged}
+use Rattle.fl_value.specs.Value.{Datum, number, string, elements, fields}
+use Rattle.fl_value.specs.Fits.{count_of}
+use Rattle.fl_layout.specs.declared.extent.Extent.{Extent}
+use Rattle.fl_layout.specs.declared.extent.Extent.TheVariants.{Fixed, Text, Sized}
+use Rattle.fl_layout.specs.declared.extent.Placed.{Placed}
+use Rattle.fl_layout.specs.declared.extent.Rank.{Rank}
+use Rattle.fl_layout.specs.declared.extent.Rank.TheVariants.{FixedAt, Dynamic}
+use Rattle.fl_layout.specs.declared.extent.Fill.{Fill}
+use Rattle.fl_layout.specs.declared.extent.Fill.TheVariants.{Empty, Full}
+
+-- how many numbers a value of a type has: its scalars and enumerators
+abbrev mutual
+  pub numbers_of : TheType → ℕ
+  numbers_of (scalar s) = 1
+  numbers_of (enumeration n) = 1
+  numbers_of (structure ts) = numbers_of_all ts
+  numbers_of (array n t) = n * numbers_of t
+
+  pub numbers_of_all : TheTypes → ℕ
+  numbers_of_all no_more = 0
+  numbers_of_all (field t ts) = numbers_of t + numbers_of_all ts
+
+abbrev pub extent_of : TheArgType → Extent
+extent_of (fixed t) = Fixed (size_of t) (align_of t) (numbers_of t)
+extent_of (text most) = Text most
+extent_of (sized most t) = Sized most (size_of t) (numbers_of t)
+
+-- things with their numbers, from 0
+abbrev pub numbered : {A : Type 0} → List A → List (ℕ × A)
+numbered xs = zip (range_with_len 0 (length xs)) xs
+
+-- an argument with its number
+abbrev pub placing : ℕ × TheArgType → Placed
+placing a = record { argument = a.0; extent = extent_of a.1 }
+
+-- what a plan keeps of a message: each argument's number and extent, in the plan's order
+abbrev pub placed_of : PlanNo → TheMessage → List Placed
+placed_of plan m = map placing (arranged (λ (a : ℕ × TheArgType). a.1) plan (numbered m.args))
+
+-- where an argument with so many bytes or elements ends, if what stands before it ends at a place after which
+-- an alignment is due
+abbrev pub end_of : ℕ → ℕ → Extent → ℕ → ℕ
+end_of at due (Fixed size align numbers) count = round_up at (max due align) + size
+end_of at due (Text most) count = round_up at 8 + (8 + count)
+end_of at due (Sized most stride numbers) count = round_up at 8 + (8 + count * stride)
+
+-- what is due after an argument: after a string or a sized array a multiple of 8
+abbrev pub due_after : Extent → ℕ
+due_after (Fixed size align numbers) = 1
+due_after (Text most) = 8
+due_after (Sized most stride numbers) = 8
+
+-- an argument's extent beside its number of bytes or elements
+abbrev pub Filled : Type 0
+Filled = Extent × ℕ
+
+-- where the last of some arguments ends
+abbrev pub end_of_all : ℕ → ℕ → List Filled → ℕ
+end_of_all at due [] = at
+end_of_all at due (f ∷ fs) = end_of_all (end_of at due f.0 f.1) (due_after f.0) fs
+
+-- how many numbers an argument has on a tape: a string and a sized array begin with their length
+abbrev pub numbers_in : Extent → ℕ → ℕ
+numbers_in (Fixed size align numbers) count = numbers
+numbers_in (Text most) count = 1 + count
+numbers_in (Sized most stride numbers) count = 1 + count * numbers
+
+abbrev pub numbers_in_all : List Filled → ℕ
+numbers_in_all [] = 0
+numbers_in_all (f ∷ fs) = numbers_in f.0 f.1 + numbers_in_all fs
+
+-- an argument with no byte or element, with as many as it may have, and with those of a value
+abbrev pub most_of : Extent → ℕ
+most_of (Fixed size align numbers) = 0
+most_of (Text most) = most
+most_of (Sized most stride numbers) = most
+
+abbrev pub count_in : Datum → ℕ
+count_in (number z) = 0
+count_in (string bytes) = length bytes
+count_in (elements ds) = count_of ds
+count_in (fields ds) = 0
+
+-- a fixed argument has none that count
+abbrev pub count_at : Extent → Datum → ℕ
+count_at (Fixed size align numbers) d = 0
+count_at (Text most) d = count_in d
+count_at (Sized most stride numbers) d = count_in d
+
+abbrev pub count_by : Fill → Extent → ℕ
+count_by Empty extent = 0
+count_by Full extent = most_of extent
+
+abbrev pub filled_up : Fill → Placed → Filled
+filled_up fill p = (p.extent, count_by fill p.extent)
+
+abbrev pub filled_by : List Datum → Placed → Filled
+filled_by ds p = (p.extent, count_at p.extent (get_or ds p.argument (number (pos 0))))
+
+-- sizes, alignments and counts as the limits have them
+abbrev pub is_within : Extent → Bool
+is_within (Fixed size align numbers) = nat_le size 4096 && (nat_le 1 align && (nat_le align 8 && nat_le numbers 4096))
+is_within (Text most) = nat_le most 4096
+is_within (Sized most stride numbers) = nat_le most 4096 && (nat_le stride 4096 && nat_le numbers 4096)
+
+abbrev pub are_within : List Placed → Bool
+are_within ps = list_all (λ (p : Placed). is_within p.extent) ps
+
+-- a value has no more bytes or elements than it may
+abbrev pub is_short : List Datum → Placed → Bool
+is_short ds p = nat_le (count_at p.extent (get_or ds p.argument (number (pos 0)))) 4096
+
+abbrev pub in_rank : Rank → Extent → Bool
+in_rank (FixedAt a) (Fixed size align numbers) = align == a
+in_rank Dynamic (Fixed size align numbers) = false
+in_rank (FixedAt a) extent = false
+in_rank Dynamic extent = true
+
+abbrev pub of_rank : Rank → List Placed → List Placed
+of_rank rank ps = filter (λ (p : Placed). in_rank rank p.extent) ps
+
+-- the plan's order
+abbrev pub in_order : PlanNo → List Placed → List Placed
+in_order One ps = ps
+in_order Two ps =
+    of_rank (FixedAt 8) ps ++ of_rank (FixedAt 4) ps ++ of_rank (FixedAt 2) ps ++ of_rank (FixedAt 1) ps ++ of_rank Dynamic ps

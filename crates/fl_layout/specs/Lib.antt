@@ -1,0 +1,4 @@
+pub mod Leaves
+pub mod Places
+pub mod Extents
+pub mod Layouts

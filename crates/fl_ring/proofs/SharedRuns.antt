@@ -1,0 +1,67 @@
+-- Steps in a row at a seat of a ring over shared words.
+use Rattle.std.proofs.Common.{ℕ, ◌≡◌, ◌<◌, ◌≤◌, ◌+◌, ◌*◌, ◌^◌, true, List, [], ◌∷◌, ◌++◌, length, take, get_or, ap, subst, ◌∙◌, sym, refl, arith, Option, Some, None}
+use Rattle.std.proofs.lemmas.List.{length-take-le, take_all}
+use mathlib.Core.Option.{none}
+use Rattle.atomic_table.specs.Table.{Me, Step, step, Allows}
+use Rattle.fl_base.specs.declared.fragment.Frag.{Frag}
+use Rattle.fl_base.specs.Control.{epoch_of}
+use Rattle.fl_link.specs.Cursor.{epoch_at}
+use Rattle.fl_ring.specs.declared.shared.board.Writing.{Writing}
+use Rattle.fl_ring.specs.declared.shared.board.Reading.{Reading}
+use Rattle.fl_ring.specs.declared.shared.board.View.{View}
+use Rattle.fl_ring.specs.Way.{slot}
+use Rattle.fl_ring.specs.SharedWay.{IsDue, with_stored, with_put, with_loaded, frag_from}
+use Rattle.fl_ring.specs.SharedRing.{RingRule, with_writing, with_reading, stores_word, stores_control, loads_word}
+use Rattle.fl_ring.specs.SharedSeats.{with_part, with_frag, with_words}
+use Rattle.fl_ring.proofs.SharedSteps.{allows_stored, allows_put, allows_loaded}
+
+abbrev Seated : Type 0
+Seated = Me (Unit {0}) View
+
+pub taken_length : (k : ℕ) (xs : List ℕ) → length xs ≡ 7 → k < 7 → length (take k xs) ≡ k
+taken_length k xs seven lt = length-take-le k xs (omega arith)
+
+pub taken_all : (xs : List ℕ) → length xs ≡ 7 → take 7 xs ≡ xs
+taken_all xs seven = take_all 7 xs (omega arith)
+
+-- the seat that has stored these payload words
+abbrev stored : Seated → List ℕ → Seated
+stored m words = (with_writing m.0 (with_part m.0.put words), m.1)
+
+pub none_stored : (m : Seated) → m.0.put.part ≡ [] → m ≡ stored m []
+none_stored m e = ap (λ (p : List ℕ). stored m p) e
+
+pub one_stored : (m0 m m' : Seated) (p q : List ℕ) (x : ℕ) → m ≡ stored m0 p → m' ≡ (with_writing m.0 (with_stored m.0.put x), m.1) → p ++ x ∷ [] ≡ q → m' ≡ stored m0 q
+one_stored m0 m m' p q x e d more = d ∙ ap (λ (z : Seated). let s : Seated = (with_writing z.0 (with_stored z.0.put x), z.1) in s) e ∙ ap (λ (r : List ℕ). stored m0 r) more
+
+pub allows_stored_after : (n slots id i x k : ℕ) (m0 m : Seated) (p : List ℕ) → m ≡ stored m0 p → n ≡ m0.0.size → m0.0.writes ≡ true → i ≡ slot 0 m0.0.size (length m0.0.put.sent) + k → length p ≡ k → k < 7
+    → length m0.0.put.sent < m0.0.put.known + m0.0.size → Allows (RingRule n) slots id m i (λ _. x) (λ _. stores_word (step slots i x 0 none) m x)
+allows_stored_after n slots id i x k m0 m p e key writes at len small room =
+    subst (λ (z : Seated). Allows (RingRule n) slots id z i (λ _. x) (λ _. stores_word (step slots i x 0 none) z x)) (sym e)
+    (allows_stored n slots id i x (stored m0 p) key writes (at ∙ ap (λ (j : ℕ). slot 0 m0.0.size (length m0.0.put.sent) + j) (sym len)) (omega arith) room)
+
+pub allows_put_after : (n slots id i c : ℕ) (m0 m : Seated) (p : List ℕ) → m ≡ stored m0 p → n ≡ m0.0.size → m0.0.writes ≡ true → i ≡ slot 0 m0.0.size (length m0.0.put.sent) + 7 → length p ≡ 7
+    → length m0.0.put.sent < m0.0.put.known + m0.0.size → length m0.0.put.sent < 2 ^ 62 → epoch_of c ≡ epoch_at m0.0.size (length m0.0.put.sent)
+    → Allows (RingRule n) slots id m i (λ _. c) (λ _. stores_control (step slots i c 0 none) m c)
+allows_put_after n slots id i c m0 m p e key writes at len room unspent turn =
+    subst (λ (z : Seated). Allows (RingRule n) slots id z i (λ _. c) (λ _. stores_control (step slots i c 0 none) z c)) (sym e)
+    (allows_put n slots id i c (stored m0 p) key writes at len room unspent turn)
+
+pub all_put : (m0 m m' : Seated) (f : Frag) → m ≡ stored m0 f.words → m' ≡ (with_writing m.0 (with_put m.0.put f.control), m.1) → m' ≡ (with_writing m0.0 (with_frag m0.0.put f), m0.1)
+all_put m0 m m' f e d = d ∙ ap (λ (z : Seated). let s : Seated = (with_writing z.0 (with_put z.0.put f.control), z.1) in s) e
+
+-- the seat that has loaded these payload words
+abbrev loaded : Seated → List ℕ → Seated
+loaded m words = (with_reading m.0 (with_words m.0.take words), m.1)
+
+pub none_loaded : (m : Seated) → m.0.take.part ≡ [] → m ≡ loaded m []
+none_loaded m e = ap (λ (p : List ℕ). loaded m p) e
+
+pub one_loaded : (m0 m m' : Seated) (p q : List ℕ) (x : ℕ) → m ≡ loaded m0 p → m' ≡ (with_reading m.0 (with_loaded m.0.take x), m.1) → p ++ x ∷ [] ≡ q → m' ≡ loaded m0 q
+one_loaded m0 m m' p q x e d more = d ∙ ap (λ (z : Seated). let s : Seated = (with_reading z.0 (with_loaded z.0.take x), z.1) in s) e ∙ ap (λ (r : List ℕ). loaded m0 r) more
+
+pub allows_loaded_after : (n slots id i k : ℕ) (m0 m : Seated) (p : List ℕ) → m ≡ loaded m0 p → n ≡ m0.0.size → m0.0.reads ≡ true → i ≡ slot 0 m0.0.size (length m0.0.take.got) + k → length p ≡ k → k < 6
+    → IsDue m0.0.size m0.0.take → Allows (RingRule n) slots id m i (λ x. x) (loads_word (step slots i 0 0 none) m)
+allows_loaded_after n slots id i k m0 m p e key reads at len small due =
+    subst (λ (z : Seated). Allows (RingRule n) slots id z i (λ x. x) (loads_word (step slots i 0 0 none) z)) (sym e)
+    (allows_loaded n slots id i (loaded m0 p) key reads (at ∙ ap (λ (j : ℕ). slot 0 m0.0.size (length m0.0.take.got) + j) (sym len)) due (omega arith))

@@ -1,0 +1,6 @@
+use Rattle.std.proofs.Common.{rules, ◌≡◌, ◌*◌, ◌∙◌, refl, sym, ap, length, arith, ℕ}
+use Rattle.fl_ring.proofs.SharedDuoMakes.{duo_opens}
+use Rattle.fl_ring.proofs.shared.duo_making.duo_from.Goals as goal
+
+pub of_words-requires : goal.of_words-requires
+of_words-requires c = duo_opens c.args.size c.args.start _ (omega arith) (omega arith) c.requires.start (search rules) (search rules)

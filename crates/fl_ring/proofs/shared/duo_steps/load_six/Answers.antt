@@ -1,0 +1,33 @@
+use Rattle.std.proofs.Common.{rules, ◌≡◌, ◌∙◌, refl, sym, take, length, arith, length-set}
+use Rattle.std.proofs.lemmas.List.{take_more_set}
+use Rattle.fl_ring.proofs.SharedDuoSteps.{duo_other_in}
+use Rattle.fl_ring.proofs.SharedRuns.{taken_length}
+use Rattle.fl_ring.proofs.SharedDuoRuns.{duo_none_loaded, duo_one_loaded, duo_loaded_after}
+use Rattle.fl_ring.proofs.shared.duo_steps.load_six.Goals as goal
+
+pub loop-k-init : goal.loop-k-init
+loop-k-init c = record { table = refl; loaded = duo_none_loaded c.args.seat.now.me c.requires.due.0; seven = refl }
+
+pub load-requires : goal.load-requires
+load-requires c =
+    let inv = c.loop-k.invariant in
+    let k = c.loop-k.k in
+    let words = c.loop-k.words in
+    let m0 = c.args.seat.now.me in
+    let seated = c.requires.seated in (
+      inv.table ∙ seated.same,
+      omega (arith, c.requires.first, duo_other_in m0.0.holder m0.0.size (length m0.0.mine.take.got) k _ seated.side seated.some (omega arith) seated.wide),
+      duo_loaded_after _ _ _ _ k m0 _ (take k words) inv.loaded seated.key_is seated.side (omega (arith, c.requires.first)) (taken_length k words inv.seven (omega arith)) (omega arith) c.requires.due.1,
+    )
+
+pub loop-k-preserved : goal.loop-k-preserved
+loop-k-preserved c =
+    let inv = c.loop-k.invariant in
+    let k = c.loop-k.k in
+    let words = c.loop-k.words in
+    let m0 = c.args.seat.now.me in
+    record {
+      table = c.load.ensures.0 ∙ inv.table;
+      loaded = duo_one_loaded m0 _ _ (take k words) _ _ inv.loaded c.load.ensures.2 (sym (take_more_set words k _ (omega (arith, inv.seven))));
+      seven = length-set words k _ ∙ inv.seven;
+    }

@@ -1,0 +1,8 @@
+use Rattle.std.proofs.Common.{rules, ◌≡◌, ◌*◌, ◌∙◌, refl, sym, ap, length, arith, ℕ}
+use Rattle.fl_ring.proofs.SharedSteps.{allows_known}
+use Rattle.fl_ring.proofs.shared.writes.has_room.Goals as goal
+
+pub load-requires : goal.load-requires
+load-requires c =
+    let seated = c.requires.seated in
+    (seated.same, omega (arith, seated.wide, c.requires.writer.size), allows_known _ _ _ _ c.args.seat.now.me seated.key_is c.requires.writer.writes (ap (λ (k : ℕ). 8 * k) (sym c.requires.writer.size)))

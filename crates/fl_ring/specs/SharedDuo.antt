@@ -1,0 +1,192 @@
+-- The rule of a ring of two directions over shared words, and what each kind of step tells its side.
+--
+-- Words 0 to 8n - 1 are the way that side one writes and side two reads, and the next 8n words the
+-- way back. There is no word for the number told: bits 48 to 63 of every control word say how many
+-- fragments its writer had got, modulo 65,536. The steps are these, each by the seat of its side:
+--
+--   a payload word is stored into the next slot: fewer than seven are stored, and fewer than n
+--     fragments are sent beyond those known to be told
+--   a control word is stored, with the epoch due and the number got: all seven payload words are
+--     stored. It tells all that the side got
+--   the control word of the slot that is read next is loaded. Where it has the epoch due, the side
+--     knows the count that its number names; else it knows what it knew
+--   a payload word of that slot is loaded: the epoch due was seen
+--   at the start the first seat is cut in two, and at the end the two are joined
+use Rattle.std.specs.Prelude.{ℕ, ◌≡◌, ◌≢◌, ◌+◌, ◌*◌, ◌/◌, ◌%◌, ◌≤◌, ◌<◌, ◌^◌, ◌⊎◌, ◌==◌, if◌then◌else◌, Bool, true, false, List, [], ◌∷◌, ◌++◌, length, replicate, Option, Some, None}
+use Rattle.atomic_table.specs.Table.{State, Me, Step}
+use Rattle.fl_base.specs.declared.fragment.Frag.{Frag}
+use Rattle.fl_base.specs.Control.{epoch_of, told_of}
+use Rattle.fl_link.specs.Cursor.{epoch_at}
+use Rattle.fl_ring.specs.Counts.{count_from, last_count}
+use Rattle.fl_ring.specs.declared.shared.board.Writing.{Writing}
+use Rattle.fl_ring.specs.declared.shared.board.Reading.{Reading}
+use Rattle.fl_ring.specs.declared.shared.duo_board.Side.{Side}
+use Rattle.fl_ring.specs.declared.shared.duo_board.Holder.{Holder}
+use Rattle.fl_ring.specs.declared.shared.duo_board.Holder.TheVariants.{One, Two, Both, Nobody}
+use Rattle.fl_ring.specs.declared.shared.duo_board.DuoView.{DuoView}
+use Rattle.fl_ring.specs.SharedWay.{IsFront, IsDue, WayRuns, frag_from, with_stored, with_put, with_control, with_loaded, with_peeked, with_got, with_told, loaded_frag}
+use Rattle.fl_ring.specs.SharedTable.{Accounted}
+
+-- ---- the rule
+
+-- Some fragments sent are not got yet. A side that knew so many to be told knows all that was told
+-- once it has read the numbers of those.
+pub record NumbersRide (sent got : List Frag) (known told : ℕ) : Type 0 where
+  pub waiting : List Frag
+  pub split : sent ≡ got ++ waiting
+  pub counts : last_count known waiting ≡ told
+
+-- the control word that was loaded last tells nothing new, where it has the epoch due
+abbrev pub KnowsLast : ℕ → Side → Type 0
+KnowsLast n s = IsDue n s.take → length s.take.part < 7 → count_from s.put.known (told_of s.take.last) ≡ s.put.known
+
+-- the way at word b is written by side x and read by side y, and the way at word c is the way back
+pub record BothRun (b c n : ℕ) (words : List ℕ) (x y : Side) : Type 0 where
+  pub few : n ≤ 1024
+  pub wide : length words ≡ 16 * n
+  pub apart : ((b ≡ 0) × (c ≡ 8 * n)) ⊎ ((b ≡ 8 * n) × (c ≡ 0))
+  pub there : WayRuns b n words x.put y.take y.take.told
+  pub back : WayRuns c n words y.put x.take x.take.told
+  -- what x has told rides in its fragments that y has not got, and the other way round
+  pub told_there : NumbersRide x.put.sent y.take.got y.put.known x.take.told
+  pub told_back : NumbersRide y.put.sent x.take.got x.put.known y.take.told
+  pub last_there : KnowsLast n x
+  pub last_back : KnowsLast n y
+
+-- who sits where, and what the two sides know
+pub record Pairing : Type 0 where
+  pub first : ℕ
+  pub second : ℕ
+  pub one : Side
+  pub two : Side
+
+-- the view of the seat of this number: what it says of a side is so
+abbrev pub DuoFits : ℕ → Pairing → ℕ → DuoView → Type 0
+DuoFits n p seat v = (v.holder ≡ One → (seat ≡ p.first) × (v.mine ≡ p.one) × (v.size ≡ n))
+    × (v.holder ≡ Two → (seat ≡ p.second) × (v.mine ≡ p.two) × (v.size ≡ n))
+    × (v.holder ≡ Both → (seat ≡ p.first) × (seat ≡ p.second) × (v.mine ≡ p.one) × (v.theirs ≡ p.two) × (v.size ≡ n))
+
+-- what holds of a ring of two directions, of n slots each, at every moment
+abbrev pub DuoHolds : ℕ → State (Unit {0}) DuoView → Type 0
+DuoHolds n = Accounted (DuoFits n) (λ words p. BothRun 0 (8 * n) n words p.one p.two)
+
+-- ---- the views
+
+abbrev pub blank : Frag
+blank = record { words = replicate 7 0; control = 0 }
+
+-- a side of a ring through which so many blank fragments have passed each way, all told; its last
+-- control word has the epoch of the round before
+abbrev pub new_side : ℕ → ℕ → Side
+new_side n start = record {
+  put = record { sent = replicate start blank; part = []; known = start; loads = 0 };
+  take = record { got = replicate start blank; part = []; last = start / n; peeked = None; misses = 0; told = start };
+}
+
+abbrev pub duo_opening : ℕ → ℕ → DuoView
+duo_opening n start = record { size = n; holder = Both; mine = new_side n start; theirs = new_side n start }
+
+abbrev pub side_one_of : DuoView → DuoView
+side_one_of v = record { size = v.size; holder = One; mine = v.mine; theirs = v.theirs }
+
+abbrev pub side_two_of : DuoView → DuoView
+side_two_of v = record { size = v.size; holder = Two; mine = v.theirs; theirs = v.mine }
+
+-- two seats, in whichever order their sides are
+abbrev pub both_as : Holder → DuoView → DuoView → DuoView
+both_as One v w = record { size = v.size; holder = Both; mine = v.mine; theirs = w.mine }
+both_as _ v w = record { size = v.size; holder = Both; mine = w.mine; theirs = v.mine }
+
+abbrev pub duo_both_of : DuoView → DuoView → DuoView
+duo_both_of v w = both_as v.holder v w
+
+abbrev pub duo_nobody : DuoView
+duo_nobody = record { size = 0; holder = Nobody; mine = new_side 0 0; theirs = new_side 0 0 }
+
+abbrev pub with_mine : DuoView → Side → DuoView
+with_mine v s = record { size = v.size; holder = v.holder; mine = s; theirs = v.theirs }
+
+-- ---- what the steps do to a side's knowledge
+
+abbrev pub side_stored : Side → ℕ → Side
+side_stored s x = record { put = with_stored s.put x; take = s.take }
+
+-- the fragment is put, and all that was got is told
+abbrev pub side_put : Side → ℕ → Side
+side_put s c = record { put = with_put s.put c; take = with_told s.take (length s.take.got) }
+
+-- the count known after a look that loads this control word
+abbrev pub known_by : ℕ → Side → ℕ → ℕ
+known_by n s c = if epoch_of c == epoch_at n (length s.take.got) then count_from s.put.known (told_of c) else s.put.known
+
+abbrev pub counted_by : ℕ → Side → ℕ → Writing
+counted_by n s c = record { sent = s.put.sent; part = s.put.part; known = known_by n s c; loads = s.put.loads + 1 }
+
+abbrev pub side_control : ℕ → Side → ℕ → Side
+side_control n s c = record { put = counted_by n s c; take = with_control n s.take c }
+
+abbrev pub side_loaded : Side → ℕ → Side
+side_loaded s x = record { put = s.put; take = with_loaded s.take x }
+
+abbrev pub side_peeked : Side → ℕ → Side
+side_peeked s x = record { put = s.put; take = with_peeked s.take x }
+
+abbrev pub side_got : Side → ℕ → Side
+side_got s x = record { put = s.put; take = with_got s.take x }
+
+-- ---- what each step tells: of the step, the seat before, the number found or stored, the seat after
+
+abbrev DuoPlayer : Type 1
+DuoPlayer = Step (Unit {0}) → Me (Unit {0}) DuoView → ℕ → Me (Unit {0}) DuoView → Type 0
+
+abbrev pub duo_stores_word : DuoPlayer
+duo_stores_word st m x m' = m' ≡ (with_mine m.0 (side_stored m.0.mine x), m.1)
+
+abbrev pub duo_stores_control : DuoPlayer
+duo_stores_control st m x m' = m' ≡ (with_mine m.0 (side_put m.0.mine x), m.1)
+
+-- a fragment that was peeked is still there, and what is known was sent
+abbrev pub duo_loads_control : DuoPlayer
+duo_loads_control st m x m' = (m' ≡ (with_mine m.0 (side_control m.0.size m.0.mine x), m.1))
+    × ((frag : Frag) → m.0.mine.take.peeked ≡ Some frag → epoch_of x ≡ epoch_at m.0.size (length m.0.mine.take.got))
+    × (known_by m.0.size m.0.mine x ≤ length m.0.mine.put.sent)
+
+abbrev pub duo_loads_word : DuoPlayer
+duo_loads_word st m x m' = m' ≡ (with_mine m.0 (side_loaded m.0.mine x), m.1)
+
+-- a fragment that was peeked is the one loaded
+abbrev DuoAgain : Reading → ℕ → Type 0
+DuoAgain r x = (frag : Frag) → r.peeked ≡ Some frag → loaded_frag r x ≡ frag
+
+abbrev pub duo_loads_peeked : DuoPlayer
+duo_loads_peeked st m x m' = (m' ≡ (with_mine m.0 (side_peeked m.0.mine x), m.1)) × DuoAgain m.0.mine.take x
+
+abbrev pub duo_loads_taken : DuoPlayer
+duo_loads_taken st m x m' = (m' ≡ (with_mine m.0 (side_got m.0.mine x), m.1)) × DuoAgain m.0.mine.take x × (length m.0.mine.take.got < 2 ^ 62)
+
+-- The law by which a 16-bit number names one count, of the fragments that a side w sent and a side r
+-- got: what w knows was told, what was told was got, and what was got was sent, no more than n beyond.
+pub record CountsNear (n : ℕ) (w r : Side) : Type 0 where
+  pub few : n ≤ 1024
+  pub got_sent : IsFront r.take.got w.put.sent
+  pub known_told : w.put.known ≤ r.take.told
+  pub told_got : r.take.told ≤ length r.take.got
+  pub sent_near : length w.put.sent ≤ w.put.known + n
+
+abbrev pub duo_compares : DuoPlayer
+duo_compares st m x m' = (m' ≡ m) × CountsNear m.0.size m.0.mine m.0.theirs × CountsNear m.0.size m.0.theirs m.0.mine
+
+-- ---- where a side's ways begin
+
+-- the seat is one side's
+abbrev pub IsOneSide : Holder → Type 0
+IsOneSide h = (h ≡ One) ⊎ (h ≡ Two)
+
+-- the first word of the slots that a side writes, of n slots each way, and of those that it reads
+abbrev pub base_of : Holder → ℕ → ℕ
+base_of One n = 0
+base_of _ n = 8 * n
+
+abbrev pub other_of : Holder → ℕ → ℕ
+other_of One n = 8 * n
+other_of _ n = 0

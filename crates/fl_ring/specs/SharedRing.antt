@@ -1,0 +1,116 @@
+-- The rule of a ring over shared words, and what each kind of step tells its side.
+--
+-- Words 8j to 8j + 7 are slot j, and word 8n holds how many fragments were read and told. One seat is
+-- the writer's and one the reader's. The steps are these, each by the seat that it names:
+--
+--   the writer stores a payload word of the next slot: fewer than seven are stored, and fewer than n
+--     fragments are sent beyond those known to be told
+--   the writer stores the control word, with the epoch due: all seven payload words are stored
+--   the writer loads the number told
+--   the reader loads the control word of the slot that it reads next
+--   the reader loads a payload word of that slot: it has seen the epoch due
+--   the reader stores the number told: no more than it got, and no less than it has told
+--   at the start the first seat is cut in two, and at the end the two are joined
+use Rattle.std.specs.Prelude.{ℕ, ◌≡◌, ◌+◌, ◌*◌, ◌≤◌, ◌<◌, ◌^◌, Bool, true, false, List, [], ◌∷◌, ◌++◌, length, slice_index, Option, Some, None}
+use Rattle.atomic_table.specs.Table.{State, Me, Step}
+use Rattle.fl_base.specs.declared.fragment.Frag.{Frag}
+use Rattle.fl_base.specs.Control.{epoch_of}
+use Rattle.fl_link.specs.Cursor.{epoch_at}
+use Rattle.fl_ring.specs.declared.shared.board.Writing.{Writing}
+use Rattle.fl_ring.specs.declared.shared.board.Reading.{Reading}
+use Rattle.fl_ring.specs.declared.shared.board.View.{View}
+use Rattle.fl_ring.specs.SharedWay.{IsFront, WayRuns, with_stored, with_put, with_known, with_control, with_loaded, with_peeked, with_got, with_told, loaded_frag}
+use Rattle.fl_ring.specs.SharedTable.{Accounted}
+
+-- ---- the rule
+
+-- who sits where, and what the two sides know
+pub record Sides : Type 0 where
+  pub writer : ℕ
+  pub reader : ℕ
+  pub put : Writing
+  pub take : Reading
+
+-- the view of the seat of this number: what it says of a side is so
+abbrev pub Fits : ℕ → Sides → ℕ → View → Type 0
+Fits n s seat v = (v.writes ≡ true → (seat ≡ s.writer) × (v.put ≡ s.put) × (v.size ≡ n)) × (v.reads ≡ true → (seat ≡ s.reader) × (v.take ≡ s.take) × (v.size ≡ n))
+
+-- the words: a way at word 0, and after it the number told
+pub record RingHolds (n : ℕ) (words : List ℕ) (w : Writing) (r : Reading) : Type 0 where
+  pub wide : length words ≡ 8 * n + 1
+  pub way : WayRuns 0 n words w r r.told
+  pub told_is : slice_index words (8 * n) ≡ r.told
+
+-- what holds of a ring of n slots at every moment
+abbrev pub RingRule : ℕ → State (Unit {0}) View → Type 0
+RingRule n = Accounted (Fits n) (λ words s. RingHolds n words s.put s.take)
+
+-- ---- the views
+
+abbrev pub new_writing : Writing
+new_writing = record { sent = []; part = []; known = 0; loads = 0 }
+
+abbrev pub new_reading : Reading
+new_reading = record { got = []; part = []; last = 0; peeked = None; misses = 0; told = 0 }
+
+-- the first seat is both sides'
+abbrev pub opening_view : ℕ → View
+opening_view n = record { size = n; writes = true; reads = true; put = new_writing; take = new_reading }
+
+-- what is left of it for the writer, and for the reader
+abbrev pub writer_of : View → View
+writer_of v = record { size = v.size; writes = true; reads = false; put = v.put; take = v.take }
+
+abbrev pub reader_of : View → View
+reader_of v = record { size = v.size; writes = false; reads = true; put = v.put; take = v.take }
+
+-- the writer's and the reader's in one, and what the other seat is left with
+abbrev pub both_of : View → View → View
+both_of v w = record { size = v.size; writes = true; reads = true; put = v.put; take = w.take }
+
+abbrev pub nobody : View
+nobody = record { size = 0; writes = false; reads = false; put = new_writing; take = new_reading }
+
+abbrev pub with_writing : View → Writing → View
+with_writing v w = record { size = v.size; writes = v.writes; reads = v.reads; put = w; take = v.take }
+
+abbrev pub with_reading : View → Reading → View
+with_reading v r = record { size = v.size; writes = v.writes; reads = v.reads; put = v.put; take = r }
+
+-- ---- what each step tells: of the step, the seat before, the number found or stored, the seat after
+
+abbrev Player : Type 1
+Player = Step (Unit {0}) → Me (Unit {0}) View → ℕ → Me (Unit {0}) View → Type 0
+
+abbrev pub stores_word : Player
+stores_word st m x m' = m' ≡ (with_writing m.0 (with_stored m.0.put x), m.1)
+
+abbrev pub stores_control : Player
+stores_control st m x m' = m' ≡ (with_writing m.0 (with_put m.0.put x), m.1)
+
+abbrev pub loads_told : Player
+loads_told st m x m' = (m' ≡ (with_writing m.0 (with_known m.0.put x), m.1)) × (m.0.put.known ≤ x) × (x ≤ length m.0.put.sent)
+
+-- a fragment that was peeked is still there
+abbrev pub loads_control : Player
+loads_control st m x m' = (m' ≡ (with_reading m.0 (with_control m.0.size m.0.take x), m.1))
+    × ((frag : Frag) → m.0.take.peeked ≡ Some frag → epoch_of x ≡ epoch_at m.0.size (length m.0.take.got))
+
+abbrev pub loads_word : Player
+loads_word st m x m' = m' ≡ (with_reading m.0 (with_loaded m.0.take x), m.1)
+
+-- a fragment that was peeked is the one loaded
+abbrev Again : Reading → ℕ → Type 0
+Again r x = (frag : Frag) → r.peeked ≡ Some frag → loaded_frag r x ≡ frag
+
+abbrev pub loads_peeked : Player
+loads_peeked st m x m' = (m' ≡ (with_reading m.0 (with_peeked m.0.take x), m.1)) × Again m.0.take x
+
+abbrev pub loads_taken : Player
+loads_taken st m x m' = (m' ≡ (with_reading m.0 (with_got m.0.take x), m.1)) × Again m.0.take x × (length m.0.take.got < 2 ^ 62)
+
+abbrev pub stores_told : Player
+stores_told st m x m' = m' ≡ (with_reading m.0 (with_told m.0.take x), m.1)
+
+abbrev pub compares : Player
+compares st m x m' = (m' ≡ m) × IsFront m.0.take.got m.0.put.sent

@@ -1,0 +1,41 @@
+use Rattle.std.proofs.Common.{◌≡◌, ◌+◌, ◌++◌, [], ◌∷◌, List, suc, map, take, drop, filter, true, arith, sym, subst, ap, ◌∙◌, append_assoc}
+use Rattle.std.proofs.lemmas.Bool.{cond-true}
+use Rattle.fl_check.specs.Interface.{TheArgType, arg_type_of}
+use Rattle.fl_value.specs.Value.{Datum, datum_of}
+use Rattle.fl_value.specs.Groups.{in_group}
+use Rattle.fl_value.specs.Taken.{ArgumentAt, InTurn, TheOne, NoneOf}
+use Rattle.fl_value.proofs.Turns.{one_more, none_more, map_pushed, filter_taken, filter_around}
+use Rattle.fl_value.proofs.untape.read_group.Goals as goal
+
+pub loop-argument-preserved : goal.loop-argument-preserved
+loop-argument-preserved c = λ done whole start.
+    let argument = c.argument-item.result in
+    let type = arg_type_of argument in
+    let test = in_group c.args.group in
+    let before = filter test (map arg_type_of (take c.loop-argument.argument-index c.args.arguments.now)) in
+    let passes : test type ≡ true = sym c.is_in_group.ensures.same ∙ c.if-not-is_in_group.false in
+    let found = rw c.in-Some.is at c.in_ok-value.ensures.found in
+    let more = one_more ArgumentAt (done ++ before) type whole (map datum_of c.loop-argument.values.items) c.loop-argument.rest.now (datum_of c.in-Some.value) c.in-Some.after.now (c.loop-argument.invariant done whole start) found in
+    let single : filter test (type ∷ []) ≡ type ∷ [] = cond-true (test type) (type ∷ []) [] passes in
+    let types : done ++ filter test (map arg_type_of (take (c.loop-argument.argument-index + 1) c.args.arguments.now)) ≡ (done ++ before) ++ type ∷ []
+    = ap (λ (ts : List TheArgType). done ++ ts) (filter_taken test arg_type_of c.args.arguments.now c.loop-argument.argument-index argument (omega arith) c.argument-item.is ∙ ap (λ (ts : List TheArgType). before ++ ts) single)
+    ∙ sym (append_assoc done before (type ∷ [])) in
+    let values = map_pushed datum_of c.loop-argument.values.items c.push.new.self.items c.in-Some.value c.in_ok-push.ensures.items in
+    subst (λ (ts : List TheArgType). TheOne (InTurn ArgumentAt ts whole) (map datum_of c.push.new.self.items) c.in-Some.after.now) (sym types)
+    (subst (λ (ds : List Datum). TheOne (InTurn ArgumentAt ((done ++ before) ++ type ∷ []) whole) ds c.in-Some.after.now) (sym values) more)
+
+pub returns-in_default-clause-none : goal.returns-in_default-clause-none
+returns-in_default-clause-none c = λ done whole start.
+    let argument = c.argument-item.result in
+    let type = arg_type_of argument in
+    let test = in_group c.args.group in
+    let before = filter test (map arg_type_of (take c.loop-argument.argument-index c.args.arguments.now)) in
+    let others = map arg_type_of (drop (suc c.loop-argument.argument-index) c.args.arguments.now) in
+    let passes : test type ≡ true = sym c.is_in_group.ensures.same ∙ c.if-not-is_in_group.false in
+    let none = rw c.in_default.is at c.in_ok-value.ensures.none in
+    let nothing = none_more ArgumentAt (done ++ before) type (filter test others) whole (map datum_of c.loop-argument.values.items) c.loop-argument.rest.now (c.loop-argument.invariant done whole start) none in
+    let behind : filter test (type ∷ others) ≡ type ∷ filter test others = cond-true (test type) (type ∷ filter test others) (filter test others) passes in
+    let types : (done ++ before) ++ type ∷ filter test others ≡ done ++ filter test (map arg_type_of c.args.arguments.now)
+    = append_assoc done before (type ∷ filter test others) ∙ ap (λ (ts : List TheArgType). done ++ (before ++ ts)) (sym behind)
+    ∙ ap (λ (ts : List TheArgType). done ++ ts) (filter_around test arg_type_of c.args.arguments.now c.loop-argument.argument-index argument (omega arith) c.argument-item.is) in
+    subst (λ (ts : List TheArgType). NoneOf (InTurn ArgumentAt ts whole)) types nothing

@@ -1,0 +1,397 @@
+//! A call back from its tape. The tape may come from anywhere: what no fitting call has is refused.
+
+ghost use Rattle.std.specs.Prelude.{◌≡◌, ◌≤◌, ◌++◌, ◌^◌, ℕ, List, true, false, map, filter, replicate, Some, IfOk, IfSome, IfNone};
+ghost use Rattle.std.specs.Option.{option_map};
+ghost use Rattle.std.specs.List.{list_all};
+ghost use Rattle.fl_check.specs.Interface.{TheArgType, scalar, enumeration, text, sized, type_of, arg_type_of, interface_of};
+ghost use Rattle.fl_value.specs.Value.{TheCall, number, string, elements, data_from, datum_of, call_of};
+ghost use Rattle.fl_value.specs.Plan.{arranged};
+ghost use Rattle.fl_value.specs.Groups.{in_group};
+ghost use Rattle.fl_value.specs.Fits.{is_text_byte};
+ghost use Rattle.fl_value.specs.Taken.{unsigned_back, signed_back, scalar_back, ValueAt, ArgumentAt, LengthAt, BytesAt, InTurn, TheOne, NoneOf, HasTape, OneCallOfATape};
+
+use crate::order::declared_order;
+use crate::tape::{Group, is_in_group};
+use crate::value::{Call, PlanNo, Value};
+use fl_base::MsgNo;
+use fl_check::{ArgType, FixedType, Interface, Scalar};
+use std::alloc::{AllocError, Global};
+
+/// The number below a bound that has these bits.
+fn unsigned_from(bits: u64, above: u128) -> Option<i128>
+    ensures same { result ≡ unsigned_back above bits }
+{
+    if u128::from(bits) < above {
+        Some(i128::from(bits))
+    } else {
+        None
+    }
+}
+
+/// The number that has these bits in two's complement, where half of the numbers are below 0.
+fn signed_from(bits: u64, half: u64) -> Option<i128>
+    requires half { half ≤ 2 ^ 63 }
+    ensures same { result ≡ signed_back half bits }
+{
+    if bits < half {
+        Some(i128::from(bits))
+    } else if bits - half < half {
+        Some(i128::from(bits - half) - i128::from(half))
+    } else {
+        None
+    }
+}
+
+/// The value of a scalar that has these bits.
+fn scalar_from(scalar: Scalar, bits: u64) -> Option<i128>
+    ensures same { result ≡ scalar_back scalar bits }
+{
+    match scalar {
+        Scalar::Bool => unsigned_from(bits, 2),
+        Scalar::Uint8 | Scalar::Char => unsigned_from(bits, 0x100),
+        Scalar::Uint16 => unsigned_from(bits, 0x1_0000),
+        Scalar::Uint32 | Scalar::Iref => unsigned_from(bits, 0x1_0000_0000),
+        Scalar::Uint64 | Scalar::Uintptr | Scalar::Size | Scalar::Errval => {
+            unsigned_from(bits, 0x1_0000_0000_0000_0000)
+        }
+        Scalar::Int8 => signed_from(bits, 0x80),
+        Scalar::Int16 => signed_from(bits, 0x8000),
+        Scalar::Int32 => signed_from(bits, 0x8000_0000),
+        Scalar::Int64 | Scalar::Intptr => signed_from(bits, 0x8000_0000_0000_0000),
+    }
+}
+
+/// The scalar that the tape begins with, and what follows it.
+fn read_scalar(tape: &[u64], kind: Scalar) -> Option<(i128, &[u64])>
+    ensures found { IfSome result (λ r. TheOne (ValueAt (scalar kind) tape.now) (number r.0) r.1.now) }
+    ensures none { IfNone result (NoneOf (ValueAt (scalar kind) tape.now)) }
+{
+    let [bits, rest @ ..] = tape else {
+        return None;
+    };
+    let number = scalar_from(kind, *bits)?;
+    Some((number, rest))
+}
+
+/// The enumerator's place that the tape begins with, and what follows it.
+fn read_enumerator(tape: &[u64], count: u32) -> Option<(i128, &[u64])>
+    ensures found { IfSome result (λ r. TheOne (ValueAt (enumeration count) tape.now) (number r.0) r.1.now) }
+    ensures none { IfNone result (NoneOf (ValueAt (enumeration count) tape.now)) }
+{
+    let [bits, rest @ ..] = tape else {
+        return None;
+    };
+    let number = unsigned_from(*bits, u128::from(count))?;
+    Some((number, rest))
+}
+
+/// The value of a type that the tape begins with, and what follows it.
+#[cycle(taken)]
+fn read_value<'a>(
+    alloc: Global,
+    tape: &'a [u64],
+    fixed: &FixedType,
+) -> Result<Option<(Value, &'a [u64])>, AllocError>
+    ensures found { IfOk result (λ o. IfSome o (λ r. TheOne (ValueAt (type_of fixed.now) tape.now) (datum_of r.0) r.1.now)) }
+    ensures none { IfOk result (λ o. IfNone o (NoneOf (ValueAt (type_of fixed.now) tape.now))) }
+{
+    match fixed {
+        FixedType::Scalar(scalar) => {
+            let Some((number, rest)) = read_scalar(tape, *scalar) else {
+                return Ok(None);
+            };
+            Ok(Some((Value::Int(number), rest)))
+        }
+        FixedType::Enumeration(count) => {
+            let Some((number, rest)) = read_enumerator(tape, *count) else {
+                return Ok(None);
+            };
+            Ok(Some((Value::Int(number), rest)))
+        }
+        FixedType::Structure(fields) => {
+            let Some((values, rest)) = read_fields(alloc, tape, fields)? else {
+                return Ok(None);
+            };
+            Ok(Some((Value::Fields(values), rest)))
+        }
+        FixedType::Array(count, element) => {
+            let Some((values, rest)) = read_elements(alloc, tape, *count, element)? else {
+                return Ok(None);
+            };
+            Ok(Some((Value::List(values), rest)))
+        }
+    }
+}
+
+/// A struct's fields that the tape begins with, and what follows them.
+#[cycle(taken)]
+fn read_fields<'a>(
+    alloc: Global,
+    tape: &'a [u64],
+    fields: &[FixedType],
+) -> Result<Option<(Vec<Value>, &'a [u64])>, AllocError>
+    ensures found { IfOk result (λ o. IfSome o (λ r. TheOne (InTurn ValueAt (map type_of fields.now) tape.now) (map datum_of r.0.items) r.1.now)) }
+    ensures none { IfOk result (λ o. IfNone o (NoneOf (InTurn ValueAt (map type_of fields.now) tape.now))) }
+{
+    let mut values = Vec::with_capacity(alloc, fields.len())?;
+    let mut rest = tape;
+    for field in fields {
+        let Some((value, after)) = read_value(alloc, rest, field)? else {
+            return Ok(None);
+        };
+        values.push(value)?;
+        rest = after;
+    }
+    Ok(Some((values, rest)))
+}
+
+/// So many elements of a type that the tape begins with, and what follows them.
+#[cycle(taken)]
+fn read_elements<'a>(
+    alloc: Global,
+    tape: &'a [u64],
+    count: u32,
+    element: &FixedType,
+) -> Result<Option<(Vec<Value>, &'a [u64])>, AllocError>
+    ensures found { IfOk result (λ o. IfSome o (λ r. TheOne (InTurn ValueAt (replicate count (type_of element.now)) tape.now) (map datum_of r.0.items) r.1.now)) }
+    ensures none { IfOk result (λ o. IfNone o (NoneOf (InTurn ValueAt (replicate count (type_of element.now)) tape.now))) }
+{
+    let mut values = Vec::with_capacity(alloc, tape.len().min(count as usize))?;
+    let mut rest = tape;
+    for done in 0..count {
+        let Some((value, after)) = read_value(alloc, rest, element)? else {
+            return Ok(None);
+        };
+        values.push(value)?;
+        rest = after;
+    }
+    Ok(Some((values, rest)))
+}
+
+/// The length that the tape begins with, at most so many, and what follows it.
+fn read_length(tape: &[u64], most: u32) -> Option<(u32, &[u64])>
+    ensures found { IfSome result (λ r. LengthAt most tape.now r.0 r.1.now) }
+    ensures none { IfNone result (NoneOf (LengthAt most tape.now)) }
+{
+    let [length, rest @ ..] = tape else {
+        return None;
+    };
+    if *length > u64::from(most) {
+        return None;
+    }
+    Some((*length as u32, rest))
+}
+
+/// The bytes of a string that are these numbers; none is 0.
+fn bytes_from(alloc: Global, numbers: &[u64]) -> Result<Option<Vec<u8>>, AllocError>
+    ensures found { IfOk result (λ o. IfSome o (λ bytes. (bytes.items ≡ numbers.now) × (list_all is_text_byte numbers.now ≡ true))) }
+    ensures none { IfOk result (λ o. IfNone o (list_all is_text_byte numbers.now ≡ false)) }
+{
+    let mut bytes = Vec::with_capacity(alloc, numbers.len())?;
+    for number in numbers {
+        if *number == 0 || *number > 0xff {
+            return Ok(None);
+        }
+        bytes.push(*number as u8)?;
+    }
+    Ok(Some(bytes))
+}
+
+/// So many bytes of a string that the tape begins with, and what follows them.
+fn read_bytes(
+    alloc: Global,
+    tape: &[u64],
+    count: u32,
+) -> Result<Option<(Vec<u8>, &[u64])>, AllocError>
+    ensures found { IfOk result (λ o. IfSome o (λ r. BytesAt count tape.now r.0.items r.1.now)) }
+    ensures none { IfOk result (λ o. IfNone o (NoneOf (BytesAt count tape.now))) }
+{
+    let count = count as usize;
+    if tape.len() < count {
+        return Ok(None);
+    }
+    let (front, rest) = tape.split_at(count);
+    let Some(bytes) = bytes_from(alloc, front)? else {
+        return Ok(None);
+    };
+    Ok(Some((bytes, rest)))
+}
+
+/// The string of at most so many bytes that the tape begins with, and what follows it.
+fn read_string(
+    alloc: Global,
+    tape: &[u64],
+    most: u32,
+) -> Result<Option<(Vec<u8>, &[u64])>, AllocError>
+    ensures found { IfOk result (λ o. IfSome o (λ r. TheOne (ArgumentAt (text most) tape.now) (string r.0.items) r.1.now)) }
+    ensures none { IfOk result (λ o. IfNone o (NoneOf (ArgumentAt (text most) tape.now))) }
+{
+    let Some((count, bytes)) = read_length(tape, most) else {
+        return Ok(None);
+    };
+    read_bytes(alloc, bytes, count)
+}
+
+/// The sized array of at most so many elements that the tape begins with, and what follows it.
+fn read_sized<'a>(
+    alloc: Global,
+    tape: &'a [u64],
+    most: u32,
+    element: &FixedType,
+) -> Result<Option<(Vec<Value>, &'a [u64])>, AllocError>
+    ensures found { IfOk result (λ o. IfSome o (λ r. TheOne (ArgumentAt (sized most (type_of element.now)) tape.now) (elements (data_from (map datum_of r.0.items))) r.1.now)) }
+    ensures none { IfOk result (λ o. IfNone o (NoneOf (ArgumentAt (sized most (type_of element.now)) tape.now))) }
+{
+    let Some((count, elements)) = read_length(tape, most) else {
+        return Ok(None);
+    };
+    read_elements(alloc, elements, count, element)
+}
+
+/// The argument that the tape begins with, and what follows it.
+fn read_argument<'a>(
+    alloc: Global,
+    tape: &'a [u64],
+    argument: &ArgType,
+) -> Result<Option<(Value, &'a [u64])>, AllocError>
+    ensures found { IfOk result (λ o. IfSome o (λ r. TheOne (ArgumentAt (arg_type_of argument.now) tape.now) (datum_of r.0) r.1.now)) }
+    ensures none { IfOk result (λ o. IfNone o (NoneOf (ArgumentAt (arg_type_of argument.now) tape.now))) }
+{
+    match argument {
+        ArgType::Fixed(fixed) => read_value(alloc, tape, fixed),
+        ArgType::Text(most) => {
+            let Some((bytes, rest)) = read_string(alloc, tape, *most)? else {
+                return Ok(None);
+            };
+            Ok(Some((Value::Text(bytes), rest)))
+        }
+        ArgType::Sized(most, element) => {
+            let Some((values, rest)) = read_sized(alloc, tape, *most, element)? else {
+                return Ok(None);
+            };
+            Ok(Some((Value::List(values), rest)))
+        }
+    }
+}
+
+/// Puts the arguments of a group behind the values that were read before them, and tells what follows
+/// on the tape.
+fn read_group<'a>(
+    alloc: Global,
+    tape: &'a [u64],
+    group: Group,
+    arguments: &[ArgType],
+    before: Vec<Value>,
+) -> Result<Option<(Vec<Value>, &'a [u64])>, AllocError>
+    ensures found { IfOk result (λ o. IfSome o (λ r. (done : List TheArgType) (whole : List ℕ) → TheOne (InTurn ArgumentAt done whole) (map datum_of before.items) tape.now → TheOne (InTurn ArgumentAt (done ++ filter (in_group group) (map arg_type_of arguments.now)) whole) (map datum_of r.0.items) r.1.now)) }
+    ensures none { IfOk result (λ o. IfNone o ((done : List TheArgType) (whole : List ℕ) → TheOne (InTurn ArgumentAt done whole) (map datum_of before.items) tape.now → NoneOf (InTurn ArgumentAt (done ++ filter (in_group group) (map arg_type_of arguments.now)) whole))) }
+{
+    let mut values = before;
+    let mut rest = tape;
+    for argument in arguments {
+        if !is_in_group(group, argument) {
+            continue;
+        }
+        let Some((value, after)) = read_argument(alloc, rest, argument)? else {
+            return Ok(None);
+        };
+        values.push(value)?;
+        rest = after;
+    }
+    Ok(Some((values, rest)))
+}
+
+/// All arguments in the plan's order, and what follows them on the tape.
+fn read_arguments<'a>(
+    alloc: Global,
+    tape: &'a [u64],
+    plan: PlanNo,
+    arguments: &[ArgType],
+) -> Result<Option<(Vec<Value>, &'a [u64])>, AllocError>
+    ensures found { IfOk result (λ o. IfSome o (λ r. TheOne (InTurn ArgumentAt (arranged (λ t. t) plan (map arg_type_of arguments.now)) tape.now) (map datum_of r.0.items) r.1.now)) }
+    ensures none { IfOk result (λ o. IfNone o (NoneOf (InTurn ArgumentAt (arranged (λ t. t) plan (map arg_type_of arguments.now)) tape.now))) }
+{
+    let values = Vec::with_capacity(alloc, arguments.len())?;
+    match plan {
+        PlanNo::One => read_group(alloc, tape, Group::All, arguments, values),
+        PlanNo::Two => {
+            let Some((values, rest)) = read_group(
+                alloc,
+                tape,
+                Group::FixedAt(8),
+                arguments,
+                values,
+            )?
+            else {
+                return Ok(None);
+            };
+            let Some((values, rest)) = read_group(
+                alloc,
+                rest,
+                Group::FixedAt(4),
+                arguments,
+                values,
+            )?
+            else {
+                return Ok(None);
+            };
+            let Some((values, rest)) = read_group(
+                alloc,
+                rest,
+                Group::FixedAt(2),
+                arguments,
+                values,
+            )?
+            else {
+                return Ok(None);
+            };
+            let Some((values, rest)) = read_group(
+                alloc,
+                rest,
+                Group::FixedAt(1),
+                arguments,
+                values,
+            )?
+            else {
+                return Ok(None);
+            };
+            read_group(alloc, rest, Group::Dynamic, arguments, values)
+        }
+    }
+}
+
+/// The call of a message that has this tape; none where no fitting call has it, as where a number is
+/// none of its type, a length is over its bound, or the tape ends early or goes on.
+///
+/// # Errors
+///
+/// Where memory runs out.
+pub fn unflatten(
+    alloc: Global,
+    interface: &Interface,
+    msg: MsgNo,
+    tape: &[u64],
+    plan: PlanNo,
+) -> Result<Option<Call>, AllocError>
+    ensures some { IfOk result (λ o. IfSome o (λ c. HasTape plan (interface_of interface.now) msg.0 tape.now (call_of c))) }
+    ensures none { IfOk result (λ o. IfNone o ((c : TheCall) → HasTape plan (interface_of interface.now) msg.0 tape.now c → ⊥)) }
+    ensures only { IfOk result (λ o. (c : TheCall) → HasTape plan (interface_of interface.now) msg.0 tape.now c → option_map call_of o ≡ Some c) }
+{
+    let Some(message) = interface.messages.get(usize::from(msg.0)) else {
+        return Ok(None);
+    };
+    let Some((arranged, rest)) = read_arguments(alloc, tape, plan, &message.args)? else {
+        return Ok(None);
+    };
+    if !rest.is_empty() {
+        return Ok(None);
+    }
+    let args = declared_order(alloc, plan, &message.args, arranged)?;
+    Ok(Some(Call { msg, args }))
+}
+
+/// Fitting calls of one message that have one tape are equal, under either plan: so what [`unflatten`]
+/// gives for the tape of a fitting call is that call.
+pub fn one_call_of_a_tape()
+    ensures one { OneCallOfATape }
+{}

@@ -1,0 +1,291 @@
+-- The arguments of a call, read class by class.
+use Rattle.std.proofs.Common.{◌≡◌, ◌≢◌, ℕ, zero, suc, ◌+◌, ◌-◌, ◌*◌, ◌<◌, ◌≤◌, Bool, true, false, ◌⊎◌, inl, inr, ⊎_elim, List, [], ◌∷◌, ◌++◌, map, length, drop, get_or, set, refl, sym, ◌∙◌, ap, subst, arith, cond, ◌&&◌}
+use Rattle.std.specs.List.{zip}
+use Rattle.std.specs.Cmp.{first_so, second_so}
+use Rattle.std.proofs.lemmas.List.{drop_all, get_or-set_same, get_or-set_other, length-set, ext_get_or, length-map}
+use Rattle.std.proofs.lemmas.Bool.{cases_lt, false≢true}
+use Rattle.fl_base.specs.declared.fragment.Frag.{Frag}
+use Rattle.fl_check.specs.Interface.{TheArgType, fixed, text, sized}
+use Rattle.fl_value.specs.Value.{Datum, string}
+use Rattle.fl_value.specs.Fits.{is_argument, are_arguments}
+use Rattle.fl_value.specs.Plan.{is_dynamic}
+use Rattle.fl_value.specs.declared.value.PlanNo.{PlanNo}
+use Rattle.fl_layout.specs.Leaves.{Leaf, Argument, gap, argument_onto, arguments_onto, start_onto}
+use Rattle.fl_layout.specs.Places.{size}
+use Rattle.fl_wire.specs.Classes.{class_of, in_class, in_classes}
+use Rattle.fl_wire.specs.Standing.{Over}
+use Rattle.fl_wire.specs.Shapes.{Agrees, Shape, padding, starts_after, arguments_of, next_argument, calls_of, Got, ReadAt, StopsAt}
+use Rattle.fl_wire.specs.declared.leaf.Stop.{Stop}
+use Rattle.fl_wire.proofs.Agreement.{over_argument, over_arguments, class_small}
+use Rattle.fl_wire.proofs.Numbers.{none_such, class_here, class_elsewhere}
+use Rattle.fl_wire.proofs.Steps.{Goes, goes_on, Begins, Come, come_self, come_read, come_stop, come_done, come_rest, first_stop}
+use Rattle.fl_wire.proofs.Parts.{both}
+
+-- ---- an argument and what stands before it
+
+pub start_none : (frags : List Frag) (at : ℕ) → ReadAt (starts_after false) frags at tt at
+start_none frags at low here agree = record { fit = tt; ends = sym here; agree = agree; told = λ e full f over agrees. refl }
+
+pub begins_argument : (after : Bool) (t : TheArgType) (low : List Leaf) → Begins (next_argument after t) (starts_after after) (λ u. arguments_of t) low (λ u d. d)
+begins_argument after t low = record {
+  split = λ d f. (tt, (tt, (d, (refl, f))));
+  fit = λ b e fb fe. fe;
+  same = λ b e fb fe. refl;
+  over = λ b e. over_argument t e _;
+}
+
+-- ---- the same things under another name
+
+pub record Same (y z : Shape) (next : z.what → y.what) : Type 0 where
+  pub fit : (e : z.what) → z.fits e → y.fits (next e)
+  pub same : (e : z.what) (low : List Leaf) → z.fits e → y.onto (next e) low ≡ z.onto e low
+  pub told : (d : y.what) → y.fits d → (e : z.what) × ((d ≡ next e) × z.fits e)
+
+pub come_same : (x y z : Shape) (frags : List Frag) (start at : ℕ) (join : y.what → x.what) (next : z.what → y.what) → Come x y frags start at join → Same y z next → Come x z frags start at (λ e. join (next e))
+come_same x y z frags start at join next come s = λ low here agree.
+    let (now, (same, goes)) = come low here agree in (
+      now,
+      (
+        same,
+        goes_on x y z frags low now now join next goes record {
+          later = omega arith;
+          within = goes.within;
+          agree = goes.agree;
+          fit = s.fit;
+          same = λ e f. s.same e now f;
+          told = λ d full f over agrees. s.told d f;
+        },
+      ),
+    )
+
+-- ---- which arguments are read
+
+abbrev pub class_at : PlanNo → List TheArgType → ℕ → ℕ
+class_at plan ts k = class_of plan (get_or ts k (text 0))
+
+-- those of the classes below one, and those of that class before an index
+abbrev pub IsRead : PlanNo → ℕ → ℕ → List TheArgType → ℕ → Type 0
+IsRead plan class j ts k = (class_at plan ts k < class) ⊎ ((class_at plan ts k ≡ class) × (k < j))
+
+-- they are these values
+pub record SameRead (plan : PlanNo) (class j : ℕ) (ts : List TheArgType) (ds vs : List Datum) : Type 0 where
+  pub at : (k : ℕ) → k < length ts → IsRead plan class j ts k → get_or ds k (string []) ≡ get_or vs k (string [])
+
+-- they have their types
+pub record FitRead (plan : PlanNo) (class j : ℕ) (ts : List TheArgType) (vs : List Datum) : Type 0 where
+  pub at : (k : ℕ) → k < length ts → IsRead plan class j ts k → is_argument (get_or ts k (text 0)) (get_or vs k (string [])) ≡ true
+
+-- what is left within a class, and from a class on
+abbrev pub left_in : PlanNo → ℕ → ℕ → List TheArgType → List Datum → Bool → Shape
+left_in plan class j ts vs after = record {
+  what = List Datum;
+  fits = λ ds. (are_arguments ts ds ≡ true) × SameRead plan class j ts ds vs;
+  onto = λ ds low. arguments_onto after (in_class plan class (drop j (zip ts ds)) ++ in_classes plan (4 - class) (class + 1) (zip ts ds)) low;
+}
+
+abbrev pub left_from : PlanNo → ℕ → List TheArgType → List Datum → Bool → Shape
+left_from plan class ts vs after = record {
+  what = List Datum;
+  fits = λ ds. (are_arguments ts ds ≡ true) × SameRead plan class 0 ts ds vs;
+  onto = λ ds low. arguments_onto after (in_classes plan (5 - class) class (zip ts ds)) low;
+}
+
+abbrev pub itself : List Datum → List Datum
+itself ds = ds
+
+-- ---- lists of arguments
+
+pub fit_length : (ts : List TheArgType) (ds : List Datum) → are_arguments ts ds ≡ true → length ds ≡ length ts
+fit_length [] [] h = refl
+fit_length [] (d ∷ ds) h = absurd (false≢true h)
+fit_length (t ∷ ts) [] h = absurd (false≢true h)
+fit_length (t ∷ ts) (d ∷ ds) h = ap suc (fit_length ts ds (second_so (is_argument t d) _ h))
+
+pub fit_get : (ts : List TheArgType) (ds : List Datum) (k : ℕ) → are_arguments ts ds ≡ true → k < length ts → is_argument (get_or ts k (text 0)) (get_or ds k (string [])) ≡ true
+fit_get [] ds k h small = absurd (omega (arith, small))
+fit_get (t ∷ ts) [] k h small = absurd (false≢true h)
+fit_get (t ∷ ts) (d ∷ ds) zero h small = first_so (is_argument t d) _ h
+fit_get (t ∷ ts) (d ∷ ds) (suc k) h small = fit_get ts ds k (second_so (is_argument t d) _ h) (omega (arith, small))
+
+all_fit : (ts : List TheArgType) (vs : List Datum) → length vs ≡ length ts → ((k : ℕ) → k < length ts → is_argument (get_or ts k (text 0)) (get_or vs k (string [])) ≡ true) → are_arguments ts vs ≡ true
+all_fit [] [] long h = refl
+all_fit [] (v ∷ vs) long h = absurd (omega (arith, long))
+all_fit (t ∷ ts) [] long h = absurd (omega (arith, long))
+all_fit (t ∷ ts) (v ∷ vs) long h = both (is_argument t v) (are_arguments ts vs) (h 0 (omega arith)) (all_fit ts vs (omega (arith, long)) (λ k small. h (suc k) (omega (arith, small))))
+
+zip_length : (ts : List TheArgType) (ds : List Datum) → length ds ≡ length ts → length (zip ts ds) ≡ length ts
+zip_length [] [] long = refl
+zip_length [] (d ∷ ds) long = refl
+zip_length (t ∷ ts) [] long = absurd (omega (arith, long))
+zip_length (t ∷ ts) (d ∷ ds) long = ap suc (zip_length ts ds (omega (arith, long)))
+
+zip_get : (ts : List TheArgType) (ds : List Datum) (k : ℕ) → length ds ≡ length ts → k < length ts → get_or (zip ts ds) k none_such ≡ (get_or ts k (text 0), get_or ds k (string []))
+zip_get [] ds k long small = absurd (omega (arith, small))
+zip_get (t ∷ ts) [] k long small = absurd (omega (arith, long))
+zip_get (t ∷ ts) (d ∷ ds) zero long small = refl
+zip_get (t ∷ ts) (d ∷ ds) (suc k) long small = zip_get ts ds k (omega (arith, long)) (omega (arith, small))
+
+-- ---- steps
+
+none_read : (plan : PlanNo) (ts : List TheArgType) (ds vs : List Datum) → SameRead plan 0 0 ts ds vs
+none_read plan ts ds vs = record { at = λ k small read. ⊎_elim (λ (h : class_at plan ts k < 0). absurd (omega (arith, h))) (λ h. absurd (omega (arith, h.1))) read }
+
+pub none_fit : (plan : PlanNo) (ts : List TheArgType) (vs : List Datum) → FitRead plan 0 0 ts vs
+none_fit plan ts vs = record { at = λ k small read. ⊎_elim (λ (h : class_at plan ts k < 0). absurd (omega (arith, h))) (λ h. absurd (omega (arith, h.1))) read }
+
+pub at_start : (plan : PlanNo) (ts : List TheArgType) (vs : List Datum) → Same (calls_of plan ts) (left_from plan 0 ts vs false) itself
+at_start plan ts vs = record {
+  fit = λ e f. f.0;
+  same = λ e low f. refl;
+  told = λ d f. (d, (refl, (f, none_read plan ts d vs)));
+}
+
+pub into_class : (plan : PlanNo) (class : ℕ) (ts : List TheArgType) (vs : List Datum) (after : Bool) → class < 5 → Same (left_from plan class ts vs after) (left_in plan class 0 ts vs after) itself
+into_class plan class ts vs after small = record {
+  fit = λ e f. f;
+  same = λ e low f. ap (λ (n : ℕ). arguments_onto after (in_classes plan n class (zip ts e)) low) more;
+  told = λ d f. (d, (refl, f));
+}
+  where
+    more : 5 - class ≡ suc (4 - class)
+    more = omega arith
+
+-- past an argument of another class
+further : (plan : PlanNo) (class j k : ℕ) (ts : List TheArgType) → IsRead plan class j ts k → IsRead plan class (j + 1) ts k
+further plan class j k ts (inl h) = inl h
+further plan class j k ts (inr h) = inr (h.0, omega (arith, h.1))
+
+not_further : (plan : PlanNo) (class j k : ℕ) (ts : List TheArgType) → class_at plan ts j ≢ class → IsRead plan class (j + 1) ts k → IsRead plan class j ts k
+not_further plan class j k ts other (inl h) = inl h
+not_further plan class j k ts other (inr h) = ⊎_elim
+    (λ (before : k < j). inr (h.0, before))
+    (λ (here : j ≤ k). let e : k ≡ j = omega (arith, here, h.1) in absurd (other (subst (λ (m : ℕ). class_at plan ts m ≡ class) e h.0)))
+    (cases_lt k j)
+
+pub past_other : (plan : PlanNo) (class j : ℕ) (ts : List TheArgType) (vs : List Datum) (after : Bool) → j < length ts → class_at plan ts j ≢ class
+    → Same (left_in plan class j ts vs after) (left_in plan class (j + 1) ts vs after) itself
+past_other plan class j ts vs after small other = record {
+  fit = λ e f. (f.0, record { at = λ k h read. f.1.at k h (further plan class j k ts read) });
+  same = λ e low f.
+      let long = fit_length ts e f.0 in
+      let type : (get_or (zip ts e) j none_such).0 ≡ get_or ts j (text 0) = ap (λ (a : Argument). a.0) (zip_get ts e j long small) in
+      ap (λ (xs : List Argument). arguments_onto after (xs ++ in_classes plan (4 - class) (class + 1) (zip ts e)) low)
+      (class_elsewhere plan class j (zip ts e) none_such (omega (arith, small, zip_length ts e long)) (λ h. other (sym (ap (class_of plan) type) ∙ h)));
+  told = λ d f. (d, (refl, (f.0, record { at = λ k h read. f.1.at k h (not_further plan class j k ts other read) })));
+}
+
+pub past_fit : (plan : PlanNo) (class j : ℕ) (ts : List TheArgType) (vs : List Datum) → class_at plan ts j ≢ class → FitRead plan class j ts vs → FitRead plan class (j + 1) ts vs
+past_fit plan class j ts vs other r = record { at = λ k h read. r.at k h (not_further plan class j k ts other read) }
+
+-- past a class
+class_done : (plan : PlanNo) (class j k : ℕ) (ts : List TheArgType) → IsRead plan class j ts k → IsRead plan (class + 1) 0 ts k
+class_done plan class j k ts (inl h) = inl (omega (arith, h))
+class_done plan class j k ts (inr h) = inl (omega (arith, h.0))
+
+class_read : (plan : PlanNo) (class j k : ℕ) (ts : List TheArgType) → k < j → IsRead plan (class + 1) 0 ts k → IsRead plan class j ts k
+class_read plan class j k ts before (inl h) = ⊎_elim
+    (λ (below : class_at plan ts k < class). inl below)
+    (λ (own : class ≤ class_at plan ts k). inr (omega (arith, own, h), before))
+    (cases_lt (class_at plan ts k) class)
+class_read plan class j k ts before (inr h) = absurd (omega (arith, h.1))
+
+pub past_class : (plan : PlanNo) (class j : ℕ) (ts : List TheArgType) (vs : List Datum) (after : Bool) → length ts ≤ j → Same (left_in plan class j ts vs after) (left_from plan (class + 1) ts vs after) itself
+past_class plan class j ts vs after all = record {
+  fit = λ e f. (f.0, record { at = λ k h read. f.1.at k h (class_done plan class j k ts read) });
+  same = λ e low f.
+      let none : drop j (zip ts e) ≡ [] = drop_all j (zip ts e) (omega (arith, all, zip_length ts e (fit_length ts e f.0))) in
+      let left : 4 - class ≡ 5 - (class + 1) = omega arith in
+      ap (λ (xs : List Argument). arguments_onto after (in_class plan class xs ++ in_classes plan (4 - class) (class + 1) (zip ts e)) low) none
+      ∙ ap (λ (n : ℕ). arguments_onto after (in_classes plan n (class + 1) (zip ts e)) low) left;
+  told = λ d f. (d, (refl, (f.0, record { at = λ k h read. f.1.at k h (class_read plan class j k ts (omega (arith, h, all)) read) })));
+}
+
+pub class_fit : (plan : PlanNo) (class j : ℕ) (ts : List TheArgType) (vs : List Datum) → length ts ≤ j → FitRead plan class j ts vs → FitRead plan (class + 1) 0 ts vs
+class_fit plan class j ts vs all r = record { at = λ k h read. r.at k h (class_read plan class j k ts (omega (arith, h, all)) read) }
+
+-- an argument is read
+not_itself : (plan : PlanNo) (class j k : ℕ) (ts : List TheArgType) → class_at plan ts j ≡ class → IsRead plan class j ts k → k ≢ j
+not_itself plan class j k ts own (inl h) = λ e. absurd (omega (arith, h, own, ap (class_at plan ts) e))
+not_itself plan class j k ts own (inr h) = λ e. absurd (omega (arith, h.1, e))
+
+one_more : (plan : PlanNo) (class j k : ℕ) (ts : List TheArgType) → class_at plan ts j ≡ class → IsRead plan class (j + 1) ts k → (k ≡ j) ⊎ ((k ≢ j) × IsRead plan class j ts k)
+one_more plan class j k ts own (inl h) = inr (not_itself plan class j k ts own (inl h), inl h)
+one_more plan class j k ts own (inr h) = ⊎_elim
+    (λ (before : k < j). inr (not_itself plan class j k ts own (inr (h.0, before)), inr (h.0, before)))
+    (λ (here : j ≤ k). inl (omega (arith, here, h.1)))
+    (cases_lt k j)
+
+pub begins_next : (plan : PlanNo) (class j : ℕ) (ts : List TheArgType) (t : TheArgType) (vs : List Datum) (after : Bool) → j < length ts → length vs ≡ length ts → t ≡ get_or ts j (text 0) → class_at plan ts j ≡ class
+    → (low : List Leaf) → Begins (left_in plan class j ts vs after) (next_argument after t) (λ d. left_in plan class (j + 1) ts (set vs j d) (is_dynamic t)) low (λ d ds. ds)
+begins_next plan class j ts t vs after small long type own low = record {
+  split = λ ds f.
+      let d = get_or ds j (string []) in
+      let same = get_or-set_same vs j d (string []) (omega (arith, small, long)) in (
+        d,
+        (
+          subst (λ (u : TheArgType). is_argument u d ≡ true) (sym type) (fit_get ts ds j f.0 small),
+          (
+            ds,
+            (
+              refl,
+              (
+                f.0,
+                record {
+                  at = λ k h read. ⊎_elim
+                      (λ (e : k ≡ j). ap (λ (m : ℕ). get_or ds m (string [])) e ∙ sym same ∙ sym (ap (λ (m : ℕ). get_or (set vs j d) m (string [])) e))
+                      (λ (apart : (k ≢ j) × IsRead plan class j ts k). f.1.at k h apart.1 ∙ sym (get_or-set_other vs j k d (string []) apart.0))
+                      (one_more plan class j k ts own read);
+                },
+              ),
+            ),
+          ),
+        ),
+      );
+  fit = λ d ds fd fds. (
+    fds.0,
+    record {
+      at = λ k h read. fds.1.at k h (further plan class j k ts read) ∙ get_or-set_other vs j k d (string []) (not_itself plan class j k ts own read);
+    },
+  );
+  same = λ d ds fd fds.
+      let lengths = fit_length ts ds fds.0 in
+      let at_j : get_or ds j (string []) ≡ d = fds.1.at j small (inr (own, omega arith)) ∙ get_or-set_same vs j d (string []) (omega (arith, small, long)) in
+      let here : get_or (zip ts ds) j none_such ≡ (t, d)
+      = zip_get ts ds j lengths small ∙ ap (λ (u : TheArgType). (u, get_or ds j (string []))) (sym type) ∙ ap (λ (v : Datum). (t, v)) at_j in
+      let of_class : class_of plan (get_or (zip ts ds) j none_such).0 ≡ class = ap (λ (a : Argument). class_of plan a.0) here ∙ ap (class_of plan) type ∙ own in
+      let rest = in_classes plan (4 - class) (class + 1) (zip ts ds) in
+      ap (λ (xs : List Argument). arguments_onto after (xs ++ rest) low)
+      (class_here plan class j (zip ts ds) none_such (omega (arith, small, zip_length ts ds lengths)) of_class
+      ∙ ap (λ (a : Argument). a ∷ in_class plan class (drop (j + 1) (zip ts ds))) here);
+  over = λ d ds. over_arguments (is_dynamic t) (in_class plan class (drop (j + 1) (zip ts ds)) ++ in_classes plan (4 - class) (class + 1) (zip ts ds)) _;
+}
+
+pub next_fit : (plan : PlanNo) (class j : ℕ) (ts : List TheArgType) (t : TheArgType) (vs : List Datum) (d : Datum) → j < length ts → length vs ≡ length ts → t ≡ get_or ts j (text 0) → class_at plan ts j ≡ class
+    → is_argument t d ≡ true → FitRead plan class j ts vs → FitRead plan class (j + 1) ts (set vs j d)
+next_fit plan class j ts t vs d small long type own fits r = record {
+  at = λ k h read. ⊎_elim
+      (λ (e : k ≡ j).
+      let P : ℕ → Type 0 = λ m. is_argument (get_or ts m (text 0)) (get_or (set vs j d) m (string [])) ≡ true in
+      subst P (sym e) (rw (get_or-set_same vs j d (string []) (omega (arith, small, long))) (subst (λ (u : TheArgType). is_argument u d ≡ true) type fits)))
+      (λ (apart : (k ≢ j) × IsRead plan class j ts k). rw (get_or-set_other vs j k d (string []) apart.0) (r.at k h apart.1))
+      (one_more plan class j k ts own read);
+}
+
+-- all arguments are read
+pub all_read : (plan : PlanNo) (ts : List TheArgType) (vs : List Datum) (after : Bool) (frags : List Frag) (at : ℕ) → length vs ≡ length ts → FitRead plan 5 0 ts vs → ReadAt (left_from plan 5 ts vs after) frags at vs at
+all_read plan ts vs after frags at long fits low here agree = record {
+  fit = (all_fit ts vs long (λ k h. fits.at k h (inl (class_small plan (get_or ts k (text 0))))), record { at = λ k h read. refl });
+  ends = sym here;
+  agree = agree;
+  told = λ e full f over agrees. ext_get_or (string []) e vs (fit_length ts e f.0 ∙ sym long) (λ k h. f.1.at k (omega (arith, h, fit_length ts e f.0)) (inl (class_small plan (get_or ts k (text 0)))));
+}
+
+-- what was read is one of its type
+pub come_fits : (x y a : Shape) (frags : List Frag) (at end : ℕ) (join : y.what → x.what) (d : a.what) → Come x y frags 0 at join → ReadAt a frags at d end → a.fits d
+come_fits x y a frags at end join d come read =
+    let (now, (same, goes)) = come [] refl record { at = λ p small. absurd (omega (arith, small)) } in
+    let got = read now same (subst (λ (n : ℕ). Agrees frags now n) (sym same) goes.agree) in
+    got.fit
+
+pub calls_start : (plan : PlanNo) (ts : List TheArgType) (vs : List Datum) (frags : List Frag) → Come (calls_of plan ts) (left_from plan 0 ts vs false) frags 0 0 itself
+calls_start plan ts vs frags = come_same (calls_of plan ts) (calls_of plan ts) (left_from plan 0 ts vs false) frags 0 0 itself itself (come_self (calls_of plan ts) frags 0 (omega arith)) (at_start plan ts vs)

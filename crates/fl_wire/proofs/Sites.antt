@@ -1,0 +1,244 @@
+-- One number at its place, and the zeros before it.
+use Rattle.std.proofs.Common.{◌≡◌, ◌≢◌, ℕ, zero, suc, ◌+◌, ◌-◌, ◌*◌, ◌%◌, ◌^◌, ◌<◌, ◌≤◌, true, false, inl, inr, ⊎_elim, List, [], ◌∷◌, ◌++◌, map, length, get_or, refl, sym, ◌∙◌, ap, subst, arith, cond, ltb}
+use Rattle.std.specs.List.{range_with_len}
+use Rattle.std.specs.Int.{byte_at, to_le_bytes, from_le_bytes, w64}
+use Rattle.std.specs.Prelude.{slice_index}
+use Rattle.std.proofs.lemmas.Nat.{le_bytes_8}
+use Rattle.std.proofs.lemmas.List.FromFn.{get_or-map-range_with_len}
+use Rattle.std.proofs.lemmas.Bool.{cases_lt, lt-ltb, ltb-true}
+use Rattle.std.specs.Cmp.{first_so, second_so}
+use Rattle.fl_base.specs.declared.fragment.Frag.{Frag}
+use Rattle.fl_check.specs.Sizes.{round_up}
+use Rattle.fl_layout.specs.Leaves.{Leaf, gap, whole, single}
+use Rattle.fl_layout.specs.Places.{size, place}
+use Rattle.fl_wire.specs.Payload.{payload_at}
+use Rattle.fl_wire.specs.Standing.{Over, byte_in, words_in}
+use Rattle.fl_wire.specs.Shapes.{Agrees, Shape, nothing, padding, number_below, text_byte, Got, Halts, Wrong, ReadAt}
+use Rattle.fl_wire.proofs.Bytes.{size_le_place, below_place, at_place, past_end}
+use Rattle.fl_wire.proofs.Arguments.{IsAlign, along_align}
+use Rattle.fl_wire.proofs.Agreement.{leaf_byte, same_number, keeps, grows}
+use Rattle.fl_wire.proofs.Readings.{byte_small}
+use Rattle.fl_wire.proofs.Decoding.{byte_of_list}
+use Rattle.fl_wire.proofs.Numbers.{from_low}
+
+pub byte_in_small : (frags : List Frag) (p : ℕ) → byte_in frags p < 256
+byte_in_small frags p = byte_small (p % 8) _
+
+-- fragments end at a multiple of every alignment
+pub round_within : (align at n : ℕ) → IsAlign align → at ≤ 56 * n → round_up at align ≤ 56 * n
+round_within align at n h room = along_align (λ a. round_up at a ≤ 56 * n) (omega (arith, room)) (omega (arith, room)) (omega (arith, room)) (omega (arith, room)) align h
+
+align_small : (w : ℕ) → IsAlign w → w ≤ 8
+align_small w h = along_align (λ a. a ≤ 8) (omega arith) (omega arith) (omega arith) (omega arith) w h
+
+-- a number from its low bytes has these bytes
+abbrev low_list : ℕ → (ℕ → ℕ) → List ℕ
+low_list w f = map (λ j. cond (ltb j w) (f j) 0) (range_with_len 0 8)
+
+low_at : (w : ℕ) (f : ℕ → ℕ) (j : ℕ) → j < 8 → get_or (low_list w f) j 0 ≡ cond (ltb j w) (f j) 0
+low_at w f j h = get_or-map-range_with_len (λ j. cond (ltb j w) (f j) 0) 0 8 j j 0 h (omega arith)
+
+low_small : (w : ℕ) (f : ℕ → ℕ) → ((j : ℕ) → f j < 256) → (j : ℕ) → get_or (low_list w f) j 0 < 256
+low_small w f h j = ⊎_elim
+    (λ (inside : j < 8). subst (λ (n : ℕ). n < 256) (sym (low_at w f j inside)) (elim (ltb j w) as (λ v. cond v (f j) 0 < 256) [ true ↦ h j | false ↦ omega arith ]))
+    (λ (past : 8 ≤ j). subst (λ (n : ℕ). n < 256) (sym (low_past w f j past)) (omega arith))
+    (cases_lt j 8)
+  where
+    low_past : (w : ℕ) (f : ℕ → ℕ) (j : ℕ) → 8 ≤ j → get_or (low_list w f) j 0 ≡ 0
+    low_past w f (suc (suc (suc (suc (suc (suc (suc (suc j)))))))) h = refl
+    low_past w f j h = absurd (omega (arith, h))
+
+pub low_byte : (w : ℕ) (f : ℕ → ℕ) (j : ℕ) → IsAlign w → ((j : ℕ) → f j < 256) → j < w → byte_at j (from_low w f) ≡ f j
+low_byte w f j align small h =
+    let below : j < 8 = omega (arith, h, align_small w align) in
+    sym (byte_of_list j (from_low w f) below)
+    ∙ ap (λ (bs : List ℕ). get_or bs j 0) (le_bytes_8 (low_list w f) (from_low w f) refl (low_small w f small) refl)
+    ∙ low_at w f j below ∙ rw (lt-ltb j w h) refl
+
+pub low_below : (w : ℕ) (f : ℕ → ℕ) → IsAlign w → ((j : ℕ) → f j < 256) → from_low w f < 2 ^ (8 * w)
+low_below w f align h = along_align (λ v. from_low v f < 2 ^ (8 * v))
+    (omega (arith, h 0)) (omega (arith, h 0, h 1)) (omega (arith, h 0, h 1, h 2, h 3)) (omega (arith, h 0, h 1, h 2, h 3, h 4, h 5, h 6, h 7)) w align
+
+-- zeros stand up to a leaf's place
+pub zero_before : (l : Leaf) (low full : List Leaf) (p : ℕ) → Over (l ∷ low) full → size low ≤ p → p < place l low → payload_at full p ≡ 0
+zero_before l low full p over after before =
+    ap (λ (ls : List Leaf). payload_at ls p) over.is ∙ keeps over.more (l ∷ low) p (omega (arith, before)) ∙ below_place l low p before ∙ past_end low p after
+
+-- what agrees, a number's padding and bytes agree with
+number_agrees : (w : ℕ) → IsAlign w → (frags : List Frag) (low : List Leaf) (n : ℕ) → Agrees frags low (size low)
+    → ((p : ℕ) → size low ≤ p → p < round_up (size low) w → byte_in frags p ≡ 0) → n ≡ from_low w (λ j. byte_in frags (round_up (size low) w + j))
+    → Agrees frags (whole w n ∷ low) (round_up (size low) w + w)
+number_agrees w align frags low n agree zeros is = record {
+  at = λ p small.
+      let l = whole w n in
+      let start = round_up (size low) w in
+      ⊎_elim
+      (λ (before : p < start). ⊎_elim
+      (λ (low_byte : p < size low). agree.at p low_byte ∙ sym (below_place l low p before))
+      (λ (pad : size low ≤ p). zeros p pad before ∙ sym (below_place l low p before ∙ past_end low p pad))
+      (cases_lt p (size low)))
+      (λ (after : start ≤ p).
+      let j = p - start in
+      let own : j < w = omega (arith, after, small) in
+      let here : start + j ≡ p = omega (arith, after) in
+      ap (byte_in frags) (sym here)
+      ∙ sym (at_place l low p j own (sym here) ∙ ap (byte_at j) is ∙ low_byte w (λ j. byte_in frags (start + j)) j align (λ j. byte_in_small frags (start + j)) own))
+      (cases_lt p start);
+}
+
+pub number_got : (w : ℕ) → IsAlign w → (frags : List Frag) (low : List Leaf) (at n end : ℕ) → at ≡ size low → Agrees frags low at
+    → ((p : ℕ) → at ≤ p → p < round_up at w → byte_in frags p ≡ 0) → n ≡ from_low w (λ j. byte_in frags (round_up at w + j)) → end ≡ round_up at w + w
+    → Got (number_below w (2 ^ (8 * w))) frags low n end
+number_got w align frags low at n end here agree zeros is ends =
+    let P : ℕ → Type 0 = λ at. Agrees frags low at → ((p : ℕ) → at ≤ p → p < round_up at w → byte_in frags p ≡ 0) → n ≡ from_low w (λ j. byte_in frags (round_up at w + j)) → end ≡ round_up at w + w
+    → Got (number_below w (2 ^ (8 * w))) frags low n end in
+    subst P (sym here) (λ agree zeros is ends.
+    let start = round_up (size low) w in
+    let f : ℕ → ℕ = λ j. byte_in frags (start + j) in
+    let small : (j : ℕ) → f j < 256 = λ j. byte_in_small frags (start + j) in
+    let below : n < 2 ^ (8 * w) = subst (λ (m : ℕ). m < 2 ^ (8 * w)) (sym is) (low_below w f align small) in
+    record {
+      fit = below;
+      ends = sym ends;
+      agree = subst (λ (m : ℕ). Agrees frags (whole w n ∷ low) m) (sym ends) (number_agrees w align frags low n agree zeros is);
+      told = λ e full fit over agrees. same_number w align e n fit below (λ j own.
+          sym (leaf_byte w e j low full own over).0 ∙ sym (agrees.at (start + j) (omega (arith, own, ends))) ∙ sym (ap (byte_at j) is ∙ low_byte w f j align small own));
+    }) agree zeros is ends
+
+pub number_padding : (w bound : ℕ) → IsAlign w → (frags : List Frag) (low : List Leaf) (at p : ℕ) → at ≡ size low → at ≤ 56 * length frags → at ≤ p → p < round_up at w → byte_in frags p ≢ 0
+    → Wrong (number_below w bound) frags low
+number_padding w bound align frags low at p here room after before nonzero =
+    let start : round_up at w ≡ round_up (size low) w = ap (λ (n : ℕ). round_up n w) here in
+    record {
+      p = p;
+      after = omega (arith, here, after);
+      inside = omega (arith, before, round_within w at (length frags) align room);
+      none = record {
+        none = λ e full fit over agrees. absurd (nonzero (agrees.at p (omega arith) ∙ zero_before (whole w e) low full p over (omega (arith, here, after)) (omega (arith, before, start))));
+      };
+    }
+
+pub number_short : (w bound : ℕ) (frags : List Frag) (low : List Leaf) (at : ℕ) → at ≡ size low → 56 * length frags < round_up at w + w
+    → Halts (number_below w bound) frags low (56 * length frags) (λ full. 56 * length frags < size full)
+number_short w bound frags low at here past = record {
+  none = λ e full fit over agrees.
+      let start : round_up at w ≡ round_up (size low) w = ap (λ (n : ℕ). round_up n w) here in
+      let grown = grows over.more (whole w e ∷ low) in
+      let is = ap size over.is in
+      omega (arith, past, start, grown, is);
+}
+
+-- ---- zeros alone
+
+pub nothing_got : (frags : List Frag) (low : List Leaf) → Agrees frags low (size low) → Got nothing frags low tt (size low)
+nothing_got frags low agree = record { fit = tt; ends = refl; agree = agree; told = λ e full f over agrees. refl }
+
+pub padding_got : (align : ℕ) (frags : List Frag) (low : List Leaf) (at end : ℕ) → at ≡ size low → Agrees frags low at
+    → ((p : ℕ) → at ≤ p → p < end → byte_in frags p ≡ 0) → end ≡ round_up at align → Got (padding align) frags low tt end
+padding_got align frags low at end here agree zeros ends =
+    let start : round_up at align ≡ round_up (size low) align = ap (λ (n : ℕ). round_up n align) here in
+    record {
+      fit = tt;
+      ends = omega (arith, ends, start);
+      agree = record {
+        at = λ p small. ⊎_elim
+            (λ (below : p < size low). agree.at p (omega (arith, here, below)) ∙ sym (below_place (gap align) low p (omega (arith, below, size_le_place (size low) align))))
+            (λ (pad : size low ≤ p). zeros p (omega (arith, here, pad)) small
+            ∙ sym (below_place (gap align) low p (omega (arith, small, ends, start)) ∙ past_end low p pad))
+            (cases_lt p (size low));
+      };
+      told = λ e full f over agrees. refl;
+    }
+
+pub padding_wrong : (align : ℕ) → IsAlign align → (frags : List Frag) (low : List Leaf) (at p : ℕ) → at ≡ size low → at ≤ 56 * length frags → at ≤ p → p < round_up at align → byte_in frags p ≢ 0
+    → Wrong (padding align) frags low
+padding_wrong align ok frags low at p here room after before nonzero =
+    let start : round_up at align ≡ round_up (size low) align = ap (λ (n : ℕ). round_up n align) here in
+    record {
+      p = p;
+      after = omega (arith, here, after);
+      inside = omega (arith, before, round_within align at (length frags) ok room);
+      none = record {
+        none = λ e full fit over agrees. absurd (nonzero (agrees.at p (omega arith) ∙ zero_before (gap align) low full p over (omega (arith, here, after)) (omega (arith, before, start))));
+      };
+    }
+
+-- ---- numbers below a bound
+
+pub below_got : (w bound : ℕ) (frags : List Frag) (low : List Leaf) (n end : ℕ) → n < bound → bound ≤ 2 ^ (8 * w) → Got (number_below w (2 ^ (8 * w))) frags low n end
+    → Got (number_below w bound) frags low n end
+below_got w bound frags low n end small room got = record {
+  fit = small;
+  ends = got.ends;
+  agree = got.agree;
+  told = λ e full f over agrees. got.told e full (omega (arith, f, room)) over agrees;
+}
+
+pub below_wrong : (w bound : ℕ) (frags : List Frag) (low : List Leaf) (n end : ℕ) → bound ≤ n → bound ≤ 2 ^ (8 * w) → size low < end → end ≤ 56 * length frags → Got (number_below w (2 ^ (8 * w))) frags low n end
+    → Wrong (number_below w bound) frags low
+below_wrong w bound frags low n end above room later within got = record {
+  p = end - 1;
+  after = omega (arith, later);
+  inside = omega (arith, later, within);
+  none = record {
+    none = λ e full f over agrees.
+        let last : end - 1 + 1 ≡ end = omega (arith, later) in
+        let same : e ≡ n = got.told e full (omega (arith, f, room)) over (subst (λ (m : ℕ). Agrees frags full m) last agrees) in
+        absurd (omega (arith, same, f, above));
+  };
+}
+
+pub below_read : (w bound : ℕ) (frags : List Frag) (at n end : ℕ) → n < bound → bound ≤ 2 ^ (8 * w) → ReadAt (number_below w (2 ^ (8 * w))) frags at n end → ReadAt (number_below w bound) frags at n end
+below_read w bound frags at n end small room read = λ low here agree. below_got w bound frags low n end small room (read low here agree)
+
+pub below_stop : (w bound : ℕ) (frags : List Frag) (at n end : ℕ) → bound ≤ n → bound ≤ 2 ^ (8 * w) → at < end → end ≤ 56 * length frags → ReadAt (number_below w (2 ^ (8 * w))) frags at n end
+    → (low : List Leaf) → at ≡ size low → Agrees frags low at → Wrong (number_below w bound) frags low
+below_stop w bound frags at n end above room later within read low here agree =
+    below_wrong w bound frags low n end above room (omega (arith, here, later)) within (read low here agree)
+
+-- ---- a string's byte
+
+low_one : (f : ℕ → ℕ) → f 0 < 256 → f 0 ≡ from_low 1 f
+low_one f h = omega (arith, h)
+
+same_place : (at : ℕ) → round_up at 1 ≡ at
+same_place at = omega arith
+
+byte_got : (frags : List Frag) (low : List Leaf) (at n : ℕ) → at ≡ size low → Agrees frags low at → n ≡ byte_in frags at → Got (number_below 1 256) frags low n (at + 1)
+byte_got frags low at n here agree is =
+    let f : ℕ → ℕ = λ j. byte_in frags (round_up at 1 + j) in
+    let first : f 0 ≡ byte_in frags at = ap (byte_in frags) (omega (arith, same_place at)) in
+    number_got 1 (inl refl) frags low at n (at + 1) here agree (λ p after before. absurd (omega (arith, after, before, same_place at)))
+    (is ∙ sym first ∙ low_one f (byte_in_small frags (round_up at 1 + 0))) (omega (arith, same_place at))
+
+pub text_got : (frags : List Frag) (at n : ℕ) → n ≡ byte_in frags at → n ≢ 0 → ReadAt text_byte frags at n (at + 1)
+text_got frags at n is nonzero low here agree =
+    let got = byte_got frags low at n here agree is in
+    record {
+      fit = rw (lt-ltb 0 n (omega (arith, nonzero)), lt-ltb n 256 got.fit) refl;
+      ends = got.ends;
+      agree = got.agree;
+      told = λ e full f over agrees. got.told e full (ltb-true e 256 (second_so (ltb 0 e) _ f)) over agrees;
+    }
+
+pub text_wrong : (frags : List Frag) (at : ℕ) → 0 ≡ byte_in frags at → at < 56 * length frags → (low : List Leaf) → at ≡ size low → Agrees frags low at → Wrong text_byte frags low
+text_wrong frags at is inside low here agree =
+    let got = byte_got frags low at 0 here agree is in
+    record {
+      p = at;
+      after = omega (arith, here);
+      inside = inside;
+      none = record {
+        none = λ e full f over agrees.
+            let zero : e ≡ 0 = got.told e full (ltb-true e 256 (second_so (ltb 0 e) _ f)) over agrees in
+            absurd (omega (arith, zero, ltb-true 0 e (first_so (ltb 0 e) _ f)));
+      };
+    }
+
+pub text_short : (frags : List Frag) (at : ℕ) → 56 * length frags ≤ at → (low : List Leaf) → at ≡ size low → Halts text_byte frags low (56 * length frags) (λ full. 56 * length frags < size full)
+text_short frags at past low here = record {
+  none = λ e full f over agrees.
+      let grown = grows over.more (single e ∷ low) in
+      let is = ap size over.is in
+      omega (arith, past, grown, is, here, same_place (size low));
+}

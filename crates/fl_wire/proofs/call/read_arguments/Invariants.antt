@@ -1,0 +1,25 @@
+use Rattle.std.proofs.Common.{◌≡◌, ◌≤◌, ◌*◌, map, length}
+use Rattle.fl_check.specs.Interface.{arg_type_of}
+use Rattle.fl_value.specs.Value.{datum_of}
+use Rattle.fl_wire.specs.Shapes.{calls_of}
+use Rattle.fl_wire.proofs.Steps.{Come}
+use Rattle.fl_wire.proofs.Calls.{FitRead, left_in, left_from, itself}
+use Rattle.fl_wire.proofs.call.read_arguments.Given as goal
+
+-- the classes so far, and those that are left
+abbrev pub invariant-loop-class : goal.invariant-loop-class
+invariant-loop-class l = record {
+  long : length l.values.items ≡ length l.types;
+  within : l.at ≤ 56 * length l.frags;
+  fit : FitRead l.plan l.class 0 (map arg_type_of l.types) (map datum_of l.values.items);
+  come : Come (calls_of l.plan (map arg_type_of l.types)) (left_from l.plan l.class (map arg_type_of l.types) (map datum_of l.values.items) l.after_dynamic) l.frags 0 l.at itself;
+}
+
+-- the arguments of the class so far, and those that are left
+abbrev pub invariant-loop-j : goal.invariant-loop-j
+invariant-loop-j l = record {
+  long : length l.values.items ≡ length l.types;
+  within : l.at ≤ 56 * length l.frags;
+  fit : FitRead l.plan l.class l.j (map arg_type_of l.types) (map datum_of l.values.items);
+  come : Come (calls_of l.plan (map arg_type_of l.types)) (left_in l.plan l.class l.j (map arg_type_of l.types) (map datum_of l.values.items) l.after_dynamic) l.frags 0 l.at itself;
+}

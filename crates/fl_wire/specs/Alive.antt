@@ -1,0 +1,23 @@
+-- Types that have a value: every enum has an enumerator. Those of every accepted interface do.
+use Rattle.std.specs.Prelude.{◌&&◌, nat_lt, Bool, true}
+use Rattle.std.specs.List.{list_all}
+use Rattle.fl_check.specs.Interface.{TheType, scalar, enumeration, structure, array, TheTypes, no_more, field, TheArgType, fixed, text, sized, TheMessage, TheInterface}
+
+abbrev mutual
+  pub has_values : TheType → Bool
+  has_values (scalar s) = true
+  has_values (enumeration n) = nat_lt 0 n
+  has_values (structure ts) = all_have_values ts
+  has_values (array n t) = has_values t
+
+  pub all_have_values : TheTypes → Bool
+  all_have_values no_more = true
+  all_have_values (field t ts) = has_values t && all_have_values ts
+
+abbrev pub argument_has_values : TheArgType → Bool
+argument_has_values (fixed t) = has_values t
+argument_has_values (text max) = true
+argument_has_values (sized max t) = has_values t
+
+abbrev pub interface_has_values : TheInterface → Bool
+interface_has_values i = list_all (λ m. list_all argument_has_values (TheMessage.args m)) i.messages

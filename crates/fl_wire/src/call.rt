@@ -1,0 +1,88 @@
+//! The arguments of a call from the bytes of its fragments.
+
+ghost use Rattle.std.specs.Prelude.{◌≡◌, ℕ, ◌*◌, ◌≤◌, map, length, IfOk, IfErr};
+ghost use Rattle.fl_check.specs.Interface.{arg_type_of};
+ghost use Rattle.fl_value.specs.Value.{datum_of};
+ghost use Rattle.fl_wire.specs.Shapes.{ReadAt, StopsAt, starts_after, next_argument, calls_of};
+
+use crate::leaf::{Stop, read_padding};
+use crate::types::{CLASSES, class_for, is_dynamic};
+use crate::value::read_argument;
+use fl_base::Frag;
+use fl_check::ArgType;
+use fl_value::{PlanNo, Value};
+use std::alloc::{AllocError, Global};
+
+/// Where an argument may start: after a string or a sized array, past zeros up to a multiple of 8.
+fn read_start(frags: &[Frag], at: usize, after_dynamic: bool) -> Result<usize, Stop>
+    requires within { at ≤ 56 * length frags.now }
+    ensures within { IfOk result (λ start. start ≤ 56 * length frags.now) }
+    ensures later { IfOk result (λ start. at ≤ start) }
+    ensures read { IfOk result (λ start. ReadAt (starts_after after_dynamic) frags.now at tt start) }
+    ensures stop { IfErr result (λ stop. StopsAt stop (starts_after after_dynamic) frags.now at) }
+{
+    if after_dynamic {
+        read_padding(frags, at, 8)
+    } else {
+        Ok(at)
+    }
+}
+
+/// The next argument, and where it ends.
+fn read_next(
+    alloc: Global,
+    frags: &[Frag],
+    at: usize,
+    after_dynamic: bool,
+    ty: &ArgType,
+) -> Result<(Value, usize), Stop>
+    requires within { at ≤ 56 * length frags.now }
+    ensures within { IfOk result (λ r. r.1 ≤ 56 * length frags.now) }
+    ensures later { IfOk result (λ r. at ≤ r.1) }
+    ensures read { IfOk result (λ r. ReadAt (next_argument after_dynamic (arg_type_of ty.now)) frags.now at (datum_of r.0) r.1) }
+    ensures stop { IfErr result (λ stop. StopsAt stop (next_argument after_dynamic (arg_type_of ty.now)) frags.now at) }
+{
+    let start = read_start(frags, at, after_dynamic)?;
+    let (value, end) = read_argument(alloc, frags, start, ty)?;
+    Ok((value, end))
+}
+
+// So many values, to be replaced.
+fn blanks(alloc: Global, count: usize) -> Result<Vec<Value>, AllocError>
+    ensures count { IfOk result (λ values. length values.items ≡ count) }
+{
+    let mut values = Vec::new(alloc);
+    for _index in 0..count {
+        values.push(Value::Int(0))?;
+    }
+    Ok(values)
+}
+
+/// The arguments of a call, in declared order, and where the last one ends: the plan lays them out class by
+/// class.
+pub(crate) fn read_arguments(
+    alloc: Global,
+    frags: &[Frag],
+    plan: PlanNo,
+    types: &[ArgType],
+) -> Result<(Vec<Value>, usize), Stop>
+    ensures within { IfOk result (λ r. r.1 ≤ 56 * length frags.now) }
+    ensures read { IfOk result (λ r. ReadAt (calls_of plan (map arg_type_of types.now)) frags.now 0 (map datum_of r.0.items) r.1) }
+    ensures stop { IfErr result (λ stop. StopsAt stop (calls_of plan (map arg_type_of types.now)) frags.now 0) }
+{
+    let mut values = blanks(alloc, types.len())?;
+    let mut at = 0;
+    let mut after_dynamic = false;
+    for class in 0..CLASSES {
+        for (j, ty) in types.iter().enumerate() {
+            if class_for(plan, ty) != class {
+                continue;
+            }
+            let (value, end) = read_next(alloc, frags, at, after_dynamic, ty)?;
+            values[j] = value;
+            at = end;
+            after_dynamic = is_dynamic(ty);
+        }
+    }
+    Ok((values, at))
+}

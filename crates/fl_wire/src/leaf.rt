@@ -1,0 +1,136 @@
+//! One leaf of a payload from the bytes of fragments, and the zeros before it.
+
+ghost use Rattle.std.specs.Prelude.{◌≡◌, ◌≢◌, ℕ, ◌+◌, ◌-◌, ◌*◌, ◌/◌, ◌%◌, ◌^◌, ◌<◌, ◌≤◌, ◌⊎◌, nat_lt, List, map, length, slice_index, if◌then◌else◌, IfOk, IfErr};
+ghost use Rattle.std.specs.List.{range_with_len};
+ghost use Rattle.std.specs.Int.{from_le_bytes, w64};
+ghost use Rattle.fl_check.specs.Sizes.{round_up};
+ghost use Rattle.fl_layout.specs.Leaves.{Leaf};
+ghost use Rattle.fl_layout.specs.Places.{size};
+ghost use Rattle.fl_wire.specs.Standing.{byte_in};
+ghost use Rattle.fl_wire.specs.Shapes.{Agrees, Got, Stops, padding, number_below, ReadAt, StopsAt};
+ghost use Rattle.fl_wire.specs.declared.leaf.Stop.TheVariants.{Padding, Memory};
+
+use fl_base::{FRAG_BYTES, Frag};
+use std::alloc::{AllocError, AllocFailed};
+
+/// Why the reading of a call stops before the call's end.
+#[derive(Clone, Copy, Debug, PartialEq, Eq, Drop)]
+pub(crate) enum Stop {
+    /// The fragments end first.
+    Short,
+    /// A byte isn't 0 where nothing stands.
+    Padding,
+    /// A number, an enumerator or a string's byte isn't of its type.
+    Value,
+    /// A length is above its bound.
+    Length,
+    /// Memory ran out.
+    Memory,
+}
+
+impl From<AllocError> for Stop {
+    ghost from_gives = { λ _ e. e ≡ Memory };
+
+    fn from(_error: AllocError) -> Stop {
+        Stop::Memory
+    }
+}
+
+impl<T: Drop> From<AllocFailed<T>> for Stop {
+    ghost from_gives = { λ _ e. e ≡ Memory };
+
+    fn from(_error: AllocFailed<T>) -> Stop {
+        Stop::Memory
+    }
+}
+
+/// Payload byte `p` of some fragments; 0 past their end.
+pub(crate) fn byte_at(frags: &[Frag], p: usize) -> u8
+    ensures byte { result ≡ byte_in frags.now p }
+{
+    match frags.get(p / FRAG_BYTES) {
+        Some(frag) => frag.words[p / 8 % 7].to_le_bytes()[p % 8],
+        None => 0,
+    }
+}
+
+// The number of so many bytes at a place.
+fn number_at(frags: &[Frag], place: usize, width: usize) -> u64
+    requires room { place < 2 ^ 63 }
+    ensures number { result ≡ from_le_bytes w64 (map (λ j. if nat_lt j width then byte_in frags.now (place + j) else 0) (range_with_len 0 8)) }
+{
+    let byte = |j: u8| {
+        let j = usize::from(j);
+        if j < width {
+            byte_at(frags, place + j)
+        } else {
+            0
+        }
+    };
+    u64::from_le_bytes([
+        byte(0),
+        byte(1),
+        byte(2),
+        byte(3),
+        byte(4),
+        byte(5),
+        byte(6),
+        byte(7),
+    ])
+}
+
+// The next multiple of an alignment.
+fn next_place(at: usize, align: usize) -> usize
+    requires align { (align ≡ 1) ⊎ ((align ≡ 2) ⊎ ((align ≡ 4) ⊎ (align ≡ 8))) }
+    requires room { at < 2 ^ 63 }
+    ensures place { result ≡ round_up at align }
+{
+    at + (align - at % align) % align
+}
+
+/// The next multiple of an alignment, past bytes that are all 0.
+pub(crate) fn skip(frags: &[Frag], at: usize, align: usize) -> Result<usize, Stop>
+    requires align { (align ≡ 1) ⊎ ((align ≡ 2) ⊎ ((align ≡ 4) ⊎ (align ≡ 8))) }
+    requires within { at ≤ 56 * length frags.now }
+    ensures place { IfOk result (λ place. place ≡ round_up at align) }
+    ensures zeros { IfOk result (λ place. (p : ℕ) → at ≤ p → p < place → byte_in frags.now p ≡ 0) }
+    ensures wrong { IfErr result (λ stop. (stop ≡ Padding) × ((p : ℕ) × (at ≤ p) × (p < round_up at align) × (byte_in frags.now p ≢ 0))) }
+{
+    let place = next_place(at, align);
+    for p in at..place {
+        if byte_at(frags, p) != 0 {
+            return Err(Stop::Padding);
+        }
+    }
+    Ok(place)
+}
+
+/// Past zeros up to a multiple of an alignment.
+pub(crate) fn read_padding(frags: &[Frag], at: usize, align: usize) -> Result<usize, Stop>
+    requires align { (align ≡ 1) ⊎ ((align ≡ 2) ⊎ ((align ≡ 4) ⊎ (align ≡ 8))) }
+    requires within { at ≤ 56 * length frags.now }
+    ensures within { IfOk result (λ end. end ≤ 56 * length frags.now) }
+    ensures later { IfOk result (λ end. at ≤ end) }
+    ensures read { IfOk result (λ end. ReadAt (padding align) frags.now at tt end) }
+    ensures stop { IfErr result (λ stop. StopsAt stop (padding align) frags.now at) }
+{
+    let place = skip(frags, at, align)?;
+    Ok(place)
+}
+
+/// The next number of so many bytes, and where it ends.
+pub(crate) fn read_number(frags: &[Frag], at: usize, width: usize) -> Result<(u64, usize), Stop>
+    requires width { (width ≡ 1) ⊎ ((width ≡ 2) ⊎ ((width ≡ 4) ⊎ (width ≡ 8))) }
+    requires within { at ≤ 56 * length frags.now }
+    ensures within { IfOk result (λ r. r.1 ≤ 56 * length frags.now) }
+    ensures later { IfOk result (λ r. at < r.1) }
+    ensures read { IfOk result (λ r. ReadAt (number_below width (2 ^ (8 * width))) frags.now at r.0 r.1) }
+    ensures stop { IfErr result (λ stop. (bound : ℕ) → bound ≤ 2 ^ (8 * width) → StopsAt stop (number_below width bound) frags.now at) }
+{
+    let place = skip(frags, at, width)?;
+    let end = place + width;
+    if end > frags.len() * FRAG_BYTES {
+        return Err(Stop::Short);
+    }
+    Ok((number_at(frags, place, width), end))
+}

@@ -1,0 +1,270 @@
+//! Values from the bytes of fragments.
+
+ghost use Rattle.std.specs.Prelude.{◌≡◌, ℕ, ◌+◌, ◌*◌, ◌^◌, ◌<◌, ◌≤◌, map, length, IfOk, IfErr};
+ghost use Rattle.fl_check.specs.Interface.{scalar, enumeration, fixed, type_of, arg_type_of, fields_from};
+ghost use Rattle.fl_value.specs.Value.{number, string, elements, fields, datum_of, data_from};
+ghost use Rattle.fl_value.specs.Fits.{least_above, how_many_below};
+ghost use Rattle.fl_wire.specs.Standing.{signed_half, number_back};
+ghost use Rattle.fl_wire.specs.Shapes.{ReadAt, StopsAt, values_of, fields_of, elements_of, text_byte, texts_of, number_below, arguments_of};
+
+use crate::leaf::{Stop, byte_at, read_number, read_padding};
+use crate::types::{greatest_alignment, scalar_size};
+use fl_base::{FRAG_BYTES, Frag};
+use fl_check::{ArgType, FixedType, Scalar};
+use fl_value::Value;
+use std::alloc::Global;
+
+// Half of the numbers that a signed scalar has; 0 for scalars without a sign.
+fn half_of(kind: Scalar) -> u64
+    ensures half { result ≡ signed_half (fixed (scalar kind)) }
+{
+    match kind {
+        Scalar::Int8 => 0x80,
+        Scalar::Int16 => 0x8000,
+        Scalar::Int32 => 0x8000_0000,
+        Scalar::Int64 | Scalar::Intptr => 0x8000_0000_0000_0000,
+        _ => 0,
+    }
+}
+
+// The number that has these bits.
+fn number_from(kind: Scalar, raw: u64) -> i128
+    ensures number { result ≡ number_back (fixed (scalar kind)) raw }
+{
+    let half = half_of(kind);
+    let number = i128::from(raw);
+    if half > 0 && raw >= half {
+        number - 2 * i128::from(half)
+    } else {
+        number
+    }
+}
+
+// The greatest bits that a scalar has.
+fn greatest_bits(kind: Scalar) -> u64
+    ensures bits { 1 + result ≡ least_above kind + how_many_below kind }
+{
+    match kind {
+        Scalar::Bool => 1,
+        Scalar::Uint8 | Scalar::Int8 | Scalar::Char => 0xff,
+        Scalar::Uint16 | Scalar::Int16 => 0xffff,
+        Scalar::Uint32 | Scalar::Int32 | Scalar::Iref => 0xffff_ffff,
+        _ => 0xffff_ffff_ffff_ffff,
+    }
+}
+
+// A number as a value.
+fn int_value(z: i128) -> Value
+    ensures value { datum_of result ≡ number z }
+{
+    Value::Int(z)
+}
+
+// A string's bytes as a value.
+fn text_value(bytes: Vec<u8>) -> Value
+    ensures value { datum_of result ≡ string bytes.items }
+{
+    Value::Text(bytes)
+}
+
+// An array's elements as a value.
+fn list_value(values: Vec<Value>) -> Value
+    ensures value { datum_of result ≡ elements (data_from (map datum_of values.items)) }
+{
+    Value::List(values)
+}
+
+// A struct's fields as a value.
+fn fields_value(values: Vec<Value>) -> Value
+    ensures value { datum_of result ≡ fields (data_from (map datum_of values.items)) }
+{
+    Value::Fields(values)
+}
+
+/// The next scalar, and where it ends.
+fn read_scalar(frags: &[Frag], at: usize, kind: Scalar) -> Result<(Value, usize), Stop>
+    requires within { at ≤ 56 * length frags.now }
+    ensures within { IfOk result (λ r. r.1 ≤ 56 * length frags.now) }
+    ensures later { IfOk result (λ r. at ≤ r.1) }
+    ensures read { IfOk result (λ r. ReadAt (values_of (scalar kind)) frags.now at (datum_of r.0) r.1) }
+    ensures stop { IfErr result (λ stop. StopsAt stop (values_of (scalar kind)) frags.now at) }
+{
+    let (raw, end) = read_number(frags, at, scalar_size(kind))?;
+    if raw > greatest_bits(kind) {
+        return Err(Stop::Value);
+    }
+    Ok((int_value(number_from(kind, raw)), end))
+}
+
+/// The next enumerator of so many, and where it ends.
+fn read_enumerator(frags: &[Frag], at: usize, count: u32) -> Result<(Value, usize), Stop>
+    requires within { at ≤ 56 * length frags.now }
+    ensures within { IfOk result (λ r. r.1 ≤ 56 * length frags.now) }
+    ensures later { IfOk result (λ r. at ≤ r.1) }
+    ensures read { IfOk result (λ r. ReadAt (values_of (enumeration count)) frags.now at (datum_of r.0) r.1) }
+    ensures stop { IfErr result (λ stop. StopsAt stop (values_of (enumeration count)) frags.now at) }
+{
+    let (raw, end) = read_number(frags, at, 4)?;
+    if raw >= u64::from(count) {
+        return Err(Stop::Value);
+    }
+    Ok((int_value(i128::from(raw)), end))
+}
+
+/// The next value of a type, and where it ends.
+#[cycle(reading)]
+pub(crate) fn read_value(
+    alloc: Global,
+    frags: &[Frag],
+    at: usize,
+    ty: &FixedType,
+) -> Result<(Value, usize), Stop>
+    requires within { at ≤ 56 * length frags.now }
+    ensures within { IfOk result (λ r. r.1 ≤ 56 * length frags.now) }
+    ensures later { IfOk result (λ r. at ≤ r.1) }
+    ensures read { IfOk result (λ r. ReadAt (values_of (type_of ty.now)) frags.now at (datum_of r.0) r.1) }
+    ensures stop { IfErr result (λ stop. StopsAt stop (values_of (type_of ty.now)) frags.now at) }
+{
+    match ty {
+        FixedType::Scalar(scalar) => read_scalar(frags, at, *scalar),
+        FixedType::Enumeration(count) => read_enumerator(frags, at, *count),
+        FixedType::Structure(fields) => {
+            let align = greatest_alignment(fields);
+            let start = read_padding(frags, at, align)?;
+            let (values, last) = read_fields(alloc, frags, start, fields)?;
+            let end = read_padding(frags, last, align)?;
+            Ok((fields_value(values), end))
+        }
+        FixedType::Array(count, element) => {
+            let (values, end) = read_elements(alloc, frags, at, u64::from(*count), element)?;
+            Ok((list_value(values), end))
+        }
+    }
+}
+
+/// The fields of a struct, and where the last one ends.
+#[cycle(reading)]
+fn read_fields(
+    alloc: Global,
+    frags: &[Frag],
+    at: usize,
+    fields: &[FixedType],
+) -> Result<(Vec<Value>, usize), Stop>
+    requires within { at ≤ 56 * length frags.now }
+    ensures within { IfOk result (λ r. r.1 ≤ 56 * length frags.now) }
+    ensures later { IfOk result (λ r. at ≤ r.1) }
+    ensures read { IfOk result (λ r. ReadAt (fields_of (fields_from (map type_of fields.now))) frags.now at (data_from (map datum_of r.0.items)) r.1) }
+    ensures stop { IfErr result (λ stop. StopsAt stop (fields_of (fields_from (map type_of fields.now))) frags.now at) }
+{
+    let mut values = Vec::new(alloc);
+    let mut end = at;
+    for field in fields {
+        let (value, after) = read_value(alloc, frags, end, field)?;
+        values.push(value)?;
+        end = after;
+    }
+    Ok((values, end))
+}
+
+/// So many elements of one type, and where the last one ends.
+#[cycle(reading)]
+pub(crate) fn read_elements(
+    alloc: Global,
+    frags: &[Frag],
+    at: usize,
+    count: u64,
+    element: &FixedType,
+) -> Result<(Vec<Value>, usize), Stop>
+    requires within { at ≤ 56 * length frags.now }
+    ensures within { IfOk result (λ r. r.1 ≤ 56 * length frags.now) }
+    ensures later { IfOk result (λ r. at ≤ r.1) }
+    ensures read { IfOk result (λ r. ReadAt (elements_of count (type_of element.now)) frags.now at (data_from (map datum_of r.0.items)) r.1) }
+    ensures stop { IfErr result (λ stop. StopsAt stop (elements_of count (type_of element.now)) frags.now at) }
+{
+    let mut values = Vec::new(alloc);
+    let mut end = at;
+    for _index in 0..count {
+        let (value, after) = read_value(alloc, frags, end, element)?;
+        values.push(value)?;
+        end = after;
+    }
+    Ok((values, end))
+}
+
+/// So many bytes of a string, and where the last one ends.
+fn read_text(alloc: Global, frags: &[Frag], at: usize, count: u64) -> Result<(Vec<u8>, usize), Stop>
+    requires within { at ≤ 56 * length frags.now }
+    ensures within { IfOk result (λ r. r.1 ≤ 56 * length frags.now) }
+    ensures later { IfOk result (λ r. at ≤ r.1) }
+    ensures read { IfOk result (λ r. ReadAt (texts_of count) frags.now at r.0.items r.1) }
+    ensures stop { IfErr result (λ stop. StopsAt stop (texts_of count) frags.now at) }
+{
+    let mut bytes = Vec::new(alloc);
+    let mut end = at;
+    for _index in 0..count {
+        let byte = read_text_byte(frags, end)?;
+        bytes.push(byte)?;
+        end += 1;
+    }
+    Ok((bytes, end))
+}
+
+/// The next byte of a string.
+fn read_text_byte(frags: &[Frag], at: usize) -> Result<u8, Stop>
+    requires within { at ≤ 56 * length frags.now }
+    ensures within { IfOk result (λ byte. at + 1 ≤ 56 * length frags.now) }
+    ensures read { IfOk result (λ byte. ReadAt text_byte frags.now at byte (at + 1)) }
+    ensures stop { IfErr result (λ stop. StopsAt stop text_byte frags.now at) }
+{
+    if at >= frags.len() * FRAG_BYTES {
+        return Err(Stop::Short);
+    }
+    let byte = byte_at(frags, at);
+    if byte == 0 {
+        return Err(Stop::Value);
+    }
+    Ok(byte)
+}
+
+/// The next length, at most so great, and where it ends.
+fn read_length(frags: &[Frag], at: usize, most: u32) -> Result<(u64, usize), Stop>
+    requires within { at ≤ 56 * length frags.now }
+    ensures within { IfOk result (λ r. r.1 ≤ 56 * length frags.now) }
+    ensures later { IfOk result (λ r. at ≤ r.1) }
+    ensures read { IfOk result (λ r. ReadAt (number_below 8 (most + 1)) frags.now at r.0 r.1) }
+    ensures stop { IfErr result (λ stop. StopsAt stop (number_below 8 (most + 1)) frags.now at) }
+{
+    let (length, end) = read_number(frags, at, 8)?;
+    if length > u64::from(most) {
+        return Err(Stop::Length);
+    }
+    Ok((length, end))
+}
+
+/// The next argument of a type, and where it ends.
+pub(crate) fn read_argument(
+    alloc: Global,
+    frags: &[Frag],
+    at: usize,
+    ty: &ArgType,
+) -> Result<(Value, usize), Stop>
+    requires within { at ≤ 56 * length frags.now }
+    ensures within { IfOk result (λ r. r.1 ≤ 56 * length frags.now) }
+    ensures later { IfOk result (λ r. at ≤ r.1) }
+    ensures read { IfOk result (λ r. ReadAt (arguments_of (arg_type_of ty.now)) frags.now at (datum_of r.0) r.1) }
+    ensures stop { IfErr result (λ stop. StopsAt stop (arguments_of (arg_type_of ty.now)) frags.now at) }
+{
+    match ty {
+        ArgType::Fixed(fixed) => read_value(alloc, frags, at, fixed),
+        ArgType::Text(most) => {
+            let (count, start) = read_length(frags, at, *most)?;
+            let (bytes, end) = read_text(alloc, frags, start, count)?;
+            Ok((text_value(bytes), end))
+        }
+        ArgType::Sized(most, element) => {
+            let (count, start) = read_length(frags, at, *most)?;
+            let (values, end) = read_elements(alloc, frags, start, count, element)?;
+            Ok((list_value(values), end))
+        }
+    }
+}
