@@ -5,7 +5,6 @@ ghost use Rattle.std.specs.Prelude.{◌≡◌, true, map, IfOk, List, [], ◌∷
 ghost use Rattle.fl_check.specs.Interface.{fixed, scalar, arg_type_of, interface_of};
 ghost use Rattle.fl_value.specs.Value.{number, datum_of, call_of};
 ghost use Rattle.fl_value.specs.Fits.{are_arguments, fits_of};
-ghost use Rattle.fl_layout.specs.Leaves.{scalars_only_of};
 
 use crate::{
     fragment, fragment_at, fragment_count, none_begins_with_another, one_reading, payload,

@@ -1,28 +1,15 @@
-use Rattle.std.proofs.Common.{◌≡◌, true, List, [], ◌∷◌, map, refl, subst, sym}
+use Rattle.std.proofs.Common.{◌≡◌, true, List, [], ◌∷◌, map, subst, sym}
 use Rattle.std.specs.Prelude.{slice_get}
-use Rattle.std.specs.List.{list_all}
-use Rattle.fl_check.specs.declared.interface.Scalar.{Scalar}
 use Rattle.fl_check.specs.Interface.{TheArgType, TheMessage, fixed, scalar, interface_of}
 use Rattle.fl_value.specs.Value.{Datum, datum_of}
 use Rattle.fl_value.specs.Fits.{are_arguments, fit_message}
-use Rattle.fl_layout.specs.Leaves.{is_number_type}
 use Rattle.fl_wire.proofs.tests.sent_and_read.Goals as goal
-
-numbers : (ss : List Scalar) → list_all is_number_type (map (λ s. fixed (scalar s)) ss) ≡ true
-numbers [] = refl
-numbers (s ∷ ss) = numbers ss
 
 head_is : (a b : List TheArgType) (xs ys : List (List TheArgType)) → a ∷ xs ≡ b ∷ ys → a ≡ b
 head_is a b xs ys e = cc
 
 abbrev args_of : List TheMessage → List (List TheArgType)
 args_of ms = map (λ (m : TheMessage). m.args) ms
-
-one_scalars : (ms : List TheMessage) (ts : List TheArgType) → args_of ms ≡ ts ∷ [] → list_all is_number_type ts ≡ true
-    → list_all (λ (m : TheMessage). list_all is_number_type m.args) ms ≡ true
-one_scalars [] ts e h = refl
-one_scalars (m ∷ []) ts e h = rw (head_is m.args ts [] [] e) (rw h refl)
-one_scalars (m ∷ n ∷ ms) ts e h = cc
 
 one_fits : (ms : List TheMessage) (ts : List TheArgType) (ds : List Datum) → args_of ms ≡ ts ∷ [] → are_arguments ts ds ≡ true → fit_message (slice_get ms 0) ds ≡ true
 one_fits [] ts ds e h = cc
@@ -34,12 +21,6 @@ payload-requires c =
       fits = one_fits (interface_of c.in_ok-interface.interface).messages _ (map datum_of c.in_ok-values_of.field-0.items) c.in_ok-interface.ensures.message
           (subst (λ (ds : List Datum). are_arguments (map (λ s. fixed (scalar s)) c.args.scalars.now) ds ≡ true) (sym c.in_ok-values_of.ensures.values) c.requires.fits);
     }
-
-pub read_call_frags-requires : goal.read_call_frags-requires
-read_call_frags-requires c = record { scalars = one_scalars (interface_of c.in_ok-interface.interface).messages _ c.in_ok-interface.ensures.message (numbers c.args.scalars.now) }
-
-pub read_call_frags-requires-2 : goal.read_call_frags-requires-2
-read_call_frags-requires-2 c = record { scalars = one_scalars (interface_of c.in_ok-interface.interface).messages _ c.in_ok-interface.ensures.message (numbers c.args.scalars.now) }
 
 pub fragment_at-requires : goal.fragment_at-requires
 fragment_at-requires c =
