@@ -1,3 +1,4 @@
 pub mod Laws
 mod Counts
+mod Times
 mod Waiting
