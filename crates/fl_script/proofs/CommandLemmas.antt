@@ -1,7 +1,7 @@
 -- Lines with too few or too many words.
 use Rattle.std.proofs.Common.{◌≡◌, ◌<◌, ◌≤◌, ℕ, List, [], ◌∷◌, length, map, refl, sym, ap, ◌∙◌, Bool, true, false, arith}
 use Rattle.std.proofs.lemmas.Bool.{false≢true}
-use Rattle.std.specs.Prelude.{codes, not, Option, Some}
+use Rattle.std.specs.Prelude.{codes, not, Some}
 use Rattle.std.specs.Str.{bytes_eq}
 use Rattle.fl_script.specs.Lines.{number_of}
 use Rattle.fl_script.specs.Commands.{Line, export_offer, bind_back_end, bind_slots, bind_to, unread}

@@ -1,11 +1,11 @@
 -- Known bytes, and a script's items one after another.
 use Rattle.std.proofs.Common.{◌≡◌, ◌∙◌, ◌+◌, ◌++◌, ◌∷◌, [], ◌≤◌, ◌<◌, List, ℕ, Bool, true, false, length, take, drop, sym, ap, subst, append_assoc, append-nil, refl, arith, Option, Some, None, length-append, inl, inr}
-use Rattle.std.specs.Prelude.{nat_lt, IfSome, codes, ◌==◌}
+use Rattle.std.specs.Prelude.{IfSome, codes, ◌==◌}
 use Rattle.std.proofs.lemmas.Bool.{true≢false, false≢true}
 use Rattle.std.specs.Bool.{MatchBool}
 use Rattle.std.proofs.lemmas.List.{take-append-drop}
 use Rattle.std.proofs.lemmas.Bool.Decides.{nat_tests}
-use Rattle.std.specs.Io.KnownBytes.{Appends, Consumes, Keeps, IsAtEnd}
+use Rattle.std.specs.Io.KnownBytes.{Appends, Consumes, IsAtEnd}
 use Rattle.fl_script.specs.declared.script.Script.{Script as RustScript}
 use Rattle.fl_script.specs.Lines.{lines_of}
 use Rattle.fl_script.specs.Shown.{IsAt, Answered}

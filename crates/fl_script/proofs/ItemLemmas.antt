@@ -1,5 +1,5 @@
 -- The text of a block, line by line.
-use Rattle.std.proofs.Common.{◌≡◌, ◌∙◌, ◌+◌, ◌++◌, ◌∷◌, [], ◌≤◌, List, ℕ, Bool, true, false, length, take, sym, ap, subst, append_assoc, refl, arith}
+use Rattle.std.proofs.Common.{◌≡◌, ◌∙◌, ◌+◌, ◌++◌, ◌∷◌, [], List, ℕ, Bool, false, length, take, sym, ap, append_assoc, refl, arith}
 use Rattle.std.proofs.lemmas.List.{length-take-le}
 use Rattle.std.proofs.Common.{length-append}
 use Rattle.fl_value.specs.declared.value.PlanNo.{PlanNo}

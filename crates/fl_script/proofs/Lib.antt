@@ -5,3 +5,4 @@ mod ItemLemmas
 mod ExecLemmas
 mod OneTranscript
 mod TextLemmas
+mod AskedLemmas

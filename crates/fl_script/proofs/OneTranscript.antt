@@ -1,12 +1,12 @@
 -- A script has one transcript: at most one effect stands in what an item does.
-use Rattle.std.proofs.Common.{◌≡◌, ◌∙◌, inl, inr, List, [], ◌∷◌, ◌++◌, ℕ, sym, ap, subst, refl, Bool, true, false, append_assoc, append-nil}
+use Rattle.std.proofs.Common.{◌≡◌, ◌∙◌, inl, inr, List, [], ◌∷◌, ◌++◌, ℕ, sym, ap, subst, Bool, true, false, append_assoc, append-nil}
 use Rattle.std.specs.Prelude.{codes}
 use Rattle.std.specs.Bool.{MatchBool}
 use Rattle.fl_lex.specs.Outcome.{LexOutcome, lexed, lex_fault, Lexes}
 use Rattle.fl_parse.specs.Grammar.{ParseOutcome, parsed, parse_fault, Parses}
 use Rattle.fl_lex.specs.Token.{TheTokens}
 use Rattle.fl_parse.specs.Tree.{TheTree}
-use Rattle.fl_check.specs.Checks.{CheckOutcome, checked, check_fault, Checks}
+use Rattle.fl_check.specs.Checks.{CheckOutcome, Checks}
 use Rattle.fl_value.specs.Value.{Datum}
 use Rattle.fl_value.specs.CallText.{SpellsCall}
 use Rattle.fl_script.specs.Text.{TextOutcome, checked_as, ParsedMeans, LexedMeans, TextMeans}

@@ -1,5 +1,5 @@
 -- What an event does to a running script.
-use Rattle.std.proofs.Common.{◌≡◌, ◌∙◌, ◌++◌, ◌∷◌, [], List, ℕ, Bool, true, false, sym, ap, subst, append_assoc, refl, Option, Some, None, if◌then◌else◌}
+use Rattle.std.proofs.Common.{◌≡◌, ◌∙◌, ◌++◌, ◌∷◌, [], List, ℕ, Bool, true, false, sym, ap, append_assoc, refl, Option, Some, if◌then◌else◌}
 use Rattle.std.proofs.Common.{◌≤◌, length, take, map, arith}
 use Rattle.std.specs.Prelude.{min}
 use Rattle.std.proofs.Math.Nat.{min_comm}
@@ -8,13 +8,13 @@ use Rattle.std.proofs.lemmas.List.{take-map, take_min, length-take}
 use Rattle.fl_base.specs.declared.identity.EndId.{EndId}
 use Rattle.fl_check.specs.declared.interface.Message.{Message}
 use Rattle.fl_check.specs.Interface.{message_of}
-use Rattle.fl_value.specs.Value.{Datum, TheCall}
+use Rattle.fl_value.specs.Value.{Datum}
 use Rattle.fl_model.specs.Step.{TheEvent, TheAnswer, step, call}
 use Rattle.fl_world.specs.Contents.{contents_of}
 use Rattle.fl_world.specs.Shows.{Steps}
 use Rattle.fl_script.specs.declared.script.Script.{Script as RustScript}
 use Rattle.fl_script.specs.Answers.{answer_text, interface_at}
-use Rattle.fl_script.specs.Transcript.{Script, Effect, Names, line, is_done, answered, after_call, message_at, names_message}
+use Rattle.fl_script.specs.Transcript.{Script, is_done, answered, after_call, message_at, names_message}
 use Rattle.fl_script.specs.Shown.{names_of, IsAt, Answered, Stepped}
 
 pub stepped : (old new : RustScript) (before middle after : List ℕ) (event : TheEvent) (a : TheAnswer) (made : Bool)

@@ -1,5 +1,5 @@
 -- What the lexer, the parser and the checker tell of a text.
-use Rattle.std.proofs.Common.{◌≡◌, ◌∙◌, ℕ, List, sym, ap, subst, refl, Option, Some, None, Ok, Err}
+use Rattle.std.proofs.Common.{◌≡◌, ◌∙◌, ℕ, List, sym, ap, subst, Option, Some, Ok, Err}
 use Rattle.std.specs.Prelude.{IfOk, IfSome, Result}
 use Rattle.fl_lex.specs.Token.{TheTokens}
 use Rattle.fl_lex.specs.Outcome as lexing
@@ -7,15 +7,15 @@ use Rattle.fl_lex.specs.Outcome.{LexOutcome, lexed, lex_fault, Lexes}
 use Rattle.fl_lex.specs.declared.fault.LexFault.{LexFault}
 use Rattle.fl_parse.specs.Tree.{TheTree}
 use Rattle.fl_parse.specs.Outcome as parsing
-use Rattle.fl_parse.specs.Grammar.{ParseOutcome, parsed, parse_fault, Parses}
+use Rattle.fl_parse.specs.Grammar.{parsed, parse_fault, Parses}
 use Rattle.fl_parse.specs.declared.fault.ParseFault.{ParseFault}
 use Rattle.fl_parse.specs.declared.fault.ParseFault.TheVariants.{NotExpected, AfterInterface, Memory as NoRoom}
 use Rattle.fl_check.specs.Outcome as checking
 use Rattle.fl_check.specs.Faults as rules
-use Rattle.fl_check.specs.Checks.{CheckOutcome, checked, check_fault, Checks}
+use Rattle.fl_check.specs.Checks.{check_fault, Checks}
 use Rattle.fl_check.specs.declared.fault.CheckFault.{CheckFault}
 use Rattle.fl_check.specs.declared.fault.CheckFault.TheVariants.{Broken, Memory}
-use Rattle.fl_script.specs.Text.{TextOutcome, text_fault, stands_for, ParsedMeans, LexedMeans, TextMeans}
+use Rattle.fl_script.specs.Text.{TextOutcome, text_fault, ParsedMeans, LexedMeans, TextMeans}
 
 pub if_ok_then : {T E : Type 0} (r : Result T E) (P Q : T → Type 0) → ((x : T) → P x → Q x) → IfOk r P → IfOk r Q
 if_ok_then (Ok x) P Q f h = f x h

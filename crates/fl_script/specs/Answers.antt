@@ -1,5 +1,5 @@
 -- The text of an answer.
-use Rattle.std.specs.Prelude.{ℕ, ◌+◌, ◌*◌, ◌/◌, ◌%◌, List, [], ◌∷◌, ◌++◌, map, slice_get, option_map, Option, Some, None, codes}
+use Rattle.std.specs.Prelude.{ℕ, ◌/◌, ◌%◌, List, [], ◌∷◌, ◌++◌, slice_get, option_map, Option, Some, None, codes}
 use Rattle.std.specs.List.{flat_map}
 use Rattle.std.specs.Int.{to_be_bytes, w64}
 use Rattle.std.specs.Fmt.{decimal, digit_glyph}
@@ -11,7 +11,7 @@ use Rattle.fl_base.specs.declared.identity.EndId.{EndId}
 use Rattle.fl_check.specs.Interface.{TheInterface, TheMessage}
 use Rattle.fl_value.specs.Value.{TheCall}
 use Rattle.fl_value.specs.Printed.{printed_call}
-use Rattle.fl_model.specs.Machine.{Entry, State, entry_at}
+use Rattle.fl_model.specs.Machine.{State, entry_at}
 use Rattle.fl_model.specs.Step.{TheAnswer, done, accepted, nothing, full, written, handle, part, words, refused}
 
 -- a byte as two lower-case hexadecimal digits

@@ -1,5 +1,5 @@
 -- What a line of a script asks for.
-use Rattle.std.specs.Prelude.{ℕ, ◌==◌, ◌&&◌, ◌||◌, ◌-◌, nat_le, slice_index, Bool, true, false, if◌then◌else◌, List, [], ◌∷◌, length, take, drop, Option, Some, None, codes}
+use Rattle.std.specs.Prelude.{ℕ, ◌==◌, ◌||◌, ◌-◌, slice_index, if◌then◌else◌, List, [], ◌∷◌, length, take, drop, Option, Some, None, codes}
 use Rattle.std.specs.List.{list_all}
 use Rattle.std.specs.Str.{bytes_eq}
 use Rattle.fl_base.specs.declared.identity.Side.{Side}

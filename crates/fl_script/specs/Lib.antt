@@ -10,3 +10,4 @@ pub mod Texts
 pub mod Places
 pub mod Shown
 pub mod Runs
+pub mod Asked

@@ -1,5 +1,4 @@
 -- What the code reads of a line, as the definitions have it.
-use Rattle.std.specs.Prelude.{ℕ, List}
 use Rattle.fl_script.specs.declared.command.EndName.{EndName as RustEndName}
 use Rattle.fl_script.specs.declared.command.Command.{Command as RustCommand}
 use Rattle.fl_script.specs.declared.command.Command.TheVariants.{Disp, Export, BindLocal, Show, Write, Turn}

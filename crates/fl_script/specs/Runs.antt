@@ -1,5 +1,5 @@
 -- Parts of a run of a script.
-use Rattle.std.specs.Prelude.{◌≡◌, ℕ, List, ◌∷◌, ◌++◌, Bool, true, false}
+use Rattle.std.specs.Prelude.{◌≡◌, ℕ, List, ◌∷◌, ◌++◌, true}
 use Rattle.std.specs.Bool.{MatchBool}
 use Rattle.fl_script.specs.declared.running.ExecFault.{ExecFault}
 use Rattle.fl_script.specs.declared.running.ExecFault.TheVariants.{Memory, Read, Write}

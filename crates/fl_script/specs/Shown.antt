@@ -1,6 +1,5 @@
 -- What a running script holds, as the definitions have it.
 use Rattle.std.specs.Prelude.{◌≡◌, ℕ, List, ◌++◌, Bool}
-use Rattle.fl_model.specs.Machine.{State}
 use Rattle.fl_model.specs.Step.{TheEvent, step}
 use Rattle.fl_world.specs.Contents.{contents_of}
 use Rattle.fl_world.specs.Shows.{Shows}

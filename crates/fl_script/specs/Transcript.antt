@@ -1,16 +1,16 @@
 -- The transcript of a script: what the queue machine answers, line by line.
-use Rattle.std.specs.Prelude.{◌≡◌, ◌≢◌, ◌⊎◌, ℕ, ◌+◌, ◌==◌, ◌&&◌, ◌||◌, nat_lt, not, Bool, true, false, if◌then◌else◌, List, [], ◌∷◌, ◌++◌, length, take, slice_get, is_some, Option, Some, None, codes}
+use Rattle.std.specs.Prelude.{◌≡◌, ◌⊎◌, ℕ, nat_lt, Bool, true, false, if◌then◌else◌, List, [], ◌∷◌, ◌++◌, length, take, is_some, Option, Some, None, codes}
 use Rattle.std.specs.Bool.{MatchBool}
 use Rattle.std.specs.List.{position_from}
 use Rattle.std.specs.Str.{bytes_eq}
 use Rattle.fl_base.specs.declared.identity.EndId.{EndId}
 use Rattle.fl_check.specs.Interface.{TheInterface, TheMessage}
 use Rattle.fl_script.specs.Text.{TextOutcome, stands_for, text_fault, TextMeans}
-use Rattle.fl_value.specs.Value.{Datum, TheCall}
+use Rattle.fl_value.specs.Value.{Datum}
 use Rattle.fl_value.specs.CallText.{SpellsCall}
 use Rattle.fl_value.specs.declared.value.PlanNo.{PlanNo}
-use Rattle.fl_model.specs.Machine.{Entry, State, start, entry_at}
-use Rattle.fl_model.specs.Step.{TheEvent, add_interface, add_dispatcher, export, bind_local, call, show, write, turn, TheAnswer, done, accepted, nothing, full, written, handle, part, words, refused, Outcome, step}
+use Rattle.fl_model.specs.Machine.{State, start}
+use Rattle.fl_model.specs.Step.{TheEvent, add_interface, add_dispatcher, export, bind_local, call, show, write, turn, TheAnswer, done, refused, Outcome, step}
 use Rattle.fl_script.specs.Lines.{lines_of, without_end}
 use Rattle.fl_script.specs.Commands.{EndName, Command, disp, export as export_command, bind_local as bind_command, show as show_command, write as write_command, turn as turn_command, Line, silent, command, calls, opens_block, unread, line_of}
 use Rattle.fl_script.specs.Answers.{answer_text, fault_text, interface_at}

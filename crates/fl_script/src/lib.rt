@@ -10,7 +10,7 @@
 //! - `text.rt`, `calls.rt`: interfaces' texts, and calls as text
 //! - `script.rt`: a running script, its names and its world; each item's answer
 //! - `names.rt`, `printing.rt`: tables of names, and the texts of answers
-//! - `law.rt`: a script has one transcript, and fronts are of it
+//! - `law.rt`: a script has one transcript, fronts are of it, and its handlers run a front of the accepted calls
 #![tactic(auto)]
 
 mod calls;
@@ -26,5 +26,5 @@ mod script;
 mod tests;
 mod text;
 
-pub use law::{front_of_the_transcript, one_transcript};
+pub use law::{front_of_the_transcript, handlers_run_a_front, one_transcript};
 pub use running::{ExecFault, MAX_SCRIPT, exec};

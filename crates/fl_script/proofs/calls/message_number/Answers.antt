@@ -1,4 +1,4 @@
-use Rattle.std.proofs.Common.{◌≡◌, ◌∙◌, ◌≤◌, length, take, map}
+use Rattle.std.proofs.Common.{◌∙◌}
 use Rattle.fl_script.proofs.ScriptLemmas.{first_messages}
 use Rattle.fl_script.proofs.calls.message_number.Goals as goal
 

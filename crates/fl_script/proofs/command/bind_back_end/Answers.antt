@@ -1,4 +1,4 @@
-use Rattle.std.proofs.Common.{◌≡◌, ◌<◌, ◌≤◌, arith, length}
+use Rattle.std.proofs.Common.{arith}
 use Rattle.std.proofs.lemmas.Bool.Decides.{nat_tests}
 use Rattle.fl_script.proofs.CommandLemmas.{back_few, back_many}
 use Rattle.fl_script.proofs.command.bind_back_end.Goals as goal

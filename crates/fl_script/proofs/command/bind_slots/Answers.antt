@@ -1,4 +1,4 @@
-use Rattle.std.proofs.Common.{◌≡◌, ◌∙◌, sym, ap}
+use Rattle.std.proofs.Common.{◌∙◌, sym}
 use Rattle.fl_script.proofs.CommandLemmas.{slots_some}
 use Rattle.fl_script.proofs.command.bind_slots.Goals as goal
 

@@ -1,4 +1,4 @@
-use Rattle.std.proofs.Common.{◌≡◌, ◌<◌, ◌≤◌, arith, length}
+use Rattle.std.proofs.Common.{arith}
 use Rattle.std.proofs.lemmas.Bool.Decides.{nat_tests}
 use Rattle.fl_script.proofs.CommandLemmas.{offer_few, offer_many}
 use Rattle.fl_script.proofs.command.export_offer.Goals as goal

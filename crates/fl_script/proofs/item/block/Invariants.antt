@@ -1,4 +1,4 @@
-use Rattle.std.proofs.Common.{◌≡◌, ◌+◌, ◌++◌, ◌≤◌, [], length, take}
+use Rattle.std.proofs.Common.{◌≡◌, ◌+◌, ◌++◌, [], length, take}
 use Rattle.fl_value.specs.declared.value.PlanNo.{PlanNo}
 use Rattle.fl_script.specs.Lines.{lines_of}
 use Rattle.fl_script.specs.Transcript.{items_from, inside}

@@ -1,6 +1,5 @@
-use Rattle.std.proofs.Common.{arith, add-one, ◌≡◌, ◌<◌, ◌≤◌, length, ℕ, get_or}
-use Rattle.std.proofs.lemmas.List.{take_all, drop_all}
-use Rattle.fl_script.proofs.LineLemmas.{line_at, line_whole, line_rest}
+use Rattle.std.proofs.Common.{arith, add-one}
+use Rattle.fl_script.proofs.LineLemmas.{line_at, line_rest}
 use Rattle.fl_script.proofs.piece.next_line.Goals as goal
 
 pub returns-then-byte-eq10-clause-lines : goal.returns-then-byte-eq10-clause-lines

@@ -1,4 +1,4 @@
-use Rattle.std.proofs.Common.{arith, ◌≡◌, ◌<◌, length, ℕ, get_or, sym, ◌∙◌, ap}
+use Rattle.std.proofs.Common.{arith, sym, ◌∙◌, ap}
 use Rattle.fl_script.specs.Lines.{to_blank, from_blank}
 use Rattle.fl_script.proofs.LineLemmas.{word_at, word_rest}
 use Rattle.fl_script.proofs.piece.next_word.Goals as goal

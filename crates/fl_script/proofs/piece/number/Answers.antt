@@ -1,4 +1,4 @@
-use Rattle.std.proofs.Common.{arith, ◌≡◌, ◌<◌, ◌≤◌, ◌^◌, ℕ, get_or}
+use Rattle.std.proofs.Common.{arith, get_or}
 use Rattle.fl_script.proofs.LineLemmas.{ten_more, digit_most}
 use Rattle.fl_script.proofs.piece.number.Goals as goal
 

@@ -1,6 +1,5 @@
-use Rattle.std.proofs.Common.{arith, ◌≡◌, ◌<◌, ◌≤◌, ◌∙◌, ◌++◌, sym, ap, ℕ, List, length, map, subst}
-use Rattle.fl_script.proofs.LineLemmas.{words_step, no_words, behind_shorter, none_there, some_there, words_end, words_more}
-use Rattle.fl_script.specs.Lines.{first_word}
+use Rattle.std.proofs.Common.{◌≡◌, ◌<◌, ℕ, List, length, subst}
+use Rattle.fl_script.proofs.LineLemmas.{behind_shorter, none_there, some_there, words_end, words_more}
 use Rattle.fl_script.proofs.piece.words.Goals as goal
 
 pub returns-then-is_empty : goal.returns-then-is_empty

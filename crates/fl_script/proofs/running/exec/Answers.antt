@@ -1,9 +1,9 @@
-use Rattle.std.proofs.Common.{◌≡◌, ◌∙◌, ◌≤◌, List, ℕ, subst, length, arith}
+use Rattle.std.proofs.Common.{◌≤◌, List, ℕ, subst, length, arith}
 use Rattle.std.specs.Io.KnownBytes.{Appends}
 use Rattle.std.proofs.lemmas.Result.{on_ok_weaker, on_err_weaker}
 use Rattle.fl_script.specs.Lines.{lines_of}
 use Rattle.fl_script.specs.Transcript.{beginning, Writes, WritesFront, items_from, outside}
-use Rattle.fl_script.proofs.ExecLemmas.{transcript_all, transcript_front, transcript_long, transcript_long_front, transcript_none}
+use Rattle.fl_script.proofs.ExecLemmas.{transcript_all, transcript_front, transcript_none}
 use Rattle.fl_script.proofs.running.exec.Goals as goal
 
 pub returns-in-Err-clause-err : goal.returns-in-Err-clause-err

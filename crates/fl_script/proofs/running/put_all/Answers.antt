@@ -1,4 +1,4 @@
-use Rattle.std.proofs.Common.{◌≡◌, ◌∙◌, ◌++◌, List, ℕ, ap, sym}
+use Rattle.std.proofs.Common.{◌∙◌, ◌++◌, List, ℕ, ap, sym}
 use Rattle.std.proofs.lemmas.List.{take_rest}
 use Rattle.fl_script.proofs.ExecLemmas.{written_more}
 use Rattle.fl_script.proofs.running.put_all.Goals as goal

@@ -1,4 +1,4 @@
-use Rattle.std.proofs.Common.{◌≡◌, ◌∙◌, ◌++◌, List, ℕ, ap, sym, subst}
+use Rattle.std.proofs.Common.{◌∙◌, List, ℕ, subst}
 use Rattle.std.specs.Io.KnownBytes.{Appends}
 use Rattle.fl_script.proofs.ExecLemmas.{front_written, run_fault, run_more, all_written, no_more}
 use Rattle.fl_script.proofs.running.run.Goals as goal

@@ -1,4 +1,4 @@
-use Rattle.std.proofs.Common.{◌≡◌, ◌∙◌, sym, refl, ap}
+use Rattle.std.proofs.Common.{◌∙◌, sym, ap}
 use Rattle.fl_lex.specs.Token.{tokens_of}
 use Rattle.fl_lex.specs.Outcome.{lexed}
 use Rattle.fl_script.proofs.TextLemmas.{if_ok_then, lex_told}

@@ -1,5 +1,5 @@
-use Rattle.std.proofs.Common.{◌≡◌, ◌∙◌, sym, refl, ap}
-use Rattle.fl_parse.specs.Grammar.{parsed, parse_fault}
+use Rattle.std.proofs.Common.{◌∙◌, sym, ap}
+use Rattle.fl_parse.specs.Grammar.{parsed}
 use Rattle.fl_parse.specs.Tree.{tree_of}
 use Rattle.fl_script.proofs.TextLemmas.{if_ok_then, parse_told}
 use Rattle.fl_script.specs.Text.{text_fault}

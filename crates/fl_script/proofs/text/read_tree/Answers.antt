@@ -1,4 +1,4 @@
-use Rattle.std.proofs.Common.{◌≡◌, ◌∙◌, sym, refl, ap, Some, ℕ}
+use Rattle.std.proofs.Common.{◌∙◌, sym, refl, ap}
 use Rattle.fl_check.specs.Interface.{interface_of}
 use Rattle.fl_check.specs.Checks.{checked}
 use Rattle.fl_parse.specs.Tree.{tree_of}

@@ -1,4 +1,4 @@
-use Rattle.std.proofs.Common.{◌≡◌, ◌∙◌, ap, subst, Some, Option, List, ℕ, map}
+use Rattle.std.proofs.Common.{ap, subst, List, ℕ, map}
 use Rattle.fl_script.specs.Shown.{Answered}
 use Rattle.fl_script.specs.Transcript.{after_call}
 use Rattle.std.specs.Prelude.{option_map}

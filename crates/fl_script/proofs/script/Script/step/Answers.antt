@@ -1,4 +1,4 @@
-use Rattle.std.proofs.Common.{◌≡◌, refl}
+use Rattle.std.proofs.Common.{refl}
 use Rattle.fl_world.specs.Exchange.{event_of, answer_of}
 use Rattle.fl_script.proofs.ScriptLemmas.{stepped}
 use Rattle.fl_script.proofs.script.Script.step.Goals as goal
