@@ -1,6 +1,6 @@
 -- The two halves of an rpc's arguments.
-use Rattle.std.proofs.Common.{◌≡◌, ◌<◌, ℕ, ◌+◌, List, [], ◌∷◌, ◌++◌, map, length, drop, get_or, sym, ap, ◌∙◌, append_assoc, append-nil}
-use Rattle.std.proofs.lemmas.List.{drop_more}
+use Rattle.std.proofs.Common.{◌≡◌, ◌<◌, ℕ, ◌+◌, ◌≤◌, List, [], ◌∷◌, ◌++◌, map, length, drop, get_or, sym, ap, ◌∙◌, append_assoc, append-nil}
+use Rattle.std.proofs.lemmas.List.{drop_more, drop_all}
 use Rattle.fl_parse.specs.declared.tree.Direction.{Direction}
 use Rattle.fl_parse.specs.declared.tree.Direction.TheVariants.{In, Out}
 use Rattle.fl_parse.specs.declared.tree.DirectedArgument.{DirectedArgument}
@@ -30,3 +30,7 @@ outs_push f ds i x d done done2 whole a h q inv more is =
     ap (λ l. l ++ map f (outs (map directed_of (drop (i + 1) ds)))) more
     ∙ out_part x.direction f (argument_of x.argument) a (outs (map directed_of (drop (i + 1) ds))) done is
     ∙ ap (λ l. done ++ map f (outs (map directed_of l))) (sym (left_is ds i x d h q)) ∙ inv
+
+-- nothing is left to be made once the loop has gone past the last part
+pub none_left : {X Z : Type 0} (F : List X → List Z) (xs : List X) (i : ℕ) (zs whole : List Z) → length xs ≤ i → F [] ≡ [] → zs ++ F (drop i xs) ≡ whole → zs ≡ whole
+none_left F xs i zs whole h stop e = sym (append-nil zs) ∙ ap (λ l. zs ++ l) (sym stop) ∙ ap (λ l. zs ++ F l) (sym (drop_all i xs h)) ∙ e

@@ -1,5 +1,5 @@
 -- A set of names in order, and the list of them.
-use Rattle.std.proofs.Common.{◌≡◌, ℕ, Bool, true, false, ◌||◌, List, [], ◌∷◌, ◌++◌, map, Bor, if◌then◌else◌, refl, sym, ap, ◌∙◌}
+use Rattle.std.proofs.Common.{◌≡◌, ℕ, Bool, true, false, not, ◌||◌, List, [], ◌∷◌, ◌++◌, map, Bor, if◌then◌else◌, refl, sym, ap, ◌∙◌}
 use Rattle.std.specs.List.{list_any}
 use Rattle.std.specs.Str.{bytes_eq}
 use Rattle.std.proofs.lemmas.List.{map_push}
@@ -22,10 +22,11 @@ pub among_set : (ks : List (Bor (List ℕ))) (q : List ℕ) → list_any (λ (k 
 among_set [] q = refl
 among_set (k ∷ ks) q = ap (λ v. v || list_any (λ (k : Bor (List ℕ)). bytes_eq q k.now) ks) (turned q k.now) ∙ ap (λ v. bytes_eq k.now q || v) (among_set ks q)
 
-put : (b : Bool) (ks ks2 : List (Bor (List ℕ))) (n : Bor (List ℕ)) → b ≡ false → ks2 ≡ (if b then ks else ks ++ n ∷ []) → ks2 ≡ ks ++ n ∷ []
-put true ks ks2 n f e = cc
-put false ks ks2 n f e = e
+put : (b new : Bool) (ks ks2 : List (Bor (List ℕ))) (n : Bor (List ℕ)) → new ≡ not b → ks2 ≡ (if b then ks else ks ++ n ∷ []) → new ≡ true → ks2 ≡ ks ++ n ∷ []
+put true new ks ks2 n added e is = cc
+put false new ks ks2 n added e is = e
 
-pub push_set : (ks ks2 : List (Bor (List ℕ))) (n : Bor (List ℕ)) → ks2 ≡ (if list_any (λ (k : Bor (List ℕ)). bytes_eq n.now k.now) ks then ks else ks ++ n ∷ []) → is_among (map now_of ks) n.now ≡ false → map now_of ks2 ≡ map now_of ks ++ n.now ∷ []
-push_set ks ks2 n e f =
-    ap (map now_of) (put (list_any (λ (k : Bor (List ℕ)). bytes_eq n.now k.now) ks) ks ks2 n (among_set ks n.now ∙ f) e) ∙ map_push now_of ks n
+pub put_in_set : (ks ks2 : List (Bor (List ℕ))) (n : Bor (List ℕ)) (new : Bool) → new ≡ not (list_any (λ (k : Bor (List ℕ)). bytes_eq n.now k.now) ks)
+    → ks2 ≡ (if list_any (λ (k : Bor (List ℕ)). bytes_eq n.now k.now) ks then ks else ks ++ n ∷ []) → new ≡ true → map now_of ks2 ≡ map now_of ks ++ n.now ∷ []
+put_in_set ks ks2 n new added e is =
+    ap (map now_of) (put (list_any (λ (k : Bor (List ℕ)). bytes_eq n.now k.now) ks) new ks ks2 n added e is) ∙ map_push now_of ks n

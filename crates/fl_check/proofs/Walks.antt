@@ -1,6 +1,6 @@
 -- Loops over the parts of a tree: what is still to be looked at, and the first fault there.
 use Rattle.std.proofs.Common.{◌≡◌, ◌≤◌, ◌<◌, ℕ, ◌+◌, List, [], ◌∷◌, ◌++◌, length, drop, take, map, get_or, Option, None, refl, sym, ap, ◌∙◌, subst}
-use Rattle.std.proofs.lemmas.List.{drop_more, drop_all, take_more, map_push}
+use Rattle.std.proofs.lemmas.List.{drop_more, drop_all, take_more, take_all, map_push}
 use Rattle.fl_check.specs.Places.{Place}
 use Rattle.fl_check.specs.Checks.{Fault, first_fault}
 use Rattle.fl_check.specs.Faults.{Tells}
@@ -41,3 +41,7 @@ made_push f g xs i x d zs zs2 z h q made more is =
     let s = ap (map g) p in
     let u = ap (λ y. g (f y)) q in
     cc
+
+-- what is made of all parts, once the loop has gone past the last
+pub made_all : {X Y Z : Type 0} (f : X → Y) (g : Y → Z) (xs : List X) (i : ℕ) (zs : List Z) → length xs ≤ i → zs ≡ map g (map f (take i xs)) → zs ≡ map g (map f xs)
+made_all f g xs i zs h made = made ∙ ap (λ l. map g (map f l)) (take_all i xs h)

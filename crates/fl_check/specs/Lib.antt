@@ -1,6 +1,5 @@
 pub mod Interface
 pub mod Sizes
-pub mod ScalarsOnly
 pub mod Depth
 pub mod Payload
 pub mod Known

@@ -21,7 +21,7 @@ use std::alloc::{AllocError, Global};
 const USUAL_ELEMENTS: u32 = 1_024;
 
 /// The arguments of an rpc's two messages.
-#[derive(Debug, Drop)]
+#[derive(Drop)]
 pub struct Halves {
     pub ins: Payload,
     pub outs: Payload,
@@ -82,7 +82,6 @@ impl<'a> Declared<'a> {
     {
         let checked = self.plain_type(alloc, kind)?;
         listed_name(names, counted_before, name)?;
-        names.push(name.text)?;
         Ok(checked)
     }
 
@@ -105,9 +104,7 @@ impl<'a> Declared<'a> {
     {
         let element = self.fixed_type(alloc, &argument.type_name)?;
         listed_name(names, counted_before, &argument.name)?;
-        names.push(argument.name.text)?;
         other_name(names, length)?;
-        names.push(length.text)?;
         check_bound(bound)?;
         Ok(Checked::Sized {
             bound: bound_of(bound),
@@ -202,7 +199,6 @@ fn string_argument<'a>(
 {
     string_type(&argument.type_name)?;
     listed_name(names, counted_before, &argument.name)?;
-    names.push(argument.name.text)?;
     check_bound(Some(bound))?;
     Ok(Checked::Text { bound: bound.value })
 }

@@ -8,7 +8,7 @@ use indexmap::IndexMap;
 use std::alloc::{AllocError, Global};
 
 /// A declared type, which is never too big.
-#[derive(Debug, Drop)]
+#[derive(Drop)]
 pub struct KnownType {
     pub measured: Measured,
     ghost small: { measured.size ≤ 4096 },
@@ -17,7 +17,7 @@ pub struct KnownType {
 }
 
 /// The types and messages that are declared so far, by their names and in order.
-#[derive(Debug, Drop)]
+#[derive(Drop)]
 pub struct Declared<'a> {
     pub types: IndexMap<&'a [u8], KnownType>,
     pub messages: IndexMap<Vec<u8>, Vec<ArgType>>,

@@ -5,48 +5,37 @@ ghost use Rattle.fl_check.specs.Faults.{rule_number, fault_number, fault_offset}
 ghost use Rattle.fl_check.specs.declared.fault.CheckFault.TheVariants.{Memory};
 
 use std::alloc::{AllocError, AllocFailed};
+use std::fmt;
 use thiserror::Error;
 
 /// A rule on names, types, messages and limits.
-#[derive(Clone, Copy, Debug, PartialEq, Eq, Error)]
+#[derive(Clone, Copy, Debug, PartialEq, Eq)]
 pub enum Rule {
     /// E10: the name of a type is taken by another, or built in.
-    #[error("this type's name is taken")]
     TypeNameTaken,
     /// E11: no type of this name is built in or declared before.
-    #[error("no type of this name is declared before")]
     UnknownType,
     /// E12: the name of a message is taken; an rpc takes two.
-    #[error("this message's name is taken")]
     MessageNameTaken,
     /// E13: an argument, field or enumerator of this name stands before in the same list.
-    #[error("this name stands twice in one list")]
     NameTwice,
     /// E14: a capability, which no message carries.
-    #[error("messages carry no capabilities")]
     Capability,
     /// E15: an enum without enumerators or a struct without fields.
-    #[error("nothing is in this type")]
     NothingInIt,
     /// E16: a count of elements that isn't 1 to 1,024.
-    #[error("a count is 1 to 1,024")]
     BadCount,
     /// E17: a type of more than 4,096 bytes, one that nests structs and fixed arrays more than 16
     /// deep, or fixed arrays alone more than 7 deep.
-    #[error("this type has over 4,096 bytes, or nests too deep")]
     TooBig,
     /// E18: a string where a type of fixed size must be.
-    #[error("a string can't stand here")]
     NotFixed,
     /// E19: more than 256 declared types or messages, or 32 fields or arguments, or a name of an rpc
     /// of more than 55 bytes.
-    #[error("this is one too many")]
     TooMany,
     /// E20: the bound of a string or sized array isn't 1 to 4,096.
-    #[error("a bound is 1 to 4,096")]
     BadBound,
     /// E21: a message whose payload may pass 32,768 bytes.
-    #[error("this message's payload may pass 32,768 bytes")]
     TooLong,
 }
 
@@ -69,6 +58,30 @@ impl Rule {
             Rule::BadBound => 20,
             Rule::TooLong => 21,
         }
+    }
+
+    // The rule in words, as faults show it.
+    fn words(self) -> &'static str {
+        match self {
+            Rule::TypeNameTaken => "this type's name is taken",
+            Rule::UnknownType => "no type of this name is declared before",
+            Rule::MessageNameTaken => "this message's name is taken",
+            Rule::NameTwice => "this name stands twice in one list",
+            Rule::Capability => "messages carry no capabilities",
+            Rule::NothingInIt => "nothing is in this type",
+            Rule::BadCount => "a count is 1 to 1,024",
+            Rule::TooBig => "this type has over 4,096 bytes, or nests too deep",
+            Rule::NotFixed => "a string can't stand here",
+            Rule::TooMany => "this is one too many",
+            Rule::BadBound => "a bound is 1 to 4,096",
+            Rule::TooLong => "this message's payload may pass 32,768 bytes",
+        }
+    }
+}
+
+impl fmt::Display for Rule {
+    fn fmt<W: fmt::Write>(&self, f: &mut fmt::Formatter<W>) -> fmt::Result {
+        f.write_str(self.words())
     }
 }
 

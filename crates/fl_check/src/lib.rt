@@ -14,7 +14,6 @@ mod parts;
 mod payload;
 mod position;
 mod same;
-mod scalars;
 mod types;
 mod words;
 
@@ -23,6 +22,3 @@ pub use explained::{Explained, TextFault};
 pub use fault::{CheckFault, Rule};
 pub use interface::{ArgType, FixedType, Interface, Message, Scalar, Word};
 pub use position::Position;
-
-#[cfg(test)]
-mod tests;

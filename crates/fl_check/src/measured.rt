@@ -12,7 +12,7 @@ use std::alloc::{AllocError, Global};
 
 /// A type, its size and alignment in bytes, how deep structs and fixed arrays nest in it, and how
 /// many fixed arrays stand on one path through it.
-#[derive(Debug, Drop)]
+#[derive(Drop)]
 pub struct Measured {
     pub fixed: FixedType,
     pub size: u32,
@@ -138,7 +138,7 @@ pub fn next_multiple(n: u64, align: u64) -> u64
 }
 
 /// The fields of a struct so far: their types, where the last one ends, and their greatest measures.
-#[derive(Debug, Drop)]
+#[derive(Drop)]
 pub struct Fields {
     pub types: Vec<FixedType>,
     pub end: u32,

@@ -17,28 +17,32 @@ use crate::words::Names;
 use fl_parse::{Field, Name, Number};
 use std::alloc::{AllocError, Global};
 
-/// A name that isn't counted: it stands once among these.
+/// Adds a name that isn't counted: it stands once among these.
 #[tactic(auto, unfolding(crate::specs::Checks::first_fault, crate::specs::Places::other_place))]
-pub fn other_name(names: &Names, name: &Name) -> Result<(), CheckFault>
-    ensures absent { OnOk result (is_among (list_of names.now) name.now.text.now ≡ false) }
-    ensures sound { OnOk result (first_fault (other_place (list_of names.now) (name_of name.now) ∷ []) ≡ None) }
-    ensures fault { IfErr result (λ e. Tells e (first_fault (other_place (list_of names.now) (name_of name.now) ∷ []))) }
+pub fn other_name<'a>(names: &mut Names<'a>, name: &Name<'a>) -> Result<(), CheckFault>
+    ensures sound { OnOk result (first_fault (other_place (list_of names.old) (name_of name.now) ∷ []) ≡ None) }
+    ensures names { OnOk result (list_of names.new ≡ list_of names.old ++ name.now.text.now ∷ []) }
+    ensures fault { IfErr result (λ e. Tells e (first_fault (other_place (list_of names.old) (name_of name.now) ∷ []))) }
 {
-    if names.contains(name.text) {
+    if !names.add(name.text)? {
         return Err(broken(Rule::NameTwice, name.at));
     }
     Ok(())
 }
 
-/// A name of a list that has at most 32, after so many that count: it stands once among these.
+/// Adds a name of a list that has at most 32, after so many that count: it stands once among these.
 #[tactic(auto, unfolding(crate::specs::Checks::first_fault, crate::specs::Places::listed_place))]
-pub fn listed_name(names: &Names, counted_before: usize, name: &Name) -> Result<(), CheckFault>
-    ensures absent { OnOk result (is_among (list_of names.now) name.now.text.now ≡ false) }
-    ensures sound { OnOk result (first_fault (listed_place (list_of names.now) counted_before (name_of name.now) ∷ []) ≡ None) }
+pub fn listed_name<'a>(
+    names: &mut Names<'a>,
+    counted_before: usize,
+    name: &Name<'a>,
+) -> Result<(), CheckFault>
+    ensures sound { OnOk result (first_fault (listed_place (list_of names.old) counted_before (name_of name.now) ∷ []) ≡ None) }
+    ensures names { OnOk result (list_of names.new ≡ list_of names.old ++ name.now.text.now ∷ []) }
     ensures few { OnOk result (counted_before < 32) }
-    ensures fault { IfErr result (λ e. Tells e (first_fault (listed_place (list_of names.now) counted_before (name_of name.now) ∷ []))) }
+    ensures fault { IfErr result (λ e. Tells e (first_fault (listed_place (list_of names.old) counted_before (name_of name.now) ∷ []))) }
 {
-    if names.contains(name.text) {
+    if !names.add(name.text)? {
         return Err(broken(Rule::NameTwice, name.at));
     }
     if counted_before >= 32 {
@@ -54,8 +58,7 @@ pub fn members(alloc: Global, members: &[Name]) -> Result<(), CheckFault>
 {
     let mut names = Names::new(alloc);
     for member in members {
-        other_name(&names, member)?;
-        names.push(member.text)?;
+        other_name(&mut names, member)?;
     }
     Ok(())
 }
@@ -104,8 +107,8 @@ impl<'a> Declared<'a> {
         ensures fault { IfErr result (λ e. Tells e (first_fault (field_place (before_of self.now) (list_of names.old) (field_of field.now)))) }
     {
         let measured = self.fixed_type(alloc, &field.type_name)?;
-        listed_name(names, names.len(), &field.name)?;
-        names.push(field.name.text)?;
+        let counted_before = names.len();
+        listed_name(names, counted_before, &field.name)?;
         counted(alloc, measured, field.count)
     }
 

@@ -10,7 +10,7 @@ use crate::measured::{Measured, next_multiple};
 use std::alloc::{AllocError, Global};
 
 /// An argument's type that keeps the rules, with its measures.
-#[derive(Debug, Drop)]
+#[derive(Drop)]
 pub enum Checked {
     Fixed { measured: Measured },
     Text { bound: u32 },
@@ -19,7 +19,7 @@ pub enum Checked {
 
 /// The arguments of a message so far: their types, where the last one may end, and the alignment
 /// that is due after it.
-#[derive(Debug, Drop)]
+#[derive(Drop)]
 pub struct Payload {
     pub args: Vec<ArgType>,
     pub end: u64,

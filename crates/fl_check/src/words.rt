@@ -1,6 +1,6 @@
 //! Built-in names, and lists of names.
 
-ghost use Rattle.std.specs.Prelude.{◌≡◌, ◌++◌, ◌∷◌, [], ◌+◌, map, length, OnOk, IfOk, false};
+ghost use Rattle.std.specs.Prelude.{◌≡◌, ◌++◌, ◌∷◌, [], map, length, IfOk, not, true};
 ghost use Rattle.std.specs.Str.{bytes_eq};
 ghost use Rattle.fl_check.specs.Known.{scalar_named, is_string, is_capability, is_built_in, is_among};
 ghost use Rattle.fl_check.specs.Views.{list_of};
@@ -58,7 +58,7 @@ pub fn is_built_in(name: &[u8]) -> bool
 }
 
 /// Names that stand before, in order, none twice.
-#[derive(Debug, Drop)]
+#[derive(Drop)]
 pub struct Names<'a> {
     pub set: IndexSet<&'a [u8]>,
 }
@@ -78,20 +78,13 @@ impl<'a> Names<'a> {
         self.set.len()
     }
 
-    pub fn contains(&self, name: &[u8]) -> bool
-        ensures exact { result ≡ is_among (list_of self.now) name.now }
+    /// Adds a name, and says whether it is new. One look-up.
+    pub fn add(&mut self, name: &'a [u8]) -> Result<bool, AllocError>
+        ensures new { IfOk result (λ new. new ≡ not (is_among (list_of self.old) name.now)) }
+        ensures more { IfOk result (λ new. new ≡ true → list_of self.new ≡ list_of self.old ++ name.now ∷ []) }
     {
-        self.set.contains(name)
-    }
-
-    /// Adds a name that isn't among them.
-    pub fn push(&mut self, name: &'a [u8]) -> Result<(), AllocError>
-        requires new { is_among (list_of self.old) name.now ≡ false }
-        ensures more { OnOk result (list_of self.new ≡ list_of self.old ++ name.now ∷ []) }
-        ensures len { OnOk result (length (list_of self.new) ≡ length (list_of self.old) + 1) }
-    {
-        self.set.insert(name)?;
-        Ok(())
+        let new = self.set.insert(name)?;
+        Ok(new)
     }
 }
 

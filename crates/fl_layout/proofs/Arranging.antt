@@ -1,23 +1,22 @@
 -- The plan's order of extents is that of types; and what holds of the extents within the limits.
-use Rattle.std.proofs.Common.{◌≡◌, ℕ, zero, suc, ◌+◌, ◌*◌, ◌≤◌, ◌<◌, true, false, Bool, if◌then◌else◌, List, [], ◌∷◌, ◌++◌, map, filter, length, refl, sym, ◌∙◌, ap, subst, arith, ◌&&◌, ◌||◌, not, eqb}
-use Rattle.std.proofs.lemmas.List.{map-append, length-append}
+use Rattle.std.proofs.Common.{◌≡◌, ℕ, ◌+◌, ◌≤◌, true, false, Bool, if◌then◌else◌, List, [], ◌∷◌, ◌++◌, map, filter, length, refl, ◌∙◌, ap, subst, arith, ◌||◌, not}
+use Rattle.std.proofs.lemmas.List.{length-append}
 use Rattle.std.proofs.lemmas.Bool.{and_parts, and_from, le-leb, leb-true, ltb-false, false≢true}
-use Rattle.std.specs.List.{list_all, zip, range_with_len}
+use Rattle.std.specs.List.{zip, range_with_len}
 use Rattle.fl_check.specs.Interface.{TheType, TheArgType, fixed, text, sized, TheMessage}
-use Rattle.fl_check.specs.Sizes.{size_of, align_of}
-use Rattle.fl_check.specs.Depth.{is_too_big}
-use Rattle.fl_check.specs.Checks.{is_well_made, is_type_within, is_argument_within, are_arguments_within, is_message_within}
+use Rattle.fl_check.specs.Sizes.{size_of}
+use Rattle.fl_check.specs.Checks.{is_type_within, is_argument_within, are_arguments_within, is_message_within}
 use Rattle.fl_value.specs.declared.value.PlanNo.{PlanNo}
 use Rattle.fl_value.specs.declared.value.PlanNo.TheVariants.{One, Two}
 use Rattle.fl_value.specs.Plan.{arranged, is_fixed_at, is_dynamic}
 use Rattle.fl_layout.specs.declared.extent.Placed.{Placed}
 use Rattle.fl_layout.specs.declared.extent.Rank.{Rank}
 use Rattle.fl_layout.specs.declared.extent.Rank.TheVariants.{FixedAt, Dynamic}
-use Rattle.fl_layout.specs.Extents.{extent_of, numbered, numbers_of, placing, placed_of, in_rank, of_rank, in_order, is_within, are_within}
+use Rattle.fl_layout.specs.Extents.{extent_of, numbered, placing, placed_of, in_rank, of_rank, in_order, is_within, are_within}
 use Rattle.fl_layout.proofs.Order.{filter_map, both, all_append, all_filter}
 use Rattle.fl_layout.proofs.Measures.{numbers_small, some_align}
 
-filter_ext : {A : Type 0} (p q : A → Bool) → ((x : A) → p x ≡ q x) → (xs : List A) → filter p xs ≡ filter q xs
+pub filter_ext : {A : Type 0} (p q : A → Bool) → ((x : A) → p x ≡ q x) → (xs : List A) → filter p xs ≡ filter q xs
 filter_ext p q same [] = refl
 filter_ext p q same (x ∷ xs) = let head = same x in let rest = filter_ext p q same xs in rw head (elim (q x) as (λ b. (if b then x ∷ filter p xs else filter p xs) ≡ (if b then x ∷ filter q xs else filter q xs)) [ true ↦ ap (λ ys. x ∷ ys) rest | false ↦ rest ])
 
@@ -26,7 +25,7 @@ fixed_rank a (fixed t) = refl
 fixed_rank a (text most) = refl
 fixed_rank a (sized most t) = refl
 
-dynamic_rank : (t : TheArgType) → in_rank Dynamic (extent_of t) ≡ is_dynamic t
+pub dynamic_rank : (t : TheArgType) → in_rank Dynamic (extent_of t) ≡ is_dynamic t
 dynamic_rank (fixed t) = refl
 dynamic_rank (text most) = refl
 dynamic_rank (sized most t) = refl

@@ -1,20 +1,18 @@
 -- More bytes or elements never end earlier.
-use Rattle.std.proofs.Common.{◌≡◌, ℕ, zero, suc, ◌+◌, ◌*◌, ◌<◌, ◌≤◌, true, false, Bool, max, List, [], ◌∷◌, map, length, refl, sym, ◌∙◌, ap, subst, arith, ◌&&◌}
+use Rattle.std.proofs.Common.{◌≡◌, ℕ, ◌*◌, ◌≤◌, true, max, List, [], ◌∷◌, map, length, refl, arith}
 use Rattle.std.proofs.lemmas.Bool.{and_parts, and_from, leb-true, false≢true}
 use Rattle.std.proofs.Math.Nat.{mul-le-mul_right}
 use Rattle.std.specs.List.{list_all, zip}
 use Rattle.fl_check.specs.Interface.{TheArgType, fixed, text, sized}
-use Rattle.fl_check.specs.Sizes.{size_of, align_of, round_up}
+use Rattle.fl_check.specs.Sizes.{size_of, align_of}
 use Rattle.fl_check.specs.Checks.{is_argument_within, are_arguments_within}
 use Rattle.fl_value.specs.Value.{Datum, number, string, elements, fields}
 use Rattle.fl_value.specs.Fits.{is_argument, are_arguments, count_of}
-use Rattle.fl_layout.specs.declared.extent.Extent.{Extent}
-use Rattle.fl_layout.specs.declared.extent.Extent.TheVariants.{Fixed, Text, Sized}
 use Rattle.fl_layout.specs.Leaves.{Argument}
 use Rattle.fl_layout.specs.Extents.{Filled, most_of, count_at, extent_of, end_of, due_after, end_of_all}
 use Rattle.fl_layout.proofs.Rounding.{IsAlign, align_one, align_eight, greater_align, round_rises}
 use Rattle.fl_layout.proofs.Sizes.{aligned}
-use Rattle.fl_layout.proofs.Ends.{filled, is_good}
+use Rattle.fl_layout.proofs.Ends.{is_good}
 
 -- with the one count an argument never ends after it ends with the other
 abbrev pub Rises : TheArgType → ℕ → ℕ → Type 0

@@ -1,17 +1,17 @@
 -- The leaves of arguments end where their extents do.
-use Rattle.std.proofs.Common.{◌≡◌, ℕ, zero, suc, ◌+◌, ◌-◌, ◌*◌, ◌<◌, ◌≤◌, true, false, inl, inr, Bool, if◌then◌else◌, max, List, [], ◌∷◌, ◌++◌, map, length, refl, sym, ◌∙◌, ap, subst, arith, ◌&&◌}
-use Rattle.std.proofs.lemmas.Bool.{and_parts, leb-true, eqb-true, false≢true}
+use Rattle.std.proofs.Common.{◌≡◌, ℕ, ◌+◌, ◌*◌, true, false, Bool, if◌then◌else◌, max, List, [], ◌∷◌, map, length, refl, sym, ◌∙◌, ap, subst, arith, ◌&&◌}
+use Rattle.std.proofs.lemmas.Bool.{and_parts, false≢true}
 use Rattle.std.specs.List.{list_all}
 use Rattle.fl_check.specs.Interface.{TheArgType, fixed, text, sized}
 use Rattle.fl_check.specs.Sizes.{size_of, align_of, round_up}
-use Rattle.fl_check.specs.Checks.{is_well_made, is_type_within, is_argument_within, are_arguments_within}
+use Rattle.fl_check.specs.Checks.{is_well_made, is_argument_within}
 use Rattle.fl_value.specs.Value.{Datum, number, string, elements, fields}
-use Rattle.fl_value.specs.Fits.{has_type, is_argument, count_of}
+use Rattle.fl_value.specs.Fits.{is_argument, count_of}
 use Rattle.fl_value.specs.Plan.{is_dynamic}
-use Rattle.fl_layout.specs.Leaves.{Leaf, Argument, gap, whole, single, bytes_onto, start_onto, argument_onto, arguments_onto}
+use Rattle.fl_layout.specs.Leaves.{Leaf, Argument, whole, single, bytes_onto, start_onto, argument_onto, arguments_onto}
 use Rattle.fl_layout.specs.Places.{size}
 use Rattle.fl_layout.specs.Extents.{Filled, count_at, extent_of, end_of, due_after, end_of_all}
-use Rattle.fl_layout.proofs.Rounding.{IsAlign, IsMultiple, align_eight, align_small, rounded, round_multiple, round_after, round_least, multiple_add, multiple_of_less}
+use Rattle.fl_layout.proofs.Rounding.{IsAlign, IsMultiple, align_eight, align_small, rounded, round_multiple, multiple_add, multiple_of_less}
 use Rattle.fl_layout.proofs.Sizes.{aligned, value_size, elements_size}
 
 abbrev pub filled : Argument → Filled

@@ -1,23 +1,21 @@
 -- The lengths of a message's payloads and tapes, from what a plan keeps of it.
-use Rattle.std.proofs.Common.{◌≡◌, ℕ, pos, zero, suc, ◌+◌, ◌*◌, ◌<◌, ◌≤◌, true, false, Bool, Option, Some, None, List, [], ◌∷◌, map, length, get_or, refl, sym, ◌∙◌, ap, subst, arith, ◌&&◌}
+use Rattle.std.proofs.Common.{◌≡◌, ℕ, pos, zero, suc, ◌≤◌, true, false, Some, List, [], ◌∷◌, map, length, get_or, refl, sym, ◌∙◌, ap, subst, arith}
 use Rattle.std.specs.Prelude.{slice_get}
-use Rattle.std.proofs.lemmas.Bool.{and_parts, and_from, leb-true, false≢true}
+use Rattle.std.proofs.lemmas.Bool.{and_parts}
 use Rattle.std.proofs.lemmas.Option.{none-some}
 use Rattle.std.proofs.lemmas.List.{length-replicate}
-use Rattle.std.specs.List.{list_all, zip, flat_map}
+use Rattle.std.specs.List.{list_all, zip}
 use Rattle.fl_check.specs.Interface.{TheArgType, fixed, text, sized, TheMessage, TheInterface}
 use Rattle.fl_check.specs.Checks.{is_argument_within, are_arguments_within, is_message_within, are_messages_within, is_within_limits}
 use Rattle.fl_value.specs.declared.value.PlanNo.{PlanNo}
 use Rattle.fl_value.specs.Value.{Datum, number, TheCall}
-use Rattle.fl_value.specs.Fits.{is_argument, are_arguments, fit_message, fits_of}
+use Rattle.fl_value.specs.Fits.{is_argument, are_arguments, fit_message}
 use Rattle.fl_value.specs.Plan.{arranged}
-use Rattle.fl_value.specs.Tape.{tape_of_argument}
 use Rattle.fl_layout.specs.declared.extent.Placed.{Placed}
 use Rattle.fl_layout.specs.declared.extent.Fill.{Fill}
 use Rattle.fl_layout.specs.declared.extent.Fill.TheVariants.{Empty, Full}
-use Rattle.fl_layout.specs.Leaves.{Argument, kind, types_of, argument_types, arguments_onto}
-use Rattle.fl_layout.specs.Places.{size}
-use Rattle.fl_layout.specs.Extents.{Filled, extent_of, numbered, placing, placed_of, end_of_all, numbers_in_all, most_of, count_at, count_by, filled_up, filled_by}
+use Rattle.fl_layout.specs.Leaves.{Argument, kind}
+use Rattle.fl_layout.specs.Extents.{Filled, extent_of, numbered, placing, placed_of, end_of_all, numbers_in_all, count_at, count_by, filled_up, filled_by}
 use Rattle.fl_layout.specs.Layouts.{payload_length, tape_length, IsCallOf, IsLeast, IsGreatest}
 use Rattle.fl_layout.proofs.Rounding.{align_one}
 use Rattle.fl_layout.proofs.Ends.{filled, is_good, arguments_end}
@@ -55,11 +53,11 @@ pub sent_tape : (plan : PlanNo) (i : TheInterface) (m : TheMessage) (c : TheCall
 sent_tape plan i m c s =
     rw s.named (tape_numbers (laid plan m c.args) (laid_good plan m c.args s.within s.has))
 
-map_map : {A B C : Type 0} (f : B → C) (g : A → B) (xs : List A) → map f (map g xs) ≡ map (λ x. f (g x)) xs
+pub map_map : {A B C : Type 0} (f : B → C) (g : A → B) (xs : List A) → map f (map g xs) ≡ map (λ x. f (g x)) xs
 map_map f g [] = refl
 map_map f g (x ∷ xs) = ap (λ ys. f (g x) ∷ ys) (map_map f g xs)
 
-map_ext : {A B : Type 0} (xs : List A) (f g : A → B) → ((x : A) → f x ≡ g x) → map f xs ≡ map g xs
+pub map_ext : {A B : Type 0} (xs : List A) (f g : A → B) → ((x : A) → f x ≡ g x) → map f xs ≡ map g xs
 map_ext [] f g same = refl
 map_ext (x ∷ xs) f g same = let rest = map_ext xs f g same in let head = same x in cc
 

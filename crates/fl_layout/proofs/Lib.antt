@@ -9,3 +9,8 @@ pub mod Lengths
 pub mod Measures
 pub mod Arranging
 pub mod Found
+pub mod Sums
+pub mod Starts
+pub mod Counts
+pub mod BothPlans
+pub mod Shorts

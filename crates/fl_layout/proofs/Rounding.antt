@@ -1,5 +1,5 @@
 -- Multiples of alignments.
-use Rattle.std.proofs.Common.{◌≡◌, ℕ, zero, suc, ◌+◌, ◌-◌, ◌*◌, ◌%◌, ◌<◌, ◌≤◌, ◌⊎◌, inl, inr, ⊎_elim, max, refl, sym, ◌∙◌, ap, subst, arith}
+use Rattle.std.proofs.Common.{◌≡◌, ℕ, zero, suc, ◌+◌, ◌*◌, ◌%◌, ◌≤◌, ◌⊎◌, inl, inr, ⊎_elim, max, refl, sym, subst, arith}
 use Rattle.fl_check.specs.Sizes.{round_up}
 
 abbrev pub IsAlign : ℕ → Type 0
@@ -13,6 +13,9 @@ by_align P one two four eight a is =
 
 pub align_one : IsAlign 1
 align_one = inl refl
+
+pub align_two : IsAlign 2
+align_two = inr (inl refl)
 
 pub align_four : IsAlign 4
 align_four = inr (inr (inl refl))

@@ -1,16 +1,16 @@
 -- The leaves of a value take as many bytes as its type, from the next multiple of its alignment on.
-use Rattle.std.proofs.Common.{◌≡◌, ℕ, zero, suc, ◌+◌, ◌-◌, ◌*◌, ◌<◌, ◌≤◌, true, false, inl, inr, Bool, max, List, [], ◌∷◌, length, refl, sym, ◌∙◌, ap, subst, arith, ◌&&◌, leb, eqb}
+use Rattle.std.proofs.Common.{◌≡◌, ℕ, ◌+◌, ◌*◌, ◌≤◌, true, inl, inr, List, ◌∷◌, refl, sym, ◌∙◌, ap, subst, arith, leb, eqb}
 use Rattle.std.proofs.lemmas.Bool.{and_parts, leb-true, eqb-true, false≢true}
 use Rattle.fl_check.specs.declared.interface.Scalar.{Scalar}
 use Rattle.fl_check.specs.declared.interface.Scalar.TheVariants.{Uint8, Int8, Bool as BoolType, Char, Uint16, Int16, Uint32, Int32, Iref, Uint64, Int64, Uintptr, Intptr, Size, Errval}
 use Rattle.fl_check.specs.Interface.{TheType, scalar, enumeration, structure, array, TheTypes, no_more, field}
 use Rattle.fl_check.specs.Sizes.{size_of, align_of, greatest_align, end_after, round_up, scalar_size}
-use Rattle.fl_check.specs.Checks.{is_well_made, are_well_made, count_of as fields_in}
+use Rattle.fl_check.specs.Checks.{is_well_made, are_well_made}
 use Rattle.fl_value.specs.Value.{Datum, number, string, elements, fields, Data, nothing_more, also}
 use Rattle.fl_value.specs.Fits.{has_type, have_types, all_have_type, count_of}
 use Rattle.fl_layout.specs.Leaves.{Leaf, gap, value_onto, fields_onto, elements_onto}
 use Rattle.fl_layout.specs.Places.{size}
-use Rattle.fl_layout.proofs.Rounding.{IsAlign, IsMultiple, align_one, align_four, align_eight, greater_align, align_small, rounded, round_multiple, round_after, round_least, multiple_add, multiple_times, multiple_of_less}
+use Rattle.fl_layout.proofs.Rounding.{IsAlign, IsMultiple, align_one, align_four, greater_align, rounded, round_multiple, round_after, multiple_add, multiple_times, multiple_of_less}
 
 pub scalar_align : (s : Scalar) → IsAlign (scalar_size s)
 scalar_align Uint8 = inl refl

@@ -1,5 +1,5 @@
 -- How many numbers a call's tape has.
-use Rattle.std.proofs.Common.{◌≡◌, ℕ, zero, suc, ◌+◌, ◌*◌, ◌<◌, ◌≤◌, true, false, Bool, List, [], ◌∷◌, ◌++◌, map, length, refl, sym, ◌∙◌, ap, subst, arith, ◌&&◌}
+use Rattle.std.proofs.Common.{◌≡◌, ◌*◌, ◌≤◌, true, List, [], ◌∷◌, map, length, refl, ◌∙◌, ap, arith}
 use Rattle.std.proofs.lemmas.Bool.{and_parts, leb-true, eqb-true, false≢true}
 use Rattle.std.proofs.lemmas.List.{length-append}
 use Rattle.std.specs.List.{list_all, flat_map}
@@ -8,8 +8,6 @@ use Rattle.fl_check.specs.Checks.{is_argument_within}
 use Rattle.fl_value.specs.Value.{Datum, number, string, elements, fields, Data, nothing_more, also}
 use Rattle.fl_value.specs.Fits.{has_type, have_types, all_have_type, is_argument, count_of}
 use Rattle.fl_value.specs.Tape.{value_tape, fields_tape, elements_tape, argument_tape, tape_of_argument}
-use Rattle.fl_layout.specs.declared.extent.Extent.{Extent}
-use Rattle.fl_layout.specs.declared.extent.Extent.TheVariants.{Fixed, Text, Sized}
 use Rattle.fl_layout.specs.Leaves.{Argument}
 use Rattle.fl_layout.specs.Extents.{most_of, count_at, numbers_of, numbers_of_all, extent_of, numbers_in, numbers_in_all}
 use Rattle.fl_layout.proofs.Ends.{filled, is_good}

@@ -1,6 +1,6 @@
 -- Every type within the limits has a value, and every message a shortest and a longest call.
-use Rattle.std.proofs.Common.{◌≡◌, ℕ, ℤ, pos, zero, suc, ◌+◌, ◌*◌, ◌<◌, ◌≤◌, true, false, Bool, List, [], ◌∷◌, map, length, replicate, refl, sym, ◌∙◌, ap, arith, ◌&&◌, ltb, leb, eqb}
-use Rattle.std.proofs.lemmas.Bool.{and_parts, and_from, lt-ltb, le-leb, eq-eqb, leb-true, false≢true}
+use Rattle.std.proofs.Common.{◌≡◌, ℕ, pos, zero, suc, true, List, [], ◌∷◌, map, replicate, refl, arith}
+use Rattle.std.proofs.lemmas.Bool.{and_parts, and_from, lt-ltb, le-leb, eq-eqb, leb-true}
 use Rattle.std.proofs.lemmas.List.{length-replicate}
 use Rattle.std.specs.List.{list_all}
 use Rattle.fl_check.specs.declared.interface.Scalar.{Scalar}

@@ -1,5 +1,5 @@
 -- What a plan keeps of an argument, and where arguments end one after another.
-use Rattle.std.specs.Prelude.{ℕ, pos, ◌+◌, ◌*◌, ◌==◌, ◌&&◌, nat_le, max, Bool, true, false, List, [], ◌∷◌, ◌++◌, map, filter, length, get_or}
+use Rattle.std.specs.Prelude.{ℕ, pos, ◌+◌, ◌*◌, ◌==◌, ◌&&◌, nat_le, max, Bool, true, false, if◌then◌else◌, Option, Some, None, List, [], ◌∷◌, ◌++◌, map, filter, length, get_or}
 use Rattle.std.specs.List.{zip, range_with_len, list_all}
 use Rattle.fl_check.specs.Interface.{TheType, scalar, enumeration, structure, array, TheTypes, no_more, field, TheArgType, fixed, text, sized, TheMessage}
 use Rattle.fl_check.specs.Sizes.{size_of, align_of, round_up}
@@ -51,6 +51,12 @@ abbrev pub end_of : ℕ → ℕ → Extent → ℕ → ℕ
 end_of at due (Fixed size align numbers) count = round_up at (max due align) + size
 end_of at due (Text most) count = round_up at 8 + (8 + count)
 end_of at due (Sized most stride numbers) count = round_up at 8 + (8 + count * stride)
+
+-- where an argument begins that ends so
+abbrev pub start_of : ℕ → ℕ → Extent → ℕ
+start_of at due (Fixed size align numbers) = round_up at (max due align)
+start_of at due (Text most) = round_up at 8
+start_of at due (Sized most stride numbers) = round_up at 8
 
 -- what is due after an argument: after a string or a sized array a multiple of 8
 abbrev pub due_after : Extent → ℕ
@@ -132,3 +138,22 @@ abbrev pub in_order : PlanNo → List Placed → List Placed
 in_order One ps = ps
 in_order Two ps =
     of_rank (FixedAt 8) ps ++ of_rank (FixedAt 4) ps ++ of_rank (FixedAt 2) ps ++ of_rank (FixedAt 1) ps ++ of_rank Dynamic ps
+
+-- the extent of argument j
+abbrev pub extent_among : ℕ → List Placed → Option Extent
+extent_among j [] = None
+extent_among j (p ∷ ps) = if p.argument == j then Some p.extent else extent_among j ps
+
+-- where argument j begins, if no string or sized array stands before it
+abbrev pub start_among : ℕ → ℕ → ℕ → List Placed → Option ℕ
+start_among j at due [] = None
+start_among j at due (p ∷ ps) =
+    if p.argument == j then Some (start_of at due p.extent)
+    else if in_rank Dynamic p.extent then None
+    else start_among j (end_of at due p.extent 0) (due_after p.extent) ps
+
+-- the bytes of a fixed argument, of a sized array's element, and of a string's
+abbrev pub unit_of : Extent → ℕ
+unit_of (Fixed size align numbers) = size
+unit_of (Text most) = 1
+unit_of (Sized most stride numbers) = stride

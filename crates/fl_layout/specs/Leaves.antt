@@ -1,7 +1,7 @@
 -- The leaves of a call: what stands in its payload, one by one. A list of leaves has the last one first, so
 -- that what stands before a leaf is the rest of the list. No leaf has a position.
 use Rattle.std.specs.Prelude.{ℕ, ℤ, pos, negsuc, ◌-◌, ◌*◌, ◌^◌, Bool, true, false, if◌then◌else◌, List, [], ◌∷◌, length, slice_get, Option, Some, None}
-use Rattle.std.specs.List.{zip, list_all}
+use Rattle.std.specs.List.{zip}
 use Rattle.fl_check.specs.Interface.{TheType, scalar, enumeration, structure, array, TheTypes, field, TheArgType, fixed, text, sized, TheMessage, TheInterface}
 use Rattle.fl_check.specs.Sizes.{scalar_size, greatest_align}
 use Rattle.fl_value.specs.Value.{Datum, number, string, elements, fields, Data, nothing_more, also, TheCall}
@@ -97,7 +97,3 @@ abbrev pub is_number_type : TheArgType → Bool
 is_number_type (fixed (scalar s)) = true
 is_number_type (fixed (enumeration n)) = true
 is_number_type t = false
-
--- every argument is a scalar or an enum
-abbrev pub scalars_only_of : TheInterface → Bool
-scalars_only_of i = list_all (λ m. list_all is_number_type (TheMessage.args m)) i.messages

@@ -28,10 +28,7 @@ impl Rank {
                 Extent::Fixed { align, .. } => align == wanted,
                 _ => false,
             },
-            Rank::Dynamic => match extent {
-                Extent::Fixed { .. } => false,
-                _ => true,
-            },
+            Rank::Dynamic => extent.is_dynamic(),
         }
     }
 }

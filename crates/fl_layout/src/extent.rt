@@ -1,5 +1,9 @@
 //! What a plan keeps of an argument.
 
+ghost use Rattle.std.specs.Prelude.{◌≡◌};
+ghost use Rattle.fl_layout.specs.declared.extent.Rank.TheVariants.{Dynamic};
+ghost use Rattle.fl_layout.specs.Extents.{in_rank, unit_of};
+
 /// An argument's extent in a payload and on a tape.
 #[derive(Clone, Copy, Debug, PartialEq, Eq)]
 pub(crate) enum Extent {
@@ -19,6 +23,29 @@ pub(crate) enum Extent {
         stride: u32,
         numbers: u32,
     },
+}
+
+impl Extent {
+    /// Whether it is that of a string or a sized array.
+    pub(crate) fn is_dynamic(self) -> bool
+        ensures exact { result ≡ in_rank Dynamic self }
+    {
+        match self {
+            Extent::Fixed { .. } => false,
+            _ => true,
+        }
+    }
+
+    /// The bytes of a fixed argument, of a sized array's element, and of a string's.
+    pub(crate) fn unit(self) -> usize
+        ensures exact { result ≡ unit_of self }
+    {
+        match self {
+            Extent::Fixed { size, .. } => size as usize,
+            Extent::Text { .. } => 1,
+            Extent::Sized { stride, .. } => stride as usize,
+        }
+    }
 }
 
 /// An argument, by its number among those of its message, and its extent.

@@ -1,11 +1,11 @@
 //! Where arguments end one after another.
 
-ghost use Rattle.std.specs.Prelude.{◌≡◌, ◌<◌, ◌≤◌, ◌+◌, ◌*◌, ◌^◌, map, length, true};
+ghost use Rattle.std.specs.Prelude.{◌≡◌, pos, ◌<◌, ◌≤◌, ◌+◌, ◌*◌, ◌^◌, map, length, get_or, true};
 ghost use Rattle.std.specs.List.{list_all};
 ghost use Rattle.fl_layout.specs.declared.extent.Fill.TheVariants.{Full};
 ghost use Rattle.fl_check.specs.Sizes.{round_up};
-ghost use Rattle.fl_value.specs.Value.{datum_of};
-ghost use Rattle.fl_layout.specs.Extents.{end_of, end_of_all, due_after, count_by, count_at, filled_up, filled_by, numbers_in, numbers_in_all, most_of, is_within, are_within, is_short};
+ghost use Rattle.fl_value.specs.Value.{number, datum_of};
+ghost use Rattle.fl_layout.specs.Extents.{start_of, end_of, end_of_all, due_after, count_by, count_in, count_at, filled_up, filled_by, numbers_in, numbers_in_all, most_of, is_within, are_within, is_short, extent_among, start_among};
 
 use crate::extent::{Extent, Fill, Placed};
 use fl_value::Value;
@@ -29,6 +29,21 @@ fn next_multiple(n: usize, align: usize) -> usize
 }
 
 impl End {
+    // Where an argument begins that follows.
+    fn start(self, extent: Extent) -> usize
+        requires within { is_within extent ≡ true }
+        requires some { 0 < self.due }
+        requires few { self.due ≤ 8 }
+        requires fits { self.at < 2 ^ 50 }
+        ensures start { result ≡ start_of self.at self.due extent }
+    {
+        match extent {
+            Extent::Fixed { align, .. } => next_multiple(self.at, self.due.max(align as usize)),
+            _ => next_multiple(self.at, 8),
+        }
+    }
+
+    // Where it ends, with so many bytes or elements.
     fn after(self, extent: Extent, count: usize) -> End
         requires within { is_within extent ≡ true }
         requires count { count ≤ 4096 }
@@ -87,6 +102,75 @@ pub(crate) fn limit(placed: &[Placed], fill: Fill) -> usize
         end = end.after(each.extent, fill.count(each.extent));
     }
     end.at
+}
+
+// How many bytes of a string, or elements of an array, a value is.
+fn count(value: &Value) -> usize
+    ensures exact { result ≡ count_in (datum_of value.now) }
+{
+    match value {
+        Value::Text(bytes) => bytes.len(),
+        Value::List(values) => values.len(),
+        _ => 0,
+    }
+}
+
+// How many bytes or elements an argument has, of a call with these values.
+fn count_among(values: &[Value], placed: Placed) -> usize
+    ensures exact { result ≡ count_at placed.extent (get_or (map datum_of values.now) placed.argument (number (pos 0))) }
+{
+    if !placed.extent.is_dynamic() {
+        return 0;
+    }
+    match values.get(placed.argument as usize) {
+        Some(value) => count(value),
+        None => 0,
+    }
+}
+
+/// Where the last of some arguments ends in a call with these values.
+pub(crate) fn length_with(placed: &[Placed], values: &[Value]) -> usize
+    requires few { length placed.now ≤ 160 }
+    requires within { are_within placed.now ≡ true }
+    requires short { list_all (is_short (map datum_of values.now)) placed.now ≡ true }
+    ensures exact { result ≡ end_of_all 0 1 (map (filled_by (map datum_of values.now)) placed.now) }
+{
+    let mut end = End { at: 0, due: 1 };
+    for each in placed {
+        end = end.after(each.extent, count_among(values, *each));
+    }
+    end.at
+}
+
+/// The extent of an argument by its number.
+pub(crate) fn extent_among(placed: &[Placed], argument: usize) -> Option<Extent>
+    ensures exact { result ≡ extent_among argument placed.now }
+{
+    for each in placed {
+        if each.argument as usize == argument {
+            return Some(each.extent);
+        }
+    }
+    None
+}
+
+/// Where an argument begins, by its number; none where a string or a sized array stands before it.
+pub(crate) fn start_among(placed: &[Placed], argument: usize) -> Option<usize>
+    requires few { length placed.now ≤ 160 }
+    requires within { are_within placed.now ≡ true }
+    ensures exact { result ≡ start_among argument 0 1 placed.now }
+{
+    let mut end = End { at: 0, due: 1 };
+    for each in placed {
+        if each.argument as usize == argument {
+            return Some(end.start(each.extent));
+        }
+        if each.extent.is_dynamic() {
+            return None;
+        }
+        end = end.after(each.extent, 0);
+    }
+    None
 }
 
 // How many numbers of a tape an argument has at most.

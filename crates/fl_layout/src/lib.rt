@@ -1,4 +1,16 @@
-//! The layout of calls: what stands in a call's payload, and where.
+//! The layout of calls: what stands in a call's payload and where, and how long payloads and tapes are.
+//!
+//! Contract for the layers above: a [`plan`] tells of each message the least and the greatest length of its payloads
+//! (both are reached, and none passes 32,768 bytes under either plan) and the greatest length of its tapes, of a
+//! call the length of its payload and its fragments, and of an argument its size and the one place at which it
+//! begins. The definitions stand in `specs/`: leaves in `Leaves.antt`, their places as sums in `Places.antt`, and what
+//! the calls answer in `Layouts.antt`.
+//!
+//! - `measure.rt`: sizes and alignments of types
+//! - `extent.rt`: what a plan keeps of an argument
+//! - `arrange.rt`: a message's arguments in the plan's order
+//! - `filling.rt`: where arguments begin and end one after another
+//! - `plans.rt`: the plan of an interface
 #![tactic(auto)]
 
 mod arrange;

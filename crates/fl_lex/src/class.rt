@@ -26,6 +26,7 @@ pub enum ByteClass {
 
 /// What a byte may begin.
 #[tactic(auto, unfolding(crate::specs::Spelling::class_of, crate::specs::Spelling::mark_class))]
+#[inline(always)]
 pub(crate) fn class_of(byte: u8) -> ByteClass
     ensures class { result ≡ class_of byte }
 {
@@ -48,6 +49,7 @@ pub(crate) fn class_of(byte: u8) -> ByteClass
 }
 
 /// A letter, a digit or `_`.
+#[inline(always)]
 pub(crate) fn is_word_byte(byte: u8) -> bool
     ensures class { result ≡ is_word_byte byte }
 {
@@ -55,6 +57,7 @@ pub(crate) fn is_word_byte(byte: u8) -> bool
 }
 
 /// A decimal digit.
+#[inline(always)]
 pub(crate) fn is_digit(byte: u8) -> bool
     ensures class { result ≡ is_digit byte }
 {
@@ -62,6 +65,7 @@ pub(crate) fn is_digit(byte: u8) -> bool
 }
 
 /// Any byte but a line feed.
+#[inline(always)]
 pub(crate) fn is_on_line(byte: u8) -> bool
     ensures class { result ≡ is_on_line byte }
 {
@@ -69,6 +73,7 @@ pub(crate) fn is_on_line(byte: u8) -> bool
 }
 
 /// Any byte but a quote and a line feed.
+#[inline(always)]
 pub(crate) fn is_described(byte: u8) -> bool
     ensures class { result ≡ is_described byte }
 {

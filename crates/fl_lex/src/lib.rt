@@ -15,8 +15,6 @@ mod class;
 mod fault;
 mod front;
 mod lexer;
-#[cfg(test)]
-mod tests;
 mod token;
 
 pub use class::ByteClass;

@@ -1,4 +1,4 @@
--- An index that counts from 0 and goes round a number of places.
+-- An index that counts up and goes round a number of places.
 use Rattle.std.specs.Prelude.{ℕ, ◌+◌, ◌/◌, ◌%◌}
 
 -- the epoch of the fragment of index i in a ring of n places: 1 in its first round, then 0, 1, and so on

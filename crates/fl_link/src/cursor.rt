@@ -5,7 +5,7 @@ ghost use Rattle.fl_link.specs.Cursor.{TheCursor, epoch_at};
 
 use std::marker::Model;
 
-/// An index from 0 up, with its place in a ring of `size` places and the epoch of its round.
+/// An index, with its place in a ring of `size` places and the epoch of its round.
 ///
 /// Place and epoch are kept beside the index, so that no step divides.
 #[derive(Debug, Drop)]
@@ -41,7 +41,22 @@ impl Cursor {
         }
     }
 
-    /// How many times it advanced.
+    /// The cursor at this index.
+    pub fn at(size: usize, index: u64) -> Cursor
+        requires { 0 < size }
+        ensures start { result ≡ record { index = index; size = size } }
+    {
+        let places = size as u64;
+        let round = index / places;
+        Cursor {
+            index,
+            size,
+            place: (index % places) as usize,
+            epoch: (round % 2 + 1) % 2,
+        }
+    }
+
+    /// The index: 0 at first, and one more with each step.
     pub fn index(&self) -> u64
         ensures index { result ≡ self.now.index }
     {

@@ -29,6 +29,3 @@ pub use passing::{Passed, pass};
 pub use queue::QueueLink;
 pub use sides::{Link, PutSide, Sight, TakeSide, Told};
 pub use stamps::{SPENT, stamp};
-
-#[cfg(test)]
-mod tests;

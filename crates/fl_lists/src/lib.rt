@@ -16,6 +16,3 @@ mod place;
 
 pub use lists::Lists;
 pub use place::Place;
-
-#[cfg(test)]
-mod tests;

@@ -16,6 +16,3 @@ pub use tree::{
     Argument, Declaration, DirectedArgument, Direction, Field, MessageKind, Name, Number, Shape,
     Tree,
 };
-
-#[cfg(test)]
-mod tests;

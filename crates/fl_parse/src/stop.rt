@@ -7,7 +7,7 @@ use fl_lex::Token;
 use std::alloc::{AllocError, AllocFailed};
 
 /// What stopped the reading of a part.
-#[derive(Debug, Drop)]
+#[derive(Drop)]
 pub enum Stop<'t, 'a> {
     /// The first of these tokens cannot stand where it does; where there is none, the text ends early.
     Unexpected(&'t [Token<'a>]),

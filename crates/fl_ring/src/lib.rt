@@ -28,8 +28,3 @@ pub use fault::RingFault;
 pub use one_duo::{OneDuo, Which};
 pub use one_ring::OneRing;
 pub use shared::{RingRx, RingTx, SharedSide, duo, duo_from, ring, settle, settle_duo};
-
-#[cfg(test)]
-mod shared_tests;
-#[cfg(test)]
-mod tests;

@@ -13,7 +13,6 @@
 //! - `making.rt`: `ring` and `settle`
 //! - `duo_board.rt`, `duo_plays.rt`, `duo_steps.rt`, `duo_sides.rt`, `duo_making.rt`: the same for a
 //!   ring of two directions (`specs/SharedDuo.antt`)
-//! - `lap.rt`: an index that goes round the slots
 //! - `sight.rt`: what a look answers
 
 mod board;
@@ -22,7 +21,6 @@ mod duo_making;
 mod duo_plays;
 mod duo_sides;
 mod duo_steps;
-mod lap;
 mod making;
 mod plays;
 mod reads;

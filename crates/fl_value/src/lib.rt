@@ -22,8 +22,6 @@ mod order;
 mod printing;
 mod reader;
 mod tape;
-#[cfg(test)]
-mod tests;
 mod tokens;
 mod untape;
 mod value;

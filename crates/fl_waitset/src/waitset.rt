@@ -183,6 +183,3 @@ impl Waitset {
         Ok(())
     }
 }
-
-#[cfg(test)]
-mod tests;

@@ -306,7 +306,7 @@ all_joined : (p : Argument → Bool) (xs ys : List Argument) → list_all p xs �
 all_joined p [] ys hx hy = hy
 all_joined p (x ∷ xs) ys hx hy = rw (first_so (p x) _ hx) (all_joined p xs ys (second_so (p x) _ hx) hy)
 
-all_classes : (p : Argument → Bool) (plan : PlanNo) (n k : ℕ) (args : List Argument) → list_all p args ≡ true → list_all p (in_classes plan n k args) ≡ true
+pub all_classes : (p : Argument → Bool) (plan : PlanNo) (n k : ℕ) (args : List Argument) → list_all p args ≡ true → list_all p (in_classes plan n k args) ≡ true
 all_classes p plan zero k args h = refl
 all_classes p plan (suc n) k args h = all_joined p (in_class plan k args) (in_classes plan n (k + 1) args) (all_class p plan k args h) (all_classes p plan n (k + 1) args h)
 

@@ -1,25 +1,28 @@
 -- The arguments of a call, read class by class.
-use Rattle.std.proofs.Common.{◌≡◌, ◌≢◌, ℕ, zero, suc, ◌+◌, ◌-◌, ◌*◌, ◌<◌, ◌≤◌, Bool, true, false, ◌⊎◌, inl, inr, ⊎_elim, List, [], ◌∷◌, ◌++◌, map, length, drop, get_or, set, refl, sym, ◌∙◌, ap, subst, arith, cond, ◌&&◌}
-use Rattle.std.specs.List.{zip}
+use Rattle.std.proofs.Common.{◌≡◌, ◌≢◌, ℕ, zero, suc, ◌+◌, ◌-◌, ◌<◌, ◌≤◌, Bool, true, false, ◌⊎◌, inl, inr, ⊎_elim, List, [], ◌∷◌, ◌++◌, length, drop, get_or, set, refl, sym, ◌∙◌, ap, subst, arith, ◌&&◌}
+use Rattle.std.specs.List.{zip, list_all}
+use Rattle.std.specs.Prelude.{◌||◌}
 use Rattle.std.specs.Cmp.{first_so, second_so}
-use Rattle.std.proofs.lemmas.List.{drop_all, get_or-set_same, get_or-set_other, length-set, ext_get_or, length-map}
+use Rattle.std.proofs.lemmas.List.{drop_all, get_or-set_same, get_or-set_other, length-set, ext_get_or}
 use Rattle.std.proofs.lemmas.Bool.{cases_lt, false≢true}
 use Rattle.fl_base.specs.declared.fragment.Frag.{Frag}
 use Rattle.fl_check.specs.Interface.{TheArgType, fixed, text, sized}
-use Rattle.fl_value.specs.Value.{Datum, string}
-use Rattle.fl_value.specs.Fits.{is_argument, are_arguments}
+use Rattle.fl_value.specs.Value.{Datum, string, elements}
+use Rattle.fl_value.specs.Fits.{is_argument, are_arguments, count_of}
 use Rattle.fl_value.specs.Plan.{is_dynamic}
 use Rattle.fl_value.specs.declared.value.PlanNo.{PlanNo}
-use Rattle.fl_layout.specs.Leaves.{Leaf, Argument, gap, argument_onto, arguments_onto, start_onto}
-use Rattle.fl_layout.specs.Places.{size}
+use Rattle.fl_layout.specs.Leaves.{Leaf, Argument, gap, whole, bytes_onto, elements_onto, argument_onto, arguments_onto, start_onto}
+use Rattle.fl_layout.specs.Places.{size, place}
 use Rattle.fl_wire.specs.Classes.{class_of, in_class, in_classes}
-use Rattle.fl_wire.specs.Standing.{Over}
-use Rattle.fl_wire.specs.Shapes.{Agrees, Shape, padding, starts_after, arguments_of, next_argument, calls_of, Got, ReadAt, StopsAt}
-use Rattle.fl_wire.specs.declared.leaf.Stop.{Stop}
-use Rattle.fl_wire.proofs.Agreement.{over_argument, over_arguments, class_small}
+use Rattle.fl_wire.specs.Alive.{argument_has_values}
+use Rattle.fl_wire.specs.Covered.{holds, is_length}
+use Rattle.fl_wire.specs.Shapes.{Agrees, Shape, starts_after, arguments_of, next_argument, calls_of, ReadAt}
+use Rattle.fl_wire.proofs.Agreement.{over_argument, over_arguments, over_bytes, over_elements, grows, class_small}
 use Rattle.fl_wire.proofs.Numbers.{none_such, class_here, class_elsewhere}
-use Rattle.fl_wire.proofs.Steps.{Goes, goes_on, Begins, Come, come_self, come_read, come_stop, come_done, come_rest, first_stop}
-use Rattle.fl_wire.proofs.Parts.{both}
+use Rattle.fl_wire.proofs.Steps.{goes_on, Begins, Come, come_self}
+use Rattle.fl_wire.proofs.Defaults.{both, default_argument, default_arguments}
+use Rattle.fl_wire.proofs.Covers.{holds_before, holds_past, no_length_before}
+use Rattle.fl_wire.proofs.Bytes.{size_le_place}
 
 -- ---- an argument and what stands before it
 
@@ -32,7 +35,24 @@ begins_argument after t low = record {
   fit = λ b e fb fe. fe;
   same = λ b e fb fe. refl;
   over = λ b e. over_argument t e _;
+  alive = λ some. tt;
+  more = λ some b fb. let (d, f) = default_argument t some in (d, f);
+  alive_more = λ some b fb. some;
+  lengths_first = λ b e fb fe n inside. start_first after t low n inside;
+  lengths_rest = λ b e fb fe n past. ap (λ (m : ℕ). is_dynamic t && holds m 8 n) (sym (start_place after low));
 }
+  where
+    start_place : (after : Bool) (low : List Leaf) → place (gap 8) (start_onto after low) ≡ place (gap 8) low
+    start_place true low = omega arith
+    start_place false low = refl
+
+    start_within : (after : Bool) (low : List Leaf) (n : ℕ) → n < size (start_onto after low) → n < place (gap 8) low
+    start_within true low n inside = omega (arith, inside)
+    start_within false low n inside = omega (arith, inside, size_le_place (size low) 8)
+
+    start_first : (after : Bool) (t : TheArgType) (low : List Leaf) (n : ℕ) → n < size (start_onto after low) → (is_dynamic t && holds (place (gap 8) low) 8 n) ≡ false
+    start_first after t low n inside =
+        rw (holds_before (place (gap 8) low) 8 n (start_within after low n inside)) (elim (is_dynamic t) as (λ v. (v && false) ≡ false) [ true ↦ refl | false ↦ refl ])
 
 -- ---- the same things under another name
 
@@ -40,6 +60,8 @@ pub record Same (y z : Shape) (next : z.what → y.what) : Type 0 where
   pub fit : (e : z.what) → z.fits e → y.fits (next e)
   pub same : (e : z.what) (low : List Leaf) → z.fits e → y.onto (next e) low ≡ z.onto e low
   pub told : (d : y.what) → y.fits d → (e : z.what) × ((d ≡ next e) × z.fits e)
+  pub alive : y.alive → z.alive
+  pub lengths : (e : z.what) (low : List Leaf) (n : ℕ) → z.fits e → y.lengths (next e) low n ≡ z.lengths e low n
 
 pub come_same : (x y z : Shape) (frags : List Frag) (start at : ℕ) (join : y.what → x.what) (next : z.what → y.what) → Come x y frags start at join → Same y z next → Come x z frags start at (λ e. join (next e))
 come_same x y z frags start at join next come s = λ low here agree.
@@ -54,6 +76,8 @@ come_same x y z frags start at join next come s = λ low here agree.
           fit = s.fit;
           same = λ e f. s.same e now f;
           told = λ d full f over agrees. s.told d f;
+          alive = s.alive;
+          lengths = λ e f n past. s.lengths e now n f;
         },
       ),
     )
@@ -81,6 +105,8 @@ left_in plan class j ts vs after = record {
   what = List Datum;
   fits = λ ds. (are_arguments ts ds ≡ true) × SameRead plan class j ts ds vs;
   onto = λ ds low. arguments_onto after (in_class plan class (drop j (zip ts ds)) ++ in_classes plan (4 - class) (class + 1) (zip ts ds)) low;
+  lengths = λ ds low p. is_length after (in_class plan class (drop j (zip ts ds)) ++ in_classes plan (4 - class) (class + 1) (zip ts ds)) low p;
+  alive = (list_all argument_has_values ts ≡ true) × ((ds : List Datum) × ((are_arguments ts ds ≡ true) × SameRead plan class j ts ds vs));
 }
 
 abbrev pub left_from : PlanNo → ℕ → List TheArgType → List Datum → Bool → Shape
@@ -88,6 +114,8 @@ left_from plan class ts vs after = record {
   what = List Datum;
   fits = λ ds. (are_arguments ts ds ≡ true) × SameRead plan class 0 ts ds vs;
   onto = λ ds low. arguments_onto after (in_classes plan (5 - class) class (zip ts ds)) low;
+  lengths = λ ds low p. is_length after (in_classes plan (5 - class) class (zip ts ds)) low p;
+  alive = (list_all argument_has_values ts ≡ true) × ((ds : List Datum) × ((are_arguments ts ds ≡ true) × SameRead plan class 0 ts ds vs));
 }
 
 abbrev pub itself : List Datum → List Datum
@@ -138,6 +166,8 @@ at_start plan ts vs = record {
   fit = λ e f. f.0;
   same = λ e low f. refl;
   told = λ d f. (d, (refl, (f, none_read plan ts d vs)));
+  alive = λ some. let (ds, f) = default_arguments ts some in (some, (ds, (f, none_read plan ts ds vs)));
+  lengths = λ e low n f. refl;
 }
 
 pub into_class : (plan : PlanNo) (class : ℕ) (ts : List TheArgType) (vs : List Datum) (after : Bool) → class < 5 → Same (left_from plan class ts vs after) (left_in plan class 0 ts vs after) itself
@@ -145,6 +175,8 @@ into_class plan class ts vs after small = record {
   fit = λ e f. f;
   same = λ e low f. ap (λ (n : ℕ). arguments_onto after (in_classes plan n class (zip ts e)) low) more;
   told = λ d f. (d, (refl, f));
+  alive = λ some. some;
+  lengths = λ e low p f. ap (λ (n : ℕ). is_length after (in_classes plan n class (zip ts e)) low p) more;
 }
   where
     more : 5 - class ≡ suc (4 - class)
@@ -162,16 +194,22 @@ not_further plan class j k ts other (inr h) = ⊎_elim
     (λ (here : j ≤ k). let e : k ≡ j = omega (arith, here, h.1) in absurd (other (subst (λ (m : ℕ). class_at plan ts m ≡ class) e h.0)))
     (cases_lt k j)
 
+-- what is left of a class, past an argument of another
+skip_other : (plan : PlanNo) (class j : ℕ) (ts : List TheArgType) (e : List Datum) → j < length ts → class_at plan ts j ≢ class → are_arguments ts e ≡ true
+    → in_class plan class (drop j (zip ts e)) ≡ in_class plan class (drop (j + 1) (zip ts e))
+skip_other plan class j ts e small other fits =
+    let long = fit_length ts e fits in
+    let type : (get_or (zip ts e) j none_such).0 ≡ get_or ts j (text 0) = ap (λ (a : Argument). a.0) (zip_get ts e j long small) in
+    class_elsewhere plan class j (zip ts e) none_such (omega (arith, small, zip_length ts e long)) (λ h. other (sym (ap (class_of plan) type) ∙ h))
+
 pub past_other : (plan : PlanNo) (class j : ℕ) (ts : List TheArgType) (vs : List Datum) (after : Bool) → j < length ts → class_at plan ts j ≢ class
     → Same (left_in plan class j ts vs after) (left_in plan class (j + 1) ts vs after) itself
 past_other plan class j ts vs after small other = record {
   fit = λ e f. (f.0, record { at = λ k h read. f.1.at k h (further plan class j k ts read) });
-  same = λ e low f.
-      let long = fit_length ts e f.0 in
-      let type : (get_or (zip ts e) j none_such).0 ≡ get_or ts j (text 0) = ap (λ (a : Argument). a.0) (zip_get ts e j long small) in
-      ap (λ (xs : List Argument). arguments_onto after (xs ++ in_classes plan (4 - class) (class + 1) (zip ts e)) low)
-      (class_elsewhere plan class j (zip ts e) none_such (omega (arith, small, zip_length ts e long)) (λ h. other (sym (ap (class_of plan) type) ∙ h)));
+  same = λ e low f. ap (λ (xs : List Argument). arguments_onto after (xs ++ in_classes plan (4 - class) (class + 1) (zip ts e)) low) (skip_other plan class j ts e small other f.0);
   told = λ d f. (d, (refl, (f.0, record { at = λ k h read. f.1.at k h (not_further plan class j k ts other read) })));
+  alive = λ some. (some.0, (some.1.0, (some.1.1.0, record { at = λ k h read. some.1.1.1.at k h (not_further plan class j k ts other read) })));
+  lengths = λ e low n f. ap (λ (xs : List Argument). is_length after (xs ++ in_classes plan (4 - class) (class + 1) (zip ts e)) low n) (skip_other plan class j ts e small other f.0);
 }
 
 pub past_fit : (plan : PlanNo) (class j : ℕ) (ts : List TheArgType) (vs : List Datum) → class_at plan ts j ≢ class → FitRead plan class j ts vs → FitRead plan class (j + 1) ts vs
@@ -189,15 +227,22 @@ class_read plan class j k ts before (inl h) = ⊎_elim
     (cases_lt (class_at plan ts k) class)
 class_read plan class j k ts before (inr h) = absurd (omega (arith, h.1))
 
+-- nothing is left of a class past its last argument
+class_over : (plan : PlanNo) (class j : ℕ) (ts : List TheArgType) (e : List Datum) → length ts ≤ j → are_arguments ts e ≡ true
+    → in_class plan class (drop j (zip ts e)) ++ in_classes plan (4 - class) (class + 1) (zip ts e) ≡ in_classes plan (5 - (class + 1)) (class + 1) (zip ts e)
+class_over plan class j ts e all fits =
+    let none : drop j (zip ts e) ≡ [] = drop_all j (zip ts e) (omega (arith, all, zip_length ts e (fit_length ts e fits))) in
+    let left : 4 - class ≡ 5 - (class + 1) = omega arith in
+    ap (λ (xs : List Argument). in_class plan class xs ++ in_classes plan (4 - class) (class + 1) (zip ts e)) none
+    ∙ ap (λ (n : ℕ). in_classes plan n (class + 1) (zip ts e)) left
+
 pub past_class : (plan : PlanNo) (class j : ℕ) (ts : List TheArgType) (vs : List Datum) (after : Bool) → length ts ≤ j → Same (left_in plan class j ts vs after) (left_from plan (class + 1) ts vs after) itself
 past_class plan class j ts vs after all = record {
   fit = λ e f. (f.0, record { at = λ k h read. f.1.at k h (class_done plan class j k ts read) });
-  same = λ e low f.
-      let none : drop j (zip ts e) ≡ [] = drop_all j (zip ts e) (omega (arith, all, zip_length ts e (fit_length ts e f.0))) in
-      let left : 4 - class ≡ 5 - (class + 1) = omega arith in
-      ap (λ (xs : List Argument). arguments_onto after (in_class plan class xs ++ in_classes plan (4 - class) (class + 1) (zip ts e)) low) none
-      ∙ ap (λ (n : ℕ). arguments_onto after (in_classes plan n (class + 1) (zip ts e)) low) left;
+  same = λ e low f. ap (λ (xs : List Argument). arguments_onto after xs low) (class_over plan class j ts e all f.0);
   told = λ d f. (d, (refl, (f.0, record { at = λ k h read. f.1.at k h (class_read plan class j k ts (omega (arith, h, all)) read) })));
+  alive = λ some. (some.0, (some.1.0, (some.1.1.0, record { at = λ k h read. some.1.1.1.at k h (class_read plan class j k ts (omega (arith, h, all)) read) })));
+  lengths = λ e low n f. ap (λ (xs : List Argument). is_length after xs low n) (class_over plan class j ts e all f.0);
 }
 
 pub class_fit : (plan : PlanNo) (class j : ℕ) (ts : List TheArgType) (vs : List Datum) → length ts ≤ j → FitRead plan class j ts vs → FitRead plan (class + 1) 0 ts vs
@@ -214,6 +259,66 @@ one_more plan class j k ts own (inr h) = ⊎_elim
     (λ (before : k < j). inr (not_itself plan class j k ts own (inr (h.0, before)), inr (h.0, before)))
     (λ (here : j ≤ k). inl (omega (arith, here, h.1)))
     (cases_lt k j)
+
+-- the next argument in the place of another
+set_fit : (ts : List TheArgType) (ds : List Datum) (j : ℕ) (d : Datum) → j < length ts → are_arguments ts ds ≡ true → is_argument (get_or ts j (text 0)) d ≡ true → are_arguments ts (set ds j d) ≡ true
+set_fit ts ds j d small fits one =
+    let long = fit_length ts ds fits in
+    all_fit ts (set ds j d) (length-set ds j d ∙ long) (λ k h. ⊎_elim
+    (λ (before : k < j). rw (get_or-set_other ds j k d (string []) (λ e. absurd (omega (arith, e, before)))) (fit_get ts ds k fits h))
+    (λ (rest : j ≤ k). ⊎_elim
+    (λ (after : j < k). rw (get_or-set_other ds j k d (string []) (λ e. absurd (omega (arith, e, after)))) (fit_get ts ds k fits h))
+    (λ (back : k ≤ j).
+    let here : k ≡ j = omega (arith, rest, back) in
+    let P : ℕ → Type 0 = λ m. is_argument (get_or ts m (text 0)) (get_or (set ds j d) m (string [])) ≡ true in
+    subst P (sym here) (rw (get_or-set_same ds j d (string []) (omega (arith, small, long))) one))
+    (cases_lt j k))
+    (cases_lt k j))
+
+set_same : (plan : PlanNo) (class j : ℕ) (ts : List TheArgType) (ds vs : List Datum) (d : Datum) → j < length ts → length ds ≡ length ts → length vs ≡ length ts → class_at plan ts j ≡ class
+    → SameRead plan class j ts ds vs → SameRead plan class (j + 1) ts (set ds j d) (set vs j d)
+set_same plan class j ts ds vs d small long_ds long_vs own same = record {
+  at = λ k h read. ⊎_elim
+      (λ (e : k ≡ j).
+      let P : ℕ → Type 0 = λ m. get_or (set ds j d) m (string []) ≡ get_or (set vs j d) m (string []) in
+      subst P (sym e) (get_or-set_same ds j d (string []) (omega (arith, small, long_ds)) ∙ sym (get_or-set_same vs j d (string []) (omega (arith, small, long_vs)))))
+      (λ (apart : (k ≢ j) × IsRead plan class j ts k). get_or-set_other ds j k d (string []) apart.0 ∙ same.at k h apart.1 ∙ sym (get_or-set_other vs j k d (string []) apart.0))
+      (one_more plan class j k ts own read);
+}
+
+all_get : (ts : List TheArgType) (j : ℕ) → j < length ts → list_all argument_has_values ts ≡ true → argument_has_values (get_or ts j (text 0)) ≡ true
+all_get [] j small h = absurd (omega (arith, small))
+all_get (t ∷ ts) zero small h = first_so (argument_has_values t) _ h
+all_get (t ∷ ts) (suc j) small h = all_get ts j (omega (arith, small)) (second_so (argument_has_values t) _ h)
+
+-- a string or a sized array ends after its length
+dynamic_end : (t : TheArgType) (d : Datum) (low : List Leaf) → is_dynamic t ≡ true → is_argument t d ≡ true → place (gap 8) low + 8 ≤ size (argument_onto t d low)
+dynamic_end (fixed t) d low h f = absurd (false≢true h)
+dynamic_end (text max) (string bytes) low h f =
+    let over = over_bytes bytes (whole 8 (length bytes) ∷ low) in
+    let is : size (bytes_onto bytes (whole 8 (length bytes) ∷ low)) ≡ size (over.more ++ whole 8 (length bytes) ∷ low) = ap size over.is in
+    omega (arith, is, grows over.more (whole 8 (length bytes) ∷ low))
+dynamic_end (sized max t) (elements ds) low h f =
+    let over = over_elements t ds (whole 8 (count_of ds) ∷ low) in
+    let is : size (elements_onto t ds (whole 8 (count_of ds) ∷ low)) ≡ size (over.more ++ whole 8 (count_of ds) ∷ low) = ap size over.is in
+    omega (arith, is, grows over.more (whole 8 (count_of ds) ∷ low))
+dynamic_end t d low h f = absurd (false≢true f)
+
+start_same : (after : Bool) (low : List Leaf) → place (gap 8) (start_onto after low) ≡ place (gap 8) low
+start_same true low = omega arith
+start_same false low = refl
+
+pub no_length_past : (after : Bool) (t : TheArgType) (d : Datum) (low : List Leaf) (n : ℕ) → is_argument t d ≡ true → size (argument_onto t d (start_onto after low)) ≤ n
+    → (is_dynamic t && holds (place (gap 8) low) 8 n) ≡ false
+no_length_past after t d low n fits past = helper (is_dynamic t) refl
+  where
+    helper : (b : Bool) → is_dynamic t ≡ b → (b && holds (place (gap 8) low) 8 n) ≡ false
+    helper true e = holds_past (place (gap 8) low) 8 n (omega (arith, past, start_same after low, dynamic_end t d (start_onto after low) e fits))
+    helper false e = refl
+
+or_none : (b : Bool) → (b || false) ≡ b
+or_none true = refl
+or_none false = refl
 
 pub begins_next : (plan : PlanNo) (class j : ℕ) (ts : List TheArgType) (t : TheArgType) (vs : List Datum) (after : Bool) → j < length ts → length vs ≡ length ts → t ≡ get_or ts j (text 0) → class_at plan ts j ≡ class
     → (low : List Leaf) → Begins (left_in plan class j ts vs after) (next_argument after t) (λ d. left_in plan class (j + 1) ts (set vs j d) (is_dynamic t)) low (λ d ds. ds)
@@ -247,18 +352,43 @@ begins_next plan class j ts t vs after small long type own low = record {
       at = λ k h read. fds.1.at k h (further plan class j k ts read) ∙ get_or-set_other vs j k d (string []) (not_itself plan class j k ts own read);
     },
   );
-  same = λ d ds fd fds.
-      let lengths = fit_length ts ds fds.0 in
-      let at_j : get_or ds j (string []) ≡ d = fds.1.at j small (inr (own, omega arith)) ∙ get_or-set_same vs j d (string []) (omega (arith, small, long)) in
-      let here : get_or (zip ts ds) j none_such ≡ (t, d)
-      = zip_get ts ds j lengths small ∙ ap (λ (u : TheArgType). (u, get_or ds j (string []))) (sym type) ∙ ap (λ (v : Datum). (t, v)) at_j in
-      let of_class : class_of plan (get_or (zip ts ds) j none_such).0 ≡ class = ap (λ (a : Argument). class_of plan a.0) here ∙ ap (class_of plan) type ∙ own in
-      let rest = in_classes plan (4 - class) (class + 1) (zip ts ds) in
-      ap (λ (xs : List Argument). arguments_onto after (xs ++ rest) low)
-      (class_here plan class j (zip ts ds) none_such (omega (arith, small, zip_length ts ds lengths)) of_class
-      ∙ ap (λ (a : Argument). a ∷ in_class plan class (drop (j + 1) (zip ts ds))) here);
+  same = λ d ds fd fds. ap (λ (xs : List Argument). arguments_onto after xs low) (next_list d ds fds);
   over = λ d ds. over_arguments (is_dynamic t) (in_class plan class (drop (j + 1) (zip ts ds)) ++ in_classes plan (4 - class) (class + 1) (zip ts ds)) _;
+  alive = λ some. subst (λ (u : TheArgType). argument_has_values u ≡ true) (sym type) (all_get ts j small some.0);
+  more = λ some d fd. more_of some.1.0 some.1.1.0 some.1.1.1 d fd;
+  alive_more = λ some d fd. (some.0, more_of some.1.0 some.1.1.0 some.1.1.1 d fd);
+  lengths_first = λ d ds fd fds n inside.
+      let rest = in_class plan class (drop (j + 1) (zip ts ds)) ++ in_classes plan (4 - class) (class + 1) (zip ts ds) in
+      ap (λ (xs : List Argument). is_length after xs low n) (next_list d ds fds)
+      ∙ ap (λ (v : Bool). (is_dynamic t && holds (place (gap 8) low) 8 n) || v) (no_length_before (is_dynamic t) rest (argument_onto t d (start_onto after low)) n inside)
+      ∙ or_none (is_dynamic t && holds (place (gap 8) low) 8 n);
+  lengths_rest = λ d ds fd fds n past.
+      let rest = in_class plan class (drop (j + 1) (zip ts ds)) ++ in_classes plan (4 - class) (class + 1) (zip ts ds) in
+      ap (λ (xs : List Argument). is_length after xs low n) (next_list d ds fds)
+      ∙ ap (λ (v : Bool). v || is_length (is_dynamic t) rest (argument_onto t d (start_onto after low)) n) (no_length_past after t d low n fd past);
 }
+  where
+    more_of : (ds : List Datum) → are_arguments ts ds ≡ true → SameRead plan class j ts ds vs → (d : Datum) → is_argument t d ≡ true
+        → (es : List Datum) × ((are_arguments ts es ≡ true) × SameRead plan class (j + 1) ts es (set vs j d))
+    more_of ds f same d fd = (
+      set ds j d,
+      (set_fit ts ds j d small f (subst (λ (u : TheArgType). is_argument u d ≡ true) type fd), set_same plan class j ts ds vs d small (fit_length ts ds f) long own same),
+    )
+
+    -- the argument stands first in what is left
+    next_list : (d : Datum) (ds : List Datum) → (are_arguments ts ds ≡ true) × SameRead plan class (j + 1) ts ds (set vs j d)
+        → in_class plan class (drop j (zip ts ds)) ++ in_classes plan (4 - class) (class + 1) (zip ts ds)
+        ≡ (t, d) ∷ (in_class plan class (drop (j + 1) (zip ts ds)) ++ in_classes plan (4 - class) (class + 1) (zip ts ds))
+    next_list d ds fds =
+        let lengths = fit_length ts ds fds.0 in
+        let at_j : get_or ds j (string []) ≡ d = fds.1.at j small (inr (own, omega arith)) ∙ get_or-set_same vs j d (string []) (omega (arith, small, long)) in
+        let here : get_or (zip ts ds) j none_such ≡ (t, d)
+        = zip_get ts ds j lengths small ∙ ap (λ (u : TheArgType). (u, get_or ds j (string []))) (sym type) ∙ ap (λ (v : Datum). (t, v)) at_j in
+        let of_class : class_of plan (get_or (zip ts ds) j none_such).0 ≡ class = ap (λ (a : Argument). class_of plan a.0) here ∙ ap (class_of plan) type ∙ own in
+        let rest = in_classes plan (4 - class) (class + 1) (zip ts ds) in
+        ap (λ (xs : List Argument). xs ++ rest)
+        (class_here plan class j (zip ts ds) none_such (omega (arith, small, zip_length ts ds lengths)) of_class
+        ∙ ap (λ (a : Argument). a ∷ in_class plan class (drop (j + 1) (zip ts ds))) here)
 
 pub next_fit : (plan : PlanNo) (class j : ℕ) (ts : List TheArgType) (t : TheArgType) (vs : List Datum) (d : Datum) → j < length ts → length vs ≡ length ts → t ≡ get_or ts j (text 0) → class_at plan ts j ≡ class
     → is_argument t d ≡ true → FitRead plan class j ts vs → FitRead plan class (j + 1) ts (set vs j d)

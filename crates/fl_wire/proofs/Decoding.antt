@@ -1,31 +1,27 @@
 -- What the first fragments of a call hold, and its arguments from their bits.
-use Rattle.std.proofs.Common.{◌≡◌, ℕ, ℤ, pos, negsuc, zero, suc, ◌+◌, ◌-◌, ◌*◌, ◌/◌, ◌%◌, ◌^◌, ◌<◌, ◌≤◌, true, false, ◌⊎◌, inl, inr, ⊎_elim, List, [], ◌∷◌, map, length, get_or, take, drop, slice_index, refl, sym, ◌∙◌, ap, subst, arith, cond, ltb, leb, ◌&&◌, max, min, Some}
+use Rattle.std.proofs.Common.{◌≡◌, ℕ, ℤ, pos, negsuc, zero, suc, ◌+◌, ◌-◌, ◌*◌, ◌/◌, ◌%◌, ◌^◌, ◌<◌, ◌≤◌, true, false, ◌⊎◌, inl, inr, ⊎_elim, List, map, length, get_or, take, slice_index, refl, sym, ◌∙◌, ap, arith, cond, ltb, leb, ◌&&◌, max, Some}
 use Rattle.std.specs.Prelude.{slice_get, Option, ◌-ℤ◌}
-use Rattle.std.specs.List.{range_with_len, zip}
+use Rattle.std.specs.List.{range_with_len}
 use Rattle.std.specs.Int.{byte_at, to_le_bytes, w64}
-use Rattle.std.specs.Cmp.{first_so, second_so}
 use Rattle.std.proofs.lemmas.Nat.{le_bytes_8}
 use Rattle.std.proofs.lemmas.Int.{ints}
-use Rattle.std.proofs.lemmas.List.{drop_all, length-map, get_or-map, ext_get_or, length-take-le}
+use Rattle.std.proofs.lemmas.List.{length-take-le}
 use Rattle.std.proofs.lemmas.List.FromFn.{get_or-map-range_with_len, take-map-range_with_len}
-use Rattle.std.proofs.lemmas.Bool.{cases_lt, false≢true, ltb-true, lt-ltb, le-leb, lt-leb}
+use Rattle.std.proofs.lemmas.Bool.{false≢true, ltb-true, lt-ltb, le-leb, lt-leb}
 use Rattle.fl_base.specs.declared.fragment.Frag.{Frag}
 use Rattle.fl_base.specs.Control.{message_of, control_word}
 use Rattle.fl_check.specs.declared.interface.Scalar.{Scalar}
 use Rattle.fl_check.specs.declared.interface.Scalar.TheVariants.{Uint8, Int8, Bool as BoolType, Char, Uint16, Int16, Uint32, Int32, Iref, Uint64, Int64, Uintptr, Intptr, Size, Errval}
-use Rattle.fl_check.specs.Interface.{scalar, enumeration, TheArgType, fixed, text, TheInterface}
+use Rattle.fl_check.specs.Interface.{scalar, enumeration, TheArgType, fixed, TheInterface}
 use Rattle.fl_check.specs.Sizes.{scalar_size}
-use Rattle.fl_value.specs.Value.{Datum, number, string, TheCall}
-use Rattle.fl_value.specs.Fits.{is_argument, are_arguments, least_above, how_many_below, is_scalar_value}
+use Rattle.fl_value.specs.Value.{Datum, number, TheCall}
+use Rattle.fl_value.specs.Fits.{is_argument, least_above, how_many_below, is_scalar_value}
 use Rattle.fl_value.specs.declared.value.PlanNo.{PlanNo}
-use Rattle.fl_layout.specs.Leaves.{leaves, Argument, is_number_type, argument_types, arguments_onto}
+use Rattle.fl_layout.specs.Leaves.{leaves, is_number_type}
 use Rattle.fl_layout.specs.Places.{size, count}
 use Rattle.fl_wire.specs.Payload.{payload_of, word, frag_on, frags_of}
-use Rattle.fl_wire.specs.Classes.{class_of, in_classes}
 use Rattle.fl_wire.specs.Standing.{words_in, HoldsPayload, raw_of, signed_half, number_back}
 use Rattle.fl_wire.proofs.Bytes.{get_made}
-use Rattle.fl_wire.proofs.Arguments.{numbers_only, leaves_classes}
-use Rattle.fl_wire.proofs.Agreement.{class_small}
 use Rattle.fl_wire.proofs.Readings.{window_of, window_at, window_small, byte_of_payload, all_small, length_frags}
 
 -- ---- numbers from their bits

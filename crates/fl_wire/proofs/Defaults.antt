@@ -1,5 +1,5 @@
 -- A value of each type that has one.
-use Rattle.std.proofs.Common.{◌≡◌, ℕ, pos, zero, suc, ◌+◌, ◌<◌, Bool, true, false, List, [], ◌∷◌, length, refl, ap, arith, eq-eqb, lit≤}
+use Rattle.std.proofs.Common.{◌≡◌, ℕ, pos, zero, suc, ◌+◌, ◌<◌, ◌&&◌, Bool, true, List, [], ◌∷◌, length, refl, ap, arith, eq-eqb, lit≤}
 use Rattle.std.specs.List.{list_all}
 use Rattle.std.specs.Cmp.{first_so, second_so}
 use Rattle.std.proofs.lemmas.Bool.{lt-ltb, le-leb}
@@ -7,9 +7,11 @@ use Rattle.fl_check.specs.declared.interface.Scalar.{Scalar}
 use Rattle.fl_check.specs.declared.interface.Scalar.TheVariants.{Uint8, Int8, Bool as BoolType, Char, Uint16, Int16, Uint32, Int32, Iref, Uint64, Int64, Uintptr, Intptr, Size, Errval}
 use Rattle.fl_check.specs.Interface.{TheType, scalar, enumeration, structure, array, TheTypes, no_more, field, TheArgType, fixed, text, sized}
 use Rattle.fl_value.specs.Value.{Datum, number, string, elements, fields, Data, nothing_more, also}
-use Rattle.fl_value.specs.Fits.{has_type, have_types, all_have_type, count_of, is_argument, is_text_byte, least_above, how_many_below}
+use Rattle.fl_value.specs.Fits.{has_type, have_types, all_have_type, count_of, is_argument, are_arguments, is_text_byte, least_above, how_many_below}
 use Rattle.fl_wire.specs.Alive.{has_values, all_have_values, argument_has_values}
-use Rattle.fl_wire.proofs.Parts.{both}
+
+pub both : (a b : Bool) → a ≡ true → b ≡ true → (a && b) ≡ true
+both a b p q = rw (p, q) refl
 
 pub above_some : (s : Scalar) → 0 < least_above s
 above_some Uint8 = lit≤ tt
@@ -70,3 +72,10 @@ pub default_argument : (t : TheArgType) → argument_has_values t ≡ true → (
 default_argument (fixed t) h = default_value t h
 default_argument (text max) h = (string [], both _ _ (le-leb 0 max (omega arith)) refl)
 default_argument (sized max t) h = (elements nothing_more, both _ _ (le-leb 0 max (omega arith)) refl)
+
+pub default_arguments : (ts : List TheArgType) → list_all argument_has_values ts ≡ true → (ds : List Datum) × (are_arguments ts ds ≡ true)
+default_arguments [] h = ([], refl)
+default_arguments (t ∷ ts) h =
+    let (d, f) = default_argument t (first_so (argument_has_values t) _ h) in
+    let (ds, g) = default_arguments ts (second_so (argument_has_values t) _ h) in
+    (d ∷ ds, both (is_argument t d) (are_arguments ts ds) f g)

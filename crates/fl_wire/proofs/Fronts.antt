@@ -11,7 +11,6 @@ use Rattle.fl_layout.specs.Leaves.{Leaf, leaves, argument_types, arguments_onto}
 use Rattle.fl_layout.specs.Places.{size, count}
 use Rattle.fl_wire.specs.Payload.{frags_of}
 use Rattle.fl_wire.specs.Classes.{in_classes}
-use Rattle.fl_wire.specs.Standing.{HoldsPayload}
 use Rattle.fl_wire.specs.Shapes.{Agrees, Shape, Wrong, Stops, StopsAt, ReadAt, calls_of}
 use Rattle.fl_wire.specs.declared.leaf.Stop.{Stop}
 use Rattle.fl_wire.specs.declared.leaf.Stop.TheVariants.{Short, Padding, Value, Length, Memory}
@@ -20,16 +19,16 @@ use Rattle.fl_wire.proofs.Agreement.{over_self}
 use Rattle.fl_wire.proofs.Decoding.{front_holds, front_length, short_count, whole_count}
 use Rattle.fl_wire.proofs.Steps.{fewer}
 
-not_wrong : (x : Shape) (frags : List Frag) (low : List Leaf) (e : x.what) → Wrong x frags low → x.fits e → Agrees frags (x.onto e low) (56 * length frags) → ⊥
-not_wrong x frags low e w f agree = w.none.none e (x.onto e low) f (over_self (x.onto e low)) (fewer frags (x.onto e low) (w.p + 1) (56 * length frags) (omega (arith, w.inside)) agree)
+not_wrong : (stop : Stop) (x : Shape) (frags : List Frag) (low : List Leaf) (e : x.what) → Wrong stop x frags low → x.fits e → Agrees frags (x.onto e low) (56 * length frags) → ⊥
+not_wrong stop x frags low e w f agree = w.none.none e (x.onto e low) f (over_self (x.onto e low)) (fewer frags (x.onto e low) (w.p + 1) (56 * length frags) (omega (arith, w.inside)) agree)
 
 -- where a thing agrees with all of the fragments, a reading that stops is cut short
 pub stop_short : (x : Shape) (frags : List Frag) (low : List Leaf) (e : x.what) (stop : Stop) → stop ≢ Memory → Stops stop x frags low → x.fits e → Agrees frags (x.onto e low) (56 * length frags)
     → 56 * length frags < size (x.onto e low)
-stop_short x frags low e Short had h f agree = h.none e (x.onto e low) f (over_self (x.onto e low)) agree
-stop_short x frags low e Padding had h f agree = absurd (not_wrong x frags low e h f agree)
-stop_short x frags low e Value had h f agree = absurd (not_wrong x frags low e h f agree)
-stop_short x frags low e Length had h f agree = absurd (not_wrong x frags low e h f agree)
+stop_short x frags low e Short had h f agree = h.all.none e (x.onto e low) f (over_self (x.onto e low)) agree
+stop_short x frags low e Padding had h f agree = absurd (not_wrong Padding x frags low e h f agree)
+stop_short x frags low e Value had h f agree = absurd (not_wrong Value x frags low e h f agree)
+stop_short x frags low e Length had h f agree = absurd (not_wrong Length x frags low e h f agree)
 stop_short x frags low e Memory had h f agree = absurd (had refl)
 
 pub no_bytes : (frags : List Frag) → Agrees frags [] 0

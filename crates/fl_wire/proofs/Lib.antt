@@ -2,6 +2,7 @@ pub mod Bytes
 pub mod Arguments
 pub mod Encoding
 pub mod Agreement
+pub mod Covers
 pub mod Readings
 pub mod Numbers
 pub mod Decoding
@@ -10,4 +11,9 @@ pub mod Sites
 pub mod Parts
 pub mod Calls
 pub mod Fronts
+pub mod Wholes
+pub mod Lines
+pub mod Frames
+pub mod Unread
+pub mod Exits
 pub mod Defaults

@@ -1,26 +1,29 @@
 -- What each type's values begin with.
-use Rattle.std.proofs.Common.{◌≡◌, ℕ, ℤ, pos, negsuc, zero, suc, ◌+◌, ◌-◌, ◌*◌, ◌^◌, ◌<◌, ◌≤◌, Bool, true, false, ◌⊎◌, inl, inr, ⊎_elim, List, [], ◌∷◌, ◌++◌, map, length, drop, get_or, refl, sym, ◌∙◌, ap, subst, arith, cond, ltb, leb, ◌&&◌, append_assoc}
+use Rattle.std.proofs.Common.{◌≡◌, ℕ, ℤ, pos, negsuc, suc, ◌+◌, ◌-◌, ◌*◌, ◌^◌, ◌<◌, ◌≤◌, true, inr, ⊎_elim, List, [], ◌∷◌, ◌++◌, map, length, drop, get_or, refl, sym, ◌∙◌, ap, subst, arith, append_assoc}
 use Rattle.std.proofs.lemmas.List.{map-append, append-nil, drop_more, drop_all}
 use Rattle.std.specs.List.{list_all}
 use Rattle.std.specs.Cmp.{first_so, second_so}
-use Rattle.std.proofs.lemmas.Int.{ints}
 use Rattle.std.proofs.lemmas.Bool.{cases_lt, lt-ltb, ltb-true, le-leb, leb-true, eqb-true, false≢true}
 use Rattle.std.proofs.Common.{eq-eqb}
 use Rattle.fl_base.specs.declared.fragment.Frag.{Frag}
 use Rattle.fl_check.specs.declared.interface.Scalar.{Scalar}
 use Rattle.fl_check.specs.declared.interface.Scalar.TheVariants.{Uint8, Int8, Bool as BoolType, Char, Uint16, Int16, Uint32, Int32, Iref, Uint64, Int64, Uintptr, Intptr, Size, Errval}
-use Rattle.fl_check.specs.Interface.{TheType, scalar, enumeration, structure, array, TheTypes, no_more, field, TheArgType, fixed, text, sized, fields_from}
+use Rattle.fl_check.specs.Interface.{TheType, scalar, enumeration, structure, array, TheTypes, no_more, field, fixed, text, sized, fields_from}
 use Rattle.fl_check.specs.Sizes.{scalar_size, greatest_align}
 use Rattle.fl_value.specs.Value.{Datum, number, string, elements, fields, Data, nothing_more, also, data_from}
 use Rattle.fl_value.specs.Fits.{has_type, have_types, all_have_type, count_of, is_argument, is_scalar_value, least_above, how_many_below, is_text_byte}
-use Rattle.fl_layout.specs.Leaves.{Leaf, gap, whole, single, bits_of, value_onto, fields_onto, elements_onto, bytes_onto}
-use Rattle.fl_layout.specs.Places.{size}
-use Rattle.fl_wire.specs.Standing.{Over, signed_half, number_back}
-use Rattle.fl_wire.specs.Shapes.{Agrees, Shape, nothing, padding, number_below, values_of, fields_of, struct_from, elements_of, text_byte, texts_of, arguments_of, Got, Halts, Wrong, Stops, ReadAt, StopsAt}
+use Rattle.fl_layout.specs.Leaves.{Leaf, gap, whole, bits_of, fields_onto, elements_onto, bytes_onto}
+use Rattle.fl_layout.specs.Places.{size, place}
+use Rattle.fl_wire.specs.Alive.{has_values, all_have_values}
+use Rattle.fl_wire.specs.Standing.{Over, number_back}
+use Rattle.fl_wire.specs.Shapes.{Agrees, Shape, nothing, padding, number_below, length_below, values_of, fields_of, struct_from, elements_of, text_byte, texts_of, arguments_of, Got, ReadAt, StopsAt}
 use Rattle.fl_wire.specs.declared.leaf.Stop.{Stop}
-use Rattle.fl_wire.proofs.Agreement.{over_self, over_one, over_over, over_fields, over_elements, over_bytes, scalar_room, InRange, scalar_range, bits_below}
+use Rattle.fl_wire.proofs.Agreement.{over_self, over_one, over_over, over_fields, over_elements, over_bytes, InRange, scalar_range}
 use Rattle.fl_wire.proofs.Decoding.{number_told, back_from, back_low, back_high}
-use Rattle.fl_wire.proofs.Steps.{Begins, Goes, begin_got, goes_got, goes_stop, Come, come_self, come_read, come_join, come_stop, come_done}
+pub use Rattle.fl_wire.proofs.Defaults.{both}
+use Rattle.fl_wire.proofs.Defaults.{numbers_some, default_fields, default_elements, default_text}
+use Rattle.fl_wire.proofs.Covers.{holds_past}
+use Rattle.fl_wire.proofs.Steps.{Begins, begin_got, goes_got, Come, come_self, come_read, come_join, come_stop, come_done}
 use Rattle.fl_wire.proofs.Sites.{nothing_got}
 
 -- a thing that is one of another kind, and nothing more
@@ -102,6 +105,11 @@ begins_scalar s low = record {
   fit = λ b e fb fe. in_range s _ (scalar_back s b fb).0;
   same = λ b e fb fe. ap (λ (n : ℕ). whole (scalar_size s) n ∷ low) (scalar_back s b fb).1;
   over = λ b e. over_self _;
+  alive = λ some. numbers_some s;
+  more = λ some b fb. (tt, tt);
+  alive_more = λ some b fb. tt;
+  lengths_first = λ b e fb fe n inside. refl;
+  lengths_rest = λ b e fb fe n past. refl;
 }
   where
     split_scalar : (s : Scalar) (d : Datum) → has_type (scalar s) d ≡ true → (b : ℕ) × ((b < scalar_numbers s) × ((e : Unit {0}) × ((d ≡ scalar_join s b e) × Unit {0})))
@@ -119,6 +127,11 @@ begins_enumerator n low = record {
   fit = λ b e fb fe. lt-ltb b n fb;
   same = λ b e fb fe. refl;
   over = λ b e. over_self _;
+  alive = λ some. ltb-true 0 n some;
+  more = λ some b fb. (tt, tt);
+  alive_more = λ some b fb. tt;
+  lengths_first = λ b e fb fe n inside. refl;
+  lengths_rest = λ b e fb fe n past. refl;
 }
   where
     split_enumerator : (n : ℕ) (d : Datum) → has_type (enumeration n) d ≡ true → (b : ℕ) × ((b < n) × ((e : Unit {0}) × ((d ≡ enumerator_join b e) × Unit {0})))
@@ -130,15 +143,17 @@ begins_enumerator n low = record {
 
 -- ---- structs
 
-pub both : (a b : Bool) → a ≡ true → b ≡ true → (a && b) ≡ true
-both a b p q = rw (p, q) refl
-
 pub begins_fields : (t : TheType) (ts : TheTypes) (low : List Leaf) → Begins (fields_of (field t ts)) (values_of t) (λ c. fields_of ts) low (λ d ds. also d ds)
 begins_fields t ts low = record {
   split = λ ds f. split_fields t ts ds f;
   fit = λ b e fb fe. both _ _ fb fe;
   same = λ b e fb fe. refl;
   over = λ b e. over_fields ts e _;
+  alive = λ some. first_so (has_values t) (all_have_values ts) some;
+  more = λ some b fb. default_fields ts (second_so (has_values t) (all_have_values ts) some);
+  alive_more = λ some b fb. second_so (has_values t) (all_have_values ts) some;
+  lengths_first = λ b e fb fe n inside. refl;
+  lengths_rest = λ b e fb fe n past. refl;
 }
   where
     split_fields : (t : TheType) (ts : TheTypes) (ds : Data) → have_types (field t ts) ds ≡ true → (b : Datum) × ((has_type t b ≡ true) × ((e : Data) × ((ds ≡ also b e) × (have_types ts e ≡ true))))
@@ -159,6 +174,11 @@ begins_struct ts low = record {
   fit = λ b e fb fe. fe;
   same = λ b e fb fe. refl;
   over = λ b e. over_struct ts e _;
+  alive = λ some. tt;
+  more = λ some b fb. default_fields ts some;
+  alive_more = λ some b fb. some;
+  lengths_first = λ b e fb fe n inside. refl;
+  lengths_rest = λ b e fb fe n past. refl;
 }
   where
     split_struct : (ts : TheTypes) (d : Datum) → has_type (structure ts) d ≡ true → (b : Unit {0}) × (Unit {0} × ((e : Data) × ((d ≡ fields e) × (have_types ts e ≡ true))))
@@ -176,6 +196,11 @@ begins_end ts low = record {
   fit = λ b e fb fe. fb;
   same = λ b e fb fe. refl;
   over = λ b e. over_one _ _;
+  alive = λ some. some;
+  more = λ some b fb. (tt, tt);
+  alive_more = λ some b fb. tt;
+  lengths_first = λ b e fb fe n inside. refl;
+  lengths_rest = λ b e fb fe n past. refl;
 }
 
 -- ---- arrays
@@ -186,6 +211,11 @@ begins_elements n t low = record {
   fit = λ b e fb fe. (omega (arith, fe.0), both _ _ fb fe.1);
   same = λ b e fb fe. refl;
   over = λ b e. over_elements t e _;
+  alive = λ some. some;
+  more = λ some b fb. default_elements n t some;
+  alive_more = λ some b fb. some;
+  lengths_first = λ b e fb fe n inside. refl;
+  lengths_rest = λ b e fb fe n past. refl;
 }
   where
     split_elements : (n : ℕ) (t : TheType) (ds : Data) → (count_of ds ≡ suc n) × (all_have_type t ds ≡ true)
@@ -206,6 +236,11 @@ begins_array n t low = record {
   fit = λ b e fb fe. both _ _ (eq-eqb (count_of b) n fb.0) fb.1;
   same = λ b e fb fe. refl;
   over = λ b e. over_self _;
+  alive = λ some. some;
+  more = λ some b fb. (tt, tt);
+  alive_more = λ some b fb. tt;
+  lengths_first = λ b e fb fe n inside. refl;
+  lengths_rest = λ b e fb fe n past. refl;
 }
   where
     split_array : (n : ℕ) (t : TheType) (d : Datum) → has_type (array n t) d ≡ true
@@ -223,6 +258,11 @@ begins_texts n low = record {
   fit = λ b e fb fe. (omega (arith, fe.0), both _ _ fb fe.1);
   same = λ b e fb fe. refl;
   over = λ b e. over_bytes e _;
+  alive = λ some. tt;
+  more = λ some b fb. default_text n;
+  alive_more = λ some b fb. tt;
+  lengths_first = λ b e fb fe n inside. refl;
+  lengths_rest = λ b e fb fe n past. refl;
 }
   where
     split_texts : (n : ℕ) (bs : List ℕ) → (length bs ≡ suc n) × (list_all is_text_byte bs ≡ true)
@@ -237,12 +277,17 @@ no_texts_got frags low agree = record { fit = (refl, refl); ends = refl; agree =
     none [] f = refl
     none (b ∷ bs) f = absurd (omega (arith, f))
 
-pub begins_text : (most : ℕ) (low : List Leaf) → Begins (arguments_of (text most)) (number_below 8 (most + 1)) (λ n. texts_of n) low (λ n bs. string bs)
+pub begins_text : (most : ℕ) (low : List Leaf) → Begins (arguments_of (text most)) (length_below (most + 1)) (λ n. texts_of n) low (λ n bs. string bs)
 begins_text most low = record {
   split = λ d f. split_text most d f;
   fit = λ b e fb fe. both _ _ (le-leb (length e) most (omega (arith, fb, fe.0))) fe.1;
   same = λ b e fb fe. ap (λ (n : ℕ). bytes_onto e (whole 8 n ∷ low)) fe.0;
   over = λ b e. over_bytes e _;
+  alive = λ some. omega arith;
+  more = λ some b fb. default_text b;
+  alive_more = λ some b fb. tt;
+  lengths_first = λ b e fb fe n inside. refl;
+  lengths_rest = λ b e fb fe n past. holds_past (place (gap 8) low) 8 n past;
 }
   where
     split_text : (most : ℕ) (d : Datum) → is_argument (text most) d ≡ true
@@ -252,12 +297,17 @@ begins_text most low = record {
     split_text most (elements b) f = absurd (false≢true f)
     split_text most (fields b) f = absurd (false≢true f)
 
-pub begins_sized : (most : ℕ) (t : TheType) (low : List Leaf) → Begins (arguments_of (sized most t)) (number_below 8 (most + 1)) (λ n. elements_of n t) low (λ n ds. elements ds)
+pub begins_sized : (most : ℕ) (t : TheType) (low : List Leaf) → Begins (arguments_of (sized most t)) (length_below (most + 1)) (λ n. elements_of n t) low (λ n ds. elements ds)
 begins_sized most t low = record {
   split = λ d f. split_sized most t d f;
   fit = λ b e fb fe. both _ _ (le-leb (count_of e) most (omega (arith, fb, fe.0))) fe.1;
   same = λ b e fb fe. ap (λ (n : ℕ). elements_onto t e (whole 8 n ∷ low)) fe.0;
   over = λ b e. over_elements t e _;
+  alive = λ some. omega arith;
+  more = λ some b fb. default_elements b t some;
+  alive_more = λ some b fb. some;
+  lengths_first = λ b e fb fe n inside. refl;
+  lengths_rest = λ b e fb fe n past. holds_past (place (gap 8) low) 8 n past;
 }
   where
     split_sized : (most : ℕ) (t : TheType) (d : Datum) → is_argument (sized most t) d ≡ true
@@ -416,14 +466,14 @@ struct_stop ts frags at start stop come stops =
 
 -- ---- a string's or a sized array's reading
 
-pub text_start : (most n : ℕ) (frags : List Frag) (at start : ℕ) → at ≤ start → start ≤ 56 * length frags → ReadAt (number_below 8 (most + 1)) frags at n start
+pub text_start : (most n : ℕ) (frags : List Frag) (at start : ℕ) → at ≤ start → start ≤ 56 * length frags → ReadAt (length_below (most + 1)) frags at n start
     → Come (arguments_of (text most)) (texts_of n) frags at start (λ bs. string bs)
 text_start most n frags at start later within read =
-    come_read (arguments_of (text most)) (arguments_of (text most)) (number_below 8 (most + 1)) (λ m. texts_of m) frags at at start (λ d. d) (λ m bs. string bs) n
+    come_read (arguments_of (text most)) (arguments_of (text most)) (length_below (most + 1)) (λ m. texts_of m) frags at at start (λ d. d) (λ m bs. string bs) n
     (come_self (arguments_of (text most)) frags at (omega (arith, later, within))) (begins_text most) later within read
 
-pub sized_start : (most n : ℕ) (t : TheType) (frags : List Frag) (at start : ℕ) → at ≤ start → start ≤ 56 * length frags → ReadAt (number_below 8 (most + 1)) frags at n start
+pub sized_start : (most n : ℕ) (t : TheType) (frags : List Frag) (at start : ℕ) → at ≤ start → start ≤ 56 * length frags → ReadAt (length_below (most + 1)) frags at n start
     → Come (arguments_of (sized most t)) (elements_of n t) frags at start (λ ds. elements ds)
 sized_start most n t frags at start later within read =
-    come_read (arguments_of (sized most t)) (arguments_of (sized most t)) (number_below 8 (most + 1)) (λ m. elements_of m t) frags at at start (λ d. d) (λ m ds. elements ds) n
+    come_read (arguments_of (sized most t)) (arguments_of (sized most t)) (length_below (most + 1)) (λ m. elements_of m t) frags at at start (λ d. d) (λ m ds. elements ds) n
     (come_self (arguments_of (sized most t)) frags at (omega (arith, later, within))) (begins_sized most t) later within read

@@ -172,7 +172,7 @@ shorter_begins plan i c d x y w hc hd less e =
     ∙ take-append-le n (frags_of plan i d) y (omega (arith, less, length_frags plan i d)))
 
 -- a list that begins with a call's fragments and with another's
-two_begin : (plan : PlanNo) (i : TheInterface) (c d : TheCall) (x y : List Frag) → interface_words_fit i ≡ true → fits_of i c ≡ true → fits_of i d ≡ true
+pub two_begin : (plan : PlanNo) (i : TheInterface) (c d : TheCall) (x y : List Frag) → interface_words_fit i ≡ true → fits_of i c ≡ true → fits_of i d ≡ true
     → frags_of plan i c ++ x ≡ frags_of plan i d ++ y → c ≡ d
 two_begin plan i c d x y w hc hd e = ⊎_elim
     (λ (less : count plan i c < count plan i d). shorter_begins plan i c d x y w hc hd (omega (arith, less)) e)

@@ -1,8 +1,7 @@
 -- One number at its place, and the zeros before it.
-use Rattle.std.proofs.Common.{◌≡◌, ◌≢◌, ℕ, zero, suc, ◌+◌, ◌-◌, ◌*◌, ◌%◌, ◌^◌, ◌<◌, ◌≤◌, true, false, inl, inr, ⊎_elim, List, [], ◌∷◌, ◌++◌, map, length, get_or, refl, sym, ◌∙◌, ap, subst, arith, cond, ltb}
+use Rattle.std.proofs.Common.{◌≡◌, ◌≢◌, ℕ, Bool, ◌&&◌, suc, ◌+◌, ◌-◌, ◌*◌, ◌%◌, ◌^◌, ◌<◌, ◌≤◌, true, false, inl, ⊎_elim, List, ◌∷◌, map, length, get_or, refl, sym, ◌∙◌, ap, subst, arith, cond, ltb}
 use Rattle.std.specs.List.{range_with_len}
-use Rattle.std.specs.Int.{byte_at, to_le_bytes, from_le_bytes, w64}
-use Rattle.std.specs.Prelude.{slice_index}
+use Rattle.std.specs.Int.{byte_at}
 use Rattle.std.proofs.lemmas.Nat.{le_bytes_8}
 use Rattle.std.proofs.lemmas.List.FromFn.{get_or-map-range_with_len}
 use Rattle.std.proofs.lemmas.Bool.{cases_lt, lt-ltb, ltb-true}
@@ -12,14 +11,18 @@ use Rattle.fl_check.specs.Sizes.{round_up}
 use Rattle.fl_layout.specs.Leaves.{Leaf, gap, whole, single}
 use Rattle.fl_layout.specs.Places.{size, place}
 use Rattle.fl_wire.specs.Payload.{payload_at}
-use Rattle.fl_wire.specs.Standing.{Over, byte_in, words_in}
-use Rattle.fl_wire.specs.Shapes.{Agrees, Shape, nothing, padding, number_below, text_byte, Got, Halts, Wrong, ReadAt}
+use Rattle.fl_wire.specs.Standing.{Over, byte_in}
+use Rattle.fl_wire.specs.Covered.{holds, is_covered}
+use Rattle.fl_wire.specs.Shapes.{Agrees, nothing, padding, number_in, number_below, text_byte, Got, IsWhy, Cut, Wrong, ReadAt}
+use Rattle.fl_wire.specs.declared.leaf.Stop.{Stop}
+use Rattle.fl_wire.specs.declared.leaf.Stop.TheVariants.{Padding, Value, Length}
 use Rattle.fl_wire.proofs.Bytes.{size_le_place, below_place, at_place, past_end}
 use Rattle.fl_wire.proofs.Arguments.{IsAlign, along_align}
-use Rattle.fl_wire.proofs.Agreement.{leaf_byte, same_number, keeps, grows}
+use Rattle.fl_wire.proofs.Agreement.{leaf_byte, same_number, keeps, grows, over_self}
+use Rattle.fl_wire.proofs.Covers.{holds_before, holds_in, covered_before, covered_in}
 use Rattle.fl_wire.proofs.Readings.{byte_small}
 use Rattle.fl_wire.proofs.Decoding.{byte_of_list}
-use Rattle.fl_wire.proofs.Numbers.{from_low}
+use Rattle.fl_wire.proofs.Numbers.{from_low, first_wrong, front_le}
 
 pub byte_in_small : (frags : List Frag) (p : ℕ) → byte_in frags p < 256
 byte_in_small frags p = byte_small (p % 8) _
@@ -48,9 +51,9 @@ low_small w f h j = ⊎_elim
     low_past w f (suc (suc (suc (suc (suc (suc (suc (suc j)))))))) h = refl
     low_past w f j h = absurd (omega (arith, h))
 
-pub low_byte : (w : ℕ) (f : ℕ → ℕ) (j : ℕ) → IsAlign w → ((j : ℕ) → f j < 256) → j < w → byte_at j (from_low w f) ≡ f j
-low_byte w f j align small h =
-    let below : j < 8 = omega (arith, h, align_small w align) in
+pub low_byte : (w : ℕ) (f : ℕ → ℕ) (j : ℕ) → w ≤ 8 → ((j : ℕ) → f j < 256) → j < w → byte_at j (from_low w f) ≡ f j
+low_byte w f j few small h =
+    let below : j < 8 = omega (arith, h, few) in
     sym (byte_of_list j (from_low w f) below)
     ∙ ap (λ (bs : List ℕ). get_or bs j 0) (le_bytes_8 (low_list w f) (from_low w f) refl (low_small w f small) refl)
     ∙ low_at w f j below ∙ rw (lt-ltb j w h) refl
@@ -82,7 +85,7 @@ number_agrees w align frags low n agree zeros is = record {
       let own : j < w = omega (arith, after, small) in
       let here : start + j ≡ p = omega (arith, after) in
       ap (byte_in frags) (sym here)
-      ∙ sym (at_place l low p j own (sym here) ∙ ap (byte_at j) is ∙ low_byte w (λ j. byte_in frags (start + j)) j align (λ j. byte_in_small frags (start + j)) own))
+      ∙ sym (at_place l low p j own (sym here) ∙ ap (byte_at j) is ∙ low_byte w (λ j. byte_in frags (start + j)) j (align_small w align) (λ j. byte_in_small frags (start + j)) own))
       (cases_lt p start);
 }
 
@@ -102,31 +105,77 @@ number_got w align frags low at n end here agree zeros is ends =
       ends = sym ends;
       agree = subst (λ (m : ℕ). Agrees frags (whole w n ∷ low) m) (sym ends) (number_agrees w align frags low n agree zeros is);
       told = λ e full fit over agrees. same_number w align e n fit below (λ j own.
-          sym (leaf_byte w e j low full own over).0 ∙ sym (agrees.at (start + j) (omega (arith, own, ends))) ∙ sym (ap (byte_at j) is ∙ low_byte w f j align small own));
+          sym (leaf_byte w e j low full own over).0 ∙ sym (agrees.at (start + j) (omega (arith, own, ends))) ∙ sym (ap (byte_at j) is ∙ low_byte w f j (align_small w align) small own));
     }) agree zeros is ends
 
-pub number_padding : (w bound : ℕ) → IsAlign w → (frags : List Frag) (low : List Leaf) (at p : ℕ) → at ≡ size low → at ≤ 56 * length frags → at ≤ p → p < round_up at w → byte_in frags p ≢ 0
-    → Wrong (number_below w bound) frags low
-number_padding w bound align frags low at p here room after before nonzero =
+-- what agrees, zeros up to a later leaf's place agree with
+zeros_agree : (l : Leaf) (frags : List Frag) (low : List Leaf) (n : ℕ) → Agrees frags low (size low) → n ≤ place l low → ((q : ℕ) → size low ≤ q → q < n → byte_in frags q ≡ 0) → Agrees frags (l ∷ low) n
+zeros_agree l frags low n agree before zeros = record {
+  at = λ p small. ⊎_elim
+      (λ (below : p < size low). agree.at p below ∙ sym (below_place l low p (omega (arith, before, small))))
+      (λ (pad : size low ≤ p). zeros p pad small ∙ sym (below_place l low p (omega (arith, before, small)) ∙ past_end low p pad))
+      (cases_lt p (size low));
+}
+
+-- where the reading of a number stops, in its own bytes or in the zeros before them
+abbrev pub number_stop : Bool → Stop
+number_stop of_length = cond of_length Length Value
+
+number_why : (of_length a b : Bool) → a ≡ true → b ≡ true → IsWhy (number_stop of_length) (of_length && a) b
+number_why true a b h k = h
+number_why false a b h k = (refl, k)
+
+padding_why : (of_length a b : Bool) → a ≡ false → b ≡ false → IsWhy Padding (of_length && a) b
+padding_why true a b h k = (h, k)
+padding_why false a b h k = (refl, k)
+
+pub number_padding : (of_length : Bool) (w bound : ℕ) → IsAlign w → (frags : List Frag) (low : List Leaf) (at p : ℕ) → at ≡ size low → Agrees frags low at → at ≤ 56 * length frags → at ≤ p → p < round_up at w → byte_in frags p ≢ 0
+    → ((q : ℕ) → at ≤ q → q < p → byte_in frags q ≡ 0) → Wrong Padding (number_in of_length w bound) frags low
+number_padding of_length w bound align frags low at p here agree room after before nonzero zeros =
     let start : round_up at w ≡ round_up (size low) w = ap (λ (n : ℕ). round_up n w) here in
+    let late : size low ≤ p = omega (arith, here, after) in
+    let early : p < round_up (size low) w = omega (arith, before, start) in
     record {
       p = p;
-      after = omega (arith, here, after);
+      after = late;
       inside = omega (arith, before, round_within w at (length frags) align room);
       none = record {
-        none = λ e full fit over agrees. absurd (nonzero (agrees.at p (omega arith) ∙ zero_before (whole w e) low full p over (omega (arith, here, after)) (omega (arith, before, start))));
+        none = λ e full fit over agrees. absurd (nonzero (agrees.at p (omega arith) ∙ zero_before (whole w e) low full p over late early));
+      };
+      near = λ some. record {
+        one = 0;
+        fit = some;
+        agree = zeros_agree (whole w 0) frags low p (subst (λ (n : ℕ). Agrees frags low n) here agree) (omega (arith, early)) (λ q low_q high. zeros q (omega (arith, here, low_q)) high);
+        longer = omega (arith, early);
+        why = padding_why of_length (holds (place (gap w) low) w p) (is_covered (whole w 0 ∷ low) p) (holds_before (place (gap w) low) w p early) (covered_before (whole w 0) low p late early);
       };
     }
 
-pub number_short : (w bound : ℕ) (frags : List Frag) (low : List Leaf) (at : ℕ) → at ≡ size low → 56 * length frags < round_up at w + w
-    → Halts (number_below w bound) frags low (56 * length frags) (λ full. 56 * length frags < size full)
-number_short w bound frags low at here past = record {
-  none = λ e full fit over agrees.
-      let start : round_up at w ≡ round_up (size low) w = ap (λ (n : ℕ). round_up n w) here in
-      let grown = grows over.more (whole w e ∷ low) in
-      let is = ap size over.is in
-      omega (arith, past, start, grown, is);
-}
+-- a number that doesn't fit stands wholly past the fragments
+past_all : (w at n : ℕ) → IsAlign w → 56 * n < round_up at w + w → 56 * n ≤ round_up at w
+past_all w at n align h =
+    along_align (λ v. 56 * n < round_up at v + v → 56 * n ≤ round_up at v) (λ h. omega (arith, h)) (λ h. omega (arith, h)) (λ h. omega (arith, h)) (λ h. omega (arith, h)) w align h
+
+pub number_short : (of_length : Bool) (w bound : ℕ) → IsAlign w → (frags : List Frag) (low : List Leaf) (at : ℕ) → at ≡ size low → Agrees frags low at → 56 * length frags < round_up at w + w
+    → ((q : ℕ) → at ≤ q → q < round_up at w → byte_in frags q ≡ 0) → Cut (number_in of_length w bound) frags low
+number_short of_length w bound align frags low at here agree past zeros =
+    let start : round_up at w ≡ round_up (size low) w = ap (λ (n : ℕ). round_up n w) here in
+    let all : 56 * length frags ≤ round_up at w = past_all w at (length frags) align past in
+    record {
+      all = record {
+        none = λ e full fit over agrees.
+            let grown = grows over.more (whole w e ∷ low) in
+            let is = ap size over.is in
+            omega (arith, past, start, grown, is);
+      };
+      near = λ some. record {
+        one = 0;
+        fit = some;
+        agree = zeros_agree (whole w 0) frags low (56 * length frags) (subst (λ (n : ℕ). Agrees frags low n) here agree) (omega (arith, all, start)) (λ q low_q high. zeros q (omega (arith, here, low_q)) (omega (arith, high, all)));
+        longer = omega (arith, past, start);
+        why = tt;
+      };
+    }
 
 -- ---- zeros alone
 
@@ -150,51 +199,130 @@ padding_got align frags low at end here agree zeros ends =
       told = λ e full f over agrees. refl;
     }
 
-pub padding_wrong : (align : ℕ) → IsAlign align → (frags : List Frag) (low : List Leaf) (at p : ℕ) → at ≡ size low → at ≤ 56 * length frags → at ≤ p → p < round_up at align → byte_in frags p ≢ 0
-    → Wrong (padding align) frags low
-padding_wrong align ok frags low at p here room after before nonzero =
+pub padding_wrong : (align : ℕ) → IsAlign align → (frags : List Frag) (low : List Leaf) (at p : ℕ) → at ≡ size low → Agrees frags low at → at ≤ 56 * length frags → at ≤ p → p < round_up at align → byte_in frags p ≢ 0
+    → ((q : ℕ) → at ≤ q → q < p → byte_in frags q ≡ 0) → Wrong Padding (padding align) frags low
+padding_wrong align ok frags low at p here agree room after before nonzero zeros =
     let start : round_up at align ≡ round_up (size low) align = ap (λ (n : ℕ). round_up n align) here in
+    let late : size low ≤ p = omega (arith, here, after) in
+    let early : p < round_up (size low) align = omega (arith, before, start) in
     record {
       p = p;
-      after = omega (arith, here, after);
+      after = late;
       inside = omega (arith, before, round_within align at (length frags) ok room);
       none = record {
-        none = λ e full fit over agrees. absurd (nonzero (agrees.at p (omega arith) ∙ zero_before (gap align) low full p over (omega (arith, here, after)) (omega (arith, before, start))));
+        none = λ e full fit over agrees. absurd (nonzero (agrees.at p (omega arith) ∙ zero_before (gap align) low full p over late early));
+      };
+      near = λ some. record {
+        one = tt;
+        fit = tt;
+        agree = zeros_agree (gap align) frags low p (subst (λ (n : ℕ). Agrees frags low n) here agree) (omega (arith, early)) (λ q low_q high. zeros q (omega (arith, here, low_q)) high);
+        longer = omega (arith, early);
+        why = (refl, covered_before (gap align) low p late early);
       };
     }
 
 -- ---- numbers below a bound
 
-pub below_got : (w bound : ℕ) (frags : List Frag) (low : List Leaf) (n end : ℕ) → n < bound → bound ≤ 2 ^ (8 * w) → Got (number_below w (2 ^ (8 * w))) frags low n end
-    → Got (number_below w bound) frags low n end
-below_got w bound frags low n end small room got = record {
+pub below_got : (of_length : Bool) (w bound : ℕ) (frags : List Frag) (low : List Leaf) (n end : ℕ) → n < bound → bound ≤ 2 ^ (8 * w) → Got (number_below w (2 ^ (8 * w))) frags low n end
+    → Got (number_in of_length w bound) frags low n end
+below_got of_length w bound frags low n end small room got = record {
   fit = small;
   ends = got.ends;
   agree = got.agree;
   told = λ e full f over agrees. got.told e full (omega (arith, f, room)) over agrees;
 }
 
-pub below_wrong : (w bound : ℕ) (frags : List Frag) (low : List Leaf) (n end : ℕ) → bound ≤ n → bound ≤ 2 ^ (8 * w) → size low < end → end ≤ 56 * length frags → Got (number_below w (2 ^ (8 * w))) frags low n end
-    → Wrong (number_below w bound) frags low
-below_wrong w bound frags low n end above room later within got = record {
-  p = end - 1;
-  after = omega (arith, later);
-  inside = omega (arith, later, within);
-  none = record {
-    none = λ e full f over agrees.
-        let last : end - 1 + 1 ≡ end = omega (arith, later) in
-        let same : e ≡ n = got.told e full (omega (arith, f, room)) over (subst (λ (m : ℕ). Agrees frags full m) last agrees) in
-        absurd (omega (arith, same, f, above));
-  };
+-- a number whose first bytes are those of one that is read agrees so far
+low_agrees : (w n m k end : ℕ) (frags : List Frag) (low : List Leaf) → k ≤ w → Got (number_below w (2 ^ (8 * w))) frags low n end
+    → ((j : ℕ) → j < k → byte_at j m ≡ byte_in frags (round_up (size low) w + j)) → Agrees frags (whole w m ∷ low) (round_up (size low) w + k)
+low_agrees w n m k end frags low few got bytes = record {
+  at = λ p small.
+      let start = round_up (size low) w in
+      let ends : start + w ≡ end = got.ends in
+      ⊎_elim
+      (λ (before : p < start). got.agree.at p (omega (arith, before, ends)) ∙ below_place (whole w n) low p before ∙ sym (below_place (whole w m) low p before))
+      (λ (after : start ≤ p).
+      let j = p - start in
+      let own : j < k = omega (arith, after, small) in
+      let here : start + j ≡ p = omega (arith, after) in
+      ap (byte_in frags) (sym here) ∙ sym (bytes j own) ∙ sym (at_place (whole w m) low p j (omega (arith, own, few)) (sym here)))
+      (cases_lt p start);
 }
 
-pub below_read : (w bound : ℕ) (frags : List Frag) (at n end : ℕ) → n < bound → bound ≤ 2 ^ (8 * w) → ReadAt (number_below w (2 ^ (8 * w))) frags at n end → ReadAt (number_below w bound) frags at n end
-below_read w bound frags at n end small room read = λ low here agree. below_got w bound frags low n end small room (read low here agree)
+width_room : (w : ℕ) → IsAlign w → 2 ^ (8 * w) ≤ 2 ^ 64
+width_room w align = along_align (λ v. 2 ^ (8 * v) ≤ 2 ^ 64) (omega arith) (omega arith) (omega arith) (omega arith) w align
 
-pub below_stop : (w bound : ℕ) (frags : List Frag) (at n end : ℕ) → bound ≤ n → bound ≤ 2 ^ (8 * w) → at < end → end ≤ 56 * length frags → ReadAt (number_below w (2 ^ (8 * w))) frags at n end
-    → (low : List Leaf) → at ≡ size low → Agrees frags low at → Wrong (number_below w bound) frags low
-below_stop w bound frags at n end above room later within read low here agree =
-    below_wrong w bound frags low n end above room (omega (arith, here, later)) within (read low here agree)
+pub below_wrong : (of_length : Bool) (w bound : ℕ) → IsAlign w → (frags : List Frag) (low : List Leaf) (n end : ℕ) → bound ≤ n → bound ≤ 2 ^ (8 * w) → end ≤ 56 * length frags → Got (number_below w (2 ^ (8 * w))) frags low n end
+    → Wrong (number_stop of_length) (number_in of_length w bound) frags low
+below_wrong of_length w bound align frags low n end above room within got = ⊎_elim
+    (λ (some : 0 < bound).
+    let (j, (own, (below, over_bound))) = first_wrong w f bound some high in
+    let few : j ≤ 8 = omega (arith, own, align_small w align) in
+    let few_more : j + 1 ≤ 8 = omega (arith, own, align_small w align) in
+    let late : start ≤ start + j = omega arith in
+    let early : start + j < start + w = omega (arith, own) in
+    record {
+      p = start + j;
+      after = omega (arith, size_le_place (size low) w);
+      inside = omega (arith, own, ends, within);
+      none = record {
+        none = λ e full fit over agrees. absurd (too_small j e full few_more own over_bound fit over agrees);
+      };
+      near = λ also. record {
+        one = from_low j f;
+        fit = below;
+        agree = low_agrees w n (from_low j f) j end frags low (omega (arith, own)) got (λ i small. low_byte j f i few small_bytes small);
+        longer = early;
+        why = number_why of_length (holds (place (gap w) low) w (start + j)) (is_covered (whole w (from_low j f) ∷ low) (start + j)) (holds_in (place (gap w) low) w (start + j) late early)
+            (covered_in (whole w (from_low j f)) low (start + j) late early);
+      };
+    })
+    (λ (none : bound ≤ 0). record {
+      p = start;
+      after = size_le_place (size low) w;
+      inside = omega (arith, ends, within, wide);
+      none = record { none = λ e full fit over agrees. absurd (omega (arith, fit, none)) };
+      near = λ some. absurd (omega (arith, some, none));
+    })
+    (cases_lt 0 bound)
+  where
+    start : ℕ
+    start = round_up (size low) w
+
+    f : ℕ → ℕ
+    f j = byte_in frags (start + j)
+
+    small_bytes : (j : ℕ) → f j < 256
+    small_bytes j = byte_in_small frags (start + j)
+
+    ends : start + w ≡ end
+    ends = got.ends
+
+    wide : 0 < w
+    wide = along_align (λ v. 0 < v) (omega arith) (omega arith) (omega arith) (omega arith) w align
+
+    high : bound ≤ from_low w f
+    high = ⊎_elim
+        (λ (less : from_low w f < bound).
+        let agrees = low_agrees w n (from_low w f) w end frags low (omega arith) got (λ i small. low_byte w f i (align_small w align) small_bytes small) in
+        let same : from_low w f ≡ n = got.told (from_low w f) (whole w (from_low w f) ∷ low) (omega (arith, less, room)) (over_self _) (subst (λ (m : ℕ). Agrees frags (whole w (from_low w f) ∷ low) m) ends agrees) in
+        absurd (omega (arith, less, same, above)))
+        (λ h. h)
+        (cases_lt (from_low w f) bound)
+
+    too_small : (j e : ℕ) (full : List Leaf) → j + 1 ≤ 8 → j < w → bound ≤ from_low (j + 1) f → e < bound → Over (whole w e ∷ low) full → Agrees frags full (start + j + 1) → ⊥
+    too_small j e full few own over_bound fit over agrees =
+        let least : from_low (j + 1) f ≤ e = front_le (j + 1) e f few (omega (arith, fit, room, width_room w align)) (λ i small.
+        sym (leaf_byte w e i low full (omega (arith, small, own)) over).0 ∙ sym (agrees.at (start + i) (omega (arith, small)))) in
+        omega (arith, least, over_bound, fit)
+
+pub below_read : (of_length : Bool) (w bound : ℕ) (frags : List Frag) (at n end : ℕ) → n < bound → bound ≤ 2 ^ (8 * w) → ReadAt (number_below w (2 ^ (8 * w))) frags at n end → ReadAt (number_in of_length w bound) frags at n end
+below_read of_length w bound frags at n end small room read = λ low here agree. below_got of_length w bound frags low n end small room (read low here agree)
+
+pub below_stop : (of_length : Bool) (w bound : ℕ) → IsAlign w → (frags : List Frag) (at n end : ℕ) → bound ≤ n → bound ≤ 2 ^ (8 * w) → end ≤ 56 * length frags → ReadAt (number_below w (2 ^ (8 * w))) frags at n end
+    → (low : List Leaf) → at ≡ size low → Agrees frags low at → Wrong (number_stop of_length) (number_in of_length w bound) frags low
+below_stop of_length w bound align frags at n end above room within read low here agree =
+    below_wrong of_length w bound align frags low n end above room within (read low here agree)
 
 -- ---- a string's byte
 
@@ -221,9 +349,10 @@ text_got frags at n is nonzero low here agree =
       told = λ e full f over agrees. got.told e full (ltb-true e 256 (second_so (ltb 0 e) _ f)) over agrees;
     }
 
-pub text_wrong : (frags : List Frag) (at : ℕ) → 0 ≡ byte_in frags at → at < 56 * length frags → (low : List Leaf) → at ≡ size low → Agrees frags low at → Wrong text_byte frags low
+pub text_wrong : (frags : List Frag) (at : ℕ) → 0 ≡ byte_in frags at → at < 56 * length frags → (low : List Leaf) → at ≡ size low → Agrees frags low at → Wrong Value text_byte frags low
 text_wrong frags at is inside low here agree =
     let got = byte_got frags low at 0 here agree is in
+    let place_is : place (single 1) low ≡ at = omega (arith, here, same_place (size low)) in
     record {
       p = at;
       after = omega (arith, here);
@@ -233,12 +362,29 @@ text_wrong frags at is inside low here agree =
             let zero : e ≡ 0 = got.told e full (ltb-true e 256 (second_so (ltb 0 e) _ f)) over agrees in
             absurd (omega (arith, zero, ltb-true 0 e (first_so (ltb 0 e) _ f)));
       };
+      near = λ some. record {
+        one = 1;
+        fit = refl;
+        agree = zeros_agree (single 1) frags low at (subst (λ (n : ℕ). Agrees frags low n) here agree) (omega (arith, place_is)) (λ q low_q high. absurd (omega (arith, here, low_q, high)));
+        longer = omega (arith, place_is);
+        why = (refl, covered_in (single 1) low at (omega (arith, place_is)) (omega (arith, place_is)));
+      };
     }
 
-pub text_short : (frags : List Frag) (at : ℕ) → 56 * length frags ≤ at → (low : List Leaf) → at ≡ size low → Halts text_byte frags low (56 * length frags) (λ full. 56 * length frags < size full)
-text_short frags at past low here = record {
-  none = λ e full f over agrees.
-      let grown = grows over.more (single e ∷ low) in
-      let is = ap size over.is in
-      omega (arith, past, grown, is, here, same_place (size low));
+pub text_short : (frags : List Frag) (at : ℕ) → 56 * length frags ≤ at → (low : List Leaf) → at ≡ size low → Agrees frags low at → Cut text_byte frags low
+text_short frags at past low here agree = record {
+  all = record {
+    none = λ e full f over agrees.
+        let grown = grows over.more (single e ∷ low) in
+        let is = ap size over.is in
+        omega (arith, past, grown, is, here, same_place (size low));
+  };
+  near = λ some. record {
+    one = 1;
+    fit = refl;
+    agree = zeros_agree (single 1) frags low (56 * length frags) (subst (λ (n : ℕ). Agrees frags low n) here agree) (omega (arith, past, here, size_le_place (size low) 1))
+        (λ q low_q high. absurd (omega (arith, past, here, low_q, high)));
+    longer = omega (arith, past, here, same_place (size low));
+    why = tt;
+  };
 }

@@ -1,13 +1,15 @@
 -- Reading in steps: what stands at a place begins with one thing, and the rest follows.
-use Rattle.std.proofs.Common.{◌≡◌, ℕ, zero, suc, ◌+◌, ◌-◌, ◌*◌, ◌^◌, ◌<◌, ◌≤◌, true, false, inl, inr, ⊎_elim, List, [], ◌∷◌, ◌++◌, length, refl, sym, ◌∙◌, ap, subst, arith}
+use Rattle.std.proofs.Common.{◌≡◌, ℕ, Bool, ◌+◌, ◌*◌, ◌<◌, ◌≤◌, List, ◌++◌, length, refl, sym, ◌∙◌, ap, subst, arith}
 use Rattle.fl_base.specs.declared.fragment.Frag.{Frag}
 use Rattle.fl_layout.specs.Leaves.{Leaf}
 use Rattle.fl_layout.specs.Places.{size}
 use Rattle.fl_wire.specs.Standing.{Over}
-use Rattle.fl_wire.specs.Shapes.{Agrees, Shape, Got, Halts, Wrong, Stops, ReadAt, StopsAt}
+use Rattle.fl_wire.specs.Covered.{is_covered}
+use Rattle.fl_wire.specs.Shapes.{Agrees, Shape, Got, Halts, IsWhy, Near, Cut, Wrong, Stops, ReadAt, StopsAt}
 use Rattle.fl_wire.specs.declared.leaf.Stop.{Stop}
 use Rattle.fl_wire.specs.declared.leaf.Stop.TheVariants.{Short, Padding, Value, Length, Memory}
-use Rattle.fl_wire.proofs.Agreement.{over_over}
+use Rattle.fl_wire.proofs.Agreement.{over_over, keeps, grows}
+use Rattle.fl_wire.proofs.Covers.{covered_under}
 
 pub fewer : (frags : List Frag) (full : List Leaf) (m n : ℕ) → m ≤ n → Agrees frags full n → Agrees frags full m
 fewer frags full m n h a = record { at = λ p small. a.at p (omega (arith, h, small)) }
@@ -20,6 +22,8 @@ pub record Goes (x y : Shape) (frags : List Frag) (low now : List Leaf) (join : 
   pub fit : (e : y.what) → y.fits e → x.fits (join e)
   pub same : (e : y.what) → y.fits e → x.onto (join e) low ≡ y.onto e now
   pub told : (d : x.what) (full : List Leaf) → x.fits d → Over (x.onto d low) full → Agrees frags full (size now) → (e : y.what) × ((d ≡ join e) × y.fits e)
+  pub alive : x.alive → y.alive
+  pub lengths : (e : y.what) → y.fits e → (n : ℕ) → size now ≤ n → x.lengths (join e) low n ≡ y.lengths e now n
 
 pub goes_self : (x : Shape) (frags : List Frag) (low : List Leaf) → size low ≤ 56 * length frags → Agrees frags low (size low) → Goes x x frags low low (λ e. e)
 goes_self x frags low room a = record {
@@ -29,6 +33,8 @@ goes_self x frags low room a = record {
   fit = λ e f. f;
   same = λ e f. refl;
   told = λ d full f over agree. (d, (refl, f));
+  alive = λ some. some;
+  lengths = λ e f n past. refl;
 }
 
 -- what stands under what is left
@@ -49,6 +55,8 @@ goes_on x y z frags low now then join next g h = record {
       let (e, (is, fe)) = g.told d full f over (fewer frags full (size now) (size then) h.later agree) in
       let (c, (also_is, fc)) = h.told e full fe (rest_over x y frags low now full join g d e is fe over) agree in
       (c, (is ∙ ap join also_is, fc));
+  alive = λ some. h.alive (g.alive some);
+  lengths = λ e f n past. g.lengths (next e) (h.fit e f) n (omega (arith, past, h.later)) ∙ h.lengths e f n past;
 }
 
 pub goes_join : (x y : Shape) (frags : List Frag) (low now : List Leaf) (join other : y.what → x.what) → ((e : y.what) → join e ≡ other e)
@@ -60,6 +68,8 @@ goes_join x y frags low now join other e g = record {
   fit = λ c f. subst (λ (d : x.what). x.fits d) (e c) (g.fit c f);
   same = λ c f. ap (λ (d : x.what). x.onto d low) (sym (e c)) ∙ g.same c f;
   told = λ d full f over agree. let (c, (is, fc)) = g.told d full f over agree in (c, (is ∙ e c, fc));
+  alive = g.alive;
+  lengths = λ c f n past. ap (λ (d : x.what). x.lengths d low n) (sym (e c)) ∙ g.lengths c f n past;
 }
 
 pub goes_halt : (x y : Shape) (frags : List Frag) (low now : List Leaf) (join : y.what → x.what) (n : ℕ) (is : List Leaf → Type 0)
@@ -70,19 +80,43 @@ goes_halt x y frags low now join n is g h halts = record {
       halts.none e full fe (rest_over x y frags low now full join g d e same fe over) agree;
 }
 
-pub goes_wrong : (x y : Shape) (frags : List Frag) (low now : List Leaf) (join : y.what → x.what) → Goes x y frags low now join → Wrong y frags now → Wrong x frags low
-goes_wrong x y frags low now join g w = record {
+-- what stands at a byte of one thing stands there of the other
+why_same : (stop : Stop) (a b : Bool) (f g : List Leaf) (n : ℕ) → a ≡ b → f ≡ g → IsWhy stop b (is_covered g n) → IsWhy stop a (is_covered f n)
+why_same stop a b f g n e h why =
+    subst (λ (ls : List Leaf). IsWhy stop a (is_covered ls n)) (sym h) (subst (λ (v : Bool). IsWhy stop v (is_covered g n)) (sym e) why)
+
+pub goes_near : (stop : Stop) (x y : Shape) (frags : List Frag) (low now : List Leaf) (join : y.what → x.what) (n : ℕ) → Goes x y frags low now join → size now ≤ n
+    → Near stop y frags now n → Near stop x frags low n
+goes_near stop x y frags low now join n g h near =
+    let same : x.onto (join near.one) low ≡ y.onto near.one now = g.same near.one near.fit in
+    record {
+      one = join near.one;
+      fit = g.fit near.one near.fit;
+      agree = subst (λ (ls : List Leaf). Agrees frags ls n) (sym same) near.agree;
+      longer = subst (λ (ls : List Leaf). n < size ls) (sym same) near.longer;
+      why = why_same stop (x.lengths (join near.one) low n) (y.lengths near.one now n) (x.onto (join near.one) low) (y.onto near.one now) n (g.lengths near.one near.fit n h) same near.why;
+    }
+
+pub goes_cut : (x y : Shape) (frags : List Frag) (low now : List Leaf) (join : y.what → x.what) → Goes x y frags low now join → Cut y frags now → Cut x frags low
+goes_cut x y frags low now join g h = record {
+  all = goes_halt x y frags low now join (56 * length frags) (λ full. 56 * length frags < size full) g g.within h.all;
+  near = λ some. goes_near Short x y frags low now join (56 * length frags) g g.within (h.near (g.alive some));
+}
+
+pub goes_wrong : (stop : Stop) (x y : Shape) (frags : List Frag) (low now : List Leaf) (join : y.what → x.what) → Goes x y frags low now join → Wrong stop y frags now → Wrong stop x frags low
+goes_wrong stop x y frags low now join g w = record {
   p = w.p;
   after = omega (arith, g.later, w.after);
   inside = w.inside;
   none = goes_halt x y frags low now join (w.p + 1) (λ full. ⊥) g (omega (arith, w.after)) w.none;
+  near = λ some. goes_near stop x y frags low now join w.p g w.after (w.near (g.alive some));
 }
 
 pub goes_stop : (x y : Shape) (frags : List Frag) (low now : List Leaf) (join : y.what → x.what) (stop : Stop) → Goes x y frags low now join → Stops stop y frags now → Stops stop x frags low
-goes_stop x y frags low now join Short g h = goes_halt x y frags low now join (56 * length frags) (λ full. 56 * length frags < size full) g g.within h
-goes_stop x y frags low now join Padding g h = goes_wrong x y frags low now join g h
-goes_stop x y frags low now join Value g h = goes_wrong x y frags low now join g h
-goes_stop x y frags low now join Length g h = goes_wrong x y frags low now join g h
+goes_stop x y frags low now join Short g h = goes_cut x y frags low now join g h
+goes_stop x y frags low now join Padding g h = goes_wrong Padding x y frags low now join g h
+goes_stop x y frags low now join Value g h = goes_wrong Value x y frags low now join g h
+goes_stop x y frags low now join Length g h = goes_wrong Length x y frags low now join g h
 goes_stop x y frags low now join Memory g h = tt
 
 pub goes_got : (x y : Shape) (frags : List Frag) (low now : List Leaf) (join : y.what → x.what) (d : y.what) (end : ℕ) → Goes x y frags low now join → size now ≤ end
@@ -102,6 +136,11 @@ pub record Begins (x a : Shape) (y : a.what → Shape) (low : List Leaf) (join :
   pub fit : (b : a.what) (e : (y b).what) → a.fits b → (y b).fits e → x.fits (join b e)
   pub same : (b : a.what) (e : (y b).what) → a.fits b → (y b).fits e → x.onto (join b e) low ≡ (y b).onto e (a.onto b low)
   pub over : (b : a.what) (e : (y b).what) → Over (a.onto b low) ((y b).onto e (a.onto b low))
+  pub alive : x.alive → a.alive
+  pub more : x.alive → (b : a.what) → a.fits b → (e : (y b).what) × (y b).fits e
+  pub alive_more : x.alive → (b : a.what) → a.fits b → (y b).alive
+  pub lengths_first : (b : a.what) (e : (y b).what) → a.fits b → (y b).fits e → (n : ℕ) → n < size (a.onto b low) → x.lengths (join b e) low n ≡ a.lengths b low n
+  pub lengths_rest : (b : a.what) (e : (y b).what) → a.fits b → (y b).fits e → (n : ℕ) → size (a.onto b low) ≤ n → x.lengths (join b e) low n ≡ (y b).lengths e (a.onto b low) n
 
 -- the first thing of what stands under a payload stands under it
 pub first_over : (x a : Shape) (y : a.what → Shape) (low full : List Leaf) (join : (b : a.what) → (y b).what → x.what) → Begins x a y low join
@@ -122,6 +161,8 @@ begin_got x a y frags low join b end begins later within got = record {
       let (c, (fc, rest)) = begins.split d f in
       let one : c ≡ b = got.told c full fc (first_over x a y low full join begins d c rest.0 fc rest.1.1 rest.1.0 over) (subst (λ (n : ℕ). Agrees frags full n) got.ends agree) in
       subst (λ (b : a.what). (e : (y b).what) × ((d ≡ join b e) × (y b).fits e)) one rest;
+  alive = λ some. begins.alive_more some b got.fit;
+  lengths = λ e f n past. begins.lengths_rest b e got.fit f n past;
 }
 
 pub begin_halt : (x a : Shape) (y : a.what → Shape) (frags : List Frag) (low : List Leaf) (join : (b : a.what) → (y b).what → x.what) (n : ℕ) (is : List Leaf → Type 0)
@@ -132,20 +173,47 @@ begin_halt x a y frags low join n is begins halts = record {
       halts.none c full fc (first_over x a y low full join begins d c rest.0 fc rest.1.1 rest.1.0 over) agree;
 }
 
-pub begin_wrong : (x a : Shape) (y : a.what → Shape) (frags : List Frag) (low : List Leaf) (join : (b : a.what) → (y b).what → x.what) → Begins x a y low join → Wrong a frags low → Wrong x frags low
-begin_wrong x a y frags low join begins w = record {
+-- a first thing that goes on, with something after it
+pub begin_near : (stop : Stop) (x a : Shape) (y : a.what → Shape) (frags : List Frag) (low : List Leaf) (join : (b : a.what) → (y b).what → x.what) (n : ℕ)
+    → Begins x a y low join → x.alive → Near stop a frags low n → Near stop x frags low n
+begin_near stop x a y frags low join n begins some near =
+    let b = near.one in
+    let (e, fe) = begins.more some b near.fit in
+    let under = begins.over b e in
+    let same : x.onto (join b e) low ≡ under.more ++ a.onto b low = begins.same b e near.fit fe ∙ under.is in
+    let lengths : x.lengths (join b e) low n ≡ a.lengths b low n = begins.lengths_first b e near.fit fe n near.longer in
+    let why = subst (λ (v : Bool). IsWhy stop (a.lengths b low n) v) (sym (covered_under under.more (a.onto b low) n near.longer)) near.why in
+    record {
+      one = join b e;
+      fit = begins.fit b e near.fit fe;
+      agree = subst (λ (ls : List Leaf). Agrees frags ls n) (sym same)
+          (record { at = λ p small. near.agree.at p small ∙ sym (keeps under.more (a.onto b low) p (omega (arith, small, near.longer))) });
+      longer = subst (λ (ls : List Leaf). n < size ls) (sym same) (omega (arith, near.longer, grows under.more (a.onto b low)));
+      why = why_same stop (x.lengths (join b e) low n) (a.lengths b low n) (x.onto (join b e) low) (under.more ++ a.onto b low) n lengths same why;
+    }
+
+pub begin_cut : (x a : Shape) (y : a.what → Shape) (frags : List Frag) (low : List Leaf) (join : (b : a.what) → (y b).what → x.what) → Begins x a y low join → Cut a frags low → Cut x frags low
+begin_cut x a y frags low join begins h = record {
+  all = begin_halt x a y frags low join (56 * length frags) (λ full. 56 * length frags < size full) begins h.all;
+  near = λ some. begin_near Short x a y frags low join (56 * length frags) begins some (h.near (begins.alive some));
+}
+
+pub begin_wrong : (stop : Stop) (x a : Shape) (y : a.what → Shape) (frags : List Frag) (low : List Leaf) (join : (b : a.what) → (y b).what → x.what)
+    → Begins x a y low join → Wrong stop a frags low → Wrong stop x frags low
+begin_wrong stop x a y frags low join begins w = record {
   p = w.p;
   after = w.after;
   inside = w.inside;
   none = begin_halt x a y frags low join (w.p + 1) (λ full. ⊥) begins w.none;
+  near = λ some. begin_near stop x a y frags low join w.p begins some (w.near (begins.alive some));
 }
 
 pub begin_stop : (x a : Shape) (y : a.what → Shape) (frags : List Frag) (low : List Leaf) (join : (b : a.what) → (y b).what → x.what) (stop : Stop)
     → Begins x a y low join → Stops stop a frags low → Stops stop x frags low
-begin_stop x a y frags low join Short begins h = begin_halt x a y frags low join (56 * length frags) (λ full. 56 * length frags < size full) begins h
-begin_stop x a y frags low join Padding begins h = begin_wrong x a y frags low join begins h
-begin_stop x a y frags low join Value begins h = begin_wrong x a y frags low join begins h
-begin_stop x a y frags low join Length begins h = begin_wrong x a y frags low join begins h
+begin_stop x a y frags low join Short begins h = begin_cut x a y frags low join begins h
+begin_stop x a y frags low join Padding begins h = begin_wrong Padding x a y frags low join begins h
+begin_stop x a y frags low join Value begins h = begin_wrong Value x a y frags low join begins h
+begin_stop x a y frags low join Length begins h = begin_wrong Length x a y frags low join begins h
 begin_stop x a y frags low join Memory begins h = tt
 
 -- ---- the same from a place on, whatever agrees before it

@@ -3,7 +3,10 @@ pub mod Reading
 pub mod Classes
 pub mod Words
 pub mod Standing
+pub mod Alive
+pub mod Covered
 pub mod Shapes
+pub mod Whole
 pub mod Fault
 pub mod Wrong
-pub mod Alive
+pub mod Headers

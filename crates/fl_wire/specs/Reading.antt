@@ -38,6 +38,12 @@ pub record Reads (plan : PlanNo) (i : TheInterface) (frags : List Frag) (calls :
   pub mean : map plain whole ≡ flat_map (frags_of plan i) calls
   pub part : (rest ≡ []) ⊎ IsPart plan i rest
 
+-- with a rest of so many fragments
+pub record ReadsLeaving (plan : PlanNo) (i : TheInterface) (frags : List Frag) (calls : List TheCall) (left : ℕ) : Type 0 where
+  pub rest : List Frag
+  pub counts : length rest ≡ left
+  pub reads : Reads plan i frags calls rest
+
 -- no list of fitting calls has fragments that begin so
 abbrev pub IsWrong : PlanNo → TheInterface → List Frag → Type 0
 IsWrong plan i frags =

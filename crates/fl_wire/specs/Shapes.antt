@@ -1,17 +1,20 @@
 -- What may stand at a place of a payload, and what reading it there tells.
-use Rattle.std.specs.Prelude.{◌≡◌, ℕ, ◌+◌, ◌*◌, ◌^◌, ◌<◌, ◌≤◌, Bool, true, false, List, [], ◌∷◌, length}
+use Rattle.std.specs.Prelude.{◌≡◌, ℕ, ◌+◌, ◌*◌, ◌<◌, ◌≤◌, ◌&&◌, Bool, true, false, List, ◌∷◌, length}
 use Rattle.std.specs.List.{list_all, zip}
 use Rattle.fl_base.specs.declared.fragment.Frag.{Frag}
 use Rattle.fl_check.specs.Interface.{TheType, TheTypes, TheArgType}
 use Rattle.fl_check.specs.Sizes.{greatest_align}
 use Rattle.fl_value.specs.Value.{Datum, Data}
 use Rattle.fl_value.specs.Fits.{has_type, have_types, all_have_type, count_of, is_text_byte, is_argument, are_arguments}
+use Rattle.fl_value.specs.Plan.{is_dynamic}
 use Rattle.fl_value.specs.declared.value.PlanNo.{PlanNo}
 use Rattle.fl_layout.specs.Leaves.{Leaf, gap, whole, single, value_onto, fields_onto, elements_onto, bytes_onto, argument_onto, start_onto, arguments_onto}
-use Rattle.fl_layout.specs.Places.{size}
+use Rattle.fl_layout.specs.Places.{size, place}
 use Rattle.fl_wire.specs.Payload.{payload_at}
 use Rattle.fl_wire.specs.Classes.{in_classes}
 use Rattle.fl_wire.specs.Standing.{Over, byte_in}
+use Rattle.fl_wire.specs.Alive.{has_values, all_have_values, argument_has_values}
+use Rattle.fl_wire.specs.Covered.{holds, is_covered, is_length}
 use Rattle.fl_wire.specs.declared.leaf.Stop.{Stop}
 use Rattle.fl_wire.specs.declared.leaf.Stop.TheVariants.{Short, Padding, Value, Length, Memory}
 
@@ -19,63 +22,101 @@ use Rattle.fl_wire.specs.declared.leaf.Stop.TheVariants.{Short, Padding, Value, 
 pub record Agrees (frags : List Frag) (full : List Leaf) (n : ℕ) : Type 0 where
   pub at : (p : ℕ) → p < n → byte_in frags p ≡ payload_at full p
 
--- things, which of them are meant, and the leaves of each, put onto those before it
+-- things: which of them are meant; the leaves of each, put onto those before it; whether the length of a string
+-- or a sized array stands at a byte of these; and what it takes that there are such things
 pub record Shape : Type 1 where
   pub what : Type 0
   pub fits : what → Type 0
   pub onto : what → List Leaf → List Leaf
+  pub lengths : what → List Leaf → ℕ → Bool
+  pub alive : Type 0
+
+-- things without lengths
+abbrev pub plain_shape : (what : Type 0) → (what → Type 0) → (what → List Leaf → List Leaf) → Type 0 → Shape
+plain_shape what fits onto alive = record { what = what; fits = fits; onto = onto; lengths = λ w low p. false; alive = alive }
 
 -- nothing
 abbrev pub nothing : Shape
-nothing = record { what = Unit {0}; fits = λ u. Unit {0}; onto = λ u low. low }
+nothing = plain_shape (Unit {0}) (λ u. Unit {0}) (λ u low. low) (Unit {0})
 
 -- zeros up to a multiple of an alignment
 abbrev pub padding : ℕ → Shape
-padding align = record { what = Unit {0}; fits = λ u. Unit {0}; onto = λ u low. gap align ∷ low }
+padding align = plain_shape (Unit {0}) (λ u. Unit {0}) (λ u low. gap align ∷ low) (Unit {0})
 
--- numbers below a bound, in so many bytes
+-- numbers below a bound, in so many bytes: lengths, or others
+abbrev pub number_in : Bool → ℕ → ℕ → Shape
+number_in of_length width bound = record {
+  what = ℕ;
+  fits = λ n. n < bound;
+  onto = λ n low. whole width n ∷ low;
+  lengths = λ n low p. of_length && holds (place (gap width) low) width p;
+  alive = 0 < bound;
+}
+
 abbrev pub number_below : ℕ → ℕ → Shape
-number_below width bound = record { what = ℕ; fits = λ n. n < bound; onto = λ n low. whole width n ∷ low }
+number_below width bound = number_in false width bound
+
+-- lengths below a bound
+abbrev pub length_below : ℕ → Shape
+length_below bound = number_in true 8 bound
 
 -- the values of a type
 abbrev pub values_of : TheType → Shape
-values_of t = record { what = Datum; fits = λ d. has_type t d ≡ true; onto = λ d low. value_onto t d low }
+values_of t = plain_shape Datum (λ d. has_type t d ≡ true) (λ d low. value_onto t d low) (has_values t ≡ true)
 
 -- the fields of a struct
 abbrev pub fields_of : TheTypes → Shape
-fields_of ts = record { what = Data; fits = λ ds. have_types ts ds ≡ true; onto = λ ds low. fields_onto ts ds low }
+fields_of ts = plain_shape Data (λ ds. have_types ts ds ≡ true) (λ ds low. fields_onto ts ds low) (all_have_values ts ≡ true)
 
 -- what is left of a struct after the zeros before it: its fields, and zeros up to its alignment
 abbrev pub struct_from : TheTypes → Shape
-struct_from ts = record { what = Data; fits = λ ds. have_types ts ds ≡ true; onto = λ ds low. gap (greatest_align ts) ∷ fields_onto ts ds low }
+struct_from ts = plain_shape Data (λ ds. have_types ts ds ≡ true) (λ ds low. gap (greatest_align ts) ∷ fields_onto ts ds low) (all_have_values ts ≡ true)
 
 -- so many elements of a type
 abbrev pub elements_of : ℕ → TheType → Shape
-elements_of n t = record { what = Data; fits = λ ds. (count_of ds ≡ n) × (all_have_type t ds ≡ true); onto = λ ds low. elements_onto t ds low }
+elements_of n t = plain_shape Data (λ ds. (count_of ds ≡ n) × (all_have_type t ds ≡ true)) (λ ds low. elements_onto t ds low) (has_values t ≡ true)
 
 -- a string's bytes
 abbrev pub text_byte : Shape
-text_byte = record { what = ℕ; fits = λ b. is_text_byte b ≡ true; onto = λ b low. single b ∷ low }
+text_byte = plain_shape ℕ (λ b. is_text_byte b ≡ true) (λ b low. single b ∷ low) (Unit {0})
 
 -- so many bytes of a string
 abbrev pub texts_of : ℕ → Shape
-texts_of n = record { what = List ℕ; fits = λ bs. (length bs ≡ n) × (list_all is_text_byte bs ≡ true); onto = λ bs low. bytes_onto bs low }
+texts_of n = plain_shape (List ℕ) (λ bs. (length bs ≡ n) × (list_all is_text_byte bs ≡ true)) (λ bs low. bytes_onto bs low) (Unit {0})
 
 -- the arguments of a type
 abbrev pub arguments_of : TheArgType → Shape
-arguments_of t = record { what = Datum; fits = λ d. is_argument t d ≡ true; onto = λ d low. argument_onto t d low }
+arguments_of t = record {
+  what = Datum;
+  fits = λ d. is_argument t d ≡ true;
+  onto = λ d low. argument_onto t d low;
+  lengths = λ d low p. is_dynamic t && holds (place (gap 8) low) 8 p;
+  alive = argument_has_values t ≡ true;
+}
 
 -- what stands before an argument: after a string or a sized array zeros up to a multiple of 8
 abbrev pub starts_after : Bool → Shape
-starts_after after_dynamic = record { what = Unit {0}; fits = λ u. Unit {0}; onto = λ u low. start_onto after_dynamic low }
+starts_after after_dynamic = plain_shape (Unit {0}) (λ u. Unit {0}) (λ u low. start_onto after_dynamic low) (Unit {0})
 
 -- an argument and what stands before it
 abbrev pub next_argument : Bool → TheArgType → Shape
-next_argument after_dynamic t = record { what = Datum; fits = λ d. is_argument t d ≡ true; onto = λ d low. argument_onto t d (start_onto after_dynamic low) }
+next_argument after_dynamic t = record {
+  what = Datum;
+  fits = λ d. is_argument t d ≡ true;
+  onto = λ d low. argument_onto t d (start_onto after_dynamic low);
+  lengths = λ d low p. is_dynamic t && holds (place (gap 8) low) 8 p;
+  alive = argument_has_values t ≡ true;
+}
 
 -- the arguments of a message's calls, class by class
 abbrev pub calls_of : PlanNo → List TheArgType → Shape
-calls_of plan ts = record { what = List Datum; fits = λ ds. are_arguments ts ds ≡ true; onto = λ ds low. arguments_onto false (in_classes plan 5 0 (zip ts ds)) low }
+calls_of plan ts = record {
+  what = List Datum;
+  fits = λ ds. are_arguments ts ds ≡ true;
+  onto = λ ds low. arguments_onto false (in_classes plan 5 0 (zip ts ds)) low;
+  lengths = λ ds low p. is_length false (in_classes plan 5 0 (zip ts ds)) low p;
+  alive = list_all argument_has_values ts ≡ true;
+}
 
 -- a thing's leaves agree with the fragments up to its end, and no other thing's do
 pub record Got (x : Shape) (frags : List Frag) (low : List Leaf) (d : x.what) (end : ℕ) : Type 0 where
@@ -88,19 +129,41 @@ pub record Got (x : Shape) (frags : List Frag) (low : List Leaf) (d : x.what) (e
 pub record Halts (x : Shape) (frags : List Frag) (low : List Leaf) (n : ℕ) (is : List Leaf → Type 0) : Type 0 where
   pub none : (e : x.what) (full : List Leaf) → x.fits e → Over (x.onto e low) full → Agrees frags full n → is full
 
--- at a byte of the fragments, none agrees any more
-pub record Wrong (x : Shape) (frags : List Frag) (low : List Leaf) : Type 0 where
+-- why no thing has the fragments' byte: it stands in a length, in another leaf, or where nothing stands
+abbrev pub IsWhy : Stop → Bool → Bool → Type 0
+IsWhy Short of_length covered = Unit {0}
+IsWhy Padding of_length covered = (of_length ≡ false) × (covered ≡ false)
+IsWhy Value of_length covered = (of_length ≡ false) × (covered ≡ true)
+IsWhy Length of_length covered = of_length ≡ true
+IsWhy Memory of_length covered = Unit {0}
+
+-- a thing that agrees with the first n bytes and has more, and what stands at byte n of it
+pub record Near (stop : Stop) (x : Shape) (frags : List Frag) (low : List Leaf) (n : ℕ) : Type 0 where
+  pub one : x.what
+  pub fit : x.fits one
+  pub agree : Agrees frags (x.onto one low) n
+  pub longer : n < size (x.onto one low)
+  pub why : IsWhy stop (x.lengths one low n) (is_covered (x.onto one low) n)
+
+-- all that agree are longer than the fragments, and one does
+pub record Cut (x : Shape) (frags : List Frag) (low : List Leaf) : Type 0 where
+  pub all : Halts x frags low (56 * length frags) (λ full. 56 * length frags < size full)
+  pub near : x.alive → Near Short x frags low (56 * length frags)
+
+-- at a byte of the fragments, none agrees any more; one does up to that byte
+pub record Wrong (stop : Stop) (x : Shape) (frags : List Frag) (low : List Leaf) : Type 0 where
   pub p : ℕ
   pub after : size low ≤ p
   pub inside : p < 56 * length frags
   pub none : Halts x frags low (p + 1) (λ full. ⊥)
+  pub near : x.alive → Near stop x frags low p
 
 -- why the reading stops
 abbrev pub Stops : Stop → Shape → List Frag → List Leaf → Type 0
-Stops Short x frags low = Halts x frags low (56 * length frags) (λ full. 56 * length frags < size full)
-Stops Padding x frags low = Wrong x frags low
-Stops Value x frags low = Wrong x frags low
-Stops Length x frags low = Wrong x frags low
+Stops Short x frags low = Cut x frags low
+Stops Padding x frags low = Wrong Padding x frags low
+Stops Value x frags low = Wrong Value x frags low
+Stops Length x frags low = Wrong Length x frags low
 Stops Memory x frags low = Unit {0}
 
 -- a thing read from a place on, whatever agrees before it, and where it ends

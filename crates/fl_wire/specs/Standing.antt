@@ -1,15 +1,13 @@
 -- What a reader of fragments knows: their bytes, the leaves that stand under others, and numbers by their bits.
-use Rattle.std.specs.Prelude.{◌≡◌, ℕ, ℤ, pos, ◌-ℤ◌, ◌-◌, ◌*◌, ◌/◌, ◌%◌, ◌^◌, ◌<◌, ◌&&◌, nat_lt, nat_le, if◌then◌else◌, Bool, List, ◌++◌, [], ◌∷◌, map, length, slice_index, slice_get, Option, Some, None}
+use Rattle.std.specs.Prelude.{◌≡◌, ◌≢◌, ℕ, ℤ, pos, ◌-ℤ◌, ◌-◌, ◌*◌, ◌/◌, ◌%◌, ◌^◌, ◌<◌, ◌≤◌, ◌&&◌, nat_lt, nat_le, if◌then◌else◌, Bool, List, ◌++◌, [], map, length, slice_index, slice_get, Option, Some, None}
 use Rattle.std.specs.List.{list_all}
 use Rattle.std.specs.Int.{byte_at}
 use Rattle.fl_base.specs.declared.fragment.Frag.{Frag}
 use Rattle.fl_check.specs.Interface.{scalar, TheArgType, fixed}
-use Rattle.fl_value.specs.Value.{Datum, number}
 use Rattle.fl_value.specs.Fits.{is_argument, is_signed, scalar_bits}
-use Rattle.fl_value.specs.declared.value.PlanNo.{PlanNo}
 use Rattle.fl_layout.specs.Leaves.{Leaf, Argument, bits_of}
 use Rattle.fl_wire.specs.Payload.{payload_at}
-use Rattle.fl_wire.specs.Classes.{class_of, number_width, number_of}
+use Rattle.fl_wire.specs.Classes.{number_width, number_of}
 
 -- some leaves stand under others
 pub record Over (low high : List Leaf) : Type 0 where
@@ -31,6 +29,14 @@ words_in (Some f) = f.words
 -- payload byte p of some fragments; 0 past their end
 abbrev pub byte_in : List Frag → ℕ → ℕ
 byte_in frags p = byte_at (p % 8) (slice_index (words_in (slice_get frags (p / 56))) (p / 8 % 7))
+
+-- the first byte of some that isn't 0
+pub record FirstNonzero (frags : List Frag) (at end : ℕ) : Type 0 where
+  pub p : ℕ
+  pub after : at ≤ p
+  pub before : p < end
+  pub nonzero : byte_in frags p ≢ 0
+  pub zeros : (q : ℕ) → at ≤ q → q < p → byte_in frags q ≡ 0
 
 -- the fragments hold the first bytes of a payload
 pub record HoldsPayload (frags : List Frag) (full : List Leaf) : Type 0 where

@@ -1,39 +1,19 @@
 -- Why the next fragment can't follow those since the last whole call: its first fault.
-use Rattle.std.specs.Prelude.{◌≡◌, ℕ, ◌+◌, ◌*◌, ◌/◌, ◌%◌, ◌^◌, ◌<◌, ◌≤◌, ◌==◌, ◌&&◌, ◌||◌, not, nat_lt, nat_le, Bool, true, false, if◌then◌else◌, List, [], ◌∷◌, ◌++◌, length}
+use Rattle.std.specs.Prelude.{◌≡◌, ◌⊎◌, ℕ, ◌+◌, ◌*◌, ◌/◌, ◌%◌, ◌^◌, ◌<◌, ◌==◌, ◌&&◌, not, nat_lt, Bool, true, false, if◌then◌else◌, List, [], ◌∷◌, ◌++◌, length, Option, Some, None}
 use Rattle.std.specs.List.{zip}
 use Rattle.fl_base.specs.declared.fragment.Frag.{Frag}
 use Rattle.fl_base.specs.Control.{first_of, message_of, circuit_of}
 use Rattle.fl_check.specs.Interface.{TheInterface}
 use Rattle.fl_value.specs.Value.{TheCall}
 use Rattle.fl_value.specs.Fits.{fits_of}
-use Rattle.fl_value.specs.Plan.{arranged, is_dynamic}
+use Rattle.fl_value.specs.Plan.{arranged}
 use Rattle.fl_value.specs.declared.value.PlanNo.{PlanNo}
-use Rattle.fl_layout.specs.Leaves.{Leaf, gap, leaves, Argument, kind, argument_types, argument_onto, start_onto}
-use Rattle.fl_layout.specs.Places.{place}
-use Rattle.fl_wire.specs.Payload.{payload_at}
-use Rattle.fl_wire.specs.Standing.{byte_in}
+use Rattle.fl_layout.specs.Leaves.{leaves, kind, argument_types}
 use Rattle.fl_wire.specs.Reading.{Reads, IsWrong}
+use Rattle.fl_wire.specs.Covered.{is_covered, is_length}
 use Rattle.fl_wire.specs.Shapes.{Agrees}
 use Rattle.fl_wire.specs.declared.fault.WireFault.{WireFault}
 use Rattle.fl_wire.specs.declared.fault.WireFault.TheVariants.{NotFirst, FirstInside, UnknownMessage, NotZero, OutOfType, TooLong}
-
--- ---- what stands at a byte of a payload
-
--- so many bytes from a place on hold the byte
-abbrev pub holds : ℕ → ℕ → ℕ → Bool
-holds start width p = nat_le start p && nat_lt p (start + width)
-
--- a leaf stands there
-abbrev pub is_covered : List Leaf → ℕ → Bool
-is_covered [] p = false
-is_covered (leaf ∷ before) p = holds (place leaf before) leaf.width p || is_covered before p
-
--- the length of a string or of a sized array stands there
-abbrev pub is_length : Bool → List Argument → List Leaf → ℕ → Bool
-is_length after_dynamic [] before p = false
-is_length after_dynamic (a ∷ rest) before p =
-    (is_dynamic a.0 && holds (place (gap 8) before) 8 p)
-    || is_length (is_dynamic a.0) rest (argument_onto a.0 a.1 (start_onto after_dynamic before)) p
 
 -- the fault of a byte that can't stand there: in a length, in a number, an enumerator or a string, and where
 -- nothing stands
@@ -61,33 +41,30 @@ pub record WrongByte (plan : PlanNo) (i : TheInterface) (msg : ℕ) (frags : Lis
 abbrev pub is_clean : Frag → Bool
 is_clean f = (f.control / 4 % 2 ^ 14 == 0) && (circuit_of f.control == 0)
 
--- the number of a call under way; of the fragment where none is
-abbrev pub message_under_way : List Frag → Frag → ℕ
-message_under_way [] f = message_of f.control
-message_under_way (g ∷ rest) f = message_of g.control
+-- in order: a reserved bit or a circuit; no first fragment; no such message
+abbrev pub start_fault : TheInterface → Frag → Option WireFault
+start_fault i f =
+    if not (is_clean f) then Some NotZero
+    else (if not (first_of f.control) then Some NotFirst
+    else (if nat_lt (message_of f.control) (length i.messages) then None else Some UnknownMessage))
 
-abbrev pub is_under_way : List Frag → Bool
-is_under_way [] = false
-is_under_way (g ∷ rest) = true
+-- inside a call of a message, in order: a reserved bit or a circuit; a first fragment; another message
+abbrev pub follow_fault : ℕ → Frag → Option WireFault
+follow_fault msg f =
+    if not (is_clean f) then Some NotZero
+    else (if first_of f.control then Some FirstInside
+    else (if message_of f.control == msg then None else Some UnknownMessage))
 
--- one thing where a test is true, else another
-abbrev pub Either : Bool → Type 0 → Type 0 → Type 0
-Either true one other = one
-Either false one other = other
+-- the fault of the control word of the fragment after those of a call under way, or after whole calls
+abbrev pub header_fault : TheInterface → List Frag → Frag → Option WireFault
+header_fault i [] f = start_fault i f
+header_fault i (g ∷ rest) f = follow_fault (message_of g.control) f
 
--- another message than the one under way, or none such
-abbrev pub is_unknown : TheInterface → List Frag → Frag → Bool
-is_unknown i rest f = not (message_of f.control == message_under_way rest f) || not (nat_lt (message_of f.control) (length i.messages))
-
--- in order: a reserved bit or a circuit; no first fragment where one is due; one where none is due; another
--- message, or none such; the first wrong byte of the payload
+-- its control word's; else the first wrong byte's
 abbrev pub HasFault : PlanNo → TheInterface → List Frag → Frag → WireFault → Type 0
 HasFault plan i rest f fault =
-    Either (not (is_clean f)) (fault ≡ NotZero)
-    (Either (not (is_under_way rest) && not (first_of f.control)) (fault ≡ NotFirst)
-    (Either (is_under_way rest && first_of f.control) (fault ≡ FirstInside)
-    (Either (is_unknown i rest f) (fault ≡ UnknownMessage)
-    (WrongByte plan i (message_of f.control) (rest ++ f ∷ []) fault))))
+    (header_fault i rest f ≡ Some fault)
+    ⊎ ((header_fault i rest f ≡ None) × WrongByte plan i (message_of f.control) (rest ++ f ∷ []) fault)
 
 -- the first fragment that makes a list wrong, after those that read as calls and a rest, and its first fault
 pub record IsWrongAt (plan : PlanNo) (i : TheInterface) (frags : List Frag) (fault : WireFault) : Type 0 where

@@ -1,14 +1,16 @@
 //! The arguments of a call from the bytes of its fragments.
 
-ghost use Rattle.std.specs.Prelude.{◌≡◌, ℕ, ◌*◌, ◌≤◌, map, length, IfOk, IfErr};
+ghost use Rattle.std.specs.Prelude.{◌≡◌, ℕ, ◌*◌, ◌<◌, ◌≤◌, map, length, IfOk, IfErr};
 ghost use Rattle.fl_check.specs.Interface.{arg_type_of};
 ghost use Rattle.fl_value.specs.Value.{datum_of};
 ghost use Rattle.fl_wire.specs.Shapes.{ReadAt, StopsAt, starts_after, next_argument, calls_of};
+ghost use Rattle.fl_wire.specs.Whole.{Whole, StopsWhole};
 
-use crate::leaf::{Stop, read_padding};
+use crate::fragments::fragment_count;
+use crate::leaf::{Stop, read_padding, read_zeros};
 use crate::types::{CLASSES, class_for, is_dynamic};
 use crate::value::read_argument;
-use fl_base::Frag;
+use fl_base::{FRAG_BYTES, Frag};
 use fl_check::ArgType;
 use fl_value::{PlanNo, Value};
 use std::alloc::{AllocError, Global};
@@ -85,4 +87,21 @@ pub(crate) fn read_arguments(
         }
     }
     Ok((values, at))
+}
+
+/// The arguments of a call and the number of its fragments: what follows the last argument in these is 0.
+pub(crate) fn read_whole(
+    alloc: Global,
+    frags: &[Frag],
+    plan: PlanNo,
+    types: &[ArgType],
+) -> Result<(Vec<Value>, usize), Stop>
+    requires some { 0 < length frags.now }
+    ensures read { IfOk result (λ r. Whole plan (map arg_type_of types.now) frags.now (map datum_of r.0.items) r.1) }
+    ensures stop { IfErr result (λ stop. StopsWhole stop plan (map arg_type_of types.now) frags.now) }
+{
+    let (values, end) = read_arguments(alloc, frags, plan, types)?;
+    let count = fragment_count(end);
+    read_zeros(frags, end, count * FRAG_BYTES)?;
+    Ok((values, count))
 }

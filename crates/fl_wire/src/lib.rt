@@ -1,11 +1,12 @@
-//! What a call means on the wire: its payload under a plan, its fragments, and the call that
+//! What a call means on the wire: its payload under a plan, its fragments, and the calls that
 //! fragments mean.
 //!
 //! Contract for the layers above: [`payload`] is the byte string in which each leaf of the call
 //! stands at its place and every other byte is 0; [`fragment`] is the next 56 bytes of it with a
-//! control word; [`read_call_frags`] gives the call back; and no list of fragments has two readings
-//! ([`one_reading`]). The definitions stand in `specs/Payload.antt` and
-//! `specs/Reading.antt`, those of leaves and places in `fl_layout`; what reading a thing at a place tells, in `specs/Shapes.antt`.
+//! control word; [`read_frags`] gives the calls back and counts the rest, or tells the first fault; and no
+//! list of fragments has two readings ([`one_reading`]). The definitions stand in `specs/Payload.antt`,
+//! `specs/Reading.antt` and `specs/Wrong.antt`, those of leaves and places in `fl_layout`; what reading a
+//! thing at a place tells, in `specs/Shapes.antt`.
 //!
 //! - `types.rt`: sizes and alignments of types, and the plan's order by classes
 //! - `encode.rt`: the payload of a call
@@ -13,8 +14,10 @@
 //! - `leaf.rt`: one leaf of a payload from the bytes of fragments, and why a reading stops
 //! - `value.rt`: values from the bytes of fragments
 //! - `call.rt`: the arguments of a call from the bytes of its fragments
-//! - `reading.rt`: a call from its fragments
-//! - `fault.rt`: why fragments are those of no calls (`specs/Wrong.antt`; the reader that tells it is still to come)
+//! - `header.rt`: which fragments may be those of one call, by their control words
+//! - `reader.rt`: calls and a rest from a list of fragments, or its first fault
+//! - `reading.rt`: a call from its fragments, where these are a call's
+//! - `fault.rt`: why fragments are those of no calls
 //! - `law.rt`: the laws
 //! - `bounds.rt`: the laws hold of every interface in memory
 #![tactic(auto)]
@@ -24,15 +27,11 @@ mod call;
 mod encode;
 mod fault;
 mod fragments;
+mod header;
 mod law;
 mod leaf;
-#[cfg(test)]
-mod payload_tests;
+mod reader;
 mod reading;
-#[cfg(test)]
-mod reading_tests;
-#[cfg(test)]
-mod tests;
 mod types;
 mod value;
 
@@ -41,4 +40,5 @@ pub use encode::payload;
 pub use fault::WireFault;
 pub use fragments::{fragment, fragment_at, fragment_count};
 pub use law::{none_begins_with_another, one_reading, reads_once};
+pub use reader::{Reading, read_frags};
 pub use reading::read_call_frags;

@@ -5,7 +5,7 @@ ghost use Rattle.fl_check.specs.Interface.{scalar, enumeration, fixed, type_of, 
 ghost use Rattle.fl_value.specs.Value.{number, string, elements, fields, datum_of, data_from};
 ghost use Rattle.fl_value.specs.Fits.{least_above, how_many_below};
 ghost use Rattle.fl_wire.specs.Standing.{signed_half, number_back};
-ghost use Rattle.fl_wire.specs.Shapes.{ReadAt, StopsAt, values_of, fields_of, elements_of, text_byte, texts_of, number_below, arguments_of};
+ghost use Rattle.fl_wire.specs.Shapes.{ReadAt, StopsAt, values_of, fields_of, elements_of, text_byte, texts_of, length_below, arguments_of};
 
 use crate::leaf::{Stop, byte_at, read_number, read_padding};
 use crate::types::{greatest_alignment, scalar_size};
@@ -231,8 +231,8 @@ fn read_length(frags: &[Frag], at: usize, most: u32) -> Result<(u64, usize), Sto
     requires within { at ≤ 56 * length frags.now }
     ensures within { IfOk result (λ r. r.1 ≤ 56 * length frags.now) }
     ensures later { IfOk result (λ r. at ≤ r.1) }
-    ensures read { IfOk result (λ r. ReadAt (number_below 8 (most + 1)) frags.now at r.0 r.1) }
-    ensures stop { IfErr result (λ stop. StopsAt stop (number_below 8 (most + 1)) frags.now at) }
+    ensures read { IfOk result (λ r. ReadAt (length_below (most + 1)) frags.now at r.0 r.1) }
+    ensures stop { IfErr result (λ stop. StopsAt stop (length_below (most + 1)) frags.now at) }
 {
     let (length, end) = read_number(frags, at, 8)?;
     if length > u64::from(most) {

@@ -1,9 +1,28 @@
-//! The program's statuses.
+//! Whole runs: words and files in; standard output, standard error and a status out.
 
-use crate::{Request, request_by, run, status};
-use fl_script::ExecFault;
+use crate::files::FileReader;
+use crate::run::{finish, no_words, run};
+use std::alloc::Global;
 use std::io;
 use std::io::{Read, Write};
+use std::test::Fail;
+
+// One file, of this name; reading it may fail.
+#[derive(Clone, Copy)]
+enum Shelf {
+    Holds(&'static str, &'static [u8]),
+    Fails(io::ErrorKind),
+}
+
+impl FileReader for Shelf {
+    fn read(&self, alloc: Global, path: &str) -> io::Result<Vec<u8>> {
+        match self {
+            Shelf::Holds(name, content) if path == *name => Ok(Vec::from_slice(alloc, content)?),
+            Shelf::Holds(_, _) => Err(io::Error::from(io::ErrorKind::NotFound)),
+            Shelf::Fails(kind) => Err(io::Error::from(*kind)),
+        }
+    }
+}
 
 // Gives no byte, and fails.
 #[derive(Drop)]
@@ -34,34 +53,211 @@ impl Write for Narrow {
     }
 }
 
-// Lines that are refused are no fault.
+const MIXED: Shelf = Shelf::Holds(
+    "mixed.if",
+    b"interface i { message m(uint8 a, string s, uint16 b); }",
+);
+
+const REFUSED: Shelf = Shelf::Holds("cap.if", b"interface i { message m(cap c); }");
+
+// A run without standard input.
+fn go(alloc: Global, words: &[&str], shelf: &Shelf, out: &mut Vec<u8>, err: &mut Vec<u8>) -> u8 {
+    run(alloc, words, shelf, &mut b"".as_slice(), out, err)
+}
+
+// A run whose standard output takes so many bytes.
+fn into(alloc: Global, words: &[&str], shelf: &Shelf, room: usize) -> u8 {
+    let mut errors = Vec::new(alloc);
+    run(
+        alloc,
+        words,
+        shelf,
+        &mut b"".as_slice(),
+        Narrow(room),
+        &mut errors,
+    )
+}
+
 #[test]
-fn refused_lines_have_status_0(rt: HostRuntime) {
-    let mut script = b"disp d 0\ndisp d 0\nnope\n".as_slice();
-    let outcome = run(rt.alloc(), &mut script, Narrow(100));
-    assert_eq!(rt; status(outcome), 0);
+fn the_table_of_a_text(rt: HostRuntime) {
+    let (mut out, mut err) = (Vec::new(rt.alloc()), Vec::new(rt.alloc()));
+    let status = go(
+        rt.alloc(),
+        &["flounder", "show", "mixed.if"],
+        &MIXED,
+        &mut out,
+        &mut err,
+    );
+    let table = b"\
+interface i plan 2
+message 0 m least 16 greatest 2063 fragments 37
+arg 0 at 2 fixed 1
+arg 1 at 8 string max 2047
+arg 2 at 0 fixed 2
+";
+    assert_eq!(rt; status, 0);
+    assert!(rt; out.as_slice() == table.as_slice());
+    assert!(rt; err.is_empty());
+}
+
+// The first line is the fault alone.
+#[test]
+fn a_text_that_is_refused(rt: HostRuntime) {
+    let (mut out, mut err) = (Vec::new(rt.alloc()), Vec::new(rt.alloc()));
+    let status = go(
+        rt.alloc(),
+        &["flounder", "show", "cap.if"],
+        &REFUSED,
+        &mut out,
+        &mut err,
+    );
+    let told = b"\
+E14 at 24
+line 1, column 25: messages carry no capabilities
+found there: cap c); }
+";
+    assert_eq!(rt; status, 2);
+    assert!(rt; out.is_empty());
+    assert!(rt; err.as_slice() == told.as_slice());
+}
+
+// An image's magic is no text: its version's first byte begins no token.
+#[test]
+fn a_text_of_no_language(rt: HostRuntime) {
+    for (content, told) in [
+        (
+            b"".as_slice(),
+            b"E7 at 0\nline 1, column 1: this isn't expected here\n".as_slice(),
+        ),
+        (
+            b"FLND\x02\x00",
+            b"E1 at 4\nline 1, column 5: no token begins with this byte\nfound there: \\x02\\x00\n",
+        ),
+        (
+            b"interface\ni {\n",
+            b"E7 at 14\nline 3, column 1: this isn't expected here\n",
+        ),
+    ] {
+        let (mut out, mut err) = (Vec::new(rt.alloc()), Vec::new(rt.alloc()));
+        let shelf = Shelf::Holds("x", content);
+        assert_eq!(rt;
+            go(
+                rt.alloc(),
+                &["flounder", "show", "x"],
+                &shelf,
+                &mut out,
+                &mut err
+            ),
+            2
+        );
+        assert!(rt; err.as_slice() == told);
+    }
+}
+
+#[test]
+fn words_that_are_no_command(rt: HostRuntime) {
+    for words in [
+        ["flounder", "show"].as_slice(),
+        &["flounder", "nope"],
+        &["flounder", "show", "cap.if", "more"],
+        &["flounder", "exec", "more"],
+        &["flounder", "--nope"],
+        &["flounder", "help"],
+        &["flounder", "compile", "mixed.if", "out"],
+    ] {
+        let (mut out, mut err) = (Vec::new(rt.alloc()), Vec::new(rt.alloc()));
+        assert_eq!(rt; go(rt.alloc(), words, &REFUSED, &mut out, &mut err), 1);
+        assert!(rt; out.is_empty());
+        assert!(rt; !err.is_empty());
+    }
+}
+
+#[test]
+fn words_that_are_not_there(rt: HostRuntime) {
+    for (kind, status) in [
+        (io::ErrorKind::InvalidData, 1),
+        (io::ErrorKind::OutOfMemory, 3),
+    ] {
+        let mut err = Vec::new(rt.alloc());
+        let fault = no_words(io::Error::from(kind));
+        assert_eq!(rt; finish(Err(fault), &mut err), status);
+        assert!(rt; !err.is_empty());
+    }
+}
+
+#[test]
+fn help_is_written(rt: HostRuntime) {
+    for words in [
+        ["flounder", "--help"].as_slice(),
+        &["flounder", "exec", "--help"],
+        &["flounder", "show", "--help"],
+    ] {
+        let (mut out, mut err) = (Vec::new(rt.alloc()), Vec::new(rt.alloc()));
+        assert_eq!(rt; go(rt.alloc(), words, &MIXED, &mut out, &mut err), 0);
+        assert!(rt; out.len() > 200);
+        assert!(rt; err.is_empty());
+        assert_eq!(rt; into(rt.alloc(), words, &MIXED, 10), 4);
+    }
+}
+
+// Usage, then reading the file, its content, writing.
+#[test]
+fn the_first_fault_counts(rt: HostRuntime) {
+    let (unread, no_room) = (
+        Shelf::Fails(io::ErrorKind::Other),
+        Shelf::Fails(io::ErrorKind::OutOfMemory),
+    );
+    let show = ["flounder", "show", "cap.if"];
+    assert_eq!(rt; into(rt.alloc(), &["flounder", "show"], &unread, 0), 1);
+    assert_eq!(rt; into(rt.alloc(), &show, &unread, 0), 4);
+    assert_eq!(rt; into(rt.alloc(), &show, &MIXED, 0), 4);
+    assert_eq!(rt; into(rt.alloc(), &show, &no_room, 0), 3);
+    assert_eq!(rt; into(rt.alloc(), &show, &REFUSED, 0), 2);
+    let table = ["flounder", "show", "mixed.if"];
+    for room in [0, 1, 131] {
+        assert_eq!(rt; into(rt.alloc(), &table, &MIXED, room), 4);
+    }
+    assert_eq!(rt; into(rt.alloc(), &table, &MIXED, 132), 0);
+}
+
+// Lines that are refused are no fault. Without a word the script is run, too.
+#[test]
+fn scripts_are_run(rt: HostRuntime) -> Result<(), Fail> {
+    for words in [["flounder"].as_slice(), &["flounder", "exec"]] {
+        let (mut out, mut err) = (Vec::new(rt.alloc()), Vec::new(rt.alloc()));
+        let mut script = b"disp d 0\ndisp d 0\nnope\n".as_slice();
+        let status = run(rt.alloc(), words, &MIXED, &mut script, &mut out, &mut err);
+        assert_eq!(rt; status, 0);
+        assert!(rt; out.as_slice() == b"ok\nrefused E92\nrefused E90\n".as_slice());
+        assert!(rt; err.is_empty());
+    }
+    Ok(())
 }
 
 // The buffer is written out at the end, and that may fail as well.
 #[test]
-fn reads_and_writes_that_fail_have_status_4(rt: HostRuntime) {
-    let unread = run(rt.alloc(), &mut NoSource, Narrow(100));
-    assert_eq!(rt; unread, Err(ExecFault::Read));
-    assert_eq!(rt; status(unread), 4);
+fn scripts_that_are_not_read_or_not_written(rt: HostRuntime) {
+    let mut errors = Vec::new(rt.alloc());
+    let words = ["flounder", "exec"];
+    let unread = run(
+        rt.alloc(),
+        &words,
+        &MIXED,
+        &mut NoSource,
+        Narrow(100),
+        &mut errors,
+    );
+    assert_eq!(rt; unread, 4);
     for room in 0..3 {
         let mut script = b"disp d 0\n".as_slice();
-        let unwritten = run(rt.alloc(), &mut script, Narrow(room));
-        assert_eq!(rt; unwritten, Err(ExecFault::Write));
-        assert_eq!(rt; status(unwritten), 4);
+        let unwritten = run(
+            rt.alloc(),
+            &words,
+            &MIXED,
+            &mut script,
+            Narrow(room),
+            &mut errors,
+        );
+        assert_eq!(rt; unwritten, 4);
     }
-    assert_eq!(rt; status(Err(ExecFault::Memory)), 3);
-}
-
-#[test]
-fn words_of_the_command_line(rt: HostRuntime) {
-    assert_eq!(rt; request_by(None), Request::Exec);
-    assert_eq!(rt; request_by(Some("exec")), Request::Exec);
-    assert_eq!(rt; request_by(Some("-h")), Request::Help);
-    assert_eq!(rt; request_by(Some("--help")), Request::Help);
-    assert_eq!(rt; request_by(Some("nope")), Request::Unknown);
 }

@@ -12,8 +12,8 @@ use crate::fault::RingFault;
 use crate::shared::duo_board::{DuoBoard, DuoPlace, Opening};
 use crate::shared::duo_plays::{Compare, Pair};
 use crate::shared::duo_sides::SharedSide;
-use crate::shared::lap::Lap;
 use fl_base::MAX_QUEUE;
+use fl_link::Cursor;
 use std::alloc::Global;
 use std::sync::Arc;
 
@@ -62,7 +62,7 @@ fn mark(words: &mut Vec<u64>, size: usize, start: u64)
     ensures wide { vec_len words.new ≡ 16 * size }
     ensures free { (i : ℕ) → start ≤ i → i < start + size → (epoch_in 0 size words.new.items i ≢ epoch_at size i) × (epoch_in (8 * size) size words.new.items i ≢ epoch_at size i) }
 {
-    let mut next = Lap::at(size, start);
+    let mut next = Cursor::at(size, start);
     for k in 0..size {
         let other = 1 - next.epoch();
         let last = 8 * next.place() + 7;
@@ -99,8 +99,8 @@ fn sides_of(
         seat,
         base: 0,
         other: 8 * size,
-        put: Lap::at(size, start),
-        take: Lap::at(size, start),
+        put: Cursor::at(size, start),
+        take: Cursor::at(size, start),
         known: start,
         told: start,
     };
@@ -109,8 +109,8 @@ fn sides_of(
         seat: across,
         base: 8 * size,
         other: 0,
-        put: Lap::at(size, start),
-        take: Lap::at(size, start),
+        put: Cursor::at(size, start),
+        take: Cursor::at(size, start),
         known: start,
         told: start,
     };

@@ -11,10 +11,9 @@ ghost use Rattle.fl_ring.specs.SharedSides.{SharedPuts, SharedTakes, Looked, fre
 
 use crate::shared::duo_board::{DuoBoard, DuoPlace};
 use crate::shared::duo_steps::{load_control, peek_frag, put_frag, take_frag};
-use crate::shared::lap::Lap;
 use crate::shared::sight::sight;
 use fl_base::Frag;
-use fl_link::{PutFault, PutSide, SPENT, Sight, TakeSide, Told, stamp};
+use fl_link::{Cursor, PutFault, PutSide, SPENT, Sight, TakeSide, Told, stamp};
 use std::alloc::Global;
 use std::marker::Model;
 use std::sync::Arc;
@@ -27,8 +26,8 @@ pub struct SharedSide {
     // the first word of the slots that it writes, and of those that it reads
     pub(crate) base: usize,
     pub(crate) other: usize,
-    pub(crate) put: Lap,
-    pub(crate) take: Lap,
+    pub(crate) put: Cursor,
+    pub(crate) take: Cursor,
     // how many of its fragments it knows to be taken
     pub(crate) known: u64,
     // how many of the other side's it told
@@ -100,6 +99,7 @@ impl SharedSide {
     /// Puts a fragment, which tells all that this side has taken. E33 after 2^62 fragments; else E30
     /// where, after a look at the other direction if too few slots were known free, fewer than two
     /// are. The fragment isn't one that only acknowledges.
+    #[inline]
     pub fn try_put(&mut self, frag: &Frag) -> Result<(), PutFault>
         requires { is_ack_only frag.now ≡ false }
         ensures placed { OnOk result (SharedPuts self.old (placed (bare frag.now)) self.new) }
@@ -119,6 +119,7 @@ impl SharedSide {
 
     /// The other side's next fragment, which is left there. It is `Empty` only where this call's
     /// load found the other epoch in its slot.
+    #[inline]
     pub fn try_peek(&mut self) -> Sight
         ensures look { SharedTakes self.old (peeked result) self.new }
         ensures exact { (frag : Frag) → result ≡ Sight.Data frag → self.new.peeked ≡ Some frag }
@@ -142,6 +143,7 @@ impl SharedSide {
 
     /// Takes the other side's next fragment, the one that was peeked if one was. Its slot isn't free
     /// before it is told. It is `Empty` only where this call's load found the other epoch.
+    #[inline]
     pub fn try_take(&mut self) -> Sight
         ensures look { SharedTakes self.old (taken result) self.new }
         ensures exact { (frag : Frag) → result ≡ Sight.Data frag → self.new.got ≡ self.old.got ++ frag ∷ [] }
@@ -169,6 +171,7 @@ impl SharedSide {
     /// Tells what this side has taken, where that is at least half of the slots: it writes a fragment
     /// that only acknowledges. E30 where, after a look at the other direction, no slot is free, and
     /// after 2^62 fragments.
+    #[inline]
     pub fn tell(&mut self) -> Result<Told, PutFault>
         ensures tell { SharedTakes self.old (tells result) self.new }
         ensures never_spent { result ≢ Err PutFault.Spent }

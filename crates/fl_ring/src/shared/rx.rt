@@ -39,6 +39,7 @@ impl Model for RingRx {
 impl RingRx {
     /// The next fragment, which is left there. It is `Empty` only where this call's load found the
     /// other epoch in its slot.
+    #[inline]
     pub fn try_peek(&mut self) -> Sight
         ensures look { ReceiverTakes self.old (peeked result) self.new }
         ensures exact { (frag : Frag) → result ≡ Sight.Data frag → self.new.peeked ≡ Some frag }
@@ -55,6 +56,7 @@ impl RingRx {
 
     /// Takes the next fragment, the one that was peeked if one was. Its slot isn't free before it is
     /// told. It is `Empty` only where this call's load found the other epoch in its slot.
+    #[inline]
     pub fn try_take(&mut self) -> Sight
         ensures look { ReceiverTakes self.old (taken result) self.new }
         ensures exact { (frag : Frag) → result ≡ Sight.Data frag → self.new.got ≡ self.old.got ++ frag ∷ [] }
@@ -73,6 +75,7 @@ impl RingRx {
     }
 
     /// Tells the writer what was taken: those slots are free then.
+    #[inline]
     pub fn tell(&mut self)
         ensures told { self.new ≡ with_all_told self.old }
         ensures ring { self.new.ring ≡ self.old.ring }

@@ -39,6 +39,7 @@ impl Model for RingTx {
 impl RingTx {
     /// Puts the fragment, with the epoch due and telling nothing. After 2^62 fragments it is E33;
     /// else E30 where a look at the number told has shown that no slot is free.
+    #[inline]
     pub fn try_put(&mut self, frag: &Frag) -> Result<(), PutFault>
         ensures placed { OnOk result (SenderPuts self.old (placed (bare frag.now)) self.new) }
         ensures full { result ≡ Err PutFault.Full → SenderPuts self.old no_room self.new }

@@ -12,7 +12,7 @@ returns-in_err-other_name-clause-fault c =
 
 pub loop-member-preserved : goal.loop-member-preserved
 loop-member-preserved c =
-    walk_on members_left member_here after_member members_walk _ (list_of c.loop-member.names) (list_of c.push.new.self) c.args.members.now c.loop-member.member-index _ _ (omega arith) refl c.loop-member.invariant c.in_ok-other_name.ensures.sound c.in_ok-push.ensures.more
+    walk_on members_left member_here after_member members_walk _ (list_of c.loop-member.names) (list_of c.other_name.new.names) c.args.members.now c.loop-member.member-index _ _ (omega arith) refl c.loop-member.invariant c.in_ok-other_name.ensures.sound c.in_ok-other_name.ensures.names
 
 pub returns-clause-sound : goal.returns-clause-sound
 returns-clause-sound c =

@@ -1,5 +1,5 @@
-use Rattle.std.proofs.Common.{rules, ◌≡◌, ◌≤◌, map, length, true, List, ap, sym, ◌∙◌, subst}
-use Rattle.fl_check.specs.Interface.{arg_type_of, message_of}
+use Rattle.std.proofs.Common.{◌≡◌, ◌≤◌, length, true, List, sym, subst}
+use Rattle.fl_check.specs.Interface.{message_of}
 use Rattle.fl_layout.specs.Extents.{placed_of, numbered, are_within}
 use Rattle.fl_layout.specs.declared.extent.Placed.{Placed}
 use Rattle.fl_layout.proofs.Arranging.{order_map, message_short, placed_are_within}

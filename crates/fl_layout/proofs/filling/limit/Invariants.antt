@@ -1,4 +1,4 @@
-use Rattle.std.proofs.Common.{◌≡◌, ◌≤◌, ◌<◌, ◌+◌, ◌*◌, drop, map, true}
+use Rattle.std.proofs.Common.{◌≡◌, ◌≤◌, ◌<◌, ◌*◌, drop, map, true}
 use Rattle.fl_layout.specs.Extents.{end_of_all, filled_up, are_within}
 use Rattle.fl_layout.proofs.filling.limit.Given as goal
 

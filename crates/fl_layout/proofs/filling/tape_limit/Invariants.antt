@@ -1,4 +1,4 @@
-use Rattle.std.proofs.Common.{◌≡◌, ◌≤◌, ◌<◌, ◌+◌, ◌*◌, drop, map, true}
+use Rattle.std.proofs.Common.{◌≡◌, ◌≤◌, ◌+◌, ◌*◌, drop, map, true}
 use Rattle.fl_layout.specs.declared.extent.Fill.TheVariants.{Full}
 use Rattle.fl_layout.specs.Extents.{numbers_in_all, filled_up, are_within}
 use Rattle.fl_layout.proofs.filling.tape_limit.Given as goal

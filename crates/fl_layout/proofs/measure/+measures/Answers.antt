@@ -1,4 +1,4 @@
-use Rattle.std.proofs.Common.{rules, ◌≡◌, ◌<◌, ◌≤◌, ◌+◌, map, drop, true, ℕ, ◌*◌, arith, ap, refl, sym, ◌∙◌, subst}
+use Rattle.std.proofs.Common.{rules, ◌≡◌, ◌≤◌, ◌+◌, map, drop, ◌*◌, arith, ap, refl, ◌∙◌}
 use Rattle.fl_check.specs.declared.interface.FixedType.TheViews.{the_lemmas}
 use Rattle.fl_check.specs.declared.interface.FixedType.TheFolds.{fold-roll-FixedType, fold_out-FixedType}
 use Rattle.fl_check.specs.Interface.{TheType, type_step, type_of, fields_from}

@@ -7,7 +7,7 @@ use Rattle.fl_value.specs.Plan.{is_dynamic}
 use Rattle.fl_wire.specs.Classes.{class_of}
 use Rattle.fl_wire.specs.Shapes.{Shape, next_argument, calls_of}
 use Rattle.fl_wire.proofs.Steps.{Come, come_stop, come_read, come_done}
-use Rattle.fl_wire.proofs.Calls.{FitRead, class_at, left_in, left_from, itself, come_same, past_other, past_fit, past_class, class_fit, begins_next, next_fit, all_read, come_fits}
+use Rattle.fl_wire.proofs.Calls.{FitRead, class_at, left_in, left_from, itself, come_same, none_fit, calls_start, into_class, past_other, past_fit, past_class, class_fit, begins_next, next_fit, all_read, come_fits}
 use Rattle.fl_wire.proofs.call.read_arguments.Goals as goal
 
 pub loop-j-preserved-then-class_for-class : goal.loop-j-preserved-then-class_for-class
@@ -125,3 +125,26 @@ returns-clause-read c =
     let come = subst (λ (n : ℕ). Come (calls_of plan ts) (left_from plan n ts vs after) frags 0 at itself) last inv.come in
     let fit = subst (λ (n : ℕ). FitRead plan n 0 ts vs) last inv.fit in
     come_done (calls_of plan ts) (left_from plan 5 ts vs after) frags 0 at at itself vs come (omega arith) (all_read plan ts vs after frags at long fit)
+
+pub loop-class-init : goal.loop-class-init
+loop-class-init c =
+    let plan = c.args.plan in
+    let ts = map arg_type_of c.args.types.now in
+    let vs = map datum_of c.in_ok-values.values.items in
+    record { long = c.in_ok-values.ensures.count; within = omega arith; fit = none_fit plan ts vs; come = calls_start plan ts vs c.args.frags.now }
+
+pub loop-j-init : goal.loop-j-init
+loop-j-init c =
+    let plan = c.args.plan in
+    let ts = map arg_type_of c.args.types.now in
+    let class = c.loop-class.class in
+    let vs = map datum_of c.loop-class.values.items in
+    let after = c.loop-class.after_dynamic in
+    let inv = c.loop-class.invariant in
+    record {
+      long = inv.long;
+      within = inv.within;
+      fit = inv.fit;
+      come = come_same (calls_of plan ts) (left_from plan class ts vs after) (left_in plan class 0 ts vs after) c.args.frags.now 0 c.loop-class.at itself itself inv.come
+          (into_class plan class ts vs after (omega (arith, c.loop-class-test.true)));
+    }

@@ -1,4 +1,3 @@
-use Rattle.std.proofs.Common.{arith}
 use Rattle.std.proofs.lemmas.Result.{err_from_is_err_and}
 use Rattle.fl_check.specs.Interface.{arg_type_of}
 use Rattle.fl_value.specs.Value.{datum_of}

@@ -1,8 +1,8 @@
-use Rattle.std.proofs.Common.{◌≡◌, ◌+◌, rules, map, sym, subst, IfOk}
+use Rattle.std.proofs.Common.{◌≡◌, ◌+◌, rules, map, sym, subst, IfOk, IfErr}
 use Rattle.std.proofs.lemmas.Result.{err_from_is_err_and}
 use Rattle.fl_check.specs.Interface.{TheArgType, fixed, text, sized, type_of, arg_type_of}
 use Rattle.fl_value.specs.Value.{Datum, string, elements, datum_of, data_from}
-use Rattle.fl_wire.specs.Shapes.{number_below, texts_of, elements_of, arguments_of, ReadAt, StopsAt}
+use Rattle.fl_wire.specs.Shapes.{length_below, texts_of, elements_of, arguments_of, ReadAt, StopsAt}
 use Rattle.fl_wire.proofs.Steps.{first_stop, come_rest, come_done}
 use Rattle.fl_wire.proofs.Parts.{begins_text, begins_sized, text_start, sized_start}
 use Rattle.fl_wire.proofs.value.read_argument.Goals as goal
@@ -14,7 +14,7 @@ returns-in_err-count-in-Text-clause-stop c =
     let p = err_from_is_err_and c.from_residual.result c.from_residual.ensures.1 in
     let stop = c.in_err-count-in-Text.field-0.0 in
     rw (p.1, p.2) (subst (λ (u : TheArgType). StopsAt stop (arguments_of u) c.args.frags.now c.args.at) (sym ty)
-    (first_stop (arguments_of (text most)) (number_below 8 (most + 1)) (λ n. texts_of n) c.args.frags.now c.args.at (λ n bs. string bs) stop (begins_text most) c.in_err-count-in-Text.ensures.stop))
+    (first_stop (arguments_of (text most)) (length_below (most + 1)) (λ n. texts_of n) c.args.frags.now c.args.at (λ n bs. string bs) stop (begins_text most) c.in_err-count-in-Text.ensures.stop))
 
 pub returns-in_err-bytes-in-Text-clause-stop : goal.returns-in_err-bytes-in-Text-clause-stop
 returns-in_err-bytes-in-Text-clause-stop c =
@@ -36,7 +36,7 @@ returns-in_err-count-in-Sized-clause-stop c =
     let p = err_from_is_err_and c.from_residual-in_err-count-in-Sized.result c.from_residual-in_err-count-in-Sized.ensures.1 in
     let stop = c.in_err-count-in-Sized.field-0.0 in
     rw (p.1, p.2) (subst (λ (u : TheArgType). StopsAt stop (arguments_of u) c.args.frags.now c.args.at) (sym ty)
-    (first_stop (arguments_of (sized most e)) (number_below 8 (most + 1)) (λ n. elements_of n e) c.args.frags.now c.args.at (λ n ds. elements ds) stop (begins_sized most e) c.in_err-count-in-Sized.ensures.stop))
+    (first_stop (arguments_of (sized most e)) (length_below (most + 1)) (λ n. elements_of n e) c.args.frags.now c.args.at (λ n ds. elements ds) stop (begins_sized most e) c.in_err-count-in-Sized.ensures.stop))
 
 pub returns-in_err-values-in-Sized-clause-stop : goal.returns-in_err-values-in-Sized-clause-stop
 returns-in_err-values-in-Sized-clause-stop c =
@@ -82,3 +82,8 @@ returns-in_ok-values-in-Sized-clause-read c =
     subst (λ (u : TheArgType). ReadAt (arguments_of u) c.args.frags.now c.args.at (datum_of c.list_value.result) end) (sym ty)
     (subst (λ (d : Datum). ReadAt (arguments_of (sized most e)) c.args.frags.now c.args.at d end) (sym c.list_value.ensures.value)
     (come_done (arguments_of (sized most e)) (elements_of n e) c.args.frags.now c.args.at start end (λ ds. elements ds) ds come c.in_ok-values-in-Sized.ensures.later c.in_ok-values-in-Sized.ensures.read))
+
+pub returns-in-Fixed-clause-stop : goal.returns-in-Fixed-clause-stop
+returns-in-Fixed-clause-stop c =
+    let ty : arg_type_of c.args.ty.now ≡ fixed (type_of c.in-Fixed.fixed) = search rules in
+    subst (λ (u : TheArgType). IfErr c.read_value.result (λ stop. StopsAt stop (arguments_of u) c.args.frags.now c.args.at)) (sym ty) c.read_value.ensures.stop

@@ -1,4 +1,4 @@
-use Rattle.std.proofs.Common.{◌≡◌, ◌≤◌, ◌-◌, ◌*◌, ◌++◌, length, List, ℕ}
+use Rattle.std.proofs.Common.{◌≤◌, ◌-◌, ◌*◌, ◌++◌, length, List, ℕ}
 use Rattle.fl_wire.specs.Shapes.{texts_of}
 use Rattle.fl_wire.proofs.Steps.{Come}
 use Rattle.fl_wire.proofs.value.read_text.Given as goal

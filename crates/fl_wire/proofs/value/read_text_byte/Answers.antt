@@ -3,7 +3,7 @@ use Rattle.fl_wire.proofs.Sites.{text_got, text_wrong, text_short}
 use Rattle.fl_wire.proofs.value.read_text_byte.Goals as goal
 
 pub returns-then-at-frags-clause-stop : goal.returns-then-at-frags-clause-stop
-returns-then-at-frags-clause-stop c = λ low here agree. text_short c.args.frags.now c.args.at (omega (arith, c.if-at-frags.true)) low here
+returns-then-at-frags-clause-stop c = λ low here agree. text_short c.args.frags.now c.args.at (omega (arith, c.if-at-frags.true)) low here agree
 
 pub returns-then-byte-eq0-clause-stop : goal.returns-then-byte-eq0-clause-stop
 returns-then-byte-eq0-clause-stop c = text_wrong c.args.frags.now c.args.at (sym c.if-byte-eq0.true ∙ c.byte_at-byte.ensures.byte) (omega (arith, c.if-at-frags.false))

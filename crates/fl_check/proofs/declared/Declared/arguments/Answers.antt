@@ -3,7 +3,7 @@ use Rattle.fl_check.specs.Views.{before_of, list_of}
 use Rattle.fl_check.specs.Known.{argument_type}
 use Rattle.fl_parse.specs.Tree.{argument_of}
 use Rattle.fl_check.proofs.FirstFaults.{err_of}
-use Rattle.fl_check.proofs.Walks.{made_push, walk_on, walk_fault, walk_end}
+use Rattle.fl_check.proofs.Walks.{made_push, made_all, walk_on, walk_fault, walk_end}
 use Rattle.fl_check.proofs.Lists.{Stood, arguments_left, argument_here, after_argument, arguments_walk, stood}
 use Rattle.fl_check.proofs.declared.Declared.arguments.Goals as goal
 
@@ -35,3 +35,15 @@ returns-clause-sound c =
     let i = c.loop-argument.argument-index in
     let s : Stood = (list_of c.loop-argument.names, i) in
     walk_end (arguments_left b) (argument_here b) after_argument (arguments_walk b) _ s c.args.args.now i (omega arith) c.loop-argument.invariant.places
+
+pub loop-argument-init : goal.loop-argument-init
+loop-argument-init c = record {
+  places = rw c.new-names.ensures.none refl;
+  types = c.new-payload.ensures.none;
+  same = c.new-payload.ensures.len;
+  few = omega arith;
+}
+
+pub returns-clause-stands : goal.returns-clause-stands
+returns-clause-stands c =
+    made_all argument_of (argument_type (before_of c.args.self.now)) c.args.args.now c.loop-argument.argument-index _ (omega arith) c.loop-argument.invariant.types

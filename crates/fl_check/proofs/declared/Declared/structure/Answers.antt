@@ -1,9 +1,10 @@
-use Rattle.std.proofs.Common.{refl, arith}
+use Rattle.std.proofs.Common.{◌∙◌, List, map, ap, refl, arith}
 use Rattle.fl_check.specs.Views.{before_of, list_of}
+use Rattle.fl_check.specs.Interface.{TheType, structure, fields_from}
 use Rattle.fl_check.specs.Known.{field_type}
 use Rattle.fl_parse.specs.Tree.{field_of}
 use Rattle.fl_check.proofs.FirstFaults.{err_of}
-use Rattle.fl_check.proofs.Walks.{made_push, walk_on, walk_fault, walk_end}
+use Rattle.fl_check.proofs.Walks.{made_push, made_all, walk_on, walk_fault, walk_end}
 use Rattle.fl_check.proofs.Lists.{fields_left, field_here, after_field, fields_walk}
 use Rattle.fl_check.proofs.declared.Declared.structure.Goals as goal
 
@@ -27,3 +28,16 @@ pub returns-clause-sound : goal.returns-clause-sound
 returns-clause-sound c =
     let b = before_of c.args.self.now in
     walk_end (fields_left b) (field_here b) after_field (fields_walk b) _ (list_of c.loop-field.names) c.args.fields.now c.loop-field.field-index (omega arith) c.loop-field.invariant.places
+
+pub loop-field-init : goal.loop-field-init
+loop-field-init c = record {
+  places = rw c.new-names.ensures.none refl;
+  types = c.new-laid.ensures.none;
+  same = rw (c.new-names.ensures.none, c.new-laid.ensures.len) refl;
+  few = omega (arith, c.new-laid.ensures.len);
+}
+
+pub returns-clause-stands : goal.returns-clause-stands
+returns-clause-stands c =
+    let made = made_all field_of (field_type (before_of c.args.self.now)) c.args.fields.now c.loop-field.field-index _ (omega arith) c.loop-field.invariant.types in
+    c.into_struct.ensures.stands ∙ ap (λ (l : List TheType). structure (fields_from l)) made

@@ -1,0 +1,66 @@
+//! Why nothing is shown.
+
+ghost use Rattle.std.specs.Prelude.{◌≡◌};
+ghost use Rattle.fl_show.specs.Shown.{status_of};
+ghost use Rattle.fl_show.specs.declared.fault.ShowFault.TheVariants.{Memory};
+
+use fl_check::Explained;
+use std::alloc::AllocError;
+use std::fmt;
+use thiserror::Error;
+
+/// A text that is no interface. It is printed as two lines or three: the number and the offset of the first
+/// fault alone, then the fault in words with its line and column, then what stands there.
+#[derive(Clone, Copy, Debug, PartialEq, Eq)]
+pub struct Refusal<'a> {
+    pub explained: Explained,
+    /// The fault's place in bytes from the text's start.
+    pub offset: usize,
+    /// What stands at the fault, to the end of its line, 40 bytes at most.
+    pub found: &'a [u8],
+}
+
+impl fmt::Display for Refusal<'_> {
+    fn fmt<W: fmt::Write>(&self, f: &mut fmt::Formatter<W>) -> fmt::Result {
+        let number = self.explained.fault.number();
+        let offset = self.offset;
+        let explained = self.explained;
+        write!(f, "E{number} at {offset}\n{explained}")?;
+        if !self.found.is_empty() {
+            let found = self.found.escape_ascii();
+            write!(f, "\nfound there: {found}")?;
+        }
+        Ok(())
+    }
+}
+
+/// Why a file's content shows nothing.
+#[derive(Clone, Copy, Debug, PartialEq, Eq, Error)]
+pub enum ShowFault<'a> {
+    /// The content is refused, for a fault of E1 to E21.
+    #[error("{0}")]
+    Refused(Refusal<'a>),
+    /// Want of memory (E99).
+    #[error("out of memory")]
+    Memory,
+}
+
+impl ShowFault<'_> {
+    /// The status with which a program ends that met it.
+    pub fn number(self) -> u8
+        ensures status { result ≡ status_of self.entry }
+    {
+        match self {
+            ShowFault::Refused(_) => 2,
+            ShowFault::Memory => 3,
+        }
+    }
+}
+
+impl From<AllocError> for ShowFault<'_> {
+    ghost from_gives = { λ _ e. e ≡ Memory };
+
+    fn from(_error: AllocError) -> Self {
+        ShowFault::Memory
+    }
+}

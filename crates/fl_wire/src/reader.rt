@@ -1,0 +1,125 @@
+//! Calls and a rest from a list of fragments, or its first fault.
+
+ghost use Rattle.std.specs.Prelude.{◌≡◌, ◌≢◌, ◌⊎◌, ◌+◌, ◌<◌, ◌≤◌, true, map, length, take, slice_get, IfOk, IfErr, IfSome, Some, None};
+ghost use Rattle.std.specs.Bool.{IsTrue};
+ghost use Rattle.fl_base.specs.declared.fragment.Frag.{Frag as TheFrag};
+ghost use Rattle.fl_check.specs.Interface.{interface_of};
+ghost use Rattle.fl_check.specs.Checks.{is_within_limits};
+ghost use Rattle.fl_value.specs.Value.{call_of};
+ghost use Rattle.fl_wire.specs.Reading.{ReadsLeaving, IsPart, IsWrong};
+ghost use Rattle.fl_wire.specs.Wrong.{start_fault, follow_fault, IsWrongAt};
+ghost use Rattle.fl_wire.specs.Headers.{Group, StandsFirst};
+ghost use Rattle.fl_wire.specs.Words.{interface_words_fit};
+ghost use Rattle.fl_wire.specs.declared.fault.WireFault.{WireFault as TheFault};
+ghost use Rattle.fl_wire.specs.declared.fault.WireFault.TheVariants.{Memory};
+
+use crate::bounds::numbers_fit_words;
+use crate::call::read_whole;
+use crate::fault::WireFault;
+use crate::header::{following, is_line, start_fault};
+use crate::leaf::Stop;
+use crate::types::arguments_of;
+use fl_base::{Frag, MsgNo};
+use fl_check::Interface;
+use fl_value::{Call, PlanNo};
+use std::alloc::Global;
+
+/// What a list of fragments reads as.
+#[derive(Debug, Drop)]
+pub struct Reading {
+    /// The whole calls, in order.
+    pub calls: Vec<Call>,
+    /// How many fragments are left at the end: some of the first of another call, or none.
+    pub rest: usize,
+}
+
+/// How many of the first fragments may be those of one call, by their control words: at least one. And the
+/// fault of the next one's control word, if there is a next one.
+///
+/// Fails with the fault of the first one's control word.
+fn first_group(
+    interface: &Interface,
+    frags: &[Frag],
+) -> Result<(MsgNo, usize, Option<WireFault>), WireFault>
+    requires some { 0 < length frags.now }
+    ensures within { IfOk result (λ r. r.1 ≤ length frags.now) }
+    ensures group { IfOk result (λ r. Group (interface_of interface.now) r.0.0 (take r.1 frags.now)) }
+    ensures next { IfOk result (λ r. (f : TheFrag) → slice_get frags.now r.1 ≡ Some f → follow_fault r.0.0 f ≡ r.2) }
+    ensures all { IfOk result (λ r. r.2 ≡ None → r.1 ≡ length frags.now) }
+    ensures more { IfOk result (λ r. (fault : TheFault) → r.2 ≡ Some fault → r.1 < length frags.now) }
+    ensures fault { IfErr result (λ fault. (f : TheFrag) × (slice_get frags.now 0 ≡ Some f) × (start_fault (interface_of interface.now) f ≡ Some fault)) }
+{
+    let first = &frags[0];
+    if let Some(fault) = start_fault(interface, first) {
+        return Err(fault);
+    }
+    is_line(first);
+    let msg = first.msg();
+    let (others, fault) = following(&frags[1..], msg);
+    Ok((msg, 1 + others, fault))
+}
+
+/// The call that stands first, and the number of its fragments; none where the fragments are part of a call.
+fn next_call(
+    alloc: Global,
+    interface: &Interface,
+    plan: PlanNo,
+    frags: &[Frag],
+) -> Result<Option<(Call, usize)>, WireFault>
+    requires some { 0 < length frags.now }
+    requires within { is_within_limits (interface_of interface.now) ≡ true }
+    requires words { interface_words_fit (interface_of interface.now) ≡ true }
+    ensures call { IfOk result (λ found. IfSome found (λ r. StandsFirst plan (interface_of interface.now) frags.now (call_of r.0) r.1)) }
+    ensures part { IfOk result (λ found. found ≡ None → IsPart plan (interface_of interface.now) frags.now) }
+    ensures wrong { IfErr result (λ fault. (fault ≡ Memory) ⊎ IsWrongAt plan (interface_of interface.now) frags.now fault) }
+{
+    let (msg, count, next) = first_group(interface, frags)?;
+    match read_whole(alloc, &frags[..count], plan, arguments_of(interface, msg)) {
+        Ok((args, many)) => Ok(Some((Call { msg, args }, many))),
+        Err(Stop::Short) => match next {
+            Some(fault) => Err(fault),
+            None => Ok(None),
+        },
+        Err(Stop::Padding) => Err(WireFault::NotZero),
+        Err(Stop::Value) => Err(WireFault::OutOfType),
+        Err(Stop::Length) => Err(WireFault::TooLong),
+        Err(Stop::Memory) => Err(WireFault::Memory),
+    }
+}
+
+/// The calls that fragments mean, and how many fragments are left at the end: none, or some of the first of
+/// another call. Epochs and the counts told aren't looked at. It takes time linear in the fragments and the interface.
+///
+/// # Errors
+/// The first fault of the first fragment that makes the list one that no calls' fragments begin with: a
+/// reserved bit or a circuit that isn't 0 (E63), no first fragment where one is due (E60), a first
+/// fragment inside a call (E61), a message that the interface doesn't have or that changes (E62), then the first byte at
+/// fault: where nothing stands (E63), in a value (E65) or in a length (E66). Want of memory (E99).
+pub fn read_frags(
+    alloc: Global,
+    interface: &Interface,
+    frags: &[Frag],
+    plan: PlanNo,
+) -> Result<Reading, WireFault>
+    requires within { IsTrue (is_within_limits (interface_of interface.now)) }
+    ensures read { IfOk result (λ r. ReadsLeaving plan (interface_of interface.now) frags.now (map call_of r.calls.items) r.rest) }
+    ensures right { IfOk result (λ r. IsWrong plan (interface_of interface.now) frags.now → ⊥) }
+    ensures wrong { IfErr result (λ fault. (fault ≡ Memory) ⊎ IsWrongAt plan (interface_of interface.now) frags.now fault) }
+{
+    numbers_fit_words(interface);
+    let mut calls = Vec::new(alloc);
+    let mut left = frags;
+    while !left.is_empty() {
+        match next_call(alloc, interface, plan, left)? {
+            Some((call, count)) => {
+                calls.push(call)?;
+                left = &left[count..];
+            }
+            None => break,
+        }
+    }
+    Ok(Reading {
+        calls,
+        rest: left.len(),
+    })
+}

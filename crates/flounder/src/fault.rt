@@ -1,0 +1,53 @@
+//! Why the program doesn't end well.
+
+ghost use Rattle.std.specs.Prelude.{◌≡◌};
+ghost use Rattle.flounder.specs.Status.{status_of};
+
+use fl_script::ExecFault;
+use fl_show::ShowFault;
+use std::io;
+use thiserror::Error;
+
+/// Why the program ends with another status than 0. It is printed with its line end.
+#[derive(Debug, Drop, Error)]
+pub enum Fault<'a> {
+    /// The words of the command line aren't of a form that the program has.
+    #[error("{0}")]
+    Usage(clap::Error),
+    /// The words of the command line can't be had, or are no text.
+    #[error("the words of the command line could not be read: {0}\n")]
+    Words(io::Error),
+    /// The file isn't there, or can't be read.
+    #[error("{file} could not be read: {error}\n")]
+    Unread { file: &'a str, error: io::Error },
+    /// The file's content shows nothing.
+    #[error("{0}\n")]
+    Show(ShowFault<'a>),
+    /// The script was cut short.
+    #[error("{0}\n")]
+    Exec(ExecFault),
+    /// Standard output takes no more.
+    #[error("standard output could not be written: {0}\n")]
+    Unwritten(io::Error),
+    /// Want of memory.
+    #[error("out of memory\n")]
+    Memory,
+}
+
+impl Fault<'_> {
+    /// The status with which the program ends: 1 usage, 2 a content that is refused, 3 want of memory, 4 a read or
+    /// a write that failed.
+    pub fn number(&self) -> u8
+        ensures status { result ≡ status_of self.now }
+    {
+        match self {
+            Fault::Usage(_) => 1,
+            Fault::Words(_) => 1,
+            Fault::Unread { file: _, error: _ } => 4,
+            Fault::Show(fault) => fault.number(),
+            Fault::Exec(fault) => fault.number(),
+            Fault::Unwritten(_) => 4,
+            Fault::Memory => 3,
+        }
+    }
+}
