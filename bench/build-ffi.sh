@@ -1,26 +1,53 @@
 #!/bin/sh
-# Builds the static library of the benchmarks: libflounder_bench.a, in the folder that is named.
-# The crates below it are checked in copies, in that folder too; what was checked before is kept.
+# Builds what a benchmark calls of the proved crates. `build-ffi.sh INTO NAME..` checks each source
+# bench/ffi/NAME.rattle, and puts libNAME.a into the folder INTO, or the program NAME where the source has a `main`.
+# The crates that a source uses are checked in copies, in that folder too; what was checked before is kept.
 set -eu
+rt=${RT:-rt}
 into=$1
+shift
 top=$(cd "$(dirname "$0")/.." && pwd)
-mkdir -p "$into/proved/crates/flounder_bench/src"
+mkdir -p "$into/proved/crates"
 cd "$into/proved"
-[ -d .git ] || git init -q .
 cp "$top/HANDLES" .
-for name in fl_base fl_lists fl_waitset fl_link fl_ring; do
-    [ -d "crates/$name/out" ] || { mkdir -p "crates/$name" && cp -a "$top/crates/$name/out" "crates/$name/" 2>/dev/null || true; }
-    for part in src specs proofs; do
-        rm -rf "crates/$name/$part"
-        [ ! -d "$top/crates/$name/$part" ] || cp -a "$top/crates/$name/$part" "crates/$name/$part"
+
+# the lines of crates.txt of some crates and of all below them, lowest first
+with_those_below() {
+    awk -F: -v wanted="$*" '
+        BEGIN { n = split(wanted, name, " "); for (k = 1; k <= n; k++) need[name[k]] }
+        /^[a-z]/ { line[++lines] = $0; crate[lines] = $1; uses[lines] = $2 }
+        END {
+            for (k = lines; k > 0; k--)
+                if (crate[k] in need) { n = split(uses[k], name, " "); for (j = 1; j <= n; j++) need[name[j]] }
+            for (k = 1; k <= lines; k++)
+                if (crate[k] in need) print line[k]
+        }' "$top/crates.txt"
+}
+
+for source in "$@"; do
+    text="$top/bench/ffi/$source.rattle"
+    used=$(sed -n 's/^use \(fl_[a-z_]*\)::.*/\1/p' "$text" | sort -u | tr '\n' ' ')
+    with_those_below "$used" >crates.txt
+    for name in $(cut -d: -f1 crates.txt); do
+        [ -d "crates/$name/out" ] || { mkdir -p "crates/$name" && cp -a "$top/crates/$name/out" "crates/$name/" 2>/dev/null || true; }
+        for part in src specs proofs; do
+            rm -rf "crates/$name/$part"
+            [ ! -d "$top/crates/$name/$part" ] || cp -a "$top/crates/$name/$part" "crates/$name/$part"
+        done
     done
+    mkdir -p "crates/$source/src"
+    if grep -q '^fn main(' "$text"; then
+        echo "$source: $used" >>crates.txt
+        cp "$text" "crates/$source/src/main.rt"
+        # a run without words, for the program that it leaves
+        (cd "crates/$source" && "$rt" run >/dev/null) || true
+        cp "crates/$source/out/$source" "$into/"
+    else
+        echo "$source staticlib: $used" >>crates.txt
+        cp "$text" "crates/$source/src/lib.rt"
+        (cd "crates/$source" && "$rt" lib)
+        cp "crates/$source/out/lib$source.a" "$into/"
+    fi
 done
-cp "$top/bench/ffi/lib.rattle" crates/flounder_bench/src/lib.rt
-{
-    grep -E '^(fl_base|fl_lists|fl_waitset|fl_link|fl_ring):' "$top/crates.txt"
-    echo 'flounder_bench staticlib: fl_base fl_lists fl_waitset fl_link fl_ring'
-} >crates.txt
-(cd crates/flounder_bench && "${RT:-rt}" lib)
-cp crates/flounder_bench/out/libflounder_bench.a "$into/"
-# the allocator that the library calls: the kit's, over malloc
-cp "$(dirname "$(rt doc)")/c/liblibc_c.a" "$into/"
+# the allocator that a library calls: the kit's, over malloc
+cp "$(dirname "$("$rt" doc)")/c/liblibc_c.a" "$into/"

@@ -1,22 +1,40 @@
-//! Builds the static library of the proved crates, and links it.
+//! Builds what a benchmark calls of the proved crates, and links it.
 
-use std::{env, path::PathBuf, process::Command};
+use std::{env, fs, path::PathBuf, process::Command};
+
+/// The sources in `ffi` that are built for a benchmark.
+fn sources(package: &str) -> &'static [&'static str] {
+    match package {
+        "calls-bench" => &["calls_bench"],
+        "interfaces-bench" => &["interfaces_bench"],
+        "lists-bench" => &["flounder_bench"],
+        "rings-bench" => &["flounder_bench", "flounder_threads"],
+        _ => panic!("which sources {package} needs isn't known"),
+    }
+}
 
 fn main() {
     let bench = PathBuf::from(env::var("CARGO_MANIFEST_DIR").unwrap()).join("..");
+    let sources = sources(&env::var("CARGO_PKG_NAME").unwrap());
     // One place for all benchmarks, so that the crates are checked once; not in the repository, whose
     // gate refuses sources that no check reads.
     let into = env::temp_dir().join("flounder-bench");
     let script = bench.join("build-ffi.sh");
-    let status = Command::new(&script).arg(&into).status().expect("a shell");
-    assert!(status.success(), "the static library was not built");
+    let status = Command::new(&script).arg(&into).args(sources).status().expect("a shell");
+    assert!(status.success(), "the proved crates were not built");
     println!("cargo:rerun-if-changed={}", script.display());
     println!("cargo:rerun-if-changed={}", bench.join("ffi").display());
-    for name in ["fl_base", "fl_lists", "fl_waitset", "fl_link", "fl_ring"] {
-        let source = bench.join("../crates").join(name).join("src");
-        println!("cargo:rerun-if-changed={}", source.display());
+    for proved in fs::read_dir(bench.join("../crates")).expect("the crates").flatten() {
+        println!("cargo:rerun-if-changed={}", proved.path().join("src").display());
     }
     println!("cargo:rustc-link-search=native={}", into.display());
-    println!("cargo:rustc-link-lib=static=flounder_bench");
+    for source in sources {
+        // a static library starts no threads, so what does is a program of its own
+        if *source == "flounder_threads" {
+            println!("cargo:rustc-env=FLOUNDER_THREADS={}", into.join(source).display());
+        } else {
+            println!("cargo:rustc-link-lib=static={source}");
+        }
+    }
     println!("cargo:rustc-link-lib=static=libc_c");
 }

@@ -1,81 +1,21 @@
-//! Fragments put and taken through each link, beside plain Rust queues in the same run.
+//! Fragments through each link, beside plain Rust in the same run: queues and rings with one owner,
+//! and rings between two threads.
 //!
-//! A round puts a batch of fragments and takes it. Each figure is the least time of several runs, in
-//! nanoseconds for one put and one take.
+//! `cargo run --release` times both; with the word `queues` or `threads` it times one.
 
 mod plain;
-
-use std::time::Instant;
-
-extern "C" {
-    fn flounder_local(slots: usize, rounds: u64, batch: u64) -> u64;
-    fn flounder_acked(slots: usize, rounds: u64, batch: u64) -> u64;
-    fn flounder_ring(slots: usize, rounds: u64, batch: u64) -> u64;
-    fn flounder_duo(slots: usize, rounds: u64, batch: u64) -> u64;
-}
-
-const SLOTS: usize = 64;
-const FRAGMENTS: u64 = 100_000;
-const RUNS: usize = 600;
-
-type Run = fn(u64, u64) -> u64;
-
-/// A link: its name, how many batches go through it in a round, and a run of so many rounds.
-const LINKS: [(&str, u64, Run); 4] = [
-    ("queue freed by take", 1, |rounds, batch| unsafe {
-        flounder_local(SLOTS, rounds, batch)
-    }),
-    ("queue freed by tell", 1, |rounds, batch| unsafe {
-        flounder_acked(SLOTS, rounds, batch)
-    }),
-    ("ring of one direction", 1, |rounds, batch| unsafe {
-        flounder_ring(SLOTS, rounds, batch)
-    }),
-    ("ring of two directions", 2, |rounds, batch| unsafe {
-        flounder_duo(SLOTS, rounds, batch)
-    }),
-];
-
-fn nanoseconds(run: impl Fn() -> u64, wanted: u64, fragments: u64) -> f64 {
-    let start = Instant::now();
-    let sum = run();
-    let time = start.elapsed();
-    assert_eq!(sum, wanted, "not every fragment came through");
-    time.as_nanos() as f64 / fragments as f64
-}
-
-/// The plain queues: their names, and a run of so many rounds.
-const PLAIN: [(&str, fn(usize, u64, u64) -> u64); 3] = [
-    ("VecDeque", plain::through_deque),
-    ("ring of arrays", plain::through_ring),
-    ("ring of words", plain::through_words),
-];
+mod queues;
+mod shared;
+mod threads;
 
 fn main() {
-    println!(
-        "{FRAGMENTS} fragments a run, the least of {RUNS} runs, nanoseconds for a put and a take"
-    );
-    println!("ratios: the plain queue's time over ours, so above 1 we are faster");
-    for batch in [1, 16, 32] {
-        for (name, ways, run) in LINKS {
-            let rounds = FRAGMENTS / batch / ways;
-            let fragments = rounds * batch * ways;
-            let wanted = plain::through_deque(SLOTS, rounds, batch).wrapping_mul(ways);
-            let wanted_plain = plain::through_deque(SLOTS, rounds * ways, batch);
-            let mut ours = f64::MAX;
-            let mut theirs = [f64::MAX; PLAIN.len()];
-            for _ in 0..RUNS {
-                ours = ours.min(nanoseconds(|| run(rounds, batch), wanted, fragments));
-                for (least, (_, run)) in theirs.iter_mut().zip(PLAIN) {
-                    let run = || run(SLOTS, rounds * ways, batch);
-                    *least = least.min(nanoseconds(run, wanted_plain, fragments));
-                }
-            }
-            print!("batch {batch:>2}, {name:<22} {ours:6.2}");
-            for (time, (name, _)) in theirs.iter().zip(PLAIN) {
-                print!("   {name} {time:5.2}, ratio {:.2}", time / ours);
-            }
-            println!();
+    let word = std::env::args().nth(1);
+    match word.as_deref() {
+        Some("queues") => queues::report(),
+        Some("threads") => threads::report(),
+        _ => {
+            queues::report();
+            threads::report();
         }
     }
 }

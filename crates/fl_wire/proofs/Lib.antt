@@ -17,3 +17,4 @@ pub mod Frames
 pub mod Unread
 pub mod Exits
 pub mod Defaults
+pub mod OneWord

@@ -26,6 +26,10 @@ abbrev pub words_in : Option Frag → List ℕ
 words_in None = []
 words_in (Some f) = f.words
 
+-- payload word w of some fragments; 0 past their end
+abbrev pub word_in : List Frag → ℕ → ℕ
+word_in frags w = slice_index (words_in (slice_get frags (w / 7))) (w % 7)
+
 -- payload byte p of some fragments; 0 past their end
 abbrev pub byte_in : List Frag → ℕ → ℕ
 byte_in frags p = byte_at (p % 8) (slice_index (words_in (slice_get frags (p / 56))) (p / 8 % 7))

@@ -53,7 +53,7 @@ fn read_next(
 fn blanks(alloc: Global, count: usize) -> Result<Vec<Value>, AllocError>
     ensures count { IfOk result (λ values. length values.items ≡ count) }
 {
-    let mut values = Vec::new(alloc);
+    let mut values = Vec::with_capacity(alloc, count)?;
     for _index in 0..count {
         values.push(Value::Int(0))?;
     }

@@ -38,7 +38,11 @@ fn align_to(out: &mut Vec<u8>, align: usize) -> Result<(), AllocError>
     requires align { IsAlign align }
     ensures ok { OnOk result (out.new.items ≡ out.old.items ++ replicate (round_up (length out.old.items) align - length out.old.items) 0) }
 {
-    out.extend_from_slice(&[0; 8][..missing(out.len(), align)])
+    let count = missing(out.len(), align);
+    if count == 0 {
+        return Ok(());
+    }
+    out.extend_from_slice(&[0; 8][..count])
 }
 
 // A leaf without a byte: what follows starts at a multiple of the alignment.

@@ -2,11 +2,11 @@
 
 ghost use Rattle.std.specs.Prelude.{◌≡◌, ◌≢◌, ℕ, ◌+◌, ◌-◌, ◌*◌, ◌/◌, ◌%◌, ◌^◌, ◌<◌, ◌≤◌, ◌⊎◌, nat_lt, Bool, List, map, length, slice_index, if◌then◌else◌, IfOk, IfErr};
 ghost use Rattle.std.specs.List.{range_with_len};
-ghost use Rattle.std.specs.Int.{from_le_bytes, w64};
+ghost use Rattle.std.specs.Int.{from_le_bytes, w64, byte_at};
 ghost use Rattle.fl_check.specs.Sizes.{round_up};
 ghost use Rattle.fl_layout.specs.Leaves.{Leaf};
 ghost use Rattle.fl_layout.specs.Places.{size};
-ghost use Rattle.fl_wire.specs.Standing.{FirstNonzero, byte_in};
+ghost use Rattle.fl_wire.specs.Standing.{FirstNonzero, byte_in, word_in};
 ghost use Rattle.fl_wire.specs.Shapes.{Agrees, Got, Stops, padding, number_in, number_below, ReadAt, StopsAt};
 ghost use Rattle.fl_wire.specs.declared.leaf.Stop.TheVariants.{Padding, Memory};
 
@@ -54,29 +54,38 @@ pub(crate) fn byte_at(frags: &[Frag], p: usize) -> u8
     }
 }
 
-// The number of so many bytes at a place.
+/// Word `w` of some fragments' payloads; 0 past their end.
+pub(crate) fn word_at(frags: &[Frag], w: usize) -> u64
+    ensures word { result ≡ word_in frags.now w }
+{
+    match frags.get(w / 7) {
+        Some(frag) => frag.words[w % 7],
+        None => 0,
+    }
+}
+
+/// The byte of a word that holds payload byte `p`.
+pub(crate) fn byte_of(word: u64, p: usize) -> u8
+    ensures byte { result ≡ byte_at (p % 8) word }
+{
+    word.to_le_bytes()[p % 8]
+}
+
+// The number of so many bytes at a multiple of their number, so that it stands in one word.
 fn number_at(frags: &[Frag], place: usize, width: usize) -> u64
+    requires width { (width ≡ 1) ⊎ ((width ≡ 2) ⊎ ((width ≡ 4) ⊎ (width ≡ 8))) }
+    requires aligned { place % width ≡ 0 }
     requires room { place < 2 ^ 63 }
     ensures number { result ≡ from_le_bytes w64 (map (λ j. if nat_lt j width then byte_in frags.now (place + j) else 0) (range_with_len 0 8)) }
 {
-    let byte = |j: u8| {
-        let j = usize::from(j);
-        if j < width {
-            byte_at(frags, place + j)
-        } else {
-            0
-        }
-    };
-    u64::from_le_bytes([
-        byte(0),
-        byte(1),
-        byte(2),
-        byte(3),
-        byte(4),
-        byte(5),
-        byte(6),
-        byte(7),
-    ])
+    let word = word_at(frags, place / 8);
+    let low = word >> (8 * (place % 8));
+    match width {
+        1 => low % 0x100,
+        2 => low % 0x1_0000,
+        4 => low % 0x1_0000_0000,
+        _ => word,
+    }
 }
 
 // The next multiple of an alignment.

@@ -33,20 +33,25 @@ pub struct Reading {
     pub rest: usize,
 }
 
-/// How many of the first fragments may be those of one call, by their control words: at least one. And the
-/// fault of the next one's control word, if there is a next one.
+// The first fragments that may be those of one call, by their control words.
+#[derive(Clone, Copy)]
+struct Front {
+    msg: MsgNo,
+    count: usize,
+    // The fault of the next fragment's control word; none where there is no next one.
+    next: Option<WireFault>,
+}
+
+/// The first fragments that may be those of one call, by their control words: at least one.
 ///
 /// Fails with the fault of the first one's control word.
-fn first_group(
-    interface: &Interface,
-    frags: &[Frag],
-) -> Result<(MsgNo, usize, Option<WireFault>), WireFault>
+fn front_of(interface: &Interface, frags: &[Frag]) -> Result<Front, WireFault>
     requires some { 0 < length frags.now }
-    ensures within { IfOk result (λ r. r.1 ≤ length frags.now) }
-    ensures group { IfOk result (λ r. Group (interface_of interface.now) r.0.0 (take r.1 frags.now)) }
-    ensures next { IfOk result (λ r. (f : TheFrag) → slice_get frags.now r.1 ≡ Some f → follow_fault r.0.0 f ≡ r.2) }
-    ensures all { IfOk result (λ r. r.2 ≡ None → r.1 ≡ length frags.now) }
-    ensures more { IfOk result (λ r. (fault : TheFault) → r.2 ≡ Some fault → r.1 < length frags.now) }
+    ensures within { IfOk result (λ r. r.count ≤ length frags.now) }
+    ensures group { IfOk result (λ r. Group (interface_of interface.now) r.msg.0 (take r.count frags.now)) }
+    ensures next { IfOk result (λ r. (f : TheFrag) → slice_get frags.now r.count ≡ Some f → follow_fault r.msg.0 f ≡ r.next) }
+    ensures all { IfOk result (λ r. r.next ≡ None → r.count ≡ length frags.now) }
+    ensures more { IfOk result (λ r. (fault : TheFault) → r.next ≡ Some fault → r.count < length frags.now) }
     ensures fault { IfErr result (λ fault. (f : TheFrag) × (slice_get frags.now 0 ≡ Some f) × (start_fault (interface_of interface.now) f ≡ Some fault)) }
 {
     let first = &frags[0];
@@ -55,8 +60,12 @@ fn first_group(
     }
     is_line(first);
     let msg = first.msg();
-    let (others, fault) = following(&frags[1..], msg);
-    Ok((msg, 1 + others, fault))
+    let (others, next) = following(&frags[1..], msg);
+    Ok(Front {
+        msg,
+        count: 1 + others,
+        next,
+    })
 }
 
 /// The call that stands first, and the number of its fragments; none where the fragments are part of a call.
@@ -73,10 +82,12 @@ fn next_call(
     ensures part { IfOk result (λ found. found ≡ None → IsPart plan (interface_of interface.now) frags.now) }
     ensures wrong { IfErr result (λ fault. (fault ≡ Memory) ⊎ IsWrongAt plan (interface_of interface.now) frags.now fault) }
 {
-    let (msg, count, next) = first_group(interface, frags)?;
-    match read_whole(alloc, &frags[..count], plan, arguments_of(interface, msg)) {
+    let front = front_of(interface, frags)?;
+    let msg = front.msg;
+    let types = arguments_of(interface, msg);
+    match read_whole(alloc, &frags[..front.count], plan, types) {
         Ok((args, many)) => Ok(Some((Call { msg, args }, many))),
-        Err(Stop::Short) => match next {
+        Err(Stop::Short) => match front.next {
             Some(fault) => Err(fault),
             None => Ok(None),
         },

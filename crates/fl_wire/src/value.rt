@@ -1,13 +1,13 @@
 //! Values from the bytes of fragments.
 
-ghost use Rattle.std.specs.Prelude.{◌≡◌, ℕ, ◌+◌, ◌*◌, ◌^◌, ◌<◌, ◌≤◌, map, length, IfOk, IfErr};
+ghost use Rattle.std.specs.Prelude.{◌≡◌, ℕ, ◌+◌, ◌*◌, ◌^◌, ◌<◌, ◌≤◌, map, length, IfOk, IfErr, ◌/◌, ◌%◌};
 ghost use Rattle.fl_check.specs.Interface.{scalar, enumeration, fixed, type_of, arg_type_of, fields_from};
 ghost use Rattle.fl_value.specs.Value.{number, string, elements, fields, datum_of, data_from};
 ghost use Rattle.fl_value.specs.Fits.{least_above, how_many_below};
-ghost use Rattle.fl_wire.specs.Standing.{signed_half, number_back};
+ghost use Rattle.fl_wire.specs.Standing.{signed_half, number_back, word_in};
 ghost use Rattle.fl_wire.specs.Shapes.{ReadAt, StopsAt, values_of, fields_of, elements_of, text_byte, texts_of, length_below, arguments_of};
 
-use crate::leaf::{Stop, byte_at, read_number, read_padding};
+use crate::leaf::{Stop, byte_of, read_number, read_padding, word_at};
 use crate::types::{greatest_alignment, scalar_size};
 use fl_base::{FRAG_BYTES, Frag};
 use fl_check::{ArgType, FixedType, Scalar};
@@ -111,6 +111,13 @@ fn read_enumerator(frags: &[Frag], at: usize, count: u32) -> Result<(Value, usiz
     Ok((int_value(i128::from(raw)), end))
 }
 
+// How many of so many things there can be that take a byte each, in what is left.
+fn most_left(frags: &[Frag], at: usize, count: u64) -> usize
+    requires within { at ≤ 56 * length frags.now }
+{
+    (count as usize).min(frags.len() * FRAG_BYTES - at)
+}
+
 /// The next value of a type, and where it ends.
 #[cycle(reading)]
 pub(crate) fn read_value(
@@ -156,7 +163,7 @@ fn read_fields(
     ensures read { IfOk result (λ r. ReadAt (fields_of (fields_from (map type_of fields.now))) frags.now at (data_from (map datum_of r.0.items)) r.1) }
     ensures stop { IfErr result (λ stop. StopsAt stop (fields_of (fields_from (map type_of fields.now))) frags.now at) }
 {
-    let mut values = Vec::new(alloc);
+    let mut values = Vec::with_capacity(alloc, fields.len())?;
     let mut end = at;
     for field in fields {
         let (value, after) = read_value(alloc, frags, end, field)?;
@@ -181,7 +188,7 @@ pub(crate) fn read_elements(
     ensures read { IfOk result (λ r. ReadAt (elements_of count (type_of element.now)) frags.now at (data_from (map datum_of r.0.items)) r.1) }
     ensures stop { IfErr result (λ stop. StopsAt stop (elements_of count (type_of element.now)) frags.now at) }
 {
-    let mut values = Vec::new(alloc);
+    let mut values = Vec::with_capacity(alloc, most_left(frags, at, count))?;
     let mut end = at;
     for _index in 0..count {
         let (value, after) = read_value(alloc, frags, end, element)?;
@@ -199,19 +206,33 @@ fn read_text(alloc: Global, frags: &[Frag], at: usize, count: u64) -> Result<(Ve
     ensures read { IfOk result (λ r. ReadAt (texts_of count) frags.now at r.0.items r.1) }
     ensures stop { IfErr result (λ stop. StopsAt stop (texts_of count) frags.now at) }
 {
-    let mut bytes = Vec::new(alloc);
+    let mut bytes = Vec::with_capacity(alloc, most_left(frags, at, count))?;
     let mut end = at;
+    let mut word = word_at(frags, at / 8);
     for _index in 0..count {
-        let byte = read_text_byte(frags, end)?;
+        word = word_around(frags, end, word);
+        let byte = read_text_byte(frags, end, word)?;
         bytes.push(byte)?;
         end += 1;
     }
     Ok((bytes, end))
 }
 
-/// The next byte of a string.
-fn read_text_byte(frags: &[Frag], at: usize) -> Result<u8, Stop>
+/// The word in which a payload byte stands, if the one in hand is that of the byte before.
+fn word_around(frags: &[Frag], at: usize, word: u64) -> u64
+    requires known { 0 < at % 8 → word ≡ word_in frags.now (at / 8) }
+    ensures word { result ≡ word_in frags.now (at / 8) }
+{
+    if at % 8 == 0 {
+        return word_at(frags, at / 8);
+    }
+    word
+}
+
+/// The next byte of a string, in that word.
+fn read_text_byte(frags: &[Frag], at: usize, word: u64) -> Result<u8, Stop>
     requires within { at ≤ 56 * length frags.now }
+    requires word { word ≡ word_in frags.now (at / 8) }
     ensures within { IfOk result (λ byte. at + 1 ≤ 56 * length frags.now) }
     ensures read { IfOk result (λ byte. ReadAt text_byte frags.now at byte (at + 1)) }
     ensures stop { IfErr result (λ stop. StopsAt stop text_byte frags.now at) }
@@ -219,7 +240,7 @@ fn read_text_byte(frags: &[Frag], at: usize) -> Result<u8, Stop>
     if at >= frags.len() * FRAG_BYTES {
         return Err(Stop::Short);
     }
-    let byte = byte_at(frags, at);
+    let byte = byte_of(word, at);
     if byte == 0 {
         return Err(Stop::Value);
     }

@@ -14,7 +14,7 @@ use Rattle.fl_wire.proofs.value.+reading.Goals as goal
 
 pub read_elements-returns-in_err-value-clause-stop : goal.read_elements-returns-in_err-value-clause-stop
 read_elements-returns-in_err-value-clause-stop t c =
-    let p = err_from_is_err_and c.from_residual.result c.from_residual.ensures.1 in
+    let p = err_from_is_err_and c.from_residual-in_err-value.result c.from_residual-in_err-value.ensures.1 in
     rw (p.1, p.2) (elements_stop c.args.count c.loop-index._index (type_of c.args.element.now) c.args.frags.now c.args.at c.loop-index.end (map datum_of c.loop-index.values.items) c.in_err-value.field-0.0
     c.loop-index-test.true c.loop-index.invariant.come c.in_err-value.ensures.stop)
 
@@ -33,7 +33,7 @@ read_elements-returns-clause-read t c =
 
 pub read_fields-returns-in_err-value-clause-stop : goal.read_fields-returns-in_err-value-clause-stop
 read_fields-returns-in_err-value-clause-stop t c =
-    let p = err_from_is_err_and c.from_residual.result c.from_residual.ensures.1 in
+    let p = err_from_is_err_and c.from_residual-in_err-value.result c.from_residual-in_err-value.ensures.1 in
     rw (p.1, p.2) (fields_stop type_of c.args.fields.now c.loop-field.field-index c.field-item.result c.args.frags.now c.args.at c.loop-field.end (map datum_of c.loop-field.values.items) c.in_err-value.field-0.0
     c.loop-field-test.true c.field-item.is c.loop-field.invariant.come c.in_err-value.ensures.stop)
 

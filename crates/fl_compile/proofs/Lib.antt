@@ -1,0 +1,15 @@
+pub mod Measures
+pub mod Blocks
+pub mod Near
+pub mod Payloads
+pub mod Paddings
+pub mod Numerals
+pub mod Encoded
+pub mod Turning
+pub mod Coming
+pub mod Placing
+pub mod Ordering
+pub mod Depths
+pub mod Lawful
+pub mod Compiling
+pub mod Cases

@@ -1,0 +1,44 @@
+-- What the compiler's code does: laws of every interface that is within the limits and whose numbers fit 32-bit words, as
+-- those of every accepted interface do.
+use Rattle.std.specs.Prelude.{◌≡◌, ◌↔◌, ℕ, true, List, slice_get, Some}
+use Rattle.fl_check.specs.Interface.{TheMessage, TheInterface}
+use Rattle.fl_check.specs.Checks.{is_within_limits}
+use Rattle.fl_value.specs.Value.{TheCall}
+use Rattle.fl_value.specs.Fits.{fits_of}
+use Rattle.fl_value.specs.Tape.{tape_of}
+use Rattle.fl_value.specs.declared.value.PlanNo.{PlanNo}
+use Rattle.fl_wire.specs.Payload.{payload_of}
+use Rattle.fl_wire.specs.Words.{interface_words_fit}
+use Rattle.fl_stub.specs.declared.op.Column.{Column}
+use Rattle.fl_stub.specs.declared.op.Column.TheVariants.{Send, Receive}
+use Rattle.fl_stub.specs.Structure.{IsCode}
+use Rattle.fl_stub.specs.Meaning.{Turns}
+use Rattle.fl_compile.specs.Compiled.{message_block, message_code}
+
+-- an interface within the limits, and a message of it
+pub record HasMessage (i : TheInterface) (msg : ℕ) (m : TheMessage) : Type 0 where
+  pub within : is_within_limits i ≡ true
+  pub words : interface_words_fit i ≡ true
+  pub message : slice_get i.messages msg ≡ Some m
+
+-- a fitting call of a message, which has this tape and this payload
+pub record Carries (plan : PlanNo) (i : TheInterface) (msg : ℕ) (tape bytes : List ℕ) (c : TheCall) : Type 0 where
+  pub message : c.msg ≡ msg
+  pub fits : fits_of i c ≡ true
+  pub tape_is : tape ≡ tape_of plan i c
+  pub bytes_are : bytes ≡ payload_of plan i c
+
+-- send code turns the tape of a fitting call into its payload
+abbrev pub SendsCalls : Type 0
+SendsCalls = (plan : PlanNo) (i : TheInterface) (m : TheMessage) (c : TheCall) → HasMessage i c.msg m → fits_of i c ≡ true
+    → Turns (message_block Send plan m) (tape_of plan i c) (payload_of plan i c)
+
+-- receive code takes the tape of a fitting call from its payload, and nothing else from anything
+abbrev pub TakesCalls : Type 0
+TakesCalls = (plan : PlanNo) (i : TheInterface) (msg : ℕ) (m : TheMessage) (tape bytes : List ℕ) → HasMessage i msg m
+    → Turns (message_block Receive plan m) tape bytes ↔ ((c : TheCall) × Carries plan i msg tape bytes c)
+
+-- the code of every message is code: so it is verified
+abbrev pub CompilesToCode : Type 0
+CompilesToCode = (column : Column) (plan : PlanNo) (i : TheInterface) (msg : ℕ) (m : TheMessage) → HasMessage i msg m
+    → IsCode column (message_code column plan m) (message_block column plan m)

@@ -1,0 +1,6 @@
+pub mod Compiled
+pub mod Codes
+pub mod Programs
+pub mod Laws
+pub mod Standings
+pub mod Groups

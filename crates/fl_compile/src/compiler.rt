@@ -1,0 +1,86 @@
+//! The compiler.
+
+ghost use Rattle.std.specs.Prelude.{◌≡◌, true, map, IfOk};
+ghost use Rattle.std.specs.Bool.{IsTrue};
+ghost use Rattle.std.specs.List.{list_all};
+ghost use Rattle.fl_check.specs.Interface.{arg_type_of, interface_of, message_of};
+ghost use Rattle.fl_check.specs.Checks.{is_within_limits, is_message_within};
+ghost use Rattle.fl_wire.specs.Words.{interface_words_fit, argument_words_fit};
+ghost use Rattle.fl_compile.specs.Codes.{compiled, both_compiled};
+ghost use Rattle.fl_compile.specs.Programs.{program_of};
+
+use crate::arguments::arguments_code;
+use crate::order::in_order;
+use crate::program::{MessageCode, Program};
+use fl_check::{Interface, Message};
+use fl_stub::{Code, Column, VerifiedCode, one_structure, verify};
+use fl_value::PlanNo;
+use fl_wire::numbers_fit_words;
+use std::alloc::{AllocError, Global};
+
+// The code of a message for a column, which is verified.
+fn compile_message(
+    alloc: Global,
+    message: &Message,
+    plan: PlanNo,
+    column: Column,
+) -> Result<VerifiedCode, AllocError>
+    requires within { is_message_within (message_of message.now) ≡ true }
+    requires words { list_all argument_words_fit (map arg_type_of message.now.args.items) ≡ true }
+    ensures code { IfOk result (λ code. code ≡ compiled column plan (message_of message.now)) }
+{
+    let arguments = in_order(alloc, plan, &message.args)?;
+    let ops = arguments_code(alloc, column, &arguments)?;
+    one_structure();
+    match verify(Code { ops }) {
+        Some(code) => Ok(code),
+        None => unreachable!(),
+    }
+}
+
+// Both codes of a message.
+fn compile_both(alloc: Global, message: &Message, plan: PlanNo) -> Result<MessageCode, AllocError>
+    requires within { is_message_within (message_of message.now) ≡ true }
+    requires words { list_all argument_words_fit (map arg_type_of message.now.args.items) ≡ true }
+    ensures codes { IfOk result (λ codes. codes ≡ both_compiled plan (message_of message.now)) }
+{
+    let send = compile_message(alloc, message, plan, Column::Send)?;
+    let receive = compile_message(alloc, message, plan, Column::Receive)?;
+    Ok(MessageCode { send, receive })
+}
+
+// Both codes of each message.
+fn compile_messages(
+    alloc: Global,
+    interface: &Interface,
+    plan: PlanNo,
+) -> Result<Vec<MessageCode>, AllocError>
+    requires within { is_within_limits (interface_of interface.now) ≡ true }
+    requires words { interface_words_fit (interface_of interface.now) ≡ true }
+    ensures codes { IfOk result (λ v. v.items ≡ map (both_compiled plan) (map message_of interface.now.messages.items)) }
+{
+    let mut messages = Vec::with_capacity(alloc, interface.messages.len())?;
+    for message in &interface.messages {
+        messages.push(compile_both(alloc, message, plan)?)?;
+    }
+    Ok(messages)
+}
+
+/// Compiles an interface within the limits, as each one that is accepted is, under a plan.
+///
+/// # Errors
+/// Want of memory (E99).
+pub fn compile(alloc: Global, interface: &Interface, plan: PlanNo) -> Result<Program, AllocError>
+    requires within { IsTrue (is_within_limits (interface_of interface.now)) }
+    ensures interface { IfOk result (λ p. (program_of p).interface ≡ interface_of interface.now) }
+    ensures plan { IfOk result (λ p. (program_of p).plan ≡ plan) }
+{
+    let copy = interface.duplicate(alloc)?;
+    numbers_fit_words(&copy);
+    let messages = compile_messages(alloc, &copy, plan)?;
+    Ok(Program {
+        interface: copy,
+        plan,
+        messages,
+    })
+}

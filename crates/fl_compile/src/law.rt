@@ -1,0 +1,19 @@
+//! What the compiler's code does: laws, as the contracts of functions that do nothing.
+
+ghost use Rattle.fl_compile.specs.Laws.{SendsCalls, TakesCalls, CompilesToCode};
+
+/// The send code of a message turns the tape of each fitting call into the call's payload.
+pub fn sends_calls()
+    ensures sends { SendsCalls }
+{}
+
+/// The receive code of a message takes the tape of each fitting call from the call's payload, and takes nothing else.
+pub fn takes_calls()
+    ensures takes { TakesCalls }
+{}
+
+/// The code of each message has the structure that its types tell, so that it is always verified: its operands are in
+/// range, and its loops go at most 8 deep.
+pub fn compiles_to_code()
+    ensures code { CompilesToCode }
+{}

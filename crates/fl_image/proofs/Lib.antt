@@ -1,0 +1,15 @@
+mod Loop
+mod Law
+mod Numbers
+mod Nest
+mod TypeLaws
+mod Places
+mod Written
+mod CodeLaws
+mod MessageLaws
+mod WholeLaws
+mod Caps
+mod Fitting
+mod Spelled
+mod Arranged
+mod Answered

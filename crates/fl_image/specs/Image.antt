@@ -1,0 +1,195 @@
+-- How an image spells an interface and its code under a plan: its fields in order, numbers low byte first.
+use Rattle.std.specs.Prelude.{ℕ, ◌/◌, ◌%◌, ◌==◌, ◌&&◌, ◌||◌, Bool, true, false, nat_le, List, [], ◌∷◌, ◌++◌, length, map}
+use Rattle.std.specs.List.{list_all, flat_map}
+use Rattle.std.specs.Char.{is_ascii_alphabetic, is_ascii_digit}
+use Rattle.fl_check.specs.declared.interface.Scalar.{Scalar}
+use Rattle.fl_check.specs.declared.interface.Scalar.TheVariants as scalars
+use Rattle.fl_check.specs.Interface.{TheType, scalar, enumeration, structure, array, TheTypes, no_more, field, TheArgType, fixed, text, sized, TheMessage, TheInterface}
+use Rattle.fl_check.specs.Checks.{count_of, is_within_limits}
+use Rattle.fl_value.specs.declared.value.PlanNo.{PlanNo}
+use Rattle.fl_value.specs.declared.value.PlanNo.TheVariants.{One, Two}
+use Rattle.fl_stub.specs.declared.op.Op.{Op}
+use Rattle.fl_stub.specs.declared.op.Op.TheVariants.{Emit, Pad, Align, Length, Times, Each, Back, End, Read, ReadBool, ReadEnum, ReadChar, Skip, ReadLength, ReadText, Done}
+use Rattle.fl_stub.specs.declared.op.Column.TheVariants.{Send, Receive}
+use Rattle.fl_compile.specs.Compiled.{message_code}
+
+-- ---- numbers and names
+
+-- a number in one byte, in two, and in four
+abbrev pub one : ℕ → List ℕ
+one n = n % 256 ∷ []
+
+abbrev pub two : ℕ → List ℕ
+two n = n % 256 ∷ n / 256 % 256 ∷ []
+
+abbrev pub four : ℕ → List ℕ
+four n = two n ++ two (n / 65536)
+
+-- a name: its length, and its bytes
+abbrev pub name_image : List ℕ → List ℕ
+name_image name = one (length name) ++ name
+
+-- ---- types
+
+abbrev pub scalar_code : Scalar → ℕ
+scalar_code scalars.Uint8 = 1
+scalar_code scalars.Int8 = 2
+scalar_code scalars.Bool = 3
+scalar_code scalars.Char = 4
+scalar_code scalars.Uint16 = 5
+scalar_code scalars.Int16 = 6
+scalar_code scalars.Uint32 = 7
+scalar_code scalars.Int32 = 8
+scalar_code scalars.Iref = 9
+scalar_code scalars.Uint64 = 10
+scalar_code scalars.Int64 = 11
+scalar_code scalars.Uintptr = 12
+scalar_code scalars.Intptr = 13
+scalar_code scalars.Size = 14
+scalar_code scalars.Errval = 15
+
+abbrev mutual
+  -- a type: its code, its count, what it is made of
+  pub type_image : TheType → List ℕ
+  type_image (scalar s) = one (scalar_code s)
+  type_image (enumeration n) = one 16 ++ two n
+  type_image (structure ts) = one 17 ++ (one (count_of ts) ++ fields_image ts)
+  type_image (array n t) = one 18 ++ (two n ++ type_image t)
+
+  pub fields_image : TheTypes → List ℕ
+  fields_image no_more = []
+  fields_image (field t ts) = type_image t ++ fields_image ts
+
+abbrev pub argument_image : TheArgType → List ℕ
+argument_image (fixed t) = type_image t
+argument_image (text most) = one 32 ++ two most
+argument_image (sized most t) = one 33 ++ (two most ++ type_image t)
+
+-- a message: its name, and its arguments' types
+abbrev pub message_image : TheMessage → List ℕ
+message_image m = name_image m.name ++ (one (length m.args) ++ flat_map argument_image m.args)
+
+-- an interface: its name, the number of its messages, and these
+abbrev pub interface_image : TheInterface → List ℕ
+interface_image x = name_image x.name ++ (two (length x.messages) ++ flat_map message_image x.messages)
+
+-- ---- code
+
+abbrev pub op_code : Op → ℕ
+op_code (Emit n) = 1
+op_code (Pad n) = 2
+op_code Align = 3
+op_code (Length n) = 4
+op_code (Times n) = 5
+op_code Each = 6
+op_code Back = 7
+op_code End = 8
+op_code (Read n) = 17
+op_code ReadBool = 18
+op_code (ReadEnum n) = 19
+op_code ReadChar = 20
+op_code (Skip n) = 21
+op_code (ReadLength n) = 22
+op_code ReadText = 23
+op_code Done = 24
+
+abbrev pub operand_of : Op → ℕ
+operand_of (Emit n) = n
+operand_of (Pad n) = n
+operand_of (Length n) = n
+operand_of (Times n) = n
+operand_of (Read n) = n
+operand_of (ReadEnum n) = n
+operand_of (Skip n) = n
+operand_of (ReadLength n) = n
+operand_of op = 0
+
+-- an instruction: its op, and its operand
+abbrev pub op_image : Op → List ℕ
+op_image op = one (op_code op) ++ two (operand_of op)
+
+-- the number of instructions, and these
+abbrev pub code_image : List Op → List ℕ
+code_image ops = four (length ops) ++ flat_map op_image ops
+
+-- the two codes of a message
+pub record Codes : Type 0 where
+  pub send : List Op
+  pub receive : List Op
+
+abbrev pub codes_image : Codes → List ℕ
+codes_image codes = code_image codes.send ++ code_image codes.receive
+
+-- the compiler's
+abbrev pub codes_of : PlanNo → TheMessage → Codes
+codes_of plan m = record { send = message_code Send plan m; receive = message_code Receive plan m }
+
+-- ---- whole images
+
+-- what the fields of an image say: a plan, an interface, and code of whatever kind for each message
+pub record Fields : Type 0 where
+  pub plan : PlanNo
+  pub interface : TheInterface
+  pub codes : List Codes
+
+-- the bytes F, L, N, D
+abbrev pub magic : List ℕ
+magic = 70 ∷ 76 ∷ 78 ∷ 68 ∷ []
+
+abbrev pub version_of : PlanNo → ℕ
+version_of One = 1
+version_of Two = 2
+
+abbrev pub fields_spelled : Fields → List ℕ
+fields_spelled f = magic ++ (two (version_of f.plan) ++ (interface_image f.interface ++ flat_map codes_image f.codes))
+
+-- an interface under a plan, with the compiler's code for each message
+abbrev pub compiled : PlanNo → TheInterface → Fields
+compiled plan x = record { plan = plan; interface = x; codes = map (codes_of plan) x.messages }
+
+-- the image of an interface under a plan
+abbrev pub image_of : PlanNo → TheInterface → List ℕ
+image_of plan x = fields_spelled (compiled plan x)
+
+-- ---- which interfaces have an image
+
+-- a letter or _
+abbrev pub is_letter : ℕ → Bool
+is_letter b = is_ascii_alphabetic b || (b == 95)
+
+abbrev pub is_in_word : ℕ → Bool
+is_in_word b = is_letter b || is_ascii_digit b
+
+-- a letter or _, and then letters, digits and _
+abbrev pub is_word : List ℕ → Bool
+is_word [] = false
+is_word (b ∷ bytes) = is_letter b && list_all is_in_word bytes
+
+-- a word of 1 to 64 bytes
+abbrev pub is_name : List ℕ → Bool
+is_name bytes = nat_le (length bytes) 64 && is_word bytes
+
+abbrev mutual
+  -- enums of at most 65,535 enumerators
+  pub has_short_enums : TheType → Bool
+  has_short_enums (scalar s) = true
+  has_short_enums (enumeration n) = nat_le n 65535
+  has_short_enums (structure ts) = have_short_enums ts
+  has_short_enums (array n t) = has_short_enums t
+
+  pub have_short_enums : TheTypes → Bool
+  have_short_enums no_more = true
+  have_short_enums (field t ts) = has_short_enums t && have_short_enums ts
+
+abbrev pub argument_has_short_enums : TheArgType → Bool
+argument_has_short_enums (fixed t) = has_short_enums t
+argument_has_short_enums (text most) = true
+argument_has_short_enums (sized most t) = has_short_enums t
+
+-- a message whose name and enums have room in an image
+abbrev pub is_message_spellable : TheMessage → Bool
+is_message_spellable m = is_name m.name && list_all argument_has_short_enums m.args
+
+-- an interface that has an image: within the limits, its names words, its enums short
+abbrev pub has_image : TheInterface → Bool
+has_image x = is_within_limits x && (is_name x.name && list_all is_message_spellable x.messages)

@@ -1,0 +1,5 @@
+pub mod Image
+pub mod Reading
+pub mod Views
+pub mod Limits
+pub mod Outcome

@@ -1,0 +1,41 @@
+-- What reading an image answers, as contracts see it.
+use Rattle.std.specs.Prelude.{◌≡◌, ℕ, true, List, Result, Ok, Err}
+use Rattle.fl_check.specs.Interface.{TheInterface}
+use Rattle.fl_value.specs.declared.value.PlanNo.{PlanNo}
+use Rattle.fl_compile.specs.declared.program.Program.{Program}
+use Rattle.fl_compile.specs.Programs.{program_of}
+use Rattle.fl_image.specs.declared.fault.Refusal.{Refusal}
+use Rattle.fl_image.specs.declared.fault.Refusal.TheVariants.{OtherMagic, OtherVersion, EndsEarly, BadField, OtherCode, BytesLeftOver}
+use Rattle.fl_image.specs.declared.fault.ImageFault.{ImageFault}
+use Rattle.fl_image.specs.declared.fault.ImageFault.TheVariants.{Refused, Memory}
+use Rattle.fl_image.specs.Image.{has_image, image_of}
+use Rattle.fl_image.specs.Reading.{FirstFault}
+
+-- the number of a fault; want of memory is E99
+abbrev pub refusal_number : Refusal → ℕ
+refusal_number OtherMagic = 80
+refusal_number OtherVersion = 81
+refusal_number EndsEarly = 82
+refusal_number BadField = 83
+refusal_number OtherCode = 84
+refusal_number BytesLeftOver = 85
+
+abbrev pub fault_number : ImageFault → ℕ
+fault_number (Refused r) = refusal_number r
+fault_number Memory = 99
+
+-- the program of this interface under this plan, unless memory ran out
+abbrev pub Reads : PlanNo → TheInterface → Result Program ImageFault → Type 0
+Reads plan x (Ok p) = program_of p ≡ record { interface = x; plan = plan }
+Reads plan x (Err (Refused r)) = ⊥
+Reads plan x (Err Memory) = Unit {0}
+
+-- an error tells the first fault, where it isn't want of memory
+abbrev pub Answers : ImageFault → List ℕ → Type 0
+Answers (Refused r) bytes = FirstFault bytes r
+Answers Memory bytes = Unit {0}
+
+-- Two interfaces with one image are equal, and so are their plans.
+abbrev pub OneImage : Type 0
+OneImage = (plan plan2 : PlanNo) (x y : TheInterface) → has_image x ≡ true → has_image y ≡ true → image_of plan x ≡ image_of plan2 y
+    → (plan ≡ plan2) × (x ≡ y)

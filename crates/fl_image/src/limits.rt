@@ -1,0 +1,322 @@
+//! Whether types and messages keep the limits.
+
+ghost use Rattle.std.specs.Prelude.{◌≡◌, ◌<◌, ◌≤◌, ◌*◌, ◌+◌, ◌∷◌, ℕ, List, map, nat_lt, min};
+ghost use Rattle.fl_check.specs.Interface.{TheType, TheTypes, TheArgType, type_of, arg_type_of, message_of, scalar, enumeration, structure, array, no_more, field, fixed, text, sized, fields_from};
+ghost use Rattle.fl_check.specs.Sizes.{scalar_size, round_up};
+ghost use Rattle.fl_check.specs.Depth.{is_too_big};
+ghost use Rattle.fl_check.specs.Checks.{is_well_made, are_well_made, is_type_within, is_argument_within, are_arguments_within, is_message_within};
+ghost use Rattle.fl_check.specs.Payload.{greatest_payload};
+ghost use Rattle.fl_check.specs.Known.{is_among};
+ghost use Rattle.fl_image.specs.Limits.{IsAlign, Measures, SoFar, Reaches};
+
+use fl_check::{ArgType, FixedType, Message, Scalar};
+
+/// No measure is told past this.
+const CAP: u32 = 65536;
+
+/// The size and alignment of a type in bytes, how deep structs and arrays nest in it, and how many arrays stand
+/// on one path through it.
+#[derive(Clone, Copy, Debug)]
+pub(crate) struct Measured {
+    pub size: u32,
+    pub align: u32,
+    pub depth: u32,
+    pub arrays: u32,
+}
+
+/// Where the arguments so far may end, and the alignment that is due there.
+#[derive(Clone, Copy, Debug)]
+pub(crate) struct Extent {
+    pub end: u32,
+    pub due: u32,
+}
+
+fn scalar_bytes(kind: Scalar) -> u32
+    ensures exact { result ≡ scalar_size kind }
+{
+    match kind {
+        Scalar::Uint8 | Scalar::Int8 | Scalar::Bool | Scalar::Char => 1,
+        Scalar::Uint16 | Scalar::Int16 => 2,
+        Scalar::Uint32 | Scalar::Int32 | Scalar::Iref => 4,
+        Scalar::Uint64
+        | Scalar::Int64
+        | Scalar::Uintptr
+        | Scalar::Intptr
+        | Scalar::Size
+        | Scalar::Errval => 8,
+    }
+}
+
+/// The next multiple of an alignment.
+fn next_multiple(at: u32, align: u32) -> u32
+    requires align { IsAlign align }
+    requires small { at ≤ 65536 }
+    ensures exact { result ≡ round_up at align }
+    ensures near { result ≤ at + 7 }
+{
+    at + (align - at % align) % align
+}
+
+fn of_scalar(kind: Scalar) -> Measured
+    ensures measures { Measures result (scalar kind) }
+{
+    let bytes = scalar_bytes(kind);
+    Measured {
+        size: bytes,
+        align: bytes,
+        depth: 0,
+        arrays: 0,
+    }
+}
+
+fn of_enum(count: u32) -> Measured
+    ensures measures { Measures result (enumeration count) }
+{
+    Measured {
+        size: 4,
+        align: 4,
+        depth: 0,
+        arrays: 0,
+    }
+}
+
+/// So many times a size, as far as it is told.
+fn times(count: u32, size: u32) -> u32
+    ensures capped { result ≡ min (count * size) 65536 }
+{
+    (u64::from(count) * u64::from(size)).min(65536) as u32
+}
+
+/// The array of so many of these.
+fn of_array(count: u32, element: Measured) -> Measured
+    requires small { element.depth ≤ 65536 }
+    requires few { element.arrays ≤ 65536 }
+    ensures measures { (t : TheType) → Measures element t → Measures result (array count t) }
+{
+    Measured {
+        size: times(count, element.size),
+        align: element.align,
+        depth: (element.depth + 1).min(CAP),
+        arrays: (element.arrays + 1).min(CAP),
+    }
+}
+
+/// A struct with one more field behind those so far.
+fn with_field(so_far: Measured, next: Measured) -> Measured
+    requires align { IsAlign next.align }
+    requires small { so_far.size ≤ 65536 }
+    requires small_next { next.size ≤ 65536 }
+    ensures so_far { (t : TheType) (left all : TheTypes) → Measures next t → SoFar so_far (field t left) all → SoFar result left all }
+{
+    let end = next_multiple(so_far.size, next.align) + next.size;
+    Measured {
+        size: end.min(CAP),
+        align: next.align.max(so_far.align),
+        depth: next.depth.max(so_far.depth),
+        arrays: next.arrays.max(so_far.arrays),
+    }
+}
+
+/// The struct of the fields so far.
+fn of_fields(so_far: Measured) -> Measured
+    requires align { IsAlign so_far.align }
+    requires small { so_far.size ≤ 65536 }
+    requires shallow { so_far.depth ≤ 65536 }
+    ensures measures { (all : TheTypes) → SoFar so_far no_more all → Measures result (structure all) }
+{
+    Measured {
+        size: next_multiple(so_far.size, so_far.align).min(CAP),
+        align: so_far.align,
+        depth: (so_far.depth + 1).min(CAP),
+        arrays: so_far.arrays,
+    }
+}
+
+/// The measures of a type.
+#[cycle(measures)]
+fn measure(fixed: &FixedType) -> Measured
+    ensures measures { Measures result (type_of fixed.now) }
+{
+    match fixed {
+        FixedType::Scalar(kind) => of_scalar(*kind),
+        FixedType::Enumeration(count) => of_enum(*count),
+        FixedType::Structure(fields) => measure_fields(fields),
+        FixedType::Array(count, element) => measure_array(*count, element),
+    }
+}
+
+/// The measures of an array of so many elements of a type.
+#[cycle(measures)]
+fn measure_array(count: u32, element: &FixedType) -> Measured
+    ensures measures { Measures result (array count (type_of element.now)) }
+{
+    of_array(count, measure(element))
+}
+
+/// The measures of the struct of these fields.
+#[cycle(measures)]
+fn measure_fields(fields: &[FixedType]) -> Measured
+    ensures measures { Measures result (structure (fields_from (map type_of fields.now))) }
+{
+    let mut so_far = Measured {
+        size: 0,
+        align: 1,
+        depth: 0,
+        arrays: 0,
+    };
+    for field in fields {
+        so_far = with_field(so_far, measure(field));
+    }
+    of_fields(so_far)
+}
+
+/// Whether a type has over 4,096 bytes or nests too deep.
+fn is_too_big(fixed: &FixedType) -> bool
+    ensures exact { result ≡ is_too_big (type_of fixed.now) }
+{
+    let measured = measure(fixed);
+    measured.size > 4096 || (measured.depth > 16 || measured.arrays > 7)
+}
+
+/// Whether enums and structs aren't empty, structs have at most 32 fields, and arrays 1 to 1,024 elements.
+#[cycle(made)]
+fn is_well_made(fixed: &FixedType) -> bool
+    ensures exact { result ≡ is_well_made (type_of fixed.now) }
+{
+    match fixed {
+        FixedType::Scalar(_) => true,
+        FixedType::Enumeration(count) => 1 <= *count,
+        FixedType::Structure(fields) => is_well_made_of(fields),
+        FixedType::Array(count, element) => {
+            1 <= *count && (*count <= 1024 && is_well_made(element))
+        }
+    }
+}
+
+/// Whether a struct of these fields is well made.
+#[cycle(made)]
+fn is_well_made_of(fields: &[FixedType]) -> bool
+    ensures exact { result ≡ is_well_made (structure (fields_from (map type_of fields.now))) }
+{
+    1 <= fields.len() && (fields.len() <= 32 && are_well_made(fields))
+}
+
+/// Whether each of these types is well made.
+#[cycle(made)]
+fn are_well_made(fields: &[FixedType]) -> bool
+    ensures exact { result ≡ are_well_made (fields_from (map type_of fields.now)) }
+{
+    for field in fields {
+        if !is_well_made(field) {
+            return false;
+        }
+    }
+    true
+}
+
+/// Whether a type could be declared.
+fn is_type_within(fixed: &FixedType) -> bool
+    ensures exact { result ≡ is_type_within (type_of fixed.now) }
+{
+    is_well_made(fixed) && !is_too_big(fixed)
+}
+
+/// Whether an argument's type keeps the limits.
+fn is_argument_within(argument: &ArgType) -> bool
+    ensures exact { result ≡ is_argument_within (arg_type_of argument.now) }
+{
+    match argument {
+        ArgType::Fixed(fixed) => is_type_within(fixed),
+        ArgType::Text(most) => 1 <= *most && *most <= 4096,
+        ArgType::Sized(most, element) => {
+            1 <= *most && (*most <= 4096 && is_type_within(element))
+        }
+    }
+}
+
+/// Whether the types of these arguments keep the limits.
+fn are_arguments_within(arguments: &[ArgType]) -> bool
+    ensures exact { result ≡ are_arguments_within (map arg_type_of arguments.now) }
+{
+    for argument in arguments {
+        if !is_argument_within(argument) {
+            return false;
+        }
+    }
+    true
+}
+
+/// Behind a fixed argument.
+fn behind_fixed(before: Extent, measured: Measured) -> Extent
+    requires due { IsAlign before.due }
+    requires align { IsAlign measured.align }
+    requires small { before.end ≤ 65536 }
+    requires size { measured.size ≤ 65536 }
+    ensures reaches { (t : TheType) (left : List TheArgType) (total : ℕ) → Measures measured t → Reaches before (fixed t ∷ left) total → Reaches result left total }
+{
+    let end = next_multiple(before.end, before.due.max(measured.align)) + measured.size;
+    Extent {
+        end: end.min(CAP),
+        due: 1,
+    }
+}
+
+/// Behind a string or a sized array that takes so many bytes behind its length.
+fn behind_counted(before: Extent, size: u32) -> Extent
+    requires small { before.end ≤ 65536 }
+    requires size { size ≤ 65536 }
+    ensures end { result.end ≡ min (round_up before.end 8 + (8 + size)) 65536 }
+    ensures due { result.due ≡ 8 }
+{
+    let end = next_multiple(before.end, 8) + (8 + size);
+    Extent {
+        end: end.min(CAP),
+        due: 8,
+    }
+}
+
+/// Behind an argument.
+fn behind(before: Extent, argument: &ArgType) -> Extent
+    requires due { IsAlign before.due }
+    requires small { before.end ≤ 65536 }
+    ensures reaches { (left : List TheArgType) (total : ℕ) → Reaches before (arg_type_of argument.now ∷ left) total → Reaches result left total }
+{
+    match argument {
+        ArgType::Fixed(fixed) => behind_fixed(before, measure(fixed)),
+        ArgType::Text(most) => behind_counted(before, (*most).min(CAP)),
+        ArgType::Sized(most, element) => behind_counted(
+            before,
+            times(*most, measure(element).size),
+        ),
+    }
+}
+
+/// Whether a payload of these arguments may pass 32,768 bytes.
+fn is_too_long(arguments: &[ArgType]) -> bool
+    ensures exact { result ≡ nat_lt 32768 (greatest_payload (map arg_type_of arguments.now)) }
+{
+    let mut extent = Extent { end: 0, due: 1 };
+    for argument in arguments {
+        extent = behind(extent, argument);
+    }
+    extent.end > 32768
+}
+
+/// Whether a message keeps the limits.
+pub(crate) fn is_message_within(message: &Message) -> bool
+    ensures exact { result ≡ is_message_within (message_of message.now) }
+{
+    message.args.len() <= 32 && (are_arguments_within(&message.args) && !is_too_long(&message.args))
+}
+
+/// Whether one of these messages has that name.
+pub(crate) fn is_taken(messages: &[Message], name: &[u8]) -> bool
+    ensures exact { result ≡ is_among (map (λ m. m.name) (map message_of messages.now)) name.now }
+{
+    for message in messages {
+        if message.name.bytes.as_slice() == name {
+            return true;
+        }
+    }
+    false
+}

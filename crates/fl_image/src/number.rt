@@ -1,0 +1,110 @@
+//! Numbers and names off the front of an image.
+
+ghost use Rattle.std.specs.Prelude.{◌≡◌, ◌<◌, IfOk};
+ghost use Rattle.std.specs.List.{list_all};
+ghost use Rattle.fl_image.specs.Image.{is_letter, is_in_word, is_word};
+ghost use Rattle.fl_image.specs.Reading.{Gives, one_at, two_at, four_at, len_at, word_at, name_at};
+
+use crate::fault::{ImageFault, Refusal};
+use fl_check::Word;
+use std::alloc::Global;
+
+/// A number of one byte.
+#[tactic(auto, unfolding(crate::specs::Reading::one_at))]
+pub(crate) fn one(bytes: &[u8]) -> Result<(u8, &[u8]), ImageFault>
+    ensures reads { Gives (λ x. (x.0, x.1.now)) result (one_at bytes.now) }
+{
+    match bytes {
+        [first, rest @ ..] => Ok((*first, rest)),
+        [] => Err(ImageFault::Refused(Refusal::EndsEarly)),
+    }
+}
+
+/// A number of two bytes.
+#[tactic(auto, unfolding(crate::specs::Reading::two_at))]
+pub(crate) fn two(bytes: &[u8]) -> Result<(u32, &[u8]), ImageFault>
+    ensures reads { Gives (λ x. (x.0, x.1.now)) result (two_at bytes.now) }
+    ensures small { IfOk result (λ x. x.0 < 65536) }
+{
+    let (low, rest) = one(bytes)?;
+    let (high, rest) = one(rest)?;
+    Ok((u32::from(low) + 256 * u32::from(high), rest))
+}
+
+/// A number of four bytes.
+#[tactic(auto, unfolding(crate::specs::Reading::four_at))]
+pub(crate) fn four(bytes: &[u8]) -> Result<(u32, &[u8]), ImageFault>
+    ensures reads { Gives (λ x. (x.0, x.1.now)) result (four_at bytes.now) }
+{
+    let (low, rest) = two(bytes)?;
+    let (high, rest) = two(rest)?;
+    Ok((low + 65536 * high, rest))
+}
+
+/// A letter or `_`.
+fn is_letter(byte: u8) -> bool
+    ensures exact { result ≡ is_letter byte }
+{
+    byte.is_ascii_alphabetic() || byte == b'_'
+}
+
+/// A letter, a digit or `_`.
+fn is_in_word(byte: u8) -> bool
+    ensures exact { result ≡ is_in_word byte }
+{
+    is_letter(byte) || byte.is_ascii_digit()
+}
+
+/// Letters, digits and `_` alone.
+fn are_in_word(bytes: &[u8]) -> bool
+    ensures exact { result ≡ list_all is_in_word bytes.now }
+{
+    bytes.iter().all(|byte| is_in_word(*byte))
+}
+
+/// Whether the bytes form a word.
+fn is_word(bytes: &[u8]) -> bool
+    ensures exact { result ≡ is_word bytes.now }
+{
+    let [first, more @ ..] = bytes else {
+        return false;
+    };
+    is_letter(*first) && are_in_word(more)
+}
+
+/// A word of so many bytes.
+#[tactic(auto, unfolding(crate::specs::Reading::word_at))]
+fn word(alloc: Global, len: usize, bytes: &[u8]) -> Result<(Word, &[u8]), ImageFault>
+    ensures reads { Gives (λ x. (x.0.bytes.items, x.1.now)) result (word_at len bytes.now) }
+{
+    if bytes.len() < len {
+        return Err(ImageFault::Refused(Refusal::EndsEarly));
+    }
+    let (front, rest) = bytes.split_at(len);
+    if !is_word(front) {
+        return Err(ImageFault::Refused(Refusal::BadField));
+    }
+    let bytes = Vec::from_slice(alloc, front)?;
+    Ok((Word { bytes }, rest))
+}
+
+/// The length of a name.
+#[tactic(auto, unfolding(crate::specs::Reading::len_at))]
+fn len(bytes: &[u8]) -> Result<(u8, &[u8]), ImageFault>
+    ensures reads { Gives (λ x. (x.0, x.1.now)) result (len_at bytes.now) }
+{
+    let (len, rest) = one(bytes)?;
+    if !(1 <= len && len <= 64) {
+        return Err(ImageFault::Refused(Refusal::BadField));
+    }
+    Ok((len, rest))
+}
+
+/// A name: its length, and a word of so many bytes.
+#[tactic(auto, unfolding(crate::specs::Reading::name_at))]
+pub(crate) fn name(alloc: Global, bytes: &[u8]) -> Result<(Word, &[u8]), ImageFault>
+    ensures reads { Gives (λ x. (x.0.bytes.items, x.1.now)) result (name_at bytes.now) }
+{
+    let (len, rest) = len(bytes)?;
+    word(alloc, usize::from(len), rest)
+}

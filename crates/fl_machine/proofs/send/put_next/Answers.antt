@@ -1,0 +1,10 @@
+use Rattle.std.proofs.Common.{◌++◌}
+use Rattle.fl_machine.specs.Cursors.{spot_of}
+use Rattle.fl_machine.proofs.Pours.{puts_after}
+use Rattle.fl_machine.proofs.send.put_next.Goals as goal
+
+pub returns : goal.returns
+returns c put long holds =
+    let p = c.put_run-at.ensures.puts put long holds in
+    puts_after c.args.ops.now (spot_of c.args.tape.now c.args.cursor.now) (spot_of c.args.tape.now c.put_run-at.new.cursor) (spot_of c.args.tape.now c.put_last.new.cursor)
+    put c.put_run-at.new.buffer c.put_last.new.buffer c.put_run-at.result c.put_last.result p (c.put_last.ensures (put ++ p.more) p.long p.holds)

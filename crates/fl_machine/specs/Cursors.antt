@@ -1,0 +1,55 @@
+-- A cursor as a spot of its code and tape.
+use Rattle.std.specs.Prelude.{◌≡◌, ℕ, zero, suc, ◌+◌, ◌-◌, ◌<◌, List, [], ◌∷◌, drop, slice_get, slice_index_or, Option, Some, None}
+use Rattle.fl_stub.specs.declared.op.Op.{Op}
+use Rattle.fl_stub.specs.declared.op.Op.TheVariants.{Emit, Times, Each, Back}
+use Rattle.fl_stub.specs.Spots.{TheLoop, TheSpot, bytes_from, IsSpot}
+use Rattle.fl_machine.specs.declared.cursor.Loop.{Loop}
+use Rattle.fl_machine.specs.declared.cursor.Cursor.{Cursor}
+
+abbrev pub loop_of : Loop → TheLoop
+loop_of l = record { start = l.start; turns = l.turns }
+
+abbrev pub no_loop : Loop
+no_loop = record { start = 0; turns = 0 }
+
+-- the first so many loops, the last of them first
+abbrev pub loops_of : List Loop → ℕ → List TheLoop
+loops_of loops zero = []
+loops_of loops (suc depth) = loop_of (slice_index_or loops depth no_loop) ∷ loops_of loops depth
+
+abbrev pub spot_of : List ℕ → Cursor → TheSpot
+spot_of tape c = record {
+  place = c.place;
+  loops = loops_of c.loops c.depth;
+  tape = drop c.next tape;
+  at = c.phase;
+  value = c.value;
+  width = c.width;
+}
+
+-- how many loops are open inside a loop after an instruction; none at the loop's own end
+abbrev pub inside_after : ℕ → Op → Option ℕ
+inside_after inside (Times n) = Some (inside + 1)
+inside_after inside Each = Some (inside + 1)
+inside_after zero Back = None
+inside_after (suc inside) Back = Some inside
+inside_after inside op = Some inside
+
+-- one byte given, from one spot to another
+pub record Gives (ops : List Op) (s t : TheSpot) (byte : ℕ) : Type 0 where
+  pub spot : IsSpot ops t
+  pub bytes : bytes_from ops s ≡ byte ∷ bytes_from ops t
+
+-- the innermost loop
+abbrev pub inner_of : Cursor → Loop
+inner_of c = slice_index_or c.loops (c.depth - 1) no_loop
+
+abbrev pub turns_of : Cursor → ℕ
+turns_of c = (inner_of c).turns
+
+-- the innermost loop is over one number alone, which is the one to be given
+pub record IsRun (ops : List Op) (c : Cursor) : Type 0 where
+  pub deep : 0 < c.depth
+  pub back : slice_get ops c.place ≡ Some Back
+  pub emit : slice_get ops (inner_of c).start ≡ Some (Emit c.width)
+  pub start : c.place ≡ (inner_of c).start + 1

@@ -1,0 +1,208 @@
+//! Runs of send code.
+
+ghost use Rattle.std.specs.Prelude.{◌≡◌, ◌≢◌, ◌+◌, ◌<◌, ◌≤◌, ◌++◌, ℕ, true, List, [], take, drop, map, length, slice_get, slice_index};
+ghost use Rattle.std.specs.List.{range_with_len};
+ghost use Rattle.fl_base.specs.Control.{control_word};
+ghost use Rattle.fl_stub.specs.declared.op.Column.TheVariants.{Send as send};
+ghost use Rattle.fl_stub.specs.Frames.{block_of};
+ghost use Rattle.fl_stub.specs.Meaning.{Turns, number_bytes};
+ghost use Rattle.fl_stub.specs.Given.{bytes_given};
+ghost use Rattle.fl_stub.specs.Spots.{IsSpot, IsSettled, bytes_from};
+ghost use Rattle.fl_machine.specs.Cursors.{spot_of};
+ghost use Rattle.fl_machine.specs.Filling.{Holds, Puts, PutsRun};
+ghost use Rattle.fl_machine.specs.Sending.{word as word_of, frags_of, frags_left, RunsOn};
+
+use crate::cursor::Cursor;
+use fl_base::{Circuit, Frag, MsgNo, control};
+use fl_stub::{Op, VerifiedCode};
+use std::marker::Model;
+
+/// A run of send code: the fragments of one call that are still to be given. It keeps no reference; each call is
+/// lent the code that the run was started with.
+#[derive(Drop)]
+pub struct SendRun {
+    msg: MsgNo,
+    circuit: Circuit,
+    tape: Vec<u64>,
+    begins: bool,
+    cursor: Cursor,
+}
+
+impl Model for SendRun {
+    ghost use Rattle.fl_machine.specs.Sending.{TheSending};
+    ghost use Rattle.fl_machine.specs.Cursors.{spot_of};
+
+    ghost Value = { TheSending };
+
+    ghost view = { λ r. record { msg = r.msg.0; circuit = r.circuit.0; begins = r.begins; spot = spot_of r.tape.items r.cursor } };
+}
+
+// Eight bytes of a fragment as a word.
+fn word(buffer: &[u8; 56], index: usize) -> u64
+    requires { index < 7 }
+    ensures { result ≡ word_of buffer.now index }
+{
+    let at = 8 * index;
+    u64::from_le_bytes([
+        buffer[at],
+        buffer[at + 1],
+        buffer[at + 2],
+        buffer[at + 3],
+        buffer[at + 4],
+        buffer[at + 5],
+        buffer[at + 6],
+        buffer[at + 7],
+    ])
+}
+
+fn frag_with(buffer: &[u8; 56], begins: bool, msg: MsgNo, circuit: Circuit) -> Frag
+    ensures { result ≡ record { words = map (word_of buffer.now) (range_with_len 0 7); control = control_word begins msg.0 circuit.0 } }
+{
+    Frag {
+        words: [
+            word(buffer, 0),
+            word(buffer, 1),
+            word(buffer, 2),
+            word(buffer, 3),
+            word(buffer, 4),
+            word(buffer, 5),
+            word(buffer, 6),
+        ],
+        control: control(begins, msg, circuit),
+    }
+}
+
+// A number's eight bytes from a place on.
+fn put_number(buffer: &mut [u8; 56], at: usize, number: u64)
+    requires { at + 8 ≤ 56 }
+    ensures { buffer.new ≡ take at buffer.old ++ (number_bytes 8 number ++ drop (at + 8) buffer.old) }
+{
+    buffer[at..at + 8].copy_from_slice(&number.to_le_bytes());
+}
+
+// The next bytes of a number, put at a place; the place behind them.
+fn put_last(
+    buffer: &mut [u8; 56],
+    at: usize,
+    cursor: &mut Cursor,
+    ops: &[Op],
+    tape: &[u64],
+) -> usize
+    requires place { at < 56 }
+    requires spot { IsSpot ops.now (spot_of tape.now cursor.old) }
+    requires busy { cursor.old.width ≢ 0 }
+    ensures { (put : List ℕ) → length put ≡ at → Holds buffer.old put → Puts ops.now (spot_of tape.now cursor.old) (spot_of tape.now cursor.new) put buffer.new result }
+{
+    if at > 48 {
+        buffer[at] = cursor.next_byte(ops, tape);
+        return at + 1;
+    }
+    let (number, width) = cursor.take_bytes(ops, tape);
+    put_number(buffer, at, number);
+    at + width
+}
+
+// The numbers of a loop over one number, as long as eight bytes are free behind them; the place behind them.
+fn put_run(buffer: &mut [u8; 56], at: usize, cursor: &mut Cursor, ops: &[Op], tape: &[u64]) -> usize
+    requires place { at < 56 }
+    requires spot { IsSpot ops.now (spot_of tape.now cursor.old) }
+    ensures place { result < 56 }
+    ensures spot { IsSpot ops.now (spot_of tape.now cursor.new) }
+    ensures width { cursor.new.width ≡ cursor.old.width }
+    ensures puts { (put : List ℕ) → length put ≡ at → Holds buffer.old put → PutsRun ops.now (spot_of tape.now cursor.old) (spot_of tape.now cursor.new) put buffer.new result }
+{
+    if !cursor.is_run(ops) {
+        return at;
+    }
+    let width = cursor.width();
+    let mut end = at;
+    while end < 48 && cursor.turns_left() > 0 {
+        put_number(buffer, end, cursor.take_turn(ops, tape));
+        end += width;
+    }
+    end
+}
+
+// The next bytes, put at a place; the place behind them.
+fn put_next(
+    buffer: &mut [u8; 56],
+    at: usize,
+    cursor: &mut Cursor,
+    ops: &[Op],
+    tape: &[u64],
+) -> usize
+    requires place { at < 56 }
+    requires spot { IsSpot ops.now (spot_of tape.now cursor.old) }
+    requires busy { cursor.old.width ≢ 0 }
+    ensures { (put : List ℕ) → length put ≡ at → Holds buffer.old put → Puts ops.now (spot_of tape.now cursor.old) (spot_of tape.now cursor.new) put buffer.new result }
+{
+    let at = put_run(buffer, at, cursor, ops, tape);
+    put_last(buffer, at, cursor, ops, tape)
+}
+
+// The next 56 bytes, zeros after their end.
+fn fill(cursor: &mut Cursor, ops: &[Op], tape: &[u64]) -> [u8; 56]
+    requires spot { IsSpot ops.now (spot_of tape.now cursor.old) }
+    requires settled { IsSettled ops.now (spot_of tape.now cursor.old) }
+    ensures spot { IsSpot ops.now (spot_of tape.now cursor.new) }
+    ensures settled { IsSettled ops.now (spot_of tape.now cursor.new) }
+    ensures bytes { (i : ℕ) → i < 56 → slice_index result i ≡ slice_index (bytes_from ops.now (spot_of tape.now cursor.old)) i }
+    ensures left { bytes_from ops.now (spot_of tape.now cursor.new) ≡ drop 56 (bytes_from ops.now (spot_of tape.now cursor.old)) }
+{
+    let mut buffer = [0; 56];
+    let mut filled = 0;
+    while filled < 56 && !cursor.is_idle() {
+        filled = put_next(&mut buffer, filled, cursor, ops, tape);
+        cursor.settle(ops, tape);
+    }
+    buffer
+}
+
+impl SendRun {
+    /// The run that gives the fragments of a call, by its message's send code and its tape. Takes no memory.
+    pub fn start(code: &VerifiedCode, msg: MsgNo, circuit: Circuit, tape: Vec<u64>) -> SendRun
+        requires { code.now.column ≡ send }
+        ensures runs { RunsOn code.now result }
+        ensures given { frags_left code.now result ≡ frags_of true msg.0 circuit.0 (bytes_given (block_of code.now.ops) tape.items) }
+        ensures meant { (bytes : List ℕ) → Turns (block_of code.now.ops) tape.items bytes → frags_left code.now result ≡ frags_of true msg.0 circuit.0 bytes }
+    {
+        let mut cursor = Cursor::new();
+        cursor.settle(code.ops(), &tape);
+        SendRun {
+            msg,
+            circuit,
+            tape,
+            begins: true,
+            cursor,
+        }
+    }
+
+    /// The next fragment, which stays the next; `None` after the last. Asks for the code of the start. Takes no memory.
+    pub fn peek_frag(&self, code: &VerifiedCode) -> Option<Frag>
+        requires { RunsOn code.now self.now }
+        ensures frag { result ≡ slice_get (frags_left code.now self.now) 0 }
+    {
+        if !self.begins && self.cursor.is_idle() {
+            return None;
+        }
+        let mut cursor = self.cursor;
+        let buffer = fill(&mut cursor, code.ops(), &self.tape);
+        Some(frag_with(&buffer, self.begins, self.msg, self.circuit))
+    }
+
+    /// The next fragment; `None` after the last. Asks for the code of the start. Takes no memory.
+    pub fn next_frag(&mut self, code: &VerifiedCode) -> Option<Frag>
+        requires { RunsOn code.now self.old }
+        ensures runs { RunsOn code.now self.new }
+        ensures frag { result ≡ slice_get (frags_left code.now self.old) 0 }
+        ensures left { frags_left code.now self.new ≡ drop 1 (frags_left code.now self.old) }
+    {
+        if !self.begins && self.cursor.is_idle() {
+            return None;
+        }
+        let buffer = fill(&mut self.cursor, code.ops(), &self.tape);
+        let begins = self.begins;
+        self.begins = false;
+        Some(frag_with(&buffer, begins, self.msg, self.circuit))
+    }
+}

@@ -1,0 +1,26 @@
+//! What holds of all code: laws, as the contracts of functions that do nothing.
+
+ghost use Rattle.fl_stub.specs.Structure.{OneStructure};
+ghost use Rattle.fl_stub.specs.Meaning.{OneSending, OneTaking};
+ghost use Rattle.fl_stub.specs.Given.{GivesWhatTurns, TurnsIntoGiven};
+
+/// Code has one structure, and is of one column.
+pub fn one_structure()
+    ensures structure { OneStructure }
+{}
+
+/// Code turns a tape into one list of bytes.
+pub fn one_sending()
+    ensures bytes { OneSending }
+{}
+
+/// Code takes one tape from bytes.
+pub fn one_taking()
+    ensures tape { OneTaking }
+{}
+
+/// What send code gives is what its meaning says, wherever that says anything.
+pub fn gives_what_turns()
+    ensures moments { GivesWhatTurns }
+    ensures whole { TurnsIntoGiven }
+{}

@@ -1,0 +1,173 @@
+//! How code is looked through: one pass, with a count of the loops that are open.
+
+ghost use Rattle.std.specs.Prelude.{◌≡◌, ◌+◌, ◌-◌, ◌&&◌, nat_lt, [], Some};
+ghost use Rattle.fl_stub.specs.declared.op.Column.TheVariants.{Send as send, Receive as receive};
+ghost use Rattle.fl_stub.specs.declared.walk.Standing.TheVariants.{Inside as inside};
+ghost use Rattle.fl_stub.specs.Structure.{is_width as is_width_of, is_within as is_within_of, is_step as is_step_of};
+ghost use Rattle.fl_stub.specs.Walk.{after as after_of, after_inside as after_inside_of, after_length as after_length_of, accepts as accepts_of, if_so as if_so_of, is_send, is_receive};
+
+use crate::op::{Column, Op};
+
+/// How deep loops may go.
+pub const MAX_DEPTH: u32 = 8;
+
+/// Where the walk stands.
+#[derive(Clone, Copy, Debug, PartialEq, Eq)]
+pub(crate) enum Standing {
+    /// Inside so many loops.
+    Inside(u32),
+    /// Directly after a length, inside so many loops.
+    AfterLength(u32),
+    /// After the last instruction.
+    Ended,
+}
+
+impl Column {
+    fn is_send(self) -> bool
+        ensures { result ≡ is_send self }
+    {
+        match self {
+            Column::Send => true,
+            Column::Receive => false,
+        }
+    }
+
+    fn is_receive(self) -> bool
+        ensures { result ≡ is_receive self }
+    {
+        match self {
+            Column::Send => false,
+            Column::Receive => true,
+        }
+    }
+}
+
+fn is_width(bytes: u32) -> bool
+    ensures { result ≡ is_width_of bytes }
+{
+    bytes == 1 || bytes == 2 || bytes == 4 || bytes == 8
+}
+
+fn is_within(most: u32, number: u32) -> bool
+    ensures { result ≡ is_within_of most number }
+{
+    1 <= number && number <= most
+}
+
+fn is_send_step(op: Op) -> bool
+    ensures { result ≡ is_step_of send op }
+{
+    match op {
+        Op::Emit(bytes) => is_width(bytes),
+        Op::Pad(zeros) => is_within(7, zeros),
+        Op::Align => true,
+        _ => false,
+    }
+}
+
+fn is_receive_step(op: Op) -> bool
+    ensures { result ≡ is_step_of receive op }
+{
+    match op {
+        Op::Read(bytes) => is_width(bytes),
+        Op::ReadBool | Op::ReadChar | Op::ReadText | Op::Align => true,
+        Op::ReadEnum(count) => is_within(u32::MAX, count),
+        Op::Skip(zeros) => is_within(7, zeros),
+        _ => false,
+    }
+}
+
+fn is_step(column: Column, op: Op) -> bool
+    ensures { result ≡ is_step_of column op }
+{
+    match column {
+        Column::Send => is_send_step(op),
+        Column::Receive => is_receive_step(op),
+    }
+}
+
+fn if_so(test: bool, standing: Standing) -> Option<Standing>
+    ensures { result ≡ if_so_of test standing }
+{
+    if test { Some(standing) } else { None }
+}
+
+// The loop that begins here; none goes deeper than `MAX_DEPTH`.
+fn open(in_range: bool, depth: u32) -> Option<Standing>
+    ensures { result ≡ if_so_of (in_range && nat_lt depth 8) (inside (depth + 1)) }
+{
+    if in_range && depth < MAX_DEPTH {
+        Some(Standing::Inside(depth + 1))
+    } else {
+        None
+    }
+}
+
+fn close(depth: u32) -> Option<Standing>
+    ensures { result ≡ if_so_of (nat_lt 0 depth) (inside (depth - 1)) }
+{
+    if depth > 0 {
+        Some(Standing::Inside(depth - 1))
+    } else {
+        None
+    }
+}
+
+fn after_inside(column: Column, depth: u32, op: Op) -> Option<Standing>
+    ensures { result ≡ after_inside_of column depth op }
+{
+    match op {
+        Op::Times(turns) => open(is_within(1_024, turns), depth),
+        Op::Length(most) => if_so(
+            column.is_send() && is_within(4_096, most),
+            Standing::AfterLength(depth),
+        ),
+        Op::ReadLength(most) => if_so(
+            column.is_receive() && is_within(4_096, most),
+            Standing::AfterLength(depth),
+        ),
+        Op::Back => close(depth),
+        Op::End => if_so(column.is_send() && depth == 0, Standing::Ended),
+        Op::Done => if_so(column.is_receive() && depth == 0, Standing::Ended),
+        _ => if_so(is_step(column, op), Standing::Inside(depth)),
+    }
+}
+
+fn after_length(depth: u32, op: Op) -> Option<Standing>
+    ensures { result ≡ after_length_of depth op }
+{
+    match op {
+        Op::Each => open(true, depth),
+        _ => None,
+    }
+}
+
+fn after(column: Column, standing: Standing, op: Op) -> Option<Standing>
+    ensures { result ≡ after_of column standing op }
+{
+    match standing {
+        Standing::Inside(depth) => after_inside(column, depth, op),
+        Standing::AfterLength(depth) => after_length(depth, op),
+        Standing::Ended => None,
+    }
+}
+
+fn has_ended(standing: Standing) -> bool
+    ensures { result ≡ accepts_of send (Some standing) [] }
+{
+    matches!(standing, Standing::Ended)
+}
+
+/// Whether code of a column is walked through from its first instruction to its last.
+pub(crate) fn accepts(column: Column, ops: &[Op]) -> bool
+    ensures { result ≡ accepts_of column (Some (inside 0)) ops.now }
+{
+    let mut standing = Standing::Inside(0);
+    for op in ops {
+        let Some(next) = after(column, standing, *op) else {
+            return false;
+        };
+        standing = next;
+    }
+    has_ended(standing)
+}
