@@ -5,3 +5,5 @@ pub mod Given
 pub mod Walk
 pub mod Code
 pub mod Spots
+pub mod Marks
+pub mod Streams

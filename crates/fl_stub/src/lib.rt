@@ -7,15 +7,18 @@
 //!
 //! - `op.rt`: `Op`, `Column`
 //! - `code.rt`: `Code`, `VerifiedCode`, [`verify`]
+//! - `mark.rt`: `Mark`, what stands at a byte of a payload
 //! - `law.rt`: laws of the structure and the meaning
 #![tactic(auto)]
 
 mod code;
 mod law;
+mod mark;
 mod op;
 mod walk;
 
 pub use code::{Code, VerifiedCode, verify};
 pub use law::{gives_what_turns, one_sending, one_structure, one_taking};
+pub use mark::Mark;
 pub use op::{Column, Op};
 pub use walk::MAX_DEPTH;

@@ -1,0 +1,39 @@
+-- Receive code and bytes that come bit by bit: which payloads they may be the first bytes of. Zeros follow a payload's
+-- last byte.
+use Rattle.std.specs.Prelude.{◌≡◌, ℕ, ◌+◌, ◌<◌, ◌≤◌, List, length, slice_index}
+use Rattle.fl_stub.specs.declared.mark.Mark.{Mark}
+use Rattle.fl_stub.specs.Structure.{Block}
+use Rattle.fl_stub.specs.Meaning.{Turns}
+use Rattle.fl_stub.specs.Marks.{marks_of, mark_at}
+
+-- the first so many bytes are those of a payload
+pub record Follows (n : ℕ) (bytes full : List ℕ) : Type 0 where
+  pub each : (p : ℕ) → p < n → slice_index bytes p ≡ slice_index full p
+
+-- a payload of the code, with its tape, that the first so many bytes follow
+pub record GoesOn (b : Block) (bytes : List ℕ) (n : ℕ) (tape full : List ℕ) : Type 0 where
+  pub turns : Turns b tape full
+  pub follows : Follows n bytes full
+
+-- the bytes are some of the first of a payload, and all payloads that they follow are longer
+pub record IsPart (b : Block) (bytes : List ℕ) : Type 0 where
+  pub tape : List ℕ
+  pub full : List ℕ
+  pub goes : GoesOn b bytes (length bytes) tape full
+  pub longer : (tape2 full2 : List ℕ) → GoesOn b bytes (length bytes) tape2 full2 → length bytes < length full2
+
+-- the bytes are a whole payload with this tape, and zeros
+pub record IsWhole (b : Block) (bytes tape : List ℕ) : Type 0 where
+  pub full : List ℕ
+  pub goes : GoesOn b bytes (length bytes) tape full
+  pub short : length full ≤ length bytes
+
+-- a byte up to which the bytes follow a payload, and no payload with that byte; and what stands there in that payload
+pub record IsWrong (b : Block) (bytes : List ℕ) (mark : Mark) : Type 0 where
+  pub p : ℕ
+  pub inside : p < length bytes
+  pub tape : List ℕ
+  pub full : List ℕ
+  pub goes : GoesOn b bytes p tape full
+  pub none : (tape2 full2 : List ℕ) → GoesOn b bytes (p + 1) tape2 full2 → ⊥
+  pub is : mark ≡ mark_at (marks_of b tape) p
