@@ -16,20 +16,20 @@ pub record GoesOn (b : Block) (bytes : List ℕ) (n : ℕ) (tape full : List ℕ
   pub follows : Follows n bytes full
 
 -- the bytes are some of the first of a payload, and all payloads that they follow are longer
-pub record IsPart (b : Block) (bytes : List ℕ) : Type 0 where
+pub record BeginsPayload (b : Block) (bytes : List ℕ) : Type 0 where
   pub tape : List ℕ
   pub full : List ℕ
   pub goes : GoesOn b bytes (length bytes) tape full
   pub longer : (tape2 full2 : List ℕ) → GoesOn b bytes (length bytes) tape2 full2 → length bytes < length full2
 
 -- the bytes are a whole payload with this tape, and zeros
-pub record IsWhole (b : Block) (bytes tape : List ℕ) : Type 0 where
+pub record IsPayload (b : Block) (bytes tape : List ℕ) : Type 0 where
   pub full : List ℕ
   pub goes : GoesOn b bytes (length bytes) tape full
   pub short : length full ≤ length bytes
 
 -- a byte up to which the bytes follow a payload, and no payload with that byte; and what stands there in that payload
-pub record IsWrong (b : Block) (bytes : List ℕ) (mark : Mark) : Type 0 where
+pub record LeavesPayloads (b : Block) (bytes : List ℕ) (mark : Mark) : Type 0 where
   pub p : ℕ
   pub inside : p < length bytes
   pub tape : List ℕ
