@@ -40,7 +40,8 @@ for source in "$@"; do
         echo "$source: $used" >>crates.txt
         cp "$text" "crates/$source/src/main.rt"
         # a run without words, for the program that it leaves
-        (cd "crates/$source" && "$rt" run >/dev/null) || true
+        rm -f "crates/$source/out/$source"
+        (cd "crates/$source" && "$rt" run >/dev/null)
         cp "crates/$source/out/$source" "$into/"
     else
         echo "$source staticlib: $used" >>crates.txt

@@ -9,6 +9,7 @@ fn sources(package: &str) -> &'static [&'static str] {
         "interfaces-bench" => &["interfaces_bench"],
         "lists-bench" => &["flounder_bench"],
         "rings-bench" => &["flounder_bench", "flounder_threads"],
+        "stubs-bench" => &["stubs_bench"],
         _ => panic!("which sources {package} needs isn't known"),
     }
 }

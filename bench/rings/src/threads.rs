@@ -105,10 +105,12 @@ const RING_TRIPS: Kind = Kind {
     run: |plan| {
         let (tx, far_rx) = shared::ring(plan.slots);
         let (far_tx, rx) = shared::ring(plan.slots);
-        let (taken, _) = both(
-            || call_all(tx, rx, plan),
-            || answer_all(far_tx, far_rx, plan),
-        );
+        let near = TwoRings { tx, rx };
+        let far = TwoRings {
+            tx: far_tx,
+            rx: far_rx,
+        };
+        let (taken, _) = both(|| call_all(near, plan), || answer_all(far, plan));
         taken
     },
 };
@@ -119,7 +121,7 @@ const DUO_TRIPS: Kind = Kind {
     ways: 1,
     run: |plan| {
         let (one, two) = shared::duo(plan.slots);
-        let (taken, _) = both(|| side_calls(one, plan), || side_answers(two, plan));
+        let (taken, _) = both(|| call_all(one, plan), || answer_all(two, plan));
         taken
     },
 };
@@ -172,38 +174,78 @@ fn take_all(mut rx: Receiver, plan: Plan) -> Taken {
     Taken { sum, times }
 }
 
-fn call_all(mut tx: Sender, mut rx: Receiver, plan: Plan) -> Taken {
+/// What a side of round trips puts into and takes from.
+trait Ends {
+    fn put(&mut self, words: &[u64; 8]);
+
+    /// Takes what is there, and tells it.
+    fn take(&mut self) -> Sight;
+}
+
+/// The ring there, and the ring back.
+struct TwoRings {
+    tx: Sender,
+    rx: Receiver,
+}
+
+impl Ends for TwoRings {
+    #[inline]
+    fn put(&mut self, words: &[u64; 8]) {
+        self.tx.put(words);
+    }
+
+    #[inline]
+    fn take(&mut self) -> Sight {
+        let sight = self.rx.take();
+        if let Sight::Data(_) = sight {
+            self.rx.tell();
+        }
+        sight
+    }
+}
+
+impl Ends for Side {
+    #[inline]
+    fn put(&mut self, words: &[u64; 8]) {
+        Side::put(self, words);
+    }
+
+    /// What is taken is told by what is put next.
+    #[inline]
+    fn take(&mut self) -> Sight {
+        Side::take(self)
+    }
+}
+
+/// Polls until data comes.
+#[inline]
+fn wait_for_data(ends: &mut impl Ends, plan: Plan) -> [u64; 8] {
+    loop {
+        match ends.take() {
+            Sight::Data(words) => return words,
+            _ => pause(plan),
+        }
+    }
+}
+
+/// Puts one fragment at a time, and polls until one has come back.
+fn call_all(mut ends: impl Ends, plan: Plan) -> Taken {
     let mut watch = Watch::new();
     let mut sum = 0u64;
     for word in 0..plan.count {
-        tx.put(&fragment(word));
-        loop {
-            match rx.take() {
-                Sight::Data(words) => {
-                    rx.tell();
-                    sum = sum.wrapping_add(sum_of(&words));
-                    break;
-                }
-                _ => pause(plan),
-            }
-        }
+        ends.put(&fragment(word));
+        sum = sum.wrapping_add(sum_of(&wait_for_data(&mut ends, plan)));
         watch.count();
     }
     let times = watch.times;
     Taken { sum, times }
 }
 
-fn answer_all(mut tx: Sender, mut rx: Receiver, plan: Plan) {
-    let mut answered = 0;
-    while answered < plan.count {
-        match rx.take() {
-            Sight::Data(words) => {
-                rx.tell();
-                tx.put(&words);
-                answered += 1;
-            }
-            _ => pause(plan),
-        }
+/// Puts back what comes.
+fn answer_all(mut ends: impl Ends, plan: Plan) {
+    for _ in 0..plan.count {
+        let words = wait_for_data(&mut ends, plan);
+        ends.put(&words);
     }
 }
 
@@ -227,39 +269,6 @@ fn exchange(mut side: Side, plan: Plan) -> Taken {
     }
     let times = watch.times;
     Taken { sum, times }
-}
-
-fn side_calls(mut side: Side, plan: Plan) -> Taken {
-    let mut watch = Watch::new();
-    let mut sum = 0u64;
-    for word in 0..plan.count {
-        side.put(&fragment(word));
-        loop {
-            match side.take() {
-                Sight::Data(words) => {
-                    sum = sum.wrapping_add(sum_of(&words));
-                    break;
-                }
-                _ => pause(plan),
-            }
-        }
-        watch.count();
-    }
-    let times = watch.times;
-    Taken { sum, times }
-}
-
-fn side_answers(mut side: Side, plan: Plan) {
-    let mut answered = 0;
-    while answered < plan.count {
-        match side.take() {
-            Sight::Data(words) => {
-                side.put(&fragment(words[0]));
-                answered += 1;
-            }
-            _ => pause(plan),
-        }
-    }
 }
 
 /// What the proved program says of one run.

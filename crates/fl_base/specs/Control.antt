@@ -40,7 +40,3 @@ is_ack_only frag = (frag.control / 2 % 2 ^ 47 == 2) && list_all (λ w. w == 0) f
 -- the fragment with this epoch bit
 abbrev pub with_epoch : ℕ → Frag → Frag
 with_epoch epoch frag = record { words = frag.words; control = frag.control - frag.control % 2 + epoch }
-
--- the fragment, its epoch set aside
-abbrev pub bare : Frag → Frag
-bare frag = with_epoch 0 frag

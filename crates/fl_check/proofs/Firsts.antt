@@ -18,13 +18,13 @@ use Rattle.fl_check.proofs.FirstFaults.{none_after}
 abbrev told_at : Place → ℕ → Fault
 told_at p n = record { number = n; at = p.at }
 
-contains_head : {X : Type 0} (x : X) (xs : List X) → Contains (x ∷ xs) x
+pub contains_head : {X : Type 0} (x : X) (xs : List X) → Contains (x ∷ xs) x
 contains_head x xs = Contains-append_left (x ∷ []) xs x (Contains-push [] x)
 
-contains_tail : {X : Type 0} (y : X) (xs : List X) (x : X) → Contains xs x → Contains (y ∷ xs) x
+pub contains_tail : {X : Type 0} (y : X) (xs : List X) (x : X) → Contains xs x → Contains (y ∷ xs) x
 contains_tail y xs x h = Contains-append_right (y ∷ []) xs x h
 
-contains_none : {X : Type 0} (x : X) → Contains [] x → ⊥
+pub contains_none : {X : Type 0} (x : X) → Contains [] x → ⊥
 contains_none x h = omega (arith, h.1)
 
 abbrev lesser : ℕ → Option ℕ → Option ℕ
@@ -82,7 +82,7 @@ least_from ns n (Some k) q h =
     let r : k ≡ n = omega arith in
     cc
 
-abbrev told : ℕ → ℕ → Fault
+abbrev pub told : ℕ → ℕ → Fault
 told n at = record { number = n; at = at }
 
 -- the fault at a place, by the least number broken there

@@ -6,5 +6,6 @@ pub mod Lists
 pub mod Halves
 pub mod Firsts
 pub mod Limits
+pub mod Longs
 pub mod NameSets
 pub mod NameMaps

@@ -37,11 +37,11 @@ both : (a b : Bool) → a ≡ true → b ≡ true → (a && b) ≡ true
 both true b p q = q
 both false b p q = cc
 
-or_left : (a b : Bool) → (a || b) ≡ false → a ≡ false
+pub or_left : (a b : Bool) → (a || b) ≡ false → a ≡ false
 or_left true b e = cc
 or_left false b e = refl
 
-or_right : (a b : Bool) → (a || b) ≡ false → b ≡ false
+pub or_right : (a b : Bool) → (a || b) ≡ false → b ≡ false
 or_right true b e = cc
 or_right false b e = e
 
@@ -50,11 +50,11 @@ not_true a e = ap not e
 
 -- ---- all places of a list
 
-all_front : (ps qs : List Place) → All IsSound (ps ++ qs) → All IsSound ps
+pub all_front : (ps qs : List Place) → All IsSound (ps ++ qs) → All IsSound ps
 all_front [] qs a = All-nil IsSound
 all_front (p ∷ ps) qs a = All-cons IsSound p ps (All-head IsSound p (ps ++ qs) a) (all_front ps qs (All-tail IsSound p (ps ++ qs) a))
 
-all_back : (ps qs : List Place) → All IsSound (ps ++ qs) → All IsSound qs
+pub all_back : (ps qs : List Place) → All IsSound (ps ++ qs) → All IsSound qs
 all_back [] qs a = a
 all_back (p ∷ ps) qs a = all_back ps qs (All-tail IsSound p (ps ++ qs) a)
 
@@ -63,7 +63,7 @@ all_back (p ∷ ps) qs a = all_back ps qs (All-tail IsSound p (ps ++ qs) a)
 abbrev IsWithin : TheType → Type 0
 IsWithin t = is_well_made t ≡ true
 
-abbrev AllWithin : List Named → Type 0
+abbrev pub AllWithin : List Named → Type 0
 AllWithin ks = All (λ (k : Named). is_type_within k.type ≡ true) ks
 
 declared_step : (k : Named) (r : Option TheType) (t : TheType) (b : Bool) → is_type_within k.type ≡ true → (r ≡ Some t → is_type_within t ≡ true) → (if b then Some k.type else r) ≡ Some t → is_type_within t ≡ true
@@ -196,10 +196,10 @@ shape_within b others k kind name (sized_shape len bound) a s =
     )
 
 -- an argument's type is within the limits
-abbrev ArgumentWithin : Before → TheArgument → Type 0
+abbrev pub ArgumentWithin : Before → TheArgument → Type 0
 ArgumentWithin b a = is_argument_within (argument_type b a) ≡ true
 
-arguments_all : (b : Before) (others : List (List ℕ)) (k : ℕ) (args : List TheArgument) → AllWithin b.types → k ≤ 32 → All IsSound (argument_places b others k args) → All (ArgumentWithin b) args × (k + length args ≤ 32)
+pub arguments_all : (b : Before) (others : List (List ℕ)) (k : ℕ) (args : List TheArgument) → AllWithin b.types → k ≤ 32 → All IsSound (argument_places b others k args) → All (ArgumentWithin b) args × (k + length args ≤ 32)
 arguments_all b others k [] a few s = (All-nil (ArgumentWithin b), omega arith)
 arguments_all b others k (g ∷ args) a few s =
     let rest = argument_places b (others ++ argument_names g) (k + 1) args in
@@ -207,7 +207,7 @@ arguments_all b others k (g ∷ args) a few s =
     let ih = arguments_all b (others ++ argument_names g) (k + 1) args a (omega (arith, h.1)) (all_back (argument_place b others k g) rest s) in
     (All-cons (ArgumentWithin b) g args h.0 ih.0, omega (arith, ih.1))
 
-all_within : (b : Before) (args : List TheArgument) → All (ArgumentWithin b) args → are_arguments_within (map (argument_type b) args) ≡ true
+pub all_within : (b : Before) (args : List TheArgument) → All (ArgumentWithin b) args → are_arguments_within (map (argument_type b) args) ≡ true
 all_within b [] a = refl
 all_within b (g ∷ args) a =
     both (is_argument_within (argument_type b g)) (are_arguments_within (map (argument_type b) args)) (All-head (ArgumentWithin b) g args a) (all_within b args (All-tail (ArgumentWithin b) g args a))
@@ -220,14 +220,14 @@ out_half : (b : Before) (dir : Direction) (g : TheArgument) (rest : List TheArgu
 out_half b Out g rest n h a l = (All-cons (ArgumentWithin b) g rest h a, omega arith)
 out_half b In g rest n h a l = (a, omega arith)
 
-ins_all : (b : Before) (ds : List TheDirected) → All (ArgumentWithin b) (arguments_of ds) → All (ArgumentWithin b) (ins ds) × (length (ins ds) ≤ length (arguments_of ds))
+pub ins_all : (b : Before) (ds : List TheDirected) → All (ArgumentWithin b) (arguments_of ds) → All (ArgumentWithin b) (ins ds) × (length (ins ds) ≤ length (arguments_of ds))
 ins_all b [] a = (a, omega arith)
 ins_all b (d ∷ ds) a =
     let ih = ins_all b ds (All-tail (ArgumentWithin b) d.argument (arguments_of ds) a) in
     let h = in_half b d.direction d.argument (ins ds) (length (arguments_of ds)) (All-head (ArgumentWithin b) d.argument (arguments_of ds) a) ih.0 ih.1 in
     (h.0, omega (arith, h.1))
 
-outs_all : (b : Before) (ds : List TheDirected) → All (ArgumentWithin b) (arguments_of ds) → All (ArgumentWithin b) (outs ds) × (length (outs ds) ≤ length (arguments_of ds))
+pub outs_all : (b : Before) (ds : List TheDirected) → All (ArgumentWithin b) (arguments_of ds) → All (ArgumentWithin b) (outs ds) × (length (outs ds) ≤ length (arguments_of ds))
 outs_all b [] a = (a, omega arith)
 outs_all b (d ∷ ds) a =
     let ih = outs_all b ds (All-tail (ArgumentWithin b) d.argument (arguments_of ds) a) in
@@ -279,8 +279,8 @@ within_append (m ∷ ms) ns a b =
 abbrev name_list : List TheMessage → List (List ℕ)
 name_list ms = map (λ (m : TheMessage). m.name) ms
 
-record Kept (b : Before) : Type 0 where
-  types : AllWithin b.types
+pub record Kept (b : Before) : Type 0 where
+  pub types : AllWithin b.types
   messages : are_messages_within b.messages ≡ true
   distinct : are_distinct (name_list b.messages) ≡ true
   few : length b.messages ≤ 256
@@ -331,7 +331,7 @@ rpc_name_sound b n e =
     let two = not_broken 19 (many || long) (nil_right (rule 12 (call || response)) (rule 19 (many || long)) e) in
     (or_left call response one, or_right call response one, leb-false 255 (length b.messages) (or_left many long two))
 
-too_long_sound : (n : TheName) (t : Bool) → IsSound (whole_message_place n t) → t ≡ false
+pub too_long_sound : (n : TheName) (t : Bool) → IsSound (whole_message_place n t) → t ≡ false
 unfolding whole_message_place
 too_long_sound n t e = not_broken 21 t e
 
@@ -348,7 +348,7 @@ two_distinct xs n m d p q h =
     subst (λ l. are_distinct l ≡ true) (append_assoc xs (n ∷ []) (m ∷ []))
     (distinct_push (xs ++ n ∷ []) m (distinct_push xs n d p) (among_push xs n m q h))
 
-kept_after : (b : Before) (d : TheDeclaration) → Kept b → All IsSound (declaration_places b d) → Kept (after b d)
+pub kept_after : (b : Before) (d : TheDeclaration) → Kept b → All IsSound (declaration_places b d) → Kept (after b d)
 kept_after b (alias_of new old) k s =
     let p1 = new_type_place b new false in
     let p2 = fixed_type_place b old in
@@ -422,17 +422,21 @@ kept_all b [] k s = k
 kept_all b (d ∷ ds) k s =
     kept_all (after b d) ds (kept_after b d k (all_front (declaration_places b d) (places_from (after b d) ds) s)) (all_back (declaration_places b d) (places_from (after b d) ds) s)
 
+pub kept_none : Kept nothing_declared
+kept_none = record { types = All-nil (λ (k : Named). is_type_within k.type ≡ true); messages = refl; distinct = refl; few = omega arith }
+
 -- a tree at which no rule is broken stands for an interface within the limits
 pub within_limits : (tree : TheTree) → All IsSound (places tree) → is_within_limits (interface_from tree) ≡ true
 within_limits tree s =
-    let none : Kept nothing_declared = record { types = All-nil (λ (k : Named). is_type_within k.type ≡ true); messages = refl; distinct = refl; few = omega arith } in
-    let k = kept_all nothing_declared tree.declarations none s in
+    let k = kept_all nothing_declared tree.declarations kept_none s in
     let ms = (after_all nothing_declared tree.declarations).messages in
     both (nat_le (length ms) 256) (are_distinct (name_list ms) && are_messages_within ms) (le-leb (length ms) 256 k.few)
     (both (are_distinct (name_list ms)) (are_messages_within ms) k.distinct k.messages)
 
--- a tree without a fault is checked, and what it stands for is within the limits
-pub accepted : (tree : TheTree) (i : TheInterface) → first_fault (places tree) ≡ None → i ≡ interface_from tree → Checks tree (checked i) × (is_within_limits i ≡ true)
-accepted tree i n e =
-    let s = all_sound (places tree) n in
-    ((s, e), ap is_within_limits e ∙ within_limits tree s)
+-- a tree without a fault is checked
+pub accepted : (tree : TheTree) (i : TheInterface) → first_fault (places tree) ≡ None → i ≡ interface_from tree → Checks tree (checked i)
+accepted tree i n e = (all_sound (places tree) n, e)
+
+-- what it stands for is within the limits
+pub kept : (tree : TheTree) (i : TheInterface) → first_fault (places tree) ≡ None → i ≡ interface_from tree → is_within_limits i ≡ true
+kept tree i n e = ap is_within_limits e ∙ within_limits tree (all_sound (places tree) n)

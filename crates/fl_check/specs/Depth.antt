@@ -1,6 +1,6 @@
 -- How deep a type nests, and which types are too big.
 use Rattle.std.specs.Prelude.{ℕ, ◌+◌, Bool, ◌||◌, max, nat_lt}
-use Rattle.fl_check.specs.Interface.{TheType, scalar, enumeration, structure, array, TheTypes, no_more, field}
+use Rattle.fl_check.specs.Types.{TheType, scalar, enumeration, structure, array, TheTypes, no_more, field}
 use Rattle.fl_check.specs.Sizes.{size_of}
 
 abbrev mutual

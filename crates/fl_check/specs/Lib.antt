@@ -1,3 +1,4 @@
+pub mod Types
 pub mod Interface
 pub mod Sizes
 pub mod Depth
@@ -5,6 +6,7 @@ pub mod Payload
 pub mod Known
 pub mod Places
 pub mod Checks
+pub mod TooLong
 pub mod Faults
 pub mod Views
 pub mod Outcome

@@ -1,6 +1,6 @@
 -- The greatest payload of a message, by the plan that keeps the arguments in declared order.
 use Rattle.std.specs.Prelude.{ℕ, ◌+◌, ◌*◌, List, [], ◌∷◌, max}
-use Rattle.fl_check.specs.Interface.{TheArgType, fixed, text, sized}
+use Rattle.fl_check.specs.Types.{TheArgType, fixed, text, sized}
 use Rattle.fl_check.specs.Sizes.{size_of, align_of, round_up}
 
 -- Where the last argument ends, if what stands before these ends at a place after which alignment `due`

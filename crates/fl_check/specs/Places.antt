@@ -1,6 +1,6 @@
 -- The places of a tree in the order in which they are looked at, and the rules broken at each.
 use Rattle.std.specs.Prelude.{ℕ, ◌+◌, Bool, true, false, ◌||◌, not, List, [], ◌∷◌, ◌++◌, map, length, Option, Some, None, is_some, nat_lt, nat_le, nat_eq}
-use Rattle.fl_check.specs.Interface.{TheType, enumeration, structure, fields_from, TheMessage}
+use Rattle.fl_check.specs.Types.{TheType, enumeration, structure, fields_from, TheMessage}
 use Rattle.fl_check.specs.Depth.{is_too_big}
 use Rattle.fl_check.specs.Payload.{greatest_payload}
 use Rattle.fl_check.specs.Known.{is_string, is_capability, is_built_in, is_among, Named, Before, type_named, stands_for, counted, field_type, messages_of, after, call_name, response_name}

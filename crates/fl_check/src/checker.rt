@@ -1,10 +1,10 @@
 //! From a tree to the interface it stands for.
 
-ghost use Rattle.std.specs.Prelude.{◌≡◌, OnOk, IfOk, IfErr, IfSome, None, IsTrue, map};
-ghost use Rattle.fl_check.specs.Interface.{interface_of};
+ghost use Rattle.std.specs.Prelude.{◌≡◌, OnOk, IfOk, IfErr, IfSome, None, map};
 ghost use Rattle.fl_check.specs.Known.{nothing_declared, after_all};
 ghost use Rattle.fl_check.specs.Places.{places_from};
-ghost use Rattle.fl_check.specs.Checks.{first_fault, Checks, CheckOutcome, is_within_limits};
+ghost use Rattle.fl_check.specs.Checks.{first_fault, Checks, CheckOutcome};
+ghost use Rattle.fl_check.specs.TooLong.{RefusesTooLong, AcceptsNoneTooLong};
 ghost use Rattle.fl_check.specs.Faults.{Tells};
 ghost use Rattle.fl_check.specs.Outcome.{outcome_of};
 ghost use Rattle.fl_check.specs.Views.{before_of};
@@ -26,7 +26,6 @@ use std::alloc::Global;
 /// E10 to E21 at the word or number where the rule is broken, or E99 for want of memory.
 pub fn check(alloc: Global, tree: &Tree) -> Result<Interface, CheckFault>
     ensures outcome { IfSome (outcome_of result) (λ outcome. Checks (tree_of tree.now) outcome) }
-    ensures limits { IfOk result (λ i. IsTrue (is_within_limits (interface_of i))) }
 {
     let declared = declare_all(alloc, &tree.declarations)?;
     let name = word_of(alloc, tree.name.text)?;
@@ -37,6 +36,13 @@ pub fn check(alloc: Global, tree: &Tree) -> Result<Interface, CheckFault>
 /// A law: a tree has one outcome, an interface or a fault.
 pub fn one_outcome()
     ensures unique { (tree : TheTree) (a b : CheckOutcome) → Checks tree a → Checks tree b → a ≡ b }
+{}
+
+/// Two laws on payloads that are too long (E21). Where that is the outcome, a message at whose declaration's name it is
+/// told is too long, and the types of its arguments keep the rules. A tree with such a message has no interface.
+pub fn none_too_long()
+    ensures refused { RefusesTooLong }
+    ensures accepted { AcceptsNoneTooLong }
 {}
 
 fn declare_all<'a>(

@@ -1,6 +1,10 @@
 //! An interface: its name, and for each message its name and its arguments' resolved types. Names of
 //! types, fields and arguments, and descriptions, are gone.
 
+ghost use Rattle.std.specs.Prelude.{◌≡◌, true, map};
+ghost use Rattle.fl_check.specs.Types.{message_of};
+ghost use Rattle.fl_check.specs.Checks.{is_within_limits};
+
 /// A scalar type, by its name in the language.
 #[derive(Clone, Copy, Debug, PartialEq, Eq)]
 pub enum Scalar {
@@ -56,9 +60,11 @@ pub struct Message {
     pub args: Vec<ArgType>,
 }
 
-/// An interface: its name and its messages, by number.
+/// An interface: its name and its messages, by number. Each one is within the limits: at most 256 messages, no name of
+/// two of them, at most 32 arguments a message, no payload over 32,768 bytes, and each type as it may be declared.
 #[derive(Debug, Drop)]
 pub struct Interface {
     pub name: Word,
     pub messages: Vec<Message>,
+    pub ghost within: { is_within_limits (record { name = name.bytes.items; messages = map message_of messages.items }) ≡ true },
 }

@@ -17,7 +17,7 @@ mod same;
 mod types;
 mod words;
 
-pub use checker::{check, one_outcome};
+pub use checker::{check, none_too_long, one_outcome};
 pub use explained::{Explained, TextFault};
 pub use fault::{CheckFault, Rule};
 pub use interface::{ArgType, FixedType, Interface, Message, Scalar, Word};

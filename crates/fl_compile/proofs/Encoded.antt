@@ -91,11 +91,11 @@ mutual
 -- ---- the leaves' bytes
 
 -- a value stands in a payload at a multiple of its alignment
-abbrev Lies : TheType → Datum → List Leaf → Type 0
+abbrev pub Lies : TheType → Datum → List Leaf → Type 0
 Lies t d low = payload_bytes (value_onto t d low) ≡ payload_bytes (gap (align_of t) ∷ low) ++ value_bytes t d
 
 -- and so tells where it ends
-ends : (t : TheType) (d : Datum) (low : List Leaf) → has_type t d ≡ true → Lies t d low → size (value_onto t d low) ≡ (size low + padding (size low) (align_of t)) + size_of t
+pub ends : (t : TheType) (d : Datum) (low : List Leaf) → has_type t d ≡ true → Lies t d low → size (value_onto t d low) ≡ (size low + padding (size low) (align_of t)) + size_of t
 ends t d low h lies =
     let a = align_of t in
     sym (length_payload (value_onto t d low)) ∙ ap length lies
@@ -105,7 +105,7 @@ ends t d low h lies =
     ∙ omega (arith, length_payload low, zeros_long (padding (size low) a), value_length t d h)
 
 -- what stands after a value that begins at a multiple
-after_multiple : (t : TheType) (d : Datum) (low : List Leaf) → has_type t d ≡ true → Lies t d low → IsMultiple (align_of t) (size (value_onto t d low))
+pub after_multiple : (t : TheType) (d : Datum) (low : List Leaf) → has_type t d ≡ true → Lies t d low → IsMultiple (align_of t) (size (value_onto t d low))
 after_multiple t d low h lies =
     let a = align_of t in
     subst (IsMultiple a) (sym (ends t d low h lies))
@@ -116,9 +116,9 @@ number_lies : (align width x y : ℕ) (low : List Leaf) → x ≡ y
 number_lies align width x y low e = number_written align width x low ∙ ap (λ (n : ℕ). payload_bytes (gap align ∷ low) ++ number_bytes width n) e
 
 -- one piece after another
-pub joins : (a b c : List ℕ) (low mid high : List ℕ) → mid ≡ (low ++ a) ++ b → high ≡ mid ++ c → high ≡ low ++ (a ++ (b ++ c))
-joins a b c low mid high e f =
-    f ∙ ap (λ (bs : List ℕ). bs ++ c) e ∙ append_assoc (low ++ a) b c ∙ append_assoc low a (b ++ c)
+pub joins : {A : Type 0} (a b c low mid high : List A) → mid ≡ (low ++ a) ++ b → high ≡ mid ++ c → high ≡ low ++ (a ++ (b ++ c))
+joins {A = A} a b c low mid high e f =
+    f ∙ ap (λ (bs : List A). bs ++ c) e ∙ append_assoc (low ++ a) b c ∙ append_assoc low a (b ++ c)
 
 mutual
   pub value_lies : (t : TheType) (d : Datum) (low : List Leaf) → is_well_made t ≡ true → words_fit t ≡ true → has_type t d ≡ true → Lies t d low

@@ -23,10 +23,10 @@ use Rattle.fl_compile.proofs.Ordering.{all_arranged, arranged_kinds, zip_kinds, 
 use Rattle.fl_compile.proofs.Depths.{message_args, message_is_code, message_within, message_words}
 
 -- arguments in the plan's order
-abbrev ordered : PlanNo → List TheArgType → List Datum → List Argument
+abbrev pub ordered : PlanNo → List TheArgType → List Datum → List Argument
 ordered plan ts ds = arranged kind plan (zip ts ds)
 
-order_sound : (plan : PlanNo) (ts : List TheArgType) (ds : List Datum) → are_arguments ts ds ≡ true → are_arguments_within ts ≡ true → list_all argument_words_fit ts ≡ true
+pub order_sound : (plan : PlanNo) (ts : List TheArgType) (ds : List Datum) → are_arguments ts ds ≡ true → are_arguments_within ts ≡ true → list_all argument_words_fit ts ≡ true
     → list_all is_sound (ordered plan ts ds) ≡ true
 order_sound plan ts ds h w f = all_arranged is_sound kind plan (zip ts ds) (zip_sound ts ds h w f)
 

@@ -8,8 +8,11 @@ pub mod Encoded
 pub mod Turning
 pub mod Coming
 pub mod Placing
+pub mod Marking
+pub mod Covering
 pub mod Ordering
 pub mod Depths
 pub mod Lawful
+pub mod Telling
 pub mod Compiling
 pub mod Cases

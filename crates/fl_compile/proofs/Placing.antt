@@ -56,7 +56,7 @@ arguments_bytes after at (a ∷ args) =
 abbrev pub is_sound : Argument → Bool
 is_sound a = is_argument a.0 a.1 && (is_argument_within a.0 && argument_words_fit a.0)
 
-made_of : (t : TheType) → is_type_within t ≡ true → is_well_made t ≡ true
+pub made_of : (t : TheType) → is_type_within t ≡ true → is_well_made t ≡ true
 made_of t h = (and_parts _ _ h).0
 
 -- ---- the leaves' bytes
@@ -72,7 +72,7 @@ length_lies : (after : Bool) (n : ℕ) (low : List Leaf)
     → payload_bytes (whole 8 n ∷ start_onto after low) ≡ (payload_bytes low ++ replicate (padding (size low) 8) 0) ++ number_bytes 8 n
 length_lies after n low = number_written 8 8 n (start_onto after low) ∙ ap (λ (bs : List ℕ). bs ++ number_bytes 8 n) (opened after low)
 
-length_multiple : (n : ℕ) (low : List Leaf) → IsMultiple 8 (size (whole 8 n ∷ low))
+pub length_multiple : (n : ℕ) (low : List Leaf) → IsMultiple 8 (size (whole 8 n ∷ low))
 length_multiple n low = let m = padded_multiple 8 (size low) align_eight in omega (arith, m)
 
 text_lies : (xs : List ℕ) (low : List Leaf) → payload_bytes (bytes_onto xs low) ≡ payload_bytes low ++ text_bytes xs
@@ -84,11 +84,11 @@ text_lies (x ∷ xs) low =
     ∙ append_assoc (payload_bytes low) (number_bytes 1 x) (text_bytes xs)
 
 -- a length and what it counts, after zeros
-counted_joins : (low zeros long own whole_bytes start : List ℕ) → start ≡ (low ++ zeros) ++ long → whole_bytes ≡ start ++ own → whole_bytes ≡ low ++ (zeros ++ (long ++ own))
-counted_joins low zeros long own whole_bytes start e f =
-    f ∙ ap (λ (bs : List ℕ). bs ++ own) e ∙ append_assoc (low ++ zeros) long own ∙ append_assoc low zeros (long ++ own)
+pub counted_joins : {A : Type 0} (low zeros long own whole_bytes start : List A) → start ≡ (low ++ zeros) ++ long → whole_bytes ≡ start ++ own → whole_bytes ≡ low ++ (zeros ++ (long ++ own))
+counted_joins {A = A} low zeros long own whole_bytes start e f =
+    f ∙ ap (λ (bs : List A). bs ++ own) e ∙ append_assoc (low ++ zeros) long own ∙ append_assoc low zeros (long ++ own)
 
-argument_lies : (after : Bool) (t : TheArgType) (d : Datum) (low : List Leaf) → is_sound (t, d) ≡ true
+pub argument_lies : (after : Bool) (t : TheArgType) (d : Datum) (low : List Leaf) → is_sound (t, d) ≡ true
     → payload_bytes (argument_onto t d (start_onto after low)) ≡ payload_bytes low ++ placed_bytes after (size low) t d
 argument_lies false (fixed t) d low h =
     let parts = and_parts (has_type t d) _ h in
@@ -198,7 +198,7 @@ start_turns column AfterDynamic true at ty s rest t b n h = align_turns rest at 
 start_turns column AfterDynamic false at ty s rest t b n h = absurd (false≢true s)
 
 -- zeros, and then a thing of so many bytes
-placed_end : (zeros : ℕ) (own : List ℕ) (at : ℕ) → at + length (replicate zeros 0 ++ own) ≡ (at + zeros) + length own
+pub placed_end : (zeros : ℕ) (own : List ℕ) (at : ℕ) → at + length (replicate zeros 0 ++ own) ≡ (at + zeros) + length own
 placed_end zeros own at = let e : length (replicate zeros 0 ++ own) ≡ length (replicate {A = ℕ} zeros 0) + length own = length-append (replicate zeros 0) own in omega (arith, e, zeros_long zeros)
 
 argument_turns : (column : Column) (standing : Standing) (after : Bool) (at : ℕ) (t : TheArgType) (d : Datum) → StandsAt standing after at → is_sound (t, d) ≡ true

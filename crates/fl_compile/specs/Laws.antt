@@ -9,10 +9,16 @@ use Rattle.fl_value.specs.Tape.{tape_of}
 use Rattle.fl_value.specs.declared.value.PlanNo.{PlanNo}
 use Rattle.fl_wire.specs.Payload.{payload_of}
 use Rattle.fl_wire.specs.Words.{interface_words_fit}
+use Rattle.fl_wire.specs.Wrong.{fault_at}
+use Rattle.fl_wire.specs.declared.fault.WireFault.{WireFault}
+use Rattle.fl_wire.specs.declared.fault.WireFault.TheVariants.{NotZero, OutOfType, TooLong}
+use Rattle.fl_stub.specs.declared.mark.Mark.{Mark}
+use Rattle.fl_stub.specs.declared.mark.Mark.TheVariants.{Length, Number, Zero}
 use Rattle.fl_stub.specs.declared.op.Column.{Column}
 use Rattle.fl_stub.specs.declared.op.Column.TheVariants.{Send, Receive}
 use Rattle.fl_stub.specs.Structure.{IsCode}
 use Rattle.fl_stub.specs.Meaning.{Turns}
+use Rattle.fl_stub.specs.Marks.{marks_of, mark_at}
 use Rattle.fl_compile.specs.Compiled.{message_block, message_code}
 
 -- an interface within the limits, and a message of it
@@ -42,3 +48,14 @@ TakesCalls = (plan : PlanNo) (i : TheInterface) (msg : ℕ) (m : TheMessage) (ta
 abbrev pub CompilesToCode : Type 0
 CompilesToCode = (column : Column) (plan : PlanNo) (i : TheInterface) (msg : ℕ) (m : TheMessage) → HasMessage i msg m
     → IsCode column (message_code column plan m) (message_block column plan m)
+
+-- the fault of a byte that no payload goes on with, by what stands there
+abbrev pub fault_of : Mark → WireFault
+fault_of Length = TooLong
+fault_of Number = OutOfType
+fault_of Zero = NotZero
+
+-- receive code tells the fault of each byte of a fitting call's payload, and of those behind it
+abbrev pub TellsFaults : Type 0
+TellsFaults = (plan : PlanNo) (i : TheInterface) (m : TheMessage) (c : TheCall) → HasMessage i c.msg m → fits_of i c ≡ true
+    → (p : ℕ) → fault_at plan i c p ≡ fault_of (mark_at (marks_of (message_block Receive plan m) (tape_of plan i c)) p)

@@ -1,10 +1,9 @@
 //! The compiler.
 
 ghost use Rattle.std.specs.Prelude.{◌≡◌, true, map, IfOk};
-ghost use Rattle.std.specs.Bool.{IsTrue};
 ghost use Rattle.std.specs.List.{list_all};
 ghost use Rattle.fl_check.specs.Interface.{arg_type_of, interface_of, message_of};
-ghost use Rattle.fl_check.specs.Checks.{is_within_limits, is_message_within};
+ghost use Rattle.fl_check.specs.Checks.{is_message_within};
 ghost use Rattle.fl_wire.specs.Words.{interface_words_fit, argument_words_fit};
 ghost use Rattle.fl_compile.specs.Codes.{compiled, both_compiled};
 ghost use Rattle.fl_compile.specs.Programs.{program_of};
@@ -55,7 +54,6 @@ fn compile_messages(
     interface: &Interface,
     plan: PlanNo,
 ) -> Result<Vec<MessageCode>, AllocError>
-    requires within { is_within_limits (interface_of interface.now) ≡ true }
     requires words { interface_words_fit (interface_of interface.now) ≡ true }
     ensures codes { IfOk result (λ v. v.items ≡ map (both_compiled plan) (map message_of interface.now.messages.items)) }
 {
@@ -66,12 +64,11 @@ fn compile_messages(
     Ok(messages)
 }
 
-/// Compiles an interface within the limits, as each one that is accepted is, under a plan.
+/// Compiles an interface under a plan.
 ///
 /// # Errors
 /// Want of memory (E99).
 pub fn compile(alloc: Global, interface: &Interface, plan: PlanNo) -> Result<Program, AllocError>
-    requires within { IsTrue (is_within_limits (interface_of interface.now)) }
     ensures interface { IfOk result (λ p. (program_of p).interface ≡ interface_of interface.now) }
     ensures plan { IfOk result (λ p. (program_of p).plan ≡ plan) }
 {

@@ -1,6 +1,6 @@
 //! What the compiler's code does: laws, as the contracts of functions that do nothing.
 
-ghost use Rattle.fl_compile.specs.Laws.{SendsCalls, TakesCalls, CompilesToCode};
+ghost use Rattle.fl_compile.specs.Laws.{SendsCalls, TakesCalls, CompilesToCode, TellsFaults};
 
 /// The send code of a message turns the tape of each fitting call into the call's payload.
 pub fn sends_calls()
@@ -16,4 +16,10 @@ pub fn takes_calls()
 /// range, and its loops go at most 8 deep.
 pub fn compiles_to_code()
     ensures code { CompilesToCode }
+{}
+
+/// The receive code of a message tells, at each byte of a fitting call's payload, what a byte is that no payload goes on
+/// with: a length above its bound, a number out of its type, or not zero.
+pub fn tells_faults()
+    ensures tells { TellsFaults }
 {}

@@ -2,7 +2,6 @@
 
 ghost use Rattle.std.specs.Prelude.{◌≡◌, true, map, IfOk};
 ghost use Rattle.fl_check.specs.Interface.{interface_of, message_of};
-ghost use Rattle.fl_check.specs.Checks.{is_within_limits};
 ghost use Rattle.fl_wire.specs.Words.{interface_words_fit};
 ghost use Rattle.fl_compile.specs.Codes.{both_compiled};
 
@@ -26,7 +25,6 @@ pub struct Program {
     pub(crate) interface: Interface,
     pub(crate) plan: PlanNo,
     pub(crate) messages: Vec<MessageCode>,
-    ghost within: { is_within_limits (interface_of interface) ≡ true },
     ghost words: { interface_words_fit (interface_of interface) ≡ true },
     ghost exact: { messages.items ≡ map (both_compiled plan) (map message_of interface.messages.items) },
 }
@@ -48,7 +46,6 @@ impl Program {
     ghost use Rattle.std.specs.Prelude.{◌≡◌, true, map, IfOk, slice_get};
     ghost use Rattle.std.specs.Option.{option_map};
     ghost use Rattle.fl_check.specs.Interface.{interface_of};
-    ghost use Rattle.fl_check.specs.Checks.{is_within_limits};
     ghost use Rattle.fl_wire.specs.Words.{interface_words_fit};
     ghost use Rattle.fl_stub.specs.declared.op.Column.TheVariants.{Send, Receive};
     ghost use Rattle.fl_compile.specs.Codes.{compiled};
@@ -64,7 +61,6 @@ impl Program {
     /// The interface.
     pub fn interface(&self) -> &Interface
         ensures interface { interface_of result.now ≡ (program_of self.now).interface }
-        ensures within { is_within_limits (interface_of result.now) ≡ true }
         ensures words { interface_words_fit (interface_of result.now) ≡ true }
     {
         &self.interface

@@ -1,7 +1,6 @@
 -- What reading an image answers.
 use Rattle.std.proofs.Common.{◌≡◌, ℕ, true, List, inr, Result, Ok, Err, refl, sym, ap, ◌∙◌}
 use Rattle.fl_check.specs.Interface.{TheInterface, interface_of}
-use Rattle.fl_check.specs.Checks.{is_within_limits}
 use Rattle.fl_value.specs.declared.value.PlanNo.{PlanNo}
 use Rattle.fl_compile.specs.declared.program.Program.{Program}
 use Rattle.fl_compile.specs.Programs.{TheProgram, program_of}
@@ -11,17 +10,13 @@ use Rattle.fl_image.specs.declared.fault.ImageFault.{ImageFault}
 use Rattle.fl_image.specs.declared.fault.ImageFault.TheVariants.{Refused, Memory}
 use Rattle.fl_image.specs.declared.reader.Found.{Found}
 use Rattle.fl_image.specs.Image.{Fields, compiled, has_image, image_of, fields_spelled}
-use Rattle.fl_image.specs.Reading.{Fails, fields_at, all_of, FirstFault}
+use Rattle.fl_image.specs.Reading.{Fails, all_of, FirstFault}
 use Rattle.fl_image.specs.Views.{found_view}
 use Rattle.fl_image.specs.Outcome.{Reads}
 use Rattle.fl_image.proofs.Law.{IsBytes}
-use Rattle.fl_image.proofs.WholeLaws.{fields_law, all_takes, all_again}
-use Rattle.fl_image.proofs.Fitting.{read_has_image, within_limits}
+use Rattle.fl_image.proofs.WholeLaws.{all_takes, all_again}
+use Rattle.fl_image.proofs.Fitting.{read_has_image}
 use Rattle.fl_image.proofs.Arranged.{compiled_has}
-
--- an interface that was read keeps the limits
-pub sound : (bytes : List ℕ) (f : Found) (rest : List ℕ) → IsBytes bytes → fields_at bytes ≡ Ok (found_view f, rest) → is_within_limits (interface_of f.interface) ≡ true
-sound bytes f rest h e = within_limits (interface_of f.interface) (read_has_image (interface_of f.interface) (fields_law.takes bytes (found_view f) rest h e).1.interface)
 
 -- a program compiled from the fields that were read
 pub record Fitting (f : Found) (p : Program) : Type 0 where

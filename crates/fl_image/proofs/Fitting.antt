@@ -1,5 +1,5 @@
 -- Which interfaces have an image: those that reading accepts.
-use Rattle.std.proofs.Common.{◌≡◌, ℕ, zero, suc, ◌<◌, ◌≤◌, inl, inr, Bool, true, false, ◌&&◌, ◌||◌, List, [], ◌∷◌, ◌++◌, length, map, refl, sym, ap, subst, ◌∙◌, arith}
+use Rattle.std.proofs.Common.{◌≡◌, ℕ, zero, suc, ◌<◌, ◌≤◌, inl, inr, Bool, true, false, ◌&&◌, ◌||◌, List, [], ◌∷◌, ◌++◌, length, map, Ok, refl, sym, ap, subst, ◌∙◌, arith}
 use Rattle.std.specs.Prelude.{nat_le, nat_lt, not}
 use Rattle.std.specs.List.{list_all}
 use Rattle.std.specs.Str.{bytes_eq}
@@ -13,10 +13,10 @@ use Rattle.fl_check.specs.Known.{is_among}
 use Rattle.fl_check.specs.Checks.{count_of, is_well_made, are_well_made, is_type_within, is_argument_within, are_arguments_within, is_message_within, are_messages_within, are_distinct, is_within_limits}
 use Rattle.fl_check.specs.Places.{is_too_long}
 use Rattle.fl_image.specs.Image.{is_name, has_short_enums, have_short_enums, argument_has_short_enums, is_message_spellable, has_image}
-use Rattle.fl_image.specs.Reading.{is_next}
-use Rattle.fl_image.proofs.Law.{AllAfter}
+use Rattle.fl_image.specs.Reading.{is_next, name_at, messages_at, interface_at}
+use Rattle.fl_image.proofs.Law.{IsBytes, AllAfter}
 use Rattle.fl_image.proofs.TypeLaws.{NestsIn}
-use Rattle.fl_image.proofs.MessageLaws.{HasArgument, HasMessage, IsNext, HasInterface}
+use Rattle.fl_image.proofs.MessageLaws.{HasArgument, HasMessage, IsNext, HasInterface, interface_law}
 
 both : (a b : Bool) → a ≡ true → b ≡ true → (a && b) ≡ true
 both a b e f = rw (e, f) refl
@@ -238,5 +238,14 @@ image_has x h =
       messages = (c.0, messages_have [] x.messages record { spelled = b.1; within = d.1; distinct = d.0; fresh = none_fresh (names x.messages) });
     }
 
-pub within_limits : (x : TheInterface) → has_image x ≡ true → is_within_limits x ≡ true
+within_limits : (x : TheInterface) → has_image x ≡ true → is_within_limits x ≡ true
 within_limits x h = (and_parts (is_within_limits x) (is_name x.name && list_all is_message_spellable x.messages) h).0
+
+-- a name and messages that were read are those of an interface within the limits
+pub kept : (bytes behind rest name : List ℕ) (messages : List TheMessage) → IsBytes bytes → name_at bytes ≡ Ok (name, behind) → messages_at behind ≡ Ok (messages, rest)
+    → is_within_limits (record { name = name; messages = messages }) ≡ true
+unfolding interface_at
+kept bytes behind rest name messages h e f =
+    let x : TheInterface = record { name = name; messages = messages } in
+    let read : interface_at bytes ≡ Ok (x, rest) = rw (e, f) refl in
+    within_limits x (read_has_image x (interface_law.takes bytes x rest h read).1)

@@ -11,22 +11,22 @@ use thiserror::Error;
 #[derive(Clone, Copy, Debug, PartialEq, Eq, Drop, Error)]
 pub enum Refusal {
     /// The first four bytes aren't `FLND`: fault 80.
-    #[error("not an image")]
+    #[error("not an image: it doesn't begin with FLND")]
     OtherMagic,
     /// A version other than 1 and 2: fault 81.
-    #[error("an image of another version")]
+    #[error("an image of another version: only versions 1 and 2 are known")]
     OtherVersion,
     /// The bytes end inside a field, or where one is due: fault 82.
-    #[error("the image ends early")]
+    #[error("the image ends early: it was cut, or not written whole")]
     EndsEarly,
     /// A name, count, type, op or operand out of its range, or an interface that breaks a limit: fault 83.
-    #[error("a field of the image is bad")]
+    #[error("a name, number, type or instruction of the image is out of its range, or its interface breaks a limit")]
     BadField,
     /// Code that isn't what the compiler gives for the types: fault 84.
-    #[error("the image's code isn't the compiler's")]
+    #[error("the image's code isn't what the compiler gives for its interface; make the image anew from the text")]
     OtherCode,
     /// Bytes behind the last field: fault 85.
-    #[error("bytes are left over behind the image")]
+    #[error("bytes are left over behind the image's last field")]
     BytesLeftOver,
 }
 

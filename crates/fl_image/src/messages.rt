@@ -83,7 +83,7 @@ fn messages(alloc: Global, bytes: &[u8]) -> Result<(Vec<Message>, &[u8]), ImageF
     some_messages(alloc, count, rest)
 }
 
-/// An interface: its name, and its messages.
+/// An interface: its name, and its messages. They were looked at one by one: so it is within the limits.
 #[tactic(auto, unfolding(crate::specs::Reading::interface_at))]
 pub(crate) fn interface(alloc: Global, bytes: &[u8]) -> Result<(Interface, &[u8]), ImageFault>
     ensures reads { Gives (λ x. (interface_of x.0, x.1.now)) result (interface_at bytes.now) }

@@ -3,7 +3,6 @@
 ghost use Rattle.std.specs.Prelude.{◌≡◌, true, IfOk, IfErr};
 ghost use Rattle.std.specs.Bool.{Decides};
 ghost use Rattle.fl_check.specs.Interface.{TheInterface, interface_of};
-ghost use Rattle.fl_check.specs.Checks.{is_within_limits};
 ghost use Rattle.fl_value.specs.declared.value.PlanNo.{PlanNo as the_plan};
 ghost use Rattle.fl_compile.specs.Programs.{program_of};
 ghost use Rattle.fl_image.specs.Image.{has_image, image_of};
@@ -75,7 +74,6 @@ fn fields(alloc: Global, bytes: &[u8]) -> Result<(Found, &[u8]), ImageFault>
 #[tactic(auto, unfolding(crate::specs::Reading::all_of))]
 fn all(alloc: Global, bytes: &[u8]) -> Result<Found, ImageFault>
     ensures reads { Gives found_view result (all_of bytes.now) }
-    ensures sound { IfOk result (λ f. is_within_limits (interface_of f.interface) ≡ true) }
 {
     let (found, rest) = fields(alloc, bytes)?;
     if !rest.is_empty() {

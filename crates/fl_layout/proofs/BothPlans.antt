@@ -39,7 +39,7 @@ limit_full plan m =
     ap (end_of_all 0 1) (map_map (filled_up Full) placing order ∙ sym (map_map full type order) ∙ ap (map full) (sym types))
 
 -- under the first plan this is what the limit is looked at for
-end_is : (ts : List TheArgType) (at due : ℕ) → end_of_all at due (map full ts) ≡ greatest_end at due ts
+pub end_is : (ts : List TheArgType) (at due : ℕ) → end_of_all at due (map full ts) ≡ greatest_end at due ts
 end_is [] at due = refl
 end_is (fixed t ∷ ts) at due = end_is ts (round_up at (max due (align_of t)) + size_of t) 1
 end_is (text most ∷ ts) at due = end_is ts (round_up at 8 + (8 + most)) 8

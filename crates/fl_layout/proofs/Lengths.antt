@@ -93,27 +93,34 @@ up_by fill plan m ds h = by_number plan m ds (with_count (λ y. count_by fill (e
 abbrev pub limit : Fill → PlanNo → TheMessage → ℕ
 limit fill plan m = end_of_all 0 1 (map (filled_up fill) (placed_of plan m))
 
--- a call that fits is sent
-pub is_sent : (plan : PlanNo) (i : TheInterface) (msg : ℕ) (m : TheMessage) (c : TheCall) → is_within_limits i ≡ true
-    → slice_get i.messages msg ≡ Some m → IsCallOf i msg c → Sent plan i m c
-is_sent plan i msg m c w e s =
+-- the types of a message of an interface within the limits
+pub types_within : (i : TheInterface) (msg : ℕ) (m : TheMessage) → is_within_limits i ≡ true → slice_get i.messages msg ≡ Some m → are_arguments_within m.args ≡ true
+types_within i msg m w e =
     let within = and_parts _ _ (and_parts _ _ w).1 in
     let this = message_within i.messages msg m within.1 e in
+    (and_parts _ _ (and_parts _ _ this).1).0
+
+-- a call that fits is sent
+pub sent_of : (plan : PlanNo) (i : TheInterface) (msg : ℕ) (m : TheMessage) (c : TheCall) → are_arguments_within m.args ≡ true
+    → slice_get i.messages msg ≡ Some m → IsCallOf i msg c → Sent plan i m c
+sent_of plan i msg m c w e s =
     let named : slice_get i.messages c.msg ≡ Some m = ap (slice_get i.messages) s.names ∙ e in
     let fits : fit_message (Some m) c.args ≡ true = sym (ap (λ o. fit_message o c.args) named) ∙ s.fits in
-    record { within = (and_parts _ _ (and_parts _ _ this).1).0; has = fits; named = named }
+    record { within = w; has = fits; named = named }
+
+pub is_sent : (plan : PlanNo) (i : TheInterface) (msg : ℕ) (m : TheMessage) (c : TheCall) → is_within_limits i ≡ true
+    → slice_get i.messages msg ≡ Some m → IsCallOf i msg c → Sent plan i m c
+is_sent plan i msg m c w e s = sent_of plan i msg m c (types_within i msg m w e) e s
 
 -- a message's call with these values
 abbrev pub call_with : ℕ → TheMessage → (TheArgType → Datum) → TheCall
 call_with msg m value = record { msg = msg; args = map value m.args }
 
-pub is_call : (i : TheInterface) (msg : ℕ) (m : TheMessage) (value : TheArgType → Datum)
+is_call : (i : TheInterface) (msg : ℕ) (m : TheMessage) (value : TheArgType → Datum)
     → ((t : TheArgType) → is_argument_within t ≡ true → is_argument t (value t) ≡ true)
-    → is_within_limits i ≡ true → slice_get i.messages msg ≡ Some m → IsCallOf i msg (call_with msg m value)
+    → are_arguments_within m.args ≡ true → slice_get i.messages msg ≡ Some m → IsCallOf i msg (call_with msg m value)
 is_call i msg m value is w e =
-    let within = and_parts _ _ (and_parts _ _ w).1 in
-    let this = message_within i.messages msg m within.1 e in
-    let has = are_of value is m.args (and_parts _ _ (and_parts _ _ this).1).0 in
+    let has = are_of value is m.args w in
     record { fits = ap (λ o. fit_message o (map value m.args)) e ∙ has; names = refl }
 
 shortest_count : (t : TheArgType) → filled (t, shortest t) ≡ with_count (λ y. count_by Empty (extent_of y.0)) (t, shortest t)
@@ -154,7 +161,7 @@ pub least_is : (plan : PlanNo) (i : TheInterface) (msg : ℕ) (m : TheMessage) �
 least_is plan i msg m w e =
     let count = λ (y : Argument). count_by Empty (extent_of y.0) in
     let call = call_with msg m shortest in
-    let fits = is_call i msg m shortest shortest_is w e in
+    let fits = is_call i msg m shortest shortest_is (types_within i msg m w e) e in
     let sent = is_sent plan i msg m call w e fits in
     record {
       bounds = λ c s.
@@ -168,16 +175,17 @@ least_is plan i msg m w e =
       reached = sent_length plan i m call sent ∙ ap (end_of_all 0 1) (filled_with Empty shortest plan m shortest_count ∙ up_by Empty plan m call.args sent.has);
     }
 
-pub greatest_is : (plan : PlanNo) (i : TheInterface) (msg : ℕ) (m : TheMessage) → is_within_limits i ≡ true → slice_get i.messages msg ≡ Some m
+-- of any interface, if the message's types are within the limits
+pub greatest_of : (plan : PlanNo) (i : TheInterface) (msg : ℕ) (m : TheMessage) → are_arguments_within m.args ≡ true → slice_get i.messages msg ≡ Some m
     → IsGreatest (payload_length plan i) i msg (limit Full plan m)
-greatest_is plan i msg m w e =
+greatest_of plan i msg m w e =
     let count = λ (y : Argument). count_by Full (extent_of y.0) in
     let call = call_with msg m longest in
     let fits = is_call i msg m longest longest_is w e in
-    let sent = is_sent plan i msg m call w e fits in
+    let sent = sent_of plan i msg m call w e fits in
     record {
       bounds = λ c s.
-          let to = is_sent plan i msg m c w e s in
+          let to = sent_of plan i msg m c w e s in
           let ys = laid plan m c.args in
           let rise = all_rise ys (λ y. count_at (extent_of y.0) y.1) count most_more (laid_good plan m c.args to.within to.has) 0 0 1 align_one (omega arith) in
           subst (λ (n : ℕ). n ≤ limit Full plan m) (sym (sent_length plan i m c to))
@@ -187,11 +195,15 @@ greatest_is plan i msg m w e =
       reached = sent_length plan i m call sent ∙ ap (end_of_all 0 1) (filled_with Full longest plan m longest_count ∙ up_by Full plan m call.args sent.has);
     }
 
+pub greatest_is : (plan : PlanNo) (i : TheInterface) (msg : ℕ) (m : TheMessage) → is_within_limits i ≡ true → slice_get i.messages msg ≡ Some m
+    → IsGreatest (payload_length plan i) i msg (limit Full plan m)
+greatest_is plan i msg m w e = greatest_of plan i msg m (types_within i msg m w e) e
+
 pub capacity_is : (plan : PlanNo) (i : TheInterface) (msg : ℕ) (m : TheMessage) → is_within_limits i ≡ true → slice_get i.messages msg ≡ Some m
     → IsGreatest (tape_length plan i) i msg (numbers_in_all (map (filled_up Full) (placed_of plan m)))
 capacity_is plan i msg m w e =
     let call = call_with msg m longest in
-    let fits = is_call i msg m longest longest_is w e in
+    let fits = is_call i msg m longest longest_is (types_within i msg m w e) e in
     let sent = is_sent plan i msg m call w e fits in
     record {
       bounds = λ c s.

@@ -13,4 +13,5 @@ pub mod Sums
 pub mod Starts
 pub mod Counts
 pub mod BothPlans
+pub mod TooLong
 pub mod Shorts

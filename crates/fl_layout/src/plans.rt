@@ -2,9 +2,7 @@
 
 ghost use Rattle.std.specs.Prelude.{◌≡◌, ◌<◌, ◌≤◌, map, length, true, IfOk, slice_get};
 ghost use Rattle.std.specs.Option.{option_map};
-ghost use Rattle.std.specs.Bool.{IsTrue};
 ghost use Rattle.fl_check.specs.Interface.{interface_of, message_of};
-ghost use Rattle.fl_check.specs.Checks.{is_within_limits};
 ghost use Rattle.fl_value.specs.Value.{call_of};
 ghost use Rattle.fl_value.specs.Fits.{fits_of};
 ghost use Rattle.fl_layout.specs.Places.{count, count_for};
@@ -26,16 +24,14 @@ pub struct Plans {
     pub interface: Interface,
     pub plan: PlanNo,
     messages: Vec<MessagePlan>,
-    ghost within: { is_within_limits (interface_of interface) ≡ true },
     ghost laid: { map (λ m. m.placed.items) messages.items ≡ map (placed_of plan) (map message_of interface.messages.items) },
 }
 
-/// The plan of an interface within the limits, as each one that is accepted is.
+/// The plan of an interface.
 ///
 /// # Errors
 /// Want of memory (E99).
 pub fn plan(alloc: Global, interface: &Interface, plan: PlanNo) -> Result<Plans, AllocError>
-    requires within { IsTrue (is_within_limits (interface_of interface.now)) }
     ensures interface { IfOk result (λ p. interface_of p.interface ≡ interface_of interface.now) }
     ensures plan { IfOk result (λ p. p.plan ≡ plan) }
 {
@@ -53,7 +49,6 @@ fn plan_messages(
     interface: &Interface,
     plan: PlanNo,
 ) -> Result<Vec<MessagePlan>, AllocError>
-    requires within { IsTrue (is_within_limits (interface_of interface.now)) }
     ensures laid { IfOk result (λ v. map (λ m. m.placed.items) v.items ≡ map (placed_of plan) (map message_of interface.now.messages.items)) }
 {
     let mut messages = Vec::with_capacity(alloc, interface.messages.len())?;

@@ -1,6 +1,6 @@
 //! An index that goes round the places of a ring.
 
-ghost use Rattle.std.specs.Prelude.{◌≡◌, ◌+◌, ◌^◌, ◌/◌, ◌%◌, ◌<◌, ◌≤◌};
+ghost use Rattle.std.specs.Prelude.{◌≡◌, ◌+◌, ◌-◌, ◌^◌, ◌/◌, ◌%◌, ◌<◌, ◌≤◌};
 ghost use Rattle.fl_link.specs.Cursor.{TheCursor, epoch_at};
 
 use std::marker::Model;
@@ -96,7 +96,18 @@ impl Cursor {
         self.place += 1;
         if self.place == self.size {
             self.place = 0;
-            self.epoch = 1 - self.epoch;
+            self.epoch = next_round(self.epoch);
         }
     }
+}
+
+// The epoch of the round after one of this epoch. It stands apart, so that the usual step, which stays
+// in its round, is a jump that is foreseen, and no choice that each next step waits for.
+#[cold]
+#[inline(never)]
+fn next_round(epoch: u64) -> u64
+    requires { epoch < 2 }
+    ensures { result ≡ 1 - epoch }
+{
+    1 - epoch
 }

@@ -18,7 +18,8 @@ use Rattle.fl_machine.specs.declared.cursor.Cursor.{Cursor}
 use Rattle.fl_machine.specs.Cursors.{spot_of}
 use Rattle.fl_base.specs.declared.fragment.Frag.{Frag}
 use Rattle.fl_base.specs.Control.{control_word}
-use Rattle.fl_machine.specs.Sending.{word, frag_of, frags_for, frags_of}
+use Rattle.fl_wire.specs.Payload.{word}
+use Rattle.fl_machine.specs.Sending.{frag_of, frags_for, frags_holding}
 
 -- two ranges, one so much further on
 shifted : {A : Type 0} → (f g : ℕ → A) (s t d n : ℕ) → s ≡ t + d → ((i : ℕ) → f (i + d) ≡ g i) → map f (range_with_len s n) ≡ map g (range_with_len t n)
@@ -28,7 +29,7 @@ shifted f g s t d (suc n) e same =
     ∙ ap (λ xs. g t ∷ xs) (shifted f g (s + 1) (t + 1) d n (omega (arith, e)) same)
 
 -- the same on a range
-same_on : {A : Type 0} → (f g : ℕ → A) (s n end : ℕ) → s + n ≤ end → ((i : ℕ) → i < end → f i ≡ g i) → map f (range_with_len s n) ≡ map g (range_with_len s n)
+pub same_on : {A : Type 0} → (f g : ℕ → A) (s n end : ℕ) → s + n ≤ end → ((i : ℕ) → i < end → f i ≡ g i) → map f (range_with_len s n) ≡ map g (range_with_len s n)
 same_on f g s zero end h same = refl
 same_on f g s (suc n) end h same =
     ap (λ x. x ∷ map f (range_with_len (s + 1) n)) (same s (omega (arith, h)))
@@ -60,8 +61,8 @@ first_of_frag false msg circuit bytes = refl
 
 -- the fragments are the first and those of the bytes after it, unless there is none
 pub next_frag : (begins : Bool) (msg circuit : ℕ) (bytes : List ℕ) → (begins ≡ true) ⊎ (0 < length bytes)
-    → frags_of begins msg circuit bytes
-    ≡ (record { words = map (word bytes) (range_with_len 0 7); control = control_word begins msg circuit }) ∷ frags_of false msg circuit (drop 56 bytes)
+    → frags_holding begins msg circuit bytes
+    ≡ (record { words = map (word bytes) (range_with_len 0 7); control = control_word begins msg circuit }) ∷ frags_holding false msg circuit (drop 56 bytes)
 next_frag begins msg circuit bytes some =
     let rest = frags_for false (length (drop 56 bytes)) in
     let long : length (drop 56 bytes) ≡ length bytes - 56 = length-drop 56 bytes in
@@ -75,8 +76,8 @@ next_frag begins msg circuit bytes some =
     one_more false n left e (inl no_way) = absurd (cc)
     one_more false n left e (inr more) = omega (arith, e, more)
 
-pub no_frags : (msg circuit : ℕ) (bytes : List ℕ) → bytes ≡ [] → frags_of false msg circuit bytes ≡ []
-no_frags msg circuit bytes e = ap (λ (x : List ℕ). frags_of false msg circuit x) e
+pub no_frags : (msg circuit : ℕ) (bytes : List ℕ) → bytes ≡ [] → frags_holding false msg circuit bytes ≡ []
+no_frags msg circuit bytes e = ap (λ (x : List ℕ). frags_holding false msg circuit x) e
 
 -- eight places one by one
 pub eight : (f : ℕ → ℕ) (s : ℕ)
@@ -92,15 +93,15 @@ eight f s =
 
 -- a fragment made of a buffer that holds the first bytes is the next
 pub head_frag : (buffer bytes : List ℕ) (begins : Bool) (msg circuit : ℕ) → ((i : ℕ) → i < 56 → slice_index buffer i ≡ slice_index bytes i) → (begins ≡ true) ⊎ (0 < length bytes)
-    → Some (let f : Frag = record { words = map (word buffer) (range_with_len 0 7); control = control_word begins msg circuit } in f) ≡ slice_get (frags_of begins msg circuit bytes) 0
+    → Some (let f : Frag = record { words = map (word buffer) (range_with_len 0 7); control = control_word begins msg circuit } in f) ≡ slice_get (frags_holding begins msg circuit bytes) 0
 head_frag buffer bytes begins msg circuit same some =
     let words : map (word buffer) (range_with_len 0 7) ≡ map (word bytes) (range_with_len 0 7) = same_on (word buffer) (word bytes) 0 7 7 (lit≤ tt) (same_word buffer bytes same) in
     ap (λ (ws : List ℕ). Some (let f : Frag = record { words = ws; control = control_word begins msg circuit } in f)) words
     ∙ ap (λ (fs : List Frag). slice_get fs 0) (sym (next_frag begins msg circuit bytes some))
 
-pub tail_frags : (bytes left : List ℕ) (begins : Bool) (msg circuit : ℕ) → left ≡ drop 56 bytes → (begins ≡ true) ⊎ (0 < length bytes) → frags_of false msg circuit left ≡ drop 1 (frags_of begins msg circuit bytes)
+pub tail_frags : (bytes left : List ℕ) (begins : Bool) (msg circuit : ℕ) → left ≡ drop 56 bytes → (begins ≡ true) ⊎ (0 < length bytes) → frags_holding false msg circuit left ≡ drop 1 (frags_holding begins msg circuit bytes)
 tail_frags bytes left begins msg circuit e some =
-    ap (λ (x : List ℕ). frags_of false msg circuit x) e ∙ ap (λ (fs : List Frag). drop 1 fs) (sym (next_frag begins msg circuit bytes some))
+    ap (λ (x : List ℕ). frags_holding false msg circuit x) e ∙ ap (λ (fs : List Frag). drop 1 fs) (sym (next_frag begins msg circuit bytes some))
 
 -- with bytes of a number to be given, there are bytes
 pub busy : (ops : List Op) (s : TheSpot) → (s.width == 0) ≡ false → 0 < length (bytes_from ops s)
@@ -116,7 +117,7 @@ pub sent : (ops lent : List Op) (tape lent_tape : List ℕ) (cursor : Cursor) (b
     → ((i : ℕ) → i < 56 → slice_index buffer i ≡ slice_index (bytes_from lent (spot_of lent_tape cursor)) i)
     → frag ≡ record { words = map (word buffer) (range_with_len 0 7); control = control_word begins msg circuit }
     → (begins ≡ true) ⊎ (0 < length (bytes_from ops (spot_of tape cursor)))
-    → Some frag ≡ slice_get (frags_of begins msg circuit (bytes_from ops (spot_of tape cursor))) 0
+    → Some frag ≡ slice_get (frags_holding begins msg circuit (bytes_from ops (spot_of tape cursor))) 0
 sent ops lent tape lent_tape cursor begins msg circuit buffer frag e f same is some =
     let bytes : bytes_from lent (spot_of lent_tape cursor) ≡ bytes_from ops (spot_of tape cursor)
     = ap (λ (x : List Op). bytes_from x (spot_of lent_tape cursor)) e ∙ ap (λ (x : List ℕ). bytes_from ops (spot_of x cursor)) f in
@@ -126,7 +127,7 @@ sent ops lent tape lent_tape cursor begins msg circuit buffer frag e f same is s
 pub sent_rest : (ops lent : List Op) (tape lent_tape : List ℕ) (old new : Cursor) (begins : Bool) (msg circuit : ℕ) → lent ≡ ops → lent_tape ≡ tape
     → bytes_from lent (spot_of lent_tape new) ≡ drop 56 (bytes_from lent (spot_of lent_tape old))
     → (begins ≡ true) ⊎ (0 < length (bytes_from ops (spot_of tape old)))
-    → frags_of false msg circuit (bytes_from ops (spot_of tape new)) ≡ drop 1 (frags_of begins msg circuit (bytes_from ops (spot_of tape old)))
+    → frags_holding false msg circuit (bytes_from ops (spot_of tape new)) ≡ drop 1 (frags_holding begins msg circuit (bytes_from ops (spot_of tape old)))
 sent_rest ops lent tape lent_tape old new begins msg circuit e f rest some =
     let same : (c : Cursor) → bytes_from lent (spot_of lent_tape c) ≡ bytes_from ops (spot_of tape c)
     = λ c. ap (λ (x : List Op). bytes_from x (spot_of lent_tape c)) e ∙ ap (λ (x : List ℕ). bytes_from ops (spot_of x c)) f in
@@ -145,10 +146,10 @@ first_is_spot column ops lent tape c sends e code is =
 
 pub starts : (ops lent : List Op) (tape lent_tape : List ℕ) (first after : Cursor) (msg circuit : ℕ) → lent ≡ ops → lent_tape ≡ tape → spot_of tape first ≡ first_spot tape
     → bytes_from lent (spot_of lent_tape first) ≡ bytes_from lent (spot_of lent_tape after)
-    → frags_of true msg circuit (bytes_from ops (spot_of tape after)) ≡ frags_of true msg circuit (bytes_given (block_of ops) tape)
+    → frags_holding true msg circuit (bytes_from ops (spot_of tape after)) ≡ frags_holding true msg circuit (bytes_given (block_of ops) tape)
 starts ops lent tape lent_tape first after msg circuit e f is same =
     let lends : (c : Cursor) → bytes_from lent (spot_of lent_tape c) ≡ bytes_from ops (spot_of tape c)
     = λ c. ap (λ (x : List Op). bytes_from x (spot_of lent_tape c)) e ∙ ap (λ (x : List ℕ). bytes_from ops (spot_of x c)) f in
     let whole : bytes_from ops (spot_of tape first) ≡ bytes_given (block_of ops) tape
     = ap (bytes_from ops) is ∙ append-nil (bytes_given (block_of ops) tape) in
-    ap (frags_of true msg circuit) (sym (lends after) ∙ sym same ∙ lends first ∙ whole)
+    ap (frags_holding true msg circuit) (sym (lends after) ∙ sym same ∙ lends first ∙ whole)

@@ -8,6 +8,7 @@ use Rattle.std.proofs.Math.Nat.{one-le-pow, zero-div}
 use borrow.Author.Tests.{leb-true}
 use Rattle.std.proofs.Common.{leb, lit<}
 use Rattle.fl_stub.specs.declared.op.Op.{Op}
+use Rattle.fl_stub.specs.declared.op.Column.{Column}
 use Rattle.fl_stub.specs.declared.op.Op.TheVariants.{Emit, Pad, Align, Length, Times, Each, Back}
 use Rattle.fl_stub.specs.Structure.{is_width, is_within}
 use Rattle.fl_stub.specs.Frames.{frames_of}
@@ -208,25 +209,25 @@ counted_turns ops tape old mid new most turns start less op spot idle is m many 
 
 -- passing over a loop
 
-skip_some : (d inside next : ℕ) (op : Op) (blocks : List Block) (rest : List Op) → inside_after inside op ≡ Some next → Skips d inside blocks (op ∷ rest) → Skips d next blocks rest
-skip_some d inside next (Times n) blocks rest e s = let k : inside + 1 ≡ next = cc in subst (λ (z : ℕ). Skips d z blocks rest) k (skip_times d inside n blocks rest s)
-skip_some d inside next Each blocks rest e s = let k : inside + 1 ≡ next = cc in subst (λ (z : ℕ). Skips d z blocks rest) k (skip_each d inside blocks rest s)
-skip_some d zero next Back blocks rest e s = absurd (cc)
-skip_some d (suc less) next Back blocks rest e s = let k : less ≡ next = cc in subst (λ (z : ℕ). Skips d z blocks rest) k (skip_back d (suc less) less blocks rest refl s)
-skip_some d inside next op blocks rest e s = let k : inside ≡ next = cc in subst (λ (z : ℕ). Skips d z blocks rest) k (skip_other d inside op blocks rest refl s)
+skip_some : (column : Column) (d inside next : ℕ) (op : Op) (blocks : List Block) (rest : List Op) → inside_after inside op ≡ Some next → Skips column d inside blocks (op ∷ rest) → Skips column d next blocks rest
+skip_some column d inside next (Times n) blocks rest e s = let k : inside + 1 ≡ next = cc in subst (λ (z : ℕ). Skips column d z blocks rest) k (skip_times column d inside n blocks rest s)
+skip_some column d inside next Each blocks rest e s = let k : inside + 1 ≡ next = cc in subst (λ (z : ℕ). Skips column d z blocks rest) k (skip_each column d inside blocks rest s)
+skip_some column d zero next Back blocks rest e s = absurd (cc)
+skip_some column d (suc less) next Back blocks rest e s = let k : less ≡ next = cc in subst (λ (z : ℕ). Skips column d z blocks rest) k (skip_back column d (suc less) less blocks rest refl s)
+skip_some column d inside next op blocks rest e s = let k : inside ≡ next = cc in subst (λ (z : ℕ). Skips column d z blocks rest) k (skip_other column d inside op blocks rest refl s)
 
-skip_none : (d inside : ℕ) (op : Op) (blocks : List Block) (rest : List Op) → inside_after inside op ≡ None → Skips d inside blocks (op ∷ rest) → Behind d blocks rest
-skip_none d zero Back blocks rest e s = skip_last d zero blocks rest refl s
-skip_none d (suc less) Back blocks rest e s = absurd (cc)
-skip_none d inside op blocks rest e s = absurd (cc)
+skip_none : (column : Column) (d inside : ℕ) (op : Op) (blocks : List Block) (rest : List Op) → inside_after inside op ≡ None → Skips column d inside blocks (op ∷ rest) → Behind column d blocks rest
+skip_none column d zero Back blocks rest e s = skip_last column d zero blocks rest refl s
+skip_none column d (suc less) Back blocks rest e s = absurd (cc)
+skip_none column d inside op blocks rest e s = absurd (cc)
 
-pub goes_inside : (ops : List Op) (place inside next d : ℕ) (op : Op) (blocks : List Block) → drop place ops ≡ op ∷ drop (place + 1) ops → inside_after inside op ≡ Some next
-    → Skips d inside blocks (drop place ops) → Skips d next blocks (drop (place + 1) ops)
-goes_inside ops place inside next d op blocks at e s = skip_some d inside next op blocks (drop (place + 1) ops) e (subst (λ (x : List Op). Skips d inside blocks x) at s)
+pub goes_inside : (column : Column) (ops : List Op) (place inside next d : ℕ) (op : Op) (blocks : List Block) → drop place ops ≡ op ∷ drop (place + 1) ops → inside_after inside op ≡ Some next
+    → Skips column d inside blocks (drop place ops) → Skips column d next blocks (drop (place + 1) ops)
+goes_inside column ops place inside next d op blocks at e s = skip_some column d inside next op blocks (drop (place + 1) ops) e (subst (λ (x : List Op). Skips column d inside blocks x) at s)
 
-pub goes_behind : (ops : List Op) (place inside d : ℕ) (op : Op) (blocks : List Block) → drop place ops ≡ op ∷ drop (place + 1) ops → inside_after inside op ≡ None
-    → Skips d inside blocks (drop place ops) → Behind d blocks (drop (place + 1) ops)
-goes_behind ops place inside d op blocks at e s = skip_none d inside op blocks (drop (place + 1) ops) e (subst (λ (x : List Op). Skips d inside blocks x) at s)
+pub goes_behind : (column : Column) (ops : List Op) (place inside d : ℕ) (op : Op) (blocks : List Block) → drop place ops ≡ op ∷ drop (place + 1) ops → inside_after inside op ≡ None
+    → Skips column d inside blocks (drop place ops) → Behind column d blocks (drop (place + 1) ops)
+goes_behind column ops place inside d op blocks at e s = skip_none column d inside op blocks (drop (place + 1) ops) e (subst (λ (x : List Op). Skips column d inside blocks x) at s)
 
 pub less_inside : (inside next : ℕ) (op : Op) → inside_after inside op ≡ Some next → next ≤ inside + 1
 less_inside inside next (Times n) e = let k : inside + 1 ≡ next = cc in omega (arith, k)

@@ -1,3 +1,8 @@
 pub mod Cursors
 pub mod Filling
 pub mod Sending
+pub mod Taking
+pub mod Receiving
+pub mod Runs
+pub mod Laws
+pub mod Rounds

@@ -7,10 +7,7 @@ use Rattle.fl_base.specs.Control.{control_word}
 use Rattle.fl_stub.specs.Code.{TheCode}
 use Rattle.fl_stub.specs.declared.op.Column.TheVariants.{Send}
 use Rattle.fl_stub.specs.Spots.{TheSpot, bytes_from, IsSpot, IsSettled}
-
--- the next 8 bytes as a word, zeros after the end
-abbrev pub word : List ℕ → ℕ → ℕ
-word bytes k = from_le_bytes w64 (map (slice_index bytes) (range_with_len (8 * k) 8))
+use Rattle.fl_wire.specs.Payload.{word}
 
 -- fragment k of those that hold these bytes; the first has the first bit, where these bytes begin a call
 abbrev pub frag_of : Bool → ℕ → ℕ → List ℕ → ℕ → Frag
@@ -24,8 +21,8 @@ abbrev pub frags_for : Bool → ℕ → ℕ
 frags_for begins bytes = max (if begins then 1 else 0) ((bytes + 55) / 56)
 
 -- the fragments that hold these bytes
-abbrev pub frags_of : Bool → ℕ → ℕ → List ℕ → List Frag
-frags_of begins msg circuit bytes =
+abbrev pub frags_holding : Bool → ℕ → ℕ → List ℕ → List Frag
+frags_holding begins msg circuit bytes =
     map (frag_of begins msg circuit bytes) (range_with_len 0 (frags_for begins (length bytes)))
 
 -- what contracts see of a send run: its call's message and circuit, whether no fragment was given yet, and its spot
@@ -37,7 +34,7 @@ pub record TheSending : Type 0 where
 
 -- the fragments that are still to be given
 abbrev pub frags_left : TheCode → TheSending → List Frag
-frags_left code run = frags_of run.begins run.msg run.circuit (bytes_from code.ops run.spot)
+frags_left code run = frags_holding run.begins run.msg run.circuit (bytes_from code.ops run.spot)
 
 -- the run was started with this code
 pub record RunsOn (code : TheCode) (run : TheSending) : Type 0 where

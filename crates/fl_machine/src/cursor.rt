@@ -2,11 +2,13 @@
 
 ghost use Rattle.std.specs.Prelude.{◌≡◌, ◌≢◌, ◌==◌, ◌+◌, ◌-◌, ◌%◌, ◌<◌, ◌≤◌, ◌^◌, ℕ, suc, Bool, true, false, List, [], ◌∷◌, ◌++◌, drop, length, slice_get, Some, IsTrue, IsFalse};
 ghost use Rattle.fl_stub.specs.declared.op.Op.TheVariants.{Emit as emit_op, Pad as pad_op, Times as times_op, Length as length_op, Back as back_op};
+ghost use Rattle.fl_stub.specs.declared.op.Column.{Column as the_column};
 ghost use Rattle.fl_stub.specs.Structure.{is_width};
+ghost use Rattle.fl_stub.specs.Rests.{IsPlaceIn};
 ghost use Rattle.fl_stub.specs.Meaning.{number_bytes, gap_to_8};
 ghost use Rattle.fl_stub.specs.Given.{first_of_tape, rest_of_tape};
 ghost use Rattle.fl_stub.specs.Frames.{frames_of};
-ghost use Rattle.fl_stub.specs.Spots.{TheSpot, TheLoop, IsPlace, IsSpot, IsSettled, StepsTo, bytes_from, outer};
+ghost use Rattle.fl_stub.specs.Spots.{TheSpot, TheLoop, IsSpot, IsSettled, StepsTo, bytes_from, outer};
 ghost use Rattle.fl_machine.specs.Cursors.{spot_of, loops_of, inside_after as inside_after_of, turns_of, Gives, IsRun};
 
 use fl_stub::Op;
@@ -14,8 +16,8 @@ use fl_stub::Op;
 /// An open loop: the place of its first instruction, and the turns that it makes after this one.
 #[derive(Clone, Copy, Debug, PartialEq, Eq)]
 pub struct Loop {
-    start: usize,
-    turns: u64,
+    pub(crate) start: usize,
+    pub(crate) turns: u64,
 }
 
 /// Where a run of send code stands.
@@ -62,9 +64,9 @@ fn inside_after(inside: usize, op: Op) -> Option<usize>
 }
 
 // The place behind the loop whose first instruction this is.
-fn behind(ops: &[Op], start: usize) -> usize
-    ensures place { (depth : ℕ) → IsPlace ops.now (suc depth) start → IsPlace ops.now depth result }
-    ensures frames { (depth : ℕ) → IsPlace ops.now (suc depth) start → frames_of (drop result ops.now) ≡ outer (frames_of (drop start ops.now)) }
+pub(crate) fn behind(ops: &[Op], start: usize) -> usize
+    ensures place { (column : the_column) (depth : ℕ) → IsPlaceIn column ops.now (suc depth) start → IsPlaceIn column ops.now depth result }
+    ensures frames { (column : the_column) (depth : ℕ) → IsPlaceIn column ops.now (suc depth) start → frames_of (drop result ops.now) ≡ outer (frames_of (drop start ops.now)) }
 {
     let mut inside = 0;
     let mut place = start;
@@ -79,7 +81,7 @@ fn behind(ops: &[Op], start: usize) -> usize
 }
 
 // Whether this instruction stands there.
-fn is_op(ops: &[Op], place: usize, op: Op) -> bool
+pub(crate) fn is_op(ops: &[Op], place: usize, op: Op) -> bool
     ensures { IsTrue result → slice_get ops.now place ≡ Some op }
 {
     match ops.get(place) {

@@ -10,7 +10,8 @@ ghost use Rattle.fl_stub.specs.Given.{bytes_given};
 ghost use Rattle.fl_stub.specs.Spots.{IsSpot, IsSettled, bytes_from};
 ghost use Rattle.fl_machine.specs.Cursors.{spot_of};
 ghost use Rattle.fl_machine.specs.Filling.{Holds, Puts, PutsRun};
-ghost use Rattle.fl_machine.specs.Sending.{word as word_of, frags_of, frags_left, RunsOn};
+ghost use Rattle.fl_wire.specs.Payload.{word as word_of};
+ghost use Rattle.fl_machine.specs.Sending.{frags_holding, frags_left, RunsOn};
 
 use crate::cursor::Cursor;
 use fl_base::{Circuit, Frag, MsgNo, control};
@@ -163,8 +164,8 @@ impl SendRun {
     pub fn start(code: &VerifiedCode, msg: MsgNo, circuit: Circuit, tape: Vec<u64>) -> SendRun
         requires { code.now.column ≡ send }
         ensures runs { RunsOn code.now result }
-        ensures given { frags_left code.now result ≡ frags_of true msg.0 circuit.0 (bytes_given (block_of code.now.ops) tape.items) }
-        ensures meant { (bytes : List ℕ) → Turns (block_of code.now.ops) tape.items bytes → frags_left code.now result ≡ frags_of true msg.0 circuit.0 bytes }
+        ensures given { frags_left code.now result ≡ frags_holding true msg.0 circuit.0 (bytes_given (block_of code.now.ops) tape.items) }
+        ensures meant { (bytes : List ℕ) → Turns (block_of code.now.ops) tape.items bytes → frags_left code.now result ≡ frags_holding true msg.0 circuit.0 bytes }
     {
         let mut cursor = Cursor::new();
         cursor.settle(code.ops(), &tape);

@@ -11,6 +11,7 @@ use Rattle.fl_ring.specs.declared.halves.Half.{Half}
 use Rattle.fl_ring.proofs.Places.{slot_within}
 use Rattle.fl_ring.proofs.Ways.{standing_more, keeps_standing, same_standing, kept_apart, length-standing, gains, tells, elsewhere}
 use Rattle.fl_ring.proofs.RingSteps.{standing_first, standing_none}
+use Rattle.fl_ring.proofs.Tells.{tells_kept, tells_put}
 use Rattle.fl_ring.proofs.Numbers.{count_named, last_rises, last_push, after_rises, last_after}
 
 -- ---- from either side
@@ -49,6 +50,7 @@ known_steps n ws a b k s e = record {
     most = s.there.most;
     room = omega (arith, s.there.room, e, after_rises a.known (half_of n ws a b).waiting);
     counts = ap (λ (x : ℕ). last_count x (half_of n ws a b).waiting) e ∙ last_after a.known (half_of n ws a b).waiting ∙ s.there.counts;
+    last = s.there.last;
   };
   back = record {
     from = s.back.from;
@@ -60,6 +62,7 @@ known_steps n ws a b k s e = record {
     most = s.back.most;
     room = s.back.room;
     counts = s.back.counts;
+    last = s.back.last;
   };
 }
 
@@ -82,6 +85,7 @@ take_steps n ws a b p s lt looked_at e = record {
     most = s.there.most;
     room = s.there.room;
     counts = ap (λ (q : TheCursor). last_count a.known (standing b.base n ws q.index (b.put.index - q.index))) e ∙ rest_counts;
+    last = s.there.last;
   };
   back = record {
     from = s.back.from;
@@ -93,6 +97,7 @@ take_steps n ws a b p s lt looked_at e = record {
     most = s.back.most;
     room = s.back.room;
     counts = s.back.counts;
+    last = s.back.last;
   };
 }
   where
@@ -169,6 +174,7 @@ write_steps n ws ws' a b f s unspent room w turn number = record {
     most = omega arith;
     room = room;
     counts = ap (λ (xs : List Frag). last_count a.known xs) (same_standing b.base n ws ws' (b.put.index - a.take.index) a.take.index (λ j _ _. stays j)) ∙ s.there.counts;
+    last = tells_put a.base n 0 ws' a.put.index (a.put.index + 1) a.take.index f.control (omega arith) refl (ap (λ (g : Frag). g.control) w.holds) number;
   };
   back = record {
     from = s.back.from;
@@ -185,6 +191,7 @@ write_steps n ws ws' a b f s unspent room w turn number = record {
         ∙ ap (λ (k : ℕ). count_from k (told_of f.control)) s.back.counts
         ∙ ap (λ (k : ℕ). count_from a.told k) number
         ∙ count_named a.told a.take.index s.back.told_taken near;
+    last = tells_kept b.base n 0 ws ws' b.put.index b.told s.back.last (λ j. ap (λ (g : Frag). g.control) (stays j));
   };
 }
   where

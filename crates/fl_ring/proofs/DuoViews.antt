@@ -1,6 +1,7 @@
 -- What a ring of two directions shows.
 use Rattle.std.proofs.Common.{ℕ, ◌≡◌, ◌<◌, ◌*◌, ◌-◌, ◌%◌, ◌⊎◌, inl, inr, List, ◌++◌, ap, subst, arith}
 use Rattle.fl_ring.specs.Way.{standing, WayStands}
+use Rattle.fl_ring.specs.Counts.{LastTells}
 use Rattle.fl_ring.specs.Duo.{CountsAreNear, DuoStands, got}
 use Rattle.fl_ring.specs.Halves.{Direction, InStep, half_of, duo_of}
 use Rattle.fl_ring.specs.declared.halves.Half.{Half}
@@ -32,6 +33,8 @@ duo_stands n ws a b first s =
       wide = s.wide;
       forth = subst (λ (x : ℕ). WayStands x n ws b.told (d.two.read ++ d.two.waiting)) first (way_of n ws a b s.there);
       back = subst (λ (x : ℕ). WayStands x n ws a.told (d.one.read ++ d.one.waiting)) after (way_of n ws b a s.back);
+      one_tells = subst (λ (x : ℕ). LastTells x n 0 ws a.put.index a.told) first s.there.last;
+      two_tells = subst (λ (x : ℕ). LastTells x n 0 ws b.put.index b.told) after s.back.last;
     }
 
 pub got_of : (n : ℕ) (ws : List ℕ) (a b : Half) → InStep n ws a b → a.take.index % 65536 ≡ got (half_of n ws a b) % 65536

@@ -3,6 +3,7 @@ pub mod Ways
 pub mod SlotWrites
 pub mod RingSteps
 pub mod Numbers
+pub mod Tells
 pub mod DuoSteps
 pub mod DuoLooks
 pub mod DuoWrites

@@ -1,5 +1,5 @@
 -- A new ring of two directions over shared words, its first seat cut in two, and two seats joined.
-use Rattle.std.proofs.Common.{ℕ, zero, suc, ◌≡◌, ◌≢◌, ◌<◌, ◌≤◌, ◌+◌, ◌-◌, ◌*◌, ◌/◌, ◌%◌, ◌^◌, ◌⊎◌, inl, inr, List, [], ◌∷◌, ◌++◌, length, replicate, get_or, set, ap, subst, ◌∙◌, sym, refl, arith, length-set, get_or-set_same, get_or-set_other, Option, Some, None}
+use Rattle.std.proofs.Common.{ℕ, zero, suc, ◌≡◌, ◌≢◌, ◌<◌, ◌≤◌, ◌+◌, ◌-◌, ◌*◌, ◌/◌, ◌%◌, ◌^◌, ◌⊎◌, inl, inr, List, [], ◌∷◌, length, replicate, get_or, set, ap, subst, ◌∙◌, sym, refl, arith, length-set, get_or-set_same, get_or-set_other, Option, Some, None}
 use Rattle.std.proofs.lemmas.List.{append-nil}
 use Rattle.std.proofs.lemmas.Bool.{cases_lt}
 use mathlib.Core.Option.{some, some-injective, some-ne-none}
@@ -9,13 +9,13 @@ use Rattle.atomic_table.proofs.Lists.{at_set, set_else}
 use Rattle.fl_base.specs.declared.fragment.Frag.{Frag}
 use Rattle.fl_base.specs.Control.{epoch_of}
 use Rattle.fl_link.specs.Cursor.{epoch_at}
-use Rattle.fl_ring.specs.declared.shared.duo_board.Side.{Side}
 use Rattle.fl_ring.specs.declared.shared.duo_board.Holder.{Holder}
 use Rattle.fl_ring.specs.declared.shared.duo_board.Holder.TheVariants.{One, Two, Both, Nobody}
 use Rattle.fl_ring.specs.declared.shared.duo_board.DuoView.{DuoView}
 use Rattle.fl_ring.specs.Way.{slot, epoch_in, Marked}
-use Rattle.fl_ring.specs.SharedWay.{IsFront, IsDue, WayRuns}
-use Rattle.fl_ring.specs.SharedDuo.{NumbersRide, BothRun, CountsNear, Pairing, DuoFits, DuoHolds, IsOneSide, blank, new_side, duo_opening, side_one_of, side_two_of, duo_both_of, duo_nobody}
+use Rattle.fl_ring.specs.Counts.{LastTells}
+use Rattle.fl_ring.specs.SharedWay.{WayRuns}
+use Rattle.fl_ring.specs.SharedDuo.{NumbersRide, CountsNear, Pairing, DuoFits, DuoHolds, IsOneSide, blank, new_side, duo_opening, side_one_of, side_two_of, duo_both_of, duo_nobody}
 use Rattle.fl_ring.specs.SharedSides.{DuoSeat, SidesNear, side_of_seat}
 use Rattle.fl_ring.proofs.Places.{slots_apart, slot_within, epoch_bit}
 use Rattle.fl_ring.proofs.SharedWays.{front_within}
@@ -50,8 +50,8 @@ nobody_both e = cc
 
 -- ---- cut in two
 
-pub duo_splits : (n id : ℕ) (v : DuoView) → v.holder ≡ Both → Splits (DuoHolds n) id v (side_one_of v) (side_two_of v)
-duo_splits n id v both s rule at = record {
+pub duo_splits : (n start id : ℕ) (v : DuoView) → v.holder ≡ Both → Splits (DuoHolds n start) id v (side_one_of v) (side_two_of v)
+duo_splits n start id v both s rule at = record {
   account = after;
   seats = λ j u e. in_row j u (at_end (set s.views id (side_one_of v)) (side_two_of v) u j e);
   holds = rule.holds;
@@ -85,7 +85,7 @@ duo_splits n id v both s rule at = record {
 
 -- ---- joined
 
-module _ (n id other : ℕ) (v w : DuoView) (s : State (Unit {0}) DuoView) (rule : DuoHolds n s) (mine : DuoFits n rule.account id v) (theirs : DuoFits n rule.account other w) where
+module _ (n start id other : ℕ) (v w : DuoView) (s : State (Unit {0}) DuoView) (rule : DuoHolds n start s) (mine : DuoFits n rule.account id v) (theirs : DuoFits n rule.account other w) where
   abbrev joined : Pairing
   joined = record { first = id; second = id; one = rule.account.one; two = rule.account.two }
 
@@ -103,9 +103,9 @@ module _ (n id other : ℕ) (v w : DuoView) (s : State (Unit {0}) DuoView) (rule
       neither k (inl d) e = ne (e ∙ d)
       neither k (inr d) e = far (e ∙ d)
 
-pub duo_joins : (n id other : ℕ) (v w : DuoView) → IsOneSide v.holder → IsOneSide w.holder → Joins (DuoHolds n) id v other w (duo_both_of v w) duo_nobody
-duo_joins n id other v w side across s rule at apart there = record {
-  account = joined n id other v w s rule mine theirs;
+pub duo_joins : (n start id other : ℕ) (v w : DuoView) → IsOneSide v.holder → IsOneSide w.holder → Joins (DuoHolds n start) id v other w (duo_both_of v w) duo_nobody
+duo_joins n start id other v w side across s rule at apart there = record {
+  account = joined n start id other v w s rule mine theirs;
   seats = λ j u e. cases side across j u (found j u (at_set (set s.views id (duo_both_of v w)) other j duo_nobody u e));
   holds = rule.holds;
 }
@@ -121,22 +121,22 @@ duo_joins n id other v w side across s rule at apart there = record {
     found j u (inl h) = inl h
     found j u (inr (ne, here)) = inr (ne, at_set s.views id j (duo_both_of v w) u here)
 
-    cases : IsOneSide v.holder → IsOneSide w.holder → (j : ℕ) (u : DuoView) → ((j ≡ other) × (duo_nobody ≡ u)) ⊎ ((j ≢ other) × (((j ≡ id) × (duo_both_of v w ≡ u)) ⊎ ((j ≢ id) × (get_elem? s.views j ≡ some u)))) → DuoFits n (joined n id other v w s rule mine theirs) j u
+    cases : IsOneSide v.holder → IsOneSide w.holder → (j : ℕ) (u : DuoView) → ((j ≡ other) × (duo_nobody ≡ u)) ⊎ ((j ≢ other) × (((j ≡ id) × (duo_both_of v w ≡ u)) ⊎ ((j ≢ id) × (get_elem? s.views j ≡ some u)))) → DuoFits n (joined n start id other v w s rule mine theirs) j u
     cases (inl e) (inl d) j u h = absurd (apart ((theirs.0 d).0 ∙ sym (mine.0 e).0))
     cases (inr e) (inr d) j u h = absurd (apart ((theirs.1 d).0 ∙ sym (mine.1 e).0))
     cases (inl e) (inr d) j u h =
         let f = mine.0 e in
         let g = theirs.1 d in
         let whole : duo_both_of v w ≡ (let b : DuoView = record { size = v.size; holder = Both; mine = v.mine; theirs = w.mine } in b) = ap (λ (x : Holder). duo_both_of (record { size = v.size; holder = x; mine = v.mine; theirs = v.theirs }) w) e in
-        let P : DuoView → Type 0 = λ x. DuoFits n (joined n id other v w s rule mine theirs) id x in
-        in_hand n id other v w s rule mine theirs (duo_both_of v w)
+        let P : DuoView → Type 0 = λ x. DuoFits n (joined n start id other v w s rule mine theirs) id x in
+        in_hand n start id other v w s rule mine theirs (duo_both_of v w)
         (subst P (sym whole) ((λ no. absurd (both_one no)), (λ no. absurd (both_two no)), (λ _. (refl, refl, f.1, g.1, f.2)))) (inl (sym f.0)) (inr (sym g.0)) j u h
     cases (inr e) (inl d) j u h =
         let f = mine.1 e in
         let g = theirs.0 d in
         let whole : duo_both_of v w ≡ (let b : DuoView = record { size = v.size; holder = Both; mine = w.mine; theirs = v.mine } in b) = ap (λ (x : Holder). duo_both_of (record { size = v.size; holder = x; mine = v.mine; theirs = v.theirs }) w) e in
-        let P : DuoView → Type 0 = λ x. DuoFits n (joined n id other v w s rule mine theirs) id x in
-        in_hand n id other v w s rule mine theirs (duo_both_of v w)
+        let P : DuoView → Type 0 = λ x. DuoFits n (joined n start id other v w s rule mine theirs) id x in
+        in_hand n start id other v w s rule mine theirs (duo_both_of v w)
         (subst P (sym whole) ((λ no. absurd (both_one no)), (λ no. absurd (both_two no)), (λ _. (refl, refl, g.1, f.1, f.2)))) (inr (sym g.0)) (inl (sym f.0)) j u h
 
 -- what the joined seat compares, by either side
@@ -200,8 +200,11 @@ new_way b n start ws p wide few free = record {
 new_rides : (start : ℕ) → NumbersRide (replicate start blank) (replicate start blank) start start
 new_rides start = record { waiting = []; split = sym (append-nil (replicate start blank)); counts = refl }
 
+new_tells : (b n start : ℕ) (ws : List ℕ) → LastTells b n start ws (length (replicate start blank)) start
+new_tells b n start ws = record { since = omega (arith, passed start); none_put = λ e. refl; last_put = λ i from last. absurd (omega (arith, passed start)) }
+
 pub duo_opens : (n start : ℕ) (ws : List ℕ) → 0 < n → n ≤ 1024 → start ≤ 2 ^ 62 → length ws ≡ 16 * n
-    → ((i : ℕ) → start ≤ i → i < start + n → (epoch_in 0 n ws i ≢ epoch_at n i) × (epoch_in (8 * n) n ws i ≢ epoch_at n i)) → DuoHolds n (opening ws [] (duo_opening n start))
+    → ((i : ℕ) → start ≤ i → i < start + n → (epoch_in 0 n ws i ≢ epoch_at n i) × (epoch_in (8 * n) n ws i ≢ epoch_at n i)) → DuoHolds n start (opening ws [] (duo_opening n start))
 duo_opens n start ws p small few wide free = record {
   account = all;
   seats = λ j u at. only j u at;
@@ -215,6 +218,8 @@ duo_opens n start ws p small few wide free = record {
     told_back = new_rides start;
     last_there = λ d lt. absurd (not_due n start d);
     last_back = λ d lt. absurd (not_due n start d);
+    word_there = new_tells 0 n start ws;
+    word_back = new_tells (8 * n) n start ws;
   };
 }
   where

@@ -1,8 +1,8 @@
 -- Steps in a row at a seat of a ring of two directions over shared words.
-use Rattle.std.proofs.Common.{ℕ, ◌≡◌, ◌<◌, ◌≤◌, ◌+◌, ◌*◌, ◌%◌, ◌^◌, List, [], ◌∷◌, ◌++◌, length, take, set, ap, subst, ◌∙◌, sym, refl, arith, Option, Some, None, Bool, cond, eq-eqb, ne_eqb, ◌≢◌}
+use Rattle.std.proofs.Common.{ℕ, ◌≡◌, ◌<◌, ◌≤◌, ◌+◌, ◌%◌, ◌^◌, List, [], ◌∷◌, ◌++◌, length, take, set, ap, subst, ◌∙◌, sym, arith, Some, None, Bool, cond, eq-eqb, ne_eqb, ◌≢◌}
 use Rattle.std.proofs.lemmas.List.{length-take-le}
 use mathlib.Core.Option.{none}
-use Rattle.atomic_table.specs.Table.{Me, Step, step, Allows}
+use Rattle.atomic_table.specs.Table.{Me, step, Allows}
 use Rattle.atomic_table.specs.Seated.{TableId}
 use Rattle.fl_base.specs.declared.fragment.Frag.{Frag}
 use Rattle.fl_base.specs.Control.{epoch_of, told_of}
@@ -13,7 +13,7 @@ use Rattle.fl_ring.specs.declared.shared.duo_board.DuoView.{DuoView}
 use Rattle.fl_ring.specs.Way.{slot}
 use Rattle.fl_ring.specs.SharedWay.{IsDue, loaded_frag, frag_from, misses_after}
 use Rattle.fl_ring.specs.SharedDuo.{DuoHolds, IsOneSide, base_of, other_of, with_mine, side_stored, side_put, side_control, side_loaded, side_peeked, side_got, known_by, duo_stores_word, duo_stores_control, duo_loads_word, duo_loads_peeked, duo_loads_taken}
-use Rattle.fl_ring.specs.SharedSides.{TheSide, side_with_part, side_with_frag, side_with_words, side_seen, side_taken, side_missed, SideSees, SideGets}
+use Rattle.fl_ring.specs.SharedSides.{TheSide, side_with_part, side_with_frag, side_with_words, side_missed, SideSees, SideGets, KnowsSent}
 use Rattle.fl_ring.proofs.SharedDuoSteps.{duo_allows_stored, duo_allows_put, duo_allows_loaded, duo_allows_peeked, duo_allows_taken}
 use Rattle.fl_ring.proofs.SharedLooks.{seven_words, none_missed}
 
@@ -32,21 +32,21 @@ duo_none_stored m e = ap (λ (p : List ℕ). stored m p) e
 pub duo_one_stored : (m0 m m' : Seated) (p q : List ℕ) (x : ℕ) → m ≡ stored m0 p → m' ≡ (with_mine m.0 (side_stored m.0.mine x), m.1) → p ++ x ∷ [] ≡ q → m' ≡ stored m0 q
 duo_one_stored m0 m m' p q x e d more = d ∙ ap (λ (z : Seated). let s : Seated = (with_mine z.0 (side_stored z.0.mine x), z.1) in s) e ∙ ap (λ (r : List ℕ). stored m0 r) more
 
-pub duo_stored_after : (n slots id i x k : ℕ) (m0 m : Seated) (p : List ℕ) → m ≡ stored m0 p → n ≡ m0.0.size → IsOneSide m0.0.holder
+pub duo_stored_after : (n start slots id i x k : ℕ) (m0 m : Seated) (p : List ℕ) → m ≡ stored m0 p → n ≡ m0.0.size → IsOneSide m0.0.holder
     → i ≡ slot (base_of m0.0.holder m0.0.size) m0.0.size (length m0.0.mine.put.sent) + k → length p ≡ k → k < 7
-    → length m0.0.mine.put.sent < m0.0.mine.put.known + m0.0.size → Allows (DuoHolds n) slots id m i (λ _. x) (λ _. duo_stores_word (step slots i x 0 none) m x)
-duo_stored_after n slots id i x k m0 m p e key side at len small room =
-    subst (λ (z : Seated). Allows (DuoHolds n) slots id z i (λ _. x) (λ _. duo_stores_word (step slots i x 0 none) z x)) (sym e)
-    (duo_allows_stored n slots id i x (stored m0 p) key side (at ∙ ap (λ (j : ℕ). slot (base_of m0.0.holder m0.0.size) m0.0.size (length m0.0.mine.put.sent) + j) (sym len)) (omega arith) room)
+    → length m0.0.mine.put.sent < m0.0.mine.put.known + m0.0.size → Allows (DuoHolds n start) slots id m i (λ _. x) (λ _. duo_stores_word (step slots i x 0 none) m x)
+duo_stored_after n start slots id i x k m0 m p e key side at len small room =
+    subst (λ (z : Seated). Allows (DuoHolds n start) slots id z i (λ _. x) (λ _. duo_stores_word (step slots i x 0 none) z x)) (sym e)
+    (duo_allows_stored n start slots id i x (stored m0 p) key side (at ∙ ap (λ (j : ℕ). slot (base_of m0.0.holder m0.0.size) m0.0.size (length m0.0.mine.put.sent) + j) (sym len)) (omega arith) room)
 
-pub duo_put_after : (n slots id i w : ℕ) (m0 m : Seated) (p : List ℕ) → m ≡ stored m0 p → n ≡ m0.0.size → IsOneSide m0.0.holder
+pub duo_put_after : (n start slots id i w : ℕ) (m0 m : Seated) (p : List ℕ) → m ≡ stored m0 p → n ≡ m0.0.size → IsOneSide m0.0.holder
     → i ≡ slot (base_of m0.0.holder m0.0.size) m0.0.size (length m0.0.mine.put.sent) + 7 → length p ≡ 7
     → length m0.0.mine.put.sent < m0.0.mine.put.known + m0.0.size → length m0.0.mine.put.sent < 2 ^ 62 → epoch_of w ≡ epoch_at m0.0.size (length m0.0.mine.put.sent)
     → told_of w ≡ length m0.0.mine.take.got % 65536
-    → Allows (DuoHolds n) slots id m i (λ _. w) (λ _. duo_stores_control (step slots i w 0 none) m w)
-duo_put_after n slots id i w m0 m p e key side at len room unspent turn number =
-    subst (λ (z : Seated). Allows (DuoHolds n) slots id z i (λ _. w) (λ _. duo_stores_control (step slots i w 0 none) z w)) (sym e)
-    (duo_allows_put n slots id i w (stored m0 p) key side at len room unspent turn number)
+    → Allows (DuoHolds n start) slots id m i (λ _. w) (λ _. duo_stores_control (step slots i w 0 none) m w)
+duo_put_after n start slots id i w m0 m p e key side at len room unspent turn number =
+    subst (λ (z : Seated). Allows (DuoHolds n start) slots id z i (λ _. w) (λ _. duo_stores_control (step slots i w 0 none) z w)) (sym e)
+    (duo_allows_put n start slots id i w (stored m0 p) key side at len room unspent turn number)
 
 pub duo_all_put : (m0 m m' : Seated) (f : Frag) → m ≡ stored m0 f.words → m' ≡ (with_mine m.0 (side_put m.0.mine f.control), m.1) → m' ≡ (with_mine m0.0 (side_with_frag m0.0.mine f), m0.1)
 duo_all_put m0 m m' f e d = d ∙ ap (λ (z : Seated). let s : Seated = (with_mine z.0 (side_put z.0.mine f.control), z.1) in s) e
@@ -62,12 +62,12 @@ duo_none_loaded m e = ap (λ (p : List ℕ). loaded m p) e
 pub duo_one_loaded : (m0 m m' : Seated) (p q : List ℕ) (x : ℕ) → m ≡ loaded m0 p → m' ≡ (with_mine m.0 (side_loaded m.0.mine x), m.1) → p ++ x ∷ [] ≡ q → m' ≡ loaded m0 q
 duo_one_loaded m0 m m' p q x e d more = d ∙ ap (λ (z : Seated). let s : Seated = (with_mine z.0 (side_loaded z.0.mine x), z.1) in s) e ∙ ap (λ (r : List ℕ). loaded m0 r) more
 
-pub duo_loaded_after : (n slots id i k : ℕ) (m0 m : Seated) (p : List ℕ) → m ≡ loaded m0 p → n ≡ m0.0.size → IsOneSide m0.0.holder
+pub duo_loaded_after : (n start slots id i k : ℕ) (m0 m : Seated) (p : List ℕ) → m ≡ loaded m0 p → n ≡ m0.0.size → IsOneSide m0.0.holder
     → i ≡ slot (other_of m0.0.holder m0.0.size) m0.0.size (length m0.0.mine.take.got) + k → length p ≡ k → k < 6
-    → IsDue m0.0.size m0.0.mine.take → Allows (DuoHolds n) slots id m i (λ x. x) (duo_loads_word (step slots i 0 0 none) m)
-duo_loaded_after n slots id i k m0 m p e key side at len small due =
-    subst (λ (z : Seated). Allows (DuoHolds n) slots id z i (λ x. x) (duo_loads_word (step slots i 0 0 none) z)) (sym e)
-    (duo_allows_loaded n slots id i (loaded m0 p) key side (at ∙ ap (λ (j : ℕ). slot (other_of m0.0.holder m0.0.size) m0.0.size (length m0.0.mine.take.got) + j) (sym len)) due (omega arith))
+    → IsDue m0.0.size m0.0.mine.take → Allows (DuoHolds n start) slots id m i (λ x. x) (duo_loads_word (step slots i 0 0 none) m)
+duo_loaded_after n start slots id i k m0 m p e key side at len small due =
+    subst (λ (z : Seated). Allows (DuoHolds n start) slots id z i (λ x. x) (duo_loads_word (step slots i 0 0 none) z)) (sym e)
+    (duo_allows_loaded n start slots id i (loaded m0 p) key side (at ∙ ap (λ (j : ℕ). slot (other_of m0.0.holder m0.0.size) m0.0.size (length m0.0.mine.take.got) + j) (sym len)) due (omega arith))
 
 -- ---- a fragment loaded
 
@@ -95,19 +95,19 @@ all_but_one m c words = loaded (controlled m c) (take 6 words)
 so_far : (m0 m1 m2 : Seated) (c : ℕ) (words : List ℕ) → m1 ≡ controlled m0 c → m2 ≡ loaded m1 (take 6 words) → m2 ≡ all_but_one m0 c words
 so_far m0 m1 m2 c words e d = d ∙ ap (λ (m : Seated). loaded m (take 6 words)) e
 
-pub duo_peeked_last : (n slots id i c : ℕ) (m0 m1 m2 : Seated) (words : List ℕ) → m1 ≡ controlled m0 c → m2 ≡ loaded m1 (take 6 words) → length words ≡ 7
+pub duo_peeked_last : (n start slots id i c : ℕ) (m0 m1 m2 : Seated) (words : List ℕ) → m1 ≡ controlled m0 c → m2 ≡ loaded m1 (take 6 words) → length words ≡ 7
     → n ≡ m0.0.size → IsOneSide m0.0.holder → i ≡ slot (other_of m0.0.holder m0.0.size) m0.0.size (length m0.0.mine.take.got) + 6 → epoch_of c ≡ epoch_at m0.0.size (length m0.0.mine.take.got)
-    → Allows (DuoHolds n) slots id m2 i (λ x. x) (duo_loads_peeked (step slots i 0 0 none) m2)
-duo_peeked_last n slots id i c m0 m1 m2 words e d seven key side at due =
-    subst (λ (m : Seated). Allows (DuoHolds n) slots id m i (λ x. x) (duo_loads_peeked (step slots i 0 0 none) m)) (sym (so_far m0 m1 m2 c words e d))
-    (duo_allows_peeked n slots id i (all_but_one m0 c words) key side at due (length-take-le 6 words (omega arith)))
+    → Allows (DuoHolds n start) slots id m2 i (λ x. x) (duo_loads_peeked (step slots i 0 0 none) m2)
+duo_peeked_last n start slots id i c m0 m1 m2 words e d seven key side at due =
+    subst (λ (m : Seated). Allows (DuoHolds n start) slots id m i (λ x. x) (duo_loads_peeked (step slots i 0 0 none) m)) (sym (so_far m0 m1 m2 c words e d))
+    (duo_allows_peeked n start slots id i (all_but_one m0 c words) key side at due (length-take-le 6 words (omega arith)))
 
-pub duo_taken_last : (n slots id i c : ℕ) (m0 m1 m2 : Seated) (words : List ℕ) → m1 ≡ controlled m0 c → m2 ≡ loaded m1 (take 6 words) → length words ≡ 7
+pub duo_taken_last : (n start slots id i c : ℕ) (m0 m1 m2 : Seated) (words : List ℕ) → m1 ≡ controlled m0 c → m2 ≡ loaded m1 (take 6 words) → length words ≡ 7
     → n ≡ m0.0.size → IsOneSide m0.0.holder → i ≡ slot (other_of m0.0.holder m0.0.size) m0.0.size (length m0.0.mine.take.got) + 6 → epoch_of c ≡ epoch_at m0.0.size (length m0.0.mine.take.got)
-    → Allows (DuoHolds n) slots id m2 i (λ x. x) (duo_loads_taken (step slots i 0 0 none) m2)
-duo_taken_last n slots id i c m0 m1 m2 words e d seven key side at due =
-    subst (λ (m : Seated). Allows (DuoHolds n) slots id m i (λ x. x) (duo_loads_taken (step slots i 0 0 none) m)) (sym (so_far m0 m1 m2 c words e d))
-    (duo_allows_taken n slots id i (all_but_one m0 c words) key side at due (length-take-le 6 words (omega arith)))
+    → Allows (DuoHolds n start) slots id m2 i (λ x. x) (duo_loads_taken (step slots i 0 0 none) m2)
+duo_taken_last n start slots id i c m0 m1 m2 words e d seven key side at due =
+    subst (λ (m : Seated). Allows (DuoHolds n start) slots id m i (λ x. x) (duo_loads_taken (step slots i 0 0 none) m)) (sym (so_far m0 m1 m2 c words e d))
+    (duo_allows_taken n start slots id i (all_but_one m0 c words) key side at due (length-take-le 6 words (omega arith)))
 
 -- where the epoch due was found the number is known, else nothing new
 pub known_due : (n c : ℕ) (s : Side) → epoch_of c ≡ epoch_at n (length s.take.got) → known_by n s c ≡ count_from s.put.known (told_of c)
@@ -138,10 +138,14 @@ side_misses t t' c m0 m1 e other same =
       told = m0.0.mine.take.told;
     } in s)
 
+-- a seat that knows no more than was sent
+knows : (t : TableId) (m m' : Seated) → m ≡ m' → m'.0.mine.put.known ≤ length m'.0.mine.put.sent → KnowsSent (side_at t m)
+knows t m m' e few = subst (λ (z : Seated). KnowsSent (side_at t z)) (sym e) few
+
 pub side_sees_last : (t t' : TableId) (c x : ℕ) (m0 m1 m2 m3 : Seated) (words : List ℕ) → m1 ≡ controlled m0 c → m2 ≡ loaded m1 (take 6 words) → length words ≡ 7
-    → epoch_of c ≡ epoch_at m0.0.size (length m0.0.mine.take.got) → m3 ≡ (with_mine m2.0 (side_peeked m2.0.mine x), m2.1) → ((f : Frag) → m2.0.mine.take.peeked ≡ Some f → loaded_frag m2.0.mine.take x ≡ f) → t' ≡ t
+    → epoch_of c ≡ epoch_at m0.0.size (length m0.0.mine.take.got) → m3 ≡ (with_mine m2.0 (side_peeked m2.0.mine x), m2.1) → ((f : Frag) → m2.0.mine.take.peeked ≡ Some f → loaded_frag m2.0.mine.take x ≡ f) → t' ≡ t → m1.0.mine.put.known ≤ length m0.0.mine.put.sent
     → SideSees (side_at t m0) (frag_from (set words 6 x) c) (side_at t' m3)
-side_sees_last t t' c x m0 m1 m2 m3 words e d seven due done again same =
+side_sees_last t t' c x m0 m1 m2 m3 words e d seven due done again same sent =
     let m : Seated = all_but_one m0 c words in
     let far : m2 ≡ m = so_far m0 m1 m2 c words e d in
     let whole : take 6 words ++ x ∷ [] ≡ set words 6 x = seven_words words x seven in
@@ -164,12 +168,13 @@ side_sees_last t t' c x m0 m1 m2 m3 words e d seven due done again same =
             misses = missed i;
             told = m0.0.mine.take.told;
           } in s),
+      knows t' m3 (with_mine m.0 (side_peeked m.0.mine x), m.1) last (subst (λ (z : Seated). z.0.mine.put.known ≤ length m0.0.mine.put.sent) e sent),
     )
 
 pub side_gets_last : (t t' : TableId) (c x : ℕ) (m0 m1 m2 m3 : Seated) (words : List ℕ) → m1 ≡ controlled m0 c → m2 ≡ loaded m1 (take 6 words) → length words ≡ 7
-    → epoch_of c ≡ epoch_at m0.0.size (length m0.0.mine.take.got) → m3 ≡ (with_mine m2.0 (side_got m2.0.mine x), m2.1) → ((f : Frag) → m2.0.mine.take.peeked ≡ Some f → loaded_frag m2.0.mine.take x ≡ f) → t' ≡ t
+    → epoch_of c ≡ epoch_at m0.0.size (length m0.0.mine.take.got) → m3 ≡ (with_mine m2.0 (side_got m2.0.mine x), m2.1) → ((f : Frag) → m2.0.mine.take.peeked ≡ Some f → loaded_frag m2.0.mine.take x ≡ f) → t' ≡ t → m1.0.mine.put.known ≤ length m0.0.mine.put.sent
     → SideGets (side_at t m0) (frag_from (set words 6 x) c) (side_at t' m3)
-side_gets_last t t' c x m0 m1 m2 m3 words e d seven due done again same =
+side_gets_last t t' c x m0 m1 m2 m3 words e d seven due done again same sent =
     let m : Seated = all_but_one m0 c words in
     let far : m2 ≡ m = so_far m0 m1 m2 c words e d in
     let whole : take 6 words ++ x ∷ [] ≡ set words 6 x = seven_words words x seven in
@@ -192,6 +197,7 @@ side_gets_last t t' c x m0 m1 m2 m3 words e d seven due done again same =
             misses = missed i;
             told = m0.0.mine.take.told;
           } in s),
+      knows t' m3 (with_mine m.0 (side_got m.0.mine x), m.1) last (subst (λ (z : Seated). z.0.mine.put.known ≤ length m0.0.mine.put.sent) e sent),
     )
 
 -- the parts of the seat that callers don't see

@@ -1,20 +1,19 @@
 -- The steps of a side of a ring of two directions over shared words: both ways go on as they should.
-use Rattle.std.proofs.Common.{ℕ, ◌≡◌, ◌≢◌, ◌<◌, ◌≤◌, ◌+◌, ◌*◌, ◌%◌, ◌^◌, ◌⊎◌, inl, inr, Bool, true, false, cond, eqb, List, [], ◌∷◌, ◌++◌, length, get_or, set, ap, subst, ◌∙◌, sym, refl, arith, Option, Some, None, length-append, length-set, append_assoc, get_or-set_other, eq-eqb, ne_eqb}
+use Rattle.std.proofs.Common.{ℕ, ◌≡◌, ◌≢◌, ◌<◌, ◌≤◌, ◌+◌, ◌*◌, ◌%◌, ◌^◌, ◌⊎◌, inl, inr, Bool, cond, List, [], ◌∷◌, ◌++◌, length, get_or, set, ap, subst, ◌∙◌, sym, arith, Some, length-set, append_assoc, get_or-set_same, get_or-set_other, eq-eqb, ne_eqb}
 use Rattle.std.proofs.lemmas.List.{append_cancel_left, length_push}
 use native.Mathlib.Decide.{ℕ_discrete}
 use Rattle.fl_base.specs.declared.fragment.Frag.{Frag}
 use Rattle.fl_base.specs.Control.{epoch_of, told_of}
 use Rattle.fl_link.specs.Cursor.{epoch_at}
 use Rattle.fl_ring.specs.Counts.{count_from, last_count}
-use Rattle.fl_ring.specs.declared.shared.board.Writing.{Writing}
-use Rattle.fl_ring.specs.declared.shared.board.Reading.{Reading}
 use Rattle.fl_ring.specs.declared.shared.duo_board.Side.{Side}
 use Rattle.fl_ring.specs.Way.{slot}
-use Rattle.fl_ring.specs.SharedWay.{IsFront, IsNext, IsDue, IsLoaded, WayRuns, frag_from, loaded_frag, with_stored, with_put, with_known, with_control, with_loaded, with_peeked, with_got, with_told, misses_after}
-use Rattle.fl_ring.specs.SharedDuo.{NumbersRide, KnowsLast, BothRun, CountsNear, side_stored, side_put, side_control, side_loaded, side_peeked, side_got, known_by, counted_by}
+use Rattle.fl_ring.specs.SharedWay.{IsNext, IsDue, IsLoaded, WayRuns, frag_from, loaded_frag}
+use Rattle.fl_ring.specs.SharedDuo.{NumbersRide, BothRun, CountsNear, side_stored, side_put, side_control, side_loaded, side_peeked, side_got, known_by}
 use Rattle.fl_ring.proofs.Places.{slot_within}
 use Rattle.fl_ring.proofs.Numbers.{count_named, count_again, count_rises, last_rises, last_push}
-use Rattle.fl_ring.proofs.SharedWays.{runs_stored, runs_put, runs_known, runs_control, seen_due, peeked_due, runs_loaded, loaded_whole, loaded_again, got_unspent, runs_peeked, runs_got, runs_told, runs_elsewhere, front_within}
+use Rattle.fl_ring.proofs.Tells.{tells_kept, tells_stored, tells_put}
+use Rattle.fl_ring.proofs.SharedWays.{runs_stored, runs_put, runs_known, runs_control, seen_due, peeked_there, runs_loaded, loaded_whole, loaded_again, got_unspent, runs_peeked, runs_got, runs_told, runs_elsewhere, front_within}
 
 -- ---- from either side
 
@@ -22,8 +21,8 @@ swapped : (x y z : ℕ) → ((x ≡ 0) × (y ≡ z)) ⊎ ((x ≡ z) × (y ≡ 0)
 swapped x y z (inl (e, d)) = inr (d, e)
 swapped x y z (inr (e, d)) = inl (d, e)
 
-pub turned : (b c n : ℕ) (ws : List ℕ) (x y : Side) → BothRun b c n ws x y → BothRun c b n ws y x
-turned b c n ws x y h = record {
+pub turned : (b c n start : ℕ) (ws : List ℕ) (x y : Side) → BothRun b c n start ws x y → BothRun c b n start ws y x
+turned b c n start ws x y h = record {
   few = h.few;
   wide = h.wide;
   apart = swapped b c (8 * n) h.apart;
@@ -33,6 +32,8 @@ turned b c n ws x y h = record {
   told_back = h.told_there;
   last_there = h.last_back;
   last_back = h.last_there;
+  word_there = h.word_back;
+  word_back = h.word_there;
 }
 
 -- a word of the way at b is none of the way at c
@@ -84,14 +85,17 @@ rides_taken sent got known told f h (rest, e) knows =
       counts = ap (λ (k : ℕ). last_count k rest) (sym knows) ∙ ap (λ (xs : List Frag). last_count known xs) (sym first) ∙ h.counts;
     }
 
-module _ (b c n : ℕ) (ws : List ℕ) (x y : Side) where
+module _ (b c n start : ℕ) (ws : List ℕ) (x y : Side) where
   -- ---- stores
 
-  away : (i k v : ℕ) → k < 8 → BothRun b c n ws x y → (j : ℕ) → c ≤ j → j < c + 8 * n → get_or (set ws (slot b n i + k) v) j 0 ≡ get_or ws j 0
+  away : (i k v : ℕ) → k < 8 → BothRun b c n start ws x y → (j : ℕ) → c ≤ j → j < c + 8 * n → get_or (set ws (slot b n i + k) v) j 0 ≡ get_or ws j 0
   away i k v small h j from below = get_or-set_other ws (slot b n i + k) j v 0 (ways_apart b c n i k j h.there.holds.marked.some small h.apart from below)
 
-  pub both_stored : (v : ℕ) → BothRun b c n ws x y → length x.put.sent < x.put.known + n → length x.put.part < 7
-      → BothRun b c n (set ws (slot b n (length x.put.sent) + length x.put.part) v) (side_stored x v) y
+  away_control : (i k v : ℕ) → k < 8 → BothRun b c n start ws x y → (j : ℕ) → get_or (set ws (slot b n i + k) v) (slot c n j + 7) 0 ≡ get_or ws (slot c n j + 7) 0
+  away_control i k v small h j = let within = slot_within c n j h.back.holds.marked.some in let p : ℕ = j % n in away i k v small h (slot c n j + 7) (omega arith) (omega arith)
+
+  pub both_stored : (v : ℕ) → BothRun b c n start ws x y → length x.put.sent < x.put.known + n → length x.put.part < 7
+      → BothRun b c n start (set ws (slot b n (length x.put.sent) + length x.put.part) v) (side_stored x v) y
   both_stored v h room small =
       let place : ℕ = slot b n (length x.put.sent) + length x.put.part in
       let ws' : List ℕ = set ws place v in
@@ -105,10 +109,12 @@ module _ (b c n : ℕ) (ws : List ℕ) (x y : Side) where
         told_back = h.told_back;
         last_there = h.last_there;
         last_back = h.last_back;
+        word_there = tells_stored b n start ws (length x.put.sent) x.take.told (length x.put.sent) (length x.put.part) v small h.word_there;
+        word_back = tells_kept c n start ws ws' (length y.put.sent) y.take.told h.word_back (away_control (length x.put.sent) (length x.put.part) v (omega arith) h);
       }
 
-  pub both_put : (w : ℕ) → BothRun b c n ws x y → length x.put.sent < x.put.known + n → length x.put.part ≡ 7 → length x.put.sent < 2 ^ 62 → epoch_of w ≡ epoch_at n (length x.put.sent)
-      → told_of w ≡ length x.take.got % 65536 → BothRun b c n (set ws (slot b n (length x.put.sent) + 7) w) (side_put x w) y
+  pub both_put : (w : ℕ) → BothRun b c n start ws x y → length x.put.sent < x.put.known + n → length x.put.part ≡ 7 → length x.put.sent < 2 ^ 62 → epoch_of w ≡ epoch_at n (length x.put.sent)
+      → told_of w ≡ length x.take.got % 65536 → BothRun b c n start (set ws (slot b n (length x.put.sent) + 7) w) (side_put x w) y
   both_put w h room seven unspent turn number =
       let place : ℕ = slot b n (length x.put.sent) + 7 in
       let ws' : List ℕ = set ws place w in
@@ -125,17 +131,21 @@ module _ (b c n : ℕ) (ws : List ℕ) (x y : Side) where
         told_back = h.told_back;
         last_there = h.last_there;
         last_back = h.last_back;
+        word_there =
+            let at : get_or ws' place 0 ≡ w = get_or-set_same ws place w 0 (omega (arith, slot_within b n (length x.put.sent) h.there.holds.marked.some, h.there.holds.marked.wide)) in
+            tells_put b n start ws' (length x.put.sent) (length (x.put.sent ++ frag_from x.put.part w ∷ [])) (length x.take.got) w h.word_there.since (length_push x.put.sent (frag_from x.put.part w)) at number;
+        word_back = tells_kept c n start ws ws' (length y.put.sent) y.take.told h.word_back (away_control (length x.put.sent) 7 w (omega arith) h);
       }
 
   -- ---- loads
 
   -- what a look knows is told
-  known_told : (w : ℕ) → BothRun b c n ws x y → w ≡ get_or ws (slot c n (length x.take.got) + 7) 0 → (epoch_of w ≡ epoch_at n (length x.take.got)) → NumbersRide y.put.sent x.take.got (count_from x.put.known (told_of w)) y.take.told
+  known_told : (w : ℕ) → BothRun b c n start ws x y → w ≡ get_or ws (slot c n (length x.take.got) + 7) 0 → (epoch_of w ≡ epoch_at n (length x.take.got)) → NumbersRide y.put.sent x.take.got (count_from x.put.known (told_of w)) y.take.told
   known_told w h is due =
       let l : IsLoaded y.put.sent x.take.got [] w = seen_due c n ws y.put x.take x.take.told w h.back is due in
       rides_known y.put.sent x.take.got x.put.known y.take.told (told_of w) l.frag h.told_back l.next (ap told_of l.control)
 
-  known_cases : (w : ℕ) → BothRun b c n ws x y → w ≡ get_or ws (slot c n (length x.take.got) + 7) 0 → Dec (epoch_of w ≡ epoch_at n (length x.take.got))
+  known_cases : (w : ℕ) → BothRun b c n start ws x y → w ≡ get_or ws (slot c n (length x.take.got) + 7) 0 → Dec (epoch_of w ≡ epoch_at n (length x.take.got))
       → NumbersRide y.put.sent x.take.got (known_by n x w) y.take.told × (x.put.known ≤ known_by n x w)
   known_cases w h is (yes due) =
       let same : count_from x.put.known (told_of w) ≡ known_by n x w = sym (ap (λ (t : Bool). cond t (count_from x.put.known (told_of w)) x.put.known) (eq-eqb (epoch_of w) (epoch_at n (length x.take.got)) due)) in
@@ -144,11 +154,11 @@ module _ (b c n : ℕ) (ws : List ℕ) (x y : Side) where
       let same : x.put.known ≡ known_by n x w = sym (ap (λ (t : Bool). cond t (count_from x.put.known (told_of w)) x.put.known) (ne_eqb (epoch_of w) (epoch_at n (length x.take.got)) other)) in
       (subst (λ (k : ℕ). NumbersRide y.put.sent x.take.got k y.take.told) same h.told_back, omega (arith, same))
 
-  pub known_after_look : (w : ℕ) → BothRun b c n ws x y → w ≡ get_or ws (slot c n (length x.take.got) + 7) 0
+  pub known_after_look : (w : ℕ) → BothRun b c n start ws x y → w ≡ get_or ws (slot c n (length x.take.got) + 7) 0
       → NumbersRide y.put.sent x.take.got (known_by n x w) y.take.told × (x.put.known ≤ known_by n x w)
   known_after_look w h is = known_cases w h is (ℕ_discrete (epoch_of w) (epoch_at n (length x.take.got)))
 
-  pub both_control : (w : ℕ) → BothRun b c n ws x y → w ≡ get_or ws (slot c n (length x.take.got) + 7) 0 → BothRun b c n ws (side_control n x w) y
+  pub both_control : (w : ℕ) → BothRun b c n start ws x y → w ≡ get_or ws (slot c n (length x.take.got) + 7) 0 → BothRun b c n start ws (side_control n x w) y
   both_control w h is =
       let after = known_after_look w h is in
       record {
@@ -163,18 +173,21 @@ module _ (b c n : ℕ) (ws : List ℕ) (x y : Side) where
             let same : count_from x.put.known (told_of w) ≡ known_by n x w = sym (ap (λ (t : Bool). cond t (count_from x.put.known (told_of w)) x.put.known) (eq-eqb (epoch_of w) (epoch_at n (length x.take.got)) due)) in
             ap (λ (k : ℕ). count_from k (told_of w)) (sym same) ∙ count_again x.put.known (told_of w) ∙ same;
         last_back = h.last_back;
+        word_there = h.word_there;
+        word_back = h.word_back;
       }
 
   -- what is known after a look was sent
-  pub known_sent : (w : ℕ) → BothRun b c n ws x y → w ≡ get_or ws (slot c n (length x.take.got) + 7) 0 → known_by n x w ≤ length x.put.sent
+  pub known_sent : (w : ℕ) → BothRun b c n start ws x y → w ≡ get_or ws (slot c n (length x.take.got) + 7) 0 → known_by n x w ≤ length x.put.sent
   known_sent w h is =
       let after = known_after_look w h is in
       omega (arith, rides_rise y.put.sent x.take.got (known_by n x w) y.take.told after.0, h.there.told_got, front_within y.take.got x.put.sent h.there.got_sent)
 
-  pub both_peeked_due : (w : ℕ) → BothRun b c n ws x y → w ≡ get_or ws (slot c n (length x.take.got) + 7) 0 → (f : Frag) → x.take.peeked ≡ Some f → epoch_of w ≡ epoch_at n (length x.take.got)
-  both_peeked_due w h is f e = peeked_due c n ws y.put x.take x.take.told w h.back is f e
+  pub both_peeked_there : (w : ℕ) → BothRun b c n start ws x y → w ≡ get_or ws (slot c n (length x.take.got) + 7) 0 → (f : Frag) → x.take.peeked ≡ Some f
+      → (epoch_of w ≡ epoch_at n (length x.take.got)) × (f.control ≡ w)
+  both_peeked_there w h is f e = peeked_there c n ws y.put x.take x.take.told w h.back is f e
 
-  pub both_loaded : (v : ℕ) → BothRun b c n ws x y → IsDue n x.take → length x.take.part < 6 → v ≡ get_or ws (slot c n (length x.take.got) + length x.take.part) 0 → BothRun b c n ws (side_loaded x v) y
+  pub both_loaded : (v : ℕ) → BothRun b c n start ws x y → IsDue n x.take → length x.take.part < 6 → v ≡ get_or ws (slot c n (length x.take.got) + length x.take.part) 0 → BothRun b c n start ws (side_loaded x v) y
   both_loaded v h due small is = record {
     few = h.few;
     wide = h.wide;
@@ -185,9 +198,11 @@ module _ (b c n : ℕ) (ws : List ℕ) (x y : Side) where
     told_back = h.told_back;
     last_there = λ d s. h.last_there due (omega arith);
     last_back = h.last_back;
+    word_there = h.word_there;
+    word_back = h.word_back;
   }
 
-  pub both_peeked : (v : ℕ) → BothRun b c n ws x y → IsDue n x.take → length x.take.part ≡ 6 → v ≡ get_or ws (slot c n (length x.take.got) + 6) 0 → BothRun b c n ws (side_peeked x v) y
+  pub both_peeked : (v : ℕ) → BothRun b c n start ws x y → IsDue n x.take → length x.take.part ≡ 6 → v ≡ get_or ws (slot c n (length x.take.got) + 6) 0 → BothRun b c n start ws (side_peeked x v) y
   both_peeked v h due six is = record {
     few = h.few;
     wide = h.wide;
@@ -198,9 +213,11 @@ module _ (b c n : ℕ) (ws : List ℕ) (x y : Side) where
     told_back = h.told_back;
     last_there = λ d s. h.last_there due (omega arith);
     last_back = h.last_back;
+    word_there = h.word_there;
+    word_back = h.word_back;
   }
 
-  pub both_got : (v : ℕ) → BothRun b c n ws x y → IsDue n x.take → length x.take.part ≡ 6 → v ≡ get_or ws (slot c n (length x.take.got) + 6) 0 → BothRun b c n ws (side_got x v) y
+  pub both_got : (v : ℕ) → BothRun b c n start ws x y → IsDue n x.take → length x.take.part ≡ 6 → v ≡ get_or ws (slot c n (length x.take.got) + 6) 0 → BothRun b c n start ws (side_got x v) y
   both_got v h due six is =
       let f : Frag = loaded_frag x.take v in
       let next : IsNext y.put.sent x.take.got f = loaded_whole c n ws y.put x.take x.take.told v h.back due six is in
@@ -214,15 +231,17 @@ module _ (b c n : ℕ) (ws : List ℕ) (x y : Side) where
         told_back = rides_taken y.put.sent x.take.got x.put.known y.take.told f h.told_back next (h.last_there due (omega arith));
         last_there = λ d s. absurd (omega (arith, length_push x.take.part v));
         last_back = h.last_back;
+        word_there = h.word_there;
+        word_back = h.word_back;
       }
 
-  pub both_again : (v : ℕ) → BothRun b c n ws x y → IsDue n x.take → length x.take.part ≡ 6 → v ≡ get_or ws (slot c n (length x.take.got) + 6) 0 → (f : Frag) → x.take.peeked ≡ Some f → loaded_frag x.take v ≡ f
+  pub both_again : (v : ℕ) → BothRun b c n start ws x y → IsDue n x.take → length x.take.part ≡ 6 → v ≡ get_or ws (slot c n (length x.take.got) + 6) 0 → (f : Frag) → x.take.peeked ≡ Some f → loaded_frag x.take v ≡ f
   both_again v h due six is f e = loaded_again c n ws y.put x.take x.take.told v h.back due six is f e
 
-  pub both_few : (v : ℕ) → BothRun b c n ws x y → IsDue n x.take → length x.take.part ≡ 6 → v ≡ get_or ws (slot c n (length x.take.got) + 6) 0 → length x.take.got < 2 ^ 62
+  pub both_few : (v : ℕ) → BothRun b c n start ws x y → IsDue n x.take → length x.take.part ≡ 6 → v ≡ get_or ws (slot c n (length x.take.got) + 6) 0 → length x.take.got < 2 ^ 62
   both_few v h due six is = got_unspent c n ws y.put x.take x.take.told v h.back due six is
 
-  pub both_near : BothRun b c n ws x y → CountsNear n x y
+  pub both_near : BothRun b c n start ws x y → CountsNear n x y
   both_near h = record {
     few = h.few;
     got_sent = h.there.got_sent;

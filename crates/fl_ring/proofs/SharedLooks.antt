@@ -1,9 +1,9 @@
 -- A fragment loaded by a seat of a ring over shared words: its control word, six payload words, and
 -- the seventh, which ends a peek or a take.
-use Rattle.std.proofs.Common.{ℕ, ◌≡◌, ◌<◌, ◌≤◌, ◌+◌, ◌*◌, ◌^◌, true, List, [], ◌∷◌, ◌++◌, length, take, get_or, set, ap, subst, ◌∙◌, sym, refl, arith, Option, Some, None, cond, Bool, length-set, eq-eqb}
+use Rattle.std.proofs.Common.{ℕ, ◌≡◌, ◌<◌, ◌+◌, ◌^◌, true, List, [], ◌∷◌, ◌++◌, length, take, set, ap, subst, ◌∙◌, sym, arith, Some, None, cond, Bool, length-set, eq-eqb}
 use Rattle.std.proofs.lemmas.List.{take_more_set, take_all, length-take-le}
 use mathlib.Core.Option.{none}
-use Rattle.atomic_table.specs.Table.{Me, Step, step, Allows}
+use Rattle.atomic_table.specs.Table.{Me, step, Allows}
 use Rattle.atomic_table.specs.Seated.{TableId}
 use Rattle.fl_base.specs.declared.fragment.Frag.{Frag}
 use Rattle.fl_base.specs.Control.{epoch_of}
@@ -11,9 +11,9 @@ use Rattle.fl_link.specs.Cursor.{epoch_at}
 use Rattle.fl_ring.specs.declared.shared.board.Reading.{Reading}
 use Rattle.fl_ring.specs.declared.shared.board.View.{View}
 use Rattle.fl_ring.specs.Way.{slot}
-use Rattle.fl_ring.specs.SharedWay.{IsDue, with_control, with_peeked, with_got, loaded_frag, frag_from, misses_after}
+use Rattle.fl_ring.specs.SharedWay.{with_control, with_peeked, with_got, loaded_frag, frag_from, misses_after}
 use Rattle.fl_ring.specs.SharedRing.{RingRule, with_reading, loads_peeked, loads_taken}
-use Rattle.fl_ring.specs.SharedSeats.{Receiver, with_words, with_seen, with_taken, MayCome, Sees, Gets}
+use Rattle.fl_ring.specs.SharedSeats.{Receiver, with_words, Sees, Gets}
 use Rattle.fl_ring.proofs.SharedSteps.{allows_peeked, allows_taken}
 
 abbrev Seated : Type 0

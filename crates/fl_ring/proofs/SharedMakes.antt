@@ -1,19 +1,16 @@
 -- A new ring over shared words, its first seat cut in two, and two seats joined.
-use Rattle.std.proofs.Common.{ℕ, zero, suc, ◌≡◌, ◌≢◌, ◌<◌, ◌≤◌, ◌+◌, ◌*◌, ◌/◌, ◌%◌, ◌^◌, ◌⊎◌, inl, inr, Bool, true, false, List, [], ◌∷◌, ◌++◌, length, replicate, get_or, set, ap, subst, ◌∙◌, sym, refl, arith, length-set, Option, Some, None}
+use Rattle.std.proofs.Common.{ℕ, zero, suc, ◌≡◌, ◌≢◌, ◌<◌, ◌≤◌, ◌+◌, ◌*◌, ◌/◌, ◌%◌, ◌⊎◌, inl, inr, true, List, [], ◌∷◌, ◌++◌, length, replicate, get_or, set, ap, subst, ◌∙◌, sym, refl, arith, Option, Some, None}
 use Rattle.std.proofs.lemmas.Bool.{false≢true}
 use Rattle.std.proofs.lemmas.Nat.{div-mul-add}
 use mathlib.Core.Option.{some, some-injective, some-ne-none}
 use lib.ListN.{get_elem?, length-replicate}
-use Rattle.atomic_table.specs.Table.{State, Splits, Joins, opening}
+use Rattle.atomic_table.specs.Table.{Splits, Joins, opening}
 use Rattle.atomic_table.proofs.Lists.{at_set, set_else}
 use Rattle.fl_base.specs.declared.fragment.Frag.{Frag}
 use Rattle.fl_base.specs.Control.{epoch_of}
 use Rattle.fl_link.specs.Cursor.{epoch_at}
-use Rattle.fl_ring.specs.declared.shared.board.Writing.{Writing}
-use Rattle.fl_ring.specs.declared.shared.board.Reading.{Reading}
 use Rattle.fl_ring.specs.declared.shared.board.View.{View}
-use Rattle.fl_ring.specs.Way.{slot, epoch_in, Marked, WayHolds}
-use Rattle.fl_ring.specs.SharedWay.{WayRuns}
+use Rattle.fl_ring.specs.Way.{slot, Marked}
 use Rattle.fl_ring.specs.SharedRing.{Sides, Fits, RingHolds, RingRule, new_writing, new_reading, opening_view, writer_of, reader_of, both_of, nobody}
 
 -- what stands in a list with one more at its end

@@ -1,16 +1,14 @@
 -- Steps in a row at a seat of a ring over shared words.
-use Rattle.std.proofs.Common.{ℕ, ◌≡◌, ◌<◌, ◌≤◌, ◌+◌, ◌*◌, ◌^◌, true, List, [], ◌∷◌, ◌++◌, length, take, get_or, ap, subst, ◌∙◌, sym, refl, arith, Option, Some, None}
+use Rattle.std.proofs.Common.{ℕ, ◌≡◌, ◌<◌, ◌+◌, ◌^◌, true, List, [], ◌∷◌, ◌++◌, length, take, ap, subst, ◌∙◌, sym, arith}
 use Rattle.std.proofs.lemmas.List.{length-take-le, take_all}
 use mathlib.Core.Option.{none}
-use Rattle.atomic_table.specs.Table.{Me, Step, step, Allows}
+use Rattle.atomic_table.specs.Table.{Me, step, Allows}
 use Rattle.fl_base.specs.declared.fragment.Frag.{Frag}
 use Rattle.fl_base.specs.Control.{epoch_of}
 use Rattle.fl_link.specs.Cursor.{epoch_at}
-use Rattle.fl_ring.specs.declared.shared.board.Writing.{Writing}
-use Rattle.fl_ring.specs.declared.shared.board.Reading.{Reading}
 use Rattle.fl_ring.specs.declared.shared.board.View.{View}
 use Rattle.fl_ring.specs.Way.{slot}
-use Rattle.fl_ring.specs.SharedWay.{IsDue, with_stored, with_put, with_loaded, frag_from}
+use Rattle.fl_ring.specs.SharedWay.{IsDue, with_stored, with_put, with_loaded}
 use Rattle.fl_ring.specs.SharedRing.{RingRule, with_writing, with_reading, stores_word, stores_control, loads_word}
 use Rattle.fl_ring.specs.SharedSeats.{with_part, with_frag, with_words}
 use Rattle.fl_ring.proofs.SharedSteps.{allows_stored, allows_put, allows_loaded}

@@ -1,7 +1,7 @@
 -- The steps of a ring over shared words: what the rule allows each side.
-use Rattle.std.proofs.Common.{ℕ, ◌≡◌, ◌≢◌, ◌<◌, ◌≤◌, ◌+◌, ◌*◌, ◌%◌, ◌^◌, ◌⊎◌, inl, inr, true, false, List, [], ◌∷◌, ◌++◌, length, get_or, set, ap, subst, ◌∙◌, sym, refl, arith, Option, Some, None, length-set, get_or-set_same, get_or-set_other}
+use Rattle.std.proofs.Common.{ℕ, ◌≡◌, ◌≢◌, ◌<◌, ◌≤◌, ◌+◌, ◌*◌, ◌^◌, true, List, length, get_or, set, ap, subst, ◌∙◌, sym, refl, arith, length-set, get_or-set_same, get_or-set_other}
 use mathlib.Core.Option.{none}
-use Rattle.atomic_table.specs.Table.{State, Me, Step, step, Allows}
+use Rattle.atomic_table.specs.Table.{Me, step, Allows}
 use Rattle.fl_base.specs.declared.fragment.Frag.{Frag}
 use Rattle.fl_base.specs.Control.{epoch_of}
 use Rattle.fl_link.specs.Cursor.{epoch_at}
@@ -13,7 +13,7 @@ use Rattle.fl_ring.specs.SharedWay.{IsFront, IsDue, WayRuns, with_stored, with_p
 use Rattle.fl_ring.specs.SharedRing.{Sides, Fits, RingHolds, RingRule, with_writing, with_reading, stores_word, stores_control, loads_told, loads_control, loads_word, loads_peeked, loads_taken, stores_told, compares}
 use Rattle.fl_ring.proofs.Places.{slot_within}
 use Rattle.fl_ring.proofs.SharedTables.{Moves, allows_by, allows_load}
-use Rattle.fl_ring.proofs.SharedWays.{runs_stored, runs_put, runs_known, runs_control, peeked_due, runs_loaded, runs_peeked, runs_got, loaded_again, got_unspent, runs_told, runs_elsewhere, front_within}
+use Rattle.fl_ring.proofs.SharedWays.{runs_stored, runs_put, runs_known, runs_control, peeked_there, runs_loaded, runs_peeked, runs_got, loaded_again, got_unspent, runs_told, runs_elsewhere, front_within}
 
 abbrev Seated : Type 0
 Seated = Me (Unit {0}) View
@@ -102,7 +102,7 @@ allows_stored n slots id i x me key writes at small room =
     (let m : ℕ = me.0.size in let place : ℕ = slot 0 m (length me.0.put.sent) + length me.0.put.part in
     allows_by (Fits m) (Held m) slots id place me (λ _. x) (λ _. stores_word (step slots place x 0 none) me x)
     (λ ws s fits held. writer_moves m id (set ws place x) s me.0 (with_stored me.0.put x) (λ v. stores_word (step slots place x 0 none) me x (v, me.1)) writes fits
-    (holds_stored m x ws me.0.put s.take (as_writer m id ws s me.0 writes fits held) room small) refl)))
+    (holds_stored m x ws me.0.put s.take (as_writer m id ws s me.0 writes fits held) room small) (refl, refl, small, room))))
 
 pub allows_put : (n slots id i c : ℕ) (me : Seated) → n ≡ me.0.size → me.0.writes ≡ true → i ≡ slot 0 me.0.size (length me.0.put.sent) + 7
     → length me.0.put.part ≡ 7 → length me.0.put.sent < me.0.put.known + me.0.size → length me.0.put.sent < 2 ^ 62 → epoch_of c ≡ epoch_at me.0.size (length me.0.put.sent)
@@ -113,7 +113,7 @@ allows_put n slots id i c me key writes at seven room unspent turn =
     (let m : ℕ = me.0.size in let place : ℕ = slot 0 m (length me.0.put.sent) + 7 in
     allows_by (Fits m) (Held m) slots id place me (λ _. c) (λ _. stores_control (step slots place c 0 none) me c)
     (λ ws s fits held. writer_moves m id (set ws place c) s me.0 (with_put me.0.put c) (λ v. stores_control (step slots place c 0 none) me c (v, me.1)) writes fits
-    (holds_put m c ws me.0.put s.take (as_writer m id ws s me.0 writes fits held) room seven unspent turn) refl)))
+    (holds_put m c ws me.0.put s.take (as_writer m id ws s me.0 writes fits held) room seven unspent turn) (refl, refl, seven, room, unspent, turn))))
 
 known_holds : (n k : ℕ) (ws : List ℕ) (w : Writing) (r : Reading) → RingHolds n ws w r → k ≡ r.told → RingHolds n ws (with_known w k) r
 known_holds n k ws w r h is = record {
@@ -134,7 +134,7 @@ allows_known n slots id i me key writes at =
     let h : RingHolds m ws me.0.put s.take = as_writer m id ws s me.0 writes fits held in
     writer_moves m id ws s me.0 (with_known me.0.put x) (λ v. loads_told (step slots (8 * m) 0 0 none) me x (v, me.1)) writes fits
     (known_holds m x ws me.0.put s.take h h.told_is)
-    (refl, omega (arith, h.told_is, h.way.known_told), omega (arith, h.told_is, h.way.told_got, front_within s.take.got me.0.put.sent h.way.got_sent)))))
+    (refl, omega (arith, h.told_is, h.way.known_told), omega (arith, h.told_is, h.way.told_got, front_within s.take.got me.0.put.sent h.way.got_sent), refl))))
 
 -- the reader's loads leave the words, and only the way moves
 way_holds : (n : ℕ) (ws : List ℕ) (w : Writing) (r r' : Reading) → RingHolds n ws w r → r'.told ≡ r.told → WayRuns 0 n ws w r' r.told → RingHolds n ws w r'
@@ -157,7 +157,7 @@ allows_control n slots id i me key reads at =
     let h : RingHolds m ws s.put r = as_reader m id ws s me.0 reads fits held in
     reader_moves m id ws s me.0 (with_control m r x) (λ v. loads_control (step slots place 0 0 none) me x (v, me.1)) reads fits
     (way_holds m ws s.put r (with_control m r x) h refl (runs_control 0 m ws s.put r r.told x h.way refl))
-    (refl, λ f e. peeked_due 0 m ws s.put r r.told x h.way refl f e))))
+    (refl, (λ f e. (peeked_there 0 m ws s.put r r.told x h.way refl f e).0), (λ f e. (peeked_there 0 m ws s.put r r.told x h.way refl f e).1), refl))))
 
 pub allows_loaded : (n slots id i : ℕ) (me : Seated) → n ≡ me.0.size → me.0.reads ≡ true → i ≡ slot 0 me.0.size (length me.0.take.got) + length me.0.take.part
     → IsDue me.0.size me.0.take → length me.0.take.part < 6
@@ -172,7 +172,7 @@ allows_loaded n slots id i me key reads at due small =
     let r : Reading = me.0.take in
     let h : RingHolds m ws s.put r = as_reader m id ws s me.0 reads fits held in
     reader_moves m id ws s me.0 (with_loaded r x) (λ v. loads_word (step slots place 0 0 none) me x (v, me.1)) reads fits
-    (way_holds m ws s.put r (with_loaded r x) h refl (runs_loaded 0 m ws s.put r r.told x h.way due small refl)) refl)))
+    (way_holds m ws s.put r (with_loaded r x) h refl (runs_loaded 0 m ws s.put r r.told x h.way due small refl)) (refl, refl, small, due))))
 
 pub allows_peeked : (n slots id i : ℕ) (me : Seated) → n ≡ me.0.size → me.0.reads ≡ true → i ≡ slot 0 me.0.size (length me.0.take.got) + 6
     → IsDue me.0.size me.0.take → length me.0.take.part ≡ 6
@@ -188,7 +188,7 @@ allows_peeked n slots id i me key reads at due six =
     let h : RingHolds m ws s.put r = as_reader m id ws s me.0 reads fits held in
     reader_moves m id ws s me.0 (with_peeked r x) (λ v. loads_peeked (step slots place 0 0 none) me x (v, me.1)) reads fits
     (way_holds m ws s.put r (with_peeked r x) h refl (runs_peeked 0 m ws s.put r r.told x h.way due six refl))
-    (refl, λ f e. loaded_again 0 m ws s.put r r.told x h.way due six refl f e))))
+    (refl, (λ f e. loaded_again 0 m ws s.put r r.told x h.way due six refl f e), (refl, six, due)))))
 
 pub allows_taken : (n slots id i : ℕ) (me : Seated) → n ≡ me.0.size → me.0.reads ≡ true → i ≡ slot 0 me.0.size (length me.0.take.got) + 6
     → IsDue me.0.size me.0.take → length me.0.take.part ≡ 6
@@ -204,7 +204,7 @@ allows_taken n slots id i me key reads at due six =
     let h : RingHolds m ws s.put r = as_reader m id ws s me.0 reads fits held in
     reader_moves m id ws s me.0 (with_got r x) (λ v. loads_taken (step slots place 0 0 none) me x (v, me.1)) reads fits
     (way_holds m ws s.put r (with_got r x) h refl (runs_got 0 m ws s.put r r.told x h.way due six refl))
-    (refl, (λ f e. loaded_again 0 m ws s.put r r.told x h.way due six refl f e), got_unspent 0 m ws s.put r r.told x h.way due six refl))))
+    (refl, (λ f e. loaded_again 0 m ws s.put r r.told x h.way due six refl f e), got_unspent 0 m ws s.put r r.told x h.way due six refl, (refl, six, due)))))
 
 pub allows_told : (n slots id i t : ℕ) (me : Seated) → n ≡ me.0.size → me.0.reads ≡ true → i ≡ 8 * me.0.size → t ≡ length me.0.take.got
     → Allows (RingRule n) slots id me i (λ _. t) (λ _. stores_told (step slots i t 0 none) me t)
@@ -217,7 +217,7 @@ allows_told n slots id i t me key reads at all =
     let r : Reading = me.0.take in
     let h : RingHolds m ws s.put r = as_reader m id ws s me.0 reads fits held in
     reader_moves m id (set ws (8 * m) t) s me.0 (with_told r t) (λ v. stores_told (step slots (8 * m) t 0 none) me t (v, me.1)) reads fits
-    (holds_told m t ws s.put r h (omega (arith, all, h.way.told_got)) (omega (arith, all))) refl)))
+    (holds_told m t ws s.put r h (omega (arith, all, h.way.told_got)) (omega (arith, all))) (refl, refl, omega (arith, all, h.way.told_got), omega (arith, all)))))
 
 -- a seat of both sides compares
 pub allows_compare : (n slots id i : ℕ) (me : Seated) → me.0.writes ≡ true → me.0.reads ≡ true → Allows (RingRule n) slots id me i (λ x. x) (compares (step slots i 0 0 none) me)

@@ -1,10 +1,10 @@
 -- Steps on a table of words that several seats step on: what a step has to show of the account.
-use Rattle.std.proofs.Common.{ℕ, ◌≡◌, ◌≢◌, ◌⊎◌, inl, inr, List, [], ◌∷◌, ◌++◌, length, get_or, set, subst, sym, ◌∙◌, refl, ap, arith}
+use Rattle.std.proofs.Common.{ℕ, ◌≡◌, ◌≢◌, ◌⊎◌, inl, inr, List, get_or, set, subst, sym}
 use mathlib.Core.Option.{some}
 use lib.ListN.{get_elem?}
 use lib.Seq.{set-get_or}
-use Rattle.atomic_table.specs.Table.{State, Me, keeps, Allows, Splits, Joins}
-use Rattle.atomic_table.proofs.Lists.{at_set, at_snoc}
+use Rattle.atomic_table.specs.Table.{Me, keeps, Allows}
+use Rattle.atomic_table.proofs.Lists.{at_set}
 use Rattle.fl_ring.specs.SharedTable.{Accounted}
 
 module _ {V C : Type 0} (Fits : C → ℕ → V → Type 0) (Holds : List ℕ → C → Type 0) where

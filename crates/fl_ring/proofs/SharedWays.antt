@@ -1,5 +1,5 @@
 -- The steps of a way between two threads: each leaves what holds at every moment.
-use Rattle.std.proofs.Common.{ℕ, zero, suc, ◌≡◌, ◌≢◌, ◌<◌, ◌≤◌, ◌+◌, ◌*◌, ◌%◌, ◌^◌, ◌⊎◌, inl, inr, List, [], ◌∷◌, ◌++◌, length, map, get_or, set, ap, subst, ◌∙◌, sym, refl, arith, Option, Some, None, length-append, length-set, append_assoc, get_or-set_same, get_or-set_other}
+use Rattle.std.proofs.Common.{ℕ, ◌≡◌, ◌≢◌, ◌<◌, ◌≤◌, ◌+◌, ◌*◌, ◌%◌, ◌^◌, ◌⊎◌, inl, inr, List, [], ◌∷◌, ◌++◌, length, get_or, set, ap, subst, ◌∙◌, sym, refl, arith, Option, Some, None, length-append, append_assoc, get_or-set_same, get_or-set_other}
 use Rattle.std.proofs.lemmas.List.{get_or_append_left, get_or_push, length_push}
 use Rattle.std.proofs.lemmas.List.FromFn.{fill_by_all, get_or-map-range_with_len}
 use Rattle.std.proofs.lemmas.Bool.{cases_lt}
@@ -8,7 +8,7 @@ use Rattle.fl_base.specs.Control.{epoch_of}
 use Rattle.fl_link.specs.Cursor.{epoch_at}
 use Rattle.fl_ring.specs.declared.shared.board.Writing.{Writing}
 use Rattle.fl_ring.specs.declared.shared.board.Reading.{Reading}
-use Rattle.fl_ring.specs.Way.{slot, frag_at, frag_of, epoch_in, Marked, WritesSlot, WayHolds}
+use Rattle.fl_ring.specs.Way.{slot, frag_of, epoch_in, WritesSlot}
 use Rattle.fl_ring.specs.SharedWay.{IsFront, IsNext, IsDue, IsLoaded, WayRuns, frag_from, loaded_frag, with_stored, with_put, with_known, with_control, with_loaded, with_peeked, with_got, with_told}
 use Rattle.fl_ring.proofs.Places.{slot_within}
 use Rattle.fl_ring.proofs.Ways.{same_frag}
@@ -146,8 +146,11 @@ module _ (b n : ℕ) (ws : List ℕ) (w : Writing) (r : Reading) (told : ℕ) wh
   }
 
   -- a fragment that was peeked is still there
-  pub peeked_due : (c : ℕ) → WayRuns b n ws w r told → c ≡ get_or ws (slot b n (length r.got) + 7) 0 → (f : Frag) → r.peeked ≡ Some f → epoch_of c ≡ epoch_at n (length r.got)
-  peeked_due c h is f e = ap epoch_of is ∙ h.holds.marked.full (length r.got) h.told_got (next_there w.sent r.got f (h.peeked f e))
+  pub peeked_there : (c : ℕ) → WayRuns b n ws w r told → c ≡ get_or ws (slot b n (length r.got) + 7) 0 → (f : Frag) → r.peeked ≡ Some f → (epoch_of c ≡ epoch_at n (length r.got)) × (f.control ≡ c)
+  peeked_there c h is f e = (
+    ap epoch_of is ∙ h.holds.marked.full (length r.got) h.told_got (next_there w.sent r.got f (h.peeked f e)),
+    ap (λ (g : Frag). g.control) (next_in_slot h f (h.peeked f e)) ∙ sym is,
+  )
 
   -- a payload word of the fragment in the next slot
   word_of : (f : Frag) (k : ℕ) → f ≡ frag_of b n ws (length r.got) → k < 7 → get_or f.words k 0 ≡ get_or ws (slot b n (length r.got) + k) 0

@@ -1,7 +1,8 @@
 -- How a 16-bit number in a control word names a full count.
-use Rattle.std.specs.Prelude.{ℕ, ◌+◌, ◌-◌, ◌%◌, List, [], ◌∷◌}
+use Rattle.std.specs.Prelude.{ℕ, ◌≡◌, ◌+◌, ◌-◌, ◌%◌, ◌≤◌, List, [], ◌∷◌, slice_index}
 use Rattle.fl_base.specs.declared.fragment.Frag.{Frag}
 use Rattle.fl_base.specs.Control.{told_of}
+use Rattle.fl_ring.specs.Way.{slot}
 
 -- the first count from the one known on that agrees with the number modulo 65,536
 abbrev pub count_from : ℕ → ℕ → ℕ
@@ -16,3 +17,11 @@ known_after known (frag ∷ rest) = count_from known (told_of frag.control)
 abbrev pub last_count : ℕ → List Frag → ℕ
 last_count known [] = known
 last_count known (frag ∷ rest) = last_count (count_from known (told_of frag.control)) rest
+
+-- What a side has told is what its last control word says, modulo 65,536. Its way is at word b, with n
+-- slots, and so many fragments were put into it, the first of them before the start; where none was put
+-- since, so many are told as were put then.
+pub record LastTells (b n start : ℕ) (words : List ℕ) (sent told : ℕ) : Type 0 where
+  pub since : start ≤ sent
+  pub none_put : sent ≡ start → told ≡ start
+  pub last_put : (i : ℕ) → start ≤ i → i + 1 ≡ sent → told_of (slice_index words (slot b n i + 7)) ≡ told % 65536

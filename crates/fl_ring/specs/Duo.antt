@@ -9,7 +9,7 @@ use Rattle.fl_link.specs.Stamp.{stamped}
 use Rattle.fl_link.specs.Cursor.{epoch_at}
 use Rattle.fl_link.specs.Looks.{Look, placed, no_room, spent, saw, saw_ack, found, found_ack, missed, told, kept}
 use Rattle.fl_link.specs.Queue.{front_of}
-use Rattle.fl_ring.specs.Counts.{known_after}
+use Rattle.fl_ring.specs.Counts.{known_after, LastTells}
 use Rattle.fl_ring.specs.Way.{WayStands}
 use Rattle.fl_ring.specs.declared.one_duo.Which.{Which}
 use Rattle.fl_ring.specs.declared.one_duo.Which.TheVariants.{One, Two}
@@ -143,8 +143,11 @@ pub record CountsAreNear (n : ℕ) (s p : TheHalf) : Type 0 where
   -- every fragment that the side put was taken and told, taken, or waits
   pub all : p.told + length p.read + length p.waiting ≡ s.sent
 
--- The words of a ring of two directions: the way of side one at word 0, that of side two after it.
+-- The words of a ring of two directions: the way of side one at word 0, that of side two after it. What
+-- a side has told stands in its last control word.
 pub record DuoStands (words : List ℕ) (d : TheDuo) : Type 0 where
   pub wide : length words ≡ 16 * d.size
   pub forth : WayStands 0 d.size words d.two.told (d.two.read ++ d.two.waiting)
   pub back : WayStands (8 * d.size) d.size words d.one.told (d.one.read ++ d.one.waiting)
+  pub one_tells : LastTells 0 d.size 0 words d.one.sent d.one.told
+  pub two_tells : LastTells (8 * d.size) d.size 0 words d.two.sent d.two.told

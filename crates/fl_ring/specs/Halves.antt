@@ -1,7 +1,7 @@
 -- The two sides of a ring of two directions, as its code keeps them beside the words.
 use Rattle.std.specs.Prelude.{ℕ, ◌≡◌, ◌+◌, ◌-◌, ◌*◌, ◌≤◌, ◌^◌, ◌⊎◌, List, length}
 use Rattle.fl_link.specs.Looks.{Look}
-use Rattle.fl_ring.specs.Counts.{last_count}
+use Rattle.fl_ring.specs.Counts.{last_count, LastTells}
 use Rattle.fl_ring.specs.Way.{Marked, standing}
 use Rattle.fl_ring.specs.Duo.{TheHalf, TheDuo}
 use Rattle.fl_ring.specs.declared.halves.Half.{Half}
@@ -18,6 +18,8 @@ pub record Direction (n : ℕ) (words : List ℕ) (w r : Half) : Type 0 where
   pub room : w.put.index ≤ w.known + n
   -- what the reader has told rides in its fragments that the writer has not taken
   pub counts : last_count w.known (standing r.base n words w.take.index (r.put.index - w.take.index)) ≡ r.told
+  -- what the writer has told stands in its last control word
+  pub last : LastTells w.base n 0 words w.put.index w.told
 
 -- two sides over one table
 pub record InStep (n : ℕ) (words : List ℕ) (a b : Half) : Type 0 where

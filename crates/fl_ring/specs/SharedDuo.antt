@@ -12,19 +12,20 @@
 --     knows the count that its number names; else it knows what it knew
 --   a payload word of that slot is loaded: the epoch due was seen
 --   at the start the first seat is cut in two, and at the end the two are joined
-use Rattle.std.specs.Prelude.{ℕ, ◌≡◌, ◌≢◌, ◌+◌, ◌*◌, ◌/◌, ◌%◌, ◌≤◌, ◌<◌, ◌^◌, ◌⊎◌, ◌==◌, if◌then◌else◌, Bool, true, false, List, [], ◌∷◌, ◌++◌, length, replicate, Option, Some, None}
+use Rattle.std.specs.Prelude.{ℕ, ◌≡◌, ◌+◌, ◌*◌, ◌/◌, ◌%◌, ◌≤◌, ◌<◌, ◌^◌, ◌⊎◌, ◌==◌, if◌then◌else◌, List, [], ◌++◌, length, replicate, Some, None}
 use Rattle.atomic_table.specs.Table.{State, Me, Step}
 use Rattle.fl_base.specs.declared.fragment.Frag.{Frag}
 use Rattle.fl_base.specs.Control.{epoch_of, told_of}
 use Rattle.fl_link.specs.Cursor.{epoch_at}
-use Rattle.fl_ring.specs.Counts.{count_from, last_count}
+use Rattle.fl_ring.specs.Counts.{count_from, last_count, LastTells}
+use Rattle.fl_ring.specs.Way.{slot}
 use Rattle.fl_ring.specs.declared.shared.board.Writing.{Writing}
 use Rattle.fl_ring.specs.declared.shared.board.Reading.{Reading}
 use Rattle.fl_ring.specs.declared.shared.duo_board.Side.{Side}
 use Rattle.fl_ring.specs.declared.shared.duo_board.Holder.{Holder}
 use Rattle.fl_ring.specs.declared.shared.duo_board.Holder.TheVariants.{One, Two, Both, Nobody}
 use Rattle.fl_ring.specs.declared.shared.duo_board.DuoView.{DuoView}
-use Rattle.fl_ring.specs.SharedWay.{IsFront, IsDue, WayRuns, frag_from, with_stored, with_put, with_control, with_loaded, with_peeked, with_got, with_told, loaded_frag}
+use Rattle.fl_ring.specs.SharedWay.{IsFront, IsDue, WayRuns, with_stored, with_put, with_control, with_loaded, with_peeked, with_got, with_told, loaded_frag}
 use Rattle.fl_ring.specs.SharedTable.{Accounted}
 
 -- ---- the rule
@@ -40,8 +41,9 @@ pub record NumbersRide (sent got : List Frag) (known told : ℕ) : Type 0 where
 abbrev pub KnowsLast : ℕ → Side → Type 0
 KnowsLast n s = IsDue n s.take → length s.take.part < 7 → count_from s.put.known (told_of s.take.last) ≡ s.put.known
 
--- the way at word b is written by side x and read by side y, and the way at word c is the way back
-pub record BothRun (b c n : ℕ) (words : List ℕ) (x y : Side) : Type 0 where
+-- The way at word b is written by side x and read by side y, and the way at word c is the way back. So
+-- many fragments had passed each way at the start.
+pub record BothRun (b c n start : ℕ) (words : List ℕ) (x y : Side) : Type 0 where
   pub few : n ≤ 1024
   pub wide : length words ≡ 16 * n
   pub apart : ((b ≡ 0) × (c ≡ 8 * n)) ⊎ ((b ≡ 8 * n) × (c ≡ 0))
@@ -52,6 +54,9 @@ pub record BothRun (b c n : ℕ) (words : List ℕ) (x y : Side) : Type 0 where
   pub told_back : NumbersRide y.put.sent x.take.got x.put.known y.take.told
   pub last_there : KnowsLast n x
   pub last_back : KnowsLast n y
+  -- and stands in its last control word
+  pub word_there : LastTells b n start words (length x.put.sent) x.take.told
+  pub word_back : LastTells c n start words (length y.put.sent) y.take.told
 
 -- who sits where, and what the two sides know
 pub record Pairing : Type 0 where
@@ -66,9 +71,9 @@ DuoFits n p seat v = (v.holder ≡ One → (seat ≡ p.first) × (v.mine ≡ p.o
     × (v.holder ≡ Two → (seat ≡ p.second) × (v.mine ≡ p.two) × (v.size ≡ n))
     × (v.holder ≡ Both → (seat ≡ p.first) × (seat ≡ p.second) × (v.mine ≡ p.one) × (v.theirs ≡ p.two) × (v.size ≡ n))
 
--- what holds of a ring of two directions, of n slots each, at every moment
-abbrev pub DuoHolds : ℕ → State (Unit {0}) DuoView → Type 0
-DuoHolds n = Accounted (DuoFits n) (λ words p. BothRun 0 (8 * n) n words p.one p.two)
+-- what holds of a ring of two directions, of n slots each, at every moment since the start
+abbrev pub DuoHolds : ℕ → ℕ → State (Unit {0}) DuoView → Type 0
+DuoHolds n start = Accounted (DuoFits n) (λ words p. BothRun 0 (8 * n) n start words p.one p.two)
 
 -- ---- the views
 
@@ -134,48 +139,6 @@ side_peeked s x = record { put = s.put; take = with_peeked s.take x }
 abbrev pub side_got : Side → ℕ → Side
 side_got s x = record { put = s.put; take = with_got s.take x }
 
--- ---- what each step tells: of the step, the seat before, the number found or stored, the seat after
-
-abbrev DuoPlayer : Type 1
-DuoPlayer = Step (Unit {0}) → Me (Unit {0}) DuoView → ℕ → Me (Unit {0}) DuoView → Type 0
-
-abbrev pub duo_stores_word : DuoPlayer
-duo_stores_word st m x m' = m' ≡ (with_mine m.0 (side_stored m.0.mine x), m.1)
-
-abbrev pub duo_stores_control : DuoPlayer
-duo_stores_control st m x m' = m' ≡ (with_mine m.0 (side_put m.0.mine x), m.1)
-
--- a fragment that was peeked is still there, and what is known was sent
-abbrev pub duo_loads_control : DuoPlayer
-duo_loads_control st m x m' = (m' ≡ (with_mine m.0 (side_control m.0.size m.0.mine x), m.1))
-    × ((frag : Frag) → m.0.mine.take.peeked ≡ Some frag → epoch_of x ≡ epoch_at m.0.size (length m.0.mine.take.got))
-    × (known_by m.0.size m.0.mine x ≤ length m.0.mine.put.sent)
-
-abbrev pub duo_loads_word : DuoPlayer
-duo_loads_word st m x m' = m' ≡ (with_mine m.0 (side_loaded m.0.mine x), m.1)
-
--- a fragment that was peeked is the one loaded
-abbrev DuoAgain : Reading → ℕ → Type 0
-DuoAgain r x = (frag : Frag) → r.peeked ≡ Some frag → loaded_frag r x ≡ frag
-
-abbrev pub duo_loads_peeked : DuoPlayer
-duo_loads_peeked st m x m' = (m' ≡ (with_mine m.0 (side_peeked m.0.mine x), m.1)) × DuoAgain m.0.mine.take x
-
-abbrev pub duo_loads_taken : DuoPlayer
-duo_loads_taken st m x m' = (m' ≡ (with_mine m.0 (side_got m.0.mine x), m.1)) × DuoAgain m.0.mine.take x × (length m.0.mine.take.got < 2 ^ 62)
-
--- The law by which a 16-bit number names one count, of the fragments that a side w sent and a side r
--- got: what w knows was told, what was told was got, and what was got was sent, no more than n beyond.
-pub record CountsNear (n : ℕ) (w r : Side) : Type 0 where
-  pub few : n ≤ 1024
-  pub got_sent : IsFront r.take.got w.put.sent
-  pub known_told : w.put.known ≤ r.take.told
-  pub told_got : r.take.told ≤ length r.take.got
-  pub sent_near : length w.put.sent ≤ w.put.known + n
-
-abbrev pub duo_compares : DuoPlayer
-duo_compares st m x m' = (m' ≡ m) × CountsNear m.0.size m.0.mine m.0.theirs × CountsNear m.0.size m.0.theirs m.0.mine
-
 -- ---- where a side's ways begin
 
 -- the seat is one side's
@@ -190,3 +153,73 @@ base_of _ n = 8 * n
 abbrev pub other_of : Holder → ℕ → ℕ
 other_of One n = 8 * n
 other_of _ n = 0
+
+-- word k of the slot that a side puts into next, and of the slot that it takes from next
+abbrev pub put_word : DuoView → ℕ → ℕ
+put_word v k = slot (base_of v.holder v.size) v.size (length v.mine.put.sent) + k
+
+abbrev pub take_word : DuoView → ℕ → ℕ
+take_word v k = slot (other_of v.holder v.size) v.size (length v.mine.take.got) + k
+
+-- fewer fragments are sent than there are slots beyond those known to be told
+abbrev pub HasSlot : DuoView → Type 0
+HasSlot v = length v.mine.put.sent < v.mine.put.known + v.size
+
+-- ---- what each step tells: of the step, the seat before, the number found or stored, the seat after;
+-- which word it was, and where alone such a step is made
+
+abbrev DuoPlayer : Type 1
+DuoPlayer = Step (Unit {0}) → Me (Unit {0}) DuoView → ℕ → Me (Unit {0}) DuoView → Type 0
+
+abbrev pub duo_stores_word : DuoPlayer
+duo_stores_word st m x m' = (m' ≡ (with_mine m.0 (side_stored m.0.mine x), m.1))
+    × (st.word ≡ put_word m.0 (length m.0.mine.put.part)) × (length m.0.mine.put.part < 7) × HasSlot m.0
+
+-- with the epoch due, and the number of all that was got
+abbrev pub duo_stores_control : DuoPlayer
+duo_stores_control st m x m' = (m' ≡ (with_mine m.0 (side_put m.0.mine x), m.1))
+    × (st.word ≡ put_word m.0 7) × (length m.0.mine.put.part ≡ 7) × HasSlot m.0 × (length m.0.mine.put.sent < 2 ^ 62)
+    × (epoch_of x ≡ epoch_at m.0.size (length m.0.mine.put.sent)) × (told_of x ≡ length m.0.mine.take.got % 65536)
+
+-- this is the control word of the fragment that was peeked, if one was
+abbrev pub IsPeekedControl : Reading → ℕ → Type 0
+IsPeekedControl r x = (frag : Frag) → r.peeked ≡ Some frag → frag.control ≡ x
+
+-- a fragment that was peeked is still there, and what is known was sent
+abbrev pub duo_loads_control : DuoPlayer
+duo_loads_control st m x m' = (m' ≡ (with_mine m.0 (side_control m.0.size m.0.mine x), m.1))
+    × ((frag : Frag) → m.0.mine.take.peeked ≡ Some frag → epoch_of x ≡ epoch_at m.0.size (length m.0.mine.take.got))
+    × IsPeekedControl m.0.mine.take x
+    × (known_by m.0.size m.0.mine x ≤ length m.0.mine.put.sent)
+    × (st.word ≡ take_word m.0 7)
+
+-- one of the first six
+abbrev pub duo_loads_word : DuoPlayer
+duo_loads_word st m x m' = (m' ≡ (with_mine m.0 (side_loaded m.0.mine x), m.1))
+    × (st.word ≡ take_word m.0 (length m.0.mine.take.part)) × (length m.0.mine.take.part < 6) × IsDue m.0.size m.0.mine.take
+
+-- a fragment that was peeked is the one loaded
+abbrev DuoAgain : Reading → ℕ → Type 0
+DuoAgain r x = (frag : Frag) → r.peeked ≡ Some frag → loaded_frag r x ≡ frag
+
+-- the seventh
+abbrev DuoSeventh : Step (Unit {0}) → DuoView → Type 0
+DuoSeventh st v = (st.word ≡ take_word v 6) × (length v.mine.take.part ≡ 6) × IsDue v.size v.mine.take
+
+abbrev pub duo_loads_peeked : DuoPlayer
+duo_loads_peeked st m x m' = (m' ≡ (with_mine m.0 (side_peeked m.0.mine x), m.1)) × DuoAgain m.0.mine.take x × DuoSeventh st m.0
+
+abbrev pub duo_loads_taken : DuoPlayer
+duo_loads_taken st m x m' = (m' ≡ (with_mine m.0 (side_got m.0.mine x), m.1)) × DuoAgain m.0.mine.take x × (length m.0.mine.take.got < 2 ^ 62) × DuoSeventh st m.0
+
+-- The law by which a 16-bit number names one count, of the fragments that a side w sent and a side r
+-- got: what w knows was told, what was told was got, and what was got was sent, no more than n beyond.
+pub record CountsNear (n : ℕ) (w r : Side) : Type 0 where
+  pub few : n ≤ 1024
+  pub got_sent : IsFront r.take.got w.put.sent
+  pub known_told : w.put.known ≤ r.take.told
+  pub told_got : r.take.told ≤ length r.take.got
+  pub sent_near : length w.put.sent ≤ w.put.known + n
+
+abbrev pub duo_compares : DuoPlayer
+duo_compares st m x m' = (m' ≡ m) × CountsNear m.0.size m.0.mine m.0.theirs × CountsNear m.0.size m.0.theirs m.0.mine

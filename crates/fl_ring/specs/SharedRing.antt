@@ -11,7 +11,7 @@
 --   the reader loads a payload word of that slot: it has seen the epoch due
 --   the reader stores the number told: no more than it got, and no less than it has told
 --   at the start the first seat is cut in two, and at the end the two are joined
-use Rattle.std.specs.Prelude.{ℕ, ◌≡◌, ◌+◌, ◌*◌, ◌≤◌, ◌<◌, ◌^◌, Bool, true, false, List, [], ◌∷◌, ◌++◌, length, slice_index, Option, Some, None}
+use Rattle.std.specs.Prelude.{ℕ, ◌≡◌, ◌+◌, ◌*◌, ◌≤◌, ◌<◌, ◌^◌, true, false, List, [], length, slice_index, Some, None}
 use Rattle.atomic_table.specs.Table.{State, Me, Step}
 use Rattle.fl_base.specs.declared.fragment.Frag.{Frag}
 use Rattle.fl_base.specs.Control.{epoch_of}
@@ -19,7 +19,8 @@ use Rattle.fl_link.specs.Cursor.{epoch_at}
 use Rattle.fl_ring.specs.declared.shared.board.Writing.{Writing}
 use Rattle.fl_ring.specs.declared.shared.board.Reading.{Reading}
 use Rattle.fl_ring.specs.declared.shared.board.View.{View}
-use Rattle.fl_ring.specs.SharedWay.{IsFront, WayRuns, with_stored, with_put, with_known, with_control, with_loaded, with_peeked, with_got, with_told, loaded_frag}
+use Rattle.fl_ring.specs.Way.{slot}
+use Rattle.fl_ring.specs.SharedWay.{IsFront, IsDue, WayRuns, with_stored, with_put, with_known, with_control, with_loaded, with_peeked, with_got, with_told, loaded_frag}
 use Rattle.fl_ring.specs.SharedTable.{Accounted}
 
 -- ---- the rule
@@ -77,40 +78,71 @@ with_writing v w = record { size = v.size; writes = v.writes; reads = v.reads; p
 abbrev pub with_reading : View → Reading → View
 with_reading v r = record { size = v.size; writes = v.writes; reads = v.reads; put = v.put; take = r }
 
--- ---- what each step tells: of the step, the seat before, the number found or stored, the seat after
+-- ---- which words the steps are on
+
+-- word k of the slot that is put into next, and of the slot that is read next
+abbrev pub put_word : View → ℕ → ℕ
+put_word v k = slot 0 v.size (length v.put.sent) + k
+
+abbrev pub take_word : View → ℕ → ℕ
+take_word v k = slot 0 v.size (length v.take.got) + k
+
+-- the word that holds the number told
+abbrev pub told_word : View → ℕ
+told_word v = 8 * v.size
+
+-- fewer fragments are sent than there are slots beyond those known to be told
+abbrev pub HasSlot : View → Type 0
+HasSlot v = length v.put.sent < v.put.known + v.size
+
+-- ---- what each step tells: of the step, the seat before, the number found or stored, the seat after;
+-- which word it was, and where alone such a step is made
 
 abbrev Player : Type 1
 Player = Step (Unit {0}) → Me (Unit {0}) View → ℕ → Me (Unit {0}) View → Type 0
 
 abbrev pub stores_word : Player
-stores_word st m x m' = m' ≡ (with_writing m.0 (with_stored m.0.put x), m.1)
+stores_word st m x m' = (m' ≡ (with_writing m.0 (with_stored m.0.put x), m.1))
+    × (st.word ≡ put_word m.0 (length m.0.put.part)) × (length m.0.put.part < 7) × HasSlot m.0
 
+-- with the epoch due
 abbrev pub stores_control : Player
-stores_control st m x m' = m' ≡ (with_writing m.0 (with_put m.0.put x), m.1)
+stores_control st m x m' = (m' ≡ (with_writing m.0 (with_put m.0.put x), m.1))
+    × (st.word ≡ put_word m.0 7) × (length m.0.put.part ≡ 7) × HasSlot m.0 × (length m.0.put.sent < 2 ^ 62)
+    × (epoch_of x ≡ epoch_at m.0.size (length m.0.put.sent))
 
 abbrev pub loads_told : Player
-loads_told st m x m' = (m' ≡ (with_writing m.0 (with_known m.0.put x), m.1)) × (m.0.put.known ≤ x) × (x ≤ length m.0.put.sent)
+loads_told st m x m' = (m' ≡ (with_writing m.0 (with_known m.0.put x), m.1)) × (m.0.put.known ≤ x) × (x ≤ length m.0.put.sent) × (st.word ≡ told_word m.0)
 
--- a fragment that was peeked is still there
+-- a fragment that was peeked is still there, and this is its control word
 abbrev pub loads_control : Player
 loads_control st m x m' = (m' ≡ (with_reading m.0 (with_control m.0.size m.0.take x), m.1))
     × ((frag : Frag) → m.0.take.peeked ≡ Some frag → epoch_of x ≡ epoch_at m.0.size (length m.0.take.got))
+    × ((frag : Frag) → m.0.take.peeked ≡ Some frag → frag.control ≡ x)
+    × (st.word ≡ take_word m.0 7)
 
+-- one of the first six
 abbrev pub loads_word : Player
-loads_word st m x m' = m' ≡ (with_reading m.0 (with_loaded m.0.take x), m.1)
+loads_word st m x m' = (m' ≡ (with_reading m.0 (with_loaded m.0.take x), m.1))
+    × (st.word ≡ take_word m.0 (length m.0.take.part)) × (length m.0.take.part < 6) × IsDue m.0.size m.0.take
 
 -- a fragment that was peeked is the one loaded
 abbrev Again : Reading → ℕ → Type 0
 Again r x = (frag : Frag) → r.peeked ≡ Some frag → loaded_frag r x ≡ frag
 
+-- the seventh
+abbrev Seventh : Step (Unit {0}) → View → Type 0
+Seventh st v = (st.word ≡ take_word v 6) × (length v.take.part ≡ 6) × IsDue v.size v.take
+
 abbrev pub loads_peeked : Player
-loads_peeked st m x m' = (m' ≡ (with_reading m.0 (with_peeked m.0.take x), m.1)) × Again m.0.take x
+loads_peeked st m x m' = (m' ≡ (with_reading m.0 (with_peeked m.0.take x), m.1)) × Again m.0.take x × Seventh st m.0
 
 abbrev pub loads_taken : Player
-loads_taken st m x m' = (m' ≡ (with_reading m.0 (with_got m.0.take x), m.1)) × Again m.0.take x × (length m.0.take.got < 2 ^ 62)
+loads_taken st m x m' = (m' ≡ (with_reading m.0 (with_got m.0.take x), m.1)) × Again m.0.take x × (length m.0.take.got < 2 ^ 62) × Seventh st m.0
 
 abbrev pub stores_told : Player
-stores_told st m x m' = m' ≡ (with_reading m.0 (with_told m.0.take x), m.1)
+stores_told st m x m' = (m' ≡ (with_reading m.0 (with_told m.0.take x), m.1))
+    × (st.word ≡ told_word m.0) × (m.0.take.told ≤ x) × (x ≤ length m.0.take.got)
 
 abbrev pub compares : Player
 compares st m x m' = (m' ≡ m) × IsFront m.0.take.got m.0.put.sent

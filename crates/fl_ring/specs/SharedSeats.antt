@@ -1,5 +1,5 @@
 -- The seats of a ring over shared words, as its code holds them, and what callers see of a side.
-use Rattle.std.specs.Prelude.{ℕ, ◌≡◌, ◌+◌, ◌*◌, ◌≤◌, ◌<◌, ◌^◌, ◌&&◌, nat_lt, Bool, true, false, if◌then◌else◌, List, [], ◌∷◌, ◌++◌, length, Option, Some, None}
+use Rattle.std.specs.Prelude.{ℕ, ◌≡◌, ◌+◌, ◌*◌, ◌≤◌, ◌<◌, ◌^◌, ◌&&◌, nat_lt, Bool, true, if◌then◌else◌, List, [], ◌∷◌, ◌++◌, length, Option, Some, None}
 use Rattle.atomic_table.specs.Seated.{TableId}
 use Rattle.atomic_table.specs.declared.shared.Seat.{Seat}
 use Rattle.fl_base.specs.declared.fragment.Frag.{Frag}
@@ -9,7 +9,7 @@ use Rattle.fl_link.specs.Cursor.{epoch_at}
 use Rattle.fl_link.specs.Looks.{Look, placed, no_room, spent, saw, saw_ack, found, found_ack, missed, told}
 use Rattle.fl_link.specs.Queue.{look_at}
 use Rattle.fl_link.specs.declared.sides.Sight.{Sight}
-use Rattle.fl_link.specs.declared.sides.Sight.TheVariants.{Data, Acknowledgement, Empty}
+use Rattle.fl_link.specs.declared.sides.Sight.TheVariants.{Data, Acknowledgement}
 use Rattle.fl_ring.specs.declared.shared.board.Writing.{Writing}
 use Rattle.fl_ring.specs.declared.shared.board.Reading.{Reading}
 use Rattle.fl_ring.specs.declared.shared.board.View.{View}
@@ -82,7 +82,7 @@ pub record Counts (s t : Sender) : Type 0 where
   pub same_ring : t.ring ≡ s.ring
   pub same_size : t.size ≡ s.size
   pub by_known : length s.sent < s.known + s.size → (t.known ≡ s.known) × (t.loads ≡ s.loads)
-  pub by_look : s.known + s.size ≤ length s.sent → (s.known ≤ t.known) × (t.loads ≡ s.loads + 1)
+  pub by_look : s.known + s.size ≤ length s.sent → (s.known ≤ t.known) × (t.known ≤ length s.sent) × (t.loads ≡ s.loads + 1)
 
 -- one put, by what it came to
 abbrev pub SenderPuts : Sender → Look → Sender → Type 0

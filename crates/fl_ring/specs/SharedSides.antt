@@ -4,15 +4,13 @@ use Rattle.std.specs.Prelude.{ℕ, ◌≡◌, ◌+◌, ◌-◌, ◌*◌, ◌/◌
 use Rattle.atomic_table.specs.Seated.{TableId}
 use Rattle.atomic_table.specs.declared.shared.Seat.{Seat}
 use Rattle.fl_base.specs.declared.fragment.Frag.{Frag}
-use Rattle.fl_base.specs.Control.{told_of}
+use Rattle.fl_base.specs.Control.{epoch_of, told_of}
 use Rattle.fl_link.specs.Stamp.{stamped}
 use Rattle.fl_link.specs.Cursor.{TheCursor, epoch_at}
 use Rattle.fl_link.specs.Looks.{Look, placed, no_room, spent, saw, saw_ack, found, found_ack, missed, told, kept}
 use Rattle.fl_link.specs.Queue.{look_at}
 use Rattle.fl_ring.specs.Counts.{count_from}
 use Rattle.fl_ring.specs.Duo.{acknowledgement}
-use Rattle.fl_ring.specs.declared.shared.board.Writing.{Writing}
-use Rattle.fl_ring.specs.declared.shared.board.Reading.{Reading}
 use Rattle.fl_ring.specs.declared.shared.duo_board.Side.{Side}
 use Rattle.fl_ring.specs.declared.shared.duo_board.Holder.{Holder}
 use Rattle.fl_ring.specs.declared.shared.duo_board.Opening.{Opening}
@@ -183,10 +181,23 @@ side_written s frag = record {
   told = length s.got;
 }
 
--- A write that needs so many slots looks at the other direction only where too few are known free.
+-- what it knows to be taken it has put
+abbrev pub KnowsSent : TheSide → Type 0
+KnowsSent s = s.known ≤ length s.sent
+
+-- This control word may be that of the other direction's next fragment: it has the epoch due, and is that
+-- of the fragment that was peeked, if one was.
+pub record MayStand (s : TheSide) (control : ℕ) : Type 0 where
+  pub due : epoch_of control ≡ epoch_at s.size (length s.got)
+  pub seen : (frag : Frag) → s.peeked ≡ Some frag → frag.control ≡ control
+
+-- A write that needs so many slots looks at the other direction only where too few are known free. The
+-- look finds nothing, or a control word; what is known then is the one count, from the one known on, that
+-- agrees with its number.
 pub record Looked (need : ℕ) (s t : TheSide) : Type 0 where
   pub by_known : need ≤ free_of s → t ≡ s
-  pub by_look : free_of s < need → ((s.peeked ≡ None) × (t ≡ side_missed s)) ⊎ ((count : ℕ) × (s.known ≤ count) × (t ≡ side_counted s count))
+  pub by_look : free_of s < need → ((s.peeked ≡ None) × (t ≡ side_missed s))
+      ⊎ ((control : ℕ) × MayStand s control × (t ≡ side_counted s (count_from s.known (told_of control))) × KnowsSent t)
 
 -- one put, by what it came to
 abbrev pub SharedPuts : TheSide → Look → TheSide → Type 0
@@ -200,10 +211,10 @@ abbrev pub SideMayCome : TheSide → Frag → Type 0
 SideMayCome s frag = (seen : Frag) → s.peeked ≡ Some seen → frag ≡ seen
 
 abbrev pub SideSees : TheSide → Frag → TheSide → Type 0
-SideSees s frag t = SideMayCome s frag × (t ≡ side_seen s frag)
+SideSees s frag t = SideMayCome s frag × (t ≡ side_seen s frag) × KnowsSent t
 
 abbrev pub SideGets : TheSide → Frag → TheSide → Type 0
-SideGets s frag t = SideMayCome s frag × (t ≡ side_taken s frag)
+SideGets s frag t = SideMayCome s frag × (t ≡ side_taken s frag) × KnowsSent t
 
 abbrev pub SideMisses : TheSide → TheSide → Type 0
 SideMisses s t = (s.peeked ≡ None) × (t ≡ side_missed s)

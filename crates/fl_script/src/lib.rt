@@ -22,8 +22,6 @@ mod piece;
 mod printing;
 mod running;
 mod script;
-#[cfg(test)]
-mod tests;
 mod text;
 
 pub use law::{front_of_the_transcript, handlers_run_a_front, one_transcript};

@@ -1,1 +1,5 @@
 pub mod Telling
+pub mod Words
+pub mod TreeNames
+pub mod Declared
+pub mod TextImages

@@ -1,5 +1,6 @@
--- What a text shows: the interface that it stands for, or its first fault.
-use Rattle.std.specs.Prelude.{◌≡◌, ℕ, List, Err, IfSome, Some, option_map}
+-- What a file's content shows: the interface that a text stands for or that an image is of, or the first fault.
+use Rattle.std.specs.Prelude.{◌≡◌, ◌⊎◌, ℕ, Bool, true, false, List, take, Err, IfSome, Some, option_map}
+use Rattle.std.specs.Str.{bytes_eq}
 use Rattle.fl_lex.specs.Token.{TheTokens}
 use Rattle.fl_lex.specs.Outcome as lex
 use Rattle.fl_lex.specs.Outcome.{lexed, Lexes}
@@ -12,8 +13,13 @@ use Rattle.fl_check.specs.Checks.{checked, Checks}
 use Rattle.fl_check.specs.declared.explained.TextFault.{TextFault}
 use Rattle.fl_check.specs.declared.explained.TextFault.TheVariants.{Lex, Parse, Check}
 use Rattle.fl_check.specs.Explained.{text_fault_offset, place_of, place_in}
+use Rattle.fl_value.specs.declared.value.PlanNo.{PlanNo}
+use Rattle.fl_value.specs.declared.value.PlanNo.TheVariants.{Two}
+use Rattle.fl_image.specs.Image.{magic, has_image, image_of}
+use Rattle.fl_image.specs.Reading.{FirstFault}
 use Rattle.fl_show.specs.declared.fault.ShowFault.{ShowFault}
-use Rattle.fl_show.specs.declared.fault.ShowFault.TheVariants.{Refused, Memory}
+use Rattle.fl_show.specs.declared.fault.ShowFault.TheVariants.{Refused, NoImage, Memory}
+use Rattle.fl_show.specs.Table.{IsTable}
 
 -- the bytes spell the tokens, the tokens are those of the tree, and the tree stands for the interface
 pub record StandsFor (bytes : List ℕ) (i : TheInterface) : Type 0 where
@@ -38,9 +44,43 @@ IsRefusalOf bytes (Refused r) =
     IsFaultOf bytes r.explained.fault
     × (text_fault_offset r.explained.fault ≡ Some r.offset)
     × (option_map place_of r.explained.place ≡ Some (place_in bytes r.offset))
+IsRefusalOf bytes (NoImage r) = ⊥
 IsRefusalOf bytes Memory = Unit {0}
+
+-- what is told of an image's fault: the first; nothing of want of memory
+abbrev pub IsImageRefusalOf : List ℕ → ShowFault → Type 0
+IsImageRefusalOf bytes (Refused r) = ⊥
+IsImageRefusalOf bytes (NoImage r) = FirstFault bytes r.fault
+IsImageRefusalOf bytes Memory = Unit {0}
+
+-- the image of an interface that has one
+pub record IsImageOf (bytes : List ℕ) (plan : PlanNo) (i : TheInterface) : Type 0 where
+  pub has : has_image i ≡ true
+  pub spelled : bytes ≡ image_of plan i
+
+-- a text's table is that of its interface under plan 2, an image's that of its interface under its plan
+abbrev pub ShowsText : List ℕ → List ℕ → Type 0
+ShowsText bytes table = (i : TheInterface) × StandsFor bytes i × IsTable Two i table
+
+abbrev pub ShowsImage : List ℕ → List ℕ → Type 0
+ShowsImage bytes table = (plan : PlanNo) × (i : TheInterface) × IsImageOf bytes plan i × IsTable plan i table
+
+-- a file that begins with an image's first four bytes is meant as an image, every other as a text
+abbrev pub is_meant_as_image : List ℕ → Bool
+is_meant_as_image bytes = bytes_eq magic (take 4 bytes)
+
+abbrev pub Shows : List ℕ → List ℕ → Type 0
+Shows bytes table = ((is_meant_as_image bytes ≡ true) × ShowsImage bytes table) ⊎ ((is_meant_as_image bytes ≡ false) × ShowsText bytes table)
+
+abbrev pub IsRefusedAs : List ℕ → ShowFault → Type 0
+IsRefusedAs bytes e = ((is_meant_as_image bytes ≡ true) × IsImageRefusalOf bytes e) ⊎ ((is_meant_as_image bytes ≡ false) × IsRefusalOf bytes e)
+
+-- The interface that a text stands for has an image.
+abbrev pub TextsHaveImages : Type 0
+TextsHaveImages = (bytes : List ℕ) (i : TheInterface) → StandsFor bytes i → has_image i ≡ true
 
 -- the status that a program ends with
 abbrev pub status_of : ShowFault → ℕ
 status_of (Refused r) = 2
+status_of (NoImage r) = 2
 status_of Memory = 3

@@ -34,12 +34,30 @@ impl fmt::Display for Refusal<'_> {
     }
 }
 
-/// Why a file's content shows nothing.
+/// Bytes that are meant as an image and are none. It is printed as two lines: the number of the first fault alone, as
+/// `E82`, then the fault in words.
+#[derive(Clone, Copy, Debug, PartialEq, Eq)]
+pub struct ImageRefusal {
+    pub fault: fl_image::Refusal,
+}
+
+impl fmt::Display for ImageRefusal {
+    fn fmt<W: fmt::Write>(&self, f: &mut fmt::Formatter<W>) -> fmt::Result {
+        let fault = self.fault;
+        let number = fault.number();
+        write!(f, "E{number}\n{fault}")
+    }
+}
+
+/// Why a file's content shows nothing, or has no image.
 #[derive(Clone, Copy, Debug, PartialEq, Eq, Error)]
 pub enum ShowFault<'a> {
-    /// The content is refused, for a fault of E1 to E21.
+    /// The text is refused, for a fault of E1 to E21.
     #[error("{0}")]
     Refused(Refusal<'a>),
+    /// The image is refused, for a fault of E80 to E85.
+    #[error("{0}")]
+    NoImage(ImageRefusal),
     /// Want of memory (E99).
     #[error("out of memory")]
     Memory,
@@ -52,6 +70,7 @@ impl ShowFault<'_> {
     {
         match self {
             ShowFault::Refused(_) => 2,
+            ShowFault::NoImage(_) => 2,
             ShowFault::Memory => 3,
         }
     }

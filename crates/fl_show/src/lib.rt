@@ -1,19 +1,24 @@
-//! `flounder show`: what a file's interface looks like in memory and on the wire.
+//! What `flounder show` and `flounder compile` make of a file's content.
 //!
-//! [`show_text`] reads an interface's text and gives its plan table under plan 2, or the first fault of the
-//! text in words for a person. [`plan_table`] writes the table of any plans.
+//! - [`show`]: the plan table of an interface's text under plan 2, or of an image under the plan that it has; else the
+//!   first fault of the text or of the image, in words for a person (`specs/Shown.antt`).
+//! - [`compile_text`]: the image under plan 2 of the interface that a text stands for. Each text that is accepted has
+//!   one, which [`fl_image::read_image`] gives back ([`texts_have_images`]).
+//! - [`plan_table`]: the table of any plans (`specs/Table.antt`).
+//!
+//! Files: `reading.rt` from a text to its interface, `show.rt` and `image.rt` what the two commands give, `table.rt` and
+//! `row.rt` the table's lines, `fault.rt` why there is nothing to give.
 #![tactic(auto)]
 
 mod fault;
+mod image;
 mod reading;
 mod row;
 mod show;
 mod table;
 
-pub use fault::{Refusal, ShowFault};
-pub use reading::read_interface;
-pub use show::show_text;
+pub use fault::{ImageRefusal, Refusal, ShowFault};
+pub use image::compile_text;
+pub use reading::{read_interface, texts_have_images};
+pub use show::{show_content, show_image, show_text};
 pub use table::plan_table;
-
-#[cfg(test)]
-mod tests;

@@ -1,23 +1,25 @@
-//! From a text's bytes to its interface.
+//! From a text's bytes to its interface, or to its first fault in words.
 
-ghost use Rattle.std.specs.Prelude.{IfOk, IfErr, IsTrue};
+ghost use Rattle.std.specs.Prelude.{◌≡◌, true, IfOk, IfErr};
 ghost use Rattle.fl_check.specs.Interface.{interface_of};
-ghost use Rattle.fl_check.specs.Checks.{is_within_limits};
-ghost use Rattle.fl_show.specs.Shown.{StandsFor, IsFaultOf};
+ghost use Rattle.fl_image.specs.Image.{has_image};
+ghost use Rattle.fl_show.specs.Shown.{StandsFor, IsFaultOf, IsRefusalOf, TextsHaveImages};
 
+use crate::fault::{Refusal, ShowFault};
 use fl_check::{Interface, TextFault, check};
 use fl_lex::lex;
 use fl_parse::parse;
 use std::alloc::Global;
 
-/// The interface that a text stands for.
+const LONGEST_EXCERPT: usize = 40;
+
+/// The interface that a text stands for. It has an image.
 ///
 /// # Errors
 /// The text's first fault: one of its bytes, else of its tokens, else of its declarations; or E99 for want of
 /// memory.
 pub fn read_interface(alloc: Global, text: &[u8]) -> Result<Interface, TextFault>
     ensures interface { IfOk result (λ i. StandsFor text.now (interface_of i)) }
-    ensures limits { IfOk result (λ i. IsTrue (is_within_limits (interface_of i))) }
     ensures fault { IfErr result (λ e. IsFaultOf text.now e) }
 {
     let tokens = match lex(alloc, text) {
@@ -29,4 +31,49 @@ pub fn read_interface(alloc: Global, text: &[u8]) -> Result<Interface, TextFault
         Err(fault) => return Err(TextFault::Parse(fault)),
     };
     check(alloc, &tree).map_err(TextFault::Check)
+}
+
+/// A law: the interface that a text stands for has an image. Its names are words of at most 64 bytes, and its enums
+/// have at most 65,535 enumerators, since a text has at most 65,536 bytes.
+pub fn texts_have_images()
+    ensures law { TextsHaveImages }
+{}
+
+/// The interface that a text stands for, or what a person is told.
+///
+/// # Errors
+/// [`ShowFault::Refused`] with the text's first fault; [`ShowFault::Memory`] for want of memory.
+pub(crate) fn accepted(alloc: Global, text: &[u8]) -> Result<Interface, ShowFault<'_>>
+    ensures interface { IfOk result (λ i. StandsFor text.now (interface_of i)) }
+    ensures refused { IfErr result (λ e. IsRefusalOf text.now e) }
+{
+    match read_interface(alloc, text) {
+        Ok(interface) => Ok(interface),
+        Err(fault) => Err(refusal(fault, text)),
+    }
+}
+
+// A fault at a place is the text's; without one it is want of memory.
+fn refusal(fault: TextFault, text: &[u8]) -> ShowFault<'_>
+    requires fault { IsFaultOf text.now fault }
+    ensures refused { IsRefusalOf text.now result }
+{
+    match fault.offset() {
+        Some(offset) => ShowFault::Refused(Refusal {
+            explained: fault.explain(text),
+            offset,
+            found: excerpt(text, offset),
+        }),
+        None => ShowFault::Memory,
+    }
+}
+
+// What stands at an offset, to the end of its line or as far as a reader wants to see.
+fn excerpt(text: &[u8], offset: usize) -> &[u8] {
+    let rest = &text[offset.min(text.len())..];
+    let line = match rest.iter().position(|byte| *byte == b'\n') {
+        Some(end) => &rest[..end],
+        None => rest,
+    };
+    &line[..line.len().min(LONGEST_EXCERPT)]
 }

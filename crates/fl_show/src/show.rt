@@ -1,20 +1,39 @@
 //! What `show` makes of a file's content.
 
-ghost use Rattle.std.specs.Prelude.{IfOk, IfErr};
-ghost use Rattle.fl_check.specs.Interface.{TheInterface};
-ghost use Rattle.fl_value.specs.declared.value.PlanNo.TheVariants.{Two};
-ghost use Rattle.fl_show.specs.Table.{IsTable};
-ghost use Rattle.fl_show.specs.Shown.{StandsFor, IsFaultOf, IsRefusalOf};
+ghost use Rattle.std.specs.Prelude.{◌≡◌, IfOk, IfErr};
+ghost use Rattle.fl_image.specs.Reading.{FirstFault};
+ghost use Rattle.fl_show.specs.Shown.{is_meant_as_image, ShowsText, ShowsImage, Shows, IsRefusalOf, IsImageRefusalOf, IsRefusedAs};
 
-use crate::fault::{Refusal, ShowFault};
-use crate::reading::read_interface;
+use crate::fault::{ImageRefusal, ShowFault};
+use crate::reading::accepted;
 use crate::table::plan_table;
-use fl_check::TextFault;
+use fl_image::{ImageFault, read_image};
 use fl_layout::plan;
 use fl_value::PlanNo;
 use std::alloc::Global;
 
-const LONGEST_EXCERPT: usize = 40;
+/// The plan table of a file's content: of an image where it begins with an image's first four bytes, `FLND`, and else
+/// of a text.
+///
+/// # Errors
+/// As [`show_image`] and [`show_text`].
+pub fn show_content(alloc: Global, content: &[u8]) -> Result<Vec<u8>, ShowFault<'_>>
+    ensures table { IfOk result (λ t. Shows content.now t.items) }
+    ensures refused { IfErr result (λ e. IsRefusedAs content.now e) }
+{
+    if starts_as_image(content) {
+        show_image(alloc, content)
+    } else {
+        show_text(alloc, content)
+    }
+}
+
+// No interface begins so: a text's first word is `interface`.
+fn starts_as_image(content: &[u8]) -> bool
+    ensures exact { result ≡ is_meant_as_image content.now }
+{
+    content.starts_with(b"FLND")
+}
 
 /// The plan table, under plan 2, of the interface that a text stands for.
 ///
@@ -22,39 +41,30 @@ const LONGEST_EXCERPT: usize = 40;
 /// [`ShowFault::Refused`] with the text's first fault where it is no interface; [`ShowFault::Memory`] for want
 /// of memory.
 pub fn show_text(alloc: Global, text: &[u8]) -> Result<Vec<u8>, ShowFault<'_>>
-    ensures table { IfOk result (λ t. (i : TheInterface) × StandsFor text.now i × IsTable Two i t.items) }
+    ensures table { IfOk result (λ t. ShowsText text.now t.items) }
     ensures refused { IfErr result (λ e. IsRefusalOf text.now e) }
 {
-    let interface = match read_interface(alloc, text) {
-        Ok(interface) => interface,
-        Err(fault) => return Err(refusal(fault, text)),
-    };
+    let interface = accepted(alloc, text)?;
     let plans = plan(alloc, &interface, PlanNo::Two)?;
     let table = plan_table(alloc, &plans)?;
     Ok(table)
 }
 
-// A fault at a place is the text's; without one it is want of memory.
-fn refusal(fault: TextFault, text: &[u8]) -> ShowFault<'_>
-    requires fault { IsFaultOf text.now fault }
-    ensures refused { IsRefusalOf text.now result }
+/// The plan table of the interface that an image is of, under the plan that it is of.
+///
+/// # Errors
+/// [`ShowFault::NoImage`] with the first fault where the bytes are no image; [`ShowFault::Memory`] for want of memory.
+pub fn show_image<'a>(alloc: Global, bytes: &[u8]) -> Result<Vec<u8>, ShowFault<'a>>
+    ensures table { IfOk result (λ t. ShowsImage bytes.now t.items) }
+    ensures refused { IfErr result (λ e. IsImageRefusalOf bytes.now e) }
 {
-    match fault.offset() {
-        Some(offset) => ShowFault::Refused(Refusal {
-            explained: fault.explain(text),
-            offset,
-            found: excerpt(text, offset),
-        }),
-        None => ShowFault::Memory,
-    }
-}
-
-// What stands at an offset, to the end of its line or as far as a reader wants to see.
-fn excerpt(text: &[u8], offset: usize) -> &[u8] {
-    let rest = &text[offset.min(text.len())..];
-    let line = match rest.iter().position(|byte| *byte == b'\n') {
-        Some(end) => &rest[..end],
-        None => rest,
+    let program = match read_image(alloc, bytes) {
+        Ok(program) => program,
+        Err(ImageFault::Refused(fault)) => return Err(ShowFault::NoImage(ImageRefusal { fault })),
+        Err(ImageFault::Memory) => return Err(ShowFault::Memory),
     };
-    &line[..line.len().min(LONGEST_EXCERPT)]
+    let number = program.plan();
+    let plans = plan(alloc, program.interface(), number)?;
+    let table = plan_table(alloc, &plans)?;
+    Ok(table)
 }

@@ -5,3 +5,7 @@ pub mod Taking
 pub mod Steady
 pub mod Steps
 pub mod Skips
+pub mod Trees
+pub mod Numbers
+pub mod Reaching
+pub mod Stances

@@ -7,6 +7,7 @@ use borrow.Author.Tests.{ltb-true, eqb-true, leb-true}
 use Rattle.std.proofs.Common.{lit<, leb}
 use Rattle.fl_stub.specs.declared.op.Op.{Op}
 use Rattle.fl_stub.specs.declared.op.Op.TheVariants.{Emit, Pad, Align, Length, Times, Each, Back, End}
+use Rattle.fl_stub.specs.declared.op.Column.{Column}
 use Rattle.fl_stub.specs.declared.op.Column.TheVariants.{Send}
 use Rattle.fl_stub.specs.declared.walk.Standing.{Standing}
 use Rattle.fl_stub.specs.declared.walk.Standing.TheVariants.{Inside, AfterLength, Ended}
@@ -43,8 +44,11 @@ pub same_outer : (p : Piece) (blocks : List Block) → outer (starts_with p bloc
 same_outer p [] = refl
 same_outer p (b ∷ around) = refl
 
+pub step_place_in : (column : Column) (op : Op) (d : ℕ) (rest : List Op) → is_step column op ≡ true → accepts column (Some (Inside d)) (op ∷ rest) ≡ true → accepts column (Some (Inside d)) rest ≡ true
+step_place_in column op d rest so h = sym (ap (λ (s : Option Standing). accepts column s rest) (step_goes column d op so)) ∙ h
+
 pub step_place : (op : Op) (d : ℕ) (rest : List Op) → is_step Send op ≡ true → accepts Send (Some (Inside d)) (op ∷ rest) ≡ true → accepts Send (Some (Inside d)) rest ≡ true
-step_place op d rest so h = sym (ap (λ (s : Option Standing). accepts Send s rest) (step_goes Send d op so)) ∙ h
+step_place op d rest so h = step_place_in Send op d rest so h
 
 no_bytes : (width value : ℕ) (more : List ℕ) → width ≡ 0 → number_bytes width value ++ more ≡ more
 no_bytes width value more e = ap (λ (w : ℕ). number_bytes w value ++ more) e

@@ -7,3 +7,4 @@ pub mod Code
 pub mod Spots
 pub mod Marks
 pub mod Streams
+pub mod Rests

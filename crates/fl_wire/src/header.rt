@@ -18,8 +18,10 @@ fn is_clean(frag: &Frag) -> bool
     frag.control / 4 % 16_384 == 0 && frag.circuit().0 == 0
 }
 
-/// The fault of the control word of a fragment that is to begin a call.
-pub(crate) fn start_fault(interface: &Interface, frag: &Frag) -> Option<WireFault>
+/// The fault of the control word of a fragment that is to begin a call; none where it has none. In order: a
+/// reserved bit or the circuit isn't 0 (E63), it is no first fragment (E60), the interface has no such message (E62).
+/// Takes no memory.
+pub fn start_fault(interface: &Interface, frag: &Frag) -> Option<WireFault>
     ensures fault { result ≡ start_fault (interface_of interface.now) frag.now }
 {
     if !is_clean(frag) {
@@ -33,8 +35,10 @@ pub(crate) fn start_fault(interface: &Interface, frag: &Frag) -> Option<WireFaul
     }
 }
 
-/// The fault of the control word of a fragment that is to follow in a call of a message.
-fn follow_fault(msg: MsgNo, frag: &Frag) -> Option<WireFault>
+/// The fault of the control word of a fragment that is to follow in a call of a message; none where it has none. In
+/// order: a reserved bit or the circuit isn't 0 (E63), it is a first fragment (E61), it is of another message (E62).
+/// Takes no memory.
+pub fn follow_fault(msg: MsgNo, frag: &Frag) -> Option<WireFault>
     ensures fault { result ≡ follow_fault msg.0 frag.now }
 {
     if !is_clean(frag) {
@@ -48,8 +52,8 @@ fn follow_fault(msg: MsgNo, frag: &Frag) -> Option<WireFault>
     }
 }
 
-/// A fragment has seven words of 64 bits: it only reads these.
-pub(crate) fn is_line(frag: &Frag)
+/// A fragment has seven words of 64 bits, as any in memory: it only reads these. Takes no memory.
+pub fn is_line(frag: &Frag)
     ensures line { Line frag.now }
 {
     for word in &frag.words {

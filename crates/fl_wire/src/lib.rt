@@ -39,6 +39,7 @@ pub use bounds::numbers_fit_words;
 pub use encode::payload;
 pub use fault::WireFault;
 pub use fragments::{fragment, fragment_at, fragment_count};
+pub use header::{follow_fault, is_line, start_fault};
 pub use law::{none_begins_with_another, one_reading, reads_once};
 pub use reader::{Reading, read_frags};
 pub use reading::read_call_frags;

@@ -1,10 +1,8 @@
 //! Calls and a rest from a list of fragments, or its first fault.
 
 ghost use Rattle.std.specs.Prelude.{◌≡◌, ◌≢◌, ◌⊎◌, ◌+◌, ◌<◌, ◌≤◌, true, map, length, take, slice_get, IfOk, IfErr, IfSome, Some, None};
-ghost use Rattle.std.specs.Bool.{IsTrue};
 ghost use Rattle.fl_base.specs.declared.fragment.Frag.{Frag as TheFrag};
 ghost use Rattle.fl_check.specs.Interface.{interface_of};
-ghost use Rattle.fl_check.specs.Checks.{is_within_limits};
 ghost use Rattle.fl_value.specs.Value.{call_of};
 ghost use Rattle.fl_wire.specs.Reading.{ReadsLeaving, IsPart, IsWrong};
 ghost use Rattle.fl_wire.specs.Wrong.{start_fault, follow_fault, IsWrongAt};
@@ -76,7 +74,6 @@ fn next_call(
     frags: &[Frag],
 ) -> Result<Option<(Call, usize)>, WireFault>
     requires some { 0 < length frags.now }
-    requires within { is_within_limits (interface_of interface.now) ≡ true }
     requires words { interface_words_fit (interface_of interface.now) ≡ true }
     ensures call { IfOk result (λ found. IfSome found (λ r. StandsFirst plan (interface_of interface.now) frags.now (call_of r.0) r.1)) }
     ensures part { IfOk result (λ found. found ≡ None → IsPart plan (interface_of interface.now) frags.now) }
@@ -112,7 +109,6 @@ pub fn read_frags(
     frags: &[Frag],
     plan: PlanNo,
 ) -> Result<Reading, WireFault>
-    requires within { IsTrue (is_within_limits (interface_of interface.now)) }
     ensures read { IfOk result (λ r. ReadsLeaving plan (interface_of interface.now) frags.now (map call_of r.calls.items) r.rest) }
     ensures right { IfOk result (λ r. IsWrong plan (interface_of interface.now) frags.now → ⊥) }
     ensures wrong { IfErr result (λ fault. (fault ≡ Memory) ⊎ IsWrongAt plan (interface_of interface.now) frags.now fault) }

@@ -1,5 +1,5 @@
 -- A direction: its events keep what it shows.
-use Rattle.std.proofs.Common.{◌≡◌, refl, sym, ◌∙◌, ap, subst, ℕ, suc, ◌+◌, ◌-◌, ◌%◌, ◌^◌, ◌<◌, ◌≤◌, ◌==◌, nat_lt, Bool, true, false, if◌then◌else◌, List, [], ◌∷◌, ◌++◌, length, map, replicate, slice_get, Option, Some, None, append_assoc, arith}
+use Rattle.std.proofs.Common.{◌≡◌, refl, sym, ◌∙◌, ap, subst, ℕ, suc, ◌+◌, ◌-◌, ◌*◌, ◌/◌, ◌%◌, ◌^◌, ◌<◌, ◌≤◌, ◌==◌, nat_lt, Bool, true, false, if◌then◌else◌, List, [], ◌∷◌, ◌++◌, length, map, replicate, slice_get, Option, Some, None, append_assoc, arith}
 use Rattle.std.proofs.lemmas.List.{append-nil, length-append, length-map, replicate_more, length-replicate}
 use Rattle.std.proofs.lemmas.List.FromFn.{length-range_with_len}
 use Rattle.std.proofs.lemmas.Bool.{ltb-true}
@@ -7,10 +7,11 @@ use Rattle.std.proofs.lemmas.Bool.Decides.{nat_tests}
 use Rattle.std.specs.List.{range_with_len}
 use Rattle.fl_base.specs.declared.fragment.Frag.{Frag}
 use Rattle.fl_base.specs.declared.identity.EndId.{EndId}
-use Rattle.fl_base.specs.Control.{bare, with_epoch, control_word}
+use Rattle.fl_base.specs.Control.{with_epoch, control_word}
 use Rattle.fl_value.specs.Value.{TheCall}
 use Rattle.fl_value.specs.Fits.{fits_of}
 use Rattle.fl_wire.specs.Payload.{payload_of, frag_on, frags_of}
+use Rattle.fl_wire.specs.Reading.{plain}
 use Rattle.fl_wire.proofs.Readings.{count_positive}
 use Rattle.fl_model.specs.Machine as machine
 use Rattle.fl_model.specs.Machine.{Entry, Label, count, total, stream, whole_in, handled, is_busy, last_count, next_of}
@@ -22,23 +23,28 @@ use Rattle.fl_world.proofs.Lists.{slice_get_end, slice_get_next, map-map}
 
 -- Fragments.
 
--- setting the epoch and taking it away again
-even_again : (n : ℕ) → n % 2 ≡ 0 → (n - n % 2 + 1) - (n - n % 2 + 1) % 2 + 0 ≡ n
-even_again n h = omega arith
+-- setting the epoch and taking it away again, with what is told
+plain_again : (n : ℕ) → n % 2 ≡ 0 → n < 2 ^ 48 → 2 * ((n - n % 2 + 1) / 2 % 2 ^ 47) ≡ n
+plain_again n h k = omega (arith, h, k)
 
 control_even : (first : Bool) (m : ℕ) → control_word first m 0 % 2 ≡ 0
 control_even true m = omega arith
 control_even false m = omega arith
 
-pub bare-frag : (payload : List ℕ) (msg k : ℕ) → bare (with_epoch 1 (frag_on 0 msg payload k)) ≡ frag_on 0 msg payload k
-bare-frag payload msg k =
-    ap (λ (n : ℕ). let f : Frag = record { words = (frag_on 0 msg payload k).words; control = n } in f)
-    (even_again (control_word (k == 0) msg 0) (control_even (k == 0) msg))
+-- a message's number of 16 bits reaches nothing that is told
+control_small : (first : Bool) (m : ℕ) → m < 2 ^ 16 → control_word first m 0 < 2 ^ 48
+control_small true m h = omega (arith, h)
+control_small false m h = omega (arith, h)
 
-pub bare-frags : (payload : List ℕ) (msg : ℕ) (ks : List ℕ)
-    → map bare (map (with_epoch 1) (map (frag_on 0 msg payload) ks)) ≡ map (frag_on 0 msg payload) ks
-bare-frags payload msg [] = refl
-bare-frags payload msg (k ∷ ks) = let a = bare-frag payload msg k in let b = bare-frags payload msg ks in cc
+pub plain-frag : (payload : List ℕ) (msg k : ℕ) → msg < 2 ^ 16 → plain (with_epoch 1 (frag_on 0 msg payload k)) ≡ frag_on 0 msg payload k
+plain-frag payload msg k h =
+    ap (λ (n : ℕ). let f : Frag = record { words = (frag_on 0 msg payload k).words; control = n } in f)
+    (plain_again (control_word (k == 0) msg 0) (control_even (k == 0) msg) (control_small (k == 0) msg h))
+
+pub plain-frags : (payload : List ℕ) (msg : ℕ) (ks : List ℕ) → msg < 2 ^ 16
+    → map plain (map (with_epoch 1) (map (frag_on 0 msg payload) ks)) ≡ map (frag_on 0 msg payload) ks
+plain-frags payload msg [] h = refl
+plain-frags payload msg (k ∷ ks) h = let a = plain-frag payload msg k h in let b = plain-frags payload msg ks h in cc
 
 -- how many fragments a call has: at least one
 pub count_is : (e : Entry) (c : TheCall) → count e c ≡ (begun e c).count

@@ -6,10 +6,11 @@ use Rattle.std.proofs.lemmas.Bool.Decides.{nat_tests}
 use Rattle.std.specs.List.{range_with_len}
 use Rattle.fl_base.specs.declared.fragment.Frag.{Frag}
 use Rattle.fl_base.specs.declared.identity.EndId.{EndId}
-use Rattle.fl_base.specs.Control.{bare, with_epoch}
+use Rattle.fl_base.specs.Control.{with_epoch}
 use Rattle.fl_value.specs.Value.{TheCall}
 use Rattle.fl_value.specs.Fits.{fits_of}
 use Rattle.fl_wire.specs.Payload.{payload_of, frags_of}
+use Rattle.fl_wire.specs.Reading.{plain}
 use Rattle.fl_model.specs.Machine as machine
 use Rattle.fl_model.specs.Machine.{Entry, Label, count, total, stream, whole_in, handled, next_of}
 use Rattle.fl_model.specs.Step.{takes}
@@ -17,15 +18,15 @@ use Rattle.fl_world.specs.Contents.{TheDirection, begun, unwritten}
 use Rattle.fl_world.specs.Moves.{Tells}
 use Rattle.fl_world.specs.Shows.{AllSendable, Short, ShowsDirection}
 use Rattle.fl_world.proofs.Lists.{front, take_whole, slice_get_last, slice_get_end}
-use Rattle.fl_world.proofs.Streams.{bare-frags, stream-append, length-stream, AllSendable-right, some_fragment, count_is, at_least}
+use Rattle.fl_world.proofs.Streams.{plain-frags, stream-append, length-stream, AllSendable-right, some_fragment, count_is, at_least}
 
--- the bare fragments of calls
-bare-stream : (e : Entry) (c : TheCall) (cs : List TheCall)
-    → map bare (stream e (c ∷ cs)) ≡ frags_of e.plan e.interface c ++ map bare (stream e cs)
-bare-stream e c cs =
-    map-append bare (map (with_epoch 1) (frags_of e.plan e.interface c)) (stream e cs)
-    ∙ ap (λ fs. fs ++ map bare (stream e cs))
-    (bare-frags (payload_of e.plan e.interface c) c.msg (range_with_len 0 (begun e c).count))
+-- the plain fragments of calls
+plain-stream : (e : Entry) (c : TheCall) (cs : List TheCall) → c.msg < 2 ^ 16
+    → map plain (stream e (c ∷ cs)) ≡ frags_of e.plan e.interface c ++ map plain (stream e cs)
+plain-stream e c cs small =
+    map-append plain (map (with_epoch 1) (frags_of e.plan e.interface c)) (stream e cs)
+    ∙ ap (λ fs. fs ++ map plain (stream e cs))
+    (plain-frags (payload_of e.plan e.interface c) c.msg (range_with_len 0 (begun e c).count) small)
 
 -- the next call: its first fragments are the parts and the fragment that is taken
 record NextCall (e : Entry) (left : List TheCall) (parts : List Frag) (f : Frag) : Type 0 where
@@ -36,42 +37,44 @@ record NextCall (e : Entry) (left : List TheCall) (parts : List Frag) (f : Frag)
   short : length parts < count e call
 
 next_call : (e : Entry) (left : List TheCall) (parts more : List Frag) (f : Frag)
-    → Short e (length parts) left → map bare (stream e left) ≡ parts ++ f ∷ more → NextCall e left parts f
-next_call e [] [] more f s q = absurd (cc)
-next_call e [] (p ∷ parts) more f s q = absurd (cc)
-next_call e (c ∷ cs) parts more f s q = record {
+    → AllSendable e left → Short e (length parts) left → map plain (stream e left) ≡ parts ++ f ∷ more → NextCall e left parts f
+next_call e [] [] more f fit s q = absurd (cc)
+next_call e [] (p ∷ parts) more f fit s q = absurd (cc)
+next_call e (c ∷ cs) parts more f fit s q = record {
   call = c;
   rest = cs;
   left_is = refl;
-  begins = front parts (frags_of e.plan e.interface c) (map bare (stream e cs)) more f s (sym (bare-stream e c cs) ∙ q);
+  begins = front parts (frags_of e.plan e.interface c) (map plain (stream e cs)) more f s (sym (plain-stream e c cs fit.1) ∙ q);
   short = s;
 }
 
--- the bare fragments of the calls that are left are the parts, those that stand, and those not written
+-- the plain fragments of the calls that are left are the parts, those that stand, and those not written
 ahead : {e : Entry} {who : EndId} {x : TheDirection} {d : machine.Direction} (h : ShowsDirection e who x d)
-    → map bare (stream e h.left) ≡ x.parts ++ map bare (x.standing ++ unwritten x.sending)
+    → map plain (stream e h.left) ≡ x.parts ++ map plain (x.standing ++ unwritten x.sending)
 ahead {e} {who} {x} {d} h =
     let us : List Frag = unwritten x.sending in
     let all : stream e h.finished ++ stream e h.left ≡ h.took ++ (x.standing ++ us) =
     sym (ap (stream e) h.calls ∙ stream-append e h.finished h.left)
     ∙ h.sends ∙ ap (λ fs. fs ++ us) h.link ∙ append_assoc h.took x.standing us in
-    let fs : List Frag = map bare (stream e h.finished) in
-    append_cancel_left fs (map bare (stream e h.left)) (x.parts ++ map bare (x.standing ++ us))
-    (sym (map-append bare (stream e h.finished) (stream e h.left)) ∙ ap (map bare) all
-    ∙ map-append bare h.took (x.standing ++ us) ∙ ap (λ gs. gs ++ map bare (x.standing ++ us)) h.gives
-    ∙ append_assoc fs x.parts (map bare (x.standing ++ us)))
+    let fs : List Frag = map plain (stream e h.finished) in
+    append_cancel_left fs (map plain (stream e h.left)) (x.parts ++ map plain (x.standing ++ us))
+    (sym (map-append plain (stream e h.finished) (stream e h.left)) ∙ ap (map plain) all
+    ∙ map-append plain h.took (x.standing ++ us) ∙ ap (λ gs. gs ++ map plain (x.standing ++ us)) h.gives
+    ∙ append_assoc fs x.parts (map plain (x.standing ++ us)))
+
+left_fit : {e : Entry} {who : EndId} {x : TheDirection} {d : machine.Direction} (h : ShowsDirection e who x d) → AllSendable e h.left
+left_fit {e} {who} {x} {d} h = AllSendable-right e h.finished h.left (subst (AllSendable e) h.calls h.fit)
 
 first_call : {e : Entry} {who : EndId} {x : TheDirection} {d : machine.Direction} (h : ShowsDirection e who x d)
-    (f : Frag) (rest : List Frag) → x.standing ≡ f ∷ rest → NextCall e h.left x.parts (bare f)
+    (f : Frag) (rest : List Frag) → x.standing ≡ f ∷ rest → NextCall e h.left x.parts (plain f)
 first_call {e} {who} {x} {d} h f rest q =
-    next_call e h.left x.parts (map bare (rest ++ unwritten x.sending)) (bare f) h.short
-    (ahead h ∙ ap (λ gs. x.parts ++ map bare (gs ++ unwritten x.sending)) q)
+    next_call e h.left x.parts (map plain (rest ++ unwritten x.sending)) (plain f) (left_fit h) h.short
+    (ahead h ∙ ap (λ gs. x.parts ++ map plain (gs ++ unwritten x.sending)) q)
 
 call_fits : {e : Entry} {who : EndId} {x : TheDirection} {d : machine.Direction} (h : ShowsDirection e who x d)
     {f : Frag} (n : NextCall e h.left x.parts f) → (fits_of e.interface n.call ≡ true) × (n.call.msg < 2 ^ 16)
 call_fits {e} {who} {x} {d} h n =
-    let a : AllSendable e (h.finished ++ h.left) = subst (AllSendable e) h.calls h.fit in
-    let b : AllSendable e (n.call ∷ n.rest) = subst (AllSendable e) n.left_is (AllSendable-right e h.finished h.left a) in
+    let b : AllSendable e (n.call ∷ n.rest) = subst (AllSendable e) n.left_is (left_fit h) in
     (b.0, b.1)
 
 -- What is handled.
@@ -96,11 +99,11 @@ whole_in_is e (c ∷ cs) left n s =
 pub handled_is : (e : Entry) (who : EndId) (x : TheDirection) (d : machine.Direction) (h : ShowsDirection e who x d)
     → handled e d ≡ h.finished
 handled_is e who x d h =
-    let a : length h.took ≡ length (map bare h.took) = sym (length-map h.took bare) in
-    let b : length (map bare h.took) ≡ length (map bare (stream e h.finished)) + length x.parts =
-    ap length h.gives ∙ length-append (map bare (stream e h.finished)) x.parts in
-    let c : length (map bare (stream e h.finished)) ≡ total e h.finished =
-    length-map (stream e h.finished) bare ∙ length-stream e h.finished in
+    let a : length h.took ≡ length (map plain h.took) = sym (length-map h.took plain) in
+    let b : length (map plain h.took) ≡ length (map plain (stream e h.finished)) + length x.parts =
+    ap length h.gives ∙ length-append (map plain (stream e h.finished)) x.parts in
+    let c : length (map plain (stream e h.finished)) ≡ total e h.finished =
+    length-map (stream e h.finished) plain ∙ length-stream e h.finished in
     let t : d.taken ≡ total e h.finished + length x.parts = h.taken_is ∙ a ∙ b ∙ ap (λ n. n + length x.parts) c in
     ap (λ cs. whole_in e cs d.taken) h.calls ∙ ap (whole_in e (h.finished ++ h.left)) t
     ∙ whole_in_is e h.finished h.left (length x.parts) h.short
@@ -126,7 +129,7 @@ labels_first : {e : Entry} {who : EndId} {x : TheDirection} {d : machine.Directi
 labels_first {e} {who} {x} {d} h f rest q = h.labels ∙ ap (λ (fs : List Frag). replicate (length fs) (next_of who)) q
 
 tells_now : {e : Entry} {who : EndId} {x : TheDirection} {d : machine.Direction} (h : ShowsDirection e who x d)
-    (f : Frag) (found : Option TheCall) (n : NextCall e h.left x.parts (bare f)) → Tells e (x.parts ++ bare f ∷ []) found
+    (f : Frag) (found : Option TheCall) (n : NextCall e h.left x.parts (plain f)) → Tells e (x.parts ++ plain f ∷ []) found
     → found ≡ (if nat_lt (suc (length x.parts)) (count e n.call) then None else Some n.call)
 tells_now {e} {who} {x} {d} h f found n t =
     let s : length x.parts < count e n.call = n.short in
@@ -136,21 +139,21 @@ tells_now {e} {who} {x} {d} h f found n t =
     ∙ ap (λ (m : ℕ). if nat_lt (suc (length x.parts)) m then None else Some n.call) (sym k)
 
 took_more : {e : Entry} {who : EndId} {x : TheDirection} {d : machine.Direction} (h : ShowsDirection e who x d) (f : Frag)
-    → map bare (h.took ++ f ∷ []) ≡ map bare (stream e h.finished) ++ (x.parts ++ bare f ∷ [])
+    → map plain (h.took ++ f ∷ []) ≡ map plain (stream e h.finished) ++ (x.parts ++ plain f ∷ [])
 took_more {e} {who} {x} {d} h f =
-    map-append bare h.took (f ∷ []) ∙ ap (λ gs. gs ++ bare f ∷ []) h.gives
-    ∙ append_assoc (map bare (stream e h.finished)) x.parts (bare f ∷ [])
+    map-append plain h.took (f ∷ []) ∙ ap (λ gs. gs ++ plain f ∷ []) h.gives
+    ∙ append_assoc (map plain (stream e h.finished)) x.parts (plain f ∷ [])
 
 pub part_taken : (e : Entry) (who : EndId) (x : TheDirection) (d : machine.Direction) (f : Frag) (rest : List Frag)
-    → x.standing ≡ f ∷ rest → Tells e (x.parts ++ bare f ∷ []) None → ShowsDirection e who x d
-    → Taken e who x (record x { standing = rest; parts = x.parts ++ bare f ∷ [] }) d rest None
+    → x.standing ≡ f ∷ rest → Tells e (x.parts ++ plain f ∷ []) None → ShowsDirection e who x d
+    → Taken e who x (record x { standing = rest; parts = x.parts ++ plain f ∷ [] }) d rest None
 part_taken e who x d f rest q t h =
-    let n : NextCall e h.left x.parts (bare f) = first_call h f rest q in
+    let n : NextCall e h.left x.parts (plain f) = first_call h f rest q in
     let more : suc (length x.parts) < count e n.call =
     ltb-true _ _ (part_told (nat_lt (suc (length x.parts)) (count e n.call)) n.call (tells_now h f None n t)) in
-    let longer : length (x.parts ++ bare f ∷ []) ≡ length x.parts + 1 = length-append x.parts (bare f ∷ []) in
+    let longer : length (x.parts ++ plain f ∷ []) ≡ length x.parts + 1 = length-append x.parts (plain f ∷ []) in
     let took_longer : length (h.took ++ f ∷ []) ≡ length h.took + 1 = length-append h.took (f ∷ []) in
-    let y : TheDirection = record x { standing = rest; parts = x.parts ++ bare f ∷ [] } in
+    let y : TheDirection = record x { standing = rest; parts = x.parts ++ plain f ∷ [] } in
     let now : ShowsDirection e who y (takes (replicate (length rest) (next_of who)) d) = record {
       put = h.put;
       took = h.took ++ f ∷ [];
@@ -165,7 +168,7 @@ part_taken e who x d f rest q t h =
       capacity = h.capacity;
       calls = h.calls;
       gives = took_more h f;
-      short = subst (Short e (length (x.parts ++ bare f ∷ []))) (sym n.left_is) (omega arith);
+      short = subst (Short e (length (x.parts ++ plain f ∷ []))) (sym n.left_is) (omega arith);
       fit = h.fit;
     } in
     record {
@@ -180,22 +183,22 @@ short_none e [] = refl
 short_none e (c ∷ cs) = some_fragment e c
 
 pub whole_taken : (e : Entry) (who : EndId) (x : TheDirection) (d : machine.Direction) (f : Frag) (rest : List Frag) (found : TheCall)
-    → x.standing ≡ f ∷ rest → Tells e (x.parts ++ bare f ∷ []) (Some found) → ShowsDirection e who x d
+    → x.standing ≡ f ∷ rest → Tells e (x.parts ++ plain f ∷ []) (Some found) → ShowsDirection e who x d
     → Taken e who x (record x { standing = rest; parts = [] }) d rest (Some found)
 whole_taken e who x d f rest found q t h =
-    let n : NextCall e h.left x.parts (bare f) = first_call h f rest q in
+    let n : NextCall e h.left x.parts (plain f) = first_call h f rest q in
     let told = whole_told (nat_lt (suc (length x.parts)) (count e n.call)) n.call found (tells_now h f (Some found) n t) in
     let most : count e n.call ≤ suc (length x.parts) = at_least _ _ told.0 in
     let fewer : length x.parts < count e n.call = n.short in
     let exact : suc (length x.parts) ≡ count e n.call = omega arith in
     let frags : List Frag = frags_of e.plan e.interface n.call in
-    let all : x.parts ++ bare f ∷ [] ≡ frags = n.begins ∙ take_whole frags (suc (length x.parts)) exact in
+    let all : x.parts ++ plain f ∷ [] ≡ frags = n.begins ∙ take_whole frags (suc (length x.parts)) exact in
     let took_longer : length (h.took ++ f ∷ []) ≡ length h.took + 1 = length-append h.took (f ∷ []) in
     let y : TheDirection = record x { standing = rest; parts = [] } in
-    let fs : List Frag = map bare (stream e h.finished) in
-    let one : map bare (stream e (n.call ∷ [])) ≡ frags = bare-stream e n.call [] ∙ append-nil frags in
-    let both : map bare (stream e (h.finished ++ n.call ∷ [])) ≡ fs ++ frags =
-    ap (map bare) (stream-append e h.finished (n.call ∷ [])) ∙ map-append bare (stream e h.finished) (stream e (n.call ∷ []))
+    let fs : List Frag = map plain (stream e h.finished) in
+    let one : map plain (stream e (n.call ∷ [])) ≡ frags = plain-stream e n.call [] (call_fits h n).1 ∙ append-nil frags in
+    let both : map plain (stream e (h.finished ++ n.call ∷ [])) ≡ fs ++ frags =
+    ap (map plain) (stream-append e h.finished (n.call ∷ [])) ∙ map-append plain (stream e h.finished) (stream e (n.call ∷ []))
     ∙ ap (λ gs. fs ++ gs) one in
     let now : ShowsDirection e who y (takes (replicate (length rest) (next_of who)) d) = record {
       put = h.put;
@@ -210,7 +213,7 @@ whole_taken e who x d f rest found q t h =
       labels = refl;
       capacity = h.capacity;
       calls = h.calls ∙ ap (λ cs. h.finished ++ cs) n.left_is ∙ sym (append_assoc h.finished (n.call ∷ []) n.rest);
-      gives = took_more h f ∙ ap (λ gs. fs ++ gs) all ∙ sym both ∙ sym (append-nil (map bare (stream e (h.finished ++ n.call ∷ []))));
+      gives = took_more h f ∙ ap (λ gs. fs ++ gs) all ∙ sym both ∙ sym (append-nil (map plain (stream e (h.finished ++ n.call ∷ []))));
       short = short_none e n.rest;
       fit = h.fit;
     } in

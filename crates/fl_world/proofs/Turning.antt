@@ -7,11 +7,11 @@ use Rattle.fl_base.specs.declared.fragment.Frag.{Frag}
 use Rattle.fl_base.specs.declared.identity.Side.{Side}
 use Rattle.fl_base.specs.declared.identity.Side.TheVariants.{Client, Server}
 use Rattle.fl_base.specs.declared.identity.EndId.{EndId}
-use Rattle.fl_base.specs.Control.{bare}
 use Rattle.fl_base.specs.Ends.{other, peer}
 use Rattle.fl_check.specs.Interface.{TheInterface}
 use Rattle.fl_value.specs.Value.{TheCall}
 use Rattle.fl_value.specs.declared.value.PlanNo.{PlanNo}
+use Rattle.fl_wire.specs.Reading.{plain}
 use Rattle.fl_model.specs.Machine as machine
 use Rattle.fl_model.specs.Machine.{Entry, Dispatcher, Service, State, Label, handled, next_of}
 use Rattle.fl_model.specs.Step
@@ -123,22 +123,22 @@ pub turn_part : (w : TheWorld) (n : ℕ) (d : Dispatcher) (e : EndId) (x : TheBi
     (bindings : List TheBinding) (dispatchers : List Dispatcher)
     → slice_get w.dispatchers n ≡ Some d → slice_get d.pending 0 ≡ Some e → slice_get w.bindings e.binding ≡ Some x
     → slice_get w.interfaces x.interface ≡ Some entry
-    → (incoming x e.side).standing ≡ f ∷ rest → Tells entry ((incoming x e.side).parts ++ bare f ∷ []) None
-    → bindings ≡ slice_set w.bindings e.binding (with_incoming x e.side (record (incoming x e.side) { standing = rest; parts = (incoming x e.side).parts ++ bare f ∷ [] }))
+    → (incoming x e.side).standing ≡ f ∷ rest → Tells entry ((incoming x e.side).parts ++ plain f ∷ []) None
+    → bindings ≡ slice_set w.bindings e.binding (with_incoming x e.side (record (incoming x e.side) { standing = rest; parts = (incoming x e.side).parts ++ plain f ∷ [] }))
     → dispatchers ≡ slice_set w.dispatchers n (rotated (nat_lt 0 (length rest)) d d.pending)
     → Steps w (record w { bindings = bindings; dispatchers = dispatchers }) (Step.turn n) (part e)
 turn_part w n d e x entry f rest bindings dispatchers p q r k st t made turned =
-    turn_taken w n d e x entry rest (record (incoming x e.side) { standing = rest; parts = (incoming x e.side).parts ++ bare f ∷ [] }) None bindings dispatchers
+    turn_taken w n d e x entry rest (record (incoming x e.side) { standing = rest; parts = (incoming x e.side).parts ++ plain f ∷ [] }) None bindings dispatchers
     p q r k
     (λ (i : Entry) (who : EndId) (o : machine.Direction) (same : i ≡ entry) (h : ShowsDirection i who (incoming x e.side) o).
-    part_taken i who (incoming x e.side) o f rest st (subst (λ (j : Entry). Tells j ((incoming x e.side).parts ++ bare f ∷ []) None) (sym same) t) h)
+    part_taken i who (incoming x e.side) o f rest st (subst (λ (j : Entry). Tells j ((incoming x e.side).parts ++ plain f ∷ []) None) (sym same) t) h)
     made turned
 
 pub turn_whole : (w : TheWorld) (n : ℕ) (d : Dispatcher) (e : EndId) (x : TheBinding) (entry : Entry) (f : Frag) (rest : List Frag) (c : TheCall)
     (bindings : List TheBinding) (dispatchers : List Dispatcher)
     → slice_get w.dispatchers n ≡ Some d → slice_get d.pending 0 ≡ Some e → slice_get w.bindings e.binding ≡ Some x
     → slice_get w.interfaces x.interface ≡ Some entry
-    → (incoming x e.side).standing ≡ f ∷ rest → Tells entry ((incoming x e.side).parts ++ bare f ∷ []) (Some c)
+    → (incoming x e.side).standing ≡ f ∷ rest → Tells entry ((incoming x e.side).parts ++ plain f ∷ []) (Some c)
     → bindings ≡ slice_set w.bindings e.binding (with_incoming x e.side (record (incoming x e.side) { standing = rest; parts = [] }))
     → dispatchers ≡ slice_set w.dispatchers n (rotated (nat_lt 0 (length rest)) d d.pending)
     → Steps w (record w { bindings = bindings; dispatchers = dispatchers }) (Step.turn n) (handle e c)
@@ -146,7 +146,7 @@ turn_whole w n d e x entry f rest c bindings dispatchers p q r k st t made turne
     turn_taken w n d e x entry rest (record (incoming x e.side) { standing = rest; parts = [] }) (Some c) bindings dispatchers
     p q r k
     (λ (i : Entry) (who : EndId) (o : machine.Direction) (same : i ≡ entry) (h : ShowsDirection i who (incoming x e.side) o).
-    whole_taken i who (incoming x e.side) o f rest c st (subst (λ (j : Entry). Tells j ((incoming x e.side).parts ++ bare f ∷ []) (Some c)) (sym same) t) h)
+    whole_taken i who (incoming x e.side) o f rest c st (subst (λ (j : Entry). Tells j ((incoming x e.side).parts ++ plain f ∷ []) (Some c)) (sym same) t) h)
     made turned
 
 -- Interfaces.

@@ -27,7 +27,7 @@ pub record TheSending : Type 0 where
   pub count : ℕ
 
 -- a direction: the call in transmission, the fragments that stand in its queue, the queue's slots, and
--- the fragments taken of a call that isn't whole yet, epochs set aside
+-- the fragments taken of a call that isn't whole yet, epochs and counts told set aside
 pub record TheDirection : Type 0 where
   pub sending : Option TheSending
   pub standing : List Frag

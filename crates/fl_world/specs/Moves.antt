@@ -2,11 +2,11 @@
 use Rattle.std.specs.Prelude.{◌≡◌, ◌≤◌, ◌<◌, ℕ, ◌+◌, ◌^◌, nat_lt, Bool, true, if◌then◌else◌, List, [], ◌∷◌, ◌++◌, length, take, slice_get, slice_set, Option, Some, None}
 use Rattle.fl_base.specs.declared.fragment.Frag.{Frag}
 use Rattle.fl_base.specs.declared.identity.EndId.{EndId}
-use Rattle.fl_base.specs.Control.{bare}
 use Rattle.fl_value.specs.Value.{TheCall, call_of}
 use Rattle.fl_value.specs.Fits.{fits_of}
 use Rattle.fl_layout.specs.Places.{count}
 use Rattle.fl_wire.specs.Payload.{frags_of}
+use Rattle.fl_wire.specs.Reading.{plain}
 use Rattle.fl_model.specs.Machine as machine
 use Rattle.fl_model.specs.Step.{gains, triggered}
 use Rattle.fl_world.specs.declared.directions.Wrote.{Wrote}
@@ -41,10 +41,10 @@ abbrev pub Takes : machine.Entry → TheDirection → Took → TheDirection → 
 Takes e x Empty y = (x.standing ≡ []) × (y ≡ x)
 Takes e x Part y =
     (f : Frag) × (rest : List Frag) × (x.standing ≡ f ∷ rest)
-    × Tells e (x.parts ++ bare f ∷ []) None × (y ≡ record x { standing = rest; parts = x.parts ++ bare f ∷ [] })
+    × Tells e (x.parts ++ plain f ∷ []) None × (y ≡ record x { standing = rest; parts = x.parts ++ plain f ∷ [] })
 Takes e x (Whole c) y =
     (f : Frag) × (rest : List Frag) × (x.standing ≡ f ∷ rest)
-    × Tells e (x.parts ++ bare f ∷ []) (Some (call_of c)) × (y ≡ record x { standing = rest; parts = [] })
+    × Tells e (x.parts ++ plain f ∷ []) (Some (call_of c)) × (y ≡ record x { standing = rest; parts = [] })
 
 -- the first pending channel goes to the back of pending, or of idle
 abbrev pub rotated : Bool → machine.Dispatcher → List EndId → machine.Dispatcher

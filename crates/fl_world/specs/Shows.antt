@@ -4,9 +4,9 @@ use Rattle.std.specs.Prelude.{◌≡◌, ◌<◌, ℕ, ◌^◌, true, List, [], 
 use Rattle.fl_base.specs.declared.fragment.Frag.{Frag}
 use Rattle.fl_base.specs.declared.identity.Side.TheVariants.{Client, Server}
 use Rattle.fl_base.specs.declared.identity.EndId.{EndId}
-use Rattle.fl_base.specs.Control.{bare}
 use Rattle.fl_value.specs.Value.{TheCall}
 use Rattle.fl_value.specs.Fits.{fits_of}
+use Rattle.fl_wire.specs.Reading.{plain}
 use Rattle.fl_model.specs.Machine as machine
 use Rattle.fl_model.specs.Machine.{Entry, State, count, stream, next_of}
 use Rattle.fl_model.specs.Step.{TheEvent, TheAnswer, step}
@@ -51,9 +51,9 @@ pub record ShowsDirection (e : Entry) (who : EndId) (x : TheDirection) (d : mach
   pub link : put ≡ took ++ x.standing
   pub labels : d.queue.labels ≡ replicate (length x.standing) (next_of who)
   pub capacity : d.queue.capacity ≡ x.capacity
-  -- those taken are the done calls', and then the parts of the next one
+  -- those taken are, to a reader of calls, the done calls', and then the parts of the next one
   pub calls : d.accepted ≡ finished ++ left
-  pub gives : map bare took ≡ map bare (stream e finished) ++ x.parts
+  pub gives : map plain took ≡ map plain (stream e finished) ++ x.parts
   pub short : Short e (length x.parts) left
   pub fit : AllSendable e d.accepted
 

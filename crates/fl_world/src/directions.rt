@@ -5,6 +5,7 @@ ghost use Rattle.std.specs.Prelude.{◌≡◌, ◌+◌, ◌^◌, ◌≤◌, ◌<
 ghost use Rattle.std.specs.VecDeque.{deque_capacity};
 ghost use Rattle.fl_value.specs.Value.{call_of};
 ghost use Rattle.fl_value.specs.Fits.{fits_of};
+ghost use Rattle.fl_wire.specs.Reading.{plain};
 
 use crate::entries::Entry;
 use fl_base::{Frag, MsgNo};
@@ -25,7 +26,7 @@ pub struct Sending {
 }
 
 /// The call in transmission, the queue of fragments, which has its slots from the start, and the
-/// fragments taken of a call that is not whole yet, with epoch 0.
+/// fragments taken of a call that is not whole yet, with epoch 0 and nothing told.
 #[derive(Debug, Drop)]
 pub struct Direction {
     sending: Option<Sending>,
@@ -55,6 +56,17 @@ pub enum Took {
     Part,
     /// The last fragment of a call was taken.
     Whole(Call),
+}
+
+// What a fragment is to a reader of calls: the same with epoch 0 and nothing told.
+fn plain(frag: &Frag) -> Frag
+    ensures plain { result ≡ plain frag.now }
+{
+    let body = frag.control / 2 % 140_737_488_355_328;
+    Frag {
+        words: frag.words,
+        control: 2 * body,
+    }
 }
 
 impl Sending {
@@ -109,7 +121,6 @@ impl Sending {
 }
 
 impl Direction {
-    ghost use Rattle.fl_base.specs.Control.{bare};
     ghost use Rattle.fl_world.specs.Contents.{sending_of, direction_of, entry_of, next_frag};
     ghost use Rattle.fl_world.specs.Moves.{fresh, Writes, Takes};
 
@@ -185,7 +196,7 @@ impl Direction {
         let Some(first) = self.standing.front() else {
             return Ok(Took::Empty);
         };
-        let frag = first.with_epoch(false);
+        let frag = plain(first);
         self.parts.push(frag)?;
         match read_call_frags(alloc, &entry.interface, entry.plan, &self.parts) {
             Err(error) => {

@@ -19,8 +19,6 @@ mod directions;
 mod dispatchers;
 mod entries;
 mod events;
-#[cfg(test)]
-mod tests;
 mod worlds;
 
 pub use answers::{Answer, Refusal};

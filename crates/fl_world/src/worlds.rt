@@ -1,7 +1,6 @@
 //! The world of one core.
 
 ghost use Rattle.std.specs.Prelude.{◌≡◌, ◌+◌, ◌≤◌, ◌<◌, ◌==◌, ◌||◌, ℕ, Option, None, Some, option_map, map, slice_get, if◌then◌else◌, nat_lt, IfOk, OnErr, true};
-ghost use Rattle.fl_base.specs.Control.{bare};
 ghost use Rattle.fl_check.specs.Interface.{interface_of};
 ghost use Rattle.fl_value.specs.Value.{call_of};
 ghost use Rattle.fl_model.specs.Machine.{State, start, entry_at};

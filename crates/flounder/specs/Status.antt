@@ -3,7 +3,7 @@ use Rattle.std.specs.Prelude.{ℕ}
 use Rattle.fl_script.specs.Runs as script
 use Rattle.fl_show.specs.Shown as shown
 use Rattle.flounder.specs.declared.fault.Fault.{Fault}
-use Rattle.flounder.specs.declared.fault.Fault.TheVariants.{Usage, Words, Unread, Show, Exec, Unwritten, Memory}
+use Rattle.flounder.specs.declared.fault.Fault.TheVariants.{Usage, Words, Unread, Show, Unmade, Exec, Unwritten, Memory}
 
 -- 1 usage, 2 a content that is refused, 3 want of memory, 4 a read or a write that failed
 abbrev pub status_of : Fault → ℕ
@@ -11,6 +11,7 @@ status_of (Usage e) = 1
 status_of (Words e) = 1
 status_of (Unread file e) = 4
 status_of (Show f) = shown.status_of f
+status_of (Unmade file e) = 4
 status_of (Exec f) = script.status_of f
 status_of (Unwritten e) = 4
 status_of Memory = 3

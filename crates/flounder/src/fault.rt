@@ -20,9 +20,12 @@ pub enum Fault<'a> {
     /// The file isn't there, or can't be read.
     #[error("{file} could not be read: {error}\n")]
     Unread { file: &'a str, error: io::Error },
-    /// The file's content shows nothing.
+    /// The file's content is refused.
     #[error("{0}\n")]
     Show(ShowFault<'a>),
+    /// The file can't be written.
+    #[error("{file} could not be written: {error}\n")]
+    Unmade { file: &'a str, error: io::Error },
     /// The script was cut short.
     #[error("{0}\n")]
     Exec(ExecFault),
@@ -45,6 +48,7 @@ impl Fault<'_> {
             Fault::Words(_) => 1,
             Fault::Unread { file: _, error: _ } => 4,
             Fault::Show(fault) => fault.number(),
+            Fault::Unmade { file: _, error: _ } => 4,
             Fault::Exec(fault) => fault.number(),
             Fault::Unwritten(_) => 4,
             Fault::Memory => 3,

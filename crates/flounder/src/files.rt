@@ -1,28 +1,47 @@
 //! The files that commands name.
 
+ghost use Rattle.std.specs.Prelude.{Option, List, None};
+ghost use Rattle.flounder.specs.Deeds.{Deed, Adds, reading, writing};
+
 use std::alloc::Global;
-use std::io::Read;
+use std::io::{Read, Write};
 use std::rt::Files;
 use std::{fs, io};
 
-/// Reads files by their paths.
-pub trait FileReader {
+/// Reads and writes whole files by their paths.
+pub trait FileStore {
+    // What was done with files so far, in order, where the store tells it.
+    ghost deeds: { Self → Option (List Deed) } = { λ _. None };
+
     /// All bytes of a file.
     ///
     /// # Errors
     /// As of the system; of the kind `OutOfMemory` for want of memory.
-    fn read(&self, alloc: Global, path: &str) -> io::Result<Vec<u8>>;
+    fn read(&mut self, alloc: Global, path: &str) -> io::Result<Vec<u8>>
+        ensures done { Adds (deeds self.old) (deeds self.new) (reading (λ v. v.items) path.now result) };
+
+    /// Makes a file of these bytes, in the place of one of that path.
+    ///
+    /// # Errors
+    /// As of the system; of the kind `OutOfMemory` for want of memory. The file may then hold a front of the bytes.
+    fn write(&mut self, path: &str, bytes: &[u8]) -> io::Result<()>
+        ensures done { Adds (deeds self.old) (deeds self.new) (writing path.now bytes.now result) };
 }
 
 /// The files of the system.
 #[derive(Clone, Copy)]
 pub struct Disk<'r, R>(pub &'r R);
 
-impl<R: Files> FileReader for Disk<'_, R> {
-    fn read(&self, alloc: Global, path: &str) -> io::Result<Vec<u8>> {
+impl<R: Files> FileStore for Disk<'_, R> {
+    fn read(&mut self, alloc: Global, path: &str) -> io::Result<Vec<u8>> {
         let mut file = fs::open(self.0, path)?;
         let mut bytes = Vec::new(alloc);
         file.read_to_end(&mut bytes)?;
         Ok(bytes)
+    }
+
+    fn write(&mut self, path: &str, bytes: &[u8]) -> io::Result<()> {
+        let mut file = fs::create(self.0, path)?;
+        file.write_all(bytes)
     }
 }

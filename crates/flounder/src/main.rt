@@ -1,6 +1,6 @@
 //! `flounder`: the message system's program. `flounder exec`, also without a word, runs the script on
 //! standard input and writes its transcript to standard output; `flounder show FILE` prints the plan table of
-//! an interface.
+//! an interface's text or of an image; `flounder compile FILE OUT` writes the image of a text.
 #![tactic(auto)]
 
 mod fault;
@@ -15,6 +15,8 @@ use std::env;
 use std::process::ExitCode;
 
 #[cfg(test)]
+mod compile_tests;
+#[cfg(test)]
 mod tests;
 
 fn main(rt: HostRuntime) -> ExitCode {
@@ -25,9 +27,9 @@ fn main(rt: HostRuntime) -> ExitCode {
             Ok(words) => run(
                 alloc,
                 &words,
-                &Disk(&rt),
+                &mut Disk(&rt),
                 &mut rt.reader(),
-                rt.stdout(),
+                &mut rt.stdout(),
                 &mut errors,
             ),
             Err(_) => finish(Err(Fault::Memory), &mut errors),

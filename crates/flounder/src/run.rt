@@ -1,14 +1,17 @@
 //! A whole run of the program: words and what it reads in, standard output, standard error and a status out.
 
-ghost use Rattle.std.specs.Prelude.{◌≡◌, OnOk, IfErr};
+ghost use Rattle.std.specs.Prelude.{◌≡◌, OnOk, IfErr, List};
+ghost use Rattle.std.specs.Io.KnownBytes.{Appends};
 ghost use Rattle.flounder.specs.Status.{status_of};
+ghost use Rattle.flounder.specs.Deeds.{Does};
+ghost use Rattle.flounder.specs.Commands.{IsFailed, Compiles, Views, Runs};
 
 use crate::fault::Fault;
-use crate::files::FileReader;
+use crate::files::FileStore;
 use crate::words::{Request, read_words};
 use clap::error::ErrorKind;
 use fl_script::{ExecFault, exec};
-use fl_show::show_text;
+use fl_show::{compile_text, show_content};
 use std::alloc::Global;
 use std::convert::AsStr;
 use std::io;
@@ -18,20 +21,20 @@ use std::io::{BufWriter, Read, Write};
 ///
 /// Faults are found in the order usage, reading the file, its content, writing; want of memory where it happens.
 /// Only the first is told, on `errors`.
-pub fn run<S: AsStr, F: FileReader, R: Read, W: Write + Drop, E: Write>(
+pub fn run<S: AsStr, F: FileStore, R: Read, W: Write, E: Write>(
     alloc: Global,
     words: &[S],
-    files: &F,
+    files: &mut F,
     input: &mut R,
-    output: W,
+    output: &mut W,
     errors: &mut E,
-) -> u8 {
+) -> u8
+    ensures files { Does (F.deeds files.old) (F.deeds files.new) (Runs (W.contents output.old) (W.contents output.new) result) }
+{
     match read_words(alloc, words) {
         Ok(Request::Exec) => finish(run_script(alloc, input, output), errors),
-        Ok(Request::Show { file }) => match files.read(alloc, file) {
-            Ok(content) => finish(show(alloc, &content, output), errors),
-            Err(error) => finish(Err(unread(file, error)), errors),
-        },
+        Ok(Request::Show { file }) => show_file(alloc, file, files, output, errors),
+        Ok(Request::Compile { file, out }) => compile_file(alloc, file, out, files, errors),
         Err(error) => finish(tell_usage(error, output), errors),
     }
 }
@@ -51,10 +54,10 @@ pub fn finish<E: Write>(outcome: Result<(), Fault<'_>>, errors: &mut E) -> u8
 }
 
 // Runs the script, and writes out what is left in the buffer, also of a script that was cut short.
-fn run_script<'a, R: Read, W: Write + Drop>(
+fn run_script<'a, R: Read, W: Write>(
     alloc: Global,
     input: &mut R,
-    output: W,
+    output: &mut W,
 ) -> Result<(), Fault<'a>> {
     let Ok(mut buffer) = BufWriter::new(alloc, output) else {
         return Err(Fault::Memory);
@@ -68,24 +71,60 @@ fn run_script<'a, R: Read, W: Write + Drop>(
     }
 }
 
-// Prints the plan table of a file's content.
-fn show<W: Write + Drop>(alloc: Global, content: &[u8], output: W) -> Result<(), Fault<'_>> {
-    match show_text(alloc, content) {
-        Ok(table) => written(put(&table, output)),
-        Err(fault) => Err(Fault::Show(fault)),
+/// `show FILE`: prints the plan table of a file's content.
+pub fn show_file<F: FileStore, W: Write, E: Write>(
+    alloc: Global,
+    file: &str,
+    files: &mut F,
+    output: &mut W,
+    errors: &mut E,
+) -> u8
+    ensures shown { Does (F.deeds files.old) (F.deeds files.new) (Views file.now (W.contents output.old) (W.contents output.new) result) }
+{
+    let content = match files.read(alloc, file) {
+        Ok(content) => content,
+        Err(error) => return finish(Err(unread(file, error)), errors),
+    };
+    let table = match show_content(alloc, &content) {
+        Ok(table) => table,
+        Err(fault) => return finish(Err(Fault::Show(fault)), errors),
+    };
+    match put(&table, output) {
+        Ok(()) => 0,
+        Err(error) => finish(Err(Fault::Unwritten(error)), errors),
     }
 }
 
-fn put<W: Write + Drop>(text: &[u8], mut output: W) -> io::Result<()> {
+/// `compile FILE OUT`: writes the image of the interface that a file's text stands for. The other file is touched
+/// only where the text is accepted.
+pub fn compile_file<F: FileStore, E: Write>(
+    alloc: Global,
+    file: &str,
+    out: &str,
+    files: &mut F,
+    errors: &mut E,
+) -> u8
+    ensures compiled { Does (F.deeds files.old) (F.deeds files.new) (Compiles file.now out.now result) }
+{
+    let content = match files.read(alloc, file) {
+        Ok(content) => content,
+        Err(error) => return finish(Err(unread(file, error)), errors),
+    };
+    let image = match compile_text(alloc, &content) {
+        Ok(image) => image,
+        Err(fault) => return finish(Err(Fault::Show(fault)), errors),
+    };
+    match files.write(out, &image) {
+        Ok(()) => 0,
+        Err(error) => finish(Err(unmade(out, error)), errors),
+    }
+}
+
+fn put<W: Write>(text: &[u8], output: &mut W) -> io::Result<()>
+    ensures put { OnOk result (Appends (W.contents output.old) (W.contents output.new) text.now) }
+{
     output.write_all(text)?;
     output.flush()
-}
-
-fn written<'a>(outcome: io::Result<()>) -> Result<(), Fault<'a>> {
-    match outcome {
-        Ok(()) => Ok(()),
-        Err(error) => Err(Fault::Unwritten(error)),
-    }
 }
 
 /// Why there are no words of the command line to be read.
@@ -96,23 +135,37 @@ pub fn no_words<'a>(error: io::Error) -> Fault<'a> {
     }
 }
 
-fn unread(file: &str, error: io::Error) -> Fault<'_> {
+fn unread(file: &str, error: io::Error) -> Fault<'_>
+    ensures failed { IsFailed (status_of result) }
+{
     match error.kind() {
         io::ErrorKind::OutOfMemory => Fault::Memory,
         _ => Fault::Unread { file, error },
     }
 }
 
-// Help goes to standard output; what is wrong with the words is a fault.
-fn tell_usage<'a, W: Write + Drop>(error: clap::Error, output: W) -> Result<(), Fault<'a>> {
+fn unmade(file: &str, error: io::Error) -> Fault<'_>
+    ensures failed { IsFailed (status_of result) }
+{
     match error.kind() {
-        ErrorKind::DisplayHelp => written(put_help(&error, output)),
+        io::ErrorKind::OutOfMemory => Fault::Memory,
+        _ => Fault::Unmade { file, error },
+    }
+}
+
+// Help goes to standard output; what is wrong with the words is a fault.
+fn tell_usage<'a, W: Write>(error: clap::Error, output: &mut W) -> Result<(), Fault<'a>> {
+    match error.kind() {
+        ErrorKind::DisplayHelp => match put_help(&error, output) {
+            Ok(()) => Ok(()),
+            Err(error) => Err(Fault::Unwritten(error)),
+        },
         ErrorKind::OutOfMemory => Err(Fault::Memory),
         _ => Err(Fault::Usage(error)),
     }
 }
 
-fn put_help<W: Write + Drop>(help: &clap::Error, mut output: W) -> io::Result<()> {
+fn put_help<W: Write>(help: &clap::Error, output: &mut W) -> io::Result<()> {
     write!(output, "{help}")?;
     output.flush()
 }

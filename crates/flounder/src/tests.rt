@@ -1,26 +1,30 @@
 //! Whole runs: words and files in; standard output, standard error and a status out.
 
-use crate::files::FileReader;
+use crate::files::FileStore;
 use crate::run::{finish, no_words, run};
 use std::alloc::Global;
 use std::io;
 use std::io::{Read, Write};
 use std::test::Fail;
 
-// One file, of this name; reading it may fail.
+// One file, of this name; reading it may fail. No other can be written.
 #[derive(Clone, Copy)]
 enum Shelf {
     Holds(&'static str, &'static [u8]),
     Fails(io::ErrorKind),
 }
 
-impl FileReader for Shelf {
-    fn read(&self, alloc: Global, path: &str) -> io::Result<Vec<u8>> {
+impl FileStore for Shelf {
+    fn read(&mut self, alloc: Global, path: &str) -> io::Result<Vec<u8>> {
         match self {
             Shelf::Holds(name, content) if path == *name => Ok(Vec::from_slice(alloc, content)?),
             Shelf::Holds(_, _) => Err(io::Error::from(io::ErrorKind::NotFound)),
             Shelf::Fails(kind) => Err(io::Error::from(*kind)),
         }
+    }
+
+    fn write(&mut self, _path: &str, _bytes: &[u8]) -> io::Result<()> {
+        Err(io::Error::from(io::ErrorKind::Other))
     }
 }
 
@@ -62,18 +66,20 @@ const REFUSED: Shelf = Shelf::Holds("cap.if", b"interface i { message m(cap c); 
 
 // A run without standard input.
 fn go(alloc: Global, words: &[&str], shelf: &Shelf, out: &mut Vec<u8>, err: &mut Vec<u8>) -> u8 {
-    run(alloc, words, shelf, &mut b"".as_slice(), out, err)
+    let mut shelf = *shelf;
+    run(alloc, words, &mut shelf, &mut b"".as_slice(), out, err)
 }
 
 // A run whose standard output takes so many bytes.
 fn into(alloc: Global, words: &[&str], shelf: &Shelf, room: usize) -> u8 {
     let mut errors = Vec::new(alloc);
+    let mut shelf = *shelf;
     run(
         alloc,
         words,
-        shelf,
+        &mut shelf,
         &mut b"".as_slice(),
-        Narrow(room),
+        &mut Narrow(room),
         &mut errors,
     )
 }
@@ -121,7 +127,7 @@ found there: cap c); }
     assert!(rt; err.as_slice() == told.as_slice());
 }
 
-// An image's magic is no text: its version's first byte begins no token.
+// Where another byte stands in an image's magic it is read as a text: its version's first byte begins no token.
 #[test]
 fn a_text_of_no_language(rt: HostRuntime) {
     for (content, told) in [
@@ -130,12 +136,16 @@ fn a_text_of_no_language(rt: HostRuntime) {
             b"E7 at 0\nline 1, column 1: this isn't expected here\n".as_slice(),
         ),
         (
-            b"FLND\x02\x00",
+            b"FLNE\x02\x00",
             b"E1 at 4\nline 1, column 5: no token begins with this byte\nfound there: \\x02\\x00\n",
         ),
         (
             b"interface\ni {\n",
             b"E7 at 14\nline 3, column 1: this isn't expected here\n",
+        ),
+        (
+            b"FLND\x02\x00",
+            b"E82\nthe image ends early: it was cut, or not written whole\n",
         ),
     ] {
         let (mut out, mut err) = (Vec::new(rt.alloc()), Vec::new(rt.alloc()));
@@ -163,7 +173,9 @@ fn words_that_are_no_command(rt: HostRuntime) {
         &["flounder", "exec", "more"],
         &["flounder", "--nope"],
         &["flounder", "help"],
-        &["flounder", "compile", "mixed.if", "out"],
+        &["flounder", "compile"],
+        &["flounder", "compile", "cap.if"],
+        &["flounder", "compile", "cap.if", "out", "more"],
     ] {
         let (mut out, mut err) = (Vec::new(rt.alloc()), Vec::new(rt.alloc()));
         assert_eq!(rt; go(rt.alloc(), words, &REFUSED, &mut out, &mut err), 1);
@@ -191,6 +203,7 @@ fn help_is_written(rt: HostRuntime) {
         ["flounder", "--help"].as_slice(),
         &["flounder", "exec", "--help"],
         &["flounder", "show", "--help"],
+        &["flounder", "compile", "--help"],
     ] {
         let (mut out, mut err) = (Vec::new(rt.alloc()), Vec::new(rt.alloc()));
         assert_eq!(rt; go(rt.alloc(), words, &MIXED, &mut out, &mut err), 0);
@@ -226,7 +239,15 @@ fn scripts_are_run(rt: HostRuntime) -> Result<(), Fail> {
     for words in [["flounder"].as_slice(), &["flounder", "exec"]] {
         let (mut out, mut err) = (Vec::new(rt.alloc()), Vec::new(rt.alloc()));
         let mut script = b"disp d 0\ndisp d 0\nnope\n".as_slice();
-        let status = run(rt.alloc(), words, &MIXED, &mut script, &mut out, &mut err);
+        let mut shelf = MIXED;
+        let status = run(
+            rt.alloc(),
+            words,
+            &mut shelf,
+            &mut script,
+            &mut out,
+            &mut err,
+        );
         assert_eq!(rt; status, 0);
         assert!(rt; out.as_slice() == b"ok\nrefused E92\nrefused E90\n".as_slice());
         assert!(rt; err.is_empty());
@@ -239,12 +260,13 @@ fn scripts_are_run(rt: HostRuntime) -> Result<(), Fail> {
 fn scripts_that_are_not_read_or_not_written(rt: HostRuntime) {
     let mut errors = Vec::new(rt.alloc());
     let words = ["flounder", "exec"];
+    let mut shelf = MIXED;
     let unread = run(
         rt.alloc(),
         &words,
-        &MIXED,
+        &mut shelf,
         &mut NoSource,
-        Narrow(100),
+        &mut Narrow(100),
         &mut errors,
     );
     assert_eq!(rt; unread, 4);
@@ -253,9 +275,9 @@ fn scripts_that_are_not_read_or_not_written(rt: HostRuntime) {
         let unwritten = run(
             rt.alloc(),
             &words,
-            &MIXED,
+            &mut shelf,
             &mut script,
-            Narrow(room),
+            &mut Narrow(room),
             &mut errors,
         );
         assert_eq!(rt; unwritten, 4);

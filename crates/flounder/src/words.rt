@@ -12,16 +12,22 @@ pub enum Request<'a> {
     Exec,
     /// Print the plan table of the interface in this file.
     Show { file: &'a str },
+    /// Write the image of the interface in the one file to the other.
+    Compile { file: &'a str, out: &'a str },
 }
 
 const EXEC: &str = "exec";
 
 const SHOW: &str = "show";
 
+const COMPILE: &str = "compile";
+
 const FILE: &str = "FILE";
 
+const OUT: &str = "OUT";
+
 const ABOUT: &str =
-    "Runs scripts of messages between dispatchers, and shows how interfaces are laid out";
+    "Runs scripts of messages between dispatchers, compiles interfaces, and shows how they are laid out";
 
 const STATUSES: &str = "\
 Without a command, flounder does what `flounder exec` does.
@@ -29,10 +35,13 @@ Without a command, flounder does what `flounder exec` does.
 Status:
   0  done, whatever a script's lines answer
   1  the command line isn't of a form shown here
-  2  the file's content is refused: the first line on standard error is the fault, as `E14 at 24`
-     (its number, and its place in bytes), and the lines after it say it in words
+  2  the file's content is refused: the first line on standard error is the fault alone, as `E14 at 24` of a
+     text (its number, and its place in bytes) or `E82` of an image; the lines after it say it in words
   3  want of memory
-  4  a read or a write failed";
+  4  a read or a write failed
+
+The first fault is answered, in this order: the command line, reading FILE, its content, writing. FILE is read
+whole first, so OUT is touched only where FILE was accepted. docs/FAULTS.md lists all faults.";
 
 const ABOUT_EXEC: &str =
     "Runs the script on standard input and writes its transcript to standard output";
@@ -68,29 +77,67 @@ Standard output gets the plan table, with these lines; numbers count from 0, siz
 
 L and G are the least and greatest payload of message K, F the fragments of the greatest. O is where
 argument J begins in the payload, or `-` where that depends on the strings and arrays before it. KIND is
-`fixed SIZE`, `string max M` (M bytes) or `array max M stride S` (M elements of S bytes). P is the plan by
-which calls are laid out, 2 for a text.
+`fixed SIZE`, `string max M` (M bytes) or `array max M stride S` (M elements of S bytes). P is the plan by which
+calls are laid out: 2 for a text, and for an image the one that it was made for.
 
-A text that is no interface has status 2, and standard error tells its first fault. The whole file is read
-before anything is printed. docs/INTERFACES.md describes the language and its faults.";
+A file that begins with the four bytes `FLND` is read as an image, every other as a text. One that is refused
+has status 2, and standard error tells its first fault. The whole file is read before anything is printed.
+docs/INTERFACES.md describes the language, docs/IMAGES.md images.";
 
-const HELP_FILE: &str = "The interface's text";
+const HELP_SHOWN: &str = "An interface's text, or an image that `flounder compile` made";
+
+const ABOUT_COMPILE: &str = "Compiles an interface's text to an image";
+
+const AFTER_COMPILE: &str = "\
+The image keeps the interface, its plan (2) and the stub code of each message; docs/IMAGES.md describes its
+bytes. `flounder show OUT` prints its plan table:
+
+  flounder compile block.if block.image
+  flounder show block.image
+
+FILE is always read as a text, and read whole first; OUT is made, or replaced, only where the text is accepted.
+A text that is refused has status 2, and standard error tells its first fault, as
+
+  E14 at 24
+  line 1, column 25: messages carry no capabilities
+  found there: cap c); }
+
+Where OUT can't be written the status is 4, and OUT may then hold only the beginning of the image, which is no
+image.";
+
+const HELP_TEXT: &str = "The interface's text";
+
+const HELP_OUT: &str = "The image; a file of that name is replaced";
+
+fn show_command<'a>(alloc: Global) -> Result<Command<'a>, AllocError> {
+    let file = Arg::new(alloc, FILE).required(true).help(HELP_SHOWN);
+    Command::new(alloc, SHOW)
+        .about(ABOUT_SHOW)
+        .after_help(AFTER_SHOW)
+        .arg(file)
+}
+
+fn compile_command<'a>(alloc: Global) -> Result<Command<'a>, AllocError> {
+    let file = Arg::new(alloc, FILE).required(true).help(HELP_TEXT);
+    let out = Arg::new(alloc, OUT).required(true).help(HELP_OUT);
+    Command::new(alloc, COMPILE)
+        .about(ABOUT_COMPILE)
+        .after_help(AFTER_COMPILE)
+        .arg(file)?
+        .arg(out)
+}
 
 fn command<'a>(alloc: Global) -> Result<Command<'a>, AllocError> {
     let exec = Command::new(alloc, EXEC)
         .about(ABOUT_EXEC)
         .after_help(AFTER_EXEC);
-    let file = Arg::new(alloc, FILE).required(true).help(HELP_FILE);
-    let show = Command::new(alloc, SHOW)
-        .about(ABOUT_SHOW)
-        .after_help(AFTER_SHOW)
-        .arg(file)?;
     Command::new(alloc, "flounder")
         .about(ABOUT)
         .after_help(STATUSES)
         .disable_help_subcommand(true)
         .subcommand(exec)?
-        .subcommand(show)
+        .subcommand(compile_command(alloc)?)?
+        .subcommand(show_command(alloc)?)
 }
 
 /// What the words ask for; the first is the program's name.
@@ -105,6 +152,13 @@ pub fn read_words<'a, S: AsStr>(alloc: Global, words: &'a [S]) -> Result<Request
         Some((SHOW, found)) => match found.get_str(FILE) {
             Some(file) => Ok(Request::Show { file }),
             None => Err(command.error(ErrorKind::MissingRequiredArgument, "show needs a FILE")?),
+        },
+        Some((COMPILE, found)) => match (found.get_str(FILE), found.get_str(OUT)) {
+            (Some(file), Some(out)) => Ok(Request::Compile { file, out }),
+            _ => Err(command.error(
+                ErrorKind::MissingRequiredArgument,
+                "compile needs a FILE and an OUT",
+            )?),
         },
         _ => Ok(Request::Exec),
     }

@@ -1,10 +1,5 @@
 //! The code of messages under both plans.
 
-ghost use Rattle.std.specs.Prelude.{IfOk};
-ghost use Rattle.std.specs.Bool.{IsTrue};
-ghost use Rattle.fl_check.specs.Interface.{interface_of};
-ghost use Rattle.fl_check.specs.Checks.{is_within_limits};
-
 use fl_base::MsgNo;
 use fl_check::{Interface, TextFault, check};
 use fl_compile::{Program, compile};
@@ -371,9 +366,7 @@ const ROWS: [Row; 10] = [
     },
 ];
 
-fn interface(alloc: Global, text: &[u8]) -> Result<Interface, TextFault>
-    ensures limits { IfOk result (λ i. IsTrue (is_within_limits (interface_of i))) }
-{
+pub(crate) fn interface(alloc: Global, text: &[u8]) -> Result<Interface, TextFault> {
     let tokens = lex(alloc, text)?;
     let tree = parse(alloc, &tokens)?;
     Ok(check(alloc, &tree)?)

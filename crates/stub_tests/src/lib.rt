@@ -1,9 +1,14 @@
-//! Tests alone: which instructions are code, which code interfaces have, and what send runs give, by rows from
-//! outside.
+//! Tests alone: which instructions are code, which code interfaces have, and what send and receive runs give and take, by
+//! rows from outside.
+//!
+//! `rt try --test --fail-alloc N` runs each with its Nth allocation refused: then the tests whose names end in
+//! `without_memory` have to pass, and others end with want of memory.
 #![tactic(auto)]
 
 #[cfg(test)]
 mod compile_tests;
+#[cfg(test)]
+mod recv_tests;
 #[cfg(test)]
 mod send_tests;
 #[cfg(test)]

@@ -1,16 +1,9 @@
 //! The worked rows of layouts under both plans: lengths of payloads and tapes, fragments, places and sizes of
 //! arguments.
 
-ghost use Rattle.std.specs.Prelude.{◌≡◌, IfOk};
-ghost use Rattle.std.specs.Bool.{IsTrue};
-ghost use Rattle.fl_check.specs.Interface.{interface_of};
-ghost use Rattle.fl_check.specs.Checks.{is_within_limits};
-
+use crate::interfaces::interface;
 use fl_base::MsgNo;
-use fl_check::{Interface, TextFault, check};
 use fl_layout::{Plans, plan};
-use fl_lex::lex;
-use fl_parse::parse;
 use fl_value::{PlanNo, ValueFault, fits, read_call};
 use fl_wire::{fragment_count, payload};
 use std::alloc::Global;
@@ -186,14 +179,6 @@ const ROWS: [Row; 16] = [
         sizes: &[1, 1, 2],
     },
 ];
-
-fn interface(alloc: Global, text: &[u8]) -> Result<Interface, TextFault>
-    ensures within { IfOk result (λ i. IsTrue (is_within_limits (interface_of i))) }
-{
-    let tokens = lex(alloc, text)?;
-    let tree = parse(alloc, &tokens)?;
-    Ok(check(alloc, &tree)?)
-}
 
 fn planned(alloc: Global, text: &[u8], number: PlanNo) -> Result<Plans, Fail> {
     let interface = interface(alloc, text)?;

@@ -1,41 +1,263 @@
-//! The worked rows of payloads of every type, by calls as text: lengths, payload words and control words
-//! under both plans. A fragment has epoch 0 until it is put; what `show` writes, 3 and 1, has the epoch that a
-//! local queue sets.
+//! The worked rows of payloads of every type, by calls as text: lengths, payload words and control words under both
+//! plans, and the calls read back. A fragment has epoch 0 until it is put; what `show` writes, 3 and 1, has the
+//! epoch that a local queue sets.
 
+use crate::interfaces::interface;
 use fl_base::Frag;
-use fl_check::{ArgType, FixedType, Interface, Message, Scalar, Word};
-use fl_value::{PlanNo, ValueFault, fits, read_call};
-use fl_wire::{fragment, fragment_at, fragment_count, numbers_fit_words, payload};
+use fl_check::Interface;
+use fl_value::{PlanNo, ValueFault, fits, print_call, read_call};
+use fl_wire::{
+    fragment, fragment_at, fragment_count, none_begins_with_another, numbers_fit_words,
+    one_reading, payload, read_call_frags, reads_once,
+};
 use std::alloc::{AllocError, Global};
 use std::test::Fail;
 
-const UINT8: FixedType = FixedType::Scalar(Scalar::Uint8);
-
-const UINT16: FixedType = FixedType::Scalar(Scalar::Uint16);
-
-const UINT32: FixedType = FixedType::Scalar(Scalar::Uint32);
-
-const UINT64: FixedType = FixedType::Scalar(Scalar::Uint64);
-
-// An interface of one message, `m`.
-fn one_message(alloc: Global, args: Vec<ArgType>) -> Result<Interface, AllocError> {
-    let mut messages = Vec::new(alloc);
-    messages.push(Message {
-        name: Word {
-            bytes: b"m".to_vec(alloc)?,
-        },
-        args,
-    })?;
-    Ok(Interface {
-        name: Word {
-            bytes: b"i".to_vec(alloc)?,
-        },
-        messages,
-    })
+// An interface's text, a call of its message `m` as it is printed, and under each of these plans the length of the
+// call's payload, and its fragments.
+struct Row {
+    text: &'static [u8],
+    call: &'static [u8],
+    plans: &'static [PlanNo],
+    len: usize,
+    frags: &'static [Frag],
 }
 
-// The payload's length and the fragments of a call, which stands as text; nothing where the call doesn't
-// fit, or where `fragment_at` gives others.
+const BOTH: &[PlanNo] = &[PlanNo::One, PlanNo::Two];
+
+const ONE: &[PlanNo] = &[PlanNo::One];
+
+const TWO: &[PlanNo] = &[PlanNo::Two];
+
+const NUMBERS: &[u8] = b"interface i { message m(int8 a, int64 b, uint8 c); }";
+
+const BETWEEN: &[u8] = b"interface i { message m(uint8 a, string s, uint16 b); }";
+
+const STRUCTS: &[u8] =
+    b"interface i { typedef struct { uint8 a; uint64 b; } t; message m(t x[n]); }";
+
+const SEVEN: &[u8] = b"m([{1, 11}, {2, 12}, {3, 13}, {4, 14}, {5, 15}, {6, 16}, {7, 17}])";
+
+const NESTED: &[u8] = b"interface i {
+    typedef struct { uint32 a; uint8 b; } inner;
+    typedef inner pair[2];
+    typedef struct { uint8 a; pair b; uint16 c; } outer;
+    message m(uint8 a, outer b, uint8 c);
+}";
+
+const BY_TURNS: &[u8] =
+    b"interface i { message m(string a[9], uint16 b[n, 4], uint8 c, string d[9]); }";
+
+// Eight letters `a`.
+const LETTERS: u64 = 0x6161_6161_6161_6161;
+
+const ROWS: [Row; 16] = [
+    Row {
+        text: b"interface i { message m(uint32 v); }",
+        call: b"m(7)",
+        plans: BOTH,
+        len: 4,
+        frags: &[Frag {
+            words: [7, 0, 0, 0, 0, 0, 0],
+            control: 2,
+        }],
+    },
+    Row {
+        text: b"interface i { message m(); }",
+        call: b"m()",
+        plans: BOTH,
+        len: 0,
+        frags: &[Frag {
+            words: [0, 0, 0, 0, 0, 0, 0],
+            control: 2,
+        }],
+    },
+    Row {
+        text: b"interface i { message m(uint8 a, uint64 b); }",
+        call: b"m(1, 2)",
+        plans: TWO,
+        len: 9,
+        frags: &[Frag {
+            words: [2, 1, 0, 0, 0, 0, 0],
+            control: 2,
+        }],
+    },
+    Row {
+        text: b"interface i {
+            message m(uint64 a, uint64 b, uint64 c, uint64 d, uint64 e, uint64 f, uint64 g, uint64 h);
+        }",
+        call: b"m(1, 2, 3, 4, 5, 6, 7, 8)",
+        plans: BOTH,
+        len: 64,
+        frags: &[
+            Frag {
+                words: [1, 2, 3, 4, 5, 6, 7],
+                control: 2,
+            },
+            Frag {
+                words: [8, 0, 0, 0, 0, 0, 0],
+                control: 0,
+            },
+        ],
+    },
+    Row {
+        text: NUMBERS,
+        call: b"m(-128, -1, 255)",
+        plans: ONE,
+        len: 17,
+        frags: &[Frag {
+            words: [0x80, 0xffff_ffff_ffff_ffff, 0xff, 0, 0, 0, 0],
+            control: 2,
+        }],
+    },
+    Row {
+        text: NUMBERS,
+        call: b"m(-128, -1, 255)",
+        plans: TWO,
+        len: 10,
+        frags: &[Frag {
+            words: [0xffff_ffff_ffff_ffff, 0xff80, 0, 0, 0, 0, 0],
+            control: 2,
+        }],
+    },
+    Row {
+        text: BETWEEN,
+        call: b"m(1, \"hi\", 5)",
+        plans: ONE,
+        len: 26,
+        frags: &[Frag {
+            words: [1, 2, 0x6968, 5, 0, 0, 0],
+            control: 2,
+        }],
+    },
+    Row {
+        text: BETWEEN,
+        call: b"m(1, \"hi\", 5)",
+        plans: TWO,
+        len: 18,
+        frags: &[Frag {
+            words: [0x0001_0005, 2, 0x6968, 0, 0, 0, 0],
+            control: 2,
+        }],
+    },
+    Row {
+        text: STRUCTS,
+        call: SEVEN,
+        plans: BOTH,
+        len: 120,
+        frags: &[
+            Frag {
+                words: [7, 1, 0xb, 2, 0xc, 3, 0xd],
+                control: 2,
+            },
+            Frag {
+                words: [4, 0xe, 5, 0xf, 6, 0x10, 7],
+                control: 0,
+            },
+            Frag {
+                words: [0x11, 0, 0, 0, 0, 0, 0],
+                control: 0,
+            },
+        ],
+    },
+    Row {
+        text: b"interface i { typedef struct { uint8 a; uint64 b; } t; message m(t x[n, 1024]); }",
+        call: SEVEN,
+        plans: BOTH,
+        len: 120,
+        frags: &[
+            Frag {
+                words: [7, 1, 0xb, 2, 0xc, 3, 0xd],
+                control: 2,
+            },
+            Frag {
+                words: [4, 0xe, 5, 0xf, 6, 0x10, 7],
+                control: 0,
+            },
+            Frag {
+                words: [0x11, 0, 0, 0, 0, 0, 0],
+                control: 0,
+            },
+        ],
+    },
+    Row {
+        text: b"interface i { message m(string s); }",
+        call: b"m(\"aaaaaaaaaaaaaaaaaaaaaaaaaaaaaaaaaaaaaaaaaaaaaaaaa\")",
+        plans: BOTH,
+        len: 57,
+        frags: &[
+            Frag {
+                words: [49, LETTERS, LETTERS, LETTERS, LETTERS, LETTERS, LETTERS],
+                control: 2,
+            },
+            Frag {
+                words: [0x61, 0, 0, 0, 0, 0, 0],
+                control: 0,
+            },
+        ],
+    },
+    Row {
+        text: NESTED,
+        call: b"m(9, {1, [{2, 3}, {4, 5}], 6}, 7)",
+        plans: ONE,
+        len: 29,
+        frags: &[Frag {
+            words: [
+                0x1_0000_0009,
+                0x3_0000_0002,
+                0x5_0000_0004,
+                0x7_0000_0006,
+                0,
+                0,
+                0,
+            ],
+            control: 2,
+        }],
+    },
+    Row {
+        text: NESTED,
+        call: b"m(9, {1, [{2, 3}, {4, 5}], 6}, 7)",
+        plans: TWO,
+        len: 26,
+        frags: &[Frag {
+            words: [0x2_0000_0001, 0x4_0000_0003, 0x6_0000_0005, 0x0709, 0, 0, 0],
+            control: 2,
+        }],
+    },
+    Row {
+        text: BY_TURNS,
+        call: b"m(\"a\", [], 3, \"bc\")",
+        plans: ONE,
+        len: 42,
+        frags: &[Frag {
+            words: [1, 0x61, 0, 3, 2, 0x6362, 0],
+            control: 2,
+        }],
+    },
+    Row {
+        text: BY_TURNS,
+        call: b"m(\"a\", [], 3, \"bc\")",
+        plans: TWO,
+        len: 42,
+        frags: &[Frag {
+            words: [3, 1, 0x61, 0, 2, 0x6362, 0],
+            control: 2,
+        }],
+    },
+    Row {
+        text: b"interface i { typedef enum { a, b, c } e; typedef e es[2]; message m(es x, int16 z); }",
+        call: b"m([2, 1], -2)",
+        plans: BOTH,
+        len: 10,
+        frags: &[Frag {
+            words: [0x1_0000_0002, 0xfffe, 0, 0, 0, 0, 0],
+            control: 2,
+        }],
+    },
+];
+
+// The payload's length and the fragments of a call, which stands as text; nothing where the call doesn't fit, or
+// where `fragment_at` gives others.
 fn sent(
     alloc: Global,
     plan: PlanNo,
@@ -63,160 +285,94 @@ fn sent(
     Ok(Some((bytes.len(), frags)))
 }
 
-// Whether a call has a payload of this length in fragments with these words and controls.
-fn is_sent(
+// The text of the call of `m` that fragments mean; empty where they mean none yet.
+fn read_text(
     alloc: Global,
     plan: PlanNo,
     interface: &Interface,
-    text: &[u8],
-    len: usize,
     frags: &[Frag],
-) -> Result<bool, ValueFault> {
-    match sent(alloc, plan, interface, text)? {
-        Some((found, all)) => Ok(found == len && all.as_slice() == frags),
-        None => Ok(false),
+) -> Result<Vec<u8>, AllocError> {
+    let mut out = Vec::new(alloc);
+    if let Some(call) = read_call_frags(alloc, interface, plan, frags)? {
+        print_call(alloc, &mut out, b"m", &call.args)?;
     }
+    Ok(out)
 }
 
-fn first(words: [u64; 7]) -> Frag {
-    Frag { words, control: 2 }
+// Whether no front of the fragments means a call, and all of them mean that one.
+fn is_read(
+    alloc: Global,
+    plan: PlanNo,
+    interface: &Interface,
+    frags: &[Frag],
+    text: &[u8],
+) -> Result<bool, AllocError> {
+    for k in 0..frags.len() {
+        if !read_text(alloc, plan, interface, &frags[..k])?.is_empty() {
+            return Ok(false);
+        }
+    }
+    Ok(read_text(alloc, plan, interface, frags)?.as_slice() == text)
 }
 
-fn later(words: [u64; 7]) -> Frag {
-    Frag { words, control: 0 }
+// Whether the row's call has its payload and its fragments, and is read back, under each of its plans.
+fn holds(alloc: Global, row: &Row) -> Result<bool, Fail> {
+    let interface = interface(alloc, row.text)?;
+    for plan in row.plans {
+        let Some((len, frags)) = sent(alloc, *plan, &interface, row.call)? else {
+            return Ok(false);
+        };
+        if len != row.len
+            || frags.as_slice() != row.frags
+            || !is_read(alloc, *plan, &interface, row.frags, row.call)?
+        {
+            return Ok(false);
+        }
+    }
+    Ok(true)
 }
 
-// The length of the payload and the number of fragments of `m("aa..")`.
-fn lengths(alloc: Global, plan: PlanNo, letters: usize) -> Result<(usize, usize), ValueFault> {
-    let interface = one_message(alloc, vec![in alloc; ArgType::Text(4096)]?)?;
+#[test]
+fn calls_are_sent_and_read(rt: HostRuntime) -> Result<(), Fail> {
+    for (index, row) in ROWS.iter().enumerate() {
+        assert_eq!(rt; (index, holds(rt.alloc(), row)?), (index, true));
+    }
+    one_reading();
+    none_begins_with_another();
+    reads_once();
+    Ok(())
+}
+
+// A call of `m` of one string with so many letters.
+fn letters(alloc: Global, count: usize) -> Result<Vec<u8>, AllocError> {
     let mut text = b"m(\"".to_vec(alloc)?;
-    for _ in 0..letters {
+    for _ in 0..count {
         text.push(b'a')?;
     }
     text.extend_from_slice(b"\")")?;
+    Ok(text)
+}
+
+// The length of the payload and the number of fragments of `m("aa..")`.
+fn lengths(alloc: Global, plan: PlanNo, count: usize) -> Result<Option<(usize, usize)>, Fail> {
+    let interface = interface(alloc, b"interface i { message m(string s[4096]); }")?;
+    let text = letters(alloc, count)?;
     match sent(alloc, plan, &interface, &text)? {
-        Some((len, frags)) => Ok((len, frags.len())),
-        None => Ok((0, 0)),
+        Some((len, frags)) => Ok(Some((len, frags.len()))),
+        None => Ok(None),
     }
 }
 
 #[test]
 fn strings_of_all_lengths(rt: HostRuntime) -> Result<(), Fail> {
-    for plan in [PlanNo::One, PlanNo::Two] {
-        assert_eq!(rt; lengths(rt.alloc(), plan, 0)?, (8, 1));
-        assert_eq!(rt; lengths(rt.alloc(), plan, 48)?, (56, 1));
-        assert_eq!(rt; lengths(rt.alloc(), plan, 49)?, (57, 2));
-        assert_eq!(rt; lengths(rt.alloc(), plan, 4096)?, (4104, 74));
+    for (count, wanted) in [
+        (0, (8, 1)),
+        (48, (56, 1)),
+        (49, (57, 2)),
+        (4096, (4104, 74)),
+    ] {
+        assert_eq!(rt; lengths(rt.alloc(), PlanNo::One, count)?, Some(wanted));
+        assert_eq!(rt; lengths(rt.alloc(), PlanNo::Two, count)?, Some(wanted));
     }
-    Ok(())
-}
-
-#[test]
-fn a_string_between_numbers(rt: HostRuntime) -> Result<(), Fail> {
-    let alloc = rt.alloc();
-    let types = vec![in alloc;
-        ArgType::Fixed(UINT8),
-        ArgType::Text(2047),
-        ArgType::Fixed(UINT16),
-    ]?;
-    let interface = one_message(alloc, types)?;
-    let text = b"m(1, \"hi\", 5)";
-    let one = [first([1, 2, 0x6968, 5, 0, 0, 0])];
-    let two = [first([0x0001_0005, 2, 0x6968, 0, 0, 0, 0])];
-    assert!(rt; is_sent(alloc, PlanNo::One, &interface, text, 26, &one)?);
-    assert!(rt; is_sent(alloc, PlanNo::Two, &interface, text, 18, &two)?);
-    Ok(())
-}
-
-#[test]
-fn numbers_of_all_alignments(rt: HostRuntime) -> Result<(), Fail> {
-    let alloc = rt.alloc();
-    let int8 = ArgType::Fixed(FixedType::Scalar(Scalar::Int8));
-    let int64 = ArgType::Fixed(FixedType::Scalar(Scalar::Int64));
-    let interface = one_message(alloc, vec![in alloc; int8, int64, ArgType::Fixed(UINT8)]?)?;
-    let text = b"m(-128, -1, 255)";
-    let one = [first([0x80, u64::MAX, 0xff, 0, 0, 0, 0])];
-    let two = [first([u64::MAX, 0xff80, 0, 0, 0, 0, 0])];
-    assert!(rt; is_sent(alloc, PlanNo::One, &interface, text, 17, &one)?);
-    assert!(rt; is_sent(alloc, PlanNo::Two, &interface, text, 10, &two)?);
-    Ok(())
-}
-
-#[test]
-fn seven_structs(rt: HostRuntime) -> Result<(), Fail> {
-    let alloc = rt.alloc();
-    let t = FixedType::Structure(vec![in alloc; UINT8, UINT64]?);
-    let interface = one_message(alloc, vec![in alloc; ArgType::Sized(2047, t)]?)?;
-    let text = b"m([{1, 11}, {2, 12}, {3, 13}, {4, 14}, {5, 15}, {6, 16}, {7, 17}])";
-    let frags = [
-        first([7, 1, 0xb, 2, 0xc, 3, 0xd]),
-        later([4, 0xe, 5, 0xf, 6, 0x10, 7]),
-        later([0x11, 0, 0, 0, 0, 0, 0]),
-    ];
-    for plan in [PlanNo::One, PlanNo::Two] {
-        assert!(rt; is_sent(alloc, plan, &interface, text, 120, &frags)?);
-    }
-    Ok(())
-}
-
-#[test]
-fn forty_nine_letters(rt: HostRuntime) -> Result<(), Fail> {
-    let alloc = rt.alloc();
-    let interface = one_message(alloc, vec![in alloc; ArgType::Text(2047)]?)?;
-    let text = b"m(\"aaaaaaaaaaaaaaaaaaaaaaaaaaaaaaaaaaaaaaaaaaaaaaaaa\")";
-    let letters = 0x6161_6161_6161_6161;
-    let frags = [
-        first([49, letters, letters, letters, letters, letters, letters]),
-        later([0x61, 0, 0, 0, 0, 0, 0]),
-    ];
-    for plan in [PlanNo::One, PlanNo::Two] {
-        assert!(rt; is_sent(alloc, plan, &interface, text, 57, &frags)?);
-    }
-    Ok(())
-}
-
-#[test]
-fn structs_end_at_their_alignment(rt: HostRuntime) -> Result<(), Fail> {
-    let alloc = rt.alloc();
-    let inner = FixedType::Structure(vec![in alloc; UINT32, UINT8]?);
-    let pair = FixedType::Array(2, Box::new(alloc, inner)?);
-    let outer = FixedType::Structure(vec![in alloc; UINT8, pair, UINT16]?);
-    let types = vec![in alloc;
-        ArgType::Fixed(UINT8),
-        ArgType::Fixed(outer),
-        ArgType::Fixed(UINT8),
-    ]?;
-    let interface = one_message(alloc, types)?;
-    let text = b"m(9, {1, [{2, 3}, {4, 5}], 6}, 7)";
-    let one = [first([
-        0x1_0000_0009,
-        0x3_0000_0002,
-        0x5_0000_0004,
-        0x7_0000_0006,
-        0,
-        0,
-        0,
-    ])];
-    let two = [first([0x2_0000_0001, 0x4_0000_0003, 0x6_0000_0005, 0x0709, 0, 0, 0])];
-    assert!(rt; is_sent(alloc, PlanNo::One, &interface, text, 29, &one)?);
-    assert!(rt; is_sent(alloc, PlanNo::Two, &interface, text, 26, &two)?);
-    Ok(())
-}
-
-#[test]
-fn strings_and_arrays_by_turns(rt: HostRuntime) -> Result<(), Fail> {
-    let alloc = rt.alloc();
-    let types = vec![in alloc;
-        ArgType::Text(9),
-        ArgType::Sized(4, UINT16),
-        ArgType::Fixed(UINT8),
-        ArgType::Text(9),
-    ]?;
-    let interface = one_message(alloc, types)?;
-    let text = b"m(\"a\", [], 3, \"bc\")";
-    let one = [first([1, 0x61, 0, 3, 2, 0x6362, 0])];
-    let two = [first([3, 1, 0x61, 0, 2, 0x6362, 0])];
-    assert!(rt; is_sent(alloc, PlanNo::One, &interface, text, 42, &one)?);
-    assert!(rt; is_sent(alloc, PlanNo::Two, &interface, text, 42, &two)?);
     Ok(())
 }

@@ -47,7 +47,7 @@ pub struct DuoRule;
 impl TableRule<(), DuoView, Opening> for DuoRule {
     ghost use Rattle.fl_ring.specs.SharedDuo.{DuoHolds, duo_opening};
 
-    ghost holds = { λ key. DuoHolds key.size };
+    ghost holds = { λ key. DuoHolds key.size key.start };
 
     ghost first = { λ key. duo_opening key.size key.start };
 }

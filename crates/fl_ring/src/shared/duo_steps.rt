@@ -6,7 +6,7 @@ ghost use Rattle.fl_link.specs.Cursor.{epoch_at};
 ghost use Rattle.fl_ring.specs.Counts.{count_from};
 ghost use Rattle.fl_ring.specs.Way.{slot};
 ghost use Rattle.fl_ring.specs.SharedWay.{IsDue};
-ghost use Rattle.fl_ring.specs.SharedDuo.{base_of, other_of, with_mine, side_control};
+ghost use Rattle.fl_ring.specs.SharedDuo.{base_of, other_of, with_mine, side_control, IsPeekedControl};
 ghost use Rattle.fl_ring.specs.SharedSides.{IsDuoSeated, side_with_part, side_with_frag, side_with_words, side_of_seat, SideSees, SideGets, SideMisses};
 
 use crate::counts::count_from;
@@ -64,7 +64,7 @@ pub(crate) fn load_control(
     ensures known { (seat.new.me.0.mine.put.known ≡ known.new) × (known.old ≤ known.new) × (known.new ≤ length seat.old.me.0.mine.put.sent) }
     ensures found { MatchOption result
         ((c : ℕ) × (epoch_of c ≢ due) × (seat.old.me.0.mine.take.peeked ≡ None) × (seat.new.me ≡ (with_mine seat.old.me.0 (side_control seat.old.me.0.size seat.old.me.0.mine c), seat.old.me.1)))
-        (λ c. (epoch_of c ≡ due) × (seat.new.me ≡ (with_mine seat.old.me.0 (side_control seat.old.me.0.size seat.old.me.0.mine c), seat.old.me.1))) }
+        (λ c. (epoch_of c ≡ due) × (seat.new.me ≡ (with_mine seat.old.me.0 (side_control seat.old.me.0.size seat.old.me.0.mine c), seat.old.me.1)) × IsPeekedControl seat.old.me.0.mine.take c) }
 {
     let control = top.load::<LoadControl>(seat, first + 7);
     if control % 2 != due {

@@ -12,7 +12,7 @@ compile_both-requires-clause-within c =
     let all = interface_of c.args.interface.now in
     let there : slice_get all.messages c.loop-message.message-index ≡ Some (message_of c.message-item.result)
     = ap (λ (ms : List Message). slice_get (map message_of ms) c.loop-message.message-index) (sym c.deref-message-items.ensures.value) ∙ here in
-    message_within all c.loop-message.message-index (message_of c.message-item.result) c.requires.within there
+    message_within all c.loop-message.message-index (message_of c.message-item.result) c.args.interface.now.within there
 
 pub compile_both-requires-clause-words : goal.compile_both-requires-clause-words
 compile_both-requires-clause-words c =

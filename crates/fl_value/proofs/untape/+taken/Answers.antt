@@ -17,7 +17,7 @@ read_fields-loop-field-preserved t c =
     let before = map type_of (take c.loop-field.field-index c.args.fields.now) in
     let found = rw c.in-Some.is at c.in_ok-value.ensures.found in
     let more = one_more ValueAt before (type_of field) c.args.tape.now (map datum_of c.loop-field.values.items) c.loop-field.rest.now (datum_of c.in-Some.value) c.in-Some.after.now c.loop-field.invariant found in
-    let types = map_taken type_of c.args.fields.now c.loop-field.field-index field (omega arith) c.field-item.is in
+    let types = map_taken type_of c.args.fields.now c.loop-field.field-index field c.loop-field-test.true c.field-item.is in
     let values = map_pushed datum_of c.loop-field.values.items c.push.new.self.items c.in-Some.value c.in_ok-push.ensures.items in
     subst (λ (ts : List TheType). TheOne (InTurn ValueAt ts c.args.tape.now) (map datum_of c.push.new.self.items) c.in-Some.after.now) (sym types)
     (subst (λ (ds : List Datum). TheOne (InTurn ValueAt (before ++ type_of field ∷ []) c.args.tape.now) ds c.in-Some.after.now) (sym values) more)
@@ -29,7 +29,7 @@ read_fields-returns-in_default-clause-none t c =
     let behind = map type_of (drop (suc c.loop-field.field-index) c.args.fields.now) in
     let none = rw c.in_default.is at c.in_ok-value.ensures.none in
     let nothing = none_more ValueAt before (type_of field) behind c.args.tape.now (map datum_of c.loop-field.values.items) c.loop-field.rest.now c.loop-field.invariant none in
-    subst (λ (ts : List TheType). NoneOf (InTurn ValueAt ts c.args.tape.now)) (map_around type_of c.args.fields.now c.loop-field.field-index field (omega arith) c.field-item.is) nothing
+    subst (λ (ts : List TheType). NoneOf (InTurn ValueAt ts c.args.tape.now)) (map_around type_of c.args.fields.now c.loop-field.field-index field c.loop-field-test.true c.field-item.is) nothing
 
 pub read_elements-loop-done-preserved : goal.read_elements-loop-done-preserved
 read_elements-loop-done-preserved t c =

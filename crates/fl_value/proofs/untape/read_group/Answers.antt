@@ -1,5 +1,7 @@
-use Rattle.std.proofs.Common.{◌≡◌, ◌+◌, ◌++◌, [], ◌∷◌, List, suc, map, take, drop, filter, true, arith, sym, subst, ap, ◌∙◌, append_assoc}
-use Rattle.std.proofs.lemmas.Bool.{cond-true}
+use Rattle.std.proofs.Common.{◌≡◌, ◌+◌, ◌++◌, [], ◌∷◌, List, suc, map, take, drop, filter, true, false, sym, subst, ap, ◌∙◌, append_assoc, append-nil}
+use Rattle.std.proofs.lemmas.Bool.{cond-true, cond-false}
+use Rattle.std.proofs.lemmas.List.{take_all}
+use Rattle.fl_check.specs.declared.interface.ArgType.{ArgType}
 use Rattle.fl_check.specs.Interface.{TheArgType, arg_type_of}
 use Rattle.fl_value.specs.Value.{Datum, datum_of}
 use Rattle.fl_value.specs.Groups.{in_group}
@@ -18,7 +20,7 @@ loop-argument-preserved c = λ done whole start.
     let more = one_more ArgumentAt (done ++ before) type whole (map datum_of c.loop-argument.values.items) c.loop-argument.rest.now (datum_of c.in-Some.value) c.in-Some.after.now (c.loop-argument.invariant done whole start) found in
     let single : filter test (type ∷ []) ≡ type ∷ [] = cond-true (test type) (type ∷ []) [] passes in
     let types : done ++ filter test (map arg_type_of (take (c.loop-argument.argument-index + 1) c.args.arguments.now)) ≡ (done ++ before) ++ type ∷ []
-    = ap (λ (ts : List TheArgType). done ++ ts) (filter_taken test arg_type_of c.args.arguments.now c.loop-argument.argument-index argument (omega arith) c.argument-item.is ∙ ap (λ (ts : List TheArgType). before ++ ts) single)
+    = ap (λ (ts : List TheArgType). done ++ ts) (filter_taken test arg_type_of c.args.arguments.now c.loop-argument.argument-index argument c.loop-argument-test.true c.argument-item.is ∙ ap (λ (ts : List TheArgType). before ++ ts) single)
     ∙ sym (append_assoc done before (type ∷ [])) in
     let values = map_pushed datum_of c.loop-argument.values.items c.push.new.self.items c.in-Some.value c.in_ok-push.ensures.items in
     subst (λ (ts : List TheArgType). TheOne (InTurn ArgumentAt ts whole) (map datum_of c.push.new.self.items) c.in-Some.after.now) (sym types)
@@ -37,5 +39,26 @@ returns-in_default-clause-none c = λ done whole start.
     let behind : filter test (type ∷ others) ≡ type ∷ filter test others = cond-true (test type) (type ∷ filter test others) (filter test others) passes in
     let types : (done ++ before) ++ type ∷ filter test others ≡ done ++ filter test (map arg_type_of c.args.arguments.now)
     = append_assoc done before (type ∷ filter test others) ∙ ap (λ (ts : List TheArgType). done ++ (before ++ ts)) (sym behind)
-    ∙ ap (λ (ts : List TheArgType). done ++ ts) (filter_around test arg_type_of c.args.arguments.now c.loop-argument.argument-index argument (omega arith) c.argument-item.is) in
+    ∙ ap (λ (ts : List TheArgType). done ++ ts) (filter_around test arg_type_of c.args.arguments.now c.loop-argument.argument-index argument c.loop-argument-test.true c.argument-item.is) in
     subst (λ (ts : List TheArgType). NoneOf (InTurn ArgumentAt ts whole)) types nothing
+
+pub loop-argument-init : goal.loop-argument-init
+loop-argument-init c = λ done whole start.
+    subst (λ (ts : List TheArgType). TheOne (InTurn ArgumentAt ts whole) (map datum_of c.args.before.items) c.args.tape.now) (sym (append-nil done)) start
+
+pub loop-argument-preserved-then-not-is_in_group : goal.loop-argument-preserved-then-not-is_in_group
+loop-argument-preserved-then-not-is_in_group c = λ done whole start.
+    let argument = c.argument-item.result in
+    let type = arg_type_of argument in
+    let test = in_group c.args.group in
+    let before = filter test (map arg_type_of (take c.loop-argument.argument-index c.args.arguments.now)) in
+    let fails : test type ≡ false = sym c.is_in_group.ensures.same ∙ c.if-not-is_in_group.true in
+    let none : filter test (type ∷ []) ≡ [] = cond-false (test type) (type ∷ []) [] fails in
+    let types : filter test (map arg_type_of (take (c.loop-argument.argument-index + 1) c.args.arguments.now)) ≡ before
+    = filter_taken test arg_type_of c.args.arguments.now c.loop-argument.argument-index argument c.loop-argument-test.true c.argument-item.is ∙ ap (λ (ts : List TheArgType). before ++ ts) none ∙ append-nil before in
+    subst (λ (ts : List TheArgType). TheOne (InTurn ArgumentAt (done ++ ts) whole) (map datum_of c.loop-argument.values.items) c.loop-argument.rest.now) (sym types) (c.loop-argument.invariant done whole start)
+
+pub returns-clause-found : goal.returns-clause-found
+returns-clause-found c = λ done whole start.
+    let all = take_all c.loop-argument.argument-index c.args.arguments.now c.loop-argument-test.false in
+    subst (λ (ts : List ArgType). TheOne (InTurn ArgumentAt (done ++ filter (in_group c.args.group) (map arg_type_of ts)) whole) (map datum_of c.loop-argument.values.items) c.loop-argument.rest.now) all (c.loop-argument.invariant done whole start)

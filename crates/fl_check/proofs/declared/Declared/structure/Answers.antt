@@ -1,4 +1,4 @@
-use Rattle.std.proofs.Common.{◌∙◌, List, map, ap, refl, arith}
+use Rattle.std.proofs.Common.{◌∙◌, List, ap, refl, arith}
 use Rattle.fl_check.specs.Views.{before_of, list_of}
 use Rattle.fl_check.specs.Interface.{TheType, structure, fields_from}
 use Rattle.fl_check.specs.Known.{field_type}

@@ -13,6 +13,6 @@ returns c =
     let self = c.args.self.now in
     let i = interface_of self.interface in
     let there = found (λ (m : MessagePlan). m.placed.items) (placed_of self.plan) self.messages.items i.messages c.args.msg.0 c.in_ok-message.message.now self.laid (sym c.in_ok-message.ensures.found) in
-    let law = place_is self.plan i c.args.msg.0 there.what c.args.argument self.within there.at in
+    let law = place_is self.plan i c.args.msg.0 there.what c.args.argument self.interface.within there.at in
     let same = c.start_among.ensures.exact ∙ ap (λ (ps : List Placed). start_among c.args.argument 0 1 ps) (c.deref.ensures.value ∙ there.is) in
     record { place = subst (IsPlace self.plan i c.args.msg.0 c.args.argument) (sym same) law }

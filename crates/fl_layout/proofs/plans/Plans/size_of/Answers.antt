@@ -18,7 +18,7 @@ length_with-requires-clause-short c =
     let i = interface_of self.interface in
     let there = found (λ (m : MessagePlan). m.placed.items) (placed_of self.plan) self.messages.items i.messages c.args.call.now.msg.0 c.in-Some.message.now self.laid (sym c.in-Some.ensures.found) in
     let call = call_of c.args.call.now in
-    let sent = is_sent self.plan i call.msg there.what call self.within there.at (record { fits = c.requires.fits; names = refl }) in
+    let sent = is_sent self.plan i call.msg there.what call self.interface.within there.at (record { fits = c.requires.fits; names = refl }) in
     let short = placed_short self.plan there.what call.args sent.within sent.has in
     subst (λ (vs : List Value). list_all (is_short (map datum_of vs)) c.deref.result.now ≡ true) (sym c.deref-in-Some.ensures.value)
     (subst (λ (ps : List Placed). list_all (is_short call.args) ps ≡ true) (sym (c.deref.ensures.value ∙ there.is)) short)
@@ -29,7 +29,7 @@ returns-in-Some-clause-size c =
     let i = interface_of self.interface in
     let there = found (λ (m : MessagePlan). m.placed.items) (placed_of self.plan) self.messages.items i.messages c.args.call.now.msg.0 c.in-Some.message.now self.laid (sym c.in-Some.ensures.found) in
     let call = call_of c.args.call.now in
-    let sent = is_sent self.plan i call.msg there.what call self.within there.at (record { fits = c.requires.fits; names = refl }) in
+    let sent = is_sent self.plan i call.msg there.what call self.interface.within there.at (record { fits = c.requires.fits; names = refl }) in
     let law = sent_length self.plan i there.what call sent ∙ ap (end_of_all 0 1) (length_by self.plan there.what call.args sent.has) in
     c.length_with.ensures.exact
     ∙ ap (λ (vs : List Value). end_of_all 0 1 (map (filled_by (map datum_of vs)) c.deref.result.now)) c.deref-in-Some.ensures.value
@@ -43,4 +43,4 @@ returns-in-Some-clause-small c =
     let there = found (λ (m : MessagePlan). m.placed.items) (placed_of self.plan) self.messages.items i.messages c.args.call.now.msg.0 c.in-Some.message.now self.laid (sym c.in-Some.ensures.found) in
     let call = call_of c.args.call.now in
     subst (λ n. n ≤ 32768) (sym (returns-in-Some-clause-size c))
-    (length_small self.plan i call.msg there.what call self.within there.at (record { fits = c.requires.fits; names = refl }))
+    (length_small self.plan i call.msg there.what call self.interface.within there.at (record { fits = c.requires.fits; names = refl }))

@@ -14,6 +14,6 @@ returns-in-Some c =
     let self = c.args.self.now in
     let i = interface_of self.interface in
     let there = found (λ (m : MessagePlan). m.placed.items) (placed_of self.plan) self.messages.items i.messages c.args.msg.0 c.in-Some.message.now self.laid (sym c.in-Some.ensures.found) in
-    let law = capacity_is self.plan i c.args.msg.0 there.what self.within there.at in
+    let law = capacity_is self.plan i c.args.msg.0 there.what self.interface.within there.at in
     let same = c.tape_limit.ensures.exact ∙ ap (λ (ps : List Placed). numbers_in_all (map (filled_up Full) ps)) (c.deref.ensures.value ∙ there.is) in
     record { greatest = subst (IsGreatest (tape_length self.plan i) i c.args.msg.0) (sym same) law }

@@ -7,7 +7,7 @@ pub invariant_of-self : goal.invariant_of-self
 invariant_of-self c =
     let n : ℕ = c.self.inside.size in let i : ℕ = c.self.inside.index in
     let h : i % n + 1 ≡ n = omega arith in
-    (c.self.invariant.0, sym (place_wraps n i c.self.invariant.0 h), ap (λ x. 1 - x) c.self.invariant.2 ∙ sym (epoch_turns n i c.self.invariant.0 h))
+    (c.self.invariant.0, sym (place_wraps n i c.self.invariant.0 h), c.next_round-self-inside.ensures ∙ ap (λ x. 1 - x) c.self.invariant.2 ∙ sym (epoch_turns n i c.self.invariant.0 h))
 
 pub invariant_of-self-else-self : goal.invariant_of-self-else-self
 invariant_of-self-else-self c =

@@ -1,6 +1,7 @@
 use Rattle.std.proofs.Common.{◌≡◌, ◌+◌, ◌-◌, suc, ap, arith}
 use Rattle.std.proofs.Common.{ℕ}
 use Rattle.fl_machine.specs.declared.cursor.Cursor.{Cursor}
+use Rattle.fl_stub.specs.declared.op.Column.TheVariants.{Send}
 use Rattle.fl_machine.proofs.Turns.{length_at, counted_none, counted_turns}
 use Rattle.fl_machine.proofs.cursor.Cursor.count.Goals as goal
 
@@ -8,7 +9,7 @@ pub returns-then-turns-eq0 : goal.returns-then-turns-eq0
 returns-then-turns-eq0 c =
     counted_none c.args.ops.now c.args.tape.now c.args.self.now c.take_number-turns.new.self c.args.most c.take_number-turns.result _ c.behind-self.result
     c.requires.op c.requires.spot c.requires.idle c.take_number-turns.ensures.number c.take_number-turns.ensures.spot c.if-turns-eq0.true
-    (ap (λ (x : Cursor). x.place + 2) c.take_number-turns.ensures.rest) c.behind-self.ensures.place c.behind-self.ensures.frames
+    (ap (λ (x : Cursor). x.place + 2) c.take_number-turns.ensures.rest) (c.behind-self.ensures.place Send) (c.behind-self.ensures.frames Send)
 
 pub enter-requires : goal.enter-requires
 enter-requires c =

@@ -1,7 +1,7 @@
 use Rattle.std.proofs.Common.{◌∙◌, ap, true}
 use Rattle.fl_stub.specs.Frames.{block_of}
 use Rattle.fl_stub.proofs.Giving.{turns_into_given}
-use Rattle.fl_machine.specs.Sending.{frags_of}
+use Rattle.fl_machine.specs.Sending.{frags_holding}
 use Rattle.fl_machine.proofs.Fragments.{first_is_spot, starts}
 use Rattle.fl_machine.proofs.send.SendRun.start.Goals as goal
 
@@ -18,4 +18,4 @@ pub returns-clause-meant : goal.returns-clause-meant
 returns-clause-meant c bytes t =
     starts c.args.code.now.ops c.ops.result.now c.args.tape.items c.deref.result.now c.new-cursor.result c.settle.new.self c.args.msg.0 c.args.circuit.0
     c.ops.ensures.ops c.deref.ensures.value (c.new-cursor.ensures c.args.tape.items) c.settle.ensures.bytes
-    ∙ ap (frags_of true c.args.msg.0 c.args.circuit.0) (turns_into_given (block_of c.args.code.now.ops) c.args.tape.items bytes t)
+    ∙ ap (frags_holding true c.args.msg.0 c.args.circuit.0) (turns_into_given (block_of c.args.code.now.ops) c.args.tape.items bytes t)

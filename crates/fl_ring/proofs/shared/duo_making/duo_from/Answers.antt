@@ -1,4 +1,4 @@
-use Rattle.std.proofs.Common.{rules, ◌≡◌, ◌*◌, ◌∙◌, refl, sym, ap, length, arith, ℕ}
+use Rattle.std.proofs.Common.{rules, arith}
 use Rattle.fl_ring.proofs.SharedDuoMakes.{duo_opens}
 use Rattle.fl_ring.proofs.shared.duo_making.duo_from.Goals as goal
 

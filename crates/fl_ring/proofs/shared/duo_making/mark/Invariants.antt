@@ -1,5 +1,5 @@
 use Rattle.std.proofs.Common.{ℕ, ◌≡◌, ◌≢◌, ◌*◌, ◌+◌, ◌<◌, ◌≤◌, length}
-use Rattle.fl_link.specs.Cursor.{TheCursor, epoch_at}
+use Rattle.fl_link.specs.Cursor.{epoch_at}
 use Rattle.fl_ring.specs.Way.{epoch_in}
 use Rattle.fl_ring.proofs.shared.duo_making.mark.Given as goal
 

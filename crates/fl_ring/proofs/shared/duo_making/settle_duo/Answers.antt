@@ -1,4 +1,4 @@
-use Rattle.std.proofs.Common.{rules, ◌≡◌, ◌+◌, ◌*◌, ap, sym, ◌∙◌, ℕ, arith}
+use Rattle.std.proofs.Common.{rules, ◌≡◌, ◌*◌, ap, sym, ◌∙◌, arith}
 use Rattle.std.proofs.Common.{subst}
 use Rattle.fl_ring.specs.SharedSides.{TheSide, SidesNear, side_of_seat}
 use Rattle.fl_ring.proofs.SharedDuoMakes.{duo_joins, both_size, both_holder, settled}
@@ -10,7 +10,7 @@ join_seat-requires c =
     let one = c.one.invariant in
     let across = c.other.invariant in
     let wide : c.deref.result.now.shared.table_id.words ≡ 16 * c.one.inside.seat.me.0.size = search rules in
-    (search rules, search rules, across.1.none_held, omega (arith, one.0.some), duo_joins _ _ _ _ _ one.0.side across.0.side)
+    (search rules, search rules, across.1.none_held, omega (arith, one.0.some), duo_joins _ _ _ _ _ _ one.0.side across.0.side)
 
 pub load-requires : goal.load-requires
 load-requires c =
@@ -23,7 +23,7 @@ load-requires c =
     let same : v.size ≡ w.size = omega arith in
     let key : c.deref-2.result.now.shared.key.size ≡ v.size = search rules in
     let joined = c.join_seat.ensures.2 in
-    (search rules, omega (arith, one.0.some), duo_allows_compare _ _ _ _ _ (key ∙ sym (ap (λ m. m.0.size) joined ∙ both_size v w one.0.side)) (ap (λ m. m.0.holder) joined ∙ both_holder v w one.0.side))
+    (search rules, omega (arith, one.0.some), duo_allows_compare _ _ _ _ _ _ (key ∙ sym (ap (λ m. m.0.size) joined ∙ both_size v w one.0.side)) (ap (λ m. m.0.holder) joined ∙ both_holder v w one.0.side))
 
 pub returns-clause-there : goal.returns-clause-there
 returns-clause-there c =

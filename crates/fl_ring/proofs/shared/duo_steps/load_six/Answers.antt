@@ -1,4 +1,4 @@
-use Rattle.std.proofs.Common.{rules, ◌≡◌, ◌∙◌, refl, sym, take, length, arith, length-set}
+use Rattle.std.proofs.Common.{◌∙◌, refl, sym, take, length, arith, length-set}
 use Rattle.std.proofs.lemmas.List.{take_more_set}
 use Rattle.fl_ring.proofs.SharedDuoSteps.{duo_other_in}
 use Rattle.fl_ring.proofs.SharedRuns.{taken_length}
@@ -17,7 +17,7 @@ load-requires c =
     let seated = c.requires.seated in (
       inv.table ∙ seated.same,
       omega (arith, c.requires.first, duo_other_in m0.0.holder m0.0.size (length m0.0.mine.take.got) k _ seated.side seated.some (omega arith) seated.wide),
-      duo_loaded_after _ _ _ _ k m0 _ (take k words) inv.loaded seated.key_is seated.side (omega (arith, c.requires.first)) (taken_length k words inv.seven (omega arith)) (omega arith) c.requires.due.1,
+      duo_loaded_after _ _ _ _ _ k m0 _ (take k words) inv.loaded seated.key_is seated.side (omega (arith, c.requires.first)) (taken_length k words inv.seven (omega arith)) (omega arith) c.requires.due.1,
     )
 
 pub loop-k-preserved : goal.loop-k-preserved
@@ -28,6 +28,6 @@ loop-k-preserved c =
     let m0 = c.args.seat.now.me in
     record {
       table = c.load.ensures.0 ∙ inv.table;
-      loaded = duo_one_loaded m0 _ _ (take k words) _ _ inv.loaded c.load.ensures.2 (sym (take_more_set words k _ (omega (arith, inv.seven))));
+      loaded = duo_one_loaded m0 _ _ (take k words) _ _ inv.loaded c.load.ensures.2.0 (sym (take_more_set words k _ (omega (arith, inv.seven))));
       seven = length-set words k _ ∙ inv.seven;
     }

@@ -1,4 +1,4 @@
-use Rattle.std.proofs.Common.{◌≡◌, ◌+◌, ◌∙◌, refl, sym, ap, length, arith, ℕ}
+use Rattle.std.proofs.Common.{◌+◌, ◌∙◌, ◌≤◌, sym, ap, subst, length, arith, ℕ}
 use Rattle.fl_ring.proofs.SharedDuoSteps.{duo_other_in}
 use Rattle.fl_ring.proofs.SharedDuoRuns.{duo_peeked_last, side_sees_last, keeps_peeked}
 use Rattle.fl_ring.proofs.shared.duo_steps.peek_frag.Goals as goal
@@ -11,7 +11,7 @@ load-requires c =
     let six = c.load_six-words.ensures in (
       six.table ∙ (c.load_control.ensures.table ∙ seated.same),
       omega (arith, c.requires.first, duo_other_in m0.0.holder m0.0.size (length m0.0.mine.take.got) 6 _ seated.side seated.some (omega arith) seated.wide),
-      duo_peeked_last _ _ _ _ c.in_ok-control.control m0 _ _ c.load_six-words.result found.1 six.loaded six.seven seated.key_is seated.side (ap (λ (k : ℕ). k + 6) c.requires.first) (found.0 ∙ c.requires.due),
+      duo_peeked_last _ _ _ _ _ c.in_ok-control.control m0 _ _ c.load_six-words.result found.1 six.loaded six.seven seated.key_is seated.side (ap (λ (k : ℕ). k + 6) c.requires.first) (found.0 ∙ c.requires.due),
     )
 
 pub returns-clause-seat : goal.returns-clause-seat
@@ -26,4 +26,6 @@ returns-clause-seen c =
     let found = c.in_ok-control.ensures.found in
     let six = c.load_six-words.ensures in
     let done = c.load.ensures in
-    side_sees_last c.args.seat.now.table_id _ c.in_ok-control.control c.load.result m0 _ _ _ c.load_six-words.result found.1 six.loaded six.seven (found.0 ∙ c.requires.due) done.2.0 done.2.1 (done.0 ∙ (six.table ∙ c.load_control.ensures.table))
+    let known = c.load_control.ensures.known in
+    let known_sent = subst (λ (k : ℕ). k ≤ length m0.0.mine.put.sent) (sym known.0) known.2 in
+    side_sees_last c.args.seat.now.table_id _ c.in_ok-control.control c.load.result m0 _ _ _ c.load_six-words.result found.1 six.loaded six.seven (found.0 ∙ c.requires.due) done.2.0 done.2.1 (done.0 ∙ (six.table ∙ c.load_control.ensures.table)) known_sent

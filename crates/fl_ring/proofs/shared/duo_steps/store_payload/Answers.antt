@@ -18,7 +18,7 @@ store-requires c =
     let seven : length words ≡ 7 = search rules in (
       inv.table ∙ seated.same,
       omega (arith, c.requires.first, duo_word_in m0.0.holder m0.0.size (length m0.0.mine.put.sent) k _ seated.side seated.some (omega arith) seated.wide),
-      duo_stored_after _ _ _ _ _ k m0 _ (take k words) inv.stored seated.key_is seated.side (omega (arith, c.requires.first)) (taken_length k words seven (omega arith)) (omega arith) c.requires.room,
+      duo_stored_after _ _ _ _ _ _ k m0 _ (take k words) inv.stored seated.key_is seated.side (omega (arith, c.requires.first)) (taken_length k words seven (omega arith)) (omega arith) c.requires.room,
     )
 
 pub loop-k-preserved : goal.loop-k-preserved
@@ -30,5 +30,5 @@ loop-k-preserved c =
     let seven : length words ≡ 7 = search rules in
     record {
       table = c.store.ensures.0 ∙ inv.table;
-      stored = duo_one_stored m0 _ _ (take k words) _ _ inv.stored c.store.ensures.2 (sym (take_more words k 0 (omega arith)));
+      stored = duo_one_stored m0 _ _ (take k words) _ _ inv.stored c.store.ensures.2.0 (sym (take_more words k 0 (omega arith)));
     }

@@ -1,4 +1,4 @@
-use Rattle.std.proofs.Common.{rules, ◌≡◌, ◌∙◌, refl, sym, ap, length, arith, ℕ}
+use Rattle.std.proofs.Common.{rules, arith}
 use Rattle.fl_ring.proofs.SharedMakes.{opens}
 use Rattle.fl_ring.proofs.shared.making.ring.Goals as goal
 

@@ -1,4 +1,4 @@
-use Rattle.std.proofs.Common.{rules, ◌≡◌, ◌∙◌, refl, sym, ap, length, arith, ℕ}
+use Rattle.std.proofs.Common.{ap, arith}
 use Rattle.fl_ring.proofs.SharedMakes.{splits}
 use Rattle.fl_ring.proofs.shared.making.sides_of.Goals as goal
 

@@ -1,4 +1,4 @@
-use Rattle.std.proofs.Common.{rules, ◌≡◌, ◌+◌, ◌∙◌, refl, sym, ap, length, arith, ℕ}
+use Rattle.std.proofs.Common.{◌+◌, ap, length, arith, ℕ}
 use Rattle.fl_ring.proofs.SharedSteps.{word_in, allows_control}
 use Rattle.fl_ring.proofs.shared.reads.load_control.Goals as goal
 

@@ -1,4 +1,4 @@
-use Rattle.std.proofs.Common.{rules, ◌≡◌, ◌∙◌, refl, sym, take, length, arith, length-set}
+use Rattle.std.proofs.Common.{◌∙◌, refl, sym, take, length, arith, length-set}
 use Rattle.std.proofs.lemmas.List.{take_more_set}
 use Rattle.fl_ring.proofs.SharedSteps.{word_in}
 use Rattle.fl_ring.proofs.SharedRuns.{none_loaded, one_loaded, allows_loaded_after, taken_length}
@@ -27,6 +27,6 @@ loop-k-preserved c =
     let m0 = c.args.seat.now.me in
     record {
       table = c.load.ensures.0 ∙ inv.table;
-      loaded = one_loaded m0 _ _ (take k words) _ _ inv.loaded c.load.ensures.2 (sym (take_more_set words k _ (omega (arith, inv.seven))));
+      loaded = one_loaded m0 _ _ (take k words) _ _ inv.loaded c.load.ensures.2.0 (sym (take_more_set words k _ (omega (arith, inv.seven))));
       seven = length-set words k _ ∙ inv.seven;
     }

@@ -1,4 +1,4 @@
-use Rattle.std.proofs.Common.{◌≡◌, ◌+◌, ◌∙◌, refl, sym, ap, length, arith, ℕ}
+use Rattle.std.proofs.Common.{◌+◌, ◌∙◌, ap, length, arith, ℕ}
 use Rattle.fl_ring.proofs.SharedSteps.{word_in}
 use Rattle.fl_ring.proofs.SharedLooks.{allows_peeked_last, sees_last}
 use Rattle.fl_ring.proofs.shared.reads.peek_frag.Goals as goal

@@ -1,4 +1,4 @@
-use Rattle.std.proofs.Common.{◌≡◌, ◌+◌, ◌∙◌, refl, sym, ap, length, arith, ℕ}
+use Rattle.std.proofs.Common.{◌+◌, ◌∙◌, ap, length, arith, ℕ}
 use Rattle.fl_ring.proofs.SharedSteps.{word_in}
 use Rattle.fl_ring.proofs.SharedLooks.{allows_taken_last, gets_last, got_few}
 use Rattle.fl_ring.proofs.shared.reads.take_frag.Goals as goal

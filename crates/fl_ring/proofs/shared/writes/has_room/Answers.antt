@@ -1,4 +1,4 @@
-use Rattle.std.proofs.Common.{rules, ◌≡◌, ◌*◌, ◌∙◌, refl, sym, ap, length, arith, ℕ}
+use Rattle.std.proofs.Common.{◌*◌, sym, ap, arith, ℕ}
 use Rattle.fl_ring.proofs.SharedSteps.{allows_known}
 use Rattle.fl_ring.proofs.shared.writes.has_room.Goals as goal
 

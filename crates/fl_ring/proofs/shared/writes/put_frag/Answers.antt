@@ -1,4 +1,4 @@
-use Rattle.std.proofs.Common.{rules, ◌≡◌, ◌∙◌, refl, sym, length, arith}
+use Rattle.std.proofs.Common.{rules, ◌≡◌, ◌∙◌, length, arith}
 use Rattle.fl_ring.proofs.SharedSteps.{word_in}
 use Rattle.fl_ring.proofs.SharedRuns.{allows_put_after, all_put}
 use Rattle.fl_ring.proofs.shared.writes.put_frag.Goals as goal
@@ -17,5 +17,5 @@ store-requires c =
 pub returns : goal.returns
 returns c = record {
   table = c.store.ensures.0 ∙ c.store_payload.ensures.table;
-  sent = all_put c.args.seat.now.me _ _ c.args.frag.now c.store_payload.ensures.stored c.store.ensures.2;
+  sent = all_put c.args.seat.now.me _ _ c.args.frag.now c.store_payload.ensures.stored c.store.ensures.2.0;
 }

@@ -1,7 +1,7 @@
 use Rattle.std.proofs.Common.{rules, ◌≡◌, ◌∙◌, refl, sym, take, length, arith}
 use Rattle.std.proofs.lemmas.List.{take_more}
 use Rattle.fl_ring.proofs.SharedSteps.{word_in}
-use Rattle.fl_ring.proofs.SharedRuns.{none_stored, one_stored, allows_stored_after, taken_length, taken_all}
+use Rattle.fl_ring.proofs.SharedRuns.{none_stored, one_stored, allows_stored_after, taken_length}
 use Rattle.fl_ring.proofs.shared.writes.store_payload.Goals as goal
 
 pub loop-k-init : goal.loop-k-init
@@ -29,5 +29,5 @@ loop-k-preserved c =
     let seven : length words ≡ 7 = search rules in
     record {
       table = c.store.ensures.0 ∙ inv.table;
-      stored = one_stored m0 _ _ (take k words) _ _ inv.stored c.store.ensures.2 (sym (take_more words k 0 (omega arith)));
+      stored = one_stored m0 _ _ (take k words) _ _ inv.stored c.store.ensures.2.0 (sym (take_more words k 0 (omega arith)));
     }

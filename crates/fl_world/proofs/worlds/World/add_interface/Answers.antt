@@ -1,4 +1,4 @@
-use Rattle.std.proofs.Common.{◌≡◌, ◌<◌, sym, ◌∙◌, ap, length, map, vec_len, arith}
+use Rattle.std.proofs.Common.{◌≡◌, ◌<◌, ◌∙◌, ap, length, map, vec_len, arith}
 use Rattle.std.proofs.lemmas.List.{map-append, length-map}
 use Rattle.fl_check.specs.Interface.{interface_of}
 use Rattle.fl_world.specs.Contents.{entry_of, contents_of}

@@ -1,4 +1,4 @@
-use Rattle.std.proofs.Common.{rules, ◌≡◌, ◌+◌, ◌*◌, ap, sym, ◌∙◌, length, arith, ℕ}
+use Rattle.std.proofs.Common.{rules, ◌≡◌, ◌+◌, ◌*◌, ap, arith, ℕ}
 use Rattle.fl_ring.proofs.SharedSteps.{allows_told}
 use Rattle.fl_ring.proofs.shared.rx.RingRx.tell.Goals as goal
 

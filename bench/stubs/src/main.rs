@@ -1,0 +1,251 @@
+//! Stub code: a call's fragments by runs of send code, beside the proved encoder and beside plain Rust, in one run.
+//!
+//! The sides take turns. Each figure is a median, in nanoseconds for a call.
+
+#[allow(dead_code)]
+#[path = "../../calls/src/plain.rs"]
+mod calls;
+mod plain;
+
+use calls::{ArgType, Call, Interface, Scalar, Type, Value};
+use plain::{Op, Stub};
+use std::env;
+use std::hint::black_box;
+use std::time::Instant;
+
+// A `&[u8]` crosses as a pointer and a length. The answer is a sum over what was given.
+type Proved = unsafe extern "C" fn(*const u8, usize, *const u8, usize, bool, u64) -> u64;
+
+extern "C" {
+    fn stubs_bench_give(text: *const u8, len: usize, call: *const u8, call_len: usize, second: bool, count: u64) -> u64;
+    fn stubs_bench_send(text: *const u8, len: usize, call: *const u8, call_len: usize, second: bool, count: u64) -> u64;
+    fn stubs_bench_encode(text: *const u8, len: usize, call: *const u8, call_len: usize, second: bool, count: u64) -> u64;
+}
+
+/// One side of a comparison.
+#[derive(Clone, Copy)]
+enum Side {
+    Proved(Proved),
+    Plain(fn(&Stub, u64) -> u64),
+}
+
+/// What is timed: our side, and those that it is compared with. They all give the same fragments.
+struct Work {
+    name: &'static str,
+    ours: Side,
+    others: &'static [(&'static str, Side)],
+}
+
+// Receiving: a line each for taking (fragments to a tape) and reading (fragments to a call).
+const WORK: [Work; 2] = [
+    Work {
+        name: "a tape to fragments",
+        ours: Side::Proved(stubs_bench_give),
+        others: &[("plain machine", Side::Plain(plain::give))],
+    },
+    Work {
+        name: "a call to fragments",
+        ours: Side::Proved(stubs_bench_send),
+        others: &[
+            ("plain machine", Side::Plain(plain::send)),
+            ("proved encoder", Side::Proved(stubs_bench_encode)),
+            ("plain encoder", Side::Plain(plain::encode)),
+        ],
+    },
+];
+
+// How many fragments a timed stretch gives, and how many stretches there are.
+const FRAGS: u64 = 2_000;
+const RUNS: usize = 401;
+
+/// A message and a call of it, as text and for the plain side.
+struct Row {
+    name: &'static str,
+    interface: &'static str,
+    call: String,
+    frags: u64,
+    stub: Stub,
+}
+
+fn fixed(scalar: Scalar) -> ArgType {
+    ArgType::Fixed(Type::Scalar(scalar))
+}
+
+fn ints(numbers: impl IntoIterator<Item = i128>) -> Vec<Value> {
+    numbers.into_iter().map(Value::Int).collect()
+}
+
+fn listed<T: ToString>(items: impl IntoIterator<Item = T>) -> String {
+    items.into_iter().map(|item| item.to_string()).collect::<Vec<_>>().join(", ")
+}
+
+fn one_message(args: Vec<ArgType>, values: Vec<Value>, send: Vec<Op>) -> Stub {
+    Stub::new(Interface { messages: vec![args] }, Call { msg: 0, args: values }, send)
+}
+
+fn scalars() -> Row {
+    let numbers: [i128; 8] = [7, 1, -300, 70_000, 0x0123_4567_89ab_cdef, -5, 250, 40_000];
+    let types = [
+        Scalar::Unsigned(1),
+        Scalar::Bool,
+        Scalar::Signed(2),
+        Scalar::Unsigned(4),
+        Scalar::Unsigned(8),
+        Scalar::Signed(8),
+        Scalar::Unsigned(1),
+        Scalar::Unsigned(2),
+    ];
+    let send = vec![
+        Op::Emit(1),
+        Op::Emit(1),
+        Op::Emit(2),
+        Op::Emit(4),
+        Op::Emit(8),
+        Op::Emit(8),
+        Op::Emit(1),
+        Op::Pad(1),
+        Op::Emit(2),
+        Op::End,
+    ];
+    Row {
+        name: "eight scalars of 1 to 8 bytes",
+        interface: "interface i { message m(uint8 a, bool b, int16 c, uint32 d, uint64 e, int64 f, uint8 g, uint16 h); }",
+        call: format!("m({})", listed(numbers)),
+        frags: 1,
+        stub: one_message(types.map(fixed).into(), ints(numbers), send),
+    }
+}
+
+fn text() -> Row {
+    let text: Vec<u8> = (0..2_047).map(|k| b'a' + (k % 26) as u8).collect();
+    let send = vec![Op::Align, Op::Length, Op::Each, Op::Emit(1), Op::Back, Op::End];
+    Row {
+        name: "a string of 2,047 bytes",
+        interface: "interface i { message m(string s); }",
+        call: format!("m(\"{}\")", String::from_utf8_lossy(&text)),
+        frags: 37,
+        stub: one_message(vec![ArgType::Text(2_047)], vec![Value::Text(text)], send),
+    }
+}
+
+fn numbers() -> Row {
+    let numbers = || (1..=512).map(|k: i128| k * 0x0012_3456_789a);
+    let send = vec![Op::Align, Op::Length, Op::Each, Op::Emit(8), Op::Back, Op::End];
+    Row {
+        name: "an array of 512 uint64",
+        interface: "interface i { message m(uint64 x[n, 512]); }",
+        call: format!("m([{}])", listed(numbers())),
+        frags: 74,
+        stub: one_message(
+            vec![ArgType::Sized(512, Type::Scalar(Scalar::Unsigned(8)))],
+            vec![Value::List(ints(numbers()))],
+            send,
+        ),
+    }
+}
+
+fn structs() -> Row {
+    let fields = |k: i128| [k % 200, k * 1_000_003, -k, k % 60_000, k % 7];
+    let pair = Type::Array(2, Box::new(Type::Scalar(Scalar::Unsigned(2))));
+    let scalar = |scalar| Type::Scalar(scalar);
+    let ty = Type::Struct(vec![scalar(Scalar::Unsigned(1)), scalar(Scalar::Unsigned(8)), scalar(Scalar::Signed(4)), pair]);
+    let send = vec![
+        Op::Align,
+        Op::Length,
+        Op::Each,
+        Op::Emit(1),
+        Op::Pad(7),
+        Op::Emit(8),
+        Op::Emit(4),
+        Op::Times(2),
+        Op::Emit(2),
+        Op::Back,
+        Op::Back,
+        Op::End,
+    ];
+    let value = |k| {
+        let [a, b, c, d, e] = fields(k);
+        let [a, b, c] = [a, b, c].map(Value::Int);
+        Value::Fields(vec![a, b, c, Value::List(ints([d, e]))])
+    };
+    let written = |k| {
+        let [a, b, c, d, e] = fields(k);
+        format!("{{{a}, {b}, {c}, [{d}, {e}]}}")
+    };
+    Row {
+        name: "an array of 100 structs of uint8, uint64, int32, uint16[2]",
+        interface: "interface i {
+            typedef uint16 pair[2];
+            typedef struct { uint8 a; uint64 b; int32 c; pair d; } t;
+            message m(t x[n, 100]);
+        }",
+        call: format!("m([{}])", listed((1..=100).map(written))),
+        frags: 43,
+        stub: one_message(
+            vec![ArgType::Sized(100, ty)],
+            vec![Value::List((1..=100).map(value).collect())],
+            send,
+        ),
+    }
+}
+
+/// The sum over the fragments of so many calls.
+fn run(side: Side, row: &Row, count: u64) -> u64 {
+    match side {
+        Side::Proved(work) => {
+            let (text, call) = (row.interface.as_bytes(), row.call.as_bytes());
+            // The library asks nothing of the texts, and reads them during the call alone.
+            unsafe { work(text.as_ptr(), text.len(), call.as_ptr(), call.len(), false, count) }
+        }
+        Side::Plain(work) => work(black_box(&row.stub), count),
+    }
+}
+
+fn seconds(side: Side, row: &Row, count: u64) -> f64 {
+    let start = Instant::now();
+    black_box(run(side, row, count));
+    start.elapsed().as_secs_f64()
+}
+
+fn median(mut times: Vec<f64>) -> f64 {
+    times.sort_by(f64::total_cmp);
+    times[times.len() / 2]
+}
+
+// What a call takes: the proved side reads its texts once in a stretch, and these are timed alone and left out.
+fn nanoseconds(side: Side, row: &Row, count: u64) -> f64 {
+    let texts = match side {
+        Side::Proved(_) => seconds(side, row, 0),
+        Side::Plain(_) => 0.0,
+    };
+    (seconds(side, row, count) - texts) * 1e9 / count as f64
+}
+
+fn main() {
+    println!("medians of {RUNS} stretches, nanoseconds for a call; a ratio above 1 says that send code is faster");
+    // one row by a word of its name, or all
+    let word = env::args().nth(1).unwrap_or_default();
+    for row in [scalars(), text(), numbers(), structs()].into_iter().filter(|row| row.name.contains(&word)) {
+        println!("{}", row.name);
+        let count = FRAGS / row.frags;
+        for work in WORK {
+            let sides: Vec<Side> = [work.ours].into_iter().chain(work.others.iter().map(|other| other.1)).collect();
+            let wanted = run(sides[0], &row, count);
+            assert_ne!(wanted, 0, "the texts were refused");
+            let mut times = vec![Vec::new(); sides.len()];
+            for _ in 0..RUNS {
+                for (side, times) in sides.iter().zip(&mut times) {
+                    times.push(nanoseconds(*side, &row, count));
+                }
+            }
+            for side in &sides {
+                assert_eq!(run(*side, &row, count), wanted, "the sides gave other fragments");
+            }
+            let times: Vec<f64> = times.into_iter().map(median).collect();
+            println!("{:>24}: send code {:9.1}", work.name, times[0]);
+            for ((name, _), time) in work.others.iter().zip(&times[1..]) {
+                println!("{:>24}  {name} {time:9.1}   ratio {:.2}", "", time / times[0]);
+            }
+        }
+    }
+}

@@ -1,0 +1,137 @@
+use Rattle.std.proofs.Common.{◌≡◌, ◌≤◌, ◌++◌, ℕ, List, length, take, refl, sym, ◌∙◌, subst, arith}
+use Rattle.std.proofs.lemmas.List.{length-take-le}
+use Rattle.std.proofs.lemmas.Result.{IfOk-weaker, IfErr-weaker, err_from_is_err_and}
+use Rattle.fl_stub.specs.declared.mark.Mark.{Mark}
+use Rattle.fl_stub.specs.Frames.{block_of}
+use Rattle.fl_stub.specs.Streams.{LeavesPayloads}
+use Rattle.fl_machine.specs.Taking.{IsFed, Stands, words_bytes}
+use Rattle.fl_machine.proofs.Intakes.{fed_first, stands_after, begins_after, payload_whole, payload_wrong, payload_ends, counted_tape, nothing_left, take_kept}
+use Rattle.fl_machine.proofs.intake.Intake.take_words.Goals as goal
+
+pub resume-requires : goal.resume-requires
+resume-requires c = (_, c.requires.stands.0, c.requires.stands.1)
+
+pub loop-used-init : goal.loop-used-init
+loop-used-init c =
+    let same = c.resume.ensures.count in
+    let long : c.args.self.now.count ≤ length c.args.tape.now = counted_tape c.args.ops.now c.args.tape.now c.args.self.now c.requires.stands.0 c.requires.stands.1 in (
+      omega arith,
+      c.resume.ensures.settled,
+      omega (arith, same),
+      omega (arith, same, long),
+      refl,
+      refl,
+      λ bytes s.
+          subst (λ (left : List ℕ). IsFed c.args.ops.now (take c.resume.new.self.count c.args.tape.now) c.resume.new.self (bytes ++ words_bytes c.args.words.now) left) (sym c.filled-buffer.ensures)
+          (fed_first c.args.ops.now (take c.resume.new.self.count c.args.tape.now) bytes (words_bytes c.args.words.now) c.resume.new.self
+          (subst (λ (k : ℕ). Stands c.args.ops.now (take k c.args.tape.now) c.resume.new.self bytes) (sym same) (c.resume.ensures.stands (take c.args.self.now.count c.args.tape.now) bytes s))),
+    )
+
+pub field-requires-clause-stance : goal.field-requires-clause-stance
+field-requires-clause-stance c = (c.loop-used.invariant.6 c.requires.stands.0 c.requires.stands.1).at.stance
+
+pub returns-in_default-clause-part : goal.returns-in_default-clause-part
+returns-in_default-clause-part c = IfOk-weaker c.end_of.result _ _ (λ fed h e. let z = sym h.0 ∙ e in absurd (cc)) c.end_of.ensures.whole
+
+pub returns-in_default-clause-whole : goal.returns-in_default-clause-whole
+returns-in_default-clause-whole c =
+    let long : length c.filled-buffer.result ≡ 64 = omega arith in
+    IfOk-weaker c.end_of.result _ _
+    (λ fed h e bytes s. payload_whole c.args.ops.now (take c.loop-used.self.count c.loop-used.tape) c.loop-used.self (bytes ++ words_bytes c.args.words.now) c.filled-buffer.result c.loop-used.used
+    (c.loop-used.invariant.6 bytes s) c.in_default.ensures.none long h.1)
+    c.end_of.ensures.whole
+
+pub returns-in_default-clause-wrong : goal.returns-in_default-clause-wrong
+returns-in_default-clause-wrong c =
+    let long : length c.filled-buffer.result ≡ 64 = omega arith in
+    IfErr-weaker c.end_of.result _ _
+    (λ mark h bytes s. subst (λ (m : Mark). LeavesPayloads (block_of c.args.ops.now) (bytes ++ words_bytes c.args.words.now) m) (sym h.0)
+    (payload_wrong c.args.ops.now (take c.loop-used.self.count c.loop-used.tape) c.loop-used.self (bytes ++ words_bytes c.args.words.now) c.filled-buffer.result c.loop-used.used
+    (c.loop-used.invariant.6 bytes s) c.in_default.ensures.none long h.1))
+    c.end_of.ensures.wrong
+
+pub returns-in_default-clause-kept : goal.returns-in_default-clause-kept
+returns-in_default-clause-kept c = c.loop-used.invariant.5
+
+pub take_run-start-requires-clause-fed : goal.take_run-start-requires-clause-fed
+take_run-start-requires-clause-fed c = (_, c.loop-used.invariant.6 c.requires.stands.0 c.requires.stands.1)
+
+pub take_run-start-requires-clause-tape : goal.take_run-start-requires-clause-tape
+take_run-start-requires-clause-tape c t full turns = let less = c.requires.room t full turns in let long = c.loop-used.invariant.4 in omega (arith, less, long)
+
+pub take_field-requires-clause-fed : goal.take_field-requires-clause-fed
+take_field-requires-clause-fed c = (_, c.take_run-start.ensures.fed _ (c.loop-used.invariant.6 c.requires.stands.0 c.requires.stands.1))
+
+pub take_field-requires-clause-tape : goal.take_field-requires-clause-tape
+take_field-requires-clause-tape c t full turns =
+    let less = c.requires.room t full turns in
+    let long = c.loop-used.invariant.4 in
+    let same = c.take_run-start.ensures.long in
+    omega (arith, less, long, same)
+
+pub returns-in_err-used-clause-wrong : goal.returns-in_err-used-clause-wrong
+returns-in_err-used-clause-wrong c =
+    let p = err_from_is_err_and c.from_residual.result c.from_residual.ensures.1 in
+    rw (p.1, p.2) (λ bytes s. c.in_err-used.ensures.wrong (bytes ++ words_bytes c.args.words.now) (c.take_run-start.ensures.fed _ (c.loop-used.invariant.6 bytes s)))
+
+pub returns-in_err-used-clause-kept : goal.returns-in_err-used-clause-kept
+returns-in_err-used-clause-kept c =
+    let low = c.loop-used.invariant.2 in
+    let more = c.take_run-start.ensures.count.0 in
+    take_kept c.args.self.now.count c.take_run-start.new.self.count c.take_field.new.tape c.take_run-start.new.tape (omega (arith, low, more)) c.take_field.ensures.kept
+    ∙ take_kept c.args.self.now.count c.loop-used.self.count c.take_run-start.new.tape c.loop-used.tape low c.take_run-start.ensures.kept
+    ∙ c.loop-used.invariant.5
+
+pub loop-used-preserved : goal.loop-used-preserved
+loop-used-preserved c =
+    let less = c.loop-used.invariant.2 in
+    let run = c.take_run-start.ensures.count.0 in
+    let more = c.in_ok-used.ensures.count.0 in (
+      c.in_ok-used.ensures.end.1,
+      c.in_ok-used.ensures.settled,
+      omega (arith, less, run, more),
+      c.in_ok-used.ensures.count.1,
+      c.in_ok-used.ensures.long ∙ c.take_run-start.ensures.long ∙ c.loop-used.invariant.4,
+      take_kept c.args.self.now.count c.take_run-start.new.self.count c.take_field.new.tape c.take_run-start.new.tape (omega (arith, less, run)) c.in_ok-used.ensures.kept
+          ∙ take_kept c.args.self.now.count c.loop-used.self.count c.take_run-start.new.tape c.loop-used.tape less c.take_run-start.ensures.kept
+          ∙ c.loop-used.invariant.5,
+      λ bytes s. c.in_ok-used.ensures.fed (bytes ++ words_bytes c.args.words.now) (c.take_run-start.ensures.fed _ (c.loop-used.invariant.6 bytes s)),
+    )
+
+pub returns-in-Some-field-clause-part : goal.returns-in-Some-field-clause-part
+returns-in-Some-field-clause-part c e bytes s =
+    let fed = c.loop-used.invariant.6 bytes s in
+    let none = nothing_left c.filled-buffer.result c.loop-used.used c.loop-used-test.false in
+    let long = c.loop-used.invariant.3 in (
+      stands_after c.args.ops.now (take c.loop-used.self.count c.loop-used.tape) c.loop-used.self (bytes ++ words_bytes c.args.words.now) _ fed none (length-take-le c.loop-used.self.count c.loop-used.tape long),
+      begins_after c.args.ops.now (take c.loop-used.self.count c.loop-used.tape) c.loop-used.self (bytes ++ words_bytes c.args.words.now) _ c.in-Some-field.field-0 fed c.in-Some-field.ensures.some none,
+    )
+
+pub returns-in-None-clause-whole : goal.returns-in-None-clause-whole
+returns-in-None-clause-whole c e bytes s =
+    payload_ends c.args.ops.now (take c.loop-used.self.count c.loop-used.tape) c.loop-used.self (bytes ++ words_bytes c.args.words.now) _ (c.loop-used.invariant.6 bytes s) c.in-None.ensures.none
+    (nothing_left c.filled-buffer.result c.loop-used.used c.loop-used-test.false)
+
+pub returns-in_default-clause-grows : goal.returns-in_default-clause-grows
+returns-in_default-clause-grows c = c.loop-used.invariant.2
+
+pub returns-in_default-clause-within : goal.returns-in_default-clause-within
+returns-in_default-clause-within c = c.loop-used.invariant.3
+
+pub returns-in_err-used-clause-grows : goal.returns-in_err-used-clause-grows
+returns-in_err-used-clause-grows c = let less = c.loop-used.invariant.2 in let run = c.take_run-start.ensures.count.0 in let more = c.take_field.ensures.count.0 in omega (arith, less, run, more)
+
+pub returns-in_err-used-clause-within : goal.returns-in_err-used-clause-within
+returns-in_err-used-clause-within c = c.take_field.ensures.count.1
+
+pub returns-in-Some-field-clause-grows : goal.returns-in-Some-field-clause-grows
+returns-in-Some-field-clause-grows c = c.loop-used.invariant.2
+
+pub returns-in-Some-field-clause-within : goal.returns-in-Some-field-clause-within
+returns-in-Some-field-clause-within c = c.loop-used.invariant.3
+
+pub returns-in-None-clause-grows : goal.returns-in-None-clause-grows
+returns-in-None-clause-grows c = c.loop-used.invariant.2
+
+pub returns-in-None-clause-within : goal.returns-in-None-clause-within
+returns-in-None-clause-within c = c.loop-used.invariant.3

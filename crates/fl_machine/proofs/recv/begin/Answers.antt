@@ -1,0 +1,30 @@
+use Rattle.std.proofs.Common.{◌≡◌, ℕ, ◌*◌, ◌/◌, ◌%◌, ◌^◌, inl, inr, Some, None, refl, sym, ◌∙◌, ap, subst, true, [], rules}
+use Rattle.fl_base.specs.Control.{control_word, message_of}
+use Rattle.fl_check.specs.Interface.{interface_of, TheInterface}
+use Rattle.fl_wire.specs.Wrong.{start_fault}
+use Rattle.fl_wire.proofs.Frames.{start_control}
+use Rattle.fl_machine.proofs.Feeding.{refused, none_begun, err_weaker}
+use Rattle.fl_machine.proofs.recv.begin.Goals as goal
+
+pub returns-in-Some-clause-wrong : goal.returns-in-Some-clause-wrong
+returns-in-Some-clause-wrong c =
+    let p = c.args.program.now in
+    refused p.plan (interface_of p.interface) [] c.args.frag.now c.in-Some.fault p.interface.within p.words (inl refl)
+    (inl (ap (λ (i : TheInterface). start_fault i c.args.frag.now) (sym c.interface-interface.ensures.interface) ∙ sym c.in-Some.ensures.fault))
+
+pub take_in-requires-clause-begun : goal.take_in-requires-clause-begun
+take_in-requires-clause-begun c =
+    let p = c.args.program.now in
+    let none : start_fault (interface_of p.interface) c.args.frag.now ≡ None = search rules in
+    none_begun p.plan (interface_of p.interface) c.args.tape.now _ c.args.frag.now p.interface.within p.words none c.msg.ensures refl c.new.ensures
+
+pub take_in-requires-clause-control : goal.take_in-requires-clause-control
+take_in-requires-clause-control c =
+    let p = c.args.program.now in
+    let none : start_fault (interface_of p.interface) c.args.frag.now ≡ None = search rules in
+    start_control (interface_of p.interface) c.args.frag.now none ∙ ap (λ (m : ℕ). control_word true m 0) (sym c.msg.ensures)
+
+pub returns-clause-wrong : goal.returns-clause-wrong
+returns-clause-wrong c =
+    let p = c.args.program.now in
+    err_weaker c.take_in.result _ _ (λ fault first. refused p.plan (interface_of p.interface) [] c.args.frag.now fault p.interface.within p.words (inl refl) first) c.take_in.ensures.wrong

@@ -1,0 +1,201 @@
+-- What a run of receive code was fed: fragments, each list a function of what the run stores.
+use Rattle.std.specs.Prelude.{◌≡◌, ◌⊎◌, ℕ, ◌*◌, ◌<◌, ◌≤◌, true, Bool, if◌then◌else◌, List, [], ◌∷◌, ◌++◌, map, take, length, slice_get, slice_index, Option, Some, None, Result, Ok, Err}
+use Rattle.std.specs.Option.{option_map}
+use Rattle.std.specs.List.{range_with_len}
+use Rattle.fl_base.specs.declared.fragment.Frag.{Frag}
+use Rattle.fl_check.specs.Interface.{TheMessage, TheInterface}
+use Rattle.fl_value.specs.declared.value.PlanNo.{PlanNo}
+use Rattle.fl_value.specs.Value.{TheCall}
+use Rattle.fl_value.specs.Fits.{fits_of}
+use Rattle.fl_value.specs.Tape.{tape_of}
+use Rattle.fl_layout.specs.Layouts.{tape_length}
+use Rattle.fl_wire.specs.Reading.{plain, Means, IsPart, IsWrong}
+use Rattle.fl_wire.specs.Wrong.{HasFault}
+use Rattle.fl_wire.specs.declared.fault.WireFault.{WireFault}
+use Rattle.fl_stub.specs.declared.op.Column.TheVariants.{Receive}
+use Rattle.fl_stub.specs.Structure.{Block, finished}
+use Rattle.fl_stub.specs.Given.{bytes_given}
+use Rattle.fl_stub.specs.Streams.{BeginsPayload}
+use Rattle.fl_compile.specs.Compiled.{message_block, message_code}
+use Rattle.fl_compile.specs.declared.program.Program.{Program}
+use Rattle.fl_compile.specs.Programs.{program_of}
+use Rattle.fl_machine.specs.Sending.{frag_of, frags_holding}
+use Rattle.fl_machine.specs.Taking.{Stands, so_far}
+use Rattle.fl_machine.specs.declared.recv.Begun.{Begun}
+use Rattle.fl_machine.specs.declared.recv.Ended.{Ended}
+use Rattle.fl_machine.specs.declared.recv.Stand.{Stand}
+use Rattle.fl_machine.specs.declared.recv.Stand.TheVariants.{Between, Inside, After}
+use Rattle.fl_machine.specs.declared.recv.Before.{Before}
+use Rattle.fl_machine.specs.declared.recv.Stored.{Stored}
+use Rattle.fl_machine.specs.declared.intake.Fed.{Fed}
+use Rattle.fl_machine.specs.declared.intake.Fed.TheVariants.{Part, Whole}
+
+-- ---- the view
+
+-- the fragments fed since the last whole call, and those of the call that the last one fed made whole (none if it
+-- didn't); without their epochs and what they told
+pub record TheHeld : Type 0 where
+  pub parts : List Frag
+  pub whole : List Frag
+
+-- what contracts see of a receive run; `before` is what was fed before the last accepted feed, where that isn't undone
+pub record TheReceiving : Type 0 where
+  pub program : Program
+  pub parts : List Frag
+  pub whole : List Frag
+  pub before : Option TheHeld
+
+abbrev pub interface_in : TheReceiving → TheInterface
+interface_in r = (program_of r.program).interface
+
+abbrev pub plan_in : TheReceiving → PlanNo
+plan_in r = (program_of r.program).plan
+
+abbrev pub fed_by : TheReceiving → TheHeld
+fed_by r = record { parts = r.parts; whole = r.whole }
+
+-- the structure of a message's receive code; of none where there is no such message
+abbrev pub block_for : PlanNo → Option TheMessage → Block
+block_for plan None = finished
+block_for plan (Some m) = message_block Receive plan m
+
+abbrev pub block_at : PlanNo → TheInterface → ℕ → Block
+block_at plan i msg = block_for plan (slice_get i.messages msg)
+
+-- the first so many fragments of a call whose payload begins with these bytes
+abbrev pub frags_begun : ℕ → List ℕ → ℕ → List Frag
+frags_begun msg bytes count = map (frag_of true msg 0 bytes) (range_with_len 0 count)
+
+-- what the code gives back for the numbers taken so far begins with the bytes fed
+abbrev pub parts_of : PlanNo → TheInterface → List ℕ → Begun → List Frag
+parts_of plan i tape b = frags_begun b.msg.0 (bytes_given (block_at plan i b.msg.0) (so_far (take b.intake.count tape) b.intake)) b.fed
+
+abbrev pub whole_of : PlanNo → TheInterface → List ℕ → Ended → List Frag
+whole_of plan i tape e = frags_holding true e.msg.0 0 (bytes_given (block_at plan i e.msg.0) (take e.count tape))
+
+abbrev pub fed_of : PlanNo → TheInterface → List ℕ → Stand → TheHeld
+fed_of plan i tape Between = record { parts = []; whole = [] }
+fed_of plan i tape (Inside b) = record { parts = parts_of plan i tape b; whole = [] }
+fed_of plan i tape (After e) = record { parts = []; whole = whole_of plan i tape e }
+
+-- the tape of what was before: another where the last accepted feed began a call
+abbrev pub tape_before : List ℕ → List ℕ → Before → List ℕ
+tape_before tape spare b = if b.began then spare else tape
+
+abbrev pub fed_before : PlanNo → TheInterface → List ℕ → List ℕ → Option Before → Option TheHeld
+fed_before plan i tape spare o = option_map (λ (b : Before). fed_of plan i (tape_before tape spare b) b.stand) o
+
+-- what a run stores beside its program: three tapes, where it stands and what stood before
+pub record TheStored : Type 0 where
+  pub tape : List ℕ
+  pub spare : List ℕ
+  pub fresh : List ℕ
+  pub stand : Stand
+  pub before : Option Before
+
+abbrev pub stored_of : Stored → TheStored
+stored_of s = record { tape = s.tape.items; spare = s.spare.items; fresh = s.fresh.items; stand = s.stand; before = s.before }
+
+abbrev pub receiving : Program → TheStored → TheReceiving
+receiving program s = record {
+  program = program;
+  parts = (fed_of (program_of program).plan (program_of program).interface s.tape s.stand).parts;
+  whole = (fed_of (program_of program).plan (program_of program).interface s.tape s.stand).whole;
+  before = fed_before (program_of program).plan (program_of program).interface s.tape s.spare s.before;
+}
+
+-- ---- what feeding comes to
+
+-- the fragment goes on with a call, and doesn't end it
+pub record AddsPart (plan : PlanNo) (i : TheInterface) (parts : List Frag) (f : Frag) (t : TheHeld) : Type 0 where
+  pub part : IsPart plan i (parts ++ f ∷ [])
+  pub parts_are : t.parts ≡ parts ++ plain f ∷ []
+  pub whole_is : t.whole ≡ []
+
+-- the fragment makes a fitting call whole
+pub record AddsLast (plan : PlanNo) (i : TheInterface) (parts : List Frag) (f : Frag) (t : TheHeld) : Type 0 where
+  pub call : TheCall
+  pub fits : fits_of i call ≡ true
+  pub means : Means plan i (parts ++ f ∷ []) call 0
+  pub parts_are : t.parts ≡ []
+  pub whole_is : t.whole ≡ parts ++ plain f ∷ []
+
+-- the fragment can't follow, and why
+pub record IsRefused (plan : PlanNo) (i : TheInterface) (parts : List Frag) (f : Frag) (fault : WireFault) : Type 0 where
+  pub first : HasFault plan i parts f fault
+  pub wrong : IsWrong plan i (parts ++ f ∷ [])
+
+-- the run afterwards: of the same program, and the former state can be had back
+pub record Remembers (s t : TheReceiving) : Type 0 where
+  pub program : t.program ≡ s.program
+  pub before : t.before ≡ Some (fed_by s)
+
+-- what a run answers to a fragment, and what it is then
+abbrev pub Feeds : TheReceiving → Frag → Result Fed WireFault → TheReceiving → Type 0
+Feeds s f (Ok Part) t = AddsPart (plan_in s) (interface_in s) s.parts f (fed_by t) × Remembers s t
+Feeds s f (Ok Whole) t = AddsLast (plan_in s) (interface_in s) s.parts f (fed_by t) × Remembers s t
+Feeds s f (Err fault) t = IsRefused (plan_in s) (interface_in s) s.parts f fault × (t ≡ s)
+
+-- the run back before its last accepted feed; itself where there is none to go back to
+abbrev pub undone : TheReceiving → Option TheHeld → TheReceiving
+undone r None = r
+undone r (Some b) = record { program = r.program; parts = b.parts; whole = b.whole; before = None }
+
+-- ---- what a run knows
+
+-- so many numbers are enough for each call's tape
+abbrev pub HoldsTapes : PlanNo → TheInterface → ℕ → Type 0
+HoldsTapes plan i capacity = (c : TheCall) → fits_of i c ≡ true → tape_length plan i c ≤ capacity
+
+-- a call of which so many fragments were fed, or which is to begin
+pub record IsBegun (plan : PlanNo) (i : TheInterface) (tape : List ℕ) (b : Begun) : Type 0 where
+  pub message : TheMessage
+  pub known : slice_get i.messages b.msg.0 ≡ Some message
+  pub bytes : List ℕ
+  pub long : length bytes ≡ 56 * b.fed
+  pub small : (p : ℕ) → slice_index bytes p < 256
+  pub stands : Stands (message_code Receive plan message) (take b.intake.count tape) b.intake bytes
+  pub begins : 0 < b.fed → BeginsPayload (message_block Receive plan message) bytes
+
+-- a call whose tape this is
+pub record IsEnded (plan : PlanNo) (i : TheInterface) (tape : List ℕ) (e : Ended) : Type 0 where
+  pub call : TheCall
+  pub message : call.msg ≡ e.msg.0
+  pub fits : fits_of i call ≡ true
+  pub within : e.count ≤ length tape
+  pub tape_is : take e.count tape ≡ tape_of plan i call
+
+abbrev pub IsStand : PlanNo → TheInterface → List ℕ → Stand → Type 0
+IsStand plan i tape Between = Unit {0}
+IsStand plan i tape (Inside b) = (0 < b.fed) × IsBegun plan i tape b
+IsStand plan i tape (After e) = IsEnded plan i tape e
+
+-- what feeding a fragment comes to, by where the run stands then
+abbrev pub Adds : PlanNo → TheInterface → List Frag → Frag → TheHeld → Stand → Type 0
+Adds plan i parts f t Between = ⊥
+Adds plan i parts f t (Inside b) = AddsPart plan i parts f t
+Adds plan i parts f t (After e) = AddsLast plan i parts f t
+
+abbrev pub answer_of : Stand → Fed
+answer_of Between = Part
+answer_of (Inside b) = Part
+answer_of (After e) = Whole
+
+-- the numbers of a stand are the first so many of its tape
+abbrev pub numbers_in : Stand → ℕ
+numbers_in Between = 0
+numbers_in (Inside b) = b.intake.count
+numbers_in (After e) = e.count
+
+-- what was before stands on its tape, and its numbers are among the first of those now, where they are on one tape
+abbrev pub IsBefore : PlanNo → TheInterface → List ℕ → List ℕ → ℕ → Option Before → Type 0
+IsBefore plan i tape spare count None = Unit {0}
+IsBefore plan i tape spare count (Some b) = IsStand plan i (tape_before tape spare b) b.stand × (b.began ≡ true ⊎ numbers_in b.stand ≤ count)
+
+-- each tape has room for each call's
+pub record IsStored (plan : PlanNo) (i : TheInterface) (s : TheStored) : Type 0 where
+  pub tape : HoldsTapes plan i (length s.tape)
+  pub spare : HoldsTapes plan i (length s.spare)
+  pub fresh : HoldsTapes plan i (length s.fresh)
+  pub stand : IsStand plan i s.tape s.stand
+  pub before : IsBefore plan i s.tape s.spare (numbers_in s.stand) s.before

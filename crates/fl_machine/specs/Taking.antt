@@ -1,0 +1,119 @@
+-- A run of receive code that stands between two bytes of a call.
+use Rattle.std.specs.Prelude.{◌≡◌, ◌≢◌, ℕ, suc, ◌+◌, ◌%◌, ◌^◌, ◌<◌, ◌≤◌, ◌⊎◌, true, false, List, [], ◌∷◌, ◌++◌, flat_map, length, slice_get, slice_index, slice_index_or, ◌-◌, Some}
+use Rattle.fl_stub.specs.declared.op.Op.{Op}
+use Rattle.fl_stub.specs.declared.op.Op.TheVariants.{Back}
+use Rattle.fl_stub.specs.declared.mark.Mark.TheVariants.{Length}
+use Rattle.fl_machine.specs.declared.cursor.Loop.{Loop}
+use Rattle.fl_stub.specs.Frames.{block_of}
+use Rattle.fl_stub.specs.Meaning.{number_bytes}
+use Rattle.fl_stub.specs.Given.{bytes_given}
+use Rattle.fl_stub.specs.Streams.{Follows}
+use Rattle.fl_stub.specs.Rests.{TheField, Rest, rest_all, rest_from, Reaches, LeadsTo, IsPartOfField, IsStance, steps_left, left_behind, is_taken, taken_field, is_silent}
+use Rattle.fl_machine.specs.declared.intake.Field.{Field}
+use Rattle.fl_machine.specs.declared.intake.Intake.{Intake}
+use Rattle.fl_machine.specs.Cursors.{loops_of, no_loop}
+
+-- the bytes of words, little-endian
+abbrev pub words_bytes : List ℕ → List ℕ
+words_bytes words = flat_map (number_bytes 8) words
+
+-- the numbers taken, and what is known of the next
+abbrev pub so_far : List ℕ → Intake → List ℕ
+so_far taken c = taken ++ c.value ∷ []
+
+abbrev pub field_view : Field → TheField
+field_view f = record { mark = f.mark; width = f.width; least = f.least; bound = f.last + 1; told = f.told }
+
+-- what is left of the code at a place in the payload
+abbrev pub rest_of : List Op → Intake → ℕ → Rest
+rest_of ops c at = rest_from ops c.place (loops_of c.loops c.depth) at
+
+abbrev pub IsTaking : List Op → Intake → Type 0
+IsTaking ops c = IsStance ops c.place (loops_of c.loops c.depth)
+
+-- no byte, or some bytes of the next field, wait for the others
+abbrev pub IsWaiting : Rest → Intake → Type 0
+IsWaiting r c = ((c.have ≡ 0) × (c.value ≡ 0)) ⊎ IsPartOfField r c.have c.value
+
+-- the next instruction takes bytes, or is the last
+abbrev pub IsAtField : List Op → Intake → Type 0
+IsAtField ops c = (op : Op) → slice_get ops c.place ≡ Some op → is_silent op c.phase ≡ false
+
+-- where a run stands after these bytes
+pub record IsAt (ops : List Op) (taken : List ℕ) (c : Intake) (bytes : List ℕ) : Type 0 where
+  pub done : List ℕ
+  pub stance : IsTaking ops c
+  pub phase : c.phase % 8 ≡ length done % 8
+  pub reach : Reaches (rest_all (block_of ops)) (rest_of ops c (length done)) taken done
+  pub waiting : IsWaiting (rest_of ops c (length done)) c
+  pub bytes_are : bytes ≡ done ++ number_bytes c.have c.value
+  pub quiet : c.have ≢ 0 → IsAtField ops c
+
+-- a run of receive code stands after these bytes, having taken these numbers from them
+pub record Stands (ops : List Op) (taken : List ℕ) (c : Intake) (bytes : List ℕ) : Type 0 where
+  pub at : IsAt ops taken c bytes
+  pub long : length taken ≡ c.count
+  pub shows : Follows (length bytes) bytes (bytes_given (block_of ops) (so_far taken c))
+
+-- the same with bytes that are still to be taken
+pub record IsFed (ops : List Op) (taken : List ℕ) (c : Intake) (all left : List ℕ) : Type 0 where
+  pub front : List ℕ
+  pub at : IsAt ops taken c front
+  pub joined : all ≡ front ++ left
+
+-- an instruction that takes bytes, and what it takes
+pub record HasField (ops : List Op) (c : Intake) (f : Field) : Type 0 where
+  pub op : Op
+  pub there : slice_get ops c.place ≡ Some op
+  pub taken : is_taken op ≡ true
+  pub view : (at : ℕ) → c.phase % 8 ≡ at % 8 → field_view f ≡ taken_field op at
+  pub wide : 0 < f.width
+
+-- past instructions that take no bytes
+pub record Passes (ops : List Op) (c d : Intake) : Type 0 where
+  pub stance : IsTaking ops d
+  pub leads : (at : ℕ) → c.phase % 8 ≡ at % 8 → LeadsTo (rest_of ops c at) (rest_of ops d at)
+  pub others : d ≡ record c { place = d.place; loops = d.loops; depth = d.depth }
+
+pub record PassesOne (ops : List Op) (c d : Intake) : Type 0 where
+  pub passes : Passes ops c d
+  pub steps : steps_left (rest_of ops c c.phase) ≡ suc (steps_left (rest_of ops d c.phase))
+
+-- past an instruction that has got its bytes
+pub record StepsOver (ops : List Op) (c d : Intake) (f : Field) (x : ℕ) : Type 0 where
+  pub stance : IsTaking ops d
+  pub rest : (at : ℕ) → c.phase % 8 ≡ at % 8 → rest_of ops d (at + f.width) ≡ left_behind (rest_of ops c at) x
+  pub phase : d.phase % 8 ≡ (c.phase + f.width) % 8
+  pub idle : d.have ≡ 0
+  pub none : d.value ≡ 0
+  pub count : d.count ≡ c.count
+
+-- so many bytes more of a number, which are the first of those that were left
+pub record Grows (have value low n : ℕ) (left rest : List ℕ) : Type 0 where
+  pub bytes : number_bytes have value ++ left ≡ number_bytes (have + n) low ++ rest
+  pub small : low < 256 ^ (have + n)
+  pub same : low % 256 ^ have ≡ value
+
+-- no byte from there on, or the first that is no zero
+abbrev pub AreZeros : List ℕ → ℕ → ℕ → Type 0
+AreZeros buffer from end = (i : ℕ) → from ≤ i → i < end → slice_index buffer i ≡ 0
+
+pub record FirstSet (buffer : List ℕ) (from : ℕ) : Type 0 where
+  pub at : ℕ
+  pub from_there : from ≤ at
+  pub inside : at < 56
+  pub zeros : AreZeros buffer from at
+  pub wrong : slice_index buffer at ≢ 0
+
+-- the innermost loop
+abbrev pub inner_loop : Intake → Loop
+inner_loop c = slice_index_or c.loops (c.depth - 1) no_loop
+
+-- the innermost loop is over one number alone, which is the one to be taken
+pub record IsRunOf (ops : List Op) (c : Intake) (f : Field) : Type 0 where
+  pub deep : 0 < c.depth
+  pub idle : c.have ≡ 0
+  pub told : f.told ≡ true
+  pub plain : f.mark ≢ Length
+  pub start : (inner_loop c).start ≡ c.place
+  pub back : slice_get ops (c.place + 1) ≡ Some Back

@@ -1,0 +1,560 @@
+//! Where a run of receive code stands, and how it takes bytes.
+
+ghost use Rattle.std.specs.Prelude.{◌≡◌, ◌≢◌, ◌==◌, ◌+◌, ◌-◌, ◌*◌, ◌%◌, ◌<◌, ◌≤◌, ◌^◌, ◌++◌, ◌⊎◌, ℕ, suc, true, false, List, [], ◌∷◌, take, drop, length, slice_get, slice_index, slice_set, Some, IfOk, IfErr, IfSome, IfNone, IsTrue};
+ghost use Rattle.fl_stub.specs.declared.op.Column.TheVariants.{Receive as receive};
+ghost use Rattle.fl_stub.specs.declared.op.Op.TheVariants.{Times as times_op, Back as back_op, Done as done_op};
+ghost use Rattle.fl_stub.specs.declared.mark.Mark.TheVariants.{Length as length_mark, Zero as zero_mark};
+ghost use Rattle.fl_stub.specs.Structure.{IsCode, is_width};
+ghost use Rattle.fl_stub.specs.Frames.{block_of};
+ghost use Rattle.fl_stub.specs.Meaning.{Turns, number_bytes, gap_to_8};
+ghost use Rattle.fl_stub.specs.Streams.{BeginsPayload, IsPayload, LeavesPayloads};
+ghost use Rattle.fl_stub.specs.Rests.{no_more, is_taken, taken_field, zeros_field, told};
+ghost use Rattle.fl_machine.specs.declared.intake.Fed.TheVariants.{Part as part, Whole as whole};
+ghost use Rattle.fl_machine.specs.Cursors.{loops_of};
+ghost use Rattle.fl_machine.specs.Taking.{Stands, IsFed, IsTaking, IsAtField, HasField, Passes, PassesOne, StepsOver, Grows, AreZeros, FirstSet, IsRunOf, inner_loop, words_bytes, field_view, rest_of};
+
+use crate::cursor::{Loop, behind, is_op};
+use fl_stub::{Mark, Op};
+
+/// What taking a fragment came to.
+#[derive(Clone, Copy, Debug, PartialEq, Eq)]
+pub enum Fed {
+    /// The call goes on in the next fragment.
+    Part,
+    /// The call is whole.
+    Whole,
+}
+
+/// Bytes that are one number, or zeros.
+#[derive(Clone, Copy, Debug, PartialEq, Eq)]
+pub(crate) struct Field {
+    mark: Mark,
+    // How many bytes.
+    width: u32,
+    // The least number and the greatest; 0 and 0 for zeros.
+    least: u64,
+    last: u64,
+    // Whether the number is put on the tape.
+    told: bool,
+}
+
+/// Where a run of receive code stands.
+#[derive(Clone, Copy, Debug, PartialEq, Eq)]
+pub struct Intake {
+    // The next instruction.
+    place: usize,
+    // The open loops, the innermost last, and how many.
+    loops: [Loop; 8],
+    depth: usize,
+    // How many numbers were taken.
+    count: usize,
+    // The place in the payload, modulo 8.
+    phase: u32,
+    // The next instruction has got so many of its bytes, which as a number are `value`.
+    value: u64,
+    have: u32,
+}
+
+// A word's eight bytes from a place on.
+fn put_word(buffer: &mut [u8; 64], at: usize, word: u64)
+    requires { at + 8 ≤ 64 }
+    ensures { buffer.new ≡ take at buffer.old ++ (number_bytes 8 word ++ drop (at + 8) buffer.old) }
+{
+    buffer[at..at + 8].copy_from_slice(&word.to_le_bytes());
+}
+
+// The bytes of a fragment's words, and zeros behind them, so that eight can be read at each place.
+fn filled(words: &[u64; 7]) -> [u8; 64]
+    ensures { take 56 result ≡ words_bytes words.now }
+{
+    let mut buffer = [0; 64];
+    let mut index = 0;
+    while index < 7 {
+        put_word(&mut buffer, 8 * index, words[index]);
+        index += 1;
+    }
+    buffer
+}
+
+// The eight bytes from a place on as a number.
+fn word_at(buffer: &[u8; 64], at: usize) -> u64
+    requires { at + 8 ≤ 64 }
+    ensures { number_bytes 8 result ≡ take 8 (drop at buffer.now) }
+{
+    u64::from_le_bytes([
+        buffer[at],
+        buffer[at + 1],
+        buffer[at + 2],
+        buffer[at + 3],
+        buffer[at + 4],
+        buffer[at + 5],
+        buffer[at + 6],
+        buffer[at + 7],
+    ])
+}
+
+// The number in a word's first bytes.
+fn low_part(word: u64, bytes: usize) -> u64
+    requires { bytes ≤ 8 }
+    ensures { result ≡ word % 256 ^ bytes }
+{
+    match bytes {
+        0 => 0,
+        1 => word % 256,
+        2 => word % 65_536,
+        3 => word % 16_777_216,
+        4 => word % 4_294_967_296,
+        5 => word % 1_099_511_627_776,
+        6 => word % 281_474_976_710_656,
+        7 => word % 72_057_594_037_927_936,
+        _ => word,
+    }
+}
+
+// The number with so many zero bytes before it.
+fn raised(number: u64, bytes: u32) -> u64
+    requires few { bytes < 8 }
+    requires room { number * 256 ^ bytes < 2 ^ 64 }
+    ensures { result ≡ number * 256 ^ bytes }
+{
+    match bytes {
+        0 => number,
+        1 => number * 256,
+        2 => number * 65_536,
+        3 => number * 16_777_216,
+        4 => number * 4_294_967_296,
+        5 => number * 1_099_511_627_776,
+        6 => number * 281_474_976_710_656,
+        _ => number * 72_057_594_037_927_936,
+    }
+}
+
+// Whether all bytes from a place up to the last of a fragment are zeros.
+fn end_of(buffer: &[u8; 64], used: usize) -> Result<Fed, Mark>
+    requires { used ≤ 56 }
+    ensures whole { IfOk result (λ fed. (fed ≡ whole) × AreZeros buffer.now used 56) }
+    ensures wrong { IfErr result (λ mark. (mark ≡ zero_mark) × FirstSet buffer.now used) }
+{
+    let mut at = used;
+    while at < 56 {
+        if buffer[at] != 0 {
+            return Err(Mark::Zero);
+        }
+        at += 1;
+    }
+    Ok(Fed::Whole)
+}
+
+fn is_length(mark: Mark) -> bool
+    ensures yes { IsTrue result → mark ≡ length_mark }
+    ensures no { result ≡ false → mark ≢ length_mark }
+{
+    matches!(mark, Mark::Length)
+}
+
+fn is_last(op: Op) -> bool
+    ensures yes { IsTrue result → op ≡ done_op }
+    ensures no { result ≡ false → op ≢ done_op }
+{
+    matches!(op, Op::Done)
+}
+
+fn op_at(ops: &[Op], place: usize) -> Option<Op>
+    ensures { result ≡ slice_get ops.now place }
+{
+    match ops.get(place) {
+        Some(op) => Some(*op),
+        None => None,
+    }
+}
+
+// The greatest number of so many bytes.
+fn greatest(width: u32) -> u64
+    requires { is_width width ≡ true }
+    ensures { result + 1 ≡ 256 ^ width }
+{
+    match width {
+        1 => 255,
+        2 => 65_535,
+        4 => 4_294_967_295,
+        _ => u64::MAX,
+    }
+}
+
+impl Field {
+    fn number(width: u32, least: u64, last: u64) -> Field
+        ensures { result ≡ record { mark = Mark.Number; width = width; least = least; last = last; told = true } }
+    {
+        Field {
+            mark: Mark::Number,
+            width,
+            least,
+            last,
+            told: true,
+        }
+    }
+
+    fn zeros(width: u32) -> Field
+        ensures { field_view result ≡ zeros_field width }
+    {
+        Field {
+            mark: Mark::Zero,
+            width,
+            least: 0,
+            last: 0,
+            told: false,
+        }
+    }
+
+    // What an instruction takes, at a place modulo 8.
+    fn of(op: Op, phase: u32) -> Field
+        requires { is_taken op ≡ true }
+        ensures { (at : ℕ) → phase % 8 ≡ at % 8 → field_view result ≡ taken_field op at }
+    {
+        match op {
+            Op::Read(width) => Field::number(width, 0, greatest(width)),
+            Op::ReadBool => Field::number(1, 0, 1),
+            Op::ReadEnum(count) => Field::number(4, 0, u64::from(count) - 1),
+            Op::ReadChar => Field::number(1, 0, 255),
+            Op::ReadText => Field::number(1, 1, 255),
+            Op::ReadLength(most) => Field {
+                mark: Mark::Length,
+                width: 8,
+                least: 0,
+                last: u64::from(most),
+                told: true,
+            },
+            Op::Skip(zeros) => Field::zeros(zeros),
+            _ => Field::zeros((8 - phase % 8) % 8),
+        }
+    }
+}
+
+impl Intake {
+    /// At the first instruction.
+    pub(crate) fn new() -> Intake
+        ensures { (ops : List Op) → IsCode receive ops (block_of ops) → Stands ops [] result [] }
+    {
+        Intake {
+            place: 0,
+            loops: [Loop { start: 0, turns: 0 }; 8],
+            depth: 0,
+            count: 0,
+            phase: 0,
+            value: 0,
+            have: 0,
+        }
+    }
+
+    /// How many numbers were taken.
+    pub(crate) fn count(&self) -> usize
+        ensures { result ≡ self.now.count }
+    {
+        self.count
+    }
+
+    // Into a loop that begins there.
+    fn enter(&mut self, start: usize, turns: u64)
+        requires { self.old.depth < 8 }
+        ensures loops { loops_of self.new.loops self.new.depth ≡ (record { start = start; turns = turns }) ∷ loops_of self.old.loops self.old.depth }
+        ensures others { self.new ≡ record self.old { place = start; loops = self.new.loops; depth = self.new.depth } }
+    {
+        self.loops[self.depth] = Loop { start, turns };
+        self.depth += 1;
+        self.place = start;
+    }
+
+    fn repeat(&mut self, ops: &[Op], turns: u32)
+        requires op { slice_get ops.now self.old.place ≡ Some (times_op turns) }
+        requires stance { IsTaking ops.now self.old }
+        ensures { PassesOne ops.now self.old self.new }
+    {
+        self.enter(self.place + 1, u64::from(turns) - 1);
+    }
+
+    fn turn(&mut self, ops: &[Op])
+        requires op { slice_get ops.now self.old.place ≡ Some back_op }
+        requires stance { IsTaking ops.now self.old }
+        ensures { PassesOne ops.now self.old self.new }
+    {
+        let last = self.depth - 1;
+        let inner = self.loops[last];
+        self.depth = last;
+        if inner.turns == 0 {
+            self.place += 1;
+            return;
+        }
+        self.enter(inner.start, inner.turns - 1);
+    }
+
+    // Past the next instruction, if it takes no bytes.
+    fn pass(&mut self, ops: &[Op]) -> bool
+        requires { IsTaking ops.now self.old }
+        ensures passes { IsTrue result → PassesOne ops.now self.old self.new }
+        ensures stays { result ≡ false → self.new ≡ self.old }
+        ensures settled { result ≡ false → IsAtField ops.now self.old }
+    {
+        let Some(op) = op_at(ops, self.place) else {
+            return false;
+        };
+        match op {
+            Op::Times(turns) => self.repeat(ops, turns),
+            Op::Back => self.turn(ops),
+            Op::Align => {
+                if self.phase % 8 != 0 {
+                    return false;
+                }
+                self.place += 1;
+            }
+            _ => return false,
+        }
+        true
+    }
+
+    // On to the next instruction that takes bytes, or to the end of the code.
+    fn settle(&mut self, ops: &[Op])
+        requires { IsTaking ops.now self.old }
+        ensures passes { Passes ops.now self.old self.new }
+        ensures settled { IsAtField ops.now self.new }
+    {
+        while self.pass(ops) {}
+    }
+
+    // What the next instruction takes; `None` at the end of the code.
+    fn field(&self, ops: &[Op]) -> Option<Field>
+        requires stance { IsTaking ops.now self.now }
+        requires settled { IsAtField ops.now self.now }
+        ensures some { IfSome result (λ field. HasField ops.now self.now field) }
+        ensures none { IfNone result ((at : ℕ) → rest_of ops.now self.now at ≡ no_more) }
+    {
+        let Some(op) = op_at(ops, self.place) else {
+            return None;
+        };
+        if is_last(op) {
+            return None;
+        }
+        Some(Field::of(op, self.phase))
+    }
+
+    // The number that a field's bytes are up to now, with those that are there, and how many these are.
+    fn grown(&self, field: Field, buffer: &[u8; 64], used: usize) -> (u64, usize)
+        requires less { self.now.have < field.width }
+        requires narrow { field.width ≤ 8 }
+        requires small { self.now.value < 256 ^ self.now.have }
+        requires room { used < 56 }
+        ensures some { 0 < result.1 }
+        ensures inside { used + result.1 ≤ 56 }
+        ensures within { self.now.have + result.1 ≤ field.width }
+        ensures all { self.now.have + result.1 < field.width → used + result.1 ≡ 56 }
+        ensures grows { Grows self.now.have self.now.value result.0 result.1 (drop used (take 56 buffer.now)) (drop (used + result.1) (take 56 buffer.now)) }
+    {
+        let wanted = (field.width - self.have) as usize;
+        let there = wanted.min(56 - used);
+        let more = low_part(word_at(buffer, used), there);
+        (self.value + raised(more, self.have), there)
+    }
+
+    // Puts a field's number on the tape.
+    fn tell(&mut self, tape: &mut [u64], field: Field, number: u64)
+        requires { field.told ≡ true → self.old.count < length tape.old }
+        ensures others { self.new ≡ record self.old { count = self.new.count } }
+        ensures tape { take self.new.count tape.new ≡ take self.old.count tape.old ++ told field.told number }
+        ensures kept { take self.old.count tape.new ≡ take self.old.count tape.old }
+        ensures long { length tape.new ≡ length tape.old }
+        ensures count { self.old.count ≤ self.new.count }
+        ensures inside { self.old.count ≤ length tape.old → self.new.count ≤ length tape.new }
+    {
+        if field.told {
+            tape[self.count] = number;
+            self.count += 1;
+        }
+    }
+
+    // Past an instruction that has got its bytes.
+    fn step_over(&mut self, ops: &[Op], field: Field, number: u64)
+        requires stance { IsTaking ops.now self.old }
+        requires field { HasField ops.now self.old field }
+        requires narrow { field.width ≤ 8 }
+        ensures { StepsOver ops.now self.old self.new field number }
+    {
+        self.value = 0;
+        self.have = 0;
+        self.phase = (self.phase % 8 + field.width) % 8;
+        if !is_length(field.mark) {
+            self.place += 1;
+            return;
+        }
+        let start = self.place + 2;
+        if number == 0 {
+            self.place = behind(ops, start);
+            return;
+        }
+        self.enter(start, number - 1);
+    }
+
+    // Whether the innermost loop is over this number alone, and none of its bytes was taken.
+    fn is_run(&self, ops: &[Op], field: Field) -> bool
+        requires stance { IsTaking ops.now self.now }
+        requires field { HasField ops.now self.now field }
+        ensures { IsTrue result → IsRunOf ops.now self.now field }
+    {
+        if self.depth == 0 || self.have != 0 || !field.told || is_length(field.mark) {
+            return false;
+        }
+        self.loops[self.depth - 1].start == self.place && is_op(ops, self.place + 1, Op::Back)
+    }
+
+    // The turns that the innermost loop makes after this one.
+    fn turns_left(&self) -> u64
+        requires low { 0 < self.now.depth }
+        requires high { self.now.depth ≤ 8 }
+        ensures { result ≡ (inner_loop self.now).turns }
+    {
+        self.loops[self.depth - 1].turns
+    }
+
+    // A number of a loop over one number alone, and on to that of its next turn.
+    fn take_turn(&mut self, tape: &mut [u64], field: Field, number: u64)
+        requires low { 0 < self.old.depth }
+        requires high { self.old.depth ≤ 8 }
+        requires narrow { field.width ≤ 8 }
+        requires room { self.old.count < length tape.old }
+        requires more { 0 < (inner_loop self.old).turns }
+        ensures others { self.new ≡ record self.old { loops = self.new.loops; count = self.old.count + 1; phase = (self.old.phase % 8 + field.width) % 8 } }
+        ensures loops { self.new.loops ≡ slice_set self.old.loops (self.old.depth - 1) (record { start = (inner_loop self.old).start; turns = (inner_loop self.old).turns - 1 }) }
+        ensures tape { tape.new ≡ slice_set tape.old self.old.count number }
+        ensures wide { length self.old.loops ≡ 8 }
+    {
+        tape[self.count] = number;
+        self.count += 1;
+        self.phase = (self.phase % 8 + field.width) % 8;
+        self.loops[self.depth - 1].turns -= 1;
+    }
+
+    // Takes the numbers of a loop over one number, as long as they are right and bytes are left behind them; where the
+    // next bytes are.
+    fn take_run(
+        &mut self,
+        ops: &[Op],
+        tape: &mut [u64],
+        field: Field,
+        buffer: &[u8; 64],
+        used: usize,
+    ) -> usize
+        requires room { used < 56 }
+        requires settled { IsAtField ops.now self.old }
+        requires field { HasField ops.now self.old field }
+        requires fed { (all : List ℕ) × IsFed ops.now (take self.old.count tape.old) self.old all (drop used (take 56 buffer.now)) }
+        requires tape { (t full : List ℕ) → Turns (block_of ops.now) t full → length t ≤ length tape.old }
+        requires count { self.old.count ≤ length tape.old }
+        ensures fed { (all : List ℕ) → IsFed ops.now (take self.old.count tape.old) self.old all (drop used (take 56 buffer.now)) → IsFed ops.now (take self.new.count tape.new) self.new all (drop result (take 56 buffer.now)) }
+        ensures end { (used ≤ result) × (result < 56) }
+        ensures settled { IsAtField ops.now self.new }
+        ensures field { HasField ops.now self.new field }
+        ensures kept { take self.old.count tape.new ≡ take self.old.count tape.old }
+        ensures long { length tape.new ≡ length tape.old }
+        ensures count { (self.old.count ≤ self.new.count) × (self.new.count ≤ length tape.new) }
+    {
+        if !self.is_run(ops, field) {
+            return used;
+        }
+        let width = field.width as usize;
+        let mut end = used;
+        while end + width < 56 && self.turns_left() > 0 {
+            let number = low_part(word_at(buffer, end), width);
+            if number < field.least || number > field.last {
+                return end;
+            }
+            self.take_turn(tape, field, number);
+            end += width;
+        }
+        end
+    }
+
+    // Takes those of a field's bytes that are there; where the next bytes are.
+    fn take_field(
+        &mut self,
+        ops: &[Op],
+        tape: &mut [u64],
+        field: Field,
+        buffer: &[u8; 64],
+        used: usize,
+    ) -> Result<usize, Mark>
+        requires room { used < 56 }
+        requires settled { IsAtField ops.now self.old }
+        requires field { HasField ops.now self.old field }
+        requires fed { (all : List ℕ) × IsFed ops.now (take self.old.count tape.old) self.old all (drop used (take 56 buffer.now)) }
+        requires tape { (t full : List ℕ) → Turns (block_of ops.now) t full → length t ≤ length tape.old }
+        requires count { self.old.count ≤ length tape.old }
+        ensures fed { IfOk result (λ end. (all : List ℕ) → IsFed ops.now (take self.old.count tape.old) self.old all (drop used (take 56 buffer.now)) → IsFed ops.now (take self.new.count tape.new) self.new all (drop end (take 56 buffer.now))) }
+        ensures wrong { IfErr result (λ mark. (all : List ℕ) → IsFed ops.now (take self.old.count tape.old) self.old all (drop used (take 56 buffer.now)) → LeavesPayloads (block_of ops.now) all mark) }
+        ensures end { IfOk result (λ end. (used < end) × (end ≤ 56)) }
+        ensures settled { IfOk result (λ end. IsAtField ops.now self.new) }
+        ensures kept { take self.old.count tape.new ≡ take self.old.count tape.old }
+        ensures long { length tape.new ≡ length tape.old }
+        ensures count { (self.old.count ≤ self.new.count) × (self.new.count ≤ length tape.new) }
+    {
+        let (number, there) = self.grown(field, buffer, used);
+        if number > field.last {
+            return Err(field.mark);
+        }
+        if self.have + (there as u32) < field.width {
+            self.value = number;
+            self.have += there as u32;
+            return Ok(used + there);
+        }
+        if number < field.least {
+            return Err(field.mark);
+        }
+        self.tell(tape, field, number);
+        self.step_over(ops, field, number);
+        self.settle(ops);
+        Ok(used + there)
+    }
+
+    // On to the next bytes, unless the next instruction has got some.
+    fn resume(&mut self, ops: &[Op])
+        requires { (taken bytes : List ℕ) × Stands ops.now taken self.old bytes }
+        ensures settled { IsAtField ops.now self.new }
+        ensures count { self.new.count ≡ self.old.count }
+        ensures stands { (taken bytes : List ℕ) → Stands ops.now taken self.old bytes → Stands ops.now taken self.new bytes }
+    {
+        if self.have == 0 {
+            self.settle(ops);
+        }
+    }
+
+    /// Takes the bytes of a fragment's seven words. After an `Err` the run is of no more use. Takes no memory.
+    pub(crate) fn take_words(
+        &mut self,
+        ops: &[Op],
+        tape: &mut [u64],
+        words: &[u64; 7],
+    ) -> Result<Fed, Mark>
+        requires code { IsCode receive ops.now (block_of ops.now) }
+        requires stands { (bytes : List ℕ) × Stands ops.now (take self.old.count tape.old) self.old bytes }
+        requires room { (t full : List ℕ) → Turns (block_of ops.now) t full → length t ≤ length tape.old }
+        ensures part { IfOk result (λ fed. fed ≡ part → (bytes : List ℕ) → Stands ops.now (take self.old.count tape.old) self.old bytes → Stands ops.now (take self.new.count tape.new) self.new (bytes ++ words_bytes words.now) × BeginsPayload (block_of ops.now) (bytes ++ words_bytes words.now)) }
+        ensures whole { IfOk result (λ fed. fed ≡ whole → (bytes : List ℕ) → Stands ops.now (take self.old.count tape.old) self.old bytes → IsPayload (block_of ops.now) (bytes ++ words_bytes words.now) (take self.new.count tape.new)) }
+        ensures wrong { IfErr result (λ mark. (bytes : List ℕ) → Stands ops.now (take self.old.count tape.old) self.old bytes → LeavesPayloads (block_of ops.now) (bytes ++ words_bytes words.now) mark) }
+        ensures kept { take self.old.count tape.new ≡ take self.old.count tape.old }
+        ensures grows { self.old.count ≤ self.new.count }
+        ensures within { self.new.count ≤ length tape.new }
+        ensures long { length tape.new ≡ length tape.old }
+    {
+        let buffer = filled(words);
+        self.resume(ops);
+        let mut used = 0;
+        while used < 56 {
+            let Some(field) = self.field(ops) else {
+                return end_of(&buffer, used);
+            };
+            let start = self.take_run(ops, tape, field, &buffer, used);
+            used = self.take_field(ops, tape, field, &buffer, start)?;
+        }
+        match self.field(ops) {
+            Some(_) => Ok(Fed::Part),
+            None => Ok(Fed::Whole),
+        }
+    }
+}

@@ -1,0 +1,350 @@
+//! Runs of receive code.
+
+ghost use Rattle.std.specs.Prelude.{◌≡◌, ◌≢◌, ◌*◌, ◌/◌, ◌%◌, ◌^◌, ◌==◌, ◌≤◌, ◌++◌, ◌∷◌, [], List, true, take, length, slice_get, Some, None, IfOk, IfErr, Ok};
+ghost use Rattle.fl_base.specs.Control.{message_of, control_word};
+ghost use Rattle.fl_value.specs.Value.{call_of};
+ghost use Rattle.fl_value.specs.Fits.{fits_of};
+ghost use Rattle.fl_wire.specs.Reading.{Means, IsWrong};
+ghost use Rattle.fl_wire.specs.Wrong.{header_fault, HasFault};
+ghost use Rattle.fl_compile.specs.Laws.{fault_of as fault_of_mark};
+ghost use Rattle.fl_compile.specs.Programs.{program_of};
+ghost use Rattle.fl_machine.specs.Receiving.{plan_in, interface_in, parts_of, fed_of, fed_by, answer_of, AddsPart, AddsLast, Adds, numbers_in, IsRefused, Remembers, undone, Feeds, stored_of, receiving, HoldsTapes, IsBegun, IsStand, IsStored};
+ghost use Rattle.fl_machine.specs.declared.recv.Stand.TheVariants.{Inside as inside};
+
+use crate::intake::{Fed, Intake};
+use fl_base::{Frag, MsgNo};
+use fl_compile::{Program, tells_faults};
+use fl_stub::Mark;
+use fl_value::{Call, unflatten};
+use fl_wire::{WireFault, follow_fault, is_line, start_fault};
+use std::alloc::{AllocError, Global};
+use std::marker::Model;
+use std::mem;
+
+/// A call of which so many fragments were fed, or which is to begin.
+#[derive(Clone, Copy, Debug, PartialEq, Eq)]
+pub(crate) struct Begun {
+    msg: MsgNo,
+    fed: usize,
+    intake: Intake,
+}
+
+/// A call that is whole: its tape is the first so many numbers.
+#[derive(Clone, Copy, Debug, PartialEq, Eq)]
+pub(crate) struct Ended {
+    msg: MsgNo,
+    count: usize,
+}
+
+/// What the last fragment fed left.
+#[derive(Clone, Copy, Debug, PartialEq, Eq)]
+pub(crate) enum Stand {
+    /// No fragment was fed yet.
+    Between,
+    /// A call under way.
+    Inside(Begun),
+    /// A whole call.
+    After(Ended),
+}
+
+/// What stood before the last accepted feed.
+#[derive(Clone, Copy, Debug, PartialEq, Eq)]
+pub(crate) struct Before {
+    stand: Stand,
+    // Whether that feed began a call: then the stand's numbers are on the spare tape.
+    began: bool,
+}
+
+// What a run stores beside its program.
+#[derive(Drop)]
+pub(crate) struct Stored {
+    // The numbers of the stand; those of the stand before, where the last feed began a call; and a tape to begin the
+    // next call on, so that a refused fragment harms neither.
+    tape: Vec<u64>,
+    spare: Vec<u64>,
+    fresh: Vec<u64>,
+    stand: Stand,
+    before: Option<Before>,
+}
+
+/// A run of receive code of a program: fragments are fed to it, which it takes as calls.
+#[derive(Drop)]
+pub struct RecvRun {
+    program: Program,
+    stored: Stored,
+}
+
+impl Model for RecvRun {
+    ghost use Rattle.fl_machine.specs.Receiving.{TheReceiving};
+    ghost use Rattle.std.specs.Coded.{codes};
+    ghost use Rattle.fl_compile.specs.contracts.program.Program.{the_row};
+
+    ghost Value = { TheReceiving };
+
+    ghost coded = { Prim.hlevel (codes, the_row.coded) };
+
+    ghost use Rattle.fl_machine.specs.Runs.{receiving_of, IsReceiving};
+
+    ghost view = { receiving_of };
+
+    ghost invariant = { IsReceiving };
+}
+
+// The fault of a byte that can't stand where another stands.
+fn fault_of(mark: Mark) -> WireFault
+    ensures fault { result ≡ fault_of_mark mark }
+{
+    match mark {
+        Mark::Length => WireFault::TooLong,
+        Mark::Number => WireFault::OutOfType,
+        Mark::Zero => WireFault::NotZero,
+    }
+}
+
+impl Stand {
+    // What a feed that led here answers.
+    fn answer(self) -> Fed
+        ensures answer { result ≡ answer_of self }
+    {
+        match self {
+            Stand::After(_) => Fed::Whole,
+            _ => Fed::Part,
+        }
+    }
+}
+
+// Takes a fragment whose control word is right: where the run stands then.
+fn take_in(
+    program: &Program,
+    begun: Begun,
+    tape: &mut [u64],
+    frag: &Frag,
+) -> Result<Stand, WireFault>
+    requires begun { IsBegun (program_of program.now).plan (program_of program.now).interface tape.old begun }
+    requires room { HoldsTapes (program_of program.now).plan (program_of program.now).interface (length tape.old) }
+    requires header { header_fault (program_of program.now).interface (parts_of (program_of program.now).plan (program_of program.now).interface tape.old begun) frag.now ≡ None }
+    requires message { message_of frag.now.control ≡ begun.msg.0 }
+    requires control { 2 * (frag.now.control / 2 % 2 ^ 47) ≡ control_word (begun.fed == 0) begun.msg.0 0 }
+    ensures stands { IfOk result (λ stand. IsStand (program_of program.now).plan (program_of program.now).interface tape.new stand) }
+    ensures adds { IfOk result (λ stand. Adds (program_of program.now).plan (program_of program.now).interface (parts_of (program_of program.now).plan (program_of program.now).interface tape.old begun) frag.now (fed_of (program_of program.now).plan (program_of program.now).interface tape.new stand) stand) }
+    ensures grows { IfOk result (λ stand. begun.intake.count ≤ numbers_in stand) }
+    ensures wrong { IfErr result (λ fault. HasFault (program_of program.now).plan (program_of program.now).interface (parts_of (program_of program.now).plan (program_of program.now).interface tape.old begun) frag.now fault) }
+    ensures kept { take begun.intake.count tape.new ≡ take begun.intake.count tape.old }
+    ensures long { length tape.new ≡ length tape.old }
+{
+    tells_faults();
+    is_line(frag);
+    let Some(code) = program.receive_code(begun.msg) else {
+        unreachable!();
+    };
+    let mut intake = begun.intake;
+    match intake.take_words(code.ops(), tape, &frag.words) {
+        Ok(Fed::Part) => Ok(Stand::Inside(Begun {
+            msg: begun.msg,
+            fed: begun.fed + 1,
+            intake,
+        })),
+        Ok(Fed::Whole) => Ok(Stand::After(Ended {
+            msg: begun.msg,
+            count: intake.count(),
+        })),
+        Err(mark) => Err(fault_of(mark)),
+    }
+}
+
+// Takes a fragment where a call is to begin: where the run stands then.
+fn begin(program: &Program, tape: &mut [u64], frag: &Frag) -> Result<Stand, WireFault>
+    requires room { HoldsTapes (program_of program.now).plan (program_of program.now).interface (length tape.old) }
+    ensures stands { IfOk result (λ stand. IsStand (program_of program.now).plan (program_of program.now).interface tape.new stand) }
+    ensures adds { IfOk result (λ stand. Adds (program_of program.now).plan (program_of program.now).interface [] frag.now (fed_of (program_of program.now).plan (program_of program.now).interface tape.new stand) stand) }
+    ensures wrong { IfErr result (λ fault. IsRefused (program_of program.now).plan (program_of program.now).interface [] frag.now fault) }
+    ensures long { length tape.new ≡ length tape.old }
+{
+    let interface = program.interface();
+    if let Some(fault) = start_fault(interface, frag) {
+        return Err(fault);
+    }
+    let begun = Begun {
+        msg: frag.msg(),
+        fed: 0,
+        intake: Intake::new(),
+    };
+    take_in(program, begun, tape, frag)
+}
+
+// Takes a fragment inside a call: where the run stands then.
+fn go_on(program: &Program, begun: Begun, tape: &mut [u64], frag: &Frag) -> Result<Stand, WireFault>
+    requires begun { IsStand (program_of program.now).plan (program_of program.now).interface tape.old (inside begun) }
+    requires room { HoldsTapes (program_of program.now).plan (program_of program.now).interface (length tape.old) }
+    ensures stands { IfOk result (λ stand. IsStand (program_of program.now).plan (program_of program.now).interface tape.new stand) }
+    ensures adds { IfOk result (λ stand. Adds (program_of program.now).plan (program_of program.now).interface (parts_of (program_of program.now).plan (program_of program.now).interface tape.old begun) frag.now (fed_of (program_of program.now).plan (program_of program.now).interface tape.new stand) stand) }
+    ensures grows { IfOk result (λ stand. begun.intake.count ≤ numbers_in stand) }
+    ensures wrong { IfErr result (λ fault. IsRefused (program_of program.now).plan (program_of program.now).interface (parts_of (program_of program.now).plan (program_of program.now).interface tape.old begun) frag.now fault) }
+    ensures kept { take begun.intake.count tape.new ≡ take begun.intake.count tape.old }
+    ensures long { length tape.new ≡ length tape.old }
+{
+    let _interface = program.interface();
+    if let Some(fault) = follow_fault(begun.msg, frag) {
+        return Err(fault);
+    }
+    take_in(program, begun, tape, frag)
+}
+
+impl Stored {
+    // Takes a fragment where a call is to begin, on the fresh tape.
+    fn feed_first(&mut self, program: &Program, frag: &Frag) -> Result<Fed, WireFault>
+        requires stored { IsStored (program_of program.now).plan (program_of program.now).interface (stored_of self.old) }
+        requires outside { (receiving program.now (stored_of self.old)).parts ≡ [] }
+        ensures stored { IsStored (program_of program.now).plan (program_of program.now).interface (stored_of self.new) }
+        ensures feeds { Feeds (receiving program.now (stored_of self.old)) frag.now result (receiving program.now (stored_of self.new)) }
+    {
+        match begin(program, &mut self.fresh, frag) {
+            Err(fault) => Err(fault),
+            Ok(next) => {
+                mem::swap(&mut self.tape, &mut self.spare);
+                mem::swap(&mut self.tape, &mut self.fresh);
+                self.before = Some(Before {
+                    stand: self.stand,
+                    began: true,
+                });
+                self.stand = next;
+                Ok(next.answer())
+            }
+        }
+    }
+
+    // Takes a fragment inside a call.
+    fn feed_inside(
+        &mut self,
+        program: &Program,
+        begun: Begun,
+        frag: &Frag,
+    ) -> Result<Fed, WireFault>
+        requires stored { IsStored (program_of program.now).plan (program_of program.now).interface (stored_of self.old) }
+        requires inside { self.old.stand ≡ inside begun }
+        ensures stored { IsStored (program_of program.now).plan (program_of program.now).interface (stored_of self.new) }
+        ensures feeds { Feeds (receiving program.now (stored_of self.old)) frag.now result (receiving program.now (stored_of self.new)) }
+    {
+        match go_on(program, begun, &mut self.tape, frag) {
+            Err(fault) => Err(fault),
+            Ok(next) => {
+                self.before = Some(Before {
+                    stand: self.stand,
+                    began: false,
+                });
+                self.stand = next;
+                Ok(next.answer())
+            }
+        }
+    }
+
+    // Takes a fragment.
+    fn feed(&mut self, program: &Program, frag: &Frag) -> Result<Fed, WireFault>
+        requires stored { IsStored (program_of program.now).plan (program_of program.now).interface (stored_of self.old) }
+        ensures stored { IsStored (program_of program.now).plan (program_of program.now).interface (stored_of self.new) }
+        ensures feeds { Feeds (receiving program.now (stored_of self.old)) frag.now result (receiving program.now (stored_of self.new)) }
+    {
+        match self.stand {
+            Stand::Inside(begun) => self.feed_inside(program, begun, frag),
+            _ => self.feed_first(program, frag),
+        }
+    }
+
+    // Back to before the last accepted feed.
+    fn undo(&mut self, program: &Program)
+        requires stored { IsStored (program_of program.now).plan (program_of program.now).interface (stored_of self.old) }
+        ensures stored { IsStored (program_of program.now).plan (program_of program.now).interface (stored_of self.new) }
+        ensures undone { receiving program.now (stored_of self.new) ≡ undone (receiving program.now (stored_of self.old)) (receiving program.now (stored_of self.old)).before }
+    {
+        let _plan = program.plan();
+        let Some(before) = self.before else {
+            return;
+        };
+        if before.began {
+            mem::swap(&mut self.tape, &mut self.spare);
+        }
+        self.stand = before.stand;
+        self.before = None;
+    }
+}
+
+impl RecvRun {
+    /// A run of a program that nothing was fed to yet. `capacity` is how many numbers a tape may have: at least as many as
+    /// the tape of any call (`fl_layout` tells the greatest of each message).
+    ///
+    /// # Errors
+    /// Want of memory (E99). No other call but [`RecvRun::whole_call`] takes memory.
+    pub fn new(alloc: Global, program: Program, capacity: usize) -> Result<RecvRun, AllocError>
+        requires room { HoldsTapes (program_of program).plan (program_of program).interface capacity }
+        ensures made { IfOk result (λ r. r ≡ record { program = program; parts = []; whole = []; before = None }) }
+    {
+        let tape = vec![in alloc; 0; capacity]?;
+        let spare = vec![in alloc; 0; capacity]?;
+        let fresh = vec![in alloc; 0; capacity]?;
+        Ok(RecvRun {
+            program,
+            stored: Stored {
+                tape,
+                spare,
+                fresh,
+                stand: Stand::Between,
+                before: None,
+            },
+        })
+    }
+
+    /// Takes a fragment, whatever its epoch and the count that it tells: `Part` where its call goes on, `Whole` where it is
+    /// the last of its call. A refused fragment changes nothing. Takes no memory.
+    ///
+    /// # Errors
+    /// The first fault of a fragment that can't follow those since the last whole call: in its control word a reserved bit
+    /// or a circuit that isn't 0 (E63), no first fragment where one is due (E60), a first fragment inside a call (E61), a
+    /// message that the interface doesn't have or that changes (E62); else its first byte at fault, where nothing stands
+    /// (E63), in a number, an enumerator or a string (E65) or in a length (E66).
+    pub fn feed(&mut self, frag: &Frag) -> Result<Fed, WireFault>
+        ensures feeds { Feeds self.old frag.now result self.new }
+        ensures part { IfOk result (λ fed. fed ≡ Fed.Part → AddsPart (plan_in self.old) (interface_in self.old) self.old.parts frag.now (fed_by self.new)) }
+        ensures whole { IfOk result (λ fed. fed ≡ Fed.Whole → AddsLast (plan_in self.old) (interface_in self.old) self.old.parts frag.now (fed_by self.new)) }
+        ensures right { IfOk result (λ fed. IsWrong (plan_in self.old) (interface_in self.old) (self.old.parts ++ frag.now ∷ []) → ⊥) }
+        ensures before { IfOk result (λ fed. Remembers self.old self.new) }
+        ensures wrong { IfErr result (λ fault. IsRefused (plan_in self.old) (interface_in self.old) self.old.parts frag.now fault) }
+        ensures same { IfErr result (λ fault. self.new ≡ self.old) }
+    {
+        self.stored.feed(&self.program, frag)
+    }
+
+    /// The program whose calls the run takes.
+    pub fn program(&self) -> &Program
+        ensures program { result.now ≡ self.now.program }
+    {
+        &self.program
+    }
+
+    /// The call that the last fragment fed made whole, also after an [`RecvRun::undo`] that leads back there.
+    ///
+    /// # Errors
+    /// Want of memory (E99), which changes nothing.
+    pub fn whole_call(&self, alloc: Global) -> Result<Call, AllocError>
+        requires whole { self.now.whole ≢ [] }
+        ensures fits { IfOk result (λ call. fits_of (interface_in self.now) (call_of call) ≡ true) }
+        ensures means { IfOk result (λ call. Means (plan_in self.now) (interface_in self.now) self.now.whole (call_of call) 0) }
+    {
+        let Stand::After(ended) = self.stored.stand else {
+            unreachable!();
+        };
+        let tape = &self.stored.tape[..ended.count];
+        let interface = self.program.interface();
+        match unflatten(alloc, interface, ended.msg, tape, self.program.plan())? {
+            Some(call) => Ok(call),
+            None => unreachable!(),
+        }
+    }
+
+    /// Back to before the last accepted feed; nothing where none was since [`RecvRun::new`] or the last `undo`. Takes no
+    /// memory.
+    pub fn undo(&mut self)
+        ensures undone { self.new ≡ undone self.old self.old.before }
+    {
+        self.stored.undo(&self.program);
+    }
+}

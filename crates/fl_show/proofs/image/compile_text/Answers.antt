@@ -1,0 +1,9 @@
+use Rattle.fl_check.specs.Interface.{interface_of}
+use Rattle.fl_compile.specs.Programs.{program_of}
+use Rattle.fl_show.proofs.TextImages.{image_told}
+use Rattle.fl_show.proofs.image.compile_text.Goals as goal
+
+pub returns-clause-image : goal.returns-clause-image
+returns-clause-image c =
+    image_told c.args.text.now c.in_ok-image.image.items (interface_of c.in_ok-interface.interface) (program_of c.in_ok-program.program)
+    c.in_ok-interface.ensures.interface c.in_ok-program.ensures.interface c.in_ok-program.ensures.plan c.in_ok-image.ensures.image

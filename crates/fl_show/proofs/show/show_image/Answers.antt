@@ -1,0 +1,11 @@
+use Rattle.std.proofs.Common.{◌∙◌}
+use Rattle.fl_check.specs.Interface.{interface_of}
+use Rattle.fl_compile.specs.Programs.{program_of}
+use Rattle.fl_show.proofs.TextImages.{table_told}
+use Rattle.fl_show.proofs.show.show_image.Goals as goal
+
+pub returns-clause-table : goal.returns-clause-table
+returns-clause-table c =
+    table_told c.args.bytes.now c.in_ok-table.table.items (program_of c.in-Ok.program) (interface_of c.in_ok-plans.plans.interface) c.in_ok-plans.plans.plan
+    c.in-Ok.ensures.found (c.in_ok-plans.ensures.interface ∙ c.interface.ensures.interface) (c.in_ok-plans.ensures.plan ∙ c.plan-number.ensures.plan)
+    c.in_ok-table.ensures.table

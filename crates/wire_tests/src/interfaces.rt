@@ -1,0 +1,12 @@
+//! Interfaces made from their texts.
+
+use fl_check::{Interface, TextFault, check};
+use fl_lex::lex;
+use fl_parse::parse;
+use std::alloc::Global;
+
+pub fn interface(alloc: Global, text: &[u8]) -> Result<Interface, TextFault> {
+    let tokens = lex(alloc, text)?;
+    let tree = parse(alloc, &tokens)?;
+    Ok(check(alloc, &tree)?)
+}
