@@ -9,7 +9,7 @@ use std::thread;
 use std::time::Instant;
 
 /// How often each side runs, in turn.
-const RUNS: usize = 12;
+const RUNS: usize = 60;
 
 /// Fragments, or round trips, of a run, and how many of them are timed at once: few, since other work
 /// on the machine takes a thread its processor now and then, and a stretch in which that happens is
