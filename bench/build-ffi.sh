@@ -46,6 +46,14 @@ for source in "$@"; do
     else
         echo "$source staticlib: $used" >>crates.txt
         cp "$text" "crates/$source/src/lib.rt"
+        # its proofs, where it has some: named .lemmas, since the gate refuses .antt files outside of crates
+        rm -rf "crates/$source/proofs"
+        for proof in "$top/bench/ffi/$source"/*/*.lemmas; do
+            [ -f "$proof" ] || continue
+            function=$(basename "$(dirname "$proof")")
+            mkdir -p "crates/$source/proofs/$function"
+            cp "$proof" "crates/$source/proofs/$function/$(basename "$proof" .lemmas).antt"
+        done
         (cd "crates/$source" && "$rt" lib)
         cp "crates/$source/out/lib$source.a" "$into/"
     fi

@@ -1,4 +1,5 @@
-//! Stub code: a call's fragments by runs of send code, beside the proved encoder and beside plain Rust, in one run.
+//! Stub code: a call's fragments given by runs of send code and taken by receive runs, beside the proved encoder and
+//! reader and beside plain Rust, in one run.
 //!
 //! The sides take turns. Each figure is a median, in nanoseconds for a call.
 
@@ -6,9 +7,11 @@
 #[path = "../../calls/src/plain.rs"]
 mod calls;
 mod plain;
+mod receiver;
 
 use calls::{ArgType, Call, Interface, Scalar, Type, Value};
 use plain::{Op, Stub};
+use receiver::TakeOp;
 use std::env;
 use std::hint::black_box;
 use std::time::Instant;
@@ -20,6 +23,9 @@ extern "C" {
     fn stubs_bench_give(text: *const u8, len: usize, call: *const u8, call_len: usize, second: bool, count: u64) -> u64;
     fn stubs_bench_send(text: *const u8, len: usize, call: *const u8, call_len: usize, second: bool, count: u64) -> u64;
     fn stubs_bench_encode(text: *const u8, len: usize, call: *const u8, call_len: usize, second: bool, count: u64) -> u64;
+    fn stubs_bench_take(text: *const u8, len: usize, call: *const u8, call_len: usize, second: bool, count: u64) -> u64;
+    fn stubs_bench_receive(text: *const u8, len: usize, call: *const u8, call_len: usize, second: bool, count: u64) -> u64;
+    fn stubs_bench_read(text: *const u8, len: usize, call: *const u8, call_len: usize, second: bool, count: u64) -> u64;
 }
 
 /// One side of a comparison.
@@ -29,15 +35,14 @@ enum Side {
     Plain(fn(&Stub, u64) -> u64),
 }
 
-/// What is timed: our side, and those that it is compared with. They all give the same fragments.
+/// What is timed: our side, and those that it is compared with. They all give the same fragments, or take the same calls.
 struct Work {
     name: &'static str,
     ours: Side,
     others: &'static [(&'static str, Side)],
 }
 
-// Receiving: a line each for taking (fragments to a tape) and reading (fragments to a call).
-const WORK: [Work; 2] = [
+const WORK: [Work; 4] = [
     Work {
         name: "a tape to fragments",
         ours: Side::Proved(stubs_bench_give),
@@ -52,9 +57,23 @@ const WORK: [Work; 2] = [
             ("plain encoder", Side::Plain(plain::encode)),
         ],
     },
+    Work {
+        name: "fragments to a tape",
+        ours: Side::Proved(stubs_bench_take),
+        others: &[("plain machine", Side::Plain(receiver::take))],
+    },
+    Work {
+        name: "fragments to a call",
+        ours: Side::Proved(stubs_bench_receive),
+        others: &[
+            ("plain machine", Side::Plain(receiver::receive)),
+            ("proved reader", Side::Proved(stubs_bench_read)),
+            ("plain reader", Side::Plain(receiver::read)),
+        ],
+    },
 ];
 
-// How many fragments a timed stretch gives, and how many stretches there are.
+// How many fragments a timed stretch gives or takes, and how many stretches there are.
 const FRAGS: u64 = 2_000;
 const RUNS: usize = 401;
 
@@ -79,8 +98,8 @@ fn listed<T: ToString>(items: impl IntoIterator<Item = T>) -> String {
     items.into_iter().map(|item| item.to_string()).collect::<Vec<_>>().join(", ")
 }
 
-fn one_message(args: Vec<ArgType>, values: Vec<Value>, send: Vec<Op>) -> Stub {
-    Stub::new(Interface { messages: vec![args] }, Call { msg: 0, args: values }, send)
+fn one_message(args: Vec<ArgType>, values: Vec<Value>, send: Vec<Op>, receive: Vec<TakeOp>) -> Stub {
+    Stub::new(Interface { messages: vec![args] }, Call { msg: 0, args: values }, send, receive)
 }
 
 fn scalars() -> Row {
@@ -107,30 +126,46 @@ fn scalars() -> Row {
         Op::Emit(2),
         Op::End,
     ];
+    let receive = vec![
+        TakeOp::Read(1),
+        TakeOp::Bool,
+        TakeOp::Read(2),
+        TakeOp::Read(4),
+        TakeOp::Read(8),
+        TakeOp::Read(8),
+        TakeOp::Read(1),
+        TakeOp::Skip(1),
+        TakeOp::Read(2),
+        TakeOp::Done,
+    ];
     Row {
         name: "eight scalars of 1 to 8 bytes",
         interface: "interface i { message m(uint8 a, bool b, int16 c, uint32 d, uint64 e, int64 f, uint8 g, uint16 h); }",
         call: format!("m({})", listed(numbers)),
         frags: 1,
-        stub: one_message(types.map(fixed).into(), ints(numbers), send),
+        stub: one_message(types.map(fixed).into(), ints(numbers), send, receive),
     }
 }
 
 fn text() -> Row {
     let text: Vec<u8> = (0..2_047).map(|k| b'a' + (k % 26) as u8).collect();
     let send = vec![Op::Align, Op::Length, Op::Each, Op::Emit(1), Op::Back, Op::End];
+    let receive =
+        vec![TakeOp::Align, TakeOp::Length(2_047), TakeOp::Each, TakeOp::Text, TakeOp::Back, TakeOp::Done];
     Row {
         name: "a string of 2,047 bytes",
         interface: "interface i { message m(string s); }",
         call: format!("m(\"{}\")", String::from_utf8_lossy(&text)),
         frags: 37,
-        stub: one_message(vec![ArgType::Text(2_047)], vec![Value::Text(text)], send),
+        stub: one_message(vec![ArgType::Text(2_047)], vec![Value::Text(text)], send, receive),
     }
 }
 
 fn numbers() -> Row {
     let numbers = || (1..=512).map(|k: i128| k * 0x0012_3456_789a);
     let send = vec![Op::Align, Op::Length, Op::Each, Op::Emit(8), Op::Back, Op::End];
+    let receive =
+        vec![TakeOp::Align, TakeOp::Length(512), TakeOp::Each, TakeOp::Read(8), TakeOp::Back, TakeOp::Done];
     Row {
         name: "an array of 512 uint64",
         interface: "interface i { message m(uint64 x[n, 512]); }",
@@ -140,6 +175,7 @@ fn numbers() -> Row {
             vec![ArgType::Sized(512, Type::Scalar(Scalar::Unsigned(8)))],
             vec![Value::List(ints(numbers()))],
             send,
+            receive,
         ),
     }
 }
@@ -163,6 +199,20 @@ fn structs() -> Row {
         Op::Back,
         Op::End,
     ];
+    let receive = vec![
+        TakeOp::Align,
+        TakeOp::Length(100),
+        TakeOp::Each,
+        TakeOp::Read(1),
+        TakeOp::Skip(7),
+        TakeOp::Read(8),
+        TakeOp::Read(4),
+        TakeOp::Times(2),
+        TakeOp::Read(2),
+        TakeOp::Back,
+        TakeOp::Back,
+        TakeOp::Done,
+    ];
     let value = |k| {
         let [a, b, c, d, e] = fields(k);
         let [a, b, c] = [a, b, c].map(Value::Int);
@@ -185,11 +235,12 @@ fn structs() -> Row {
             vec![ArgType::Sized(100, ty)],
             vec![Value::List((1..=100).map(value).collect())],
             send,
+            receive,
         ),
     }
 }
 
-/// The sum over the fragments of so many calls.
+/// The sum over the fragments of so many calls, or over the calls.
 fn run(side: Side, row: &Row, count: u64) -> u64 {
     match side {
         Side::Proved(work) => {
@@ -222,7 +273,7 @@ fn nanoseconds(side: Side, row: &Row, count: u64) -> f64 {
 }
 
 fn main() {
-    println!("medians of {RUNS} stretches, nanoseconds for a call; a ratio above 1 says that send code is faster");
+    println!("medians of {RUNS} stretches, nanoseconds for a call; a ratio above 1 says that stub code is faster");
     // one row by a word of its name, or all
     let word = env::args().nth(1).unwrap_or_default();
     for row in [scalars(), text(), numbers(), structs()].into_iter().filter(|row| row.name.contains(&word)) {
@@ -239,10 +290,10 @@ fn main() {
                 }
             }
             for side in &sides {
-                assert_eq!(run(*side, &row, count), wanted, "the sides gave other fragments");
+                assert_eq!(run(*side, &row, count), wanted, "the sides gave other fragments, or took other calls");
             }
             let times: Vec<f64> = times.into_iter().map(median).collect();
-            println!("{:>24}: send code {:9.1}", work.name, times[0]);
+            println!("{:>24}: stub code {:9.1}", work.name, times[0]);
             for ((name, _), time) in work.others.iter().zip(&times[1..]) {
                 println!("{:>24}  {name} {time:9.1}   ratio {:.2}", "", time / times[0]);
             }

@@ -2,6 +2,7 @@
 //! a time. It trusts its code and its tape. Beside it the plain encoder of the calls' benchmark, from types and values.
 
 use crate::calls::{self, ArgType, Call, Frag, Interface, Scalar, Type, Value};
+use crate::receiver::TakeOp;
 
 #[derive(Clone, Copy)]
 pub enum Op {
@@ -153,7 +154,7 @@ impl Iterator for Run<'_> {
     }
 }
 
-fn width_of(scalar: Scalar) -> usize {
+pub fn width_of(scalar: Scalar) -> usize {
     match scalar {
         Scalar::Bool => 1,
         Scalar::Unsigned(bytes) | Scalar::Signed(bytes) => bytes,
@@ -192,18 +193,21 @@ fn flatten(types: &Interface, call: &Call) -> Vec<u64> {
     tape
 }
 
-/// A call, its message's send code, and its tape.
+/// A call, its message's code, its tape, and its fragments.
 pub struct Stub {
-    types: Interface,
+    pub types: Interface,
     value: Call,
     send: Vec<Op>,
-    tape: Vec<u64>,
+    pub receive: Vec<TakeOp>,
+    pub tape: Vec<u64>,
+    pub frags: Vec<Frag>,
 }
 
 impl Stub {
-    pub fn new(types: Interface, value: Call, send: Vec<Op>) -> Stub {
+    pub fn new(types: Interface, value: Call, send: Vec<Op>, receive: Vec<TakeOp>) -> Stub {
         let tape = flatten(&types, &value);
-        Stub { types, value, send, tape }
+        let frags = calls::fragments(&types, false, &value);
+        Stub { types, value, send, receive, tape, frags }
     }
 }
 

@@ -54,7 +54,7 @@ abbrev CallTurns : Column → PlanNo → TheMessage → Option TheMessage → Li
 CallTurns column plan m found ds =
     Turns (message_block column plan m) (flat_map tape_of_argument (ordered plan (types_of found) ds)) (payload_bytes (arguments_onto false (ordered plan (leaf_types_of found) ds) []))
 
-call_turns : (column : Column) (plan : PlanNo) (i : TheInterface) (m : TheMessage) (c : TheCall) → HasMessage i c.msg m → fits_of i c ≡ true
+pub call_turns : (column : Column) (plan : PlanNo) (i : TheInterface) (m : TheMessage) (c : TheCall) → HasMessage i c.msg m → fits_of i c ≡ true
     → Turns (message_block column plan m) (tape_of plan i c) (payload_of plan i c)
 call_turns column plan i m c has fits =
     let e = has.message in

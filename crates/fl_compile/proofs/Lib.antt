@@ -14,5 +14,6 @@ pub mod Ordering
 pub mod Depths
 pub mod Lawful
 pub mod Telling
+pub mod OneFault
 pub mod Compiling
 pub mod Cases

@@ -1,6 +1,7 @@
 -- What the compiler's code does: laws of every interface that is within the limits and whose numbers fit 32-bit words, as
 -- those of every accepted interface do.
 use Rattle.std.specs.Prelude.{◌≡◌, ◌↔◌, ℕ, true, List, slice_get, Some}
+use Rattle.fl_base.specs.declared.fragment.Frag.{Frag}
 use Rattle.fl_check.specs.Interface.{TheMessage, TheInterface}
 use Rattle.fl_check.specs.Checks.{is_within_limits}
 use Rattle.fl_value.specs.Value.{TheCall}
@@ -9,7 +10,7 @@ use Rattle.fl_value.specs.Tape.{tape_of}
 use Rattle.fl_value.specs.declared.value.PlanNo.{PlanNo}
 use Rattle.fl_wire.specs.Payload.{payload_of}
 use Rattle.fl_wire.specs.Words.{interface_words_fit}
-use Rattle.fl_wire.specs.Wrong.{fault_at}
+use Rattle.fl_wire.specs.Wrong.{fault_at, HasFault, IsWrongAt}
 use Rattle.fl_wire.specs.declared.fault.WireFault.{WireFault}
 use Rattle.fl_wire.specs.declared.fault.WireFault.TheVariants.{NotZero, OutOfType, TooLong}
 use Rattle.fl_stub.specs.declared.mark.Mark.{Mark}
@@ -59,3 +60,13 @@ fault_of Zero = NotZero
 abbrev pub TellsFaults : Type 0
 TellsFaults = (plan : PlanNo) (i : TheInterface) (m : TheMessage) (c : TheCall) → HasMessage i c.msg m → fits_of i c ≡ true
     → (p : ℕ) → fault_at plan i c p ≡ fault_of (mark_at (marks_of (message_block Receive plan m) (tape_of plan i c)) p)
+
+-- a fragment that can't follow those since the last whole call has one first fault
+abbrev pub OneFault : Type 0
+OneFault = (plan : PlanNo) (i : TheInterface) (rest : List Frag) (f : Frag) (a b : WireFault) → is_within_limits i ≡ true → interface_words_fit i ≡ true
+    → HasFault plan i rest f a → HasFault plan i rest f b → a ≡ b
+
+-- and so has a list of fragments that isn't read as calls and a rest
+abbrev pub OneRefusal : Type 0
+OneRefusal = (plan : PlanNo) (i : TheInterface) (frags : List Frag) (a b : WireFault) → is_within_limits i ≡ true → interface_words_fit i ≡ true
+    → IsWrongAt plan i frags a → IsWrongAt plan i frags b → a ≡ b

@@ -1,6 +1,6 @@
 //! What the compiler's code does: laws, as the contracts of functions that do nothing.
 
-ghost use Rattle.fl_compile.specs.Laws.{SendsCalls, TakesCalls, CompilesToCode, TellsFaults};
+ghost use Rattle.fl_compile.specs.Laws.{SendsCalls, TakesCalls, CompilesToCode, TellsFaults, OneFault, OneRefusal};
 
 /// The send code of a message turns the tape of each fitting call into the call's payload.
 pub fn sends_calls()
@@ -22,4 +22,12 @@ pub fn compiles_to_code()
 /// with: a length above its bound, a number out of its type, or not zero.
 pub fn tells_faults()
     ensures tells { TellsFaults }
+{}
+
+/// In every interface within the limits, a fragment that can't follow those since the last whole call has one first fault, and
+/// so has a list of fragments that isn't read as calls and a rest: the fragments alone tell what a receive run refuses them
+/// by, and `fl_wire::read_frags` where memory doesn't run out.
+pub fn one_fault()
+    ensures fault { OneFault }
+    ensures refusal { OneRefusal }
 {}

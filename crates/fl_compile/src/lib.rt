@@ -21,5 +21,5 @@ mod program;
 mod types;
 
 pub use compiler::compile;
-pub use law::{compiles_to_code, sends_calls, takes_calls, tells_faults};
+pub use law::{compiles_to_code, one_fault, sends_calls, takes_calls, tells_faults};
 pub use program::Program;

@@ -1,5 +1,5 @@
 -- What taking a fragment's bytes says of the calls of its message.
-use Rattle.std.proofs.Common.{◌≡◌, ℕ, zero, suc, ◌+◌, ◌*◌, ◌/◌, ◌%◌, ◌^◌, ◌<◌, ◌≤◌, Bool, true, false, ⊎_elim, inl, inr, List, [], ◌∷◌, ◌++◌, map, take, length, get_or, slice_index, Some, None, Result, Ok, Err, refl, sym, ◌∙◌, ap, subst, arith, eqb, max}
+use Rattle.std.proofs.Common.{◌≡◌, ℕ, zero, suc, ◌+◌, ◌*◌, ◌/◌, ◌%◌, ◌^◌, ◌<◌, ◌≤◌, true, ⊎_elim, inl, inr, List, [], ◌∷◌, ◌++◌, map, take, length, get_or, slice_index, Some, None, Result, Ok, Err, refl, sym, ◌∙◌, ap, subst, arith, eqb, max}
 use Rattle.std.specs.Prelude.{slice_get, Option, IfErr, IfOk}
 use Rattle.std.specs.Option.{option_map}
 use Rattle.std.specs.List.{range_with_len}
@@ -19,7 +19,7 @@ use Rattle.fl_layout.specs.Leaves.{leaves}
 use Rattle.fl_layout.specs.Places.{size, count}
 use Rattle.fl_layout.proofs.BothPlans.{length_small}
 use Rattle.fl_wire.specs.Payload.{payload_of, frags_of}
-use Rattle.fl_wire.specs.Reading.{plain, Means, IsPart, IsWrong, Reads}
+use Rattle.fl_wire.specs.Reading.{plain, Means, IsPart, IsWrong}
 use Rattle.fl_wire.specs.Headers.{Line}
 use Rattle.fl_wire.specs.Wrong.{WrongByte, HasFault, header_fault, start_fault, follow_fault}
 use Rattle.fl_wire.specs.Words.{interface_words_fit}
@@ -27,7 +27,7 @@ use Rattle.fl_wire.specs.declared.fault.WireFault.{WireFault}
 use Rattle.fl_wire.proofs.Bytes.{length_payload}
 use Rattle.fl_wire.proofs.Readings.{count_positive, byte_of_payload}
 use Rattle.fl_wire.proofs.Decoding.{front_frags, short_count, whole_count}
-use Rattle.fl_wire.proofs.Frames.{start_control, start_known, follow_control, follow_message}
+use Rattle.fl_wire.proofs.Frames.{start_known}
 use Rattle.fl_wire.proofs.Unread.{IsUnderWay, fault_is_wrong, reads_right, one_fits}
 use Rattle.fl_stub.specs.declared.op.Op.{Op}
 use Rattle.fl_stub.specs.declared.op.Column.TheVariants.{Receive}
@@ -38,7 +38,7 @@ use Rattle.fl_stub.specs.Frames.{block_of}
 use Rattle.fl_stub.specs.Meaning.{Turns}
 use Rattle.fl_stub.specs.Given.{bytes_given}
 use Rattle.fl_stub.specs.Marks.{marks_of, mark_at}
-use Rattle.fl_stub.specs.Streams.{Follows, GoesOn, BeginsPayload, IsPayload, LeavesPayloads}
+use Rattle.fl_stub.specs.Streams.{BeginsPayload, IsPayload, LeavesPayloads}
 use Rattle.fl_stub.proofs.Structures.{structure_is}
 use Rattle.fl_stub.proofs.Giving.{turns_into_given}
 use Rattle.fl_compile.specs.Codes.{compiled}
@@ -49,7 +49,7 @@ use Rattle.fl_machine.specs.declared.intake.Fed.{Fed}
 use Rattle.fl_machine.specs.declared.intake.Fed.TheVariants.{Part, Whole}
 use Rattle.fl_machine.specs.declared.recv.Begun.{Begun}
 use Rattle.fl_machine.specs.declared.recv.Ended.{Ended}
-use Rattle.fl_machine.specs.Sending.{frag_of, frags_holding, frags_for}
+use Rattle.fl_machine.specs.Sending.{frag_of, frags_holding}
 use Rattle.fl_machine.specs.Taking.{Stands, words_bytes, so_far}
 use Rattle.fl_machine.specs.Receiving.{block_for, block_at, frags_begun, parts_of, whole_of, TheHeld, TheReceiving, plan_in, interface_in, Feeds, AddsPart, AddsLast, IsRefused, HoldsTapes, IsBegun, IsEnded}
 use Rattle.fl_machine.proofs.Begun.{same_begun, begun_length, plain_begun, Grown, grows, byte_of_frags}

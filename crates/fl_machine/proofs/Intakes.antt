@@ -619,7 +619,7 @@ pub record Turned (c d : Intake) (f : Field) : Type 0 where
   pub others : d ≡ record c { loops = d.loops; count = c.count + 1; phase = (c.phase % 8 + f.width) % 8 }
   pub loops : d.loops ≡ slice_set c.loops (c.depth - 1) (record { start = (inner_loop c).start; turns = (inner_loop c).turns - 1 })
 
-turned_inner : (c d : Intake) (f : Field) → Turned c d f → 0 < c.depth → c.depth ≤ 8 → length c.loops ≡ 8 → inner_loop d ≡ record { start = (inner_loop c).start; turns = (inner_loop c).turns - 1 }
+pub turned_inner : (c d : Intake) (f : Field) → Turned c d f → 0 < c.depth → c.depth ≤ 8 → length c.loops ≡ 8 → inner_loop d ≡ record { start = (inner_loop c).start; turns = (inner_loop c).turns - 1 }
 turned_inner c d f t deep few long =
     let l : Loop = record { start = (inner_loop c).start; turns = (inner_loop c).turns - 1 } in
     let depth : d.depth ≡ c.depth = ap Intake.depth t.others in

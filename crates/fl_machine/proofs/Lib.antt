@@ -1,8 +1,11 @@
 pub mod Turns
+pub mod Eights
 pub mod Pours
 pub mod Fragments
 pub mod Intakes
 pub mod Begun
+pub mod Spans
 pub mod Feeding
 pub mod Storing
 pub mod Rounds
+pub mod OffCircuits

@@ -220,20 +220,27 @@ puts_none ops s put buffer at long h = record {
   long = ap length (append-nil put) ∙ long;
 }
 
+-- a number in so many bytes put behind those of a run
+pub puts_more : (ops : List Op) (s t u : TheSpot) (put buffer after : List ℕ) (at value width : ℕ) → PutsRun ops s t put buffer at → length buffer ≡ 56 → at + 8 ≤ 56
+    → width ≤ 8 → value < 256 ^ width → bytes_from ops t ≡ number_bytes width value ++ bytes_from ops u → after ≡ over_eight buffer at value
+    → PutsRun ops s u put after (at + width)
+puts_more ops s t u put buffer after at value width p long room few small bytes e =
+    let number = number_bytes width value in
+    let h = holds_number buffer (put ++ p.more) at width value long p.long room few small p.holds in
+    let joined : put ++ (p.more ++ number) ≡ (put ++ p.more) ++ number = sym (append_assoc put p.more number) in
+    record {
+      more = p.more ++ number;
+      bytes = p.bytes ∙ ap (λ (x : List ℕ). p.more ++ x) bytes ∙ sym (append_assoc p.more number (bytes_from ops u));
+      holds = subst (λ (b : List ℕ). Holds b (put ++ (p.more ++ number))) (sym e) (subst (λ (x : List ℕ). Holds (over_eight buffer at value) x) (sym joined) h);
+      long = ap length joined ∙ length_put (put ++ p.more) at width value p.long;
+    }
+
 pub puts_turn : (ops : List Op) (s t u : TheSpot) (put buffer after : List ℕ) (at value width : ℕ) → PutsRun ops s t put buffer at → length buffer ≡ 56 → at + 8 ≤ 56
     → t.width ≡ width → t.value ≡ value → IsSpot ops t → bytes_from ops t ≡ number_bytes t.width t.value ++ bytes_from ops u → after ≡ over_eight buffer at value
     → PutsRun ops s u put after (at + width)
 puts_turn ops s t u put buffer after at value width p long room wide is spot bytes e =
-    let number = number_bytes t.width t.value in
-    let h = holds_number buffer (put ++ p.more) at t.width t.value long p.long room spot.width spot.value p.holds in
-    let joined : put ++ (p.more ++ number) ≡ (put ++ p.more) ++ number = sym (append_assoc put p.more number) in
-    let buffers : over_eight buffer at t.value ≡ after = ap (over_eight buffer at) is ∙ sym e in
-    record {
-      more = p.more ++ number;
-      bytes = p.bytes ∙ ap (λ (x : List ℕ). p.more ++ x) bytes ∙ sym (append_assoc p.more number (bytes_from ops u));
-      holds = subst (λ (b : List ℕ). Holds b (put ++ (p.more ++ number))) buffers (subst (λ (x : List ℕ). Holds (over_eight buffer at t.value) x) (sym joined) h);
-      long = ap length joined ∙ length_put (put ++ p.more) at t.width t.value p.long ∙ ap (λ (w : ℕ). at + w) wide;
-    }
+    subst (λ (w : ℕ). PutsRun ops s u put after (at + w)) wide
+    (puts_more ops s t u put buffer after at t.value t.width p long room spot.width spot.value bytes (e ∙ ap (over_eight buffer at) (sym is)))
 
 -- a run and then a number
 pub puts_after : (ops : List Op) (s t u : TheSpot) (put buffer after : List ℕ) (at end : ℕ) → (p : PutsRun ops s t put buffer at) → Puts ops t u (put ++ p.more) after end → Puts ops s u put after end
@@ -250,3 +257,15 @@ puts_after ops s t u put buffer after at end p q =
       longer = omega (arith, length-append put p.more, b);
       within = q.within;
     }
+
+-- a run alone, which put something
+pub puts_alone : (ops : List Op) (s t : TheSpot) (put buffer : List ℕ) (end : ℕ) → PutsRun ops s t put buffer end → IsSpot ops t → length put < end → end ≤ 56 → Puts ops s t put buffer end
+puts_alone ops s t put buffer end p spot longer within = record {
+  more = p.more;
+  spot = spot;
+  bytes = p.bytes;
+  holds = p.holds;
+  long = p.long;
+  longer = longer;
+  within = within;
+}

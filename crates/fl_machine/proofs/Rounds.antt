@@ -1,8 +1,8 @@
 -- A call's fragments, fed one after another.
-use Rattle.std.proofs.Common.{◌≡◌, ℕ, zero, suc, ◌+◌, ◌*◌, ◌/◌, ◌%◌, ◌^◌, ◌<◌, ◌≤◌, true, inl, inr, List, [], ◌∷◌, ◌++◌, map, take, length, Result, Ok, Err, refl, sym, ◌∙◌, ap, subst, arith, append_assoc}
+use Rattle.std.proofs.Common.{◌≡◌, ℕ, suc, ◌+◌, ◌*◌, ◌/◌, ◌%◌, ◌^◌, ◌<◌, true, List, [], ◌∷◌, ◌++◌, map, take, length, Result, Ok, Err, refl, sym, ◌∙◌, ap, subst, arith, append_assoc}
 use Rattle.std.proofs.lemmas.List.{length-append, length-map, map-append, append-nil, take_at}
 use Rattle.fl_base.specs.declared.fragment.Frag.{Frag}
-use Rattle.fl_check.specs.Interface.{TheInterface, TheMessage}
+use Rattle.fl_check.specs.Interface.{TheInterface}
 use Rattle.fl_value.specs.declared.value.PlanNo.{PlanNo}
 use Rattle.fl_value.specs.Value.{TheCall}
 use Rattle.fl_value.specs.Fits.{fits_of}
@@ -16,8 +16,8 @@ use Rattle.fl_compile.specs.declared.program.Program.{Program}
 use Rattle.fl_compile.specs.Programs.{program_of}
 use Rattle.fl_machine.specs.declared.intake.Fed.{Fed}
 use Rattle.fl_machine.specs.declared.intake.Fed.TheVariants.{Part, Whole}
-use Rattle.fl_machine.specs.Receiving.{TheReceiving, TheHeld, plan_in, interface_in, fed_by, AddsPart, AddsLast, IsRefused, Remembers, Feeds}
-use Rattle.fl_machine.specs.Rounds.{FeedsAll, whole_at_last, TakesCall, TakesFragments}
+use Rattle.fl_machine.specs.Receiving.{TheReceiving, plan_in, interface_in}
+use Rattle.fl_machine.specs.Rounds.{FeedsAll, whole_at_last, TakesFragments}
 use Rattle.fl_machine.proofs.Feeding.{part_right, whole_right}
 
 plain_twice : (f : Frag) → plain (plain f) ≡ plain f

@@ -1,26 +1,23 @@
 -- What a run stores, where a refused fragment wrote behind its numbers.
-use Rattle.std.proofs.Common.{◌≡◌, ℕ, ◌<◌, ◌≤◌, Bool, true, false, ◌⊎◌, inl, inr, List, [], take, length, map, Some, None, Result, Ok, Err, refl, sym, ◌∙◌, ap, subst, arith}
-use Rattle.std.specs.Prelude.{Option, IfOk}
+use Rattle.std.proofs.Common.{◌≡◌, ℕ, ◌≤◌, Bool, true, false, ◌⊎◌, inl, inr, List, [], take, length, Some, None, refl, sym, ◌∙◌, ap, subst, arith}
+use Rattle.std.specs.Prelude.{Option}
 use Rattle.std.proofs.lemmas.List.{take-take}
 use Rattle.std.proofs.lemmas.Bool.{false≢true}
 use Rattle.fl_stub.specs.Given.{bytes_given}
 use Rattle.fl_machine.specs.Sending.{frags_holding}
 use Rattle.fl_base.specs.declared.fragment.Frag.{Frag}
-use Rattle.fl_check.specs.Interface.{TheMessage, TheInterface}
-use Rattle.fl_check.specs.Checks.{is_within_limits}
+use Rattle.fl_check.specs.Interface.{TheInterface}
 use Rattle.fl_value.specs.declared.value.PlanNo.{PlanNo}
-use Rattle.fl_wire.specs.Words.{interface_words_fit}
 use Rattle.fl_stub.specs.declared.op.Column.TheVariants.{Receive}
 use Rattle.fl_compile.specs.declared.program.Program.{Program}
 use Rattle.fl_compile.specs.Programs.{program_of}
 use Rattle.fl_compile.specs.Compiled.{message_code}
 use Rattle.fl_machine.specs.declared.recv.Begun.{Begun}
-use Rattle.fl_machine.specs.declared.recv.Ended.{Ended}
 use Rattle.fl_machine.specs.declared.recv.Stand.{Stand}
 use Rattle.fl_machine.specs.declared.recv.Stand.TheVariants.{Between, Inside, After}
 use Rattle.fl_machine.specs.declared.recv.Before.{Before}
 use Rattle.fl_machine.specs.Taking.{Stands, so_far}
-use Rattle.fl_machine.specs.Receiving.{TheHeld, TheStored, TheReceiving, receiving, parts_of, whole_of, fed_of, fed_before, block_at, frags_begun, tape_before, numbers_in, HoldsTapes, IsBegun, IsEnded, IsStand, IsBefore, IsStored}
+use Rattle.fl_machine.specs.Receiving.{TheHeld, TheStored, receiving, fed_of, fed_before, block_at, frags_begun, tape_before, numbers_in, HoldsTapes, IsStand, IsBefore, IsStored}
 
 -- the first so many numbers of two tapes are the same
 pub record Same (n : ℕ) (tape tape2 : List ℕ) : Type 0 where

@@ -268,7 +268,7 @@ pub record Turned (ops : List Op) (tape : List ℕ) (old new : Cursor) : Type 0 
   pub turns : turns_of old ≡ turns_of new + 1
   pub goes : RunOn ops (spot_of tape old) (spot_of tape new)
 
-turned_at : (ops : List Op) (tape : List ℕ) (old : Cursor) (next low : ℕ) → IsSpot ops (spot_of tape old) → IsRun ops old → 0 < turns_of old → length old.loops ≡ 8
+pub turned_at : (ops : List Op) (tape : List ℕ) (old : Cursor) (next low : ℕ) → IsSpot ops (spot_of tape old) → IsRun ops old → 0 < turns_of old → length old.loops ≡ 8
     → drop next tape ≡ rest_of_tape (drop old.next tape) → number_bytes old.width low ≡ number_bytes old.width (first_of_tape (drop old.next tape)) → low < 256 ^ old.width
     → Turned ops tape old (after_turn (record old { next = next }) low)
 turned_at ops tape old next low spot run more long left bytes small =

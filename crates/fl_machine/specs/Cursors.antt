@@ -1,5 +1,5 @@
 -- A cursor as a spot of its code and tape.
-use Rattle.std.specs.Prelude.{◌≡◌, ℕ, zero, suc, ◌+◌, ◌-◌, ◌<◌, List, [], ◌∷◌, drop, slice_get, slice_index_or, Option, Some, None}
+use Rattle.std.specs.Prelude.{◌≡◌, ℕ, zero, suc, ◌+◌, ◌-◌, ◌%◌, ◌<◌, List, [], ◌∷◌, drop, slice_get, slice_index_or, Option, Some, None}
 use Rattle.fl_stub.specs.declared.op.Op.{Op}
 use Rattle.fl_stub.specs.declared.op.Op.TheVariants.{Emit, Times, Each, Back}
 use Rattle.fl_stub.specs.Spots.{TheLoop, TheSpot, bytes_from, IsSpot}
@@ -26,6 +26,10 @@ spot_of tape c = record {
   value = c.value;
   width = c.width;
 }
+
+-- the lowest byte of a number
+abbrev pub low_byte : ℕ → ℕ
+low_byte n = n % 256
 
 -- how many loops are open inside a loop after an instruction; none at the loop's own end
 abbrev pub inside_after : ℕ → Op → Option ℕ

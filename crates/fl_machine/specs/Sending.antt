@@ -1,7 +1,6 @@
 -- What a run of send code gives: fragments.
-use Rattle.std.specs.Prelude.{◌≡◌, ℕ, ◌+◌, ◌*◌, ◌/◌, ◌&&◌, ◌==◌, max, Bool, if◌then◌else◌, List, map, length, slice_index}
+use Rattle.std.specs.Prelude.{◌≡◌, ℕ, ◌+◌, ◌*◌, ◌/◌, ◌&&◌, ◌==◌, max, Bool, if◌then◌else◌, List, map, length}
 use Rattle.std.specs.List.{range_with_len}
-use Rattle.std.specs.Int.{from_le_bytes, w64}
 use Rattle.fl_base.specs.declared.fragment.Frag.{Frag}
 use Rattle.fl_base.specs.Control.{control_word}
 use Rattle.fl_stub.specs.Code.{TheCode}

@@ -1,5 +1,5 @@
 -- A run of receive code that stands between two bytes of a call.
-use Rattle.std.specs.Prelude.{◌≡◌, ◌≢◌, ℕ, suc, ◌+◌, ◌%◌, ◌^◌, ◌<◌, ◌≤◌, ◌⊎◌, true, false, List, [], ◌∷◌, ◌++◌, flat_map, length, slice_get, slice_index, slice_index_or, ◌-◌, Some}
+use Rattle.std.specs.Prelude.{◌≡◌, ◌≢◌, ℕ, suc, ◌+◌, ◌%◌, ◌^◌, ◌<◌, ◌≤◌, ◌⊎◌, true, false, List, [], ◌∷◌, ◌++◌, flat_map, length, slice_get, slice_index, slice_index_or, slice_set, ◌-◌, Some}
 use Rattle.fl_stub.specs.declared.op.Op.{Op}
 use Rattle.fl_stub.specs.declared.op.Op.TheVariants.{Back}
 use Rattle.fl_stub.specs.declared.mark.Mark.TheVariants.{Length}
@@ -117,3 +117,16 @@ pub record IsRunOf (ops : List Op) (c : Intake) (f : Field) : Type 0 where
   pub plain : f.mark ≢ Length
   pub start : (inner_loop c).start ≡ c.place
   pub back : slice_get ops (c.place + 1) ≡ Some Back
+
+-- bytes from a least one up to a greatest
+abbrev pub AreWithin : ℕ → ℕ → List ℕ → Type 0
+AreWithin least last [] = Unit {0}
+AreWithin least last (x ∷ bytes) = (x < 256) × (least ≤ x) × (x ≤ last) × AreWithin least last bytes
+
+-- so many bytes further in a loop over one byte
+abbrev pub after_bytes : Intake → ℕ → Intake
+after_bytes c many = record c {
+  loops = slice_set c.loops (c.depth - 1) (record { start = (inner_loop c).start; turns = (inner_loop c).turns - many });
+  count = c.count + many;
+  phase = (c.phase % 8 + many) % 8;
+}

@@ -1,6 +1,6 @@
 //! Where a run of send code stands, and how it goes on.
 
-ghost use Rattle.std.specs.Prelude.{◌≡◌, ◌≢◌, ◌==◌, ◌+◌, ◌-◌, ◌%◌, ◌<◌, ◌≤◌, ◌^◌, ℕ, suc, Bool, true, false, List, [], ◌∷◌, ◌++◌, drop, length, slice_get, Some, IsTrue, IsFalse};
+ghost use Rattle.std.specs.Prelude.{◌≡◌, ◌≢◌, ◌==◌, ◌+◌, ◌-◌, ◌%◌, ◌<◌, ◌≤◌, ◌^◌, ℕ, suc, Bool, true, false, List, [], ◌∷◌, ◌++◌, map, take, drop, length, slice_get, Some, IsTrue, IsFalse};
 ghost use Rattle.fl_stub.specs.declared.op.Op.TheVariants.{Emit as emit_op, Pad as pad_op, Times as times_op, Length as length_op, Back as back_op};
 ghost use Rattle.fl_stub.specs.declared.op.Column.{Column as the_column};
 ghost use Rattle.fl_stub.specs.Structure.{is_width};
@@ -9,7 +9,7 @@ ghost use Rattle.fl_stub.specs.Meaning.{number_bytes, gap_to_8};
 ghost use Rattle.fl_stub.specs.Given.{first_of_tape, rest_of_tape};
 ghost use Rattle.fl_stub.specs.Frames.{frames_of};
 ghost use Rattle.fl_stub.specs.Spots.{TheSpot, TheLoop, IsSpot, IsSettled, StepsTo, bytes_from, outer};
-ghost use Rattle.fl_machine.specs.Cursors.{spot_of, loops_of, inside_after as inside_after_of, turns_of, Gives, IsRun};
+ghost use Rattle.fl_machine.specs.Cursors.{spot_of, loops_of, inside_after as inside_after_of, turns_of, low_byte as low_byte_of, Gives, IsRun};
 
 use fl_stub::Op;
 
@@ -35,6 +35,30 @@ pub struct Cursor {
     // A number of which so many bytes are still to be given.
     value: u64,
     width: u32,
+}
+
+// The lowest byte of a number.
+fn low_byte(number: u64) -> u8
+    ensures { result ≡ low_byte_of number }
+{
+    (number % 256) as u8
+}
+
+// The lowest bytes of a number and of seven more as one number, the first lowest.
+fn packed(first: u64, numbers: &[u64], from: usize) -> u64
+    requires inside { from + 7 ≤ length numbers.now }
+    ensures { number_bytes 8 result ≡ map low_byte_of (first ∷ take 7 (drop from numbers.now)) }
+{
+    u64::from_le_bytes([
+        low_byte(first),
+        low_byte(numbers[from]),
+        low_byte(numbers[from + 1]),
+        low_byte(numbers[from + 2]),
+        low_byte(numbers[from + 3]),
+        low_byte(numbers[from + 4]),
+        low_byte(numbers[from + 5]),
+        low_byte(numbers[from + 6]),
+    ])
 }
 
 // The number without the bytes above so many.
@@ -302,6 +326,41 @@ impl Cursor {
         self.value = low_bytes(number, self.width);
         self.phase = (self.phase % 8 + self.width) % 8;
         self.loops[self.depth - 1].turns -= 1;
+        taken
+    }
+
+    /// Whether the numbers have one byte, and eight more of them are on the tape and in turns of the innermost loop.
+    pub(crate) fn has_eight(&self, tape: &[u64]) -> bool
+        requires low { 0 < self.now.depth }
+        requires high { self.now.depth ≤ 8 }
+        ensures one { IsTrue result → self.now.width ≡ 1 }
+        ensures turns { IsTrue result → 8 ≤ turns_of self.now }
+        ensures there { IsTrue result → self.now.next + 8 ≤ length tape.now }
+    {
+        self.width == 1
+            && self.turns_left() >= 8
+            && self.next < tape.len()
+            && tape.len() - self.next >= 8
+    }
+
+    /// Eight numbers of one byte as one number, and on to that of the turn behind them: as by `take_turn` eight times.
+    pub(crate) fn take_eight(&mut self, ops: &[Op], tape: &[u64]) -> u64
+        requires spot { IsSpot ops.now (spot_of tape.now self.old) }
+        requires run { IsRun ops.now self.old }
+        requires one { self.old.width ≡ 1 }
+        requires more { 8 ≤ turns_of self.old }
+        requires there { self.old.next + 8 ≤ length tape.now }
+        ensures width { self.new.width ≡ self.old.width }
+        ensures run { IsRun ops.now self.new }
+        ensures turns { turns_of self.old ≡ turns_of self.new + 8 }
+        ensures spot { IsSpot ops.now (spot_of tape.now self.new) }
+        ensures bytes { bytes_from ops.now (spot_of tape.now self.old) ≡ number_bytes 8 result ++ bytes_from ops.now (spot_of tape.now self.new) }
+    {
+        let taken = packed(self.value, tape, self.next);
+        self.value = tape[self.next + 7] % 256;
+        self.next += 8;
+        self.phase %= 8;
+        self.loops[self.depth - 1].turns -= 8;
         taken
     }
 

@@ -11,7 +11,7 @@ ghost use Rattle.fl_stub.specs.Streams.{BeginsPayload, IsPayload, LeavesPayloads
 ghost use Rattle.fl_stub.specs.Rests.{no_more, is_taken, taken_field, zeros_field, told};
 ghost use Rattle.fl_machine.specs.declared.intake.Fed.TheVariants.{Part as part, Whole as whole};
 ghost use Rattle.fl_machine.specs.Cursors.{loops_of};
-ghost use Rattle.fl_machine.specs.Taking.{Stands, IsFed, IsTaking, IsAtField, HasField, Passes, PassesOne, StepsOver, Grows, AreZeros, FirstSet, IsRunOf, inner_loop, words_bytes, field_view, rest_of};
+ghost use Rattle.fl_machine.specs.Taking.{Stands, IsFed, IsTaking, IsAtField, HasField, Passes, PassesOne, StepsOver, Grows, AreZeros, FirstSet, IsRunOf, AreWithin, inner_loop, after_bytes, words_bytes, field_view, rest_of};
 
 use crate::cursor::{Loop, behind, is_op};
 use fl_stub::{Mark, Op};
@@ -143,6 +143,65 @@ fn end_of(buffer: &[u8; 64], used: usize) -> Result<Fed, Mark>
         at += 1;
     }
     Ok(Fed::Whole)
+}
+
+// The least and the greatest of some bytes.
+fn bounds_of(buffer: &[u8; 64], from: usize, many: usize) -> (u8, u8)
+    requires inside { from + many ≤ 56 }
+    ensures within { AreWithin result.0 result.1 (take many (drop from buffer.now)) }
+{
+    let mut low = 255;
+    let mut high = 0;
+    let mut index = 0;
+    while index < many {
+        let byte = buffer[from + index];
+        low = byte.min(low);
+        high = byte.max(high);
+        index += 1;
+    }
+    (low, high)
+}
+
+// Puts bytes on a tape as numbers.
+fn put_bytes(tape: &mut [u64], count: usize, buffer: &[u8; 64], from: usize, many: usize)
+    requires room { count + many ≤ length tape.old }
+    requires inside { from + many ≤ 56 }
+    ensures tape { take (count + many) tape.new ≡ take count tape.old ++ take many (drop from buffer.now) }
+    ensures kept { take count tape.new ≡ take count tape.old }
+    ensures long { length tape.new ≡ length tape.old }
+{
+    let mut index = 0;
+    while index < many {
+        let number = u64::from(buffer[from + index]);
+        tape[count + index] = number;
+        index += 1;
+    }
+}
+
+// Puts bytes on a tape, if a field may have each as its number; how many.
+fn copy_bytes(
+    tape: &mut [u64],
+    count: usize,
+    field: Field,
+    buffer: &[u8; 64],
+    from: usize,
+    most: usize,
+) -> usize
+    requires room { count + most ≤ length tape.old }
+    requires inside { from + most ≤ 56 }
+    ensures some { result ≤ most }
+    ensures tape { take (count + result) tape.new ≡ take count tape.old ++ take result (drop from buffer.now) }
+    ensures right { AreWithin field.least field.last (take result (drop from buffer.now)) }
+    ensures kept { take count tape.new ≡ take count tape.old }
+    ensures long { length tape.new ≡ length tape.old }
+{
+    let (low, high) = bounds_of(buffer, from, most);
+    let (low, high) = (u64::from(low), u64::from(high));
+    if low < field.least || high > field.last {
+        return 0;
+    }
+    put_bytes(tape, count, buffer, from, most);
+    most
 }
 
 fn is_length(mark: Mark) -> bool
@@ -431,8 +490,71 @@ impl Intake {
         self.loops[self.depth - 1].turns -= 1;
     }
 
-    // Takes the numbers of a loop over one number, as long as they are right and bytes are left behind them; where the
-    // next bytes are.
+    // Past so many numbers of one byte that were put on the tape, in a loop over one.
+    fn pass_turns(&mut self, many: usize)
+        requires low { 0 < self.old.depth }
+        requires high { self.old.depth ≤ 8 }
+        requires few { many ≤ 56 }
+        requires room { self.old.count + many < 2 ^ 64 }
+        requires more { many ≤ (inner_loop self.old).turns }
+        ensures passed { self.new ≡ after_bytes self.old many }
+        ensures wide { length self.old.loops ≡ 8 }
+    {
+        self.count += many;
+        self.phase = (self.phase % 8 + many as u32) % 8;
+        self.loops[self.depth - 1].turns -= many as u64;
+    }
+
+    // How many bytes a loop over one byte can take from those of the fragment, with room for all on the tape.
+    fn bytes_wanted(&self, tape: &[u64], used: usize) -> usize
+        requires low { 0 < self.now.depth }
+        requires high { self.now.depth ≤ 8 }
+        requires inside { used ≤ 56 }
+        requires count { self.now.count ≤ length tape.now }
+        ensures inside { used + result ≤ 56 }
+        ensures turns { result ≤ (inner_loop self.now).turns }
+        ensures room { self.now.count + result ≤ length tape.now }
+    {
+        let there = (tape.len() - self.count).min(56 - used);
+        self.turns_left().min(there as u64) as usize
+    }
+
+    // Takes the bytes of a loop over one byte, if all are right; where the next bytes are.
+    fn take_bytes(
+        &mut self,
+        ops: &[Op],
+        tape: &mut [u64],
+        field: Field,
+        buffer: &[u8; 64],
+        used: usize,
+    ) -> usize
+        requires room { used < 56 }
+        requires field { HasField ops.now self.old field }
+        requires run { IsRunOf ops.now self.old field }
+        requires stance { IsTaking ops.now self.old }
+        requires count { self.old.count ≤ length tape.old }
+        ensures fed { (all : List ℕ) → IsFed ops.now (take self.old.count tape.old) self.old all (drop used (take 56 buffer.now)) → IsFed ops.now (take self.new.count tape.new) self.new all (drop result (take 56 buffer.now)) }
+        ensures end { (used ≤ result) × (result ≤ 56) }
+        ensures field { HasField ops.now self.new field }
+        ensures run { IsRunOf ops.now self.new field }
+        ensures kept { take self.old.count tape.new ≡ take self.old.count tape.old }
+        ensures long { length tape.new ≡ length tape.old }
+        ensures count { (self.old.count ≤ self.new.count) × (self.new.count ≤ length tape.new) }
+    {
+        if field.width != 1 {
+            return used;
+        }
+        let most = self.bytes_wanted(tape, used);
+        let many = copy_bytes(tape, self.count, field, buffer, used, most);
+        if many == 0 {
+            return used;
+        }
+        self.pass_turns(many);
+        used + many
+    }
+
+    // Takes the numbers of a loop over one number, as long as they are right and all their bytes are there; where the next
+    // bytes are.
     fn take_run(
         &mut self,
         ops: &[Op],
@@ -448,7 +570,7 @@ impl Intake {
         requires tape { (t full : List ℕ) → Turns (block_of ops.now) t full → length t ≤ length tape.old }
         requires count { self.old.count ≤ length tape.old }
         ensures fed { (all : List ℕ) → IsFed ops.now (take self.old.count tape.old) self.old all (drop used (take 56 buffer.now)) → IsFed ops.now (take self.new.count tape.new) self.new all (drop result (take 56 buffer.now)) }
-        ensures end { (used ≤ result) × (result < 56) }
+        ensures end { (used ≤ result) × (result ≤ 56) }
         ensures settled { IsAtField ops.now self.new }
         ensures field { HasField ops.now self.new field }
         ensures kept { take self.old.count tape.new ≡ take self.old.count tape.old }
@@ -459,8 +581,8 @@ impl Intake {
             return used;
         }
         let width = field.width as usize;
-        let mut end = used;
-        while end + width < 56 && self.turns_left() > 0 {
+        let mut end = self.take_bytes(ops, tape, field, buffer, used);
+        while end + width <= 56 && self.turns_left() > 0 {
             let number = low_part(word_at(buffer, end), width);
             if number < field.least || number > field.last {
                 return end;
@@ -512,6 +634,36 @@ impl Intake {
         Ok(used + there)
     }
 
+    // Takes the bytes of a field, behind those of the numbers before it in a loop over it alone; where the next bytes are.
+    fn take_next(
+        &mut self,
+        ops: &[Op],
+        tape: &mut [u64],
+        field: Field,
+        buffer: &[u8; 64],
+        used: usize,
+    ) -> Result<usize, Mark>
+        requires room { used < 56 }
+        requires settled { IsAtField ops.now self.old }
+        requires field { HasField ops.now self.old field }
+        requires fed { (all : List ℕ) × IsFed ops.now (take self.old.count tape.old) self.old all (drop used (take 56 buffer.now)) }
+        requires tape { (t full : List ℕ) → Turns (block_of ops.now) t full → length t ≤ length tape.old }
+        requires count { self.old.count ≤ length tape.old }
+        ensures fed { IfOk result (λ end. (all : List ℕ) → IsFed ops.now (take self.old.count tape.old) self.old all (drop used (take 56 buffer.now)) → IsFed ops.now (take self.new.count tape.new) self.new all (drop end (take 56 buffer.now))) }
+        ensures wrong { IfErr result (λ mark. (all : List ℕ) → IsFed ops.now (take self.old.count tape.old) self.old all (drop used (take 56 buffer.now)) → LeavesPayloads (block_of ops.now) all mark) }
+        ensures end { IfOk result (λ end. (used < end) × (end ≤ 56)) }
+        ensures settled { IfOk result (λ end. IsAtField ops.now self.new) }
+        ensures kept { take self.old.count tape.new ≡ take self.old.count tape.old }
+        ensures long { length tape.new ≡ length tape.old }
+        ensures count { (self.old.count ≤ self.new.count) × (self.new.count ≤ length tape.new) }
+    {
+        let start = self.take_run(ops, tape, field, buffer, used);
+        if start == 56 {
+            return Ok(start);
+        }
+        self.take_field(ops, tape, field, buffer, start)
+    }
+
     // On to the next bytes, unless the next instruction has got some.
     fn resume(&mut self, ops: &[Op])
         requires { (taken bytes : List ℕ) × Stands ops.now taken self.old bytes }
@@ -549,8 +701,7 @@ impl Intake {
             let Some(field) = self.field(ops) else {
                 return end_of(&buffer, used);
             };
-            let start = self.take_run(ops, tape, field, &buffer, used);
-            used = self.take_field(ops, tape, field, &buffer, start)?;
+            used = self.take_next(ops, tape, field, &buffer, used)?;
         }
         match self.field(ops) {
             Some(_) => Ok(Fed::Part),

@@ -113,7 +113,8 @@ impl Stand {
     }
 }
 
-// Takes a fragment whose control word is right: where the run stands then.
+// Takes a fragment whose control word is right: where the run stands then. Out of line it would copy the run's loops more often.
+#[inline(always)]
 fn take_in(
     program: &Program,
     begun: Begun,

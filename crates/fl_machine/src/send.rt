@@ -8,7 +8,7 @@ ghost use Rattle.fl_stub.specs.Frames.{block_of};
 ghost use Rattle.fl_stub.specs.Meaning.{Turns, number_bytes};
 ghost use Rattle.fl_stub.specs.Given.{bytes_given};
 ghost use Rattle.fl_stub.specs.Spots.{IsSpot, IsSettled, bytes_from};
-ghost use Rattle.fl_machine.specs.Cursors.{spot_of};
+ghost use Rattle.fl_machine.specs.Cursors.{spot_of, IsRun};
 ghost use Rattle.fl_machine.specs.Filling.{Holds, Puts, PutsRun};
 ghost use Rattle.fl_wire.specs.Payload.{word as word_of};
 ghost use Rattle.fl_machine.specs.Sending.{frags_holding, frags_left, RunsOn};
@@ -103,11 +103,36 @@ fn put_last(
     at + width
 }
 
-// The numbers of a loop over one number, as long as eight bytes are free behind them; the place behind them.
+// The numbers of a loop over one byte, eight at a time, as long as eight bytes are free; the place behind them.
+fn put_eights(
+    buffer: &mut [u8; 56],
+    at: usize,
+    cursor: &mut Cursor,
+    ops: &[Op],
+    tape: &[u64],
+) -> usize
+    requires place { at < 56 }
+    requires spot { IsSpot ops.now (spot_of tape.now cursor.old) }
+    requires run { IsRun ops.now cursor.old }
+    ensures place { result ≤ 56 }
+    ensures spot { IsSpot ops.now (spot_of tape.now cursor.new) }
+    ensures run { IsRun ops.now cursor.new }
+    ensures width { cursor.new.width ≡ cursor.old.width }
+    ensures puts { (put : List ℕ) → length put ≡ at → Holds buffer.old put → PutsRun ops.now (spot_of tape.now cursor.old) (spot_of tape.now cursor.new) put buffer.new result }
+{
+    let mut end = at;
+    while end <= 48 && cursor.has_eight(tape) {
+        put_number(buffer, end, cursor.take_eight(ops, tape));
+        end += 8;
+    }
+    end
+}
+
+// The numbers of a loop over one number, as long as eight bytes are free; the place behind them.
 fn put_run(buffer: &mut [u8; 56], at: usize, cursor: &mut Cursor, ops: &[Op], tape: &[u64]) -> usize
     requires place { at < 56 }
     requires spot { IsSpot ops.now (spot_of tape.now cursor.old) }
-    ensures place { result < 56 }
+    ensures place { result ≤ 56 }
     ensures spot { IsSpot ops.now (spot_of tape.now cursor.new) }
     ensures width { cursor.new.width ≡ cursor.old.width }
     ensures puts { (put : List ℕ) → length put ≡ at → Holds buffer.old put → PutsRun ops.now (spot_of tape.now cursor.old) (spot_of tape.now cursor.new) put buffer.new result }
@@ -116,8 +141,8 @@ fn put_run(buffer: &mut [u8; 56], at: usize, cursor: &mut Cursor, ops: &[Op], ta
         return at;
     }
     let width = cursor.width();
-    let mut end = at;
-    while end < 48 && cursor.turns_left() > 0 {
+    let mut end = put_eights(buffer, at, cursor, ops, tape);
+    while end <= 48 && cursor.turns_left() > 0 {
         put_number(buffer, end, cursor.take_turn(ops, tape));
         end += width;
     }
@@ -138,6 +163,9 @@ fn put_next(
     ensures { (put : List ℕ) → length put ≡ at → Holds buffer.old put → Puts ops.now (spot_of tape.now cursor.old) (spot_of tape.now cursor.new) put buffer.new result }
 {
     let at = put_run(buffer, at, cursor, ops, tape);
+    if at == 56 {
+        return at;
+    }
     put_last(buffer, at, cursor, ops, tape)
 }
 

@@ -8,4 +8,5 @@ pub mod Skips
 pub mod Trees
 pub mod Numbers
 pub mod Reaching
+pub mod Agreeing
 pub mod Stances

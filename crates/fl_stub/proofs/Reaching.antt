@@ -341,7 +341,7 @@ tell : (t : Bool) (x : ℕ) (taken tape : List ℕ) → taken ++ onto t x tape �
 tell true x taken tape = sym (append_assoc taken (x ∷ []) tape)
 tell false x taken tape = ap (λ (z : List ℕ). z ++ tape) (sym (append-nil taken))
 
-tells : (t : Bool) (x : ℕ) (tape : List ℕ) → (t ≡ false → x ≡ 0) → (told_number t (onto t x tape) ≡ x) × (told_rest t (onto t x tape) ≡ tape)
+pub tells : (t : Bool) (x : ℕ) (tape : List ℕ) → (t ≡ false → x ≡ 0) → (told_number t (onto t x tape) ≡ x) × (told_rest t (onto t x tape) ≡ tape)
 tells true x tape none = (refl, refl)
 tells false x tape none = (sym (none refl), refl)
 

@@ -1,8 +1,9 @@
 -- Receive code and bytes that come bit by bit: which payloads they may be the first bytes of. Zeros follow a payload's
 -- last byte.
-use Rattle.std.specs.Prelude.{◌≡◌, ℕ, ◌+◌, ◌<◌, ◌≤◌, List, length, slice_index}
+use Rattle.std.specs.Prelude.{◌≡◌, ℕ, ◌+◌, ◌<◌, ◌≤◌, true, List, length, slice_index}
 use Rattle.fl_stub.specs.declared.mark.Mark.{Mark}
-use Rattle.fl_stub.specs.Structure.{Block}
+use Rattle.fl_stub.specs.declared.op.Column.TheVariants.{Receive}
+use Rattle.fl_stub.specs.Structure.{Block, block_fits}
 use Rattle.fl_stub.specs.Meaning.{Turns}
 use Rattle.fl_stub.specs.Marks.{marks_of, mark_at}
 
@@ -37,3 +38,13 @@ pub record LeavesPayloads (b : Block) (bytes : List ℕ) (mark : Mark) : Type 0 
   pub goes : GoesOn b bytes p tape full
   pub none : (tape2 full2 : List ℕ) → GoesOn b bytes (p + 1) tape2 full2 → ⊥
   pub is : mark ≡ mark_at (marks_of b tape) p
+
+-- two payloads of receive code with the same first bytes have the same mark at the next
+abbrev pub OneMark : Type 0
+OneMark = (b : Block) (tape tape2 full full2 : List ℕ) (p : ℕ) → block_fits Receive b ≡ true
+    → Turns b tape full → Turns b tape2 full2 → Follows p full full2 → mark_at (marks_of b tape) p ≡ mark_at (marks_of b tape2) p
+
+-- so bytes leave the payloads of receive code at one mark
+abbrev pub OneLeaving : Type 0
+OneLeaving = (b : Block) (bytes : List ℕ) (mark mark2 : Mark) → block_fits Receive b ≡ true
+    → LeavesPayloads b bytes mark → LeavesPayloads b bytes mark2 → mark ≡ mark2

@@ -3,6 +3,7 @@
 ghost use Rattle.fl_stub.specs.Structure.{OneStructure};
 ghost use Rattle.fl_stub.specs.Meaning.{OneSending, OneTaking};
 ghost use Rattle.fl_stub.specs.Given.{GivesWhatTurns, TurnsIntoGiven};
+ghost use Rattle.fl_stub.specs.Streams.{OneMark, OneLeaving};
 
 /// Code has one structure, and is of one column.
 pub fn one_structure()
@@ -23,4 +24,11 @@ pub fn one_taking()
 pub fn gives_what_turns()
     ensures moments { GivesWhatTurns }
     ensures whole { TurnsIntoGiven }
+{}
+
+/// Receive code has one mark at a byte, whichever payload the bytes before it begin; so bytes that no payload goes on with
+/// are wrong in one way.
+pub fn one_mark()
+    ensures mark { OneMark }
+    ensures leaving { OneLeaving }
 {}

@@ -18,7 +18,7 @@ mod op;
 mod walk;
 
 pub use code::{Code, VerifiedCode, verify};
-pub use law::{gives_what_turns, one_sending, one_structure, one_taking};
+pub use law::{gives_what_turns, one_mark, one_sending, one_structure, one_taking};
 pub use mark::Mark;
 pub use op::{Column, Op};
 pub use walk::MAX_DEPTH;

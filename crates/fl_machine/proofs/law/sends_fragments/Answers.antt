@@ -1,6 +1,5 @@
-use Rattle.std.proofs.Common.{◌≡◌, ℕ, true, List, map, length, refl, sym, ◌∙◌, ap}
+use Rattle.std.proofs.Common.{◌≡◌, ℕ, true, List, map, length, refl, ◌∙◌, ap}
 use Rattle.std.specs.List.{range_with_len}
-use Rattle.fl_base.specs.declared.fragment.Frag.{Frag}
 use Rattle.fl_layout.specs.Leaves.{leaves}
 use Rattle.fl_layout.specs.Places.{count_for}
 use Rattle.fl_value.specs.Tape.{tape_of}

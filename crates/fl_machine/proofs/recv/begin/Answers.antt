@@ -1,5 +1,5 @@
-use Rattle.std.proofs.Common.{◌≡◌, ℕ, ◌*◌, ◌/◌, ◌%◌, ◌^◌, inl, inr, Some, None, refl, sym, ◌∙◌, ap, subst, true, [], rules}
-use Rattle.fl_base.specs.Control.{control_word, message_of}
+use Rattle.std.proofs.Common.{◌≡◌, ℕ, inl, None, refl, sym, ◌∙◌, ap, true, [], rules}
+use Rattle.fl_base.specs.Control.{control_word}
 use Rattle.fl_check.specs.Interface.{interface_of, TheInterface}
 use Rattle.fl_wire.specs.Wrong.{start_fault}
 use Rattle.fl_wire.proofs.Frames.{start_control}

@@ -1,4 +1,4 @@
-use Rattle.std.proofs.Common.{◌≡◌, ℕ, ◌*◌, ◌/◌, ◌%◌, ◌^◌, Bool, inl, inr, Some, None, refl, sym, ◌∙◌, ap, subst, false, eqb, arith, rules}
+use Rattle.std.proofs.Common.{◌≡◌, Bool, inl, None, sym, ◌∙◌, ap, arith, rules}
 use Rattle.std.proofs.lemmas.Bool.{ne_eqb}
 use Rattle.fl_base.specs.Control.{control_word}
 use Rattle.fl_check.specs.Interface.{interface_of}

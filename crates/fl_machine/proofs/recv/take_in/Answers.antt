@@ -1,4 +1,4 @@
-use Rattle.std.proofs.Common.{◌≡◌, ℕ, ◌+◌, ◌≤◌, ◌++◌, ◌∷◌, [], List, take, length, refl, sym, subst, arith}
+use Rattle.std.proofs.Common.{ℕ, ◌+◌, ◌++◌, ◌∷◌, [], take, length, refl, sym, subst, arith}
 use Rattle.fl_check.specs.Interface.{interface_of}
 use Rattle.fl_stub.specs.Frames.{block_of}
 use Rattle.fl_stub.specs.Streams.{IsPayload}

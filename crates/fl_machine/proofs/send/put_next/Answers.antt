@@ -1,7 +1,14 @@
-use Rattle.std.proofs.Common.{◌++◌}
+use Rattle.std.proofs.Common.{◌++◌, arith}
 use Rattle.fl_machine.specs.Cursors.{spot_of}
-use Rattle.fl_machine.proofs.Pours.{puts_after}
+use Rattle.fl_machine.proofs.Pours.{puts_after, puts_alone}
 use Rattle.fl_machine.proofs.send.put_next.Goals as goal
+
+pub returns-then-at-eq56 : goal.returns-then-at-eq56
+returns-then-at-eq56 c put long holds =
+    let place = c.requires.place in
+    let full = c.if-at-eq56.true in
+    puts_alone c.args.ops.now (spot_of c.args.tape.now c.args.cursor.now) (spot_of c.args.tape.now c.put_run-at.new.cursor) put c.put_run-at.new.buffer c.put_run-at.result
+    (c.put_run-at.ensures.puts put long holds) c.put_run-at.ensures.spot (omega (arith, long, place, full)) c.put_run-at.ensures.place
 
 pub returns : goal.returns
 returns c put long holds =

@@ -1,7 +1,7 @@
-use Rattle.std.proofs.Common.{◌≡◌, ◌<◌, length, refl, sym, ◌∙◌, arith}
+use Rattle.std.proofs.Common.{◌≡◌, ◌≤◌, length, sym, ◌∙◌, arith}
 use Rattle.fl_machine.specs.Cursors.{spot_of}
 use Rattle.fl_machine.proofs.Turns.{depth_small}
-use Rattle.fl_machine.proofs.Pours.{puts_none, puts_turn}
+use Rattle.fl_machine.proofs.Pours.{puts_turn}
 use Rattle.fl_machine.proofs.send.put_run.Goals as goal
 
 pub is_run-requires : goal.is_run-requires
@@ -11,19 +11,14 @@ pub turns_left-requires-clause-high : goal.turns_left-requires-clause-high
 turns_left-requires-clause-high c = depth_small c.args.ops.now c.args.tape.now c.loop-end.cursor c.loop-end.invariant.0
 
 pub loop-end-init : goal.loop-end-init
-loop-end-init c = (
-  c.requires.spot,
-  c.if-not-is_run.ensures refl,
-  c.requires.place,
-  refl,
-  omega arith,
-  λ put long holds. puts_none c.args.ops.now (spot_of c.args.tape.now c.args.cursor.now) put c.args.buffer.now c.args.at long holds,
-)
+loop-end-init c =
+    let s = c.put_eights-end.ensures in
+    (s.spot, s.run, s.place, s.width, omega arith, s.puts)
 
 pub loop-end-preserved : goal.loop-end-preserved
 loop-end-preserved c =
     let i = c.loop-end.invariant in
-    let few : c.loop-end.end < 48 = c.loop-end-test.true in
+    let few : c.loop-end.end ≤ 48 = c.loop-end-test.true in
     let wide = i.0.width in
     let same : c.loop-end.cursor.width ≡ c.width-width.result = i.3 ∙ sym c.width-width.ensures in
     let whole : length c.loop-end.buffer ≡ 56 = i.4 in (

@@ -53,49 +53,32 @@ returns-in_default-clause-wrong c =
 pub returns-in_default-clause-kept : goal.returns-in_default-clause-kept
 returns-in_default-clause-kept c = c.loop-used.invariant.5
 
-pub take_run-start-requires-clause-fed : goal.take_run-start-requires-clause-fed
-take_run-start-requires-clause-fed c = (_, c.loop-used.invariant.6 c.requires.stands.0 c.requires.stands.1)
+pub take_next-requires-clause-fed : goal.take_next-requires-clause-fed
+take_next-requires-clause-fed c = (_, c.loop-used.invariant.6 c.requires.stands.0 c.requires.stands.1)
 
-pub take_run-start-requires-clause-tape : goal.take_run-start-requires-clause-tape
-take_run-start-requires-clause-tape c t full turns = let less = c.requires.room t full turns in let long = c.loop-used.invariant.4 in omega (arith, less, long)
-
-pub take_field-requires-clause-fed : goal.take_field-requires-clause-fed
-take_field-requires-clause-fed c = (_, c.take_run-start.ensures.fed _ (c.loop-used.invariant.6 c.requires.stands.0 c.requires.stands.1))
-
-pub take_field-requires-clause-tape : goal.take_field-requires-clause-tape
-take_field-requires-clause-tape c t full turns =
-    let less = c.requires.room t full turns in
-    let long = c.loop-used.invariant.4 in
-    let same = c.take_run-start.ensures.long in
-    omega (arith, less, long, same)
+pub take_next-requires-clause-tape : goal.take_next-requires-clause-tape
+take_next-requires-clause-tape c t full turns = let less = c.requires.room t full turns in let long = c.loop-used.invariant.4 in omega (arith, less, long)
 
 pub returns-in_err-used-clause-wrong : goal.returns-in_err-used-clause-wrong
 returns-in_err-used-clause-wrong c =
     let p = err_from_is_err_and c.from_residual.result c.from_residual.ensures.1 in
-    rw (p.1, p.2) (λ bytes s. c.in_err-used.ensures.wrong (bytes ++ words_bytes c.args.words.now) (c.take_run-start.ensures.fed _ (c.loop-used.invariant.6 bytes s)))
+    rw (p.1, p.2) (λ bytes s. c.in_err-used.ensures.wrong (bytes ++ words_bytes c.args.words.now) (c.loop-used.invariant.6 bytes s))
 
 pub returns-in_err-used-clause-kept : goal.returns-in_err-used-clause-kept
 returns-in_err-used-clause-kept c =
-    let low = c.loop-used.invariant.2 in
-    let more = c.take_run-start.ensures.count.0 in
-    take_kept c.args.self.now.count c.take_run-start.new.self.count c.take_field.new.tape c.take_run-start.new.tape (omega (arith, low, more)) c.take_field.ensures.kept
-    ∙ take_kept c.args.self.now.count c.loop-used.self.count c.take_run-start.new.tape c.loop-used.tape low c.take_run-start.ensures.kept
-    ∙ c.loop-used.invariant.5
+    take_kept c.args.self.now.count c.loop-used.self.count c.take_next.new.tape c.loop-used.tape c.loop-used.invariant.2 c.take_next.ensures.kept ∙ c.loop-used.invariant.5
 
 pub loop-used-preserved : goal.loop-used-preserved
 loop-used-preserved c =
     let less = c.loop-used.invariant.2 in
-    let run = c.take_run-start.ensures.count.0 in
     let more = c.in_ok-used.ensures.count.0 in (
       c.in_ok-used.ensures.end.1,
       c.in_ok-used.ensures.settled,
-      omega (arith, less, run, more),
+      omega (arith, less, more),
       c.in_ok-used.ensures.count.1,
-      c.in_ok-used.ensures.long ∙ c.take_run-start.ensures.long ∙ c.loop-used.invariant.4,
-      take_kept c.args.self.now.count c.take_run-start.new.self.count c.take_field.new.tape c.take_run-start.new.tape (omega (arith, less, run)) c.in_ok-used.ensures.kept
-          ∙ take_kept c.args.self.now.count c.loop-used.self.count c.take_run-start.new.tape c.loop-used.tape less c.take_run-start.ensures.kept
-          ∙ c.loop-used.invariant.5,
-      λ bytes s. c.in_ok-used.ensures.fed (bytes ++ words_bytes c.args.words.now) (c.take_run-start.ensures.fed _ (c.loop-used.invariant.6 bytes s)),
+      c.in_ok-used.ensures.long ∙ c.loop-used.invariant.4,
+      take_kept c.args.self.now.count c.loop-used.self.count c.take_next.new.tape c.loop-used.tape less c.in_ok-used.ensures.kept ∙ c.loop-used.invariant.5,
+      λ bytes s. c.in_ok-used.ensures.fed (bytes ++ words_bytes c.args.words.now) (c.loop-used.invariant.6 bytes s),
     )
 
 pub returns-in-Some-field-clause-part : goal.returns-in-Some-field-clause-part
@@ -119,10 +102,10 @@ pub returns-in_default-clause-within : goal.returns-in_default-clause-within
 returns-in_default-clause-within c = c.loop-used.invariant.3
 
 pub returns-in_err-used-clause-grows : goal.returns-in_err-used-clause-grows
-returns-in_err-used-clause-grows c = let less = c.loop-used.invariant.2 in let run = c.take_run-start.ensures.count.0 in let more = c.take_field.ensures.count.0 in omega (arith, less, run, more)
+returns-in_err-used-clause-grows c = let less = c.loop-used.invariant.2 in let more = c.take_next.ensures.count.0 in omega (arith, less, more)
 
 pub returns-in_err-used-clause-within : goal.returns-in_err-used-clause-within
-returns-in_err-used-clause-within c = c.take_field.ensures.count.1
+returns-in_err-used-clause-within c = c.take_next.ensures.count.1
 
 pub returns-in-Some-field-clause-grows : goal.returns-in-Some-field-clause-grows
 returns-in-Some-field-clause-grows c = c.loop-used.invariant.2

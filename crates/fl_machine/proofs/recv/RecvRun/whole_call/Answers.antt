@@ -1,4 +1,4 @@
-use Rattle.std.proofs.Common.{◌≡◌, ℕ, List, take, refl, sym, subst}
+use Rattle.std.proofs.Common.{ℕ, List, take, sym, subst}
 use Rattle.std.specs.Prelude.{Option, IfSome}
 use Rattle.fl_check.specs.Interface.{TheInterface, interface_of}
 use Rattle.fl_value.specs.declared.value.Call.{Call}
