@@ -1,12 +1,13 @@
 //! `exec`: reads a script whole, runs it item by item, and writes each answer as it comes.
 
-ghost use Rattle.std.specs.Prelude.{◌≡◌, ◌++◌, ◌<◌, List, ℕ, length, IfOk, OnOk, OnErr, IfSome, true, false, []};
+ghost use Rattle.std.specs.Prelude.{◌≡◌, ◌≢◌, ◌++◌, ◌<◌, List, ℕ, length, Err, IfOk, IfErr, OnOk, OnErr, IfSome, true, false, []};
 ghost use Rattle.std.specs.Io.KnownBytes.{Appends};
 ghost use Rattle.fl_script.specs.Items.{item_of};
 ghost use Rattle.fl_script.specs.Read.{line_read};
 ghost use Rattle.fl_script.specs.Lines.{lines_of};
 ghost use Rattle.fl_script.specs.Shown.{IsAt, Answered};
 ghost use Rattle.fl_script.specs.Transcript.{Script as TheScript, Effect, Does, LineDoes, Writes, WritesFront, IsFront, Transcript, TranscriptFront, too_long, items_from, outside, line};
+ghost use Rattle.fl_script.specs.declared.running.ExecFault.TheVariants.{Memory};
 ghost use Rattle.fl_script.specs.Runs.{status_of, ReadsWhole, StepsItem};
 
 use crate::command::Line;
@@ -44,6 +45,8 @@ impl ExecFault {
 }
 
 impl From<AllocError> for ExecFault {
+    ghost from_gives = { λ _ e. e ≡ Memory };
+
     fn from(_e: AllocError) -> ExecFault {
         ExecFault::Memory
     }
@@ -74,6 +77,7 @@ fn read_script<R: Read>(alloc: Global, reader: &mut R) -> Result<Vec<u8>, ExecFa
 fn put_all<W: Write>(writer: &mut W, text: &[u8]) -> Result<(), ExecFault>
     ensures ok { OnOk result (Appends (W.contents writer.old) (W.contents writer.new) text.now) }
     ensures err { OnErr result ((front : List ℕ) × IsFront front text.now × Appends (W.contents writer.old) (W.contents writer.new) front) }
+    ensures fault { IfErr result (λ f. f ≡ ExecFault.Write) }
 {
     let mut rest = text;
     while !rest.is_empty() {
@@ -146,6 +150,7 @@ fn run<W: Write>(
         × Appends (W.contents writer.old) (W.contents writer.new) out) }
     ensures err { OnErr result ((s : TheScript) → IsAt script.old s → (front : List ℕ) × WritesFront s (items_from outside (lines_of text.now)) front
         × Appends (W.contents writer.old) (W.contents writer.new) front) }
+    ensures fault { result ≢ Err ExecFault.Read }
 {
     let mut rest = text;
     while !rest.is_empty() {
@@ -167,7 +172,7 @@ fn run<W: Write>(
 ///
 /// # Errors
 /// [`ExecFault`]: memory was refused, or a read or a write failed. What was written then is a front of
-/// the transcript.
+/// the transcript; where a read failed nothing is.
 pub fn exec<R: Read, W: Write>(
     alloc: Global,
     reader: &mut R,
@@ -175,6 +180,7 @@ pub fn exec<R: Read, W: Write>(
 ) -> Result<(), ExecFault>
     ensures ok { OnOk result (IfSome (R.remaining reader.old) (λ input. (out : List ℕ) × Transcript input out × Appends (W.contents writer.old) (W.contents writer.new) out)) }
     ensures err { OnErr result (IfSome (R.remaining reader.old) (λ input. (front : List ℕ) × TranscriptFront input front × Appends (W.contents writer.old) (W.contents writer.new) front)) }
+    ensures unread { result ≡ Err ExecFault.Read → writer.new ≡ writer.old }
 {
     let text = match read_script(alloc, reader) {
         Ok(text) => text,

@@ -1,5 +1,6 @@
 -- What a file's content shows: the interface that a text stands for or that an image is of, or the first fault.
-use Rattle.std.specs.Prelude.{◌≡◌, ◌⊎◌, ℕ, Bool, true, false, List, take, Err, IfSome, Some, option_map}
+use Rattle.std.specs.Prelude.{◌≡◌, ◌⊎◌, ◌==◌, ℕ, Bool, true, false, List, take, drop, Err, IfSome, Option, None, Some, option_map}
+use Rattle.std.specs.List.{position}
 use Rattle.std.specs.Str.{bytes_eq}
 use Rattle.fl_lex.specs.Token.{TheTokens}
 use Rattle.fl_lex.specs.Outcome as lex
@@ -38,12 +39,26 @@ IsFaultOf bytes (Check fault) =
     (tokens : TheTokens) × (tree : TheTree) × Lexes bytes (lexed tokens) × Parses tokens (parsed tree)
     × IfSome (check.outcome_of (Err fault)) (Checks tree)
 
--- what is told of a text's fault: where it stands, in bytes and in lines; nothing of want of memory
+-- bytes up to the place, where there is one
+abbrev pub up_to : Option ℕ → List ℕ → List ℕ
+up_to None bytes = bytes
+up_to (Some place) bytes = take place bytes
+
+-- to the end of the first line
+abbrev pub first_line : List ℕ → List ℕ
+first_line bytes = up_to (position (λ byte. byte == 10) bytes) bytes
+
+-- what stands at an offset, to the end of its line, 40 bytes at most
+abbrev pub excerpt_at : List ℕ → ℕ → List ℕ
+excerpt_at bytes offset = take 40 (first_line (drop offset bytes))
+
+-- what is told of a text's fault: where it stands, in bytes and in lines, and what stands there; nothing of want of memory
 abbrev pub IsRefusalOf : List ℕ → ShowFault → Type 0
 IsRefusalOf bytes (Refused r) =
     IsFaultOf bytes r.explained.fault
     × (text_fault_offset r.explained.fault ≡ Some r.offset)
     × (option_map place_of r.explained.place ≡ Some (place_in bytes r.offset))
+    × (r.found.now ≡ excerpt_at bytes r.offset)
 IsRefusalOf bytes (NoImage r) = ⊥
 IsRefusalOf bytes Memory = Unit {0}
 

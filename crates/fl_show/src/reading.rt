@@ -1,9 +1,10 @@
 //! From a text's bytes to its interface, or to its first fault in words.
 
-ghost use Rattle.std.specs.Prelude.{◌≡◌, true, IfOk, IfErr};
+ghost use Rattle.std.specs.Prelude.{◌≡◌, ◌==◌, ◌≤◌, true, length, IfOk, IfErr, IfSome};
+ghost use Rattle.std.specs.List.{position};
 ghost use Rattle.fl_check.specs.Interface.{interface_of};
 ghost use Rattle.fl_image.specs.Image.{has_image};
-ghost use Rattle.fl_show.specs.Shown.{StandsFor, IsFaultOf, IsRefusalOf, TextsHaveImages};
+ghost use Rattle.fl_show.specs.Shown.{StandsFor, IsFaultOf, excerpt_at, first_line, IsRefusalOf, TextsHaveImages};
 
 use crate::fault::{Refusal, ShowFault};
 use fl_check::{Interface, TextFault, check};
@@ -69,11 +70,25 @@ fn refusal(fault: TextFault, text: &[u8]) -> ShowFault<'_>
 }
 
 // What stands at an offset, to the end of its line or as far as a reader wants to see.
-fn excerpt(text: &[u8], offset: usize) -> &[u8] {
-    let rest = &text[offset.min(text.len())..];
-    let line = match rest.iter().position(|byte| *byte == b'\n') {
-        Some(end) => &rest[..end],
-        None => rest,
-    };
-    &line[..line.len().min(LONGEST_EXCERPT)]
+fn excerpt(text: &[u8], offset: usize) -> &[u8]
+    ensures found { result.now ≡ excerpt_at text.now offset }
+{
+    let line = first_line(&text[offset.min(text.len())..]);
+    &line[..LONGEST_EXCERPT.min(line.len())]
+}
+
+fn first_line(text: &[u8]) -> &[u8]
+    ensures line { result.now ≡ first_line text.now }
+{
+    match line_end(text) {
+        Some(end) => &text[..end],
+        None => text,
+    }
+}
+
+fn line_end(text: &[u8]) -> Option<usize>
+    ensures end { result ≡ position (λ byte. byte == 10) text.now }
+    ensures within { IfSome result (λ end. end ≤ length text.now) }
+{
+    text.iter().position(|byte| *byte == b'\n')
 }

@@ -5,6 +5,7 @@ pub mod Reading
 pub mod Nested
 pub mod Words
 pub mod Prints
+pub mod Begun
 pub mod Round
 pub mod Tapes
 pub mod Turns

@@ -44,6 +44,10 @@ printed_call name values = name ++ 40 ∷ (printed_values (data_from values) ++ 
 abbrev pub separator : ℕ → List ℕ
 separator index = if index == 0 then [] else 44 ∷ 32 ∷ []
 
+-- what stood there still stands in front, and behind it a front of the text
+abbrev pub BeginsToAppend : (old new whole : List ℕ) → Type 0
+BeginsToAppend old new whole = (front : List ℕ) × (rest : List ℕ) × (whole ≡ front ++ rest) × (new ≡ old ++ front)
+
 -- numbers of at most 20 digits, and bytes in texts
 abbrev pub is_short : ℤ → Bool
 is_short (pos n) = nat_lt n (10 ^ 20)

@@ -1,12 +1,12 @@
 //! Calls as text, each in one form: what answers show.
 
-ghost use Rattle.std.specs.Prelude.{◌≡◌, ◌++◌, ◌∷◌, [], ◌<◌, ◌≤◌, ℕ, List, true, OnOk, map};
+ghost use Rattle.std.specs.Prelude.{◌≡◌, ◌++◌, ◌∷◌, [], ◌<◌, ◌≤◌, ℕ, List, true, OnOk, OnErr, map};
 ghost use Rattle.std.specs.Char.{digit_char};
 ghost use Rattle.std.specs.Fmt.{signed_decimal};
 ghost use Rattle.fl_check.specs.Interface.{TheInterface, TheMessage};
 ghost use Rattle.fl_value.specs.Resolve.{ComesTo};
 ghost use Rattle.fl_value.specs.Value.{TheCall, Datum, datum_of, data_from};
-ghost use Rattle.fl_value.specs.Printed.{printed_byte, printed_text, printed_value, printed_values, printed_call, separator, are_printable, HasText};
+ghost use Rattle.fl_value.specs.Printed.{printed_byte, printed_text, printed_value, printed_values, printed_call, separator, are_printable, HasText, BeginsToAppend};
 ghost use Rattle.fl_value.specs.CallText.{IsWord, SpellsCall, greatest_depth};
 
 use crate::value::Value;
@@ -27,6 +27,7 @@ fn hex_digit(number: u8) -> u8
 /// Appends a byte of a text.
 fn print_byte(out: &mut Vec<u8>, byte: u8) -> Result<(), AllocError>
     ensures printed { OnOk result (out.new.items ≡ out.old.items ++ printed_byte byte) }
+    ensures begun { OnErr result (BeginsToAppend out.old.items out.new.items (printed_byte byte)) }
 {
     match byte {
         b'"' => out.extend_from_slice(b"\\\""),
@@ -39,6 +40,7 @@ fn print_byte(out: &mut Vec<u8>, byte: u8) -> Result<(), AllocError>
 /// Appends a text in quotes.
 fn print_text(out: &mut Vec<u8>, bytes: &[u8]) -> Result<(), AllocError>
     ensures printed { OnOk result (out.new.items ≡ out.old.items ++ printed_text bytes.now) }
+    ensures begun { OnErr result (BeginsToAppend out.old.items out.new.items (printed_text bytes.now)) }
 {
     out.push(b'"')?;
     for byte in bytes {
@@ -51,6 +53,7 @@ fn print_text(out: &mut Vec<u8>, bytes: &[u8]) -> Result<(), AllocError>
 /// Appends a number in its shortest form.
 fn print_number(alloc: Global, out: &mut Vec<u8>, number: i128) -> Result<(), AllocError>
     ensures printed { OnOk result (out.new.items ≡ out.old.items ++ signed_decimal number) }
+    ensures begun { OnErr result (BeginsToAppend out.old.items out.new.items (signed_decimal number)) }
 {
     let text = number.to_string(alloc)?;
     out.extend_from_slice(text.as_bytes())
@@ -59,6 +62,7 @@ fn print_number(alloc: Global, out: &mut Vec<u8>, number: i128) -> Result<(), Al
 /// Appends what stands between a value and the one before it.
 fn print_separator(out: &mut Vec<u8>, index: usize) -> Result<(), AllocError>
     ensures printed { OnOk result (out.new.items ≡ out.old.items ++ separator index) }
+    ensures begun { OnErr result (BeginsToAppend out.old.items out.new.items (separator index)) }
 {
     if index == 0 {
         return Ok(());
@@ -70,6 +74,7 @@ fn print_separator(out: &mut Vec<u8>, index: usize) -> Result<(), AllocError>
 #[cycle(printing)]
 fn print_value(alloc: Global, out: &mut Vec<u8>, value: &Value) -> Result<(), AllocError>
     ensures printed { OnOk result (out.new.items ≡ out.old.items ++ printed_value (datum_of value.now)) }
+    ensures begun { OnErr result (BeginsToAppend out.old.items out.new.items (printed_value (datum_of value.now))) }
 {
     match value {
         Value::Int(number) => print_number(alloc, out, *number),
@@ -93,6 +98,7 @@ fn print_value(alloc: Global, out: &mut Vec<u8>, value: &Value) -> Result<(), Al
 #[cycle(printing)]
 fn print_values(alloc: Global, out: &mut Vec<u8>, values: &[Value]) -> Result<(), AllocError>
     ensures printed { OnOk result (out.new.items ≡ out.old.items ++ printed_values (data_from (map datum_of values.now))) }
+    ensures begun { OnErr result (BeginsToAppend out.old.items out.new.items (printed_values (data_from (map datum_of values.now)))) }
 {
     for (index, value) in values.iter().enumerate() {
         print_separator(out, index)?;
@@ -105,7 +111,7 @@ fn print_values(alloc: Global, out: &mut Vec<u8>, values: &[Value]) -> Result<()
 ///
 /// # Errors
 ///
-/// Where memory runs out; `out` may then have a part of the text at its end.
+/// Where memory runs out; `out` may then have a front of the text at its end, behind what stood there.
 pub fn print_call(
     alloc: Global,
     out: &mut Vec<u8>,
@@ -113,6 +119,7 @@ pub fn print_call(
     args: &[Value],
 ) -> Result<(), AllocError>
     ensures printed { OnOk result (out.new.items ≡ out.old.items ++ printed_call name.now (map datum_of args.now)) }
+    ensures begun { OnErr result (BeginsToAppend out.old.items out.new.items (printed_call name.now (map datum_of args.now))) }
 {
     out.extend_from_slice(name)?;
     out.push(b'(')?;

@@ -68,6 +68,7 @@ impl Dispatcher {
     /// One more end, which waits. Nothing changes where there are 1,024.
     pub fn gain(&mut self, end: EndId)
         ensures gains { (dispatcher_of self.old).ends < 1024 → dispatcher_of self.new ≡ gains end (dispatcher_of self.old) }
+        ensures full { 1024 ≤ (dispatcher_of self.old).ends → dispatcher_of self.new ≡ dispatcher_of self.old }
     {
         if self.ends < MAX_CHANNELS {
             self.ends += 1;

@@ -1,12 +1,13 @@
 -- What commands did, from what each of their calls did.
 use Rattle.std.proofs.Common.{◌≡◌, ℕ, List, [], ◌∷◌, ◌++◌, Option, None, Some, refl, sym, ap, ◌∙◌, subst, inl, inr, append_assoc, append-nil}
 use Rattle.std.specs.Io.KnownBytes.{Appends}
+use Rattle.std.specs.declared.io.ErrorKind.{ErrorKind}
 use Rattle.fl_check.specs.Interface.{TheInterface}
 use Rattle.fl_value.specs.declared.value.PlanNo.TheVariants.{Two}
 use Rattle.fl_show.specs.declared.fault.ShowFault.{ShowFault}
 use Rattle.fl_show.specs.Shown.{StandsFor, IsImageOf, IsRefusalOf, Shows, IsRefusedAs, status_of}
 use Rattle.flounder.specs.Deeds.{Deed, was_read, was_not_read, was_written, was_not_written, Adds, Does}
-use Rattle.flounder.specs.Commands.{IsFailed, Compiles, Views, Runs}
+use Rattle.flounder.specs.Commands.{failed_status, Compiles, Views, Runs}
 
 does_none : (old : Option (List Deed)) (P : List Deed → Type 0) → P [] → Does old old P
 does_none None P p = tt
@@ -28,9 +29,9 @@ does_weaker (Some before) new P Q f h = (h.0, h.1, f h.0 h.2)
 
 -- ---- compile
 
-pub not_read : (old new : Option (List Deed)) (file out : List ℕ) (status failed : ℕ) → Adds old new (was_not_read file) → status ≡ failed → IsFailed failed → Does old new (Compiles file out status)
-not_read old new file out status failed a e h =
-    does_one old new (was_not_read file) (Compiles file out status) a (inr (inl record { done = refl; ends = subst IsFailed (sym e) h }))
+pub not_read : (old new : Option (List Deed)) (file out : List ℕ) (kind : ErrorKind) (status failed : ℕ) → Adds old new (was_not_read file kind) → status ≡ failed → failed ≡ failed_status kind → Does old new (Compiles file out status)
+not_read old new file out kind status failed a e h =
+    does_one old new (was_not_read file kind) (Compiles file out status) a (inr (inl record { kind = kind; done = refl; ends = e ∙ h }))
 
 pub not_compiled : (old new : Option (List Deed)) (file out bytes : List ℕ) (fault : ShowFault) (status : ℕ) → Adds old new (was_read file bytes) → IsRefusalOf bytes fault → status ≡ status_of fault → Does old new (Compiles file out status)
 not_compiled old new file out bytes fault status a h e =
@@ -52,26 +53,27 @@ compiled old middle new file out bytes text image written status a b e1 e2 (i, s
     }
     )
 
-pub not_written : (old middle new : Option (List Deed)) (file out bytes text image : List ℕ) (status failed : ℕ) → Adds old middle (was_read file bytes) → Adds middle new (was_not_written out)
-    → text ≡ bytes → (i : TheInterface) × StandsFor text i × IsImageOf image Two i → status ≡ failed → IsFailed failed → Does old new (Compiles file out status)
-not_written old middle new file out bytes text image status failed a b e1 (i, s, h) e f =
-    does_two old middle new (was_read file bytes) (was_not_written out) (Compiles file out status) a b
+pub not_written : (old middle new : Option (List Deed)) (file out bytes text image : List ℕ) (kind : ErrorKind) (status failed : ℕ) → Adds old middle (was_read file bytes) → Adds middle new (was_not_written out kind)
+    → text ≡ bytes → (i : TheInterface) × StandsFor text i × IsImageOf image Two i → status ≡ failed → failed ≡ failed_status kind → Does old new (Compiles file out status)
+not_written old middle new file out bytes text image kind status failed a b e1 (i, s, h) e f =
+    does_two old middle new (was_read file bytes) (was_not_written out kind) (Compiles file out status) a b
     (
     inr (inr (inr record {
       bytes = bytes;
       interface = i;
       stands = subst (λ (t : List ℕ). StandsFor t i) e1 s;
+      kind = kind;
       done = refl;
-      ends = subst IsFailed (sym e) f;
+      ends = e ∙ f;
     }))
     )
 
 -- ---- show
 
-pub not_viewed : (old new : Option (List Deed)) (file : List ℕ) (was is : Option (List ℕ)) (status failed : ℕ) → Adds old new (was_not_read file) → is ≡ was → status ≡ failed → IsFailed failed
+pub not_viewed : (old new : Option (List Deed)) (file : List ℕ) (was is : Option (List ℕ)) (kind : ErrorKind) (status failed : ℕ) → Adds old new (was_not_read file kind) → is ≡ was → status ≡ failed → failed ≡ failed_status kind
     → Does old new (Views file was is status)
-not_viewed old new file was is status failed a same e h =
-    does_one old new (was_not_read file) (Views file was is status) a (inr (inl (same, record { done = refl; ends = subst IsFailed (sym e) h })))
+not_viewed old new file was is kind status failed a same e h =
+    does_one old new (was_not_read file kind) (Views file was is status) a (inr (inl (same, record { kind = kind; done = refl; ends = e ∙ h })))
 
 pub not_shown : (old new : Option (List Deed)) (file bytes : List ℕ) (was is : Option (List ℕ)) (fault : ShowFault) (status : ℕ) → Adds old new (was_read file bytes) → IsRefusedAs bytes fault → is ≡ was → status ≡ status_of fault
     → Does old new (Views file was is status)

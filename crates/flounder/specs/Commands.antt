@@ -1,6 +1,8 @@
 -- What the commands that name files do with them, and the statuses with which they end.
 use Rattle.std.specs.Prelude.{◌≡◌, ◌⊎◌, ℕ, List, [], ◌∷◌, Option}
 use Rattle.std.specs.Io.KnownBytes.{Appends}
+use Rattle.std.specs.declared.io.ErrorKind.{ErrorKind}
+use Rattle.std.specs.declared.io.ErrorKind.TheVariants.{OutOfMemory}
 use Rattle.fl_check.specs.Interface.{TheInterface}
 use Rattle.fl_value.specs.declared.value.PlanNo.TheVariants.{Two}
 use Rattle.fl_show.specs.declared.fault.ShowFault.{ShowFault}
@@ -8,14 +10,21 @@ use Rattle.fl_show.specs.Shown as content
 use Rattle.fl_show.specs.Shown.{StandsFor, IsImageOf, IsRefusalOf, Shows, IsRefusedAs}
 use Rattle.flounder.specs.Deeds.{Deed, was_read, was_not_read, was_written, was_not_written}
 
--- the status of a read or a write that failed: 3 for want of memory, else 4
-abbrev pub IsFailed : ℕ → Type 0
-IsFailed status = (status ≡ 3) ⊎ (status ≡ 4)
+-- the status of a read or a write that failed with an error of a kind: 3 for want of memory, else 4
+abbrev pub failed_status : ErrorKind → ℕ
+failed_status OutOfMemory = 3
+failed_status kind = 4
+
+-- the status where the words of the command line can't be had: 3 for want of memory, else 1
+abbrev pub no_words_status : ErrorKind → ℕ
+no_words_status OutOfMemory = 3
+no_words_status kind = 1
 
 -- the file couldn't be read, and nothing else was done
 pub record Unread (file : List ℕ) (deeds : List Deed) (status : ℕ) : Type 0 where
-  pub done : deeds ≡ was_not_read file ∷ []
-  pub ends : IsFailed status
+  pub kind : ErrorKind
+  pub done : deeds ≡ was_not_read file kind ∷ []
+  pub ends : status ≡ failed_status kind
 
 -- ---- compile FILE OUT
 
@@ -42,8 +51,9 @@ pub record NotWritten (file out : List ℕ) (deeds : List Deed) (status : ℕ) :
   pub bytes : List ℕ
   pub interface : TheInterface
   pub stands : StandsFor bytes interface
-  pub done : deeds ≡ was_read file bytes ∷ was_not_written out ∷ []
-  pub ends : IsFailed status
+  pub kind : ErrorKind
+  pub done : deeds ≡ was_read file bytes ∷ was_not_written out kind ∷ []
+  pub ends : status ≡ failed_status kind
 
 abbrev pub Compiles : List ℕ → List ℕ → ℕ → List Deed → Type 0
 Compiles file out status deeds =

@@ -2,9 +2,10 @@
 
 ghost use Rattle.std.specs.Prelude.{◌≡◌, OnOk, IfErr, List};
 ghost use Rattle.std.specs.Io.KnownBytes.{Appends};
+ghost use Rattle.std.specs.IoError.{error_kind};
 ghost use Rattle.flounder.specs.Status.{status_of};
 ghost use Rattle.flounder.specs.Deeds.{Does};
-ghost use Rattle.flounder.specs.Commands.{IsFailed, Compiles, Views, Runs};
+ghost use Rattle.flounder.specs.Commands.{failed_status, no_words_status, Compiles, Views, Runs};
 
 use crate::fault::Fault;
 use crate::files::FileStore;
@@ -128,7 +129,9 @@ fn put<W: Write>(text: &[u8], output: &mut W) -> io::Result<()>
 }
 
 /// Why there are no words of the command line to be read.
-pub fn no_words<'a>(error: io::Error) -> Fault<'a> {
+pub fn no_words<'a>(error: io::Error) -> Fault<'a>
+    ensures status { status_of result ≡ no_words_status (error_kind error) }
+{
     match error.kind() {
         io::ErrorKind::OutOfMemory => Fault::Memory,
         _ => Fault::Words(error),
@@ -136,7 +139,7 @@ pub fn no_words<'a>(error: io::Error) -> Fault<'a> {
 }
 
 fn unread(file: &str, error: io::Error) -> Fault<'_>
-    ensures failed { IsFailed (status_of result) }
+    ensures failed { status_of result ≡ failed_status (error_kind error) }
 {
     match error.kind() {
         io::ErrorKind::OutOfMemory => Fault::Memory,
@@ -145,7 +148,7 @@ fn unread(file: &str, error: io::Error) -> Fault<'_>
 }
 
 fn unmade(file: &str, error: io::Error) -> Fault<'_>
-    ensures failed { IsFailed (status_of result) }
+    ensures failed { status_of result ≡ failed_status (error_kind error) }
 {
     match error.kind() {
         io::ErrorKind::OutOfMemory => Fault::Memory,

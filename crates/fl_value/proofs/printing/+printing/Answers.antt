@@ -1,11 +1,12 @@
-use Rattle.std.proofs.Common.{◌≡◌, ◌≤◌, ◌+◌, ℕ, zero, suc, List, [], ◌∷◌, ◌++◌, length, map, drop, refl, ap, sym, subst, ◌∙◌, append_assoc, append-nil, add-one, arith, rules}
+use Rattle.std.proofs.Common.{◌≡◌, ◌≤◌, ◌+◌, ℕ, zero, suc, List, [], ◌∷◌, ◌++◌, length, map, drop, refl, ap, sym, subst, ◌∙◌, append_assoc, arith, rules}
 use Rattle.std.proofs.lemmas.Bool.Decides.{nat_tests}
 use Rattle.std.proofs.lemmas.List.{drop_all}
 use Rattle.fl_value.specs.declared.value.Value.{Value}
 use Rattle.fl_value.specs.declared.value.Value.TheViews.{the_lemmas as value_lemmas}
 use Rattle.fl_value.specs.declared.value.Value.TheFolds.{fold-roll-Value, fold_out-Value}
 use Rattle.fl_value.specs.Value.{Datum, Data, datum_step, datum_of, data_from, elements, fields, nothing_more, also}
-use Rattle.fl_value.specs.Printed.{printed_value, printed_values, separator}
+use Rattle.fl_value.specs.Printed.{printed_value, printed_values, separator, BeginsToAppend}
+use Rattle.fl_value.proofs.Begun.{IsLeft, one_piece_less, none_left, begun_left, begun_piece, not_begun, on_refusal}
 use Rattle.fl_value.proofs.Prints.{printed_from}
 use Rattle.fl_value.proofs.Turns.{map_dropped}
 use Rattle.fl_value.proofs.printing.+printing.Goals as goal
@@ -28,18 +29,44 @@ from_none : (k : ℕ) → printed_from k nothing_more ≡ []
 from_none zero = refl
 from_none (suc k) = refl
 
-one_more : (k : ℕ) (d : Datum) (ds : Data) (out between printed whole : List ℕ) → between ≡ out ++ separator k → printed ≡ between ++ printed_value d
-    → out ++ printed_from k (also d ds) ≡ whole → printed ++ printed_from (k + 1) ds ≡ whole
-one_more k d ds out between printed whole first second all =
-    rw add-one
-    (ap (λ (xs : List ℕ). xs ++ printed_from (suc k) ds) (second ∙ ap (λ (xs : List ℕ). xs ++ printed_value d) first)
-    ∙ append_assoc (out ++ separator k) (printed_value d) (printed_from (suc k) ds) ∙ append_assoc out (separator k) (printed_value d ++ printed_from (suc k) ds)
-    ∙ ap (λ (xs : List ℕ). out ++ xs) (sym (from_one k d ds)) ∙ all)
+-- the value at k is left, and those behind it
+value_left : (k : ℕ) (d : Datum) (ds : Data) (old out between whole : List ℕ) → IsLeft old out whole (printed_from k (also d ds)) → between ≡ out ++ separator k
+    → IsLeft old between whole (printed_value d ++ printed_from (suc k) ds)
+value_left k d ds old out between whole left first =
+    one_piece_less old out between whole (printed_from k (also d ds)) (separator k) (printed_value d ++ printed_from (suc k) ds) left (from_one k d ds) first
 
-all_done : (k : ℕ) (values : List Value) (out whole : List ℕ) → length values ≤ k → out ++ printed_from k (data_from (map datum_of (drop k values))) ≡ whole → out ≡ whole
-all_done k values out whole past all =
-    sym (append-nil out) ∙ ap (λ (xs : List ℕ). out ++ xs) (sym (from_none k))
-    ∙ ap (λ (vs : List Value). out ++ printed_from k (data_from (map datum_of vs))) (sym (drop_all k values past)) ∙ all
+one_more : (k : ℕ) (d : Datum) (ds : Data) (old out between printed whole : List ℕ) → IsLeft old out whole (printed_from k (also d ds)) → between ≡ out ++ separator k
+    → printed ≡ between ++ printed_value d → IsLeft old printed whole (printed_from (k + 1) ds)
+one_more k d ds old out between printed whole left first second =
+    let next : suc k ≡ k + 1 = omega arith in
+    subst (λ (j : ℕ). IsLeft old printed whole (printed_from j ds)) next
+    (one_piece_less old between printed whole (printed_value d ++ printed_from (suc k) ds) (printed_value d) (printed_from (suc k) ds) (value_left k d ds old out between whole left first) refl second)
+
+all_done : (k : ℕ) (values : List Value) (old out whole : List ℕ) → length values ≤ k → IsLeft old out whole (printed_from k (data_from (map datum_of (drop k values)))) → out ≡ old ++ whole
+all_done k values old out whole past left =
+    none_left old out whole (printed_from k (data_from (map datum_of (drop k values))))
+    (ap (λ (vs : List Value). printed_from k (data_from (map datum_of vs))) (drop_all k values past) ∙ from_none k) left
+
+begun_separator : (k : ℕ) (d : Datum) (ds : Data) (old out new whole : List ℕ) → IsLeft old out whole (printed_from k (also d ds)) → BeginsToAppend out new (separator k)
+    → BeginsToAppend old new whole
+begun_separator k d ds old out new whole left begun =
+    begun_piece old out new whole (printed_from k (also d ds)) (separator k) (printed_value d ++ printed_from (suc k) ds) left (from_one k d ds) begun
+
+begun_value : (k : ℕ) (d : Datum) (ds : Data) (old out between new whole : List ℕ) → IsLeft old out whole (printed_from k (also d ds)) → between ≡ out ++ separator k
+    → BeginsToAppend between new (printed_value d) → BeginsToAppend old new whole
+begun_value k d ds old out between new whole left first begun =
+    begun_piece old between new whole (printed_value d ++ printed_from (suc k) ds) (printed_value d) (printed_from (suc k) ds) (value_left k d ds old out between whole left first) refl begun
+
+-- refused between two marks, and at the second
+begun_inside : (opening closing : ℕ) (old opened new inner : List ℕ) → opened ≡ old ++ opening ∷ [] → BeginsToAppend opened new inner → BeginsToAppend old new (opening ∷ (inner ++ closing ∷ []))
+begun_inside opening closing old opened new inner first begun =
+    begun_piece old opened new (opening ∷ (inner ++ closing ∷ [])) (inner ++ closing ∷ []) inner (closing ∷ []) (opening ∷ [], refl, first) refl begun
+
+begun_closing : (opening closing : ℕ) (old opened inside new inner : List ℕ) → opened ≡ old ++ opening ∷ [] → inside ≡ opened ++ inner → new ≡ inside
+    → BeginsToAppend old new (opening ∷ (inner ++ closing ∷ []))
+begun_closing opening closing old opened inside new inner first second same =
+    begun_left old inside new (opening ∷ (inner ++ closing ∷ [])) (closing ∷ [])
+    (one_piece_less old opened inside (opening ∷ (inner ++ closing ∷ [])) (inner ++ closing ∷ []) inner (closing ∷ []) (opening ∷ [], refl, first) refl second) same
 
 pub print_value-returns-in_ok-push-in-List-2 : goal.print_value-returns-in_ok-push-in-List-2
 print_value-returns-in_ok-push-in-List-2 t c =
@@ -49,6 +76,7 @@ print_value-returns-in_ok-push-in-List-2 t c =
     record {
       printed = subst (λ (d : Datum). c.push-in-List.new.self.items ≡ c.args.out.now.items ++ printed_value d) value
           (enclosed 91 93 c.args.out.now.items c.push.new.self.items c.print_values.new.out.items c.push-in-List.new.self.items inner c.in_ok-push-in-List.ensures.items values c.in_ok-push-in-List-2.ensures.items);
+      begun = tt;
     }
 
 pub print_value-returns-in_ok-push-in-Fields-2 : goal.print_value-returns-in_ok-push-in-Fields-2
@@ -59,16 +87,94 @@ print_value-returns-in_ok-push-in-Fields-2 t c =
     record {
       printed = subst (λ (d : Datum). c.push-in-Fields-2.new.self.items ≡ c.args.out.now.items ++ printed_value d) value
           (enclosed 123 125 c.args.out.now.items c.push-in-Fields.new.self.items c.print_values-in-Fields.new.out.items c.push-in-Fields-2.new.self.items inner c.in_ok-push-in-Fields.ensures.items values c.in_ok-push-in-Fields-2.ensures.items);
+      begun = tt;
     }
+
+pub print_value-returns-in_err-push-in-List-clause-begun : goal.print_value-returns-in_err-push-in-List-clause-begun
+print_value-returns-in_err-push-in-List-clause-begun t c =
+    on_refusal c.from_residual.result
+    (not_begun c.args.out.now.items c.push.new.self.items (printed_value (datum_of c.args.value.now)) c.in_err-push-in-List.ensures.items)
+
+pub print_value-returns-in_err-print_values-in-List-clause-begun : goal.print_value-returns-in_err-print_values-in-List-clause-begun
+print_value-returns-in_err-print_values-in-List-clause-begun t c =
+    let inner = printed_values (data_from (map datum_of c.in-List.values.items)) in
+    let value : elements (data_from (map datum_of c.in-List.values.items)) ≡ datum_of c.args.value.now = search (rules, value_lemmas, fold-roll-Value Datum datum_step, fold_out-Value Datum datum_step) in
+    let begun = rw c.deref-in-List.ensures.value at c.in_err-print_values-in-List.ensures.begun in
+    on_refusal c.from_residual-in_err-print_values-in-List.result
+    (subst (λ (d : Datum). BeginsToAppend c.args.out.now.items c.print_values.new.out.items (printed_value d)) value
+    (begun_inside 91 93 c.args.out.now.items c.push.new.self.items c.print_values.new.out.items inner c.in_ok-push-in-List.ensures.items begun))
+
+pub print_value-returns-in_err-push-in-List-2-clause-begun : goal.print_value-returns-in_err-push-in-List-2-clause-begun
+print_value-returns-in_err-push-in-List-2-clause-begun t c =
+    let inner = printed_values (data_from (map datum_of c.in-List.values.items)) in
+    let value : elements (data_from (map datum_of c.in-List.values.items)) ≡ datum_of c.args.value.now = search (rules, value_lemmas, fold-roll-Value Datum datum_step, fold_out-Value Datum datum_step) in
+    let values = rw c.deref-in-List.ensures.value at c.in_ok-print_values-in-List.ensures.printed in
+    on_refusal c.from_residual-in_err-push-in-List-2.result
+    (subst (λ (d : Datum). BeginsToAppend c.args.out.now.items c.push-in-List.new.self.items (printed_value d)) value
+    (begun_closing 91 93 c.args.out.now.items c.push.new.self.items c.print_values.new.out.items c.push-in-List.new.self.items inner c.in_ok-push-in-List.ensures.items values c.in_err-push-in-List-2.ensures.items))
+
+pub print_value-returns-in_err-push-in-Fields-clause-begun : goal.print_value-returns-in_err-push-in-Fields-clause-begun
+print_value-returns-in_err-push-in-Fields-clause-begun t c =
+    on_refusal c.from_residual-in_err-push-in-Fields.result
+    (not_begun c.args.out.now.items c.push-in-Fields.new.self.items (printed_value (datum_of c.args.value.now)) c.in_err-push-in-Fields.ensures.items)
+
+pub print_value-returns-in_err-print_values-in-Fields-clause-begun : goal.print_value-returns-in_err-print_values-in-Fields-clause-begun
+print_value-returns-in_err-print_values-in-Fields-clause-begun t c =
+    let inner = printed_values (data_from (map datum_of c.in-Fields.values.items)) in
+    let value : fields (data_from (map datum_of c.in-Fields.values.items)) ≡ datum_of c.args.value.now = search (rules, value_lemmas, fold-roll-Value Datum datum_step, fold_out-Value Datum datum_step) in
+    let begun = rw c.deref-in-Fields.ensures.value at c.in_err-print_values-in-Fields.ensures.begun in
+    on_refusal c.from_residual-in_err-print_values-in-Fields.result
+    (subst (λ (d : Datum). BeginsToAppend c.args.out.now.items c.print_values-in-Fields.new.out.items (printed_value d)) value
+    (begun_inside 123 125 c.args.out.now.items c.push-in-Fields.new.self.items c.print_values-in-Fields.new.out.items inner c.in_ok-push-in-Fields.ensures.items begun))
+
+pub print_value-returns-in_err-push-in-Fields-2-clause-begun : goal.print_value-returns-in_err-push-in-Fields-2-clause-begun
+print_value-returns-in_err-push-in-Fields-2-clause-begun t c =
+    let inner = printed_values (data_from (map datum_of c.in-Fields.values.items)) in
+    let value : fields (data_from (map datum_of c.in-Fields.values.items)) ≡ datum_of c.args.value.now = search (rules, value_lemmas, fold-roll-Value Datum datum_step, fold_out-Value Datum datum_step) in
+    let values = rw c.deref-in-Fields.ensures.value at c.in_ok-print_values-in-Fields.ensures.printed in
+    on_refusal c.from_residual-in_err-push-in-Fields-2.result
+    (subst (λ (d : Datum). BeginsToAppend c.args.out.now.items c.push-in-Fields-2.new.self.items (printed_value d)) value
+    (begun_closing 123 125 c.args.out.now.items c.push-in-Fields.new.self.items c.print_values-in-Fields.new.out.items c.push-in-Fields-2.new.self.items inner c.in_ok-push-in-Fields.ensures.items values c.in_err-push-in-Fields-2.ensures.items))
 
 pub print_values-loop-index-preserved : goal.print_values-loop-index-preserved
 print_values-loop-index-preserved t c =
     let k = c.loop-index.index in
     let value = c.index-values-index.result in
     let values = c.args.values.now in
-    let whole = c.args.out.now.items ++ printed_values (data_from (map datum_of values)) in
-    let all = subst (λ (ds : List Datum). c.loop-index.out.items ++ printed_from k (data_from ds) ≡ whole) (map_dropped datum_of values k value c.loop-index-test.true c.index-values-index.is) c.loop-index.invariant in
-    one_more k (datum_of value) (data_from (map datum_of (drop (k + 1) values))) c.loop-index.out.items c.print_separator.new.out.items c.print_value.new.out.items whole c.in_ok-print_separator.ensures.printed c.in_ok-print_value.ensures.printed all
+    let old = c.args.out.now.items in
+    let out = c.loop-index.out.items in
+    let whole = printed_values (data_from (map datum_of values)) in
+    let later = data_from (map datum_of (drop (k + 1) values)) in
+    let left = subst (λ (ds : List Datum). IsLeft old out whole (printed_from k (data_from ds))) (map_dropped datum_of values k value c.loop-index-test.true c.index-values-index.is) c.loop-index.invariant in
+    one_more k (datum_of value) later old out c.print_separator.new.out.items c.print_value.new.out.items whole left c.in_ok-print_separator.ensures.printed c.in_ok-print_value.ensures.printed
+
+pub print_values-returns-in_err-print_separator-clause-begun : goal.print_values-returns-in_err-print_separator-clause-begun
+print_values-returns-in_err-print_separator-clause-begun t c =
+    let k = c.loop-index.index in
+    let value = c.index-values-index.result in
+    let values = c.args.values.now in
+    let old = c.args.out.now.items in
+    let out = c.loop-index.out.items in
+    let whole = printed_values (data_from (map datum_of values)) in
+    let later = data_from (map datum_of (drop (k + 1) values)) in
+    let left = subst (λ (ds : List Datum). IsLeft old out whole (printed_from k (data_from ds))) (map_dropped datum_of values k value c.loop-index-test.true c.index-values-index.is) c.loop-index.invariant in
+    on_refusal c.from_residual.result (begun_separator k (datum_of value) later old out c.print_separator.new.out.items whole left c.in_err-print_separator.ensures.begun)
+
+pub print_values-returns-in_err-print_value-clause-begun : goal.print_values-returns-in_err-print_value-clause-begun
+print_values-returns-in_err-print_value-clause-begun t c =
+    let k = c.loop-index.index in
+    let value = c.index-values-index.result in
+    let values = c.args.values.now in
+    let old = c.args.out.now.items in
+    let out = c.loop-index.out.items in
+    let whole = printed_values (data_from (map datum_of values)) in
+    let later = data_from (map datum_of (drop (k + 1) values)) in
+    let left = subst (λ (ds : List Datum). IsLeft old out whole (printed_from k (data_from ds))) (map_dropped datum_of values k value c.loop-index-test.true c.index-values-index.is) c.loop-index.invariant in
+    on_refusal c.from_residual-in_err-print_value.result
+    (begun_value k (datum_of value) later old out c.print_separator.new.out.items c.print_value.new.out.items whole left c.in_ok-print_separator.ensures.printed c.in_err-print_value.ensures.begun)
 
 pub print_values-returns : goal.print_values-returns
-print_values-returns t c = record { printed = all_done c.loop-index.index c.args.values.now c.loop-index.out.items _ c.loop-index-test.false c.loop-index.invariant }
+print_values-returns t c = record {
+  printed = all_done c.loop-index.index c.args.values.now c.args.out.now.items c.loop-index.out.items (printed_values (data_from (map datum_of c.args.values.now))) c.loop-index-test.false c.loop-index.invariant;
+  begun = tt;
+}

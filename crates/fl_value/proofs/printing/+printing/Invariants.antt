@@ -1,9 +1,10 @@
-use Rattle.std.proofs.Common.{◌≡◌, ◌++◌, map, drop}
+use Rattle.std.proofs.Common.{map, drop}
 use Rattle.fl_value.specs.Value.{datum_of, data_from}
 use Rattle.fl_value.specs.Printed.{printed_values}
+use Rattle.fl_value.proofs.Begun.{IsLeft}
 use Rattle.fl_value.proofs.Prints.{printed_from}
 use Rattle.fl_value.proofs.printing.+printing.Given as goal
 
 abbrev pub invariant-print_values-loop-index : goal.invariant-print_values-loop-index
 invariant-print_values-loop-index l =
-    l.out.items ++ printed_from l.index (data_from (map datum_of (drop l.index l.values))) ≡ l.fn.out.items ++ printed_values (data_from (map datum_of l.values))
+    IsLeft l.fn.out.items l.out.items (printed_values (data_from (map datum_of l.values))) (printed_from l.index (data_from (map datum_of (drop l.index l.values))))

@@ -7,7 +7,7 @@ use Rattle.flounder.proofs.run.compile_file.Goals as goal
 pub returns-in-Err : goal.returns-in-Err
 returns-in-Err g c = record {
   compiled =
-      not_read (g.F.FileStore.deeds c.args.files.now) (g.F.FileStore.deeds c.read.new.self) c.args.file.now c.args.out.now c.finish.result (status_of c.unread.result)
+      not_read (g.F.FileStore.deeds c.args.files.now) (g.F.FileStore.deeds c.read.new.self) c.args.file.now c.args.out.now _ c.finish.result (status_of c.unread.result)
       c.in-Err.ensures.done c.finish.ensures.fault c.unread.ensures.failed;
 }
 
@@ -30,6 +30,6 @@ pub returns : goal.returns
 returns g c = record {
   compiled =
       not_written (g.F.FileStore.deeds c.args.files.now) (g.F.FileStore.deeds c.read.new.self) (g.F.FileStore.deeds c.write.new.self) c.args.file.now c.args.out.now c.in-Ok.content.items c.deref.result.now
-      c.in-Ok-compile_text.image.items c.finish-in-Err-write.result (status_of c.unmade.result) c.in-Ok.ensures.done c.in-Err-write.ensures.done c.deref.ensures.value
+      c.in-Ok-compile_text.image.items _ c.finish-in-Err-write.result (status_of c.unmade.result) c.in-Ok.ensures.done c.in-Err-write.ensures.done c.deref.ensures.value
       c.in-Ok-compile_text.ensures.image c.finish-in-Err-write.ensures.fault c.unmade.ensures.failed;
 }

@@ -9,7 +9,7 @@ pub returns-in-Err : goal.returns-in-Err
 returns-in-Err g c = record {
   shown =
       not_viewed (g.F.FileStore.deeds c.args.files.now) (g.F.FileStore.deeds c.read.new.self) c.args.file.now (g.W.Write.contents c.args.output.now) (g.W.Write.contents c.args.output.now)
-      c.finish.result (status_of c.unread.result) c.in-Err.ensures.done refl c.finish.ensures.fault c.unread.ensures.failed;
+      _ c.finish.result (status_of c.unread.result) c.in-Err.ensures.done refl c.finish.ensures.fault c.unread.ensures.failed;
 }
 
 pub returns-in-Err-show_content : goal.returns-in-Err-show_content

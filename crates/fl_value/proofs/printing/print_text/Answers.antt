@@ -1,0 +1,31 @@
+use Rattle.std.proofs.Common.{◌≡◌, ◌<◌, ◌+◌, ◌++◌, ◌∷◌, [], ℕ, List, length, drop, get_or, ◌∙◌, append_assoc}
+use Rattle.std.proofs.lemmas.List.{at_drop_more}
+use Rattle.std.specs.List.{flat_map}
+use Rattle.fl_value.specs.Printed.{printed_byte, printed_text}
+use Rattle.fl_value.proofs.Begun.{begun_left, begun_piece, not_begun, on_refusal}
+use Rattle.fl_value.proofs.printing.print_text.Goals as goal
+
+-- what is printed from a byte on
+abbrev bytes_left : List ℕ → ℕ → List ℕ
+bytes_left bytes k = flat_map printed_byte (drop k bytes) ++ 34 ∷ []
+
+one_byte : (bytes : List ℕ) (k : ℕ) → k < length bytes → bytes_left bytes k ≡ printed_byte (get_or bytes k 0) ++ bytes_left bytes (k + 1)
+one_byte bytes k here =
+    at_drop_more (λ (bs : List ℕ). flat_map printed_byte bs ++ 34 ∷ []) bytes k 0 here
+    ∙ append_assoc (printed_byte (get_or bytes k 0)) (flat_map printed_byte (drop (k + 1) bytes)) (34 ∷ [])
+
+pub returns-in_err-push-clause-begun : goal.returns-in_err-push-clause-begun
+returns-in_err-push-clause-begun c = on_refusal c.from_residual.result (not_begun c.args.out.now.items c.push.new.self.items (printed_text c.args.bytes.now) c.in_err-push.ensures.items)
+
+pub returns-in_err-print_byte-clause-begun : goal.returns-in_err-print_byte-clause-begun
+returns-in_err-print_byte-clause-begun c =
+    let bytes = c.args.bytes.now in
+    let k = c.loop-byte.byte-index in
+    on_refusal c.from_residual-in_err-print_byte.result
+    (begun_piece c.args.out.now.items c.loop-byte.out.items c.print_byte.new.out.items (printed_text bytes) (bytes_left bytes k) (printed_byte (get_or bytes k 0)) (bytes_left bytes (k + 1))
+    c.loop-byte.invariant (one_byte bytes k c.loop-byte-test.true) c.in_err-print_byte.ensures.begun)
+
+pub returns-in_err-push-2-clause-begun : goal.returns-in_err-push-2-clause-begun
+returns-in_err-push-2-clause-begun c =
+    on_refusal c.from_residual-in_err-push-2.result
+    (begun_left c.args.out.now.items c.loop-byte.out.items c.push-2.new.self.items (printed_text c.args.bytes.now) (bytes_left c.args.bytes.now c.loop-byte.byte-index) c.loop-byte.invariant c.in_err-push-2.ensures.items)
