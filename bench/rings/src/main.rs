@@ -9,13 +9,14 @@ mod shared;
 mod threads;
 
 fn main() {
-    let word = std::env::args().nth(1);
-    match word.as_deref() {
+    let mut words = std::env::args().skip(1);
+    match words.next().as_deref() {
         Some("queues") => queues::report(),
-        Some("threads") => threads::report(),
+        Some("threads") => threads::report(words.next().as_deref()),
+        Some("plain") => threads::run_plain(words),
         _ => {
             queues::report();
-            threads::report();
+            threads::report(None);
         }
     }
 }

@@ -14,29 +14,25 @@ pub enum Sight {
     Empty,
 }
 
-/// The words that two sides share. The first stands in the middle of a cache line, as the proved ring's
-/// does: whether slots are cache lines or lie across two of them makes a third of the time.
+/// The words that two sides share, where the allocator puts them.
 struct Table {
     words: Box<[AtomicU64]>,
-    first: usize,
 }
 
 impl Table {
     fn new(words: usize) -> Arc<Table> {
-        let words: Box<[AtomicU64]> = (0..words + 8).map(|_| AtomicU64::new(0)).collect();
-        let in_line = words.as_ptr() as usize % 64 / 8;
-        let first = (4 + 8 - in_line) % 8;
-        Arc::new(Table { words, first })
+        let words = (0..words).map(|_| AtomicU64::new(0)).collect();
+        Arc::new(Table { words })
     }
 
     #[inline]
     fn word(&self, at: usize) -> &AtomicU64 {
-        &self.words[self.first + at]
+        &self.words[at]
     }
 
     #[inline]
     fn slot(&self, at: usize) -> &[AtomicU64] {
-        &self.words[self.first + at..][..8]
+        &self.words[at..][..8]
     }
 
     /// Stores the payload words first and the control word last.
@@ -91,7 +87,8 @@ pub struct Receiver {
 }
 
 pub fn ring(slots: usize) -> (Sender, Receiver) {
-    let table = Table::new(8 * slots + 1);
+    // behind the number told stands nothing on its cache line
+    let table = Table::new(8 * slots + 8);
     let sender = Sender {
         table: table.clone(),
         slots: slots as u64,

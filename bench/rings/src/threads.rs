@@ -1,15 +1,27 @@
 //! Rings between two threads: fragments a second, and the time of a round trip. The proved rings run
-//! in a program of their own, which starts its threads as we start ours here and measures as we do.
+//! in a program of their own, the plain ones in this program started anew: each run is a process, which starts
+//! its threads and measures in the same way.
 
 use crate::plain::{fragment, sum_of};
 use crate::shared::{self, Receiver, Sender, Side, Sight};
-use std::hint::spin_loop;
+use std::env;
+use std::hint::{black_box, spin_loop};
+use std::path::Path;
 use std::process::Command;
 use std::thread;
 use std::time::Instant;
 
-/// How often each side runs, in turn.
-const RUNS: usize = 60;
+/// How often each side runs, in turn; a multiple of twice the places.
+const RUNS: usize = 200;
+
+/// How often a side pauses between two polls that find nothing.
+const PAUSES: [u64; 3] = [0, 20, 100];
+
+/// Where a table stands in its cache lines makes a third of the time, and the allocator decides it. So a run takes
+/// some memory ahead of the ring, more by 16 bytes from run to run, and tables stand in each of the four places that
+/// blocks of this allocator have equally often. (A block of 128 KiB is mapped by itself: its place is always one.)
+const PLACES: usize = 4;
+const AHEAD: usize = 2_048;
 
 /// Fragments, or round trips, of a run, and how many of them are timed at once: few, since other work
 /// on the machine takes a thread its processor now and then, and a stretch in which that happens is
@@ -27,6 +39,8 @@ struct Plan {
     pauses: u64,
     /// After how many fragments a reader tells.
     tell_each: u64,
+    /// How many bytes are taken ahead of the ring.
+    ahead: usize,
 }
 
 /// The times of the stretches so far, in nanoseconds.
@@ -271,86 +285,173 @@ fn exchange(mut side: Side, plan: Plan) -> Taken {
     Taken { sum, times }
 }
 
-/// What the proved program says of one run.
-fn proved(kind: &Kind, plan: Plan) -> Taken {
-    let words = [plan.slots as u64, plan.count, plan.pauses, plan.tell_each];
-    let output = Command::new(env!("FLOUNDER_THREADS"))
+/// What a program says of one run.
+fn run(program: &Path, first: &[&str], kind: &Kind, plan: Plan) -> Taken {
+    let words = [
+        plan.slots as u64,
+        plan.count,
+        plan.pauses,
+        plan.tell_each,
+        plan.ahead as u64,
+    ];
+    let output = Command::new(program)
+        .args(first)
         .arg(kind.word)
         .args(words.map(|word| word.to_string()))
         .output()
-        .expect("the proved program runs");
+        .expect("the program runs");
     let said = String::from_utf8(output.stdout).expect("text");
     let mut numbers = said.lines().map(|line| -> u64 {
         line.parse()
-            .unwrap_or_else(|_| panic!("the proved program says {line}"))
+            .unwrap_or_else(|_| panic!("the program says {line}"))
     });
     let sum = numbers.next().expect("a sum");
     let times = numbers.collect();
     Taken { sum, times }
 }
 
-/// The times of a fragment or a trip, in rising order: the proved ring's and the plain one's, in turn.
-fn times(kind: &Kind, plan: Plan) -> (Vec<f64>, Vec<f64>) {
-    let each = (STRETCH * kind.ways) as f64;
-    let (mut ours, mut theirs) = (Vec::new(), Vec::new());
-    for _ in 0..RUNS {
-        let taken = proved(kind, plan);
-        let plain = (kind.run)(plan);
-        assert_eq!(taken.sum, plain.sum, "not every fragment came through");
-        ours.extend(taken.times.iter().map(|time| *time as f64 / each));
-        theirs.extend(plain.times.iter().map(|time| *time as f64 / each));
+/// The plain program: a run of one kind, by the words that the proved program takes.
+pub fn run_plain(mut words: impl Iterator<Item = String>) {
+    let word = words.next().expect("a kind");
+    let kind = [&RING, &DUO, &RING_TRIPS, &DUO_TRIPS]
+        .into_iter()
+        .find(|kind| kind.word == word)
+        .expect("a kind");
+    let mut number = || -> u64 {
+        words
+            .next()
+            .and_then(|word| word.parse().ok())
+            .expect("a number")
+    };
+    let plan = Plan {
+        slots: number() as usize,
+        count: number(),
+        pauses: number(),
+        tell_each: number(),
+        ahead: number() as usize,
+    };
+    let ahead: Vec<u8> = black_box(Vec::with_capacity(plan.ahead));
+    let taken = (kind.run)(plan);
+    drop(ahead);
+    println!("{}", taken.sum);
+    for time in taken.times {
+        println!("{time}");
     }
-    ours.sort_by(f64::total_cmp);
-    theirs.sort_by(f64::total_cmp);
-    (ours, theirs)
 }
 
-/// One line: the median of each side, and the middle half of its stretches.
-fn line(kind: &Kind, plan: Plan) {
-    let (ours, theirs) = times(kind, plan);
-    let quarter = |times: &[f64], part: usize| times[part * (times.len() - 1) / 4];
-    let spread = |times: &[f64]| {
-        let (low, middle, high) = (quarter(times, 1), quarter(times, 2), quarter(times, 3));
-        format!("{middle:5.0} ({low:.0} to {high:.0})")
+/// The times of a fragment or a trip in each run: the proved ring's and the plain one's, in turn.
+fn times(kind: &Kind, plan: Plan) -> Vec<[f64; 2]> {
+    let ours = Path::new(env!("FLOUNDER_THREADS"));
+    let theirs = env::current_exe().expect("this program");
+    let each = (STRETCH * kind.ways) as f64;
+    let middle = |taken: Taken| {
+        let mut times: Vec<f64> = taken.times.iter().map(|time| *time as f64 / each).collect();
+        quarter(&mut times, 2)
     };
+    let pair = |k: usize| {
+        let plan = Plan {
+            ahead: AHEAD + 16 * (k % PLACES),
+            ..plan
+        };
+        let proved = || run(ours, &[], kind, plan);
+        let plain = || run(&theirs, &["plain"], kind, plan);
+        // each goes first as often as the other
+        let (proved, plain) = if k / PLACES % 2 == 0 {
+            let proved = proved();
+            (proved, plain())
+        } else {
+            let plain = plain();
+            (proved(), plain)
+        };
+        assert_eq!(proved.sum, plain.sum, "not every fragment came through");
+        [middle(proved), middle(plain)]
+    };
+    (0..RUNS).map(pair).collect()
+}
+
+/// The first, second or third quarter of some times.
+fn quarter(times: &mut [f64], part: usize) -> f64 {
+    times.sort_by(f64::total_cmp);
+    times[part * (times.len() - 1) / 4]
+}
+
+/// The plain ring's middle time over ours, of the pairs of runs that are chosen.
+fn ratio(pairs: impl Iterator<Item = [f64; 2]>) -> f64 {
+    let (mut ours, mut theirs): (Vec<f64>, Vec<f64>) =
+        pairs.map(|[ours, theirs]| (ours, theirs)).unzip();
+    quarter(&mut theirs, 2) / quarter(&mut ours, 2)
+}
+
+/// How far chance moves the ratio: the middle nineteen of twenty ratios of as many pairs, drawn from these.
+fn bounds(pairs: &[[f64; 2]]) -> (f64, f64) {
+    const DRAWS: usize = 1_000;
+    let mut state = 1u64;
+    let mut draw = || {
+        // a linear congruential generator (Knuth's MMIX), whose upper bits are good enough here
+        state = state
+            .wrapping_mul(6_364_136_223_846_793_005)
+            .wrapping_add(1_442_695_040_888_963_407);
+        pairs[(state >> 33) as usize % pairs.len()]
+    };
+    let mut ratios: Vec<f64> = (0..DRAWS)
+        .map(|_| ratio((0..pairs.len()).map(|_| draw())))
+        .collect();
+    ratios.sort_by(f64::total_cmp);
+    (ratios[DRAWS / 40], ratios[DRAWS - 1 - DRAWS / 40])
+}
+
+/// One line: the middle run of each side, the middle half of its runs, and the ratios: beside the plain ring with as
+/// many pauses, and beside the one that polls without pauses. Gives the plain ring's middle time.
+fn line(kind: &Kind, plan: Plan, unpaused: Option<f64>) -> f64 {
+    let pairs = times(kind, plan);
+    let spread = |side: usize| {
+        let mut times: Vec<f64> = pairs.iter().map(|pair| pair[side]).collect();
+        [1, 2, 3].map(|part| quarter(&mut times, part))
+    };
+    let shown = |[low, middle, high]: [f64; 3]| format!("{middle:5.0} ({low:.0} to {high:.0})");
+    let (ours, theirs) = (spread(0), spread(1));
+    let unpaused = unpaused.unwrap_or(theirs[1]);
+    let (low, high) = bounds(&pairs);
     println!(
-        "{:<9} {:>4} slots, {:>3} pauses:   proved {}   plain {}   ratio {:.2}, of the first quarters {:.2}",
+        "{:<9} {:>4} slots, {:>3} pauses:   proved {}   plain {}   ratio {:.2} ({low:.2} to {high:.2}), beside no pauses {:.2}",
         kind.name,
         plan.slots,
         plan.pauses,
-        spread(&ours),
-        spread(&theirs),
-        quarter(&theirs, 2) / quarter(&ours, 2),
-        quarter(&theirs, 1) / quarter(&ours, 1),
+        shown(ours),
+        shown(theirs),
+        ratio(pairs.iter().copied()),
+        unpaused / ours[1],
     );
+    unpaused
 }
 
-pub fn report() {
-    println!("between two threads: nanoseconds a fragment, the median of stretches of {STRETCH} (the middle half of them)");
-    println!("ratios: the plain ring's time over ours, so above 1 we are faster");
-    for kind in [&RING, &DUO] {
+/// A line for each number of pauses.
+fn lines(kind: &Kind, slots: usize, count: u64) {
+    let mut unpaused = None;
+    for pauses in PAUSES {
+        let plan = Plan {
+            slots,
+            count,
+            pauses,
+            tell_each: 1,
+            ahead: AHEAD,
+        };
+        unpaused = Some(line(kind, plan, unpaused));
+    }
+}
+
+/// The rows of one kind, where its word is given, else all.
+pub fn report(word: Option<&str>) {
+    println!("between two threads: nanoseconds a fragment, the middle of {RUNS} runs (and the middle half of them)");
+    println!("ratios: the plain ring's time over ours, so above 1 we are faster (and how far chance moves them)");
+    let chosen = |kind: &&Kind| word.map_or(true, |word| word == kind.word);
+    for kind in [&RING, &DUO].into_iter().filter(chosen) {
         for slots in [64, 1_024] {
-            for pauses in [0, 10, 100] {
-                let plan = Plan {
-                    slots,
-                    count: FRAGMENTS,
-                    pauses,
-                    tell_each: 1,
-                };
-                line(kind, plan);
-            }
+            lines(kind, slots, FRAGMENTS);
         }
     }
     println!("nanoseconds a round trip");
-    for kind in [&RING_TRIPS, &DUO_TRIPS] {
-        for pauses in [0, 10, 100] {
-            let plan = Plan {
-                slots: 64,
-                count: TRIPS,
-                pauses,
-                tell_each: 1,
-            };
-            line(kind, plan);
-        }
+    for kind in [&RING_TRIPS, &DUO_TRIPS].into_iter().filter(chosen) {
+        lines(kind, 64, TRIPS);
     }
 }

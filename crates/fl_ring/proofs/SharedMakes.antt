@@ -108,7 +108,7 @@ new_marked n ws p wide zeros = record {
       omega arith;
 }
 
-pub new_holds : (n : ℕ) (ws : List ℕ) → 0 < n → length ws ≡ 8 * n + 1 → ((i : ℕ) → get_or ws i 0 ≡ 0) → RingHolds n ws new_writing new_reading
+pub new_holds : (n : ℕ) (ws : List ℕ) → 0 < n → length ws ≡ 8 * n + 8 → ((i : ℕ) → get_or ws i 0 ≡ 0) → RingHolds n ws new_writing new_reading
 new_holds n ws p wide zeros = record {
   wide = wide;
   way = record {
@@ -129,11 +129,11 @@ new_holds n ws p wide zeros = record {
     none_some : (g : Frag) → (let o : Option Frag = None in o) ≡ Some g → ⊥
     none_some g e = cc
 
-pub opens : (n : ℕ) (ws : List ℕ) → 0 < n → ws ≡ replicate (8 * n + 1) 0 → RingRule n (opening ws [] (opening_view n))
+pub opens : (n : ℕ) (ws : List ℕ) → 0 < n → ws ≡ replicate (8 * n + 8) 0 → RingRule n (opening ws [] (opening_view n))
 opens n ws p e = record {
   account = record { writer = 0; reader = 0; put = new_writing; take = new_reading };
   seats = λ j u at. only j u at;
-  holds = new_holds n ws p (ap length e ∙ length-replicate (8 * n + 1) 0) (λ i. ap (λ (xs : List ℕ). get_or xs i 0) e ∙ all_zero (8 * n + 1) i);
+  holds = new_holds n ws p (ap length e ∙ length-replicate (8 * n + 8) 0) (λ i. ap (λ (xs : List ℕ). get_or xs i 0) e ∙ all_zero (8 * n + 8) i);
 }
   where
     only : (j : ℕ) (u : View) → get_elem? (opening_view n ∷ []) j ≡ some u → Fits n (record { writer = 0; reader = 0; put = new_writing; take = new_reading }) j u

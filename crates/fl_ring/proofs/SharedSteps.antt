@@ -22,7 +22,7 @@ abbrev Held : ℕ → List ℕ → Sides → Type 0
 Held n ws s = RingHolds n ws s.put s.take
 
 -- a word of a slot is a word of the table
-pub word_in : (n i k words : ℕ) → 0 < n → k < 8 → words ≡ 8 * n + 1 → slot 0 n i + k < words
+pub word_in : (n i k words : ℕ) → 0 < n → k < 8 → words ≡ 8 * n + 8 → slot 0 n i + k < words
 word_in n i k words some small wide = omega (arith, slot_within 0 n i some)
 
 -- ---- who moves

@@ -1,7 +1,8 @@
 -- The rule of a ring over shared words, and what each kind of step tells its side.
 --
--- Words 8j to 8j + 7 are slot j, and word 8n holds how many fragments were read and told. One seat is
--- the writer's and one the reader's. The steps are these, each by the seat that it names:
+-- Words 8j to 8j + 7 are slot j, and word 8n holds how many fragments were read and told. The seven words
+-- after it are nobody's: they keep what is read at every step off the cache line that the reader writes when
+-- it tells. One seat is the writer's and one the reader's. The steps are these, each by the seat that it names:
 --
 --   the writer stores a payload word of the next slot: fewer than seven are stored, and fewer than n
 --     fragments are sent beyond those known to be told
@@ -38,7 +39,7 @@ Fits n s seat v = (v.writes ≡ true → (seat ≡ s.writer) × (v.put ≡ s.put
 
 -- the words: a way at word 0, and after it the number told
 pub record RingHolds (n : ℕ) (words : List ℕ) (w : Writing) (r : Reading) : Type 0 where
-  pub wide : length words ≡ 8 * n + 1
+  pub wide : length words ≡ 8 * n + 8
   pub way : WayRuns 0 n words w r r.told
   pub told_is : slice_index words (8 * n) ≡ r.told
 

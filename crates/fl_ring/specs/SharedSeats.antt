@@ -21,7 +21,7 @@ RingSeat = Seat (Unit {0}) View
 pub record IsSeated (table : TableId) (key : ℕ) (seat : RingSeat) : Type 0 where
   pub same : seat.table_id ≡ table
   pub key_is : key ≡ seat.me.0.size
-  pub wide : table.words ≡ 8 * seat.me.0.size + 1
+  pub wide : table.words ≡ 8 * seat.me.0.size + 8
   pub some : 0 < seat.me.0.size
   pub few : seat.me.0.size ≤ 1024
 

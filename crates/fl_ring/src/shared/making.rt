@@ -27,7 +27,7 @@ pub fn ring(alloc: Global, size: usize) -> Result<(RingTx, RingRx), RingFault>
     if size < 2 || size > MAX_QUEUE || !size.is_power_of_two() {
         return Err(RingFault::BadSize);
     }
-    let Ok(words) = vec![in alloc; 0; 8 * size + 1] else {
+    let Ok(words) = vec![in alloc; 0; 8 * size + 8] else {
         return Err(RingFault::Memory);
     };
     let Ok((table, seat)) = Board::of_words(alloc, words.as_slice(), &size) else {
@@ -44,7 +44,7 @@ fn sides_of(
     size: usize,
 ) -> Result<(RingTx, RingRx), RingFault>
     requires size { (0 < size) × (size ≤ 1024) }
-    requires table { (seat.table_id ≡ table.shared.table_id) × (table.shared.key ≡ size) × (table.shared.table_id.words ≡ 8 * size + 1) }
+    requires table { (seat.table_id ≡ table.shared.table_id) × (table.shared.key ≡ size) × (table.shared.table_id.words ≡ 8 * size + 8) }
     requires seat { seat.me ≡ (opening_view size, []) }
     ensures sender { IfOk result (λ sides. sides.0 ≡ new_sender sides.1.ring size) }
     ensures receiver { IfOk result (λ sides. sides.1 ≡ new_receiver sides.1.ring size) }
