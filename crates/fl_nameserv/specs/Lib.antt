@@ -1,0 +1,4 @@
+pub mod Faults
+pub mod Lent
+pub mod Numbered
+pub mod Registrations
