@@ -1,5 +1,5 @@
 -- A script has one transcript: at most one effect stands in what an item does.
-use Rattle.std.proofs.Common.{◌≡◌, ◌∙◌, inl, inr, List, [], ◌∷◌, ◌++◌, ℕ, sym, ap, subst, Bool, true, false, append_assoc, append-nil}
+use Rattle.std.proofs.Common.{◌≡◌, ◌∙◌, inl, inr, List, [], ◌∷◌, ◌++◌, ℕ, sym, ap, subst, Bool, true, false, append_assoc}
 use Rattle.std.specs.Prelude.{codes}
 use Rattle.std.specs.Bool.{MatchBool}
 use Rattle.fl_lex.specs.Outcome.{LexOutcome, lexed, lex_fault, Lexes}
@@ -10,7 +10,10 @@ use Rattle.fl_check.specs.Checks.{CheckOutcome, Checks}
 use Rattle.fl_value.specs.Value.{Datum}
 use Rattle.fl_value.specs.CallText.{SpellsCall}
 use Rattle.fl_script.specs.Text.{TextOutcome, checked_as, ParsedMeans, LexedMeans, TextMeans}
-use Rattle.fl_script.specs.Transcript.{Script, Effect, Item, a_line, a_block, open_block, Does, LineDoes, CallDoes, Writes, WritesFront, IsFront, Transcript, TranscriptFront, items_of, beginning, too_long, line, after_text, after_call, end_id}
+use Rattle.fl_script.specs.Transcript.{Script, Effect, Item, a_line, a_block, open_block, Does, LineDoes, CallDoes, Writes, Transcript, items_of, beginning, too_long, line, after_text, after_call, end_id}
+use Rattle.fl_script.specs.CutShort.{IsFront, IsProperFront, WritesSome, WritesPart, Leaves}
+use Rattle.fl_script.specs.declared.running.ExecFault.{ExecFault}
+use Rattle.fl_script.specs.declared.running.ExecFault.TheVariants.{Memory, Read, Write}
 use Rattle.fl_script.specs.Commands.{EndName, Line, silent, command, calls, opens_block, unread}
 
 abbrev pub OneLexing : Type 0
@@ -84,36 +87,75 @@ from_laws l p k r = one_transcript l p k r
 
 -- Fronts.
 
+of_nothing : (front whole : List ℕ) → front ≡ [] → IsFront front whole
+of_nothing front whole e = (whole, ap (λ (t : List ℕ). t ++ whole) (sym e))
+
+proper_is_front : (front whole : List ℕ) → IsProperFront front whole → IsFront front whole
+proper_is_front front whole (next, more, e) = (next ∷ more, e)
+
 -- a front of the first part is a front of both
-front_before : (front whole rest : List ℕ) → IsFront front whole → IsFront front (whole ++ rest)
-front_before front whole rest (more, e) = (more ++ rest, ap (λ (t : List ℕ). t ++ rest) e ∙ append_assoc front more rest)
+proper_before : (front whole rest : List ℕ) → IsProperFront front whole → IsProperFront front (whole ++ rest)
+proper_before front whole rest (next, more, e) = (next, more ++ rest, ap (λ (t : List ℕ). t ++ rest) e ∙ append_assoc front (next ∷ more) rest)
 
 front_behind : (first front whole : List ℕ) → IsFront front whole → IsFront (first ++ front) (first ++ whole)
 front_behind first front whole (more, e) = (more, ap (λ (t : List ℕ). first ++ t) e ∙ sym (append_assoc first front more))
 
-front_of_writing : OneLexing → OneParsing → OneChecking → OneCalling → (s : Script) (items : List Item) (front whole : List ℕ)
-    → WritesFront s items front → Writes s items whole → IsFront front whole
-front_of_writing l p k r s [] front whole x y = ([], y ∙ sym (append-nil front ∙ x))
-front_of_writing l p k r s (item ∷ items) front whole (inl x) y = (whole, ap (λ (t : List ℕ). t ++ whole) (sym x))
-front_of_writing l p k r s (item ∷ items) front whole (inr (e, d, inl x)) (f, n, g, v, t) =
+proper_behind : (first front whole : List ℕ) → IsProperFront front whole → IsProperFront (first ++ front) (first ++ whole)
+proper_behind first front whole (next, more, e) = (next, more, ap (λ (t : List ℕ). first ++ t) e ∙ sym (append_assoc first front (next ∷ more)))
+
+front_of_some : OneLexing → OneParsing → OneChecking → OneCalling → (s : Script) (items : List Item) (front whole : List ℕ)
+    → WritesSome s items front → Writes s items whole → IsFront front whole
+front_of_some l p k r s [] front whole x y = absurd x
+front_of_some l p k r s (item ∷ items) front whole (inl x) y = of_nothing front whole x
+front_of_some l p k r s (item ∷ items) front whole (inr (e, m, d, w, q)) (f, n, g, v, t) =
     let same : e ≡ f = one_effect l p k r s item e f d g in
-    subst (λ (z : List ℕ). IsFront front z) (ap (λ (z : Effect). z.text ++ n) same ∙ sym t) (front_before front e.text n x)
-front_of_writing l p k r s (item ∷ items) front whole (inr (e, d, inr (m, w, q))) (f, n, g, v, t) =
-    let same : e ≡ f = one_effect l p k r s item e f d g in
-    let rest : IsFront m n = front_of_writing l p k r e.after items m n w (subst (λ (z : Effect). Writes z.after items n) (sym same) v) in
+    let rest : IsFront m n = front_of_some l p k r e.after items m n w (subst (λ (z : Effect). Writes z.after items n) (sym same) v) in
     subst (λ (z : List ℕ). IsFront z whole) (sym q)
     (subst (λ (z : List ℕ). IsFront (e.text ++ m) z) (ap (λ (z : Effect). z.text ++ n) same ∙ sym t) (front_behind e.text m n rest))
 
-either_front : (t : Bool) (F W : List ℕ → Type 0) (fixed front whole : List ℕ) → ((x y : List ℕ) → F x → W y → IsFront x y)
-    → MatchBool t (IsFront front fixed) (F front) → MatchBool t (whole ≡ fixed) (W whole) → IsFront front whole
-either_front true F W fixed front whole one x y = subst (λ (z : List ℕ). IsFront front z) (sym y) x
-either_front false F W fixed front whole one x y = one front whole x y
+front_of_part : OneLexing → OneParsing → OneChecking → OneCalling → (s : Script) (items : List Item) (front whole : List ℕ)
+    → WritesPart s items front → Writes s items whole → IsProperFront front whole
+front_of_part l p k r s [] front whole x y = absurd x
+front_of_part l p k r s (item ∷ items) front whole (e, d, inl x) (f, n, g, v, t) =
+    let same : e ≡ f = one_effect l p k r s item e f d g in
+    subst (λ (z : List ℕ). IsProperFront front z) (ap (λ (z : Effect). z.text ++ n) same ∙ sym t) (proper_before front e.text n x)
+front_of_part l p k r s (item ∷ items) front whole (e, d, inr (m, w, q)) (f, n, g, v, t) =
+    let same : e ≡ f = one_effect l p k r s item e f d g in
+    let rest : IsProperFront m n = front_of_part l p k r e.after items m n w (subst (λ (z : Effect). Writes z.after items n) (sym same) v) in
+    subst (λ (z : List ℕ). IsProperFront z whole) (sym q)
+    (subst (λ (z : List ℕ). IsProperFront (e.text ++ m) z) (ap (λ (z : Effect). z.text ++ n) same ∙ sym t) (proper_behind e.text m n rest))
+
+-- two choices by one test
+both_ways : (t : Bool) (A B C D G : Type 0) → (A → C → G) → (B → D → G) → MatchBool t A B → MatchBool t C D → G
+both_ways true A B C D G long short x y = long x y
+both_ways false A B C D G long short x y = short x y
+
+proper_of_write : OneLexing → OneParsing → OneChecking → OneCalling → (bytes front whole : List ℕ)
+    → Leaves Write bytes front → Transcript bytes whole → IsProperFront front whole
+proper_of_write l p k r bytes front whole x y =
+    both_ways (too_long bytes) (IsProperFront front (line (codes "refused E91"))) (WritesPart beginning (items_of bytes) front)
+    (whole ≡ line (codes "refused E91")) (Writes beginning (items_of bytes) whole) (IsProperFront front whole)
+    (λ f w. subst (λ (z : List ℕ). IsProperFront front z) (sym w) f) (front_of_part l p k r beginning (items_of bytes) front whole) x y
+
+front_of_leavings : OneLexing → OneParsing → OneChecking → OneCalling → (fault : ExecFault) (bytes front whole : List ℕ)
+    → Leaves fault bytes front → Transcript bytes whole → IsFront front whole
+front_of_leavings l p k r Memory bytes front whole x y =
+    both_ways (too_long bytes) (front ≡ []) (WritesSome beginning (items_of bytes) front)
+    (whole ≡ line (codes "refused E91")) (Writes beginning (items_of bytes) whole) (IsFront front whole)
+    (λ f w. of_nothing front whole f) (front_of_some l p k r beginning (items_of bytes) front whole) x y
+front_of_leavings l p k r Read bytes front whole x y = of_nothing front whole x
+front_of_leavings l p k r Write bytes front whole x y = proper_is_front front whole (proper_of_write l p k r bytes front whole x y)
 
 pub fronts_from_laws : ((text : List ℕ) (a b : LexOutcome) → Lexes text a → Lexes text b → a ≡ b)
     → ((tokens : TheTokens) (a b : ParseOutcome) → Parses tokens a → Parses tokens b → a ≡ b)
     → ((tree : TheTree) (a b : CheckOutcome) → Checks tree a → Checks tree b → a ≡ b)
     → ((bytes one other : List ℕ) (values others : List Datum) → SpellsCall bytes one values → SpellsCall bytes other others → (one ≡ other) × (values ≡ others))
-    → (bytes front whole : List ℕ) → TranscriptFront bytes front → Transcript bytes whole → IsFront front whole
-fronts_from_laws l p k r bytes front whole x y =
-    either_front (too_long bytes) (WritesFront beginning (items_of bytes)) (Writes beginning (items_of bytes)) (line (codes "refused E91")) front whole
-    (front_of_writing l p k r beginning (items_of bytes)) x y
+    → (fault : ExecFault) → (bytes front whole : List ℕ) → Leaves fault bytes front → Transcript bytes whole → IsFront front whole
+fronts_from_laws l p k r = front_of_leavings l p k r
+
+pub proper_fronts_from_laws : ((text : List ℕ) (a b : LexOutcome) → Lexes text a → Lexes text b → a ≡ b)
+    → ((tokens : TheTokens) (a b : ParseOutcome) → Parses tokens a → Parses tokens b → a ≡ b)
+    → ((tree : TheTree) (a b : CheckOutcome) → Checks tree a → Checks tree b → a ≡ b)
+    → ((bytes one other : List ℕ) (values others : List Datum) → SpellsCall bytes one values → SpellsCall bytes other others → (one ≡ other) × (values ≡ others))
+    → (bytes front whole : List ℕ) → Leaves Write bytes front → Transcript bytes whole → IsProperFront front whole
+proper_fronts_from_laws l p k r = proper_of_write l p k r

@@ -4,6 +4,7 @@ pub mod Read
 pub mod Text
 pub mod Answers
 pub mod Transcript
+pub mod CutShort
 pub mod Calls
 pub mod Items
 pub mod Texts

@@ -203,18 +203,6 @@ Writes s [] out = out ≡ []
 Writes s (item ∷ items) out =
     (effect : Effect) × (rest : List ℕ) × Does s item effect × Writes effect.after items rest × (out ≡ effect.text ++ rest)
 
--- the second list begins with the first
-abbrev pub IsFront : List ℕ → List ℕ → Type 0
-IsFront front whole = (more : List ℕ) × (whole ≡ front ++ more)
-
--- a front of what the items write: some of them whole, and perhaps a front of one more
-abbrev pub WritesFront : Script → List Item → List ℕ → Type 0
-WritesFront s [] out = out ≡ []
-WritesFront s (item ∷ items) out =
-    (out ≡ [])
-    ⊎ (effect : Effect) × Does s item effect
-    × (IsFront out effect.text ⊎ ((rest : List ℕ) × WritesFront effect.after items rest × (out ≡ effect.text ++ rest)))
-
 -- a script of more than 1,048,576 bytes is refused whole
 abbrev pub items_of : List ℕ → List Item
 items_of bytes = items_from outside (lines_of bytes)
@@ -225,7 +213,3 @@ too_long bytes = nat_lt 1048576 (length bytes)
 abbrev pub Transcript : List ℕ → List ℕ → Type 0
 Transcript bytes out =
     MatchBool (too_long bytes) (out ≡ line (codes "refused E91")) (Writes beginning (items_of bytes) out)
-
-abbrev pub TranscriptFront : List ℕ → List ℕ → Type 0
-TranscriptFront bytes out =
-    MatchBool (too_long bytes) (IsFront out (line (codes "refused E91"))) (WritesFront beginning (items_of bytes) out)

@@ -5,7 +5,10 @@ ghost use Rattle.fl_base.specs.declared.identity.EndId.{EndId};
 ghost use Rattle.fl_base.specs.Ends.{peer};
 ghost use Rattle.fl_value.specs.Value.{TheCall};
 ghost use Rattle.fl_model.specs.Runs.{Exchange, calls_accepted, calls_handled};
-ghost use Rattle.fl_script.specs.Transcript.{Transcript, TranscriptFront, IsFront, too_long, items_of, beginning};
+ghost use Rattle.fl_script.specs.declared.running.ExecFault.{ExecFault};
+ghost use Rattle.fl_script.specs.declared.running.ExecFault.TheVariants.{Write};
+ghost use Rattle.fl_script.specs.Transcript.{Transcript, too_long, items_of, beginning};
+ghost use Rattle.fl_script.specs.CutShort.{IsFront, IsProperFront, Leaves};
 ghost use Rattle.fl_script.specs.Asked.{Asked};
 
 /// A script has at most one transcript: interfaces' texts and calls' texts are told by relations, and
@@ -19,10 +22,11 @@ pub fn one_transcript()
     fl_value::one_reading();
 }
 
-/// What [`exec`](crate::exec) may leave on a fault, some items' answers whole and perhaps a part of one
-/// more, is a front of the script's transcript.
+/// What [`exec`](crate::exec) leaves written on a fault is a front of the script's transcript, and where a write
+/// failed not all of it.
 pub fn front_of_the_transcript()
-    ensures front { (bytes front whole : List ℕ) → TranscriptFront bytes front → Transcript bytes whole → IsFront front whole }
+    ensures front { (fault : ExecFault) → (bytes front whole : List ℕ) → Leaves fault bytes front → Transcript bytes whole → IsFront front whole }
+    ensures unfinished { (bytes front whole : List ℕ) → Leaves Write bytes front → Transcript bytes whole → IsProperFront front whole }
 {
     fl_lex::one_outcome();
     fl_parse::one_outcome();

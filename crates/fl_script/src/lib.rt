@@ -2,7 +2,7 @@
 //!
 //! Contract for the program: what [`exec`] writes is the transcript of what it read
 //! (`specs/Transcript.antt`), and a script has one transcript ([`one_transcript`]); what it leaves on a
-//! fault is a front of that ([`front_of_the_transcript`]).
+//! fault is a front of that ([`front_of_the_transcript`]), and each fault says which (`specs/CutShort.antt`).
 //!
 //! - `running.rt`: `exec`, which reads a script whole, runs it, and writes line by line
 //! - `item.rt`: a script's items, which are lines and `idl` blocks

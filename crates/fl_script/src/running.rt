@@ -1,14 +1,15 @@
 //! `exec`: reads a script whole, runs it item by item, and writes each answer as it comes.
 
-ghost use Rattle.std.specs.Prelude.{◌≡◌, ◌≢◌, ◌++◌, ◌<◌, List, ℕ, length, Err, IfOk, IfErr, OnOk, OnErr, IfSome, true, false, []};
+ghost use Rattle.std.specs.Prelude.{◌≡◌, ◌≢◌, ◌<◌, List, ℕ, length, Err, IfOk, IfErr, OnOk, OnErr, IfSome, []};
 ghost use Rattle.std.specs.Io.KnownBytes.{Appends};
 ghost use Rattle.fl_script.specs.Items.{item_of};
 ghost use Rattle.fl_script.specs.Read.{line_read};
 ghost use Rattle.fl_script.specs.Lines.{lines_of};
 ghost use Rattle.fl_script.specs.Shown.{IsAt, Answered};
-ghost use Rattle.fl_script.specs.Transcript.{Script as TheScript, Effect, Does, LineDoes, Writes, WritesFront, IsFront, Transcript, TranscriptFront, too_long, items_from, outside, line};
+ghost use Rattle.fl_script.specs.Transcript.{Script as TheScript, Effect, Does, LineDoes, Writes, Transcript, items_from, outside};
+ghost use Rattle.fl_script.specs.CutShort.{IsProperFront, Leaves};
 ghost use Rattle.fl_script.specs.declared.running.ExecFault.TheVariants.{Memory};
-ghost use Rattle.fl_script.specs.Runs.{status_of, ReadsWhole, StepsItem};
+ghost use Rattle.fl_script.specs.Runs.{status_of, ReadsWhole, CanBeUnread, Stops, StepsItem};
 
 use crate::command::Line;
 use crate::item::{Item, next_item};
@@ -23,10 +24,13 @@ pub const MAX_SCRIPT: usize = 1_048_576;
 /// Why a script was not run to its end. What was written until then is a front of its transcript.
 #[derive(Clone, Copy, Debug, PartialEq, Eq, Error)]
 pub enum ExecFault {
+    /// Memory was refused. Some items' answers are written, each of them whole, and an item is left.
     #[error("out of memory")]
     Memory,
+    /// A read failed. Nothing is written.
     #[error("the script could not be read")]
     Read,
+    /// A write failed, or took no byte. A byte of the transcript is left, or more.
     #[error("the transcript could not be written")]
     Write,
 }
@@ -55,6 +59,7 @@ impl From<AllocError> for ExecFault {
 // Reads all there is, or more than a script may have.
 fn read_script<R: Read>(alloc: Global, reader: &mut R) -> Result<Vec<u8>, ExecFault>
     ensures whole { IfOk result (λ text. IfSome (R.remaining reader.old) (λ input. ReadsWhole input text.items)) }
+    ensures err { IfErr result (λ fault. IfSome (R.remaining reader.old) (λ input. CanBeUnread fault input)) }
 {
     let mut text = Vec::new(alloc);
     let mut chunk = [0; 4096];
@@ -76,7 +81,7 @@ fn read_script<R: Read>(alloc: Global, reader: &mut R) -> Result<Vec<u8>, ExecFa
 // Writes all of a text, by as many writes as it takes.
 fn put_all<W: Write>(writer: &mut W, text: &[u8]) -> Result<(), ExecFault>
     ensures ok { OnOk result (Appends (W.contents writer.old) (W.contents writer.new) text.now) }
-    ensures err { OnErr result ((front : List ℕ) × IsFront front text.now × Appends (W.contents writer.old) (W.contents writer.new) front) }
+    ensures err { OnErr result ((front : List ℕ) × IsProperFront front text.now × Appends (W.contents writer.old) (W.contents writer.new) front) }
     ensures fault { IfErr result (λ f. f ≡ ExecFault.Write) }
 {
     let mut rest = text;
@@ -148,7 +153,7 @@ fn run<W: Write>(
 ) -> Result<(), ExecFault>
     ensures ok { OnOk result ((s : TheScript) → IsAt script.old s → (out : List ℕ) × Writes s (items_from outside (lines_of text.now)) out
         × Appends (W.contents writer.old) (W.contents writer.new) out) }
-    ensures err { OnErr result ((s : TheScript) → IsAt script.old s → (front : List ℕ) × WritesFront s (items_from outside (lines_of text.now)) front
+    ensures err { IfErr result (λ fault. (s : TheScript) → IsAt script.old s → (front : List ℕ) × Stops fault s (items_from outside (lines_of text.now)) front
         × Appends (W.contents writer.old) (W.contents writer.new) front) }
     ensures fault { result ≢ Err ExecFault.Read }
 {
@@ -172,14 +177,15 @@ fn run<W: Write>(
 ///
 /// # Errors
 /// [`ExecFault`]: memory was refused, or a read or a write failed. What was written then is a front of
-/// the transcript; where a read failed nothing is.
+/// the transcript: whole answers after want of memory, not all of it after a failed write, and nothing after
+/// a failed read (`specs/CutShort.antt`).
 pub fn exec<R: Read, W: Write>(
     alloc: Global,
     reader: &mut R,
     writer: &mut W,
 ) -> Result<(), ExecFault>
     ensures ok { OnOk result (IfSome (R.remaining reader.old) (λ input. (out : List ℕ) × Transcript input out × Appends (W.contents writer.old) (W.contents writer.new) out)) }
-    ensures err { OnErr result (IfSome (R.remaining reader.old) (λ input. (front : List ℕ) × TranscriptFront input front × Appends (W.contents writer.old) (W.contents writer.new) front)) }
+    ensures err { IfErr result (λ fault. IfSome (R.remaining reader.old) (λ input. (front : List ℕ) × Leaves fault input front × Appends (W.contents writer.old) (W.contents writer.new) front)) }
     ensures unread { result ≡ Err ExecFault.Read → writer.new ≡ writer.old }
 {
     let text = match read_script(alloc, reader) {

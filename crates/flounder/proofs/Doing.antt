@@ -1,31 +1,45 @@
 -- What commands did, from what each of their calls did.
 use Rattle.std.proofs.Common.{◌≡◌, ℕ, List, [], ◌∷◌, ◌++◌, Option, None, Some, refl, sym, ap, ◌∙◌, subst, inl, inr, append_assoc, append-nil}
-use Rattle.std.specs.Io.KnownBytes.{Appends}
+use Rattle.std.specs.Prelude.{IfSome, IfErr, OnOk, MatchResult, Result, Ok, Err}
+use Rattle.std.specs.Io.KnownBytes.{Appends, Keeps, append_known}
 use Rattle.std.specs.declared.io.ErrorKind.{ErrorKind}
+use Rattle.clap.specs.declared.error.kind.ErrorKind.{ErrorKind as UsageKind}
 use Rattle.fl_check.specs.Interface.{TheInterface}
 use Rattle.fl_value.specs.declared.value.PlanNo.TheVariants.{Two}
+use Rattle.fl_script.specs.declared.running.ExecFault.{ExecFault}
+use Rattle.fl_script.specs.Transcript.{Transcript}
+use Rattle.fl_script.specs.CutShort.{Leaves}
+use Rattle.fl_script.specs.Runs as script
 use Rattle.fl_show.specs.declared.fault.ShowFault.{ShowFault}
 use Rattle.fl_show.specs.Shown.{StandsFor, IsImageOf, IsRefusalOf, Shows, IsRefusedAs, status_of}
+use Rattle.flounder.specs.declared.fault.Fault.{Fault}
+use Rattle.flounder.specs.declared.words.Request.{Request}
+use Rattle.flounder.specs.Status as program
 use Rattle.flounder.specs.Deeds.{Deed, was_read, was_not_read, was_written, was_not_written, Adds, Does}
-use Rattle.flounder.specs.Commands.{failed_status, Compiles, Views, Runs}
+use Rattle.flounder.specs.Streams.{Output, Streams, Puts, Prints, IsUntouched, IsUnread}
+use Rattle.flounder.specs.Commands.{failed_status, Compiles, Views, Execs, Helps, Performs, Runs}
+
+added_none : (old : Option (List Deed)) → IfSome old (λ before. old ≡ Some (before ++ []))
+added_none None = tt
+added_none (Some before) = ap (λ (ds : List Deed). Some ds) (sym (append-nil before))
+
+added_two : (old middle new : Option (List Deed)) (first second : Deed) → Adds old middle first → Adds middle new second → IfSome old (λ before. new ≡ Some (before ++ first ∷ second ∷ []))
+added_two None middle new first second a b = tt
+added_two (Some before) middle new first second a b =
+    let c : new ≡ Some ((before ++ first ∷ []) ++ second ∷ []) = subst (λ (m : Option (List Deed)). Adds m new second) a b in
+    c ∙ ap (λ (ds : List Deed). Some ds) (append_assoc before (first ∷ []) (second ∷ []))
 
 does_none : (old : Option (List Deed)) (P : List Deed → Type 0) → P [] → Does old old P
-does_none None P p = tt
-does_none (Some before) P p = ([], ap (λ (ds : List Deed). Some ds) (sym (append-nil before)), p)
+does_none old P p = ([], added_none old, p)
 
 does_one : (old new : Option (List Deed)) (deed : Deed) (P : List Deed → Type 0) → Adds old new deed → P (deed ∷ []) → Does old new P
-does_one None new deed P a p = tt
-does_one (Some before) new deed P a p = (deed ∷ [], a, p)
+does_one old new deed P a p = (deed ∷ [], a, p)
 
 does_two : (old middle new : Option (List Deed)) (first second : Deed) (P : List Deed → Type 0) → Adds old middle first → Adds middle new second → P (first ∷ second ∷ []) → Does old new P
-does_two None middle new first second P a b p = tt
-does_two (Some before) middle new first second P a b p =
-    let c : new ≡ Some ((before ++ first ∷ []) ++ second ∷ []) = subst (λ (m : Option (List Deed)). Adds m new second) a b in
-    (first ∷ second ∷ [], c ∙ ap (λ (ds : List Deed). Some ds) (append_assoc before (first ∷ []) (second ∷ [])), p)
+does_two old middle new first second P a b p = (first ∷ second ∷ [], added_two old middle new first second a b, p)
 
 pub does_weaker : (old new : Option (List Deed)) (P Q : List Deed → Type 0) → ((deeds : List Deed) → P deeds → Q deeds) → Does old new P → Does old new Q
-does_weaker None new P Q f h = tt
-does_weaker (Some before) new P Q f h = (h.0, h.1, f h.0 h.2)
+does_weaker old new P Q f h = (h.0, h.1, f h.0 h.2)
 
 -- ---- compile
 
@@ -70,34 +84,117 @@ not_written old middle new file out bytes text image kind status failed a b e1 (
 
 -- ---- show
 
-pub not_viewed : (old new : Option (List Deed)) (file : List ℕ) (was is : Option (List ℕ)) (kind : ErrorKind) (status failed : ℕ) → Adds old new (was_not_read file kind) → is ≡ was → status ≡ failed → failed ≡ failed_status kind
-    → Does old new (Views file was is status)
-not_viewed old new file was is kind status failed a same e h =
-    does_one old new (was_not_read file kind) (Views file was is status) a (inr (inl (same, record { kind = kind; done = refl; ends = e ∙ h })))
+pub not_viewed : (old new : Option (List Deed)) (file : List ℕ) (o : Output) (kind : ErrorKind) (status failed : ℕ) → Adds old new (was_not_read file kind) → IsUntouched o → status ≡ failed → failed ≡ failed_status kind
+    → Does old new (Views file o status)
+not_viewed old new file o kind status failed a same e h =
+    does_one old new (was_not_read file kind) (Views file o status) a (inr (inl (same, record { kind = kind; done = refl; ends = e ∙ h })))
 
-pub not_shown : (old new : Option (List Deed)) (file bytes : List ℕ) (was is : Option (List ℕ)) (fault : ShowFault) (status : ℕ) → Adds old new (was_read file bytes) → IsRefusedAs bytes fault → is ≡ was → status ≡ status_of fault
-    → Does old new (Views file was is status)
-not_shown old new file bytes was is fault status a h same e =
-    does_one old new (was_read file bytes) (Views file was is status) a
+pub not_shown : (old new : Option (List Deed)) (file bytes : List ℕ) (o : Output) (fault : ShowFault) (status : ℕ) → Adds old new (was_read file bytes) → IsRefusedAs bytes fault → IsUntouched o → status ≡ status_of fault
+    → Does old new (Views file o status)
+not_shown old new file bytes o fault status a h same e =
+    does_one old new (was_read file bytes) (Views file o status) a
     (inr (inr (inl record { bytes = bytes; fault = fault; is_fault = h; printed = same; done = refl; ends = e })))
 
-pub shown : (old new : Option (List Deed)) (file bytes table : List ℕ) (was is : Option (List ℕ)) (status : ℕ) → Adds old new (was_read file bytes) → Shows bytes table → Appends was is table → status ≡ 0
-    → Does old new (Views file was is status)
-shown old new file bytes table was is status a h p e =
-    does_one old new (was_read file bytes) (Views file was is status) a (inl record { bytes = bytes; table = table; shows = h; printed = p; done = refl; ends = e })
+pub shown : (old new : Option (List Deed)) (file bytes table : List ℕ) (o : Output) (status : ℕ) → Adds old new (was_read file bytes) → Shows bytes table → Prints o table → status ≡ 0
+    → Does old new (Views file o status)
+shown old new file bytes table o status a h p e =
+    does_one old new (was_read file bytes) (Views file o status) a (inl record { bytes = bytes; table = table; shows = h; printed = p; done = refl; ends = e })
 
-pub not_printed : (old new : Option (List Deed)) (file bytes table : List ℕ) (was is : Option (List ℕ)) (status : ℕ) → Adds old new (was_read file bytes) → Shows bytes table → status ≡ 4
-    → Does old new (Views file was is status)
-not_printed old new file bytes table was is status a h e =
-    does_one old new (was_read file bytes) (Views file was is status) a (inr (inr (inr record { bytes = bytes; table = table; shows = h; done = refl; ends = e })))
+pub not_printed : (old new : Option (List Deed)) (file bytes table : List ℕ) (o : Output) (status : ℕ) → Adds old new (was_read file bytes) → Shows bytes table → status ≡ 4
+    → Does old new (Views file o status)
+not_printed old new file bytes table o status a h e =
+    does_one old new (was_read file bytes) (Views file o status) a (inr (inr (inr record { bytes = bytes; table = table; shows = h; done = refl; ends = e })))
+
+-- ---- standard output
+
+-- what was put is still put after a flush
+puts_kept : (u v w : Option (List ℕ)) (text : List ℕ) → Appends u v text → Keeps v w → Appends u w text
+puts_kept None v w text a k = tt
+puts_kept (Some xs) None w text a k = absurd a
+puts_kept (Some xs) (Some ys) None text a k = absurd k
+puts_kept (Some xs) (Some ys) (Some zs) text a k = k ∙ a
+
+-- with an empty buffer all that was put reached the writer
+prints_kept : (u v reached : Option (List ℕ)) (buffer text : List ℕ) → Appends u v text → Keeps v (append_known reached buffer) → buffer ≡ [] → Appends u reached text
+prints_kept u v None buffer text a k e = puts_kept u v None text a k
+prints_kept u v (Some zs) buffer text a k e =
+    puts_kept u v (Some zs) text a (subst (λ (b : List ℕ). Keeps v (Some b)) (ap (λ (b : List ℕ). zs ++ b) e ∙ append-nil zs) k)
+
+prints : (o : Output) (v : Option (List ℕ)) (buffer text : List ℕ) → Appends o.before v text → Keeps v o.put → o.put ≡ append_known o.reached buffer → buffer ≡ [] → Prints o text
+prints o v buffer text a k same e = (
+  puts_kept o.before v o.put text a k,
+  prints_kept o.before v o.reached buffer text a (subst (λ (p : Option (List ℕ)). Keeps v p) same k) e,
+)
+
+pub flushed : {T E : Type 0} (r : Result T E) (o : Output) (v : Option (List ℕ)) (buffer text : List ℕ) → Appends o.before v text → Keeps v o.put → o.put ≡ append_known o.reached buffer
+    → OnOk r (buffer ≡ []) → OnOk r (Prints o text)
+flushed (Ok x) o v buffer text a k same e = prints o v buffer text a k same e
+flushed (Err x) o v buffer text a k same e = tt
+
+-- ---- exec
+
+pub ran : (io : Streams) (v : Option (List ℕ)) (buffer : List ℕ) (status : ℕ)
+    → IfSome io.input (λ bytes. (out : List ℕ) × Transcript bytes out × Appends io.output.before v out)
+    → Keeps v io.output.put → io.output.put ≡ append_known io.output.reached buffer → buffer ≡ [] → status ≡ 0 → Execs io status
+ran io v buffer status t k same e z = inl record {
+  transcript = at_input io.input t;
+  ends = z;
+}
+  where
+    at_input : (i : Option (List ℕ)) → IfSome i (λ bytes. (out : List ℕ) × Transcript bytes out × Appends io.output.before v out)
+        → IfSome i (λ bytes. (out : List ℕ) × Transcript bytes out × Prints io.output out)
+    at_input None t = tt
+    at_input (Some bytes) (out, is, a) = (out, is, prints io.output v buffer out a k same e)
+
+pub not_flushed : (io : Streams) (v : Option (List ℕ)) (status : ℕ)
+    → IfSome io.input (λ bytes. (out : List ℕ) × Transcript bytes out × Appends io.output.before v out)
+    → Keeps v io.output.put → status ≡ 4 → Execs io status
+not_flushed io v status t k z = inr (inr record {
+  transcript = at_input io.input t;
+  ends = z;
+})
+  where
+    at_input : (i : Option (List ℕ)) → IfSome i (λ bytes. (out : List ℕ) × Transcript bytes out × Appends io.output.before v out)
+        → IfSome i (λ bytes. (out : List ℕ) × Transcript bytes out × Puts io.output out)
+    at_input None t = tt
+    at_input (Some bytes) (out, is, a) = (out, is, puts_kept io.output.before v io.output.put out a k)
+
+pub cut_short : (io : Streams) (v : Option (List ℕ)) (fault : ExecFault) (status : ℕ)
+    → IfSome io.input (λ bytes. (out : List ℕ) × Leaves fault bytes out × Appends io.output.before v out)
+    → Keeps v io.output.put → status ≡ script.status_of fault → Execs io status
+cut_short io v fault status t k z = inr (inl record {
+  fault = fault;
+  front = at_input io.input t;
+  ends = z;
+})
+  where
+    at_input : (i : Option (List ℕ)) → IfSome i (λ bytes. (out : List ℕ) × Leaves fault bytes out × Appends io.output.before v out)
+        → IfSome i (λ bytes. (out : List ℕ) × Leaves fault bytes out × Puts io.output out)
+    at_input None t = tt
+    at_input (Some bytes) (out, is, a) = (out, is, puts_kept io.output.before v io.output.put out a k)
 
 -- ---- a whole run
 
-pub runs_nothing : (old : Option (List Deed)) (was is : Option (List ℕ)) (status : ℕ) → Does old old (Runs was is status)
-runs_nothing old was is status = does_none old (Runs was is status) (inl refl)
+pub performs_exec : (old : Option (List Deed)) (io : Streams) (status : ℕ) → Execs io status → Does old old (λ deeds. (deeds ≡ []) × Execs io status)
+performs_exec old io status h = does_none old (λ deeds. (deeds ≡ []) × Execs io status) (refl, h)
 
-pub runs_compile : (old new : Option (List Deed)) (was is : Option (List ℕ)) (file out : List ℕ) (status : ℕ) → Does old new (Compiles file out status) → Does old new (Runs was is status)
-runs_compile old new was is file out status h = does_weaker old new (Compiles file out status) (Runs was is status) (λ ds p. inr (inl (file, out, p))) h
+pub performs_show : (old new : Option (List Deed)) (io : Streams) (file : List ℕ) (status : ℕ) → IsUnread io → Does old new (Views file io.output status)
+    → Does old new (λ deeds. IsUnread io × Views file io.output status deeds)
+performs_show old new io file status u h =
+    does_weaker old new (Views file io.output status) (λ deeds. IsUnread io × Views file io.output status deeds) (λ ds p. (u, p)) h
 
-pub runs_show : (old new : Option (List Deed)) (was is : Option (List ℕ)) (file : List ℕ) (status : ℕ) → Does old new (Views file was is status) → Does old new (Runs was is status)
-runs_show old new was is file status h = does_weaker old new (Views file was is status) (Runs was is status) (λ ds p. inr (inr (file, p))) h
+pub performs_compile : (old new : Option (List Deed)) (io : Streams) (file out : List ℕ) (status : ℕ) → IsUnread io → IsUntouched io.output → Does old new (Compiles file out status)
+    → Does old new (λ deeds. IsUnread io × IsUntouched io.output × Compiles file out status deeds)
+performs_compile old new io file out status u v h =
+    does_weaker old new (Compiles file out status) (λ deeds. IsUnread io × IsUntouched io.output × Compiles file out status deeds) (λ ds p. (u, v, p)) h
+
+pub runs_request : (old new : Option (List Deed)) (io : Streams) (request : Request) (status : ℕ) → Does old new (Performs request io status) → Does old new (Runs io status)
+runs_request old new io request status h = does_weaker old new (Performs request io status) (Runs io status) (λ ds p. inl (request, p)) h
+
+pub helps : {A : Type 0} (r : Result A Fault) (kind : UsageKind) (o : Output) (status : ℕ) → MatchResult r (λ x. Helps kind o 0) (λ f. Helps kind o (program.status_of f))
+    → OnOk r (status ≡ 0) → IfErr r (λ f. status ≡ program.status_of f) → Helps kind o status
+helps (Ok x) kind o status h done fault = subst (λ (n : ℕ). Helps kind o n) (sym done) h
+helps (Err f) kind o status h done fault = subst (λ (n : ℕ). Helps kind o n) (sym fault) h
+
+pub runs_help : (old : Option (List Deed)) (io : Streams) (kind : UsageKind) (status : ℕ) → IsUnread io → Helps kind io.output status → Does old old (Runs io status)
+runs_help old io kind status u h = does_none old (Runs io status) (inr (refl, u, kind, h))

@@ -1,14 +1,22 @@
--- What the commands that name files do with them, and the statuses with which they end.
-use Rattle.std.specs.Prelude.{◌≡◌, ◌⊎◌, ℕ, List, [], ◌∷◌, Option}
-use Rattle.std.specs.Io.KnownBytes.{Appends}
+-- What the commands do with files, standard input and standard output, and the statuses with which they end.
+use Rattle.std.specs.Prelude.{◌≡◌, ◌⊎◌, ℕ, List, [], ◌∷◌, IfSome}
 use Rattle.std.specs.declared.io.ErrorKind.{ErrorKind}
 use Rattle.std.specs.declared.io.ErrorKind.TheVariants.{OutOfMemory}
+use Rattle.clap.specs.declared.error.kind.ErrorKind.{ErrorKind as UsageKind}
+use Rattle.clap.specs.declared.error.kind.ErrorKind.TheVariants.{DisplayHelp, OutOfMemory as NoMemory}
 use Rattle.fl_check.specs.Interface.{TheInterface}
 use Rattle.fl_value.specs.declared.value.PlanNo.TheVariants.{Two}
+use Rattle.fl_script.specs.declared.running.ExecFault.{ExecFault}
+use Rattle.fl_script.specs.Transcript.{Transcript}
+use Rattle.fl_script.specs.CutShort.{Leaves}
+use Rattle.fl_script.specs.Runs as script
 use Rattle.fl_show.specs.declared.fault.ShowFault.{ShowFault}
 use Rattle.fl_show.specs.Shown as content
 use Rattle.fl_show.specs.Shown.{StandsFor, IsImageOf, IsRefusalOf, Shows, IsRefusedAs}
+use Rattle.flounder.specs.declared.words.Request.{Request}
+use Rattle.flounder.specs.declared.words.Request.TheVariants.{Exec, Show, Compile}
 use Rattle.flounder.specs.Deeds.{Deed, was_read, was_not_read, was_written, was_not_written}
+use Rattle.flounder.specs.Streams.{Output, Streams, Puts, Prints, IsUntouched, IsUnread}
 
 -- the status of a read or a write that failed with an error of a kind: 3 for want of memory, else 4
 abbrev pub failed_status : ErrorKind → ℕ
@@ -59,23 +67,23 @@ abbrev pub Compiles : List ℕ → List ℕ → ℕ → List Deed → Type 0
 Compiles file out status deeds =
     Compiled file out deeds status ⊎ (Unread file deeds status ⊎ (NotCompiled file deeds status ⊎ NotWritten file out deeds status))
 
--- ---- show FILE, with what standard output held before and holds now
+-- ---- show FILE
 
 -- FILE was read, and the table that it shows was printed
-pub record Shown (file : List ℕ) (old new : Option (List ℕ)) (deeds : List Deed) (status : ℕ) : Type 0 where
+pub record Shown (file : List ℕ) (output : Output) (deeds : List Deed) (status : ℕ) : Type 0 where
   pub bytes : List ℕ
   pub table : List ℕ
   pub shows : Shows bytes table
-  pub printed : Appends old new table
+  pub printed : Prints output table
   pub done : deeds ≡ was_read file bytes ∷ []
   pub ends : status ≡ 0
 
 -- FILE was read and nothing was printed: it has a fault (2), or memory was refused (3)
-pub record NotShown (file : List ℕ) (old new : Option (List ℕ)) (deeds : List Deed) (status : ℕ) : Type 0 where
+pub record NotShown (file : List ℕ) (output : Output) (deeds : List Deed) (status : ℕ) : Type 0 where
   pub bytes : List ℕ
   pub fault : ShowFault
   pub is_fault : IsRefusedAs bytes fault
-  pub printed : new ≡ old
+  pub printed : IsUntouched output
   pub done : deeds ≡ was_read file bytes ∷ []
   pub ends : status ≡ content.status_of fault
 
@@ -87,14 +95,50 @@ pub record NotPrinted (file : List ℕ) (deeds : List Deed) (status : ℕ) : Typ
   pub done : deeds ≡ was_read file bytes ∷ []
   pub ends : status ≡ 4
 
-abbrev pub Views : List ℕ → Option (List ℕ) → Option (List ℕ) → ℕ → List Deed → Type 0
-Views file old new status deeds =
-    Shown file old new deeds status
-    ⊎ (((new ≡ old) × Unread file deeds status) ⊎ (NotShown file old new deeds status ⊎ NotPrinted file deeds status))
+abbrev pub Views : List ℕ → Output → ℕ → List Deed → Type 0
+Views file output status deeds =
+    Shown file output deeds status
+    ⊎ ((IsUntouched output × Unread file deeds status) ⊎ (NotShown file output deeds status ⊎ NotPrinted file deeds status))
 
--- ---- a whole run: files are touched by these commands alone
+-- ---- exec
 
-abbrev pub Runs : Option (List ℕ) → Option (List ℕ) → ℕ → List Deed → Type 0
-Runs old new status deeds =
-    (deeds ≡ [])
-    ⊎ (((file : List ℕ) × (out : List ℕ) × Compiles file out status deeds) ⊎ ((file : List ℕ) × Views file old new status deeds))
+-- the transcript of standard input was printed
+pub record Ran (io : Streams) (status : ℕ) : Type 0 where
+  pub transcript : IfSome io.input (λ bytes. (out : List ℕ) × Transcript bytes out × Prints io.output out)
+  pub ends : status ≡ 0
+
+-- memory was refused (3), or a read or a write failed (4): a front of the transcript was put, and for each fault which
+pub record CutShort (io : Streams) (status : ℕ) : Type 0 where
+  pub fault : ExecFault
+  pub front : IfSome io.input (λ bytes. (out : List ℕ) × Leaves fault bytes out × Puts io.output out)
+  pub ends : status ≡ script.status_of fault
+
+-- the whole transcript was put, and what the buffer kept back couldn't be written out
+pub record NotFlushed (io : Streams) (status : ℕ) : Type 0 where
+  pub transcript : IfSome io.input (λ bytes. (out : List ℕ) × Transcript bytes out × Puts io.output out)
+  pub ends : status ≡ 4
+
+abbrev pub Execs : Streams → ℕ → Type 0
+Execs io status = Ran io status ⊎ (CutShort io status ⊎ NotFlushed io status)
+
+-- ---- no command
+
+-- help was asked for, and printed (0) or not (4); memory was refused (3); or the words are of no form (1)
+abbrev pub Helps : UsageKind → Output → ℕ → Type 0
+Helps DisplayHelp output status = (status ≡ 0) ⊎ (status ≡ 4)
+Helps NoMemory output status = IsUntouched output × (status ≡ 3)
+Helps kind output status = IsUntouched output × (status ≡ 1)
+
+-- ---- a whole run
+
+-- each command does what it says, and touches nothing else
+abbrev pub Performs : Request → Streams → ℕ → List Deed → Type 0
+Performs Exec io status deeds = (deeds ≡ []) × Execs io status
+Performs (Show file) io status deeds = IsUnread io × Views file.now io.output status deeds
+Performs (Compile file out) io status deeds = IsUnread io × IsUntouched io.output × Compiles file.now out.now status deeds
+
+-- some command was done, or none was asked for
+abbrev pub Runs : Streams → ℕ → List Deed → Type 0
+Runs io status deeds =
+    ((request : Request) × Performs request io status deeds)
+    ⊎ ((deeds ≡ []) × IsUnread io × (kind : UsageKind) × Helps kind io.output status)

@@ -25,6 +25,6 @@ abbrev pub writing : {V : Type 0} → List ℕ → List ℕ → Result V Error �
 writing path bytes (Ok v) = was_written path bytes
 writing path bytes (Err e) = was_not_written path (error_kind e)
 
--- these deeds were added, and a property holds of them
+-- some deeds were done, of which a property holds; where deeds are told, they were added
 abbrev pub Does : Option (List Deed) → Option (List Deed) → (List Deed → Type 0) → Type 0
-Does old new Property = IfSome old (λ before. (deeds : List Deed) × (new ≡ Some (before ++ deeds)) × Property deeds)
+Does old new Property = (deeds : List Deed) × IfSome old (λ before. new ≡ Some (before ++ deeds)) × Property deeds

@@ -1,3 +1,4 @@
 pub mod Commands
 pub mod Deeds
 pub mod Status
+pub mod Streams

@@ -12,6 +12,7 @@ use crate::fault::Fault;
 use crate::files::Disk;
 use crate::run::{finish, no_words, run};
 use std::env;
+use std::io::BufWriter;
 use std::process::ExitCode;
 
 #[cfg(test)]
@@ -22,19 +23,23 @@ mod tests;
 fn main(rt: HostRuntime) -> ExitCode {
     let alloc = rt.alloc();
     let mut errors = rt.stderr();
-    let status = match env::args(&rt) {
-        Ok(args) => match args.collect::<Vec<String>>(alloc) {
-            Ok(words) => run(
-                alloc,
-                &words,
-                &mut Disk(&rt),
-                &mut rt.reader(),
-                &mut rt.stdout(),
-                &mut errors,
-            ),
-            Err(_) => finish(Err(Fault::Memory), &mut errors),
-        },
-        Err(error) => finish(Err(no_words(error)), &mut errors),
+    let args = match env::args(&rt) {
+        Ok(args) => args,
+        Err(error) => return ExitCode::from(finish(Err(no_words(error)), &mut errors)),
     };
+    let Ok(words) = args.collect::<Vec<String>>(alloc) else {
+        return ExitCode::from(finish(Err(Fault::Memory), &mut errors));
+    };
+    let Ok(mut output) = BufWriter::new(alloc, rt.stdout()) else {
+        return ExitCode::from(finish(Err(Fault::Memory), &mut errors));
+    };
+    let status = run(
+        alloc,
+        &words,
+        &mut Disk(&rt),
+        &mut rt.reader(),
+        &mut output,
+        &mut errors,
+    );
     ExitCode::from(status)
 }

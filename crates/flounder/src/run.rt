@@ -1,11 +1,12 @@
 //! A whole run of the program: words and what it reads in, standard output, standard error and a status out.
 
-ghost use Rattle.std.specs.Prelude.{◌≡◌, OnOk, IfErr, List};
-ghost use Rattle.std.specs.Io.KnownBytes.{Appends};
+ghost use Rattle.std.specs.Prelude.{◌≡◌, OnOk, IfErr, MatchResult};
 ghost use Rattle.std.specs.IoError.{error_kind};
+ghost use Rattle.clap.specs.Words.{kind_of};
 ghost use Rattle.flounder.specs.Status.{status_of};
 ghost use Rattle.flounder.specs.Deeds.{Does};
-ghost use Rattle.flounder.specs.Commands.{failed_status, no_words_status, Compiles, Views, Runs};
+ghost use Rattle.flounder.specs.Streams.{output_of, streams_of, Prints};
+ghost use Rattle.flounder.specs.Commands.{failed_status, no_words_status, Compiles, Views, Execs, Helps, Performs, Runs};
 
 use crate::fault::Fault;
 use crate::files::FileStore;
@@ -18,25 +19,42 @@ use std::convert::AsStr;
 use std::io;
 use std::io::{BufWriter, Read, Write};
 
-/// Does what the words ask for, and answers the status.
+/// Does what the words ask for, and answers the status. All that is printed has reached the writer behind `output`
+/// where the status is 0.
 ///
 /// Faults are found in the order usage, reading the file, its content, writing; want of memory where it happens.
 /// Only the first is told, on `errors`.
-pub fn run<S: AsStr, F: FileStore, R: Read, W: Write, E: Write>(
+pub fn run<S: AsStr, F: FileStore, R: Read, W: Write + Drop, E: Write>(
     alloc: Global,
     words: &[S],
     files: &mut F,
     input: &mut R,
-    output: &mut W,
+    output: &mut BufWriter<W>,
     errors: &mut E,
 ) -> u8
-    ensures files { Does (F.deeds files.old) (F.deeds files.new) (Runs (W.contents output.old) (W.contents output.new) result) }
+    ensures runs { Does (F.deeds files.old) (F.deeds files.new) (Runs (streams_of R.remaining W.contents input.old input.new output.old output.new) result) }
 {
     match read_words(alloc, words) {
-        Ok(Request::Exec) => finish(run_script(alloc, input, output), errors),
-        Ok(Request::Show { file }) => show_file(alloc, file, files, output, errors),
-        Ok(Request::Compile { file, out }) => compile_file(alloc, file, out, files, errors),
+        Ok(request) => perform(alloc, request, files, input, output, errors),
         Err(error) => finish(tell_usage(error, output), errors),
+    }
+}
+
+/// Does what was asked for, and answers the status.
+pub fn perform<F: FileStore, R: Read, W: Write + Drop, E: Write>(
+    alloc: Global,
+    request: Request<'_>,
+    files: &mut F,
+    input: &mut R,
+    output: &mut BufWriter<W>,
+    errors: &mut E,
+) -> u8
+    ensures done { Does (F.deeds files.old) (F.deeds files.new) (Performs request.entry (streams_of R.remaining W.contents input.old input.new output.old output.new) result) }
+{
+    match request {
+        Request::Exec => run_script(alloc, input, output, errors),
+        Request::Show { file } => show_file(alloc, file, files, output, errors),
+        Request::Compile { file, out } => compile_file(alloc, file, out, files, errors),
     }
 }
 
@@ -54,33 +72,36 @@ pub fn finish<E: Write>(outcome: Result<(), Fault<'_>>, errors: &mut E) -> u8
     }
 }
 
-// Runs the script, and writes out what is left in the buffer, also of a script that was cut short.
-fn run_script<'a, R: Read, W: Write>(
+/// `exec`: runs the script on `input`, and prints its transcript. What a script that was cut short left in the
+/// buffer is written out, too.
+pub fn run_script<R: Read, W: Write + Drop, E: Write>(
     alloc: Global,
     input: &mut R,
-    output: &mut W,
-) -> Result<(), Fault<'a>> {
-    let Ok(mut buffer) = BufWriter::new(alloc, output) else {
-        return Err(Fault::Memory);
-    };
-    let outcome = exec(alloc, input, &mut buffer);
-    let flushed = buffer.flush();
+    output: &mut BufWriter<W>,
+    errors: &mut E,
+) -> u8
+    ensures ran { Execs (streams_of R.remaining W.contents input.old input.new output.old output.new) result }
+{
+    let outcome = exec(alloc, input, output);
+    let flushed = output.flush();
     match outcome {
-        Err(fault) => Err(Fault::Exec(fault)),
-        Ok(()) if flushed.is_err() => Err(Fault::Exec(ExecFault::Write)),
-        Ok(()) => Ok(()),
+        Err(fault) => finish(Err(Fault::Exec(fault)), errors),
+        Ok(()) => match flushed {
+            Ok(()) => 0,
+            Err(_) => finish(Err(Fault::Exec(ExecFault::Write)), errors),
+        },
     }
 }
 
 /// `show FILE`: prints the plan table of a file's content.
-pub fn show_file<F: FileStore, W: Write, E: Write>(
+pub fn show_file<F: FileStore, W: Write + Drop, E: Write>(
     alloc: Global,
     file: &str,
     files: &mut F,
-    output: &mut W,
+    output: &mut BufWriter<W>,
     errors: &mut E,
 ) -> u8
-    ensures shown { Does (F.deeds files.old) (F.deeds files.new) (Views file.now (W.contents output.old) (W.contents output.new) result) }
+    ensures shown { Does (F.deeds files.old) (F.deeds files.new) (Views file.now (output_of W.contents output.old output.new) result) }
 {
     let content = match files.read(alloc, file) {
         Ok(content) => content,
@@ -121,8 +142,9 @@ pub fn compile_file<F: FileStore, E: Write>(
     }
 }
 
-fn put<W: Write>(text: &[u8], output: &mut W) -> io::Result<()>
-    ensures put { OnOk result (Appends (W.contents output.old) (W.contents output.new) text.now) }
+// Prints a text, and writes out what the buffer holds.
+fn put<W: Write + Drop>(text: &[u8], output: &mut BufWriter<W>) -> io::Result<()>
+    ensures put { OnOk result (Prints (output_of W.contents output.old output.new) text.now) }
 {
     output.write_all(text)?;
     output.flush()
@@ -157,7 +179,14 @@ fn unmade(file: &str, error: io::Error) -> Fault<'_>
 }
 
 // Help goes to standard output; what is wrong with the words is a fault.
-fn tell_usage<'a, W: Write>(error: clap::Error, output: &mut W) -> Result<(), Fault<'a>> {
+fn tell_usage<'a, W: Write + Drop>(
+    error: clap::Error,
+    output: &mut BufWriter<W>,
+) -> Result<(), Fault<'a>>
+    ensures told { MatchResult result
+        (λ _. Helps (kind_of error) (output_of W.contents output.old output.new) 0)
+        (λ fault. Helps (kind_of error) (output_of W.contents output.old output.new) (status_of fault)) }
+{
     match error.kind() {
         ErrorKind::DisplayHelp => match put_help(&error, output) {
             Ok(()) => Ok(()),
@@ -168,7 +197,7 @@ fn tell_usage<'a, W: Write>(error: clap::Error, output: &mut W) -> Result<(), Fa
     }
 }
 
-fn put_help<W: Write>(help: &clap::Error, output: &mut W) -> io::Result<()> {
+fn put_help<W: Write + Drop>(help: &clap::Error, output: &mut BufWriter<W>) -> io::Result<()> {
     write!(output, "{help}")?;
     output.flush()
 }

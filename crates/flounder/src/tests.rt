@@ -1,10 +1,11 @@
 //! Whole runs: words and files in; standard output, standard error and a status out.
 
+use crate::fault::Fault;
 use crate::files::FileStore;
 use crate::run::{finish, no_words, run};
 use std::alloc::Global;
 use std::io;
-use std::io::{Read, Write};
+use std::io::{BufWriter, Read, Write};
 use std::test::Fail;
 
 // One file, of this name; reading it may fail. No other can be written.
@@ -64,22 +65,38 @@ const MIXED: Shelf = Shelf::Holds(
 
 const REFUSED: Shelf = Shelf::Holds("cap.if", b"interface i { message m(cap c); }");
 
+// A run, as `main` makes it. What it leaves in the buffer of standard output is lost.
+fn run_on<R: Read, W: Write + Drop>(
+    alloc: Global,
+    words: &[&str],
+    shelf: &Shelf,
+    input: &mut R,
+    output: W,
+    errors: &mut Vec<u8>,
+) -> u8 {
+    let Ok(mut output) = BufWriter::new(alloc, output) else {
+        return finish(Err(Fault::Memory), errors);
+    };
+    let mut shelf = *shelf;
+    let status = run(alloc, words, &mut shelf, input, &mut output, errors);
+    let _left = output.into_parts();
+    status
+}
+
 // A run without standard input.
 fn go(alloc: Global, words: &[&str], shelf: &Shelf, out: &mut Vec<u8>, err: &mut Vec<u8>) -> u8 {
-    let mut shelf = *shelf;
-    run(alloc, words, &mut shelf, &mut b"".as_slice(), out, err)
+    run_on(alloc, words, shelf, &mut b"".as_slice(), out, err)
 }
 
 // A run whose standard output takes so many bytes.
 fn into(alloc: Global, words: &[&str], shelf: &Shelf, room: usize) -> u8 {
     let mut errors = Vec::new(alloc);
-    let mut shelf = *shelf;
-    run(
+    run_on(
         alloc,
         words,
-        &mut shelf,
+        shelf,
         &mut b"".as_slice(),
-        &mut Narrow(room),
+        Narrow(room),
         &mut errors,
     )
 }
@@ -233,53 +250,76 @@ fn the_first_fault_counts(rt: HostRuntime) {
     assert_eq!(rt; into(rt.alloc(), &table, &MIXED, 132), 0);
 }
 
+const SCRIPT: &[u8] = b"disp d 0\ndisp d 0\nnope\n";
+
+const TRANSCRIPT: &[u8] = b"ok\nrefused E92\nrefused E90\n";
+
 // Lines that are refused are no fault. Without a word the script is run, too.
 #[test]
-fn scripts_are_run(rt: HostRuntime) -> Result<(), Fail> {
+fn scripts_are_run(rt: HostRuntime) {
     for words in [["flounder"].as_slice(), &["flounder", "exec"]] {
         let (mut out, mut err) = (Vec::new(rt.alloc()), Vec::new(rt.alloc()));
-        let mut script = b"disp d 0\ndisp d 0\nnope\n".as_slice();
-        let mut shelf = MIXED;
-        let status = run(
-            rt.alloc(),
-            words,
-            &mut shelf,
-            &mut script,
-            &mut out,
-            &mut err,
-        );
+        let mut script = SCRIPT;
+        let status = run_on(rt.alloc(), words, &MIXED, &mut script, &mut out, &mut err);
         assert_eq!(rt; status, 0);
-        assert!(rt; out.as_slice() == b"ok\nrefused E92\nrefused E90\n".as_slice());
+        assert!(rt; out.as_slice() == TRANSCRIPT);
         assert!(rt; err.is_empty());
     }
-    Ok(())
 }
 
-// The buffer is written out at the end, and that may fail as well.
+// Nothing is printed of a script that isn't read.
 #[test]
-fn scripts_that_are_not_read_or_not_written(rt: HostRuntime) {
-    let mut errors = Vec::new(rt.alloc());
+fn scripts_that_are_not_read(rt: HostRuntime) {
+    let (mut out, mut err) = (Vec::new(rt.alloc()), Vec::new(rt.alloc()));
     let words = ["flounder", "exec"];
-    let mut shelf = MIXED;
-    let unread = run(
+    let status = run_on(
         rt.alloc(),
         &words,
-        &mut shelf,
+        &MIXED,
         &mut NoSource,
-        &mut Narrow(100),
-        &mut errors,
+        &mut out,
+        &mut err,
     );
-    assert_eq!(rt; unread, 4);
-    for room in 0..3 {
-        let mut script = b"disp d 0\n".as_slice();
-        let unwritten = run(
-            rt.alloc(),
-            &words,
-            &mut shelf,
-            &mut script,
-            &mut Narrow(room),
-            &mut errors,
-        );
-        assert_eq!(rt; unwritten, 4);
+    assert_eq!(rt; status, 4);
+    assert!(rt; out.is_empty());
+    assert!(rt; !err.is_empty());
+}
+
+// The buffer is written out at the end, and that may fail as well: then a front of the transcript was printed.
+#[test]
+fn scripts_that_are_not_written(rt: HostRuntime) {
+    let words = ["flounder", "exec"];
+    for room in 0..27usize {
+        let mut page = [0; 27];
+        let mut err = Vec::new(rt.alloc());
+        let mut script = SCRIPT;
+        let output = &mut page[..room];
+        let status = run_on(rt.alloc(), &words, &MIXED, &mut script, output, &mut err);
+        assert_eq!(rt; status, 4);
+        assert!(rt; TRANSCRIPT.starts_with(&page[..room]));
+        assert!(rt; !err.is_empty());
     }
+}
+
+// A transcript that is longer than the buffer, which is written out on the way.
+#[test]
+fn long_transcripts(rt: HostRuntime) -> Result<(), Fail> {
+    let words = ["flounder", "exec"];
+    let (mut text, mut told) = (Vec::new(rt.alloc()), Vec::new(rt.alloc()));
+    for _line in 0..3000u32 {
+        text.extend_from_slice(b"nope\n")?;
+        told.extend_from_slice(b"refused E90\n")?;
+    }
+    let (mut out, mut err) = (Vec::new(rt.alloc()), Vec::new(rt.alloc()));
+    let mut script = text.as_slice();
+    let status = run_on(rt.alloc(), &words, &MIXED, &mut script, &mut out, &mut err);
+    assert_eq!(rt; status, 0);
+    assert!(rt; out.as_slice() == told.as_slice());
+    for room in [0, 8_200, 35_999] {
+        let mut script = text.as_slice();
+        let output = Narrow(room);
+        let status = run_on(rt.alloc(), &words, &MIXED, &mut script, output, &mut err);
+        assert_eq!(rt; status, 4);
+    }
+    Ok(())
 }

@@ -1,26 +1,23 @@
-use Rattle.flounder.proofs.Doing.{runs_nothing, runs_compile, runs_show}
+use Rattle.std.proofs.Common.{refl}
+use Rattle.clap.specs.Words.{kind_of}
+use Rattle.flounder.specs.Streams.{output_of, streams_of}
+use Rattle.flounder.proofs.Doing.{helps, runs_request, runs_help}
 use Rattle.flounder.proofs.run.run.Goals as goal
 
-pub returns-in-Ok-Exec : goal.returns-in-Ok-Exec
-returns-in-Ok-Exec g c = record {
-  files = runs_nothing (g.F.FileStore.deeds c.args.files.now) (g.W.Write.contents c.args.output.now) (g.W.Write.contents c.run_script.new.output) c.finish.result;
-}
-
-pub returns-in-Ok-Show : goal.returns-in-Ok-Show
-returns-in-Ok-Show g c = record {
-  files =
-      runs_show (g.F.FileStore.deeds c.args.files.now) (g.F.FileStore.deeds c.show_file.new.files) (g.W.Write.contents c.args.output.now) (g.W.Write.contents c.show_file.new.output)
-      c.in-Ok-Show.file.now c.show_file.result c.show_file.ensures.shown;
-}
-
-pub returns-in-Ok-Compile : goal.returns-in-Ok-Compile
-returns-in-Ok-Compile g c = record {
-  files =
-      runs_compile (g.F.FileStore.deeds c.args.files.now) (g.F.FileStore.deeds c.compile_file.new.files) (g.W.Write.contents c.args.output.now) (g.W.Write.contents c.args.output.now)
-      c.in-Ok-Compile.file.now c.in-Ok-Compile.out.now c.compile_file.result c.compile_file.ensures.compiled;
+pub returns-in-Ok : goal.returns-in-Ok
+returns-in-Ok g c = record {
+  runs =
+      runs_request (g.F.FileStore.deeds c.args.files.now) (g.F.FileStore.deeds c.perform.new.files)
+      (streams_of g.R.Read.remaining g.W.Write.contents c.args.input.now c.perform.new.input c.args.output.now c.perform.new.output)
+      c.in-Ok.request c.perform.result c.perform.ensures.done;
 }
 
 pub returns-in-Err : goal.returns-in-Err
 returns-in-Err g c = record {
-  files = runs_nothing (g.F.FileStore.deeds c.args.files.now) (g.W.Write.contents c.args.output.now) (g.W.Write.contents c.tell_usage.new.output) c.finish-in-Err.result;
+  runs =
+      runs_help (g.F.FileStore.deeds c.args.files.now)
+      (streams_of g.R.Read.remaining g.W.Write.contents c.args.input.now c.args.input.now c.args.output.now c.tell_usage.new.output)
+      (kind_of c.in-Err.error) c.finish.result refl
+      (helps c.tell_usage.result (kind_of c.in-Err.error) (output_of g.W.Write.contents c.args.output.now c.tell_usage.new.output) c.finish.result
+      c.tell_usage.ensures.told c.finish.ensures.done c.finish.ensures.fault);
 }

@@ -1,0 +1,31 @@
+use Rattle.std.proofs.Common.{refl}
+use Rattle.flounder.specs.Streams.{streams_of}
+use Rattle.flounder.proofs.Doing.{performs_exec, performs_show, performs_compile}
+use Rattle.flounder.proofs.run.perform.Goals as goal
+
+pub returns-in-Exec : goal.returns-in-Exec
+returns-in-Exec g c =
+    rw c.in-Exec.is (record {
+      done =
+          performs_exec (g.F.FileStore.deeds c.args.files.now)
+          (streams_of g.R.Read.remaining g.W.Write.contents c.args.input.now c.run_script.new.input c.args.output.now c.run_script.new.output)
+          c.run_script.result c.run_script.ensures.ran;
+    })
+
+pub returns-in-Show : goal.returns-in-Show
+returns-in-Show g c =
+    rw c.in-Show.is (record {
+      done =
+          performs_show (g.F.FileStore.deeds c.args.files.now) (g.F.FileStore.deeds c.show_file.new.files)
+          (streams_of g.R.Read.remaining g.W.Write.contents c.args.input.now c.args.input.now c.args.output.now c.show_file.new.output)
+          c.in-Show.file.now c.show_file.result refl c.show_file.ensures.shown;
+    })
+
+pub returns-in-Compile : goal.returns-in-Compile
+returns-in-Compile g c =
+    rw c.in-Compile.is (record {
+      done =
+          performs_compile (g.F.FileStore.deeds c.args.files.now) (g.F.FileStore.deeds c.compile_file.new.files)
+          (streams_of g.R.Read.remaining g.W.Write.contents c.args.input.now c.args.input.now c.args.output.now c.args.output.now)
+          c.in-Compile.file.now c.in-Compile.out.now c.compile_file.result refl refl c.compile_file.ensures.compiled;
+    })
