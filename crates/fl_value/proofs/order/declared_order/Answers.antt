@@ -1,9 +1,11 @@
-use Rattle.std.proofs.Common.{◌≡◌, ◌+◌, ◌-◌, ◌++◌, [], ◌∷◌, ℕ, List, length, map, take, drop, ltb, ap, ◌∙◌, arith, append_assoc}
+use Rattle.std.proofs.Common.{◌≡◌, ◌+◌, ◌-◌, ◌++◌, [], ◌∷◌, ℕ, List, length, map, take, drop, ltb, refl, ap, sym, ◌∙◌, arith, rules, subst, append_assoc, append-nil}
 use Rattle.std.specs.List.{count_by}
-use Rattle.std.proofs.lemmas.List.{take_all, length-drop, length-map, length_push}
+use Rattle.std.proofs.lemmas.List.{take_all, drop_all, length-drop, length-map, length_push}
 use Rattle.fl_check.specs.declared.interface.ArgType.{ArgType}
 use Rattle.fl_check.specs.Interface.{TheArgType, arg_type_of}
-use Rattle.fl_value.specs.declared.value.PlanNo.TheVariants.{Two}
+use Rattle.fl_value.specs.declared.value.Value.{Value}
+use Rattle.fl_value.specs.declared.value.PlanNo.{PlanNo}
+use Rattle.fl_value.specs.declared.value.PlanNo.TheVariants.{One, Two}
 use Rattle.fl_value.specs.Value.{Datum, datum_of}
 use Rattle.fl_value.specs.Ranks.{rank_of, rearranged}
 use Rattle.fl_value.proofs.Turns.{map_pushed, map_dropped}
@@ -37,3 +39,36 @@ loop-index-preserved c =
           = ap (λ (ds : List Datum). ds ++ more) values ∙ append_assoc (map datum_of c.loop-index.values.items) (value ∷ []) more in
           ap (rearranged Two (map arg_type_of arguments)) joined ∙ all;
     }
+
+pub loop-index-init : goal.loop-index-init
+loop-index-init c = record {
+  many = omega (arith, c.requires.as_many);
+  few = ap length c.in_ok-values.ensures.items;
+  back = λ more long left. ap (λ (values : List Value). rearranged Two (map arg_type_of c.args.arguments.now) (map datum_of values ++ more)) c.in_ok-values.ensures.items ∙ left;
+}
+
+pub returns-clause-many : goal.returns-clause-many
+returns-clause-many c = omega (arith, c.loop-index.invariant.few)
+
+nothing : {A : Type 0} (xs : List A) → length xs ≡ 0 → xs ≡ []
+nothing [] e = refl
+nothing (x ∷ xs) e = absurd (omega (arith, e))
+
+pub returns-clause-back : goal.returns-clause-back
+returns-clause-back c =
+    let index = c.loop-index.index in
+    let arguments = c.args.arguments.now in
+    let none : c.loop-index.left.items ≡ [] = nothing c.loop-index.left.items (omega (arith, c.loop-index.invariant.many)) in
+    let end : rearranged Two (map arg_type_of (drop index arguments)) [] ≡ map datum_of c.loop-index.left.items
+    = ap (λ (ts : List ArgType). rearranged Two (map arg_type_of ts) []) (drop_all index arguments c.loop-index-test.false) ∙ ap (map datum_of) (sym none) in
+    let all = c.loop-index.invariant.back [] (omega arith) end in
+    let two : c.args.plan ≡ Two = search rules in
+    let values = map datum_of c.loop-index.values.items in
+    subst (λ (plan : PlanNo). rearranged plan (map arg_type_of arguments) values ≡ map datum_of c.args.arranged.items) (sym two)
+    (ap (rearranged Two (map arg_type_of arguments)) (sym (append-nil values)) ∙ all)
+
+pub returns-then-eq-clause-back : goal.returns-then-eq-clause-back
+returns-then-eq-clause-back c =
+    let one : c.args.plan ≡ One = search rules in
+    let values = map datum_of c.args.arranged.items in
+    subst (λ (plan : PlanNo). rearranged plan (map arg_type_of c.args.arguments.now) values ≡ values) (sym one) refl

@@ -1,5 +1,7 @@
-use Rattle.std.proofs.Common.{◌≡◌, ◌++◌, ◌-◌, [], ◌∷◌, List, suc, map, take, drop, replicate, arith, rules, sym, subst}
+use Rattle.std.proofs.Common.{◌≡◌, ◌++◌, ◌-◌, [], ◌∷◌, ℕ, List, suc, map, take, drop, replicate, arith, rules, sym, subst}
 use Rattle.std.proofs.lemmas.Grind.{replicate_next}
+use Rattle.std.proofs.lemmas.List.{take_all}
+use Rattle.fl_check.specs.declared.interface.FixedType.{FixedType}
 use Rattle.fl_check.specs.declared.interface.FixedType.TheViews.{the_lemmas as type_lemmas}
 use Rattle.fl_check.specs.declared.interface.FixedType.TheFolds.{fold-roll-FixedType, fold_out-FixedType}
 use Rattle.fl_value.specs.declared.value.Value.TheViews.{the_lemmas as value_lemmas}
@@ -8,7 +10,7 @@ use Rattle.fl_check.specs.Interface.{TheType, type_step, type_of, structure, arr
 use Rattle.fl_value.specs.Value.{Datum, datum_step, datum_of, data_from, fields, elements}
 use Rattle.fl_value.specs.declared.value.Value.TheVariants.{Fields, List as ListOf}
 use Rattle.fl_value.specs.Taken.{ValueAt, InTurn, TheOne, NoneOf}
-use Rattle.fl_value.proofs.Turns.{one_more, none_more, map_pushed, map_taken, map_around, replicate_around, struct_one, struct_none, array_one, array_none}
+use Rattle.fl_value.proofs.Turns.{start_at, one_more, none_more, map_pushed, map_taken, map_around, replicate_around, struct_one, struct_none, array_one, array_none}
 use Rattle.fl_value.proofs.untape.+taken.Goals as goal
 
 pub read_fields-loop-field-preserved : goal.read_fields-loop-field-preserved
@@ -82,3 +84,19 @@ read_value-returns-in-Some-3-clause-found t c =
     let one = rw (c.in-Some-3.is, c.deref-in-Array.ensures) at c.in_ok-values-in-Array.ensures.found in
     subst (λ (u : TheType). TheOne (ValueAt u c.args.tape.now) (datum_of (ListOf c.in-Some-3.values)) c.in-Some-3.rest.now) is
     (subst (λ (d : Datum). TheOne (ValueAt (array c.in-Array.count element) c.args.tape.now) d c.in-Some-3.rest.now) value (array_one c.in-Array.count element c.args.tape.now ds c.in-Some-3.rest.now one))
+
+pub read_fields-loop-field-init : goal.read_fields-loop-field-init
+read_fields-loop-field-init t c = start_at ValueAt c.args.tape.now c.in_ok-values.values.items c.in_ok-values.ensures.items
+
+pub read_fields-returns-clause-found : goal.read_fields-returns-clause-found
+read_fields-returns-clause-found t c =
+    let fields = c.args.fields.now in
+    subst (λ (types : List FixedType). TheOne (InTurn ValueAt (map type_of types) c.args.tape.now) (map datum_of c.loop-field.values.items) c.loop-field.rest.now) (take_all c.loop-field.field-index fields c.loop-field-test.false) c.loop-field.invariant
+
+pub read_elements-loop-done-init : goal.read_elements-loop-done-init
+read_elements-loop-done-init t c = start_at ValueAt c.args.tape.now c.in_ok-values.values.items c.in_ok-values.ensures.items
+
+pub read_elements-returns-clause-found : goal.read_elements-returns-clause-found
+read_elements-returns-clause-found t c =
+    let all : c.loop-done.done ≡ c.args.count = omega arith in
+    subst (λ (n : ℕ). TheOne (InTurn ValueAt (replicate n (type_of c.args.element.now)) c.args.tape.now) (map datum_of c.loop-done.values.items) c.loop-done.rest.now) all c.loop-done.invariant
