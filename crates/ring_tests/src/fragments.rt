@@ -1,10 +1,10 @@
-//! The fragments that the tests put.
+//! The fragments that the tests put, and the steps of a worked example.
 
 ghost use Rattle.std.specs.Prelude.{◌≡◌, false};
 ghost use Rattle.fl_base.specs.Control.{is_ack_only};
 
 use fl_base::Frag;
-use fl_link::{Link, Sight};
+use fl_link::{Link, Passed, PutFault, PutSide, Sight, TakeSide, Told, pass};
 
 // The only fragment of `ping(v)`, message 0 of its interface.
 pub fn ping(v: u64) -> Frag
@@ -32,4 +32,25 @@ pub fn fill<L: Link>(link: &mut L, from: u64) -> u64 {
         }
     }
     8
+}
+
+// A call of a link or of one of its sides, and what it has to answer. A fragment is told by its first word
+// and its control word.
+#[derive(Clone, Copy)]
+pub enum Step {
+    Put(u64, Result<(), PutFault>),
+    Peek(u64, u64),
+    Take(u64, u64),
+    TakeNothing,
+    TakeAcknowledgement,
+    Tell(Told),
+    Room(bool),
+    NextEpoch(u64),
+    NextTold(u16),
+    Known(u64),
+}
+
+// Passes a fragment on between any two sides.
+pub fn pass_on<T: TakeSide, P: PutSide>(from: &mut T, to: &mut P) -> Passed {
+    pass(from, to)
 }

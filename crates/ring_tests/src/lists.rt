@@ -6,28 +6,84 @@ use std::alloc::AllocError;
 use std::process::Abort;
 use std::test::Fail;
 
+// What a list says of a node, where there is one.
+fn place_of(lists: &Lists, node: usize) -> Option<Place> {
+    if node < lists.size() {
+        return lists.place_of(node);
+    }
+    None
+}
+
+// Has the node go to the back of this list, or out of all, by the call for it; and says where it stood.
+fn go(lists: &mut Lists, node: usize, to: Option<Place>) -> Option<Place> {
+    if node >= lists.size() {
+        return None;
+    }
+    let was = lists.place_of(node);
+    match (was, to) {
+        (None, None) => {}
+        (None, Some(place)) => lists.push_back(node, place),
+        (Some(_), Some(place)) => lists.move_to_back(node, place),
+        (Some(_), None) => lists.unlink(node),
+    }
+    was
+}
+
+fn first(lists: &Lists, place: Place) -> Option<usize> {
+    lists.front(place)
+}
+
+fn pop(lists: &mut Lists, place: Place) -> Option<usize> {
+    lists.pop_front(place)
+}
+
+// A node, where it stands, and where it goes.
+const MOVES: &[(usize, Option<Place>, Option<Place>)] = &[
+    // pushed
+    (0, None, Some(Place::Polled)),
+    (1, None, Some(Place::Polled)),
+    (2, None, Some(Place::Polled)),
+    // moved
+    (1, Some(Place::Polled), Some(Place::Pending)),
+    (0, Some(Place::Polled), Some(Place::Polled)),
+    // pushed
+    (3, None, Some(Place::Pending)),
+    // taken out
+    (1, Some(Place::Pending), None),
+];
+
+// A node, and where it stands then.
+const STOOD: &[(usize, Option<Place>)] = &[
+    (0, Some(Place::Polled)),
+    (1, None),
+    (3, Some(Place::Pending)),
+];
+
+// A list, and the node that is popped off it.
+const POPPED: &[(Place, Option<usize>)] = &[
+    (Place::Polled, Some(2)),
+    (Place::Polled, Some(0)),
+    (Place::Polled, None),
+    (Place::Pending, Some(3)),
+    (Place::Pending, None),
+    (Place::Idle, None),
+];
+
 #[test]
 fn pushes_moves_and_takes_out(rt: HostRuntime) -> Result<(), Fail> {
     let mut lists = Lists::new(rt.alloc(), 4)?;
     assert_eq!(rt; lists.size(), 4);
-    lists.push_back(0, Place::Polled);
-    lists.push_back(1, Place::Polled);
-    lists.push_back(2, Place::Polled);
-    lists.move_to_back(1, Place::Pending);
-    lists.move_to_back(0, Place::Polled);
-    lists.push_back(3, Place::Pending);
-    lists.unlink(1);
-    assert_eq!(rt; lists.place_of(0), Some(Place::Polled));
-    assert_eq!(rt; lists.place_of(1), None);
-    assert_eq!(rt; lists.place_of(3), Some(Place::Pending));
-    assert_eq!(rt; lists.front(Place::Idle), None);
-    assert_eq!(rt; lists.front(Place::Polled), Some(2));
-    assert_eq!(rt; lists.pop_front(Place::Polled), Some(2));
-    assert_eq!(rt; lists.pop_front(Place::Polled), Some(0));
-    assert_eq!(rt; lists.pop_front(Place::Polled), None);
-    assert_eq!(rt; lists.pop_front(Place::Pending), Some(3));
-    assert_eq!(rt; lists.pop_front(Place::Pending), None);
-    assert_eq!(rt; lists.pop_front(Place::Idle), None);
+    for (node, was, to) in MOVES {
+        assert_eq!(rt; (node, go(&mut lists, *node, *to)), (node, *was));
+    }
+    for (node, place) in STOOD {
+        assert_eq!(rt; (node, place_of(&lists, *node)), (node, *place));
+    }
+    assert_eq!(rt; first(&lists, Place::Idle), None);
+    assert_eq!(rt; first(&lists, Place::Polled), Some(2));
+    for (place, node) in POPPED {
+        assert_eq!(rt; (place, pop(&mut lists, *place)), (place, *node));
+    }
     Ok(())
 }
 

@@ -6,9 +6,9 @@ ghost use Rattle.fl_link.specs.Stamp.{bare};
 ghost use Rattle.fl_link.specs.Looks.{placed, taken};
 ghost use Rattle.fl_ring.specs.Duo.{DuoPuts, DuoTakes};
 
-use crate::fragments::{arrived, fill, ping};
+use crate::fragments::{Step, arrived, fill, pass_on, ping};
 use fl_base::Frag;
-use fl_link::{Passed, PutFault, PutSide, QueueLink, Sight, TakeSide, Told, pass};
+use fl_link::{Link, Passed, PutFault, PutSide, QueueLink, Sight, TakeSide, Told};
 use fl_ring::{OneDuo, OneRing, RingFault, Which, count_from};
 use std::test::Fail;
 
@@ -45,24 +45,25 @@ fn take_by_side(duo: &mut OneDuo, which: Which) -> Sight
     side.take()
 }
 
+// A number of slots, and whether a ring and a duo may have it.
+const SIZES: &[(usize, bool, bool)] = &[
+    (0, false, false),
+    (1, false, false),
+    (2, true, false),
+    (3, false, false),
+    (4, true, true),
+    (1_024, true, true),
+    (1_025, false, false),
+    (2_048, false, false),
+];
+
 #[test]
 fn ring_sizes(rt: HostRuntime) {
-    for (size, ring, duo) in [
-        (0, false, false),
-        (1, false, false),
-        (2, true, false),
-        (3, false, false),
-        (4, true, true),
-        (1_024, true, true),
-        (1_025, false, false),
-        (2_048, false, false),
-    ] {
-        assert_eq!(rt;
-            OneRing::new(rt.alloc(), size).is_ok(),
-            ring,
-            "ring of {size}"
-        );
-        assert_eq!(rt; OneDuo::new(rt.alloc(), size).is_ok(), duo, "duo of {size}");
+    for (size, ring, duo) in SIZES {
+        let made = OneRing::new(rt.alloc(), *size).is_ok();
+        assert_eq!(rt; (size, made), (size, *ring));
+        let made = OneDuo::new(rt.alloc(), *size).is_ok();
+        assert_eq!(rt; (size, made), (size, *duo));
     }
 }
 
@@ -72,8 +73,14 @@ fn put(ring: &mut OneRing, v: u64) -> Result<(), PutFault> {
     ring.put(&ping(v))
 }
 
-fn word(words: &[u64], i: usize) -> Option<u64> {
-    words.get(i).copied()
+// Whether each of these words stands in its place.
+fn stand(words: &[u64], wanted: &[(usize, u64)]) -> bool {
+    for (i, value) in wanted {
+        if words.get(*i) != Some(value) {
+            return false;
+        }
+    }
+    true
 }
 
 fn put_at(duo: &mut OneDuo, which: Which, v: u64) -> Result<(), PutFault> {
@@ -96,42 +103,123 @@ fn tell(ring: &mut OneRing) -> Told {
     ring.tell()
 }
 
+// Takes a step, and says whether the ring answers so.
+fn ring_answers(ring: &mut OneRing, step: Step) -> bool {
+    match step {
+        Step::Put(v, answer) => put(ring, v) == answer,
+        Step::Take(v, control) => take(ring) == arrived(v, control),
+        Step::Tell(told) => tell(ring) == told,
+        _ => false,
+    }
+}
+
+// A step, and words that stand there then.
+const RING_OF_TWO: &[(Step, &[(usize, u64)])] = &[
+    (Step::Put(7, Ok(())), &[]),
+    (Step::Put(7, Ok(())), &[(7, 3), (15, 3)]),
+    (Step::Put(7, Err(PutFault::Full)), &[]),
+    (Step::Take(7, 3), &[]),
+    (Step::Put(7, Err(PutFault::Full)), &[]),
+    (Step::Tell(Told::Written), &[(16, 1)]),
+    (Step::Put(7, Ok(())), &[(7, 2), (15, 3)]),
+];
+
 #[test]
 fn a_ring_of_two(rt: HostRuntime) -> Result<(), Fail> {
     let mut ring = OneRing::new(rt.alloc(), 2)?;
-    assert_eq!(rt; put(&mut ring, 7), Ok(()));
-    assert_eq!(rt; put(&mut ring, 7), Ok(()));
-    assert_eq!(rt; word(ring.words(), 7), Some(3));
-    assert_eq!(rt; word(ring.words(), 15), Some(3));
-    assert_eq!(rt; put(&mut ring, 7), Err(PutFault::Full));
-    assert_eq!(rt; take(&mut ring), arrived(7, 3));
-    assert_eq!(rt; put(&mut ring, 7), Err(PutFault::Full));
-    assert_eq!(rt; tell(&mut ring), Told::Written);
-    assert_eq!(rt; word(ring.words(), 16), Some(1));
-    assert_eq!(rt; put(&mut ring, 7), Ok(()));
-    assert_eq!(rt; word(ring.words(), 7), Some(2));
-    assert_eq!(rt; word(ring.words(), 15), Some(3));
+    for (row, (step, words)) in RING_OF_TWO.iter().enumerate() {
+        assert_eq!(rt; (row, ring_answers(&mut ring, *step)), (row, true));
+        assert_eq!(rt; (row, stand(ring.words(), words)), (row, true));
+    }
     Ok(())
 }
+
+// Takes a step at this side, and says whether it answers so.
+fn duo_answers(duo: &mut OneDuo, which: Which, step: Step) -> bool {
+    match step {
+        Step::Put(v, answer) => put_at(duo, which, v) == answer,
+        Step::Take(v, control) => take_at(duo, which) == arrived(v, control),
+        Step::TakeAcknowledgement => take_at(duo, which) == Sight::Acknowledgement,
+        Step::Tell(told) => tell_at(duo, which) == Ok(told),
+        _ => false,
+    }
+}
+
+// After side one was filled: whose step it is, the step, and words that stand there then.
+const DUO_OF_FOUR: &[(Which, Step, &[(usize, u64)])] = &[
+    (Which::Two, Step::Take(0, 3), &[]),
+    (Which::Two, Step::Tell(Told::Nothing), &[]),
+    (Which::One, Step::Put(4, Err(PutFault::Full)), &[]),
+    (Which::Two, Step::Take(1, 3), &[]),
+    (
+        Which::Two,
+        Step::Tell(Told::Written),
+        &[(39, 0x0002_0000_0000_0005)],
+    ),
+    (Which::One, Step::Put(4, Ok(())), &[]),
+    (Which::One, Step::TakeAcknowledgement, &[]),
+    (
+        Which::One,
+        Step::Put(5, Ok(())),
+        &[(7, 0x0001_0000_0000_0002)],
+    ),
+];
 
 #[test]
 fn a_duo_of_four(rt: HostRuntime) -> Result<(), Fail> {
     let mut duo = OneDuo::new(rt.alloc(), 4)?;
     assert_eq!(rt; fill(&mut duo.side(Which::One), 0), 3);
-    assert_eq!(rt; take_at(&mut duo, Which::Two), arrived(0, 3));
-    assert_eq!(rt; tell_at(&mut duo, Which::Two), Ok(Told::Nothing));
-    assert_eq!(rt; put_at(&mut duo, Which::One, 4), Err(PutFault::Full));
-    assert_eq!(rt; take_at(&mut duo, Which::Two), arrived(1, 3));
-    assert_eq!(rt; tell_at(&mut duo, Which::Two), Ok(Told::Written));
-    assert_eq!(rt; word(duo.words(), 39), Some(0x0002_0000_0000_0005));
-    assert_eq!(rt; put_at(&mut duo, Which::One, 4), Ok(()));
-    assert_eq!(rt; take_at(&mut duo, Which::One), Sight::Acknowledgement);
-    assert_eq!(rt; put_at(&mut duo, Which::One, 5), Ok(()));
-    assert_eq!(rt; word(duo.words(), 7), Some(0x0001_0000_0000_0002));
+    for (row, (which, step, words)) in DUO_OF_FOUR.iter().enumerate() {
+        assert_eq!(rt; (row, duo_answers(&mut duo, *which, *step)), (row, true));
+        assert_eq!(rt; (row, stand(duo.words(), words)), (row, true));
+    }
     Ok(())
 }
 
-// Ten fragments go through each kind of link in turn, so that each wraps round.
+fn put_local(queue: &mut QueueLink, v: u64) -> Result<(), PutFault> {
+    PutSide::put(queue, &ping(v))
+}
+
+fn take_local(queue: &mut QueueLink) -> Sight {
+    TakeSide::take(queue)
+}
+
+fn tell_acked(queue: &mut QueueLink) -> Result<Told, PutFault> {
+    TakeSide::tell(queue)
+}
+
+// What a tell of side two of a duo does after the fragment `v`, and then a look of side one: side two tells
+// each second one, by a fragment of its own.
+fn told_and_passed(v: u64) -> (Told, Passed) {
+    if v % 2 == 0 {
+        return (Told::Nothing, Passed::Nothing);
+    }
+    (Told::Written, Passed::Acknowledged)
+}
+
+// Whether a fragment goes through each kind of link in turn.
+fn goes_through(
+    local: &mut QueueLink,
+    acked: &mut QueueLink,
+    ring: &mut OneRing,
+    duo: &mut OneDuo,
+    v: u64,
+) -> bool {
+    let (told, passed) = told_and_passed(v);
+    pass_on(&mut duo.side(Which::Two), local) == Passed::Nothing
+        && put_local(local, v) == Ok(())
+        && pass_on(local, acked) == Passed::Moved
+        && pass_on(acked, ring) == Passed::Moved
+        && pass_on(ring, &mut duo.side(Which::One)) == Passed::Moved
+        && pass_on(&mut duo.side(Which::Two), local) == Passed::Moved
+        && take_local(local) == arrived(v, 3)
+        && tell_acked(acked) == Ok(Told::Written)
+        && tell(ring) == Told::Written
+        && tell_at(duo, Which::Two) == Ok(told)
+        && pass_on(&mut duo.side(Which::One), local) == passed
+}
+
+// Ten of them, so that each link wraps round.
 #[test]
 fn passes_through_each(rt: HostRuntime) -> Result<(), Fail> {
     let mut local = QueueLink::local(rt.alloc(), 1)?;
@@ -139,57 +227,48 @@ fn passes_through_each(rt: HostRuntime) -> Result<(), Fail> {
     let mut ring = OneRing::new(rt.alloc(), 2)?;
     let mut duo = OneDuo::new(rt.alloc(), 4)?;
     for v in 0..10 {
-        assert_eq!(rt;
-            pass(&mut duo.side(Which::Two), &mut local),
-            Passed::Nothing
-        );
-        assert_eq!(rt; PutSide::put(&mut local, &ping(v)), Ok(()));
-        assert_eq!(rt; pass(&mut local, &mut acked), Passed::Moved);
-        assert_eq!(rt; pass(&mut acked, &mut ring), Passed::Moved);
-        assert_eq!(rt; pass(&mut ring, &mut duo.side(Which::One)), Passed::Moved);
-        assert_eq!(rt; pass(&mut duo.side(Which::Two), &mut local), Passed::Moved);
-        assert_eq!(rt; TakeSide::take(&mut local), arrived(v, 3));
-        assert_eq!(rt; TakeSide::tell(&mut acked), Ok(Told::Written));
-        assert_eq!(rt; tell(&mut ring), Told::Written);
-        // side two tells each second one, by a fragment of its own
-        let (told, passed) = match v % 2 {
-            0 => (Told::Nothing, Passed::Nothing),
-            _ => (Told::Written, Passed::Acknowledged),
-        };
-        assert_eq!(rt; tell_at(&mut duo, Which::Two), Ok(told));
-        assert_eq!(rt; pass(&mut duo.side(Which::One), &mut local), passed);
+        let goes = goes_through(&mut local, &mut acked, &mut ring, &mut duo, v);
+        assert_eq!(rt; (v, goes), (v, true));
     }
     Ok(())
 }
 
+// What a link says of itself.
+type Said = (bool, u64, u16, u64);
+
+// How many fragments fill the link; what it says then; what a look, a take and a tell do; and what it says then.
+fn of_itself<L: Link>(link: &mut L) -> (u64, Said, (Sight, Sight, bool), Said) {
+    let filled = fill(link, 0);
+    let full = said(link);
+    let looked = look_take_tell(link);
+    (filled, full, looked, said(link))
+}
+
+// The same of a duo that is filled by side two and read by side one; and what each says then.
+fn duo_of_itself(duo: &mut OneDuo) -> (u64, Said, (Sight, Sight, bool), Said, Said) {
+    let filled = fill(&mut duo.side(Which::Two), 0);
+    let full = said(&duo.side(Which::Two));
+    let looked = look_take_tell(&mut duo.side(Which::One));
+    let two = said(&duo.side(Which::Two));
+    (filled, full, looked, two, said(&duo.side(Which::One)))
+}
+
 #[test]
 fn each_tells_of_itself(rt: HostRuntime) -> Result<(), Fail> {
-    let mut local = QueueLink::local(rt.alloc(), 2)?;
-    let mut acked = QueueLink::acked(rt.alloc(), 2)?;
-    let mut ring = OneRing::new(rt.alloc(), 2)?;
-    let mut duo = OneDuo::new(rt.alloc(), 4)?;
-    assert_eq!(rt; (fill(&mut local, 0), fill(&mut acked, 0)), (2, 2));
-    assert_eq!(rt;
-        (fill(&mut ring, 0), fill(&mut duo.side(Which::Two), 0)),
-        (2, 3)
-    );
-    assert_eq!(rt; said(&local), (false, 1, 0, 0));
-    assert_eq!(rt; said(&acked), (false, 0, 0, 0));
-    assert_eq!(rt; said(&ring), (false, 0, 0, 0));
-    assert_eq!(rt; said(&duo.side(Which::Two)), (false, 1, 0, 0));
     let first = arrived(0, 3);
-    assert_eq!(rt; look_take_tell(&mut local), (first, first, false));
-    assert_eq!(rt; look_take_tell(&mut acked), (first, first, true));
-    assert_eq!(rt; look_take_tell(&mut ring), (first, first, true));
-    assert_eq!(rt;
-        look_take_tell(&mut duo.side(Which::One)),
-        (first, first, false)
-    );
-    assert_eq!(rt; said(&local), (true, 1, 0, 0));
-    assert_eq!(rt; said(&acked), (true, 0, 0, 0));
-    assert_eq!(rt; said(&ring), (true, 0, 0, 1));
-    assert_eq!(rt; said(&duo.side(Which::Two)), (false, 1, 0, 0));
-    assert_eq!(rt; said(&duo.side(Which::One)), (true, 1, 1, 0));
+    let (kept, told) = ((first, first, false), (first, first, true));
+    let mut local = QueueLink::local(rt.alloc(), 2)?;
+    let (full, then) = ((false, 1, 0, 0), (true, 1, 0, 0));
+    assert_eq!(rt; of_itself(&mut local), (2, full, kept, then));
+    let mut acked = QueueLink::acked(rt.alloc(), 2)?;
+    let (full, then) = ((false, 0, 0, 0), (true, 0, 0, 0));
+    assert_eq!(rt; of_itself(&mut acked), (2, full, told, then));
+    let mut ring = OneRing::new(rt.alloc(), 2)?;
+    let then = (true, 0, 0, 1);
+    assert_eq!(rt; of_itself(&mut ring), (2, full, told, then));
+    let mut duo = OneDuo::new(rt.alloc(), 4)?;
+    let (two, one) = ((false, 1, 0, 0), (true, 1, 1, 0));
+    assert_eq!(rt; duo_of_itself(&mut duo), (3, two, kept, two, one));
     Ok(())
 }
 
@@ -208,15 +287,26 @@ fn rings_without_memory(rt: HostRuntime) {
     }
 }
 
+// What is known, a number of 16 bits, and the count that it names.
+const COUNTS: &[(u64, u16, u64)] = &[
+    (0, 0, 0),
+    (0, 2, 2),
+    (65_530, 65_535, 65_535),
+    (65_530, 0, 65_536),
+    (65_536, 65_535, 131_071),
+];
+
+// The count, where it is far from the end of all counts.
+fn named(known: u64, number: u16) -> Option<u64> {
+    if known >= 1 << 62 {
+        return None;
+    }
+    Some(count_from(known, number))
+}
+
 #[test]
 fn a_number_names_one_count(rt: HostRuntime) {
-    for (known, number, count) in [
-        (0, 0, 0),
-        (0, 2, 2),
-        (65_530, 65_535, 65_535),
-        (65_530, 0, 65_536),
-        (65_536, 65_535, 131_071),
-    ] {
-        assert_eq!(rt; count_from(known, number), count, "from {known}");
+    for (known, number, count) in COUNTS {
+        assert_eq!(rt; (known, named(*known, *number)), (known, Some(*count)));
     }
 }

@@ -2,75 +2,158 @@
 
 ghost use Rattle.std.specs.Prelude.{◌≡◌, ◌≤◌, ◌^◌};
 
-use crate::fragments::{arrived, ping};
-use fl_link::{Passed, PutFault, Sight, Told, pass};
-use fl_ring::{RingFault, RingRx, RingTx, SharedSide, duo, duo_from, ring, settle, settle_duo};
+use crate::fragments::{Step, arrived, pass_on, ping};
+use fl_link::{Passed, PutFault, Sight, Told};
+use fl_ring::{
+    RingFault, RingRx, RingTx, SharedSide, Which, duo, duo_from, ring, settle, settle_duo,
+};
 use std::alloc::Global;
 use std::hint;
 use std::sync::Wait;
 use std::test::Fail;
 use std::thread::{Threads, join};
 
+// A number of slots, and whether a ring may have it.
+const RING_SIZES: &[(usize, bool)] = &[
+    (0, false),
+    (1, false),
+    (2, true),
+    (3, false),
+    (1_024, true),
+    (1_025, false),
+    (2_048, false),
+];
+
+// The same of a duo.
+const DUO_SIZES: &[(usize, bool)] = &[
+    (0, false),
+    (2, false),
+    (3, false),
+    (4, true),
+    (1_024, true),
+    (1_025, false),
+];
+
+// Why no ring is made, if none is.
+fn ring_refused(alloc: Global, size: usize) -> Option<RingFault> {
+    ring(alloc, size).err()
+}
+
+fn duo_refused(alloc: Global, size: usize) -> Option<RingFault> {
+    duo(alloc, size).err()
+}
+
+fn bad_size_unless(is_made: bool) -> Option<RingFault> {
+    if is_made {
+        return None;
+    }
+    Some(RingFault::BadSize)
+}
+
 #[test]
 fn shared_sizes(rt: HostRuntime) {
-    for (size, is_made) in [
-        (0, false),
-        (1, false),
-        (2, true),
-        (3, false),
-        (1_024, true),
-        (1_025, false),
-        (2_048, false),
-    ] {
-        let refused = match ring(rt.alloc(), size) {
-            Ok(_) => None,
-            Err(fault) => Some(fault),
-        };
-        let wanted = if is_made {
-            None
-        } else {
-            Some(RingFault::BadSize)
-        };
-        assert_eq!(rt; refused, wanted, "ring of {size}");
+    for (size, is_made) in RING_SIZES {
+        let refused = ring_refused(rt.alloc(), *size);
+        assert_eq!(rt; (size, refused), (size, bad_size_unless(*is_made)));
     }
 }
 
 #[test]
+fn duo_sizes(rt: HostRuntime) {
+    for (size, is_made) in DUO_SIZES {
+        let refused = duo_refused(rt.alloc(), *size);
+        assert_eq!(rt; (size, refused), (size, bad_size_unless(*is_made)));
+    }
+}
+
+// Takes a step by the side for it, and says whether it answers so.
+fn ring_answers(tx: &mut RingTx, rx: &mut RingRx, step: Step) -> bool {
+    match step {
+        Step::Put(v, answer) => tx.try_put(&ping(v)) == answer,
+        Step::Peek(v, control) => rx.try_peek() == arrived(v, control),
+        Step::Take(v, control) => rx.try_take() == arrived(v, control),
+        Step::TakeNothing => rx.try_take() == Sight::Empty,
+        Step::Tell(told) => {
+            rx.tell();
+            told == Told::Written
+        }
+        Step::NextEpoch(epoch) => tx.next_epoch() == epoch,
+        Step::Known(known) => tx.known() == known,
+        _ => false,
+    }
+}
+
+const RING_OF_TWO: &[Step] = &[
+    Step::Put(5, Ok(())),
+    Step::Put(6, Ok(())),
+    Step::Put(7, Err(PutFault::Full)),
+    Step::Peek(5, 3),
+    Step::Take(5, 3),
+    Step::Put(7, Err(PutFault::Full)),
+    Step::Tell(Told::Written),
+    Step::Put(7, Ok(())),
+    Step::Known(1),
+    Step::NextEpoch(0),
+    Step::Take(6, 3),
+    Step::Take(7, 2),
+    Step::TakeNothing,
+];
+
+#[test]
 fn a_shared_ring_of_two(rt: HostRuntime) -> Result<(), Fail> {
     let (mut tx, mut rx) = ring(rt.alloc(), 2)?;
-    assert_eq!(rt; tx.try_put(&ping(5)), Ok(()));
-    assert_eq!(rt; tx.try_put(&ping(6)), Ok(()));
-    assert_eq!(rt; tx.try_put(&ping(7)), Err(PutFault::Full));
-    assert_eq!(rt; rx.try_peek(), arrived(5, 3));
-    assert_eq!(rt; rx.try_take(), arrived(5, 3));
-    assert_eq!(rt; tx.try_put(&ping(7)), Err(PutFault::Full));
-    rx.tell();
-    assert_eq!(rt; tx.try_put(&ping(7)), Ok(()));
-    assert_eq!(rt; (tx.known(), tx.next_epoch()), (1, 0));
-    assert_eq!(rt; rx.try_take(), arrived(6, 3));
-    assert_eq!(rt; rx.try_take(), arrived(7, 2));
-    assert_eq!(rt; rx.try_take(), Sight::Empty);
+    for (row, step) in RING_OF_TWO.iter().enumerate() {
+        assert_eq!(rt; (row, ring_answers(&mut tx, &mut rx, *step)), (row, true));
+    }
     Ok(())
 }
+
+// Takes a step, and says whether the side answers so.
+fn side_answers(side: &mut SharedSide, step: Step) -> bool {
+    match step {
+        Step::Put(v, answer) => side.try_put(&ping(v)) == answer,
+        Step::Peek(v, control) => side.try_peek() == arrived(v, control),
+        Step::Take(v, control) => side.try_take() == arrived(v, control),
+        Step::TakeNothing => side.try_take() == Sight::Empty,
+        Step::TakeAcknowledgement => side.try_take() == Sight::Acknowledgement,
+        Step::Tell(told) => side.tell() == Ok(told),
+        Step::Room(room) => side.room() == room,
+        Step::NextEpoch(epoch) => side.next_epoch() == epoch,
+        Step::NextTold(told) => side.next_told() == told,
+        Step::Known(known) => side.known() == known,
+    }
+}
+
+// Whose step it is, and the step.
+const DUO_OF_FOUR: &[(Which, Step)] = &[
+    (Which::One, Step::Put(5, Ok(()))),
+    (Which::One, Step::Put(6, Ok(()))),
+    (Which::One, Step::Put(7, Ok(()))),
+    (Which::One, Step::Put(8, Err(PutFault::Full))),
+    (Which::Two, Step::Peek(5, 3)),
+    (Which::Two, Step::Take(5, 3)),
+    (Which::Two, Step::Tell(Told::Nothing)),
+    (Which::Two, Step::Take(6, 3)),
+    (Which::Two, Step::Tell(Told::Written)),
+    (Which::One, Step::Known(0)),
+    (Which::One, Step::Put(8, Ok(()))),
+    (Which::One, Step::Known(2)),
+    (Which::One, Step::TakeAcknowledgement),
+    (Which::One, Step::TakeNothing),
+    (Which::One, Step::NextEpoch(0)),
+    (Which::One, Step::NextTold(1)),
+];
 
 #[test]
 fn a_shared_duo_of_four(rt: HostRuntime) -> Result<(), Fail> {
     let (mut one, mut two) = duo(rt.alloc(), 4)?;
-    assert_eq!(rt; one.try_put(&ping(5)), Ok(()));
-    assert_eq!(rt; one.try_put(&ping(6)), Ok(()));
-    assert_eq!(rt; one.try_put(&ping(7)), Ok(()));
-    assert_eq!(rt; one.try_put(&ping(8)), Err(PutFault::Full));
-    assert_eq!(rt; two.try_peek(), arrived(5, 3));
-    assert_eq!(rt; two.try_take(), arrived(5, 3));
-    assert_eq!(rt; two.tell(), Ok(Told::Nothing));
-    assert_eq!(rt; two.try_take(), arrived(6, 3));
-    assert_eq!(rt; two.tell(), Ok(Told::Written));
-    assert_eq!(rt; one.known(), 0);
-    assert_eq!(rt; one.try_put(&ping(8)), Ok(()));
-    assert_eq!(rt; one.known(), 2);
-    assert_eq!(rt; one.try_take(), Sight::Acknowledgement);
-    assert_eq!(rt; one.try_take(), Sight::Empty);
-    assert_eq!(rt; (one.next_epoch(), one.next_told()), (0, 1));
+    for (row, (which, step)) in DUO_OF_FOUR.iter().enumerate() {
+        let answers = match which {
+            Which::One => side_answers(&mut one, *step),
+            Which::Two => side_answers(&mut two, *step),
+        };
+        assert_eq!(rt; (row, answers), (row, true));
+    }
     Ok(())
 }
 
@@ -82,29 +165,6 @@ fn settled_at_once(rt: HostRuntime) -> Result<(), Fail> {
     let (one, two) = duo(rt.alloc(), 4)?;
     settle_duo(one, two);
     Ok(())
-}
-
-#[test]
-fn duo_sizes(rt: HostRuntime) {
-    for (size, is_made) in [
-        (0, false),
-        (2, false),
-        (3, false),
-        (4, true),
-        (1_024, true),
-        (1_025, false),
-    ] {
-        let refused = match duo(rt.alloc(), size) {
-            Ok(_) => None,
-            Err(fault) => Some(fault),
-        };
-        let wanted = if is_made {
-            None
-        } else {
-            Some(RingFault::BadSize)
-        };
-        assert_eq!(rt; refused, wanted, "duo of {size}");
-    }
 }
 
 // Each allocation of a maker is made, or refused with the fault that says so.
@@ -144,24 +204,33 @@ fn began_long_ago(alloc: Global, start: u64) -> Result<(SharedSide, SharedSide),
     duo_from(alloc, 4, start)
 }
 
+// What is put each way, and the control word that it arrives with there and back.
+const CROSSED: &[(u64, u64, u64)] = &[
+    (0, 0xfffa_0000_0000_0003, 0xfffb_0000_0000_0003),
+    (1, 0xfffb_0000_0000_0003, 0xfffc_0000_0000_0003),
+    (2, 0xfffc_0000_0000_0002, 0xfffd_0000_0000_0002),
+    (3, 0xfffd_0000_0000_0002, 0xfffe_0000_0000_0002),
+    (4, 0xfffe_0000_0000_0002, 0xffff_0000_0000_0002),
+    (5, 0xffff_0000_0000_0002, 0x0000_0000_0000_0002),
+    (6, 0x0000_0000_0000_0003, 0x0001_0000_0000_0003),
+    (7, 0x0001_0000_0000_0003, 0x0002_0000_0000_0003),
+    (8, 0x0002_0000_0000_0003, 0x0003_0000_0000_0003),
+    (9, 0x0003_0000_0000_0003, 0x0004_0000_0000_0003),
+];
+
 // The numbers told turn over at 65,536, and the epochs every four fragments.
 #[test]
 fn a_duo_that_began_long_ago(rt: HostRuntime) -> Result<(), Fail> {
     let (mut one, mut two) = began_long_ago(rt.alloc(), 65_530)?;
-    for (word, there, back) in [
-        (0, 0xfffa_0000_0000_0003, 0xfffb_0000_0000_0003),
-        (1, 0xfffb_0000_0000_0003, 0xfffc_0000_0000_0003),
-        (2, 0xfffc_0000_0000_0002, 0xfffd_0000_0000_0002),
-        (3, 0xfffd_0000_0000_0002, 0xfffe_0000_0000_0002),
-        (4, 0xfffe_0000_0000_0002, 0xffff_0000_0000_0002),
-        (5, 0xffff_0000_0000_0002, 0x0000_0000_0000_0002),
-        (6, 0x0000_0000_0000_0003, 0x0001_0000_0000_0003),
-        (7, 0x0001_0000_0000_0003, 0x0002_0000_0000_0003),
-        (8, 0x0002_0000_0000_0003, 0x0003_0000_0000_0003),
-        (9, 0x0003_0000_0000_0003, 0x0004_0000_0000_0003),
-    ] {
-        assert_eq!(rt; cross(&mut one, &mut two, word), Some(arrived(word, there)));
-        assert_eq!(rt; cross(&mut two, &mut one, word), Some(arrived(word, back)));
+    for (word, there, back) in CROSSED {
+        assert_eq!(rt;
+            cross(&mut one, &mut two, *word),
+            Some(arrived(*word, *there))
+        );
+        assert_eq!(rt;
+            cross(&mut two, &mut one, *word),
+            Some(arrived(*word, *back))
+        );
     }
     Ok(())
 }
@@ -170,11 +239,11 @@ fn a_duo_that_began_long_ago(rt: HostRuntime) -> Result<(), Fail> {
 fn passes_between_shared(rt: HostRuntime) -> Result<(), Fail> {
     let (mut tx, mut rx) = ring(rt.alloc(), 2)?;
     let (mut one, mut two) = duo(rt.alloc(), 4)?;
-    assert_eq!(rt; tx.try_put(&ping(5)), Ok(()));
-    assert_eq!(rt; pass(&mut rx, &mut one), Passed::Moved);
-    assert_eq!(rt; pass(&mut two, &mut tx), Passed::Moved);
-    assert_eq!(rt; rx.try_take(), arrived(5, 3));
-    assert_eq!(rt; pass(&mut rx, &mut one), Passed::Nothing);
+    assert!(rt; ring_answers(&mut tx, &mut rx, Step::Put(5, Ok(()))));
+    assert_eq!(rt; pass_on(&mut rx, &mut one), Passed::Moved);
+    assert_eq!(rt; pass_on(&mut two, &mut tx), Passed::Moved);
+    assert!(rt; ring_answers(&mut tx, &mut rx, Step::Take(5, 3)));
+    assert_eq!(rt; pass_on(&mut rx, &mut one), Passed::Nothing);
     Ok(())
 }
 

@@ -7,32 +7,70 @@ use std::alloc::AllocError;
 use std::process::Abort;
 use std::test::Fail;
 
+// A call of a waitset.
+#[derive(Clone, Copy)]
+enum Asked {
+    Register(ChanId),
+    RegisterPolled(ChanId),
+    Deregister(ChanId),
+    Trigger(ChanId),
+    PutBack(ChanId, Place),
+    NextEvent,
+}
+
+// What the waitset answers: a pick where it is asked for the next event, else nothing.
+fn ask(waitset: &mut Waitset, asked: Asked) -> Result<Option<Pick>, WaitFault> {
+    match asked {
+        Asked::Register(c) => waitset.register(c)?,
+        Asked::RegisterPolled(c) => waitset.register_polled(c)?,
+        Asked::Deregister(c) => waitset.deregister(c)?,
+        Asked::Trigger(c) => waitset.trigger(c)?,
+        Asked::PutBack(c, place) => waitset.put_back(c, place)?,
+        Asked::NextEvent => return Ok(Some(waitset.next_event()?)),
+    }
+    Ok(None)
+}
+
+// Two channels, and one that there isn't.
+
+const A: ChanId = ChanId(0);
+
+const B: ChanId = ChanId(1);
+
+const NONE: ChanId = ChanId(2);
+
+// A waitset of two channels is asked these in turn.
+const ANSWERS: &[(Asked, Result<Option<Pick>, WaitFault>)] = &[
+    (Asked::NextEvent, Err(WaitFault::NoEvent)),
+    (Asked::Register(NONE), Err(WaitFault::NoChannel)),
+    (Asked::Trigger(A), Ok(None)),
+    (
+        Asked::PutBack(A, Place::Idle),
+        Err(WaitFault::NotRegistered),
+    ),
+    (Asked::Register(A), Ok(None)),
+    (Asked::RegisterPolled(A), Err(WaitFault::Registered)),
+    (Asked::RegisterPolled(B), Ok(None)),
+    (Asked::NextEvent, Ok(Some(Pick::Polled(B)))),
+    (Asked::Trigger(A), Ok(None)),
+    (Asked::Trigger(A), Ok(None)),
+    (Asked::Trigger(B), Ok(None)),
+    (Asked::NextEvent, Ok(Some(Pick::Pending(A)))),
+    (Asked::PutBack(B, Place::Pending), Ok(None)),
+    (Asked::PutBack(A, Place::Pending), Ok(None)),
+    (Asked::NextEvent, Ok(Some(Pick::Pending(B)))),
+    (Asked::Deregister(B), Ok(None)),
+    (Asked::Deregister(B), Err(WaitFault::NotRegistered)),
+    (Asked::NextEvent, Ok(Some(Pick::Pending(A)))),
+    (Asked::Deregister(NONE), Err(WaitFault::NoChannel)),
+];
+
 #[test]
 fn answers(rt: HostRuntime) -> Result<(), Fail> {
-    let (a, b, none) = (ChanId(0), ChanId(1), ChanId(2));
     let mut waitset = Waitset::new(rt.alloc(), 2)?;
-    assert_eq!(rt; waitset.next_event(), Err(WaitFault::NoEvent));
-    assert_eq!(rt; waitset.register(none), Err(WaitFault::NoChannel));
-    assert_eq!(rt; waitset.trigger(a), Ok(()));
-    assert_eq!(rt;
-        waitset.put_back(a, Place::Idle),
-        Err(WaitFault::NotRegistered)
-    );
-    assert_eq!(rt; waitset.register(a), Ok(()));
-    assert_eq!(rt; waitset.register_polled(a), Err(WaitFault::Registered));
-    assert_eq!(rt; waitset.register_polled(b), Ok(()));
-    assert_eq!(rt; waitset.next_event(), Ok(Pick::Polled(b)));
-    assert_eq!(rt; waitset.trigger(a), Ok(()));
-    assert_eq!(rt; waitset.trigger(a), Ok(()));
-    assert_eq!(rt; waitset.trigger(b), Ok(()));
-    assert_eq!(rt; waitset.next_event(), Ok(Pick::Pending(a)));
-    assert_eq!(rt; waitset.put_back(b, Place::Pending), Ok(()));
-    assert_eq!(rt; waitset.put_back(a, Place::Pending), Ok(()));
-    assert_eq!(rt; waitset.next_event(), Ok(Pick::Pending(b)));
-    assert_eq!(rt; waitset.deregister(b), Ok(()));
-    assert_eq!(rt; waitset.deregister(b), Err(WaitFault::NotRegistered));
-    assert_eq!(rt; waitset.next_event(), Ok(Pick::Pending(a)));
-    assert_eq!(rt; waitset.deregister(none), Err(WaitFault::NoChannel));
+    for (row, (asked, answer)) in ANSWERS.iter().enumerate() {
+        assert_eq!(rt; (row, ask(&mut waitset, *asked)), (row, *answer));
+    }
     Ok(())
 }
 
@@ -125,25 +163,31 @@ fn call(
     }
 }
 
+// The next event is this one, and its channel is taken out.
+fn take_out(rt: &impl Abort, fast: &mut Waitset, pick: Pick, c: ChanId) {
+    assert_eq!(rt; ask(fast, Asked::NextEvent), Ok(Some(pick)));
+    assert_eq!(rt; ask(fast, Asked::Deregister(c)), Ok(None));
+}
+
 // Takes each channel out as a turn would see it: those pending, then those polled, and those idle once
 // they are triggered. No call shows in which order these stood.
 fn drain(rt: &impl Abort, fast: &mut Waitset, slow: &ThreeVectors) {
     for c in &slow.pending {
-        assert_eq!(rt; fast.next_event(), Ok(Pick::Pending(ChanId(*c))));
-        assert_eq!(rt; fast.deregister(ChanId(*c)), Ok(()));
+        take_out(rt, fast, Pick::Pending(ChanId(*c)), ChanId(*c));
     }
     for c in &slow.polled {
-        assert_eq!(rt; fast.next_event(), Ok(Pick::Polled(ChanId(*c))));
-        assert_eq!(rt; fast.deregister(ChanId(*c)), Ok(()));
+        take_out(rt, fast, Pick::Polled(ChanId(*c)), ChanId(*c));
     }
-    assert_eq!(rt; fast.next_event(), Err(WaitFault::NoEvent));
+    assert_eq!(rt; ask(fast, Asked::NextEvent), Err(WaitFault::NoEvent));
     for c in &slow.idle {
-        assert_eq!(rt; fast.trigger(ChanId(*c)), Ok(()));
-        assert_eq!(rt; fast.next_event(), Ok(Pick::Pending(ChanId(*c))));
-        assert_eq!(rt; fast.deregister(ChanId(*c)), Ok(()));
+        assert_eq!(rt; ask(fast, Asked::Trigger(ChanId(*c))), Ok(None));
+        take_out(rt, fast, Pick::Pending(ChanId(*c)), ChanId(*c));
     }
     for c in 0..CHANNELS {
-        assert_eq!(rt; fast.deregister(ChanId(c)), Err(WaitFault::NotRegistered));
+        assert_eq!(rt;
+            ask(fast, Asked::Deregister(ChanId(c))),
+            Err(WaitFault::NotRegistered)
+        );
     }
 }
 
