@@ -1,0 +1,13 @@
+pub mod Lists
+pub mod Cells
+pub mod Sounds
+pub mod Entering
+pub mod Leaving
+pub mod Counting
+pub mod Laters
+pub mod Laws
+pub mod Crossing
+pub mod Numbering
+pub mod Standing
+pub mod Opening
+pub mod Answering

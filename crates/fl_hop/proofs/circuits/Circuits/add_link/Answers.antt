@@ -1,0 +1,29 @@
+use Rattle.std.proofs.Common.{◌≡◌, ◌==◌, sym, ap, ◌∙◌, subst, [], ◌∷◌, ◌++◌, length, position, None, arith}
+use Rattle.fl_hop.specs.declared.links.LinkState.{LinkState}
+use Rattle.fl_hop.specs.Table.{link_of, with_link}
+use Rattle.fl_hop.specs.Slots.{table_of, Kept}
+use Rattle.fl_hop.proofs.Counting.{kept_link, no_link, map_fill}
+use Rattle.fl_hop.proofs.circuits.Circuits.add_link.Goals as goal
+
+links : (c : goal.After-push_reserved) → c.push_reserved.new.self.items ≡ c.self.inside.links.items ++ record { neighbour = c.args.neighbour; opened = 0; taken = 0 } ∷ []
+links c =
+    let one : LinkState = record { neighbour = c.args.neighbour; opened = 0; taken = 0 } in
+    c.push_reserved.ensures.items ∙ ap (λ v. v ++ one ∷ []) c.reserve.ensures.items
+
+none : (c : goal.After-push_reserved) → position (λ (a : LinkState). a.neighbour.0 == c.args.neighbour.0) c.self.inside.links.items ≡ None
+none c =
+    ap (λ t. link_of t c.args.neighbour.0) c.self.view_is
+    ∙ no_link (link_of c.args.self.now c.args.neighbour.0) c.link_to.result c.is_some.result c.link_to.ensures.link c.is_some.ensures c.if-is_some.false
+
+pub invariant_of-self-2 : goal.invariant_of-self-2
+invariant_of-self-2 c =
+    let k = kept_link c.self.inside.core.0 c.self.inside.links.items c.self.inside.cells.items c.self.inside.entries c.self.invariant c.args.neighbour c.if-neighbour-self.false (omega (arith, c.if-count-ge-MAX_LINKS.false, ap length c.as_slice-count.ensures.value)) (none c) in
+    subst (λ v. Kept c.self.inside.core.0 v c.add_cells.new.cells.items c.self.inside.entries) (sym (links c))
+    (subst (λ w. Kept c.self.inside.core.0 (c.self.inside.links.items ++ record { neighbour = c.args.neighbour; opened = 0; taken = 0 } ∷ []) w c.self.inside.entries) (sym c.in-Ok.ensures.added) k)
+
+pub returns-clause-added : goal.returns-clause-added
+returns-clause-added c =
+    ap (λ v. table_of c.self.inside.core.0 v c.add_cells.new.cells.items c.self.inside.entries) (links c)
+    ∙ ap (λ w. table_of c.self.inside.core.0 (c.self.inside.links.items ++ record { neighbour = c.args.neighbour; opened = 0; taken = 0 } ∷ []) w c.self.inside.entries) c.in-Ok.ensures.added
+    ∙ map_fill c.self.inside.core.0 c.self.inside.links.items c.self.inside.cells.items c.self.inside.entries c.args.neighbour
+    ∙ ap (λ t. with_link t c.args.neighbour) c.self.view_is

@@ -1,0 +1,10 @@
+pub mod Table
+pub mod Numbers
+pub mod Joined
+pub mod Openings
+pub mod Later
+pub mod OfCircuit
+pub mod Forward
+pub mod Carried
+pub mod Faults
+pub mod Slots

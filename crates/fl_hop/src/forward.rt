@@ -1,0 +1,198 @@
+//! Looking at a link's first fragment, and passing it on.
+
+ghost use Rattle.std.specs.Prelude.{◌≡◌, ◌≢◌, ◌<◌, false, length, slice_get, Some};
+ghost use Rattle.fl_base.specs.Control.{circuit_of, message_of, first_of, epoch_of, told_of, reserved_of, is_ack_only};
+ghost use Rattle.fl_link.specs.Stamp.{bare};
+ghost use Rattle.fl_link.specs.Looks.{saw};
+ghost use Rattle.fl_hop.specs.OfCircuit.{with_circuit};
+ghost use Rattle.fl_hop.specs.Forward.{Finds, Moves, Forwards, Crosses};
+
+use crate::circuits::Circuits;
+use crate::entry::Way;
+use crate::fault::HopFault;
+use fl_base::{Circuit, EndId, Frag, LinkId};
+use fl_link::{PutFault, PutSide, Sight, TakeSide};
+
+/// What stands first on a link.
+#[derive(Clone, Copy, Debug, PartialEq, Eq)]
+pub enum First {
+    /// Nothing.
+    Nothing,
+    /// A fragment that only acknowledged, and was taken.
+    Acknowledged,
+    /// A fragment of the monitors' own messages, which stays.
+    Monitor(Frag),
+    /// A fragment of a circuit, which stays, and where its entry leads.
+    Goes(Frag, Way),
+}
+
+/// What became of a fragment that was to pass on.
+#[derive(Clone, Copy, Debug, PartialEq, Eq)]
+pub enum Outcome {
+    /// It was taken, and stands on the way out now.
+    Moved,
+    /// The way out has no room, and the fragment stays.
+    Full,
+    /// The way out is spent, and the fragment stays. To the layers above that is a way out with no room.
+    Spent,
+}
+
+/// What a forward did.
+#[derive(Clone, Copy, Debug, PartialEq, Eq)]
+pub enum Forwarded {
+    /// Nothing stood there.
+    Nothing,
+    /// A fragment only acknowledged, and was taken.
+    Acknowledged,
+    /// A fragment of the monitors' own messages stands first, and stays.
+    Monitor(Frag),
+    /// A fragment for an end at this core stands first, and stays: [`deliver`] takes it to the end's arrival
+    /// queue.
+    Arrives(Frag, EndId),
+    /// A fragment was to pass on to another link.
+    Onward(Outcome),
+}
+
+/// The fragment with this circuit in its control word, and all else the same.
+pub fn with_circuit(frag: &Frag, circuit: Circuit) -> Frag
+    ensures whole { result ≡ with_circuit circuit.0 frag.now }
+    ensures circuit { circuit_of result.control ≡ circuit.0 }
+    ensures words { result.words ≡ frag.now.words }
+    ensures message { message_of result.control ≡ message_of frag.now.control }
+    ensures first { first_of result.control ≡ first_of frag.now.control }
+    ensures epoch { epoch_of result.control ≡ epoch_of frag.now.control }
+    ensures told { told_of result.control ≡ told_of frag.now.control }
+    ensures reserved { reserved_of result.control ≡ reserved_of frag.now.control }
+{
+    let control = frag.control;
+    let old = control / 4_294_967_296 % 65_536;
+    Frag {
+        words: frag.words,
+        control: control - 4_294_967_296 * old + 4_294_967_296 * u64::from(circuit.0),
+    }
+}
+
+/// Passes on a fragment that was seen to stand first: puts it on the way out with this circuit, and takes it where that
+/// succeeds. Where the way out has no room nothing is taken, and nothing is put.
+pub fn move_on<T: TakeSide, P: PutSide>(
+    from: &mut T,
+    to: &mut P,
+    frag: &Frag,
+    circuit: Circuit,
+) -> Outcome
+    requires seen { T.front from.old ≡ saw (bare frag.now) }
+    requires call { is_ack_only (with_circuit circuit.0 frag.now) ≡ false }
+    ensures moves { Moves T.takes P.puts from.old to.old frag.now circuit.0 result from.new to.new }
+{
+    let frag = with_circuit(frag, circuit);
+    match to.put(&frag) {
+        Err(PutFault::Full) => Outcome::Full,
+        Err(PutFault::Spent) => Outcome::Spent,
+        Ok(()) => {
+            let _ = from.take();
+            Outcome::Moved
+        }
+    }
+}
+
+// Passes on a fragment that was seen to stand first on one of two sides, over the other.
+fn cross<S: TakeSide + PutSide>(
+    sides: &mut [S],
+    from: usize,
+    to: usize,
+    frag: &Frag,
+    circuit: Circuit,
+) -> Outcome
+    requires from { from < length sides.old }
+    requires to { to < length sides.old }
+    requires two { from ≢ to }
+    requires seen { (s : S) → slice_get sides.old from ≡ Some s → S.front s ≡ saw (bare frag.now) }
+    requires call { is_ack_only (with_circuit circuit.0 frag.now) ≡ false }
+    ensures crosses { Crosses S.takes S.puts sides.old from to frag.now circuit.0 result sides.new }
+{
+    let frag = with_circuit(frag, circuit);
+    match sides[to].put(&frag) {
+        Err(PutFault::Full) => Outcome::Full,
+        Err(PutFault::Spent) => Outcome::Spent,
+        Ok(()) => {
+            let _ = sides[from].take();
+            Outcome::Moved
+        }
+    }
+}
+
+/// Delivers a fragment that was seen to stand first to an end's arrival queue, where it has circuit 0. Where the queue has
+/// no room nothing is taken, and nothing is put.
+pub fn deliver<T: TakeSide, P: PutSide>(from: &mut T, queue: &mut P, frag: &Frag) -> Outcome
+    requires seen { T.front from.old ≡ saw (bare frag.now) }
+    requires call { is_ack_only (with_circuit 0 frag.now) ≡ false }
+    ensures moves { Moves T.takes P.puts from.old queue.old frag.now 0 result from.new queue.new }
+{
+    move_on(from, queue, frag, Circuit(0))
+}
+
+impl Circuits {
+    /// What stands first on a link: a fragment of a circuit stays, with where its entry leads. One that only
+    /// acknowledges is taken.
+    ///
+    /// # Errors
+    /// The fragment's circuit has no entry (E67); or the entry leads to an end, and with its circuit set aside the
+    /// fragment would be one that only acknowledges, which no fragment of a call is (E63). The fragment stays then. The
+    /// caller calls no more for a direction that has failed.
+    pub fn look<T: TakeSide>(&self, link: LinkId, from: &mut T) -> Result<First, HopFault>
+        ensures finds { Finds T.takes T.front self.now link.0 from.old result from.new }
+    {
+        let frag = match from.peek() {
+            Sight::Empty => return Ok(First::Nothing),
+            Sight::Acknowledgement => {
+                let _ = from.take();
+                return Ok(First::Acknowledged);
+            }
+            Sight::Data(frag) => frag,
+        };
+        let circuit = frag.circuit();
+        if circuit.0 == 0 {
+            return Ok(First::Monitor(frag));
+        }
+        match self.route_of(link, circuit) {
+            None => Err(HopFault::Astray),
+            Some(Way::Link(next, number)) => Ok(First::Goes(frag, Way::Link(next, number))),
+            Some(Way::End(end)) => {
+                if with_circuit(&frag, Circuit(0)).is_ack_only() {
+                    return Err(HopFault::Marked);
+                }
+                Ok(First::Goes(frag, Way::End(end)))
+            }
+        }
+    }
+
+    /// Looks at the first fragment of a link, and passes it on where its entry leads to another link. `sides` are this
+    /// core's sides of its links, in order. Where that link has no room, nothing is taken and nothing put. A fragment for
+    /// an end stays: [`deliver`] takes it to the end's arrival queue.
+    ///
+    /// # Errors
+    /// There is no such link, or not one side for each link (E73), and then nothing was looked at; else as
+    /// [`Circuits::look`].
+    pub fn forward<S: TakeSide + PutSide>(
+        &self,
+        link: LinkId,
+        sides: &mut [S],
+    ) -> Result<Forwarded, HopFault>
+        ensures forwards { Forwards S.takes S.puts S.front self.now link.0 sides.old result sides.new }
+    {
+        let place = usize::from(link.0);
+        if sides.len() != self.links.len() || place >= sides.len() {
+            return Err(HopFault::NoLink);
+        }
+        match self.look(link, &mut sides[place])? {
+            First::Nothing => Ok(Forwarded::Nothing),
+            First::Acknowledged => Ok(Forwarded::Acknowledged),
+            First::Monitor(frag) => Ok(Forwarded::Monitor(frag)),
+            First::Goes(frag, Way::End(end)) => Ok(Forwarded::Arrives(frag, end)),
+            First::Goes(frag, Way::Link(next, circuit)) => {
+                let outcome = cross(sides, place, usize::from(next.0), &frag, circuit);
+                Ok(Forwarded::Onward(outcome))
+            }
+        }
+    }
+}

@@ -1,0 +1,40 @@
+//! Circuits of several hops at one core: where a fragment that comes in on a link goes on to.
+//!
+//! A call that crosses several cores travels on circuits: on each link of its route its fragments carry a number,
+//! and each core in between has an entry that joins a number on one link with a number on the next; at the route's two
+//! ends the entry joins a number with an end. A core's [`Circuits`] keep these entries in a slab, with a cell for each
+//! number of each link, so that no forward searches. They also number the circuits, and count the neighbour's.
+//!
+//! Nothing here knows the monitors' messages: the monitor above opens, passes on and removes.
+//!
+//! Contract for the layers above: a [`Circuits`] is the table of `specs/Table.antt`, numbered by `specs/Numbers.antt`;
+//! each call makes exactly the change that `specs/Openings.antt` names, and leaves everything else alone.
+//! `specs/Joined.antt` has what holds of every table, `specs/Later.antt` what a table keeps while it changes,
+//! `specs/Forward.antt` what a forward does, and `specs/Carried.antt` what comes of many.
+//!
+//! - `circuits.rt`: `Circuits`, its links, the numbers there, and look-ups
+//! - `openings.rt`: how entries come and go
+//! - `entry.rt`: a way, and how entries are kept
+//! - `links.rt`: what a core knows of its links
+//! - `numbers.rt`: the numbering
+//! - `forward.rt`: looking at a link's first fragment, and passing it on
+//! - `law.rt`: what holds of every table and of every stretch of forwards
+//! - `fault.rt`: why a call is refused
+#![tactic(auto)]
+
+mod circuits;
+mod entry;
+mod fault;
+mod forward;
+mod law;
+mod links;
+mod numbers;
+mod openings;
+
+pub use circuits::Circuits;
+pub use entry::{Hop, Way};
+pub use fault::HopFault;
+pub use forward::{First, Forwarded, Outcome, deliver, move_on, with_circuit};
+pub use law::{along, carried_in, carried_on, later_on, never_shared, numbers_apart, own_alone};
+pub use links::LinkState;
+pub use numbers::{MAX_LINKS, MAX_OPENINGS};
