@@ -1,0 +1,124 @@
+-- What feeding a fragment of the monitors' interface comes to.
+use Rattle.std.proofs.Common.{◌≡◌, ◌⊎◌, ◌^◌, ◌*◌, ◌/◌, ◌%◌, inl, inr, Bool, true, false, not, if◌then◌else◌, List, [], ◌∷◌, ◌++◌, refl, sym, ◌∙◌, ap, subst, arith, Some, None, map}
+use Rattle.fl_base.specs.declared.fragment.Frag.{Frag}
+use Rattle.fl_check.specs.Interface.{TheInterface}
+use Rattle.fl_value.specs.Value.{TheCall}
+use Rattle.fl_value.specs.Fits.{fits_of}
+use Rattle.fl_value.specs.declared.value.PlanNo.{PlanNo}
+use Rattle.fl_value.specs.declared.value.PlanNo.TheVariants.{One}
+use Rattle.fl_wire.specs.Payload.{frags_on}
+use Rattle.fl_wire.specs.Reading.{plain, Means, IsWrong}
+use Rattle.fl_wire.specs.Wrong.{HasFault, WrongByte}
+use Rattle.fl_wire.specs.declared.fault.WireFault.{WireFault}
+use Rattle.fl_wire.specs.declared.fault.WireFault.TheVariants.{NotFirst, FirstInside, UnknownMessage, NotZero, OutOfType, TooLong, Memory}
+use Rattle.fl_wire.proofs.Unread.{one_fits}
+use Rattle.fl_compile.proofs.OneFault.{one_fault}
+use Rattle.fl_machine.specs.Receiving.{TheHeld, AddsPart, AddsLast, IsRefused}
+use Rattle.fl_machine.specs.declared.intake.Fed.{Fed}
+use Rattle.fl_machine.specs.declared.intake.Fed.TheVariants.{Part, Whole}
+use Rattle.fl_monitor.specs.declared.message.Message.{Message}
+use Rattle.fl_monitor.specs.Intermon.{intermon, call_for}
+use Rattle.fl_monitor.specs.Saying.{Says, SaysSome, Refuses, RefusedForOne}
+use Rattle.fl_monitor.proofs.Calls.{widths_fit, fit_widths, each_call}
+use Rattle.fl_monitor.proofs.Single.{none_is_part}
+
+-- what holds of a run's plan, interface and fragments holds of plan 1, the monitors' interface and none
+carry : (P : PlanNo → TheInterface → List Frag → Type 0) (plan : PlanNo) (i : TheInterface) (parts : List Frag) → plan ≡ One → i ≡ intermon → parts ≡ [] → P plan i parts → P One intermon []
+carry P plan i parts plan_is i_is parts_is h =
+    subst (P One intermon) parts_is (subst (λ (j : TheInterface). P One j parts) i_is (subst (λ (q : PlanNo). P q i parts) plan_is h))
+
+-- ---- an accepted fragment is a whole call's
+
+pub ended : (f : Frag) (t : TheHeld) (plan : PlanNo) (i : TheInterface) (parts : List Frag) (fed : Fed) → plan ≡ One → i ≡ intermon → parts ≡ []
+    → (fed ≡ Part → AddsPart plan i parts f t) → (fed ≡ Whole → AddsLast plan i parts f t) → AddsLast One intermon [] f t
+ended f t plan i parts Part plan_is i_is parts_is part whole =
+    absurd (none_is_part f [] (AddsPart.part (carry (λ p j fs. AddsPart p j fs f t) plan i parts plan_is i_is parts_is (part refl))))
+ended f t plan i parts Whole plan_is i_is parts_is part whole = carry (λ p j fs. AddsLast p j fs f t) plan i parts plan_is i_is parts_is (whole refl)
+
+pub some_message : (f : Frag) (t : TheHeld) → AddsLast One intermon [] f t → SaysSome f
+some_message f t last =
+    let m = each_call last.call last.fits in
+    (m.0, record { widths = m.1; means = last.means ∙ ap (λ (c : TheCall). frags_on 0 One intermon c) (sym m.2) })
+
+pub not_empty : (f : Frag) (t : TheHeld) → AddsLast One intermon [] f t → t.whole ≡ [] → ⊥
+not_empty f t last e =
+    let whole : plain f ∷ [] ≡ [] = sym last.whole_is ∙ e in
+    absurd (cc)
+
+plain_twice : (f : Frag) → plain (plain f) ≡ plain f
+plain_twice f =
+    let same : 2 * (2 * (f.control / 2 % 2 ^ 47) / 2 % 2 ^ 47) ≡ 2 * (f.control / 2 % 2 ^ 47) = omega arith in
+    λ k. record { words = f.words; control = same k }
+
+-- the message whose call the run then gives
+pub says_call : (f : Frag) (t : TheHeld) (plan : PlanNo) (i : TheInterface) (c : TheCall) (m : Message) → plan ≡ One → i ≡ intermon
+    → AddsLast One intermon [] f t → fits_of i c ≡ true → Means plan i t.whole c 0 → call_for m ≡ c → Says f m
+says_call f t plan i c m plan_is i_is last fits means is =
+    let fits_it : fits_of intermon (call_for m) ≡ true = ap (fits_of intermon) is ∙ subst (λ (j : TheInterface). fits_of j c ≡ true) i_is fits in
+    let whole : map plain t.whole ≡ plain f ∷ [] = ap (map plain) last.whole_is ∙ (λ k. plain_twice f k ∷ []) in
+    let at : Means One intermon t.whole c 0 = subst (λ (j : TheInterface). Means One j t.whole c 0) i_is (subst (λ (q : PlanNo). Means q i t.whole c 0) plan_is means) in
+    record {
+      widths = fit_widths m fits_it;
+      means = sym whole ∙ at ∙ ap (λ (d : TheCall). frags_on 0 One intermon d) (sym is);
+    }
+
+-- ---- a refused fragment says nothing
+
+pub not_wrong : (f : Frag) (m : Message) → Says f m → IsWrong One intermon (f ∷ []) → ⊥
+not_wrong f m s wrong = wrong (call_for m ∷ []) [] (one_fits intermon (call_for m) (widths_fit m s.widths)) (ap (λ (fs : List Frag). fs ++ []) (sym s.means))
+
+no_memory_first : (a b c : Bool) → (if not a then Some NotZero else (if not b then Some NotFirst else (if c then None else Some UnknownMessage))) ≡ Some Memory → ⊥
+no_memory_first false b c e = absurd (cc)
+no_memory_first true false c e = absurd (cc)
+no_memory_first true true false e = absurd (cc)
+no_memory_first true true true e = absurd (cc)
+
+no_memory_later : (a b : Bool) → Memory ≡ (if a then TooLong else (if b then OutOfType else NotZero)) → ⊥
+no_memory_later true b e = absurd (cc)
+no_memory_later false true e = absurd (cc)
+no_memory_later false false e = absurd (cc)
+
+no_memory : (f : Frag) → HasFault One intermon [] f Memory → ⊥
+no_memory f (inl h) = no_memory_first _ _ _ h
+no_memory f (inr h) = no_memory_later _ _ (WrongByte.is h.1)
+
+refused_by : (f : Frag) (fault : WireFault) → IsRefused One intermon [] f fault → Refuses f fault
+refused_by f NotFirst r = (r.first, r.wrong)
+refused_by f FirstInside r = (r.first, r.wrong)
+refused_by f UnknownMessage r = (r.first, r.wrong)
+refused_by f NotZero r = (r.first, r.wrong)
+refused_by f OutOfType r = (r.first, r.wrong)
+refused_by f TooLong r = (r.first, r.wrong)
+refused_by f Memory r = absurd (no_memory f r.first)
+
+pub refused : (f : Frag) (plan : PlanNo) (i : TheInterface) (parts : List Frag) (fault : WireFault) → plan ≡ One → i ≡ intermon → parts ≡ [] → IsRefused plan i parts f fault → Refuses f fault
+refused f plan i parts fault plan_is i_is parts_is r = refused_by f fault (carry (λ p j fs. IsRefused p j fs f fault) plan i parts plan_is i_is parts_is r)
+
+pub says_none : (f : Frag) (m : Message) (plan : PlanNo) (i : TheInterface) (parts : List Frag) (fault : WireFault) → plan ≡ One → i ≡ intermon → parts ≡ [] → IsRefused plan i parts f fault → Says f m → ⊥
+says_none f m plan i parts fault plan_is i_is parts_is r s =
+    not_wrong f m s (IsRefused.wrong (carry (λ p j fs. IsRefused p j fs f fault) plan i parts plan_is i_is parts_is r))
+
+-- ---- one reason
+
+-- memory ran out, or a fault of the fragment's own
+is_why : (f : Frag) (fault : WireFault) → Refuses f fault → ((fault ≡ Memory) × SaysSome f) ⊎ (HasFault One intermon [] f fault × IsWrong One intermon (f ∷ []))
+is_why f NotFirst r = inr r
+is_why f FirstInside r = inr r
+is_why f UnknownMessage r = inr r
+is_why f NotZero r = inr r
+is_why f OutOfType r = inr r
+is_why f TooLong r = inr r
+is_why f Memory r = inl (refl, r)
+
+says_or_wrong : (f : Frag) → SaysSome f → IsWrong One intermon (f ∷ []) → ⊥
+says_or_wrong f (m, s) wrong = not_wrong f m s wrong
+
+same_why : (f : Frag) (a b : WireFault) → ((a ≡ Memory) × SaysSome f) ⊎ (HasFault One intermon [] f a × IsWrong One intermon (f ∷ []))
+    → ((b ≡ Memory) × SaysSome f) ⊎ (HasFault One intermon [] f b × IsWrong One intermon (f ∷ [])) → a ≡ b
+same_why f a b (inl p) (inl q) = p.0 ∙ sym q.0
+same_why f a b (inl p) (inr q) = absurd (says_or_wrong f p.1 q.1)
+same_why f a b (inr p) (inl q) = absurd (says_or_wrong f q.1 p.1)
+same_why f a b (inr p) (inr q) = one_fault One intermon [] f a b refl refl p.0 q.0
+
+pub refused_for_one : RefusedForOne
+refused_for_one f a b r s = same_why f a b (is_why f a r) (is_why f b s)

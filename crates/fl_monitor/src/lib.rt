@@ -1,0 +1,30 @@
+//! What the monitors of two cores say to each other.
+//!
+//! A monitor opens circuits with the monitors of other cores by three messages, which are the calls of an interface of their
+//! own. That interface is compiled as any other, under plan 1 for good, and each of its calls is one fragment, which travels
+//! on circuit 0 of a link between two cores.
+//!
+//! Contract for the layers above: a fragment says a message or none (`specs/Saying.antt`). [`Messenger::frag`] gives the one
+//! fragment of a message, and [`Messenger::read`] the message that a fragment says, or its first fault where it says none.
+//!
+//! - `path.rt`: the route of a circuit
+//! - `message.rt`: the messages, and their tapes
+//! - `interface.rt`: the monitors' interface
+//! - `call.rt`: the message whose call it is
+//! - `messenger.rt`: writing and reading, by compiled stubs
+//! - `law.rt`: messages, calls and fragments stand for one another
+#![tactic(auto)]
+
+mod call;
+mod interface;
+mod law;
+mod message;
+mod messenger;
+mod path;
+
+pub use law::{
+    epochs_say_nothing, messages_are_calls, one_fragment, one_message, one_reason, stands_alone,
+};
+pub use message::Message;
+pub use messenger::Messenger;
+pub use path::{MAX_ROUTE, Path};
