@@ -1,0 +1,23 @@
+//! Tests alone, of ends of bindings over queues: worked examples between the two ends of a binding, forged fragments, reply
+//! rules, ends that aren't bound, and want of memory.
+//!
+//! - `pair.rt`: the two ends of a binding, and what they answer
+//! - `rows.rt`: worked examples
+//! - `forged.rt`: fragments that can't follow those before them
+//! - `sides.rt`: sides that can't be had from a queue
+//! - `faults.rt`: the numbers and words of the faults
+//!
+//! `rt try --test --fail-alloc N` runs each with its Nth allocation refused: then the tests whose names end in
+//! `without_memory` have to pass, and others end with want of memory.
+#![tactic(auto)]
+
+#[cfg(test)]
+mod faults;
+#[cfg(test)]
+mod forged;
+#[cfg(test)]
+mod pair;
+#[cfg(test)]
+mod rows;
+#[cfg(test)]
+mod sides;

@@ -1,0 +1,188 @@
+-- Ends by their fields: what a change of the calls that are to be sent makes of them.
+use Rattle.std.proofs.Common.{◌≡◌, ℕ, ◌+◌, ◌<◌, true, false, List, [], ◌∷◌, ◌++◌, length, Option, Some, None, refl, sym, ap, subst, ◌∙◌, arith, rules}
+use Rattle.std.specs.Prelude.{IsSome, IfSome, slice_get, slice_set}
+use Rattle.std.specs.Option.{is_some, option_map}
+use Rattle.std.proofs.lemmas.List.{length-map}
+use Rattle.fl_base.specs.declared.fragment.Frag.{Frag}
+use Rattle.fl_check.specs.Interface.{TheMessage, TheInterface}
+use Rattle.fl_value.specs.Value.{TheCall}
+use Rattle.fl_value.specs.Tape.{types_of}
+use Rattle.fl_wire.specs.Payload.{frags_on}
+use Rattle.fl_compile.specs.declared.program.Program.{Program}
+use Rattle.fl_compile.specs.Programs.{TheProgram, program_of}
+use Rattle.fl_machine.specs.Receiving.{TheHeld, TheReceiving}
+use Rattle.fl_endpoint.specs.View.{TheEnd, TheOutgoing, number_or_0, queued, queued_if, wrote, reply_to, rule_at, holds_back, with_call, with_written, with_handled, with_failed}
+use Rattle.fl_endpoint.specs.Accounts.{IsRule, Sound}
+use Rattle.fl_endpoint.specs.Rules.{rules_of}
+use Rattle.fl_endpoint.specs.declared.outgoing.Queued.{Queued}
+use Rattle.fl_endpoint.specs.declared.outgoing.Sending.{Sending}
+use Rattle.fl_endpoint.specs.declared.outgoing.Outgoing.{Outgoing}
+use Rattle.fl_endpoint.specs.declared.rules.Rules.{Rules}
+use Rattle.fl_endpoint.specs.declared.end.End.TheInside.{Inside}
+use Rattle.fl_endpoint.specs.Stored.{queued_frags, sending_frags, outgoing_of, IsOwn, IsQueued, AreQueued, Queues, QueuesReply, IsInTransmission, IsOutgoing}
+use Rattle.fl_endpoint.specs.Inside.{circuit_of, program_in, end_of, IsEnd}
+use Rattle.fl_endpoint.proofs.Sounds.{has_room}
+
+-- ---- the calls that are to be sent
+
+pub still_now : (p : TheProgram) (o : Option Sending) (xs ys : List Queued) → true ≡ is_some o → IsInTransmission p o xs → IsInTransmission p o ys
+still_now p None xs ys e h = absurd cc
+still_now p (Some s) xs ys e h = h
+
+pub queued_more : (p : TheProgram) (xs : List Queued) (x : Queued) → AreQueued p xs → IsQueued p x → AreQueued p (xs ++ x ∷ [])
+queued_more p [] x h q = (q, tt)
+queued_more p (y ∷ ys) x h q = (h.0, queued_more p ys x h.1 q)
+
+pub length_more : {A : Type 0} (xs : List A) (x : A) → length (xs ++ x ∷ []) ≡ length xs + 1
+length_more [] x = refl
+length_more (y ∷ ys) x = let h = length_more ys x in omega (arith, h)
+
+-- ---- ends
+
+pub number_is : (o : Option ℕ) (circuit : ℕ) → o ≡ Some circuit → number_or_0 o ≡ circuit
+number_is o circuit e = ap number_or_0 e
+
+-- an end with other calls to be sent
+abbrev pub end_with : Inside → Outgoing → Inside
+end_with e out = record { incoming = e.incoming; rules = e.rules; circuit = e.circuit; outgoing = out; failed = e.failed }
+
+pub end_with_outgoing : (e : Inside) (out : Outgoing) (circuit : ℕ) (o : TheOutgoing) → circuit_of e.circuit ≡ Some circuit → outgoing_of (program_in e) circuit out ≡ o
+    → end_of (end_with e out) ≡ record (end_of e) { outgoing = o }
+end_with_outgoing e out circuit o bound is =
+    ap (λ (x : TheOutgoing). record (end_of e) { outgoing = x })
+    (ap (λ (n : ℕ). outgoing_of (program_in e) n out) (number_is (circuit_of e.circuit) circuit bound) ∙ is)
+
+pub queued_end : (e : Inside) (out : Outgoing) (call : Queued) (c : TheCall) (circuit : ℕ) → circuit_of e.circuit ≡ Some circuit → Queues (program_in e) c call
+    → outgoing_of (program_in e) circuit out ≡ queued (outgoing_of (program_in e) circuit e.outgoing) (queued_frags (program_in e) circuit call)
+    → end_of (end_with e out) ≡ with_call (end_of e) c
+queued_end e out call c circuit bound queues is =
+    let n : number_or_0 (circuit_of e.circuit) ≡ circuit = number_is (circuit_of e.circuit) circuit bound in
+    end_with_outgoing e out circuit (queued (outgoing_of (program_in e) circuit e.outgoing) (frags_on circuit (program_in e).plan (program_in e).interface c)) bound
+    (is ∙ ap (queued (outgoing_of (program_in e) circuit e.outgoing)) (queues.frags circuit))
+    ∙ ap (λ (k : ℕ). record (end_of e) { outgoing = queued (outgoing_of (program_in e) k e.outgoing) (frags_on k (program_in e).plan (program_in e).interface c) }) (sym n)
+
+pub written_end : (e : Inside) (out : Outgoing) (rest : List Frag) (circuit : ℕ) → circuit_of e.circuit ≡ Some circuit
+    → outgoing_of (program_in e) circuit out ≡ wrote rest (outgoing_of (program_in e) circuit e.outgoing)
+    → end_of (end_with e out) ≡ with_written (end_of e) rest
+written_end e out rest circuit bound is =
+    end_with_outgoing e out circuit (wrote rest (outgoing_of (program_in e) circuit e.outgoing)) bound is
+    ∙ ap (λ (k : ℕ). record (end_of e) { outgoing = wrote rest (outgoing_of (program_in e) k e.outgoing) }) (sym (number_is (circuit_of e.circuit) circuit bound))
+
+-- ---- the receive run
+
+-- an end with a receive run of these parts
+abbrev pub with_fed : Inside → Program → List Frag → List Frag → Option TheHeld → Inside
+with_fed e program parts whole before = record {
+  incoming = record { alloc = e.incoming.alloc; plans = e.incoming.plans; recv = record { program = program; parts = parts; whole = whole; before = before } };
+  rules = e.rules;
+  circuit = e.circuit;
+  outgoing = e.outgoing;
+  failed = e.failed;
+}
+
+abbrev pub with_recv : Inside → TheReceiving → Inside
+with_recv e r = with_fed e r.program r.parts r.whole r.before
+
+pub fed_view : (e : Inside) (r : TheReceiving) → r.program ≡ e.incoming.recv.program → end_of (with_recv e r) ≡ record (end_of e) { parts = r.parts }
+fed_view e r same = ap (λ (p : Program). end_of (with_fed e p r.parts r.whole r.before)) same
+
+fed_same : (e : Inside) (parts whole : List Frag) (before : Option TheHeld) → IsEnd e → Sound (record (end_of e) { parts = parts })
+    → IsEnd (with_fed e e.incoming.recv.program parts whole before)
+fed_same e parts whole before is sound = record { interface = is.interface; plan = is.plan; outgoing = is.outgoing; sound = sound }
+
+pub fed_is_end : (e : Inside) (r : TheReceiving) → r.program ≡ e.incoming.recv.program → IsEnd e → Sound (record (end_of e) { parts = r.parts }) → IsEnd (with_recv e r)
+fed_is_end e r same is sound = subst (λ (p : Program). IsEnd (with_fed e p r.parts r.whole r.before)) (sym same) (fed_same e r.parts r.whole r.before is sound)
+
+-- a failed end, whose run is as before
+pub failed_is_end : (e : Inside) (r : TheReceiving) → r ≡ e.incoming.recv → IsEnd e → Sound (with_failed (end_of e))
+    → IsEnd (record { incoming = record { alloc = e.incoming.alloc; plans = e.incoming.plans; recv = r }; rules = e.rules; circuit = e.circuit; outgoing = e.outgoing; failed = true })
+failed_is_end e r same is sound =
+    subst (λ (x : TheReceiving). IsEnd (record { incoming = record { alloc = e.incoming.alloc; plans = e.incoming.plans; recv = x }; rules = e.rules; circuit = e.circuit; outgoing = e.outgoing; failed = true }))
+    (sym same) (record { interface = is.interface; plan = is.plan; outgoing = is.outgoing; sound = sound })
+
+-- ---- calls handled
+
+-- the reply is queued where there is one
+pub accepted_as : (p : TheProgram) (circuit : ℕ) (o : TheOutgoing) (c : Option TheCall) (reply : Option Queued) → QueuesReply p c reply
+    → queued_if o (option_map (queued_frags p circuit) reply) ≡ queued_if o (option_map (frags_on circuit p.plan p.interface) c)
+accepted_as p circuit o None None q = refl
+accepted_as p circuit o (Some c) (Some reply) q = ap (queued o) (q.frags circuit)
+accepted_as p circuit o None (Some reply) q = absurd q
+accepted_as p circuit o (Some c) None q = absurd q
+
+pub handled_end : (e : Inside) (r : TheReceiving) (out : Outgoing) (c : TheCall) (reply : Option Queued) (circuit : ℕ) → circuit_of e.circuit ≡ Some circuit
+    → r.program ≡ e.incoming.recv.program → r.parts ≡ [] → QueuesReply (program_in e) (reply_to (rules_of e.rules.replies.items) c) reply
+    → outgoing_of (program_in e) circuit out ≡ queued_if (outgoing_of (program_in e) circuit e.outgoing) (option_map (queued_frags (program_in e) circuit) reply)
+    → end_of (end_with (with_recv e r) out) ≡ with_handled (end_of e) c
+handled_end e r out c reply circuit bound same none queues is =
+    let p = program_in e in
+    let n : number_or_0 (circuit_of e.circuit) ≡ circuit = number_is (circuit_of e.circuit) circuit bound in
+    let due = reply_to (rules_of e.rules.replies.items) c in
+    let out_is : outgoing_of p (number_or_0 (circuit_of e.circuit)) out ≡ queued_if (outgoing_of p (number_or_0 (circuit_of e.circuit)) e.outgoing) (option_map (frags_on (number_or_0 (circuit_of e.circuit)) p.plan p.interface) due)
+    = subst (λ (k : ℕ). outgoing_of p k out ≡ queued_if (outgoing_of p k e.outgoing) (option_map (frags_on k p.plan p.interface) due)) (sym n)
+    (is ∙ accepted_as p circuit (outgoing_of p circuit e.outgoing) due reply queues) in
+    ap (λ (q : Program). end_of (end_with (with_fed e q r.parts r.whole r.before) out)) same
+    ∙ ap (λ (xs : List Frag). end_of (end_with (with_fed e e.incoming.recv.program xs r.whole r.before) out)) none
+    ∙ ap (λ (o : TheOutgoing). record (end_of e) { parts = []; outgoing = o }) out_is
+
+pub handled_is_end : (e : Inside) (r : TheReceiving) (out : Outgoing) (c : TheCall) → r.program ≡ e.incoming.recv.program → IsEnd e → IsOutgoing (program_in e) out
+    → end_of (end_with (with_recv e r) out) ≡ with_handled (end_of e) c → Sound (with_handled (end_of e) c) → IsEnd (end_with (with_recv e r) out)
+handled_is_end e r out c same is outgoing view sound = record {
+  interface = is.interface ∙ ap (λ (p : Program). (program_of p).interface) (sym same);
+  plan = is.plan ∙ ap (λ (p : Program). (program_of p).plan) (sym same);
+  outgoing = subst (λ (p : Program). IsOutgoing (program_of p) out) (sym same) outgoing;
+  sound = subst (λ (s : TheEnd). Sound s) (sym view) sound;
+}
+
+-- ---- whether a call is in transmission
+
+pub busy_sending : (p : TheProgram) (o : Option Sending) (f : Frag) (rest : List Frag) → sending_frags p o ≡ f ∷ rest → IsSome o
+busy_sending p None f rest e = absurd cc
+busy_sending p (Some s) f rest e = refl
+
+-- the next fragment, if there is one, is carried unchanged
+pub next_own : (p : TheProgram) (o : Option Sending) (xs : List Queued) → IsInTransmission p o xs → IfSome (slice_get (sending_frags p o) 0) IsOwn
+next_own p None xs is = search rules
+next_own p (Some s) xs is = is.own.0
+
+-- there is room for the reply to a call
+pub room_for : (p : TheProgram) (circuit : ℕ) (e : Inside) (c : TheCall) (reply : Option Queued) → QueuesReply p (reply_to (rules_of e.rules.replies.items) c) reply
+    → holds_back (end_of e) ≡ false → Sound (end_of e) → IfSome reply (λ (call : Queued). length e.outgoing.waiting.items < 16)
+room_for p circuit e c None q held sound = search rules
+room_for p circuit e c (Some call) q held sound = room_by (rule_at (rules_of e.rules.replies.items) c.msg) refl q
+  where
+    room_by : (rule : Option ℕ) → rule_at (rules_of e.rules.replies.items) c.msg ≡ rule
+        → QueuesReply p (option_map (λ (reply : ℕ). record { msg = reply; args = c.args }) rule) (Some call) → length e.outgoing.waiting.items < 16
+    room_by None is q = absurd q
+    room_by (Some reply) is q =
+        let long = length-map e.outgoing.waiting.items (queued_frags (program_in e) (number_or_0 (circuit_of e.circuit))) in
+        let less = has_room (end_of e) reply c.msg is held sound.sends.few in
+        omega (arith, long, less)
+
+-- ---- reply rules
+
+abbrev pub with_rules : Inside → Rules → Inside
+with_rules e rules = record { incoming = e.incoming; rules = rules; circuit = e.circuit; outgoing = e.outgoing; failed = e.failed }
+
+-- an end with one rule more
+pub ruled_view : (e : Inside) (after : Rules) (msg reply : ℕ) → rules_of after.replies.items ≡ slice_set (rules_of e.rules.replies.items) msg (Some reply)
+    → end_of (with_rules e after) ≡ record (end_of e) { rules = slice_set (end_of e).rules msg (Some reply) }
+ruled_view e after msg reply is = ap (λ (x : List (Option ℕ)). record (end_of e) { rules = x }) is
+
+pub ruled_is_end : (e : Inside) (after : Rules) (msg reply : ℕ) → IsEnd e → rules_of after.replies.items ≡ slice_set (rules_of e.rules.replies.items) msg (Some reply)
+    → Sound (record (end_of e) { rules = slice_set (end_of e).rules msg (Some reply) }) → IsEnd (with_rules e after)
+ruled_is_end e after msg reply old is sound = record {
+  interface = old.interface;
+  plan = old.plan;
+  outgoing = old.outgoing;
+  sound = subst (λ (s : TheEnd). Sound s) (sym (ruled_view e after msg reply is)) sound;
+}
+
+-- two messages that are found, with the same arguments' types
+pub rule_found : (i : TheInterface) (msg reply : ℕ) (from to : TheMessage) → Some from ≡ slice_get i.messages msg → Some to ≡ slice_get i.messages reply → from.args ≡ to.args
+    → IsRule i msg reply
+rule_found i msg reply from to a b same = record {
+  from = subst (λ (o : Option TheMessage). IsSome o) a refl;
+  to = subst (λ (o : Option TheMessage). IsSome o) b refl;
+  types = ap types_of (sym a) ∙ same ∙ ap types_of b;
+}

@@ -1,0 +1,8 @@
+mod Sames
+mod Outgoings
+mod Sendings
+mod Sounds
+mod Insides
+mod Streams
+mod Accountings
+mod Readings

@@ -1,0 +1,22 @@
+use Rattle.std.proofs.Common.{◌≡◌, true, refl, subst, rules}
+use Rattle.fl_check.specs.Interface.{TheInterface, interface_of}
+use Rattle.fl_check.specs.Checks.{is_within_limits}
+use Rattle.fl_value.specs.Value.{call_of}
+use Rattle.fl_value.specs.Tape.{tape_of}
+use Rattle.fl_layout.specs.Places.{count}
+use Rattle.fl_wire.specs.Words.{interface_words_fit}
+use Rattle.fl_compile.specs.Programs.{program_of}
+use Rattle.fl_endpoint.proofs.Outgoings.{queues}
+use Rattle.fl_endpoint.proofs.outgoing.Queued.of.Goals as goal
+
+pub returns : goal.returns
+returns c =
+    let p = program_of c.args.program.now in
+    let d = call_of c.args.call.now in
+    let i = interface_of c.interface.result.now in
+    let same : i ≡ p.interface = c.interface.ensures.interface in
+    let within : is_within_limits p.interface ≡ true = subst (λ (j : TheInterface). is_within_limits j ≡ true) same c.interface.result.now.within in
+    let words : interface_words_fit p.interface ≡ true = subst (λ (j : TheInterface). interface_words_fit j ≡ true) same c.interface.ensures.words in
+    let tape : c.in_ok-tape.tape.items ≡ tape_of p.plan p.interface d = search rules in
+    let counted : c.fragments_of.result ≡ count p.plan p.interface d = search rules in
+    record { queues = queues p d (record { msg = c.args.call.now.msg; tape = c.in_ok-tape.tape; count = c.fragments_of.result }) c.sends_fragments.ensures.sends within words c.requires.fits refl tape counted }

@@ -1,0 +1,34 @@
+-- Ends by their fields.
+use Rattle.std.specs.Prelude.{◌≡◌, ℕ, Option}
+use Rattle.std.specs.Option.{option_map}
+use Rattle.fl_base.specs.declared.identity.Circuit.{Circuit}
+use Rattle.fl_check.specs.Interface.{interface_of}
+use Rattle.fl_compile.specs.Programs.{TheProgram, program_of}
+use Rattle.fl_endpoint.specs.View.{TheEnd, number_or_0}
+use Rattle.fl_endpoint.specs.Accounts.{Sound}
+use Rattle.fl_endpoint.specs.Rules.{rules_of}
+use Rattle.fl_endpoint.specs.Stored.{outgoing_of, IsOutgoing}
+use Rattle.fl_endpoint.specs.declared.end.End.TheInside.{Inside}
+
+abbrev pub circuit_of : Option Circuit → Option ℕ
+circuit_of circuit = option_map (λ (c : Circuit). c.0) circuit
+
+abbrev pub program_in : Inside → TheProgram
+program_in e = program_of e.incoming.recv.program
+
+abbrev pub end_of : Inside → TheEnd
+end_of e = record {
+  program = e.incoming.recv.program;
+  circuit = circuit_of e.circuit;
+  rules = rules_of e.rules.replies.items;
+  outgoing = outgoing_of (program_in e) (number_or_0 (circuit_of e.circuit)) e.outgoing;
+  parts = e.incoming.recv.parts;
+  failed = e.failed;
+}
+
+-- the layout is the program's, and what is to be sent is in order
+pub record IsEnd (e : Inside) : Type 0 where
+  pub interface : interface_of e.incoming.plans.interface ≡ (program_in e).interface
+  pub plan : e.incoming.plans.plan ≡ (program_in e).plan
+  pub outgoing : IsOutgoing (program_in e) e.outgoing
+  pub sound : Sound (end_of e)

@@ -1,0 +1,151 @@
+-- What holds of ends over time, whatever their sides: laws.
+use Rattle.std.specs.Prelude.{◌≡◌, ℕ, ◌+◌, ◌*◌, ◌^◌, ◌<◌, true, List, [], ◌∷◌, ◌++◌, map, length, Option, Result, Ok, Err}
+use Rattle.fl_base.specs.declared.fragment.Frag.{Frag}
+use Rattle.fl_check.specs.Checks.{is_within_limits}
+use Rattle.fl_value.specs.Value.{TheCall, call_of}
+use Rattle.fl_layout.specs.Places.{count}
+use Rattle.fl_wire.specs.Reading.{AllFit, IsPart, Reads}
+use Rattle.fl_wire.specs.declared.fault.WireFault.{WireFault}
+use Rattle.fl_machine.specs.Receiving.{IsRefused}
+use Rattle.fl_link.specs.Stamp.{bare}
+use Rattle.fl_compile.specs.declared.program.Program.{Program}
+use Rattle.fl_compile.specs.Programs.{TheProgram, program_of}
+use Rattle.fl_machine.specs.Rounds.{off_circuit}
+use Rattle.fl_link.specs.Looks.{Look, Looks}
+use Rattle.fl_endpoint.specs.declared.fault.EndFault.{EndFault}
+use Rattle.fl_endpoint.specs.declared.answer.WriteAnswer.{WriteAnswer}
+use Rattle.fl_endpoint.specs.declared.answer.ReceiveAnswer.{ReceiveAnswer}
+use Rattle.fl_endpoint.specs.declared.answer.ReceiveAnswer.TheVariants.{Handle}
+use Rattle.fl_endpoint.specs.View.{TheEnd, fresh, number_or_0, interface_in, plan_in, bound, reply_to}
+use Rattle.fl_endpoint.specs.Events.{AreCall, Calls, Writes, Receives, SetsRule}
+use Rattle.fl_endpoint.specs.Accounts.{Sound, Accepted, asked, calls_in, replies_in, followed, stream, streams, Account, Replies, puts_of, takes_of}
+
+-- accounts add up
+abbrev pub AddUp : Type 0
+AddUp = (s t u : TheEnd) (accepted accepted2 : List Accepted) (put put2 took took2 : List Frag) (handled handled2 due due2 : List TheCall)
+    → Account s accepted put took handled due t → Account t accepted2 put2 took2 handled2 due2 u
+    → Account s (accepted ++ accepted2) (put ++ put2) (took ++ took2) (handled ++ handled2) (due ++ due2) u
+
+abbrev pub RepliesAddUp : Type 0
+RepliesAddUp = (s t u : TheEnd) (handled handled2 due due2 : List TheCall)
+    → Replies s handled due t → Replies t handled2 due2 u → Replies s (handled ++ handled2) (due ++ due2) u
+
+-- ---- what each event adds; the end stays sound
+
+-- the call that was accepted, if one was
+abbrev pub accepted_by : TheCall → Result (Unit {0}) EndFault → List Accepted
+accepted_by c (Ok done) = asked c ∷ []
+accepted_by c (Err fault) = []
+
+-- the call that was handled, if one was
+abbrev pub handled_by : Result ReceiveAnswer EndFault → List TheCall
+handled_by (Ok (Handle call)) = call_of call ∷ []
+handled_by answer = []
+
+-- the reply that is due then
+abbrev pub due_by : List (Option ℕ) → Result ReceiveAnswer EndFault → List TheCall
+due_by rules (Ok (Handle call)) = followed (reply_to rules (call_of call)) []
+due_by rules answer = []
+
+pub record CallAdds (s : TheEnd) (c : TheCall) (answer : Result (Unit {0}) EndFault) (t : TheEnd) : Type 0 where
+  pub sound : Sound t
+  pub account : Account s (accepted_by c answer) [] [] [] [] t
+  pub replies : Replies s [] [] t
+
+abbrev pub CallAccounts : Type 0
+CallAccounts = (s t : TheEnd) (c : TheCall) (answer : Result (Unit {0}) EndFault) → Sound s → Calls s c answer t → CallAdds s c answer t
+
+-- what was put is what the side's looks tell; accepted is the reply that waited first, where the last fragment of a call was put
+pub record WriteAdds {P : Type 0} (puts : P → Look → P → Type 0) (s : TheEnd) (p : P) (t : TheEnd) (q : P) : Type 0 where
+  pub looks : List Look
+  pub side : Looks puts p looks q
+  pub accepted : List Accepted
+  pub sound : Sound t
+  pub account : Account s accepted (puts_of looks) [] [] [] t
+  pub replies : Replies s [] [] t
+
+abbrev pub WriteAccounts : {P : Type 0} → (P → Look → P → Type 0) → Type 0
+WriteAccounts {P} puts = (s t : TheEnd) (p q : P) (answer : Result WriteAnswer EndFault)
+    → Sound s → Writes puts s p answer t q → WriteAdds puts s p t q
+
+-- accepted is the reply that is due, where the end wasn't busy
+pub record ReceiveAdds {T : Type 0} (takes : T → Look → T → Type 0) (s : TheEnd) (p : T) (answer : Result ReceiveAnswer EndFault) (t : TheEnd) (q : T) : Type 0 where
+  pub looks : List Look
+  pub side : Looks takes p looks q
+  pub accepted : List Accepted
+  pub sound : Sound t
+  pub account : Account s accepted [] (takes_of looks) (handled_by answer) (due_by s.rules answer) t
+  pub replies : Replies s (handled_by answer) (due_by s.rules answer) t
+
+abbrev pub ReceiveAccounts : {T : Type 0} → (T → Look → T → Type 0) → Type 0
+ReceiveAccounts {T} takes = (s t : TheEnd) (p q : T) (answer : Result ReceiveAnswer EndFault)
+    → Sound s → Receives takes s p answer t q → ReceiveAdds takes s p answer t q
+
+-- an event by which nothing is accepted, put, taken or handled
+pub record AddsNothing (s t : TheEnd) : Type 0 where
+  pub sound : Sound t
+  pub account : Account s [] [] [] [] [] t
+
+abbrev pub BindAccounts : Type 0
+BindAccounts = (s : TheEnd) (circuit : ℕ) → circuit < 2 ^ 16 → Sound s → AddsNothing s (bound s circuit) × Replies s [] [] (bound s circuit)
+
+abbrev pub RuleAccounts : Type 0
+RuleAccounts = (s t : TheEnd) (msg reply : ℕ) (answer : Result (Unit {0}) EndFault) → Sound s → SetsRule s msg reply answer t → AddsNothing s t
+
+-- ---- what an end did since it was made
+
+-- what it put is a front of its accepted calls' fragments, and the rest is what is still to be written; the replies accepted are a
+-- front of those due, and the others wait; what it took reads as its handled calls and a rest
+pub record Since (accepted : List Accepted) (put took : List Frag) (handled due : List TheCall) (t : TheEnd) : Type 0 where
+  pub sent : put ++ t.outgoing.unwritten ≡ stream (program_of t.program) (number_or_0 t.circuit) (calls_in accepted)
+  pub wait : streams (program_of t.program) (number_or_0 t.circuit) (replies_in accepted) ++ t.outgoing.waiting ≡ streams (program_of t.program) (number_or_0 t.circuit) due
+  pub read : Reads (plan_in t) (interface_in t) took handled t.parts
+
+abbrev pub SinceMade : Type 0
+SinceMade = (program : Program) (circuit : Option ℕ) (t : TheEnd) (accepted : List Accepted) (put took : List Frag) (handled due : List TheCall)
+    → Sound t → Account (fresh program circuit) accepted put took handled due t → Since accepted put took handled due t
+
+-- ---- circuits
+
+-- the fragment with its circuit set to another
+abbrev pub on_circuit : ℕ → Frag → Frag
+on_circuit circuit f = record { words = f.words; control = (off_circuit f).control + 2 ^ 32 * circuit }
+
+-- what is sent on a circuit is, once its circuit is set to another, what is sent on that one, and once it is set to 0, what is sent
+-- off links: so the other end takes it as the same calls
+abbrev pub OffTheCircuit : Type 0
+OffTheCircuit = (program : TheProgram) (circuit : ℕ) (calls : List TheCall) → circuit < 2 ^ 16
+    → is_within_limits program.interface ≡ true → AllFit program.interface calls
+    → map off_circuit (stream program circuit calls) ≡ stream program 0 calls
+
+abbrev pub OnAnotherCircuit : Type 0
+OnAnotherCircuit = (program : TheProgram) (circuit other : ℕ) (calls : List TheCall) → circuit < 2 ^ 16
+    → is_within_limits program.interface ≡ true → AllFit program.interface calls
+    → map (on_circuit other) (stream program circuit calls) ≡ stream program other calls
+
+-- ---- two ends: what one takes is what the other sent
+
+-- of calls whose fragments come off links: those handled are the first; what was taken since is of the next, and not all of it;
+-- what is still to be taken goes on with it
+pub record TakenOf (program : TheProgram) (calls handled : List TheCall) (parts more : List Frag) : Type 0 where
+  pub left : List TheCall
+  pub calls_are : calls ≡ handled ++ left
+  pub ahead : parts ++ more ≡ stream program 0 left
+  pub short : (c : TheCall) (rest : List TheCall) → left ≡ c ∷ rest → length parts < count program.plan program.interface c
+
+abbrev pub HandlesInOrder : Type 0
+HandlesInOrder = (program : Program) (circuit : Option ℕ) (t : TheEnd) (accepted : List Accepted) (put took more : List Frag) (handled due calls : List TheCall)
+    → Sound t → Account (fresh program circuit) accepted put took handled due t
+    → AllFit (interface_in t) calls → took ++ more ≡ stream (program_of t.program) 0 calls
+    → TakenOf (program_of t.program) calls handled t.parts more
+
+-- the next fragment is never refused; where it is the last of its call that call is handled, and no other
+pub record TakesNext (s : TheEnd) (f : Frag) (left : List TheCall) (more : List Frag) : Type 0 where
+  pub no_fault : (fault : WireFault) → IsRefused (plan_in s) (interface_in s) s.parts f fault → ⊥
+  pub handled_is : (c : TheCall) → AreCall s (s.parts ++ f ∷ []) c → (rest : List TheCall) × (left ≡ c ∷ rest) × (more ≡ stream (program_of s.program) 0 rest)
+  pub part_is : (c : TheCall) (rest : List TheCall) → IsPart (plan_in s) (interface_in s) (s.parts ++ f ∷ []) → left ≡ c ∷ rest
+      → length (s.parts ++ f ∷ []) < count (plan_in s) (interface_in s) c
+
+abbrev pub TakesInOrder : Type 0
+TakesInOrder = (s : TheEnd) (f : Frag) (more : List Frag) (left : List TheCall) → Sound s → bare f ≡ f → AllFit (interface_in s) left
+    → s.parts ++ f ∷ more ≡ stream (program_of s.program) 0 left → TakesNext s f left more

@@ -1,0 +1,10 @@
+-- Reply rules as an end stores them.
+use Rattle.std.specs.Prelude.{ℕ, List, map, Option}
+use Rattle.std.specs.Option.{option_map}
+use Rattle.fl_base.specs.declared.identity.MsgNo.{MsgNo}
+
+abbrev pub rule_of : Option MsgNo → Option ℕ
+rule_of rule = option_map (λ (m : MsgNo). m.0) rule
+
+abbrev pub rules_of : List (Option MsgNo) → List (Option ℕ)
+rules_of rules = map rule_of rules

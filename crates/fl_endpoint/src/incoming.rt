@@ -1,0 +1,90 @@
+//! What an end takes: the receive run, and the calls that it makes whole.
+
+ghost use Rattle.std.specs.Prelude.{◌≡◌, ◌≢◌, [], true, IfOk};
+ghost use Rattle.fl_check.specs.Interface.{interface_of};
+ghost use Rattle.fl_value.specs.Value.{call_of};
+ghost use Rattle.fl_value.specs.Fits.{fits_of};
+ghost use Rattle.fl_wire.specs.Reading.{Means};
+ghost use Rattle.fl_compile.specs.Programs.{program_of};
+ghost use Rattle.fl_machine.specs.Receiving.{HoldsTapes};
+ghost use Rattle.fl_link.specs.Stamp.{bare};
+ghost use Rattle.fl_endpoint.specs.View.{reply_to};
+ghost use Rattle.fl_endpoint.specs.Rules.{rules_of};
+ghost use Rattle.fl_endpoint.specs.Accounts.{AreRules};
+ghost use Rattle.fl_endpoint.specs.Stored.{QueuesReply};
+
+use crate::outgoing::Queued;
+use crate::rules::Rules;
+use fl_base::{Frag, MsgNo};
+use fl_compile::Program;
+use fl_layout::{Plans, plan};
+use fl_machine::RecvRun;
+use fl_value::Call;
+use std::alloc::{AllocError, Global};
+
+/// The receive run of an end, which has its program, and the program's layout.
+#[derive(Drop)]
+pub(crate) struct Incoming {
+    pub(crate) alloc: Global,
+    pub(crate) plans: Plans,
+    pub(crate) recv: RecvRun,
+}
+
+// How many numbers the longest tape of any call has.
+fn tape_capacity(plans: &Plans) -> usize
+    ensures enough { HoldsTapes plans.now.plan (interface_of plans.now.interface) result }
+{
+    let mut most = 0;
+    for msg in 0..256_u16 {
+        if usize::from(msg) < plans.interface.messages.len() {
+            most = plans.tape_capacity(MsgNo(msg)).max(most);
+        }
+    }
+    most
+}
+
+/// The fragment with epoch 0 and nothing told: these belong to the side that it came by.
+pub(crate) fn without_stamp(frag: &Frag) -> Frag
+    ensures bare { result ≡ bare frag.now }
+{
+    Frag {
+        words: frag.words,
+        control: 2 * (frag.control / 2 % 140_737_488_355_328),
+    }
+}
+
+impl Incoming {
+    // A run that nothing was fed to.
+    pub(crate) fn new(alloc: Global, program: Program) -> Result<Incoming, AllocError>
+        ensures program { IfOk result (λ incoming. incoming.recv.program ≡ program) }
+        ensures parts { IfOk result (λ incoming. incoming.recv.parts ≡ []) }
+        ensures interface { IfOk result (λ incoming. interface_of incoming.plans.interface ≡ (program_of program).interface) }
+        ensures plan { IfOk result (λ incoming. incoming.plans.plan ≡ (program_of program).plan) }
+    {
+        let plans = plan(alloc, program.interface(), program.plan())?;
+        let capacity = tape_capacity(&plans);
+        let recv = RecvRun::new(alloc, program, capacity)?;
+        Ok(Incoming { alloc, plans, recv })
+    }
+
+    // The call that is whole, and the reply to it by rule, if there is one.
+    pub(crate) fn whole(&self, rules: &Rules) -> Result<(Call, Option<Queued>), AllocError>
+        requires interface { interface_of self.now.plans.interface ≡ (program_of self.now.recv.program).interface }
+        requires plan { self.now.plans.plan ≡ (program_of self.now.recv.program).plan }
+        requires rules { AreRules (program_of self.now.recv.program).interface (rules_of rules.now.replies.items) }
+        requires whole { self.now.recv.whole ≢ [] }
+        ensures fits { IfOk result (λ both. fits_of (program_of self.now.recv.program).interface (call_of both.0) ≡ true) }
+        ensures means { IfOk result (λ both. Means (program_of self.now.recv.program).plan (program_of self.now.recv.program).interface self.now.recv.whole (call_of both.0) 0) }
+        ensures reply { IfOk result (λ both. QueuesReply (program_of self.now.recv.program) (reply_to (rules_of rules.now.replies.items) (call_of both.0)) both.1) }
+    {
+        let mut call = self.recv.whole_call(self.alloc)?;
+        let msg = call.msg;
+        let Some(reply) = rules.reply_to(msg) else {
+            return Ok((call, None));
+        };
+        call.msg = reply;
+        let queued = Queued::of(self.alloc, self.recv.program(), &self.plans, &call)?;
+        call.msg = msg;
+        Ok((call, Some(queued)))
+    }
+}

@@ -1,0 +1,73 @@
+//! What holds of ends over time, whatever their sides: laws, as the contracts of functions that do nothing.
+
+ghost use Rattle.fl_endpoint.specs.Laws.{AddUp, RepliesAddUp, CallAccounts, WriteAccounts, ReceiveAccounts, BindAccounts, RuleAccounts, SinceMade, OffTheCircuit, OnAnotherCircuit, HandlesInOrder, TakesInOrder};
+
+use fl_link::{PutSide, TakeSide};
+use fl_wire::none_begins_with_another;
+
+/// The accounts of two stretches of time, one after the other, add up to that of both.
+pub fn accounts_add_up()
+    ensures adds_up { AddUp }
+{}
+
+/// So do the replies, where no rule is set in either.
+pub fn replies_add_up()
+    ensures adds_up { RepliesAddUp }
+{}
+
+/// A call that is made is accepted, and a refused one adds nothing.
+pub fn call_accounts()
+    ensures account { CallAccounts }
+{}
+
+/// A write puts the next fragment of what was accepted, and with the last of a call the first reply that waits is accepted;
+/// or it adds nothing.
+pub fn write_accounts<P: PutSide>()
+    ensures account { WriteAccounts P.puts }
+{}
+
+/// A receive takes the next fragment and handles the call that it ends, and the reply by rule is due; or it adds nothing.
+pub fn receive_accounts<T: TakeSide>()
+    ensures account { ReceiveAccounts T.takes }
+{}
+
+/// Binding an end adds nothing.
+pub fn bind_accounts()
+    ensures account { BindAccounts }
+{}
+
+/// Setting a rule adds nothing.
+pub fn rule_accounts()
+    ensures account { RuleAccounts }
+{}
+
+/// Since an end was made: what it put is a front of its accepted calls' fragments, and what it took reads as
+/// its handled calls and a rest.
+pub fn since_made()
+    ensures since { SinceMade }
+{}
+
+/// What is sent on a circuit is, once its circuit is set to 0, what is sent off links.
+pub fn off_the_circuit()
+    ensures off { OffTheCircuit }
+{}
+
+/// What is sent on a circuit is, once its circuit is set to another, what is sent on that one.
+pub fn on_another_circuit()
+    ensures on { OnAnotherCircuit }
+{}
+
+/// The calls that an end handled are the first of those whose fragments it took, in order: what it took since is of the next.
+pub fn handles_in_order()
+    ensures handles { HandlesInOrder }
+{
+    none_begins_with_another();
+}
+
+/// The next fragment of calls that come off links is never refused: where it is the last of its call, that call is handled,
+/// and else it is a part.
+pub fn takes_in_order()
+    ensures takes { TakesInOrder }
+{
+    none_begins_with_another();
+}

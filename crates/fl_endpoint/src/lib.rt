@@ -1,0 +1,37 @@
+//! Ends of bindings: calls go out of an end as fragments, and come in as calls that are handled.
+//!
+//! An [`End`] is generic over the sides that it is lent: the same end serves a queue within a core, a ring of one owner, and
+//! a ring that two running cores share. It sends one call at a time; calls that it handles may be answered by rule.
+//!
+//! Contract for the layers above: an end is what its fields tell (`specs/View.antt`), with no history. Each event is one
+//! relation between the end before and after, by its answer, and the step of the side (`specs/Events.antt`). Over any
+//! stretch of events the accounts add up (`specs/Accounts.antt`, `specs/Laws.antt`): what was put is what was accepted, in
+//! order, and what was taken is what was handled and a rest.
+//!
+//! - `end.rt`: `End`
+//! - `outgoing.rt`: the call in transmission, and the replies that wait
+//! - `incoming.rt`: the receive run of an end
+//! - `rules.rt`: reply rules
+//! - `types.rt`: whether two messages have the same argument types
+//! - `answer.rt`: what a write and a receive come to
+//! - `law.rt`: what holds of ends over time
+//! - `fault.rt`: why a call of an end is refused
+#![tactic(auto)]
+
+mod answer;
+mod end;
+mod fault;
+mod incoming;
+mod law;
+mod outgoing;
+mod rules;
+mod types;
+
+pub use answer::{ReceiveAnswer, WriteAnswer};
+pub use end::End;
+pub use fault::EndFault;
+pub use law::{
+    accounts_add_up, bind_accounts, call_accounts, handles_in_order, off_the_circuit,
+    on_another_circuit, receive_accounts, replies_add_up, rule_accounts, since_made,
+    takes_in_order, write_accounts,
+};

@@ -1,0 +1,222 @@
+//! What an end is to send: the call in transmission, and the replies that wait.
+
+ghost use Rattle.std.specs.Prelude.{◌≡◌, ◌+◌, ◌<◌, ◌≤◌, ◌++◌, ◌∷◌, [], ℕ, List, true, false, length, map, slice_get, Some, IsSome, IfOk, IfSome};
+ghost use Rattle.std.specs.Option.{option_map};
+ghost use Rattle.std.specs.VecDeque.{deque_capacity};
+ghost use Rattle.fl_base.specs.declared.fragment.Frag.{Frag};
+ghost use Rattle.fl_check.specs.Interface.{interface_of};
+ghost use Rattle.fl_value.specs.Value.{call_of};
+ghost use Rattle.fl_value.specs.Fits.{fits_of};
+ghost use Rattle.fl_compile.specs.Programs.{TheProgram, program_of};
+ghost use Rattle.fl_machine.specs.Sending.{frags_left};
+ghost use Rattle.fl_endpoint.specs.View.{nothing_to_send, is_busy, queued, queued_if, goes_on, wrote};
+ghost use Rattle.fl_endpoint.specs.Stored.{code_of, queued_frags, sending_frags, outgoing_of, IsQueued, AreQueued, Queues, IsSending, IsOutgoing};
+
+use fl_base::{Circuit, Frag, MsgNo};
+use fl_compile::Program;
+use fl_layout::Plans;
+use fl_machine::{SendRun, sends_fragments};
+use fl_value::{Call, flatten};
+use std::alloc::{AllocError, Global};
+use std::collections::VecDeque;
+
+/// So many replies may wait.
+pub(crate) const MOST_WAITING: usize = 16;
+
+/// A call that is to be sent, as its tape, with the number of its fragments.
+#[derive(Debug, Drop)]
+pub(crate) struct Queued {
+    pub(crate) msg: MsgNo,
+    pub(crate) tape: Vec<u64>,
+    pub(crate) count: usize,
+}
+
+/// The call in transmission: the fragment that is written next, the run that gives those behind it, and how many of
+/// the call's fragments were written.
+#[derive(Drop)]
+pub(crate) struct Sending {
+    msg: MsgNo,
+    next: Frag,
+    run: SendRun,
+    written: usize,
+    count: usize,
+}
+
+/// The calls that an end is to send.
+#[derive(Drop)]
+pub(crate) struct Outgoing {
+    sending: Option<Sending>,
+    waiting: VecDeque<Queued>,
+}
+
+impl Queued {
+    // A fitting call as it is queued.
+    pub(crate) fn of(
+        alloc: Global,
+        program: &Program,
+        plans: &Plans,
+        call: &Call,
+    ) -> Result<Queued, AllocError>
+        requires interface { interface_of plans.now.interface ≡ (program_of program.now).interface }
+        requires plan { plans.now.plan ≡ (program_of program.now).plan }
+        requires fits { fits_of (program_of program.now).interface (call_of call.now) ≡ true }
+        ensures queues { IfOk result (λ queued. Queues (program_of program.now) (call_of call.now) queued) }
+    {
+        sends_fragments();
+        let tape = flatten(alloc, program.interface(), call, program.plan())?;
+        Ok(Queued {
+            msg: call.msg,
+            tape,
+            count: plans.fragments_of(call),
+        })
+    }
+}
+
+// The call in transmission, of which nothing is written.
+fn start(program: &Program, circuit: Circuit, call: Queued) -> Sending
+    requires { IsQueued (program_of program.now) call }
+    ensures sending { IsSending (program_of program.now) result }
+    ensures frags { sending_frags (program_of program.now) (Some result) ≡ queued_frags (program_of program.now) circuit.0 call }
+    ensures count { result.count ≡ length (queued_frags (program_of program.now) circuit.0 call) }
+{
+    // Both have 16 bits, which the proof knows once they are read.
+    let (_msg, _circuit) = (call.msg.0, circuit.0);
+    let Some(code) = program.send_code(call.msg) else {
+        unreachable!();
+    };
+    let mut run = SendRun::start(code, call.msg, circuit, call.tape);
+    let Some(next) = run.next_frag(code) else {
+        unreachable!();
+    };
+    Sending {
+        msg: call.msg,
+        next,
+        run,
+        written: 0,
+        count: call.count,
+    }
+}
+
+impl Sending {
+    // Goes on behind the next fragment, which is written: whether another is to be written.
+    fn advance(&mut self, program: &Program) -> bool
+        requires { IsSending (program_of program.now) self.old }
+        ensures more { result ≡ true → IsSending (program_of program.now) self.new }
+        ensures frags { result ≡ true → sending_frags (program_of program.now) (Some self.new) ≡ frags_left (code_of (program_of program.now) self.old.msg.0) self.old.run }
+        ensures last { result ≡ false → frags_left (code_of (program_of program.now) self.old.msg.0) self.old.run ≡ [] }
+        ensures written { self.new.written ≡ self.old.written + 1 }
+        ensures count { self.new.count ≡ self.old.count }
+    {
+        let Some(code) = program.send_code(self.msg) else {
+            unreachable!();
+        };
+        self.written += 1;
+        match self.run.next_frag(code) {
+            Some(next) => {
+                self.next = next;
+                true
+            }
+            None => false,
+        }
+    }
+}
+
+impl Outgoing {
+    // Nothing to send, with room for the replies that may wait.
+    pub(crate) fn new(alloc: Global) -> Result<Outgoing, AllocError>
+        ensures room { IfOk result (λ out. (p : TheProgram) → IsOutgoing p out) }
+        ensures nothing { IfOk result (λ out. (p : TheProgram) (circuit : ℕ) → outgoing_of p circuit out ≡ nothing_to_send) }
+    {
+        let waiting = VecDeque::with_capacity(alloc, MOST_WAITING)?;
+        Ok(Outgoing {
+            sending: None,
+            waiting,
+        })
+    }
+
+    // Whether a call is in transmission.
+    pub(crate) fn is_busy(&self) -> bool
+        ensures busy { (p : TheProgram) (circuit : ℕ) → result ≡ is_busy (outgoing_of p circuit self.now) }
+    {
+        self.sending.is_some()
+    }
+
+    // How many replies wait.
+    pub(crate) fn waiting(&self) -> usize
+        ensures waiting { (p : TheProgram) (circuit : ℕ) → result ≡ length (outgoing_of p circuit self.now).waiting }
+    {
+        self.waiting.len()
+    }
+
+    // The fragment that is to be written next.
+    pub(crate) fn next(&self) -> Option<Frag>
+        ensures next { (p : TheProgram) (circuit : ℕ) → result ≡ slice_get (outgoing_of p circuit self.now).unwritten 0 }
+    {
+        match &self.sending {
+            Some(sending) => Some(sending.next),
+            None => None,
+        }
+    }
+
+    // One call more to be sent. Takes no memory.
+    pub(crate) fn queue(&mut self, program: &Program, circuit: Circuit, call: Queued)
+        requires outgoing { IsOutgoing (program_of program.now) self.old }
+        requires call { IsQueued (program_of program.now) call }
+        requires room { length self.old.waiting.items < 16 }
+        ensures outgoing { IsOutgoing (program_of program.now) self.new }
+        ensures queued { outgoing_of (program_of program.now) circuit.0 self.new ≡ queued (outgoing_of (program_of program.now) circuit.0 self.old) (queued_frags (program_of program.now) circuit.0 call) }
+    {
+        if self.sending.is_some() {
+            self.waiting.push_back(call).unwrap();
+        } else {
+            self.sending = Some(start(program, circuit, call));
+        }
+    }
+
+    // The reply, if there is one. Takes no memory.
+    pub(crate) fn accept(&mut self, program: &Program, circuit: Circuit, reply: Option<Queued>)
+        requires outgoing { IsOutgoing (program_of program.now) self.old }
+        requires call { IfSome reply (λ call. IsQueued (program_of program.now) call) }
+        requires room { IfSome reply (λ call. length self.old.waiting.items < 16) }
+        ensures outgoing { IsOutgoing (program_of program.now) self.new }
+        ensures accepted { outgoing_of (program_of program.now) circuit.0 self.new ≡ queued_if (outgoing_of (program_of program.now) circuit.0 self.old) (option_map (queued_frags (program_of program.now) circuit.0) reply) }
+    {
+        if let Some(call) = reply {
+            self.queue(program, circuit, call);
+        }
+    }
+
+    // The first reply that waits in transmission, if one waits.
+    fn go_on(&mut self, program: &Program, circuit: Circuit)
+        requires waiting { AreQueued (program_of program.now) self.old.waiting.items }
+        requires few { length self.old.waiting.items ≤ 16 }
+        requires room { 16 ≤ deque_capacity self.old.waiting }
+        ensures outgoing { IsOutgoing (program_of program.now) self.new }
+        ensures goes_on { outgoing_of (program_of program.now) circuit.0 self.new ≡ goes_on (map (queued_frags (program_of program.now) circuit.0) self.old.waiting.items) }
+    {
+        self.sending = match self.waiting.pop_front() {
+            Some(call) => Some(start(program, circuit, call)),
+            None => None,
+        };
+    }
+
+    // The next fragment is written: which it was of its call's, and how many these are. Takes no memory.
+    pub(crate) fn wrote(&mut self, program: &Program, circuit: Circuit) -> (usize, usize)
+        requires outgoing { IsOutgoing (program_of program.now) self.old }
+        requires busy { IsSome self.old.sending }
+        ensures outgoing { IsOutgoing (program_of program.now) self.new }
+        ensures wrote { (f : Frag) (rest : List Frag) → (outgoing_of (program_of program.now) circuit.0 self.old).unwritten ≡ f ∷ rest → outgoing_of (program_of program.now) circuit.0 self.new ≡ wrote rest (outgoing_of (program_of program.now) circuit.0 self.old) }
+        ensures count { result.1 ≡ (outgoing_of (program_of program.now) circuit.0 self.old).count }
+        ensures number { (f : Frag) (rest : List Frag) → (outgoing_of (program_of program.now) circuit.0 self.old).unwritten ≡ f ∷ rest → result.0 + length rest ≡ result.1 }
+    {
+        let Some(sending) = &mut self.sending else {
+            unreachable!();
+        };
+        let more = sending.advance(program);
+        let answer = (sending.written, sending.count);
+        if !more {
+            self.go_on(program, circuit);
+        }
+        answer
+    }
+}

@@ -1,0 +1,54 @@
+//! Reply rules: to which message of an interface a call of which other is the reply.
+
+ghost use Rattle.std.specs.Prelude.{◌≡◌, ◌<◌, length, slice_set, replicate, None, Some, IfOk};
+ghost use Rattle.fl_endpoint.specs.Rules.{rules_of, rule_of};
+ghost use Rattle.fl_endpoint.specs.View.{rule_at, has_rules};
+
+use fl_base::MsgNo;
+use std::alloc::{AllocError, Global};
+
+/// For each message the message of the reply to it, where there is a rule.
+#[derive(Drop)]
+pub(crate) struct Rules {
+    replies: Vec<Option<MsgNo>>,
+}
+
+impl Rules {
+    // No rule for any of so many messages.
+    pub(crate) fn new(alloc: Global, messages: usize) -> Result<Rules, AllocError>
+        ensures none { IfOk result (λ rules. rules_of rules.replies.items ≡ replicate messages None) }
+    {
+        let replies = vec![in alloc; None; messages]?;
+        Ok(Rules { replies })
+    }
+
+    // The message of the reply to a message.
+    pub(crate) fn reply_to(&self, msg: MsgNo) -> Option<MsgNo>
+        ensures rule { rule_of result ≡ rule_at (rules_of self.now.replies.items) msg.0 }
+    {
+        match self.replies.get(usize::from(msg.0)) {
+            Some(rule) => *rule,
+            None => None,
+        }
+    }
+
+    // Whether there is any rule.
+    pub(crate) fn any(&self) -> bool
+        ensures any { result ≡ has_rules (rules_of self.now.replies.items) }
+    {
+        for rule in &self.replies {
+            if rule.is_some() {
+                return true;
+            }
+        }
+        false
+    }
+
+    // Sets the rule of a message, in place of an earlier one.
+    pub(crate) fn set(&mut self, msg: MsgNo, reply: MsgNo)
+        requires { msg.0 < length self.old.replies.items }
+        ensures set { rules_of self.new.replies.items ≡ slice_set (rules_of self.old.replies.items) msg.0 (Some reply.0) }
+    {
+        self.replies[usize::from(msg.0)] = Some(reply);
+    }
+}
