@@ -1,0 +1,20 @@
+//! Tests of a core, over its public calls alone. They stand here and not in `fl_core`, since a crate with tests is proved
+//! twice.
+//!
+//! - `rig.rt`: a core with its ends and their queues, driven by commands whose answers are words
+//! - `rows.rt`: worked rows of commands and answers
+//! - `refusals.rt`: what is refused, and limits
+//! - `faults.rt`: the numbers and words of the faults
+//!
+//! `rt try --test --fail-alloc N` runs each with its Nth allocation refused: then the tests whose names end in
+//! `without_memory` have to pass, and others end with want of memory.
+#![tactic(auto)]
+
+#[cfg(test)]
+mod faults;
+#[cfg(test)]
+mod refusals;
+#[cfg(test)]
+mod rig;
+#[cfg(test)]
+mod rows;

@@ -1,0 +1,14 @@
+pub mod Places
+pub mod Registered
+pub mod Kept
+pub mod Readiness
+pub mod Seats
+pub mod Picks
+pub mod Parts
+pub mod Dispatchers
+pub mod Turning
+pub mod Due
+pub mod Lists
+pub mod Adding
+pub mod Back
+pub mod Accounts

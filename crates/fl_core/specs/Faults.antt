@@ -1,0 +1,12 @@
+-- The numbers of the faults.
+use Rattle.std.specs.Prelude.{ℕ}
+use Rattle.fl_core.specs.declared.fault.CoreFault.{CoreFault}
+use Rattle.fl_core.specs.declared.fault.CoreFault.TheVariants.{NotBound, Registered, NotRegistered, TooManyEnds, Failed, Memory}
+
+abbrev pub fault_number : CoreFault → ℕ
+fault_number NotBound = 43
+fault_number Registered = 50
+fault_number NotRegistered = 51
+fault_number TooManyEnds = 54
+fault_number Failed = 64
+fault_number Memory = 99

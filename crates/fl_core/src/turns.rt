@@ -1,0 +1,72 @@
+//! Turns of dispatchers.
+
+ghost use Rattle.std.specs.Prelude.{◌≡◌, ◌<◌, length, Some, IfSome, OnErr};
+ghost use Rattle.fl_core.specs.View.{due, channel_of};
+ghost use Rattle.fl_core.specs.Turns.{Turns};
+
+use crate::answer::TurnAnswer;
+use crate::one_core::Core;
+use crate::waiting::look_at;
+use fl_base::ChanId;
+use fl_link::TakeSide;
+use fl_waitset::Pick;
+use std::alloc::AllocError;
+
+// The channel that was picked.
+fn channel_of(pick: Pick) -> ChanId
+    ensures channel { result.0 ≡ channel_of pick }
+{
+    match pick {
+        Pick::Pending(c) => c,
+        Pick::Polled(c) => c,
+    }
+}
+
+impl Core {
+    /// The end at which a dispatcher's next turn looks, by its place: that of the first pending channel, else of the first
+    /// polled one. The caller lends the turn this end's side. None where no channel is pending or polled.
+    pub fn due(&self, dispatcher: usize) -> Option<usize>
+        requires { dispatcher < length self.now.dispatchers }
+        ensures due { result ≡ due self.now dispatcher }
+        ensures within { IfSome result (λ e. e < length self.now.seats) }
+    {
+        let dispatcher = &self.dispatchers[dispatcher];
+        match dispatcher.waitset.next_event() {
+            Ok(pick) => Some(dispatcher.ends[usize::from(channel_of(pick).0)]),
+            Err(_) => None,
+        }
+    }
+
+    /// One turn of a dispatcher, over the side of the end that is due.
+    ///
+    /// Where a channel is pending, the first is looked at, and one fragment is given to its end. Then a ring's channel goes to
+    /// the back of polled, and one of a queue to the back of pending where a fragment still stands, else to the back of idle; so
+    /// it does where nothing stood there. An end with a rule at which 16 replies wait is given none, and its channel goes to the
+    /// back of pending. Where the fragment can't follow those before it, the end has failed, the fragment stays and the channel
+    /// is deregistered.
+    ///
+    /// Else the first polled channel is looked at: it goes to the back of pending where a fragment of a call stands, else to the
+    /// back of polled; a fragment that only acknowledges is taken.
+    ///
+    /// # Errors
+    /// Want of memory (E99), only where the fragment would make a call whole. The core is as it was then, and the fragment,
+    /// which was looked at, is left.
+    pub fn turn<T: TakeSide>(
+        &mut self,
+        dispatcher: usize,
+        e: usize,
+        from: &mut T,
+    ) -> Result<TurnAnswer, AllocError>
+        requires there { dispatcher < length self.old.dispatchers }
+        requires due { due self.old dispatcher ≡ Some e }
+        ensures turns { Turns T.takes self.old dispatcher e from.old result self.new from.new }
+        ensures kept { OnErr result (self.new ≡ self.old) }
+    {
+        let at = &mut self.dispatchers[dispatcher];
+        let Ok(pick) = at.waitset.next_event() else {
+            unreachable!();
+        };
+        let seat = &mut self.seats[e];
+        look_at(&mut at.waitset, pick, &mut seat.end, seat.kind, from)
+    }
+}

@@ -1,0 +1,176 @@
+//! Where a channel waits, and what a turn makes of it.
+
+ghost use Rattle.std.specs.Prelude.{◌≡◌, ◌<◌, slice_get, Ok, Err, Some};
+ghost use Rattle.fl_waitset.specs.Waiting.{IsWaitset, registered_answer, next_pick};
+ghost use Rattle.fl_endpoint.specs.Events.{IsReady};
+ghost use Rattle.fl_lists.specs.declared.place.Place.{Place};
+ghost use Rattle.fl_lists.specs.Threads.{list_at};
+ghost use Rattle.fl_core.specs.Turns.{WaitsIn, put_off, Gives, Examines, LooksAt};
+ghost use Rattle.fl_core.specs.Events.{Joins};
+ghost use Rattle.fl_core.specs.Inside.{Took, MayCome, Refuses};
+
+use crate::answer::TurnAnswer;
+use crate::fault::CoreFault;
+use crate::kind::Kind;
+use fl_base::ChanId;
+use fl_endpoint::{End, EndFault, ReceiveAnswer};
+use fl_link::{Sight, TakeSide};
+use fl_waitset::{Pick, Place, Waitset};
+use std::alloc::AllocError;
+
+// Where a channel of this kind waits, by a look at its side.
+fn place_for<T: TakeSide>(kind: Kind, from: &mut T) -> Place
+    ensures waits { WaitsIn T.takes kind from.old result from.new }
+{
+    match kind {
+        Kind::Ring => Place::Polled,
+        Kind::Queue => match from.peek() {
+            Sight::Data(_) | Sight::Acknowledgement => Place::Pending,
+            Sight::Empty => Place::Idle,
+        },
+    }
+}
+
+/// Registers a channel, at the back of the list in which it waits. Where it is registered already, its side isn't looked
+/// at.
+pub(crate) fn join<T: TakeSide>(
+    waitset: &mut Waitset,
+    c: ChanId,
+    kind: Kind,
+    from: &mut T,
+) -> Result<(), CoreFault>
+    requires { c.0 < waitset.old.size }
+    ensures waitset { IsWaitset waitset.new }
+    ensures joins { Joins T.takes kind c.0 waitset.old from.old result waitset.new from.new }
+{
+    let Ok(()) = waitset.register(c) else {
+        return Err(CoreFault::Registered);
+    };
+    let place = place_for(kind, from);
+    waitset.put_back(c, place).unwrap();
+    Ok(())
+}
+
+// The first channel of a list goes to the back of one.
+fn put_off(waitset: &mut Waitset, c: ChanId, to: Place)
+    requires { registered_answer waitset.old c.0 ≡ Ok tt }
+    ensures waitset { IsWaitset waitset.new }
+    ensures put_off { (from : Place) → slice_get (list_at waitset.old from) 0 ≡ Some c.0 → waitset.new ≡ put_off waitset.old from c.0 to }
+{
+    waitset.put_back(c, to).unwrap();
+}
+
+// What the end answered: where it looked at its side, its channel goes where it waits for the next fragment.
+fn took<T: TakeSide>(
+    waitset: &mut Waitset,
+    c: ChanId,
+    kind: Kind,
+    answer: ReceiveAnswer,
+    from: &mut T,
+) -> TurnAnswer
+    requires first { next_pick waitset.old ≡ Ok (Pick.Pending c) }
+    requires registered { registered_answer waitset.old c.0 ≡ Ok tt }
+    ensures waitset { IsWaitset waitset.new }
+    ensures took { Took T.takes kind c.0 waitset.old from.old answer result waitset.new from.new }
+{
+    let answer = match answer {
+        ReceiveAnswer::Handle(call) => TurnAnswer::Handle(call),
+        ReceiveAnswer::Part => TurnAnswer::Part,
+        ReceiveAnswer::Quiet => TurnAnswer::Quiet,
+        ReceiveAnswer::Empty => TurnAnswer::Nothing,
+        ReceiveAnswer::HeldBack => {
+            put_off(waitset, c, Place::Pending);
+            return TurnAnswer::Full;
+        }
+    };
+    let place = place_for(kind, from);
+    put_off(waitset, c, place);
+    answer
+}
+
+// The end took nothing: where it has failed, its channel is deregistered.
+fn refused(waitset: &mut Waitset, c: ChanId, fault: EndFault) -> Result<TurnAnswer, AllocError>
+    requires waitset { IsWaitset waitset.old }
+    requires registered { registered_answer waitset.old c.0 ≡ Ok tt }
+    requires fault { MayCome fault }
+    ensures waitset { IsWaitset waitset.new }
+    ensures refused { Refuses c.0 waitset.old fault result waitset.new }
+{
+    match fault {
+        EndFault::Wire(fault) => {
+            waitset.deregister(c).unwrap();
+            Ok(TurnAnswer::Refused(fault))
+        }
+        EndFault::Memory => Err(AllocError),
+        EndFault::Spent
+        | EndFault::Busy
+        | EndFault::UnknownMessage
+        | EndFault::Misfit
+        | EndFault::NotBound
+        | EndFault::Failed => unreachable!(),
+    }
+}
+
+// One fragment is given to the end of the first pending channel.
+fn give<T: TakeSide>(
+    waitset: &mut Waitset,
+    c: ChanId,
+    end: &mut End,
+    kind: Kind,
+    from: &mut T,
+) -> Result<TurnAnswer, AllocError>
+    requires waitset { IsWaitset waitset.old }
+    requires first { next_pick waitset.old ≡ Ok (Pick.Pending c) }
+    requires ready { IsReady end.old }
+    ensures waitset { IsWaitset waitset.new }
+    ensures gives { Gives T.takes kind c.0 waitset.old end.old from.old result waitset.new end.new from.new }
+{
+    match end.receive(from) {
+        Ok(answer) => Ok(took(waitset, c, kind, answer, from)),
+        Err(fault) => refused(waitset, c, fault),
+    }
+}
+
+// The first polled channel is examined.
+fn examine<T: TakeSide>(waitset: &mut Waitset, c: ChanId, from: &mut T) -> TurnAnswer
+    requires waitset { IsWaitset waitset.old }
+    requires first { next_pick waitset.old ≡ Ok (Pick.Polled c) }
+    ensures waitset { IsWaitset waitset.new }
+    ensures examines { Examines T.takes c.0 waitset.old from.old (Ok result) waitset.new from.new }
+{
+    match from.peek() {
+        Sight::Data(_) => {
+            put_off(waitset, c, Place::Pending);
+            TurnAnswer::Ready
+        }
+        Sight::Acknowledgement => {
+            let _ = from.take();
+            put_off(waitset, c, Place::Polled);
+            TurnAnswer::Quiet
+        }
+        Sight::Empty => {
+            put_off(waitset, c, Place::Polled);
+            TurnAnswer::Quiet
+        }
+    }
+}
+
+/// The turn of what a waitset picked, at its end.
+pub(crate) fn look_at<T: TakeSide>(
+    waitset: &mut Waitset,
+    pick: Pick,
+    end: &mut End,
+    kind: Kind,
+    from: &mut T,
+) -> Result<TurnAnswer, AllocError>
+    requires waitset { IsWaitset waitset.old }
+    requires picked { next_pick waitset.old ≡ Ok pick }
+    requires ready { IsReady end.old }
+    ensures waitset { IsWaitset waitset.new }
+    ensures looks { LooksAt T.takes pick kind waitset.old end.old from.old result waitset.new end.new from.new }
+{
+    match pick {
+        Pick::Pending(c) => give(waitset, c, end, kind, from),
+        Pick::Polled(c) => Ok(examine(waitset, c, from)),
+    }
+}
