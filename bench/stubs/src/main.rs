@@ -1,11 +1,12 @@
 //! Stub code: a call's fragments given by runs of send code and taken by receive runs, beside the proved encoder and
-//! reader and beside plain Rust, in one run.
+//! reader and beside plain Rust, in one run. Last, a call from one end of a binding to the other over a queue.
 //!
 //! The sides take turns. Each figure is a median, in nanoseconds for a call.
 
 #[allow(dead_code)]
 #[path = "../../calls/src/plain.rs"]
 mod calls;
+mod ends;
 mod plain;
 mod receiver;
 
@@ -26,6 +27,8 @@ extern "C" {
     fn stubs_bench_take(text: *const u8, len: usize, call: *const u8, call_len: usize, second: bool, count: u64) -> u64;
     fn stubs_bench_receive(text: *const u8, len: usize, call: *const u8, call_len: usize, second: bool, count: u64) -> u64;
     fn stubs_bench_read(text: *const u8, len: usize, call: *const u8, call_len: usize, second: bool, count: u64) -> u64;
+    fn stubs_bench_pass(text: *const u8, len: usize, call: *const u8, call_len: usize, second: bool, count: u64) -> u64;
+    fn stubs_bench_feed(text: *const u8, len: usize, call: *const u8, call_len: usize, second: bool, count: u64) -> u64;
 }
 
 /// One side of a comparison.
@@ -42,7 +45,7 @@ struct Work {
     others: &'static [(&'static str, Side)],
 }
 
-const WORK: [Work; 4] = [
+const WORK: [Work; 5] = [
     Work {
         name: "a tape to fragments",
         ours: Side::Proved(stubs_bench_give),
@@ -70,6 +73,11 @@ const WORK: [Work; 4] = [
             ("proved reader", Side::Proved(stubs_bench_read)),
             ("plain reader", Side::Plain(receiver::read)),
         ],
+    },
+    Work {
+        name: "a call, end to end",
+        ours: Side::Proved(stubs_bench_pass),
+        others: &[("plain ends", Side::Plain(ends::pass)), ("proved runs", Side::Proved(stubs_bench_feed))],
     },
 ];
 

@@ -174,7 +174,7 @@ fn push_value(tape: &mut Vec<u64>, ty: &Type, value: &Value) {
 }
 
 // The tape of a call, in the declared order.
-fn flatten(types: &Interface, call: &Call) -> Vec<u64> {
+pub fn flatten(types: &Interface, call: &Call) -> Vec<u64> {
     let mut tape = Vec::new();
     for (arg, value) in types.messages[usize::from(call.msg)].iter().zip(&call.args) {
         match (arg, value) {
@@ -196,8 +196,8 @@ fn flatten(types: &Interface, call: &Call) -> Vec<u64> {
 /// A call, its message's code, its tape, and its fragments.
 pub struct Stub {
     pub types: Interface,
-    value: Call,
-    send: Vec<Op>,
+    pub value: Call,
+    pub send: Vec<Op>,
     pub receive: Vec<TakeOp>,
     pub tape: Vec<u64>,
     pub frags: Vec<Frag>,

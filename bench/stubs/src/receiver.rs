@@ -221,7 +221,7 @@ fn next_of(tape: &mut &[u64]) -> u64 {
 }
 
 // The call of a tape, in the declared order.
-fn unflatten(types: &Interface, msg: u16, mut tape: &[u64]) -> Call {
+pub fn unflatten(types: &Interface, msg: u16, mut tape: &[u64]) -> Call {
     let tape = &mut tape;
     let args = types.messages[usize::from(msg)].iter();
     let args = args.map(|arg| match arg {
@@ -236,7 +236,7 @@ fn unflatten(types: &Interface, msg: u16, mut tape: &[u64]) -> Call {
     Call { msg, args: args.collect() }
 }
 
-fn sum_of_call(call: &Call) -> u64 {
+pub fn sum_of_call(call: &Call) -> u64 {
     let each = |value: &Value| match value {
         Value::Int(number) => *number as u64,
         Value::Text(bytes) => bytes.len() as u64,
