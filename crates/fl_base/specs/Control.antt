@@ -17,6 +17,9 @@ epoch_of word = word % 2
 abbrev pub first_of : ℕ → Bool
 first_of word = word / 2 % 2 == 1
 
+abbrev pub acknowledges_of : ℕ → Bool
+acknowledges_of word = word / 4 % 2 == 1
+
 abbrev pub reserved_of : ℕ → ℕ
 reserved_of word = word / 8 % 8192
 
@@ -37,6 +40,42 @@ control_word first message circuit = (if first then 2 else 0) + 65536 * message 
 abbrev pub is_ack_only : Frag → Bool
 is_ack_only frag = (frag.control / 2 % 2 ^ 47 == 2) && list_all (λ w. w == 0) frag.words
 
+-- what the fields of a control word hold
+pub record Fields : Type 0 where
+  pub epoch : ℕ
+  pub first : Bool
+  pub acknowledges : Bool
+  pub reserved : ℕ
+  pub message : ℕ
+  pub circuit : ℕ
+  pub told : ℕ
+
+abbrev pub fields_of : ℕ → Fields
+fields_of word = record
+  { epoch = epoch_of word; first = first_of word; acknowledges = acknowledges_of word; reserved = reserved_of word
+  ; message = message_of word; circuit = circuit_of word; told = told_of word }
+
 -- the fragment with this epoch bit
 abbrev pub with_epoch : ℕ → Frag → Frag
 with_epoch epoch frag = record { words = frag.words; control = frag.control - frag.control % 2 + epoch }
+
+-- the fragment with this circuit
+abbrev pub with_circuit : ℕ → Frag → Frag
+with_circuit circuit frag = record { words = frag.words; control = frag.control - 2 ^ 32 * circuit_of frag.control + 2 ^ 32 * circuit }
+
+-- ---- what a link writes, and what it leaves alone
+--
+-- A link sets the epoch (bit 0) and the count told (bits 48 to 63). Bits 1 to 47, the body, and the payload words pass
+-- through it unchanged.
+
+-- bits 1 to 47 of a control word
+abbrev pub body : ℕ → ℕ
+body word = 2 * (word / 2 % 2 ^ 47)
+
+-- the fragment with epoch 0 and nothing told: what every link carries unchanged
+abbrev pub bare : Frag → Frag
+bare frag = record { words = frag.words; control = body frag.control }
+
+-- the fragment as it stands in a link: in a round of this epoch, telling this 16-bit number
+abbrev pub stamped : Frag → ℕ → ℕ → Frag
+stamped frag epoch number = record { words = frag.words; control = body frag.control + epoch + 2 ^ 48 * number }

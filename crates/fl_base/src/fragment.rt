@@ -1,8 +1,8 @@
 //! One cache line of a channel, and its control word (the bits stand in `specs/Control.antt`).
 
-ghost use Rattle.std.specs.Prelude.{◌≡◌, ◌+◌, ◌*◌, ◌^◌, ◌/◌, ◌%◌, ◌-◌, ◌≤◌, ◌<◌, ◌==◌, if◌then◌else◌};
+ghost use Rattle.std.specs.Prelude.{◌≡◌, ◌+◌, ◌*◌, ◌^◌, ◌/◌, ◌%◌, ◌-◌, ◌≤◌, ◌<◌, ◌==◌, if◌then◌else◌, false};
 ghost use Rattle.std.specs.List.{list_all};
-ghost use Rattle.fl_base.specs.Control.{epoch_of, first_of, reserved_of, message_of, circuit_of, told_of, control_word, is_ack_only, with_epoch};
+ghost use Rattle.fl_base.specs.Control.{epoch_of, first_of, acknowledges_of, reserved_of, message_of, circuit_of, told_of, control_word, is_ack_only, with_epoch, with_circuit, stamped, fields_of, Fields};
 
 use crate::identity::{Circuit, MsgNo};
 
@@ -26,6 +26,7 @@ pub fn control(first: bool, msg: MsgNo, circuit: Circuit) -> u64
     ensures epoch_read { epoch_of result ≡ 0 }
     ensures reserved_read { reserved_of result ≡ 0 }
     ensures told_read { told_of result ≡ 0 }
+    ensures acknowledges_read { acknowledges_of result ≡ false }
 {
     let first_bit = if first { 2 } else { 0 };
     first_bit + 65_536 * u64::from(msg.0) + 4_294_967_296 * u64::from(circuit.0)
@@ -41,12 +42,39 @@ impl Frag {
 
     /// The same fragment with this epoch bit.
     pub fn with_epoch(&self, epoch: bool) -> Frag
-        ensures { result ≡ with_epoch (if epoch then 1 else 0) self.now }
+        ensures set { result ≡ with_epoch (if epoch then 1 else 0) self.now }
+        ensures fields { fields_of result.control ≡ record (fields_of self.now.control) { epoch = if epoch then 1 else 0 } }
     {
         let control = self.control;
         Frag {
             words: self.words,
             control: control - control % 2 + u64::from(epoch),
+        }
+    }
+
+    /// The same fragment with this circuit.
+    pub fn with_circuit(&self, circuit: Circuit) -> Frag
+        ensures set { result ≡ with_circuit circuit.0 self.now }
+        ensures fields { fields_of result.control ≡ record (fields_of self.now.control) { circuit = circuit.0 } }
+    {
+        let control = self.control;
+        let old = control / 4_294_967_296 % 65_536;
+        Frag {
+            words: self.words,
+            control: control - 4_294_967_296 * old + 4_294_967_296 * u64::from(circuit.0),
+        }
+    }
+
+    /// The fragment as it stands in a link: in a round of this epoch, 0 or 1, and telling this count in bits 48 to 63.
+    pub fn stamp(&self, epoch: u64, told: u16) -> Frag
+        requires bit { epoch < 2 }
+        ensures stamped { result ≡ stamped self.now epoch told }
+        ensures fields { fields_of result.control ≡ record (fields_of self.now.control) { epoch = epoch; told = told } }
+    {
+        let body = self.control / 2 % 140_737_488_355_328 * 2;
+        Frag {
+            words: self.words,
+            control: body + epoch + 281_474_976_710_656 * u64::from(told),
         }
     }
 

@@ -11,7 +11,7 @@ pub struct CoreId(pub u8);
 #[derive(Clone, Copy, Debug, PartialEq, Eq, PartialOrd, Ord, Hash)]
 pub struct ChanId(pub u16);
 
-/// A link between two cores, from 0 in order of making.
+/// A link between two cores, by its place among the links of whoever speaks of it, from 0 in order of making.
 #[derive(Clone, Copy, Debug, PartialEq, Eq, PartialOrd, Ord, Hash)]
 pub struct LinkId(pub u16);
 
