@@ -1,0 +1,25 @@
+//! A run of two cores in one thread: what one tells the others find.
+
+use crate::{EndSeat, Plan};
+use std::alloc::AllocError;
+
+#[test]
+fn two_cores(rt: HostRuntime) -> Result<(), AllocError> {
+    let owners = vec![in rt.alloc(); 1, 0]?;
+    let mut run = EndSeat::new(rt.alloc(), Plan { cores: 2, owners })?;
+    assert_eq!(rt; run.ended(), 0);
+    let mut first = run.split()?;
+    let mut second = run.split()?;
+    first.finish();
+    assert_eq!(rt; (run.ended(), second.ended()), (1, 1));
+    assert_eq!(rt; (first.refusal(0), first.refusal(1)), (0, 0));
+    second.refuse(0, 74);
+    assert_eq!(rt; (first.refusal(0), first.refusal(1)), (74, 0));
+    second.stop();
+    assert_eq!(rt; first.ended(), 18);
+    run.stop();
+    run.join(second);
+    run.join(first);
+    assert_eq!(rt; (run.ended(), run.refusal(0), run.refusal(1)), (35, 74, 0));
+    Ok(())
+}
