@@ -1,6 +1,7 @@
 pub mod Types
 pub mod Interface
 pub mod Sizes
+pub mod Counts
 pub mod Depth
 pub mod Payload
 pub mod Known
