@@ -29,6 +29,7 @@ mod value;
 pub use calls::{CallText, one_reading, read_call, read_call_text, resolve};
 pub use fault::ValueFault;
 pub use fitting::fits;
+pub use order::RANKS;
 pub use printing::{print_call, printed_call_read, printed_reads};
 pub use tape::flatten;
 pub use untape::{one_call_of_a_tape, unflatten};
