@@ -245,10 +245,14 @@ fn push_arguments(
 }
 
 /// The tape of a call.
+///
+/// # Errors
+///
+/// Where memory runs out.
 pub fn flatten(
     alloc: Global,
-    interface: &Interface,
     call: &Call,
+    interface: &Interface,
     plan: PlanNo,
 ) -> Result<Vec<u64>, AllocError>
     ensures tape { IfOk result (λ v. v.items ≡ tape_of plan (interface_of interface.now) (call_of call.now)) }

@@ -348,9 +348,9 @@ fn read_arguments<'a>(
 /// Where memory runs out.
 pub fn unflatten(
     alloc: Global,
-    interface: &Interface,
     msg: MsgNo,
     tape: &[u64],
+    interface: &Interface,
     plan: PlanNo,
 ) -> Result<Option<Call>, AllocError>
     ensures some { IfOk result (λ o. IfSome o (λ c. HasTape plan (interface_of interface.now) msg.0 tape.now (call_of c))) }
@@ -369,9 +369,3 @@ pub fn unflatten(
     let args = declared_order(alloc, plan, &message.args, arranged)?;
     Ok(Some(Call { msg, args }))
 }
-
-/// Fitting calls of one message that have one tape are equal, under either plan: so what [`unflatten`]
-/// gives for the tape of a fitting call is that call.
-pub fn one_call_of_a_tape()
-    ensures one { OneCallOfATape }
-{}
