@@ -119,7 +119,7 @@ fn count(value: &Value) -> usize
 fn count_among(values: &[Value], placed: Placed) -> usize
     ensures exact { result ≡ count_at placed.extent (get_or (map datum_of values.now) placed.argument (number (pos 0))) }
 {
-    if !placed.extent.is_dynamic() {
+    if !placed.extent.is_varying() {
         return 0;
     }
     match values.get(placed.argument as usize) {
@@ -165,7 +165,7 @@ pub(crate) fn start_among(placed: &[Placed], argument: usize) -> Option<usize>
         if each.argument as usize == argument {
             return Some(end.start(each.extent));
         }
-        if each.extent.is_dynamic() {
+        if each.extent.is_varying() {
             return None;
         }
         end = end.after(each.extent, 0);

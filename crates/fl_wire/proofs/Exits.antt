@@ -8,22 +8,21 @@ use Rattle.std.proofs.lemmas.List.{append-nil, map-append, take-append-drop, len
 use Rattle.std.proofs.lemmas.Option.{slice_get-get_or, slice_get_within}
 use Rattle.std.proofs.lemmas.Bool.{leb-true, lt-ltb, eqb-true}
 use Rattle.fl_base.specs.declared.fragment.Frag.{Frag}
-use Rattle.fl_base.specs.Control.{message_of}
+use Rattle.fl_base.specs.Control.{message_of, bare}
 use Rattle.fl_check.specs.Interface.{TheType, scalar, enumeration, structure, array, TheTypes, no_more, field, TheArgType, fixed, text, sized, TheMessage, TheInterface}
 use Rattle.fl_check.specs.Checks.{is_within_limits, is_well_made, are_well_made, is_argument_within, are_arguments_within, is_message_within, are_messages_within, count_of}
 use Rattle.fl_value.specs.Value.{Datum, TheCall}
 use Rattle.fl_value.specs.Fits.{fits_of, fit_message, are_arguments}
-use Rattle.fl_value.specs.Plan.{arranged}
+use Rattle.fl_value.specs.Plan.{arranged, of_ranks}
 use Rattle.fl_value.specs.declared.value.PlanNo.{PlanNo}
 use Rattle.fl_layout.specs.Leaves.{Leaf, leaves, Argument, kind, argument_types, types_of}
 use Rattle.fl_layout.specs.Places.{size, count, count_for}
 use Rattle.fl_wire.specs.Alive.{has_values, all_have_values, argument_has_values}
 use Rattle.fl_wire.specs.Words.{interface_words_fit}
 use Rattle.fl_wire.specs.Payload.{frags_of}
-use Rattle.fl_wire.specs.Classes.{in_classes}
 use Rattle.fl_wire.specs.Standing.{byte_in, words_in}
 use Rattle.fl_wire.specs.Covered.{is_covered, is_length}
-use Rattle.fl_wire.specs.Reading.{plain, AllFit, IsPart, IsWrong, ReadsLeaving}
+use Rattle.fl_wire.specs.Reading.{AllFit, IsPart, IsWrong, ReadsLeaving}
 use Rattle.fl_wire.specs.Shapes.{Agrees, IsWhy, Cut, calls_of}
 use Rattle.fl_wire.specs.Whole.{leaves_of, Whole, NearCall, WrongCall, StopsWhole}
 use Rattle.fl_wire.specs.Wrong.{start_fault, follow_fault, header_fault, IsWrongAt}
@@ -32,7 +31,7 @@ use Rattle.fl_wire.specs.declared.leaf.Stop.{Stop}
 use Rattle.fl_wire.specs.declared.leaf.Stop.TheVariants.{Short, Padding, Value, Length, Memory}
 use Rattle.fl_wire.specs.declared.fault.WireFault.{WireFault}
 use Rattle.fl_wire.specs.declared.fault.WireFault.TheVariants.{NotZero, OutOfType, TooLong, Memory as NoMemory}
-use Rattle.fl_wire.proofs.Arguments.{leaves_classes, arranged_classes, arguments_fit}
+use Rattle.fl_wire.proofs.Arguments.{leaves_ranks, arranged_ranks, arguments_fit}
 use Rattle.fl_wire.proofs.Readings.{make_call, length_frags, count_positive}
 use Rattle.fl_wire.proofs.Decoding.{short_count}
 use Rattle.fl_wire.proofs.Steps.{fewer}
@@ -106,7 +105,7 @@ call_fits : (i : TheInterface) (msg : ℕ) (group : List Frag) (ds : List Datum)
 call_fits i msg group ds g h = fits_known i.messages msg ds (group_known i msg group g) h
 
 call_leaves : (plan : PlanNo) (i : TheInterface) (msg : ℕ) (ds : List Datum) → leaves plan i (make_call msg ds) ≡ leaves_of plan (argument_types i msg) ds
-call_leaves plan i msg ds = leaves_classes plan i (make_call msg ds)
+call_leaves plan i msg ds = leaves_ranks plan i (make_call msg ds)
 
 -- cut short, it is part of a call
 pub part_of : (plan : PlanNo) (i : TheInterface) (msg : ℕ) (group : List Frag) → Sound i → Group i msg group → Cut (calls_of plan (argument_types i msg)) group [] → IsPart plan i group
@@ -120,7 +119,7 @@ part_of plan i msg group sound g cut =
       call = c;
       fits = call_fits i msg group near.one g near.fit;
       short = short;
-      front = ap (map plain) (sym (take_all (length group) group (omega arith)))
+      front = ap (map bare) (sym (take_all (length group) group (omega arith)))
           ∙ group_front plan i c group (length group) g (omega arith) (omega (arith, short)) (subst (λ (ls : List Leaf). Agrees group ls (56 * length group)) (sym same) near.agree);
     }
 
@@ -137,7 +136,7 @@ whole_of plan i msg frags n ds many within g w =
       fits = call_fits i msg group ds g w.fit;
       some = omega (arith, counts, count_positive plan i c);
       within = omega (arith, w.within, long, within);
-      means = ap (map plain) (sym (take-take many n frags (omega (arith, w.within, long))))
+      means = ap (map bare) (sym (take-take many n frags (omega (arith, w.within, long))))
           ∙ group_front plan i c group many g w.within (omega (arith, counts)) (subst (λ (ls : List Leaf). Agrees group ls (56 * many)) (sym same) w.agree)
           ∙ take_all many (frags_of plan i c) (omega (arith, length_frags plan i c, counts));
     }
@@ -194,7 +193,7 @@ wrong_call plan i msg frags n stop fault within sound g w told =
         before = record { at = λ q small. front_byte q (omega (arith, small)) ∙ agree.at q small };
         none = λ d named fd agrees. none_of d named fd (record { at = λ q small. sym (front_byte q (omega (arith, small))) ∙ agrees.at q small });
         is = fault_told stop fault _ _ told near.why ∙ sym (ap (λ (v : Bool). cond v TooLong (cond (is_covered (leaves plan i c) w.p) OutOfType NotZero)) lengths
-            ∙ ap (λ (ls : List Leaf). cond (is_length false (in_classes plan 5 0 (zip ts near.one)) [] w.p) TooLong (cond (is_covered ls w.p) OutOfType NotZero)) same);
+            ∙ ap (λ (ls : List Leaf). cond (is_length false (of_ranks kind plan 5 0 (zip ts near.one)) [] w.p) TooLong (cond (is_covered ls w.p) OutOfType NotZero)) same);
       },
     ))
   where
@@ -243,8 +242,8 @@ wrong_call plan i msg frags n stop fault within sound g w told =
     more : k < count plan i c
     more = omega (arith, longer)
 
-    lengths : is_length false (arranged kind plan (zip ts near.one)) [] w.p ≡ is_length false (in_classes plan 5 0 (zip ts near.one)) [] w.p
-    lengths = ap (λ (xs : List Argument). is_length false xs [] w.p) (arranged_classes plan (zip ts near.one))
+    lengths : is_length false (arranged kind plan (zip ts near.one)) [] w.p ≡ is_length false (of_ranks kind plan 5 0 (zip ts near.one)) [] w.p
+    lengths = ap (λ (xs : List Argument). is_length false xs [] w.p) (arranged_ranks kind plan (zip ts near.one))
 
     length_front : w.p < 56 * length (with_one (take k frags) f)
     length_front =
@@ -265,7 +264,7 @@ wrong_call plan i msg frags n stop fault within sound g w told =
     none_of d named fd agrees =
         let own : d.msg ≡ msg = named ∙ name k refl in
         w.none d.args (subst (λ (m : ℕ). are_arguments (argument_types i m) d.args ≡ true) own (arguments_fit (slice_get i.messages d.msg) d.args fd))
-        (subst (λ (ls : List Leaf). Agrees group ls (w.p + 1)) (leaves_classes plan i d ∙ ap (λ (m : ℕ). leaves_of plan (argument_types i m) d.args) own) agrees)
+        (subst (λ (ls : List Leaf). Agrees group ls (w.p + 1)) (leaves_ranks plan i d ∙ ap (λ (m : ℕ). leaves_of plan (argument_types i m) d.args) own) agrees)
 
     header : (m : ℕ) → k ≡ m → header_fault i (take k frags) f ≡ None
     header zero e = ap (λ (n : ℕ). header_fault i (take n frags) f) e ∙ g.starts f (ap (slice_get group) (sym e) ∙ in_group)
@@ -282,7 +281,7 @@ wrong_call plan i msg frags n stop fault within sound g w told =
           call = c;
           fits = fits;
           short = subst (λ (x : ℕ). x < count plan i c) (sym few) more;
-          front = ap (map plain) (sym (take-take k n frags (omega (arith, small))))
+          front = ap (map bare) (sym (take-take k n frags (omega (arith, small))))
               ∙ group_front plan i c group k g (omega (arith, small, long)) (omega (arith, more)) (fewer group (leaves plan i c) (56 * k) w.p (omega arith) agree)
               ∙ ap (λ (x : ℕ). take x (frags_of plan i c)) (sym few);
         }
@@ -294,7 +293,7 @@ pub record MeansCalls (plan : PlanNo) (i : TheInterface) (frags : List Frag) (ca
   pub whole : List Frag
   pub joined : frags ≡ whole ++ left
   pub fit : AllFit i calls
-  pub mean : map plain whole ≡ flat_map (frags_of plan i) calls
+  pub mean : map bare whole ≡ flat_map (frags_of plan i) calls
 
 pub no_calls : (plan : PlanNo) (i : TheInterface) (frags : List Frag) → MeansCalls plan i frags [] frags
 no_calls plan i frags = record { whole = []; joined = refl; fit = λ k c small. absurd (omega (arith, small)); mean = refl }
@@ -307,7 +306,7 @@ one_call plan i frags left after calls all c count m first is rest =
       whole = m.whole ++ take count left;
       joined = m.joined ∙ ap (λ (xs : List Frag). m.whole ++ xs) (sym (take-append-drop count left)) ∙ sym (append_assoc m.whole (take count left) (drop count left));
       fit = all_join i calls (c ∷ []) m.fit (one_fits i c first.fits);
-      mean = map-append plain m.whole (take count left) ∙ ap (λ (xs : List Frag). xs ++ map plain (take count left)) m.mean
+      mean = map-append bare m.whole (take count left) ∙ ap (λ (xs : List Frag). xs ++ map bare (take count left)) m.mean
           ∙ ap (λ (xs : List Frag). flat_map (frags_of plan i) calls ++ xs) (first.means ∙ sym (append-nil (frags_of plan i c))) ∙ sym (flat_join plan i calls (c ∷ []));
     })
 

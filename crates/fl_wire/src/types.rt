@@ -1,18 +1,13 @@
-//! Widths, alignments and classes of arguments' types.
+//! Sizes and alignments of arguments' types.
 
 ghost use Rattle.std.specs.Prelude.{◌≡◌, ℕ, true, map};
 ghost use Rattle.fl_check.specs.Interface.{arg_type_of, type_of, fields_from, interface_of};
 ghost use Rattle.fl_check.specs.Sizes.{scalar_size, align_of, greatest_align};
 ghost use Rattle.fl_layout.specs.Leaves.{argument_types};
 ghost use Rattle.fl_value.specs.Plan.{is_dynamic};
-ghost use Rattle.fl_wire.specs.Classes.{class_of};
 
 use fl_base::MsgNo;
 use fl_check::{ArgType, FixedType, Interface, Scalar};
-use fl_value::PlanNo;
-
-/// How many classes of arguments a plan may have: it lays them out class by class.
-pub(crate) const CLASSES: u8 = 5;
 
 /// The bytes of a scalar, which are its alignment.
 pub(crate) fn scalar_size(scalar: Scalar) -> usize
@@ -63,24 +58,6 @@ pub(crate) fn is_dynamic(ty: &ArgType) -> bool
     match ty {
         ArgType::Fixed(_) => false,
         _ => true,
-    }
-}
-
-/// The place of an argument's type in the plan's order.
-pub(crate) fn class_for(plan: PlanNo, ty: &ArgType) -> u8
-    ensures class { result ≡ class_of plan (arg_type_of ty.now) }
-{
-    match plan {
-        PlanNo::One => 0,
-        PlanNo::Two => match ty {
-            ArgType::Fixed(fixed) => match alignment(fixed) {
-                8 => 0,
-                4 => 1,
-                2 => 2,
-                _ => 3,
-            },
-            _ => 4,
-        },
     }
 }
 

@@ -7,7 +7,7 @@ use Rattle.fl_check.specs.declared.interface.FixedType.TheFolds.{fold-roll-Fixed
 use Rattle.fl_check.specs.Sizes.{greatest_align}
 use Rattle.fl_value.specs.Value.{Datum, fields, elements, datum_of, data_from}
 use Rattle.fl_wire.specs.Shapes.{nothing, padding, values_of, fields_of, struct_from, elements_of, ReadAt, StopsAt}
-use Rattle.fl_wire.proofs.Arguments.{IsAlign, greatest_is_align}
+use Rattle.fl_wire.proofs.Arguments.{IsAlign, types_align}
 use Rattle.fl_wire.proofs.Steps.{first_stop, come_rest, come_done}
 use Rattle.fl_wire.proofs.Parts.{pushed, elements_on, elements_stop, elements_end, fields_on, fields_stop, fields_end, begins_struct, begins_array, whole_read, struct_start, struct_fields, struct_stop}
 use Rattle.fl_wire.proofs.value.+reading.Goals as goal
@@ -54,13 +54,13 @@ pub read_value-read_padding-requires-clause-align : goal.read_value-read_padding
 read_value-read_padding-requires-clause-align t c =
     let ts = fields_from (map type_of c.in-Structure.fields.items) in
     let g : c.greatest_alignment-align.result ≡ greatest_align ts = c.greatest_alignment-align.ensures.same ∙ ap (λ (fs : List FixedType). greatest_align (fields_from (map type_of fs))) c.deref.ensures.value in
-    subst IsAlign (sym g) (greatest_is_align ts)
+    subst IsAlign (sym g) (types_align ts)
 
 pub read_value-read_padding-requires-in-Structure-clause-align : goal.read_value-read_padding-requires-in-Structure-clause-align
 read_value-read_padding-requires-in-Structure-clause-align t c =
     let ts = fields_from (map type_of c.in-Structure.fields.items) in
     let g : c.greatest_alignment-align.result ≡ greatest_align ts = c.greatest_alignment-align.ensures.same ∙ ap (λ (fs : List FixedType). greatest_align (fields_from (map type_of fs))) c.deref.ensures.value in
-    subst IsAlign (sym g) (greatest_is_align ts)
+    subst IsAlign (sym g) (types_align ts)
 
 pub read_value-returns-in_err-start-in-Structure-clause-stop : goal.read_value-returns-in_err-start-in-Structure-clause-stop
 read_value-returns-in_err-start-in-Structure-clause-stop t c =
