@@ -1,4 +1,3 @@
-pub mod Stamp
 pub mod Cursor
 pub mod Looks
 pub mod Queue

@@ -1,7 +1,7 @@
 -- What one step at a side came to: the label of the traits' step relations.
 use Rattle.std.specs.Prelude.{Result, Ok, Err, List, [], ◌∷◌, ◌≡◌}
 use Rattle.fl_base.specs.declared.fragment.Frag.{Frag}
-use Rattle.fl_link.specs.Stamp.{bare}
+use Rattle.fl_base.specs.Control.{bare}
 use Rattle.fl_link.specs.declared.sides.Sight.{Sight}
 use Rattle.fl_link.specs.declared.sides.Sight.TheVariants.{Data, Acknowledgement, Empty}
 use Rattle.fl_link.specs.declared.sides.Told.{Told}

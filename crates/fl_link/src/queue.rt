@@ -2,15 +2,13 @@
 
 ghost use Rattle.std.specs.Prelude.{◌≡◌, ◌+◌, ◌*◌, ◌^◌, ◌/◌, ◌%◌, ◌<◌, ◌≤◌, ◌-◌, ◌↔◌, ℕ, ◌≢◌, IsTrue, true, false, [], IfOk, OnOk, Ok, Err, refl};
 ghost use Rattle.fl_base.specs.declared.fragment.Frag.{Frag};
-ghost use Rattle.fl_base.specs.Control.{is_ack_only};
-ghost use Rattle.fl_link.specs.Stamp.{bare};
+ghost use Rattle.fl_base.specs.Control.{is_ack_only, bare};
 ghost use Rattle.fl_link.specs.Looks.{placed, no_room, spent, saw, saw_ack, found, found_ack, peeked, taken, tells};
 ghost use Rattle.fl_link.specs.Queue.{TheQueue, QueuePuts, QueueTakes, next_epoch_of, used, front_of, BeginsWith, has_room, MayHave};
 
-use crate::cursor::Cursor;
+use crate::cursor::{Cursor, SPENT};
 use crate::fault::{LinkFault, PutFault};
 use crate::sides::{PutSide, Sight, TakeSide, Told};
-use crate::stamps::{SPENT, stamp};
 use fl_base::{Frag, MAX_QUEUE};
 use std::alloc::Global;
 use std::collections::VecDeque;
@@ -107,7 +105,7 @@ impl QueueLink {
         if self.items.len() + self.untold == self.capacity {
             return Err(PutFault::Full);
         }
-        let stamped = stamp(frag, self.next.epoch(), 0);
+        let stamped = frag.stamp(self.next.epoch(), 0);
         self.items.push_back(stamped).unwrap();
         if self.acked {
             self.next.advance();
