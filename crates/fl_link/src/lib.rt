@@ -13,16 +13,19 @@
 //! - `cursor.rt`: `Cursor`, an index that goes round a ring, and the last index
 //! - `passing.rt`: a fragment passed on from one link to another
 //! - `fault.rt`: why a put or a making is refused
+//! - `law.rt`: what holds of looks in a row, and of a queue over them
 #![tactic(auto)]
 
 mod cursor;
 mod fault;
+mod law;
 mod passing;
 mod queue;
 mod sides;
 
 pub use cursor::{Cursor, SPENT};
 pub use fault::{LinkFault, PutFault};
+pub use law::{calls_alone, filters_join, looks_join, queue_conserves};
 pub use passing::{Passed, pass};
 pub use queue::QueueLink;
 pub use sides::{Link, PutSide, Sight, TakeSide, Told};
