@@ -122,7 +122,8 @@ const ACKNOWLEDGEMENT: Frag = Frag {
 
 /// Puts a fragment at this side.
 pub(crate) fn put_at(words: &mut Vec<u64>, mine: &mut Half, frag: &Frag) -> Result<(), PutFault>
-    requires { (n : ℕ) × (theirs : Half) × InStep n words.old.items mine.old theirs }
+    requires steps { (n : ℕ) × (theirs : Half) × InStep n words.old.items mine.old theirs }
+    requires data { is_ack_only frag.now ≡ false }
     ensures placed { OnOk result (Goes HalfPuts words.old.items mine.old (placed (bare frag.now)) words.new.items mine.new) }
     ensures full { result ≡ Err PutFault.Full → Goes HalfPuts words.old.items mine.old no_room words.new.items mine.new }
     ensures spent { result ≡ Err PutFault.Spent → Goes HalfPuts words.old.items mine.old spent words.new.items mine.new }
