@@ -74,6 +74,10 @@ with_written h = record { sent = h.sent + 1; known = h.known; told = got h; read
 abbrev pub with_arrived : TheHalf → Frag → TheHalf
 with_arrived h frag = record { sent = h.sent; known = h.known; told = h.told; read = h.read; waiting = h.waiting ++ frag ∷ [] }
 
+-- a side with these fragments waiting
+abbrev pub with_waiting : TheHalf → List Frag → TheHalf
+with_waiting h frags = record { sent = h.sent; known = h.known; told = h.told; read = h.read; waiting = frags }
+
 -- the side once it has taken the first fragment, where these are the others
 abbrev pub with_taken : TheHalf → Frag → List Frag → TheHalf
 with_taken h first rest = record { sent = h.sent; known = looked h; told = h.told; read = h.read ++ first ∷ []; waiting = rest }
