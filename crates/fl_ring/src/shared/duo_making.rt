@@ -117,7 +117,7 @@ fn sides_of(
     Ok((one, two))
 }
 
-/// The two sides of one ring, in one hand again: what each took is a front of what the other put, and
+/// The two sides of one ring, in one hand again: what each took is a prefix of what the other put, and
 /// every count is near the one that is known.
 pub fn settle_duo(one: SharedSide, other: SharedSide)
     requires ring { one.ring ≡ other.ring }
