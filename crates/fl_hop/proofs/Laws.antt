@@ -8,8 +8,8 @@ use Rattle.fl_base.specs.declared.identity.Circuit.{Circuit}
 use Rattle.fl_base.specs.declared.identity.EndId.{EndId}
 use Rattle.fl_base.specs.declared.identity.Side.{Side}
 use Rattle.fl_base.specs.declared.identity.Side.TheVariants.{Client, Server}
-use Rattle.fl_base.specs.Control.{circuit_of}
-use Rattle.fl_link.specs.Stamp.{bare}
+use Rattle.fl_base.specs.Control.{circuit_of, with_circuit, bare}
+use Rattle.fl_base.specs.Prefix.{IsPrefix}
 use Rattle.fl_hop.specs.declared.entry.Way.{Way}
 use Rattle.fl_hop.specs.declared.entry.Way.TheVariants.{Link, End}
 use Rattle.fl_hop.specs.declared.entry.Hop.{Hop}
@@ -17,8 +17,8 @@ use Rattle.fl_hop.specs.Table.{TheCircuits, hop_at, leading}
 use Rattle.fl_hop.specs.Numbers.{Given}
 use Rattle.fl_hop.specs.Joined.{Sound, Leads}
 use Rattle.fl_hop.specs.Later.{Later, way_at}
-use Rattle.fl_hop.specs.OfCircuit.{with_circuit, plain, of_circuit}
-use Rattle.fl_hop.specs.Carried.{Step, Went, AllWent, taken_from, if_put_on, put_on, same_side, same_end, if_come_to, come_to, NoOther, Front, Leg, Along}
+use Rattle.fl_hop.specs.OfCircuit.{as_carried, of_circuit}
+use Rattle.fl_hop.specs.Carried.{Step, Went, AllWent, taken_from, if_put_on, put_on, same_side, same_end, if_come_to, come_to, NoOther, Leg, Along}
 use Rattle.fl_hop.proofs.Numbering.{small}
 use Rattle.fl_hop.proofs.Cells.{same_link, same_circuit, cond_true, cond_false}
 
@@ -101,8 +101,8 @@ plain_step : (w d v : ℕ) → v ≡ w - 2 ^ 32 * circuit_of w + 2 ^ 32 * d → 
 plain_step w d v e c = omega (arith, e, c)
 
 -- and is carried as the same
-same_plain : (frag : Frag) (d : ℕ) → d ≤ 2046 → plain (with_circuit d frag) ≡ plain frag
-same_plain frag d l =
+same_carried : (frag : Frag) (d : ℕ) → d ≤ 2046 → as_carried (with_circuit d frag) ≡ as_carried frag
+same_carried frag d l =
     let f : ℕ → Frag = λ w. bare (record { words = frag.words; control = w }) in
     ap f (plain_step frag.control d (frag.control - 2 ^ 32 * circuit_of frag.control + 2 ^ 32 * d) refl (circuit_step frag.control d l))
 
@@ -112,16 +112,16 @@ is_eq a b e = grind (arith, nat_tests, e)
 not_eq : (a b : ℕ) → a ≢ b → (a == b) ≡ false
 not_eq a b n = grind (arith, nat_tests, n)
 
-of_here : (c : ℕ) (frag : Frag) (rest : List Frag) → circuit_of frag.control ≡ c → of_circuit c (frag ∷ rest) ≡ plain frag ∷ of_circuit c rest
-of_here c frag rest e = cond_true (circuit_of frag.control == c) (plain frag ∷ of_circuit c rest) (of_circuit c rest) (is_eq (circuit_of frag.control) c e)
+of_here : (c : ℕ) (frag : Frag) (rest : List Frag) → circuit_of frag.control ≡ c → of_circuit c (frag ∷ rest) ≡ as_carried frag ∷ of_circuit c rest
+of_here c frag rest e = cond_true (circuit_of frag.control == c) (as_carried frag ∷ of_circuit c rest) (of_circuit c rest) (is_eq (circuit_of frag.control) c e)
 
 of_other : (c : ℕ) (frag : Frag) (rest : List Frag) → circuit_of frag.control ≢ c → of_circuit c (frag ∷ rest) ≡ of_circuit c rest
-of_other c frag rest n = cond_false (circuit_of frag.control == c) (plain frag ∷ of_circuit c rest) (of_circuit c rest) (not_eq (circuit_of frag.control) c n)
+of_other c frag rest n = cond_false (circuit_of frag.control == c) (as_carried frag ∷ of_circuit c rest) (of_circuit c rest) (not_eq (circuit_of frag.control) c n)
 
 -- One step.
 
 -- what is taken on a link by a step from it, or from another
-from_here : (l c : ℕ) (p : Step) (ps : List Step) → p.from ≡ l → circuit_of p.frag.control ≡ c → of_circuit c (taken_from l (p ∷ ps)) ≡ plain p.frag ∷ of_circuit c (taken_from l ps)
+from_here : (l c : ℕ) (p : Step) (ps : List Step) → p.from ≡ l → circuit_of p.frag.control ≡ c → of_circuit c (taken_from l (p ∷ ps)) ≡ as_carried p.frag ∷ of_circuit c (taken_from l ps)
 from_here l c p ps e f =
     ap (of_circuit c) (cond_true (p.from == l) (p.frag ∷ taken_from l ps) (taken_from l ps) (is_eq p.from l e))
     ∙ of_here c p.frag (taken_from l ps) f
@@ -136,12 +136,12 @@ from_other l c p ps n =
     ]
 
 -- what is put on a link by a step that goes there under a number, or another way
-put_here : (m : LinkId) (d : Circuit) (frag : Frag) (way : Way) (rest : List Frag) → way ≡ Link m d → d.0 ≤ 2046 → of_circuit d.0 (if_put_on m.0 frag way rest) ≡ plain frag ∷ of_circuit d.0 rest
+put_here : (m : LinkId) (d : Circuit) (frag : Frag) (way : Way) (rest : List Frag) → way ≡ Link m d → d.0 ≤ 2046 → of_circuit d.0 (if_put_on m.0 frag way rest) ≡ as_carried frag ∷ of_circuit d.0 rest
 put_here m d frag way rest is small =
     ap (λ w. of_circuit d.0 (if_put_on m.0 frag w rest)) is
     ∙ ap (of_circuit d.0) (cond_true (m.0 == m.0) (with_circuit d.0 frag ∷ rest) rest (is_eq m.0 m.0 refl))
     ∙ of_here d.0 (with_circuit d.0 frag) rest (has_circuit frag d.0 small)
-    ∙ ap (λ f. f ∷ of_circuit d.0 rest) (same_plain frag d.0 small)
+    ∙ ap (λ f. f ∷ of_circuit d.0 rest) (same_carried frag d.0 small)
 
 put_other : (m : LinkId) (d : Circuit) (frag : Frag) (way : Way) (rest : List Frag) → (way ≡ Link m d → ⊥) → ((k : LinkId) (i : Circuit) → way ≡ Link k i → i.0 ≤ 2046) → of_circuit d.0 (if_put_on m.0 frag way rest) ≡ of_circuit d.0 rest
 put_other m d frag (End e) rest n small = refl
@@ -223,7 +223,7 @@ module _ (t : TheCircuits) (sound : Sound t) (l m : LinkId) (c d : Circuit) (bin
               | inr apart ↦ away (λ e f. apart f)
               | inl too ↦
                   put_here m d p.frag p.way (put_on m.0 ps) (goes p w same too) far
-                  ∙ ap (λ fs. plain p.frag ∷ fs) rest
+                  ∙ ap (λ fs. as_carried p.frag ∷ fs) rest
                   ∙ sym (from_here l.0 c.0 p ps same too)
             ]
       ]
@@ -271,16 +271,16 @@ bool_cases : (b : Bool) → (b ≡ true) ⊎ (b ≡ false)
 bool_cases true = inl refl
 bool_cases false = inr refl
 
-come_here : (e : EndId) (frag : Frag) (way : Way) (rest : List Frag) → way ≡ End e → if_come_to e frag way rest ≡ plain frag ∷ rest
+come_here : (e : EndId) (frag : Frag) (way : Way) (rest : List Frag) → way ≡ End e → if_come_to e frag way rest ≡ as_carried frag ∷ rest
 come_here e frag way rest is =
-    ap (λ w. if_come_to e frag w rest) is ∙ cond_true (same_end e e) (plain frag ∷ rest) rest (end_same e)
+    ap (λ w. if_come_to e frag w rest) is ∙ cond_true (same_end e e) (as_carried frag ∷ rest) rest (end_same e)
 
 come_other : (e : EndId) (frag : Frag) (way : Way) (rest : List Frag) → (way ≡ End e → ⊥) → if_come_to e frag way rest ≡ rest
 come_other e frag (Link k i) rest n = refl
 come_other e frag (End f) rest n =
     elim (bool_cases (same_end f e)) [
       | inl same ↦ let g : EndId → Way = λ x. End x in absurd (n (ap g (same_end_is f e same)))
-      | inr other ↦ cond_false (same_end f e) (plain frag ∷ rest) rest other
+      | inr other ↦ cond_false (same_end f e) (as_carried frag ∷ rest) rest other
     ]
 
 module _ (t : TheCircuits) (sound : Sound t) (l : LinkId) (c : Circuit) (binding : ℕ) (e : EndId) (leads : Leads t l.0 c.0 binding (End e)) where
@@ -302,7 +302,7 @@ module _ (t : TheCircuits) (sound : Sound t) (l : LinkId) (c : Circuit) (binding
                   (moved w.moment t p.from l.0 (circuit_of p.frag.control) c.0 p.way same too w.led)
                   (leads_way t l.0 c.0 binding (End e) leads) in
                   come_here e p.frag p.way (come_to e ps) way
-                  ∙ ap (λ fs. plain p.frag ∷ fs) rest
+                  ∙ ap (λ fs. as_carried p.frag ∷ fs) rest
                   ∙ sym (from_here l.0 c.0 p ps same too)
             ]
       ]
@@ -329,11 +329,11 @@ module _ (t : TheCircuits) (sound : Sound t) (l : LinkId) (c : Circuit) (binding
 
 -- Along a route.
 
-front_chain : (xs ys zs : List Frag) → Front xs ys → Front ys zs → Front xs zs
-front_chain xs ys zs a b = (a.0 ++ b.0, b.1 ∙ ap (λ v. v ++ b.0) a.1 ∙ append_assoc xs a.0 b.0)
+prefix_chain : (xs ys zs : List Frag) → IsPrefix xs ys → IsPrefix ys zs → IsPrefix xs zs
+prefix_chain xs ys zs a b = (a.0 ++ b.0, b.1 ∙ ap (λ v. v ++ b.0) a.1 ∙ append_assoc xs a.0 b.0)
 
-pub along : (gs : List Leg) (ins outs : List Frag) → Along ins gs outs → Front outs ins
+pub along : (gs : List Leg) (ins outs : List Frag) → Along ins gs outs → IsPrefix outs ins
 along [] ins outs a = a
 along (g ∷ gs) ins outs a =
-    front_chain outs (of_circuit g.circuit g.got) ins (along gs (of_circuit g.circuit g.got) outs a.2)
-    (front_chain (of_circuit g.circuit g.got) (of_circuit g.circuit g.sent) ins a.1 a.0)
+    prefix_chain outs (of_circuit g.circuit g.got) ins (along gs (of_circuit g.circuit g.got) outs a.2)
+    (prefix_chain (of_circuit g.circuit g.got) (of_circuit g.circuit g.sent) ins a.1 a.0)

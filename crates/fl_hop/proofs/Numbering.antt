@@ -3,9 +3,8 @@ use Rattle.std.proofs.Common.{◌≡◌, ◌≢◌, refl, sym, ◌∙◌, ℕ, �
 use mathlib.Core.Bool.{beq}
 use Rattle.std.proofs.lemmas.Bool.Decides.{nat_tests}
 use Rattle.fl_base.specs.declared.fragment.Frag.{Frag}
-use Rattle.fl_base.specs.Control.{circuit_of, is_ack_only}
+use Rattle.fl_base.specs.Control.{circuit_of, is_ack_only, with_circuit}
 use Rattle.fl_hop.specs.Numbers.{number, IsAmong}
-use Rattle.fl_hop.specs.OfCircuit.{with_circuit}
 use Rattle.fl_hop.proofs.Cells.{is_less, less_is}
 
 among_odd : (n count : ℕ) → n ≢ 0 → n % 2 ≡ 1 → ((n - 1) / 2 < count → (k : ℕ) × (k < count) × (n ≡ 2 * k + 1)) × ((k : ℕ) → k < count → n ≡ 2 * k + 1 → (n - 1) / 2 < count)

@@ -1,18 +1,19 @@
 -- What comes out of a circuit is what went in: over a stretch of forwards at one core, and along a route.
-use Rattle.std.specs.Prelude.{ℕ, ◌≡◌, ◌==◌, ◌&&◌, Bool, true, false, if◌then◌else◌, List, [], ◌∷◌, ◌++◌, Some}
+use Rattle.std.specs.Prelude.{ℕ, ◌≡◌, ◌==◌, ◌&&◌, Bool, true, false, if◌then◌else◌, List, [], ◌∷◌, Some}
 use Rattle.fl_base.specs.declared.fragment.Frag.{Frag}
 use Rattle.fl_base.specs.declared.identity.LinkId.{LinkId}
 use Rattle.fl_base.specs.declared.identity.Circuit.{Circuit}
 use Rattle.fl_base.specs.declared.identity.EndId.{EndId}
 use Rattle.fl_base.specs.declared.identity.Side.{Side}
 use Rattle.fl_base.specs.declared.identity.Side.TheVariants.{Client, Server}
-use Rattle.fl_base.specs.Control.{circuit_of}
+use Rattle.fl_base.specs.Control.{circuit_of, with_circuit}
+use Rattle.fl_base.specs.Prefix.{IsPrefix}
 use Rattle.fl_hop.specs.declared.entry.Way.{Way}
 use Rattle.fl_hop.specs.declared.entry.Way.TheVariants.{Link, End}
 use Rattle.fl_hop.specs.Table.{TheCircuits}
 use Rattle.fl_hop.specs.Joined.{Sound, Leads}
 use Rattle.fl_hop.specs.Later.{Later, way_at}
-use Rattle.fl_hop.specs.OfCircuit.{with_circuit, plain, of_circuit}
+use Rattle.fl_hop.specs.OfCircuit.{as_carried, of_circuit}
 
 -- one fragment passed on: from which link, as it stood there, and which way
 pub record Step : Type 0 where
@@ -59,7 +60,7 @@ same_end a b = (a.binding == b.binding) && same_side a.side b.side
 -- a fragment as it came to an end, if it went there
 abbrev pub if_come_to : EndId → Frag → Way → List Frag → List Frag
 if_come_to e frag (Link m c) rest = rest
-if_come_to e frag (End f) rest = if same_end f e then plain frag ∷ rest else rest
+if_come_to e frag (End f) rest = if same_end f e then as_carried frag ∷ rest else rest
 
 -- what came to an end's arrival queue, in order
 abbrev pub come_to : EndId → List Step → List Frag
@@ -87,18 +88,14 @@ abbrev pub OwnAlone : Type 0
 OwnAlone = (t : TheCircuits) (l : LinkId) (c : Circuit) (binding : ℕ) (e : EndId) (ps : List Step) → Sound t → Leads t l.0 c.0 binding (End e) → AllWent t ps
     → of_circuit c.0 (put_on l.0 ps) ≡ []
 
--- a list begins with another
-abbrev pub Front : List Frag → List Frag → Type 0
-Front xs ys = (rest : List Frag) × (ys ≡ xs ++ rest)
-
 -- one leg of a route: the circuit on its link, what was sent on the link, and what was got from it, of all its circuits
 pub record Leg : Type 0 where
   pub circuit : ℕ
   pub sent : List Frag
   pub got : List Frag
 
--- each link was sent a front of what came before it, on its circuit, and gave a front of what it was sent; a link changes
+-- each link was sent a prefix of what came before it, on its circuit, and gave a prefix of what it was sent; a link changes
 -- epochs and counts told, which are set aside
 abbrev pub Along : List Frag → List Leg → List Frag → Type 0
-Along ins [] outs = Front outs ins
-Along ins (g ∷ gs) outs = Front (of_circuit g.circuit g.sent) ins × Front (of_circuit g.circuit g.got) (of_circuit g.circuit g.sent) × Along (of_circuit g.circuit g.got) gs outs
+Along ins [] outs = IsPrefix outs ins
+Along ins (g ∷ gs) outs = IsPrefix (of_circuit g.circuit g.sent) ins × IsPrefix (of_circuit g.circuit g.got) (of_circuit g.circuit g.sent) × Along (of_circuit g.circuit g.got) gs outs

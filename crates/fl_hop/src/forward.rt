@@ -1,10 +1,8 @@
 //! Looking at a link's first fragment, and passing it on.
 
 ghost use Rattle.std.specs.Prelude.{◌≡◌, ◌≢◌, ◌<◌, false, length, slice_get, Some};
-ghost use Rattle.fl_base.specs.Control.{circuit_of, message_of, first_of, epoch_of, told_of, reserved_of, is_ack_only};
-ghost use Rattle.fl_link.specs.Stamp.{bare};
+ghost use Rattle.fl_base.specs.Control.{is_ack_only, with_circuit, bare};
 ghost use Rattle.fl_link.specs.Looks.{saw};
-ghost use Rattle.fl_hop.specs.OfCircuit.{with_circuit};
 ghost use Rattle.fl_hop.specs.Forward.{Finds, Moves, Forwards, Crosses};
 
 use crate::circuits::Circuits;
@@ -53,25 +51,6 @@ pub enum Forwarded {
     Onward(Outcome),
 }
 
-/// The fragment with this circuit in its control word, and all else the same.
-pub fn with_circuit(frag: &Frag, circuit: Circuit) -> Frag
-    ensures whole { result ≡ with_circuit circuit.0 frag.now }
-    ensures circuit { circuit_of result.control ≡ circuit.0 }
-    ensures words { result.words ≡ frag.now.words }
-    ensures message { message_of result.control ≡ message_of frag.now.control }
-    ensures first { first_of result.control ≡ first_of frag.now.control }
-    ensures epoch { epoch_of result.control ≡ epoch_of frag.now.control }
-    ensures told { told_of result.control ≡ told_of frag.now.control }
-    ensures reserved { reserved_of result.control ≡ reserved_of frag.now.control }
-{
-    let control = frag.control;
-    let old = control / 4_294_967_296 % 65_536;
-    Frag {
-        words: frag.words,
-        control: control - 4_294_967_296 * old + 4_294_967_296 * u64::from(circuit.0),
-    }
-}
-
 /// Passes on a fragment that was seen to stand first: puts it on the way out with this circuit, and takes it where that
 /// succeeds. Where the way out has no room nothing is taken, and nothing is put.
 pub fn move_on<T: TakeSide, P: PutSide>(
@@ -84,7 +63,7 @@ pub fn move_on<T: TakeSide, P: PutSide>(
     requires call { is_ack_only (with_circuit circuit.0 frag.now) ≡ false }
     ensures moves { Moves T.takes P.puts from.old to.old frag.now circuit.0 result from.new to.new }
 {
-    let frag = with_circuit(frag, circuit);
+    let frag = frag.with_circuit(circuit);
     match to.put(&frag) {
         Err(PutFault::Full) => Outcome::Full,
         Err(PutFault::Spent) => Outcome::Spent,
@@ -110,7 +89,7 @@ fn cross<S: TakeSide + PutSide>(
     requires call { is_ack_only (with_circuit circuit.0 frag.now) ≡ false }
     ensures crosses { Crosses S.takes S.puts sides.old from to frag.now circuit.0 result sides.new }
 {
-    let frag = with_circuit(frag, circuit);
+    let frag = frag.with_circuit(circuit);
     match sides[to].put(&frag) {
         Err(PutFault::Full) => Outcome::Full,
         Err(PutFault::Spent) => Outcome::Spent,
@@ -158,7 +137,7 @@ impl Circuits {
             None => Err(HopFault::Astray),
             Some(Way::Link(next, number)) => Ok(First::Goes(frag, Way::Link(next, number))),
             Some(Way::End(end)) => {
-                if with_circuit(&frag, Circuit(0)).is_ack_only() {
+                if frag.with_circuit(Circuit(0)).is_ack_only() {
                     return Err(HopFault::Marked);
                 }
                 Ok(First::Goes(frag, Way::End(end)))

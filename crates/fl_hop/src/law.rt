@@ -2,11 +2,12 @@
 
 ghost use Rattle.std.specs.Prelude.{◌≡◌, ℕ, List, None};
 ghost use Rattle.fl_base.specs.declared.fragment.Frag.{Frag};
+ghost use Rattle.fl_base.specs.Prefix.{IsPrefix};
 ghost use Rattle.fl_hop.specs.Table.{TheCircuits, hop_at};
 ghost use Rattle.fl_hop.specs.Numbers.{OpenedHere, OpenedThere};
 ghost use Rattle.fl_hop.specs.Joined.{Sound};
 ghost use Rattle.fl_hop.specs.Later.{Later};
-ghost use Rattle.fl_hop.specs.Carried.{CarriedOn, CarriedIn, OwnAlone, Leg, Along, Front};
+ghost use Rattle.fl_hop.specs.Carried.{CarriedOn, CarriedIn, OwnAlone, Leg, Along};
 
 use crate::circuits::Circuits;
 
@@ -47,7 +48,7 @@ pub fn own_alone()
     ensures alone { OwnAlone }
 {}
 
-/// Along a route, what comes out at its end is a front of what was put in at its start.
+/// Along a route, what comes out at its end is a prefix of what was put in at its start.
 pub fn along()
-    ensures front { (ins outs : List Frag) (legs : List Leg) → Along ins legs outs → Front outs ins }
+    ensures prefix { (ins outs : List Frag) (legs : List Leg) → Along ins legs outs → IsPrefix outs ins }
 {}
