@@ -74,6 +74,9 @@ and_false true b e = cc
 and_false false b e = refl
 
 -- a fragment of a circuit doesn't only acknowledge
+pub not_ack : (frag : Frag) → circuit_of frag.control ≢ 0 → is_ack_only frag ≡ false
+not_ack frag some = and_false _ _ (ack_step frag.control some)
+
 pub of_call : (frag : Frag) (d : ℕ) → d ≢ 0 → d ≤ 2046 → is_ack_only (with_circuit d frag) ≡ false
 of_call frag d some small =
     let e = circuit_step frag.control d (omega arith) in

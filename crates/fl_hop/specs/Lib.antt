@@ -4,6 +4,7 @@ pub mod Joined
 pub mod Openings
 pub mod Later
 pub mod OfCircuit
+pub mod Stretch
 pub mod Forward
 pub mod Carried
 pub mod Faults

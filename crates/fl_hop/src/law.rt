@@ -1,13 +1,14 @@
 //! What holds of every table, and of every stretch of forwards.
 
-ghost use Rattle.std.specs.Prelude.{◌≡◌, ℕ, List, None};
+ghost use Rattle.std.specs.Prelude.{◌≡◌, ◌++◌, ℕ, List, None};
 ghost use Rattle.fl_base.specs.declared.fragment.Frag.{Frag};
 ghost use Rattle.fl_base.specs.Prefix.{IsPrefix};
 ghost use Rattle.fl_hop.specs.Table.{TheCircuits, hop_at};
 ghost use Rattle.fl_hop.specs.Numbers.{OpenedHere, OpenedThere};
 ghost use Rattle.fl_hop.specs.Joined.{Sound};
 ghost use Rattle.fl_hop.specs.Later.{Later};
-ghost use Rattle.fl_hop.specs.Carried.{CarriedOn, CarriedIn, OwnAlone, Leg, Along};
+ghost use Rattle.fl_hop.specs.Carried.{OneEntry, Joins, StoodToo, CarriedOn, CarriedIn, OwnAlone, SetAside, Leg, Along};
+ghost use Rattle.fl_hop.specs.OfCircuit.{of_circuit};
 
 use crate::circuits::Circuits;
 
@@ -26,14 +27,22 @@ pub fn numbers_apart()
     ensures zero { (t : TheCircuits) → Sound t → (l : ℕ) → hop_at t l 0 ≡ None }
 {}
 
-/// What a table became, and what that became: a table keeps what each call keeps.
+/// What a table became, and what that became: a table keeps what each call keeps. An entry's number names it for ever.
 pub fn later_on()
     ensures same { (t : TheCircuits) → Later t t }
     ensures further { (t u v : TheCircuits) → Later t u → Later u v → Later t v }
+    ensures one { OneEntry }
 {}
 
-/// Over any stretch of forwards at one core, what came out under an entry's number is what went in under the number on its
-/// other side, whatever other circuits share the links.
+/// One stretch of forwards and then another are one; an entry that stood at some moment of either stood at some moment of
+/// both together.
+pub fn stretches_join()
+    ensures joins { Joins }
+    ensures stood { StoodToo }
+{}
+
+/// Over any stretch of forwards at one core, what came out under the number of an entry that stood at some moment of it is
+/// what went in under the number on its other side, whatever other circuits share the links.
 pub fn carried_on()
     ensures carried { CarriedOn }
 {}
@@ -46,6 +55,14 @@ pub fn carried_in()
 /// And nothing is put under the number that an end at this core writes on.
 pub fn own_alone()
     ensures alone { OwnAlone }
+{}
+
+/// Of one list and then another a circuit carries what it carries of each; so of a prefix a prefix. It tells no epochs and
+/// no counts.
+pub fn circuits_join()
+    ensures joins { (c : ℕ) (frags more : List Frag) → of_circuit c (frags ++ more) ≡ of_circuit c frags ++ of_circuit c more }
+    ensures prefix { (c : ℕ) (got sent : List Frag) → IsPrefix got sent → IsPrefix (of_circuit c got) (of_circuit c sent) }
+    ensures set_aside { SetAside }
 {}
 
 /// Along a route, what comes out at its end is a prefix of what was put in at its start.

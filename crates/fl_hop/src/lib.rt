@@ -35,6 +35,9 @@ pub use circuits::Circuits;
 pub use entry::{Hop, Way};
 pub use fault::HopFault;
 pub use forward::{First, Forwarded, Outcome, deliver, move_on};
-pub use law::{along, carried_in, carried_on, later_on, never_shared, numbers_apart, own_alone};
+pub use law::{
+    along, carried_in, carried_on, circuits_join, later_on, never_shared, numbers_apart, own_alone,
+    stretches_join,
+};
 pub use links::LinkState;
 pub use numbers::{MAX_LINKS, MAX_OPENINGS};
