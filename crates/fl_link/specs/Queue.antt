@@ -2,8 +2,7 @@
 use Rattle.std.specs.Prelude.{ℕ, ◌≡◌, ◌+◌, ◌<◌, ◌≤◌, ◌^◌, ◌&&◌, nat_lt, Bool, IsTrue, true, false, if◌then◌else◌, List, [], ◌∷◌, ◌++◌, length}
 use Rattle.std.specs.Int.{is_power_of_two}
 use Rattle.fl_base.specs.declared.fragment.Frag.{Frag}
-use Rattle.fl_base.specs.Control.{is_ack_only}
-use Rattle.fl_link.specs.Stamp.{bare, stamped}
+use Rattle.fl_base.specs.Control.{is_ack_only, bare, stamped}
 use Rattle.fl_link.specs.Cursor.{epoch_at}
 use Rattle.fl_link.specs.Looks.{Look, placed, no_room, spent, saw, saw_ack, found, found_ack, missed, told, kept}
 
@@ -85,9 +84,13 @@ abbrev pub MayHave : Bool → ℕ → Type 0
 MayHave false n = (0 < n) × (n ≤ 1024)
 MayHave true n = (1 < n) × (n ≤ 1024) × IsTrue (is_power_of_two n)
 
+-- there was room, and this fragment stands last now
+abbrev pub QueueGains : TheQueue → Frag → TheQueue → Type 0
+QueueGains s frag t = HasRoom s × (t ≡ with_put s frag)
+
 -- one put, by what it came to
 abbrev pub QueuePuts : TheQueue → Look → TheQueue → Type 0
-QueuePuts s (placed frag) t = HasRoom s × (t ≡ with_put s frag)
+QueuePuts s (placed frag) t = (is_ack_only frag ≡ false) × QueueGains s frag t
 QueuePuts s no_room t = IsFull s × (t ≡ s)
 QueuePuts s spent t = IsSpent s × (t ≡ s)
 QueuePuts s _ t = ⊥

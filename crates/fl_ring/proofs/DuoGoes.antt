@@ -2,9 +2,8 @@
 use Rattle.std.proofs.Common.{ℕ, ◌≡◌, ◌<◌, ◌≤◌, ◌+◌, ◌-◌, ◌/◌, ◌%◌, ◌^◌, true, false, nat_le, List, [], ◌∷◌, ◌++◌, length, ap, subst, ◌∙◌, sym, refl, arith}
 use Rattle.std.proofs.lemmas.Bool.{leb-true, leb-false}
 use Rattle.fl_base.specs.declared.fragment.Frag.{Frag}
-use Rattle.fl_base.specs.Control.{told_of, is_ack_only}
+use Rattle.fl_base.specs.Control.{told_of, is_ack_only, bare}
 use Rattle.fl_link.specs.Cursor.{epoch_at}
-use Rattle.fl_link.specs.Stamp.{bare}
 use Rattle.fl_link.specs.Looks.{placed, found, found_ack, told}
 use Rattle.fl_link.proofs.Carried.{stamped-bare}
 use Rattle.fl_ring.specs.Counts.{count_from, known_after}

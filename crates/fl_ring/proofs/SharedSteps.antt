@@ -4,12 +4,13 @@ use mathlib.Core.Option.{none}
 use Rattle.atomic_table.specs.Table.{Me, step, Allows}
 use Rattle.fl_base.specs.declared.fragment.Frag.{Frag}
 use Rattle.fl_base.specs.Control.{epoch_of}
+use Rattle.fl_base.specs.Prefix.{IsPrefix}
 use Rattle.fl_link.specs.Cursor.{epoch_at}
 use Rattle.fl_ring.specs.declared.shared.board.Writing.{Writing}
 use Rattle.fl_ring.specs.declared.shared.board.Reading.{Reading}
 use Rattle.fl_ring.specs.declared.shared.board.View.{View}
 use Rattle.fl_ring.specs.Way.{slot}
-use Rattle.fl_ring.specs.SharedWay.{IsFront, IsDue, WayRuns, with_stored, with_put, with_known, with_control, with_loaded, with_peeked, with_got, with_told}
+use Rattle.fl_ring.specs.SharedWay.{IsDue, WayRuns, with_stored, with_put, with_known, with_control, with_loaded, with_peeked, with_got, with_told}
 use Rattle.fl_ring.specs.SharedRing.{Sides, Fits, RingHolds, RingRule, with_writing, with_reading, stores_word, stores_control, loads_told, loads_control, loads_word, loads_peeked, loads_taken, stores_told, compares}
 use Rattle.fl_ring.proofs.Places.{slot_within}
 use Rattle.fl_ring.proofs.SharedTables.{Moves, allows_by, allows_load}
@@ -224,7 +225,7 @@ pub allows_compare : (n slots id i : ℕ) (me : Seated) → me.0.writes ≡ true
 allows_compare n slots id i me writes reads =
     allows_load (Fits n) (Held n) slots id i me (compares (step slots i 0 0 none) me)
     (λ ws s fits held.
-    let front : IsFront s.take.got s.put.sent = held.way.got_sent in
-    let mine : IsFront me.0.take.got me.0.put.sent =
-    subst (λ (xs : List Frag). IsFront xs me.0.put.sent) (sym (ap (λ (r : Reading). r.got) (fits.1 reads).1)) (subst (λ (xs : List Frag). IsFront s.take.got xs) (sym (ap (λ (w : Writing). w.sent) (fits.0 writes).1)) front) in
+    let front : IsPrefix s.take.got s.put.sent = held.way.got_sent in
+    let mine : IsPrefix me.0.take.got me.0.put.sent =
+    subst (λ (xs : List Frag). IsPrefix xs me.0.put.sent) (sym (ap (λ (r : Reading). r.got) (fits.1 reads).1)) (subst (λ (xs : List Frag). IsPrefix s.take.got xs) (sym (ap (λ (w : Writing). w.sent) (fits.0 writes).1)) front) in
     record { account = s; view = me.0; mine = fits; others = λ j u ne f. f; holds = held; tells = (refl, mine) })

@@ -16,12 +16,13 @@ use Rattle.std.specs.Prelude.{ℕ, ◌≡◌, ◌+◌, ◌*◌, ◌≤◌, ◌<�
 use Rattle.atomic_table.specs.Table.{State, Me, Step}
 use Rattle.fl_base.specs.declared.fragment.Frag.{Frag}
 use Rattle.fl_base.specs.Control.{epoch_of}
+use Rattle.fl_base.specs.Prefix.{IsPrefix}
 use Rattle.fl_link.specs.Cursor.{epoch_at}
 use Rattle.fl_ring.specs.declared.shared.board.Writing.{Writing}
 use Rattle.fl_ring.specs.declared.shared.board.Reading.{Reading}
 use Rattle.fl_ring.specs.declared.shared.board.View.{View}
 use Rattle.fl_ring.specs.Way.{slot}
-use Rattle.fl_ring.specs.SharedWay.{IsFront, IsDue, WayRuns, with_stored, with_put, with_known, with_control, with_loaded, with_peeked, with_got, with_told, loaded_frag}
+use Rattle.fl_ring.specs.SharedWay.{IsDue, WayRuns, with_stored, with_put, with_known, with_control, with_loaded, with_peeked, with_got, with_told, loaded_frag}
 use Rattle.fl_ring.specs.SharedTable.{Accounted}
 
 -- ---- the rule
@@ -146,4 +147,4 @@ stores_told st m x m' = (m' ≡ (with_reading m.0 (with_told m.0.take x), m.1))
     × (st.word ≡ told_word m.0) × (m.0.take.told ≤ x) × (x ≤ length m.0.take.got)
 
 abbrev pub compares : Player
-compares st m x m' = (m' ≡ m) × IsFront m.0.take.got m.0.put.sent
+compares st m x m' = (m' ≡ m) × IsPrefix m.0.take.got m.0.put.sent

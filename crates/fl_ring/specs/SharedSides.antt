@@ -4,8 +4,8 @@ use Rattle.std.specs.Prelude.{ℕ, ◌≡◌, ◌+◌, ◌-◌, ◌*◌, ◌/◌
 use Rattle.atomic_table.specs.Seated.{TableId}
 use Rattle.atomic_table.specs.declared.shared.Seat.{Seat}
 use Rattle.fl_base.specs.declared.fragment.Frag.{Frag}
-use Rattle.fl_base.specs.Control.{epoch_of, told_of}
-use Rattle.fl_link.specs.Stamp.{stamped}
+use Rattle.fl_base.specs.Control.{epoch_of, told_of, stamped}
+use Rattle.fl_base.specs.Prefix.{IsPrefix}
 use Rattle.fl_link.specs.Cursor.{TheCursor, epoch_at}
 use Rattle.fl_link.specs.Looks.{Look, placed, no_room, spent, saw, saw_ack, found, found_ack, missed, told, kept}
 use Rattle.fl_link.specs.Queue.{look_at}
@@ -17,7 +17,6 @@ use Rattle.fl_ring.specs.declared.shared.duo_board.Opening.{Opening}
 use Rattle.fl_ring.specs.declared.shared.duo_board.DuoView.{DuoView}
 use Rattle.fl_ring.specs.SharedDuo.{IsOneSide, base_of, other_of, blank}
 use Rattle.fl_ring.specs.SharedSeats.{with_part, with_frag, with_words}
-use Rattle.fl_ring.specs.SharedWay.{IsFront}
 
 abbrev pub DuoSeat : Type 0
 DuoSeat = Seat (Unit {0}) DuoView
@@ -258,7 +257,7 @@ side_with_words s words = record { put = s.put; take = with_words s.take words }
 -- number of 16 bits names one count.
 pub record SidesNear (w r : TheSide) : Type 0 where
   pub few : w.size ≤ 1024
-  pub got_sent : IsFront r.got w.sent
+  pub got_sent : IsPrefix r.got w.sent
   pub known_told : w.known ≤ r.told
   pub told_sent : r.told ≤ length w.sent
   pub sent_near : length w.sent ≤ w.known + w.size

@@ -2,8 +2,7 @@
 
 ghost use Rattle.std.specs.Prelude.{◌≡◌, ◌≢◌, ◌+◌, ◌*◌, ◌-◌, ◌^◌, ◌/◌, ◌%◌, ◌<◌, ◌≤◌, ℕ, true, false, nat_le, nat_lt, ◌&&◌, List, ◌∷◌, [], OnOk, Ok, Err, MatchOption};
 ghost use Rattle.fl_base.specs.declared.fragment.Frag.{Frag};
-ghost use Rattle.fl_base.specs.Control.{told_of, is_ack_only};
-ghost use Rattle.fl_link.specs.Stamp.{bare};
+ghost use Rattle.fl_base.specs.Control.{told_of, is_ack_only, bare};
 ghost use Rattle.fl_link.specs.Cursor.{TheCursor};
 ghost use Rattle.fl_link.specs.Looks.{Look, placed, no_room, spent, peeked, taken, tells};
 ghost use Rattle.fl_link.specs.Queue.{BeginsWith};
@@ -15,7 +14,7 @@ ghost use Rattle.fl_ring.specs.declared.halves.Half.{Half};
 use crate::counts::count_from;
 use crate::slots::{look, write_slot};
 use fl_base::Frag;
-use fl_link::{Cursor, PutFault, SPENT, Sight, Told, stamp};
+use fl_link::{Cursor, PutFault, SPENT, Sight, Told};
 
 /// A side: where its slots begin, where it stands in them and in the other side's, and what it
 /// knows and told.
@@ -108,7 +107,7 @@ fn write(words: &mut Vec<u64>, mine: &mut Half, frag: &Frag)
     ensures place { mine.new.base ≡ mine.old.base }
 {
     let taken = mine.take.index();
-    let stamped = stamp(frag, mine.put.epoch(), (taken % 65_536) as u16);
+    let stamped = frag.stamp(mine.put.epoch(), (taken % 65_536) as u16);
     let slot = mine.base + 8 * mine.put.place();
     write_slot(words, slot, &stamped);
     mine.put.advance();

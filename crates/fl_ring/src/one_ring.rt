@@ -2,8 +2,7 @@
 
 ghost use Rattle.std.specs.Prelude.{◌≡◌, ◌≢◌, ◌+◌, ◌*◌, ◌-◌, ◌^◌, ◌/◌, ◌%◌, ◌<◌, ◌≤◌, ◌↔◌, true, false, [], ◌∷◌, List, length, IfOk, OnOk, Ok, Err, vec_len, MatchOption, refl};
 ghost use Rattle.fl_base.specs.declared.fragment.Frag.{Frag};
-ghost use Rattle.fl_base.specs.Control.{is_ack_only};
-ghost use Rattle.fl_link.specs.Stamp.{bare};
+ghost use Rattle.fl_base.specs.Control.{is_ack_only, bare};
 ghost use Rattle.fl_link.specs.Looks.{placed, no_room, spent, saw, saw_ack, found, found_ack, peeked, taken, tells};
 ghost use Rattle.fl_link.specs.Queue.{next_epoch_of, has_room, front_of, BeginsWith, MayHave};
 ghost use Rattle.fl_ring.specs.Ring.{TheRing, queue_of, RingPuts, RingTakes, RingStands};
@@ -11,7 +10,7 @@ ghost use Rattle.fl_ring.specs.Ring.{TheRing, queue_of, RingPuts, RingTakes, Rin
 use crate::fault::RingFault;
 use crate::slots::{look, write_slot};
 use fl_base::{Frag, MAX_QUEUE};
-use fl_link::{Cursor, PutFault, PutSide, SPENT, Sight, TakeSide, Told, stamp};
+use fl_link::{Cursor, PutFault, PutSide, SPENT, Sight, TakeSide, Told};
 use std::alloc::Global;
 use std::marker::Model;
 
@@ -78,7 +77,7 @@ impl OneRing {
         if sent - self.words[8 * size] == size as u64 {
             return Err(PutFault::Full);
         }
-        let stamped = stamp(frag, self.put.epoch(), 0);
+        let stamped = frag.stamp(self.put.epoch(), 0);
         write_slot(&mut self.words, 8 * self.put.place(), &stamped);
         self.put.advance();
         Ok(())

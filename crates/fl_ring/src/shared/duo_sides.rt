@@ -2,8 +2,7 @@
 
 ghost use Rattle.std.specs.Prelude.{◌≡◌, ◌≢◌, ◌+◌, ◌-◌, ◌*◌, ◌/◌, ◌%◌, ◌^◌, ◌<◌, ◌≤◌, ◌∷◌, ◌++◌, [], nat_le, false, length, Some, Ok, Err, OnOk};
 ghost use Rattle.fl_base.specs.declared.fragment.Frag.{Frag};
-ghost use Rattle.fl_base.specs.Control.{is_ack_only};
-ghost use Rattle.fl_link.specs.Stamp.{bare};
+ghost use Rattle.fl_base.specs.Control.{is_ack_only, bare};
 ghost use Rattle.fl_link.specs.Cursor.{epoch_at};
 ghost use Rattle.fl_link.specs.Looks.{placed, no_room, spent, saw, saw_ack, found, found_ack, peeked, taken, tells};
 ghost use Rattle.fl_ring.specs.SharedSeats.{front_seen};
@@ -13,7 +12,7 @@ use crate::shared::duo_board::{DuoBoard, DuoPlace};
 use crate::shared::duo_steps::{load_control, peek_frag, put_frag, take_frag};
 use crate::shared::sight::sight;
 use fl_base::Frag;
-use fl_link::{Cursor, PutFault, PutSide, SPENT, Sight, TakeSide, Told, stamp};
+use fl_link::{Cursor, PutFault, PutSide, SPENT, Sight, TakeSide, Told};
 use std::alloc::Global;
 use std::marker::Model;
 use std::sync::Arc;
@@ -89,7 +88,7 @@ impl SharedSide {
         ensures written { self.new ≡ side_written self.old frag.now }
     {
         let taken = self.take.index();
-        let stamped = stamp(frag, self.put.epoch(), (taken % 65_536) as u16);
+        let stamped = frag.stamp(self.put.epoch(), (taken % 65_536) as u16);
         let first = self.base + 8 * self.put.place();
         put_frag(&self.table.shared, &mut self.seat, first, &stamped);
         self.put.advance();

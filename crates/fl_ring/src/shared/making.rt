@@ -1,9 +1,9 @@
 //! A ring made, and its two sides put together again.
 
 ghost use Rattle.std.specs.Prelude.{◌≡◌, ◌*◌, ◌+◌, ◌^◌, ◌<◌, ◌≤◌, ◌↔◌, ◌≢◌, true, [], IfOk, OnOk, Err};
+ghost use Rattle.fl_base.specs.Prefix.{IsPrefix};
 ghost use Rattle.fl_ring.specs.SharedRing.{opening_view};
 ghost use Rattle.fl_link.specs.Queue.{MayHave};
-ghost use Rattle.fl_ring.specs.SharedWay.{IsFront};
 ghost use Rattle.fl_ring.specs.SharedSeats.{new_sender, new_receiver};
 
 use crate::fault::RingFault;
@@ -74,7 +74,7 @@ fn sides_of(
 /// The two sides of one ring, in one hand again: what was got is a front of what was sent.
 pub fn settle(tx: RingTx, rx: RingRx)
     requires ring { tx.ring ≡ rx.ring }
-    ensures front { IsFront rx.got tx.sent }
+    ensures front { IsPrefix rx.got tx.sent }
 {
     let RingTx {
         table,

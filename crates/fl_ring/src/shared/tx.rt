@@ -1,7 +1,7 @@
 //! The side of a ring that puts.
 
 ghost use Rattle.std.specs.Prelude.{◌≡◌, length, Ok, Err, OnOk};
-ghost use Rattle.fl_link.specs.Stamp.{bare};
+ghost use Rattle.fl_base.specs.Control.{bare};
 ghost use Rattle.fl_link.specs.Cursor.{epoch_at};
 ghost use Rattle.fl_link.specs.Looks.{placed, no_room, spent};
 ghost use Rattle.fl_ring.specs.SharedSeats.{SenderPuts, sender_has_room};
@@ -9,7 +9,7 @@ ghost use Rattle.fl_ring.specs.SharedSeats.{SenderPuts, sender_has_room};
 use crate::shared::board::{Board, Place};
 use crate::shared::writes::{has_room, put_frag};
 use fl_base::Frag;
-use fl_link::{Cursor, PutFault, PutSide, SPENT, stamp};
+use fl_link::{Cursor, PutFault, PutSide, SPENT};
 use std::alloc::Global;
 use std::marker::Model;
 use std::sync::Arc;
@@ -54,7 +54,7 @@ impl RingTx {
         if !has_room(top, &mut self.seat, self.put.size(), index, &mut self.known) {
             return Err(PutFault::Full);
         }
-        let stamped = stamp(frag, self.put.epoch(), 0);
+        let stamped = frag.stamp(self.put.epoch(), 0);
         put_frag(top, &mut self.seat, 8 * self.put.place(), &stamped);
         self.put.advance();
         Ok(())

@@ -2,7 +2,7 @@ use Rattle.std.proofs.Common.{ℕ, ◌≡◌, ◌≢◌, ◌+◌, ◌*◌, ◌-�
 use Rattle.std.proofs.lemmas.List.{get_or_read}
 use Rattle.fl_base.specs.declared.fragment.Frag.{Frag}
 use Rattle.fl_link.specs.Cursor.{TheCursor}
-use Rattle.fl_link.specs.Stamp.{bare, stamped}
+use Rattle.fl_base.specs.Control.{bare, stamped}
 use Rattle.fl_link.specs.Looks.{placed, no_room, spent}
 use Rattle.fl_ring.specs.Way.{slot, WritesSlot}
 use Rattle.fl_ring.specs.Ring.{TheRing, IsRing, ring_of, RingPuts}
