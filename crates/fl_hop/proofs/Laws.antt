@@ -1,5 +1,5 @@
 -- What comes out of a circuit is what went in.
-use Rattle.std.proofs.Common.{◌≡◌, ◌≢◌, refl, sym, ap, subst, ◌∙◌, ℕ, ◌+◌, ◌-◌, ◌*◌, ◌/◌, ◌%◌, ◌^◌, ◌≤◌, ◌==◌, ◌&&◌, ◌⊎◌, inl, inr, Bool, true, false, cond, List, [], ◌∷◌, ◌++◌, map, Option, Some, None, option_map, append_assoc, arith}
+use Rattle.std.proofs.Common.{◌≡◌, ◌≢◌, refl, sym, ap, subst, ◌∙◌, ℕ, ◌+◌, ◌-◌, ◌*◌, ◌/◌, ◌%◌, ◌^◌, ◌≤◌, ◌==◌, ◌&&◌, ◌⊎◌, inl, inr, Bool, true, false, not, cond, List, [], ◌∷◌, ◌++◌, map, Option, Some, None, option_map, append_assoc, arith}
 use Rattle.std.proofs.lemmas.Bool.{cases_eq}
 use Rattle.std.proofs.lemmas.Bool.Decides.{nat_tests}
 use Rattle.std.specs.List.{list_all}
@@ -11,6 +11,8 @@ use Rattle.fl_base.specs.declared.identity.Side.{Side}
 use Rattle.fl_base.specs.declared.identity.Side.TheVariants.{Client, Server}
 use Rattle.fl_base.specs.Control.{circuit_of, is_ack_only, with_circuit, body, bare}
 use Rattle.fl_base.specs.Prefix.{IsPrefix}
+use Rattle.fl_link.specs.Calls.{calls_only}
+use Rattle.fl_link.proofs.Conserved.{calls_only-join, bare-ack}
 use Rattle.fl_hop.specs.declared.entry.Way.{Way}
 use Rattle.fl_hop.specs.declared.entry.Way.TheVariants.{Link, End}
 use Rattle.fl_hop.specs.declared.entry.Hop.{Hop}
@@ -18,7 +20,7 @@ use Rattle.fl_hop.specs.Table.{TheCircuits, hop_at, leading}
 use Rattle.fl_hop.specs.Numbers.{Given}
 use Rattle.fl_hop.specs.Joined.{Sound, Leads}
 use Rattle.fl_hop.specs.Later.{Later, way_at, entry_at, unanswered}
-use Rattle.fl_hop.specs.OfCircuit.{as_carried, data_of, on_circuit, of_circuit}
+use Rattle.fl_hop.specs.OfCircuit.{as_carried, with_number, of_circuit}
 use Rattle.fl_hop.specs.Stretch.{Step, Went, Stretch, goes_through, AllWent, Stood, taken_from, if_put_on, put_on, same_side, same_end, if_come_to, come_to, OnlyFrom}
 use Rattle.fl_hop.specs.Carried.{Leg, Along}
 use Rattle.fl_hop.proofs.Numbering.{small, not_ack}
@@ -146,12 +148,6 @@ bare_carried frag =
     let f : ℕ → Frag = λ w. record { words = frag.words; control = w } in
     ap f (body_step frag.control)
 
-ack_step : (w : ℕ) → body w / 2 % 2 ^ 47 ≡ w / 2 % 2 ^ 47
-ack_step w = omega arith
-
-bare_ack : (frag : Frag) → is_ack_only (bare frag) ≡ is_ack_only frag
-bare_ack frag = ap (λ v. (v == 2) && list_all (λ w. w == 0) frag.words) (ack_step frag.control)
-
 is_eq : (a b : ℕ) → a ≡ b → (a == b) ≡ true
 is_eq a b e = grind (arith, nat_tests, e)
 
@@ -162,46 +158,47 @@ bool_cases : (b : Bool) → (b ≡ true) ⊎ (b ≡ false)
 bool_cases true = inl refl
 bool_cases false = inr refl
 
-on_here : (c : ℕ) (frag : Frag) (rest : List Frag) → circuit_of frag.control ≡ c → on_circuit c (frag ∷ rest) ≡ as_carried frag ∷ on_circuit c rest
-on_here c frag rest e = cond_true (circuit_of frag.control == c) (as_carried frag ∷ on_circuit c rest) (on_circuit c rest) (is_eq (circuit_of frag.control) c e)
+on_here : (c : ℕ) (frag : Frag) (rest : List Frag) → circuit_of frag.control ≡ c → with_number c (frag ∷ rest) ≡ as_carried frag ∷ with_number c rest
+on_here c frag rest e = cond_true (circuit_of frag.control == c) (as_carried frag ∷ with_number c rest) (with_number c rest) (is_eq (circuit_of frag.control) c e)
 
-on_other : (c : ℕ) (frag : Frag) (rest : List Frag) → circuit_of frag.control ≢ c → on_circuit c (frag ∷ rest) ≡ on_circuit c rest
-on_other c frag rest n = cond_false (circuit_of frag.control == c) (as_carried frag ∷ on_circuit c rest) (on_circuit c rest) (not_eq (circuit_of frag.control) c n)
+on_other : (c : ℕ) (frag : Frag) (rest : List Frag) → circuit_of frag.control ≢ c → with_number c (frag ∷ rest) ≡ with_number c rest
+on_other c frag rest n = cond_false (circuit_of frag.control == c) (as_carried frag ∷ with_number c rest) (with_number c rest) (not_eq (circuit_of frag.control) c n)
 
-of_data : (c : ℕ) (frag : Frag) (rest : List Frag) → is_ack_only frag ≡ false → of_circuit c (frag ∷ rest) ≡ on_circuit c (frag ∷ data_of rest)
-of_data c frag rest e = ap (on_circuit c) (cond_false (is_ack_only frag) (data_of rest) (frag ∷ data_of rest) e)
+call_first : (b : Bool) (frag : Frag) (rest : List Frag) → b ≡ false → cond (not b) (frag ∷ rest) rest ≡ frag ∷ rest
+call_first true frag rest e = absurd (cc)
+call_first false frag rest e = refl
+
+call_next : (b : Bool) (frag : Frag) (rest : List Frag) → b ≡ true → cond (not b) (frag ∷ rest) rest ≡ rest
+call_next true frag rest e = refl
+call_next false frag rest e = absurd (cc)
+
+of_call_first : (c : ℕ) (frag : Frag) (rest : List Frag) → is_ack_only frag ≡ false → of_circuit c (frag ∷ rest) ≡ with_number c (frag ∷ calls_only rest)
+of_call_first c frag rest e = ap (with_number c) (call_first (is_ack_only frag) frag (calls_only rest) e)
 
 of_ack : (c : ℕ) (frag : Frag) (rest : List Frag) → is_ack_only frag ≡ true → of_circuit c (frag ∷ rest) ≡ of_circuit c rest
-of_ack c frag rest e = ap (on_circuit c) (cond_true (is_ack_only frag) (data_of rest) (frag ∷ data_of rest) e)
+of_ack c frag rest e = ap (with_number c) (call_next (is_ack_only frag) frag (calls_only rest) e)
 
 of_here : (c : ℕ) (frag : Frag) (rest : List Frag) → c ≢ 0 → circuit_of frag.control ≡ c → of_circuit c (frag ∷ rest) ≡ as_carried frag ∷ of_circuit c rest
-of_here c frag rest some e = of_data c frag rest (not_ack frag (λ z. some (sym e ∙ z))) ∙ on_here c frag (data_of rest) e
+of_here c frag rest some e = of_call_first c frag rest (not_ack frag (λ z. some (sym e ∙ z))) ∙ on_here c frag (calls_only rest) e
 
 of_other : (c : ℕ) (frag : Frag) (rest : List Frag) → circuit_of frag.control ≢ c → of_circuit c (frag ∷ rest) ≡ of_circuit c rest
 of_other c frag rest n =
     elim (bool_cases (is_ack_only frag)) [
       | inl ack ↦ of_ack c frag rest ack
-      | inr not ↦ of_data c frag rest not ∙ on_other c frag (data_of rest) n
+      | inr call ↦ of_call_first c frag rest call ∙ on_other c frag (calls_only rest) n
     ]
 
 -- The fragments of a circuit among more.
 
-on_join : (c : ℕ) (xs ys : List Frag) → on_circuit c (xs ++ ys) ≡ on_circuit c xs ++ on_circuit c ys
+on_join : (c : ℕ) (xs ys : List Frag) → with_number c (xs ++ ys) ≡ with_number c xs ++ with_number c ys
 on_join c [] ys = refl
-on_join c (x ∷ xs) ys = on_first (circuit_of x.control == c) (as_carried x) (on_circuit c (xs ++ ys)) (on_circuit c xs) (on_circuit c ys) (on_join c xs ys) where
+on_join c (x ∷ xs) ys = on_first (circuit_of x.control == c) (as_carried x) (with_number c (xs ++ ys)) (with_number c xs) (with_number c ys) (on_join c xs ys) where
   on_first : (b : Bool) (f : Frag) (all first rest : List Frag) → all ≡ first ++ rest → cond b (f ∷ all) all ≡ cond b (f ∷ first) first ++ rest
   on_first true f all first rest e = ap (λ v. f ∷ v) e
   on_first false f all first rest e = e
 
-data_join : (xs ys : List Frag) → data_of (xs ++ ys) ≡ data_of xs ++ data_of ys
-data_join [] ys = refl
-data_join (x ∷ xs) ys = data_first (is_ack_only x) x (data_of (xs ++ ys)) (data_of xs) (data_of ys) (data_join xs ys) where
-  data_first : (b : Bool) (f : Frag) (all first rest : List Frag) → all ≡ first ++ rest → cond b all (f ∷ all) ≡ cond b first (f ∷ first) ++ rest
-  data_first true f all first rest e = e
-  data_first false f all first rest e = ap (λ v. f ∷ v) e
-
 pub of_join : (c : ℕ) (xs ys : List Frag) → of_circuit c (xs ++ ys) ≡ of_circuit c xs ++ of_circuit c ys
-of_join c xs ys = ap (on_circuit c) (data_join xs ys) ∙ on_join c (data_of xs) (data_of ys)
+of_join c xs ys = ap (with_number c) (calls_only-join xs ys) ∙ on_join c (calls_only xs) (calls_only ys)
 
 pub of_prefix : (c : ℕ) (xs ys : List Frag) → IsPrefix xs ys → IsPrefix (of_circuit c xs) (of_circuit c ys)
 of_prefix c xs ys p = (of_circuit c p.0, ap (of_circuit c) p.1 ∙ of_join c xs p.0)
@@ -211,21 +208,21 @@ pub of_bare : (c : ℕ) (frags : List Frag) → of_circuit c (map bare frags) �
 of_bare c [] = refl
 of_bare c (x ∷ xs) =
     elim (bool_cases (is_ack_only x)) [
-      | inl ack ↦ of_ack c (bare x) (map bare xs) (bare_ack x ∙ ack) ∙ of_bare c xs ∙ sym (of_ack c x xs ack)
-      | inr not ↦
-          of_data c (bare x) (map bare xs) (bare_ack x ∙ not)
+      | inl ack ↦ of_ack c (bare x) (map bare xs) (bare-ack x ∙ ack) ∙ of_bare c xs ∙ sym (of_ack c x xs ack)
+      | inr call ↦
+          of_call_first c (bare x) (map bare xs) (bare-ack x ∙ call)
           ∙ elim (cases_eq (circuit_of x.control) c) [
             | inl same ↦
-                on_here c (bare x) (data_of (map bare xs)) (bare_circuit x ∙ same)
+                on_here c (bare x) (calls_only (map bare xs)) (bare_circuit x ∙ same)
                 ∙ ap (λ f. f ∷ of_circuit c (map bare xs)) (bare_carried x)
                 ∙ ap (λ fs. as_carried x ∷ fs) (of_bare c xs)
-                ∙ sym (on_here c x (data_of xs) same)
+                ∙ sym (on_here c x (calls_only xs) same)
             | inr other ↦
-                on_other c (bare x) (data_of (map bare xs)) (λ e. other (sym (bare_circuit x) ∙ e))
+                on_other c (bare x) (calls_only (map bare xs)) (λ e. other (sym (bare_circuit x) ∙ e))
                 ∙ of_bare c xs
-                ∙ sym (on_other c x (data_of xs) other)
+                ∙ sym (on_other c x (calls_only xs) other)
           ]
-          ∙ sym (of_data c x xs not)
+          ∙ sym (of_call_first c x xs call)
     ]
 
 -- One step.
