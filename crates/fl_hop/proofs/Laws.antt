@@ -1,8 +1,7 @@
 -- What comes out of a circuit is what went in.
-use Rattle.std.proofs.Common.{◌≡◌, ◌≢◌, refl, sym, ap, subst, ◌∙◌, ℕ, ◌+◌, ◌-◌, ◌*◌, ◌/◌, ◌%◌, ◌^◌, ◌≤◌, ◌==◌, ◌&&◌, ◌⊎◌, inl, inr, Bool, true, false, not, cond, List, [], ◌∷◌, ◌++◌, map, Option, Some, None, option_map, append_assoc, arith}
+use Rattle.std.proofs.Common.{◌≡◌, ◌≢◌, refl, sym, ap, subst, ◌∙◌, ℕ, ◌+◌, ◌-◌, ◌*◌, ◌^◌, ◌≤◌, ◌==◌, ◌&&◌, ◌⊎◌, inl, inr, Bool, true, false, not, cond, List, [], ◌∷◌, ◌++◌, map, Option, Some, None, option_map, append_assoc, arith}
 use Rattle.std.proofs.lemmas.Bool.{cases_eq}
 use Rattle.std.proofs.lemmas.Bool.Decides.{nat_tests}
-use Rattle.std.specs.List.{list_all}
 use Rattle.fl_base.specs.declared.fragment.Frag.{Frag}
 use Rattle.fl_base.specs.declared.identity.LinkId.{LinkId}
 use Rattle.fl_base.specs.declared.identity.Circuit.{Circuit}
@@ -148,10 +147,10 @@ bare_carried frag =
     let f : ℕ → Frag = λ w. record { words = frag.words; control = w } in
     ap f (body_step frag.control)
 
-is_eq : (a b : ℕ) → a ≡ b → (a == b) ≡ true
+pub is_eq : (a b : ℕ) → a ≡ b → (a == b) ≡ true
 is_eq a b e = grind (arith, nat_tests, e)
 
-not_eq : (a b : ℕ) → a ≢ b → (a == b) ≡ false
+pub not_eq : (a b : ℕ) → a ≢ b → (a == b) ≡ false
 not_eq a b n = grind (arith, nat_tests, n)
 
 bool_cases : (b : Bool) → (b ≡ true) ⊎ (b ≡ false)
@@ -450,7 +449,7 @@ both_true : (a b : Bool) → a ≡ true → b ≡ true → (a && b) ≡ true
 both_true true b e f = f
 both_true false b e f = cc
 
-end_same : (e : EndId) → same_end e e ≡ true
+pub end_same : (e : EndId) → same_end e e ≡ true
 end_same e = both_true (e.binding == e.binding) (same_side e.side e.side) (is_eq e.binding e.binding refl) (side_same e.side)
 
 come_here : (e : EndId) (frag : Frag) (way : Way) (rest : List Frag) → way ≡ End e → if_come_to e frag way rest ≡ as_carried frag ∷ rest

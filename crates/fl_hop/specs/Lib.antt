@@ -6,6 +6,7 @@ pub mod Later
 pub mod OfCircuit
 pub mod Stretch
 pub mod Forward
+pub mod Adds
 pub mod Carried
 pub mod Faults
 pub mod Slots

@@ -3,7 +3,8 @@
 ghost use Rattle.std.specs.Prelude.{◌≡◌, ◌≢◌, ◌<◌, false, length, slice_get, Some};
 ghost use Rattle.fl_base.specs.Control.{is_ack_only, with_circuit, bare};
 ghost use Rattle.fl_link.specs.Looks.{saw};
-ghost use Rattle.fl_hop.specs.Forward.{Finds, Moves, Forwards, Crosses};
+ghost use Rattle.fl_hop.specs.OfCircuit.{as_carried};
+ghost use Rattle.fl_hop.specs.Forward.{Finds, put_label, Leaves, Forwards, Crosses};
 
 use crate::circuits::Circuits;
 use crate::entry::Way;
@@ -61,7 +62,8 @@ pub fn move_on<T: TakeSide, P: PutSide>(
 ) -> Outcome
     requires seen { T.front from.old ≡ saw (bare frag.now) }
     requires call { is_ack_only (with_circuit circuit.0 frag.now) ≡ false }
-    ensures moves { Moves T.takes P.puts from.old to.old frag.now circuit.0 result from.new to.new }
+    ensures put { P.puts to.old (put_label result (bare (with_circuit circuit.0 frag.now))) to.new }
+    ensures left { Leaves T.takes result (bare frag.now) (record { before = from.old; after = from.new }) }
 {
     let frag = frag.with_circuit(circuit);
     match to.put(&frag) {
@@ -87,7 +89,9 @@ fn cross<S: TakeSide + PutSide>(
     requires two { from ≢ to }
     requires seen { (s : S) → slice_get sides.old from ≡ Some s → S.front s ≡ saw (bare frag.now) }
     requires call { is_ack_only (with_circuit circuit.0 frag.now) ≡ false }
-    ensures crosses { Crosses S.takes S.puts sides.old from to frag.now circuit.0 result sides.new }
+    ensures crosses { Crosses S.takes S.puts
+        (record { from = from; to = to; frag = frag.now; circuit = circuit.0; outcome = result })
+        (record { before = sides.old; after = sides.new }) }
 {
     let frag = frag.with_circuit(circuit);
     match sides[to].put(&frag) {
@@ -105,7 +109,8 @@ fn cross<S: TakeSide + PutSide>(
 pub fn deliver<T: TakeSide, P: PutSide>(from: &mut T, queue: &mut P, frag: &Frag) -> Outcome
     requires seen { T.front from.old ≡ saw (bare frag.now) }
     requires call { is_ack_only (with_circuit 0 frag.now) ≡ false }
-    ensures moves { Moves T.takes P.puts from.old queue.old frag.now 0 result from.new queue.new }
+    ensures put { P.puts queue.old (put_label result (as_carried frag.now)) queue.new }
+    ensures left { Leaves T.takes result (bare frag.now) (record { before = from.old; after = from.new }) }
 {
     move_on(from, queue, frag, Circuit(0))
 }
@@ -119,7 +124,7 @@ impl Circuits {
     /// fragment would be one that only acknowledges, which no fragment of a call is (E63). The fragment stays then. The
     /// caller calls no more for a direction that has failed.
     pub fn look<T: TakeSide>(&self, link: LinkId, from: &mut T) -> Result<First, HopFault>
-        ensures finds { Finds T.takes T.front self.now link.0 from.old result from.new }
+        ensures finds { Finds T.takes T.front (record { table = self.now; link = link.0 }) result (record { before = from.old; after = from.new }) }
     {
         let frag = match from.peek() {
             Sight::Empty => return Ok(First::Nothing),
@@ -157,7 +162,8 @@ impl Circuits {
         link: LinkId,
         sides: &mut [S],
     ) -> Result<Forwarded, HopFault>
-        ensures forwards { Forwards S.takes S.puts S.front self.now link.0 sides.old result sides.new }
+        ensures forwards { Forwards S.takes S.puts S.front (record { table = self.now; link = link.0 }) result
+            (record { before = sides.old; after = sides.new }) }
     {
         let place = usize::from(link.0);
         if sides.len() != self.links.len() || place >= sides.len() {

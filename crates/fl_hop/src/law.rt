@@ -8,9 +8,11 @@ ghost use Rattle.fl_hop.specs.Numbers.{OpenedHere, OpenedThere};
 ghost use Rattle.fl_hop.specs.Joined.{Sound};
 ghost use Rattle.fl_hop.specs.Later.{Later};
 ghost use Rattle.fl_hop.specs.Carried.{OneEntry, Joins, StoodToo, CarriedOn, CarriedIn, OwnAlone, SetAside, Leg, Along};
+ghost use Rattle.fl_hop.specs.Adds.{PassageAdds, ForwardsAdd};
 ghost use Rattle.fl_hop.specs.OfCircuit.{of_circuit};
 
 use crate::circuits::Circuits;
+use fl_link::{PutSide, TakeSide};
 
 /// In every table entries lead both ways, from the client to the server, and no two share a side; they stand at numbers
 /// that were given; and no two links go to one core.
@@ -55,6 +57,17 @@ pub fn carried_in()
 /// And nothing is put under the number that an end at this core writes on.
 pub fn own_alone()
     ensures alone { OwnAlone }
+{}
+
+/// A fragment's passage, as [`look`](Circuits::look) and then [`move_on`](crate::move_on) or [`deliver`](crate::deliver) do it
+/// over two sides, is one step of a stretch, or none where it stayed; what the sides took and put is what that step says.
+pub fn passage_adds<T: TakeSide, P: PutSide>()
+    ensures adds { PassageAdds T.takes P.puts T.front }
+{}
+
+/// A forward over the sides of a core's links is one step of a stretch, or none; each side took and put what that step says.
+pub fn forward_adds<S: TakeSide + PutSide>()
+    ensures adds { ForwardsAdd S.takes S.puts S.front }
 {}
 
 /// Of one list and then another a circuit carries what it carries of each; so of a prefix a prefix. It tells no epochs and

@@ -18,7 +18,7 @@ returns-in-Err-Full g c =
           crosses_stay g.S.TakeSide.takes g.S.PutSide.puts c.args.sides.now c.args.from c.args.to c.args.frag.now c.args.circuit.0 Full s
           (slice_index_or c.args.sides.now c.args.to c.index-sides-to.result) c.put.new.self there
           (slice_get-get_or c.args.sides.now c.args.to c.index-sides-to.result c.requires.to)
-          (c.put.ensures.full (c.in-Err-Full.is ∙ ap err c.in-Err-Full.field-0-is), refl);
+          refl (c.put.ensures.full (c.in-Err-Full.is ∙ ap err c.in-Err-Full.field-0-is));
     }
 
 pub returns-in-Err-Spent : goal.returns-in-Err-Spent
@@ -30,7 +30,7 @@ returns-in-Err-Spent g c =
           crosses_stay g.S.TakeSide.takes g.S.PutSide.puts c.args.sides.now c.args.from c.args.to c.args.frag.now c.args.circuit.0 Spent s
           (slice_index_or c.args.sides.now c.args.to c.index-sides-to.result) c.put.new.self there
           (slice_get-get_or c.args.sides.now c.args.to c.index-sides-to.result c.requires.to)
-          (c.put.ensures.spent (c.in-Err-Spent.is ∙ ap err c.in-Err-Spent.field-0-is), refl);
+          refl (c.put.ensures.spent (c.in-Err-Spent.is ∙ ap err c.in-Err-Spent.field-0-is));
     }
 
 pub returns-in-Ok : goal.returns-in-Ok
@@ -51,5 +51,6 @@ returns-in-Ok g c =
           crosses_on g.S.TakeSide.takes g.S.PutSide.puts c.args.sides.now c.args.from c.args.to c.args.frag.now c.args.circuit.0 Moved s p c.put.new.self c.take.new.self
           c.requires.two there
           (slice_get-get_or c.args.sides.now c.args.to c.index-sides-to.result c.requires.to)
-          (subst put c.with_circuit-frag.ensures.set c.in-Ok.ensures.placed, subst take (c.take.ensures.data (bare c.args.frag.now) (c.requires.seen s there)) c.take.ensures.look);
+          (subst take (c.take.ensures.data (bare c.args.frag.now) (c.requires.seen s there)) c.take.ensures.look)
+          (subst put c.with_circuit-frag.ensures.set c.in-Ok.ensures.placed);
     }
