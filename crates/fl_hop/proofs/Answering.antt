@@ -18,7 +18,7 @@ use Rattle.fl_hop.specs.declared.entry.Cell.TheVariants.{Free, ClientSide, Serve
 use Rattle.fl_hop.specs.declared.links.LinkState.{LinkState}
 use Rattle.fl_hop.specs.Table.{TheCircuits, slot, hop_at, put_at, leading, with_entry}
 use Rattle.fl_hop.specs.Joined.{IsClientWay, IsServerWay, Sound}
-use Rattle.fl_hop.specs.Later.{Later}
+use Rattle.fl_hop.specs.Later.{Later, unanswered}
 use Rattle.fl_hop.specs.Slots.{table_of, shown, from_client, from_server, cell_of, IsPlaced, Sits, Found, IsOver, Kept}
 use Rattle.fl_hop.proofs.Lists.{map_same, set_same, index_found}
 use Rattle.fl_hop.proofs.Cells.{hop_is, slot_once, placed_at, cell_found, cell_there, AtClient, AtServer, side}
@@ -104,19 +104,19 @@ module _ (core : ℕ) (links : List LinkState) (cells : List Cell) (s : Slab Ent
         (λ n x was. known (λ m y. x.binding ≡ y.binding → n ≡ m) (λ p. p) (λ m y before b. k.one n m x y was before b)) i f at j h there same;
   }
 
-  same_ways : (x : Cell) → option_map (λ (hop : Hop). hop.way) (shown s2 x) ≡ option_map (λ (hop : Hop). hop.way) (shown s x)
-  same_ways Free = refl
-  same_ways (ClientSide j) =
-      let way : Option Entry → Option Way = λ o. option_map (λ (hop : Hop). hop.way) (option_map from_client o) in
+  same_entries : (x : Cell) → option_map unanswered (shown s2 x) ≡ option_map unanswered (shown s x)
+  same_entries Free = refl
+  same_entries (ClientSide j) =
+      let hop : Option Entry → Option Hop = λ o. option_map unanswered (option_map from_client o) in
       elim (cases_eq j key) [
-        | inl same ↦ ap (λ n. way (get s2 n)) same ∙ ap way u.changed ∙ sym (ap (λ n. way (get s n)) same ∙ ap way kept)
-        | inr other ↦ ap way (u.others j other)
+        | inl same ↦ ap (λ n. hop (get s2 n)) same ∙ ap hop u.changed ∙ sym (ap (λ n. hop (get s n)) same ∙ ap hop kept)
+        | inr other ↦ ap hop (u.others j other)
       ]
-  same_ways (ServerSide j) =
-      let way : Option Entry → Option Way = λ o. option_map (λ (hop : Hop). hop.way) (option_map from_server o) in
+  same_entries (ServerSide j) =
+      let hop : Option Entry → Option Hop = λ o. option_map unanswered (option_map from_server o) in
       elim (cases_eq j key) [
-        | inl same ↦ ap (λ n. way (get s2 n)) same ∙ ap way u.changed ∙ sym (ap (λ n. way (get s n)) same ∙ ap way kept)
-        | inr other ↦ ap way (u.others j other)
+        | inl same ↦ ap (λ n. hop (get s2 n)) same ∙ ap hop u.changed ∙ sym (ap (λ n. hop (get s n)) same ∙ ap hop kept)
+        | inr other ↦ ap hop (u.others j other)
       ]
 
   pub later_answered : Later (table_of core links cells s) (table_of core links cells s2)
@@ -125,8 +125,8 @@ module _ (core : ℕ) (links : List LinkState) (cells : List Cell) (s : Slab Ent
     here = λ l n o. o;
     there = λ l n o. o;
     kept = λ l n given.
-        let way : Option Hop → Option Way = λ o. option_map (λ (hop : Hop). hop.way) o in
-        inl (ap way (hop_is core links cells s2 l n) ∙ same_ways (cell_of cells l n) ∙ sym (ap way (hop_is core links cells s l n)));
+        let hop : Option Hop → Option Hop = λ o. option_map unanswered o in
+        inl (ap hop (hop_is core links cells s2 l n) ∙ same_entries (cell_of cells l n) ∙ sym (ap hop (hop_is core links cells s l n)));
   }
 
   -- a cell at a place that isn't the entry's shows what it showed

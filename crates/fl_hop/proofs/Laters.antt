@@ -13,7 +13,7 @@ use Rattle.fl_hop.specs.declared.links.LinkState.{LinkState}
 use Rattle.fl_hop.specs.Table.{TheCircuits, slot, hop_at, stands, put_at, with_hops, with_entry, without_entry, leading}
 use Rattle.fl_hop.specs.Numbers.{IsGiven, next_due, next_own}
 use Rattle.fl_hop.specs.Openings.{is_next}
-use Rattle.fl_hop.specs.Later.{Later}
+use Rattle.fl_hop.specs.Later.{Later, unanswered}
 use Rattle.fl_hop.specs.Slots.{table_of, Kept}
 use Rattle.fl_hop.proofs.Lists.{within}
 use Rattle.fl_hop.proofs.Cells.{slot_once}
@@ -85,11 +85,11 @@ later_without t a b = record {
   here = λ l n o. o;
   there = λ l n o. o;
   kept = λ l n given.
-      let way : Option Hop → Option Way = λ o. option_map (λ (hop : Hop). hop.way) o in
+      let entry : Option Hop → Option Hop = λ o. option_map unanswered o in
       elim (put_none (with_hops t (put_at a None t.hops)) b l n) [
         | inl same ↦
             elim (put_none t a l n) [
-              | inl too ↦ inl (ap way (same ∙ too))
+              | inl too ↦ inl (ap entry (same ∙ too))
               | inr gone ↦ inr (same ∙ gone)
             ]
         | inr gone ↦ inr gone
@@ -111,9 +111,9 @@ later_with core links more cells s k g binding answered a b x y = record {
   here = opened_stays core links more g;
   there = taken_stays core links more g;
   kept = λ l n given.
-      let way : Option Hop → Option Way = λ o. option_map (λ (hop : Hop). hop.way) o in
+      let entry : Option Hop → Option Hop = λ o. option_map unanswered o in
       let t = table_of core more cells s in
-      inl (ap way (put_other (with_hops t (put_at a (leading binding answered b) t.hops)) b (leading binding answered a) l n (new_slot core links cells s k b y l n given)
+      inl (ap entry (put_other (with_hops t (put_at a (leading binding answered b) t.hops)) b (leading binding answered a) l n (new_slot core links cells s k b y l n given)
       ∙ put_other t a (leading binding answered b) l n (new_slot core links cells s k a x l n given)));
 }
 

@@ -1,5 +1,5 @@
 -- What comes out of a circuit is what went in.
-use Rattle.std.proofs.Common.{◌≡◌, ◌≢◌, refl, sym, ap, subst, ◌∙◌, ℕ, ◌+◌, ◌-◌, ◌*◌, ◌^◌, ◌≤◌, ◌==◌, ◌&&◌, ◌⊎◌, inl, inr, Bool, true, false, List, [], ◌∷◌, ◌++◌, Option, Some, None, option_map, append_assoc, arith}
+use Rattle.std.proofs.Common.{◌≡◌, ◌≢◌, refl, sym, ap, subst, ◌∙◌, ℕ, ◌+◌, ◌-◌, ◌*◌, ◌^◌, ◌≤◌, ◌==◌, ◌&&◌, ◌⊎◌, inl, inr, Bool, true, false, not, cond, List, [], ◌∷◌, ◌++◌, map, Option, Some, None, option_map, append_assoc, arith}
 use Rattle.std.proofs.lemmas.Bool.{cases_eq}
 use Rattle.std.proofs.lemmas.Bool.Decides.{nat_tests}
 use Rattle.fl_base.specs.declared.fragment.Frag.{Frag}
@@ -8,31 +8,35 @@ use Rattle.fl_base.specs.declared.identity.Circuit.{Circuit}
 use Rattle.fl_base.specs.declared.identity.EndId.{EndId}
 use Rattle.fl_base.specs.declared.identity.Side.{Side}
 use Rattle.fl_base.specs.declared.identity.Side.TheVariants.{Client, Server}
-use Rattle.fl_base.specs.Control.{circuit_of}
-use Rattle.fl_link.specs.Stamp.{bare}
+use Rattle.fl_base.specs.Control.{circuit_of, is_ack_only, with_circuit, body, bare}
+use Rattle.fl_base.specs.Prefix.{IsPrefix}
+use Rattle.fl_link.specs.Calls.{calls_only}
+use Rattle.fl_link.proofs.Conserved.{calls_only-join, bare-ack}
 use Rattle.fl_hop.specs.declared.entry.Way.{Way}
 use Rattle.fl_hop.specs.declared.entry.Way.TheVariants.{Link, End}
 use Rattle.fl_hop.specs.declared.entry.Hop.{Hop}
 use Rattle.fl_hop.specs.Table.{TheCircuits, hop_at, leading}
 use Rattle.fl_hop.specs.Numbers.{Given}
 use Rattle.fl_hop.specs.Joined.{Sound, Leads}
-use Rattle.fl_hop.specs.Later.{Later, way_at}
-use Rattle.fl_hop.specs.OfCircuit.{with_circuit, plain, of_circuit}
-use Rattle.fl_hop.specs.Carried.{Step, Went, AllWent, taken_from, if_put_on, put_on, same_side, same_end, if_come_to, come_to, NoOther, Front, Leg, Along}
-use Rattle.fl_hop.proofs.Numbering.{small}
+use Rattle.fl_hop.specs.Later.{Later, way_at, entry_at, unanswered}
+use Rattle.fl_hop.specs.OfCircuit.{as_carried, with_number, of_circuit}
+use Rattle.fl_hop.specs.Stretch.{Step, Went, Stretch, goes_through, AllWent, Stood, taken_from, if_put_on, put_on, same_side, same_end, if_come_to, come_to, OnlyFrom}
+use Rattle.fl_hop.specs.Carried.{Leg, Along}
+use Rattle.fl_hop.proofs.Numbering.{small, not_ack}
 use Rattle.fl_hop.proofs.Cells.{same_link, same_circuit, cond_true, cond_false}
+use Rattle.fl_hop.proofs.Answering.{zero_free}
 
 -- Tables that follow one another.
 
 pub later_same : (t : TheCircuits) → Later t t
 later_same t = record { core = refl; here = λ l n o. o; there = λ l n o. o; kept = λ l n g. inl refl }
 
-no_way : (t : TheCircuits) (l n : ℕ) → hop_at t l n ≡ None → way_at t l n ≡ None
-no_way t l n e = ap (option_map (λ (hop : Hop). hop.way)) e
+no_entry : (t : TheCircuits) (l n : ℕ) → hop_at t l n ≡ None → entry_at t l n ≡ None
+no_entry t l n e = ap (option_map unanswered) e
 
-way_none : (o : Option Hop) → option_map (λ (hop : Hop). hop.way) o ≡ None → o ≡ None
-way_none None e = refl
-way_none (Some hop) e = absurd (cc)
+entry_none : (o : Option Hop) → option_map unanswered o ≡ None → o ≡ None
+entry_none None e = refl
+entry_none (Some hop) e = absurd (cc)
 
 pub later_chain : (t u v : TheCircuits) → Later t u → Later u v → Later t v
 later_chain t u v a b = record {
@@ -44,7 +48,7 @@ later_chain t u v a b = record {
         | inl same ↦
             elim (a.kept l n g) [
               | inl too ↦ inl (same ∙ too)
-              | inr gone ↦ inr (way_none (hop_at v l n) (same ∙ no_way u l n gone))
+              | inr gone ↦ inr (entry_none (hop_at v l n) (same ∙ no_entry u l n gone))
             ]
         | inr gone ↦ inr gone
       ];
@@ -58,6 +62,9 @@ later_chain t u v a b = record {
 leads_way : (t : TheCircuits) (l n binding : ℕ) (way : Way) → Leads t l n binding way → way_at t l n ≡ Some way
 leads_way t l n binding way e = ap (option_map (λ (hop : Hop). hop.way)) e.there
 
+leads_entry : (t : TheCircuits) (l n binding : ℕ) (way : Way) → Leads t l n binding way → entry_at t l n ≡ leading binding false way
+leads_entry t l n binding way e = ap (option_map unanswered) e.there
+
 hop_leads : (o : Option Hop) (way : Way) → option_map (λ (hop : Hop). hop.way) o ≡ Some way → (b : ℕ) × (a : Bool) × (o ≡ leading b a way)
 hop_leads None way e = absurd (cc)
 hop_leads (Some hop) way e =
@@ -70,23 +77,42 @@ led t l n way e =
     let (b, a, is) = hop_leads (hop_at t l n) way e in
     (b, record { answered = a; there = is })
 
--- what a number led to before, it leads to where an entry still stands
-was_same : (u t : TheCircuits) → Sound u → Later u t → (l n : ℕ) (a b : Way) → way_at u l n ≡ Some a → way_at t l n ≡ Some b → a ≡ b
-was_same u t sound later l n a b was is =
-    let (binding, e) = led u l n a was in
-    let given : Given u l n =
-    elim (sound.toward l n binding a e) [
+given_at : (t : TheCircuits) → Sound t → (l n binding : ℕ) (way : Way) → Leads t l n binding way → Given t l n
+given_at t sound l n binding way e =
+    elim (sound.toward l n binding way e) [
       | inl (o, w) ↦ inl o
       | inr (o, w) ↦ inr o
-    ] in
-    elim (later.kept l n given) [
-      | inl same ↦
-          let some : Some a ≡ Some b = sym was ∙ sym same ∙ is in
-          cc
+    ]
+
+same_leading : (b d : ℕ) (v w : Way) → leading b false v ≡ leading d false w → (b ≡ d) × (v ≡ w)
+same_leading b d v w e =
+    let hop : record { binding = b; way = v; answered = false } ≡ record { binding = d; way = w; answered = false } = cc in
+    (ap (λ (h : Hop). h.binding) hop, ap (λ (h : Hop). h.way) hop)
+
+-- an entry's number names it for ever
+pub one_entry : (t u : TheCircuits) (l n binding other : ℕ) (way on : Way) → Sound t → Later t u → Leads t l n binding way → Leads u l n other on → (binding ≡ other) × (way ≡ on)
+one_entry t u l n binding other way on sound later was is =
+    elim (later.kept l n (given_at t sound l n binding way was)) [
+      | inl same ↦ same_leading binding other way on (sym (leads_entry t l n binding way was) ∙ sym same ∙ leads_entry u l n other on is)
       | inr gone ↦
-          let some : None ≡ Some b = sym (no_way t l n gone) ∙ is in
+          let some : None ≡ leading other false on = sym (no_entry u l n gone) ∙ leads_entry u l n other on is in
           absurd (cc)
     ]
+
+-- two tables of one core, of which one became the other
+abbrev pub Beside : TheCircuits → TheCircuits → Type 0
+Beside t u = Later t u ⊎ Later u t
+
+-- what a number led to at one moment, it leads to at another, if an entry stands there
+same_way : (u t : TheCircuits) → Sound u → Sound t → Beside u t → (l n : ℕ) (a b : Way) → way_at u l n ≡ Some a → way_at t l n ≡ Some b → a ≡ b
+same_way u t us ts (inl later) l n a b was is =
+    let x = led u l n a was in
+    let y = led t l n b is in
+    (one_entry u t l n x.0 y.0 a b us later x.1 y.1).1
+same_way u t us ts (inr later) l n a b was is =
+    let x = led u l n a was in
+    let y = led t l n b is in
+    sym (one_entry t u l n y.0 x.0 b a ts later y.1 x.1).1
 
 -- Fragments.
 
@@ -97,63 +123,144 @@ circuit_step w d l = omega arith
 has_circuit : (frag : Frag) (d : ℕ) → d ≤ 2046 → circuit_of (with_circuit d frag).control ≡ d
 has_circuit frag d l = circuit_step frag.control d l
 
-plain_step : (w d v : ℕ) → v ≡ w - 2 ^ 32 * circuit_of w + 2 ^ 32 * d → circuit_of v ≡ d → v - 2 ^ 32 * circuit_of v + 2 ^ 32 * 0 ≡ w - 2 ^ 32 * circuit_of w + 2 ^ 32 * 0
-plain_step w d v e c = omega (arith, e, c)
+clear_step : (w d v : ℕ) → v ≡ w - 2 ^ 32 * circuit_of w + 2 ^ 32 * d → circuit_of v ≡ d → v - 2 ^ 32 * circuit_of v + 2 ^ 32 * 0 ≡ w - 2 ^ 32 * circuit_of w + 2 ^ 32 * 0
+clear_step w d v e c = omega (arith, e, c)
 
 -- and is carried as the same
-same_plain : (frag : Frag) (d : ℕ) → d ≤ 2046 → plain (with_circuit d frag) ≡ plain frag
-same_plain frag d l =
+same_carried : (frag : Frag) (d : ℕ) → d ≤ 2046 → as_carried (with_circuit d frag) ≡ as_carried frag
+same_carried frag d l =
     let f : ℕ → Frag = λ w. bare (record { words = frag.words; control = w }) in
-    ap f (plain_step frag.control d (frag.control - 2 ^ 32 * circuit_of frag.control + 2 ^ 32 * d) refl (circuit_step frag.control d l))
+    ap f (clear_step frag.control d (frag.control - 2 ^ 32 * circuit_of frag.control + 2 ^ 32 * d) refl (circuit_step frag.control d l))
 
-is_eq : (a b : ℕ) → a ≡ b → (a == b) ≡ true
+bare_step : (w : ℕ) → circuit_of (body w) ≡ circuit_of w
+bare_step w = omega arith
+
+-- a bare fragment has its circuit, and is carried as the same
+bare_circuit : (frag : Frag) → circuit_of (bare frag).control ≡ circuit_of frag.control
+bare_circuit frag = bare_step frag.control
+
+body_step : (w : ℕ) → body (body w - 2 ^ 32 * circuit_of (body w) + 2 ^ 32 * 0) ≡ body (w - 2 ^ 32 * circuit_of w + 2 ^ 32 * 0)
+body_step w = omega arith
+
+bare_carried : (frag : Frag) → as_carried (bare frag) ≡ as_carried frag
+bare_carried frag =
+    let f : ℕ → Frag = λ w. record { words = frag.words; control = w } in
+    ap f (body_step frag.control)
+
+pub is_eq : (a b : ℕ) → a ≡ b → (a == b) ≡ true
 is_eq a b e = grind (arith, nat_tests, e)
 
-not_eq : (a b : ℕ) → a ≢ b → (a == b) ≡ false
+pub not_eq : (a b : ℕ) → a ≢ b → (a == b) ≡ false
 not_eq a b n = grind (arith, nat_tests, n)
 
-of_here : (c : ℕ) (frag : Frag) (rest : List Frag) → circuit_of frag.control ≡ c → of_circuit c (frag ∷ rest) ≡ plain frag ∷ of_circuit c rest
-of_here c frag rest e = cond_true (circuit_of frag.control == c) (plain frag ∷ of_circuit c rest) (of_circuit c rest) (is_eq (circuit_of frag.control) c e)
+bool_cases : (b : Bool) → (b ≡ true) ⊎ (b ≡ false)
+bool_cases true = inl refl
+bool_cases false = inr refl
+
+on_here : (c : ℕ) (frag : Frag) (rest : List Frag) → circuit_of frag.control ≡ c → with_number c (frag ∷ rest) ≡ as_carried frag ∷ with_number c rest
+on_here c frag rest e = cond_true (circuit_of frag.control == c) (as_carried frag ∷ with_number c rest) (with_number c rest) (is_eq (circuit_of frag.control) c e)
+
+on_other : (c : ℕ) (frag : Frag) (rest : List Frag) → circuit_of frag.control ≢ c → with_number c (frag ∷ rest) ≡ with_number c rest
+on_other c frag rest n = cond_false (circuit_of frag.control == c) (as_carried frag ∷ with_number c rest) (with_number c rest) (not_eq (circuit_of frag.control) c n)
+
+call_first : (b : Bool) (frag : Frag) (rest : List Frag) → b ≡ false → cond (not b) (frag ∷ rest) rest ≡ frag ∷ rest
+call_first true frag rest e = absurd (cc)
+call_first false frag rest e = refl
+
+call_next : (b : Bool) (frag : Frag) (rest : List Frag) → b ≡ true → cond (not b) (frag ∷ rest) rest ≡ rest
+call_next true frag rest e = refl
+call_next false frag rest e = absurd (cc)
+
+of_call_first : (c : ℕ) (frag : Frag) (rest : List Frag) → is_ack_only frag ≡ false → of_circuit c (frag ∷ rest) ≡ with_number c (frag ∷ calls_only rest)
+of_call_first c frag rest e = ap (with_number c) (call_first (is_ack_only frag) frag (calls_only rest) e)
+
+of_ack : (c : ℕ) (frag : Frag) (rest : List Frag) → is_ack_only frag ≡ true → of_circuit c (frag ∷ rest) ≡ of_circuit c rest
+of_ack c frag rest e = ap (with_number c) (call_next (is_ack_only frag) frag (calls_only rest) e)
+
+of_here : (c : ℕ) (frag : Frag) (rest : List Frag) → c ≢ 0 → circuit_of frag.control ≡ c → of_circuit c (frag ∷ rest) ≡ as_carried frag ∷ of_circuit c rest
+of_here c frag rest some e = of_call_first c frag rest (not_ack frag (λ z. some (sym e ∙ z))) ∙ on_here c frag (calls_only rest) e
 
 of_other : (c : ℕ) (frag : Frag) (rest : List Frag) → circuit_of frag.control ≢ c → of_circuit c (frag ∷ rest) ≡ of_circuit c rest
-of_other c frag rest n = cond_false (circuit_of frag.control == c) (plain frag ∷ of_circuit c rest) (of_circuit c rest) (not_eq (circuit_of frag.control) c n)
+of_other c frag rest n =
+    elim (bool_cases (is_ack_only frag)) [
+      | inl ack ↦ of_ack c frag rest ack
+      | inr call ↦ of_call_first c frag rest call ∙ on_other c frag (calls_only rest) n
+    ]
+
+-- The fragments of a circuit among more.
+
+on_join : (c : ℕ) (xs ys : List Frag) → with_number c (xs ++ ys) ≡ with_number c xs ++ with_number c ys
+on_join c [] ys = refl
+on_join c (x ∷ xs) ys = on_first (circuit_of x.control == c) (as_carried x) (with_number c (xs ++ ys)) (with_number c xs) (with_number c ys) (on_join c xs ys) where
+  on_first : (b : Bool) (f : Frag) (all first rest : List Frag) → all ≡ first ++ rest → cond b (f ∷ all) all ≡ cond b (f ∷ first) first ++ rest
+  on_first true f all first rest e = ap (λ v. f ∷ v) e
+  on_first false f all first rest e = e
+
+pub of_join : (c : ℕ) (xs ys : List Frag) → of_circuit c (xs ++ ys) ≡ of_circuit c xs ++ of_circuit c ys
+of_join c xs ys = ap (with_number c) (calls_only-join xs ys) ∙ on_join c (calls_only xs) (calls_only ys)
+
+pub of_prefix : (c : ℕ) (xs ys : List Frag) → IsPrefix xs ys → IsPrefix (of_circuit c xs) (of_circuit c ys)
+of_prefix c xs ys p = (of_circuit c p.0, ap (of_circuit c) p.1 ∙ of_join c xs p.0)
+
+-- what is carried doesn't tell epochs and counts
+pub of_bare : (c : ℕ) (frags : List Frag) → of_circuit c (map bare frags) ≡ of_circuit c frags
+of_bare c [] = refl
+of_bare c (x ∷ xs) =
+    elim (bool_cases (is_ack_only x)) [
+      | inl ack ↦ of_ack c (bare x) (map bare xs) (bare-ack x ∙ ack) ∙ of_bare c xs ∙ sym (of_ack c x xs ack)
+      | inr call ↦
+          of_call_first c (bare x) (map bare xs) (bare-ack x ∙ call)
+          ∙ elim (cases_eq (circuit_of x.control) c) [
+            | inl same ↦
+                on_here c (bare x) (calls_only (map bare xs)) (bare_circuit x ∙ same)
+                ∙ ap (λ f. f ∷ of_circuit c (map bare xs)) (bare_carried x)
+                ∙ ap (λ fs. as_carried x ∷ fs) (of_bare c xs)
+                ∙ sym (on_here c x (calls_only xs) same)
+            | inr other ↦
+                on_other c (bare x) (calls_only (map bare xs)) (λ e. other (sym (bare_circuit x) ∙ e))
+                ∙ of_bare c xs
+                ∙ sym (on_other c x (calls_only xs) other)
+          ]
+          ∙ sym (of_call_first c x xs call)
+    ]
 
 -- One step.
 
 -- what is taken on a link by a step from it, or from another
-from_here : (l c : ℕ) (p : Step) (ps : List Step) → p.from ≡ l → circuit_of p.frag.control ≡ c → of_circuit c (taken_from l (p ∷ ps)) ≡ plain p.frag ∷ of_circuit c (taken_from l ps)
-from_here l c p ps e f =
-    ap (of_circuit c) (cond_true (p.from == l) (p.frag ∷ taken_from l ps) (taken_from l ps) (is_eq p.from l e))
-    ∙ of_here c p.frag (taken_from l ps) f
+from_here : (l c : ℕ) (p : Step) (ps : List Step) → c ≢ 0 → p.from ≡ l → circuit_of p.frag.control ≡ c → of_circuit c (taken_from l (p ∷ ps)) ≡ as_carried p.frag ∷ of_circuit c (taken_from l ps)
+from_here l c p ps some e f =
+    ap (of_circuit c) (cond_true (p.from == l) (bare p.frag ∷ taken_from l ps) (taken_from l ps) (is_eq p.from l e))
+    ∙ of_here c (bare p.frag) (taken_from l ps) some (bare_circuit p.frag ∙ f)
+    ∙ ap (λ x. x ∷ of_circuit c (taken_from l ps)) (bare_carried p.frag)
 
 from_other : (l c : ℕ) (p : Step) (ps : List Step) → ((p.from ≡ l) → (circuit_of p.frag.control ≡ c) → ⊥) → of_circuit c (taken_from l (p ∷ ps)) ≡ of_circuit c (taken_from l ps)
 from_other l c p ps n =
     elim (cases_eq p.from l) [
       | inl same ↦
-          ap (of_circuit c) (cond_true (p.from == l) (p.frag ∷ taken_from l ps) (taken_from l ps) (is_eq p.from l same))
-          ∙ of_other c p.frag (taken_from l ps) (n same)
-      | inr other ↦ ap (of_circuit c) (cond_false (p.from == l) (p.frag ∷ taken_from l ps) (taken_from l ps) (not_eq p.from l other))
+          ap (of_circuit c) (cond_true (p.from == l) (bare p.frag ∷ taken_from l ps) (taken_from l ps) (is_eq p.from l same))
+          ∙ of_other c (bare p.frag) (taken_from l ps) (λ e. n same (sym (bare_circuit p.frag) ∙ e))
+      | inr other ↦ ap (of_circuit c) (cond_false (p.from == l) (bare p.frag ∷ taken_from l ps) (taken_from l ps) (not_eq p.from l other))
     ]
 
 -- what is put on a link by a step that goes there under a number, or another way
-put_here : (m : LinkId) (d : Circuit) (frag : Frag) (way : Way) (rest : List Frag) → way ≡ Link m d → d.0 ≤ 2046 → of_circuit d.0 (if_put_on m.0 frag way rest) ≡ plain frag ∷ of_circuit d.0 rest
-put_here m d frag way rest is small =
+put_here : (m : LinkId) (d : Circuit) (frag : Frag) (way : Way) (rest : List Frag) → way ≡ Link m d → d.0 ≢ 0 → d.0 ≤ 2046 → of_circuit d.0 (if_put_on m.0 frag way rest) ≡ as_carried frag ∷ of_circuit d.0 rest
+put_here m d frag way rest is some small =
     ap (λ w. of_circuit d.0 (if_put_on m.0 frag w rest)) is
-    ∙ ap (of_circuit d.0) (cond_true (m.0 == m.0) (with_circuit d.0 frag ∷ rest) rest (is_eq m.0 m.0 refl))
-    ∙ of_here d.0 (with_circuit d.0 frag) rest (has_circuit frag d.0 small)
-    ∙ ap (λ f. f ∷ of_circuit d.0 rest) (same_plain frag d.0 small)
+    ∙ ap (of_circuit d.0) (cond_true (m.0 == m.0) (bare (with_circuit d.0 frag) ∷ rest) rest (is_eq m.0 m.0 refl))
+    ∙ of_here d.0 (bare (with_circuit d.0 frag)) rest some (bare_circuit (with_circuit d.0 frag) ∙ has_circuit frag d.0 small)
+    ∙ ap (λ f. f ∷ of_circuit d.0 rest) (bare_carried (with_circuit d.0 frag) ∙ same_carried frag d.0 small)
 
 put_other : (m : LinkId) (d : Circuit) (frag : Frag) (way : Way) (rest : List Frag) → (way ≡ Link m d → ⊥) → ((k : LinkId) (i : Circuit) → way ≡ Link k i → i.0 ≤ 2046) → of_circuit d.0 (if_put_on m.0 frag way rest) ≡ of_circuit d.0 rest
 put_other m d frag (End e) rest n small = refl
 put_other m d frag (Link k i) rest n small =
     elim (cases_eq k.0 m.0) [
       | inl same ↦
-          ap (of_circuit d.0) (cond_true (k.0 == m.0) (with_circuit i.0 frag ∷ rest) rest (is_eq k.0 m.0 same))
-          ∙ of_other d.0 (with_circuit i.0 frag) rest (λ e.
+          ap (of_circuit d.0) (cond_true (k.0 == m.0) (bare (with_circuit i.0 frag) ∷ rest) rest (is_eq k.0 m.0 same))
+          ∙ of_other d.0 (bare (with_circuit i.0 frag)) rest (λ e.
           let f : LinkId → Way = λ x. Link x i in
           let g : Circuit → Way = λ x. Link m x in
-          n (ap f (same_link k m same) ∙ ap g (same_circuit i d (sym (has_circuit frag i.0 (small k i refl)) ∙ e))))
-      | inr other ↦ ap (of_circuit d.0) (cond_false (k.0 == m.0) (with_circuit i.0 frag ∷ rest) rest (not_eq k.0 m.0 other))
+          n (ap f (same_link k m same) ∙ ap g (same_circuit i d (sym (has_circuit frag i.0 (small k i refl)) ∙ sym (bare_circuit (with_circuit i.0 frag)) ∙ e))))
+      | inr other ↦ ap (of_circuit d.0) (cond_false (k.0 == m.0) (bare (with_circuit i.0 frag) ∷ rest) rest (not_eq k.0 m.0 other))
     ]
 
 -- Tables.
@@ -162,12 +269,12 @@ given_small : (t : TheCircuits) → Sound t → (l n : ℕ) → Given t l n → 
 given_small t sound l n (inl o) = (small t.core o.link.neighbour.0 o.link.opened n (sound.counts l o.link o.there).0 o.among).1
 given_small t sound l n (inr o) = (small o.link.neighbour.0 t.core o.link.taken n (sound.counts l o.link o.there).1 o.among).1
 
-given_at : (t : TheCircuits) → Sound t → (l n binding : ℕ) (way : Way) → Leads t l n binding way → Given t l n
-given_at t sound l n binding way e =
-    elim (sound.toward l n binding way e) [
-      | inl (o, w) ↦ inl o
-      | inr (o, w) ↦ inr o
-    ]
+-- number 0 leads nowhere
+some_number : (t : TheCircuits) → Sound t → (l n : ℕ) (way : Way) → way_at t l n ≡ Some way → n ≢ 0
+some_number t sound l n way e = λ z.
+    let zero : way_at t l 0 ≡ None = ap (option_map (λ (hop : Hop). hop.way)) (zero_free t sound l) in
+    let some : None ≡ Some way = sym zero ∙ ap (way_at t l) (sym z) ∙ e in
+    absurd (cc)
 
 -- a way on leads back
 back : (t : TheCircuits) → Sound t → (l n : ℕ) (m : LinkId) (d : Circuit) → way_at t l n ≡ Some (Link m d) → way_at t m.0 d.0 ≡ Some (Link (record { 0 = l }) (record { 0 = n }))
@@ -184,57 +291,135 @@ far_small t sound l n m d e =
     let circuit : Circuit = record { 0 = n } in
     given_small t sound m.0 d.0 (given_at t sound m.0 d.0 b (Link link circuit) (sound.both link m circuit d b x))
 
-moved : (u t : TheCircuits) (l m i j : ℕ) (way : Way) → l ≡ m → i ≡ j → way_at u l i ≡ Some way → way_at u m j ≡ Some way
-moved u t l m i j way e f at = subst (λ x. way_at u x j ≡ Some way) e (subst (λ y. way_at u l y ≡ Some way) f at)
+moved : (u : TheCircuits) (l m i j : ℕ) (way : Way) → l ≡ m → i ≡ j → way_at u l i ≡ Some way → way_at u m j ≡ Some way
+moved u l m i j way e f at = subst (λ x. way_at u x j ≡ Some way) e (subst (λ y. way_at u l y ≡ Some way) f at)
+
+-- Stretches.
+
+pub stretch_later : (t : TheCircuits) (ps : List Step) (u : TheCircuits) → goes_through t ps u → Later t u
+stretch_later t [] u all = all
+stretch_later t (p ∷ ps) u all = later_chain t p.moment u all.0 (stretch_later p.moment ps u all.2)
+
+-- calls before a stretch belong to it
+stretch_from : (t v : TheCircuits) (ps : List Step) (u : TheCircuits) → Later t v → goes_through v ps u → goes_through t ps u
+stretch_from t v [] u later all = later_chain t v u later all
+stretch_from t v (p ∷ ps) u later all = (later_chain t v p.moment later all.0, all.1, all.2)
+
+pub stretch_join : (t : TheCircuits) (ps : List Step) (u : TheCircuits) (qs : List Step) (v : TheCircuits) → goes_through t ps u → goes_through u qs v → goes_through t (ps ++ qs) v
+stretch_join t [] u qs v a b = stretch_from t u qs v a b
+stretch_join t (p ∷ ps) u qs v a b = (a.0, a.1, stretch_join p.moment ps u qs v a.2 b)
+
+pub joins : (s r : Stretch) → s.finish ≡ r.start → AllWent s → AllWent r → AllWent (record { start = s.start; steps = s.steps ++ r.steps; finish = r.finish })
+joins s r e a b = stretch_join s.start s.steps r.start r.steps r.finish (subst (λ t. goes_through s.start s.steps t) e a) b
+
+pub stood_on : (s r : Stretch) (l n binding : ℕ) (way : Way) → s.finish ≡ r.start → Stood s l n binding way × AllWent r → Stood (record { start = s.start; steps = s.steps ++ r.steps; finish = r.finish }) l n binding way
+stood_on s r l n binding way e h =
+    let x = h.0 in
+    record {
+      moment = x.moment;
+      sound = x.sound;
+      leads = x.leads;
+      before = x.before;
+      after = x.after ++ r.steps;
+      all = ap (λ v. v ++ r.steps) x.all ∙ append_assoc x.before x.after r.steps;
+      until = x.until;
+      since = stretch_join x.moment x.after r.start r.steps r.finish (subst (λ t. goes_through x.moment x.after t) e x.since) h.1;
+    }
+
+pub stood_before : (s r : Stretch) (l n binding : ℕ) (way : Way) → s.finish ≡ r.start → AllWent s × Stood r l n binding way → Stood (record { start = s.start; steps = s.steps ++ r.steps; finish = r.finish }) l n binding way
+stood_before s r l n binding way e h =
+    let x = h.1 in
+    record {
+      moment = x.moment;
+      sound = x.sound;
+      leads = x.leads;
+      before = s.steps ++ x.before;
+      after = x.after;
+      all = ap (λ v. s.steps ++ v) x.all ∙ sym (append_assoc s.steps x.before x.after);
+      until = stretch_join s.start s.steps r.start x.before x.moment (subst (λ t. goes_through s.start s.steps t) e h.0) x.until;
+      since = x.since;
+    }
+
+-- a step of a stretch, seen from a table of another moment
+abbrev pub Near : TheCircuits → Step → Type 0
+Near t p = Went p × Beside p.moment t
+
+abbrev pub AllNear : TheCircuits → List Step → Type 0
+AllNear t [] = Unit {0}
+AllNear t (p ∷ ps) = Near t p × AllNear t ps
+
+near_before : (s t : TheCircuits) (ps : List Step) → goes_through s ps t → AllNear t ps
+near_before s t [] all = tt
+near_before s t (p ∷ ps) all = ((all.1, inl (stretch_later p.moment ps t all.2)), near_before p.moment t ps all.2)
+
+near_after : (t s : TheCircuits) (ps : List Step) (u : TheCircuits) → Later t s → goes_through s ps u → AllNear t ps
+near_after t s [] u later all = tt
+near_after t s (p ∷ ps) u later all =
+    let on = later_chain t s p.moment later all.0 in
+    ((all.1, inr on), near_after t p.moment ps u on all.2)
+
+near_join : (t : TheCircuits) (ps qs : List Step) → AllNear t ps → AllNear t qs → AllNear t (ps ++ qs)
+near_join t [] qs a b = b
+near_join t (p ∷ ps) qs a b = (a.0, near_join t ps qs a.1 b)
+
+-- all steps of a stretch, seen from the moment at which an entry stood
+near : (s : Stretch) (l n binding : ℕ) (way : Way) → (x : Stood s l n binding way) → AllNear x.moment s.steps
+near s l n binding way x =
+    subst (AllNear x.moment) (sym x.all)
+    (near_join x.moment x.before x.after (near_before s.start x.moment x.before x.until) (near_after x.moment x.moment x.after s.finish (later_same x.moment) x.since))
+
+-- From link to link.
 
 module _ (t : TheCircuits) (sound : Sound t) (l m : LinkId) (c d : Circuit) (binding : ℕ) (leads : Leads t l.0 c.0 binding (Link m d)) where
   -- a step from the near number goes out under the far one
-  goes : (p : Step) → Went t p → p.from ≡ l.0 → circuit_of p.frag.control ≡ c.0 → p.way ≡ Link m d
+  goes : (p : Step) → Near t p → p.from ≡ l.0 → circuit_of p.frag.control ≡ c.0 → p.way ≡ Link m d
   goes p w e f =
-      was_same w.moment t w.sound w.later l.0 c.0 p.way (Link m d)
-      (moved w.moment t p.from l.0 (circuit_of p.frag.control) c.0 p.way e f w.led)
+      same_way p.moment t w.0.sound sound w.1 l.0 c.0 p.way (Link m d)
+      (moved p.moment p.from l.0 (circuit_of p.frag.control) c.0 p.way e f w.0.led)
       (leads_way t l.0 c.0 binding (Link m d) leads)
 
   -- and no other does
-  comes : (p : Step) → Went t p → p.way ≡ Link m d → (p.from ≡ l.0) × (circuit_of p.frag.control ≡ c.0)
+  comes : (p : Step) → Near t p → p.way ≡ Link m d → (p.from ≡ l.0) × (circuit_of p.frag.control ≡ c.0)
   comes p w is =
       let some : Way → Option Way = λ x. Some x in
-      let then_back = back w.moment w.sound p.from (circuit_of p.frag.control) m d (w.led ∙ ap some is) in
+      let then_back = back p.moment w.0.sound p.from (circuit_of p.frag.control) m d (w.0.led ∙ ap some is) in
       let now_back = back t sound l.0 c.0 m d (leads_way t l.0 c.0 binding (Link m d) leads) in
-      let same = was_same w.moment t w.sound w.later m.0 d.0 (Link (record { 0 = p.from }) (record { 0 = circuit_of p.frag.control })) (Link l c) then_back now_back in
+      let same = same_way p.moment t w.0.sound sound w.1 m.0 d.0 (Link (record { 0 = p.from }) (record { 0 = circuit_of p.frag.control })) (Link l c) then_back now_back in
       let a : record { 0 = p.from } ≡ l = cc in
       let b : record { 0 = circuit_of p.frag.control } ≡ c = cc in
       (ap (λ (x : LinkId). x.0) a, ap (λ (x : Circuit). x.0) b)
 
-  smalls : (p : Step) → Went t p → (k : LinkId) (i : Circuit) → p.way ≡ Link k i → i.0 ≤ 2046
+  smalls : (p : Step) → Near t p → (k : LinkId) (i : Circuit) → p.way ≡ Link k i → i.0 ≤ 2046
   smalls p w k i is =
       let some : Way → Option Way = λ x. Some x in
-      far_small w.moment w.sound p.from (circuit_of p.frag.control) k i (w.led ∙ ap some is)
+      far_small p.moment w.0.sound p.from (circuit_of p.frag.control) k i (w.0.led ∙ ap some is)
 
-  on_step : (p : Step) (ps : List Step) → Went t p → of_circuit d.0 (put_on m.0 ps) ≡ of_circuit c.0 (taken_from l.0 ps) → of_circuit d.0 (put_on m.0 (p ∷ ps)) ≡ of_circuit c.0 (taken_from l.0 (p ∷ ps))
+  on_step : (p : Step) (ps : List Step) → Near t p → of_circuit d.0 (put_on m.0 ps) ≡ of_circuit c.0 (taken_from l.0 ps) → of_circuit d.0 (put_on m.0 (p ∷ ps)) ≡ of_circuit c.0 (taken_from l.0 (p ∷ ps))
   on_step p ps w rest =
-      let far = far_small t sound l.0 c.0 m d (leads_way t l.0 c.0 binding (Link m d) leads) in
+      let way = leads_way t l.0 c.0 binding (Link m d) leads in
+      let far = far_small t sound l.0 c.0 m d way in
+      let some = some_number t sound l.0 c.0 (Link m d) way in
+      let other = some_number t sound m.0 d.0 (Link l c) (back t sound l.0 c.0 m d way) in
       let away : ((p.from ≡ l.0) → (circuit_of p.frag.control ≡ c.0) → ⊥) → of_circuit d.0 (put_on m.0 (p ∷ ps)) ≡ of_circuit c.0 (taken_from l.0 (p ∷ ps)) = λ n.
       put_other m d p.frag p.way (put_on m.0 ps) (λ is. n (comes p w is).0 (comes p w is).1) (smalls p w) ∙ rest ∙ sym (from_other l.0 c.0 p ps n) in
       elim (cases_eq p.from l.0) [
-        | inr other ↦ away (λ e f. other e)
+        | inr apart ↦ away (λ e f. apart e)
         | inl same ↦
             elim (cases_eq (circuit_of p.frag.control) c.0) [
               | inr apart ↦ away (λ e f. apart f)
               | inl too ↦
-                  put_here m d p.frag p.way (put_on m.0 ps) (goes p w same too) far
-                  ∙ ap (λ fs. plain p.frag ∷ fs) rest
-                  ∙ sym (from_here l.0 c.0 p ps same too)
+                  put_here m d p.frag p.way (put_on m.0 ps) (goes p w same too) other far
+                  ∙ ap (λ fs. as_carried p.frag ∷ fs) rest
+                  ∙ sym (from_here l.0 c.0 p ps some same too)
             ]
       ]
 
-  carry : (ps : List Step) → AllWent t ps → of_circuit d.0 (put_on m.0 ps) ≡ of_circuit c.0 (taken_from l.0 ps)
+  carry : (ps : List Step) → AllNear t ps → of_circuit d.0 (put_on m.0 ps) ≡ of_circuit c.0 (taken_from l.0 ps)
   carry [] all = refl
   carry (p ∷ ps) all = on_step p ps all.0 (carry ps all.1)
 
-pub carried_on : (t : TheCircuits) (l m : LinkId) (c d : Circuit) (binding : ℕ) (ps : List Step) → Sound t → Leads t l.0 c.0 binding (Link m d) → AllWent t ps
-    → of_circuit d.0 (put_on m.0 ps) ≡ of_circuit c.0 (taken_from l.0 ps)
-carried_on t l m c d binding ps sound leads all = carry t sound l m c d binding leads ps all
+pub carried_on : (s : Stretch) (l m : LinkId) (c d : Circuit) (binding : ℕ) → Stood s l.0 c.0 binding (Link m d) → of_circuit d.0 (put_on m.0 s.steps) ≡ of_circuit c.0 (taken_from l.0 s.steps)
+carried_on s l m c d binding x = carry x.moment x.sound l m c d binding x.leads s.steps (near s l.0 c.0 binding (Link m d) x)
 
 -- From a link to an end.
 
@@ -264,76 +449,75 @@ both_true : (a b : Bool) → a ≡ true → b ≡ true → (a && b) ≡ true
 both_true true b e f = f
 both_true false b e f = cc
 
-end_same : (e : EndId) → same_end e e ≡ true
+pub end_same : (e : EndId) → same_end e e ≡ true
 end_same e = both_true (e.binding == e.binding) (same_side e.side e.side) (is_eq e.binding e.binding refl) (side_same e.side)
 
-bool_cases : (b : Bool) → (b ≡ true) ⊎ (b ≡ false)
-bool_cases true = inl refl
-bool_cases false = inr refl
-
-come_here : (e : EndId) (frag : Frag) (way : Way) (rest : List Frag) → way ≡ End e → if_come_to e frag way rest ≡ plain frag ∷ rest
+come_here : (e : EndId) (frag : Frag) (way : Way) (rest : List Frag) → way ≡ End e → if_come_to e frag way rest ≡ as_carried frag ∷ rest
 come_here e frag way rest is =
-    ap (λ w. if_come_to e frag w rest) is ∙ cond_true (same_end e e) (plain frag ∷ rest) rest (end_same e)
+    ap (λ w. if_come_to e frag w rest) is ∙ cond_true (same_end e e) (as_carried frag ∷ rest) rest (end_same e)
 
 come_other : (e : EndId) (frag : Frag) (way : Way) (rest : List Frag) → (way ≡ End e → ⊥) → if_come_to e frag way rest ≡ rest
 come_other e frag (Link k i) rest n = refl
 come_other e frag (End f) rest n =
     elim (bool_cases (same_end f e)) [
       | inl same ↦ let g : EndId → Way = λ x. End x in absurd (n (ap g (same_end_is f e same)))
-      | inr other ↦ cond_false (same_end f e) (plain frag ∷ rest) rest other
+      | inr other ↦ cond_false (same_end f e) (as_carried frag ∷ rest) rest other
     ]
 
 module _ (t : TheCircuits) (sound : Sound t) (l : LinkId) (c : Circuit) (binding : ℕ) (e : EndId) (leads : Leads t l.0 c.0 binding (End e)) where
-  in_step : (p : Step) (ps : List Step) → (w : Went t p) → ((m k b : ℕ) → Leads w.moment m k b (End e) → (m ≡ l.0) × (k ≡ c.0)) → come_to e ps ≡ of_circuit c.0 (taken_from l.0 ps) → come_to e (p ∷ ps) ≡ of_circuit c.0 (taken_from l.0 (p ∷ ps))
+  in_step : (p : Step) (ps : List Step) → Near t p → (p.way ≡ End e → (p.from ≡ l.0) × (circuit_of p.frag.control ≡ c.0)) → come_to e ps ≡ of_circuit c.0 (taken_from l.0 ps) → come_to e (p ∷ ps) ≡ of_circuit c.0 (taken_from l.0 (p ∷ ps))
   in_step p ps w only rest =
-      let some : Way → Option Way = λ x. Some x in
-      let comes : p.way ≡ End e → (p.from ≡ l.0) × (circuit_of p.frag.control ≡ c.0) = λ is.
-      let x = led w.moment p.from (circuit_of p.frag.control) (End e) (w.led ∙ ap some is) in
-      only p.from (circuit_of p.frag.control) x.0 x.1 in
+      let way = leads_way t l.0 c.0 binding (End e) leads in
+      let some = some_number t sound l.0 c.0 (End e) way in
       let away : ((p.from ≡ l.0) → (circuit_of p.frag.control ≡ c.0) → ⊥) → come_to e (p ∷ ps) ≡ of_circuit c.0 (taken_from l.0 (p ∷ ps)) = λ n.
-      come_other e p.frag p.way (come_to e ps) (λ is. n (comes is).0 (comes is).1) ∙ rest ∙ sym (from_other l.0 c.0 p ps n) in
+      come_other e p.frag p.way (come_to e ps) (λ is. n (only is).0 (only is).1) ∙ rest ∙ sym (from_other l.0 c.0 p ps n) in
       elim (cases_eq p.from l.0) [
         | inr other ↦ away (λ x y. other x)
         | inl same ↦
             elim (cases_eq (circuit_of p.frag.control) c.0) [
               | inr apart ↦ away (λ x y. apart y)
               | inl too ↦
-                  let way = was_same w.moment t w.sound w.later l.0 c.0 p.way (End e)
-                  (moved w.moment t p.from l.0 (circuit_of p.frag.control) c.0 p.way same too w.led)
-                  (leads_way t l.0 c.0 binding (End e) leads) in
-                  come_here e p.frag p.way (come_to e ps) way
-                  ∙ ap (λ fs. plain p.frag ∷ fs) rest
-                  ∙ sym (from_here l.0 c.0 p ps same too)
+                  let on = same_way p.moment t w.0.sound sound w.1 l.0 c.0 p.way (End e)
+                  (moved p.moment p.from l.0 (circuit_of p.frag.control) c.0 p.way same too w.0.led) way in
+                  come_here e p.frag p.way (come_to e ps) on
+                  ∙ ap (λ fs. as_carried p.frag ∷ fs) rest
+                  ∙ sym (from_here l.0 c.0 p ps some same too)
             ]
       ]
 
-  pub carried_in : (ps : List Step) → (all : AllWent t ps) → NoOther t l.0 c.0 e ps all → come_to e ps ≡ of_circuit c.0 (taken_from l.0 ps)
-  carried_in [] all only = refl
-  carried_in (p ∷ ps) all only = in_step p ps all.0 only.0 (carried_in ps all.1 only.1)
+  carry_in : (ps : List Step) → AllNear t ps → OnlyFrom l.0 c.0 e ps → come_to e ps ≡ of_circuit c.0 (taken_from l.0 ps)
+  carry_in [] all only = refl
+  carry_in (p ∷ ps) all only = in_step p ps all.0 only.0 (carry_in ps all.1 only.1)
 
   -- no step goes out under the number that the end writes on
-  never : (p : Step) → Went t p → p.way ≡ Link l c → ⊥
+  never : (p : Step) → Near t p → p.way ≡ Link l c → ⊥
   never p w is =
       let some : Way → Option Way = λ x. Some x in
-      let then_back = back w.moment w.sound p.from (circuit_of p.frag.control) l c (w.led ∙ ap some is) in
-      let same = was_same w.moment t w.sound w.later l.0 c.0 (Link (record { 0 = p.from }) (record { 0 = circuit_of p.frag.control })) (End e) then_back (leads_way t l.0 c.0 binding (End e) leads) in
+      let then_back = back p.moment w.0.sound p.from (circuit_of p.frag.control) l c (w.0.led ∙ ap some is) in
+      let same = same_way p.moment t w.0.sound sound w.1 l.0 c.0 (Link (record { 0 = p.from }) (record { 0 = circuit_of p.frag.control })) (End e) then_back (leads_way t l.0 c.0 binding (End e) leads) in
       cc
 
-  pub own_alone : (ps : List Step) → AllWent t ps → of_circuit c.0 (put_on l.0 ps) ≡ []
-  own_alone [] all = refl
-  own_alone (p ∷ ps) all =
+  alone : (ps : List Step) → AllNear t ps → of_circuit c.0 (put_on l.0 ps) ≡ []
+  alone [] all = refl
+  alone (p ∷ ps) all =
       let w = all.0 in
       let some : Way → Option Way = λ x. Some x in
-      put_other l c p.frag p.way (put_on l.0 ps) (never p w) (λ k i is. far_small w.moment w.sound p.from (circuit_of p.frag.control) k i (w.led ∙ ap some is))
-      ∙ own_alone ps all.1
+      put_other l c p.frag p.way (put_on l.0 ps) (never p w) (λ k i is. far_small p.moment w.0.sound p.from (circuit_of p.frag.control) k i (w.0.led ∙ ap some is))
+      ∙ alone ps all.1
+
+pub carried_in : (s : Stretch) (l : LinkId) (c : Circuit) (binding : ℕ) (e : EndId) → Stood s l.0 c.0 binding (End e) → OnlyFrom l.0 c.0 e s.steps → come_to e s.steps ≡ of_circuit c.0 (taken_from l.0 s.steps)
+carried_in s l c binding e x only = carry_in x.moment x.sound l c binding e x.leads s.steps (near s l.0 c.0 binding (End e) x) only
+
+pub own_alone : (s : Stretch) (l : LinkId) (c : Circuit) (binding : ℕ) (e : EndId) → Stood s l.0 c.0 binding (End e) → of_circuit c.0 (put_on l.0 s.steps) ≡ []
+own_alone s l c binding e x = alone x.moment x.sound l c binding e x.leads s.steps (near s l.0 c.0 binding (End e) x)
 
 -- Along a route.
 
-front_chain : (xs ys zs : List Frag) → Front xs ys → Front ys zs → Front xs zs
-front_chain xs ys zs a b = (a.0 ++ b.0, b.1 ∙ ap (λ v. v ++ b.0) a.1 ∙ append_assoc xs a.0 b.0)
+prefix_chain : (xs ys zs : List Frag) → IsPrefix xs ys → IsPrefix ys zs → IsPrefix xs zs
+prefix_chain xs ys zs a b = (a.0 ++ b.0, b.1 ∙ ap (λ v. v ++ b.0) a.1 ∙ append_assoc xs a.0 b.0)
 
-pub along : (gs : List Leg) (ins outs : List Frag) → Along ins gs outs → Front outs ins
+pub along : (gs : List Leg) (ins outs : List Frag) → Along ins gs outs → IsPrefix outs ins
 along [] ins outs a = a
 along (g ∷ gs) ins outs a =
-    front_chain outs (of_circuit g.circuit g.got) ins (along gs (of_circuit g.circuit g.got) outs a.2)
-    (front_chain (of_circuit g.circuit g.got) (of_circuit g.circuit g.sent) ins a.1 a.0)
+    prefix_chain outs (of_circuit g.circuit g.got) ins (along gs (of_circuit g.circuit g.got) outs a.2)
+    (prefix_chain (of_circuit g.circuit g.got) (of_circuit g.circuit g.sent) ins a.1 a.0)

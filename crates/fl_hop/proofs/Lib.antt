@@ -8,6 +8,7 @@ pub mod Laters
 pub mod Laws
 pub mod Crossing
 pub mod Numbering
+pub mod Adding
 pub mod Standing
 pub mod Opening
 pub mod Answering

@@ -3,9 +3,8 @@ use Rattle.std.proofs.Common.{◌≡◌, ◌≢◌, refl, sym, ◌∙◌, ℕ, �
 use mathlib.Core.Bool.{beq}
 use Rattle.std.proofs.lemmas.Bool.Decides.{nat_tests}
 use Rattle.fl_base.specs.declared.fragment.Frag.{Frag}
-use Rattle.fl_base.specs.Control.{circuit_of, is_ack_only}
+use Rattle.fl_base.specs.Control.{circuit_of, is_ack_only, with_circuit}
 use Rattle.fl_hop.specs.Numbers.{number, IsAmong}
-use Rattle.fl_hop.specs.OfCircuit.{with_circuit}
 use Rattle.fl_hop.proofs.Cells.{is_less, less_is}
 
 among_odd : (n count : ℕ) → n ≢ 0 → n % 2 ≡ 1 → ((n - 1) / 2 < count → (k : ℕ) × (k < count) × (n ≡ 2 * k + 1)) × ((k : ℕ) → k < count → n ≡ 2 * k + 1 → (n - 1) / 2 < count)
@@ -75,6 +74,9 @@ and_false true b e = cc
 and_false false b e = refl
 
 -- a fragment of a circuit doesn't only acknowledge
+pub not_ack : (frag : Frag) → circuit_of frag.control ≢ 0 → is_ack_only frag ≡ false
+not_ack frag some = and_false _ _ (ack_step frag.control some)
+
 pub of_call : (frag : Frag) (d : ℕ) → d ≢ 0 → d ≤ 2046 → is_ack_only (with_circuit d frag) ≡ false
 of_call frag d some small =
     let e = circuit_step frag.control d (omega arith) in

@@ -4,7 +4,9 @@ pub mod Joined
 pub mod Openings
 pub mod Later
 pub mod OfCircuit
+pub mod Stretch
 pub mod Forward
+pub mod Adds
 pub mod Carried
 pub mod Faults
 pub mod Slots

@@ -1,18 +1,18 @@
--- The circuit field of a fragment, and the fragments of one circuit among others.
-use Rattle.std.specs.Prelude.{ℕ, ◌+◌, ◌-◌, ◌*◌, ◌^◌, ◌==◌, if◌then◌else◌, List, [], ◌∷◌}
+-- The fragments of one circuit among others, as a circuit carries them.
+use Rattle.std.specs.Prelude.{ℕ, ◌==◌, if◌then◌else◌, List, [], ◌∷◌}
 use Rattle.fl_base.specs.declared.fragment.Frag.{Frag}
-use Rattle.fl_base.specs.Control.{circuit_of}
-use Rattle.fl_link.specs.Stamp.{bare}
-
--- the fragment with this circuit in its control word, and all else the same
-abbrev pub with_circuit : ℕ → Frag → Frag
-with_circuit c frag = record { words = frag.words; control = frag.control - 2 ^ 32 * circuit_of frag.control + 2 ^ 32 * c }
+use Rattle.fl_base.specs.Control.{circuit_of, with_circuit, bare}
+use Rattle.fl_link.specs.Calls.{calls_only}
 
 -- what a circuit carries unchanged: the fragment with its circuit, its epoch and the count told set aside
-abbrev pub plain : Frag → Frag
-plain frag = bare (with_circuit 0 frag)
+abbrev pub as_carried : Frag → Frag
+as_carried frag = bare (with_circuit 0 frag)
 
--- the fragments of circuit c, in order, as they are carried
+-- the fragments with circuit c in their control words, in order, as they are carried
+abbrev pub with_number : ℕ → List Frag → List Frag
+with_number c [] = []
+with_number c (frag ∷ frags) = if circuit_of frag.control == c then as_carried frag ∷ with_number c frags else with_number c frags
+
+-- the fragments of circuit c: those that only acknowledge are of no circuit
 abbrev pub of_circuit : ℕ → List Frag → List Frag
-of_circuit c [] = []
-of_circuit c (frag ∷ frags) = if circuit_of frag.control == c then plain frag ∷ of_circuit c frags else of_circuit c frags
+of_circuit c frags = with_number c (calls_only frags)

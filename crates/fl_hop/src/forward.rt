@@ -1,11 +1,10 @@
 //! Looking at a link's first fragment, and passing it on.
 
 ghost use Rattle.std.specs.Prelude.{◌≡◌, ◌≢◌, ◌<◌, false, length, slice_get, Some};
-ghost use Rattle.fl_base.specs.Control.{circuit_of, message_of, first_of, epoch_of, told_of, reserved_of, is_ack_only};
-ghost use Rattle.fl_link.specs.Stamp.{bare};
+ghost use Rattle.fl_base.specs.Control.{is_ack_only, with_circuit, bare};
 ghost use Rattle.fl_link.specs.Looks.{saw};
-ghost use Rattle.fl_hop.specs.OfCircuit.{with_circuit};
-ghost use Rattle.fl_hop.specs.Forward.{Finds, Moves, Forwards, Crosses};
+ghost use Rattle.fl_hop.specs.OfCircuit.{as_carried};
+ghost use Rattle.fl_hop.specs.Forward.{Finds, put_label, Leaves, Forwards, Crosses};
 
 use crate::circuits::Circuits;
 use crate::entry::Way;
@@ -53,25 +52,6 @@ pub enum Forwarded {
     Onward(Outcome),
 }
 
-/// The fragment with this circuit in its control word, and all else the same.
-pub fn with_circuit(frag: &Frag, circuit: Circuit) -> Frag
-    ensures whole { result ≡ with_circuit circuit.0 frag.now }
-    ensures circuit { circuit_of result.control ≡ circuit.0 }
-    ensures words { result.words ≡ frag.now.words }
-    ensures message { message_of result.control ≡ message_of frag.now.control }
-    ensures first { first_of result.control ≡ first_of frag.now.control }
-    ensures epoch { epoch_of result.control ≡ epoch_of frag.now.control }
-    ensures told { told_of result.control ≡ told_of frag.now.control }
-    ensures reserved { reserved_of result.control ≡ reserved_of frag.now.control }
-{
-    let control = frag.control;
-    let old = control / 4_294_967_296 % 65_536;
-    Frag {
-        words: frag.words,
-        control: control - 4_294_967_296 * old + 4_294_967_296 * u64::from(circuit.0),
-    }
-}
-
 /// Passes on a fragment that was seen to stand first: puts it on the way out with this circuit, and takes it where that
 /// succeeds. Where the way out has no room nothing is taken, and nothing is put.
 pub fn move_on<T: TakeSide, P: PutSide>(
@@ -82,9 +62,10 @@ pub fn move_on<T: TakeSide, P: PutSide>(
 ) -> Outcome
     requires seen { T.front from.old ≡ saw (bare frag.now) }
     requires call { is_ack_only (with_circuit circuit.0 frag.now) ≡ false }
-    ensures moves { Moves T.takes P.puts from.old to.old frag.now circuit.0 result from.new to.new }
+    ensures put { P.puts to.old (put_label result (bare (with_circuit circuit.0 frag.now))) to.new }
+    ensures left { Leaves T.takes result (bare frag.now) (record { before = from.old; after = from.new }) }
 {
-    let frag = with_circuit(frag, circuit);
+    let frag = frag.with_circuit(circuit);
     match to.put(&frag) {
         Err(PutFault::Full) => Outcome::Full,
         Err(PutFault::Spent) => Outcome::Spent,
@@ -108,9 +89,11 @@ fn cross<S: TakeSide + PutSide>(
     requires two { from ≢ to }
     requires seen { (s : S) → slice_get sides.old from ≡ Some s → S.front s ≡ saw (bare frag.now) }
     requires call { is_ack_only (with_circuit circuit.0 frag.now) ≡ false }
-    ensures crosses { Crosses S.takes S.puts sides.old from to frag.now circuit.0 result sides.new }
+    ensures crosses { Crosses S.takes S.puts
+        (record { from = from; to = to; frag = frag.now; circuit = circuit.0; outcome = result })
+        (record { before = sides.old; after = sides.new }) }
 {
-    let frag = with_circuit(frag, circuit);
+    let frag = frag.with_circuit(circuit);
     match sides[to].put(&frag) {
         Err(PutFault::Full) => Outcome::Full,
         Err(PutFault::Spent) => Outcome::Spent,
@@ -126,7 +109,8 @@ fn cross<S: TakeSide + PutSide>(
 pub fn deliver<T: TakeSide, P: PutSide>(from: &mut T, queue: &mut P, frag: &Frag) -> Outcome
     requires seen { T.front from.old ≡ saw (bare frag.now) }
     requires call { is_ack_only (with_circuit 0 frag.now) ≡ false }
-    ensures moves { Moves T.takes P.puts from.old queue.old frag.now 0 result from.new queue.new }
+    ensures put { P.puts queue.old (put_label result (as_carried frag.now)) queue.new }
+    ensures left { Leaves T.takes result (bare frag.now) (record { before = from.old; after = from.new }) }
 {
     move_on(from, queue, frag, Circuit(0))
 }
@@ -140,7 +124,7 @@ impl Circuits {
     /// fragment would be one that only acknowledges, which no fragment of a call is (E63). The fragment stays then. The
     /// caller calls no more for a direction that has failed.
     pub fn look<T: TakeSide>(&self, link: LinkId, from: &mut T) -> Result<First, HopFault>
-        ensures finds { Finds T.takes T.front self.now link.0 from.old result from.new }
+        ensures finds { Finds T.takes T.front (record { table = self.now; link = link.0 }) result (record { before = from.old; after = from.new }) }
     {
         let frag = match from.peek() {
             Sight::Empty => return Ok(First::Nothing),
@@ -158,7 +142,7 @@ impl Circuits {
             None => Err(HopFault::Astray),
             Some(Way::Link(next, number)) => Ok(First::Goes(frag, Way::Link(next, number))),
             Some(Way::End(end)) => {
-                if with_circuit(&frag, Circuit(0)).is_ack_only() {
+                if frag.with_circuit(Circuit(0)).is_ack_only() {
                     return Err(HopFault::Marked);
                 }
                 Ok(First::Goes(frag, Way::End(end)))
@@ -178,7 +162,8 @@ impl Circuits {
         link: LinkId,
         sides: &mut [S],
     ) -> Result<Forwarded, HopFault>
-        ensures forwards { Forwards S.takes S.puts S.front self.now link.0 sides.old result sides.new }
+        ensures forwards { Forwards S.takes S.puts S.front (record { table = self.now; link = link.0 }) result
+            (record { before = sides.old; after = sides.new }) }
     {
         let place = usize::from(link.0);
         if sides.len() != self.links.len() || place >= sides.len() {

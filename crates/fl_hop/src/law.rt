@@ -1,14 +1,18 @@
 //! What holds of every table, and of every stretch of forwards.
 
-ghost use Rattle.std.specs.Prelude.{◌≡◌, ℕ, List, None};
+ghost use Rattle.std.specs.Prelude.{◌≡◌, ◌++◌, ℕ, List, None};
 ghost use Rattle.fl_base.specs.declared.fragment.Frag.{Frag};
+ghost use Rattle.fl_base.specs.Prefix.{IsPrefix};
 ghost use Rattle.fl_hop.specs.Table.{TheCircuits, hop_at};
 ghost use Rattle.fl_hop.specs.Numbers.{OpenedHere, OpenedThere};
 ghost use Rattle.fl_hop.specs.Joined.{Sound};
 ghost use Rattle.fl_hop.specs.Later.{Later};
-ghost use Rattle.fl_hop.specs.Carried.{CarriedOn, CarriedIn, OwnAlone, Leg, Along, Front};
+ghost use Rattle.fl_hop.specs.Carried.{OneEntry, Joins, StoodToo, CarriedOn, CarriedIn, OwnAlone, SetAside, Leg, Along};
+ghost use Rattle.fl_hop.specs.Adds.{PassageAdds, ForwardsAdd};
+ghost use Rattle.fl_hop.specs.OfCircuit.{of_circuit};
 
 use crate::circuits::Circuits;
+use fl_link::{PutSide, TakeSide};
 
 /// In every table entries lead both ways, from the client to the server, and no two share a side; they stand at numbers
 /// that were given; and no two links go to one core.
@@ -25,14 +29,22 @@ pub fn numbers_apart()
     ensures zero { (t : TheCircuits) → Sound t → (l : ℕ) → hop_at t l 0 ≡ None }
 {}
 
-/// What a table became, and what that became: a table keeps what each call keeps.
+/// What a table became, and what that became: a table keeps what each call keeps. An entry's number names it for ever.
 pub fn later_on()
     ensures same { (t : TheCircuits) → Later t t }
     ensures further { (t u v : TheCircuits) → Later t u → Later u v → Later t v }
+    ensures one { OneEntry }
 {}
 
-/// Over any stretch of forwards at one core, what came out under an entry's number is what went in under the number on its
-/// other side, whatever other circuits share the links.
+/// One stretch of forwards and then another are one; an entry that stood at some moment of either stood at some moment of
+/// both together.
+pub fn stretches_join()
+    ensures joins { Joins }
+    ensures stood { StoodToo }
+{}
+
+/// Over any stretch of forwards at one core, what came out under the number of an entry that stood at some moment of it is
+/// what went in under the number on its other side, whatever other circuits share the links.
 pub fn carried_on()
     ensures carried { CarriedOn }
 {}
@@ -47,7 +59,26 @@ pub fn own_alone()
     ensures alone { OwnAlone }
 {}
 
-/// Along a route, what comes out at its end is a front of what was put in at its start.
+/// A fragment's passage, as [`look`](Circuits::look) and then [`move_on`](crate::move_on) or [`deliver`](crate::deliver) do it
+/// over two sides, is one step of a stretch, or none where it stayed; what the sides took and put is what that step says.
+pub fn passage_adds<T: TakeSide, P: PutSide>()
+    ensures adds { PassageAdds T.takes P.puts T.front }
+{}
+
+/// A forward over the sides of a core's links is one step of a stretch, or none; each side took and put what that step says.
+pub fn forward_adds<S: TakeSide + PutSide>()
+    ensures adds { ForwardsAdd S.takes S.puts S.front }
+{}
+
+/// Of one list and then another a circuit carries what it carries of each; so of a prefix a prefix. It tells no epochs and
+/// no counts.
+pub fn circuits_join()
+    ensures joins { (c : ℕ) (frags more : List Frag) → of_circuit c (frags ++ more) ≡ of_circuit c frags ++ of_circuit c more }
+    ensures prefix { (c : ℕ) (got sent : List Frag) → IsPrefix got sent → IsPrefix (of_circuit c got) (of_circuit c sent) }
+    ensures set_aside { SetAside }
+{}
+
+/// Along a route, what comes out at its end is a prefix of what was put in at its start.
 pub fn along()
-    ensures front { (ins outs : List Frag) (legs : List Leg) → Along ins legs outs → Front outs ins }
+    ensures prefix { (ins outs : List Frag) (legs : List Leg) → Along ins legs outs → IsPrefix outs ins }
 {}

@@ -1,7 +1,6 @@
 //! The fragments that the tests put, and the circuit field.
 
 use fl_base::{Circuit, Frag, MsgNo, control};
-use fl_hop::with_circuit;
 use fl_link::PutSide;
 
 // The first fragment of a call of message 0 on a circuit.
@@ -35,6 +34,6 @@ fn circuits_of_fragments(rt: HostRuntime) {
             words,
             control: changed,
         };
-        assert_eq!(rt; with_circuit(&frag, Circuit(circuit)), changed);
+        assert_eq!(rt; frag.with_circuit(Circuit(circuit)), changed);
     }
 }

@@ -1,7 +1,7 @@
 use Rattle.std.proofs.Common.{◌≡◌, inl, inr, refl, ap, ◌∙◌, subst, slice_get, slice_set, slice_index_or, length-set, Result, Some, Err, arith}
 use Rattle.std.proofs.lemmas.Option.{slice_get-get_or}
 use Rattle.fl_base.specs.declared.fragment.Frag.{Frag}
-use Rattle.fl_link.specs.Stamp.{bare}
+use Rattle.fl_base.specs.Control.{bare}
 use Rattle.fl_link.specs.Looks.{Look, placed}
 use Rattle.fl_link.specs.declared.fault.PutFault.{PutFault}
 use Rattle.fl_hop.specs.declared.forward.Outcome.TheVariants.{Moved, Full, Spent}
@@ -18,7 +18,7 @@ returns-in-Err-Full g c =
           crosses_stay g.S.TakeSide.takes g.S.PutSide.puts c.args.sides.now c.args.from c.args.to c.args.frag.now c.args.circuit.0 Full s
           (slice_index_or c.args.sides.now c.args.to c.index-sides-to.result) c.put.new.self there
           (slice_get-get_or c.args.sides.now c.args.to c.index-sides-to.result c.requires.to)
-          (c.put.ensures.full (c.in-Err-Full.is ∙ ap err c.in-Err-Full.field-0-is), refl);
+          refl (c.put.ensures.full (c.in-Err-Full.is ∙ ap err c.in-Err-Full.field-0-is));
     }
 
 pub returns-in-Err-Spent : goal.returns-in-Err-Spent
@@ -30,7 +30,7 @@ returns-in-Err-Spent g c =
           crosses_stay g.S.TakeSide.takes g.S.PutSide.puts c.args.sides.now c.args.from c.args.to c.args.frag.now c.args.circuit.0 Spent s
           (slice_index_or c.args.sides.now c.args.to c.index-sides-to.result) c.put.new.self there
           (slice_get-get_or c.args.sides.now c.args.to c.index-sides-to.result c.requires.to)
-          (c.put.ensures.spent (c.in-Err-Spent.is ∙ ap err c.in-Err-Spent.field-0-is), refl);
+          refl (c.put.ensures.spent (c.in-Err-Spent.is ∙ ap err c.in-Err-Spent.field-0-is));
     }
 
 pub returns-in-Ok : goal.returns-in-Ok
@@ -51,5 +51,6 @@ returns-in-Ok g c =
           crosses_on g.S.TakeSide.takes g.S.PutSide.puts c.args.sides.now c.args.from c.args.to c.args.frag.now c.args.circuit.0 Moved s p c.put.new.self c.take.new.self
           c.requires.two there
           (slice_get-get_or c.args.sides.now c.args.to c.index-sides-to.result c.requires.to)
-          (subst put c.with_circuit-frag.ensures.whole c.in-Ok.ensures.placed, subst take (c.take.ensures.data (bare c.args.frag.now) (c.requires.seen s there)) c.take.ensures.look);
+          (subst take (c.take.ensures.data (bare c.args.frag.now) (c.requires.seen s there)) c.take.ensures.look)
+          (subst put c.with_circuit-frag.ensures.set c.in-Ok.ensures.placed);
     }

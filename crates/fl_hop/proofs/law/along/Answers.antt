@@ -2,4 +2,4 @@ use Rattle.fl_hop.proofs.Laws.{along}
 use Rattle.fl_hop.proofs.law.along.Goals as goal
 
 pub returns : goal.returns
-returns c = record { front = λ ins outs legs h. along legs ins outs h }
+returns c = record { prefix = λ ins outs legs h. along legs ins outs h }
