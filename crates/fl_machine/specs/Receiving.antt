@@ -3,13 +3,14 @@ use Rattle.std.specs.Prelude.{◌≡◌, ◌⊎◌, ℕ, ◌*◌, ◌<◌, ◌�
 use Rattle.std.specs.Option.{option_map}
 use Rattle.std.specs.List.{range_with_len}
 use Rattle.fl_base.specs.declared.fragment.Frag.{Frag}
+use Rattle.fl_base.specs.Control.{bare}
 use Rattle.fl_check.specs.Interface.{TheMessage, TheInterface}
 use Rattle.fl_value.specs.declared.value.PlanNo.{PlanNo}
 use Rattle.fl_value.specs.Value.{TheCall}
 use Rattle.fl_value.specs.Fits.{fits_of}
 use Rattle.fl_value.specs.Tape.{tape_of}
 use Rattle.fl_layout.specs.Layouts.{tape_length}
-use Rattle.fl_wire.specs.Reading.{plain, Means, IsPart, IsWrong}
+use Rattle.fl_wire.specs.Reading.{Means, IsPart, IsWrong}
 use Rattle.fl_wire.specs.Wrong.{HasFault}
 use Rattle.fl_wire.specs.declared.fault.WireFault.{WireFault}
 use Rattle.fl_stub.specs.declared.op.Column.TheVariants.{Receive}
@@ -109,7 +110,7 @@ receiving program s = record {
 -- the fragment goes on with a call, and doesn't end it
 pub record AddsPart (plan : PlanNo) (i : TheInterface) (parts : List Frag) (f : Frag) (t : TheHeld) : Type 0 where
   pub part : IsPart plan i (parts ++ f ∷ [])
-  pub parts_are : t.parts ≡ parts ++ plain f ∷ []
+  pub parts_are : t.parts ≡ parts ++ bare f ∷ []
   pub whole_is : t.whole ≡ []
 
 -- the fragment makes a fitting call whole
@@ -118,7 +119,7 @@ pub record AddsLast (plan : PlanNo) (i : TheInterface) (parts : List Frag) (f : 
   pub fits : fits_of i call ≡ true
   pub means : Means plan i (parts ++ f ∷ []) call 0
   pub parts_are : t.parts ≡ []
-  pub whole_is : t.whole ≡ parts ++ plain f ∷ []
+  pub whole_is : t.whole ≡ parts ++ bare f ∷ []
 
 -- the fragment can't follow, and why
 pub record IsRefused (plan : PlanNo) (i : TheInterface) (parts : List Frag) (f : Frag) (fault : WireFault) : Type 0 where

@@ -1,7 +1,7 @@
 //! Runs of receive code.
 
 ghost use Rattle.std.specs.Prelude.{◌≡◌, ◌≢◌, ◌*◌, ◌/◌, ◌%◌, ◌^◌, ◌==◌, ◌≤◌, ◌++◌, ◌∷◌, [], List, true, take, length, slice_get, Some, None, IfOk, IfErr, Ok};
-ghost use Rattle.fl_base.specs.Control.{message_of, control_word};
+ghost use Rattle.fl_base.specs.Control.{message_of, control_word, body};
 ghost use Rattle.fl_value.specs.Value.{call_of};
 ghost use Rattle.fl_value.specs.Fits.{fits_of};
 ghost use Rattle.fl_wire.specs.Reading.{Means, IsWrong};
@@ -125,7 +125,7 @@ fn take_in(
     requires room { HoldsTapes (program_of program.now).plan (program_of program.now).interface (length tape.old) }
     requires header { header_fault (program_of program.now).interface (parts_of (program_of program.now).plan (program_of program.now).interface tape.old begun) frag.now ≡ None }
     requires message { message_of frag.now.control ≡ begun.msg.0 }
-    requires control { 2 * (frag.now.control / 2 % 2 ^ 47) ≡ control_word (begun.fed == 0) begun.msg.0 0 }
+    requires control { body frag.now.control ≡ control_word (begun.fed == 0) begun.msg.0 0 }
     ensures stands { IfOk result (λ stand. IsStand (program_of program.now).plan (program_of program.now).interface tape.new stand) }
     ensures adds { IfOk result (λ stand. Adds (program_of program.now).plan (program_of program.now).interface (parts_of (program_of program.now).plan (program_of program.now).interface tape.old begun) frag.now (fed_of (program_of program.now).plan (program_of program.now).interface tape.new stand) stand) }
     ensures grows { IfOk result (λ stand. begun.intake.count ≤ numbers_in stand) }
