@@ -1,5 +1,6 @@
 -- What a run of receive code was fed: fragments, each list a function of what the run stores.
-use Rattle.std.specs.Prelude.{◌≡◌, ◌⊎◌, ℕ, ◌*◌, ◌<◌, ◌≤◌, true, if◌then◌else◌, List, [], ◌∷◌, ◌++◌, map, take, length, slice_get, slice_index, Option, Some, None, Result, Ok, Err}
+use Rattle.std.specs.Prelude.{◌≡◌, ◌⊎◌, ℕ, ◌*◌, ◌<◌, ◌≤◌, true, if◌then◌else◌, List, [], ◌∷◌, ◌++◌, map, take, length}
+use Rattle.std.specs.Prelude.{slice_get, slice_index, Option, Some, None, Result, Ok, Err}
 use Rattle.std.specs.Option.{option_map}
 use Rattle.std.specs.List.{range_with_len}
 use Rattle.fl_base.specs.declared.fragment.Frag.{Frag}
@@ -19,7 +20,7 @@ use Rattle.fl_stub.specs.Given.{bytes_given}
 use Rattle.fl_stub.specs.Streams.{BeginsPayload}
 use Rattle.fl_compile.specs.Compiled.{message_block, message_code}
 use Rattle.fl_compile.specs.declared.program.Program.{Program}
-use Rattle.fl_compile.specs.Programs.{program_of}
+use Rattle.fl_compile.specs.Programs.{TheProgram, program_of}
 use Rattle.fl_machine.specs.Sending.{frag_of, frags_holding}
 use Rattle.fl_machine.specs.Taking.{Stands, so_far}
 use Rattle.fl_machine.specs.declared.recv.Begun.{Begun}
@@ -142,6 +143,9 @@ abbrev pub undone : TheReceiving → Option TheHeld → TheReceiving
 undone r None = r
 undone r (Some b) = record { program = r.program; parts = b.parts; whole = b.whole; before = None }
 
+abbrev pub Undoes : TheReceiving → TheReceiving → Type 0
+Undoes r s = s ≡ undone r r.before
+
 -- ---- what a run knows
 
 -- so many numbers are enough for each call's tape
@@ -200,3 +204,21 @@ pub record IsStored (plan : PlanNo) (i : TheInterface) (s : TheStored) : Type 0 
   pub fresh : HoldsTapes plan i (length s.fresh)
   pub stand : IsStand plan i s.tape s.stand
   pub before : IsBefore plan i s.tape s.spare (numbers_in s.stand) s.before
+
+-- ---- the same, of a program
+
+abbrev pub parts_in : TheProgram → List ℕ → Begun → List Frag
+parts_in p tape b = parts_of p.plan p.interface tape b
+
+abbrev pub StandsIn : TheProgram → List ℕ → Stand → Type 0
+StandsIn p tape stand = IsStand p.plan p.interface tape stand
+
+-- what feeding a fragment comes to, where the run then stands so on a tape
+abbrev pub AddsUpTo : TheProgram → List Frag → Frag → List ℕ → Stand → Type 0
+AddsUpTo p parts f tape stand = Adds p.plan p.interface parts f (fed_of p.plan p.interface tape stand) stand
+
+abbrev pub HasFaultIn : TheProgram → List Frag → Frag → WireFault → Type 0
+HasFaultIn p parts f fault = HasFault p.plan p.interface parts f fault
+
+abbrev pub IsRefusedIn : TheProgram → List Frag → Frag → WireFault → Type 0
+IsRefusedIn p parts f fault = IsRefused p.plan p.interface parts f fault
