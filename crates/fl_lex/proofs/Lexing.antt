@@ -30,7 +30,7 @@ module _ (text rest : List ℕ) (tokens more : List TheToken) (item : Item) (n a
 
 -- a flaw ends the reading
 module _ (text rest : List ℕ) (tokens : List TheToken) (short : length text ≤ 65536) (within : length rest ≤ length text) (spelled : Spells text tokens rest) (fits : AllByRecursion Fits tokens) where
-  ends_at : (flaw : Flaw) (at place : ℕ) → at ≡ length text - length rest → place ≡ at → Stands flaw rest → IsFaulty text (number_of flaw) place
+  pub ends_at : (flaw : Flaw) (at place : ℕ) → at ≡ length text - length rest → place ≡ at → Stands flaw rest → IsFaulty text (number_of flaw) place
   ends_at flaw at place e same stands = record {
     short = short;
     tokens = tokens;

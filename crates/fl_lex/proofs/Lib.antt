@@ -6,4 +6,5 @@ pub mod Outcomes
 pub mod Runs
 pub mod Shortest
 pub mod Signs
+pub mod Totals
 pub mod Turns

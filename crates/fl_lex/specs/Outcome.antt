@@ -138,6 +138,10 @@ pub record AreTokensIn (text : List ℕ) (found : TheTokens) : Type 0 where
   pub each : AllByRecursion (IsTokenIn text) found.tokens
   pub fits : AllByRecursion Fits found.tokens
 
+-- each text has an outcome
+abbrev pub SomeOutcome : Type 0
+SomeOutcome = (text : List ℕ) → (outcome : LexOutcome) × Lexes text outcome
+
 -- at most one outcome stands for a text
 abbrev pub OneOutcome : Type 0
 OneOutcome = (text : List ℕ) (some other : LexOutcome) → Lexes text some → Lexes text other → some ≡ other

@@ -9,15 +9,18 @@
 //! - `class.rt`: what a byte may begin
 //! - `front.rt`: the token or gap at the front of a text
 //! - `lexer.rt`: a whole text
+//! - `law.rt`: laws
 #![tactic(auto)]
 
 mod class;
 mod fault;
 mod front;
+mod law;
 mod lexer;
 mod token;
 
 pub use class::ByteClass;
 pub use fault::LexFault;
-pub use lexer::{MAX_TEXT, joined_tokens, lex, one_outcome};
+pub use law::{joined_tokens, one_outcome, some_outcome};
+pub use lexer::{MAX_TEXT, lex};
 pub use token::{Mark, Token, TokenKind, Tokens};

@@ -4,7 +4,7 @@ ghost use Rattle.std.specs.Prelude.{◌≡◌, map, option_map, codes, IfSome};
 ghost use Rattle.fl_lex.specs.Token.{token_of, tokens_of};
 ghost use Rattle.fl_parse.specs.Tree.{name_of, declaration_of, tree_of};
 ghost use Rattle.fl_parse.specs.Grammar.{opening_in, defined_in, Parses};
-ghost use Rattle.fl_parse.specs.Outcome.{outcome_of, OneOutcome, OneTree};
+ghost use Rattle.fl_parse.specs.Outcome.{outcome_of};
 ghost use Rattle.fl_parse.specs.Parts.{opening_of, defined_of, stop_fault};
 ghost use Rattle.fl_parse.specs.Reading.{Gives, one_at, word_at, alias_at, enumeration_at, structure_at, renaming_at, definition_at, typedef_at, message_at, rpc_at, production_at, declaration_at, declarations_at, description_at, body_at, behind_semicolon};
 
@@ -346,9 +346,3 @@ pub fn parse<'a>(alloc: Global, tokens: &Tokens<'a>) -> Result<Tree<'a>, ParseFa
         [first, ..] => Err(ParseFault::AfterInterface(first.at)),
     }
 }
-
-/// The tokens of a text have one outcome at most, and one tree at most.
-pub fn one_outcome()
-    ensures outcome { OneOutcome }
-    ensures tree { OneTree }
-{}

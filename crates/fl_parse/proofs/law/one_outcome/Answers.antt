@@ -1,5 +1,5 @@
 use Rattle.fl_parse.proofs.Outcomes as outcomes
-use Rattle.fl_parse.proofs.parser.one_outcome.Goals as goal
+use Rattle.fl_parse.proofs.law.one_outcome.Goals as goal
 
 pub returns-clause-outcome : goal.returns-clause-outcome
 returns-clause-outcome c = outcomes.one_outcome

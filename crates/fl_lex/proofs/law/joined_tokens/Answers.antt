@@ -1,7 +1,7 @@
 use Rattle.fl_lex.proofs.Signs.{joined_lexes}
 use Rattle.fl_lex.proofs.Shortest.{joined_is_shortest}
 use Rattle.fl_lex.proofs.Numbers.{number_is_shortest}
-use Rattle.fl_lex.proofs.lexer.joined_tokens.Goals as goal
+use Rattle.fl_lex.proofs.law.joined_tokens.Goals as goal
 
 pub returns-clause-lexed : goal.returns-clause-lexed
 returns-clause-lexed c = joined_lexes

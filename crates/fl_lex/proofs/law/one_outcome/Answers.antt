@@ -1,4 +1,4 @@
-use Rattle.fl_lex.proofs.lexer.one_outcome.Goals as goal
+use Rattle.fl_lex.proofs.law.one_outcome.Goals as goal
 use Rattle.fl_lex.proofs.Outcomes as outcomes
 
 pub returns : goal.returns
