@@ -1,5 +1,5 @@
 -- The plan's order: what it does to values beside their types, and how it is undone.
-use Rattle.std.proofs.Common.{◌≡◌, ℕ, zero, suc, ◌+◌, ◌<◌, ◌≤◌, Bool, true, false, inl, inr, ⊎_elim, ◌⊎◌, List, [], ◌∷◌, ◌++◌, length, map, take, drop, get_or, refl, sym, ◌∙◌, ap, subst, arith, cond, eqb, leb, ltb, ◌&&◌, max, eq-eqb, length-append, append_assoc}
+use Rattle.std.proofs.Common.{◌≡◌, ℕ, zero, suc, ◌+◌, ◌-◌, ◌<◌, ◌≤◌, Bool, true, false, inl, inr, ⊎_elim, ◌⊎◌, List, [], ◌∷◌, ◌++◌, length, map, take, drop, get_or, refl, sym, ◌∙◌, ap, subst, arith, cond, eqb, leb, ltb, ◌&&◌, max, eq-eqb, length-append, append_assoc}
 use Rattle.std.specs.Prelude.{filter}
 use Rattle.std.specs.List.{zip, insert, remove, count_by}
 use Rattle.std.specs.Cmp.{first_so, second_so}
@@ -15,9 +15,28 @@ use Rattle.fl_value.specs.declared.value.PlanNo.{PlanNo}
 use Rattle.fl_value.specs.declared.value.PlanNo.TheVariants.{One, Two}
 use Rattle.fl_value.specs.Value.{Datum}
 use Rattle.fl_value.specs.Fits.{is_argument, are_arguments}
-use Rattle.fl_value.specs.Plan.{is_fixed_at, is_dynamic, arranged}
+use Rattle.fl_value.specs.Plan.{is_fixed_at, is_dynamic, arranged, fixed_rank, rank_of, of_rank, of_ranks, by_ranks}
 use Rattle.fl_value.specs.Tape.{Argument, kind}
-use Rattle.fl_value.specs.Ranks.{rank_of, picked, ranked, rearranged}
+
+-- an argument's rank under plan 2
+abbrev pub rank : TheArgType → ℕ
+rank t = rank_of Two t
+
+-- what stands beside types that pass a test
+abbrev pub picked : {A : Type 0} → (TheArgType → Bool) → List TheArgType → List A → List A
+picked p [] xs = []
+picked p (t ∷ ts) [] = []
+picked p (t ∷ ts) (x ∷ xs) = cond (p t) (x ∷ picked p ts xs) (picked p ts xs)
+
+-- what stands beside types of so many ranks, from one on, rank by rank
+abbrev pub ranked : {A : Type 0} → ℕ → ℕ → List TheArgType → List A → List A
+ranked zero from ts xs = []
+ranked (suc n) from ts xs = picked (λ t. eqb (rank t) from) ts xs ++ ranked n (from + 1) ts xs
+
+-- what stands beside the arguments' types, in the plan's order
+abbrev pub rearranged : {A : Type 0} → PlanNo → List TheArgType → List A → List A
+rearranged One ts xs = xs
+rearranged Two ts xs = ranked 5 0 ts xs
 
 -- ---- alignments and ranks
 
@@ -77,41 +96,80 @@ along_align P one two four eight n (inr (inl e)) = subst P (sym e) two
 along_align P one two four eight n (inr (inr (inl e))) = subst P (sym e) four
 along_align P one two four eight n (inr (inr (inr e))) = subst P (sym e) eight
 
--- fixed arguments of an alignment
-abbrev rank_at : ℕ → ℕ
-rank_at align = cond (eqb align 8) 0 (cond (eqb align 4) 1 (cond (eqb align 2) 2 3))
-
-rank_small : (t : TheArgType) → rank_of t < 5
-rank_small (fixed t) = along_align (λ (n : ℕ). rank_at n < 5) (omega arith) (omega arith) (omega arith) (omega arith) (align_of t) (type_align t)
+rank_small : (t : TheArgType) → rank t < 5
+rank_small (fixed t) = along_align (λ (n : ℕ). fixed_rank n < 5) (omega arith) (omega arith) (omega arith) (omega arith) (align_of t) (type_align t)
 rank_small (text max) = omega arith
 rank_small (sized max t) = omega arith
 
-is_eight : (t : TheArgType) → is_fixed_at 8 t ≡ eqb (rank_of t) 0
-is_eight (fixed t) = along_align (λ (n : ℕ). eqb n 8 ≡ eqb (rank_at n) 0) refl refl refl refl (align_of t) (type_align t)
+is_eight : (t : TheArgType) → is_fixed_at 8 t ≡ eqb (rank t) 0
+is_eight (fixed t) = along_align (λ (n : ℕ). eqb n 8 ≡ eqb (fixed_rank n) 0) refl refl refl refl (align_of t) (type_align t)
 is_eight (text max) = refl
 is_eight (sized max t) = refl
 
-is_four : (t : TheArgType) → is_fixed_at 4 t ≡ eqb (rank_of t) 1
-is_four (fixed t) = along_align (λ (n : ℕ). eqb n 4 ≡ eqb (rank_at n) 1) refl refl refl refl (align_of t) (type_align t)
+is_four : (t : TheArgType) → is_fixed_at 4 t ≡ eqb (rank t) 1
+is_four (fixed t) = along_align (λ (n : ℕ). eqb n 4 ≡ eqb (fixed_rank n) 1) refl refl refl refl (align_of t) (type_align t)
 is_four (text max) = refl
 is_four (sized max t) = refl
 
-is_two : (t : TheArgType) → is_fixed_at 2 t ≡ eqb (rank_of t) 2
-is_two (fixed t) = along_align (λ (n : ℕ). eqb n 2 ≡ eqb (rank_at n) 2) refl refl refl refl (align_of t) (type_align t)
+is_two : (t : TheArgType) → is_fixed_at 2 t ≡ eqb (rank t) 2
+is_two (fixed t) = along_align (λ (n : ℕ). eqb n 2 ≡ eqb (fixed_rank n) 2) refl refl refl refl (align_of t) (type_align t)
 is_two (text max) = refl
 is_two (sized max t) = refl
 
-is_one : (t : TheArgType) → is_fixed_at 1 t ≡ eqb (rank_of t) 3
-is_one (fixed t) = along_align (λ (n : ℕ). eqb n 1 ≡ eqb (rank_at n) 3) refl refl refl refl (align_of t) (type_align t)
+is_one : (t : TheArgType) → is_fixed_at 1 t ≡ eqb (rank t) 3
+is_one (fixed t) = along_align (λ (n : ℕ). eqb n 1 ≡ eqb (fixed_rank n) 3) refl refl refl refl (align_of t) (type_align t)
 is_one (text max) = refl
 is_one (sized max t) = refl
 
-is_last : (t : TheArgType) → is_dynamic t ≡ eqb (rank_of t) 4
-is_last (fixed t) = along_align (λ (n : ℕ). false ≡ eqb (rank_at n) 4) refl refl refl refl (align_of t) (type_align t)
+is_last : (t : TheArgType) → is_dynamic t ≡ eqb (rank t) 4
+is_last (fixed t) = along_align (λ (n : ℕ). false ≡ eqb (fixed_rank n) 4) refl refl refl refl (align_of t) (type_align t)
 is_last (text max) = refl
 is_last (sized max t) = refl
 
 -- ---- the plan's order by ranks
+
+-- a chain of five
+join_five : {A : Type 0} (a b c d e f g h i j : List A) → a ≡ f → b ≡ g → c ≡ h → d ≡ i → e ≡ j → a ++ b ++ c ++ d ++ e ≡ f ++ (g ++ (h ++ (i ++ (j ++ []))))
+join_five a b c d e f g h i j p q r s t = rw (p, q, r, s, t) (simp (append_assoc, append-nil))
+
+filter_same : {A : Type 0} (p q : A → Bool) → ((a : A) → p a ≡ q a) → (xs : List A) → filter p xs ≡ filter q xs
+filter_same p q same [] = refl
+filter_same p q same (x ∷ xs) = rw (same x, filter_same p q same xs) refl
+
+filter_all : {A : Type 0} (xs : List A) → filter (λ a. true) xs ≡ xs
+filter_all [] = refl
+filter_all {A = A} (x ∷ xs) = ap (λ (l : List A). x ∷ l) (filter_all xs)
+
+filter_none : {A : Type 0} (xs : List A) → filter (λ a. false) xs ≡ []
+filter_none [] = refl
+filter_none (x ∷ xs) = filter_none xs
+
+-- plan 1 has one rank
+pub one_rank : {A : Type 0} (type : A → TheArgType) (xs : List A) → of_rank type One 0 xs ≡ xs
+one_rank type xs = filter_all xs
+
+-- the plan's order is rank by rank, of anything that has an argument's type
+pub arranged_ranks : {A : Type 0} (type : A → TheArgType) (plan : PlanNo) (xs : List A) → arranged type plan xs ≡ by_ranks type plan xs
+arranged_ranks type One xs = rw (filter_all xs, filter_none xs) (sym (append-nil xs))
+arranged_ranks type Two xs = join_five _ _ _ _ _ _ _ _ _ _
+    (filter_same (λ a. is_fixed_at 8 (type a)) (λ a. eqb (rank (type a)) 0) (λ a. is_eight (type a)) xs)
+    (filter_same (λ a. is_fixed_at 4 (type a)) (λ a. eqb (rank (type a)) 1) (λ a. is_four (type a)) xs)
+    (filter_same (λ a. is_fixed_at 2 (type a)) (λ a. eqb (rank (type a)) 2) (λ a. is_two (type a)) xs)
+    (filter_same (λ a. is_fixed_at 1 (type a)) (λ a. eqb (rank (type a)) 3) (λ a. is_one (type a)) xs)
+    (filter_same (λ a. is_dynamic (type a)) (λ a. eqb (rank (type a)) 4) (λ a. is_last (type a)) xs)
+
+-- one rank, and those after it
+pub next_rank : {A : Type 0} (type : A → TheArgType) (plan : PlanNo) (from : ℕ) (xs : List A) → from < 5
+    → of_ranks type plan (5 - from) from xs ≡ of_rank type plan from xs ++ of_ranks type plan (5 - (from + 1)) (from + 1) xs
+next_rank type plan from xs small =
+    let more : 5 - from ≡ suc (5 - (from + 1)) = omega (arith, small) in
+    ap (λ (n : ℕ). of_ranks type plan n from xs) more
+
+-- none after the last
+pub last_rank : {A : Type 0} (type : A → TheArgType) (plan : PlanNo) (from : ℕ) (xs : List A) → 5 ≤ from → of_ranks type plan (5 - from) from xs ≡ []
+last_rank type plan from xs all =
+    let none : 5 - from ≡ 0 = omega (arith, all) in
+    ap (λ (n : ℕ). of_ranks type plan n from xs) none
 
 picked_same : {A : Type 0} (p q : TheArgType → Bool) → ((t : TheArgType) → p t ≡ q t) → (ts : List TheArgType) (xs : List A) → picked p ts xs ≡ picked q ts xs
 picked_same p q e [] xs = refl
@@ -146,10 +204,6 @@ types_picked : (p : TheArgType → Bool) (ts : List TheArgType) → filter p ts 
 types_picked p [] = refl
 types_picked p (t ∷ ts) = rw (types_picked p ts) refl
 
--- a chain of five
-join_five : {A : Type 0} (a b c d e f g h i j : List A) → a ≡ f → b ≡ g → c ≡ h → d ≡ i → e ≡ j → a ++ b ++ c ++ d ++ e ≡ f ++ (g ++ (h ++ (i ++ (j ++ []))))
-join_five a b c d e f g h i j p q r s t = rw (p, q, r, s, t) (simp (append_assoc, append-nil))
-
 same_five : {A : Type 0} (a b c d e f g h i j : List A) → a ≡ f → b ≡ g → c ≡ h → d ≡ i → e ≡ j → a ++ b ++ c ++ d ++ e ≡ f ++ g ++ h ++ i ++ j
 same_five a b c d e f g h i j p q r s t = rw (p, q, r, s, t) refl
 
@@ -174,11 +228,11 @@ seconds_arranged Two ts xs long =
     let of = λ (p : TheArgType → Bool). filter (λ (a : Argument). p (kind a)) (zip ts xs) in
     map_five (λ (a : Argument). a.1) (of (is_fixed_at 8)) (of (is_fixed_at 4)) (of (is_fixed_at 2)) (of (is_fixed_at 1)) (of is_dynamic)
     ∙ join_five _ _ _ _ _ _ _ _ _ _
-    (seconds_picked (is_fixed_at 8) ts xs ∙ picked_same (is_fixed_at 8) (λ t. eqb (rank_of t) 0) is_eight ts xs)
-    (seconds_picked (is_fixed_at 4) ts xs ∙ picked_same (is_fixed_at 4) (λ t. eqb (rank_of t) 1) is_four ts xs)
-    (seconds_picked (is_fixed_at 2) ts xs ∙ picked_same (is_fixed_at 2) (λ t. eqb (rank_of t) 2) is_two ts xs)
-    (seconds_picked (is_fixed_at 1) ts xs ∙ picked_same (is_fixed_at 1) (λ t. eqb (rank_of t) 3) is_one ts xs)
-    (seconds_picked is_dynamic ts xs ∙ picked_same is_dynamic (λ t. eqb (rank_of t) 4) is_last ts xs)
+    (seconds_picked (is_fixed_at 8) ts xs ∙ picked_same (is_fixed_at 8) (λ t. eqb (rank t) 0) is_eight ts xs)
+    (seconds_picked (is_fixed_at 4) ts xs ∙ picked_same (is_fixed_at 4) (λ t. eqb (rank t) 1) is_four ts xs)
+    (seconds_picked (is_fixed_at 2) ts xs ∙ picked_same (is_fixed_at 2) (λ t. eqb (rank t) 2) is_two ts xs)
+    (seconds_picked (is_fixed_at 1) ts xs ∙ picked_same (is_fixed_at 1) (λ t. eqb (rank t) 3) is_one ts xs)
+    (seconds_picked is_dynamic ts xs ∙ picked_same is_dynamic (λ t. eqb (rank t) 4) is_last ts xs)
 
 -- and of types
 pub firsts_arranged : (plan : PlanNo) (ts : List TheArgType) (xs : List Datum) → length xs ≡ length ts → map (λ (a : Argument). a.0) (arranged kind plan (zip ts xs)) ≡ arranged (λ (t : TheArgType). t) plan ts
@@ -193,11 +247,11 @@ firsts_arranged Two ts xs long =
 pub types_arranged : (plan : PlanNo) (ts : List TheArgType) → arranged (λ (t : TheArgType). t) plan ts ≡ rearranged plan ts ts
 types_arranged One ts = refl
 types_arranged Two ts = join_five _ _ _ _ _ _ _ _ _ _
-    (types_picked (is_fixed_at 8) ts ∙ picked_same (is_fixed_at 8) (λ t. eqb (rank_of t) 0) is_eight ts ts)
-    (types_picked (is_fixed_at 4) ts ∙ picked_same (is_fixed_at 4) (λ t. eqb (rank_of t) 1) is_four ts ts)
-    (types_picked (is_fixed_at 2) ts ∙ picked_same (is_fixed_at 2) (λ t. eqb (rank_of t) 2) is_two ts ts)
-    (types_picked (is_fixed_at 1) ts ∙ picked_same (is_fixed_at 1) (λ t. eqb (rank_of t) 3) is_one ts ts)
-    (types_picked is_dynamic ts ∙ picked_same is_dynamic (λ t. eqb (rank_of t) 4) is_last ts ts)
+    (types_picked (is_fixed_at 8) ts ∙ picked_same (is_fixed_at 8) (λ t. eqb (rank t) 0) is_eight ts ts)
+    (types_picked (is_fixed_at 4) ts ∙ picked_same (is_fixed_at 4) (λ t. eqb (rank t) 1) is_four ts ts)
+    (types_picked (is_fixed_at 2) ts ∙ picked_same (is_fixed_at 2) (λ t. eqb (rank t) 2) is_two ts ts)
+    (types_picked (is_fixed_at 1) ts ∙ picked_same (is_fixed_at 1) (λ t. eqb (rank t) 3) is_one ts ts)
+    (types_picked is_dynamic ts ∙ picked_same is_dynamic (λ t. eqb (rank t) 4) is_last ts ts)
 
 -- ---- one more argument in front
 
@@ -208,7 +262,7 @@ counted p (x ∷ xs) = cond (p x) (1 + counted p xs) (counted p xs)
 
 -- how many of these types have a rank from one on and below another
 abbrev between : ℕ → ℕ → List TheArgType → ℕ
-between low high ts = counted (λ (t : TheArgType). leb low (rank_of t) && ltb (rank_of t) high) ts
+between low high ts = counted (λ (t : TheArgType). leb low (rank t) && ltb (rank t) high) ts
 
 length_picked : {A : Type 0} (p : TheArgType → Bool) (ts : List TheArgType) (xs : List A) → length xs ≡ length ts → length (picked p ts xs) ≡ counted p ts
 length_picked p [] xs long = refl
@@ -224,32 +278,32 @@ count_one : (low high : ℕ) → low < high → (r : ℕ) → (m n k : ℕ) → 
     → cond (leb low r && ltb r high) (1 + m) m ≡ cond (eqb r low) (1 + n) n + cond (leb (low + 1) r && ltb r high) (1 + k) k
 count_one low high h r m n k e = grind (arith, nat_tests)
 
-count_split : (low high : ℕ) → low < high → (ts : List TheArgType) → between low high ts ≡ counted (λ (t : TheArgType). eqb (rank_of t) low) ts + between (low + 1) high ts
+count_split : (low high : ℕ) → low < high → (ts : List TheArgType) → between low high ts ≡ counted (λ (t : TheArgType). eqb (rank t) low) ts + between (low + 1) high ts
 count_split low high h [] = refl
-count_split low high h (t ∷ ts) = count_one low high h (rank_of t) (between low high ts) (counted (λ (u : TheArgType). eqb (rank_of u) low) ts) (between (low + 1) high ts) (count_split low high h ts)
+count_split low high h (t ∷ ts) = count_one low high h (rank t) (between low high ts) (counted (λ (u : TheArgType). eqb (rank u) low) ts) (between (low + 1) high ts) (count_split low high h ts)
 
 none_one : (low high : ℕ) → high ≤ low → (r m : ℕ) → m ≡ 0 → cond (leb low r && ltb r high) (1 + m) m ≡ 0
 none_one low high h r m e = grind (arith, nat_tests)
 
 none_between : (low high : ℕ) → high ≤ low → (ts : List TheArgType) → between low high ts ≡ 0
 none_between low high h [] = refl
-none_between low high h (t ∷ ts) = none_one low high h (rank_of t) (between low high ts) (none_between low high h ts)
+none_between low high h (t ∷ ts) = none_one low high h (rank t) (between low high ts) (none_between low high h ts)
 
 count_from_zero : (high : ℕ) (r m n : ℕ) → m ≡ n → cond (leb 0 r && ltb r high) (1 + m) m ≡ cond (ltb r high) (1 + n) n
 count_from_zero high r m n e = grind (arith, nat_tests)
 
 -- how many have a rank below one
-between_zero : (high : ℕ) (ts : List TheArgType) → between 0 high ts ≡ counted (λ (t : TheArgType). ltb (rank_of t) high) ts
+between_zero : (high : ℕ) (ts : List TheArgType) → between 0 high ts ≡ counted (λ (t : TheArgType). ltb (rank t) high) ts
 between_zero high [] = refl
-between_zero high (t ∷ ts) = count_from_zero high (rank_of t) (between 0 high ts) (counted (λ (u : TheArgType). ltb (rank_of u) high) ts) (between_zero high ts)
+between_zero high (t ∷ ts) = count_from_zero high (rank t) (between 0 high ts) (counted (λ (u : TheArgType). ltb (rank u) high) ts) (between_zero high ts)
 
 -- how many of these arguments the plan puts before one
 abbrev pub before : TheArgType → List TheArgType → ℕ
-before t ts = count_by (λ (u : TheArgType). ltb (rank_of u) (rank_of t)) ts
+before t ts = count_by (λ (u : TheArgType). ltb (rank u) (rank t)) ts
 
-between_before : (t : TheArgType) (ts : List TheArgType) → between 0 (rank_of t) ts ≡ before t ts
-between_before t ts = between_zero (rank_of t) ts
-    ∙ is_count_by (counted (λ (u : TheArgType). ltb (rank_of u) (rank_of t))) (λ (u : TheArgType). ltb (rank_of u) (rank_of t)) refl (λ u us. refl) ts
+between_before : (t : TheArgType) (ts : List TheArgType) → between 0 (rank t) ts ≡ before t ts
+between_before t ts = between_zero (rank t) ts
+    ∙ is_count_by (counted (λ (u : TheArgType). ltb (rank u) (rank t))) (λ (u : TheArgType). ltb (rank u) (rank t)) refl (λ u us. refl) ts
 
 insert_behind : {A : Type 0} (front behind : List A) (n : ℕ) (x : A) → insert (front ++ behind) (length front + n) x ≡ front ++ insert behind n x
 insert_behind {A = A} [] behind n x = ap (λ (m : ℕ). insert behind m x) (omega arith)
@@ -257,32 +311,32 @@ insert_behind {A = A} (y ∷ front) behind n x =
     let same : length (y ∷ front) + n ≡ suc (length front + n) = omega arith in
     ap (λ (m : ℕ). insert (y ∷ (front ++ behind)) m x) same ∙ ap (λ (l : List A). y ∷ l) (insert_behind front behind n x)
 
-passed : {A : Type 0} (n rank : ℕ) (t : TheArgType) (ts : List TheArgType) (x : A) (xs : List A) → rank_of t < rank → ranked n rank (t ∷ ts) (x ∷ xs) ≡ ranked n rank ts xs
-passed zero rank t ts x xs h = refl
-passed {A = A} (suc n) rank t ts x xs h =
-    let other : eqb (rank_of t) rank ≡ false = ne_eqb (rank_of t) rank (λ e. absurd (omega (arith, e, h))) in
-    rw other (ap (λ (l : List A). picked (λ (u : TheArgType). eqb (rank_of u) rank) ts xs ++ l) (passed n (rank + 1) t ts x xs (omega (arith, h))))
+passed : {A : Type 0} (n from : ℕ) (t : TheArgType) (ts : List TheArgType) (x : A) (xs : List A) → rank t < from → ranked n from (t ∷ ts) (x ∷ xs) ≡ ranked n from ts xs
+passed zero from t ts x xs h = refl
+passed {A = A} (suc n) from t ts x xs h =
+    let other : eqb (rank t) from ≡ false = ne_eqb (rank t) from (λ e. absurd (omega (arith, e, h))) in
+    rw other (ap (λ (l : List A). picked (λ (u : TheArgType). eqb (rank u) from) ts xs ++ l) (passed n (from + 1) t ts x xs (omega (arith, h))))
 
 -- a value goes behind those of the arguments that the plan puts before it
-one_front : {A : Type 0} (n rank : ℕ) (t : TheArgType) (ts : List TheArgType) (x : A) (xs : List A) → length xs ≡ length ts → rank ≤ rank_of t → rank_of t < rank + n
-    → ranked n rank (t ∷ ts) (x ∷ xs) ≡ insert (ranked n rank ts xs) (between rank (rank_of t) ts) x
-one_front zero rank t ts x xs long low high = absurd (omega (arith, low, high))
-one_front {A = A} (suc n) rank t ts x xs long low high =
-    let here = picked (λ (u : TheArgType). eqb (rank_of u) rank) ts xs in
-    let rest = ranked n (rank + 1) ts xs in
+one_front : {A : Type 0} (n from : ℕ) (t : TheArgType) (ts : List TheArgType) (x : A) (xs : List A) → length xs ≡ length ts → from ≤ rank t → rank t < from + n
+    → ranked n from (t ∷ ts) (x ∷ xs) ≡ insert (ranked n from ts xs) (between from (rank t) ts) x
+one_front zero from t ts x xs long low high = absurd (omega (arith, low, high))
+one_front {A = A} (suc n) from t ts x xs long low high =
+    let here = picked (λ (u : TheArgType). eqb (rank u) from) ts xs in
+    let rest = ranked n (from + 1) ts xs in
     ⊎_elim
-    (λ (above : rank < rank_of t).
-    let other : eqb (rank_of t) rank ≡ false = ne_eqb (rank_of t) rank (λ e. absurd (omega (arith, e, above))) in
-    let places : between rank (rank_of t) ts ≡ length here + between (rank + 1) (rank_of t) ts
-    = count_split rank (rank_of t) above ts ∙ ap (λ (m : ℕ). m + between (rank + 1) (rank_of t) ts) (sym (length_picked (λ (u : TheArgType). eqb (rank_of u) rank) ts xs long)) in
-    rw other (ap (λ (l : List A). here ++ l) (one_front n (rank + 1) t ts x xs long (omega (arith, above)) (omega (arith, high)))
-    ∙ sym (insert_behind here rest (between (rank + 1) (rank_of t) ts) x) ∙ ap (λ (m : ℕ). insert (here ++ rest) m x) (sym places)))
-    (λ (below : rank_of t ≤ rank).
-    let same : rank_of t ≡ rank = omega (arith, low, below) in
-    let none : between rank (rank_of t) ts ≡ 0 = none_between rank (rank_of t) below ts in
-    rw (eq-eqb (rank_of t) rank same) (ap (λ (l : List A). x ∷ (here ++ l)) (passed n (rank + 1) t ts x xs (omega (arith, same)))
+    (λ (above : from < rank t).
+    let other : eqb (rank t) from ≡ false = ne_eqb (rank t) from (λ e. absurd (omega (arith, e, above))) in
+    let places : between from (rank t) ts ≡ length here + between (from + 1) (rank t) ts
+    = count_split from (rank t) above ts ∙ ap (λ (m : ℕ). m + between (from + 1) (rank t) ts) (sym (length_picked (λ (u : TheArgType). eqb (rank u) from) ts xs long)) in
+    rw other (ap (λ (l : List A). here ++ l) (one_front n (from + 1) t ts x xs long (omega (arith, above)) (omega (arith, high)))
+    ∙ sym (insert_behind here rest (between (from + 1) (rank t) ts) x) ∙ ap (λ (m : ℕ). insert (here ++ rest) m x) (sym places)))
+    (λ (below : rank t ≤ from).
+    let same : rank t ≡ from = omega (arith, low, below) in
+    let none : between from (rank t) ts ≡ 0 = none_between from (rank t) below ts in
+    rw (eq-eqb (rank t) from same) (ap (λ (l : List A). x ∷ (here ++ l)) (passed n (from + 1) t ts x xs (omega (arith, same)))
     ∙ ap (λ (m : ℕ). insert (here ++ rest) m x) (sym none)))
-    (cases_lt rank (rank_of t))
+    (cases_lt from (rank t))
 
 pub front : {A : Type 0} (t : TheArgType) (ts : List TheArgType) (x : A) (xs : List A) → length xs ≡ length ts
     → rearranged Two (t ∷ ts) (x ∷ xs) ≡ insert (rearranged Two ts xs) (before t ts) x

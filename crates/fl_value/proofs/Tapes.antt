@@ -1,19 +1,13 @@
--- The tape and the groups of arguments.
-use Rattle.std.proofs.Common.{◌≡◌, ◌≤◌, List, [], ◌∷◌, filter, arith, refl, ap, true}
+-- Alignments are not 0; and lists of lists, joined.
+use Rattle.std.proofs.Common.{◌≡◌, ◌≤◌, ◌∙◌, ◌++◌, [], ◌∷◌, List, refl, ap, sym, arith, append_assoc}
 use Rattle.std.specs.List.{flat_map}
 use Rattle.fl_check.specs.Interface.{TheTypes, no_more, field}
 use Rattle.fl_check.specs.Sizes.{greatest_align}
-use Rattle.fl_value.specs.declared.tape.Group.TheVariants.{All}
-use Rattle.fl_value.specs.Tape.{Argument, tape_of_argument}
-use Rattle.fl_value.specs.Groups.{group_tape}
 
 pub one_or_more : (ts : TheTypes) → 1 ≤ greatest_align ts
 one_or_more no_more = omega arith
 one_or_more (field t ts) = omega (arith, one_or_more ts)
 
-all_pass : {A : Type 0} (args : List A) → filter (λ a. true) args ≡ args
-all_pass [] = refl
-all_pass (a ∷ args) = ap (λ x. a ∷ x) (all_pass args)
-
-pub everyone : (args : List Argument) → group_tape All args ≡ flat_map tape_of_argument args
-everyone args = ap (flat_map tape_of_argument) (all_pass args)
+pub flat_joined : {A B : Type 0} (f : A → List B) (xs ys : List A) → flat_map f (xs ++ ys) ≡ flat_map f xs ++ flat_map f ys
+flat_joined f [] ys = refl
+flat_joined {B = B} f (x ∷ xs) ys = ap (λ (l : List B). f x ++ l) (flat_joined f xs ys) ∙ sym (append_assoc (f x) (flat_map f xs) (flat_map f ys))

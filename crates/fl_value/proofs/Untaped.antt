@@ -14,11 +14,10 @@ use Rattle.fl_value.specs.Fits.{has_type, have_types, all_have_type, count_of, i
 use Rattle.fl_value.specs.Plan.{arranged}
 use Rattle.fl_value.specs.Printed.{has_small_enums, have_small_enums, argument_has_small_enums}
 use Rattle.fl_value.specs.Tape.{value_tape, fields_tape, elements_tape, argument_tape, Argument, kind, tape_of_argument, types_of}
-use Rattle.fl_value.specs.Ranks.{rearranged}
 use Rattle.fl_value.specs.Taken.{ArgumentAt, InTurn, TheOne, NoneOf, HasTape, interface_has_small_enums}
 use Rattle.fl_value.proofs.Bits.{raw_told, scalar_range, enum_range, scalar_room}
 use Rattle.fl_value.proofs.Turns.{split_same}
-use Rattle.fl_value.proofs.Ranked.{before, front, seconds_arranged, firsts_arranged, types_arranged, rearranged_told, rearranged_typed, typed_again, length_rearranged}
+use Rattle.fl_value.proofs.Ranked.{rearranged, before, front, seconds_arranged, firsts_arranged, types_arranged, rearranged_told, rearranged_typed, typed_again, length_rearranged}
 
 -- ---- arguments one after another
 

@@ -6,6 +6,5 @@ pub mod Fault
 pub mod Resolve
 pub mod Printed
 pub mod Tape
-pub mod Groups
 pub mod Taken
 pub mod Ranks

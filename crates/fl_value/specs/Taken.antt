@@ -7,6 +7,7 @@ use Rattle.fl_check.specs.Interface.{TheType, TheArgType, TheMessage, TheInterfa
 use Rattle.fl_value.specs.declared.value.PlanNo.{PlanNo}
 use Rattle.fl_value.specs.Value.{Datum, TheCall}
 use Rattle.fl_value.specs.Fits.{is_signed, least_above, how_many_below, has_type, is_argument, is_text_byte, fits_of}
+use Rattle.fl_value.specs.Plan.{of_rank}
 use Rattle.fl_value.specs.Printed.{argument_has_small_enums}
 use Rattle.fl_value.specs.Tape.{value_tape, argument_tape, tape_of}
 
@@ -51,6 +52,10 @@ InTurn At [] tape [] rest = tape ≡ rest
 InTurn At [] tape (d ∷ ds) rest = ⊥
 InTurn At (t ∷ ts) tape [] rest = ⊥
 InTurn At (t ∷ ts) tape (d ∷ ds) rest = (next : List ℕ) × At t tape d next × InTurn At ts next ds rest
+
+-- the types of a rank's arguments, in declared order
+abbrev pub types_of_rank : PlanNo → ℕ → List TheArgType → List TheArgType
+types_of_rank plan rank types = of_rank (λ t. t) plan rank types
 
 -- it stands there, and nothing else does, nor before another rest
 pub record TheOne {B : Type 0} (At : B → List ℕ → Type 0) (b : B) (rest : List ℕ) : Type 0 where

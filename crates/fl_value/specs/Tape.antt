@@ -1,12 +1,12 @@
 -- The tape of a call: its scalars' bits and its lengths, one number after another, in the plan's order of
 -- arguments. Stub code reads a call from its tape, and writes a tape for the call that it takes.
-use Rattle.std.specs.Prelude.{ℕ, ℤ, pos, negsuc, ◌-◌, ◌%◌, ◌^◌, List, [], ◌∷◌, ◌++◌, length, slice_get, Option, Some, None}
+use Rattle.std.specs.Prelude.{ℕ, ℤ, pos, negsuc, ◌-◌, ◌%◌, ◌^◌, List, [], ◌∷◌, ◌++◌, length, map, slice_get, Option, Some, None}
 use Rattle.std.specs.List.{zip, flat_map}
 use Rattle.fl_check.specs.Interface.{TheType, scalar, enumeration, structure, array, TheTypes, field, TheArgType, fixed, text, sized, TheMessage, TheInterface}
 use Rattle.fl_value.specs.declared.value.PlanNo.{PlanNo}
 use Rattle.fl_value.specs.Value.{Datum, number, string, elements, fields, Data, nothing_more, also, TheCall}
 use Rattle.fl_value.specs.Fits.{scalar_bits, count_of}
-use Rattle.fl_value.specs.Plan.{arranged}
+use Rattle.fl_value.specs.Plan.{arranged, of_rank}
 
 -- a number's bits as an unsigned number, two's complement
 abbrev pub raw_of : ℕ → ℤ → ℕ
@@ -43,8 +43,15 @@ Argument = TheArgType × Datum
 abbrev pub kind : Argument → TheArgType
 kind a = a.0
 
+abbrev pub values_of : List Argument → List Datum
+values_of args = map (λ (a : Argument). a.1) args
+
 abbrev pub tape_of_argument : Argument → List ℕ
 tape_of_argument a = argument_tape a.0 a.1
+
+-- the numbers of a rank's arguments, in declared order
+abbrev pub rank_tape : PlanNo → ℕ → List Argument → List ℕ
+rank_tape plan rank args = flat_map tape_of_argument (of_rank kind plan rank args)
 
 -- the types of a message's arguments; none where there is no such message
 abbrev pub types_of : Option TheMessage → List TheArgType

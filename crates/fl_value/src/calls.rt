@@ -140,11 +140,6 @@ pub fn resolve(interface: &Interface, text: CallText) -> Result<Call, ValueFault
     Ok(call)
 }
 
-/// A text spells at most one name and one list of values.
-pub fn one_reading()
-    ensures reading { (bytes one other : List ℕ) (values others : List Datum) → SpellsCall bytes one values → SpellsCall bytes other others → (one ≡ other) × (values ≡ others) }
-{}
-
 /// The call that the bytes spell at an interface.
 ///
 /// # Errors

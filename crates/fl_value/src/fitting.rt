@@ -66,9 +66,9 @@ fn is_text(bytes: &[u8], most: u32) -> bool
     bytes.len() <= most as usize && has_no_zero(bytes)
 }
 
-/// Whether a value is one of the type.
+/// Whether a value is one of the type: a scalar within its range, an enumerator's place, a struct or an array of such values.
 #[cycle(types)]
-fn has_type(value: &Value, fixed: &FixedType) -> bool
+pub fn has_type(value: &Value, fixed: &FixedType) -> bool
     ensures same { result ≡ has_type (type_of fixed.now) (datum_of value.now) }
 {
     match fixed {
@@ -138,7 +138,7 @@ fn is_argument(value: &Value, argument: &ArgType) -> bool
 }
 
 /// Whether each value is one of its argument's type, and there are as many values as arguments.
-pub fn are_arguments(values: &[Value], arguments: &[ArgType]) -> bool
+fn are_arguments(values: &[Value], arguments: &[ArgType]) -> bool
     ensures same { result ≡ are_arguments (map arg_type_of arguments.now) (map datum_of values.now) }
 {
     for (index, value) in values.iter().enumerate() {

@@ -11,13 +11,15 @@
 //! - `tokens.rt`, `reader.rt`, `calls.rt`: a text's tokens, its values, and the whole call
 //! - `printing.rt`: calls as text
 //! - `tape.rt`, `untape.rt`: a call's numbers in the plan's order, and a call back from them
-//! - `order.rt`: arguments from the plan's order back into the declared one
+//! - `order.rt`: the plan's order of arguments, by their ranks, and back into the declared one
+//! - `law.rt`: the laws
 //! - `fault.rt`: why there is no call
 #![tactic(auto)]
 
 mod calls;
 mod fault;
 mod fitting;
+mod law;
 mod order;
 mod printing;
 mod reader;
@@ -26,10 +28,14 @@ mod tokens;
 mod untape;
 mod value;
 
-pub use calls::{CallText, one_reading, read_call, read_call_text, resolve};
+pub use calls::{CallText, read_call, read_call_text, resolve};
 pub use fault::ValueFault;
-pub use fitting::fits;
-pub use printing::{print_call, printed_call_read, printed_reads};
+pub use fitting::{fits, has_type};
+pub use law::{
+    one_call_of_a_tape, one_reading, printed_call_read, printed_reads, rank_by_rank,
+};
+pub use order::RANKS;
+pub use printing::print_call;
 pub use tape::flatten;
-pub use untape::{one_call_of_a_tape, unflatten};
+pub use untape::unflatten;
 pub use value::{Call, PlanNo, Value};

@@ -1,39 +1,57 @@
-//! Arguments from a plan's order back into the declared one.
+//! The plan's order of arguments: an argument's rank, and arguments from that order back into the declared one.
 
 ghost use Rattle.std.specs.Prelude.{◌≡◌, ◌≤◌, length, map, nat_lt, IfOk};
-ghost use Rattle.std.specs.List.{count_by};
+ghost use Rattle.std.specs.List.{count_by, zip};
 ghost use Rattle.fl_check.specs.Interface.{arg_type_of};
 ghost use Rattle.fl_value.specs.Value.{datum_of};
-ghost use Rattle.fl_value.specs.Ranks.{rank_of, rearranged};
+ghost use Rattle.fl_value.specs.Plan.{arranged, fixed_rank, rank_of};
+ghost use Rattle.fl_value.specs.Tape.{kind, values_of};
 
 use crate::tape::alignment;
 use crate::value::{PlanNo, Value};
 use fl_check::ArgType;
 use std::alloc::{AllocError, Global};
 
-/// Where plan 2 puts an argument: fixed ones by falling alignment, then the others.
-fn rank_of(argument: &ArgType) -> u8
-    ensures same { result ≡ rank_of (arg_type_of argument.now) }
+/// How many ranks of arguments there may be: a plan lays out the arguments of rank 0 as declared, then those of rank 1,
+/// and so on. Under plan 1 all have rank 0.
+pub const RANKS: u8 = 5;
+
+/// The rank of fixed arguments of an alignment under plan 2.
+fn fixed_rank(align: u32) -> u8
+    ensures same { result ≡ fixed_rank align }
 {
-    match argument {
-        ArgType::Fixed(fixed) => match alignment(fixed) {
-            8 => 0,
-            4 => 1,
-            2 => 2,
-            _ => 3,
-        },
-        _ => 4,
+    match align {
+        8 => 0,
+        4 => 1,
+        2 => 2,
+        _ => 3,
+    }
+}
+
+impl PlanNo {
+    /// The rank of an argument, below [`RANKS`]: under plan 2 fixed arguments by falling alignment, then strings and sized
+    /// arrays. It goes over the fields of a struct.
+    pub fn rank_of(self, argument: &ArgType) -> u8
+        ensures same { result ≡ rank_of self (arg_type_of argument.now) }
+    {
+        match self {
+            PlanNo::One => 0,
+            PlanNo::Two => match argument {
+                ArgType::Fixed(fixed) => fixed_rank(alignment(fixed)),
+                _ => 4,
+            },
+        }
     }
 }
 
 /// How many of these arguments plan 2 puts before those of a rank.
 fn count_before(rank: u8, arguments: &[ArgType]) -> usize
-    ensures same { result ≡ count_by (λ t. nat_lt (rank_of t) rank) (map arg_type_of arguments.now) }
+    ensures same { result ≡ count_by (λ t. nat_lt (rank_of PlanNo.Two t) rank) (map arg_type_of arguments.now) }
     ensures most { result ≤ length arguments.now }
 {
     let mut count = 0;
     for argument in arguments {
-        if rank_of(argument) < rank {
+        if PlanNo::Two.rank_of(argument) < rank {
             count += 1;
         }
     }
@@ -48,19 +66,19 @@ pub(crate) fn declared_order(
     alloc: Global,
     plan: PlanNo,
     arguments: &[ArgType],
-    arranged: Vec<Value>,
+    laid_out: Vec<Value>,
 ) -> Result<Vec<Value>, AllocError>
-    requires as_many { length arranged.items ≡ length arguments.now }
+    requires as_many { length laid_out.items ≡ length arguments.now }
     ensures many { IfOk result (λ values. length values.items ≡ length arguments.now) }
-    ensures back { IfOk result (λ values. rearranged plan (map arg_type_of arguments.now) (map datum_of values.items) ≡ map datum_of arranged.items) }
+    ensures back { IfOk result (λ values. values_of (arranged kind plan (zip (map arg_type_of arguments.now) (map datum_of values.items))) ≡ map datum_of laid_out.items) }
 {
     if plan == PlanNo::One {
-        return Ok(arranged);
+        return Ok(laid_out);
     }
-    let mut left = arranged;
+    let mut left = laid_out;
     let mut values = Vec::with_capacity(alloc, arguments.len())?;
     for (index, argument) in arguments.iter().enumerate() {
-        let place = count_before(rank_of(argument), &arguments[index + 1..]);
+        let place = count_before(PlanNo::Two.rank_of(argument), &arguments[index + 1..]);
         values.push(left.remove(place))?;
     }
     Ok(values)

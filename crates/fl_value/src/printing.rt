@@ -127,14 +127,3 @@ pub fn print_call(
     out.push(b')')?;
     Ok(())
 }
-
-/// What is printed of a call reads as that call: its name a word, its numbers of at most 20 digits,
-/// its arrays and structs nested at most 20 deep.
-pub fn printed_reads()
-    ensures reading { (name : List ℕ) (values : List Datum) → IsWord name → are_printable (data_from values) ≡ true → greatest_depth (data_from values) ≤ 20 → SpellsCall (printed_call name values) name values }
-{}
-
-/// What is printed of a call that fits an interface reads as that call there.
-pub fn printed_call_read()
-    ensures reading { (i : TheInterface) (m : TheMessage) (c : TheCall) → HasText i m c → ComesTo i (printed_call m.name c.args) (Ok c) }
-{}

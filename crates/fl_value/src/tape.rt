@@ -7,24 +7,13 @@ ghost use Rattle.fl_check.specs.Interface.{type_of, arg_type_of, fields_from, in
 ghost use Rattle.fl_check.specs.Sizes.{scalar_size, align_of, greatest_align};
 ghost use Rattle.fl_value.specs.Value.{datum_of, data_from, call_of};
 ghost use Rattle.fl_value.specs.Fits.{count_of, scalar_bits};
-ghost use Rattle.fl_value.specs.Plan.{arranged};
-ghost use Rattle.fl_value.specs.Tape.{raw_of, value_tape, fields_tape, elements_tape, argument_tape, tape_of_argument, kind, tape_of};
-ghost use Rattle.fl_value.specs.Groups.{in_group, group_tape};
+ghost use Rattle.fl_value.specs.Plan.{arranged, rank_of, by_ranks};
+ghost use Rattle.fl_value.specs.Tape.{raw_of, value_tape, fields_tape, elements_tape, argument_tape, tape_of_argument, kind, rank_tape, tape_of};
 
+use crate::order::RANKS;
 use crate::value::{Call, PlanNo, Value};
 use fl_check::{ArgType, FixedType, Interface, Scalar};
 use std::alloc::{AllocError, Global};
-
-/// Arguments that a plan lays out together.
-#[derive(Clone, Copy, Debug, PartialEq, Eq)]
-pub(crate) enum Group {
-    /// Every argument.
-    All,
-    /// Fixed arguments of one alignment.
-    FixedAt(u32),
-    /// Strings and sized arrays.
-    Dynamic,
-}
 
 /// How many bits a scalar has.
 fn scalar_bits(scalar: Scalar) -> u32
@@ -204,40 +193,38 @@ fn greatest_alignment(fields: &[FixedType]) -> u32
     greatest
 }
 
-/// Whether an argument is in a group.
-pub(crate) fn is_in_group(group: Group, argument: &ArgType) -> bool
-    ensures same { result ≡ in_group group (arg_type_of argument.now) }
-{
-    match group {
-        Group::All => true,
-        Group::FixedAt(align) => match argument {
-            ArgType::Fixed(fixed) => alignment(fixed) == align,
-            _ => false,
-        },
-        Group::Dynamic => match argument {
-            ArgType::Fixed(_) => false,
-            _ => true,
-        },
-    }
-}
-
-/// Appends the numbers of a group's arguments, in declared order.
-fn push_group(
+/// Appends the numbers of a rank's arguments, in declared order.
+fn push_rank(
     tape: &mut Vec<u64>,
-    group: Group,
+    plan: PlanNo,
+    rank: u8,
     arguments: &[ArgType],
     values: &[Value],
 ) -> Result<(), AllocError>
-    ensures tape { OnOk result (tape.new.items ≡ tape.old.items ++ group_tape group (zip (map arg_type_of arguments.now) (map datum_of values.now))) }
+    ensures tape { OnOk result (tape.new.items ≡ tape.old.items ++ rank_tape plan rank (zip (map arg_type_of arguments.now) (map datum_of values.now))) }
 {
     for (index, argument) in arguments.iter().enumerate() {
         let Some(value) = values.get(index) else {
             return Ok(());
         };
-        if !is_in_group(group, argument) {
+        if plan.rank_of(argument) != rank {
             continue;
         }
         push_argument(tape, argument, value)?;
+    }
+    Ok(())
+}
+
+/// Appends the numbers of all arguments, rank by rank under plan 2.
+fn push_ranks(
+    tape: &mut Vec<u64>,
+    arguments: &[ArgType],
+    values: &[Value],
+) -> Result<(), AllocError>
+    ensures tape { OnOk result (tape.new.items ≡ tape.old.items ++ flat_map tape_of_argument (by_ranks kind PlanNo.Two (zip (map arg_type_of arguments.now) (map datum_of values.now)))) }
+{
+    for rank in 0..RANKS {
+        push_rank(tape, PlanNo::Two, rank, arguments, values)?;
     }
     Ok(())
 }
@@ -252,22 +239,20 @@ fn push_arguments(
     ensures tape { OnOk result (tape.new.items ≡ tape.old.items ++ flat_map tape_of_argument (arranged kind plan (zip (map arg_type_of arguments.now) (map datum_of values.now)))) }
 {
     match plan {
-        PlanNo::One => push_group(tape, Group::All, arguments, values),
-        PlanNo::Two => {
-            push_group(tape, Group::FixedAt(8), arguments, values)?;
-            push_group(tape, Group::FixedAt(4), arguments, values)?;
-            push_group(tape, Group::FixedAt(2), arguments, values)?;
-            push_group(tape, Group::FixedAt(1), arguments, values)?;
-            push_group(tape, Group::Dynamic, arguments, values)
-        }
+        PlanNo::One => push_rank(tape, plan, 0, arguments, values),
+        PlanNo::Two => push_ranks(tape, arguments, values),
     }
 }
 
 /// The tape of a call.
+///
+/// # Errors
+///
+/// Where memory runs out.
 pub fn flatten(
     alloc: Global,
-    interface: &Interface,
     call: &Call,
+    interface: &Interface,
     plan: PlanNo,
 ) -> Result<Vec<u64>, AllocError>
     ensures tape { IfOk result (λ v. v.items ≡ tape_of plan (interface_of interface.now) (call_of call.now)) }

@@ -5,13 +5,11 @@ ghost use Rattle.std.specs.Option.{option_map};
 ghost use Rattle.std.specs.List.{list_all};
 ghost use Rattle.fl_check.specs.Interface.{TheArgType, scalar, enumeration, text, sized, type_of, arg_type_of, interface_of};
 ghost use Rattle.fl_value.specs.Value.{TheCall, number, string, elements, data_from, datum_of, call_of};
-ghost use Rattle.fl_value.specs.Plan.{arranged};
-ghost use Rattle.fl_value.specs.Groups.{in_group};
+ghost use Rattle.fl_value.specs.Plan.{arranged, rank_of, by_ranks};
 ghost use Rattle.fl_value.specs.Fits.{is_text_byte};
-ghost use Rattle.fl_value.specs.Taken.{unsigned_back, signed_back, scalar_back, ValueAt, ArgumentAt, LengthAt, BytesAt, InTurn, TheOne, NoneOf, HasTape, OneCallOfATape};
+ghost use Rattle.fl_value.specs.Taken.{unsigned_back, signed_back, scalar_back, ValueAt, ArgumentAt, LengthAt, BytesAt, InTurn, TheOne, NoneOf, types_of_rank, HasTape, OneCallOfATape};
 
-use crate::order::declared_order;
-use crate::tape::{Group, is_in_group};
+use crate::order::{RANKS, declared_order};
 use crate::value::{Call, PlanNo, Value};
 use fl_base::MsgNo;
 use fl_check::{ArgType, FixedType, Interface, Scalar};
@@ -274,28 +272,50 @@ fn read_argument<'a>(
     }
 }
 
-/// Puts the arguments of a group behind the values that were read before them, and tells what follows
+/// Puts the arguments of a rank behind the values that were read before them, and tells what follows
 /// on the tape.
-fn read_group<'a>(
+fn read_rank<'a>(
     alloc: Global,
     tape: &'a [u64],
-    group: Group,
+    plan: PlanNo,
+    rank: u8,
     arguments: &[ArgType],
     before: Vec<Value>,
 ) -> Result<Option<(Vec<Value>, &'a [u64])>, AllocError>
-    ensures found { IfOk result (λ o. IfSome o (λ r. (done : List TheArgType) (whole : List ℕ) → TheOne (InTurn ArgumentAt done whole) (map datum_of before.items) tape.now → TheOne (InTurn ArgumentAt (done ++ filter (in_group group) (map arg_type_of arguments.now)) whole) (map datum_of r.0.items) r.1.now)) }
-    ensures none { IfOk result (λ o. IfNone o ((done : List TheArgType) (whole : List ℕ) → TheOne (InTurn ArgumentAt done whole) (map datum_of before.items) tape.now → NoneOf (InTurn ArgumentAt (done ++ filter (in_group group) (map arg_type_of arguments.now)) whole))) }
+    ensures found { IfOk result (λ o. IfSome o (λ r. (done : List TheArgType) (whole : List ℕ) → TheOne (InTurn ArgumentAt done whole) (map datum_of before.items) tape.now → TheOne (InTurn ArgumentAt (done ++ types_of_rank plan rank (map arg_type_of arguments.now)) whole) (map datum_of r.0.items) r.1.now)) }
+    ensures none { IfOk result (λ o. IfNone o ((done : List TheArgType) (whole : List ℕ) → TheOne (InTurn ArgumentAt done whole) (map datum_of before.items) tape.now → NoneOf (InTurn ArgumentAt (done ++ types_of_rank plan rank (map arg_type_of arguments.now)) whole))) }
 {
     let mut values = before;
     let mut rest = tape;
     for argument in arguments {
-        if !is_in_group(group, argument) {
+        if plan.rank_of(argument) != rank {
             continue;
         }
         let Some((value, after)) = read_argument(alloc, rest, argument)? else {
             return Ok(None);
         };
         values.push(value)?;
+        rest = after;
+    }
+    Ok(Some((values, rest)))
+}
+
+/// All arguments rank by rank under plan 2, and what follows them on the tape.
+fn read_ranks<'a>(
+    alloc: Global,
+    tape: &'a [u64],
+    arguments: &[ArgType],
+) -> Result<Option<(Vec<Value>, &'a [u64])>, AllocError>
+    ensures found { IfOk result (λ o. IfSome o (λ r. TheOne (InTurn ArgumentAt (by_ranks (λ t. t) PlanNo.Two (map arg_type_of arguments.now)) tape.now) (map datum_of r.0.items) r.1.now)) }
+    ensures none { IfOk result (λ o. IfNone o (NoneOf (InTurn ArgumentAt (by_ranks (λ t. t) PlanNo.Two (map arg_type_of arguments.now)) tape.now))) }
+{
+    let mut values = Vec::with_capacity(alloc, arguments.len())?;
+    let mut rest = tape;
+    for rank in 0..RANKS {
+        let Some((more, after)) = read_rank(alloc, rest, PlanNo::Two, rank, arguments, values)? else {
+            return Ok(None);
+        };
+        values = more;
         rest = after;
     }
     Ok(Some((values, rest)))
@@ -311,52 +331,12 @@ fn read_arguments<'a>(
     ensures found { IfOk result (λ o. IfSome o (λ r. TheOne (InTurn ArgumentAt (arranged (λ t. t) plan (map arg_type_of arguments.now)) tape.now) (map datum_of r.0.items) r.1.now)) }
     ensures none { IfOk result (λ o. IfNone o (NoneOf (InTurn ArgumentAt (arranged (λ t. t) plan (map arg_type_of arguments.now)) tape.now))) }
 {
-    let values = Vec::with_capacity(alloc, arguments.len())?;
     match plan {
-        PlanNo::One => read_group(alloc, tape, Group::All, arguments, values),
-        PlanNo::Two => {
-            let Some((values, rest)) = read_group(
-                alloc,
-                tape,
-                Group::FixedAt(8),
-                arguments,
-                values,
-            )?
-            else {
-                return Ok(None);
-            };
-            let Some((values, rest)) = read_group(
-                alloc,
-                rest,
-                Group::FixedAt(4),
-                arguments,
-                values,
-            )?
-            else {
-                return Ok(None);
-            };
-            let Some((values, rest)) = read_group(
-                alloc,
-                rest,
-                Group::FixedAt(2),
-                arguments,
-                values,
-            )?
-            else {
-                return Ok(None);
-            };
-            let Some((values, rest)) = read_group(
-                alloc,
-                rest,
-                Group::FixedAt(1),
-                arguments,
-                values,
-            )?
-            else {
-                return Ok(None);
-            };
-            read_group(alloc, rest, Group::Dynamic, arguments, values)
+        PlanNo::One => {
+            let values = Vec::with_capacity(alloc, arguments.len())?;
+            read_rank(alloc, tape, plan, 0, arguments, values)
         }
+        PlanNo::Two => read_ranks(alloc, tape, arguments),
     }
 }
 
@@ -368,9 +348,9 @@ fn read_arguments<'a>(
 /// Where memory runs out.
 pub fn unflatten(
     alloc: Global,
-    interface: &Interface,
     msg: MsgNo,
     tape: &[u64],
+    interface: &Interface,
     plan: PlanNo,
 ) -> Result<Option<Call>, AllocError>
     ensures some { IfOk result (λ o. IfSome o (λ c. HasTape plan (interface_of interface.now) msg.0 tape.now (call_of c))) }
@@ -389,9 +369,3 @@ pub fn unflatten(
     let args = declared_order(alloc, plan, &message.args, arranged)?;
     Ok(Some(Call { msg, args }))
 }
-
-/// Fitting calls of one message that have one tape are equal, under either plan: so what [`unflatten`]
-/// gives for the tape of a fitting call is that call.
-pub fn one_call_of_a_tape()
-    ensures one { OneCallOfATape }
-{}

@@ -8,7 +8,7 @@ use Rattle.std.proofs.lemmas.List.{append-nil, map-append, take-append-drop, len
 use Rattle.std.proofs.lemmas.Option.{slice_get-get_or, slice_get_within}
 use Rattle.std.proofs.lemmas.Bool.{leb-true, lt-ltb, eqb-true}
 use Rattle.fl_base.specs.declared.fragment.Frag.{Frag}
-use Rattle.fl_base.specs.Control.{message_of}
+use Rattle.fl_base.specs.Control.{message_of, bare}
 use Rattle.fl_check.specs.Interface.{TheType, scalar, enumeration, structure, array, TheTypes, no_more, field, TheArgType, fixed, text, sized, TheMessage, TheInterface}
 use Rattle.fl_check.specs.Checks.{is_within_limits, is_well_made, are_well_made, is_argument_within, are_arguments_within, is_message_within, are_messages_within, count_of}
 use Rattle.fl_value.specs.Value.{Datum, TheCall}
@@ -23,7 +23,7 @@ use Rattle.fl_wire.specs.Payload.{frags_of}
 use Rattle.fl_wire.specs.Classes.{in_classes}
 use Rattle.fl_wire.specs.Standing.{byte_in, words_in}
 use Rattle.fl_wire.specs.Covered.{is_covered, is_length}
-use Rattle.fl_wire.specs.Reading.{plain, AllFit, IsPart, IsWrong, ReadsLeaving}
+use Rattle.fl_wire.specs.Reading.{AllFit, IsPart, IsWrong, ReadsLeaving}
 use Rattle.fl_wire.specs.Shapes.{Agrees, IsWhy, Cut, calls_of}
 use Rattle.fl_wire.specs.Whole.{leaves_of, Whole, NearCall, WrongCall, StopsWhole}
 use Rattle.fl_wire.specs.Wrong.{start_fault, follow_fault, header_fault, IsWrongAt}
@@ -120,7 +120,7 @@ part_of plan i msg group sound g cut =
       call = c;
       fits = call_fits i msg group near.one g near.fit;
       short = short;
-      front = ap (map plain) (sym (take_all (length group) group (omega arith)))
+      front = ap (map bare) (sym (take_all (length group) group (omega arith)))
           ∙ group_front plan i c group (length group) g (omega arith) (omega (arith, short)) (subst (λ (ls : List Leaf). Agrees group ls (56 * length group)) (sym same) near.agree);
     }
 
@@ -137,7 +137,7 @@ whole_of plan i msg frags n ds many within g w =
       fits = call_fits i msg group ds g w.fit;
       some = omega (arith, counts, count_positive plan i c);
       within = omega (arith, w.within, long, within);
-      means = ap (map plain) (sym (take-take many n frags (omega (arith, w.within, long))))
+      means = ap (map bare) (sym (take-take many n frags (omega (arith, w.within, long))))
           ∙ group_front plan i c group many g w.within (omega (arith, counts)) (subst (λ (ls : List Leaf). Agrees group ls (56 * many)) (sym same) w.agree)
           ∙ take_all many (frags_of plan i c) (omega (arith, length_frags plan i c, counts));
     }
@@ -282,7 +282,7 @@ wrong_call plan i msg frags n stop fault within sound g w told =
           call = c;
           fits = fits;
           short = subst (λ (x : ℕ). x < count plan i c) (sym few) more;
-          front = ap (map plain) (sym (take-take k n frags (omega (arith, small))))
+          front = ap (map bare) (sym (take-take k n frags (omega (arith, small))))
               ∙ group_front plan i c group k g (omega (arith, small, long)) (omega (arith, more)) (fewer group (leaves plan i c) (56 * k) w.p (omega arith) agree)
               ∙ ap (λ (x : ℕ). take x (frags_of plan i c)) (sym few);
         }
@@ -294,7 +294,7 @@ pub record MeansCalls (plan : PlanNo) (i : TheInterface) (frags : List Frag) (ca
   pub whole : List Frag
   pub joined : frags ≡ whole ++ left
   pub fit : AllFit i calls
-  pub mean : map plain whole ≡ flat_map (frags_of plan i) calls
+  pub mean : map bare whole ≡ flat_map (frags_of plan i) calls
 
 pub no_calls : (plan : PlanNo) (i : TheInterface) (frags : List Frag) → MeansCalls plan i frags [] frags
 no_calls plan i frags = record { whole = []; joined = refl; fit = λ k c small. absurd (omega (arith, small)); mean = refl }
@@ -307,7 +307,7 @@ one_call plan i frags left after calls all c count m first is rest =
       whole = m.whole ++ take count left;
       joined = m.joined ∙ ap (λ (xs : List Frag). m.whole ++ xs) (sym (take-append-drop count left)) ∙ sym (append_assoc m.whole (take count left) (drop count left));
       fit = all_join i calls (c ∷ []) m.fit (one_fits i c first.fits);
-      mean = map-append plain m.whole (take count left) ∙ ap (λ (xs : List Frag). xs ++ map plain (take count left)) m.mean
+      mean = map-append bare m.whole (take count left) ∙ ap (λ (xs : List Frag). xs ++ map bare (take count left)) m.mean
           ∙ ap (λ (xs : List Frag). flat_map (frags_of plan i) calls ++ xs) (first.means ∙ sym (append-nil (frags_of plan i c))) ∙ sym (flat_join plan i calls (c ∷ []));
     })
 

@@ -10,7 +10,7 @@ use Rattle.std.proofs.lemmas.List.FromFn.{length-map-range_with_len, get_or-map-
 use Rattle.std.proofs.lemmas.Option.{slice_get-get_or}
 use Rattle.std.proofs.lemmas.Bool.{eqb-true, ltb-true, lt-ltb, ne_eqb, false≢true}
 use Rattle.fl_base.specs.declared.fragment.Frag.{Frag}
-use Rattle.fl_base.specs.Control.{first_of, message_of, circuit_of, control_word}
+use Rattle.fl_base.specs.Control.{first_of, message_of, circuit_of, control_word, bare}
 use Rattle.fl_check.specs.Interface.{TheInterface}
 use Rattle.fl_value.specs.Value.{TheCall}
 use Rattle.fl_value.specs.declared.value.PlanNo.{PlanNo}
@@ -18,7 +18,6 @@ use Rattle.fl_layout.specs.Leaves.{leaves}
 use Rattle.fl_layout.specs.Places.{count}
 use Rattle.fl_wire.specs.Payload.{payload_of, word, frag_on, frags_of}
 use Rattle.fl_wire.specs.Standing.{byte_in, words_in}
-use Rattle.fl_wire.specs.Reading.{plain}
 use Rattle.fl_wire.specs.Shapes.{Agrees}
 use Rattle.fl_wire.specs.Wrong.{is_clean, start_fault, follow_fault}
 use Rattle.fl_wire.specs.Headers.{Line, Group}
@@ -150,9 +149,9 @@ same_frag f g e h = ap (λ (ws : List ℕ). make_frag ws f.control) e ∙ ap (ma
 
 -- a fragment whose bytes are a call's and whose control word is its fragment's
 pub frame_is : (plan : PlanNo) (i : TheInterface) (c : TheCall) (frags : List Frag) (n k : ℕ) (f : Frag) → slice_get frags k ≡ Some f → Line f → k < n → Agrees frags (leaves plan i c) (56 * n)
-    → 2 * (f.control / 2 % 2 ^ 47) ≡ control_word (eqb k 0) c.msg 0 → plain f ≡ frag_on 0 c.msg (payload_of plan i c) k
+    → 2 * (f.control / 2 % 2 ^ 47) ≡ control_word (eqb k 0) c.msg 0 → bare f ≡ frag_on 0 c.msg (payload_of plan i c) k
 frame_is plan i c frags n k f is line small agree control =
-    same_frag (plain f) (frag_on 0 c.msg (payload_of plan i c) k)
+    same_frag (bare f) (frag_on 0 c.msg (payload_of plan i c) k)
     (frame_words f line (payload_of plan i c) k (λ j r own_j own_r.
     sym (frame_byte frags k j r f is own_j own_r) ∙ agree.at (56 * k + 8 * j + r) (omega (arith, small, own_j, own_r)) ∙ sym (byte_of_payload (leaves plan i c) (56 * k + 8 * j + r))))
     control
@@ -169,16 +168,16 @@ blank : Frag
 blank = record { words = []; control = 0 }
 
 pub group_front : (plan : PlanNo) (i : TheInterface) (c : TheCall) (frags : List Frag) (n : ℕ) → Group i c.msg frags → n ≤ length frags → n ≤ count plan i c → Agrees frags (leaves plan i c) (56 * n)
-    → map plain (take n frags) ≡ take n (frags_of plan i c)
+    → map bare (take n frags) ≡ take n (frags_of plan i c)
 group_front plan i c frags n group within few agree =
-    let long : length (map plain (take n frags)) ≡ n = length-map (take n frags) plain ∙ length-take-le n frags within in
+    let long : length (map bare (take n frags)) ≡ n = length-map (take n frags) bare ∙ length-take-le n frags within in
     let also : length (take n (frags_of plan i c)) ≡ n = length-take-le n (frags_of plan i c) (omega (arith, few, length_frags plan i c)) in
-    ext_get_or blank (map plain (take n frags)) (take n (frags_of plan i c)) (long ∙ sym also) (λ k h.
+    ext_get_or blank (map bare (take n frags)) (take n (frags_of plan i c)) (long ∙ sym also) (λ k h.
     let small : k < n = omega (arith, h, long) in
     let inside : k < length frags = omega (arith, small, within) in
     let f = get_or frags k blank in
     let is : slice_get frags k ≡ Some f = slice_get-get_or frags k blank inside in
-    get_or-map plain (take n frags) k blank blank (omega (arith, small, length-take-le n frags within))
-    ∙ ap plain (get_or-take n frags k blank small)
+    get_or-map bare (take n frags) k blank blank (omega (arith, small, length-take-le n frags within))
+    ∙ ap bare (get_or-take n frags k blank small)
     ∙ frame_is plan i c frags n k f is (group.lines k f is) small agree (group_control i c.msg frags k f group is)
     ∙ sym (get_or-take n (frags_of plan i c) k blank small ∙ frag_at plan i c k blank (omega (arith, small, few))))

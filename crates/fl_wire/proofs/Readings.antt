@@ -8,6 +8,7 @@ use Rattle.std.proofs.lemmas.List.{length-append, length-map, map-append, get_or
 use Rattle.std.proofs.lemmas.List.FromFn.{length-map-range_with_len, get_or-map-range_with_len}
 use Rattle.std.proofs.lemmas.Bool.{cases_lt}
 use Rattle.fl_base.specs.declared.fragment.Frag.{Frag}
+use Rattle.fl_base.specs.Control.{bare}
 use Rattle.fl_check.specs.Interface.{TheInterface, TheMessage}
 use Rattle.fl_value.specs.Value.{Datum, TheCall}
 use Rattle.fl_value.specs.Fits.{fits_of, are_arguments}
@@ -18,7 +19,7 @@ use Rattle.std.specs.Cmp.{first_so, second_so}
 use Rattle.fl_layout.specs.Places.{size, place, count}
 use Rattle.fl_wire.specs.Payload.{payload_at, payload_bytes, payload_of, word, frag_on, frags_of}
 use Rattle.fl_wire.specs.Words.{interface_words_fit, argument_words_fit}
-use Rattle.fl_wire.specs.Reading.{plain, AllFit, IsRest, IsPart, Reads}
+use Rattle.fl_wire.specs.Reading.{AllFit, IsRest, IsPart, Reads}
 use Rattle.fl_wire.proofs.Bytes.{length_payload, get_payload, past_end}
 use Rattle.fl_wire.proofs.Arguments.{leaves_classes, arguments_fit}
 use Rattle.fl_wire.proofs.Agreement.{Agree, values_agree}
@@ -217,19 +218,19 @@ one_reading plan i (c ∷ cs) (d ∷ ds) x y w hc hd rx ry e =
 
 -- ---- the same of what fragments read as, their epochs and counts told set aside
 
-plain_rest : (plan : PlanNo) (i : TheInterface) (x : List Frag) → (x ≡ []) ⊎ IsPart plan i x → IsRest plan i (map plain x)
-plain_rest plan i x (inl none) = inl (ap (map plain) none)
-plain_rest plan i x (inr part) = inr (
+bare_rest : (plan : PlanNo) (i : TheInterface) (x : List Frag) → (x ≡ []) ⊎ IsPart plan i x → IsRest plan i (map bare x)
+bare_rest plan i x (inl none) = inl (ap (map bare) none)
+bare_rest plan i x (inr part) = inr (
   part.call,
   record {
     fits = part.fits;
-    short = subst (λ (n : ℕ). n < count plan i part.call) (sym (length-map x plain)) part.short;
-    front = part.front ∙ ap (λ (n : ℕ). take n (frags_of plan i part.call)) (sym (length-map x plain));
+    short = subst (λ (n : ℕ). n < count plan i part.call) (sym (length-map x bare)) part.short;
+    front = part.front ∙ ap (λ (n : ℕ). take n (frags_of plan i part.call)) (sym (length-map x bare));
   },
 )
 
-plain_joined : (plan : PlanNo) (i : TheInterface) (frags : List Frag) (cs : List TheCall) (x : List Frag) → Reads plan i frags cs x → map plain frags ≡ joined plan i cs (map plain x)
-plain_joined plan i frags cs x r = ap (map plain) r.joined ∙ map-append plain r.whole x ∙ ap (λ (fs : List Frag). fs ++ map plain x) r.mean
+bare_joined : (plan : PlanNo) (i : TheInterface) (frags : List Frag) (cs : List TheCall) (x : List Frag) → Reads plan i frags cs x → map bare frags ≡ joined plan i cs (map bare x)
+bare_joined plan i frags cs x r = ap (map bare) r.joined ∙ map-append bare r.whole x ∙ ap (λ (fs : List Frag). fs ++ map bare x) r.mean
 
 -- ends of one list that are as long as each other
 ends_same : (a b x y : List Frag) → a ++ x ≡ b ++ y → length x ≡ length y → x ≡ y
@@ -245,7 +246,7 @@ ends_same (f ∷ a) (g ∷ b) x y e long = let tails : a ++ x ≡ b ++ y = cc in
 pub reads_once : (plan : PlanNo) (i : TheInterface) (frags : List Frag) (cs ds : List TheCall) (x y : List Frag) → interface_words_fit i ≡ true
     → Reads plan i frags cs x → Reads plan i frags ds y → (cs ≡ ds) × (x ≡ y)
 reads_once plan i frags cs ds x y w r s =
-    let (calls, rests) = one_reading plan i cs ds (map plain x) (map plain y) w r.fit s.fit (plain_rest plan i x r.part) (plain_rest plan i y s.part)
-    (sym (plain_joined plan i frags cs x r) ∙ plain_joined plan i frags ds y s) in
-    let long : length x ≡ length y = sym (length-map x plain) ∙ ap length rests ∙ length-map y plain in
+    let (calls, rests) = one_reading plan i cs ds (map bare x) (map bare y) w r.fit s.fit (bare_rest plan i x r.part) (bare_rest plan i y s.part)
+    (sym (bare_joined plan i frags cs x r) ∙ bare_joined plan i frags ds y s) in
+    let long : length x ≡ length y = sym (length-map x bare) ∙ ap length rests ∙ length-map y bare in
     (calls, ends_same r.whole s.whole x y (sym r.joined ∙ s.joined) long)

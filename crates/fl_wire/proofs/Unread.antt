@@ -7,7 +7,7 @@ use Rattle.std.proofs.lemmas.List.{length-append, length-map, map-append, take-a
 use Rattle.std.proofs.lemmas.Option.{slice_get-map, slice_get_within, get_or_from_slice_get}
 use Rattle.std.proofs.lemmas.Bool.{cases_lt, ne_eqb, false≢true}
 use Rattle.fl_base.specs.declared.fragment.Frag.{Frag}
-use Rattle.fl_base.specs.Control.{message_of, control_word}
+use Rattle.fl_base.specs.Control.{message_of, control_word, bare}
 use Rattle.fl_check.specs.Interface.{TheInterface, TheMessage}
 use Rattle.fl_value.specs.Value.{Datum, TheCall}
 use Rattle.fl_value.specs.Fits.{fits_of, fit_message}
@@ -17,7 +17,7 @@ use Rattle.fl_layout.specs.Places.{count}
 use Rattle.fl_wire.specs.Words.{interface_words_fit}
 use Rattle.fl_wire.specs.Payload.{payload_of, frag_on, frags_of}
 use Rattle.fl_wire.specs.Standing.{byte_in, words_in}
-use Rattle.fl_wire.specs.Reading.{plain, AllFit, IsPart, IsWrong, Reads}
+use Rattle.fl_wire.specs.Reading.{AllFit, IsPart, IsWrong, Reads}
 use Rattle.fl_wire.specs.Shapes.{Agrees}
 use Rattle.fl_wire.specs.Wrong.{follow_fault, header_fault, HasFault, IsWrongAt}
 use Rattle.fl_wire.specs.declared.fault.WireFault.{WireFault}
@@ -40,21 +40,21 @@ length_one rest f = length-append rest (f ∷ []) ∙ omega arith
 pub record GoesOn (plan : PlanNo) (i : TheInterface) (rest : List Frag) (f : Frag) (d : TheCall) : Type 0 where
   pub fits : fits_of i d ≡ true
   pub longer : length rest < count plan i d
-  pub front : map plain (with_one rest f) ≡ take (length rest + 1) (frags_of plan i d)
+  pub front : map bare (with_one rest f) ≡ take (length rest + 1) (frags_of plan i d)
 
 -- calls whose fragments begin with part of a call and one more: the first one goes on with it
 pub next_call : (plan : PlanNo) (i : TheInterface) (rest : List Frag) (f : Frag) (cs : List TheCall) (more : List Frag) → interface_words_fit i ≡ true → IsUnderWay plan i rest → AllFit i cs
-    → flat_map (frags_of plan i) cs ≡ map plain (with_one rest f) ++ more → (d : TheCall) × GoesOn plan i rest f d
+    → flat_map (frags_of plan i) cs ≡ map bare (with_one rest f) ++ more → (d : TheCall) × GoesOn plan i rest f d
 next_call plan i rest f [] more words part fit e =
-    let long : 0 ≡ length (map plain (with_one rest f)) + length more = ap length e ∙ length-append (map plain (with_one rest f)) more in
-    absurd (omega (arith, long, length-map (with_one rest f) plain, length_one rest f))
+    let long : 0 ≡ length (map bare (with_one rest f)) + length more = ap length e ∙ length-append (map bare (with_one rest f)) more in
+    absurd (omega (arith, long, length-map (with_one rest f) bare, length_one rest f))
 next_call plan i rest f (d ∷ ds) more words part fit e = ⊎_elim
     (λ (longer : length rest < count plan i d). (
       d,
       record {
         fits = own;
         longer = longer;
-        front = sym (take_at (map plain all) more n long) ∙ ap (take n) (sym e) ∙ take-append-le n (frags_of plan i d) after (omega (arith, longer, length_frags plan i d));
+        front = sym (take_at (map bare all) more n long) ∙ ap (take n) (sym e) ∙ take-append-le n (frags_of plan i d) after (omega (arith, longer, length_frags plan i d));
       },
     ))
     (λ (whole : count plan i d ≤ length rest). absurd (not_whole part whole))
@@ -72,15 +72,15 @@ next_call plan i rest f (d ∷ ds) more words part fit e = ⊎_elim
     own : fits_of i d ≡ true
     own = first_fits i d ds fit
 
-    long : length (map plain all) ≡ n
-    long = length-map all plain ∙ length_one rest f
+    long : length (map bare all) ≡ n
+    long = length-map all bare ∙ length_one rest f
 
     -- the call's fragments are the first of those under way
-    front_of : count plan i d ≤ length rest → frags_of plan i d ≡ take (count plan i d) (map plain rest)
+    front_of : count plan i d ≤ length rest → frags_of plan i d ≡ take (count plan i d) (map bare rest)
     front_of whole =
-        let split : map plain all ++ more ≡ map plain rest ++ (plain f ∷ more) = ap (λ (xs : List Frag). xs ++ more) (map-append plain rest (f ∷ [])) ∙ append_assoc (map plain rest) (plain f ∷ []) more in
+        let split : map bare all ++ more ≡ map bare rest ++ (bare f ∷ more) = ap (λ (xs : List Frag). xs ++ more) (map-append bare rest (f ∷ [])) ∙ append_assoc (map bare rest) (bare f ∷ []) more in
         sym (take_at (frags_of plan i d) after (count plan i d) (length_frags plan i d)) ∙ ap (take (count plan i d)) (e ∙ split)
-        ∙ take-append-le (count plan i d) (map plain rest) (plain f ∷ more) (omega (arith, whole, length-map rest plain))
+        ∙ take-append-le (count plan i d) (map bare rest) (bare f ∷ more) (omega (arith, whole, length-map rest bare))
 
     not_whole : IsUnderWay plan i rest → count plan i d ≤ length rest → ⊥
     not_whole (inl none) whole = absurd (omega (arith, whole, ap length none, count_positive plan i d))
@@ -102,12 +102,12 @@ control_same : (f g : Frag) → f ≡ g → f.control ≡ g.control
 control_same f g e = ap (λ (h : Frag). h.control) e
 
 -- the control words of the fragments of a call that goes on
-control_at : (plan : PlanNo) (i : TheInterface) (all : List Frag) (n k : ℕ) (g : Frag) (d : TheCall) → map plain all ≡ take n (frags_of plan i d) → n ≤ count plan i d → k < n → slice_get all k ≡ Some g
+control_at : (plan : PlanNo) (i : TheInterface) (all : List Frag) (n k : ℕ) (g : Frag) (d : TheCall) → map bare all ≡ take n (frags_of plan i d) → n ≤ count plan i d → k < n → slice_get all k ≡ Some g
     → 2 * (g.control / 2 % 2 ^ 47) ≡ control_word (eqb k 0) d.msg 0
 control_at plan i all n k g d front few small is =
     let inside = slice_get_within all k g is in
-    control_same (plain g) (frag_on 0 d.msg (payload_of plan i d) k)
-    (ap plain (sym (get_or_from_slice_get all k g g is)) ∙ sym (get_or-map plain all k g g inside)
+    control_same (bare g) (frag_on 0 d.msg (payload_of plan i d) k)
+    (ap bare (sym (get_or_from_slice_get all k g g is)) ∙ sym (get_or-map bare all k g g inside)
     ∙ ap (λ (xs : List Frag). get_or xs k g) front ∙ get_or-take n (frags_of plan i d) k g small ∙ frag_at plan i d k g (omega (arith, small, few)))
 
 last_at : (rest : List Frag) (f : Frag) → slice_get (with_one rest f) (length rest) ≡ Some f
@@ -132,10 +132,10 @@ well_formed plan i (g ∷ rest) f d room on =
 
 -- ---- a fragment with a fault
 
-byte_plain : (frags : List Frag) (p : ℕ) → byte_in (map plain frags) p ≡ byte_in frags p
-byte_plain frags p = ap (λ (ws : List ℕ). byte_at (p % 8) (slice_index ws (p / 8 % 7))) (ap words_in (slice_get-map plain frags (p / 56)) ∙ same_words (slice_get frags (p / 56)))
+byte_bare : (frags : List Frag) (p : ℕ) → byte_in (map bare frags) p ≡ byte_in frags p
+byte_bare frags p = ap (λ (ws : List ℕ). byte_at (p % 8) (slice_index ws (p / 8 % 7))) (ap words_in (slice_get-map bare frags (p / 56)) ∙ same_words (slice_get frags (p / 56)))
   where
-    same_words : (o : Option Frag) → words_in (option_map plain o) ≡ words_in o
+    same_words : (o : Option Frag) → words_in (option_map bare o) ≡ words_in o
     same_words None = refl
     same_words (Some f) = refl
 
@@ -150,10 +150,10 @@ fault_is_wrong plan i rest f fault words room part (inl header) cs more fit e =
 fault_is_wrong plan i rest f fault words room part (inr (header, w)) cs more fit e =
     let (d, on) = next_call plan i rest f cs more words part fit e in
     let n = length rest + 1 in
-    let holds = front_holds plan i d n (map plain (with_one rest f)) (omega (arith, on.longer)) on.front in
-    let long = length-map (with_one rest f) plain in
+    let holds = front_holds plan i d n (map bare (with_one rest f)) (omega (arith, on.longer)) on.front in
+    let long = length-map (with_one rest f) bare in
     let agree : Agrees (with_one rest f) (leaves plan i d) (w.p + 1)
-    = record { at = λ p small. sym (byte_plain (with_one rest f) p) ∙ holds.at p (omega (arith, small, w.inside, long)) } in
+    = record { at = λ p small. sym (byte_bare (with_one rest f) p) ∙ holds.at p (omega (arith, small, w.inside, long)) } in
     w.none d (sym (well_formed plan i rest f d room on).1) on.fits agree
 
 -- ---- the first such fragment of a list
@@ -210,7 +210,7 @@ after_calls plan i (c ∷ cs) (d ∷ ds) x words fc fd e =
     after_calls plan i cs ds x words (rest_fit i c cs fc) (rest_fit i d ds fd) tails
 
 pub wrong_after : (plan : PlanNo) (i : TheInterface) (whole left : List Frag) (cs : List TheCall) (fault : WireFault) → interface_words_fit i ≡ true → AllFit i cs
-    → map plain whole ≡ flat_map (frags_of plan i) cs → IsWrongAt plan i left fault → IsWrongAt plan i (whole ++ left) fault
+    → map bare whole ≡ flat_map (frags_of plan i) cs → IsWrongAt plan i left fault → IsWrongAt plan i (whole ++ left) fault
 wrong_after plan i whole left cs fault words fit mean w = record {
   before = whole ++ w.before;
   one = w.one;
@@ -222,15 +222,15 @@ wrong_after plan i whole left cs fault words fit mean w = record {
     whole = whole ++ w.reads.whole;
     joined = ap (λ (xs : List Frag). whole ++ xs) w.reads.joined ∙ sym (append_assoc whole w.reads.whole w.rest);
     fit = all_join i cs w.calls fit w.reads.fit;
-    mean = map-append plain whole w.reads.whole ∙ ap (λ (xs : List Frag). xs ++ map plain w.reads.whole) mean ∙ ap (λ (xs : List Frag). flat_map (frags_of plan i) cs ++ xs) w.reads.mean
+    mean = map-append bare whole w.reads.whole ∙ ap (λ (xs : List Frag). xs ++ map bare w.reads.whole) mean ∙ ap (λ (xs : List Frag). flat_map (frags_of plan i) cs ++ xs) w.reads.mean
         ∙ sym (flat_join plan i cs w.calls);
     part = w.reads.part;
   };
   wrong = λ ds more fd e.
-      let split : map plain (with_one (whole ++ w.before) w.one) ≡ flat_map (frags_of plan i) cs ++ map plain (with_one w.before w.one)
-      = ap (map plain) (append_assoc whole w.before (w.one ∷ [])) ∙ map-append plain whole (with_one w.before w.one) ∙ ap (λ (xs : List Frag). xs ++ map plain (with_one w.before w.one)) mean in
-      let (es, (fe, rest)) = after_calls plan i cs ds (map plain (with_one w.before w.one) ++ more) words fit fd
-      (e ∙ ap (λ (xs : List Frag). xs ++ more) split ∙ append_assoc (flat_map (frags_of plan i) cs) (map plain (with_one w.before w.one)) more) in
+      let split : map bare (with_one (whole ++ w.before) w.one) ≡ flat_map (frags_of plan i) cs ++ map bare (with_one w.before w.one)
+      = ap (map bare) (append_assoc whole w.before (w.one ∷ [])) ∙ map-append bare whole (with_one w.before w.one) ∙ ap (λ (xs : List Frag). xs ++ map bare (with_one w.before w.one)) mean in
+      let (es, (fe, rest)) = after_calls plan i cs ds (map bare (with_one w.before w.one) ++ more) words fit fd
+      (e ∙ ap (λ (xs : List Frag). xs ++ more) split ∙ append_assoc (flat_map (frags_of plan i) cs) (map bare (with_one w.before w.one)) more) in
       w.wrong es more fe rest;
   first = w.first;
 }
@@ -239,16 +239,16 @@ wrong_after plan i whole left cs fault words fit mean w = record {
 
 pub reads_right : (plan : PlanNo) (i : TheInterface) (frags : List Frag) (cs : List TheCall) (rest : List Frag) → Reads plan i frags cs rest → IsWrong plan i frags → ⊥
 reads_right plan i frags cs rest r wrong = ⊎_elim
-    (λ (none : rest ≡ []). wrong cs [] r.fit (sym (ap (λ (xs : List Frag). xs ++ []) (joined ∙ ap (λ (xs : List Frag). flat_map (frags_of plan i) cs ++ map plain xs) none) ∙ append_assoc (flat_map (frags_of plan i) cs) [] [] ∙ nothing_after)))
+    (λ (none : rest ≡ []). wrong cs [] r.fit (sym (ap (λ (xs : List Frag). xs ++ []) (joined ∙ ap (λ (xs : List Frag). flat_map (frags_of plan i) cs ++ map bare xs) none) ∙ append_assoc (flat_map (frags_of plan i) cs) [] [] ∙ nothing_after)))
     (λ (part : IsPart plan i rest).
     let c = part.call in
     wrong (cs ++ c ∷ []) (drop (length rest) (frags_of plan i c)) (all_join i cs (c ∷ []) r.fit (one_fits i c part.fits))
     (flat_join plan i cs (c ∷ []) ∙ ap (λ (xs : List Frag). flat_map (frags_of plan i) cs ++ xs) (only_one c ∙ sym (take-append-drop (length rest) (frags_of plan i c)) ∙ ap (λ (xs : List Frag). xs ++ drop (length rest) (frags_of plan i c)) (sym part.front))
-    ∙ sym (append_assoc (flat_map (frags_of plan i) cs) (map plain rest) (drop (length rest) (frags_of plan i c))) ∙ ap (λ (xs : List Frag). xs ++ drop (length rest) (frags_of plan i c)) (sym joined)))
+    ∙ sym (append_assoc (flat_map (frags_of plan i) cs) (map bare rest) (drop (length rest) (frags_of plan i c))) ∙ ap (λ (xs : List Frag). xs ++ drop (length rest) (frags_of plan i c)) (sym joined)))
     r.part
   where
-    joined : map plain frags ≡ flat_map (frags_of plan i) cs ++ map plain rest
-    joined = ap (map plain) r.joined ∙ map-append plain r.whole rest ∙ ap (λ (xs : List Frag). xs ++ map plain rest) r.mean
+    joined : map bare frags ≡ flat_map (frags_of plan i) cs ++ map bare rest
+    joined = ap (map bare) r.joined ∙ map-append bare r.whole rest ∙ ap (λ (xs : List Frag). xs ++ map bare rest) r.mean
 
     nothing_after : flat_map (frags_of plan i) cs ++ [] ≡ flat_map (frags_of plan i) cs
     nothing_after = append-nil (flat_map (frags_of plan i) cs)

@@ -1,8 +1,9 @@
 -- What lists of fragments mean. The epoch and the count told, which change from one writing to the next,
 -- are set aside.
-use Rattle.std.specs.Prelude.{◌≡◌, ℕ, ◌*◌, ◌/◌, ◌%◌, ◌^◌, ◌<◌, ◌≤◌, true, List, [], ◌++◌, map, take, length, ◌⊎◌, All}
+use Rattle.std.specs.Prelude.{◌≡◌, ℕ, ◌<◌, ◌≤◌, true, List, [], ◌++◌, map, take, length, ◌⊎◌, All}
 use Rattle.std.specs.List.{flat_map}
 use Rattle.fl_base.specs.declared.fragment.Frag.{Frag}
+use Rattle.fl_base.specs.Control.{bare}
 use Rattle.fl_check.specs.Interface.{TheInterface}
 use Rattle.fl_value.specs.Value.{TheCall}
 use Rattle.fl_value.specs.Fits.{fits_of}
@@ -11,20 +12,16 @@ use Rattle.fl_wire.specs.Words.{interface_words_fit}
 use Rattle.fl_layout.specs.Places.{count}
 use Rattle.fl_wire.specs.Payload.{frags_of, frags_on}
 
--- a fragment with epoch 0 and nothing told
-abbrev pub plain : Frag → Frag
-plain f = record { words = f.words; control = 2 * (f.control / 2 % 2 ^ 47) }
-
 -- the fragments mean the call, on a circuit
 abbrev pub Means : PlanNo → TheInterface → List Frag → TheCall → ℕ → Type 0
-Means plan i frags c circuit = map plain frags ≡ frags_on circuit plan i c
+Means plan i frags c circuit = map bare frags ≡ frags_on circuit plan i c
 
 -- the fragments are some of the first of a fitting call, and not all
 pub record IsPart (plan : PlanNo) (i : TheInterface) (frags : List Frag) : Type 0 where
   pub call : TheCall
   pub fits : fits_of i call ≡ true
   pub short : length frags < count plan i call
-  pub front : map plain frags ≡ take (length frags) (frags_of plan i call)
+  pub front : map bare frags ≡ take (length frags) (frags_of plan i call)
 
 -- calls that fit the interface
 abbrev pub AllFit : TheInterface → List TheCall → Type 0
@@ -35,7 +32,7 @@ pub record Reads (plan : PlanNo) (i : TheInterface) (frags : List Frag) (calls :
   pub whole : List Frag
   pub joined : frags ≡ whole ++ rest
   pub fit : AllFit i calls
-  pub mean : map plain whole ≡ flat_map (frags_of plan i) calls
+  pub mean : map bare whole ≡ flat_map (frags_of plan i) calls
   pub part : (rest ≡ []) ⊎ IsPart plan i rest
 
 -- with a rest of so many fragments
@@ -48,7 +45,7 @@ pub record ReadsLeaving (plan : PlanNo) (i : TheInterface) (frags : List Frag) (
 abbrev pub IsWrong : PlanNo → TheInterface → List Frag → Type 0
 IsWrong plan i frags =
     (calls : List TheCall) (more : List Frag) → AllFit i calls
-    → flat_map (frags_of plan i) calls ≡ map plain frags ++ more → ⊥
+    → flat_map (frags_of plan i) calls ≡ map bare frags ++ more → ⊥
 
 -- fragments, with epoch 0 and nothing told, that are empty or some of the first of a fitting call
 pub record Starts (plan : PlanNo) (i : TheInterface) (frags : List Frag) (call : TheCall) : Type 0 where
@@ -74,3 +71,7 @@ NoneBeginsWithAnother = (plan : PlanNo) (i : TheInterface) (c d : TheCall) → i
 abbrev pub ReadsOnce : Type 0
 ReadsOnce = (plan : PlanNo) (i : TheInterface) (frags : List Frag) (cs ds : List TheCall) (x y : List Frag) → interface_words_fit i ≡ true
     → Reads plan i frags cs x → Reads plan i frags ds y → (cs ≡ ds) × (x ≡ y)
+
+-- another name of `bare`, for crates that still say so
+abbrev pub plain : Frag → Frag
+plain = bare

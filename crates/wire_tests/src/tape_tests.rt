@@ -82,13 +82,13 @@ fn is_tape(
     plan: PlanNo,
 ) -> Result<bool, Fail> {
     let interface = interface(alloc, text)?;
-    Ok(unflatten(alloc, &interface, msg, tape, plan)?.is_some())
+    Ok(unflatten(alloc, msg, tape, &interface, plan)?.is_some())
 }
 
 fn tape_of(alloc: Global, row: &Row, plan: PlanNo) -> Result<Vec<u64>, Fail> {
     let interface = interface(alloc, row.text)?;
     let call = read_call(alloc, row.call, &interface)?;
-    Ok(flatten(alloc, &interface, &call, plan)?)
+    Ok(flatten(alloc, &call, &interface, plan)?)
 }
 
 #[test]

@@ -199,8 +199,8 @@ fn comes_back(alloc: Global, interface: &Interface, bytes: &[u8]) -> Result<bool
     let text = read_call_text(alloc, bytes)?;
     let call = read_call(alloc, bytes, interface)?;
     for plan in [PlanNo::One, PlanNo::Two] {
-        let tape = flatten(alloc, interface, &call, plan)?;
-        let Some(back) = unflatten(alloc, interface, call.msg, &tape, plan)? else {
+        let tape = flatten(alloc, &call, interface, plan)?;
+        let Some(back) = unflatten(alloc, call.msg, &tape, interface, plan)? else {
             return Ok(false);
         };
         let mut out = Vec::new(alloc);

@@ -1,5 +1,5 @@
 use Rattle.std.proofs.Common.{◌≡◌, ◌+◌, ◌-◌, ◌++◌, [], ◌∷◌, ℕ, List, length, map, take, drop, ltb, refl, ap, sym, ◌∙◌, arith, rules, subst, append_assoc, append-nil}
-use Rattle.std.specs.List.{count_by}
+use Rattle.std.specs.List.{count_by, zip}
 use Rattle.std.proofs.lemmas.List.{take_all, drop_all, length-drop, length-map, length_push}
 use Rattle.fl_check.specs.declared.interface.ArgType.{ArgType}
 use Rattle.fl_check.specs.Interface.{TheArgType, arg_type_of}
@@ -7,9 +7,10 @@ use Rattle.fl_value.specs.declared.value.Value.{Value}
 use Rattle.fl_value.specs.declared.value.PlanNo.{PlanNo}
 use Rattle.fl_value.specs.declared.value.PlanNo.TheVariants.{One, Two}
 use Rattle.fl_value.specs.Value.{Datum, datum_of}
-use Rattle.fl_value.specs.Ranks.{rank_of, rearranged}
+use Rattle.fl_value.specs.Plan.{arranged}
+use Rattle.fl_value.specs.Tape.{kind, values_of}
 use Rattle.fl_value.proofs.Turns.{map_pushed, map_dropped}
-use Rattle.fl_value.proofs.Ranked.{order_step, before}
+use Rattle.fl_value.proofs.Ranked.{rank, rearranged, order_step, before, seconds_arranged}
 use Rattle.fl_value.proofs.order.declared_order.Goals as goal
 
 pub loop-index-preserved : goal.loop-index-preserved
@@ -24,8 +25,8 @@ loop-index-preserved c =
     = take_all (length arguments - (index + 1)) (drop (index + 1) arguments) (omega (arith, length-drop (index + 1) arguments)) in
     let place : c.count_before-place.result ≡ before type later
     = c.count_before-place.ensures.same
-    ∙ ap (λ (r : ℕ). count_by (λ (u : TheArgType). ltb (rank_of u) r) (map arg_type_of (take (length arguments - (index + 1)) (drop (index + 1) arguments)))) c.rank_of.ensures.same
-    ∙ ap (λ (l : List ArgType). count_by (λ (u : TheArgType). ltb (rank_of u) (rank_of type)) (map arg_type_of l)) whole in
+    ∙ ap (λ (r : ℕ). count_by (λ (u : TheArgType). ltb (rank u) r) (map arg_type_of (take (length arguments - (index + 1)) (drop (index + 1) arguments)))) c.rank_of.ensures.same
+    ∙ ap (λ (l : List ArgType). count_by (λ (u : TheArgType). ltb (rank u) (rank type)) (map arg_type_of l)) whole in
     let types : map arg_type_of (drop index arguments) ≡ type ∷ later = map_dropped arg_type_of arguments index argument (omega arith) c.index-arguments-index.is in
     let values = map_pushed datum_of c.loop-index.values.items c.push.new.self.items c.remove.result c.in_ok-push.ensures.items in
     record {
@@ -63,12 +64,16 @@ returns-clause-back c =
     = ap (λ (ts : List ArgType). rearranged Two (map arg_type_of ts) []) (drop_all index arguments c.loop-index-test.false) ∙ ap (map datum_of) (sym none) in
     let all = c.loop-index.invariant.back [] (omega arith) end in
     let two : c.args.plan ≡ Two = search rules in
+    let whole : index ≡ length arguments = omega (arith, c.loop-index.invariant.many, c.loop-index-test.false) in
     let values = map datum_of c.loop-index.values.items in
-    subst (λ (plan : PlanNo). rearranged plan (map arg_type_of arguments) values ≡ map datum_of c.args.arranged.items) (sym two)
-    (ap (rearranged Two (map arg_type_of arguments)) (sym (append-nil values)) ∙ all)
+    let long = length-map c.loop-index.values.items datum_of ∙ c.loop-index.invariant.few ∙ whole ∙ sym (length-map arguments arg_type_of) in
+    subst (λ (plan : PlanNo). values_of (arranged kind plan (zip (map arg_type_of arguments) values)) ≡ map datum_of c.args.laid_out.items) (sym two)
+    (seconds_arranged Two (map arg_type_of arguments) values long ∙ ap (rearranged Two (map arg_type_of arguments)) (sym (append-nil values)) ∙ all)
 
 pub returns-then-eq-clause-back : goal.returns-then-eq-clause-back
 returns-then-eq-clause-back c =
     let one : c.args.plan ≡ One = search rules in
-    let values = map datum_of c.args.arranged.items in
-    subst (λ (plan : PlanNo). rearranged plan (map arg_type_of c.args.arguments.now) values ≡ values) (sym one) refl
+    let values = map datum_of c.args.laid_out.items in
+    let types = map arg_type_of c.args.arguments.now in
+    let long = length-map c.args.laid_out.items datum_of ∙ c.requires.as_many ∙ sym (length-map c.args.arguments.now arg_type_of) in
+    subst (λ (plan : PlanNo). values_of (arranged kind plan (zip types values)) ≡ values) (sym one) (seconds_arranged One types values long)

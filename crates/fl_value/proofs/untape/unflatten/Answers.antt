@@ -5,6 +5,7 @@ use Rattle.fl_check.specs.Interface.{TheArgType, arg_type_of, message_of, interf
 use Rattle.fl_value.specs.Value.{TheCall, datum_of}
 use Rattle.fl_value.specs.Plan.{arranged}
 use Rattle.fl_value.specs.Taken.{ArgumentAt, InTurn}
+use Rattle.fl_value.proofs.Ranked.{seconds_arranged}
 use Rattle.fl_value.proofs.Untaped.{as_many, all_types, call_found, call_only, call_none, call_past, is_empty, message_at}
 use Rattle.fl_value.proofs.untape.unflatten.Goals as goal
 
@@ -63,7 +64,7 @@ returns-clause-some c =
     let end = is_empty c.in-Some-2.rest.now (eqb-true (length c.in-Some-2.rest.now) 0 (sym c.if-not-is_empty.ensures)) in
     let stands = subst (λ (l : List ℕ). InTurn ArgumentAt (arranged (λ (t : TheArgType). t) c.args.plan types) c.args.tape.now read l) end one.stands in
     let many = length-map c.in_ok-args.args.items datum_of ∙ c.in_ok-args.ensures.many ∙ ap length c.deref-3.ensures.value ∙ sym (length-map c.in-Some.message.now.args.items arg_type_of) in
-    let back = rw c.deref-3.ensures.value at c.in_ok-args.ensures.back in
+    let back = sym (seconds_arranged c.args.plan types (map datum_of c.in_ok-args.args.items) many) ∙ (rw c.deref-3.ensures.value at c.in_ok-args.ensures.back) in
     call_found c.args.plan i m c.args.msg.0 c.args.tape.now read (map datum_of c.in_ok-args.args.items) here stands many back
 
 pub returns-clause-only : goal.returns-clause-only
@@ -74,5 +75,6 @@ returns-clause-only c = λ other h.
     let here = message_at c.args.interface.now.messages.items c.deref.result.now c.args.msg.0 c.from.result c.in-Some.message.now c.from.ensures c.deref.ensures.value c.in-Some.ensures.lookup.0 c.in-Some.ensures.lookup.1 in
     let one = rw (c.in-Some-2.is, c.deref-2.ensures.value) at c.in_ok-arranged.ensures.found in
     let many = length-map c.in_ok-args.args.items datum_of ∙ c.in_ok-args.ensures.many ∙ ap length c.deref-3.ensures.value ∙ sym (length-map c.in-Some.message.now.args.items arg_type_of) in
-    let back = rw c.deref-3.ensures.value at c.in_ok-args.ensures.back in
+    let types = map arg_type_of c.in-Some.message.now.args.items in
+    let back = sym (seconds_arranged c.args.plan types (map datum_of c.in_ok-args.args.items) many) ∙ (rw c.deref-3.ensures.value at c.in_ok-args.ensures.back) in
     ap (λ (v : TheCall). Some v) (call_only c.args.plan i m c.args.msg.0 c.args.tape.now read (map datum_of c.in_ok-args.args.items) c.in-Some-2.rest.now here one many back other h)

@@ -1,21 +1,21 @@
-use Rattle.std.proofs.Common.{◌≡◌, ◌+◌, ◌++◌, [], ◌∷◌, List, suc, map, take, drop, filter, true, false, sym, subst, ap, ◌∙◌, append_assoc, append-nil}
-use Rattle.std.proofs.lemmas.Bool.{cond-true, cond-false}
+use Rattle.std.proofs.Common.{◌≡◌, ◌+◌, ◌++◌, [], ◌∷◌, List, suc, map, take, drop, filter, eqb, eq-eqb, true, false, sym, subst, ap, ◌∙◌, append_assoc, append-nil}
+use Rattle.std.proofs.lemmas.Bool.{cond-true, cond-false, ne_eqb}
 use Rattle.std.proofs.lemmas.List.{take_all}
 use Rattle.fl_check.specs.declared.interface.ArgType.{ArgType}
 use Rattle.fl_check.specs.Interface.{TheArgType, arg_type_of}
 use Rattle.fl_value.specs.Value.{Datum, datum_of}
-use Rattle.fl_value.specs.Groups.{in_group}
-use Rattle.fl_value.specs.Taken.{ArgumentAt, InTurn, TheOne, NoneOf}
+use Rattle.fl_value.specs.Plan.{rank_of}
+use Rattle.fl_value.specs.Taken.{ArgumentAt, InTurn, TheOne, NoneOf, types_of_rank}
 use Rattle.fl_value.proofs.Turns.{one_more, none_more, map_pushed, filter_taken, filter_around}
-use Rattle.fl_value.proofs.untape.read_group.Goals as goal
+use Rattle.fl_value.proofs.untape.read_rank.Goals as goal
 
 pub loop-argument-preserved : goal.loop-argument-preserved
 loop-argument-preserved c = λ done whole start.
     let argument = c.argument-item.result in
     let type = arg_type_of argument in
-    let test = in_group c.args.group in
+    let test = λ (t : TheArgType). eqb (rank_of c.args.plan t) c.args.rank in
     let before = filter test (map arg_type_of (take c.loop-argument.argument-index c.args.arguments.now)) in
-    let passes : test type ≡ true = sym c.is_in_group.ensures.same ∙ c.if-not-is_in_group.false in
+    let passes : test type ≡ true = eq-eqb (rank_of c.args.plan type) c.args.rank (sym c.rank_of.ensures.same ∙ c.if-rank_of-rank.false) in
     let found = rw c.in-Some.is at c.in_ok-value.ensures.found in
     let more = one_more ArgumentAt (done ++ before) type whole (map datum_of c.loop-argument.values.items) c.loop-argument.rest.now (datum_of c.in-Some.value) c.in-Some.after.now (c.loop-argument.invariant done whole start) found in
     let single : filter test (type ∷ []) ≡ type ∷ [] = cond-true (test type) (type ∷ []) [] passes in
@@ -30,10 +30,10 @@ pub returns-in_default-clause-none : goal.returns-in_default-clause-none
 returns-in_default-clause-none c = λ done whole start.
     let argument = c.argument-item.result in
     let type = arg_type_of argument in
-    let test = in_group c.args.group in
+    let test = λ (t : TheArgType). eqb (rank_of c.args.plan t) c.args.rank in
     let before = filter test (map arg_type_of (take c.loop-argument.argument-index c.args.arguments.now)) in
     let others = map arg_type_of (drop (suc c.loop-argument.argument-index) c.args.arguments.now) in
-    let passes : test type ≡ true = sym c.is_in_group.ensures.same ∙ c.if-not-is_in_group.false in
+    let passes : test type ≡ true = eq-eqb (rank_of c.args.plan type) c.args.rank (sym c.rank_of.ensures.same ∙ c.if-rank_of-rank.false) in
     let none = rw c.in_default.is at c.in_ok-value.ensures.none in
     let nothing = none_more ArgumentAt (done ++ before) type (filter test others) whole (map datum_of c.loop-argument.values.items) c.loop-argument.rest.now (c.loop-argument.invariant done whole start) none in
     let behind : filter test (type ∷ others) ≡ type ∷ filter test others = cond-true (test type) (type ∷ filter test others) (filter test others) passes in
@@ -46,13 +46,13 @@ pub loop-argument-init : goal.loop-argument-init
 loop-argument-init c = λ done whole start.
     subst (λ (ts : List TheArgType). TheOne (InTurn ArgumentAt ts whole) (map datum_of c.args.before.items) c.args.tape.now) (sym (append-nil done)) start
 
-pub loop-argument-preserved-then-not-is_in_group : goal.loop-argument-preserved-then-not-is_in_group
-loop-argument-preserved-then-not-is_in_group c = λ done whole start.
+pub loop-argument-preserved-then-rank_of-rank : goal.loop-argument-preserved-then-rank_of-rank
+loop-argument-preserved-then-rank_of-rank c = λ done whole start.
     let argument = c.argument-item.result in
     let type = arg_type_of argument in
-    let test = in_group c.args.group in
+    let test = λ (t : TheArgType). eqb (rank_of c.args.plan t) c.args.rank in
     let before = filter test (map arg_type_of (take c.loop-argument.argument-index c.args.arguments.now)) in
-    let fails : test type ≡ false = sym c.is_in_group.ensures.same ∙ c.if-not-is_in_group.true in
+    let fails : test type ≡ false = ne_eqb (rank_of c.args.plan type) c.args.rank (λ e. c.if-rank_of-rank.true (c.rank_of.ensures.same ∙ e)) in
     let none : filter test (type ∷ []) ≡ [] = cond-false (test type) (type ∷ []) [] fails in
     let types : filter test (map arg_type_of (take (c.loop-argument.argument-index + 1) c.args.arguments.now)) ≡ before
     = filter_taken test arg_type_of c.args.arguments.now c.loop-argument.argument-index argument c.loop-argument-test.true c.argument-item.is ∙ ap (λ (ts : List TheArgType). before ++ ts) none ∙ append-nil before in
@@ -61,4 +61,4 @@ loop-argument-preserved-then-not-is_in_group c = λ done whole start.
 pub returns-clause-found : goal.returns-clause-found
 returns-clause-found c = λ done whole start.
     let all = take_all c.loop-argument.argument-index c.args.arguments.now c.loop-argument-test.false in
-    subst (λ (ts : List ArgType). TheOne (InTurn ArgumentAt (done ++ filter (in_group c.args.group) (map arg_type_of ts)) whole) (map datum_of c.loop-argument.values.items) c.loop-argument.rest.now) all (c.loop-argument.invariant done whole start)
+    subst (λ (ts : List ArgType). TheOne (InTurn ArgumentAt (done ++ types_of_rank c.args.plan c.args.rank (map arg_type_of ts)) whole) (map datum_of c.loop-argument.values.items) c.loop-argument.rest.now) all (c.loop-argument.invariant done whole start)
