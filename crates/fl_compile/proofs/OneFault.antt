@@ -4,7 +4,7 @@ use Rattle.std.specs.Prelude.{Option, slice_get}
 use Rattle.std.proofs.lemmas.Bool.{cases_lt, false≢true}
 use Rattle.std.proofs.lemmas.List.{map-append}
 use Rattle.fl_base.specs.declared.fragment.Frag.{Frag}
-use Rattle.fl_base.specs.Control.{message_of}
+use Rattle.fl_base.specs.Control.{message_of, bare}
 use Rattle.fl_check.specs.Interface.{TheMessage, TheInterface}
 use Rattle.fl_check.specs.Checks.{is_within_limits}
 use Rattle.fl_value.specs.declared.value.PlanNo.{PlanNo}
@@ -13,7 +13,7 @@ use Rattle.fl_value.specs.Fits.{fits_of, fit_message}
 use Rattle.fl_value.specs.Tape.{tape_of}
 use Rattle.fl_layout.specs.Leaves.{leaves}
 use Rattle.fl_wire.specs.Payload.{payload_of}
-use Rattle.fl_wire.specs.Reading.{plain, IsWrong, Reads}
+use Rattle.fl_wire.specs.Reading.{IsWrong, Reads}
 use Rattle.fl_wire.specs.Shapes.{Agrees}
 use Rattle.fl_wire.specs.Words.{interface_words_fit}
 use Rattle.fl_wire.specs.Wrong.{fault_at, WrongByte, HasFault, IsWrongAt}
@@ -117,8 +117,8 @@ as_long_same (k ∷ a) (h ∷ b) c d f g e long =
 -- what begins with fragments that no calls' begin with is so too
 wrong_longer : (plan : PlanNo) (i : TheInterface) (front more frags : List Frag) → frags ≡ front ++ more → IsWrong plan i front → IsWrong plan i frags
 wrong_longer plan i front more frags is wrong calls after fit e =
-    wrong calls (map plain more ++ after) fit
-    (e ∙ ap (λ (xs : List Frag). map plain xs ++ after) is ∙ ap (λ (xs : List Frag). xs ++ after) (map-append plain front more) ∙ append_assoc (map plain front) (map plain more) after)
+    wrong calls (map bare more ++ after) fit
+    (e ∙ ap (λ (xs : List Frag). map bare xs ++ after) is ∙ ap (λ (xs : List Frag). xs ++ after) (map-append bare front more) ∙ append_assoc (map bare front) (map bare more) after)
 
 -- the place of the first fragment at fault is one
 not_before : (plan : PlanNo) (i : TheInterface) (frags : List Frag) (a b : WireFault) (x : IsWrongAt plan i frags a) (y : IsWrongAt plan i frags b) → length y.before ≤ length x.before

@@ -9,9 +9,8 @@ use Rattle.std.proofs.lemmas.List.FromFn.{length-map-range_with_len, get_or-map-
 use Rattle.std.proofs.lemmas.Option.{slice_get-map}
 use Rattle.std.proofs.lemmas.Bool.{cases_lt}
 use Rattle.fl_base.specs.declared.fragment.Frag.{Frag}
-use Rattle.fl_base.specs.Control.{control_word}
+use Rattle.fl_base.specs.Control.{control_word, body, bare}
 use Rattle.fl_wire.specs.Headers.{Line}
-use Rattle.fl_wire.specs.Reading.{plain}
 use Rattle.fl_wire.specs.Standing.{byte_in, words_in}
 use Rattle.fl_wire.proofs.Bytes.{get_made}
 use Rattle.fl_wire.proofs.Readings.{window_of, window_at, window_small, byte_small}
@@ -52,25 +51,25 @@ begun_length msg bytes k = length-map-range_with_len (frag_of true msg 0 bytes) 
 begun_more : (msg : ℕ) (bytes : List ℕ) (k : ℕ) → frags_begun msg bytes (k + 1) ≡ frags_begun msg bytes k ++ frag_of true msg 0 bytes k ∷ []
 begun_more msg bytes k = map-range_with_len_more (frag_of true msg 0 bytes) 0 k k (omega arith)
 
--- ---- they are plain
+-- ---- they are bare
 
-plain_control : (first : Bool) (msg : ℕ) → msg < 2 ^ 16 → 2 * (control_word first msg 0 / 2 % 2 ^ 47) ≡ control_word first msg 0
-plain_control true msg small = omega (arith, small)
-plain_control false msg small = omega (arith, small)
+bare_control : (first : Bool) (msg : ℕ) → msg < 2 ^ 16 → body (control_word first msg 0) ≡ control_word first msg 0
+bare_control true msg small = omega (arith, small)
+bare_control false msg small = omega (arith, small)
 
-plain_frag : (msg : ℕ) (bytes : List ℕ) (k : ℕ) → msg < 2 ^ 16 → plain (frag_of true msg 0 bytes k) ≡ frag_of true msg 0 bytes k
-plain_frag msg bytes k small =
-    let control = plain_control (true && eqb k 0) msg small in
+bare_frag : (msg : ℕ) (bytes : List ℕ) (k : ℕ) → msg < 2 ^ 16 → bare (frag_of true msg 0 bytes k) ≡ frag_of true msg 0 bytes k
+bare_frag msg bytes k small =
+    let control = bare_control (true && eqb k 0) msg small in
     λ i. record { words = map (word bytes) (range_with_len (7 * k) 7); control = control i }
 
-plain_range : (msg : ℕ) (bytes : List ℕ) (s n : ℕ) → msg < 2 ^ 16 → map plain (map (frag_of true msg 0 bytes) (range_with_len s n)) ≡ map (frag_of true msg 0 bytes) (range_with_len s n)
-plain_range msg bytes s zero small = refl
-plain_range msg bytes s (suc n) small =
-    ap (λ x. x ∷ map plain (map (frag_of true msg 0 bytes) (range_with_len (s + 1) n))) (plain_frag msg bytes s small)
-    ∙ ap (λ xs. frag_of true msg 0 bytes s ∷ xs) (plain_range msg bytes (s + 1) n small)
+bare_range : (msg : ℕ) (bytes : List ℕ) (s n : ℕ) → msg < 2 ^ 16 → map bare (map (frag_of true msg 0 bytes) (range_with_len s n)) ≡ map (frag_of true msg 0 bytes) (range_with_len s n)
+bare_range msg bytes s zero small = refl
+bare_range msg bytes s (suc n) small =
+    ap (λ x. x ∷ map bare (map (frag_of true msg 0 bytes) (range_with_len (s + 1) n))) (bare_frag msg bytes s small)
+    ∙ ap (λ xs. frag_of true msg 0 bytes s ∷ xs) (bare_range msg bytes (s + 1) n small)
 
-pub plain_begun : (msg : ℕ) (bytes : List ℕ) (k : ℕ) → msg < 2 ^ 16 → map plain (frags_begun msg bytes k) ≡ frags_begun msg bytes k
-plain_begun msg bytes k small = plain_range msg bytes 0 k small
+pub bare_begun : (msg : ℕ) (bytes : List ℕ) (k : ℕ) → msg < 2 ^ 16 → map bare (frags_begun msg bytes k) ≡ frags_begun msg bytes k
+bare_begun msg bytes k small = bare_range msg bytes 0 k small
 
 -- ---- the bytes of words
 
@@ -111,8 +110,8 @@ words_small ws p = ⊎_elim
 
 -- some fragments of a call with these bytes, and one more with those
 pub record Grown (msg : ℕ) (parts : List Frag) (f : Frag) (bytes more : List ℕ) (k : ℕ) : Type 0 where
-  pub plain_are : map plain (parts ++ f ∷ []) ≡ frags_begun msg more (k + 1)
-  pub parts_are : parts ++ plain f ∷ [] ≡ frags_begun msg more (k + 1)
+  pub bare_are : map bare (parts ++ f ∷ []) ≡ frags_begun msg more (k + 1)
+  pub parts_are : parts ++ bare f ∷ [] ≡ frags_begun msg more (k + 1)
   pub many : length (parts ++ f ∷ []) ≡ k + 1
   pub long : length more ≡ 56 * (k + 1)
   pub small : (p : ℕ) → slice_index more p < 256
@@ -147,17 +146,17 @@ small_more bytes ws k long small p = ⊎_elim
     (cases_lt p (56 * k))
 
 pub grows : (msg : ℕ) (f : Frag) (bytes : List ℕ) (k : ℕ) → msg < 2 ^ 16 → Line f → length bytes ≡ 56 * k → ((p : ℕ) → slice_index bytes p < 256)
-    → 2 * (f.control / 2 % 2 ^ 47) ≡ control_word (eqb k 0) msg 0 → Grown msg (frags_begun msg bytes k) f bytes (bytes ++ words_bytes f.words) k
+    → body f.control ≡ control_word (eqb k 0) msg 0 → Grown msg (frags_begun msg bytes k) f bytes (bytes ++ words_bytes f.words) k
 grows msg f bytes k fits line long small control =
     let more = bytes ++ words_bytes f.words in
     let words = words_are f line bytes k long in
-    let last : plain f ≡ frag_of true msg 0 more k = λ i. record { words = words i; control = control i } in
+    let last : bare f ≡ frag_of true msg 0 more k = λ i. record { words = words i; control = control i } in
     let front = follows_more bytes f.words k long in
-    let parts : frags_begun msg bytes k ++ plain f ∷ [] ≡ frags_begun msg more (k + 1)
-    = ap (λ (fs : List Frag). fs ++ plain f ∷ []) (same_begun (56 * k) msg bytes more k front (omega arith))
+    let parts : frags_begun msg bytes k ++ bare f ∷ [] ≡ frags_begun msg more (k + 1)
+    = ap (λ (fs : List Frag). fs ++ bare f ∷ []) (same_begun (56 * k) msg bytes more k front (omega arith))
     ∙ ap (λ (g : Frag). frags_begun msg more k ++ g ∷ []) last ∙ sym (begun_more msg more k) in
     record {
-      plain_are = map-append plain (frags_begun msg bytes k) (f ∷ []) ∙ ap (λ (fs : List Frag). fs ++ plain f ∷ []) (plain_begun msg bytes k fits) ∙ parts;
+      bare_are = map-append bare (frags_begun msg bytes k) (f ∷ []) ∙ ap (λ (fs : List Frag). fs ++ bare f ∷ []) (bare_begun msg bytes k fits) ∙ parts;
       parts_are = parts;
       many = length-append (frags_begun msg bytes k) (f ∷ []) ∙ omega (arith, begun_length msg bytes k);
       long = length-append bytes (words_bytes f.words) ∙ omega (arith, long, length_words f.words, line.seven);
@@ -173,10 +172,10 @@ byte_of_word xs m r p small h e =
     ∙ ap (λ (bs : List ℕ). get_or bs r 0) (le_bytes_8 (window_of xs m) (word xs m) refl (window_small xs m small) refl)
     ∙ window_at xs m r h ∙ ap (slice_index xs) e
 
-byte_plain : (frags : List Frag) (p : ℕ) → byte_in (map plain frags) p ≡ byte_in frags p
-byte_plain frags p = ap (λ (ws : List ℕ). byte_at (p % 8) (slice_index ws (p / 8 % 7))) (ap words_in (slice_get-map plain frags (p / 56)) ∙ same_words (slice_get frags (p / 56)))
+byte_bare : (frags : List Frag) (p : ℕ) → byte_in (map bare frags) p ≡ byte_in frags p
+byte_bare frags p = ap (λ (ws : List ℕ). byte_at (p % 8) (slice_index ws (p / 8 % 7))) (ap words_in (slice_get-map bare frags (p / 56)) ∙ same_words (slice_get frags (p / 56)))
   where
-    same_words : (o : Option Frag) → words_in (option_map plain o) ≡ words_in o
+    same_words : (o : Option Frag) → words_in (option_map bare o) ≡ words_in o
     same_words None = refl
     same_words (Some f) = refl
 
@@ -187,5 +186,5 @@ begun_byte msg bytes k p small inside =
     ∙ ap (byte_at (p % 8)) (get_or-map-range_with_len (word bytes) (7 * (0 + n)) 7 (p / 8 % 7) (p / 8) 0 (omega arith) (omega arith))
     ∙ byte_of_word bytes (p / 8) (p % 8) p small (omega arith) (omega arith)
 
-pub byte_of_frags : (msg : ℕ) (frags : List Frag) (bytes : List ℕ) (k p : ℕ) → map plain frags ≡ frags_begun msg bytes k → ((q : ℕ) → slice_index bytes q < 256) → p < 56 * k → byte_in frags p ≡ slice_index bytes p
-byte_of_frags msg frags bytes k p e small inside = sym (byte_plain frags p) ∙ ap (λ (fs : List Frag). byte_in fs p) e ∙ begun_byte msg bytes k p small inside
+pub byte_of_frags : (msg : ℕ) (frags : List Frag) (bytes : List ℕ) (k p : ℕ) → map bare frags ≡ frags_begun msg bytes k → ((q : ℕ) → slice_index bytes q < 256) → p < 56 * k → byte_in frags p ≡ slice_index bytes p
+byte_of_frags msg frags bytes k p e small inside = sym (byte_bare frags p) ∙ ap (λ (fs : List Frag). byte_in fs p) e ∙ begun_byte msg bytes k p small inside

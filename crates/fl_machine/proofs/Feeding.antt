@@ -1,12 +1,12 @@
 -- What taking a fragment's bytes says of the calls of its message.
-use Rattle.std.proofs.Common.{◌≡◌, ℕ, zero, suc, ◌+◌, ◌*◌, ◌/◌, ◌%◌, ◌^◌, ◌<◌, ◌≤◌, true, ⊎_elim, inl, inr, List, [], ◌∷◌, ◌++◌, map, take, length, get_or, slice_index, Some, None, Result, Ok, Err, refl, sym, ◌∙◌, ap, subst, arith, eqb, max}
+use Rattle.std.proofs.Common.{◌≡◌, ℕ, zero, suc, ◌+◌, ◌*◌, ◌/◌, ◌^◌, ◌<◌, ◌≤◌, true, ⊎_elim, inl, inr, List, [], ◌∷◌, ◌++◌, map, take, length, get_or, slice_index, Some, None, Result, Ok, Err, refl, sym, ◌∙◌, ap, subst, arith, eqb, max}
 use Rattle.std.specs.Prelude.{slice_get, Option, IfErr, IfOk}
 use Rattle.std.specs.Option.{option_map}
 use Rattle.std.specs.List.{range_with_len}
 use Rattle.std.proofs.lemmas.Bool.{cases_lt, and_parts, leb-true, false≢true}
 use Rattle.std.proofs.lemmas.Option.{slice_get_within, slice_get-get_or}
 use Rattle.fl_base.specs.declared.fragment.Frag.{Frag}
-use Rattle.fl_base.specs.Control.{control_word, message_of}
+use Rattle.fl_base.specs.Control.{control_word, message_of, body, bare}
 use Rattle.fl_check.specs.Interface.{TheMessage, TheInterface}
 use Rattle.fl_check.specs.Checks.{is_within_limits}
 use Rattle.fl_value.specs.declared.value.PlanNo.{PlanNo}
@@ -19,7 +19,7 @@ use Rattle.fl_layout.specs.Leaves.{leaves}
 use Rattle.fl_layout.specs.Places.{size, count}
 use Rattle.fl_layout.proofs.BothPlans.{length_small}
 use Rattle.fl_wire.specs.Payload.{payload_of, frags_of}
-use Rattle.fl_wire.specs.Reading.{plain, Means, IsPart, IsWrong}
+use Rattle.fl_wire.specs.Reading.{Means, IsPart, IsWrong}
 use Rattle.fl_wire.specs.Headers.{Line}
 use Rattle.fl_wire.specs.Wrong.{WrongByte, HasFault, header_fault, start_fault, follow_fault}
 use Rattle.fl_wire.specs.Words.{interface_words_fit}
@@ -52,7 +52,7 @@ use Rattle.fl_machine.specs.declared.recv.Ended.{Ended}
 use Rattle.fl_machine.specs.Sending.{frag_of, frags_holding}
 use Rattle.fl_machine.specs.Taking.{Stands, words_bytes, so_far}
 use Rattle.fl_machine.specs.Receiving.{block_for, block_at, frags_begun, parts_of, whole_of, TheHeld, TheReceiving, plan_in, interface_in, Feeds, AddsPart, AddsLast, IsRefused, HoldsTapes, IsBegun, IsEnded}
-use Rattle.fl_machine.proofs.Begun.{same_begun, begun_length, plain_begun, Grown, grows, byte_of_frags}
+use Rattle.fl_machine.proofs.Begun.{same_begun, begun_length, bare_begun, Grown, grows, byte_of_frags}
 
 -- ---- calls and what code takes
 
@@ -78,8 +78,8 @@ call_begun plan i c msg full n own bytes = ap (λ (k : ℕ). frags_begun k full 
 
 -- the fragments so far are part of a call
 pub part_of : (plan : PlanNo) (i : TheInterface) (msg : ℕ) (m : TheMessage) (all : List Frag) (bytes : List ℕ) (n : ℕ) → HasMessage i msg m
-    → map plain all ≡ frags_begun msg bytes n → length all ≡ n → length bytes ≡ 56 * n → BeginsPayload (receive plan m) bytes → IsPart plan i all
-part_of plan i msg m all bytes n has plain_are many long begins =
+    → map bare all ≡ frags_begun msg bytes n → length all ≡ n → length bytes ≡ 56 * n → BeginsPayload (receive plan m) bytes → IsPart plan i all
+part_of plan i msg m all bytes n has bare_are many long begins =
     let (c, carries) = call_of_turns plan i msg m begins.tape begins.full has begins.goes.turns in
     let longer : length bytes < length begins.full = begins.longer begins.tape begins.full begins.goes in
     let sizes = payload_size plan i c begins.full carries.bytes_are in
@@ -88,7 +88,7 @@ part_of plan i msg m all bytes n has plain_are many long begins =
       call = c;
       fits = carries.fits;
       short = omega (arith, many, short);
-      front = plain_are ∙ same_begun (length bytes) msg bytes begins.full n begins.goes.follows (omega (arith, long))
+      front = bare_are ∙ same_begun (length bytes) msg bytes begins.full n begins.goes.follows (omega (arith, long))
           ∙ call_begun plan i c msg begins.full n carries.message carries.bytes_are
           ∙ sym (front_frags plan i c n (omega (arith, short)))
           ∙ ap (λ (k : ℕ). take k (frags_of plan i c)) (sym many);
@@ -128,7 +128,7 @@ ends plan i msg m parts f bytes more tape k has grown long begins is =
       message = carries.message;
       fits = carries.fits;
       tape_is = carries.tape_is;
-      means = grown.plain_are ∙ same_begun (length more) msg more is.full (k + 1) is.goes.follows (omega (arith, grown.long))
+      means = grown.bare_are ∙ same_begun (length more) msg more is.full (k + 1) is.goes.follows (omega (arith, grown.long))
           ∙ call_begun plan i c msg is.full (k + 1) carries.message carries.bytes_are
           ∙ ap (λ (n : ℕ). frags_begun c.msg (payload_of plan i c) n) counts;
     }
@@ -147,13 +147,13 @@ wrong_byte plan i msg m parts f bytes more k mark tells has grown l =
       of = carries.message;
       fits = carries.fits;
       before = record {
-        at = λ q small. byte_of_frags msg all more (k + 1) q grown.plain_are grown.small (omega (arith, small, inside))
+        at = λ q small. byte_of_frags msg all more (k + 1) q grown.bare_are grown.small (omega (arith, small, inside))
             ∙ l.goes.follows.each q small ∙ ap (λ (bs : List ℕ). slice_index bs q) carries.bytes_are ∙ byte_of_payload (leaves plan i c) q;
       };
       none = λ d own fits agrees. l.none (tape_of plan i d) (payload_of plan i d) (record {
         turns = turns_of_call plan i msg m d has own fits;
         follows = record {
-          each = λ q small. sym (byte_of_frags msg all more (k + 1) q grown.plain_are grown.small (omega (arith, small, inside)))
+          each = λ q small. sym (byte_of_frags msg all more (k + 1) q grown.bare_are grown.small (omega (arith, small, inside)))
               ∙ agrees.at q small ∙ sym (byte_of_payload (leaves plan i d) q);
         };
       });
@@ -219,7 +219,7 @@ code_is code plan m o known h =
     ap (λ (c : TheCode). c.ops) same
 
 pub taking : (plan : PlanNo) (i : TheInterface) (tape : List ℕ) (b : Begun) (f : Frag) (code : TheCode) (ops : List Op) → is_within_limits i ≡ true → interface_words_fit i ≡ true → Line f
-    → (x : IsBegun plan i tape b) → 2 * (f.control / 2 % 2 ^ 47) ≡ control_word (eqb b.fed 0) b.msg.0 0
+    → (x : IsBegun plan i tape b) → body f.control ≡ control_word (eqb b.fed 0) b.msg.0 0
     → Some code ≡ option_map (compiled Receive plan) (slice_get i.messages b.msg.0) → ops ≡ code.ops → Taking plan i tape b f ops
 taking plan i tape b f code ops within words line x control exact lent =
     let fits = few_messages i b.msg.0 x.message within x.known in
@@ -284,7 +284,7 @@ adds_part plan i tape b f ops tape2 b2 x own fed stands begins =
     let y = goes_on plan i tape b f ops tape2 b2 x own fed stands begins in
     let has2 : HasMessage i b2.msg.0 x.message = subst (λ (n : ℕ). HasMessage i n x.message) (sym own) x.has in
     record {
-      part = part_of plan i b.msg.0 x.message (parts_of plan i tape b ++ f ∷ []) more (b.fed + 1) x.has x.grown.plain_are x.grown.many x.grown.long
+      part = part_of plan i b.msg.0 x.message (parts_of plan i tape b ++ f ∷ []) more (b.fed + 1) x.has x.grown.bare_are x.grown.many x.grown.long
           (subst (λ (k : Block). BeginsPayload k more) blocks begins);
       parts_are = shown plan i tape2 b2 y has2 ∙ ap (λ (n : ℕ). frags_begun n more b2.fed) own ∙ ap (frags_begun b.msg.0 more) fed ∙ sym x.grown.parts_are;
       whole_is = refl;
@@ -315,7 +315,7 @@ adds_last plan i tape b f ops tape2 e x own within is =
       fits = y.fits;
       means = y.means;
       parts_are = refl;
-      whole_is = whole_shown plan i tape2 e x.message (ended plan i (parts_of plan i tape b ++ f ∷ []) tape2 e within y) has2 ∙ sym y.means ∙ x.grown.plain_are ∙ sym x.grown.parts_are;
+      whole_is = whole_shown plan i tape2 e x.message (ended plan i (parts_of plan i tape b ++ f ∷ []) tape2 e within y) has2 ∙ sym y.means ∙ x.grown.bare_are ∙ sym x.grown.parts_are;
     }
 
 -- the fragment has a wrong byte
@@ -365,7 +365,7 @@ under_way plan i tape b within words some x =
     let parts = shown plan i tape b x has in
     let small = few_messages i b.msg.0 x.message within x.known in
     inr (subst (λ (fs : List Frag). IsPart plan i fs) (sym parts)
-    (part_of plan i b.msg.0 x.message (frags_begun b.msg.0 x.bytes b.fed) x.bytes b.fed has (plain_begun b.msg.0 x.bytes b.fed small) (begun_length b.msg.0 x.bytes b.fed) x.long (x.begins some)))
+    (part_of plan i b.msg.0 x.message (frags_begun b.msg.0 x.bytes b.fed) x.bytes b.fed has (bare_begun b.msg.0 x.bytes b.fed small) (begun_length b.msg.0 x.bytes b.fed) x.long (x.begins some)))
 
 first_names : (i : TheInterface) (msg : ℕ) (bytes : List ℕ) (n : ℕ) (f : Frag) → 0 < n → msg < 2 ^ 16 → header_fault i (frags_begun msg bytes n) f ≡ follow_fault msg f
 first_names i msg bytes zero f some small = absurd (omega (arith, some))
@@ -414,4 +414,4 @@ means_whole plan i tape e c within words x h =
     let (m, named) = fits_message (slice_get i.messages c.msg) c.args h.fits in
     let known : slice_get i.messages e.msg.0 ≡ Some m = ap (slice_get i.messages) (sym h.message) ∙ named in
     let y : IsEnded plan i tape e = record { call = c; message = h.message; fits = h.fits; within = x.within; tape_is = h.whole } in
-    ap (map plain) (whole_shown plan i tape e m y (has_message i e.msg.0 m within words known)) ∙ plain_begun c.msg (payload_of plan i c) (count plan i c) (few_messages i c.msg m within named)
+    ap (map bare) (whole_shown plan i tape e m y (has_message i e.msg.0 m within words known)) ∙ bare_begun c.msg (payload_of plan i c) (count plan i c) (few_messages i c.msg m within named)

@@ -8,4 +8,4 @@ pub mod Spans
 pub mod Feeding
 pub mod Storing
 pub mod Rounds
-pub mod OffCircuits
+pub mod Circuits

@@ -1,14 +1,15 @@
 -- A call's fragments, fed one after another.
-use Rattle.std.proofs.Common.{◌≡◌, ℕ, suc, ◌+◌, ◌*◌, ◌/◌, ◌%◌, ◌^◌, ◌<◌, true, List, [], ◌∷◌, ◌++◌, map, take, length, Result, Ok, Err, refl, sym, ◌∙◌, ap, subst, arith, append_assoc}
+use Rattle.std.proofs.Common.{◌≡◌, ℕ, suc, ◌+◌, ◌<◌, true, List, [], ◌∷◌, ◌++◌, map, take, length, Result, Ok, Err, refl, sym, ◌∙◌, ap, subst, arith, append_assoc}
 use Rattle.std.proofs.lemmas.List.{length-append, length-map, map-append, append-nil, take_at}
 use Rattle.fl_base.specs.declared.fragment.Frag.{Frag}
+use Rattle.fl_base.specs.Control.{body, bare}
 use Rattle.fl_check.specs.Interface.{TheInterface}
 use Rattle.fl_value.specs.declared.value.PlanNo.{PlanNo}
 use Rattle.fl_value.specs.Value.{TheCall}
 use Rattle.fl_value.specs.Fits.{fits_of}
 use Rattle.fl_layout.specs.Places.{count}
 use Rattle.fl_wire.specs.Payload.{frags_of}
-use Rattle.fl_wire.specs.Reading.{plain, Means, IsPart}
+use Rattle.fl_wire.specs.Reading.{Means, IsPart}
 use Rattle.fl_wire.specs.Words.{interface_words_fit}
 use Rattle.fl_wire.specs.declared.fault.WireFault.{WireFault}
 use Rattle.fl_wire.proofs.Readings.{length_frags, count_positive, begins_with}
@@ -20,41 +21,41 @@ use Rattle.fl_machine.specs.Receiving.{TheReceiving, plan_in, interface_in}
 use Rattle.fl_machine.specs.Rounds.{FeedsAll, whole_at_last, TakesFragments}
 use Rattle.fl_machine.proofs.Feeding.{part_right, whole_right}
 
-plain_twice : (f : Frag) → plain (plain f) ≡ plain f
-plain_twice f =
-    let control : 2 * (2 * (f.control / 2 % 2 ^ 47) / 2 % 2 ^ 47) ≡ 2 * (f.control / 2 % 2 ^ 47) = omega arith in
+bare_twice : (f : Frag) → bare (bare f) ≡ bare f
+bare_twice f =
+    let control : body (body f.control) ≡ body f.control = omega arith in
     λ i. record { words = f.words; control = control i }
 
-plain_all_twice : (frags : List Frag) → map plain (map plain frags) ≡ map plain frags
-plain_all_twice [] = refl
-plain_all_twice (f ∷ frags) = ap (λ (g : Frag). g ∷ map plain (map plain frags)) (plain_twice f) ∙ ap (λ (gs : List Frag). plain f ∷ gs) (plain_all_twice frags)
+bare_all_twice : (frags : List Frag) → map bare (map bare frags) ≡ map bare frags
+bare_all_twice [] = refl
+bare_all_twice (f ∷ frags) = ap (λ (g : Frag). g ∷ map bare (map bare frags)) (bare_twice f) ∙ ap (λ (gs : List Frag). bare f ∷ gs) (bare_all_twice frags)
 
 -- the fragments so far, with one more, in front of those that are left
 pub record Fronts (plan : PlanNo) (i : TheInterface) (c : TheCall) (parts : List Frag) (f : Frag) (rest : List Frag) : Type 0 where
-  pub joined : map plain (parts ++ f ∷ []) ++ map plain rest ≡ frags_of plan i c
-  pub long : length (map plain (parts ++ f ∷ [])) + length rest ≡ count plan i c
+  pub joined : map bare (parts ++ f ∷ []) ++ map bare rest ≡ frags_of plan i c
+  pub long : length (map bare (parts ++ f ∷ [])) + length rest ≡ count plan i c
 
-fronts : (plan : PlanNo) (i : TheInterface) (c : TheCall) (parts done : List Frag) (f : Frag) (rest : List Frag) → parts ≡ map plain done → map plain (done ++ f ∷ rest) ≡ frags_of plan i c
+fronts : (plan : PlanNo) (i : TheInterface) (c : TheCall) (parts done : List Frag) (f : Frag) (rest : List Frag) → parts ≡ map bare done → map bare (done ++ f ∷ rest) ≡ frags_of plan i c
     → Fronts plan i c parts f rest
 fronts plan i c parts done f rest e is =
-    let first : map plain (parts ++ f ∷ []) ≡ map plain (done ++ f ∷ [])
-    = map-append plain parts (f ∷ []) ∙ ap (λ (fs : List Frag). map plain fs ++ plain f ∷ []) e ∙ ap (λ (fs : List Frag). fs ++ plain f ∷ []) (plain_all_twice done) ∙ sym (map-append plain done (f ∷ [])) in
-    let joined : map plain (parts ++ f ∷ []) ++ map plain rest ≡ frags_of plan i c
-    = ap (λ (fs : List Frag). fs ++ map plain rest) first ∙ sym (map-append plain (done ++ f ∷ []) rest) ∙ ap (map plain) (append_assoc done (f ∷ []) rest) ∙ is in
-    let all : length (map plain (parts ++ f ∷ [])) + length (map plain rest) ≡ count plan i c
-    = sym (length-append (map plain (parts ++ f ∷ [])) (map plain rest)) ∙ ap length joined ∙ length_frags plan i c in
-    record { joined = joined; long = omega (arith, all, length-map rest plain) }
+    let first : map bare (parts ++ f ∷ []) ≡ map bare (done ++ f ∷ [])
+    = map-append bare parts (f ∷ []) ∙ ap (λ (fs : List Frag). map bare fs ++ bare f ∷ []) e ∙ ap (λ (fs : List Frag). fs ++ bare f ∷ []) (bare_all_twice done) ∙ sym (map-append bare done (f ∷ [])) in
+    let joined : map bare (parts ++ f ∷ []) ++ map bare rest ≡ frags_of plan i c
+    = ap (λ (fs : List Frag). fs ++ map bare rest) first ∙ sym (map-append bare (done ++ f ∷ []) rest) ∙ ap (map bare) (append_assoc done (f ∷ []) rest) ∙ is in
+    let all : length (map bare (parts ++ f ∷ [])) + length (map bare rest) ≡ count plan i c
+    = sym (length-append (map bare (parts ++ f ∷ [])) (map bare rest)) ∙ ap length joined ∙ length_frags plan i c in
+    record { joined = joined; long = omega (arith, all, length-map rest bare) }
 
 -- with others left they are part of the call, and not a call's own
 front_part : (plan : PlanNo) (i : TheInterface) (c : TheCall) (parts : List Frag) (f g : Frag) (rest : List Frag) → fits_of i c ≡ true → Fronts plan i c parts f (g ∷ rest) → IsPart plan i (parts ++ f ∷ [])
 front_part plan i c parts f g rest fits x =
     let all = parts ++ f ∷ [] in
-    let few = length-map all plain in
+    let few = length-map all bare in
     record {
       call = c;
       fits = fits;
       short = omega (arith, x.long, few);
-      front = sym (take_at (map plain all) (map plain (g ∷ rest)) (length all) few) ∙ ap (take (length all)) x.joined;
+      front = sym (take_at (map bare all) (map bare (g ∷ rest)) (length all) few) ∙ ap (take (length all)) x.joined;
     }
 
 not_whole : (plan : PlanNo) (i : TheInterface) (c d : TheCall) (parts : List Frag) (f g : Frag) (rest : List Frag) → interface_words_fit i ≡ true → fits_of i c ≡ true → fits_of i d ≡ true
@@ -63,7 +64,7 @@ unfolding front_part
 not_whole plan i c d parts f g rest words fc fd x means =
     let all = parts ++ f ∷ [] in
     let part = front_part plan i c parts f g rest fc x in
-    let many : length all ≡ count plan i d = sym (length-map all plain) ∙ ap length means ∙ length_frags plan i d in
+    let many : length all ≡ count plan i d = sym (length-map all bare) ∙ ap length means ∙ length_frags plan i d in
     let short : length all < count plan i c = part.short in
     let same : d ≡ c = begins_with plan i d c words fd fc (omega (arith, many, short)) (sym means ∙ part.front ∙ ap (λ (n : ℕ). take n (frags_of plan i c)) many) in
     let counts : count plan i d ≡ count plan i c = ap (count plan i) same in
@@ -71,12 +72,12 @@ not_whole plan i c d parts f g rest words fc fd x means =
 
 -- with none left they are the call's own, and not part of a call
 front_whole : (plan : PlanNo) (i : TheInterface) (c : TheCall) (parts : List Frag) (f : Frag) → Fronts plan i c parts f [] → Means plan i (parts ++ f ∷ []) c 0
-front_whole plan i c parts f x = sym (append-nil (map plain (parts ++ f ∷ []))) ∙ x.joined
+front_whole plan i c parts f x = sym (append-nil (map bare (parts ++ f ∷ []))) ∙ x.joined
 
 not_part : (plan : PlanNo) (i : TheInterface) (c : TheCall) (all : List Frag) → interface_words_fit i ≡ true → fits_of i c ≡ true → Means plan i all c 0 → IsPart plan i all → ⊥
 not_part plan i c all words fits means part =
     let d = part.call in
-    let many : length all ≡ count plan i c = sym (length-map all plain) ∙ ap length means ∙ length_frags plan i c in
+    let many : length all ≡ count plan i c = sym (length-map all bare) ∙ ap length means ∙ length_frags plan i c in
     let same : c ≡ d = begins_with plan i c d words fits part.fits (omega (arith, many, part.short)) (sym means ∙ part.front ∙ ap (λ (n : ℕ). take n (frags_of plan i d)) many) in
     absurd (omega (arith, many, part.short, ap (count plan i) same))
 
@@ -90,8 +91,8 @@ pub record Took (p : Program) (c : TheCall) (n : ℕ) (answers : List (Result Fe
   pub program : t.program ≡ p
 
 -- the parts of a run with a fragment more, without their epochs
-more_plain : (parts done : List Frag) (f : Frag) → parts ≡ map plain done → parts ++ plain f ∷ [] ≡ map plain (done ++ f ∷ [])
-more_plain parts done f e = ap (λ (fs : List Frag). fs ++ plain f ∷ []) e ∙ sym (map-append plain done (f ∷ []))
+more_bare : (parts done : List Frag) (f : Frag) → parts ≡ map bare done → parts ++ bare f ∷ [] ≡ map bare (done ++ f ∷ [])
+more_bare parts done f e = ap (λ (fs : List Frag). fs ++ bare f ∷ []) e ∙ sym (map-append bare done (f ∷ []))
 
 abbrev plan_of : Program → PlanNo
 plan_of p = (program_of p).plan
@@ -99,8 +100,8 @@ plan_of p = (program_of p).plan
 abbrev interface_of_program : Program → TheInterface
 interface_of_program p = (program_of p).interface
 
-rounds : (s t : TheReceiving) (c : TheCall) (done : List Frag) (f : Frag) (rest : List Frag) (answers : List (Result Fed WireFault)) → interface_words_fit (interface_in s) ≡ true → s.parts ≡ map plain done
-    → fits_of (interface_in s) c ≡ true → map plain (done ++ f ∷ rest) ≡ frags_of (plan_in s) (interface_in s) c → FeedsAll s (f ∷ rest) answers t → Took s.program c (suc (length rest)) answers t
+rounds : (s t : TheReceiving) (c : TheCall) (done : List Frag) (f : Frag) (rest : List Frag) (answers : List (Result Fed WireFault)) → interface_words_fit (interface_in s) ≡ true → s.parts ≡ map bare done
+    → fits_of (interface_in s) c ≡ true → map bare (done ++ f ∷ rest) ≡ frags_of (plan_in s) (interface_in s) c → FeedsAll s (f ∷ rest) answers t → Took s.program c (suc (length rest)) answers t
 rounds s t c done f [] (Ok Part ∷ answers) words parts fits is (u, (adds, on), left) =
     let x = fronts (plan_in s) (interface_in s) c s.parts done f [] parts is in
     absurd (not_part (plan_in s) (interface_in s) c (s.parts ++ f ∷ []) words fits (front_whole (plan_in s) (interface_in s) c s.parts f x) adds.part)
@@ -110,7 +111,7 @@ rounds s t c done f [] (Err fault ∷ answers) words parts fits is (u, (refused,
 rounds s t c done f [] (Ok Whole ∷ []) words parts fits is (u, (adds, on), left) = record {
   answers_are = refl;
   parts_are = ap (λ (r : TheReceiving). r.parts) left ∙ adds.parts_are;
-  whole_is = ap (λ (r : TheReceiving). r.whole) left ∙ adds.whole_is ∙ more_plain s.parts done f parts ∙ is;
+  whole_is = ap (λ (r : TheReceiving). r.whole) left ∙ adds.whole_is ∙ more_bare s.parts done f parts ∙ is;
   program = ap (λ (r : TheReceiving). r.program) left ∙ on.program;
 }
 rounds s t c done f [] (Ok Whole ∷ r ∷ answers) words parts fits is (u, (adds, on), left) = absurd left
@@ -124,9 +125,9 @@ rounds s t c done f (g ∷ rest) (Ok Part ∷ answers) words parts fits is (u, (
     let same = on.program in
     let more = rounds u t c (done ++ f ∷ []) g rest answers
     (subst (λ (p : Program). interface_words_fit (interface_of_program p) ≡ true) (sym same) words)
-    (adds.parts_are ∙ more_plain s.parts done f parts)
+    (adds.parts_are ∙ more_bare s.parts done f parts)
     (subst (λ (p : Program). fits_of (interface_of_program p) c ≡ true) (sym same) fits)
-    (ap (map plain) (append_assoc done (f ∷ []) (g ∷ rest)) ∙ subst (λ (p : Program). map plain (done ++ f ∷ g ∷ rest) ≡ frags_of (plan_of p) (interface_of_program p) c) (sym same) is)
+    (ap (map bare) (append_assoc done (f ∷ []) (g ∷ rest)) ∙ subst (λ (p : Program). map bare (done ++ f ∷ g ∷ rest) ≡ frags_of (plan_of p) (interface_of_program p) c) (sym same) is)
     left in
     record {
       answers_are = ap (λ (rs : List (Result Fed WireFault)). Ok Part ∷ rs) more.answers_are;
@@ -138,7 +139,7 @@ rounds s t c done f rest [] words parts fits is left = absurd left
 
 -- what is whole means no other call
 only_call : (plan : PlanNo) (i : TheInterface) (c d : TheCall) (whole : List Frag) → interface_words_fit i ≡ true → fits_of i c ≡ true → fits_of i d ≡ true
-    → map plain whole ≡ frags_of plan i c → Means plan i whole d 0 → d ≡ c
+    → map bare whole ≡ frags_of plan i c → Means plan i whole d 0 → d ≡ c
 only_call plan i c d whole words fc fd is means =
     let both : frags_of plan i d ≡ frags_of plan i c = sym means ∙ is in
     let counts : count plan i d ≡ count plan i c = sym (length_frags plan i d) ∙ ap length both ∙ length_frags plan i c in
@@ -159,5 +160,5 @@ takes_fragments s t c (f ∷ rest) answers words parts fits means left =
       whole_is = x.whole_is;
       program = x.program;
       only = λ d own other. only_call (plan_in s) (interface_in s) c d t.whole words fits own
-          (ap (map plain) (x.whole_is ∙ sym means) ∙ plain_all_twice (f ∷ rest) ∙ means) other;
+          (ap (map bare) (x.whole_is ∙ sym means) ∙ bare_all_twice (f ∷ rest) ∙ means) other;
     }

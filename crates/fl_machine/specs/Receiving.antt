@@ -1,15 +1,17 @@
 -- What a run of receive code was fed: fragments, each list a function of what the run stores.
-use Rattle.std.specs.Prelude.{◌≡◌, ◌⊎◌, ℕ, ◌*◌, ◌<◌, ◌≤◌, true, if◌then◌else◌, List, [], ◌∷◌, ◌++◌, map, take, length, slice_get, slice_index, Option, Some, None, Result, Ok, Err}
+use Rattle.std.specs.Prelude.{◌≡◌, ◌⊎◌, ℕ, ◌*◌, ◌<◌, ◌≤◌, true, if◌then◌else◌, List, [], ◌∷◌, ◌++◌, map, take, length}
+use Rattle.std.specs.Prelude.{slice_get, slice_index, Option, Some, None, Result, Ok, Err}
 use Rattle.std.specs.Option.{option_map}
 use Rattle.std.specs.List.{range_with_len}
 use Rattle.fl_base.specs.declared.fragment.Frag.{Frag}
+use Rattle.fl_base.specs.Control.{bare}
 use Rattle.fl_check.specs.Interface.{TheMessage, TheInterface}
 use Rattle.fl_value.specs.declared.value.PlanNo.{PlanNo}
 use Rattle.fl_value.specs.Value.{TheCall}
 use Rattle.fl_value.specs.Fits.{fits_of}
 use Rattle.fl_value.specs.Tape.{tape_of}
 use Rattle.fl_layout.specs.Layouts.{tape_length}
-use Rattle.fl_wire.specs.Reading.{plain, Means, IsPart, IsWrong}
+use Rattle.fl_wire.specs.Reading.{Means, IsPart, IsWrong}
 use Rattle.fl_wire.specs.Wrong.{HasFault}
 use Rattle.fl_wire.specs.declared.fault.WireFault.{WireFault}
 use Rattle.fl_stub.specs.declared.op.Column.TheVariants.{Receive}
@@ -18,7 +20,7 @@ use Rattle.fl_stub.specs.Given.{bytes_given}
 use Rattle.fl_stub.specs.Streams.{BeginsPayload}
 use Rattle.fl_compile.specs.Compiled.{message_block, message_code}
 use Rattle.fl_compile.specs.declared.program.Program.{Program}
-use Rattle.fl_compile.specs.Programs.{program_of}
+use Rattle.fl_compile.specs.Programs.{TheProgram, program_of}
 use Rattle.fl_machine.specs.Sending.{frag_of, frags_holding}
 use Rattle.fl_machine.specs.Taking.{Stands, so_far}
 use Rattle.fl_machine.specs.declared.recv.Begun.{Begun}
@@ -109,7 +111,7 @@ receiving program s = record {
 -- the fragment goes on with a call, and doesn't end it
 pub record AddsPart (plan : PlanNo) (i : TheInterface) (parts : List Frag) (f : Frag) (t : TheHeld) : Type 0 where
   pub part : IsPart plan i (parts ++ f ∷ [])
-  pub parts_are : t.parts ≡ parts ++ plain f ∷ []
+  pub parts_are : t.parts ≡ parts ++ bare f ∷ []
   pub whole_is : t.whole ≡ []
 
 -- the fragment makes a fitting call whole
@@ -118,7 +120,7 @@ pub record AddsLast (plan : PlanNo) (i : TheInterface) (parts : List Frag) (f : 
   pub fits : fits_of i call ≡ true
   pub means : Means plan i (parts ++ f ∷ []) call 0
   pub parts_are : t.parts ≡ []
-  pub whole_is : t.whole ≡ parts ++ plain f ∷ []
+  pub whole_is : t.whole ≡ parts ++ bare f ∷ []
 
 -- the fragment can't follow, and why
 pub record IsRefused (plan : PlanNo) (i : TheInterface) (parts : List Frag) (f : Frag) (fault : WireFault) : Type 0 where
@@ -140,6 +142,9 @@ Feeds s f (Err fault) t = IsRefused (plan_in s) (interface_in s) s.parts f fault
 abbrev pub undone : TheReceiving → Option TheHeld → TheReceiving
 undone r None = r
 undone r (Some b) = record { program = r.program; parts = b.parts; whole = b.whole; before = None }
+
+abbrev pub Undoes : TheReceiving → TheReceiving → Type 0
+Undoes r s = s ≡ undone r r.before
 
 -- ---- what a run knows
 
@@ -199,3 +204,21 @@ pub record IsStored (plan : PlanNo) (i : TheInterface) (s : TheStored) : Type 0 
   pub fresh : HoldsTapes plan i (length s.fresh)
   pub stand : IsStand plan i s.tape s.stand
   pub before : IsBefore plan i s.tape s.spare (numbers_in s.stand) s.before
+
+-- ---- the same, of a program
+
+abbrev pub parts_in : TheProgram → List ℕ → Begun → List Frag
+parts_in p tape b = parts_of p.plan p.interface tape b
+
+abbrev pub StandsIn : TheProgram → List ℕ → Stand → Type 0
+StandsIn p tape stand = IsStand p.plan p.interface tape stand
+
+-- what feeding a fragment comes to, where the run then stands so on a tape
+abbrev pub AddsUpTo : TheProgram → List Frag → Frag → List ℕ → Stand → Type 0
+AddsUpTo p parts f tape stand = Adds p.plan p.interface parts f (fed_of p.plan p.interface tape stand) stand
+
+abbrev pub HasFaultIn : TheProgram → List Frag → Frag → WireFault → Type 0
+HasFaultIn p parts f fault = HasFault p.plan p.interface parts f fault
+
+abbrev pub IsRefusedIn : TheProgram → List Frag → Frag → WireFault → Type 0
+IsRefusedIn p parts f fault = IsRefused p.plan p.interface parts f fault

@@ -1,9 +1,6 @@
 -- Fragments fed to a receive run one after another.
-use Rattle.std.specs.Prelude.{◌≡◌, ℕ, zero, suc, ◌-◌, ◌*◌, ◌^◌, ◌<◌, true, List, [], ◌∷◌, map, length, Result, Ok}
+use Rattle.std.specs.Prelude.{◌≡◌, ℕ, zero, suc, true, List, [], ◌∷◌, length, Result, Ok}
 use Rattle.fl_base.specs.declared.fragment.Frag.{Frag}
-use Rattle.fl_base.specs.Control.{circuit_of}
-use Rattle.fl_check.specs.Interface.{TheInterface}
-use Rattle.fl_value.specs.declared.value.PlanNo.{PlanNo}
 use Rattle.fl_value.specs.Value.{TheCall}
 use Rattle.fl_value.specs.Fits.{fits_of}
 use Rattle.fl_wire.specs.Payload.{frags_of}
@@ -39,13 +36,3 @@ abbrev pub TakesFragments : Type 0
 TakesFragments = (s t : TheReceiving) (c : TheCall) (frags : List Frag) (answers : List (Result Fed WireFault))
     → interface_words_fit (interface_in s) ≡ true → s.parts ≡ [] → fits_of (interface_in s) c ≡ true
     → Means (plan_in s) (interface_in s) frags c 0 → FeedsAll s frags answers t → TakesCall s c frags answers t
-
--- the fragment with its circuit set to 0
-abbrev pub off_circuit : Frag → Frag
-off_circuit f = record { words = f.words; control = f.control - 2 ^ 32 * circuit_of f.control }
-
--- fragments that mean a call on a circuit mean it off links once their circuit is set to 0, whatever their epochs and the
--- counts told
-abbrev pub OffCircuits : Type 0
-OffCircuits = (circuit : ℕ) (plan : PlanNo) (i : TheInterface) (c : TheCall) (frags : List Frag)
-    → circuit < 2 ^ 16 → c.msg < 2 ^ 16 → Means plan i frags c circuit → Means plan i (map off_circuit frags) c 0

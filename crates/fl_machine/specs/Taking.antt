@@ -1,14 +1,17 @@
 -- A run of receive code that stands between two bytes of a call.
-use Rattle.std.specs.Prelude.{◌≡◌, ◌≢◌, ℕ, suc, ◌+◌, ◌%◌, ◌^◌, ◌<◌, ◌≤◌, ◌⊎◌, true, false, List, [], ◌∷◌, ◌++◌, flat_map, length, slice_get, slice_index, slice_index_or, slice_set, ◌-◌, Some}
+use Rattle.std.specs.Prelude.{◌≡◌, ◌≢◌, ℕ, suc, ◌+◌, ◌-◌, ◌%◌, ◌^◌, ◌<◌, ◌≤◌, ◌⊎◌, true, false, List, [], ◌∷◌, ◌++◌}
+use Rattle.std.specs.Prelude.{flat_map, take, drop, length, slice_get, slice_index, slice_index_or, slice_set, Some}
 use Rattle.fl_stub.specs.declared.op.Op.{Op}
 use Rattle.fl_stub.specs.declared.op.Op.TheVariants.{Back}
+use Rattle.fl_stub.specs.declared.mark.Mark.{Mark}
 use Rattle.fl_stub.specs.declared.mark.Mark.TheVariants.{Length}
 use Rattle.fl_machine.specs.declared.cursor.Loop.{Loop}
 use Rattle.fl_stub.specs.Frames.{block_of}
 use Rattle.fl_stub.specs.Meaning.{number_bytes}
 use Rattle.fl_stub.specs.Given.{bytes_given}
-use Rattle.fl_stub.specs.Streams.{Follows}
-use Rattle.fl_stub.specs.Rests.{TheField, Rest, rest_all, rest_from, Reaches, LeadsTo, IsPartOfField, IsStance, steps_left, left_behind, is_taken, taken_field, is_silent}
+use Rattle.fl_stub.specs.Streams.{Follows, BeginsPayload, IsPayload, LeavesPayloads}
+use Rattle.fl_stub.specs.Rests.{TheField, Rest, rest_all, rest_from, steps_left, left_behind, is_taken, taken_field, is_silent}
+use Rattle.fl_stub.specs.Rests.{Reaches, LeadsTo, IsPartOfField, IsStance}
 use Rattle.fl_machine.specs.declared.intake.Field.{Field}
 use Rattle.fl_machine.specs.declared.intake.Intake.{Intake}
 use Rattle.fl_machine.specs.Cursors.{loops_of, no_loop}
@@ -55,11 +58,35 @@ pub record Stands (ops : List Op) (taken : List ℕ) (c : Intake) (bytes : List 
   pub long : length taken ≡ c.count
   pub shows : Follows (length bytes) bytes (bytes_given (block_of ops) (so_far taken c))
 
--- the same with bytes that are still to be taken
+-- what the words of a fragment come to, behind the bytes where a run stands: the run goes on behind them, and they are some
+-- of the first bytes of a payload
+abbrev pub TakesPart : List Op → List ℕ → Intake → List ℕ → List ℕ → Intake → Type 0
+TakesPart ops tape c words after d = (bytes : List ℕ) → Stands ops (take c.count tape) c bytes
+    → Stands ops (take d.count after) d (bytes ++ words_bytes words) × BeginsPayload (block_of ops) (bytes ++ words_bytes words)
+
+-- they are a whole payload, with these numbers
+abbrev pub TakesWhole : List Op → List ℕ → Intake → List ℕ → List ℕ → Type 0
+TakesWhole ops tape c words taken = (bytes : List ℕ) → Stands ops (take c.count tape) c bytes
+    → IsPayload (block_of ops) (bytes ++ words_bytes words) taken
+
+-- no payload begins so
+abbrev pub TakesWrong : List Op → List ℕ → Intake → List ℕ → Mark → Type 0
+TakesWrong ops tape c words mark = (bytes : List ℕ) → Stands ops (take c.count tape) c bytes
+    → LeavesPayloads (block_of ops) (bytes ++ words_bytes words) mark
+
+-- a run stands after some bytes, having taken these numbers, and others are still to be taken
 pub record IsFed (ops : List Op) (taken : List ℕ) (c : Intake) (all left : List ℕ) : Type 0 where
   pub front : List ℕ
   pub at : IsAt ops taken c front
   pub joined : all ≡ front ++ left
+
+-- the bytes of a fragment from a place on
+abbrev pub bytes_left : List ℕ → ℕ → List ℕ
+bytes_left buffer used = drop used (take 56 buffer)
+
+-- a run whose numbers are the first of a tape, fed up to a place of a fragment
+abbrev pub IsFedBy : List Op → List ℕ → Intake → List ℕ → List ℕ → ℕ → Type 0
+IsFedBy ops tape c all buffer used = IsFed ops (take c.count tape) c all (bytes_left buffer used)
 
 -- an instruction that takes bytes, and what it takes
 pub record HasField (ops : List Op) (c : Intake) (f : Field) : Type 0 where
@@ -109,6 +136,10 @@ pub record FirstSet (buffer : List ℕ) (from : ℕ) : Type 0 where
 abbrev pub inner_loop : Intake → Loop
 inner_loop c = slice_index_or c.loops (c.depth - 1) no_loop
 
+-- a loop so many turns later
+abbrev pub turned : Loop → ℕ → Loop
+turned l many = record { start = l.start; turns = l.turns - many }
+
 -- the innermost loop is over one number alone, which is the one to be taken
 pub record IsRunOf (ops : List Op) (c : Intake) (f : Field) : Type 0 where
   pub deep : 0 < c.depth
@@ -126,7 +157,7 @@ AreWithin least last (x ∷ bytes) = (x < 256) × (least ≤ x) × (x ≤ last) 
 -- so many bytes further in a loop over one byte
 abbrev pub after_bytes : Intake → ℕ → Intake
 after_bytes c many = record c {
-  loops = slice_set c.loops (c.depth - 1) (record { start = (inner_loop c).start; turns = (inner_loop c).turns - many });
+  loops = slice_set c.loops (c.depth - 1) (turned (inner_loop c) many);
   count = c.count + many;
   phase = (c.phase % 8 + many) % 8;
 }

@@ -1,6 +1,7 @@
 //! Where a run of send code stands, and how it goes on.
 
-ghost use Rattle.std.specs.Prelude.{◌≡◌, ◌≢◌, ◌==◌, ◌+◌, ◌-◌, ◌%◌, ◌<◌, ◌≤◌, ◌^◌, ℕ, suc, Bool, true, false, List, [], ◌∷◌, ◌++◌, map, take, drop, length, slice_get, Some, IsTrue, IsFalse};
+ghost use Rattle.std.specs.Prelude.{◌≡◌, ◌≢◌, ◌==◌, ◌+◌, ◌-◌, ◌%◌, ◌<◌, ◌≤◌, ◌^◌, ℕ, suc, true};
+ghost use Rattle.std.specs.Prelude.{false, List, [], ◌∷◌, ◌++◌, map, take, drop, length, slice_get, Some, IsTrue};
 ghost use Rattle.fl_stub.specs.declared.op.Op.TheVariants.{Emit as emit_op, Pad as pad_op, Times as times_op, Length as length_op, Back as back_op};
 ghost use Rattle.fl_stub.specs.declared.op.Column.{Column as the_column};
 ghost use Rattle.fl_stub.specs.Structure.{is_width};
@@ -90,7 +91,8 @@ fn inside_after(inside: usize, op: Op) -> Option<usize>
 // The place behind the loop whose first instruction this is.
 pub(crate) fn behind(ops: &[Op], start: usize) -> usize
     ensures place { (column : the_column) (depth : ℕ) → IsPlaceIn column ops.now (suc depth) start → IsPlaceIn column ops.now depth result }
-    ensures frames { (column : the_column) (depth : ℕ) → IsPlaceIn column ops.now (suc depth) start → frames_of (drop result ops.now) ≡ outer (frames_of (drop start ops.now)) }
+    ensures frames { (column : the_column) (depth : ℕ) → IsPlaceIn column ops.now (suc depth) start
+        → frames_of (drop result ops.now) ≡ outer (frames_of (drop start ops.now)) }
 {
     let mut inside = 0;
     let mut place = start;
@@ -148,7 +150,8 @@ impl Cursor {
     fn give(&mut self, value: u64, width: u32)
         requires room { self.old.place + 1 < 2 ^ 64 }
         requires width { width ≤ 8 }
-        ensures spot { (tape : List ℕ) → spot_of tape self.new ≡ record (spot_of tape self.old) { place = self.old.place + 1; at = (self.old.phase + width) % 8; value = value; width = width } }
+        ensures spot { (tape : List ℕ) → spot_of tape self.new
+            ≡ record (spot_of tape self.old) { place = self.old.place + 1; at = (self.old.phase + width) % 8; value = value; width = width } }
     {
         self.place += 1;
         self.phase = (self.phase % 8 + width) % 8;
@@ -159,7 +162,8 @@ impl Cursor {
     // Into a loop that begins there.
     fn enter(&mut self, start: usize, turns: u64)
         requires { self.old.depth < 8 }
-        ensures { (tape : List ℕ) → spot_of tape self.new ≡ record (spot_of tape self.old) { place = start; loops = (record { start = start; turns = turns }) ∷ loops_of self.old.loops self.old.depth } }
+        ensures { (tape : List ℕ) → spot_of tape self.new
+            ≡ record (spot_of tape self.old) { place = start; loops = (record { start = start; turns = turns }) ∷ loops_of self.old.loops self.old.depth } }
     {
         self.loops[self.depth] = Loop { start, turns };
         self.depth += 1;
@@ -270,7 +274,8 @@ impl Cursor {
         ensures number { result.0 ≡ self.old.value }
         ensures width { result.1 ≡ self.old.width }
         ensures spot { IsSpot ops.now (spot_of tape.now self.new) }
-        ensures bytes { bytes_from ops.now (spot_of tape.now self.old) ≡ number_bytes self.old.width self.old.value ++ bytes_from ops.now (spot_of tape.now self.new) }
+        ensures bytes { bytes_from ops.now (spot_of tape.now self.old)
+            ≡ number_bytes self.old.width self.old.value ++ bytes_from ops.now (spot_of tape.now self.new) }
     {
         let taken = (self.value, self.width as usize);
         self.value = 0;
@@ -319,7 +324,8 @@ impl Cursor {
         ensures run { IsRun ops.now self.new }
         ensures turns { turns_of self.old ≡ turns_of self.new + 1 }
         ensures spot { IsSpot ops.now (spot_of tape.now self.new) }
-        ensures bytes { bytes_from ops.now (spot_of tape.now self.old) ≡ number_bytes self.old.width self.old.value ++ bytes_from ops.now (spot_of tape.now self.new) }
+        ensures bytes { bytes_from ops.now (spot_of tape.now self.old)
+            ≡ number_bytes self.old.width self.old.value ++ bytes_from ops.now (spot_of tape.now self.new) }
     {
         let taken = self.value;
         let number = self.take_number(tape);

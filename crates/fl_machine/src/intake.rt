@@ -1,17 +1,20 @@
 //! Where a run of receive code stands, and how it takes bytes.
 
-ghost use Rattle.std.specs.Prelude.{◌≡◌, ◌≢◌, ◌==◌, ◌+◌, ◌-◌, ◌*◌, ◌%◌, ◌<◌, ◌≤◌, ◌^◌, ◌++◌, ◌⊎◌, ℕ, suc, true, false, List, [], ◌∷◌, take, drop, length, slice_get, slice_index, slice_set, Some, IfOk, IfErr, IfSome, IfNone, IsTrue};
+ghost use Rattle.std.specs.Prelude.{◌≡◌, ◌≢◌, ◌+◌, ◌-◌, ◌*◌, ◌%◌, ◌<◌, ◌≤◌, ◌^◌, ◌++◌, ℕ, true, false, List, [], ◌∷◌};
+ghost use Rattle.std.specs.Prelude.{take, drop, length, slice_get, slice_set, Some, IfOk, IfErr, IfSome, IfNone, IsTrue};
 ghost use Rattle.fl_stub.specs.declared.op.Column.TheVariants.{Receive as receive};
 ghost use Rattle.fl_stub.specs.declared.op.Op.TheVariants.{Times as times_op, Back as back_op, Done as done_op};
 ghost use Rattle.fl_stub.specs.declared.mark.Mark.TheVariants.{Length as length_mark, Zero as zero_mark};
 ghost use Rattle.fl_stub.specs.Structure.{IsCode, is_width};
 ghost use Rattle.fl_stub.specs.Frames.{block_of};
 ghost use Rattle.fl_stub.specs.Meaning.{Turns, number_bytes, gap_to_8};
-ghost use Rattle.fl_stub.specs.Streams.{BeginsPayload, IsPayload, LeavesPayloads};
+ghost use Rattle.fl_stub.specs.Streams.{LeavesPayloads};
 ghost use Rattle.fl_stub.specs.Rests.{no_more, is_taken, taken_field, zeros_field, told};
 ghost use Rattle.fl_machine.specs.declared.intake.Fed.TheVariants.{Part as part, Whole as whole};
 ghost use Rattle.fl_machine.specs.Cursors.{loops_of};
-ghost use Rattle.fl_machine.specs.Taking.{Stands, IsFed, IsTaking, IsAtField, HasField, Passes, PassesOne, StepsOver, Grows, AreZeros, FirstSet, IsRunOf, AreWithin, inner_loop, after_bytes, words_bytes, field_view, rest_of};
+ghost use Rattle.fl_machine.specs.Taking.{Stands, TakesPart, TakesWhole, TakesWrong, IsFedBy, bytes_left, IsTaking, IsAtField, HasField};
+ghost use Rattle.fl_machine.specs.Taking.{Passes, PassesOne, StepsOver, Grows, AreZeros, FirstSet, IsRunOf, AreWithin, inner_loop, turned};
+ghost use Rattle.fl_machine.specs.Taking.{after_bytes, words_bytes, field_view, rest_of};
 
 use crate::cursor::{Loop, behind, is_op};
 use fl_stub::{Mark, Op};
@@ -405,7 +408,7 @@ impl Intake {
         ensures inside { used + result.1 ≤ 56 }
         ensures within { self.now.have + result.1 ≤ field.width }
         ensures all { self.now.have + result.1 < field.width → used + result.1 ≡ 56 }
-        ensures grows { Grows self.now.have self.now.value result.0 result.1 (drop used (take 56 buffer.now)) (drop (used + result.1) (take 56 buffer.now)) }
+        ensures grows { Grows self.now.have self.now.value result.0 result.1 (bytes_left buffer.now used) (bytes_left buffer.now (used + result.1)) }
     {
         let wanted = (field.width - self.have) as usize;
         let there = wanted.min(56 - used);
@@ -479,8 +482,9 @@ impl Intake {
         requires narrow { field.width ≤ 8 }
         requires room { self.old.count < length tape.old }
         requires more { 0 < (inner_loop self.old).turns }
-        ensures others { self.new ≡ record self.old { loops = self.new.loops; count = self.old.count + 1; phase = (self.old.phase % 8 + field.width) % 8 } }
-        ensures loops { self.new.loops ≡ slice_set self.old.loops (self.old.depth - 1) (record { start = (inner_loop self.old).start; turns = (inner_loop self.old).turns - 1 }) }
+        ensures others { self.new
+            ≡ record self.old { loops = self.new.loops; count = self.old.count + 1; phase = (self.old.phase % 8 + field.width) % 8 } }
+        ensures loops { self.new.loops ≡ slice_set self.old.loops (self.old.depth - 1) (turned (inner_loop self.old) 1) }
         ensures tape { tape.new ≡ slice_set tape.old self.old.count number }
         ensures wide { length self.old.loops ≡ 8 }
     {
@@ -533,7 +537,7 @@ impl Intake {
         requires run { IsRunOf ops.now self.old field }
         requires stance { IsTaking ops.now self.old }
         requires count { self.old.count ≤ length tape.old }
-        ensures fed { (all : List ℕ) → IsFed ops.now (take self.old.count tape.old) self.old all (drop used (take 56 buffer.now)) → IsFed ops.now (take self.new.count tape.new) self.new all (drop result (take 56 buffer.now)) }
+        ensures fed { (all : List ℕ) → IsFedBy ops.now tape.old self.old all buffer.now used → IsFedBy ops.now tape.new self.new all buffer.now result }
         ensures end { (used ≤ result) × (result ≤ 56) }
         ensures field { HasField ops.now self.new field }
         ensures run { IsRunOf ops.now self.new field }
@@ -566,10 +570,10 @@ impl Intake {
         requires room { used < 56 }
         requires settled { IsAtField ops.now self.old }
         requires field { HasField ops.now self.old field }
-        requires fed { (all : List ℕ) × IsFed ops.now (take self.old.count tape.old) self.old all (drop used (take 56 buffer.now)) }
+        requires fed { (all : List ℕ) × IsFedBy ops.now tape.old self.old all buffer.now used }
         requires tape { (t full : List ℕ) → Turns (block_of ops.now) t full → length t ≤ length tape.old }
         requires count { self.old.count ≤ length tape.old }
-        ensures fed { (all : List ℕ) → IsFed ops.now (take self.old.count tape.old) self.old all (drop used (take 56 buffer.now)) → IsFed ops.now (take self.new.count tape.new) self.new all (drop result (take 56 buffer.now)) }
+        ensures fed { (all : List ℕ) → IsFedBy ops.now tape.old self.old all buffer.now used → IsFedBy ops.now tape.new self.new all buffer.now result }
         ensures end { (used ≤ result) × (result ≤ 56) }
         ensures settled { IsAtField ops.now self.new }
         ensures field { HasField ops.now self.new field }
@@ -605,11 +609,11 @@ impl Intake {
         requires room { used < 56 }
         requires settled { IsAtField ops.now self.old }
         requires field { HasField ops.now self.old field }
-        requires fed { (all : List ℕ) × IsFed ops.now (take self.old.count tape.old) self.old all (drop used (take 56 buffer.now)) }
+        requires fed { (all : List ℕ) × IsFedBy ops.now tape.old self.old all buffer.now used }
         requires tape { (t full : List ℕ) → Turns (block_of ops.now) t full → length t ≤ length tape.old }
         requires count { self.old.count ≤ length tape.old }
-        ensures fed { IfOk result (λ end. (all : List ℕ) → IsFed ops.now (take self.old.count tape.old) self.old all (drop used (take 56 buffer.now)) → IsFed ops.now (take self.new.count tape.new) self.new all (drop end (take 56 buffer.now))) }
-        ensures wrong { IfErr result (λ mark. (all : List ℕ) → IsFed ops.now (take self.old.count tape.old) self.old all (drop used (take 56 buffer.now)) → LeavesPayloads (block_of ops.now) all mark) }
+        ensures fed { IfOk result (λ end. (all : List ℕ) → IsFedBy ops.now tape.old self.old all buffer.now used → IsFedBy ops.now tape.new self.new all buffer.now end) }
+        ensures wrong { IfErr result (λ mark. (all : List ℕ) → IsFedBy ops.now tape.old self.old all buffer.now used → LeavesPayloads (block_of ops.now) all mark) }
         ensures end { IfOk result (λ end. (used < end) × (end ≤ 56)) }
         ensures settled { IfOk result (λ end. IsAtField ops.now self.new) }
         ensures kept { take self.old.count tape.new ≡ take self.old.count tape.old }
@@ -646,11 +650,11 @@ impl Intake {
         requires room { used < 56 }
         requires settled { IsAtField ops.now self.old }
         requires field { HasField ops.now self.old field }
-        requires fed { (all : List ℕ) × IsFed ops.now (take self.old.count tape.old) self.old all (drop used (take 56 buffer.now)) }
+        requires fed { (all : List ℕ) × IsFedBy ops.now tape.old self.old all buffer.now used }
         requires tape { (t full : List ℕ) → Turns (block_of ops.now) t full → length t ≤ length tape.old }
         requires count { self.old.count ≤ length tape.old }
-        ensures fed { IfOk result (λ end. (all : List ℕ) → IsFed ops.now (take self.old.count tape.old) self.old all (drop used (take 56 buffer.now)) → IsFed ops.now (take self.new.count tape.new) self.new all (drop end (take 56 buffer.now))) }
-        ensures wrong { IfErr result (λ mark. (all : List ℕ) → IsFed ops.now (take self.old.count tape.old) self.old all (drop used (take 56 buffer.now)) → LeavesPayloads (block_of ops.now) all mark) }
+        ensures fed { IfOk result (λ end. (all : List ℕ) → IsFedBy ops.now tape.old self.old all buffer.now used → IsFedBy ops.now tape.new self.new all buffer.now end) }
+        ensures wrong { IfErr result (λ mark. (all : List ℕ) → IsFedBy ops.now tape.old self.old all buffer.now used → LeavesPayloads (block_of ops.now) all mark) }
         ensures end { IfOk result (λ end. (used < end) × (end ≤ 56)) }
         ensures settled { IfOk result (λ end. IsAtField ops.now self.new) }
         ensures kept { take self.old.count tape.new ≡ take self.old.count tape.old }
@@ -686,9 +690,9 @@ impl Intake {
         requires code { IsCode receive ops.now (block_of ops.now) }
         requires stands { (bytes : List ℕ) × Stands ops.now (take self.old.count tape.old) self.old bytes }
         requires room { (t full : List ℕ) → Turns (block_of ops.now) t full → length t ≤ length tape.old }
-        ensures part { IfOk result (λ fed. fed ≡ part → (bytes : List ℕ) → Stands ops.now (take self.old.count tape.old) self.old bytes → Stands ops.now (take self.new.count tape.new) self.new (bytes ++ words_bytes words.now) × BeginsPayload (block_of ops.now) (bytes ++ words_bytes words.now)) }
-        ensures whole { IfOk result (λ fed. fed ≡ whole → (bytes : List ℕ) → Stands ops.now (take self.old.count tape.old) self.old bytes → IsPayload (block_of ops.now) (bytes ++ words_bytes words.now) (take self.new.count tape.new)) }
-        ensures wrong { IfErr result (λ mark. (bytes : List ℕ) → Stands ops.now (take self.old.count tape.old) self.old bytes → LeavesPayloads (block_of ops.now) (bytes ++ words_bytes words.now) mark) }
+        ensures part { IfOk result (λ fed. fed ≡ part → TakesPart ops.now tape.old self.old words.now tape.new self.new) }
+        ensures whole { IfOk result (λ fed. fed ≡ whole → TakesWhole ops.now tape.old self.old words.now (take self.new.count tape.new)) }
+        ensures wrong { IfErr result (λ mark. TakesWrong ops.now tape.old self.old words.now mark) }
         ensures kept { take self.old.count tape.new ≡ take self.old.count tape.old }
         ensures grows { self.old.count ≤ self.new.count }
         ensures within { self.new.count ≤ length tape.new }

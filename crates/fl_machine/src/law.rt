@@ -1,7 +1,7 @@
 //! What runs of the compiler's code give: laws, as the contracts of functions that do nothing.
 
-ghost use Rattle.fl_machine.specs.Laws.{SendsFragments};
-ghost use Rattle.fl_machine.specs.Rounds.{TakesFragments, OffCircuits};
+ghost use Rattle.fl_machine.specs.Laws.{SendsFragments, SetsCircuits, KeepsMeanings};
+ghost use Rattle.fl_machine.specs.Rounds.{TakesFragments};
 
 /// A send run of a message's code with the tape of a fitting call gives the call's fragments, on the run's circuit.
 pub fn sends_fragments()
@@ -14,8 +14,10 @@ pub fn takes_fragments()
     ensures takes { TakesFragments }
 {}
 
-/// Fragments that mean a call on a circuit, as a send run gives them, mean the same call once their circuit is set to 0: so a
-/// receive run takes them (`takes_fragments`).
-pub fn off_circuits()
-    ensures off { OffCircuits }
+/// The fragments of a call on a circuit are its fragments on another once their circuit is set to that one, and fragments
+/// that mean the call, whatever their epochs and the counts told, mean it there. So what a send run gives for a circuit a
+/// receive run takes once the circuit is set to 0 (`takes_fragments`).
+pub fn sets_circuits()
+    ensures sets { SetsCircuits }
+    ensures means { KeepsMeanings }
 {}

@@ -20,6 +20,6 @@ mod send;
 
 pub use cursor::{Cursor, Loop};
 pub use intake::{Fed, Intake};
-pub use law::{off_circuits, sends_fragments, takes_fragments};
+pub use law::{sends_fragments, sets_circuits, takes_fragments};
 pub use recv::RecvRun;
 pub use send::SendRun;

@@ -1,14 +1,16 @@
 //! Runs of receive code.
 
-ghost use Rattle.std.specs.Prelude.{◌≡◌, ◌≢◌, ◌*◌, ◌/◌, ◌%◌, ◌^◌, ◌==◌, ◌≤◌, ◌++◌, ◌∷◌, [], List, true, take, length, slice_get, Some, None, IfOk, IfErr, Ok};
-ghost use Rattle.fl_base.specs.Control.{message_of, control_word};
+ghost use Rattle.std.specs.Prelude.{◌≡◌, ◌≢◌, ◌==◌, ◌≤◌, ◌++◌, ◌∷◌, [], true, take, length, None, IfOk, IfErr};
+ghost use Rattle.fl_base.specs.Control.{message_of, control_word, body};
 ghost use Rattle.fl_value.specs.Value.{call_of};
 ghost use Rattle.fl_value.specs.Fits.{fits_of};
 ghost use Rattle.fl_wire.specs.Reading.{Means, IsWrong};
-ghost use Rattle.fl_wire.specs.Wrong.{header_fault, HasFault};
+ghost use Rattle.fl_wire.specs.Wrong.{header_fault};
 ghost use Rattle.fl_compile.specs.Laws.{fault_of as fault_of_mark};
 ghost use Rattle.fl_compile.specs.Programs.{program_of};
-ghost use Rattle.fl_machine.specs.Receiving.{plan_in, interface_in, parts_of, fed_of, fed_by, answer_of, AddsPart, AddsLast, Adds, numbers_in, IsRefused, Remembers, undone, Feeds, stored_of, receiving, HoldsTapes, IsBegun, IsStand, IsStored};
+ghost use Rattle.fl_machine.specs.Receiving.{plan_in, interface_in, fed_by, answer_of, AddsPart, AddsLast, numbers_in, IsRefused, Remembers};
+ghost use Rattle.fl_machine.specs.Receiving.{undone, Undoes, Feeds, stored_of, receiving, HoldsTapes, IsBegun, IsStored};
+ghost use Rattle.fl_machine.specs.Receiving.{parts_in, StandsIn, AddsUpTo, HasFaultIn, IsRefusedIn};
 ghost use Rattle.fl_machine.specs.declared.recv.Stand.TheVariants.{Inside as inside};
 
 use crate::intake::{Fed, Intake};
@@ -123,13 +125,13 @@ fn take_in(
 ) -> Result<Stand, WireFault>
     requires begun { IsBegun (program_of program.now).plan (program_of program.now).interface tape.old begun }
     requires room { HoldsTapes (program_of program.now).plan (program_of program.now).interface (length tape.old) }
-    requires header { header_fault (program_of program.now).interface (parts_of (program_of program.now).plan (program_of program.now).interface tape.old begun) frag.now ≡ None }
+    requires header { header_fault (program_of program.now).interface (parts_in (program_of program.now) tape.old begun) frag.now ≡ None }
     requires message { message_of frag.now.control ≡ begun.msg.0 }
-    requires control { 2 * (frag.now.control / 2 % 2 ^ 47) ≡ control_word (begun.fed == 0) begun.msg.0 0 }
-    ensures stands { IfOk result (λ stand. IsStand (program_of program.now).plan (program_of program.now).interface tape.new stand) }
-    ensures adds { IfOk result (λ stand. Adds (program_of program.now).plan (program_of program.now).interface (parts_of (program_of program.now).plan (program_of program.now).interface tape.old begun) frag.now (fed_of (program_of program.now).plan (program_of program.now).interface tape.new stand) stand) }
+    requires control { body frag.now.control ≡ control_word (begun.fed == 0) begun.msg.0 0 }
+    ensures stands { IfOk result (λ stand. StandsIn (program_of program.now) tape.new stand) }
+    ensures adds { IfOk result (λ stand. AddsUpTo (program_of program.now) (parts_in (program_of program.now) tape.old begun) frag.now tape.new stand) }
     ensures grows { IfOk result (λ stand. begun.intake.count ≤ numbers_in stand) }
-    ensures wrong { IfErr result (λ fault. HasFault (program_of program.now).plan (program_of program.now).interface (parts_of (program_of program.now).plan (program_of program.now).interface tape.old begun) frag.now fault) }
+    ensures wrong { IfErr result (λ fault. HasFaultIn (program_of program.now) (parts_in (program_of program.now) tape.old begun) frag.now fault) }
     ensures kept { take begun.intake.count tape.new ≡ take begun.intake.count tape.old }
     ensures long { length tape.new ≡ length tape.old }
 {
@@ -156,9 +158,9 @@ fn take_in(
 // Takes a fragment where a call is to begin: where the run stands then.
 fn begin(program: &Program, tape: &mut [u64], frag: &Frag) -> Result<Stand, WireFault>
     requires room { HoldsTapes (program_of program.now).plan (program_of program.now).interface (length tape.old) }
-    ensures stands { IfOk result (λ stand. IsStand (program_of program.now).plan (program_of program.now).interface tape.new stand) }
-    ensures adds { IfOk result (λ stand. Adds (program_of program.now).plan (program_of program.now).interface [] frag.now (fed_of (program_of program.now).plan (program_of program.now).interface tape.new stand) stand) }
-    ensures wrong { IfErr result (λ fault. IsRefused (program_of program.now).plan (program_of program.now).interface [] frag.now fault) }
+    ensures stands { IfOk result (λ stand. StandsIn (program_of program.now) tape.new stand) }
+    ensures adds { IfOk result (λ stand. AddsUpTo (program_of program.now) [] frag.now tape.new stand) }
+    ensures wrong { IfErr result (λ fault. IsRefusedIn (program_of program.now) [] frag.now fault) }
     ensures long { length tape.new ≡ length tape.old }
 {
     let interface = program.interface();
@@ -175,12 +177,12 @@ fn begin(program: &Program, tape: &mut [u64], frag: &Frag) -> Result<Stand, Wire
 
 // Takes a fragment inside a call: where the run stands then.
 fn go_on(program: &Program, begun: Begun, tape: &mut [u64], frag: &Frag) -> Result<Stand, WireFault>
-    requires begun { IsStand (program_of program.now).plan (program_of program.now).interface tape.old (inside begun) }
+    requires begun { StandsIn (program_of program.now) tape.old (inside begun) }
     requires room { HoldsTapes (program_of program.now).plan (program_of program.now).interface (length tape.old) }
-    ensures stands { IfOk result (λ stand. IsStand (program_of program.now).plan (program_of program.now).interface tape.new stand) }
-    ensures adds { IfOk result (λ stand. Adds (program_of program.now).plan (program_of program.now).interface (parts_of (program_of program.now).plan (program_of program.now).interface tape.old begun) frag.now (fed_of (program_of program.now).plan (program_of program.now).interface tape.new stand) stand) }
+    ensures stands { IfOk result (λ stand. StandsIn (program_of program.now) tape.new stand) }
+    ensures adds { IfOk result (λ stand. AddsUpTo (program_of program.now) (parts_in (program_of program.now) tape.old begun) frag.now tape.new stand) }
     ensures grows { IfOk result (λ stand. begun.intake.count ≤ numbers_in stand) }
-    ensures wrong { IfErr result (λ fault. IsRefused (program_of program.now).plan (program_of program.now).interface (parts_of (program_of program.now).plan (program_of program.now).interface tape.old begun) frag.now fault) }
+    ensures wrong { IfErr result (λ fault. IsRefusedIn (program_of program.now) (parts_in (program_of program.now) tape.old begun) frag.now fault) }
     ensures kept { take begun.intake.count tape.new ≡ take begun.intake.count tape.old }
     ensures long { length tape.new ≡ length tape.old }
 {
@@ -255,7 +257,7 @@ impl Stored {
     fn undo(&mut self, program: &Program)
         requires stored { IsStored (program_of program.now).plan (program_of program.now).interface (stored_of self.old) }
         ensures stored { IsStored (program_of program.now).plan (program_of program.now).interface (stored_of self.new) }
-        ensures undone { receiving program.now (stored_of self.new) ≡ undone (receiving program.now (stored_of self.old)) (receiving program.now (stored_of self.old)).before }
+        ensures undone { Undoes (receiving program.now (stored_of self.old)) (receiving program.now (stored_of self.new)) }
     {
         let _plan = program.plan();
         let Some(before) = self.before else {

@@ -92,7 +92,8 @@ fn put_last(
     requires place { at < 56 }
     requires spot { IsSpot ops.now (spot_of tape.now cursor.old) }
     requires busy { cursor.old.width ≢ 0 }
-    ensures { (put : List ℕ) → length put ≡ at → Holds buffer.old put → Puts ops.now (spot_of tape.now cursor.old) (spot_of tape.now cursor.new) put buffer.new result }
+    ensures { (put : List ℕ) → length put ≡ at → Holds buffer.old put
+        → Puts ops.now (spot_of tape.now cursor.old) (spot_of tape.now cursor.new) put buffer.new result }
 {
     if at > 48 {
         buffer[at] = cursor.next_byte(ops, tape);
@@ -118,7 +119,8 @@ fn put_eights(
     ensures spot { IsSpot ops.now (spot_of tape.now cursor.new) }
     ensures run { IsRun ops.now cursor.new }
     ensures width { cursor.new.width ≡ cursor.old.width }
-    ensures puts { (put : List ℕ) → length put ≡ at → Holds buffer.old put → PutsRun ops.now (spot_of tape.now cursor.old) (spot_of tape.now cursor.new) put buffer.new result }
+    ensures puts { (put : List ℕ) → length put ≡ at → Holds buffer.old put
+        → PutsRun ops.now (spot_of tape.now cursor.old) (spot_of tape.now cursor.new) put buffer.new result }
 {
     let mut end = at;
     while end <= 48 && cursor.has_eight(tape) {
@@ -135,7 +137,8 @@ fn put_run(buffer: &mut [u8; 56], at: usize, cursor: &mut Cursor, ops: &[Op], ta
     ensures place { result ≤ 56 }
     ensures spot { IsSpot ops.now (spot_of tape.now cursor.new) }
     ensures width { cursor.new.width ≡ cursor.old.width }
-    ensures puts { (put : List ℕ) → length put ≡ at → Holds buffer.old put → PutsRun ops.now (spot_of tape.now cursor.old) (spot_of tape.now cursor.new) put buffer.new result }
+    ensures puts { (put : List ℕ) → length put ≡ at → Holds buffer.old put
+        → PutsRun ops.now (spot_of tape.now cursor.old) (spot_of tape.now cursor.new) put buffer.new result }
 {
     if !cursor.is_run(ops) {
         return at;
@@ -160,7 +163,8 @@ fn put_next(
     requires place { at < 56 }
     requires spot { IsSpot ops.now (spot_of tape.now cursor.old) }
     requires busy { cursor.old.width ≢ 0 }
-    ensures { (put : List ℕ) → length put ≡ at → Holds buffer.old put → Puts ops.now (spot_of tape.now cursor.old) (spot_of tape.now cursor.new) put buffer.new result }
+    ensures { (put : List ℕ) → length put ≡ at → Holds buffer.old put
+        → Puts ops.now (spot_of tape.now cursor.old) (spot_of tape.now cursor.new) put buffer.new result }
 {
     let at = put_run(buffer, at, cursor, ops, tape);
     if at == 56 {
@@ -193,7 +197,8 @@ impl SendRun {
         requires { code.now.column ≡ send }
         ensures runs { RunsOn code.now result }
         ensures given { frags_left code.now result ≡ frags_holding true msg.0 circuit.0 (bytes_given (block_of code.now.ops) tape.items) }
-        ensures meant { (bytes : List ℕ) → Turns (block_of code.now.ops) tape.items bytes → frags_left code.now result ≡ frags_holding true msg.0 circuit.0 bytes }
+        ensures meant { (bytes : List ℕ) → Turns (block_of code.now.ops) tape.items bytes
+            → frags_left code.now result ≡ frags_holding true msg.0 circuit.0 bytes }
     {
         let mut cursor = Cursor::new();
         cursor.settle(code.ops(), &tape);

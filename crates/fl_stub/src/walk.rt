@@ -4,7 +4,8 @@ ghost use Rattle.std.specs.Prelude.{◌≡◌, ◌+◌, ◌-◌, ◌&&◌, nat_l
 ghost use Rattle.fl_stub.specs.declared.op.Column.TheVariants.{Send as send, Receive as receive};
 ghost use Rattle.fl_stub.specs.declared.walk.Standing.TheVariants.{Inside as inside};
 ghost use Rattle.fl_stub.specs.Structure.{is_width as is_width_of, is_within as is_within_of, is_step as is_step_of};
-ghost use Rattle.fl_stub.specs.Walk.{after as after_of, after_inside as after_inside_of, after_length as after_length_of, accepts as accepts_of, if_so as if_so_of, is_send, is_receive};
+ghost use Rattle.fl_stub.specs.Walk.{after as after_of, after_inside as after_inside_of, after_length as after_length_of};
+ghost use Rattle.fl_stub.specs.Walk.{accepts as accepts_of, if_so as if_so_of, is_send, is_receive};
 
 use crate::op::{Column, Op};
 
