@@ -1,5 +1,5 @@
 mod Loop
-mod Law
+mod ReadBack
 mod Numbers
 mod Nest
 mod TypeLaws
@@ -13,3 +13,5 @@ mod Fitting
 mod Spelled
 mod Arranged
 mod Answered
+mod Steady
+mod Refusals

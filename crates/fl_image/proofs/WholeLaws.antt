@@ -10,7 +10,7 @@ use Rattle.fl_image.specs.declared.fault.Refusal.{Refusal}
 use Rattle.fl_image.specs.declared.fault.Refusal.TheVariants.{OtherMagic, OtherVersion, BytesLeftOver}
 use Rattle.fl_image.specs.Image.{two, four, Fields, codes_image, magic, version_of, interface_image, fields_spelled}
 use Rattle.fl_image.specs.Reading.{◌>>=◌, Read, many_at, four_at, two_at, interface_at, codes_at, magic_at, plan_at, fields_at, all_of}
-use Rattle.fl_image.proofs.Law.{IsBytes, Law, Takes, follow, mapped, many, IsList, bind_ok, first_is, rest_is}
+use Rattle.fl_image.proofs.ReadBack.{IsBytes, Law, Takes, follow, mapped, many, IsList, bind_ok, first_is, rest_is}
 use Rattle.fl_image.proofs.Numbers.{two_law, four_law}
 use Rattle.fl_image.proofs.TypeLaws.{picked}
 use Rattle.fl_image.proofs.MessageLaws.{HasInterface, interface_law}

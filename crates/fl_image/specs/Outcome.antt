@@ -34,8 +34,3 @@ Reads plan x (Err Memory) = Unit {0}
 abbrev pub Answers : ImageFault → List ℕ → Type 0
 Answers (Refused r) bytes = FirstFault bytes r
 Answers Memory bytes = Unit {0}
-
--- Two interfaces with one image are equal, and so are their plans.
-abbrev pub OneImage : Type 0
-OneImage = (plan plan2 : PlanNo) (x y : TheInterface) → has_image x ≡ true → has_image y ≡ true → image_of plan x ≡ image_of plan2 y
-    → (plan ≡ plan2) × (x ≡ y)

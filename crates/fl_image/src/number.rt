@@ -63,7 +63,7 @@ fn are_in_word(bytes: &[u8]) -> bool
 }
 
 /// Whether the bytes form a word.
-fn is_word(bytes: &[u8]) -> bool
+pub(crate) fn is_word(bytes: &[u8]) -> bool
     ensures exact { result ≡ is_word bytes.now }
 {
     let [first, more @ ..] = bytes else {

@@ -8,7 +8,7 @@ ghost use Rattle.fl_compile.specs.Programs.{program_of};
 ghost use Rattle.fl_image.specs.Image.{has_image, image_of};
 ghost use Rattle.fl_image.specs.Reading.{Gives, magic_at, plan_at, fields_at, all_of};
 ghost use Rattle.fl_image.specs.Views.{found_view};
-ghost use Rattle.fl_image.specs.Outcome.{Reads, Answers, OneImage};
+ghost use Rattle.fl_image.specs.Outcome.{Reads, Answers};
 
 use crate::code::{MessageOps, all_ops};
 use crate::fault::{ImageFault, Refusal};
@@ -107,8 +107,3 @@ pub fn read_image(alloc: Global, bytes: &[u8]) -> Result<Program, ImageFault>
     }
     Ok(program)
 }
-
-/// An image is that of one interface under one plan.
-pub fn one_image()
-    ensures unique { OneImage }
-{}

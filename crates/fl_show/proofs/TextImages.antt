@@ -11,7 +11,7 @@ use Rattle.fl_check.proofs.Limits.{within_limits}
 use Rattle.fl_value.specs.declared.value.PlanNo.{PlanNo}
 use Rattle.fl_value.specs.declared.value.PlanNo.TheVariants.{Two}
 use Rattle.fl_compile.specs.Programs.{TheProgram}
-use Rattle.fl_image.specs.Image.{is_name, is_message_spellable, has_image, image_of}
+use Rattle.fl_image.specs.Image.{is_name, is_message_writable, has_image, image_of}
 use Rattle.fl_show.specs.Shown.{StandsFor as TextStandsFor, IsImageOf, ShowsImage}
 use Rattle.fl_show.specs.Table.{IsTable}
 use Rattle.fl_show.proofs.Words.{both}
@@ -24,8 +24,8 @@ text_has_image bytes tokens tree i l p s =
     let x = interface_from tree in
     let spelled = messages_spellable tree.declarations small.declarations s.0 in
     ap has_image s.1
-    ∙ both (is_within_limits x) (is_name x.name && list_all is_message_spellable x.messages) (within_limits tree s.0)
-    (both (is_name x.name) (list_all is_message_spellable x.messages) small.name spelled)
+    ∙ both (is_within_limits x) (is_name x.name && list_all is_message_writable x.messages) (within_limits tree s.0)
+    (both (is_name x.name) (list_all is_message_writable x.messages) small.name spelled)
 
 -- what a program's image is an image of, where the program was compiled from a text's interface under plan 2
 pub image_told : (bytes image : List ℕ) (i : TheInterface) (p : TheProgram) → TextStandsFor bytes i → p.interface ≡ i → p.plan ≡ Two → image ≡ image_of p.plan p.interface

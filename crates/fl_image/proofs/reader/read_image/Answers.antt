@@ -3,8 +3,13 @@ use Rattle.std.proofs.lemmas.Bool.{false≢true}
 use Rattle.std.proofs.lemmas.Result.{err_from_is_err_and}
 use Rattle.fl_compile.specs.Programs.{program_of}
 use Rattle.fl_image.specs.Image.{image_of}
-use Rattle.fl_image.proofs.Answered.{Fitting, is_found, is_other, only_program, no_other, no_fault}
+use Rattle.fl_image.proofs.Answered.{Fitting, is_found, is_found_writable, is_other, only_program, no_other, no_fault}
 use Rattle.fl_image.proofs.reader.read_image.Goals as goal
+
+pub write_image-requires : goal.write_image-requires
+write_image-requires c =
+    let fit : Fitting c.in_ok-found.found c.in_ok-program.program = record { interface = c.in_ok-program.ensures.interface; plan = c.in_ok-program.ensures.plan } in
+    record { writable = is_found_writable c.args.bytes.now c.in_ok-found.found c.in_ok-program.program (λ i. omega (arith, c.type_inv.bytes i)) c.in_ok-found.ensures.reads fit }
 
 pub returns-in_err-found-clause-only : goal.returns-in_err-found-clause-only
 returns-in_err-found-clause-only c = λ plan x h e.
