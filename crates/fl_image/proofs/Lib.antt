@@ -12,6 +12,7 @@ mod Caps
 mod Fitting
 mod Spelled
 mod Arranged
+mod Begun
 mod Answered
 mod Steady
 mod Refusals

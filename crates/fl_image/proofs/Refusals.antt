@@ -1,13 +1,13 @@
 -- Which refusals stay whatever follows, and what is answered of an image that was cut short or has bytes behind it.
-use Rattle.std.proofs.Common.{◌≡◌, ◌⊎◌, inl, inr, ⊎_elim, ℕ, ◌+◌, ◌<◌, true, false, cond, eqb, List, [], ◌∷◌, ◌++◌, length, Result, Ok, Err, refl, sym, ap, subst, ◌∙◌, arith, length-append}
+use Rattle.std.proofs.Common.{◌≡◌, inl, inr, ⊎_elim, ℕ, ◌+◌, ◌<◌, true, false, cond, eqb, List, [], ◌++◌, length, Result, Ok, Err, refl, sym, ap, subst, ◌∙◌, arith, length-append}
 use Rattle.std.proofs.lemmas.Bool.{ne_eqb}
 use Rattle.std.proofs.lemmas.List.{append-nil}
 use Rattle.fl_check.specs.Interface.{TheInterface}
 use Rattle.fl_value.specs.declared.value.PlanNo.{PlanNo}
 use Rattle.fl_image.specs.declared.fault.Refusal.{Refusal}
-use Rattle.fl_image.specs.declared.fault.Refusal.TheVariants.{OtherCode, EndsEarly, BytesLeftOver}
+use Rattle.fl_image.specs.declared.fault.Refusal.TheVariants.{EndsEarly, BytesLeftOver}
 use Rattle.fl_image.specs.Image.{Fields, compiled, has_image, image_of}
-use Rattle.fl_image.specs.Reading.{Read, fields_at, all_of, IsCompiled, FirstFault}
+use Rattle.fl_image.specs.Reading.{Read, fields_at, all_of, FirstFault}
 use Rattle.fl_image.specs.Laws.{IsProperPrefix, IsOfField}
 use Rattle.fl_image.proofs.ReadBack.{rest_is}
 use Rattle.fl_image.proofs.TypeLaws.{picked}
