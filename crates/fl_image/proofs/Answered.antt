@@ -1,6 +1,8 @@
 -- What reading an image answers.
 use Rattle.std.proofs.Common.{◌≡◌, ℕ, true, List, inr, Result, Ok, Err, refl, sym, ap, ◌∙◌}
+use Rattle.std.proofs.lemmas.Bool.{and_parts}
 use Rattle.fl_check.specs.Interface.{TheInterface, interface_of}
+use Rattle.fl_check.specs.Checks.{is_within_limits}
 use Rattle.fl_value.specs.declared.value.PlanNo.{PlanNo}
 use Rattle.fl_compile.specs.declared.program.Program.{Program}
 use Rattle.fl_compile.specs.Programs.{TheProgram, program_of}
@@ -9,11 +11,11 @@ use Rattle.fl_image.specs.declared.fault.Refusal.TheVariants.{OtherCode}
 use Rattle.fl_image.specs.declared.fault.ImageFault.{ImageFault}
 use Rattle.fl_image.specs.declared.fault.ImageFault.TheVariants.{Refused, Memory}
 use Rattle.fl_image.specs.declared.reader.Found.{Found}
-use Rattle.fl_image.specs.Image.{Fields, compiled, has_image, image_of, fields_spelled}
+use Rattle.fl_image.specs.Image.{Fields, compiled, is_writable, has_image, image_of, fields_spelled}
 use Rattle.fl_image.specs.Reading.{Fails, all_of, FirstFault}
 use Rattle.fl_image.specs.Views.{found_view}
 use Rattle.fl_image.specs.Outcome.{Reads}
-use Rattle.fl_image.proofs.Law.{IsBytes}
+use Rattle.fl_image.proofs.ReadBack.{IsBytes}
 use Rattle.fl_image.proofs.WholeLaws.{all_takes, all_again}
 use Rattle.fl_image.proofs.Fitting.{read_has_image}
 use Rattle.fl_image.proofs.Arranged.{compiled_has}
@@ -31,6 +33,13 @@ pub is_found : (bytes : List ℕ) (f : Found) (p : Program) → IsBytes bytes �
 is_found bytes f p h e fit same =
     let x : has_image (interface_of f.interface) ≡ true = read_has_image (interface_of f.interface) (all_takes bytes (found_view f) h e).1.interface in
     (ap has_image fit.interface ∙ x, same)
+
+-- so it can be written again
+pub is_found_writable : (bytes : List ℕ) (f : Found) (p : Program) → IsBytes bytes → all_of bytes ≡ Ok (found_view f) → Fitting f p → is_writable (program_of p).interface ≡ true
+is_found_writable bytes f p h e fit =
+    let x = interface_of f.interface in
+    let has : has_image x ≡ true = read_has_image x (all_takes bytes (found_view f) h e).1.interface in
+    ap is_writable fit.interface ∙ (and_parts (is_within_limits x) (is_writable x) has).1
 
 pub is_other : (bytes : List ℕ) (f : Found) (p : Program) → IsBytes bytes → all_of bytes ≡ Ok (found_view f) → Fitting f p → (bytes ≡ image_of (program_of p).plan (program_of p).interface → ⊥)
     → FirstFault bytes OtherCode

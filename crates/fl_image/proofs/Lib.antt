@@ -1,5 +1,5 @@
 mod Loop
-mod Law
+mod ReadBack
 mod Numbers
 mod Nest
 mod TypeLaws
@@ -12,4 +12,7 @@ mod Caps
 mod Fitting
 mod Spelled
 mod Arranged
+mod Begun
 mod Answered
+mod Steady
+mod Refusals

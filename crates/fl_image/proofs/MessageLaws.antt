@@ -7,7 +7,7 @@ use Rattle.fl_check.specs.declared.interface.Scalar.TheVariants.{Uint8, Int8, Bo
 use Rattle.fl_check.specs.Interface.{TheType, scalar, enumeration, structure, array, TheArgType, fixed, text, sized, TheMessage, TheInterface}
 use Rattle.fl_image.specs.Image.{one, two, name_image, is_name, type_image, argument_image, message_image, interface_image}
 use Rattle.fl_image.specs.Reading.{◌>>=◌, many_at, more_at, one_at, two_at, name_at, type_at, text_at, sized_at, fixed_at, argument_at, argument_count_at, arguments_at, message_at, is_next, message_after, message_count_at, messages_at, interface_at}
-use Rattle.fl_image.proofs.Law.{IsBytes, Law, Takes, follow, mapped, ranged, many, more, IsList, AllAfter}
+use Rattle.fl_image.proofs.ReadBack.{IsBytes, Law, Takes, follow, mapped, ranged, many, more, IsList, AllAfter}
 use Rattle.fl_image.proofs.Numbers.{one_law, two_law, name_law, bytes_behind}
 use Rattle.fl_image.proofs.TypeLaws.{NestsIn, type_law, picked}
 

@@ -7,7 +7,7 @@ use Rattle.fl_stub.specs.Structure.{is_within}
 use Rattle.fl_image.specs.declared.fault.Refusal.TheVariants.{EndsEarly}
 use Rattle.fl_image.specs.Image.{one, two, four, name_image, is_word, is_name}
 use Rattle.fl_image.specs.Reading.{◌>>=◌, in_range, one_at, two_at, four_at, len_at, word_at, name_at}
-use Rattle.fl_image.proofs.Law.{IsBytes, Law, Takes, follow, mapped, ranged, ok_is}
+use Rattle.fl_image.proofs.ReadBack.{IsBytes, Law, Takes, follow, mapped, ranged, ok_is}
 
 pub bytes_behind : (b : ℕ) (bytes : List ℕ) → IsBytes (b ∷ bytes) → IsBytes bytes
 bytes_behind b bytes h i = h (suc i)

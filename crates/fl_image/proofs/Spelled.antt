@@ -19,7 +19,7 @@ use Rattle.fl_compile.specs.Compiled.{scalar_op, enum_op, text_op, pad_op, paddi
 use Rattle.fl_image.specs.Image.{has_short_enums, have_short_enums}
 use Rattle.fl_image.specs.Reading.{op_with}
 use Rattle.fl_image.specs.Limits.{IsAlign}
-use Rattle.fl_image.proofs.Law.{AllAfter}
+use Rattle.fl_image.proofs.ReadBack.{AllAfter}
 use Rattle.fl_image.proofs.CodeLaws.{HasImage}
 use Rattle.fl_image.proofs.Caps.{type_align, fields_align, round_up_most, round_up_least}
 

@@ -9,7 +9,7 @@ use Rattle.fl_check.specs.Checks.{count_of}
 use Rattle.fl_image.specs.declared.fault.Refusal.TheVariants.{BadField}
 use Rattle.fl_image.specs.Image.{one, two, scalar_code, type_image, fields_image}
 use Rattle.fl_image.specs.Reading.{◌>>=◌, Read, known, many_at, one_at, two_at, with_code, all_scalars, scalar_with, scalar_at, enumeration_at, structure_at, array_at, coded_at, type_at}
-use Rattle.fl_image.proofs.Law.{IsBytes, Law, Takes, follow, mapped, many, IsList, AllAfter, bind_ok, first_is, rest_is}
+use Rattle.fl_image.proofs.ReadBack.{IsBytes, Law, Takes, follow, mapped, many, IsList, AllAfter, bind_ok, first_is, rest_is}
 use Rattle.fl_image.proofs.Numbers.{one_law, two_law}
 
 -- which way a test went

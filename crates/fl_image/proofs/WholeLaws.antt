@@ -10,7 +10,7 @@ use Rattle.fl_image.specs.declared.fault.Refusal.{Refusal}
 use Rattle.fl_image.specs.declared.fault.Refusal.TheVariants.{OtherMagic, OtherVersion, BytesLeftOver}
 use Rattle.fl_image.specs.Image.{two, four, Fields, codes_image, magic, version_of, interface_image, fields_spelled}
 use Rattle.fl_image.specs.Reading.{◌>>=◌, Read, many_at, four_at, two_at, interface_at, codes_at, magic_at, plan_at, fields_at, all_of}
-use Rattle.fl_image.proofs.Law.{IsBytes, Law, Takes, follow, mapped, many, IsList, bind_ok, first_is, rest_is}
+use Rattle.fl_image.proofs.ReadBack.{IsBytes, Law, Takes, follow, mapped, many, IsList, bind_ok, first_is, rest_is}
 use Rattle.fl_image.proofs.Numbers.{two_law, four_law}
 use Rattle.fl_image.proofs.TypeLaws.{picked}
 use Rattle.fl_image.proofs.MessageLaws.{HasInterface, interface_law}
@@ -38,7 +38,7 @@ magic_again : (u : Nothing) (rest : List ℕ) → Nothing → magic_at (magic ++
 unfolding magic_at
 magic_again u rest h = ap (λ (r : Read ℕ). r >>= λ number. cond (eqb number.0 1145982022) (Ok (tt, number.1)) (Err OtherMagic)) (four_law.again 1145982022 rest (omega arith))
 
-magic_law : Law magic_at (λ (u : Nothing). magic) (λ u. Nothing)
+pub magic_law : Law magic_at (λ (u : Nothing). magic) (λ u. Nothing)
 magic_law = record { takes = magic_takes; again = magic_again }
 
 abbrev plan_of : ℕ → List ℕ → Read PlanNo
@@ -68,7 +68,7 @@ unfolding plan_at
 plan_again One rest h = ap (λ (r : Read ℕ). r >>= λ version. plan_of version.0 version.1) (two_law.again 1 rest (omega arith))
 plan_again Two rest h = ap (λ (r : Read ℕ). r >>= λ version. plan_of version.0 version.1) (two_law.again 2 rest (omega arith))
 
-plan_law : Law plan_at (λ plan. two (version_of plan)) (λ plan. Nothing)
+pub plan_law : Law plan_at (λ plan. two (version_of plan)) (λ plan. Nothing)
 plan_law = record { takes = plan_takes; again = plan_again }
 
 -- ---- all fields

@@ -187,9 +187,14 @@ argument_has_short_enums (text most) = true
 argument_has_short_enums (sized most t) = has_short_enums t
 
 -- a message whose name and enums have room in an image
-abbrev pub is_message_spellable : TheMessage → Bool
-is_message_spellable m = is_name m.name && list_all argument_has_short_enums m.args
+abbrev pub is_message_writable : TheMessage → Bool
+is_message_writable m = is_name m.name && list_all argument_has_short_enums m.args
 
--- an interface that has an image: within the limits, its names words, its enums short
+-- an interface whose names and enums have room in an image: its names are words of 1 to 64 bytes, its enums have at most
+-- 65,535 enumerators; every interface of a text is so
+abbrev pub is_writable : TheInterface → Bool
+is_writable x = is_name x.name && list_all is_message_writable x.messages
+
+-- an interface that has an image: within the limits, and writable
 abbrev pub has_image : TheInterface → Bool
-has_image x = is_within_limits x && (is_name x.name && list_all is_message_spellable x.messages)
+has_image x = is_within_limits x && is_writable x

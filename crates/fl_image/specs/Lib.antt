@@ -3,3 +3,4 @@ pub mod Reading
 pub mod Views
 pub mod Limits
 pub mod Outcome
+pub mod Laws

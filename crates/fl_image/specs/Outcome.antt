@@ -1,5 +1,5 @@
 -- What reading an image answers, as contracts see it.
-use Rattle.std.specs.Prelude.{◌≡◌, ℕ, true, List, Result, Ok, Err}
+use Rattle.std.specs.Prelude.{◌≡◌, ◌++◌, ℕ, true, List, Result, Ok, Err}
 use Rattle.fl_check.specs.Interface.{TheInterface}
 use Rattle.fl_value.specs.declared.value.PlanNo.{PlanNo}
 use Rattle.fl_compile.specs.declared.program.Program.{Program}
@@ -8,7 +8,7 @@ use Rattle.fl_image.specs.declared.fault.Refusal.{Refusal}
 use Rattle.fl_image.specs.declared.fault.Refusal.TheVariants.{OtherMagic, OtherVersion, EndsEarly, BadField, OtherCode, BytesLeftOver}
 use Rattle.fl_image.specs.declared.fault.ImageFault.{ImageFault}
 use Rattle.fl_image.specs.declared.fault.ImageFault.TheVariants.{Refused, Memory}
-use Rattle.fl_image.specs.Image.{has_image, image_of}
+use Rattle.fl_image.specs.Image.{two, name_image, magic, version_of, is_name}
 use Rattle.fl_image.specs.Reading.{FirstFault}
 
 -- the number of a fault; want of memory is E99
@@ -30,12 +30,15 @@ Reads plan x (Ok p) = program_of p ≡ record { interface = x; plan = plan }
 Reads plan x (Err (Refused r)) = ⊥
 Reads plan x (Err Memory) = Unit {0}
 
--- an error tells the first fault, where it isn't want of memory
+-- bytes that begin as an image does: with the magic, a version and a name
+pub record BeginsAsImage (bytes : List ℕ) : Type 0 where
+  pub plan : PlanNo
+  pub name : List ℕ
+  pub rest : List ℕ
+  pub is_named : is_name name ≡ true
+  pub spelled : bytes ≡ magic ++ (two (version_of plan) ++ (name_image name ++ rest))
+
+-- an error tells the first fault; memory runs out only behind the start of an image, where no fault of the start applies
 abbrev pub Answers : ImageFault → List ℕ → Type 0
 Answers (Refused r) bytes = FirstFault bytes r
-Answers Memory bytes = Unit {0}
-
--- Two interfaces with one image are equal, and so are their plans.
-abbrev pub OneImage : Type 0
-OneImage = (plan plan2 : PlanNo) (x y : TheInterface) → has_image x ≡ true → has_image y ≡ true → image_of plan x ≡ image_of plan2 y
-    → (plan ≡ plan2) × (x ≡ y)
+Answers Memory bytes = BeginsAsImage bytes

@@ -54,6 +54,16 @@ more_at read (suc n) before bytes = read before bytes >>= λ x. more_at read n (
 abbrev pub many_at : {A : Type 0} → (List ℕ → Read A) → ℕ → List ℕ → Read (List A)
 many_at read n bytes = more_at (λ before. read) n [] bytes
 
+-- a fault of the bytes, and not that memory ran out
+abbrev pub IsOfBytes : ImageFault → Type 0
+IsOfBytes faults.Memory = ⊥
+IsOfBytes (faults.Refused e) = Unit {0}
+
+-- where memory ran out, this had been read without a fault
+abbrev pub Behind : {A : Type 0} → ImageFault → Read A → Type 0
+Behind {A} faults.Memory read = (x : A × List ℕ) × (read ≡ Ok x)
+Behind (faults.Refused e) read = Unit {0}
+
 -- ---- numbers and names: a field that passes the end is none
 
 unfoldable pub one_at : List ℕ → Read ℕ
@@ -263,6 +273,13 @@ unfoldable pub plan_at : List ℕ → Read PlanNo
 plan_at bytes = do
   version ← two_at bytes
   if version.0 == 1 then Ok (One, version.1) else (if version.0 == 2 then Ok (Two, version.1) else Err OtherVersion)
+
+-- the start of an image, before anything grows
+unfoldable pub start_at : List ℕ → Read (List ℕ)
+start_at bytes = do
+  start ← magic_at bytes
+  plan ← plan_at start.1
+  name_at plan.1
 
 unfoldable pub interface_at : List ℕ → Read TheInterface
 interface_at bytes = do

@@ -1,8 +1,8 @@
 //! Messages and interfaces off the front of an image.
 
-ghost use Rattle.std.specs.Prelude.{◌≡◌, [], map};
+ghost use Rattle.std.specs.Prelude.{◌≡◌, [], map, IfErr};
 ghost use Rattle.fl_check.specs.Interface.{message_of, interface_of};
-ghost use Rattle.fl_image.specs.Reading.{Gives, more_at, message_at, is_next, message_after, message_count_at, messages_at, interface_at};
+ghost use Rattle.fl_image.specs.Reading.{Gives, Behind, more_at, name_at, message_at, is_next, message_after, message_count_at, messages_at, interface_at};
 
 use crate::fault::{ImageFault, Refusal};
 use crate::limits::{is_message_within, is_taken};
@@ -87,6 +87,7 @@ fn messages(alloc: Global, bytes: &[u8]) -> Result<(Vec<Message>, &[u8]), ImageF
 #[tactic(auto, unfolding(crate::specs::Reading::interface_at))]
 pub(crate) fn interface(alloc: Global, bytes: &[u8]) -> Result<(Interface, &[u8]), ImageFault>
     ensures reads { Gives (λ x. (interface_of x.0, x.1.now)) result (interface_at bytes.now) }
+    ensures memory { IfErr result (λ e. Behind e (name_at bytes.now)) }
 {
     let (name, rest) = name(alloc, bytes)?;
     let (messages, rest) = messages(alloc, rest)?;

@@ -1,9 +1,9 @@
 //! Numbers and names off the front of an image.
 
-ghost use Rattle.std.specs.Prelude.{◌≡◌, ◌<◌, IfOk};
+ghost use Rattle.std.specs.Prelude.{◌≡◌, ◌<◌, IfOk, IfErr};
 ghost use Rattle.std.specs.List.{list_all};
 ghost use Rattle.fl_image.specs.Image.{is_letter, is_in_word, is_word};
-ghost use Rattle.fl_image.specs.Reading.{Gives, one_at, two_at, four_at, len_at, word_at, name_at};
+ghost use Rattle.fl_image.specs.Reading.{Gives, IsOfBytes, Behind, one_at, two_at, four_at, len_at, word_at, name_at};
 
 use crate::fault::{ImageFault, Refusal};
 use fl_check::Word;
@@ -13,6 +13,7 @@ use std::alloc::Global;
 #[tactic(auto, unfolding(crate::specs::Reading::one_at))]
 pub(crate) fn one(bytes: &[u8]) -> Result<(u8, &[u8]), ImageFault>
     ensures reads { Gives (λ x. (x.0, x.1.now)) result (one_at bytes.now) }
+    ensures of_bytes { IfErr result IsOfBytes }
 {
     match bytes {
         [first, rest @ ..] => Ok((*first, rest)),
@@ -24,6 +25,7 @@ pub(crate) fn one(bytes: &[u8]) -> Result<(u8, &[u8]), ImageFault>
 #[tactic(auto, unfolding(crate::specs::Reading::two_at))]
 pub(crate) fn two(bytes: &[u8]) -> Result<(u32, &[u8]), ImageFault>
     ensures reads { Gives (λ x. (x.0, x.1.now)) result (two_at bytes.now) }
+    ensures of_bytes { IfErr result IsOfBytes }
     ensures small { IfOk result (λ x. x.0 < 65536) }
 {
     let (low, rest) = one(bytes)?;
@@ -35,6 +37,7 @@ pub(crate) fn two(bytes: &[u8]) -> Result<(u32, &[u8]), ImageFault>
 #[tactic(auto, unfolding(crate::specs::Reading::four_at))]
 pub(crate) fn four(bytes: &[u8]) -> Result<(u32, &[u8]), ImageFault>
     ensures reads { Gives (λ x. (x.0, x.1.now)) result (four_at bytes.now) }
+    ensures of_bytes { IfErr result IsOfBytes }
 {
     let (low, rest) = two(bytes)?;
     let (high, rest) = two(rest)?;
@@ -63,7 +66,7 @@ fn are_in_word(bytes: &[u8]) -> bool
 }
 
 /// Whether the bytes form a word.
-fn is_word(bytes: &[u8]) -> bool
+pub(crate) fn is_word(bytes: &[u8]) -> bool
     ensures exact { result ≡ is_word bytes.now }
 {
     let [first, more @ ..] = bytes else {
@@ -76,6 +79,7 @@ fn is_word(bytes: &[u8]) -> bool
 #[tactic(auto, unfolding(crate::specs::Reading::word_at))]
 fn word(alloc: Global, len: usize, bytes: &[u8]) -> Result<(Word, &[u8]), ImageFault>
     ensures reads { Gives (λ x. (x.0.bytes.items, x.1.now)) result (word_at len bytes.now) }
+    ensures memory { IfErr result (λ e. Behind e (word_at len bytes.now)) }
 {
     if bytes.len() < len {
         return Err(ImageFault::Refused(Refusal::EndsEarly));
@@ -92,6 +96,7 @@ fn word(alloc: Global, len: usize, bytes: &[u8]) -> Result<(Word, &[u8]), ImageF
 #[tactic(auto, unfolding(crate::specs::Reading::len_at))]
 fn len(bytes: &[u8]) -> Result<(u8, &[u8]), ImageFault>
     ensures reads { Gives (λ x. (x.0, x.1.now)) result (len_at bytes.now) }
+    ensures of_bytes { IfErr result IsOfBytes }
 {
     let (len, rest) = one(bytes)?;
     if !(1 <= len && len <= 64) {
@@ -104,6 +109,7 @@ fn len(bytes: &[u8]) -> Result<(u8, &[u8]), ImageFault>
 #[tactic(auto, unfolding(crate::specs::Reading::name_at))]
 pub(crate) fn name(alloc: Global, bytes: &[u8]) -> Result<(Word, &[u8]), ImageFault>
     ensures reads { Gives (λ x. (x.0.bytes.items, x.1.now)) result (name_at bytes.now) }
+    ensures memory { IfErr result (λ e. Behind e (name_at bytes.now)) }
 {
     let (len, rest) = len(bytes)?;
     word(alloc, usize::from(len), rest)

@@ -6,9 +6,9 @@ ghost use Rattle.fl_check.specs.Interface.{TheInterface, interface_of};
 ghost use Rattle.fl_value.specs.declared.value.PlanNo.{PlanNo as the_plan};
 ghost use Rattle.fl_compile.specs.Programs.{program_of};
 ghost use Rattle.fl_image.specs.Image.{has_image, image_of};
-ghost use Rattle.fl_image.specs.Reading.{Gives, magic_at, plan_at, fields_at, all_of};
+ghost use Rattle.fl_image.specs.Reading.{Gives, IsOfBytes, Behind, magic_at, plan_at, start_at, fields_at, all_of};
 ghost use Rattle.fl_image.specs.Views.{found_view};
-ghost use Rattle.fl_image.specs.Outcome.{Reads, Answers, OneImage};
+ghost use Rattle.fl_image.specs.Outcome.{Reads, Answers};
 
 use crate::code::{MessageOps, all_ops};
 use crate::fault::{ImageFault, Refusal};
@@ -32,6 +32,7 @@ pub(crate) struct Found {
 #[tactic(auto, unfolding(crate::specs::Reading::magic_at))]
 fn magic(bytes: &[u8]) -> Result<&[u8], ImageFault>
     ensures reads { Gives (λ x. (tt, x.now)) result (magic_at bytes.now) }
+    ensures of_bytes { IfErr result IsOfBytes }
 {
     let (number, rest) = four(bytes)?;
     if number != 0x444e_4c46 {
@@ -44,6 +45,7 @@ fn magic(bytes: &[u8]) -> Result<&[u8], ImageFault>
 #[tactic(auto, unfolding(crate::specs::Reading::plan_at))]
 fn plan(bytes: &[u8]) -> Result<(PlanNo, &[u8]), ImageFault>
     ensures reads { Gives (λ x. (x.0, x.1.now)) result (plan_at bytes.now) }
+    ensures of_bytes { IfErr result IsOfBytes }
 {
     let (version, rest) = two(bytes)?;
     match version {
@@ -57,6 +59,7 @@ fn plan(bytes: &[u8]) -> Result<(PlanNo, &[u8]), ImageFault>
 #[tactic(auto, unfolding(crate::specs::Reading::fields_at))]
 fn fields(alloc: Global, bytes: &[u8]) -> Result<(Found, &[u8]), ImageFault>
     ensures reads { Gives (λ x. (found_view x.0, x.1.now)) result (fields_at bytes.now) }
+    ensures memory { IfErr result (λ e. Behind e (start_at bytes.now)) }
 {
     let rest = magic(bytes)?;
     let (plan, rest) = plan(rest)?;
@@ -74,6 +77,7 @@ fn fields(alloc: Global, bytes: &[u8]) -> Result<(Found, &[u8]), ImageFault>
 #[tactic(auto, unfolding(crate::specs::Reading::all_of))]
 fn all(alloc: Global, bytes: &[u8]) -> Result<Found, ImageFault>
     ensures reads { Gives found_view result (all_of bytes.now) }
+    ensures memory { IfErr result (λ e. Behind e (start_at bytes.now)) }
 {
     let (found, rest) = fields(alloc, bytes)?;
     if !rest.is_empty() {
@@ -93,7 +97,8 @@ fn same_bytes(left: &[u8], right: &[u8]) -> bool
 /// gives for the program. Otherwise the first fault from front to back.
 ///
 /// # Errors
-/// The first fault (E80 to E85), or want of memory (E99).
+/// The first fault (E80 to E85); or out of memory (E99), which is answered only of bytes that begin as an image does, with the
+/// magic, a version and a name: nothing grows before these were found right.
 pub fn read_image(alloc: Global, bytes: &[u8]) -> Result<Program, ImageFault>
     ensures found { IfOk result (λ p. (has_image (program_of p).interface ≡ true) × (bytes.now ≡ image_of (program_of p).plan (program_of p).interface)) }
     ensures only { (plan : the_plan) (x : TheInterface) → has_image x ≡ true → bytes.now ≡ image_of plan x → Reads plan x result }
@@ -107,8 +112,3 @@ pub fn read_image(alloc: Global, bytes: &[u8]) -> Result<Program, ImageFault>
     }
     Ok(program)
 }
-
-/// An image is that of one interface under one plan.
-pub fn one_image()
-    ensures unique { OneImage }
-{}

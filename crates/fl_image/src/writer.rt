@@ -1,13 +1,13 @@
 //! Images of programs.
 
-ghost use Rattle.std.specs.Prelude.{◌≡◌, ◌++◌, ◌<◌, map, length, IfOk, OnOk, slice_get, Some};
+ghost use Rattle.std.specs.Prelude.{◌≡◌, ◌++◌, ◌<◌, true, map, length, IfOk, OnOk, slice_get, Some};
 ghost use Rattle.std.specs.Option.{option_map};
 ghost use Rattle.std.specs.List.{flat_map};
 ghost use Rattle.fl_check.specs.Interface.{TheMessage, type_of, arg_type_of, message_of, interface_of, fields_from, structure, array};
 ghost use Rattle.fl_compile.specs.Programs.{program_of};
 ghost use Rattle.fl_compile.specs.Compiled.{message_code};
 ghost use Rattle.fl_stub.specs.declared.op.Column.TheVariants.{Send, Receive};
-ghost use Rattle.fl_image.specs.Image.{one, two, four, name_image, scalar_code, type_image, fields_image, argument_image, message_image, interface_image, op_code, op_image, code_image, codes_image, codes_of, version_of, image_of};
+ghost use Rattle.fl_image.specs.Image.{one, two, four, name_image, scalar_code, type_image, fields_image, argument_image, message_image, interface_image, op_code, op_image, code_image, codes_image, codes_of, version_of, is_writable, has_image, image_of};
 
 use crate::code::operand_of;
 use fl_base::MsgNo;
@@ -273,12 +273,18 @@ fn version_of(plan: PlanNo) -> u64
     }
 }
 
-/// The image of a program: the bytes that spell its interface, its plan and its code.
+/// The image of a program: the bytes that spell its interface, its plan and its code. No other program has it, and
+/// [`read_image`](crate::read_image) gives this one back.
+///
+/// The interface is one that an image can spell: one of a text or of an image is, and
+/// [`is_writable`](crate::is_writable) tells it of any other.
 ///
 /// # Errors
 /// Want of memory (E99).
 pub fn write_image(alloc: Global, program: &Program) -> Result<Vec<u8>, AllocError>
+    requires writable { is_writable (program_of program.now).interface ≡ true }
     ensures image { IfOk result (λ v. v.items ≡ image_of (program_of program.now).plan (program_of program.now).interface) }
+    ensures has { has_image (program_of program.now).interface ≡ true }
 {
     let mut out = Vec::new(alloc);
     out.extend_from_slice(&[70, 76, 78, 68])?;

@@ -12,14 +12,14 @@ use Rattle.fl_check.specs.Known.{is_string, scalar_named, is_among, Named, Befor
 use Rattle.fl_check.specs.Places.{Place, rule, rpc_name_place, declaration_places, places_from, arguments_of, argument_places, some_too_long, whole_message_place, message_names}
 use Rattle.fl_check.specs.Checks.{IsSound}
 use Rattle.fl_parse.specs.Tree.{TheName, TheNumber, TheField, TheShape, plain, bounded, sized as sized_shape, TheArgument, TheDirected, TheDeclaration, alias_of, typedef_of, enum_of, struct_of, message_of, rpc_of, TheTree}
-use Rattle.fl_image.specs.Image.{is_letter, is_in_word, is_word, is_name, has_short_enums, have_short_enums, argument_has_short_enums, is_message_spellable}
+use Rattle.fl_image.specs.Image.{is_letter, is_in_word, is_word, is_name, has_short_enums, have_short_enums, argument_has_short_enums, is_message_writable}
 use Rattle.fl_show.proofs.Words.{both}
 use Rattle.fl_show.proofs.TreeNames.{IsSmall}
 
 -- every type declared has short enums, and every message is spellable
 record Kept (b : Before) : Type 0 where
   types : list_all (λ (k : Named). has_short_enums k.type) b.types ≡ true
-  messages : list_all is_message_spellable b.messages ≡ true
+  messages : list_all is_message_writable b.messages ≡ true
 
 -- ---- types
 
@@ -68,7 +68,7 @@ arguments_short b [] k = refl
 arguments_short b (a ∷ args) k =
     both (argument_has_short_enums (argument_type b a)) (list_all argument_has_short_enums (map (argument_type b) args)) (argument_short b a k) (arguments_short b args k)
 
-message_spellable : (b : Before) (name : List ℕ) (args : List TheArgument) → Kept b → is_name name ≡ true → is_message_spellable (message_from b name args) ≡ true
+message_spellable : (b : Before) (name : List ℕ) (args : List TheArgument) → Kept b → is_name name ≡ true → is_message_writable (message_from b name args) ≡ true
 message_spellable b name args k h = both (is_name name) (list_all argument_has_short_enums (map (argument_type b) args)) h (arguments_short b args k)
 
 -- ---- the two names of an rpc
@@ -113,13 +113,13 @@ one_more p xs ys h g = list_all-append p xs ys ∙ both (list_all p xs) (list_al
 with_type : (b : Before) (name : List ℕ) (t : TheType) → Kept b → has_short_enums t ≡ true → Kept (record { types = b.types ++ record { name = name; type = t } ∷ []; messages = b.messages ++ [] })
 with_type b name t k h = record {
   types = one_more (λ (m : Named). has_short_enums m.type) b.types (record { name = name; type = t } ∷ []) k.types (both (has_short_enums t) true h refl);
-  messages = one_more is_message_spellable b.messages [] k.messages refl;
+  messages = one_more is_message_writable b.messages [] k.messages refl;
 }
 
-with_messages : (b : Before) (ms : List TheMessage) → Kept b → list_all is_message_spellable ms ≡ true → Kept (record { types = b.types ++ []; messages = b.messages ++ ms })
+with_messages : (b : Before) (ms : List TheMessage) → Kept b → list_all is_message_writable ms ≡ true → Kept (record { types = b.types ++ []; messages = b.messages ++ ms })
 with_messages b ms k h = record {
   types = one_more (λ (m : Named). has_short_enums m.type) b.types [] k.types refl;
-  messages = one_more is_message_spellable b.messages ms k.messages h;
+  messages = one_more is_message_writable b.messages ms k.messages h;
 }
 
 kept_after : (b : Before) (d : TheDeclaration) → Kept b → IsSmall d → All IsSound (declaration_places b d) → Kept (after b d)
@@ -129,14 +129,14 @@ kept_after b (typedef_of old new count) k h s =
 kept_after b (enum_of members name) k h s = with_type b name.text (enumeration (length members)) k (le-leb (length members) 65535 h)
 kept_after b (struct_of fields name) k h s = with_type b name.text (structure (fields_from (map (field_type b) fields))) k (fields_short b fields k)
 kept_after b (message_of kind name args) k h s =
-    with_messages b (message_from b name.text args ∷ []) k (both (is_message_spellable (message_from b name.text args)) true (message_spellable b name.text args k h) refl)
+    with_messages b (message_from b name.text args ∷ []) k (both (is_message_writable (message_from b name.text args)) true (message_spellable b name.text args k h) refl)
 kept_after b (rpc_of name args) k h s =
     let m1 = message_from b (call_name name) (ins args) in
     let m2 = message_from b (response_name name) (outs args) in
     let few = rpc_name_short b name (All-head IsSound (rpc_name_place b name) (argument_places b [] 0 (arguments_of args) ++ whole_message_place name (some_too_long (m1 ∷ (m2 ∷ []))) ∷ []) s) in
     let first = message_spellable b (call_name name) (ins args) k (longer_name name.text (codes "_call") h refl (omega (arith, few))) in
     let second = message_spellable b (response_name name) (outs args) k (longer_name name.text (codes "_response") h refl (omega (arith, few))) in
-    with_messages b (m1 ∷ (m2 ∷ [])) k (both (is_message_spellable m1) (is_message_spellable m2 && true) first (both (is_message_spellable m2) true second refl))
+    with_messages b (m1 ∷ (m2 ∷ [])) k (both (is_message_writable m1) (is_message_writable m2 && true) first (both (is_message_writable m2) true second refl))
 
 all_front : (ps qs : List Place) → All IsSound (ps ++ qs) → All IsSound ps
 all_front [] qs a = All-nil IsSound
@@ -153,5 +153,5 @@ kept_all b (d ∷ ds) k h s =
     (all_back (declaration_places b d) (places_from (after b d) ds) s)
 
 -- the messages that declarations declare are spellable
-pub messages_spellable : (ds : List TheDeclaration) → AllByRecursion IsSmall ds → All IsSound (places_from nothing_declared ds) → list_all is_message_spellable (after_all nothing_declared ds).messages ≡ true
+pub messages_spellable : (ds : List TheDeclaration) → AllByRecursion IsSmall ds → All IsSound (places_from nothing_declared ds) → list_all is_message_writable (after_all nothing_declared ds).messages ≡ true
 messages_spellable ds h s = (kept_all nothing_declared ds (record { types = refl; messages = refl }) h s).messages

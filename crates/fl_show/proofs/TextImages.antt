@@ -1,6 +1,7 @@
 -- The interface that a text stands for has an image.
 use Rattle.std.proofs.Common.{◌≡◌, ℕ, true, ◌&&◌, List, ap, ◌∙◌, subst}
 use Rattle.std.specs.List.{list_all}
+use Rattle.std.proofs.lemmas.Bool.{and_parts}
 use Rattle.fl_lex.specs.Token.{TheTokens}
 use Rattle.fl_lex.specs.Outcome.{IsLexed}
 use Rattle.fl_parse.specs.Grammar.{Derives}
@@ -11,7 +12,7 @@ use Rattle.fl_check.proofs.Limits.{within_limits}
 use Rattle.fl_value.specs.declared.value.PlanNo.{PlanNo}
 use Rattle.fl_value.specs.declared.value.PlanNo.TheVariants.{Two}
 use Rattle.fl_compile.specs.Programs.{TheProgram}
-use Rattle.fl_image.specs.Image.{is_name, is_message_spellable, has_image, image_of}
+use Rattle.fl_image.specs.Image.{is_name, is_message_writable, is_writable, has_image, image_of}
 use Rattle.fl_show.specs.Shown.{StandsFor as TextStandsFor, IsImageOf, ShowsImage}
 use Rattle.fl_show.specs.Table.{IsTable}
 use Rattle.fl_show.proofs.Words.{both}
@@ -24,8 +25,13 @@ text_has_image bytes tokens tree i l p s =
     let x = interface_from tree in
     let spelled = messages_spellable tree.declarations small.declarations s.0 in
     ap has_image s.1
-    ∙ both (is_within_limits x) (is_name x.name && list_all is_message_spellable x.messages) (within_limits tree s.0)
-    (both (is_name x.name) (list_all is_message_spellable x.messages) small.name spelled)
+    ∙ both (is_within_limits x) (is_name x.name && list_all is_message_writable x.messages) (within_limits tree s.0)
+    (both (is_name x.name) (list_all is_message_writable x.messages) small.name spelled)
+
+-- so an image can spell it
+pub text_is_writable : (bytes : List ℕ) (i x : TheInterface) → TextStandsFor bytes i → x ≡ i → is_writable x ≡ true
+text_is_writable bytes i x s e =
+    ap is_writable e ∙ (and_parts (is_within_limits i) (is_writable i) (text_has_image bytes s.tokens s.tree i s.spells s.derives s.checks)).1
 
 -- what a program's image is an image of, where the program was compiled from a text's interface under plan 2
 pub image_told : (bytes image : List ℕ) (i : TheInterface) (p : TheProgram) → TextStandsFor bytes i → p.interface ≡ i → p.plan ≡ Two → image ≡ image_of p.plan p.interface

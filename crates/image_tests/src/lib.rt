@@ -10,3 +10,5 @@ mod memory_tests;
 mod row_tests;
 #[cfg(test)]
 mod stub_tests;
+#[cfg(test)]
+mod writable_tests;

@@ -2,7 +2,7 @@
 
 use fl_check::check;
 use fl_compile::{Program, compile};
-use fl_image::{read_image, write_image};
+use fl_image::{is_writable, read_image, write_image};
 use fl_lex::lex;
 use fl_parse::parse;
 use fl_value::PlanNo;
@@ -26,6 +26,9 @@ fn program_of(alloc: Global, text: &[u8], plan: PlanNo) -> Result<Program, Fail>
 /// The image of a text under a plan.
 fn image_of(alloc: Global, text: &[u8], plan: PlanNo) -> Result<Vec<u8>, Fail> {
     let program = program_of(alloc, text, plan)?;
+    if !is_writable(program.interface()) {
+        return Err(Fail::from("the interface of a text isn't writable"));
+    }
     Ok(write_image(alloc, &program).ok().ok_or("no image")?)
 }
 

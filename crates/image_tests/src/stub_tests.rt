@@ -3,7 +3,7 @@
 use fl_base::{Circuit, Frag, MsgNo};
 use fl_check::check;
 use fl_compile::{Program, compile};
-use fl_image::{read_image, write_image};
+use fl_image::{is_writable, read_image, write_image};
 use fl_lex::lex;
 use fl_machine::SendRun;
 use fl_parse::parse;
@@ -18,7 +18,11 @@ fn program_read(alloc: Global, plan: PlanNo) -> Result<Program, Fail> {
     let tokens = lex(alloc, MIXED)?;
     let tree = parse(alloc, &tokens)?;
     let interface = check(alloc, &tree)?;
-    let image = write_image(alloc, &compile(alloc, &interface, plan)?)?;
+    let program = compile(alloc, &interface, plan)?;
+    if !is_writable(program.interface()) {
+        return Err(Fail::from("the interface of a text isn't writable"));
+    }
+    let image = write_image(alloc, &program)?;
     Ok(read_image(alloc, &image)?)
 }
 

@@ -1,7 +1,7 @@
 //! Tables of texts and of their images, and refusals as they are told.
 
 use fl_compile::compile;
-use fl_image::write_image;
+use fl_image::{is_writable, write_image};
 use fl_show::{read_interface, show_content};
 use fl_value::PlanNo;
 use std::alloc::Global;
@@ -28,7 +28,11 @@ arg 2 at 0 fixed 2
 /// The image of that text under a plan.
 fn image_of(alloc: Global, plan: PlanNo) -> Result<Vec<u8>, Fail> {
     let interface = read_interface(alloc, MIXED)?;
-    Ok(write_image(alloc, &compile(alloc, &interface, plan)?)?)
+    let program = compile(alloc, &interface, plan)?;
+    if !is_writable(program.interface()) {
+        return Err(Fail::from("the interface of a text isn't writable"));
+    }
+    Ok(write_image(alloc, &program)?)
 }
 
 // A text is shown under plan 2, an image under its own plan.

@@ -3,8 +3,30 @@ use Rattle.std.proofs.lemmas.Bool.{false≢true}
 use Rattle.std.proofs.lemmas.Result.{err_from_is_err_and}
 use Rattle.fl_compile.specs.Programs.{program_of}
 use Rattle.fl_image.specs.Image.{image_of}
-use Rattle.fl_image.proofs.Answered.{Fitting, is_found, is_other, only_program, no_other, no_fault}
+use Rattle.fl_image.specs.Views.{found_view}
+use Rattle.fl_image.proofs.Answered.{Fitting, is_found, is_found_writable, is_other, only_program, no_other, no_fault}
+use Rattle.fl_image.proofs.Begun.{answers, all_begun}
 use Rattle.fl_image.proofs.reader.read_image.Goals as goal
+
+pub returns-in_err-found-clause-fault : goal.returns-in_err-found-clause-fault
+returns-in_err-found-clause-fault c =
+    let p = err_from_is_err_and c.from_residual.result c.from_residual.ensures.1 in
+    rw (p.1, p.2) (answers c.args.bytes.now c.in_err-found.field-0.0 (λ i. omega (arith, c.type_inv.bytes i)) c.in_err-found.ensures.reads c.in_err-found.ensures.memory)
+
+pub returns-in_err-program-clause-fault : goal.returns-in_err-program-clause-fault
+returns-in_err-program-clause-fault c =
+    let p = err_from_is_err_and c.from_residual-in_err-program.result c.from_residual-in_err-program.ensures.1 in
+    rw (p.1, p.2) (all_begun c.args.bytes.now (found_view c.in_ok-found.found) (λ i. omega (arith, c.type_inv.bytes i)) c.in_ok-found.ensures.reads)
+
+pub returns-in_err-image-clause-fault : goal.returns-in_err-image-clause-fault
+returns-in_err-image-clause-fault c =
+    let p = err_from_is_err_and c.from_residual-in_err-image.result c.from_residual-in_err-image.ensures.1 in
+    rw (p.1, p.2) (all_begun c.args.bytes.now (found_view c.in_ok-found.found) (λ i. omega (arith, c.type_inv.bytes i)) c.in_ok-found.ensures.reads)
+
+pub write_image-requires : goal.write_image-requires
+write_image-requires c =
+    let fit : Fitting c.in_ok-found.found c.in_ok-program.program = record { interface = c.in_ok-program.ensures.interface; plan = c.in_ok-program.ensures.plan } in
+    record { writable = is_found_writable c.args.bytes.now c.in_ok-found.found c.in_ok-program.program (λ i. omega (arith, c.type_inv.bytes i)) c.in_ok-found.ensures.reads fit }
 
 pub returns-in_err-found-clause-only : goal.returns-in_err-found-clause-only
 returns-in_err-found-clause-only c = λ plan x h e.

@@ -1,7 +1,12 @@
 use Rattle.fl_check.specs.Interface.{interface_of}
 use Rattle.fl_compile.specs.Programs.{program_of}
-use Rattle.fl_show.proofs.TextImages.{image_told}
+use Rattle.fl_show.proofs.TextImages.{text_is_writable, image_told}
 use Rattle.fl_show.proofs.image.compile_text.Goals as goal
+
+pub write_image-requires : goal.write_image-requires
+write_image-requires c = record {
+  writable = text_is_writable c.args.text.now (interface_of c.in_ok-interface.interface) (program_of c.in_ok-program.program).interface c.in_ok-interface.ensures.interface c.in_ok-program.ensures.interface;
+}
 
 pub returns-clause-image : goal.returns-clause-image
 returns-clause-image c =

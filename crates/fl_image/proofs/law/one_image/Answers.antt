@@ -1,5 +1,5 @@
 use Rattle.fl_image.proofs.Answered.{image_told}
-use Rattle.fl_image.proofs.reader.one_image.Goals as goal
+use Rattle.fl_image.proofs.law.one_image.Goals as goal
 
 pub returns : goal.returns
 returns c = record { unique = image_told }
