@@ -2,7 +2,7 @@
 use Rattle.std.proofs.Common.{◌≡◌, refl, sym, ap, ◌∙◌, subst, ℕ, ◌<◌, length, slice_get, slice_index_or, Some, Result, Ok}
 use Rattle.std.proofs.lemmas.Option.{slice_get_read, slice_get_within}
 use Rattle.std.specs.declared.alloc.AllocError.{AllocError}
-use Rattle.fl_lists.specs.Threads.{Threads, IsApart}
+use Rattle.fl_lists.specs.ThreeLists.{ThreeLists, IsApart}
 use Rattle.fl_waitset.specs.declared.waitset.Pick.{Pick}
 use Rattle.fl_waitset.specs.Waiting.{next_pick}
 use Rattle.fl_link.specs.Looks.{Look}
@@ -37,7 +37,7 @@ module _ (k base : TheCore) (same : base ≡ k) (n : ℕ) (below : n < length k.
     pub ready : IsReady s.end
     ready = ready_due base sound n d (finds k base same n below d read value view) pick picked e end_due s seat_due
 
-    module _ {T : Type 0} (takes : T → Look → T → Type 0) (w : Threads) (t : TheEnd) (p q : T) (answer : Result TurnAnswer AllocError)
+    module _ {T : Type 0} (takes : T → Look → T → Type 0) (w : ThreeLists) (t : TheEnd) (p q : T) (answer : Result TurnAnswer AllocError)
         (looks : LooksAt takes pick s.kind d.lists s.end p answer w t q) where
       pub due_kept : IsApart w → IsCore (with_end (with_lists base n d w) e s t)
       due_kept apart = turn_kept base sound n d (finds k base same n below d read value view) pick picked e end_due s seat_due takes w t p q answer looks apart

@@ -3,7 +3,7 @@ use Rattle.std.proofs.Common.{◌≡◌, inl, inr, refl, sym, ap, ◌∙◌, sub
 use Rattle.std.proofs.lemmas.Bool.{cases_eq}
 use Rattle.fl_lists.specs.declared.place.Place.{Place}
 use Rattle.fl_lists.specs.declared.place.Place.TheVariants.{Idle, Polled, Pending}
-use Rattle.fl_lists.specs.Threads.{Threads, list_at, is_in, NoRepeat, IsApart, empty}
+use Rattle.fl_lists.specs.ThreeLists.{ThreeLists, list_at, is_in, NoRepeat, IsApart, empty}
 use Rattle.fl_endpoint.specs.View.{TheEnd}
 use Rattle.fl_endpoint.specs.Events.{IsReady}
 use Rattle.fl_core.specs.declared.kind.Kind.{Kind}
@@ -117,7 +117,7 @@ seated_ready k sound e s at d dispatcher_is list registered =
 
 -- ---- the lists of a dispatcher change
 
-module _ (k : TheCore) (sound : IsCore k) (n : ℕ) (d : TheDispatcher) (dispatcher_is : slice_get k.dispatchers n ≡ Some d) (w : Threads) where
+module _ (k : TheCore) (sound : IsCore k) (n : ℕ) (d : TheDispatcher) (dispatcher_is : slice_get k.dispatchers n ≡ Some d) (w : ThreeLists) where
   after_dispatcher : TheDispatcher
   after_dispatcher = record { lists = w; ends = d.ends }
 

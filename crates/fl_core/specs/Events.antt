@@ -1,7 +1,7 @@
 -- What the other events of a core come to: by cases on the answer, exactly. The side that is lent goes from p to q.
 use Rattle.std.specs.Prelude.{◌≡◌, ◌<◌, ℕ, true, false, length, slice_get, Some, IsSome, Result, Ok, Err}
 use Rattle.fl_lists.specs.declared.place.Place.{Place}
-use Rattle.fl_lists.specs.Threads.{Threads, unlinked, pushed}
+use Rattle.fl_lists.specs.ThreeLists.{ThreeLists, unlinked, pushed}
 use Rattle.fl_waitset.specs.Waiting.{is_registered}
 use Rattle.fl_link.specs.Looks.{Look, no_room, told, kept}
 use Rattle.fl_endpoint.specs.View.{TheEnd}
@@ -27,12 +27,12 @@ pub record ChangesEnd (k : TheCore) (e : ℕ) (Event : TheEnd → TheEnd → Typ
   pub core : k2 ≡ with_end k e seat end
 
 -- of the core, the lists of the dispatcher at which the end at place e sits alone have changed, as the event says
-pub record ChangesLists (k : TheCore) (e : ℕ) (Event : TheSeat → Threads → Threads → Type 0) (k2 : TheCore) : Type 0 where
+pub record ChangesLists (k : TheCore) (e : ℕ) (Event : TheSeat → ThreeLists → ThreeLists → Type 0) (k2 : TheCore) : Type 0 where
   pub seat : TheSeat
   pub seat_is : slice_get k.seats e ≡ Some seat
   pub dispatcher : TheDispatcher
   pub dispatcher_is : slice_get k.dispatchers seat.dispatcher ≡ Some dispatcher
-  pub lists : Threads
+  pub lists : ThreeLists
   pub event : Event seat dispatcher.lists lists
   pub core : k2 ≡ with_lists k seat.dispatcher dispatcher lists
 
@@ -62,19 +62,19 @@ pub record IsGrown (k : TheCore) : Type 0 where
 -- ---- a channel is registered, deregistered, acknowledged
 
 -- a channel c of this kind, unless it is registered, goes to the back of the list in which it waits
-abbrev pub Joins : {T : Type 0} → (T → Look → T → Type 0) → Kind → ℕ → Threads → T → Result (Unit {0}) CoreFault → Threads → T → Type 0
+abbrev pub Joins : {T : Type 0} → (T → Look → T → Type 0) → Kind → ℕ → ThreeLists → T → Result (Unit {0}) CoreFault → ThreeLists → T → Type 0
 Joins takes kind c w p (Ok done) v q = (is_registered w c ≡ false) × ((to : Place) × WaitsIn takes kind p to q × (v ≡ pushed w c to))
 Joins takes kind c w p (Err Registered) v q = (is_registered w c ≡ true) × (q ≡ p) × (v ≡ w)
 Joins takes kind c w p (Err fault) v q = ⊥
 
-abbrev pub Registers : {T : Type 0} → (T → Look → T → Type 0) → TheSeat → Threads → T → Result (Unit {0}) CoreFault → Threads → T → Type 0
+abbrev pub Registers : {T : Type 0} → (T → Look → T → Type 0) → TheSeat → ThreeLists → T → Result (Unit {0}) CoreFault → ThreeLists → T → Type 0
 Registers takes s w p (Ok done) v q = IsReady s.end × Joins takes s.kind s.channel w p (Ok done) v q
 Registers takes s w p (Err Registered) v q = IsReady s.end × Joins takes s.kind s.channel w p (Err Registered) v q
 Registers takes s w p (Err NotBound) v q = IsUnbound s.end × (q ≡ p) × (v ≡ w)
 Registers takes s w p (Err Failed) v q = HasFailed s.end × (q ≡ p) × (v ≡ w)
 Registers takes s w p (Err fault) v q = ⊥
 
-abbrev pub Deregisters : TheSeat → Threads → Result (Unit {0}) CoreFault → Threads → Type 0
+abbrev pub Deregisters : TheSeat → ThreeLists → Result (Unit {0}) CoreFault → ThreeLists → Type 0
 Deregisters s w (Ok done) v = IsSome s.end.circuit × (is_registered w s.channel ≡ true) × (v ≡ unlinked w s.channel)
 Deregisters s w (Err NotBound) v = IsUnbound s.end × (v ≡ w)
 Deregisters s w (Err NotRegistered) v = IsSome s.end.circuit × (is_registered w s.channel ≡ false) × (v ≡ w)

@@ -1,6 +1,6 @@
 -- What a change of one end, or of one dispatcher's lists, leaves alone: laws.
 use Rattle.std.specs.Prelude.{◌≡◌, ◌≢◌, ℕ, slice_get, Some}
-use Rattle.fl_lists.specs.Threads.{Threads}
+use Rattle.fl_lists.specs.ThreeLists.{ThreeLists}
 use Rattle.fl_endpoint.specs.View.{TheEnd}
 use Rattle.fl_core.specs.View.{TheDispatcher, TheSeat, TheCore, with_lists, with_end}
 
@@ -18,11 +18,11 @@ SameEnd = (k : TheCore) (e : ℕ) (s : TheSeat) → slice_get k.seats e ≡ Some
 
 -- all other dispatchers stay
 abbrev pub OtherDispatchersStay : Type 0
-OtherDispatchersStay = (k : TheCore) (n m : ℕ) (d : TheDispatcher) (w : Threads) → m ≢ n → slice_get (with_lists k n d w).dispatchers m ≡ slice_get k.dispatchers m
+OtherDispatchersStay = (k : TheCore) (n m : ℕ) (d : TheDispatcher) (w : ThreeLists) → m ≢ n → slice_get (with_lists k n d w).dispatchers m ≡ slice_get k.dispatchers m
 
 -- the dispatcher is where it was, with the same ends
 abbrev pub DispatcherIsThere : Type 0
-DispatcherIsThere = (k : TheCore) (n : ℕ) (d : TheDispatcher) (w : Threads) → slice_get k.dispatchers n ≡ Some d → slice_get (with_lists k n d w).dispatchers n ≡ Some (record d { lists = w })
+DispatcherIsThere = (k : TheCore) (n : ℕ) (d : TheDispatcher) (w : ThreeLists) → slice_get k.dispatchers n ≡ Some d → slice_get (with_lists k n d w).dispatchers n ≡ Some (record d { lists = w })
 
 -- lists that stay as they were change nothing
 abbrev pub SameLists : Type 0

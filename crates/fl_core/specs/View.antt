@@ -1,6 +1,6 @@
 -- One core, as contracts see it: dispatchers and ends, each by its place. What happened to it is not kept.
 use Rattle.std.specs.Prelude.{ℕ, List, [], ◌∷◌, ◌++◌, length, slice_get, slice_set, Option, Some, None, Result, Ok, Err}
-use Rattle.fl_lists.specs.Threads.{Threads, empty}
+use Rattle.fl_lists.specs.ThreeLists.{ThreeLists, empty}
 use Rattle.fl_waitset.specs.declared.fault.WaitFault.{WaitFault}
 use Rattle.fl_waitset.specs.declared.waitset.Pick.{Pick}
 use Rattle.fl_waitset.specs.declared.waitset.Pick.TheVariants.{Pending, Polled}
@@ -10,7 +10,7 @@ use Rattle.fl_core.specs.declared.kind.Kind.{Kind}
 
 -- a dispatcher: its waitset's three lists of channels, and the end of each of its channels
 pub record TheDispatcher : Type 0 where
-  pub lists : Threads
+  pub lists : ThreeLists
   pub ends : List ℕ
 
 -- where an end sits: its dispatcher, its channel there, and how fragments come to it
@@ -48,7 +48,7 @@ due k n = due_in (slice_get k.dispatchers n)
 -- ---- what events make of a core
 
 -- the core with other lists at dispatcher n, which is d
-abbrev pub with_lists : TheCore → ℕ → TheDispatcher → Threads → TheCore
+abbrev pub with_lists : TheCore → ℕ → TheDispatcher → ThreeLists → TheCore
 with_lists k n d w = record {
   dispatchers = slice_set k.dispatchers n (record { lists = w; ends = d.ends });
   seats = k.seats;

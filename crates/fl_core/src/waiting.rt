@@ -4,7 +4,7 @@ ghost use Rattle.std.specs.Prelude.{◌≡◌, ◌<◌, slice_get, Ok, Err, Some
 ghost use Rattle.fl_waitset.specs.Waiting.{IsWaitset, registered_answer, next_pick};
 ghost use Rattle.fl_endpoint.specs.Events.{IsReady};
 ghost use Rattle.fl_lists.specs.declared.place.Place.{Place};
-ghost use Rattle.fl_lists.specs.Threads.{list_at};
+ghost use Rattle.fl_lists.specs.ThreeLists.{list_at};
 ghost use Rattle.fl_core.specs.Turns.{WaitsIn, put_off, Gives, Examines, LooksAt};
 ghost use Rattle.fl_core.specs.Events.{Joins};
 ghost use Rattle.fl_core.specs.Inside.{Took, MayCome, Refuses};
