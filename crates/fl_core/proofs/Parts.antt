@@ -7,7 +7,7 @@ use Rattle.fl_endpoint.specs.View.{TheEnd}
 use Rattle.fl_endpoint.specs.Events.{IsUnbound}
 use Rattle.fl_core.specs.declared.kind.Kind.{Kind}
 use Rattle.fl_core.specs.declared.kind.Kind.TheVariants.{Queue, Ring}
-use Rattle.fl_core.specs.declared.fault.CoreFault.TheVariants.{NotBound}
+use Rattle.fl_core.specs.declared.fault.BoardFault.TheVariants.{NotBound}
 use Rattle.fl_core.specs.declared.answer.AckAnswer.{AckAnswer}
 use Rattle.fl_core.specs.declared.answer.AckAnswer.TheVariants as ack
 use Rattle.fl_core.specs.declared.answer.TurnAnswer.{TurnAnswer}

@@ -1,4 +1,4 @@
--- A turn keeps what is known of a core.
+-- A turn keeps what is known of a board.
 use Rattle.std.proofs.Common.{◌≡◌, sym, ap, ◌∙◌, subst, ℕ, true, false, slice_get, slice_set, Some, Result, Ok, Err}
 use Rattle.std.proofs.lemmas.Bool.{false≢true}
 use Rattle.std.specs.declared.alloc.AllocError.{AllocError}
@@ -18,9 +18,9 @@ use Rattle.fl_core.specs.declared.kind.Kind.{Kind}
 use Rattle.fl_core.specs.declared.kind.Kind.TheVariants.{Queue, Ring}
 use Rattle.fl_core.specs.declared.answer.TurnAnswer.{TurnAnswer}
 use Rattle.fl_core.specs.declared.answer.TurnAnswer.TheVariants.{Handle, Part, Ready, Quiet, Full, Nothing, Refused}
-use Rattle.fl_core.specs.View.{TheDispatcher, TheSeat, TheCore, channel_of, with_lists, with_end}
+use Rattle.fl_core.specs.View.{TheDispatcher, TheSeat, TheBoard, channel_of, with_lists, with_end}
 use Rattle.fl_core.specs.Turns.{WaitsIn, put_off, TakesOne, Gives, Examines, LooksAt}
-use Rattle.fl_core.specs.Sound.{MayWaitIn, MayTurn, IsDispatcher, IsCore}
+use Rattle.fl_core.specs.Sound.{MayWaitIn, MayTurn, IsDispatcher, IsBoard}
 use Rattle.fl_core.proofs.Readiness.{receives_ready, memory_ready}
 use Rattle.fl_core.proofs.Registered.{Listed, pushed_each, unlinked_each, left_all}
 use Rattle.fl_core.proofs.Picks.{list_of, first_pending, first_polled, pick_listed}
@@ -81,7 +81,7 @@ module _ {T : Type 0} (takes : T → Look → T → Type 0) (kind : Kind) (w v :
   looked (pick.Pending c) answer h fits l = gave c.0 answer (first_pending w c h) l
   looked (pick.Polled c) answer h fits l = examined c.0 answer (first_polled w c h) fits l.1 l.0
 
-module _ (k : TheCore) (sound : IsCore k) (n : ℕ) (d : TheDispatcher) (dispatcher_is : slice_get k.dispatchers n ≡ Some d)
+module _ (k : TheBoard) (sound : IsBoard k) (n : ℕ) (d : TheDispatcher) (dispatcher_is : slice_get k.dispatchers n ≡ Some d)
     (picked : Pick) (picked_is : next_pick d.lists ≡ Ok picked) (e : ℕ) (end_is : slice_get d.ends (channel_of picked) ≡ Some e)
     (s : TheSeat) (seat_is : slice_get k.seats e ≡ Some s) where
   known : IsDispatcher k.seats n d
@@ -146,10 +146,10 @@ module _ (k : TheCore) (sound : IsCore k) (n : ℕ) (d : TheDispatcher) (dispatc
       | leaves same ↦ ap (λ (x : ThreeLists). x.size) same
     ]
 
-    kept : IsApart w → IsCore (with_end (with_lists k n d w) e s t)
+    kept : IsApart w → IsBoard (with_end (with_lists k n d w) e s t)
     unfolding after
     kept apart = end_kept (with_lists k n d w) (lists_kept k sound n d dispatcher_is w size apart listed) e s seat_is t ready_after
 
   pub turn_kept : {T : Type 0} (takes : T → Look → T → Type 0) (w : ThreeLists) (t : TheEnd) (p q : T) (answer : Result TurnAnswer AllocError)
-      → LooksAt takes picked s.kind d.lists s.end p answer w t q → IsApart w → IsCore (with_end (with_lists k n d w) e s t)
+      → LooksAt takes picked s.kind d.lists s.end p answer w t q → IsApart w → IsBoard (with_end (with_lists k n d w) e s t)
   turn_kept takes w t p q answer looks apart = kept w t (looked takes s.kind d.lists w s.end t p q known.apart picked answer picked_is fits_due looks) apart

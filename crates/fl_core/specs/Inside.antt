@@ -14,8 +14,8 @@ use Rattle.fl_core.specs.declared.answer.TurnAnswer.{TurnAnswer}
 use Rattle.fl_core.specs.declared.answer.TurnAnswer.TheVariants.{Handle, Part, Quiet, Full, Nothing, Refused}
 use Rattle.fl_core.specs.declared.answer.AckAnswer.{AckAnswer}
 use Rattle.fl_core.specs.declared.answer.AckAnswer.TheVariants as ack
-use Rattle.fl_core.specs.declared.fault.CoreFault.{CoreFault}
-use Rattle.fl_core.specs.declared.fault.CoreFault.TheVariants as core
+use Rattle.fl_core.specs.declared.fault.BoardFault.{BoardFault}
+use Rattle.fl_core.specs.declared.fault.BoardFault.TheVariants as board
 use Rattle.fl_core.specs.Turns.{GoesOn, put_off}
 
 -- what an end answered says what the turn answers, and where its channel goes
@@ -48,7 +48,7 @@ Tells takes p ack.Nothing q = takes p kept q
 Tells takes p ack.Full q = takes p no_room q
 
 -- why a dispatcher with so many ends gets no other
-abbrev pub HasNoRoom : ℕ → CoreFault → Type 0
-HasNoRoom ends core.TooManyEnds = 1024 ≤ ends
-HasNoRoom ends core.Memory = ends < 1024
+abbrev pub HasNoRoom : ℕ → BoardFault → Type 0
+HasNoRoom ends board.TooManyEnds = 1024 ≤ ends
+HasNoRoom ends board.Memory = ends < 1024
 HasNoRoom ends fault = ⊥

@@ -19,7 +19,7 @@ use Rattle.fl_core.specs.declared.kind.Kind.{Kind}
 use Rattle.fl_core.specs.declared.kind.Kind.TheVariants.{Queue, Ring}
 use Rattle.fl_core.specs.declared.answer.TurnAnswer.{TurnAnswer}
 use Rattle.fl_core.specs.declared.answer.TurnAnswer.TheVariants.{Handle, Part, Ready, Quiet, Full, Nothing, Refused}
-use Rattle.fl_core.specs.View.{TheDispatcher, TheSeat, TheCore, channel_of, with_lists, with_end}
+use Rattle.fl_core.specs.View.{TheDispatcher, TheSeat, TheBoard, channel_of, with_lists, with_end}
 
 -- where a channel of this kind waits, by a look at its side: a ring is polled; a queue's channel is pending where a fragment
 -- stands, and else idle
@@ -72,17 +72,17 @@ LooksAt takes (pick.Pending c) kind w s p answer v t q = Gives takes kind c.0 w 
 LooksAt takes (pick.Polled c) kind w s p answer v t q = Examines takes c.0 w p answer v q × (t ≡ s)
 
 -- dispatcher n has a turn, over the side of the end at place e, which is due: the waitset's pick is the end's channel, and of the
--- core this end and the dispatcher's lists alone change
-pub record Turns {T : Type 0} (takes : T → Look → T → Type 0) (k : TheCore) (n e : ℕ) (p : T) (answer : Result TurnAnswer AllocError) (k2 : TheCore) (q : T) : Type 0 where
+-- board this end and the dispatcher's lists alone change
+pub record Turns {T : Type 0} (takes : T → Look → T → Type 0) (b : TheBoard) (n e : ℕ) (p : T) (answer : Result TurnAnswer AllocError) (b2 : TheBoard) (q : T) : Type 0 where
   pub dispatcher : TheDispatcher
-  pub dispatcher_is : slice_get k.dispatchers n ≡ Some dispatcher
+  pub dispatcher_is : slice_get b.dispatchers n ≡ Some dispatcher
   pub picked : Pick
   pub picked_is : next_pick dispatcher.lists ≡ Ok picked
   pub end_is : slice_get dispatcher.ends (channel_of picked) ≡ Some e
   pub seat : TheSeat
-  pub seat_is : slice_get k.seats e ≡ Some seat
+  pub seat_is : slice_get b.seats e ≡ Some seat
   -- afterwards
   pub lists : ThreeLists
   pub end : TheEnd
   pub looks : LooksAt takes picked seat.kind dispatcher.lists seat.end p answer lists end q
-  pub core : k2 ≡ with_end (with_lists k n dispatcher lists) e seat end
+  pub board : b2 ≡ with_end (with_lists b n dispatcher lists) e seat end

@@ -1,18 +1,18 @@
-//! One core.
+//! The board of one core: its dispatchers and their ends.
 
 ghost use Rattle.std.specs.Prelude.{◌≡◌, ◌<◌, ℕ, [], length, slice_get, Some, IfOk, IfErr, OnOk, OnErr, vec_len};
 ghost use Rattle.std.specs.Vec.{vec_capacity};
 ghost use Rattle.fl_value.specs.Value.{call_of};
 ghost use Rattle.fl_endpoint.specs.View.{TheEnd, bound};
 ghost use Rattle.fl_endpoint.specs.Events.{Calls, Writes, ShowsNext, SetsRule};
-ghost use Rattle.fl_core.specs.Sound.{IsCore};
-ghost use Rattle.fl_core.specs.View.{TheDispatcher, TheCore, with_dispatcher, with_new_end};
+ghost use Rattle.fl_core.specs.Sound.{IsBoard};
+ghost use Rattle.fl_core.specs.View.{TheDispatcher, TheBoard, with_dispatcher, with_new_end};
 ghost use Rattle.fl_core.specs.declared.kind.Kind.{Kind};
 ghost use Rattle.fl_core.specs.Events.{ChangesEnd, Holds, Adds, IsGrown};
 ghost use Rattle.fl_core.specs.Inside.{HasNoRoom};
 
 use crate::dispatcher::Dispatcher;
-use crate::fault::CoreFault;
+use crate::fault::BoardFault;
 use crate::kind::Kind;
 use crate::seat::Seat;
 use fl_base::{ChanId, Circuit, Frag, MAX_CHANNELS, MsgNo};
@@ -22,35 +22,35 @@ use fl_value::Call;
 use std::alloc::{AllocError, Global};
 use std::marker::Model;
 
-/// The state of one core: dispatchers, and the ends that sit at them. Both are named by their places, from 0, in the order in
-/// which they were added.
+/// The dispatchers of one core, and the ends that sit at them. Both are named by their places, from 0, in the order in which
+/// they were added.
 ///
-/// The links that ends use are not part of a core: the side that an event needs is lent to it. It is for the caller to lend
-/// the side of the end that is named, and at a turn the side of the end that is due ([`Core::due`]).
+/// The links that ends use are not part of a board: the side that an event needs is lent to it. It is for the caller to lend
+/// the side of the end that is named, and at a turn the side of the end that is due ([`Board::due`]).
 #[derive(Drop)]
-pub struct Core {
+pub struct Board {
     alloc: Global,
     pub(crate) dispatchers: Vec<Dispatcher>,
     pub(crate) seats: Vec<Seat>,
 }
 
-impl Model for Core {
+impl Model for Board {
     ghost use Rattle.std.specs.Coded.{codes};
     ghost use Rattle.fl_compile.specs.contracts.program.Program.{the_row};
-    ghost use Rattle.fl_core.specs.View.{TheCore};
-    ghost use Rattle.fl_core.specs.Sound.{IsCore};
+    ghost use Rattle.fl_core.specs.View.{TheBoard};
+    ghost use Rattle.fl_core.specs.Sound.{IsBoard};
 
-    ghost Value = { TheCore };
+    ghost Value = { TheBoard };
 
     ghost coded = { Prim.hlevel (codes, the_row.coded) };
 
     ghost view = { λ k. record { dispatchers = k.dispatchers.items; seats = k.seats.items } };
 
-    ghost invariant = { λ k. IsCore (record { dispatchers = k.dispatchers.items; seats = k.seats.items }) };
+    ghost invariant = { λ k. IsBoard (record { dispatchers = k.dispatchers.items; seats = k.seats.items }) };
 }
 
-// Room for one end more at a dispatcher with these ends, and in the core.
-fn make_room(ends: &mut Vec<usize>, seats: &mut Vec<Seat>) -> Result<(), CoreFault>
+// Room for one end more at a dispatcher with these ends, and on the board.
+fn make_room(ends: &mut Vec<usize>, seats: &mut Vec<Seat>) -> Result<(), BoardFault>
     ensures ends { ends.new.items ≡ ends.old.items }
     ensures seats { seats.new.items ≡ seats.old.items }
     ensures room { OnOk result (vec_len ends.old < 1024) }
@@ -59,32 +59,32 @@ fn make_room(ends: &mut Vec<usize>, seats: &mut Vec<Seat>) -> Result<(), CoreFau
     ensures refused { IfErr result (HasNoRoom (vec_len ends.old)) }
 {
     if ends.len() >= MAX_CHANNELS {
-        return Err(CoreFault::TooManyEnds);
+        return Err(BoardFault::TooManyEnds);
     }
     let Ok(()) = ends.reserve(1) else {
-        return Err(CoreFault::Memory);
+        return Err(BoardFault::Memory);
     };
     let Ok(()) = seats.reserve(1) else {
-        return Err(CoreFault::Memory);
+        return Err(BoardFault::Memory);
     };
     Ok(())
 }
 
-impl Core {
-    /// A core without dispatchers and ends. Takes no memory.
-    pub fn new(alloc: Global) -> Core
+impl Board {
+    /// A board without dispatchers and ends. Takes no memory.
+    pub fn new(alloc: Global) -> Board
         ensures empty { result ≡ record { dispatchers = []; seats = [] } }
     {
-        Core {
+        Board {
             alloc,
             dispatchers: Vec::new(alloc),
             seats: Vec::new(alloc),
         }
     }
 
-    /// What is known of a core at any time.
+    /// What is known of a board at any time.
     pub fn sound(&self)
-        ensures sound { IsCore self.now }
+        ensures sound { IsBoard self.now }
     {
         let _ends = self.seats.len();
     }
@@ -115,7 +115,7 @@ impl Core {
     /// One dispatcher more, without ends: its place.
     ///
     /// # Errors
-    /// Want of memory (E99). The core is as it was then.
+    /// Want of memory (E99). The board is as it was then.
     pub fn add_dispatcher(&mut self) -> Result<usize, AllocError>
         ensures place { IfOk result (λ n. n ≡ length self.old.dispatchers) }
         ensures added { OnOk result (self.new ≡ with_dispatcher self.old) }
@@ -133,8 +133,8 @@ impl Core {
     /// is dropped. The kind is that of the sides that the end will be lent: it is for the caller to keep the two alike.
     ///
     /// # Errors
-    /// The dispatcher has 1,024 ends (E54, see [`Core::ends_at`]); want of memory (E99). The core is as it was then.
-    pub fn add_end(&mut self, dispatcher: usize, end: End, kind: Kind) -> Result<usize, CoreFault>
+    /// The dispatcher has 1,024 ends (E54, see [`Board::ends_at`]); want of memory (E99). The board is as it was then.
+    pub fn add_end(&mut self, dispatcher: usize, end: End, kind: Kind) -> Result<usize, BoardFault>
         requires { dispatcher < length self.old.dispatchers }
         ensures adds { Adds self.old dispatcher end kind result self.new }
     {
@@ -156,11 +156,11 @@ impl Core {
         }
     }
 
-    /// Takes back the end that was added last, where nothing else has happened since: the core is as it was before. So a
-    /// caller that adds two ends leaves the core as it was where there is no memory for the second.
+    /// Takes back the end that was added last, where nothing else has happened since: the board is as it was before. So a
+    /// caller that adds two ends leaves the board as it was where there is no memory for the second.
     pub fn take_back(&mut self)
         requires { IsGrown self.old }
-        ensures before { (k : TheCore) (n : ℕ) (d : TheDispatcher) (s : TheEnd) (kind : Kind) → slice_get k.dispatchers n ≡ Some d → self.old ≡ with_new_end k n d s kind → self.new ≡ k }
+        ensures before { (k : TheBoard) (n : ℕ) (d : TheDispatcher) (s : TheEnd) (kind : Kind) → slice_get k.dispatchers n ≡ Some d → self.old ≡ with_new_end k n d s kind → self.new ≡ k }
     {
         let Some(seat) = self.seats.pop() else {
             unreachable!();
@@ -190,7 +190,7 @@ impl Core {
     /// Sets a reply rule at an end ([`End::reply_rule`]).
     ///
     /// # Errors
-    /// As the end's: E41, E42. The core is as it was then.
+    /// As the end's: E41, E42. The board is as it was then.
     pub fn reply_rule(&mut self, e: usize, msg: MsgNo, reply: MsgNo) -> Result<(), EndFault>
         requires { e < length self.old.seats }
         ensures sets { ChangesEnd self.old e (λ s t. SetsRule s msg.0 reply.0 result t) self.new }
@@ -203,7 +203,7 @@ impl Core {
     /// Makes a call at an end ([`End::call`]).
     ///
     /// # Errors
-    /// As the end's, in its order: E41, E42, E43, E64, E40, E99. The core is as it was then.
+    /// As the end's, in its order: E41, E42, E43, E64, E40, E99. The board is as it was then.
     pub fn call(&mut self, e: usize, call: &Call) -> Result<(), EndFault>
         requires { e < length self.old.seats }
         ensures calls { ChangesEnd self.old e (λ s t. Calls s (call_of call.now) result t) self.new }
@@ -213,7 +213,7 @@ impl Core {
         seat.end.call(call)
     }
 
-    /// The fragment that [`Core::write`] would put next ([`End::show`]).
+    /// The fragment that [`Board::write`] would put next ([`End::show`]).
     ///
     /// # Errors
     /// As the end's: E43, E64.
@@ -226,10 +226,10 @@ impl Core {
     }
 
     /// Puts the next fragment of an end's call in transmission ([`End::write`]). The channel of the end that the fragment
-    /// goes to is triggered by its own core ([`Core::trigger`]). Takes no memory.
+    /// goes to is triggered by its own core ([`Board::trigger`]). Takes no memory.
     ///
     /// # Errors
-    /// As the end's: E43, E64, E33. The core is as it was then.
+    /// As the end's: E43, E64, E33. The board is as it was then.
     pub fn write<P: PutSide>(&mut self, e: usize, out: &mut P) -> Result<WriteAnswer, EndFault>
         requires { e < length self.old.seats }
         ensures writes { ChangesEnd self.old e (λ s t. Writes P.puts s out.old result t out.new) self.new }

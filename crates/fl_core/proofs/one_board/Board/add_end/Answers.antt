@@ -2,7 +2,7 @@ use Rattle.std.proofs.Common.{◌∙◌, ◌<◌, ◌++◌, ◌∷◌, [], ℕ, 
 use Rattle.fl_core.specs.View.{TheSeat}
 use Rattle.fl_core.specs.Inside.{HasNoRoom}
 use Rattle.fl_core.proofs.Adding.{refused_kept, refused_adds, added_kept, added_adds}
-use Rattle.fl_core.proofs.one_core.Core.add_end.Goals as goal
+use Rattle.fl_core.proofs.one_board.Board.add_end.Goals as goal
 
 pub invariant_of-self : goal.invariant_of-self
 invariant_of-self c = refused_kept c.args.self.now _ c.self.view_is c.args.dispatcher c.requires _ _ c.index_mut-at.ensures.value c.at.view_is c.self.invariant c.make_room.new.ends.items c.make_room.new.seats.items c.make_room.ensures.ends c.make_room.ensures.seats

@@ -2,7 +2,7 @@ use Rattle.std.proofs.Common.{refl, sym, ◌∙◌, arith}
 use Rattle.fl_core.proofs.Readiness.{bound_from, unbound_from}
 use Rattle.fl_core.proofs.Picks.{not_registered, is_registered_ok}
 use Rattle.fl_core.proofs.Lists.{dispatcher_below, unchanged, channel_below, lists_event, kept_unlinked}
-use Rattle.fl_core.proofs.one_core.Core.deregister.Goals as goal
+use Rattle.fl_core.proofs.one_board.Board.deregister.Goals as goal
 
 pub returns-then-not-is_bound-clause-deregisters : goal.returns-then-not-is_bound-clause-deregisters
 returns-then-not-is_bound-clause-deregisters c = unchanged c.args.self.now _ c.self.view_is c.args.e c.requires _ _ c.index-seat.ensures c.seat.view_is c.self.invariant _ (λ w. (unbound_from _ (sym c.is_bound.ensures.bound ∙ c.if-not-is_bound.true), refl))

@@ -2,7 +2,7 @@ use Rattle.std.proofs.Common.{refl, sym, ◌∙◌, arith}
 use Rattle.fl_core.specs.contracts.seat.Seat.{the_view}
 use Rattle.fl_core.proofs.Readiness.{bound_from, unbound_from}
 use Rattle.fl_core.proofs.Lists.{dispatcher_below, unchanged, channel_below, lists_event, kept_joined, joins_registers}
-use Rattle.fl_core.proofs.one_core.Core.register.Goals as goal
+use Rattle.fl_core.proofs.one_board.Board.register.Goals as goal
 
 pub returns-then-not-is_bound-clause-registers : goal.returns-then-not-is_bound-clause-registers
 returns-then-not-is_bound-clause-registers g c = unchanged c.args.self.now _ c.self.view_is c.args.e c.requires _ _ c.index-seat.ensures c.seat.view_is c.self.invariant _ (λ w. (unbound_from _ (sym c.is_bound.ensures.bound ∙ c.if-not-is_bound.true), refl, refl))

@@ -1,7 +1,7 @@
 use Rattle.std.proofs.Common.{refl, sym, ◌∙◌, subst, arith, IsOk}
 use Rattle.fl_core.proofs.Picks.{trigger_ok, got}
 use Rattle.fl_core.proofs.Lists.{dispatcher_below, channel_below, lists_event, kept_triggered}
-use Rattle.fl_core.proofs.one_core.Core.trigger.Goals as goal
+use Rattle.fl_core.proofs.one_board.Board.trigger.Goals as goal
 
 pub index_mut-dispatcher-requires : goal.index_mut-dispatcher-requires
 index_mut-dispatcher-requires c = let within = dispatcher_below c.args.self.now _ c.self.view_is c.args.e c.requires _ _ c.index-seat.ensures c.seat.view_is c.self.invariant in omega (arith, within, c.self.inside.dispatchers.ok.0)

@@ -1,7 +1,7 @@
 use Rattle.std.proofs.Common.{sym, ◌∙◌, arith}
 use Rattle.fl_core.proofs.Dispatchers.{due_is}
 use Rattle.fl_core.proofs.Due.{due_below, ready, due_kept, due_turns}
-use Rattle.fl_core.proofs.one_core.Core.turn.Goals as goal
+use Rattle.fl_core.proofs.one_board.Board.turn.Goals as goal
 
 pub invariant_of-self : goal.invariant_of-self
 invariant_of-self g c =
