@@ -1,7 +1,7 @@
-//! Tests of a core, over its public calls alone. They stand here and not in `fl_core`, since a crate with tests is proved
+//! Tests of one core's board, over its public calls alone. They stand here and not in `fl_core`, since a crate with tests is proved
 //! twice.
 //!
-//! - `rig.rt`: a core with its ends and their queues, driven by commands whose answers are words
+//! - `rig.rt`: a board with its ends and their queues, driven by commands whose answers are words
 //! - `rows.rt`: worked rows of commands and answers
 //! - `refusals.rt`: what is refused, and limits
 //! - `faults.rt`: the numbers and words of the faults

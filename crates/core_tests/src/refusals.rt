@@ -2,7 +2,7 @@
 
 use crate::rig::{Command, Line, Rig, program};
 use fl_base::{Circuit, Frag, MsgNo};
-use fl_core::{AckAnswer, Core, CoreFault, Kind};
+use fl_core::{AckAnswer, Board, BoardFault, Kind};
 use fl_endpoint::{End, EndFault};
 use fl_link::{QueueLink, Sight};
 use std::alloc::Global;
@@ -47,49 +47,49 @@ fn an_end_that_failed(rt: HostRuntime) -> Result<(), Fail> {
     Ok(())
 }
 
-// A core with one dispatcher and an end there that isn't bound.
-fn unbound(alloc: Global) -> Result<Core, Fail> {
-    let mut core = Core::new(alloc);
-    core.add_dispatcher()?;
+// A board with one dispatcher and an end there that isn't bound.
+fn unbound(alloc: Global) -> Result<Board, Fail> {
+    let mut board = Board::new(alloc);
+    board.add_dispatcher()?;
     let end = End::unbound(alloc, program(alloc, ECHO)?)?;
-    if core.dispatchers() > 0 {
-        core.add_end(0, end, Kind::Queue)?;
+    if board.dispatchers() > 0 {
+        board.add_end(0, end, Kind::Queue)?;
     }
-    Ok(core)
+    Ok(board)
 }
 
 // Until it is bound an end is told E43, but may have rules; then a trigger moves its channel to pending once.
 #[test]
 fn an_end_not_bound(rt: HostRuntime) -> Result<(), Fail> {
-    let mut core = unbound(rt.alloc())?;
+    let mut board = unbound(rt.alloc())?;
     let mut queue = QueueLink::local(rt.alloc(), 1)?;
-    assert_eq!(rt; core.ends(), 1);
+    assert_eq!(rt; board.ends(), 1);
     for bound in [false, true] {
         let wanted = if bound {
             Ok(())
         } else {
-            Err(CoreFault::NotBound)
+            Err(BoardFault::NotBound)
         };
-        if core.ends() > 0 {
-            assert_eq!(rt; core.register(0, &mut queue), wanted);
+        if board.ends() > 0 {
+            assert_eq!(rt; board.register(0, &mut queue), wanted);
         }
-        if core.ends() > 0 {
-            assert_eq!(rt; core.ack(0, &mut queue).is_ok(), bound);
+        if board.ends() > 0 {
+            assert_eq!(rt; board.ack(0, &mut queue).is_ok(), bound);
         }
-        if core.ends() > 0 {
-            core.trigger(0);
+        if board.ends() > 0 {
+            board.trigger(0);
         }
-        if core.dispatchers() > 0 {
-            assert_eq!(rt; core.due(0).is_some(), bound);
+        if board.dispatchers() > 0 {
+            assert_eq!(rt; board.due(0).is_some(), bound);
         }
-        if core.ends() > 0 {
-            assert_eq!(rt; core.deregister(0), wanted);
+        if board.ends() > 0 {
+            assert_eq!(rt; board.deregister(0), wanted);
         }
-        if core.ends() > 0 {
-            assert_eq!(rt; core.reply_rule(0, MsgNo(0), MsgNo(1)), Ok(()));
+        if board.ends() > 0 {
+            assert_eq!(rt; board.reply_rule(0, MsgNo(0), MsgNo(1)), Ok(()));
         }
-        if core.ends() > 0 {
-            core.bind(0, Circuit(0));
+        if board.ends() > 0 {
+            board.bind(0, Circuit(0));
         }
     }
     Ok(())
@@ -98,23 +98,23 @@ fn an_end_not_bound(rt: HostRuntime) -> Result<(), Fail> {
 // The 1,025th end of a dispatcher is refused, and one of another dispatcher isn't.
 #[test]
 fn too_many_ends(rt: HostRuntime) -> Result<(), Fail> {
-    let mut core = Core::new(rt.alloc());
-    core.add_dispatcher()?;
-    core.add_dispatcher()?;
+    let mut board = Board::new(rt.alloc());
+    board.add_dispatcher()?;
+    board.add_dispatcher()?;
     for j in 0..1_026_usize {
         let at = if j == 1_025 { 1 } else { 0 };
         let wanted = match j {
-            1_024 => Err(CoreFault::TooManyEnds),
+            1_024 => Err(BoardFault::TooManyEnds),
             1_025 => Ok(1_024),
             place => Ok(place),
         };
         let end = End::unbound(rt.alloc(), program(rt.alloc(), ECHO)?)?;
-        if at < core.dispatchers() {
-            assert_eq!(rt; core.add_end(at, end, Kind::Ring), wanted);
+        if at < board.dispatchers() {
+            assert_eq!(rt; board.add_end(at, end, Kind::Ring), wanted);
         }
     }
-    if core.dispatchers() > 0 {
-        assert_eq!(rt; core.ends_at(0), 1_024);
+    if board.dispatchers() > 0 {
+        assert_eq!(rt; board.ends_at(0), 1_024);
     }
     Ok(())
 }
@@ -126,29 +126,29 @@ fn acknowledgements(rt: HostRuntime) -> Result<(), Fail> {
         (Kind::Queue, AckAnswer::Nothing),
         (Kind::Ring, AckAnswer::Done),
     ] {
-        let mut core = Core::new(rt.alloc());
-        core.add_dispatcher()?;
+        let mut board = Board::new(rt.alloc());
+        board.add_dispatcher()?;
         let end = End::new(rt.alloc(), program(rt.alloc(), ECHO)?, Circuit(0))?;
-        if core.dispatchers() > 0 {
-            core.add_end(0, end, kind)?;
+        if board.dispatchers() > 0 {
+            board.add_end(0, end, kind)?;
         }
         let mut queue = QueueLink::acked(rt.alloc(), 2)?;
-        if core.ends() > 0 {
-            assert_eq!(rt; core.ack(0, &mut queue), Ok(wanted));
+        if board.ends() > 0 {
+            assert_eq!(rt; board.ack(0, &mut queue), Ok(wanted));
         }
     }
     Ok(())
 }
 
 // Whether an end was added, and then taken back.
-fn comes_and_goes(core: &mut Core, end: End) -> bool {
-    if core.dispatchers() == 0 {
+fn comes_and_goes(board: &mut Board, end: End) -> bool {
+    if board.dispatchers() == 0 {
         return false;
     }
-    core.sound();
-    match core.add_end(0, end, Kind::Queue) {
+    board.sound();
+    match board.add_end(0, end, Kind::Queue) {
         Ok(_) => {
-            core.take_back();
+            board.take_back();
             true
         }
         Err(_) => false,
@@ -158,30 +158,30 @@ fn comes_and_goes(core: &mut Core, end: End) -> bool {
 // The place and the channel of an end that was taken back are those of the next.
 #[test]
 fn an_end_taken_back(rt: HostRuntime) -> Result<(), Fail> {
-    let mut core = Core::new(rt.alloc());
-    core.add_dispatcher()?;
+    let mut board = Board::new(rt.alloc());
+    board.add_dispatcher()?;
     for place in 0..2_usize {
         let end = End::unbound(rt.alloc(), program(rt.alloc(), ECHO)?)?;
-        assert!(rt; comes_and_goes(&mut core, end));
-        assert_eq!(rt; core.ends(), place);
+        assert!(rt; comes_and_goes(&mut board, end));
+        assert_eq!(rt; board.ends(), place);
         let end = End::unbound(rt.alloc(), program(rt.alloc(), ECHO)?)?;
-        if core.dispatchers() > 0 {
-            assert_eq!(rt; core.ends_at(0), place);
+        if board.dispatchers() > 0 {
+            assert_eq!(rt; board.ends_at(0), place);
         }
-        if core.dispatchers() > 0 {
-            assert_eq!(rt; core.add_end(0, end, Kind::Ring), Ok(place));
+        if board.dispatchers() > 0 {
+            assert_eq!(rt; board.add_end(0, end, Kind::Ring), Ok(place));
         }
     }
     Ok(())
 }
 
-// A dispatcher or an end for which there is no memory leaves the core as it was, and may be added again.
+// A dispatcher or an end for which there is no memory leaves the board as it was, and may be added again.
 #[test]
 fn adds_without_memory(rt: HostRuntime) {
-    let mut core = Core::new(rt.alloc());
-    if core.add_dispatcher().is_err() {
-        assert_eq!(rt; core.dispatchers(), 0);
-        assert!(rt; core.add_dispatcher().is_ok());
+    let mut board = Board::new(rt.alloc());
+    if board.add_dispatcher().is_err() {
+        assert_eq!(rt; board.dispatchers(), 0);
+        assert!(rt; board.add_dispatcher().is_ok());
     }
     for count in 0..6_usize {
         for _ in 0..2 {
@@ -191,15 +191,15 @@ fn adds_without_memory(rt: HostRuntime) {
             let Ok(end) = End::unbound(rt.alloc(), program) else {
                 continue;
             };
-            if core.ends() > count || core.dispatchers() == 0 {
+            if board.ends() > count || board.dispatchers() == 0 {
                 continue;
             }
-            match core.add_end(0, end, Kind::Queue) {
+            match board.add_end(0, end, Kind::Queue) {
                 Ok(place) => assert_eq!(rt; place, count),
-                Err(fault) => assert_eq!(rt; fault, CoreFault::Memory),
+                Err(fault) => assert_eq!(rt; fault, BoardFault::Memory),
             }
         }
-        assert_eq!(rt; core.ends(), count + 1);
+        assert_eq!(rt; board.ends(), count + 1);
     }
 }
 
@@ -221,10 +221,10 @@ fn turns_without_memory(rt: HostRuntime) -> Result<(), Fail> {
         return Ok(());
     };
     for _ in 0..2 {
-        if rig.core.dispatchers() < 2 {
+        if rig.board.dispatchers() < 2 {
             continue;
         }
-        assert_eq!(rt; rig.core.due(1), Some(1));
+        assert_eq!(rt; rig.board.due(1), Some(1));
         let Ok(answer) = rig.step(Command::Turn, 1, b"") else {
             return Ok(());
         };
@@ -233,8 +233,8 @@ fn turns_without_memory(rt: HostRuntime) -> Result<(), Fail> {
             break;
         }
     }
-    if rig.core.dispatchers() >= 2 {
-        assert_eq!(rt; rig.core.due(1), None);
+    if rig.board.dispatchers() >= 2 {
+        assert_eq!(rt; rig.board.due(1), None);
     }
     Ok(())
 }

@@ -1,9 +1,9 @@
-//! A core with its ends and their queues, driven by commands whose answers are words.
+//! A board with its ends and their queues, driven by commands whose answers are words.
 
 use fl_base::{Circuit, Frag, MsgNo};
 use fl_check::{Interface, TextFault, check};
 use fl_compile::{Program, compile};
-use fl_core::{AckAnswer, Core, Kind, TurnAnswer};
+use fl_core::{AckAnswer, Board, Kind, TurnAnswer};
 use fl_endpoint::{End, WriteAnswer};
 use fl_lex::lex;
 use fl_link::QueueLink;
@@ -39,11 +39,11 @@ struct Wires {
     kind: Kind,
 }
 
-/// A core, its queues, and which queues each end uses.
+/// A board, its queues, and which queues each end uses.
 #[derive(Drop)]
 pub struct Rig {
     alloc: Global,
-    pub core: Core,
+    pub board: Board,
     pub queues: Vec<QueueLink>,
     wires: Vec<Wires>,
 }
@@ -113,15 +113,15 @@ fn shown(alloc: Global, frag: &Frag) -> Result<Vec<u8>, AllocError> {
 }
 
 impl Rig {
-    /// A core with so many dispatchers.
+    /// A board with so many dispatchers.
     pub fn new(alloc: Global, dispatchers: usize) -> Result<Rig, AllocError> {
-        let mut core = Core::new(alloc);
+        let mut board = Board::new(alloc);
         for _ in 0..dispatchers {
-            core.add_dispatcher()?;
+            board.add_dispatcher()?;
         }
         Ok(Rig {
             alloc,
-            core,
+            board,
             queues: Vec::new(alloc),
             wires: Vec::new(alloc),
         })
@@ -129,10 +129,10 @@ impl Rig {
 
     fn add_end(&mut self, dispatcher: usize, text: &[u8], wires: Wires) -> Result<(), AllocError> {
         let end = End::new(self.alloc, program(self.alloc, text)?, Circuit(0))?;
-        if dispatcher >= self.core.dispatchers() {
+        if dispatcher >= self.board.dispatchers() {
             return Err(AllocError);
         }
-        if self.core.add_end(dispatcher, end, wires.kind).is_err() {
+        if self.board.add_end(dispatcher, end, wires.kind).is_err() {
             return Err(AllocError);
         }
         self.wires.push(wires)?;
@@ -175,15 +175,15 @@ impl Rig {
     }
 
     fn call(&mut self, e: usize, text: &[u8]) -> Result<Vec<u8>, AllocError> {
-        if e >= self.core.ends() {
+        if e >= self.board.ends() {
             return refused(self.alloc, 92);
         }
-        let interface = self.core.end(e).program().interface();
+        let interface = self.board.end(e).program().interface();
         let call = match read_call(self.alloc, text, interface) {
             Ok(call) => call,
             Err(fault) => return refused(self.alloc, fault.number()),
         };
-        match self.core.call(e, &call) {
+        match self.board.call(e, &call) {
             Ok(()) => words(self.alloc, b"accepted"),
             Err(fault) => refused(self.alloc, fault.number()),
         }
@@ -196,10 +196,10 @@ impl Rig {
         let Some(out) = self.queues.get(wires.out) else {
             return refused(self.alloc, 92);
         };
-        if e >= self.core.ends() {
+        if e >= self.board.ends() {
             return refused(self.alloc, 92);
         }
-        match self.core.show(e, out) {
+        match self.board.show(e, out) {
             Ok(Some(frag)) => shown(self.alloc, &frag),
             Ok(None) => words(self.alloc, b"nothing"),
             Err(fault) => refused(self.alloc, fault.number()),
@@ -213,15 +213,15 @@ impl Rig {
         let Some(out) = self.queues.get_mut(wires.out) else {
             return refused(self.alloc, 92);
         };
-        if e >= self.core.ends() {
+        if e >= self.board.ends() {
             return refused(self.alloc, 92);
         }
-        let answer = self.core.write(e, out);
+        let answer = self.board.write(e, out);
         let peer = wires.peer;
         match answer {
             Ok(WriteAnswer::Written { number, count }) => {
-                if matches!(wires.kind, Kind::Queue) && peer < self.core.ends() {
-                    self.core.trigger(peer);
+                if matches!(wires.kind, Kind::Queue) && peer < self.board.ends() {
+                    self.board.trigger(peer);
                 }
                 let text = format!(in self.alloc; "written {number} of {count}")?;
                 words(self.alloc, text.as_bytes())
@@ -234,11 +234,11 @@ impl Rig {
 
     // What a turn answered at an end.
     fn turned(&self, e: usize, answer: TurnAnswer) -> Result<Vec<u8>, AllocError> {
-        if e >= self.core.ends() {
+        if e >= self.board.ends() {
             return refused(self.alloc, 92);
         }
         match answer {
-            TurnAnswer::Handle(call) => handled(self.alloc, e, &call, self.core.end(e)),
+            TurnAnswer::Handle(call) => handled(self.alloc, e, &call, self.board.end(e)),
             TurnAnswer::Part => says(self.alloc, b"part", e),
             TurnAnswer::Ready => says(self.alloc, b"ready", e),
             TurnAnswer::Quiet => says(self.alloc, b"quiet", e),
@@ -252,10 +252,10 @@ impl Rig {
     }
 
     fn turn(&mut self, dispatcher: usize) -> Result<Vec<u8>, AllocError> {
-        if dispatcher >= self.core.dispatchers() {
+        if dispatcher >= self.board.dispatchers() {
             return refused(self.alloc, 92);
         }
-        let Some(e) = self.core.due(dispatcher) else {
+        let Some(e) = self.board.due(dispatcher) else {
             return words(self.alloc, b"nothing");
         };
         let Some(wires) = self.wires.get(e) else {
@@ -264,7 +264,7 @@ impl Rig {
         let Some(from) = self.queues.get_mut(wires.from) else {
             return refused(self.alloc, 92);
         };
-        match self.core.turn(dispatcher, e, from) {
+        match self.board.turn(dispatcher, e, from) {
             Ok(answer) => self.turned(e, answer),
             Err(AllocError) => refused(self.alloc, 99),
         }
@@ -277,10 +277,10 @@ impl Rig {
         let Some(from) = self.queues.get_mut(wires.from) else {
             return refused(self.alloc, 92);
         };
-        if e >= self.core.ends() {
+        if e >= self.board.ends() {
             return refused(self.alloc, 92);
         }
-        match self.core.ack(e, from) {
+        match self.board.ack(e, from) {
             Ok(AckAnswer::Done) => words(self.alloc, b"ok"),
             Ok(AckAnswer::Nothing) => words(self.alloc, b"nothing"),
             Ok(AckAnswer::Full) => words(self.alloc, b"full"),
@@ -295,20 +295,20 @@ impl Rig {
         let Some(from) = self.queues.get_mut(wires.from) else {
             return refused(self.alloc, 92);
         };
-        if e >= self.core.ends() {
+        if e >= self.board.ends() {
             return refused(self.alloc, 92);
         }
-        match self.core.register(e, from) {
+        match self.board.register(e, from) {
             Ok(()) => words(self.alloc, b"ok"),
             Err(fault) => refused(self.alloc, fault.number()),
         }
     }
 
     fn deregister(&mut self, e: usize) -> Result<Vec<u8>, AllocError> {
-        if e >= self.core.ends() {
+        if e >= self.board.ends() {
             return refused(self.alloc, 92);
         }
-        match self.core.deregister(e) {
+        match self.board.deregister(e) {
             Ok(()) => words(self.alloc, b"ok"),
             Err(fault) => refused(self.alloc, fault.number()),
         }
@@ -316,10 +316,10 @@ impl Rig {
 
     // The reply to message 0 is message 1.
     fn reply(&mut self, e: usize) -> Result<Vec<u8>, AllocError> {
-        if e >= self.core.ends() {
+        if e >= self.board.ends() {
             return refused(self.alloc, 92);
         }
-        match self.core.reply_rule(e, MsgNo(0), MsgNo(1)) {
+        match self.board.reply_rule(e, MsgNo(0), MsgNo(1)) {
             Ok(()) => words(self.alloc, b"ok"),
             Err(fault) => refused(self.alloc, fault.number()),
         }

@@ -7,8 +7,8 @@ use fl_base::{Circuit, Frag, MsgNo};
 use fl_check::Interface;
 use fl_compile::compile;
 use fl_endpoint::{
-    End, accounts_add_up, bind_accounts, call_accounts, handles_in_order, off_the_circuit,
-    on_another_circuit, receive_accounts, replies_add_up, rule_accounts, since_made,
+    End, accounts_add_up, bind_accounts, call_accounts, handles_in_order, on_another_circuit,
+    receive_accounts, replies_add_up, rule_accounts, since_made,
     takes_in_order, write_accounts,
 };
 use fl_link::{PutFault, PutSide, QueueLink};
@@ -171,6 +171,5 @@ fn laws_hold(_rt: HostRuntime) {
     since_made();
     handles_in_order();
     takes_in_order();
-    off_the_circuit();
     on_another_circuit();
 }

@@ -4,7 +4,7 @@ use Rattle.std.specs.declared.alloc.AllocError.{AllocError}
 use Rattle.fl_base.specs.declared.fragment.Frag.{Frag}
 use Rattle.fl_lists.specs.declared.place.Place.{Place}
 use Rattle.fl_lists.specs.declared.place.Place.TheVariants as place
-use Rattle.fl_lists.specs.Threads.{Threads}
+use Rattle.fl_lists.specs.ThreeLists.{ThreeLists}
 use Rattle.fl_waitset.specs.declared.waitset.Pick.{Pick}
 use Rattle.fl_waitset.specs.declared.waitset.Pick.TheVariants as pick
 use Rattle.fl_link.specs.Looks.{Look, Looks, saw, saw_ack, found, found_ack, missed, placed, no_room, spent, told, kept}
@@ -105,7 +105,7 @@ module _ {T : Type 0} (takes : T → Look → T → Type 0) (binds : BindAccount
   nothing : AddsNothing s s × Replies s [] [] s
   nothing = let zero_fits : 0 < 2 ^ 16 = omega arith in subst (λ (x : TheEnd). AddsNothing s x × Replies s [] [] x) (bound_stays s 0 ready.0) (binds s 0 zero_fits sound)
 
-  gave : (kind : Kind) (c : ℕ) (w v : Threads) (answer : Result TurnAnswer AllocError) → Gives takes kind c w s p answer v t q → TurnAdds takes s p answer t q
+  gave : (kind : Kind) (c : ℕ) (w v : ThreeLists) (answer : Result TurnAnswer AllocError) → Gives takes kind c w s p answer v t q → TurnAdds takes s p answer t q
   gave kind c w v (Ok (Handle call)) (m, r, (to, waits, e)) =
       let a = receives s t p m (Ok (receive.Handle call)) sound r in let b = more_looks takes kind m q to waits in
       record {
@@ -160,7 +160,7 @@ module _ {T : Type 0} (takes : T → Look → T → Type 0) (binds : BindAccount
   still : (e : t ≡ s) → AddsNothing s t × Replies s [] [] t
   still e = subst (λ (x : TheEnd). AddsNothing s x × Replies s [] [] x) (sym e) nothing
 
-  examined : (c : ℕ) (w v : Threads) (answer : Result TurnAnswer AllocError) → t ≡ s → Examines takes c w p answer v q → TurnAdds takes s p answer t q
+  examined : (c : ℕ) (w v : ThreeLists) (answer : Result TurnAnswer AllocError) → t ≡ s → Examines takes c w p answer v q → TurnAdds takes s p answer t q
   examined c w v (Ok Ready) e ((f, look), off) =
       let a = still e in
       record { looks = saw f ∷ []; side = (q, look, refl); accepted = []; sound = a.0.sound; account = a.0.account; replies = a.1 }
@@ -177,6 +177,6 @@ module _ {T : Type 0} (takes : T → Look → T → Type 0) (binds : BindAccount
   examined c w v (Ok (Refused fault)) e h = absurd h
   examined c w v (Err error) e h = absurd h
 
-  pub turn_adds : (picked : Pick) (kind : Kind) (w v : Threads) (answer : Result TurnAnswer AllocError) → LooksAt takes picked kind w s p answer v t q → TurnAdds takes s p answer t q
+  pub turn_adds : (picked : Pick) (kind : Kind) (w v : ThreeLists) (answer : Result TurnAnswer AllocError) → LooksAt takes picked kind w s p answer v t q → TurnAdds takes s p answer t q
   turn_adds (pick.Pending c) kind w v answer h = gave kind c.0 w v answer h
   turn_adds (pick.Polled c) kind w v answer h = examined c.0 w v answer h.1 h.0

@@ -1,11 +1,11 @@
--- An end is added at a dispatcher, or there is no room: k is the core before, and base the same by its fields.
+-- An end is added at a dispatcher, or there is no room: k is the board before, and base the same by its fields.
 use Rattle.std.proofs.Common.{◌≡◌, sym, ap, ◌∙◌, subst, ℕ, ◌<◌, List, [], ◌∷◌, ◌++◌, length, slice_set, slice_index_or, Ok, Err, arith}
 use Rattle.fl_endpoint.specs.View.{TheEnd}
 use Rattle.fl_core.specs.declared.kind.Kind.{Kind}
-use Rattle.fl_core.specs.declared.fault.CoreFault.{CoreFault}
-use Rattle.fl_core.specs.declared.fault.CoreFault.TheVariants.{NotBound, Registered, NotRegistered, TooManyEnds, Failed, Memory}
-use Rattle.fl_core.specs.View.{TheDispatcher, TheSeat, TheCore, with_new_end}
-use Rattle.fl_core.specs.Sound.{IsCore}
+use Rattle.fl_core.specs.declared.fault.BoardFault.{BoardFault}
+use Rattle.fl_core.specs.declared.fault.BoardFault.TheVariants.{NotBound, Registered, NotRegistered, TooManyEnds, Failed, Memory}
+use Rattle.fl_core.specs.View.{TheDispatcher, TheSeat, TheBoard, with_new_end}
+use Rattle.fl_core.specs.Sound.{IsBoard}
 use Rattle.fl_core.specs.Events.{Adds}
 use Rattle.fl_core.specs.Inside.{HasNoRoom}
 use Rattle.fl_core.proofs.Places.{set_same}
@@ -13,21 +13,21 @@ use Rattle.fl_core.proofs.Dispatchers.{finds, finds_before}
 use Rattle.fl_core.proofs.Kept.{new_end_kept}
 
 -- base with other ends at a dispatcher d, and other seats
-abbrev pub with_both : TheCore → ℕ → TheDispatcher → List ℕ → List TheSeat → TheCore
+abbrev pub with_both : TheBoard → ℕ → TheDispatcher → List ℕ → List TheSeat → TheBoard
 with_both base n d ends seats = record { dispatchers = slice_set base.dispatchers n (record { lists = d.lists; ends = ends }); seats = seats }
 
-module _ (k base : TheCore) (same : base ≡ k) (n : ℕ) (below : n < length k.dispatchers) (d read : TheDispatcher) (value : read ≡ slice_index_or base.dispatchers n read) (view : d ≡ read)
-    (sound : IsCore base) (ends : List ℕ) (seats : List TheSeat) where
+module _ (k base : TheBoard) (same : base ≡ k) (n : ℕ) (below : n < length k.dispatchers) (d read : TheDispatcher) (value : read ≡ slice_index_or base.dispatchers n read) (view : d ≡ read)
+    (sound : IsBoard base) (ends : List ℕ) (seats : List TheSeat) where
   -- nothing was added
   as_before : ends ≡ d.ends → seats ≡ base.seats → with_both base n d ends seats ≡ base
   as_before e f =
       ap (λ (x : List ℕ). with_both base n d x seats) e ∙ ap (λ (x : List TheSeat). with_both base n d d.ends x) f
-      ∙ ap (λ (x : List TheDispatcher). let c : TheCore = record { dispatchers = x; seats = base.seats } in c) (set_same base.dispatchers n d (finds k base same n below d read value view))
+      ∙ ap (λ (x : List TheDispatcher). let c : TheBoard = record { dispatchers = x; seats = base.seats } in c) (set_same base.dispatchers n d (finds k base same n below d read value view))
 
-  pub refused_kept : ends ≡ d.ends → seats ≡ base.seats → IsCore (with_both base n d ends seats)
-  refused_kept e f = subst IsCore (sym (as_before e f)) sound
+  pub refused_kept : ends ≡ d.ends → seats ≡ base.seats → IsBoard (with_both base n d ends seats)
+  refused_kept e f = subst IsBoard (sym (as_before e f)) sound
 
-  pub refused_adds : (s : TheEnd) (kind : Kind) (fault : CoreFault) → HasNoRoom (length d.ends) fault → ends ≡ d.ends → seats ≡ base.seats → Adds k n s kind (Err fault) (with_both base n d ends seats)
+  pub refused_adds : (s : TheEnd) (kind : Kind) (fault : BoardFault) → HasNoRoom (length d.ends) fault → ends ≡ d.ends → seats ≡ base.seats → Adds k n s kind (Err fault) (with_both base n d ends seats)
   refused_adds s kind TooManyEnds h e f =
       let few = (sound.dispatchers n d (finds k base same n below d read value view)).few in
       let full : length d.ends ≡ 1024 = omega (arith, h, few) in
@@ -46,9 +46,9 @@ module _ (k base : TheCore) (same : base ≡ k) (n : ℕ) (below : n < length k.
         ap (λ (x : List ℕ). with_both base n d x seats) (ends_are ∙ ap (λ (p : ℕ). d.ends ++ p ∷ []) place_is)
         ∙ ap (λ (x : List TheSeat). with_both base n d (d.ends ++ length base.seats ∷ []) x) (seats_are ∙ ap (λ (c : ℕ). base.seats ++ record { end = s; dispatcher = n; channel = c; kind = kind } ∷ []) channel_is)
 
-    pub added_kept : IsCore (with_both base n d ends seats)
-    added_kept = subst IsCore (sym grown) (new_end_kept base n d s kind sound (finds k base same n below d read value view) room)
+    pub added_kept : IsBoard (with_both base n d ends seats)
+    added_kept = subst IsBoard (sym grown) (new_end_kept base n d s kind sound (finds k base same n below d read value view) room)
 
     pub added_adds : Adds k n s kind (Ok place) (with_both base n d ends seats)
     added_adds =
-        (place_is ∙ ap (λ (x : TheCore). length x.seats) same, (d, finds_before k base same n below d read value view, room, grown ∙ ap (λ (x : TheCore). with_new_end x n d s kind) same))
+        (place_is ∙ ap (λ (x : TheBoard). length x.seats) same, (d, finds_before k base same n below d read value view, room, grown ∙ ap (λ (x : TheBoard). with_new_end x n d s kind) same))

@@ -1,12 +1,12 @@
--- The end that was added last is taken back: base is the core with it, by its fields, and k the core before.
+-- The end that was added last is taken back: base is the board with it, by its fields, and k the board before.
 use Rattle.std.proofs.Common.{◌≡◌, refl, sym, ap, ◌∙◌, ℕ, ◌<◌, ◌-◌, List, [], ◌∷◌, ◌++◌, length, take, slice_get, slice_set, slice_index_or, Some, length-append, arith}
 use Rattle.std.proofs.lemmas.Option.{slice_get_read, slice_get_within}
 use Rattle.fl_endpoint.specs.View.{TheEnd}
 use Rattle.fl_core.specs.declared.kind.Kind.{Kind}
-use Rattle.fl_core.specs.View.{TheDispatcher, TheSeat, TheCore, with_new_end}
+use Rattle.fl_core.specs.View.{TheDispatcher, TheSeat, TheBoard, with_new_end}
 use Rattle.fl_core.proofs.Places.{one_stands, set_here, set_same, set_twice, last_parts, without_last}
 
-module _ (k : TheCore) (n : ℕ) (d : TheDispatcher) (s : TheEnd) (kind : Kind) (dispatcher_is : slice_get k.dispatchers n ≡ Some d) (base : TheCore) (grown : base ≡ with_new_end k n d s kind)
+module _ (k : TheBoard) (n : ℕ) (d : TheDispatcher) (s : TheEnd) (kind : Kind) (dispatcher_is : slice_get k.dispatchers n ≡ Some d) (base : TheBoard) (grown : base ≡ with_new_end k n d s kind)
     (seats : List TheSeat) (last : TheSeat) (seats_are : base.seats ≡ seats ++ last ∷ []) where
   new_seat : TheSeat
   new_seat = record { end = s; dispatcher = n; channel = length d.ends; kind = kind }
@@ -16,7 +16,7 @@ module _ (k : TheCore) (n : ℕ) (d : TheDispatcher) (s : TheEnd) (kind : Kind) 
 
   parts : (seats ≡ k.seats) × (last ≡ new_seat)
   unfolding new_seat
-  parts = last_parts seats k.seats last new_seat (sym seats_are ∙ ap (λ (x : TheCore). x.seats) grown)
+  parts = last_parts seats k.seats last new_seat (sym seats_are ∙ ap (λ (x : TheBoard). x.seats) grown)
 
   at_n : last.dispatcher ≡ n
   unfolding new_seat
@@ -24,7 +24,7 @@ module _ (k : TheCore) (n : ℕ) (d : TheDispatcher) (s : TheEnd) (kind : Kind) 
 
   there : slice_get base.dispatchers last.dispatcher ≡ Some after
   unfolding after
-  there = ap (slice_get base.dispatchers) at_n ∙ ap (λ (x : TheCore). slice_get x.dispatchers n) grown ∙ set_here k.dispatchers n d after dispatcher_is
+  there = ap (slice_get base.dispatchers) at_n ∙ ap (λ (x : TheBoard). slice_get x.dispatchers n) grown ∙ set_here k.dispatchers n d after dispatcher_is
 
   pub last_below : last.dispatcher < length base.dispatchers
   last_below = slice_get_within base.dispatchers last.dispatcher after there
@@ -52,11 +52,11 @@ module _ (k : TheCore) (n : ℕ) (d : TheDispatcher) (s : TheEnd) (kind : Kind) 
     dispatchers_before =
         ap (λ (x : TheDispatcher). slice_set base.dispatchers last.dispatcher x) d_before
         ∙ ap (λ (i : ℕ). slice_set base.dispatchers i d) at_n
-        ∙ ap (λ (x : TheCore). slice_set x.dispatchers n d) grown
+        ∙ ap (λ (x : TheBoard). slice_set x.dispatchers n d) grown
         ∙ set_twice k.dispatchers n after d
         ∙ set_same k.dispatchers n d dispatcher_is
 
-    pub back : (let x : TheCore = record { dispatchers = slice_set base.dispatchers last.dispatcher (record { lists = d2.lists; ends = ends }); seats = seats } in x) ≡ k
+    pub back : (let x : TheBoard = record { dispatchers = slice_set base.dispatchers last.dispatcher (record { lists = d2.lists; ends = ends }); seats = seats } in x) ≡ k
     back =
-        ap (λ (x : List TheDispatcher). let y : TheCore = record { dispatchers = x; seats = seats } in y) dispatchers_before
-        ∙ ap (λ (x : List TheSeat). let y : TheCore = record { dispatchers = k.dispatchers; seats = x } in y) parts.0
+        ap (λ (x : List TheDispatcher). let y : TheBoard = record { dispatchers = x; seats = seats } in y) dispatchers_before
+        ∙ ap (λ (x : List TheSeat). let y : TheBoard = record { dispatchers = k.dispatchers; seats = x } in y) parts.0

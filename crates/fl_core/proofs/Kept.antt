@@ -1,20 +1,20 @@
--- Each change of a core keeps what is known of it.
+-- Each change of a board keeps what is known of it.
 use Rattle.std.proofs.Common.{◌≡◌, inl, inr, refl, sym, ap, ◌∙◌, subst, ℕ, ◌<◌, true, List, [], ◌∷◌, ◌++◌, length, slice_get, slice_set, Some, length-append, arith}
 use Rattle.std.proofs.lemmas.Bool.{cases_eq}
 use Rattle.fl_lists.specs.declared.place.Place.{Place}
 use Rattle.fl_lists.specs.declared.place.Place.TheVariants.{Idle, Polled, Pending}
-use Rattle.fl_lists.specs.Threads.{Threads, list_at, is_in, NoRepeat, IsApart, empty}
+use Rattle.fl_lists.specs.ThreeLists.{ThreeLists, list_at, is_in, NoRepeat, IsApart, empty}
 use Rattle.fl_endpoint.specs.View.{TheEnd}
 use Rattle.fl_endpoint.specs.Events.{IsReady}
 use Rattle.fl_core.specs.declared.kind.Kind.{Kind}
-use Rattle.fl_core.specs.View.{TheDispatcher, TheSeat, TheCore, with_lists, with_end, with_dispatcher, with_new_end, new_dispatcher}
-use Rattle.fl_core.specs.Sound.{IsSeated, HasChannel, MayWaitIn, MayTurn, IsDispatcher, IsCore}
+use Rattle.fl_core.specs.View.{TheDispatcher, TheSeat, TheBoard, with_lists, with_end, with_dispatcher, with_new_end, new_dispatcher}
+use Rattle.fl_core.specs.Sound.{IsSeated, HasChannel, MayWaitIn, MayTurn, IsDispatcher, IsBoard}
 use Rattle.fl_core.proofs.Registered.{Listed}
 use Rattle.fl_core.proofs.Places.{set_here, set_elsewhere, push_stays, push_last, push_cases}
 
 -- ---- an end changes
 
-module _ (k : TheCore) (sound : IsCore k) (e : ℕ) (s : TheSeat) (seat_is : slice_get k.seats e ≡ Some s) (t : TheEnd) where
+module _ (k : TheBoard) (sound : IsBoard k) (e : ℕ) (s : TheSeat) (seat_is : slice_get k.seats e ≡ Some s) (t : TheEnd) where
   after_seat : TheSeat
   after_seat = record { end = t; dispatcher = s.dispatcher; channel = s.channel; kind = s.kind }
 
@@ -76,7 +76,7 @@ module _ (k : TheCore) (sound : IsCore k) (e : ℕ) (s : TheSeat) (seat_is : sli
           let it : h.seat ≡ s = cc (h.seat_is, there) in
           (ap (λ (x : TheSeat). x.dispatcher) (sym it) ∙ h.dispatcher_is, ap (λ (x : TheSeat). x.channel) (sym it) ∙ h.channel_is)
 
-    pub end_kept : IsCore (with_end k e s t)
+    pub end_kept : IsBoard (with_end k e s t)
     unfolding after_seat
     end_kept = record {
       seats = λ e2 s2 at. elim (cases_eq e2 e) [
@@ -103,7 +103,7 @@ module _ (k : TheCore) (sound : IsCore k) (e : ℕ) (s : TheSeat) (seat_is : sli
     }
 
 -- the end of a registered channel is ready
-pub seated_ready : (k : TheCore) → IsCore k → (e : ℕ) (s : TheSeat) → slice_get k.seats e ≡ Some s
+pub seated_ready : (k : TheBoard) → IsBoard k → (e : ℕ) (s : TheSeat) → slice_get k.seats e ≡ Some s
     → (d : TheDispatcher) → slice_get k.dispatchers s.dispatcher ≡ Some d → (list : Place) → is_in s.channel (list_at d.lists list) ≡ true → IsReady s.end
 seated_ready k sound e s at d dispatcher_is list registered =
     let was = sound.seats e s at in
@@ -117,11 +117,11 @@ seated_ready k sound e s at d dispatcher_is list registered =
 
 -- ---- the lists of a dispatcher change
 
-module _ (k : TheCore) (sound : IsCore k) (n : ℕ) (d : TheDispatcher) (dispatcher_is : slice_get k.dispatchers n ≡ Some d) (w : Threads) where
+module _ (k : TheBoard) (sound : IsBoard k) (n : ℕ) (d : TheDispatcher) (dispatcher_is : slice_get k.dispatchers n ≡ Some d) (w : ThreeLists) where
   after_dispatcher : TheDispatcher
   after_dispatcher = record { lists = w; ends = d.ends }
 
-  pub lists_kept : w.size ≡ d.lists.size → IsApart w → Listed (MayTurn k.seats d.ends) w → IsCore (with_lists k n d w)
+  pub lists_kept : w.size ≡ d.lists.size → IsApart w → Listed (MayTurn k.seats d.ends) w → IsBoard (with_lists k n d w)
   unfolding after_dispatcher
   lists_kept size apart registered = record {
     seats = λ e s at.
@@ -166,7 +166,7 @@ empty_apart n = record {
   below = λ p c here. nowhere n p c here;
 }
 
-pub dispatcher_kept : (k : TheCore) → IsCore k → IsCore (with_dispatcher k)
+pub dispatcher_kept : (k : TheBoard) → IsBoard k → IsBoard (with_dispatcher k)
 dispatcher_kept k sound = record {
   seats = λ e s at.
       let was = sound.seats e s at in
@@ -191,7 +191,7 @@ dispatcher_kept k sound = record {
 
 -- ---- an end is added
 
-pub new_end_kept : (k : TheCore) (n : ℕ) (d : TheDispatcher) (s : TheEnd) (kind : Kind) → IsCore k → slice_get k.dispatchers n ≡ Some d → length d.ends < 1024 → IsCore (with_new_end k n d s kind)
+pub new_end_kept : (k : TheBoard) (n : ℕ) (d : TheDispatcher) (s : TheEnd) (kind : Kind) → IsBoard k → slice_get k.dispatchers n ≡ Some d → length d.ends < 1024 → IsBoard (with_new_end k n d s kind)
 new_end_kept k n d s kind sound dispatcher_is room = record {
   seats = λ e x at. elim (push_cases k.seats seat e x at) [
     | inl here ↦ record {

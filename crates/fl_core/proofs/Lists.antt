@@ -1,17 +1,17 @@
--- An event of the lists of the dispatcher at which an end sits: k is the core before, and base the same by its fields.
+-- An event of the lists of the dispatcher at which an end sits: k is the board before, and base the same by its fields.
 use Rattle.std.proofs.Common.{◌≡◌, refl, sym, ap, ◌∙◌, subst, ℕ, ◌<◌, true, List, length, slice_get, slice_index_or, Some, Result, Ok, Err, arith}
 use Rattle.std.proofs.lemmas.Option.{slice_get_read, slice_get_within}
 use Rattle.fl_lists.specs.declared.place.Place.{Place}
 use Rattle.fl_lists.specs.declared.place.Place.TheVariants as place
-use Rattle.fl_lists.specs.Threads.{Threads, is_in, unlinked, pushed, IsApart}
+use Rattle.fl_lists.specs.ThreeLists.{ThreeLists, is_in, unlinked, pushed, IsApart}
 use Rattle.fl_lists.proofs.Tables.{pushed_size}
 use Rattle.fl_waitset.specs.Waiting.{triggered}
 use Rattle.fl_link.specs.Looks.{Look}
 use Rattle.fl_endpoint.specs.Events.{IsReady}
-use Rattle.fl_core.specs.View.{TheDispatcher, TheSeat, TheCore, with_lists}
-use Rattle.fl_core.specs.Sound.{IsSeated, MayWaitIn, MayTurn, IsDispatcher, IsCore}
-use Rattle.fl_core.specs.declared.fault.CoreFault.{CoreFault}
-use Rattle.fl_core.specs.declared.fault.CoreFault.TheVariants.{NotBound, Registered, NotRegistered, TooManyEnds, Failed, Memory}
+use Rattle.fl_core.specs.View.{TheDispatcher, TheSeat, TheBoard, with_lists}
+use Rattle.fl_core.specs.Sound.{IsSeated, MayWaitIn, MayTurn, IsDispatcher, IsBoard}
+use Rattle.fl_core.specs.declared.fault.BoardFault.{BoardFault}
+use Rattle.fl_core.specs.declared.fault.BoardFault.TheVariants.{NotBound, Registered, NotRegistered, TooManyEnds, Failed, Memory}
 use Rattle.fl_core.specs.Events.{ChangesLists, Joins, Registers}
 use Rattle.fl_core.proofs.Places.{one_stands, set_same}
 use Rattle.fl_core.proofs.Registered.{Listed, pushed_each, unlinked_each, triggered_each, triggered_size}
@@ -19,7 +19,7 @@ use Rattle.fl_core.proofs.Seats.{reads, reads_before}
 use Rattle.fl_core.proofs.Turning.{pending_fits, waits_fits}
 use Rattle.fl_core.proofs.Kept.{lists_kept}
 
-module _ (k base : TheCore) (same : base ≡ k) (e : ℕ) (below : e < length k.seats) (s read : TheSeat) (value : read ≡ slice_index_or base.seats e read) (view : s ≡ read) (sound : IsCore base) where
+module _ (k base : TheBoard) (same : base ≡ k) (e : ℕ) (below : e < length k.seats) (s read : TheSeat) (value : read ≡ slice_index_or base.seats e read) (view : s ≡ read) (sound : IsBoard base) where
   seated : IsSeated base.dispatchers e s
   seated = sound.seats e s (reads k base same e below s read value view)
 
@@ -27,9 +27,9 @@ module _ (k base : TheCore) (same : base ≡ k) (e : ℕ) (below : e < length k.
   dispatcher_below = slice_get_within base.dispatchers s.dispatcher seated.dispatcher seated.dispatcher_is
 
   -- an event that changes nothing
-  pub unchanged : (Event : TheSeat → Threads → Threads → Type 0) → ((w : Threads) → Event s w w) → ChangesLists k e Event k
+  pub unchanged : (Event : TheSeat → ThreeLists → ThreeLists → Type 0) → ((w : ThreeLists) → Event s w w) → ChangesLists k e Event k
   unchanged Event event =
-      let at : slice_get k.dispatchers s.dispatcher ≡ Some seated.dispatcher = subst (λ (x : TheCore). slice_get x.dispatchers s.dispatcher ≡ Some seated.dispatcher) same seated.dispatcher_is in
+      let at : slice_get k.dispatchers s.dispatcher ≡ Some seated.dispatcher = subst (λ (x : TheBoard). slice_get x.dispatchers s.dispatcher ≡ Some seated.dispatcher) same seated.dispatcher_is in
       record {
         seat = s;
         seat_is = reads_before k base same e below s read value view;
@@ -37,7 +37,7 @@ module _ (k base : TheCore) (same : base ≡ k) (e : ℕ) (below : e < length k.
         dispatcher_is = at;
         lists = seated.dispatcher.lists;
         event = event seated.dispatcher.lists;
-        core = ap (λ (ds : List TheDispatcher). let c : TheCore = record { dispatchers = ds; seats = k.seats } in c) (sym (set_same k.dispatchers s.dispatcher seated.dispatcher at));
+        board = ap (λ (ds : List TheDispatcher). let c : TheBoard = record { dispatchers = ds; seats = k.seats } in c) (sym (set_same k.dispatchers s.dispatcher seated.dispatcher at));
       }
 
   module _ (d seen : TheDispatcher) (value_d : seen ≡ slice_index_or base.dispatchers s.dispatcher seen) (view_d : d ≡ seen) where
@@ -55,37 +55,37 @@ module _ (k base : TheCore) (same : base ≡ k) (e : ℕ) (below : e < length k.
     pub channel_below : s.channel < d.lists.size
     channel_below = let within = slice_get_within d.ends s.channel e leads_back in omega (arith, within, known.few, known.size)
 
-    pub lists_event : (Event : TheSeat → Threads → Threads → Type 0) (w : Threads) → Event s d.lists w → ChangesLists k e Event (with_lists base s.dispatcher d w)
+    pub lists_event : (Event : TheSeat → ThreeLists → ThreeLists → Type 0) (w : ThreeLists) → Event s d.lists w → ChangesLists k e Event (with_lists base s.dispatcher d w)
     lists_event Event w event = record {
       seat = s;
       seat_is = reads_before k base same e below s read value view;
       dispatcher = d;
-      dispatcher_is = subst (λ (x : TheCore). slice_get x.dispatchers s.dispatcher ≡ Some d) same stands;
+      dispatcher_is = subst (λ (x : TheBoard). slice_get x.dispatchers s.dispatcher ≡ Some d) same stands;
       lists = w;
       event = event;
-      core = ap (λ (x : TheCore). with_lists x s.dispatcher d w) same;
+      board = ap (λ (x : TheBoard). with_lists x s.dispatcher d w) same;
     }
 
-    kept : (w v : Threads) → v ≡ w → w.size ≡ d.lists.size → Listed (MayTurn base.seats d.ends) w → IsApart v → IsCore (with_lists base s.dispatcher d v)
+    kept : (w v : ThreeLists) → v ≡ w → w.size ≡ d.lists.size → Listed (MayTurn base.seats d.ends) w → IsApart v → IsBoard (with_lists base s.dispatcher d v)
     kept w v v_is size listed apart =
-        lists_kept base sound s.dispatcher d stands v (ap (λ (x : Threads). x.size) v_is ∙ size) apart (subst (Listed (MayTurn base.seats d.ends)) (sym v_is) listed)
+        lists_kept base sound s.dispatcher d stands v (ap (λ (x : ThreeLists). x.size) v_is ∙ size) apart (subst (Listed (MayTurn base.seats d.ends)) (sym v_is) listed)
 
     -- nothing changes
-    pub kept_same : (v : Threads) → v ≡ d.lists → IsApart v → IsCore (with_lists base s.dispatcher d v)
+    pub kept_same : (v : ThreeLists) → v ≡ d.lists → IsApart v → IsBoard (with_lists base s.dispatcher d v)
     kept_same v v_is apart = kept d.lists v v_is refl known.registered apart
 
     -- the end's channel leaves
-    pub kept_unlinked : (v : Threads) → v ≡ unlinked d.lists s.channel → IsApart v → IsCore (with_lists base s.dispatcher d v)
+    pub kept_unlinked : (v : ThreeLists) → v ≡ unlinked d.lists s.channel → IsApart v → IsBoard (with_lists base s.dispatcher d v)
     kept_unlinked v v_is apart = kept (unlinked d.lists s.channel) v v_is refl (unlinked_each (MayTurn base.seats d.ends) d.lists known.registered s.channel) apart
 
     -- it is registered, while the end is ready
-    pub kept_pushed : (v : Threads) (to : Place) → IsReady s.end → MayWaitIn s.kind to → v ≡ pushed d.lists s.channel to → IsApart v → IsCore (with_lists base s.dispatcher d v)
+    pub kept_pushed : (v : ThreeLists) (to : Place) → IsReady s.end → MayWaitIn s.kind to → v ≡ pushed d.lists s.channel to → IsApart v → IsBoard (with_lists base s.dispatcher d v)
     kept_pushed v to ready fits v_is apart =
         let turn : MayTurn base.seats d.ends to s.channel = record { place = e; place_is = leads_back; seat = s; seat_is = reads k base same e below s read value view; ready = ready; waits = fits } in
         kept (pushed d.lists s.channel to) v v_is (pushed_size d.lists s.channel to) (pushed_each (MayTurn base.seats d.ends) d.lists known.registered s.channel to turn) apart
 
     -- it is triggered
-    pub kept_triggered : (v : Threads) → v ≡ triggered d.lists s.channel → IsApart v → IsCore (with_lists base s.dispatcher d v)
+    pub kept_triggered : (v : ThreeLists) → v ≡ triggered d.lists s.channel → IsApart v → IsBoard (with_lists base s.dispatcher d v)
     kept_triggered v v_is apart = kept (triggered d.lists s.channel) v v_is (triggered_size d.lists s.channel) (triggered_each (MayTurn base.seats d.ends) d.lists known.registered s.channel turn) apart where
       turn : is_in s.channel d.lists.idle ≡ true → MayTurn base.seats d.ends place.Pending s.channel
       turn idle =
@@ -93,7 +93,7 @@ module _ (k base : TheCore) (same : base ≡ k) (e : ℕ) (below : e < length k.
           record { place = m.place; place_is = m.place_is; seat = m.seat; seat_is = m.seat_is; ready = m.ready; waits = pending_fits m.seat.kind }
 
     -- it is registered, or was already
-    pub kept_joined : {T : Type 0} (takes : T → Look → T → Type 0) (p q : T) (v : Threads) (r : Result (Unit {0}) CoreFault) → IsReady s.end → Joins takes s.kind s.channel d.lists p r v q → IsApart v → IsCore (with_lists base s.dispatcher d v)
+    pub kept_joined : {T : Type 0} (takes : T → Look → T → Type 0) (p q : T) (v : ThreeLists) (r : Result (Unit {0}) BoardFault) → IsReady s.end → Joins takes s.kind s.channel d.lists p r v q → IsApart v → IsBoard (with_lists base s.dispatcher d v)
     kept_joined takes p q v (Ok done) ready (free, (to, waits, v_is)) apart = kept_pushed v to ready (waits_fits takes s.kind p q to waits) v_is apart
     kept_joined takes p q v (Err Registered) ready h apart = kept_same v h.2 apart
     kept_joined takes p q v (Err NotBound) ready h apart = absurd h
@@ -103,7 +103,7 @@ module _ (k base : TheCore) (same : base ≡ k) (e : ℕ) (below : e < length k.
     kept_joined takes p q v (Err Memory) ready h apart = absurd h
 
 -- an end that is ready registers as its channel joins
-pub joins_registers : {T : Type 0} (takes : T → Look → T → Type 0) (s : TheSeat) (w v : Threads) (p q : T) (r : Result (Unit {0}) CoreFault) → IsReady s.end → Joins takes s.kind s.channel w p r v q → Registers takes s w p r v q
+pub joins_registers : {T : Type 0} (takes : T → Look → T → Type 0) (s : TheSeat) (w v : ThreeLists) (p q : T) (r : Result (Unit {0}) BoardFault) → IsReady s.end → Joins takes s.kind s.channel w p r v q → Registers takes s w p r v q
 joins_registers takes s w v p q (Ok done) ready h = (ready, h)
 joins_registers takes s w v p q (Err Registered) ready h = (ready, h)
 joins_registers takes s w v p q (Err NotBound) ready h = absurd h

@@ -1,20 +1,20 @@
 -- The parts of a turn, by what the end answered.
 use Rattle.std.proofs.Common.{◌≡◌, refl, sym, subst, ℕ, IsSome, Ok, Err}
-use Rattle.fl_lists.specs.Threads.{Threads}
+use Rattle.fl_lists.specs.ThreeLists.{ThreeLists}
 use Rattle.fl_link.specs.Looks.{Look}
 use Rattle.fl_endpoint.specs.declared.answer.ReceiveAnswer.{ReceiveAnswer}
 use Rattle.fl_endpoint.specs.View.{TheEnd}
 use Rattle.fl_endpoint.specs.Events.{IsUnbound}
 use Rattle.fl_core.specs.declared.kind.Kind.{Kind}
 use Rattle.fl_core.specs.declared.kind.Kind.TheVariants.{Queue, Ring}
-use Rattle.fl_core.specs.declared.fault.CoreFault.TheVariants.{NotBound}
+use Rattle.fl_core.specs.declared.fault.BoardFault.TheVariants.{NotBound}
 use Rattle.fl_core.specs.declared.answer.AckAnswer.{AckAnswer}
 use Rattle.fl_core.specs.declared.answer.AckAnswer.TheVariants as ack
 use Rattle.fl_core.specs.declared.answer.TurnAnswer.{TurnAnswer}
 use Rattle.fl_core.specs.Inside.{Took, Tells}
 use Rattle.fl_core.specs.Events.{Acks}
 
-module _ {T : Type 0} (takes : T → Look → T → Type 0) (kind : Kind) (c : ℕ) (w v : Threads) (m q : T) where
+module _ {T : Type 0} (takes : T → Look → T → Type 0) (kind : Kind) (c : ℕ) (w v : ThreeLists) (m q : T) where
   pub took_as : (a b : ReceiveAnswer) (x y : TurnAnswer) → a ≡ b → x ≡ y → Took takes kind c w m b y v q → Took takes kind c w m a x v q
   took_as a b x y e f h = subst (λ (z : ReceiveAnswer). Took takes kind c w m z x v q) (sym e) (subst (λ (z : TurnAnswer). Took takes kind c w m b z v q) (sym f) h)
 

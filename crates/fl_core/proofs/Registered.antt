@@ -4,19 +4,19 @@ use Rattle.std.proofs.lemmas.Bool.{cases_Bool, cases_eq, or_parts, eqb-false, co
 use Rattle.std.proofs.lemmas.Bool.Decides.{nat_tests}
 use Rattle.fl_lists.specs.declared.place.Place.{Place}
 use Rattle.fl_lists.specs.declared.place.Place.TheVariants.{Idle, Polled, Pending}
-use Rattle.fl_lists.specs.Threads.{Threads, list_at, is_in, without, unlinked, pushed, moved}
+use Rattle.fl_lists.specs.ThreeLists.{ThreeLists, list_at, is_in, without, unlinked, pushed, moved}
 use Rattle.fl_lists.proofs.Members.{is_in-push, is_in_from-without, left_out, without_none, without_first, without_later}
-use Rattle.fl_lists.proofs.Tables.{same_threads}
+use Rattle.fl_lists.proofs.Tables.{same_lists}
 use Rattle.fl_waitset.specs.Waiting.{is_registered, triggered}
 
 -- a channel in one of the lists is registered
-pub registered_in : (w : Threads) (p : Place) (c : ℕ) → is_in c (list_at w p) ≡ true → is_registered w c ≡ true
+pub registered_in : (w : ThreeLists) (p : Place) (c : ℕ) → is_in c (list_at w p) ≡ true → is_registered w c ≡ true
 registered_in w Idle c h = grind (arith, nat_tests, h)
 registered_in w Polled c h = grind (arith, nat_tests, h)
 registered_in w Pending c h = grind (arith, nat_tests, h)
 
 -- and one that isn't registered is in none
-pub nowhere : (w : Threads) (p : Place) (c : ℕ) → is_registered w c ≡ false → is_in c (list_at w p) ≡ false
+pub nowhere : (w : ThreeLists) (p : Place) (c : ℕ) → is_registered w c ≡ false → is_in c (list_at w p) ≡ false
 nowhere w p c h = elim (cases_Bool (is_in c (list_at w p))) [
   | inl here ↦ let there = registered_in w p c here in absurd (cc)
   | inr missed ↦ missed
@@ -25,10 +25,10 @@ nowhere w p c h = elim (cases_Bool (is_in c (list_at w p))) [
 -- ---- what is so of each channel in the lists
 
 -- each channel that is in a list has this, by the list
-abbrev pub Listed : (Place → ℕ → Type 0) → Threads → Type 0
+abbrev pub Listed : (Place → ℕ → Type 0) → ThreeLists → Type 0
 Listed Q w = (p : Place) (x : ℕ) → is_in x (list_at w p) ≡ true → Q p x
 
-module _ (Q : Place → ℕ → Type 0) (w : Threads) (each : Listed Q w) (c : ℕ) where
+module _ (Q : Place → ℕ → Type 0) (w : ThreeLists) (each : Listed Q w) (c : ℕ) where
   added : (p : Place) (xs : List ℕ) → ((x : ℕ) → is_in x xs ≡ true → Q p x) → Q p c → (x : ℕ) → is_in x (xs ++ c ∷ []) ≡ true → Q p x
   added p xs had new x h = elim (cases_eq x c) [
     | inl same ↦ subst (λ (y : ℕ). Q p y) (sym same) new
@@ -51,7 +51,7 @@ module _ (Q : Place → ℕ → Type 0) (w : Threads) (each : Listed Q w) (c : �
   unlinked_each Polled x h = each Polled x (is_in_from-without x c w.polled h).1
   unlinked_each Pending x h = each Pending x (is_in_from-without x c w.pending h).1
 
-  after_trigger : Threads
+  after_trigger : ThreeLists
   after_trigger = record { size = w.size; idle = without c w.idle; polled = w.polled; pending = w.pending ++ c ∷ [] }
 
   after_each : Q Pending c → Listed Q after_trigger
@@ -67,14 +67,14 @@ module _ (Q : Place → ℕ → Type 0) (w : Threads) (each : Listed Q w) (c : �
     | inr other ↦ subst (Listed Q) (sym (cond-false _ _ _ other)) each
   ]
 
-pub triggered_size : (w : Threads) (c : ℕ) → (triggered w c).size ≡ w.size
+pub triggered_size : (w : ThreeLists) (c : ℕ) → (triggered w c).size ≡ w.size
 triggered_size w c = elim (cases_Bool (is_in c w.idle)) [
-  | inl here ↦ ap (λ (x : Threads). x.size) (cond-true _ _ _ here)
-  | inr other ↦ ap (λ (x : Threads). x.size) (cond-false _ _ _ other)
+  | inl here ↦ ap (λ (x : ThreeLists). x.size) (cond-true _ _ _ here)
+  | inr other ↦ ap (λ (x : ThreeLists). x.size) (cond-false _ _ _ other)
 ]
 
 -- a channel that left is in no list
-pub left_all : (w : Threads) (c : ℕ) (p : Place) → is_in c (list_at (unlinked w c) p) ≡ false
+pub left_all : (w : ThreeLists) (c : ℕ) (p : Place) → is_in c (list_at (unlinked w c) p) ≡ false
 left_all w c Idle = left_out c w.idle
 left_all w c Polled = left_out c w.polled
 left_all w c Pending = left_out c w.pending
@@ -87,8 +87,8 @@ taken_back c (x ∷ xs) h =
     without_later c x (xs ++ c ∷ []) (eqb-false x c parts.0) ∙ ap (λ (ys : List ℕ). x ∷ ys) (taken_back c xs parts.1)
 
 -- a channel that is registered at the back of idle, and then moved, was registered where it is
-pub moved_on : (w : Threads) (c : ℕ) (p : Place) → is_registered w c ≡ false → moved (pushed w c Idle) c p ≡ pushed w c p
-moved_on w c p new = ap (λ (v : Threads). pushed v c p) (same_threads _ _ refl lists) where
+pub moved_on : (w : ThreeLists) (c : ℕ) (p : Place) → is_registered w c ≡ false → moved (pushed w c Idle) c p ≡ pushed w c p
+moved_on w c p new = ap (λ (v : ThreeLists). pushed v c p) (same_lists _ _ refl lists) where
   lists : (q : Place) → list_at (unlinked (pushed w c Idle) c) q ≡ list_at w q
   lists Idle = taken_back c w.idle (nowhere w Idle c new)
   lists Polled = without_none c w.polled (nowhere w Polled c new)

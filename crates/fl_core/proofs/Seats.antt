@@ -1,23 +1,23 @@
--- An event at the end that sits at a place: k is the core before, and base the same by its fields.
+-- An event at the end that sits at a place: k is the board before, and base the same by its fields.
 use Rattle.std.proofs.Common.{◌≡◌, refl, sym, ap, ◌∙◌, subst, ℕ, ◌<◌, length, slice_get, slice_index_or, Some}
 use Rattle.std.proofs.lemmas.Option.{slice_get_read}
 use Rattle.fl_endpoint.specs.View.{TheEnd}
 use Rattle.fl_endpoint.specs.Events.{IsReady}
-use Rattle.fl_core.specs.View.{TheSeat, TheCore, with_end}
-use Rattle.fl_core.specs.Sound.{IsCore}
+use Rattle.fl_core.specs.View.{TheSeat, TheBoard, with_end}
+use Rattle.fl_core.specs.Sound.{IsBoard}
 use Rattle.fl_core.specs.Events.{ChangesEnd}
 use Rattle.fl_core.proofs.Kept.{end_kept, seated_ready}
 
-module _ (k base : TheCore) (same : base ≡ k) (e : ℕ) (below : e < length k.seats) (s read : TheSeat) (value : read ≡ slice_index_or base.seats e read) (view : s ≡ read) where
+module _ (k base : TheBoard) (same : base ≡ k) (e : ℕ) (below : e < length k.seats) (s read : TheSeat) (value : read ≡ slice_index_or base.seats e read) (view : s ≡ read) where
   -- the end that was read sits there
   pub reads : slice_get base.seats e ≡ Some s
   reads =
-      let within : e < length base.seats = subst (λ (x : TheCore). e < length x.seats) (sym same) below in
+      let within : e < length base.seats = subst (λ (x : TheBoard). e < length x.seats) (sym same) below in
       slice_get_read base.seats (length base.seats) e read refl within value ∙ ap Some (sym view)
 
-  -- so it does in the core before
+  -- so it does on the board before
   pub reads_before : slice_get k.seats e ≡ Some s
-  reads_before = subst (λ (x : TheCore). slice_get x.seats e ≡ Some s) same reads
+  reads_before = subst (λ (x : TheBoard). slice_get x.seats e ≡ Some s) same reads
 
   pub end_event : (Event : TheEnd → TheEnd → Type 0) (t : TheEnd) → Event s.end t → ChangesEnd k e Event (with_end base e s t)
   end_event Event t event = record {
@@ -25,8 +25,8 @@ module _ (k base : TheCore) (same : base ≡ k) (e : ℕ) (below : e < length k.
     seat_is = reads_before;
     end = t;
     event = event;
-    core = ap (λ (x : TheCore). with_end x e s t) same;
+    board = ap (λ (x : TheBoard). with_end x e s t) same;
   }
 
-  pub end_event_kept : IsCore base → (t : TheEnd) → (IsReady s.end → IsReady t) → IsCore (with_end base e s t)
+  pub end_event_kept : IsBoard base → (t : TheEnd) → (IsReady s.end → IsReady t) → IsBoard (with_end base e s t)
   end_event_kept sound t stays = end_kept base sound e s reads t (λ d at list registered. stays (seated_ready base sound e s reads d at list registered))

@@ -1,10 +1,10 @@
--- A turn keeps what is known of a core.
+-- A turn keeps what is known of a board.
 use Rattle.std.proofs.Common.{◌≡◌, sym, ap, ◌∙◌, subst, ℕ, true, false, slice_get, slice_set, Some, Result, Ok, Err}
 use Rattle.std.proofs.lemmas.Bool.{false≢true}
 use Rattle.std.specs.declared.alloc.AllocError.{AllocError}
 use Rattle.fl_lists.specs.declared.place.Place.{Place}
 use Rattle.fl_lists.specs.declared.place.Place.TheVariants as place
-use Rattle.fl_lists.specs.Threads.{Threads, list_at, is_in, unlinked, pushed, IsApart}
+use Rattle.fl_lists.specs.ThreeLists.{ThreeLists, list_at, is_in, unlinked, pushed, IsApart}
 use Rattle.fl_lists.proofs.Tables.{pop_is, pushed_size}
 use Rattle.fl_waitset.specs.declared.waitset.Pick.{Pick}
 use Rattle.fl_waitset.specs.declared.waitset.Pick.TheVariants as pick
@@ -18,9 +18,9 @@ use Rattle.fl_core.specs.declared.kind.Kind.{Kind}
 use Rattle.fl_core.specs.declared.kind.Kind.TheVariants.{Queue, Ring}
 use Rattle.fl_core.specs.declared.answer.TurnAnswer.{TurnAnswer}
 use Rattle.fl_core.specs.declared.answer.TurnAnswer.TheVariants.{Handle, Part, Ready, Quiet, Full, Nothing, Refused}
-use Rattle.fl_core.specs.View.{TheDispatcher, TheSeat, TheCore, channel_of, with_lists, with_end}
+use Rattle.fl_core.specs.View.{TheDispatcher, TheSeat, TheBoard, channel_of, with_lists, with_end}
 use Rattle.fl_core.specs.Turns.{WaitsIn, put_off, TakesOne, Gives, Examines, LooksAt}
-use Rattle.fl_core.specs.Sound.{MayWaitIn, MayTurn, IsDispatcher, IsCore}
+use Rattle.fl_core.specs.Sound.{MayWaitIn, MayTurn, IsDispatcher, IsBoard}
 use Rattle.fl_core.proofs.Readiness.{receives_ready, memory_ready}
 use Rattle.fl_core.proofs.Registered.{Listed, pushed_each, unlinked_each, left_all}
 use Rattle.fl_core.proofs.Picks.{list_of, first_pending, first_polled, pick_listed}
@@ -41,16 +41,16 @@ pending_fits Ring = tt
 pending_fits Queue = tt
 
 -- what a turn makes of the lists w and the end s: the channel stays or moves on, and the end stays ready; or the channel leaves
-data Outcome (kind : Kind) (c : ℕ) (w : Threads) (s : TheEnd) (v : Threads) (t : TheEnd) : Type 0 where
+data Outcome (kind : Kind) (c : ℕ) (w : ThreeLists) (s : TheEnd) (v : ThreeLists) (t : TheEnd) : Type 0 where
   stays : v ≡ w → (IsReady s → IsReady t) → Outcome kind c w s v t
   moves : (to : Place) → MayWaitIn kind to → v ≡ pushed (unlinked w c) c to → (IsReady s → IsReady t) → Outcome kind c w s v t
   leaves : v ≡ unlinked w c → Outcome kind c w s v t
 
 -- to put the first off is to move it
-off_is : (w v : Threads) (from : Place) (c : ℕ) (to : Place) → IsApart w → slice_get (list_at w from) 0 ≡ Some c → v ≡ put_off w from c to → v ≡ pushed (unlinked w c) c to
-off_is w v from c to apart first e = e ∙ ap (λ (x : Threads). pushed x c to) (sym (pop_is w from c apart first))
+off_is : (w v : ThreeLists) (from : Place) (c : ℕ) (to : Place) → IsApart w → slice_get (list_at w from) 0 ≡ Some c → v ≡ put_off w from c to → v ≡ pushed (unlinked w c) c to
+off_is w v from c to apart first e = e ∙ ap (λ (x : ThreeLists). pushed x c to) (sym (pop_is w from c apart first))
 
-module _ {T : Type 0} (takes : T → Look → T → Type 0) (kind : Kind) (w v : Threads) (s t : TheEnd) (p q : T) (apart : IsApart w) where
+module _ {T : Type 0} (takes : T → Look → T → Type 0) (kind : Kind) (w v : ThreeLists) (s t : TheEnd) (p q : T) (apart : IsApart w) where
   took_one : (c : ℕ) (answer : ReceiveAnswer) → slice_get (list_at w place.Pending) 0 ≡ Some c → TakesOne takes kind c w s p answer v t q → Outcome kind c w s v t
   took_one c answer first (m, received, (to, waits, e)) = moves to (waits_fits takes kind m q to waits) (off_is w v place.Pending c to apart first e) (receives_ready takes s t p m answer received)
 
@@ -81,7 +81,7 @@ module _ {T : Type 0} (takes : T → Look → T → Type 0) (kind : Kind) (w v :
   looked (pick.Pending c) answer h fits l = gave c.0 answer (first_pending w c h) l
   looked (pick.Polled c) answer h fits l = examined c.0 answer (first_polled w c h) fits l.1 l.0
 
-module _ (k : TheCore) (sound : IsCore k) (n : ℕ) (d : TheDispatcher) (dispatcher_is : slice_get k.dispatchers n ≡ Some d)
+module _ (k : TheBoard) (sound : IsBoard k) (n : ℕ) (d : TheDispatcher) (dispatcher_is : slice_get k.dispatchers n ≡ Some d)
     (picked : Pick) (picked_is : next_pick d.lists ≡ Ok picked) (e : ℕ) (end_is : slice_get d.ends (channel_of picked) ≡ Some e)
     (s : TheSeat) (seat_is : slice_get k.seats e ≡ Some s) where
   known : IsDispatcher k.seats n d
@@ -107,7 +107,7 @@ module _ (k : TheCore) (sound : IsCore k) (n : ℕ) (d : TheDispatcher) (dispatc
   may_wait : (to : Place) → MayWaitIn s.kind to → MayTurn k.seats d.ends to (channel_of picked)
   may_wait to fits = record { place = e; place_is = end_is; seat = s; seat_is = seat_is; ready = ready_due; waits = fits }
 
-  module _ (w : Threads) (t : TheEnd) (outcome : Outcome s.kind (channel_of picked) d.lists s.end w t) where
+  module _ (w : ThreeLists) (t : TheEnd) (outcome : Outcome s.kind (channel_of picked) d.lists s.end w t) where
     listed : Listed (MayTurn k.seats d.ends) w
     listed = elim outcome [
       | stays same r ↦ subst (Listed (MayTurn k.seats d.ends)) (sym same) known.registered
@@ -134,22 +134,22 @@ module _ (k : TheCore) (sound : IsCore k) (n : ℕ) (d : TheDispatcher) (dispatc
           let there : slice_get (slice_set k.dispatchers n after) s.dispatcher ≡ Some after = ap (slice_get (slice_set k.dispatchers n after)) at_n ∙ set_here k.dispatchers n d after dispatcher_is in
           let is_x : x ≡ after = one_stands (slice_set k.dispatchers n after) s.dispatcher x after at there in
           let gone : is_in s.channel (list_at x.lists list) ≡ false =
-          ap (λ (y : TheDispatcher). is_in s.channel (list_at y.lists list)) is_x ∙ ap (λ (y : Threads). is_in s.channel (list_at y list)) same
+          ap (λ (y : TheDispatcher). is_in s.channel (list_at y.lists list)) is_x ∙ ap (λ (y : ThreeLists). is_in s.channel (list_at y list)) same
           ∙ ap (λ (y : ℕ). is_in y (list_at (unlinked d.lists (channel_of picked)) list)) at_c ∙ left_all d.lists (channel_of picked) list in
           absurd (false≢true (sym gone ∙ here))
     ]
 
     size : w.size ≡ d.lists.size
     size = elim outcome [
-      | stays same r ↦ ap (λ (x : Threads). x.size) same
-      | moves to fits same r ↦ ap (λ (x : Threads). x.size) same ∙ pushed_size (unlinked d.lists (channel_of picked)) (channel_of picked) to
-      | leaves same ↦ ap (λ (x : Threads). x.size) same
+      | stays same r ↦ ap (λ (x : ThreeLists). x.size) same
+      | moves to fits same r ↦ ap (λ (x : ThreeLists). x.size) same ∙ pushed_size (unlinked d.lists (channel_of picked)) (channel_of picked) to
+      | leaves same ↦ ap (λ (x : ThreeLists). x.size) same
     ]
 
-    kept : IsApart w → IsCore (with_end (with_lists k n d w) e s t)
+    kept : IsApart w → IsBoard (with_end (with_lists k n d w) e s t)
     unfolding after
     kept apart = end_kept (with_lists k n d w) (lists_kept k sound n d dispatcher_is w size apart listed) e s seat_is t ready_after
 
-  pub turn_kept : {T : Type 0} (takes : T → Look → T → Type 0) (w : Threads) (t : TheEnd) (p q : T) (answer : Result TurnAnswer AllocError)
-      → LooksAt takes picked s.kind d.lists s.end p answer w t q → IsApart w → IsCore (with_end (with_lists k n d w) e s t)
+  pub turn_kept : {T : Type 0} (takes : T → Look → T → Type 0) (w : ThreeLists) (t : TheEnd) (p q : T) (answer : Result TurnAnswer AllocError)
+      → LooksAt takes picked s.kind d.lists s.end p answer w t q → IsApart w → IsBoard (with_end (with_lists k n d w) e s t)
   turn_kept takes w t p q answer looks apart = kept w t (looked takes s.kind d.lists w s.end t p q known.apart picked answer picked_is fits_due looks) apart

@@ -1,7 +1,7 @@
 -- What a turn adds to the account of the end that is due: a law, whatever the side.
 use Rattle.std.specs.Prelude.{ℕ, List, [], ◌∷◌, Option, Result, Ok}
 use Rattle.std.specs.declared.alloc.AllocError.{AllocError}
-use Rattle.fl_lists.specs.Threads.{Threads}
+use Rattle.fl_lists.specs.ThreeLists.{ThreeLists}
 use Rattle.fl_value.specs.Value.{TheCall, call_of}
 use Rattle.fl_waitset.specs.declared.waitset.Pick.{Pick}
 use Rattle.fl_link.specs.Looks.{Look, Looks}
@@ -33,5 +33,5 @@ pub record TurnAdds {T : Type 0} (takes : T → Look → T → Type 0) (s : TheE
   pub replies : Replies s (handled_in answer) (due_in_turn s.rules answer) t
 
 abbrev pub TurnAccounts : {T : Type 0} → (T → Look → T → Type 0) → Type 0
-TurnAccounts {T} takes = (picked : Pick) (kind : Kind) (w v : Threads) (s t : TheEnd) (p q : T) (answer : Result TurnAnswer AllocError)
+TurnAccounts {T} takes = (picked : Pick) (kind : Kind) (w v : ThreeLists) (s t : TheEnd) (p q : T) (answer : Result TurnAnswer AllocError)
     → Sound s → IsReady s → LooksAt takes picked kind w s p answer v t q → TurnAdds takes s p answer t q

@@ -1,7 +1,7 @@
--- What the other events of a core come to: by cases on the answer, exactly. The side that is lent goes from p to q.
+-- What the other events of a board come to: by cases on the answer, exactly. The side that is lent goes from p to q.
 use Rattle.std.specs.Prelude.{◌≡◌, ◌<◌, ℕ, true, false, length, slice_get, Some, IsSome, Result, Ok, Err}
 use Rattle.fl_lists.specs.declared.place.Place.{Place}
-use Rattle.fl_lists.specs.Threads.{Threads, unlinked, pushed}
+use Rattle.fl_lists.specs.ThreeLists.{ThreeLists, unlinked, pushed}
 use Rattle.fl_waitset.specs.Waiting.{is_registered}
 use Rattle.fl_link.specs.Looks.{Look, no_room, told, kept}
 use Rattle.fl_endpoint.specs.View.{TheEnd}
@@ -10,78 +10,78 @@ use Rattle.fl_core.specs.declared.kind.Kind.{Kind}
 use Rattle.fl_core.specs.declared.kind.Kind.TheVariants.{Queue, Ring}
 use Rattle.fl_core.specs.declared.answer.AckAnswer.{AckAnswer}
 use Rattle.fl_core.specs.declared.answer.AckAnswer.TheVariants.{Done, Nothing, Full}
-use Rattle.fl_core.specs.declared.fault.CoreFault.{CoreFault}
-use Rattle.fl_core.specs.declared.fault.CoreFault.TheVariants.{NotBound, Registered, NotRegistered, TooManyEnds, Failed, Memory}
-use Rattle.fl_core.specs.View.{TheDispatcher, TheSeat, TheCore, with_lists, with_end, with_new_end}
-use Rattle.fl_core.specs.Sound.{IsCore}
+use Rattle.fl_core.specs.declared.fault.BoardFault.{BoardFault}
+use Rattle.fl_core.specs.declared.fault.BoardFault.TheVariants.{NotBound, Registered, NotRegistered, TooManyEnds, Failed, Memory}
+use Rattle.fl_core.specs.View.{TheDispatcher, TheSeat, TheBoard, with_lists, with_end, with_new_end}
+use Rattle.fl_core.specs.Sound.{IsBoard}
 use Rattle.fl_core.specs.Turns.{WaitsIn}
 
 -- ---- where an event happens
 
--- of the core, the end at place e alone has changed, as the event says
-pub record ChangesEnd (k : TheCore) (e : ℕ) (Event : TheEnd → TheEnd → Type 0) (k2 : TheCore) : Type 0 where
+-- of the board, the end at place e alone has changed, as the event says
+pub record ChangesEnd (b : TheBoard) (e : ℕ) (Event : TheEnd → TheEnd → Type 0) (b2 : TheBoard) : Type 0 where
   pub seat : TheSeat
-  pub seat_is : slice_get k.seats e ≡ Some seat
+  pub seat_is : slice_get b.seats e ≡ Some seat
   pub end : TheEnd
   pub event : Event seat.end end
-  pub core : k2 ≡ with_end k e seat end
+  pub board : b2 ≡ with_end b e seat end
 
--- of the core, the lists of the dispatcher at which the end at place e sits alone have changed, as the event says
-pub record ChangesLists (k : TheCore) (e : ℕ) (Event : TheSeat → Threads → Threads → Type 0) (k2 : TheCore) : Type 0 where
+-- of the board, the lists of the dispatcher at which the end at place e sits alone have changed, as the event says
+pub record ChangesLists (b : TheBoard) (e : ℕ) (Event : TheSeat → ThreeLists → ThreeLists → Type 0) (b2 : TheBoard) : Type 0 where
   pub seat : TheSeat
-  pub seat_is : slice_get k.seats e ≡ Some seat
+  pub seat_is : slice_get b.seats e ≡ Some seat
   pub dispatcher : TheDispatcher
-  pub dispatcher_is : slice_get k.dispatchers seat.dispatcher ≡ Some dispatcher
-  pub lists : Threads
+  pub dispatcher_is : slice_get b.dispatchers seat.dispatcher ≡ Some dispatcher
+  pub lists : ThreeLists
   pub event : Event seat dispatcher.lists lists
-  pub core : k2 ≡ with_lists k seat.dispatcher dispatcher lists
+  pub board : b2 ≡ with_lists b seat.dispatcher dispatcher lists
 
 -- this is so of what sits at place e
-abbrev pub Holds : TheCore → ℕ → (TheSeat → Type 0) → Type 0
-Holds k e Fact = (s : TheSeat) × (slice_get k.seats e ≡ Some s) × Fact s
+abbrev pub Holds : TheBoard → ℕ → (TheSeat → Type 0) → Type 0
+Holds b e Fact = (s : TheSeat) × (slice_get b.seats e ≡ Some s) × Fact s
 
 -- ---- an end is added
 
-abbrev pub Adds : TheCore → ℕ → TheEnd → Kind → Result ℕ CoreFault → TheCore → Type 0
-Adds k n s kind (Ok e) k2 = (e ≡ length k.seats) × ((d : TheDispatcher) × (slice_get k.dispatchers n ≡ Some d) × (length d.ends < 1024) × (k2 ≡ with_new_end k n d s kind))
-Adds k n s kind (Err TooManyEnds) k2 = ((d : TheDispatcher) × (slice_get k.dispatchers n ≡ Some d) × (length d.ends ≡ 1024)) × (k2 ≡ k)
-Adds k n s kind (Err Memory) k2 = ((d : TheDispatcher) × (slice_get k.dispatchers n ≡ Some d) × (length d.ends < 1024)) × (k2 ≡ k)
-Adds k n s kind (Err fault) k2 = ⊥
+abbrev pub Adds : TheBoard → ℕ → TheEnd → Kind → Result ℕ BoardFault → TheBoard → Type 0
+Adds b n s kind (Ok e) b2 = (e ≡ length b.seats) × ((d : TheDispatcher) × (slice_get b.dispatchers n ≡ Some d) × (length d.ends < 1024) × (b2 ≡ with_new_end b n d s kind))
+Adds b n s kind (Err TooManyEnds) b2 = ((d : TheDispatcher) × (slice_get b.dispatchers n ≡ Some d) × (length d.ends ≡ 1024)) × (b2 ≡ b)
+Adds b n s kind (Err Memory) b2 = ((d : TheDispatcher) × (slice_get b.dispatchers n ≡ Some d) × (length d.ends < 1024)) × (b2 ≡ b)
+Adds b n s kind (Err fault) b2 = ⊥
 
--- a core to which an end was added, with nothing else since
-pub record IsGrown (k : TheCore) : Type 0 where
-  pub before : TheCore
-  pub sound : IsCore before
+-- a board to which an end was added, with nothing else since
+pub record IsGrown (b : TheBoard) : Type 0 where
+  pub before : TheBoard
+  pub sound : IsBoard before
   pub place : ℕ
   pub dispatcher : TheDispatcher
   pub dispatcher_is : slice_get before.dispatchers place ≡ Some dispatcher
   pub end : TheEnd
   pub kind : Kind
-  pub core : k ≡ with_new_end before place dispatcher end kind
+  pub board : b ≡ with_new_end before place dispatcher end kind
 
 -- ---- a channel is registered, deregistered, acknowledged
 
 -- a channel c of this kind, unless it is registered, goes to the back of the list in which it waits
-abbrev pub Joins : {T : Type 0} → (T → Look → T → Type 0) → Kind → ℕ → Threads → T → Result (Unit {0}) CoreFault → Threads → T → Type 0
+abbrev pub Joins : {T : Type 0} → (T → Look → T → Type 0) → Kind → ℕ → ThreeLists → T → Result (Unit {0}) BoardFault → ThreeLists → T → Type 0
 Joins takes kind c w p (Ok done) v q = (is_registered w c ≡ false) × ((to : Place) × WaitsIn takes kind p to q × (v ≡ pushed w c to))
 Joins takes kind c w p (Err Registered) v q = (is_registered w c ≡ true) × (q ≡ p) × (v ≡ w)
 Joins takes kind c w p (Err fault) v q = ⊥
 
-abbrev pub Registers : {T : Type 0} → (T → Look → T → Type 0) → TheSeat → Threads → T → Result (Unit {0}) CoreFault → Threads → T → Type 0
+abbrev pub Registers : {T : Type 0} → (T → Look → T → Type 0) → TheSeat → ThreeLists → T → Result (Unit {0}) BoardFault → ThreeLists → T → Type 0
 Registers takes s w p (Ok done) v q = IsReady s.end × Joins takes s.kind s.channel w p (Ok done) v q
 Registers takes s w p (Err Registered) v q = IsReady s.end × Joins takes s.kind s.channel w p (Err Registered) v q
 Registers takes s w p (Err NotBound) v q = IsUnbound s.end × (q ≡ p) × (v ≡ w)
 Registers takes s w p (Err Failed) v q = HasFailed s.end × (q ≡ p) × (v ≡ w)
 Registers takes s w p (Err fault) v q = ⊥
 
-abbrev pub Deregisters : TheSeat → Threads → Result (Unit {0}) CoreFault → Threads → Type 0
+abbrev pub Deregisters : TheSeat → ThreeLists → Result (Unit {0}) BoardFault → ThreeLists → Type 0
 Deregisters s w (Ok done) v = IsSome s.end.circuit × (is_registered w s.channel ≡ true) × (v ≡ unlinked w s.channel)
 Deregisters s w (Err NotBound) v = IsUnbound s.end × (v ≡ w)
 Deregisters s w (Err NotRegistered) v = IsSome s.end.circuit × (is_registered w s.channel ≡ false) × (v ≡ w)
 Deregisters s w (Err fault) v = ⊥
 
 -- a ring's side tells what was taken; a queue has nothing to tell, and isn't asked
-abbrev pub Acks : {T : Type 0} → (T → Look → T → Type 0) → Kind → TheEnd → T → Result AckAnswer CoreFault → T → Type 0
+abbrev pub Acks : {T : Type 0} → (T → Look → T → Type 0) → Kind → TheEnd → T → Result AckAnswer BoardFault → T → Type 0
 Acks takes Ring s p (Ok Done) q = IsSome s.circuit × takes p told q
 Acks takes Ring s p (Ok Nothing) q = IsSome s.circuit × takes p kept q
 Acks takes Ring s p (Ok Full) q = IsSome s.circuit × takes p no_room q

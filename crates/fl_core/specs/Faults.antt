@@ -1,9 +1,9 @@
 -- The numbers of the faults.
 use Rattle.std.specs.Prelude.{ℕ}
-use Rattle.fl_core.specs.declared.fault.CoreFault.{CoreFault}
-use Rattle.fl_core.specs.declared.fault.CoreFault.TheVariants.{NotBound, Registered, NotRegistered, TooManyEnds, Failed, Memory}
+use Rattle.fl_core.specs.declared.fault.BoardFault.{BoardFault}
+use Rattle.fl_core.specs.declared.fault.BoardFault.TheVariants.{NotBound, Registered, NotRegistered, TooManyEnds, Failed, Memory}
 
-abbrev pub fault_number : CoreFault → ℕ
+abbrev pub fault_number : BoardFault → ℕ
 fault_number NotBound = 43
 fault_number Registered = 50
 fault_number NotRegistered = 51

@@ -3,7 +3,7 @@ use Rattle.std.specs.Prelude.{◌≡◌, ◌<◌, ◌≤◌, ℕ, Result, Ok, Er
 use Rattle.std.specs.Allocator.{alloc_error}
 use Rattle.std.specs.declared.alloc.AllocError.{AllocError}
 use Rattle.fl_lists.specs.declared.place.Place.TheVariants as place
-use Rattle.fl_lists.specs.Threads.{Threads, unlinked}
+use Rattle.fl_lists.specs.ThreeLists.{ThreeLists, unlinked}
 use Rattle.fl_link.specs.Looks.{Look, no_room, told, kept}
 use Rattle.fl_endpoint.specs.declared.fault.EndFault.{EndFault}
 use Rattle.fl_endpoint.specs.declared.fault.EndFault.TheVariants.{Spent, Busy, UnknownMessage, Misfit, NotBound, Failed, Wire, Memory}
@@ -14,12 +14,12 @@ use Rattle.fl_core.specs.declared.answer.TurnAnswer.{TurnAnswer}
 use Rattle.fl_core.specs.declared.answer.TurnAnswer.TheVariants.{Handle, Part, Quiet, Full, Nothing, Refused}
 use Rattle.fl_core.specs.declared.answer.AckAnswer.{AckAnswer}
 use Rattle.fl_core.specs.declared.answer.AckAnswer.TheVariants as ack
-use Rattle.fl_core.specs.declared.fault.CoreFault.{CoreFault}
-use Rattle.fl_core.specs.declared.fault.CoreFault.TheVariants as core
+use Rattle.fl_core.specs.declared.fault.BoardFault.{BoardFault}
+use Rattle.fl_core.specs.declared.fault.BoardFault.TheVariants as board
 use Rattle.fl_core.specs.Turns.{GoesOn, put_off}
 
 -- what an end answered says what the turn answers, and where its channel goes
-abbrev pub Took : {T : Type 0} → (T → Look → T → Type 0) → Kind → ℕ → Threads → T → ReceiveAnswer → TurnAnswer → Threads → T → Type 0
+abbrev pub Took : {T : Type 0} → (T → Look → T → Type 0) → Kind → ℕ → ThreeLists → T → ReceiveAnswer → TurnAnswer → ThreeLists → T → Type 0
 Took takes kind c w m (receive.Handle call) answer v q = (answer ≡ Handle call) × GoesOn takes kind c w m v q
 Took takes kind c w m receive.Part answer v q = (answer ≡ Part) × GoesOn takes kind c w m v q
 Took takes kind c w m receive.Quiet answer v q = (answer ≡ Quiet) × GoesOn takes kind c w m v q
@@ -37,7 +37,7 @@ MayCome Misfit = ⊥
 MayCome NotBound = ⊥
 MayCome Failed = ⊥
 
-abbrev pub Refuses : ℕ → Threads → EndFault → Result TurnAnswer AllocError → Threads → Type 0
+abbrev pub Refuses : ℕ → ThreeLists → EndFault → Result TurnAnswer AllocError → ThreeLists → Type 0
 Refuses c w (Wire fault) answer v = (answer ≡ Ok (Refused fault)) × (v ≡ unlinked w c)
 Refuses c w fault answer v = (answer ≡ Err alloc_error) × (v ≡ w)
 
@@ -48,7 +48,7 @@ Tells takes p ack.Nothing q = takes p kept q
 Tells takes p ack.Full q = takes p no_room q
 
 -- why a dispatcher with so many ends gets no other
-abbrev pub HasNoRoom : ℕ → CoreFault → Type 0
-HasNoRoom ends core.TooManyEnds = 1024 ≤ ends
-HasNoRoom ends core.Memory = ends < 1024
+abbrev pub HasNoRoom : ℕ → BoardFault → Type 0
+HasNoRoom ends board.TooManyEnds = 1024 ≤ ends
+HasNoRoom ends board.Memory = ends < 1024
 HasNoRoom ends fault = ⊥

@@ -1,12 +1,12 @@
--- What is known of a core at any time.
+-- What is known of a board at any time.
 use Rattle.std.specs.Prelude.{◌≡◌, ◌≤◌, ℕ, true, List, length, slice_get, Some}
 use Rattle.fl_lists.specs.declared.place.Place.{Place}
 use Rattle.fl_lists.specs.declared.place.Place.TheVariants.{Idle, Polled}
-use Rattle.fl_lists.specs.Threads.{list_at, is_in, IsApart}
+use Rattle.fl_lists.specs.ThreeLists.{list_at, is_in, IsApart}
 use Rattle.fl_endpoint.specs.Events.{IsReady}
 use Rattle.fl_core.specs.declared.kind.Kind.{Kind}
 use Rattle.fl_core.specs.declared.kind.Kind.TheVariants.{Queue, Ring}
-use Rattle.fl_core.specs.View.{TheDispatcher, TheSeat, TheCore}
+use Rattle.fl_core.specs.View.{TheDispatcher, TheSeat, TheBoard}
 
 -- the end at place e has a channel at one of these dispatchers, and that channel leads back to it
 pub record IsSeated (dispatchers : List TheDispatcher) (e : ℕ) (s : TheSeat) : Type 0 where
@@ -45,6 +45,6 @@ pub record IsDispatcher (seats : List TheSeat) (n : ℕ) (d : TheDispatcher) : T
   pub registered : (list : Place) (c : ℕ) → is_in c (list_at d.lists list) ≡ true → MayTurn seats d.ends list c
 
 -- each end is where its dispatcher's channel leads; a channel is registered only where its end is bound and never failed
-pub record IsCore (k : TheCore) : Type 0 where
-  pub seats : (e : ℕ) (s : TheSeat) → slice_get k.seats e ≡ Some s → IsSeated k.dispatchers e s
-  pub dispatchers : (n : ℕ) (d : TheDispatcher) → slice_get k.dispatchers n ≡ Some d → IsDispatcher k.seats n d
+pub record IsBoard (b : TheBoard) : Type 0 where
+  pub seats : (e : ℕ) (s : TheSeat) → slice_get b.seats e ≡ Some s → IsSeated b.dispatchers e s
+  pub dispatchers : (n : ℕ) (d : TheDispatcher) → slice_get b.dispatchers n ≡ Some d → IsDispatcher b.seats n d

@@ -1,6 +1,6 @@
--- One core, as contracts see it: dispatchers and ends, each by its place. What happened to it is not kept.
+-- A board, as contracts see it: one core's dispatchers and ends, each by its place. What happened to it is not kept.
 use Rattle.std.specs.Prelude.{ℕ, List, [], ◌∷◌, ◌++◌, length, slice_get, slice_set, Option, Some, None, Result, Ok, Err}
-use Rattle.fl_lists.specs.Threads.{Threads, empty}
+use Rattle.fl_lists.specs.ThreeLists.{ThreeLists, empty}
 use Rattle.fl_waitset.specs.declared.fault.WaitFault.{WaitFault}
 use Rattle.fl_waitset.specs.declared.waitset.Pick.{Pick}
 use Rattle.fl_waitset.specs.declared.waitset.Pick.TheVariants.{Pending, Polled}
@@ -10,7 +10,7 @@ use Rattle.fl_core.specs.declared.kind.Kind.{Kind}
 
 -- a dispatcher: its waitset's three lists of channels, and the end of each of its channels
 pub record TheDispatcher : Type 0 where
-  pub lists : Threads
+  pub lists : ThreeLists
   pub ends : List ℕ
 
 -- where an end sits: its dispatcher, its channel there, and how fragments come to it
@@ -21,7 +21,7 @@ pub record TheSeat : Type 0 where
   pub kind : Kind
 
 -- dispatchers and ends are named by their places here
-pub record TheCore : Type 0 where
+pub record TheBoard : Type 0 where
   pub dispatchers : List TheDispatcher
   pub seats : List TheSeat
 
@@ -42,35 +42,35 @@ due_in None = None
 due_in (Some d) = end_picked d.ends (next_pick d.lists)
 
 -- the end at which the next turn of dispatcher n looks: that of the first pending channel, else of the first polled one
-abbrev pub due : TheCore → ℕ → Option ℕ
-due k n = due_in (slice_get k.dispatchers n)
+abbrev pub due : TheBoard → ℕ → Option ℕ
+due b n = due_in (slice_get b.dispatchers n)
 
--- ---- what events make of a core
+-- ---- what events make of a board
 
--- the core with other lists at dispatcher n, which is d
-abbrev pub with_lists : TheCore → ℕ → TheDispatcher → Threads → TheCore
-with_lists k n d w = record {
-  dispatchers = slice_set k.dispatchers n (record { lists = w; ends = d.ends });
-  seats = k.seats;
+-- the board with other lists at dispatcher n, which is d
+abbrev pub with_lists : TheBoard → ℕ → TheDispatcher → ThreeLists → TheBoard
+with_lists b n d w = record {
+  dispatchers = slice_set b.dispatchers n (record { lists = w; ends = d.ends });
+  seats = b.seats;
 }
 
--- the core with another end at place e, where s sits
-abbrev pub with_end : TheCore → ℕ → TheSeat → TheEnd → TheCore
-with_end k e s t = record {
-  dispatchers = k.dispatchers;
-  seats = slice_set k.seats e (record { end = t; dispatcher = s.dispatcher; channel = s.channel; kind = s.kind });
+-- the board with another end at place e, where s sits
+abbrev pub with_end : TheBoard → ℕ → TheSeat → TheEnd → TheBoard
+with_end b e s t = record {
+  dispatchers = b.dispatchers;
+  seats = slice_set b.seats e (record { end = t; dispatcher = s.dispatcher; channel = s.channel; kind = s.kind });
 }
 
 -- a dispatcher without ends; its waitset has a place for each of the 1,024 that it may get
 abbrev pub new_dispatcher : TheDispatcher
 new_dispatcher = record { lists = empty 1024; ends = [] }
 
-abbrev pub with_dispatcher : TheCore → TheCore
-with_dispatcher k = record { dispatchers = k.dispatchers ++ new_dispatcher ∷ []; seats = k.seats }
+abbrev pub with_dispatcher : TheBoard → TheBoard
+with_dispatcher b = record { dispatchers = b.dispatchers ++ new_dispatcher ∷ []; seats = b.seats }
 
--- the core with one end more, at dispatcher n, which is d; its channel isn't registered
-abbrev pub with_new_end : TheCore → ℕ → TheDispatcher → TheEnd → Kind → TheCore
-with_new_end k n d s kind = record {
-  dispatchers = slice_set k.dispatchers n (record { lists = d.lists; ends = d.ends ++ length k.seats ∷ [] });
-  seats = k.seats ++ record { end = s; dispatcher = n; channel = length d.ends; kind = kind } ∷ [];
+-- the board with one end more, at dispatcher n, which is d; its channel isn't registered
+abbrev pub with_new_end : TheBoard → ℕ → TheDispatcher → TheEnd → Kind → TheBoard
+with_new_end b n d s kind = record {
+  dispatchers = slice_set b.dispatchers n (record { lists = d.lists; ends = d.ends ++ length b.seats ∷ [] });
+  seats = b.seats ++ record { end = s; dispatcher = n; channel = length d.ends; kind = kind } ∷ [];
 }

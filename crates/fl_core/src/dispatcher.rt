@@ -8,7 +8,7 @@ use fl_waitset::Waitset;
 use std::alloc::{AllocError, Global};
 use std::marker::Model;
 
-/// A dispatcher: its waitset, and the end of each of its channels, by the end's place in the core.
+/// A dispatcher: its waitset, and the end of each of its channels, by the end's place on the board.
 #[derive(Drop)]
 pub(crate) struct Dispatcher {
     pub(crate) waitset: Waitset,

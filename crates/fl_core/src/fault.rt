@@ -1,13 +1,13 @@
-//! Why a call of a core is refused.
+//! Why a call of a board is refused.
 
 ghost use Rattle.std.specs.Prelude.{◌≡◌};
 ghost use Rattle.fl_core.specs.Faults.{fault_number};
 
 use thiserror::Error;
 
-/// Why nothing was done: the core is as it was.
+/// Why nothing was done: the board is as it was.
 #[derive(Clone, Copy, Debug, PartialEq, Eq, Drop, Error)]
-pub enum CoreFault {
+pub enum BoardFault {
     /// The end isn't bound yet (E43).
     #[error("the end isn't bound yet")]
     NotBound,
@@ -28,18 +28,18 @@ pub enum CoreFault {
     Memory,
 }
 
-impl CoreFault {
+impl BoardFault {
     /// The fault's number, as answers show it.
     pub fn number(self) -> u8
         ensures number { result ≡ fault_number self }
     {
         match self {
-            CoreFault::NotBound => 43,
-            CoreFault::Registered => 50,
-            CoreFault::NotRegistered => 51,
-            CoreFault::TooManyEnds => 54,
-            CoreFault::Failed => 64,
-            CoreFault::Memory => 99,
+            BoardFault::NotBound => 43,
+            BoardFault::Registered => 50,
+            BoardFault::NotRegistered => 51,
+            BoardFault::TooManyEnds => 54,
+            BoardFault::Failed => 64,
+            BoardFault::Memory => 99,
         }
     }
 }

@@ -1,4 +1,4 @@
-//! What an event leaves alone, in every core.
+//! What an event leaves alone, on every board.
 
 ghost use Rattle.fl_core.specs.Accounts.{TurnAccounts};
 ghost use Rattle.fl_core.specs.Laws.{OtherEndsStay, EndIsThere, SameEnd, OtherDispatchersStay, DispatcherIsThere, SameLists};

@@ -6,30 +6,30 @@ ghost use Rattle.fl_core.specs.Events.{ChangesLists, Holds, Registers, Deregiste
 ghost use Rattle.fl_core.specs.Inside.{Tells};
 
 use crate::answer::AckAnswer;
-use crate::fault::CoreFault;
+use crate::fault::BoardFault;
 use crate::kind::Kind;
-use crate::one_core::Core;
+use crate::one_board::Board;
 use crate::waiting::join;
 use fl_link::{TakeSide, Told};
 
-impl Core {
+impl Board {
     /// Registers an end's channel at its dispatcher: a ring's channel goes to the back of polled, and one of a queue to the
     /// back of pending where a fragment stands, else to the back of idle. Takes no memory.
     ///
     /// # Errors
-    /// In this order: the end isn't bound yet (E43), it failed earlier (E64), its channel is registered already (E50). Core
+    /// In this order: the end isn't bound yet (E43), it failed earlier (E64), its channel is registered already (E50). Board
     /// and side are as they were then.
-    pub fn register<T: TakeSide>(&mut self, e: usize, from: &mut T) -> Result<(), CoreFault>
+    pub fn register<T: TakeSide>(&mut self, e: usize, from: &mut T) -> Result<(), BoardFault>
         requires { e < length self.old.seats }
         ensures registers { ChangesLists self.old e (λ s w v. Registers T.takes s w from.old result v from.new) self.new }
         ensures kept { OnErr result (self.new ≡ self.old) }
     {
         let seat = &self.seats[e];
         if !seat.end.is_bound() {
-            return Err(CoreFault::NotBound);
+            return Err(BoardFault::NotBound);
         }
         if seat.end.is_failed() {
-            return Err(CoreFault::Failed);
+            return Err(BoardFault::Failed);
         }
         let dispatcher = &mut self.dispatchers[seat.dispatcher];
         join(&mut dispatcher.waitset, seat.channel, seat.kind, from)
@@ -38,19 +38,19 @@ impl Core {
     /// Deregisters an end's channel: turns don't look at it until it is registered again. Takes no memory.
     ///
     /// # Errors
-    /// The end isn't bound yet (E43); its channel isn't registered (E51). The core is as it was then.
-    pub fn deregister(&mut self, e: usize) -> Result<(), CoreFault>
+    /// The end isn't bound yet (E43); its channel isn't registered (E51). The board is as it was then.
+    pub fn deregister(&mut self, e: usize) -> Result<(), BoardFault>
         requires { e < length self.old.seats }
         ensures deregisters { ChangesLists self.old e (λ s w v. Deregisters s w result v) self.new }
         ensures kept { OnErr result (self.new ≡ self.old) }
     {
         let seat = &self.seats[e];
         if !seat.end.is_bound() {
-            return Err(CoreFault::NotBound);
+            return Err(BoardFault::NotBound);
         }
         let dispatcher = &mut self.dispatchers[seat.dispatcher];
         let Ok(()) = dispatcher.waitset.deregister(seat.channel) else {
-            return Err(CoreFault::NotRegistered);
+            return Err(BoardFault::NotRegistered);
         };
         Ok(())
     }
@@ -66,18 +66,18 @@ impl Core {
         dispatcher.waitset.trigger(seat.channel).unwrap();
     }
 
-    /// Tells what was taken at an end's ring, so that those slots are free. A queue frees its slots without. The core
+    /// Tells what was taken at an end's ring, so that those slots are free. A queue frees its slots without. The board
     /// doesn't change.
     ///
     /// # Errors
     /// The end isn't bound yet (E43). The side is as it was then.
-    pub fn ack<T: TakeSide>(&self, e: usize, from: &mut T) -> Result<AckAnswer, CoreFault>
+    pub fn ack<T: TakeSide>(&self, e: usize, from: &mut T) -> Result<AckAnswer, BoardFault>
         requires { e < length self.now.seats }
         ensures acks { Holds self.now e (λ s. Acks T.takes s.kind s.end from.old result from.new) }
     {
         let seat = &self.seats[e];
         if !seat.end.is_bound() {
-            return Err(CoreFault::NotBound);
+            return Err(BoardFault::NotBound);
         }
         match seat.kind {
             Kind::Queue => Ok(AckAnswer::Nothing),

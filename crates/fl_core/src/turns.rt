@@ -5,7 +5,7 @@ ghost use Rattle.fl_core.specs.View.{due, channel_of};
 ghost use Rattle.fl_core.specs.Turns.{Turns};
 
 use crate::answer::TurnAnswer;
-use crate::one_core::Core;
+use crate::one_board::Board;
 use crate::waiting::look_at;
 use fl_base::ChanId;
 use fl_link::TakeSide;
@@ -22,7 +22,7 @@ fn channel_of(pick: Pick) -> ChanId
     }
 }
 
-impl Core {
+impl Board {
     /// The end at which a dispatcher's next turn looks, by its place: that of the first pending channel, else of the first
     /// polled one. The caller lends the turn this end's side. None where no channel is pending or polled.
     pub fn due(&self, dispatcher: usize) -> Option<usize>
@@ -49,7 +49,7 @@ impl Core {
     /// back of polled; a fragment that only acknowledges is taken.
     ///
     /// # Errors
-    /// Want of memory (E99), only where the fragment would make a call whole. The core is as it was then, and the fragment,
+    /// Want of memory (E99), only where the fragment would make a call whole. The board is as it was then, and the fragment,
     /// which was looked at, is left.
     pub fn turn<T: TakeSide>(
         &mut self,

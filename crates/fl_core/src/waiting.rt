@@ -4,13 +4,13 @@ ghost use Rattle.std.specs.Prelude.{◌≡◌, ◌<◌, slice_get, Ok, Err, Some
 ghost use Rattle.fl_waitset.specs.Waiting.{IsWaitset, registered_answer, next_pick};
 ghost use Rattle.fl_endpoint.specs.Events.{IsReady};
 ghost use Rattle.fl_lists.specs.declared.place.Place.{Place};
-ghost use Rattle.fl_lists.specs.Threads.{list_at};
+ghost use Rattle.fl_lists.specs.ThreeLists.{list_at};
 ghost use Rattle.fl_core.specs.Turns.{WaitsIn, put_off, Gives, Examines, LooksAt};
 ghost use Rattle.fl_core.specs.Events.{Joins};
 ghost use Rattle.fl_core.specs.Inside.{Took, MayCome, Refuses};
 
 use crate::answer::TurnAnswer;
-use crate::fault::CoreFault;
+use crate::fault::BoardFault;
 use crate::kind::Kind;
 use fl_base::ChanId;
 use fl_endpoint::{End, EndFault, ReceiveAnswer};
@@ -38,13 +38,13 @@ pub(crate) fn join<T: TakeSide>(
     c: ChanId,
     kind: Kind,
     from: &mut T,
-) -> Result<(), CoreFault>
+) -> Result<(), BoardFault>
     requires { c.0 < waitset.old.size }
     ensures waitset { IsWaitset waitset.new }
     ensures joins { Joins T.takes kind c.0 waitset.old from.old result waitset.new from.new }
 {
     let Ok(()) = waitset.register(c) else {
-        return Err(CoreFault::Registered);
+        return Err(BoardFault::Registered);
     };
     let place = place_for(kind, from);
     waitset.put_back(c, place).unwrap();

@@ -6,7 +6,7 @@ use Rattle.std.specs.Option.{option_map}
 use Rattle.std.proofs.lemmas.List.{length-map}
 use Rattle.std.proofs.lemmas.List.FromFn.{length-range_with_len}
 use Rattle.fl_base.specs.declared.fragment.Frag.{Frag}
-use Rattle.fl_base.specs.Control.{control_word}
+use Rattle.fl_base.specs.Control.{control_word, body}
 use Rattle.fl_check.specs.Interface.{TheMessage, TheInterface}
 use Rattle.fl_check.specs.Checks.{is_within_limits}
 use Rattle.fl_value.specs.Value.{TheCall}
@@ -26,7 +26,6 @@ use Rattle.fl_stub.specs.Given.{bytes_given}
 use Rattle.fl_compile.specs.Codes.{compiled}
 use Rattle.fl_compile.specs.Programs.{TheProgram}
 use Rattle.fl_machine.specs.Sending.{TheSending, frag_of, frags_for, frags_holding, frags_left}
-use Rattle.fl_link.specs.Stamp.{body}
 use Rattle.fl_endpoint.specs.View.{are_some}
 use Rattle.fl_endpoint.specs.Stored.{code_for, code_of, tape_frags, IsOwn, AreOwn, Queues}
 

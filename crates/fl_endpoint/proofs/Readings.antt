@@ -11,7 +11,7 @@ use Rattle.fl_wire.specs.Payload.{frags_of}
 use Rattle.fl_wire.specs.Reading.{AllFit, IsPart, NoneBeginsWithAnother}
 use Rattle.fl_wire.specs.Words.{interface_words_fit}
 use Rattle.fl_compile.specs.Programs.{TheProgram, program_of}
-use Rattle.fl_link.specs.Stamp.{bare}
+use Rattle.fl_base.specs.Control.{bare}
 use Rattle.fl_endpoint.specs.View.{TheEnd, interface_in}
 use Rattle.fl_endpoint.specs.Accounts.{stream, Sound}
 use Rattle.fl_endpoint.specs.Laws.{TakesNext}

@@ -17,7 +17,7 @@ use Rattle.fl_wire.specs.Reading.{IsPart, AllFit, OneReading}
 use Rattle.fl_wire.specs.Words.{interface_words_fit}
 use Rattle.fl_compile.specs.declared.program.Program.{Program}
 use Rattle.fl_compile.specs.Programs.{program_of}
-use Rattle.fl_link.specs.Stamp.{bare}
+use Rattle.fl_base.specs.Control.{bare}
 use Rattle.fl_endpoint.specs.View.{TheEnd, TheOutgoing, number_or_0, interface_in, plan_in, frags_from, nothing_to_send, fresh, bound_by, bound, has_rules, rule_in, rule_at, holds_back, queued_if, with_call, with_written, with_part, with_handled, with_failed}
 use Rattle.fl_endpoint.specs.Events.{AreCall}
 use Rattle.fl_endpoint.specs.Accounts.{IsRule, AreRules, Sound}

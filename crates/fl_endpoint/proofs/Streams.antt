@@ -6,7 +6,7 @@ use Rattle.std.proofs.lemmas.List.{map-append}
 use Rattle.std.proofs.lemmas.List.Elements.{All-head, All-tail}
 use Rattle.std.proofs.lemmas.Bool.{and_parts, leb-true, false≢true}
 use Rattle.fl_base.specs.declared.fragment.Frag.{Frag}
-use Rattle.fl_base.specs.Control.{control_word, circuit_of}
+use Rattle.fl_base.specs.Control.{control_word, circuit_of, body, bare, with_circuit}
 use Rattle.fl_check.specs.Interface.{TheMessage, TheInterface}
 use Rattle.fl_check.specs.Checks.{is_within_limits}
 use Rattle.fl_value.specs.Value.{Datum, TheCall}
@@ -15,10 +15,7 @@ use Rattle.fl_layout.specs.Places.{count}
 use Rattle.fl_wire.specs.Payload.{payload_of, frag_on, frags_on}
 use Rattle.fl_wire.specs.Reading.{AllFit}
 use Rattle.fl_compile.specs.Programs.{TheProgram}
-use Rattle.fl_machine.specs.Rounds.{off_circuit}
-use Rattle.fl_link.specs.Stamp.{bare, body}
 use Rattle.fl_endpoint.specs.Accounts.{stream}
-use Rattle.fl_endpoint.specs.Laws.{on_circuit}
 
 -- ---- message numbers
 
@@ -72,18 +69,10 @@ bare_stream p circuit calls small within fit = each_call bare p circuit circuit 
     (bare_word (k == 0) c.msg circuit (small_message p.interface c within fits) small)))
     fit
 
-pub off_stream : (p : TheProgram) (circuit : ℕ) (calls : List TheCall) → circuit < 2 ^ 16 → is_within_limits p.interface ≡ true → AllFit p.interface calls
-    → map off_circuit (stream p circuit calls) ≡ stream p 0 calls
-off_stream p circuit calls small within fit = each_call off_circuit p circuit 0 calls
-    (λ c fits. map_same off_circuit (frag_on circuit c.msg (payload_of p.plan p.interface c)) (frag_on 0 c.msg (payload_of p.plan p.interface c)) (range_with_len 0 (count p.plan p.interface c))
-    (λ k. ap (λ (w : ℕ). record { words = (frag_on circuit c.msg (payload_of p.plan p.interface c) k).words; control = w })
-    (off_word (k == 0) c.msg circuit (small_message p.interface c within fits) small)))
-    fit
-
 pub on_stream : (p : TheProgram) (circuit other : ℕ) (calls : List TheCall) → circuit < 2 ^ 16 → is_within_limits p.interface ≡ true → AllFit p.interface calls
-    → map (on_circuit other) (stream p circuit calls) ≡ stream p other calls
-on_stream p circuit other calls small within fit = each_call (on_circuit other) p circuit other calls
-    (λ c fits. map_same (on_circuit other) (frag_on circuit c.msg (payload_of p.plan p.interface c)) (frag_on other c.msg (payload_of p.plan p.interface c)) (range_with_len 0 (count p.plan p.interface c))
+    → map (with_circuit other) (stream p circuit calls) ≡ stream p other calls
+on_stream p circuit other calls small within fit = each_call (with_circuit other) p circuit other calls
+    (λ c fits. map_same (with_circuit other) (frag_on circuit c.msg (payload_of p.plan p.interface c)) (frag_on other c.msg (payload_of p.plan p.interface c)) (range_with_len 0 (count p.plan p.interface c))
     (λ k. ap (λ (w : ℕ). record { words = (frag_on circuit c.msg (payload_of p.plan p.interface c) k).words; control = w })
     (ap (λ (w : ℕ). w + 2 ^ 32 * other) (off_word (k == 0) c.msg circuit (small_message p.interface c within fits) small) ∙ on_word (k == 0) c.msg other)))
     fit

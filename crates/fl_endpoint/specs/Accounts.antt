@@ -9,7 +9,7 @@ use Rattle.fl_wire.specs.Payload.{frags_on}
 use Rattle.fl_wire.specs.Reading.{IsPart, AllFit}
 use Rattle.fl_wire.specs.Words.{interface_words_fit}
 use Rattle.fl_compile.specs.Programs.{TheProgram, program_of}
-use Rattle.fl_link.specs.Stamp.{bare}
+use Rattle.fl_base.specs.Control.{bare}
 use Rattle.fl_link.specs.Looks.{Look, placed, found}
 use Rattle.fl_endpoint.specs.View.{TheEnd, TheOutgoing, interface_in, plan_in, frags_from, nothing_to_send, number_or_0, rule_at, reply_to}
 use Rattle.fl_endpoint.specs.Events.{IsMessage, SameTypes}

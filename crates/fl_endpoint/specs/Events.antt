@@ -10,7 +10,7 @@ use Rattle.fl_value.specs.Tape.{types_of}
 use Rattle.fl_wire.specs.Payload.{frags_of}
 use Rattle.fl_wire.specs.Reading.{IsPart}
 use Rattle.fl_machine.specs.Receiving.{IsRefused}
-use Rattle.fl_link.specs.Stamp.{bare, stamped}
+use Rattle.fl_base.specs.Control.{bare, stamped}
 use Rattle.fl_link.specs.Looks.{Look, placed, no_room, spent, saw, saw_ack, found, found_ack, missed}
 use Rattle.fl_endpoint.specs.declared.fault.EndFault.{EndFault}
 use Rattle.fl_endpoint.specs.declared.fault.EndFault.TheVariants.{Spent, Busy, UnknownMessage, Misfit, NotBound, Failed, Wire, Memory}

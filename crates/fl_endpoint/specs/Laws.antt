@@ -7,10 +7,9 @@ use Rattle.fl_layout.specs.Places.{count}
 use Rattle.fl_wire.specs.Reading.{AllFit, IsPart, Reads}
 use Rattle.fl_wire.specs.declared.fault.WireFault.{WireFault}
 use Rattle.fl_machine.specs.Receiving.{IsRefused}
-use Rattle.fl_link.specs.Stamp.{bare}
+use Rattle.fl_base.specs.Control.{bare, with_circuit}
 use Rattle.fl_compile.specs.declared.program.Program.{Program}
 use Rattle.fl_compile.specs.Programs.{TheProgram, program_of}
-use Rattle.fl_machine.specs.Rounds.{off_circuit}
 use Rattle.fl_link.specs.Looks.{Look, Looks}
 use Rattle.fl_endpoint.specs.declared.fault.EndFault.{EndFault}
 use Rattle.fl_endpoint.specs.declared.answer.WriteAnswer.{WriteAnswer}
@@ -107,21 +106,12 @@ SinceMade = (program : Program) (circuit : Option ℕ) (t : TheEnd) (accepted : 
 
 -- ---- circuits
 
--- the fragment with its circuit set to another
-abbrev pub on_circuit : ℕ → Frag → Frag
-on_circuit circuit f = record { words = f.words; control = (off_circuit f).control + 2 ^ 32 * circuit }
-
--- what is sent on a circuit is, once its circuit is set to another, what is sent on that one, and once it is set to 0, what is sent
--- off links: so the other end takes it as the same calls
-abbrev pub OffTheCircuit : Type 0
-OffTheCircuit = (program : TheProgram) (circuit : ℕ) (calls : List TheCall) → circuit < 2 ^ 16
-    → is_within_limits program.interface ≡ true → AllFit program.interface calls
-    → map off_circuit (stream program circuit calls) ≡ stream program 0 calls
-
+-- what is sent on a circuit is, once its circuit is set to another, what is sent on that one; with 0 for the other this is what
+-- is sent off links: so the other end takes it as the same calls
 abbrev pub OnAnotherCircuit : Type 0
 OnAnotherCircuit = (program : TheProgram) (circuit other : ℕ) (calls : List TheCall) → circuit < 2 ^ 16
     → is_within_limits program.interface ≡ true → AllFit program.interface calls
-    → map (on_circuit other) (stream program circuit calls) ≡ stream program other calls
+    → map (with_circuit other) (stream program circuit calls) ≡ stream program other calls
 
 -- ---- two ends: what one takes is what the other sent
 

@@ -2,7 +2,7 @@
 use Rattle.std.specs.Prelude.{◌≡◌, ℕ, ◌+◌, ◌≤◌, true, false, IsSome, List, [], ◌∷◌, map, length, slice_get, Option, Some, None}
 use Rattle.std.specs.VecDeque.{deque_capacity}
 use Rattle.fl_base.specs.declared.fragment.Frag.{Frag}
-use Rattle.fl_base.specs.Control.{is_ack_only}
+use Rattle.fl_base.specs.Control.{is_ack_only, bare}
 use Rattle.fl_check.specs.Interface.{TheMessage}
 use Rattle.fl_value.specs.Value.{TheCall}
 use Rattle.fl_value.specs.declared.value.PlanNo.{PlanNo}
@@ -14,7 +14,6 @@ use Rattle.fl_stub.specs.Given.{bytes_given}
 use Rattle.fl_compile.specs.Codes.{compiled}
 use Rattle.fl_compile.specs.Programs.{TheProgram}
 use Rattle.fl_machine.specs.Sending.{frags_for, frags_holding, frags_left, RunsOn}
-use Rattle.fl_link.specs.Stamp.{bare}
 use Rattle.fl_endpoint.specs.View.{TheOutgoing}
 use Rattle.fl_endpoint.specs.declared.outgoing.Queued.{Queued}
 use Rattle.fl_endpoint.specs.declared.outgoing.Sending.{Sending}

@@ -2,7 +2,7 @@
 
 ghost use Rattle.std.specs.Prelude.{◌≡◌, ℕ, false, length, slice_get, Some, None, IfOk, IfSome};
 ghost use Rattle.fl_value.specs.Value.{call_of};
-ghost use Rattle.fl_link.specs.Stamp.{bare};
+ghost use Rattle.fl_base.specs.Control.{bare};
 ghost use Rattle.fl_endpoint.specs.Accounts.{Sound};
 ghost use Rattle.fl_endpoint.specs.Rules.{rule_of};
 ghost use Rattle.fl_endpoint.specs.Stored.{IsOwn};
@@ -18,7 +18,7 @@ use crate::rules::Rules;
 use crate::types::{message, same_args};
 use fl_base::{Circuit, Frag, MsgNo};
 use fl_compile::Program;
-use fl_link::{PutFault, PutSide, Sight, TakeSide, stamp};
+use fl_link::{PutFault, PutSide, Sight, TakeSide};
 use fl_machine::Fed;
 use fl_value::{Call, fits};
 use fl_wire::one_reading;
@@ -260,7 +260,7 @@ impl End {
         }
         match self.next() {
             None => Ok(None),
-            Some(frag) => Ok(Some(stamp(&frag, out.next_epoch() % 2, out.next_told()))),
+            Some(frag) => Ok(Some(frag.stamp(out.next_epoch() % 2, out.next_told()))),
         }
     }
 

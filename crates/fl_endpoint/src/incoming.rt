@@ -7,7 +7,7 @@ ghost use Rattle.fl_value.specs.Fits.{fits_of};
 ghost use Rattle.fl_wire.specs.Reading.{Means};
 ghost use Rattle.fl_compile.specs.Programs.{program_of};
 ghost use Rattle.fl_machine.specs.Receiving.{HoldsTapes};
-ghost use Rattle.fl_link.specs.Stamp.{bare};
+ghost use Rattle.fl_base.specs.Control.{bare};
 ghost use Rattle.fl_endpoint.specs.View.{reply_to};
 ghost use Rattle.fl_endpoint.specs.Rules.{rules_of};
 ghost use Rattle.fl_endpoint.specs.Accounts.{AreRules};

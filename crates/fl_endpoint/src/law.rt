@@ -1,6 +1,18 @@
 //! What holds of ends over time, whatever their sides: laws, as the contracts of functions that do nothing.
 
-ghost use Rattle.fl_endpoint.specs.Laws.{AddUp, RepliesAddUp, CallAccounts, WriteAccounts, ReceiveAccounts, BindAccounts, RuleAccounts, SinceMade, OffTheCircuit, OnAnotherCircuit, HandlesInOrder, TakesInOrder};
+ghost use Rattle.fl_endpoint.specs.Laws.{
+  AddUp,
+  RepliesAddUp,
+  CallAccounts,
+  WriteAccounts,
+  ReceiveAccounts,
+  BindAccounts,
+  RuleAccounts,
+  SinceMade,
+  OnAnotherCircuit,
+  HandlesInOrder,
+  TakesInOrder,
+};
 
 use fl_link::{PutSide, TakeSide};
 use fl_wire::none_begins_with_another;
@@ -47,12 +59,7 @@ pub fn since_made()
     ensures since { SinceMade }
 {}
 
-/// What is sent on a circuit is, once its circuit is set to 0, what is sent off links.
-pub fn off_the_circuit()
-    ensures off { OffTheCircuit }
-{}
-
-/// What is sent on a circuit is, once its circuit is set to another, what is sent on that one.
+/// What is sent on a circuit is, once its circuit is set to another, what is sent on that one; on circuit 0, off links.
 pub fn on_another_circuit()
     ensures on { OnAnotherCircuit }
 {}

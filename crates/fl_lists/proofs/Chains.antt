@@ -1,7 +1,7 @@
 -- A chain after a link is made or broken.
 use Rattle.std.proofs.Common.{◌≡◌, ◌≢◌, ℕ, ◌≤◌, ◌==◌, true, false, if◌then◌else◌, inl, inr, List, [], ◌∷◌, ◌++◌, length, zero, suc, sym, ◌∙◌, ap, subst, refl, arith}
 use Rattle.std.proofs.lemmas.Bool.{false≢true, eqb-true, eqb-false, eq-eqb, ne_eqb, or_cases, or_parts, or_left, or_right, cond-true, cond-false}
-use Rattle.fl_lists.specs.Threads.{is_in, without, NoRepeat}
+use Rattle.fl_lists.specs.ThreeLists.{is_in, without, NoRepeat}
 use Rattle.fl_lists.specs.Table.{Chain, walk}
 use Rattle.fl_lists.proofs.Members.{different, first_is_in, without_first, without_later, without_none}
 

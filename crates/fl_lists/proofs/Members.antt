@@ -2,7 +2,7 @@
 use Rattle.std.proofs.Common.{◌≡◌, ◌≢◌, ℕ, ◌+◌, ◌<◌, ◌≤◌, ◌==◌, ◌||◌, Bool, true, false, inl, inr, List, [], ◌∷◌, ◌++◌, length, zero, suc, sym, ◌∙◌, ap, subst, refl, arith}
 use Rattle.std.proofs.lemmas.Bool.{false≢true, eqb-false, eq-eqb, ne_eqb, cases_eq, or_parts, or_from, or_left, not_from_true, not_from_false, cond-true, cond-false}
 use Rattle.std.proofs.lemmas.Bool.Decides.{nat_tests}
-use Rattle.fl_lists.specs.Threads.{is_in, without, NoRepeat}
+use Rattle.fl_lists.specs.ThreeLists.{is_in, without, NoRepeat}
 
 -- an element and what is no element differ
 pub different : (k m : ℕ) (xs : List ℕ) → is_in k xs ≡ true → is_in m xs ≡ false → k ≢ m

@@ -5,7 +5,7 @@ use Rattle.std.proofs.lemmas.List.{get_or_past}
 use Rattle.fl_lists.specs.declared.place.Place.{Place}
 use Rattle.fl_lists.specs.declared.place.Place.TheVariants.{Idle, Polled, Pending}
 use Rattle.fl_lists.specs.declared.node.Node.{Node}
-use Rattle.fl_lists.specs.Threads.{is_in, without}
+use Rattle.fl_lists.specs.ThreeLists.{is_in, without}
 use Rattle.fl_lists.specs.Table.{free_node, next_at, prev_at, place_at, TakenOut, PutBefore, Ring, walk}
 use Rattle.fl_lists.proofs.Members.{different, first_is_in, is_in-push, without_none, is_in_from-without, is_in-without, missing-without, NoRepeat-without, NoRepeat-push, few_below}
 use Rattle.fl_lists.proofs.Chains.{keep, last_is_in, prev_is_in, next_is_in, chain_push, chain_without, walk_is}

@@ -5,15 +5,15 @@ use Rattle.std.proofs.lemmas.List.{take_at, get_or_read, get_or-set_same, get_or
 use Rattle.fl_lists.specs.declared.place.Place.{Place}
 use Rattle.fl_lists.specs.declared.place.Place.TheVariants.{Idle, Polled, Pending}
 use Rattle.fl_lists.specs.declared.node.Node.{Node}
-use Rattle.fl_lists.specs.Threads.{Threads, list_at, is_in, without, place_of, unlinked, pushed, popped, NoRepeat, IsApart}
-use Rattle.fl_lists.specs.Table.{free_node, node_at, next_at, prev_at, place_at, TakenOut, PutBefore, ChangesFew, head_of, Chain, Ring, list_from, threads_of, IsTable, Threaded}
+use Rattle.fl_lists.specs.ThreeLists.{ThreeLists, list_at, is_in, without, place_of, unlinked, pushed, popped, NoRepeat, IsApart}
+use Rattle.fl_lists.specs.Table.{free_node, node_at, next_at, prev_at, place_at, TakenOut, PutBefore, ChangesFew, head_of, Chain, Ring, list_from, lists_of, IsTable, TheLists}
 use Rattle.fl_lists.proofs.Members.{different, first_is_in, without_first, without_none, left_out}
 use Rattle.fl_lists.proofs.Rings.{same_or_not, placed_below, list_is, prev_placed, next_placed, last_placed, in_list, ring_without, ring_push, ring_besides_out, ring_besides_in}
 
 -- two values with the same lists are the same
-pub same_threads : (v w : Threads) → v.size ≡ w.size → ((p : Place) → list_at v p ≡ list_at w p) → v ≡ w
-same_threads v w size lists =
-    let make : ℕ → List ℕ → List ℕ → List ℕ → Threads =
+pub same_lists : (v w : ThreeLists) → v.size ≡ w.size → ((p : Place) → list_at v p ≡ list_at w p) → v ≡ w
+same_lists v w size lists =
+    let make : ℕ → List ℕ → List ℕ → List ℕ → ThreeLists =
     λ n a b c. record { size = n; idle = a; polled = b; pending = c } in
     ap (λ (n : ℕ). make n v.idle v.polled v.pending) size ∙ ap (λ (a : List ℕ). make w.size a v.polled v.pending) (lists Idle)
     ∙ ap (λ (b : List ℕ). make w.size w.idle b v.pending) (lists Polled) ∙ ap (make w.size w.idle w.polled) (lists Pending)
@@ -23,22 +23,22 @@ same_node m n prev next place =
     let make : ℕ → ℕ → Option Place → Node = λ a b p. record { prev = a; next = b; place = p } in
     ap (λ (a : ℕ). make a m.next m.place) prev ∙ ap (λ (b : ℕ). make n.prev b m.place) next ∙ ap (make n.prev n.next) place
 
-list_there : (nodes : List Node) (p : Place) → list_at (threads_of nodes) p ≡ list_from nodes p
+list_there : (nodes : List Node) (p : Place) → list_at (lists_of nodes) p ≡ list_from nodes p
 list_there nodes Idle = refl
 list_there nodes Polled = refl
 list_there nodes Pending = refl
 
-pub pushed_size : (w : Threads) (c : ℕ) (p : Place) → (pushed w c p).size ≡ w.size
+pub pushed_size : (w : ThreeLists) (c : ℕ) (p : Place) → (pushed w c p).size ≡ w.size
 pushed_size w c Idle = refl
 pushed_size w c Polled = refl
 pushed_size w c Pending = refl
 
-pub pushed_this : (w : Threads) (c : ℕ) (p : Place) → list_at (pushed w c p) p ≡ list_at w p ++ c ∷ []
+pub pushed_this : (w : ThreeLists) (c : ℕ) (p : Place) → list_at (pushed w c p) p ≡ list_at w p ++ c ∷ []
 pushed_this w c Idle = refl
 pushed_this w c Polled = refl
 pushed_this w c Pending = refl
 
-pub pushed_other : (w : Threads) (c : ℕ) (p q : Place) → q ≢ p → list_at (pushed w c p) q ≡ list_at w q
+pub pushed_other : (w : ThreeLists) (c : ℕ) (p q : Place) → q ≢ p → list_at (pushed w c p) q ≡ list_at w q
 pushed_other w c Idle Idle ne = absurd (ne refl)
 pushed_other w c Idle Polled ne = refl
 pushed_other w c Idle Pending ne = refl
@@ -49,7 +49,7 @@ pushed_other w c Pending Idle ne = refl
 pushed_other w c Pending Polled ne = refl
 pushed_other w c Pending Pending ne = absurd (ne refl)
 
-pub unlinked_list : (w : Threads) (c : ℕ) (p : Place) → list_at (unlinked w c) p ≡ without c (list_at w p)
+pub unlinked_list : (w : ThreeLists) (c : ℕ) (p : Place) → list_at (unlinked w c) p ≡ without c (list_at w p)
 unlinked_list w c Idle = refl
 unlinked_list w c Polled = refl
 unlinked_list w c Pending = refl
@@ -66,8 +66,8 @@ head_within len Polled h = omega arith
 head_within len Pending h = omega arith
 
 -- a table with these rings has these lists
-rings_give : (nodes : List Node) (w : Threads) → 3 ≤ length nodes → length nodes - 3 ≡ w.size
-    → ((p : Place) → Ring nodes (head_of (length nodes) p) p (list_at w p)) → IsTable nodes × (threads_of nodes ≡ w)
+rings_give : (nodes : List Node) (w : ThreeLists) → 3 ≤ length nodes → length nodes - 3 ≡ w.size
+    → ((p : Place) → Ring nodes (head_of (length nodes) p) p (list_at w p)) → IsTable nodes × (lists_of nodes ≡ w)
 rings_give nodes w heads size rings =
     let same : (p : Place) → list_from nodes p ≡ list_at w p =
     λ p. list_is nodes (head_of (length nodes) p) p (list_at w p) (rings p) in (
@@ -75,27 +75,27 @@ rings_give nodes w heads size rings =
         heads = heads;
         ring = λ p. subst (λ (ys : List ℕ). Ring nodes (head_of (length nodes) p) p ys) (sym (same p)) (rings p);
       },
-      same_threads (threads_of nodes) w size (λ p. list_there nodes p ∙ same p),
+      same_lists (lists_of nodes) w size (λ p. list_there nodes p ∙ same p),
     )
 
 module _ (nodes : List Node) (table : IsTable nodes) where
-  ring_at : (p : Place) → Ring nodes (head_of (length nodes) p) p (list_at (threads_of nodes) p)
+  ring_at : (p : Place) → Ring nodes (head_of (length nodes) p) p (list_at (lists_of nodes) p)
   ring_at p =
       subst (λ (ys : List ℕ). Ring nodes (head_of (length nodes) p) p ys) (sym (list_there nodes p)) (table.ring p)
 
-  listed_at : (c : ℕ) (p : Place) → c < length nodes - 3 → place_at nodes c ≡ Some p → is_in c (list_at (threads_of nodes) p) ≡ true
+  listed_at : (c : ℕ) (p : Place) → c < length nodes - 3 → place_at nodes c ≡ Some p → is_in c (list_at (lists_of nodes) p) ≡ true
   listed_at c p below h = in_list nodes _ p _ (ring_at p) c h (head_behind (length nodes) c p below)
 
-  placed_at : (c : ℕ) (p : Place) → is_in c (list_at (threads_of nodes) p) ≡ true → place_at nodes c ≡ Some p
+  placed_at : (c : ℕ) (p : Place) → is_in c (list_at (lists_of nodes) p) ≡ true → place_at nodes c ≡ Some p
   placed_at c p i = (ring_at p).placed c (or_right _ _ i)
 
   -- no list has a head, so its nodes stand before the heads
-  node_below : (c : ℕ) (p : Place) → is_in c (list_at (threads_of nodes) p) ≡ true → c < length nodes - 3
+  node_below : (c : ℕ) (p : Place) → is_in c (list_at (lists_of nodes) p) ≡ true → c < length nodes - 3
   node_below c p i =
       let here = placed_at c p i in
       let within : c < length nodes = placed_below nodes c p here in
       let no_head : (q : Place) → c ≢ head_of (length nodes) q = λ q e.
-      let at_head : place_at nodes (head_of (length nodes) q) ≡ Some q = (ring_at q).placed _ (first_is_in (head_of (length nodes) q) (list_at (threads_of nodes) q)) in
+      let at_head : place_at nodes (head_of (length nodes) q) ≡ Some q = (ring_at q).placed _ (first_is_in (head_of (length nodes) q) (list_at (lists_of nodes) q)) in
       let there : place_at nodes c ≡ Some q = subst (λ (z : ℕ). place_at nodes z ≡ Some q) (sym e) at_head in
       let same : q ≡ p = cc (there, here) in
       different c (head_of (length nodes) p) _ i (ring_at p).once.0 (e ∙ ap (head_of (length nodes)) same) in
@@ -105,24 +105,24 @@ module _ (nodes : List Node) (table : IsTable nodes) where
       let heads = table.heads in
       omega arith
 
-  pub apart_lists : IsApart (threads_of nodes)
+  pub apart_lists : IsApart (lists_of nodes)
   apart_lists = record {
     once = λ p. (ring_at p).once.1;
     one_list = λ p q c i j. let here = placed_at c p i in let there = placed_at c q j in cc (here, there);
     below = λ p c i. node_below c p i;
   }
 
-  missing_at : (c : ℕ) (p : Place) → place_at nodes c ≡ None → is_in c (list_at (threads_of nodes) p) ≡ false
-  missing_at c p free = elim (cases_Bool (is_in c (list_at (threads_of nodes) p))) [
+  missing_at : (c : ℕ) (p : Place) → place_at nodes c ≡ None → is_in c (list_at (lists_of nodes) p) ≡ false
+  missing_at c p free = elim (cases_Bool (is_in c (list_at (lists_of nodes) p))) [
     | inl i ↦ let here = placed_at c p i in absurd (cc (free, here))
     | inr missed ↦ missed
   ]
 
   -- the place that a node tells is the list that it is in
-  pub place_is : (c : ℕ) → c < length nodes - 3 → place_of (threads_of nodes) c ≡ place_at nodes c
+  pub place_is : (c : ℕ) → c < length nodes - 3 → place_of (lists_of nodes) c ≡ place_at nodes c
   place_is c below = go (place_at nodes c) refl where
-    w : Threads
-    w = threads_of nodes
+    w : ThreeLists
+    w = lists_of nodes
 
     other : (p q : Place) → place_at nodes c ≡ Some p → p ≢ q → is_in c (list_at w q) ≡ false
     other p q h ne = elim (cases_Bool (is_in c (list_at w q))) [
@@ -152,48 +152,48 @@ module _ (nodes : List Node) (table : IsTable nodes) where
   last_below p = placed_below nodes _ p (last_placed nodes _ p _ (ring_at p))
 
   pub table_out : (new : List Node) (c : ℕ) (p : Place) → TakenOut nodes new c → c < length nodes - 3 → place_at nodes c ≡ Some p
-      → IsTable new × (threads_of new ≡ unlinked (threads_of nodes) c)
+      → IsTable new × (lists_of new ≡ unlinked (lists_of nodes) c)
   table_out new c p t below h =
       let near = neighbours c p below h in
-      let old_rings : (q : Place) → Ring new (head_of (length nodes) q) q (without c (list_at (threads_of nodes) q)) =
+      let old_rings : (q : Place) → Ring new (head_of (length nodes) q) q (without c (list_at (lists_of nodes) q)) =
       λ q. elim (same_or_not q p) [
         | inl e ↦ ring_without nodes _ q _ (ring_at q) new c t (listed_at c q below (h ∙ ap (λ (z : Place). Some z) (sym e)))
         | inr ne ↦ ring_besides_out nodes _ q _ (ring_at q) new c p t ne h near.0 near.1
       ] in
       let size = t.size in
       let heads = table.heads in
-      rings_give new (unlinked (threads_of nodes) c) (omega arith) (ap (λ (n : ℕ). n - 3) size) (λ q.
-      subst (λ (n : ℕ). Ring new (head_of n q) q (list_at (unlinked (threads_of nodes) c) q)) (sym size)
-      (subst (λ (ys : List ℕ). Ring new (head_of (length nodes) q) q ys) (sym (unlinked_list (threads_of nodes) c q)) (old_rings q)))
+      rings_give new (unlinked (lists_of nodes) c) (omega arith) (ap (λ (n : ℕ). n - 3) size) (λ q.
+      subst (λ (n : ℕ). Ring new (head_of n q) q (list_at (unlinked (lists_of nodes) c) q)) (sym size)
+      (subst (λ (ys : List ℕ). Ring new (head_of (length nodes) q) q ys) (sym (unlinked_list (lists_of nodes) c q)) (old_rings q)))
 
   pub table_in : (new : List Node) (c : ℕ) (p : Place) → PutBefore nodes new c (head_of (length nodes) p) p → place_at nodes c ≡ None
-      → IsTable new × (threads_of new ≡ pushed (threads_of nodes) c p)
+      → IsTable new × (lists_of new ≡ pushed (lists_of nodes) c p)
   table_in new c p t free =
-      let w = threads_of nodes in
-      let at_head : place_at nodes (head_of (length nodes) p) ≡ Some p = (ring_at p).placed _ (first_is_in (head_of (length nodes) p) (list_at (threads_of nodes) p)) in
+      let w = lists_of nodes in
+      let at_head : place_at nodes (head_of (length nodes) p) ≡ Some p = (ring_at p).placed _ (first_is_in (head_of (length nodes) p) (list_at (lists_of nodes) p)) in
       let at_last = last_placed nodes _ p _ (ring_at p) in
-      let old_rings : (q : Place) → Ring new (head_of (length nodes) q) q (list_at (pushed (threads_of nodes) c p) q) =
+      let old_rings : (q : Place) → Ring new (head_of (length nodes) q) q (list_at (pushed (lists_of nodes) c p) q) =
       λ q. elim (same_or_not p q) [
         | inl e ↦
-            subst (λ (z : Place). Ring new (head_of (length nodes) z) z (list_at (pushed (threads_of nodes) c p) z)) e
-            (subst (λ (ys : List ℕ). Ring new (head_of (length nodes) p) p ys) (sym (pushed_this (threads_of nodes) c p))
+            subst (λ (z : Place). Ring new (head_of (length nodes) z) z (list_at (pushed (lists_of nodes) c p) z)) e
+            (subst (λ (ys : List ℕ). Ring new (head_of (length nodes) p) p ys) (sym (pushed_this (lists_of nodes) c p))
             (ring_push nodes _ p _ (ring_at p) new c t free))
         | inr ne ↦
             subst (λ (ys : List ℕ). Ring new (head_of (length nodes) q) q ys)
-            (sym (pushed_other (threads_of nodes) c p q (λ s. ne (sym s))))
+            (sym (pushed_other (lists_of nodes) c p q (λ s. ne (sym s))))
             (ring_besides_in nodes _ q _ (ring_at q) new c _ p t (λ s. ne (sym s)) free at_head at_last)
       ] in
       let size = t.size in
       let heads = table.heads in
-      rings_give new (pushed (threads_of nodes) c p) (omega arith)
-      (ap (λ (n : ℕ). n - 3) size ∙ sym (pushed_size (threads_of nodes) c p)) (λ q.
-      subst (λ (n : ℕ). Ring new (head_of n q) q (list_at (pushed (threads_of nodes) c p) q)) (sym size) (old_rings q))
+      rings_give new (pushed (lists_of nodes) c p) (omega arith)
+      (ap (λ (n : ℕ). n - 3) size ∙ sym (pushed_size (lists_of nodes) c p)) (λ q.
+      subst (λ (n : ℕ). Ring new (head_of n q) q (list_at (pushed (lists_of nodes) c p) q)) (sym size) (old_rings q))
 
   -- what comes after a head is the first of its list
   pub front_is : (p : Place) (head : ℕ) → head ≡ head_of (length nodes) p
-      → (if next_at nodes head == head then None else Some (next_at nodes head)) ≡ slice_get (list_at (threads_of nodes) p) 0
-  front_is p head e = subst (λ (h : ℕ). (if next_at nodes h == h then None else Some (next_at nodes h)) ≡ slice_get (list_at (threads_of nodes) p) 0) (sym e)
-      (go (head_of (length nodes) p) (list_at (threads_of nodes) p) (ring_at p).chain (ring_at p).once) where
+      → (if next_at nodes head == head then None else Some (next_at nodes head)) ≡ slice_get (list_at (lists_of nodes) p) 0
+  front_is p head e = subst (λ (h : ℕ). (if next_at nodes h == h then None else Some (next_at nodes h)) ≡ slice_get (list_at (lists_of nodes) p) 0) (sym e)
+      (go (head_of (length nodes) p) (list_at (lists_of nodes) p) (ring_at p).chain (ring_at p).once) where
         go : (h : ℕ) (xs : List ℕ) → Chain (next_at nodes) (prev_at nodes) h xs h → NoRepeat (h ∷ xs)
             → (if next_at nodes h == h then None else Some (next_at nodes h)) ≡ slice_get xs 0
         go h [] chain once = cond-true _ _ _ (eq-eqb _ _ chain.0)
@@ -252,22 +252,22 @@ some_place (Some p) h = (p, refl)
 some_place None h = absurd (false≢true h)
 
 -- a table that holds these lists, and in which few nodes differ from before
-pub record Left (c : ℕ) (before : Threaded) (xs : List Node) (w : Threads) : Type 0 where
+pub record Left (c : ℕ) (before : TheLists) (xs : List Node) (w : ThreeLists) : Type 0 where
   pub table : IsTable xs
-  pub lists : threads_of xs ≡ w
+  pub lists : lists_of xs ≡ w
   pub few : ChangesFew 2 c before.table xs
-  pub apart : IsApart (threads_of xs)
+  pub apart : IsApart (lists_of xs)
 
-pub apart_now : (items : List Node) (now : Threaded) → IsTable items → record { lists = threads_of items; table = items } ≡ now → IsApart now.lists
-apart_now items now table seen = subst (λ (w : Threaded). IsApart w.lists) seen (apart_lists items table)
+pub apart_now : (items : List Node) (now : TheLists) → IsTable items → record { lists = lists_of items; table = items } ≡ now → IsApart now.lists
+apart_now items now table seen = subst (λ (w : TheLists). IsApart w.lists) seen (apart_lists items table)
 
 -- what `unlink` and `push_back` need of the table, and what they leave
-module _ (items : List Node) (c : ℕ) (now : Threaded) (table : IsTable items) (seen : record { lists = threads_of items; table = items } ≡ now) (below : c < now.lists.size) where
+module _ (items : List Node) (c : ℕ) (now : TheLists) (table : IsTable items) (seen : record { lists = lists_of items; table = items } ≡ now) (below : c < now.lists.size) where
   below_here : c < length items - 3
-  below_here = subst (λ (w : Threaded). c < w.lists.size) (sym seen) below
+  below_here = subst (λ (w : TheLists). c < w.lists.size) (sym seen) below
 
   pub place_here : place_of now.lists c ≡ place_at items c
-  place_here = subst (λ (w : Threaded). place_of w.lists c ≡ place_at items c) seen (place_is items table c below_here)
+  place_here = subst (λ (w : TheLists). place_of w.lists c ≡ place_at items c) seen (place_is items table c below_here)
 
   pub read_place : (x : Node) → x ≡ get_or items c x → x.place ≡ place_of now.lists c
   read_place x e =
@@ -276,13 +276,13 @@ module _ (items : List Node) (c : ℕ) (now : Threaded) (table : IsTable items) 
 
   pub linked_here : IsSome (place_of now.lists c) → (p : Place) × (place_at items c ≡ Some p)
   linked_here h =
-      let there = subst (λ (w : Threaded). IsSome (place_of w.lists c)) (sym seen) h in
+      let there = subst (λ (w : TheLists). IsSome (place_of w.lists c)) (sym seen) h in
       let found = some_place _ there in
       (found.0, sym (place_is items table c below_here) ∙ found.1)
 
   pub free_here : place_of now.lists c ≡ None → place_at items c ≡ None
   free_here h =
-      let there = subst (λ (w : Threaded). place_of w.lists c ≡ None) (sym seen) h in
+      let there = subst (λ (w : TheLists). place_of w.lists c ≡ None) (sym seen) h in
       sym (place_is items table c below_here) ∙ there
 
   pub prev_below : IsSome (place_of now.lists c) → prev_at items c < length items
@@ -301,8 +301,8 @@ module _ (items : List Node) (c : ℕ) (now : Threaded) (table : IsTable items) 
       let out = table_out items table new c found.0 t_here below_here found.1 in
       subst (λ (xs : List Node). Left c now xs (unlinked now.lists c)) (sym whole) record {
         table = out.0;
-        lists = out.1 ∙ ap (λ (w : Threaded). unlinked w.lists c) seen;
-        few = subst (λ (w : Threaded). ChangesFew 2 c w.table new) seen (few_out items new c t_here);
+        lists = out.1 ∙ ap (λ (w : TheLists). unlinked w.lists c) seen;
+        few = subst (λ (w : TheLists). ChangesFew 2 c w.table new) seen (few_out items new c t_here);
         apart = apart_lists new out.0;
       }
 
@@ -317,18 +317,18 @@ module _ (items : List Node) (c : ℕ) (now : Threaded) (table : IsTable items) 
       let come = table_in items table new c p t_head (free_here h) in
       subst (λ (xs : List Node). Left c now xs (pushed now.lists c p)) (sym whole) record {
         table = come.0;
-        lists = come.1 ∙ ap (λ (w : Threaded). pushed w.lists c p) seen;
-        few = subst (λ (w : Threaded). ChangesFew 2 c w.table new) seen (few_in items new c head p t_here);
+        lists = come.1 ∙ ap (λ (w : TheLists). pushed w.lists c p) seen;
+        few = subst (λ (w : TheLists). ChangesFew 2 c w.table new) seen (few_in items new c head p t_here);
         apart = apart_lists new come.0;
       }
 
 -- a node that was taken out is free
-pub free_after : (w : Threads) (c : ℕ) → place_of (unlinked w c) c ≡ None
+pub free_after : (w : ThreeLists) (c : ℕ) → place_of (unlinked w c) c ≡ None
 free_after w c =
     cond-false _ _ _ (left_out c w.idle) ∙ cond-false _ _ _ (left_out c w.polled) ∙ cond-false _ _ _ (left_out c w.pending)
 
 -- what is in a list has a place
-pub linked_in : (w : Threads) (p : Place) (c : ℕ) → is_in c (list_at w p) ≡ true → IsSome (place_of w c)
+pub linked_in : (w : ThreeLists) (p : Place) (c : ℕ) → is_in c (list_at w p) ≡ true → IsSome (place_of w c)
 linked_in w p c i = elim (cases_Bool (is_in c w.idle)) [
   | inl a ↦ some_is (cond-true _ _ _ a)
   | inr a ↦ elim (cases_Bool (is_in c w.polled)) [
@@ -358,7 +358,7 @@ front_out (x ∷ xs) c once h =
     without_first c x xs e ∙ without_none c xs (ap (λ (z : ℕ). is_in z xs) (sym e) ∙ once.0)
 
 -- to take out the first of a list is to drop it there
-pub pop_is : (w : Threads) (p : Place) (c : ℕ) → IsApart w → slice_get (list_at w p) 0 ≡ Some c → unlinked w c ≡ popped w p
+pub pop_is : (w : ThreeLists) (p : Place) (c : ℕ) → IsApart w → slice_get (list_at w p) 0 ≡ Some c → unlinked w c ≡ popped w p
 pop_is w p c apart h = go p here (front_out (list_at w p) c (apart.once p) h) where
   here : is_in c (list_at w p) ≡ true
   here = front_in (list_at w p) c h
@@ -370,17 +370,17 @@ pop_is w p c apart h = go p here (front_out (list_at w p) c (apart.once p) h) wh
   ])
 
   go : (r : Place) → is_in c (list_at w r) ≡ true → without c (list_at w r) ≡ drop 1 (list_at w r) → unlinked w c ≡ popped w r
-  go Idle i e = same_threads _ _ refl (λ q. at_idle q i e) where
+  go Idle i e = same_lists _ _ refl (λ q. at_idle q i e) where
     at_idle : (q : Place) → is_in c w.idle ≡ true → without c w.idle ≡ drop 1 w.idle → list_at (unlinked w c) q ≡ list_at (popped w Idle) q
     at_idle Idle i e = e
     at_idle Polled i e = stays Idle i Polled (λ s. cc)
     at_idle Pending i e = stays Idle i Pending (λ s. cc)
-  go Polled i e = same_threads _ _ refl (λ q. at_polled q i e) where
+  go Polled i e = same_lists _ _ refl (λ q. at_polled q i e) where
     at_polled : (q : Place) → is_in c w.polled ≡ true → without c w.polled ≡ drop 1 w.polled → list_at (unlinked w c) q ≡ list_at (popped w Polled) q
     at_polled Idle i e = stays Polled i Idle (λ s. cc)
     at_polled Polled i e = e
     at_polled Pending i e = stays Polled i Pending (λ s. cc)
-  go Pending i e = same_threads _ _ refl (λ q. at_pending q i e) where
+  go Pending i e = same_lists _ _ refl (λ q. at_pending q i e) where
     at_pending : (q : Place) → is_in c w.pending ≡ true → without c w.pending ≡ drop 1 w.pending → list_at (unlinked w c) q ≡ list_at (popped w Pending) q
     at_pending Idle i e = stays Pending i Idle (λ s. cc)
     at_pending Polled i e = stays Pending i Polled (λ s. cc)
@@ -416,7 +416,7 @@ first_is_table items len a b d heads free is_a is_b is_d = (rings_give nodes w h
   nodes : List Node
   nodes = set (set (set items (len - 3) a) (len - 2) b) (len - 1) d
 
-  w : Threads
+  w : ThreeLists
   w = record { size = len - 3; idle = []; polled = []; pending = [] }
 
   long : length items ≡ len
@@ -497,8 +497,8 @@ first_is_table items len a b d heads free is_a is_b is_d = (rings_give nodes w h
   rings Pending = subst (λ (n : ℕ). Ring nodes (head_of n Pending) Pending []) (sym long_3) (alone Pending)
 
 -- what comes after a head, if it isn't the head, is a node
-pub front_within : (nodes : List Node) (now : Threaded) (p : Place) (head len : ℕ) (first : Node) → IsTable nodes
-    → record { lists = threads_of nodes; table = nodes } ≡ now
+pub front_within : (nodes : List Node) (now : TheLists) (p : Place) (head len : ℕ) (first : Node) → IsTable nodes
+    → record { lists = lists_of nodes; table = nodes } ≡ now
     → head ≡ head_of len p → len ≡ length nodes → first ≡ get_or nodes head first → first.next ≢ head
     → first.next < now.lists.size
 front_within nodes now p head len first table seen at long read other =
@@ -508,4 +508,4 @@ front_within nodes now p head len first table seen at long read other =
     let next : first.next ≡ next_at nodes head = ap (λ (n : Node). n.next) (get_or_read nodes head first below read free_node) in
     let told = sym (front_is nodes table p head here) ∙ cond-false _ _ _ (ne_eqb _ _ (λ e. other (next ∙ e))) in
     let within = node_below nodes table (next_at nodes head) p (front_in _ _ told) in
-    subst (λ (w : Threaded). first.next < w.lists.size) seen (subst (λ (k : ℕ). k < length nodes - 3) (sym next) within)
+    subst (λ (w : TheLists). first.next < w.lists.size) seen (subst (λ (k : ℕ). k < length nodes - 3) (sym next) within)

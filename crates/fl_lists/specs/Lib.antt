@@ -1,2 +1,2 @@
-pub mod Threads
+pub mod ThreeLists
 pub mod Table

@@ -3,7 +3,7 @@ use Rattle.std.specs.Prelude.{ℕ, ◌≡◌, ◌≢◌, ◌-◌, ◌≤◌, ◌
 use Rattle.fl_lists.specs.declared.place.Place.{Place}
 use Rattle.fl_lists.specs.declared.place.Place.TheVariants.{Idle, Polled, Pending}
 use Rattle.fl_lists.specs.declared.node.Node.{Node}
-use Rattle.fl_lists.specs.Threads.{Threads, is_in, NoRepeat}
+use Rattle.fl_lists.specs.ThreeLists.{ThreeLists, is_in, NoRepeat}
 
 -- a node that is in no list
 abbrev pub free_node : Node
@@ -76,8 +76,8 @@ abbrev pub list_from : List Node → Place → List ℕ
 list_from nodes place =
     let head = head_of (length nodes) place in walk (next_at nodes) head (length nodes) (next_at nodes head)
 
-abbrev pub threads_of : List Node → Threads
-threads_of nodes = record {
+abbrev pub lists_of : List Node → ThreeLists
+lists_of nodes = record {
   size = length nodes - 3;
   idle = list_from nodes Idle;
   polled = list_from nodes Polled;
@@ -90,6 +90,6 @@ pub record IsTable (nodes : List Node) : Type 0 where
   pub ring : (place : Place) → Ring nodes (head_of (length nodes) place) place (list_from nodes place)
 
 -- what callers see of a `Lists`: its three lists, and the table that holds them
-pub record Threaded : Type 0 where
-  pub lists : Threads
+pub record TheLists : Type 0 where
+  pub lists : ThreeLists
   pub table : List Node

@@ -2,7 +2,7 @@
 //! list, or in none. Lists are linked by indexes into the table, so each call costs the same
 //! whatever the number of nodes, and none after `Lists::new` takes memory.
 //!
-//! Contract for the layers above: a `Lists` is three lists of numbers (`specs/Threads.antt`), and
+//! Contract for the layers above: a `Lists` is three lists of numbers (`specs/ThreeLists.antt`), and
 //! each call says which lists it leaves. How the table holds them stands in `specs/Table.antt`.
 //!
 //! - `place.rt`: `Place`, which of the three lists

@@ -1,7 +1,7 @@
 //! The three lists over one table.
 
 ghost use Rattle.std.specs.Prelude.{◌≡◌, ◌<◌, ◌≤◌, IfOk, IfSome, IsSome, MatchOption, slice_get};
-ghost use Rattle.fl_lists.specs.Threads.{list_at, place_of, unlinked, pushed, moved, popped, empty, IsApart};
+ghost use Rattle.fl_lists.specs.ThreeLists.{list_at, place_of, unlinked, pushed, moved, popped, empty, IsApart};
 ghost use Rattle.fl_lists.specs.Table.{head_of, ChangesFew};
 
 use crate::node::{FREE, Node, head, put_before, take_out};
@@ -22,11 +22,11 @@ pub struct Lists {
 }
 
 impl Model for Lists {
-    ghost use Rattle.fl_lists.specs.Table.{Threaded, threads_of, IsTable};
+    ghost use Rattle.fl_lists.specs.Table.{TheLists, lists_of, IsTable};
 
-    ghost Value = { Threaded };
+    ghost Value = { TheLists };
 
-    ghost view = { λ a. record { lists = threads_of a.nodes.items; table = a.nodes.items } };
+    ghost view = { λ a. record { lists = lists_of a.nodes.items; table = a.nodes.items } };
 
     ghost invariant = { λ a. IsTable a.nodes.items };
 }

@@ -3,14 +3,14 @@ use Rattle.std.proofs.Common.{◌≡◌, ◌≢◌, ℕ, Bool, true, false, List
 use Rattle.std.proofs.lemmas.Bool.{cases_Bool, cond-true, cond-false}
 use Rattle.fl_lists.specs.declared.place.Place.{Place}
 use Rattle.fl_lists.specs.declared.place.Place.TheVariants.{Idle, Polled, Pending}
-use Rattle.fl_lists.specs.Threads.{Threads, list_at, is_in, without, place_of, pushed, popped, moved, IsApart}
+use Rattle.fl_lists.specs.ThreeLists.{ThreeLists, list_at, is_in, without, place_of, pushed, popped, moved, IsApart}
 use Rattle.fl_waitset.specs.declared.fault.WaitFault.{WaitFault}
 use Rattle.fl_waitset.specs.Waiting.{triggered}
 use Rattle.fl_lists.proofs.Members.{without_none}
-use Rattle.fl_lists.proofs.Tables.{same_threads, pop_is}
+use Rattle.fl_lists.proofs.Tables.{same_lists, pop_is}
 
 -- the place that is told is the list that holds c
-pub idle_is_in : (w : Threads) (c : ℕ) → place_of w c ≡ Some Idle → is_in c w.idle ≡ true
+pub idle_is_in : (w : ThreeLists) (c : ℕ) → place_of w c ≡ Some Idle → is_in c w.idle ≡ true
 idle_is_in w c h = elim (cases_Bool (is_in c w.idle)) [
   | inl here ↦ here
   | inr a ↦ elim (cases_Bool (is_in c w.polled)) [
@@ -23,8 +23,8 @@ idle_is_in w c h = elim (cases_Bool (is_in c w.idle)) [
 ]
 
 -- an idle channel that is moved to pending leaves idle alone
-pub idle_moves : (w : Threads) (c : ℕ) → IsApart w → place_of w c ≡ Some Idle → moved w c Pending ≡ triggered w c
-idle_moves w c apart h = same_threads _ _ refl lists ∙ sym (cond-true _ _ _ here) where
+pub idle_moves : (w : ThreeLists) (c : ℕ) → IsApart w → place_of w c ≡ Some Idle → moved w c Pending ≡ triggered w c
+idle_moves w c apart h = same_lists _ _ refl lists ∙ sym (cond-true _ _ _ here) where
   here : is_in c w.idle ≡ true
   here = idle_is_in w c h
 
@@ -34,7 +34,7 @@ idle_moves w c apart h = same_threads _ _ refl lists ∙ sym (cond-true _ _ _ he
     | inr missed ↦ missed
   ])
 
-  after : Threads
+  after : ThreeLists
   after = record w { idle = without c w.idle; pending = w.pending ++ c ∷ [] }
 
   lists : (q : Place) → list_at (moved w c Pending) q ≡ list_at after q
@@ -43,6 +43,6 @@ idle_moves w c apart h = same_threads _ _ refl lists ∙ sym (cond-true _ _ _ he
   lists Pending = ap (λ (xs : List ℕ). xs ++ c ∷ []) (stays Pending (λ s. cc))
 
 -- the first of a list that is moved leaves that list for the back of another
-pub first_moves : (w : Threads) (c : ℕ) (from place : Place) → IsApart w → slice_get (list_at w from) 0 ≡ Some c
+pub first_moves : (w : ThreeLists) (c : ℕ) (from place : Place) → IsApart w → slice_get (list_at w from) 0 ≡ Some c
     → moved w c place ≡ pushed (popped w from) c place
-first_moves w c from place apart first = ap (λ (v : Threads). pushed v c place) (pop_is w from c apart first)
+first_moves w c from place apart first = ap (λ (v : ThreeLists). pushed v c place) (pop_is w from c apart first)

@@ -1,3 +1,3 @@
-pub use Rattle.fl_lists.specs.Threads
+pub use Rattle.fl_lists.specs.ThreeLists
 pub mod Faults
 pub mod Waiting

@@ -2,7 +2,7 @@
 
 ghost use Rattle.std.specs.Prelude.{◌≡◌, ◌≤◌, IfOk, IfErr, OnOk, OnErr, nat_lt, if◌then◌else◌, slice_get};
 ghost use Rattle.fl_lists.specs.declared.place.Place.TheVariants.{Idle, Polled};
-ghost use Rattle.fl_lists.specs.Threads.{list_at, place_of, unlinked, pushed, popped, moved, empty};
+ghost use Rattle.fl_lists.specs.ThreeLists.{list_at, place_of, unlinked, pushed, popped, moved, empty};
 ghost use Rattle.fl_waitset.specs.declared.fault.WaitFault.TheVariants.{NoChannel};
 ghost use Rattle.fl_waitset.specs.Waiting.{
   IsWaitset,
@@ -37,9 +37,9 @@ pub struct Waitset {
 
 impl Model for Waitset {
     ghost use Rattle.std.specs.Prelude.{◌≤◌};
-    ghost use Rattle.fl_lists.specs.Threads.{Threads};
+    ghost use Rattle.fl_lists.specs.ThreeLists.{ThreeLists};
 
-    ghost Value = { Threads };
+    ghost Value = { ThreeLists };
 
     ghost view = { λ a. a.lists.lists };
 

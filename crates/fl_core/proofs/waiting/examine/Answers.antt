@@ -1,5 +1,5 @@
 use Rattle.std.proofs.Common.{inl, inr, sym, subst}
-use Rattle.fl_link.specs.Stamp.{bare}
+use Rattle.fl_base.specs.Control.{bare}
 use Rattle.fl_link.specs.Looks.{Look}
 use Rattle.fl_lists.specs.declared.place.Place.TheVariants as place
 use Rattle.fl_core.proofs.Picks.{first_polled, polled_ok}

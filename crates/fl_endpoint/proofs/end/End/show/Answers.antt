@@ -1,5 +1,5 @@
 use Rattle.std.proofs.Common.{ℕ, ◌%◌, drop, sym, ap, ◌∙◌, rules}
-use Rattle.fl_link.specs.Stamp.{stamped}
+use Rattle.fl_base.specs.Control.{stamped}
 use Rattle.fl_endpoint.proofs.Outgoings.{none_first, first_and_rest}
 use Rattle.fl_endpoint.proofs.end.End.show.Goals as goal
 

@@ -7,7 +7,7 @@ use Rattle.fl_value.specs.Fits.{fits_of}
 use Rattle.fl_wire.specs.Payload.{frags_of}
 use Rattle.fl_compile.specs.declared.program.Program.{Program}
 use Rattle.fl_compile.specs.Programs.{program_of}
-use Rattle.fl_link.specs.Stamp.{bare}
+use Rattle.fl_base.specs.Control.{bare}
 use Rattle.fl_machine.specs.Receiving.{TheReceiving, undone, fed_by}
 use Rattle.fl_endpoint.specs.View.{TheEnd, reply_to, holds_back, queued_if, with_handled}
 use Rattle.fl_endpoint.specs.Accounts.{Sound}

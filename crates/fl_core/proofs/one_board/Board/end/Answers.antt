@@ -1,0 +1,6 @@
+use Rattle.std.proofs.Common.{refl}
+use Rattle.fl_core.proofs.Seats.{reads_before}
+use Rattle.fl_core.proofs.one_board.Board.end.Goals as goal
+
+pub returns : goal.returns
+returns c = record { end = (_, reads_before c.args.self.now _ c.self.view_is c.args.e c.requires _ _ c.index-seat.ensures c.seat.view_is, refl) }

@@ -1,0 +1,241 @@
+//! The board of one core: its dispatchers and their ends.
+
+ghost use Rattle.std.specs.Prelude.{◌≡◌, ◌<◌, ℕ, [], length, slice_get, Some, IfOk, IfErr, OnOk, OnErr, vec_len};
+ghost use Rattle.std.specs.Vec.{vec_capacity};
+ghost use Rattle.fl_value.specs.Value.{call_of};
+ghost use Rattle.fl_endpoint.specs.View.{TheEnd, bound};
+ghost use Rattle.fl_endpoint.specs.Events.{Calls, Writes, ShowsNext, SetsRule};
+ghost use Rattle.fl_core.specs.Sound.{IsBoard};
+ghost use Rattle.fl_core.specs.View.{TheDispatcher, TheBoard, with_dispatcher, with_new_end};
+ghost use Rattle.fl_core.specs.declared.kind.Kind.{Kind};
+ghost use Rattle.fl_core.specs.Events.{ChangesEnd, Holds, Adds, IsGrown};
+ghost use Rattle.fl_core.specs.Inside.{HasNoRoom};
+
+use crate::dispatcher::Dispatcher;
+use crate::fault::BoardFault;
+use crate::kind::Kind;
+use crate::seat::Seat;
+use fl_base::{ChanId, Circuit, Frag, MAX_CHANNELS, MsgNo};
+use fl_endpoint::{End, EndFault, WriteAnswer};
+use fl_link::PutSide;
+use fl_value::Call;
+use std::alloc::{AllocError, Global};
+use std::marker::Model;
+
+/// The dispatchers of one core, and the ends that sit at them. Both are named by their places, from 0, in the order in which
+/// they were added.
+///
+/// The links that ends use are not part of a board: the side that an event needs is lent to it. It is for the caller to lend
+/// the side of the end that is named, and at a turn the side of the end that is due ([`Board::due`]).
+#[derive(Drop)]
+pub struct Board {
+    alloc: Global,
+    pub(crate) dispatchers: Vec<Dispatcher>,
+    pub(crate) seats: Vec<Seat>,
+}
+
+impl Model for Board {
+    ghost use Rattle.std.specs.Coded.{codes};
+    ghost use Rattle.fl_compile.specs.contracts.program.Program.{the_row};
+    ghost use Rattle.fl_core.specs.View.{TheBoard};
+    ghost use Rattle.fl_core.specs.Sound.{IsBoard};
+
+    ghost Value = { TheBoard };
+
+    ghost coded = { Prim.hlevel (codes, the_row.coded) };
+
+    ghost view = { λ k. record { dispatchers = k.dispatchers.items; seats = k.seats.items } };
+
+    ghost invariant = { λ k. IsBoard (record { dispatchers = k.dispatchers.items; seats = k.seats.items }) };
+}
+
+// Room for one end more at a dispatcher with these ends, and on the board.
+fn make_room(ends: &mut Vec<usize>, seats: &mut Vec<Seat>) -> Result<(), BoardFault>
+    ensures ends { ends.new.items ≡ ends.old.items }
+    ensures seats { seats.new.items ≡ seats.old.items }
+    ensures room { OnOk result (vec_len ends.old < 1024) }
+    ensures room_for_end { OnOk result (vec_len ends.new < vec_capacity ends.new) }
+    ensures room_for_seat { OnOk result (vec_len seats.new < vec_capacity seats.new) }
+    ensures refused { IfErr result (HasNoRoom (vec_len ends.old)) }
+{
+    if ends.len() >= MAX_CHANNELS {
+        return Err(BoardFault::TooManyEnds);
+    }
+    let Ok(()) = ends.reserve(1) else {
+        return Err(BoardFault::Memory);
+    };
+    let Ok(()) = seats.reserve(1) else {
+        return Err(BoardFault::Memory);
+    };
+    Ok(())
+}
+
+impl Board {
+    /// A board without dispatchers and ends. Takes no memory.
+    pub fn new(alloc: Global) -> Board
+        ensures empty { result ≡ record { dispatchers = []; seats = [] } }
+    {
+        Board {
+            alloc,
+            dispatchers: Vec::new(alloc),
+            seats: Vec::new(alloc),
+        }
+    }
+
+    /// What is known of a board at any time.
+    pub fn sound(&self)
+        ensures sound { IsBoard self.now }
+    {
+        let _ends = self.seats.len();
+    }
+
+    /// How many dispatchers there are.
+    pub fn dispatchers(&self) -> usize
+        ensures dispatchers { result ≡ length self.now.dispatchers }
+    {
+        self.dispatchers.len()
+    }
+
+    /// How many ends there are.
+    pub fn ends(&self) -> usize
+        ensures ends { result ≡ length self.now.seats }
+    {
+        self.seats.len()
+    }
+
+    /// How many ends a dispatcher has, at most 1,024.
+    pub fn ends_at(&self, dispatcher: usize) -> usize
+        requires { dispatcher < length self.now.dispatchers }
+        ensures ends { (d : TheDispatcher) → slice_get self.now.dispatchers dispatcher ≡ Some d → result ≡ length d.ends }
+    {
+        let dispatcher = &self.dispatchers[dispatcher];
+        dispatcher.ends.len()
+    }
+
+    /// One dispatcher more, without ends: its place.
+    ///
+    /// # Errors
+    /// Want of memory (E99). The board is as it was then.
+    pub fn add_dispatcher(&mut self) -> Result<usize, AllocError>
+        ensures place { IfOk result (λ n. n ≡ length self.old.dispatchers) }
+        ensures added { OnOk result (self.new ≡ with_dispatcher self.old) }
+        ensures kept { OnErr result (self.new ≡ self.old) }
+    {
+        let place = self.dispatchers.len();
+        let dispatcher = Dispatcher::new(self.alloc)?;
+        let Ok(()) = self.dispatchers.push(dispatcher) else {
+            return Err(AllocError);
+        };
+        Ok(place)
+    }
+
+    /// One end more, at a dispatcher, with a channel there that isn't registered yet: the end's place. An end that is refused
+    /// is dropped. The kind is that of the sides that the end will be lent: it is for the caller to keep the two alike.
+    ///
+    /// # Errors
+    /// The dispatcher has 1,024 ends (E54, see [`Board::ends_at`]); want of memory (E99). The board is as it was then.
+    pub fn add_end(&mut self, dispatcher: usize, end: End, kind: Kind) -> Result<usize, BoardFault>
+        requires { dispatcher < length self.old.dispatchers }
+        ensures adds { Adds self.old dispatcher end kind result self.new }
+    {
+        let place = self.seats.len();
+        let at = &mut self.dispatchers[dispatcher];
+        match make_room(&mut at.ends, &mut self.seats) {
+            Err(fault) => Err(fault),
+            Ok(()) => {
+                let channel = ChanId(at.ends.len() as u16);
+                at.ends.push_reserved(place);
+                self.seats.push_reserved(Seat {
+                    end,
+                    dispatcher,
+                    channel,
+                    kind,
+                });
+                Ok(place)
+            }
+        }
+    }
+
+    /// Takes back the end that was added last, where nothing else has happened since: the board is as it was before. So a
+    /// caller that adds two ends leaves the board as it was where there is no memory for the second.
+    pub fn take_back(&mut self)
+        requires { IsGrown self.old }
+        ensures before { (k : TheBoard) (n : ℕ) (d : TheDispatcher) (s : TheEnd) (kind : Kind) → slice_get k.dispatchers n ≡ Some d → self.old ≡ with_new_end k n d s kind → self.new ≡ k }
+    {
+        let Some(seat) = self.seats.pop() else {
+            unreachable!();
+        };
+        let at = &mut self.dispatchers[seat.dispatcher];
+        at.ends.pop();
+    }
+
+    /// The end at a place.
+    pub fn end(&self, e: usize) -> &End
+        requires { e < length self.now.seats }
+        ensures end { Holds self.now e (λ s. result.now ≡ s.end) }
+    {
+        let seat = &self.seats[e];
+        &seat.end
+    }
+
+    /// Binds an end to a circuit; 0 off links. An end that is bound already stays as it is.
+    pub fn bind(&mut self, e: usize, circuit: Circuit)
+        requires { e < length self.old.seats }
+        ensures binds { ChangesEnd self.old e (λ s t. t ≡ bound s circuit.0) self.new }
+    {
+        let seat = &mut self.seats[e];
+        seat.end.bind(circuit);
+    }
+
+    /// Sets a reply rule at an end ([`End::reply_rule`]).
+    ///
+    /// # Errors
+    /// As the end's: E41, E42. The board is as it was then.
+    pub fn reply_rule(&mut self, e: usize, msg: MsgNo, reply: MsgNo) -> Result<(), EndFault>
+        requires { e < length self.old.seats }
+        ensures sets { ChangesEnd self.old e (λ s t. SetsRule s msg.0 reply.0 result t) self.new }
+        ensures kept { OnErr result (self.new ≡ self.old) }
+    {
+        let seat = &mut self.seats[e];
+        seat.end.reply_rule(msg, reply)
+    }
+
+    /// Makes a call at an end ([`End::call`]).
+    ///
+    /// # Errors
+    /// As the end's, in its order: E41, E42, E43, E64, E40, E99. The board is as it was then.
+    pub fn call(&mut self, e: usize, call: &Call) -> Result<(), EndFault>
+        requires { e < length self.old.seats }
+        ensures calls { ChangesEnd self.old e (λ s t. Calls s (call_of call.now) result t) self.new }
+        ensures kept { OnErr result (self.new ≡ self.old) }
+    {
+        let seat = &mut self.seats[e];
+        seat.end.call(call)
+    }
+
+    /// The fragment that [`Board::write`] would put next ([`End::show`]).
+    ///
+    /// # Errors
+    /// As the end's: E43, E64.
+    pub fn show<P: PutSide>(&self, e: usize, out: &P) -> Result<Option<Frag>, EndFault>
+        requires { e < length self.now.seats }
+        ensures shows { Holds self.now e (λ s. ShowsNext (P.epoch_of out.now) (P.told_of out.now) s.end result) }
+    {
+        let seat = &self.seats[e];
+        seat.end.show(out)
+    }
+
+    /// Puts the next fragment of an end's call in transmission ([`End::write`]). The channel of the end that the fragment
+    /// goes to is triggered by its own core ([`Board::trigger`]). Takes no memory.
+    ///
+    /// # Errors
+    /// As the end's: E43, E64, E33. The board is as it was then.
+    pub fn write<P: PutSide>(&mut self, e: usize, out: &mut P) -> Result<WriteAnswer, EndFault>
+        requires { e < length self.old.seats }
+        ensures writes { ChangesEnd self.old e (λ s t. Writes P.puts s out.old result t out.new) self.new }
+        ensures kept { OnErr result (self.new ≡ self.old) }
+    {
+        let seat = &mut self.seats[e];
+        seat.end.write(out)
+    }
+}
