@@ -1,0 +1,16 @@
+pub mod Given
+pub mod Events
+pub mod Calls
+pub mod SameTypes
+pub mod Rings
+pub mod Ends
+pub mod Waits
+pub mod Monitors
+pub mod State
+pub mod Making
+pub mod Binding
+pub mod Sending
+pub mod Taking
+pub mod Forwarding
+pub mod Step
+pub mod Runs
