@@ -5,7 +5,7 @@ ghost use Rattle.std.specs.List.{list_all};
 ghost use Rattle.fl_check.specs.Interface.{arg_type_of, interface_of, message_of};
 ghost use Rattle.fl_check.specs.Checks.{is_message_within};
 ghost use Rattle.fl_wire.specs.Words.{interface_words_fit, argument_words_fit};
-ghost use Rattle.fl_compile.specs.Codes.{compiled, both_compiled};
+ghost use Rattle.fl_compile.specs.Codes.{compiled_code, both_compiled};
 ghost use Rattle.fl_compile.specs.Programs.{program_of};
 
 use crate::arguments::arguments_code;
@@ -26,7 +26,7 @@ fn compile_message(
 ) -> Result<VerifiedCode, AllocError>
     requires within { is_message_within (message_of message.now) ≡ true }
     requires words { list_all argument_words_fit (map arg_type_of message.now.args.items) ≡ true }
-    ensures code { IfOk result (λ code. code ≡ compiled column plan (message_of message.now)) }
+    ensures code { IfOk result (λ code. code ≡ compiled_code column plan (message_of message.now)) }
 {
     let arguments = in_order(alloc, plan, &message.args)?;
     let ops = arguments_code(alloc, column, &arguments)?;

@@ -48,7 +48,7 @@ impl Program {
     ghost use Rattle.fl_check.specs.Interface.{interface_of};
     ghost use Rattle.fl_wire.specs.Words.{interface_words_fit};
     ghost use Rattle.fl_stub.specs.declared.op.Column.TheVariants.{Send, Receive};
-    ghost use Rattle.fl_compile.specs.Codes.{compiled};
+    ghost use Rattle.fl_compile.specs.Codes.{compiled_code};
     ghost use Rattle.fl_compile.specs.Programs.{program_of};
 
     /// The plan.
@@ -68,7 +68,7 @@ impl Program {
 
     /// The send code of a message; none where the interface has no such message.
     pub fn send_code(&self, msg: MsgNo) -> Option<&VerifiedCode>
-        ensures exact { option_map (λ code. code.now) result ≡ option_map (compiled Send (program_of self.now).plan) (slice_get (program_of self.now).interface.messages msg.0) }
+        ensures exact { option_map (λ code. code.now) result ≡ option_map (compiled_code Send (program_of self.now).plan) (slice_get (program_of self.now).interface.messages msg.0) }
     {
         match self.messages.get(usize::from(msg.0)) {
             Some(message) => Some(&message.send),
@@ -78,7 +78,7 @@ impl Program {
 
     /// The receive code of a message; none where the interface has no such message.
     pub fn receive_code(&self, msg: MsgNo) -> Option<&VerifiedCode>
-        ensures exact { option_map (λ code. code.now) result ≡ option_map (compiled Receive (program_of self.now).plan) (slice_get (program_of self.now).interface.messages msg.0) }
+        ensures exact { option_map (λ code. code.now) result ≡ option_map (compiled_code Receive (program_of self.now).plan) (slice_get (program_of self.now).interface.messages msg.0) }
     {
         match self.messages.get(usize::from(msg.0)) {
             Some(message) => Some(&message.receive),

@@ -23,7 +23,7 @@ use Rattle.fl_stub.specs.declared.op.Column.TheVariants.{Send}
 use Rattle.fl_stub.specs.Code.{TheCode}
 use Rattle.fl_stub.specs.Frames.{block_of}
 use Rattle.fl_stub.specs.Given.{bytes_given}
-use Rattle.fl_compile.specs.Codes.{compiled}
+use Rattle.fl_compile.specs.Codes.{compiled_code}
 use Rattle.fl_compile.specs.Programs.{TheProgram}
 use Rattle.fl_machine.specs.Sending.{TheSending, frag_of, frags_for, frags_holding, frags_left}
 use Rattle.fl_endpoint.specs.View.{are_some}
@@ -80,7 +80,7 @@ none_first (y ∷ ys) e = absurd cc
 
 -- ---- runs
 
-pub code_is : (plan : PlanNo) (o : Option TheMessage) (code : TheCode) → Some code ≡ option_map (compiled Send plan) o → code ≡ code_for plan o
+pub code_is : (plan : PlanNo) (o : Option TheMessage) (code : TheCode) → Some code ≡ option_map (compiled_code Send plan) o → code ≡ code_for plan o
 code_is plan None code e = absurd cc
 code_is plan (Some m) code e = cc
 
@@ -104,7 +104,7 @@ pub code_frags : (circuit : ℕ) (plan : PlanNo) (i : TheInterface) (o : Option 
 code_frags circuit plan i None c law there within words fits =
     absurd (false≢true (subst (λ (o : Option TheMessage). fit_message o c.args ≡ true) (sym there) fits))
 code_frags circuit plan i (Some m) c law there within words fits =
-    law circuit plan i m c (compiled Send plan m) (record { within = within; words = words; message = sym there }) fits refl
+    law circuit plan i m c (compiled_code Send plan m) (record { within = within; words = words; message = sym there }) fits refl
 
 pub known_call : (i : TheInterface) (o : Option TheMessage) (c : TheCall) → o ≡ slice_get i.messages c.msg → fits_of i c ≡ true → IsSome o
 known_call i None c there fits = absurd (false≢true (subst (λ (o : Option TheMessage). fit_message o c.args ≡ true) (sym there) fits))

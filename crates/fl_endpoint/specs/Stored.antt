@@ -11,7 +11,7 @@ use Rattle.fl_stub.specs.declared.op.Column.TheVariants.{Send}
 use Rattle.fl_stub.specs.Code.{TheCode}
 use Rattle.fl_stub.specs.Frames.{block_of}
 use Rattle.fl_stub.specs.Given.{bytes_given}
-use Rattle.fl_compile.specs.Codes.{compiled}
+use Rattle.fl_compile.specs.Codes.{compiled_code}
 use Rattle.fl_compile.specs.Programs.{TheProgram}
 use Rattle.fl_machine.specs.Sending.{frags_for, frags_holding, frags_left, RunsOn}
 use Rattle.fl_endpoint.specs.View.{TheOutgoing}
@@ -22,7 +22,7 @@ use Rattle.fl_endpoint.specs.declared.outgoing.Outgoing.{Outgoing}
 -- the send code of a message; none where there is no such message
 abbrev pub code_for : PlanNo → Option TheMessage → TheCode
 code_for plan None = record { column = Send; ops = [] }
-code_for plan (Some m) = compiled Send plan m
+code_for plan (Some m) = compiled_code Send plan m
 
 abbrev pub code_of : TheProgram → ℕ → TheCode
 code_of program msg = code_for program.plan (slice_get program.interface.messages msg)

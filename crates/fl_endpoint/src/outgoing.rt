@@ -63,7 +63,7 @@ impl Queued {
         ensures queues { IfOk result (λ queued. Queues (program_of program.now) (call_of call.now) queued) }
     {
         sends_fragments();
-        let tape = flatten(alloc, program.interface(), call, program.plan())?;
+        let tape = flatten(alloc, call, program.interface(), program.plan())?;
         Ok(Queued {
             msg: call.msg,
             tape,

@@ -337,7 +337,7 @@ impl RecvRun {
         };
         let tape = &self.stored.tape[..ended.count];
         let interface = self.program.interface();
-        match unflatten(alloc, interface, ended.msg, tape, self.program.plan())? {
+        match unflatten(alloc, ended.msg, tape, interface, self.program.plan())? {
             Some(call) => Ok(call),
             None => unreachable!(),
         }

@@ -11,7 +11,7 @@ use Rattle.fl_stub.specs.Code.{TheCode}
 use Rattle.fl_stub.specs.Frames.{block_of}
 use Rattle.fl_stub.specs.Given.{bytes_given}
 use Rattle.fl_stub.specs.declared.op.Column.TheVariants.{Send}
-use Rattle.fl_compile.specs.Codes.{compiled}
+use Rattle.fl_compile.specs.Codes.{compiled_code}
 use Rattle.fl_compile.specs.Laws.{HasMessage}
 use Rattle.fl_machine.specs.Sending.{frags_holding}
 use Rattle.fl_machine.specs.Laws.{SendsFragments}
@@ -26,22 +26,22 @@ use Rattle.fl_monitor.proofs.Tapes.{tape_is}
 record HasCode (m : Message) (code : TheCode) : Type 0 where
   declared : TheMessage
   has : HasMessage intermon (call_for m).msg declared
-  is : code ≡ compiled Send One declared
+  is : code ≡ compiled_code Send One declared
 
 of_some : (c d : TheCode) → Some c ≡ Some d → c ≡ d
 of_some c d e = cc
 
-has_code : (m : Message) (code : TheCode) → Some code ≡ option_map (compiled Send One) (slice_get intermon.messages (call_for m).msg) → HasCode m code
+has_code : (m : Message) (code : TheCode) → Some code ≡ option_map (compiled_code Send One) (slice_get intermon.messages (call_for m).msg) → HasCode m code
 has_code (OpenCircuit circuit binding service path) code e = record { declared = _; has = record { within = refl; words = refl; message = refl }; is = of_some code _ e }
 has_code (CircuitOpened circuit) code e = record { declared = _; has = record { within = refl; words = refl; message = refl }; is = of_some code _ e }
 has_code (CircuitRefused circuit reason) code e = record { declared = _; has = record { within = refl; words = refl; message = refl }; is = of_some code _ e }
 
 pub written : SendsFragments → (m : Message) → HasWidths m → (i : TheInterface) (plan : PlanNo) (msg : ℕ) (code : TheCode) (tape : List ℕ)
-    → i ≡ intermon → plan ≡ One → msg ≡ (call_for m).msg → Some code ≡ option_map (compiled Send plan) (slice_get i.messages msg) → tape ≡ tape_for m
+    → i ≡ intermon → plan ≡ One → msg ≡ (call_for m).msg → Some code ≡ option_map (compiled_code Send plan) (slice_get i.messages msg) → tape ≡ tape_for m
     → frags_holding true msg 0 (bytes_given (block_of code.ops) tape) ≡ frag_for m ∷ []
 written sends m w i plan msg code tape i_is plan_is msg_is found told =
-    let at : Some code ≡ option_map (compiled Send One) (slice_get intermon.messages (call_for m).msg)
-    = found ∙ (λ k. option_map (compiled Send (plan_is k)) (slice_get (TheInterface.messages (i_is k)) (msg_is k))) in
+    let at : Some code ≡ option_map (compiled_code Send One) (slice_get intermon.messages (call_for m).msg)
+    = found ∙ (λ k. option_map (compiled_code Send (plan_is k)) (slice_get (TheInterface.messages (i_is k)) (msg_is k))) in
     let has = has_code m code at in
     let tape_told : tape ≡ tape_of One intermon (call_for m) = told ∙ sym (tape_is m w) in
     (λ k. frags_holding true (msg_is k) 0 (bytes_given (block_of code.ops) (tape_told k)))
@@ -53,7 +53,7 @@ first_is left f e = ap (λ (fs : List Frag). slice_get fs 0) e
 
 -- the first fragment of the run that was started with a message's tape
 pub peeked : SendsFragments → (m : Message) → HasWidths m → (i : TheInterface) (plan : PlanNo) (msg : ℕ) (code : TheCode) (tape : List ℕ) (left : List Frag)
-    → i ≡ intermon → plan ≡ One → msg ≡ (call_for m).msg → Some code ≡ option_map (compiled Send plan) (slice_get i.messages msg) → tape ≡ tape_for m
+    → i ≡ intermon → plan ≡ One → msg ≡ (call_for m).msg → Some code ≡ option_map (compiled_code Send plan) (slice_get i.messages msg) → tape ≡ tape_for m
     → left ≡ frags_holding true msg 0 (bytes_given (block_of code.ops) tape) → slice_get left 0 ≡ Some (frag_for m)
 peeked sends m w i plan msg code tape left i_is plan_is msg_is found told given =
     first_is left (frag_for m) (given ∙ written sends m w i plan msg code tape i_is plan_is msg_is found told)
