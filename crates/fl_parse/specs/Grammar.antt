@@ -310,6 +310,21 @@ ADeclaration = do
   opening ← One opening_in
   Production opening
 
+-- "interface" NAME [STRING] "{"
+abbrev pub Head : List TheToken → Unit {0} → Type 0
+Head = do
+  Word (codes "interface")
+  name ← AName
+  description ← Optional ADescription
+  TheMark OpenBrace
+
+-- the head of an interface stands first
+pub record HasHead (tokens : List TheToken) : Type 0 where
+  pub head : List TheToken
+  pub rest : List TheToken
+  pub tokens_are : tokens ≡ head ++ rest
+  pub is : Head head tt
+
 -- "interface" NAME [STRING] "{" decl* "}"
 abbrev pub Body : List TheToken → TheTree → Type 0
 Body = do

@@ -27,6 +27,11 @@ abbrev pub Fails : {Y : Type 0} → Stop → Read Y → Type 0
 Fails stops.Memory read = Unit {0}
 Fails (stops.Unexpected rest) read = read ≡ Err (map token_of rest.now)
 
+-- a token stands where it cannot, or the text ends early
+abbrev pub IsUnexpected : Stop → Type 0
+IsUnexpected stops.Memory = ⊥
+IsUnexpected (stops.Unexpected rest) = Unit {0}
+
 abbrev pub Gives : {X Y : Type 0} → (X → Y × List TheToken) → Result X Stop → Read Y → Type 0
 Gives view (Ok x) read = read ≡ Ok (view x)
 Gives view (Err e) read = Fails e read
