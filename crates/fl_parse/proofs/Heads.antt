@@ -1,6 +1,5 @@
 -- The head of an interface, as it is read, and what memory is wanted behind.
 use Rattle.std.proofs.Common.{◌≡◌, ℕ, List, ◌++◌, Option, Ok, Err, Result, refl, sym, ◌∙◌, ap, subst, codes, append_assoc, IfErr}
-use Rattle.std.specs.Result.{IsErrAnd}
 use Rattle.fl_lex.specs.declared.token.Mark.TheVariants.{OpenBrace}
 use Rattle.fl_lex.specs.declared.token.TokenKind.TheVariants as kinds
 use Rattle.fl_lex.specs.Token.{TheToken}
@@ -11,7 +10,7 @@ use Rattle.fl_parse.specs.Tree.{TheName}
 use Rattle.fl_parse.specs.Grammar as Grammar
 use Rattle.fl_parse.specs.Grammar.{Word, AName, Optional, ADescription, TheMark, HasHead, name_in, if_so}
 use Rattle.fl_parse.specs.Parts.{stop_fault}
-use Rattle.fl_parse.specs.Reading.{Read, IsUnexpected, one_at, word_at, mark_at, description_at}
+use Rattle.fl_parse.specs.Reading.{Read, one_at, word_at, mark_at, description_at}
 use Rattle.fl_parse.proofs.Laws.{WasRead, Answers, Reads, Any, one_reads}
 use Rattle.fl_parse.proofs.Lists.{mark_reads, name_reads}
 use Rattle.fl_parse.proofs.Productions.{description_reads}
