@@ -2,7 +2,8 @@
 -- Those of every interface in memory do.
 use Rattle.std.specs.Prelude.{◌^◌, ◌&&◌, nat_le, Bool, true, List}
 use Rattle.std.specs.List.{list_all}
-use Rattle.fl_check.specs.Types.{TheType, scalar, enumeration, structure, array, TheTypes, no_more, field, TheArgType, fixed, text, sized, TheMessage, TheInterface}
+use Rattle.fl_check.specs.Types.{TheType, scalar, enumeration, structure, array, TheTypes, no_more, field, TheArgType, fixed, text, sized, TheMessage}
+use Rattle.fl_check.specs.Types.{TheInterface}
 
 abbrev mutual
   pub words_fit : TheType → Bool

@@ -7,6 +7,7 @@ pub mod Payload
 pub mod Known
 pub mod Places
 pub mod Checks
+pub mod Texts
 pub mod TooLong
 pub mod Faults
 pub mod Views

@@ -1,6 +1,7 @@
 //! Laws of checking.
 
 ghost use Rattle.fl_check.specs.Outcome.{OneOutcome, SomeOutcome};
+ghost use Rattle.fl_check.specs.Texts.{TextsAreSpellable};
 ghost use Rattle.fl_check.specs.TooLong.{RefusesTooLong, AcceptsNoneTooLong};
 
 /// Each tree has an outcome, an interface or its first fault.
@@ -18,4 +19,10 @@ pub fn one_outcome()
 pub fn none_too_long()
     ensures refused { RefusesTooLong }
     ensures accepted { AcceptsNoneTooLong }
+{}
+
+/// The interface that a text stands for has names that are words of at most 64 bytes, and enums of at most 65,535
+/// enumerators, since a text has at most 65,536 bytes. An [`crate::Interface`] made by hand may have others.
+pub fn texts_are_spellable()
+    ensures spellable { TextsAreSpellable }
 {}

@@ -25,7 +25,7 @@ pub use checker::check;
 pub use explained::{Explained, TextFault};
 pub use fault::{CheckFault, Rule};
 pub use interface::{ArgType, FixedType, Interface, Message, Scalar, Word};
-pub use law::{none_too_long, one_outcome, some_outcome};
+pub use law::{none_too_long, one_outcome, some_outcome, texts_are_spellable};
 pub use position::Position;
 pub use same::same_args;
 pub use sizes::greatest_alignment;
