@@ -1,8 +1,8 @@
 -- Why the next fragment can't follow those since the last whole call: its first fault.
-use Rattle.std.specs.Prelude.{◌≡◌, ◌⊎◌, ℕ, ◌+◌, ◌*◌, ◌/◌, ◌%◌, ◌^◌, ◌<◌, ◌==◌, ◌&&◌, not, nat_lt, Bool, true, false, if◌then◌else◌, List, [], ◌∷◌, ◌++◌, length, Option, Some, None}
+use Rattle.std.specs.Prelude.{◌≡◌, ◌⊎◌, ℕ, ◌+◌, ◌*◌, ◌<◌, ◌==◌, ◌&&◌, not, nat_lt, Bool, true, false, if◌then◌else◌, List, [], ◌∷◌, ◌++◌, length, Option, Some, None}
 use Rattle.std.specs.List.{zip}
 use Rattle.fl_base.specs.declared.fragment.Frag.{Frag}
-use Rattle.fl_base.specs.Control.{first_of, message_of, circuit_of}
+use Rattle.fl_base.specs.Control.{first_of, acknowledges_of, reserved_of, message_of, circuit_of}
 use Rattle.fl_check.specs.Interface.{TheInterface}
 use Rattle.fl_value.specs.Value.{TheCall}
 use Rattle.fl_value.specs.Fits.{fits_of}
@@ -37,9 +37,9 @@ pub record WrongByte (plan : PlanNo) (i : TheInterface) (msg : ℕ) (frags : Lis
 
 -- ---- the first fault of a fragment
 
--- bits 2 to 15, and the circuit, are 0
+-- it doesn't acknowledge, and the reserved bits and the circuit are 0
 abbrev pub is_clean : Frag → Bool
-is_clean f = (f.control / 4 % 2 ^ 14 == 0) && (circuit_of f.control == 0)
+is_clean f = not (acknowledges_of f.control) && (reserved_of f.control == 0) && (circuit_of f.control == 0)
 
 -- in order: a reserved bit or a circuit; no first fragment; no such message
 abbrev pub start_fault : TheInterface → Frag → Option WireFault

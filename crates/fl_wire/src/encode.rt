@@ -13,7 +13,7 @@ ghost use Rattle.fl_layout.specs.Places.{size};
 ghost use Rattle.fl_wire.specs.Payload.{payload_bytes, payload_of};
 ghost use Rattle.fl_wire.specs.Widths.{IsAlign, fits_width};
 
-use crate::types::{alignment, arguments_of, is_dynamic};
+use crate::types::{arguments_of, is_dynamic};
 use fl_base::FRAG_BYTES;
 use fl_check::{ArgType, FixedType, Interface};
 use fl_value::{Call, PlanNo, RANKS, Value};
@@ -162,7 +162,7 @@ fn put_fields(out: &mut Vec<u8>, fields: &[FixedType], values: &[Value]) -> Resu
     ensures ok { OnOk result ((before : List Leaf) → out.old.items ≡ payload_bytes before → out.new.items ≡ payload_bytes (fields_onto (fields_from (map type_of fields.now)) (data_from (map datum_of values.now)) before)) }
 {
     for (field, value) in fields.iter().zip(values) {
-        put_value(out, field, alignment(field), value)?;
+        put_value(out, field, field.alignment() as usize, value)?;
     }
     Ok(())
 }
@@ -202,7 +202,7 @@ fn put_sized(out: &mut Vec<u8>, element: &FixedType, values: &[Value]) -> Result
     ensures ok { OnOk result ((before : List Leaf) → out.old.items ≡ payload_bytes before → out.new.items ≡ payload_bytes (elements_onto (type_of element.now) (data_from (map datum_of values.now)) (whole 8 (count_of (data_from (map datum_of values.now))) ∷ before))) }
 {
     put_number(out, 8, values.len() as u64)?;
-    put_elements(out, element, alignment(element), values)
+    put_elements(out, element, element.alignment() as usize, values)
 }
 
 // An argument's leaves, at their places.
@@ -211,7 +211,7 @@ fn put_argument(out: &mut Vec<u8>, ty: &ArgType, value: &Value) -> Result<(), Al
     ensures ok { OnOk result ((before : List Leaf) → out.old.items ≡ payload_bytes before → out.new.items ≡ payload_bytes (argument_onto (arg_type_of ty.now) (datum_of value.now) before)) }
 {
     match ty {
-        ArgType::Fixed(fixed) => put_value(out, fixed, alignment(fixed), value),
+        ArgType::Fixed(fixed) => put_value(out, fixed, fixed.alignment() as usize, value),
         ArgType::Text(_) => match value {
             Value::Text(bytes) => put_text(out, bytes),
             _ => Ok(()),
