@@ -1,5 +1,5 @@
 -- Fragments from their control words and bytes.
-use Rattle.std.proofs.Common.{◌≡◌, ℕ, zero, suc, ◌+◌, ◌*◌, ◌/◌, ◌%◌, ◌^◌, ◌<◌, ◌≤◌, Bool, true, false, List, [], map, length, take, get_or, Some, None, refl, sym, ◌∙◌, ap, subst, arith, eqb, ltb, cond, eq-eqb}
+use Rattle.std.proofs.Common.{◌≡◌, ℕ, zero, suc, ◌+◌, ◌*◌, ◌/◌, ◌%◌, ◌^◌, ◌<◌, ◌≤◌, Bool, true, false, List, [], map, length, take, get_or, Some, None, refl, sym, ◌∙◌, ap, subst, arith, eqb, ltb, cond, ◌&&◌, eq-eqb}
 use Rattle.std.specs.Prelude.{slice_get, slice_index, Option, not}
 use Rattle.std.specs.List.{range_with_len}
 use Rattle.std.specs.Int.{byte_at, to_le_bytes, from_le_bytes, w64}
