@@ -1,38 +1,37 @@
-//! The token or gap at the front of a text, or the fault that stands there.
+//! The token or gap that a text begins with, or the fault that stands there.
 
 ghost use Rattle.std.specs.Prelude.{◌≡◌, ◌<◌, ◌≤◌, ◌+◌, ◌≢◌, length, slice_index, drop, SomeIff, MatchOption, ℕ};
 ghost use Rattle.std.specs.List.{prefix_len};
-ghost use Rattle.fl_lex.specs.Spelling.{is_word_byte, is_digit, is_on_line, is_described, decimal_value, AllBytes};
-ghost use Rattle.fl_lex.specs.Front.{Finds, FirstIs};
+ghost use Rattle.fl_lex.specs.Spelling.{is_on_line, is_described, decimal_value, AllBytes};
+ghost use Rattle.fl_lex.specs.Words.{is_word_byte, is_digit};
+ghost use Rattle.fl_lex.specs.Item.{Finds, FirstIs};
 ghost use Rattle.fl_lex.specs.declared.class.ByteClass.TheVariants.{Letter, Digit, Quote, Slash};
 
-use crate::class::{ByteClass, class_of, is_described, is_digit, is_on_line, is_word_byte};
+use crate::class::{ByteClass, class_of, is_described, is_on_line};
 use crate::fault::LexFault;
 use crate::token::TokenKind;
-
-/// Bytes of the longest word.
-const MAX_WORD: usize = 64;
+use crate::word::{MAX_WORD, is_digit, is_word_byte};
 
 /// The largest number.
 const MAX_NUMBER: u32 = 1_000_000;
 
-/// The front of a text: which token it is, where it isn't a gap, and how many bytes.
+/// What a text begins with: which token it is, where it isn't a gap, and how many bytes.
 #[derive(Clone, Copy)]
 pub(crate) struct Piece {
     pub(crate) kind: Option<TokenKind>,
     pub(crate) length: usize,
 }
 
-/// What stands at the front of a text that isn't empty; `at` is where the front lies.
-pub(crate) fn front(rest: &[u8], at: usize) -> Result<Piece, LexFault>
+/// What a text that isn't empty begins with; `at` is where it lies.
+pub(crate) fn read_item(rest: &[u8], at: usize) -> Result<Piece, LexFault>
     requires { 0 < length rest.now }
     ensures found { Finds rest.now at result }
 {
     match class_of(rest[0]) {
-        ByteClass::Letter => word(rest, at),
-        ByteClass::Digit => number(rest, at),
-        ByteClass::Quote => description(rest, at),
-        ByteClass::Slash => comment(rest, at),
+        ByteClass::Letter => read_word(rest, at),
+        ByteClass::Digit => read_number(rest, at),
+        ByteClass::Quote => read_description(rest, at),
+        ByteClass::Slash => read_comment(rest, at),
         ByteClass::Blank => Ok(Piece {
             kind: None,
             length: 1,
@@ -45,7 +44,7 @@ pub(crate) fn front(rest: &[u8], at: usize) -> Result<Piece, LexFault>
     }
 }
 
-fn word(rest: &[u8], at: usize) -> Result<Piece, LexFault>
+fn read_word(rest: &[u8], at: usize) -> Result<Piece, LexFault>
     requires { FirstIs Letter rest.now }
     ensures found { Finds rest.now at result }
 {
@@ -59,7 +58,7 @@ fn word(rest: &[u8], at: usize) -> Result<Piece, LexFault>
     })
 }
 
-fn number(rest: &[u8], at: usize) -> Result<Piece, LexFault>
+fn read_number(rest: &[u8], at: usize) -> Result<Piece, LexFault>
     requires { FirstIs Digit rest.now }
     ensures found { Finds rest.now at result }
 {
@@ -73,7 +72,7 @@ fn number(rest: &[u8], at: usize) -> Result<Piece, LexFault>
     }
 }
 
-fn description(rest: &[u8], at: usize) -> Result<Piece, LexFault>
+fn read_description(rest: &[u8], at: usize) -> Result<Piece, LexFault>
     requires { FirstIs Quote rest.now }
     ensures found { Finds rest.now at result }
 {
@@ -88,7 +87,7 @@ fn description(rest: &[u8], at: usize) -> Result<Piece, LexFault>
     Err(LexFault::OpenDescription(at))
 }
 
-fn comment(rest: &[u8], at: usize) -> Result<Piece, LexFault>
+fn read_comment(rest: &[u8], at: usize) -> Result<Piece, LexFault>
     requires { FirstIs Slash rest.now }
     ensures found { Finds rest.now at result }
 {

@@ -1,6 +1,6 @@
 use Rattle.std.proofs.Common.{◌≡◌, ◌+◌, ◌*◌, ◌^◌, ◌≤◌, length, drop}
 use Rattle.fl_lex.specs.Spelling.{decimal_value}
-use Rattle.fl_lex.proofs.front.value_of.Given as goal
+use Rattle.fl_lex.proofs.item.value_of.Given as goal
 
 abbrev pub invariant-loop-digit : goal.invariant-loop-digit
 invariant-loop-digit l = record {

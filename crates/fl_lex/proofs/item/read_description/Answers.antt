@@ -1,7 +1,7 @@
 use Rattle.std.proofs.Common.{refl, arith}
 use Rattle.fl_lex.proofs.Cuts.{described_cuts, described_open}
-use Rattle.fl_lex.proofs.front.description.Goals as goal
-use Rattle.fl_lex.proofs.front.description.Goals.{else-inside-more-via-then-inside-more+else-more-inside-eq34, else-inside-more-via-else-inside-more}
+use Rattle.fl_lex.proofs.item.read_description.Goals as goal
+use Rattle.fl_lex.proofs.item.read_description.Goals.{else-inside-more-via-then-inside-more+else-more-inside-eq34, else-inside-more-via-else-inside-more}
 
 pub returns-then-more-inside-eq34 : goal.returns-then-more-inside-eq34
 returns-then-more-inside-eq34 c = record { found = described_cuts _ _ _ c.after-more.ensures.rest c.requires c.described_len-inside.ensures.count c.if-inside-more.true c.if-more-inside-eq34.true }

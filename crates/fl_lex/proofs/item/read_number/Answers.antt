@@ -1,6 +1,6 @@
 use Rattle.std.proofs.Common.{refl}
 use Rattle.fl_lex.proofs.Cuts.{number_all, number_cuts, number_too_large}
-use Rattle.fl_lex.proofs.front.number.Goals as goal
+use Rattle.fl_lex.proofs.item.read_number.Goals as goal
 
 pub value_of-requires : goal.value_of-requires
 value_of-requires c = number_all _ _ c.digits_len-length.ensures.count

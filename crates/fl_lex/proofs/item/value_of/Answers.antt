@@ -1,5 +1,5 @@
 use Rattle.fl_lex.proofs.Cuts.{digit_at, one_more_digit, large_so_far}
-use Rattle.fl_lex.proofs.front.value_of.Goals as goal
+use Rattle.fl_lex.proofs.item.value_of.Goals as goal
 
 pub overflow_sub-digit : goal.overflow_sub-digit
 overflow_sub-digit c = (digit_at _ _ c.loop-digit-test.true c.requires).0

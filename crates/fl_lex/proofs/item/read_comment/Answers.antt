@@ -1,6 +1,6 @@
 use Rattle.std.proofs.Common.{refl, sym, ◌∙◌}
 use Rattle.fl_lex.proofs.Cuts.{line_cuts, block_cuts, block_open}
-use Rattle.fl_lex.proofs.front.comment.Goals as goal
+use Rattle.fl_lex.proofs.item.read_comment.Goals as goal
 
 pub returns-in-Some-eq47 : goal.returns-in-Some-eq47
 returns-in-Some-eq47 c =

@@ -1,9 +1,9 @@
--- What reading the front of a text finds: an item, or the flaw that stands there.
+-- A working file: what reading the beginning of a text finds, an item, or the flaw that stands there.
 use Rattle.std.specs.Prelude.{◌≡◌, ℕ, ◌<◌, ◌≤◌, List, [], ◌∷◌, take, drop, length, Option, Some, None, Result, Ok, Err}
 use Rattle.fl_lex.specs.Spelling.{class_of, Item, gap, token, Begins}
 use Rattle.fl_lex.specs.Outcome.{KindFits, Stands, no_token, open_comment, open_description, long_word, large_number}
 use Rattle.fl_lex.specs.declared.token.TokenKind.{TokenKind}
-use Rattle.fl_lex.specs.declared.front.Piece.{Piece}
+use Rattle.fl_lex.specs.declared.item.Piece.{Piece}
 use Rattle.fl_lex.specs.declared.class.ByteClass.{ByteClass}
 use Rattle.fl_lex.specs.declared.fault.LexFault.{LexFault}
 use Rattle.fl_lex.specs.declared.fault.LexFault.TheVariants as faults
@@ -30,7 +30,7 @@ pub record Cuts (text : List ℕ) (item : Item) (count : ℕ) : Type 0 where
   pub begins : Begins text item (take count text) (drop count text)
   pub fits : ItemFits item (take count text)
 
--- the flaw that the fault names stands at the front of the text, which lies at this offset
+-- the flaw that the fault names stands at the beginning of the text, which lies at this offset
 abbrev pub FlawAt : LexFault → ℕ → List ℕ → Type 0
 FlawAt (faults.NoToken place) at text = (place ≡ at) × Stands no_token text
 FlawAt (faults.OpenComment place) at text = (place ≡ at) × Stands open_comment text
@@ -40,7 +40,7 @@ FlawAt (faults.LargeNumber place) at text = (place ≡ at) × Stands large_numbe
 FlawAt faults.LongText at text = ⊥
 FlawAt faults.Memory at text = ⊥
 
--- what reading the front of a text, which lies at this offset, answers
+-- what reading the beginning of a text, which lies at this offset, answers
 abbrev pub Finds : List ℕ → ℕ → Result Piece LexFault → Type 0
 Finds text at (Ok piece) = Cuts text (item_of piece.kind) piece.length
 Finds text at (Err fault) = FlawAt fault at text
