@@ -8,7 +8,7 @@ use Rattle.fl_check.specs.Interface.{TheInterface}
 use Rattle.fl_value.specs.Value.{TheCall}
 use Rattle.fl_value.specs.Fits.{fits_of}
 use Rattle.fl_value.specs.declared.value.PlanNo.{PlanNo}
-use Rattle.fl_wire.specs.Words.{interface_words_fit}
+use Rattle.fl_check.specs.Counts.{interface_words_fit}
 use Rattle.fl_layout.specs.Places.{count}
 use Rattle.fl_wire.specs.Payload.{frags_of, frags_on}
 

@@ -7,11 +7,9 @@ ghost use Rattle.fl_value.specs.Value.{call_of};
 ghost use Rattle.fl_wire.specs.Reading.{ReadsLeaving, IsPart, IsWrong};
 ghost use Rattle.fl_wire.specs.Wrong.{start_fault, follow_fault, IsWrongAt, BeginsWell, IsFirstFault};
 ghost use Rattle.fl_wire.specs.Headers.{Group, StandsFirst};
-ghost use Rattle.fl_wire.specs.Words.{interface_words_fit};
 ghost use Rattle.fl_wire.specs.declared.fault.WireFault.{WireFault as TheFault};
 ghost use Rattle.fl_wire.specs.declared.fault.WireFault.TheVariants.{Memory};
 
-use crate::bounds::numbers_fit_words;
 use crate::call::read_whole;
 use crate::fault::WireFault;
 use crate::header::{following, is_line, start_fault};
@@ -74,7 +72,6 @@ fn next_call(
     frags: &[Frag],
 ) -> Result<Option<(Call, usize)>, WireFault>
     requires some { 0 < length frags.now }
-    requires words { interface_words_fit (interface_of interface.now) ≡ true }
     ensures call { IfOk result (λ found. IfSome found (λ r. StandsFirst plan (interface_of interface.now) frags.now (call_of r.0) r.1)) }
     ensures part { IfOk result (λ found. found ≡ None → IsPart plan (interface_of interface.now) frags.now) }
     ensures begins { IfOk result (λ found. BeginsWell (interface_of interface.now) frags.now) }
@@ -97,7 +94,7 @@ fn next_call(
 }
 
 /// The calls that fragments mean, and how many fragments are left at the end: none, or some of the first of
-/// another call. Epochs and the counts told aren't looked at. It takes time linear in the fragments and the interface.
+/// another call. Epochs and the counts told aren't looked at. It takes time linear in the fragments, and in the types of the messages that they name.
 ///
 /// # Errors
 /// The first fault of the first fragment that makes the list one that no calls' fragments begin with: a
@@ -115,7 +112,6 @@ pub fn read_frags(
     ensures right { IfOk result (λ r. IsWrong plan (interface_of interface.now) frags.now → ⊥) }
     ensures wrong { IfErr result (IsFirstFault plan (interface_of interface.now) frags.now) }
 {
-    numbers_fit_words(interface);
     let mut calls = Vec::new(alloc);
     let mut left = frags;
     while !left.is_empty() {

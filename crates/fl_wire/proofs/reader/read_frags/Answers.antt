@@ -15,7 +15,7 @@ pub returns-in_err-call-clause-wrong : goal.returns-in_err-call-clause-wrong
 returns-in_err-call-clause-wrong c =
     let p = err_from_is_err_and c.from_residual.result c.from_residual.ensures.1 in
     let i = interface_of c.args.interface.now in
-    rw (p.1, p.2) (wrong_left c.args.plan i c.args.frags.now (map call_of c.loop-alloc.calls.items) c.loop-alloc.left.now c.in_err-call.field-0.0 c.numbers_fit_words.ensures.fit c.loop-alloc.invariant c.in_err-call.ensures.wrong)
+    rw (p.1, p.2) (wrong_left c.args.plan i c.args.frags.now (map call_of c.loop-alloc.calls.items) c.loop-alloc.left.now c.in_err-call.field-0.0 c.args.interface.now.counted c.loop-alloc.invariant c.in_err-call.ensures.wrong)
 
 pub returns-in_err-push-in-Some-clause-wrong : goal.returns-in_err-push-in-Some-clause-wrong
 returns-in_err-push-in-Some-clause-wrong c =
