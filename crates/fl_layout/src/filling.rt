@@ -4,7 +4,8 @@ ghost use Rattle.std.specs.Prelude.{◌≡◌, pos, ◌<◌, ◌≤◌, ◌+◌,
 ghost use Rattle.std.specs.List.{list_all};
 ghost use Rattle.fl_layout.specs.declared.extent.Fill.TheVariants.{Full};
 ghost use Rattle.fl_value.specs.Value.{number, datum_of};
-ghost use Rattle.fl_layout.specs.Extents.{start_of, end_of, end_of_all, due_after, count_by, count_in, count_at, filled_up, filled_by, numbers_in, numbers_in_all, most_of, is_within, are_within, is_short, extent_among, start_among};
+ghost use Rattle.fl_layout.specs.Extents.{start_of, end_of, end_of_all, due_after, count_by, count_in, count_at, filled_up, filled_by};
+ghost use Rattle.fl_layout.specs.Extents.{numbers_in, numbers_in_all, most_of, is_within, are_within, is_short, extent_among, start_among};
 
 use crate::extent::{Extent, Fill, Placed};
 use fl_value::Value;

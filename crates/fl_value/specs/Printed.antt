@@ -1,13 +1,15 @@
 -- How a call is printed: one text for each call.
-use Rattle.std.specs.Prelude.{ℕ, ℤ, pos, negsuc, ◌+◌, ◌/◌, ◌%◌, ◌^◌, ◌==◌, ◌&&◌, nat_lt, nat_le, Bool, true, if◌then◌else◌, List, [], ◌∷◌, ◌++◌, Some, slice_get, ◌≡◌}
+use Rattle.std.specs.Prelude.{ℕ, ℤ, pos, negsuc, ◌+◌, ◌/◌, ◌%◌, ◌^◌, ◌==◌, ◌≤◌, ◌&&◌, nat_lt, nat_le, Bool, true, if◌then◌else◌}
+use Rattle.std.specs.Prelude.{List, [], ◌∷◌, ◌++◌, Ok, Some, slice_get, ◌≡◌}
 use Rattle.std.specs.List.{flat_map, list_all}
 use Rattle.std.specs.Char.{digit_char}
 use Rattle.std.specs.Fmt.{signed_decimal}
 use Rattle.fl_check.specs.Interface.{TheMessage, TheInterface}
 use Rattle.fl_check.specs.Checks.{is_within_limits}
 use Rattle.fl_check.specs.Counts.{interface_words_fit}
-use Rattle.fl_value.specs.CallText.{IsWord}
+use Rattle.fl_value.specs.CallText.{IsWord, SpellsCall, greatest_depth}
 use Rattle.fl_value.specs.Fits.{fits_of}
+use Rattle.fl_value.specs.Resolve.{ComesTo}
 use Rattle.fl_value.specs.Value.{TheCall, Datum, number, string, elements, fields, Data, nothing_more, also, data_from}
 
 -- bytes 32 to 126 as they are, but `\"` and `\\`; all others as `\x` and two lower-case digits
@@ -73,3 +75,14 @@ pub record HasText (i : TheInterface) (m : TheMessage) (c : TheCall) : Type 0 wh
   pub fits : fits_of i c ≡ true
   pub message : slice_get i.messages c.msg ≡ Some m
   pub word : IsWord m.name
+
+-- ---- laws
+
+-- what is printed of a name and values reads as these: the name a word, numbers of at most 20 digits, nested at most 20 deep
+abbrev pub PrintedReads : Type 0
+PrintedReads = (name : List ℕ) (values : List Datum) → IsWord name → are_printable (data_from values) ≡ true
+    → greatest_depth (data_from values) ≤ 20 → SpellsCall (printed_call name values) name values
+
+-- what is printed of a call that an interface prints is that call there
+abbrev pub PrintedCallReads : Type 0
+PrintedCallReads = (i : TheInterface) (m : TheMessage) (c : TheCall) → HasText i m c → ComesTo i (printed_call m.name c.args) (Ok c)

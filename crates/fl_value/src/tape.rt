@@ -1,14 +1,14 @@
 //! A call as the tape that stub code runs on: its scalars' bits and its lengths, one number after
 //! another, in the plan's order of arguments.
 
-ghost use Rattle.std.specs.Prelude.{◌≡◌, ◌++◌, ◌==◌, ◌≤◌, ◌%◌, ◌^◌, ◌-◌, length, map, filter, IfOk, OnOk, pos};
-ghost use Rattle.std.specs.List.{zip, flat_map};
+ghost use Rattle.std.specs.Prelude.{◌≡◌, ◌++◌, ◌≤◌, ◌%◌, ◌-◌, map, IfOk, OnOk};
+ghost use Rattle.std.specs.List.{flat_map};
 ghost use Rattle.fl_check.specs.Interface.{type_of, arg_type_of, fields_from, interface_of};
-ghost use Rattle.fl_check.specs.Sizes.{scalar_size, align_of, greatest_align};
 ghost use Rattle.fl_value.specs.Value.{datum_of, data_from, call_of};
-ghost use Rattle.fl_value.specs.Fits.{count_of, scalar_bits};
+ghost use Rattle.fl_value.specs.Fits.{count_of};
 ghost use Rattle.fl_value.specs.Plan.{arranged, rank_of, by_ranks};
-ghost use Rattle.fl_value.specs.Tape.{raw_of, value_tape, fields_tape, elements_tape, argument_tape, tape_of_argument, kind, rank_tape, tape_of};
+ghost use Rattle.fl_value.specs.Tape.{raw_of, value_tape, fields_tape, elements_tape, argument_tape};
+ghost use Rattle.fl_value.specs.Tape.{tape_of_argument, beside, kind, rank_tape, tape_of};
 
 use crate::order::RANKS;
 use crate::value::{Call, PlanNo, Value};
@@ -141,7 +141,7 @@ fn push_rank(
     arguments: &[ArgType],
     values: &[Value],
 ) -> Result<(), AllocError>
-    ensures tape { OnOk result (tape.new.items ≡ tape.old.items ++ rank_tape plan rank (zip (map arg_type_of arguments.now) (map datum_of values.now))) }
+    ensures tape { OnOk result (tape.new.items ≡ tape.old.items ++ rank_tape plan rank (beside arguments.now values.now)) }
 {
     for (index, argument) in arguments.iter().enumerate() {
         let Some(value) = values.get(index) else {
@@ -161,7 +161,7 @@ fn push_ranks(
     arguments: &[ArgType],
     values: &[Value],
 ) -> Result<(), AllocError>
-    ensures tape { OnOk result (tape.new.items ≡ tape.old.items ++ flat_map tape_of_argument (by_ranks kind PlanNo.Two (zip (map arg_type_of arguments.now) (map datum_of values.now)))) }
+    ensures tape { OnOk result (tape.new.items ≡ tape.old.items ++ flat_map tape_of_argument (by_ranks kind PlanNo.Two (beside arguments.now values.now))) }
 {
     for rank in 0..RANKS {
         push_rank(tape, PlanNo::Two, rank, arguments, values)?;
@@ -176,7 +176,7 @@ fn push_arguments(
     arguments: &[ArgType],
     values: &[Value],
 ) -> Result<(), AllocError>
-    ensures tape { OnOk result (tape.new.items ≡ tape.old.items ++ flat_map tape_of_argument (arranged kind plan (zip (map arg_type_of arguments.now) (map datum_of values.now)))) }
+    ensures tape { OnOk result (tape.new.items ≡ tape.old.items ++ flat_map tape_of_argument (arranged kind plan (beside arguments.now values.now))) }
 {
     match plan {
         PlanNo::One => push_rank(tape, plan, 0, arguments, values),

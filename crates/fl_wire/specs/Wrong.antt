@@ -1,5 +1,6 @@
 -- Why the next fragment can't follow those since the last whole call: its first fault.
-use Rattle.std.specs.Prelude.{◌≡◌, ◌⊎◌, ℕ, ◌+◌, ◌*◌, ◌<◌, ◌==◌, ◌&&◌, not, nat_lt, Bool, true, false, if◌then◌else◌, List, [], ◌∷◌, ◌++◌, length, slice_get, Option, Some, None}
+use Rattle.std.specs.Prelude.{◌≡◌, ◌⊎◌, ℕ, ◌+◌, ◌*◌, ◌<◌, ◌==◌, ◌&&◌, not, nat_lt, Bool, true}
+use Rattle.std.specs.Prelude.{false, if◌then◌else◌, List, [], ◌∷◌, ◌++◌, length, slice_get, Option, Some, None}
 use Rattle.std.specs.List.{zip}
 use Rattle.fl_base.specs.declared.fragment.Frag.{Frag}
 use Rattle.fl_base.specs.Control.{first_of, acknowledges_of, reserved_of, message_of, circuit_of}
@@ -94,6 +95,10 @@ pub record BeginsAfterCalls (plan : PlanNo) (i : TheInterface) (frags : List Fra
   pub calls : List TheCall
   pub reads : Reads plan i before calls []
   pub begins : BeginsWell i rest
+
+-- a fault of the fragments of the next call: want of memory comes only after the control word of the first
+abbrev pub IsNextFault : PlanNo → TheInterface → List Frag → WireFault → Type 0
+IsNextFault plan i frags fault = ((fault ≡ Memory) × BeginsWell i frags) ⊎ IsWrongAt plan i frags fault
 
 -- a fault of fragments: want of memory comes only after whole calls and the control word of the fragment behind them
 abbrev pub IsFirstFault : PlanNo → TheInterface → List Frag → WireFault → Type 0

@@ -1,13 +1,11 @@
 //! One leaf of a payload from the bytes of fragments, and the zeros before it.
 
-ghost use Rattle.std.specs.Prelude.{◌≡◌, ◌≢◌, ℕ, ◌+◌, ◌-◌, ◌*◌, ◌/◌, ◌%◌, ◌^◌, ◌<◌, ◌≤◌, ◌⊎◌, nat_lt, Bool, List, map, length, slice_index, if◌then◌else◌, IfOk, IfErr};
+ghost use Rattle.std.specs.Prelude.{◌≡◌, ℕ, ◌+◌, ◌-◌, ◌*◌, ◌/◌, ◌%◌, ◌^◌, ◌<◌, ◌≤◌, ◌⊎◌, nat_lt, map, length, if◌then◌else◌, IfOk, IfErr};
 ghost use Rattle.std.specs.List.{range_with_len};
 ghost use Rattle.std.specs.Int.{from_le_bytes, w64, byte_at};
 ghost use Rattle.fl_check.specs.Sizes.{round_up};
-ghost use Rattle.fl_layout.specs.Leaves.{Leaf};
-ghost use Rattle.fl_layout.specs.Places.{size};
 ghost use Rattle.fl_wire.specs.Standing.{FirstNonzero, byte_in, word_in};
-ghost use Rattle.fl_wire.specs.Shapes.{Agrees, Got, Stops, padding, number_in, number_below, ReadAt, StopsAt};
+ghost use Rattle.fl_wire.specs.Shapes.{StopsNumber, padding, number_below, ReadAt, StopsAt};
 ghost use Rattle.fl_wire.specs.declared.leaf.Stop.TheVariants.{Padding, Memory};
 
 use fl_base::{FRAG_BYTES, Frag};
@@ -134,7 +132,7 @@ pub(crate) fn read_number(frags: &[Frag], at: usize, width: usize) -> Result<(u6
     ensures within { IfOk result (λ r. r.1 ≤ 56 * length frags.now) }
     ensures later { IfOk result (λ r. at < r.1) }
     ensures read { IfOk result (λ r. ReadAt (number_below width (2 ^ (8 * width))) frags.now at r.0 r.1) }
-    ensures stop { IfErr result (λ stop. (of_length : Bool) (bound : ℕ) → bound ≤ 2 ^ (8 * width) → StopsAt stop (number_in of_length width bound) frags.now at) }
+    ensures stop { IfErr result (λ stop. StopsNumber stop width frags.now at) }
 {
     let place = skip(frags, at, width)?;
     let end = place + width;

@@ -1,11 +1,11 @@
 //! Calls and a rest from a list of fragments, or its first fault.
 
-ghost use Rattle.std.specs.Prelude.{◌≡◌, ◌≢◌, ◌⊎◌, ◌+◌, ◌<◌, ◌≤◌, true, map, length, take, slice_get, IfOk, IfErr, IfSome, Some, None};
+ghost use Rattle.std.specs.Prelude.{◌≡◌, ◌+◌, ◌<◌, ◌≤◌, map, length, take, slice_get, IfOk, IfErr, IfSome, Some, None};
 ghost use Rattle.fl_base.specs.declared.fragment.Frag.{Frag as TheFrag};
 ghost use Rattle.fl_check.specs.Interface.{interface_of};
 ghost use Rattle.fl_value.specs.Value.{call_of};
 ghost use Rattle.fl_wire.specs.Reading.{ReadsLeaving, IsPart, IsWrong};
-ghost use Rattle.fl_wire.specs.Wrong.{start_fault, follow_fault, IsWrongAt, BeginsWell, IsFirstFault};
+ghost use Rattle.fl_wire.specs.Wrong.{start_fault, follow_fault, BeginsWell, IsNextFault, IsFirstFault};
 ghost use Rattle.fl_wire.specs.Headers.{Group, StandsFirst};
 ghost use Rattle.fl_wire.specs.declared.fault.WireFault.{WireFault as TheFault};
 ghost use Rattle.fl_wire.specs.declared.fault.WireFault.TheVariants.{Memory};
@@ -75,7 +75,7 @@ fn next_call(
     ensures call { IfOk result (λ found. IfSome found (λ r. StandsFirst plan (interface_of interface.now) frags.now (call_of r.0) r.1)) }
     ensures part { IfOk result (λ found. found ≡ None → IsPart plan (interface_of interface.now) frags.now) }
     ensures begins { IfOk result (λ found. BeginsWell (interface_of interface.now) frags.now) }
-    ensures wrong { IfErr result (λ fault. ((fault ≡ Memory) × BeginsWell (interface_of interface.now) frags.now) ⊎ IsWrongAt plan (interface_of interface.now) frags.now fault) }
+    ensures wrong { IfErr result (IsNextFault plan (interface_of interface.now) frags.now) }
 {
     let front = front_of(interface, frags)?;
     let msg = front.msg;

@@ -1,6 +1,6 @@
 //! The types of a message's arguments.
 
-ghost use Rattle.std.specs.Prelude.{◌≡◌, ℕ, true, map};
+ghost use Rattle.std.specs.Prelude.{◌≡◌, true, map};
 ghost use Rattle.fl_check.specs.Interface.{arg_type_of, interface_of};
 ghost use Rattle.fl_layout.specs.Leaves.{argument_types};
 ghost use Rattle.fl_value.specs.Plan.{is_dynamic};

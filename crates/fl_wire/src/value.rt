@@ -1,6 +1,6 @@
 //! Values from the bytes of fragments.
 
-ghost use Rattle.std.specs.Prelude.{◌≡◌, ℕ, ◌+◌, ◌*◌, ◌^◌, ◌<◌, ◌≤◌, map, length, IfOk, IfErr, ◌/◌, ◌%◌};
+ghost use Rattle.std.specs.Prelude.{◌≡◌, ◌+◌, ◌*◌, ◌<◌, ◌≤◌, map, length, IfOk, IfErr, ◌/◌, ◌%◌};
 ghost use Rattle.fl_check.specs.Interface.{scalar, enumeration, fixed, type_of, arg_type_of, fields_from};
 ghost use Rattle.fl_value.specs.Value.{number, string, elements, fields, datum_of, data_from};
 ghost use Rattle.fl_value.specs.Fits.{least_above, how_many_below};
