@@ -1,5 +1,6 @@
 -- Where an argument begins in a call's payload, and how long a message's payloads and tapes may be.
-use Rattle.std.specs.Prelude.{◌≡◌, ℕ, ◌==◌, ◌≤◌, ◌&&◌, Bool, true, false, not, if◌then◌else◌, nat_lt, List, [], ◌∷◌, map, length, slice_get, Option, Some, None}
+use Rattle.std.specs.Prelude.{◌≡◌, ℕ, ◌==◌, ◌≤◌, ◌&&◌, Bool, true, false, not, if◌then◌else◌}
+use Rattle.std.specs.Prelude.{nat_lt, List, [], ◌∷◌, map, length, slice_get, Option, Some, None}
 use Rattle.std.specs.List.{zip, list_any}
 use Rattle.fl_check.specs.Interface.{TheArgType, fixed, text, sized, TheInterface}
 use Rattle.fl_check.specs.Sizes.{align_of, size_of, round_up}

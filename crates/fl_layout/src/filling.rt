@@ -3,9 +3,9 @@
 ghost use Rattle.std.specs.Prelude.{◌≡◌, pos, ◌<◌, ◌≤◌, ◌+◌, ◌*◌, ◌^◌, map, length, get_or, true};
 ghost use Rattle.std.specs.List.{list_all};
 ghost use Rattle.fl_layout.specs.declared.extent.Fill.TheVariants.{Full};
-ghost use Rattle.fl_check.specs.Sizes.{round_up};
 ghost use Rattle.fl_value.specs.Value.{number, datum_of};
-ghost use Rattle.fl_layout.specs.Extents.{start_of, end_of, end_of_all, due_after, count_by, count_in, count_at, filled_up, filled_by, numbers_in, numbers_in_all, most_of, is_within, are_within, is_short, extent_among, start_among};
+ghost use Rattle.fl_layout.specs.Extents.{start_of, end_of, end_of_all, due_after, count_by, count_in, count_at, filled_up, filled_by};
+ghost use Rattle.fl_layout.specs.Extents.{numbers_in, numbers_in_all, most_of, is_within, are_within, is_short, extent_among, start_among};
 
 use crate::extent::{Extent, Fill, Placed};
 use fl_value::Value;
@@ -15,17 +15,6 @@ use fl_value::Value;
 struct End {
     at: usize,
     due: usize,
-}
-
-// The next multiple of an alignment.
-fn next_multiple(n: usize, align: usize) -> usize
-    requires some { 0 < align }
-    requires few { align ≤ 8 }
-    requires fits { n < 2 ^ 60 }
-    ensures exact { result ≡ round_up n align }
-    ensures near { result ≤ n + 8 }
-{
-    n + (align - n % align) % align
 }
 
 impl End {
@@ -38,8 +27,8 @@ impl End {
         ensures start { result ≡ start_of self.at self.due extent }
     {
         match extent {
-            Extent::Fixed { align, .. } => next_multiple(self.at, self.due.max(align as usize)),
-            _ => next_multiple(self.at, 8),
+            Extent::Fixed { align, .. } => self.at.next_multiple_of(self.due.max(align as usize)),
+            _ => self.at.next_multiple_of(8),
         }
     }
 
@@ -58,15 +47,15 @@ impl End {
     {
         match extent {
             Extent::Fixed { size, align, .. } => End {
-                at: next_multiple(self.at, self.due.max(align as usize)) + size as usize,
+                at: self.at.next_multiple_of(self.due.max(align as usize)) + size as usize,
                 due: 1,
             },
             Extent::Text { .. } => End {
-                at: next_multiple(self.at, 8) + (8 + count),
+                at: self.at.next_multiple_of(8) + (8 + count),
                 due: 8,
             },
             Extent::Sized { stride, .. } => End {
-                at: next_multiple(self.at, 8) + (8 + count * stride as usize),
+                at: self.at.next_multiple_of(8) + (8 + count * stride as usize),
                 due: 8,
             },
         }

@@ -1,6 +1,7 @@
 -- Calls as text: `name(v, v)`. What stands where is said by two places of a text, each told by the
 -- bytes from there on: something stands from `bytes` up to `rest`.
-use Rattle.std.specs.Prelude.{◌≡◌, ℕ, ℤ, pos, ◌+◌, ◌*◌, ◌<◌, ◌≤◌, ◌==◌, ◌&&◌, ◌||◌, nat_lt, nat_le, max, not, Bool, true, false, List, [], ◌∷◌, ◌++◌, length}
+use Rattle.std.specs.Prelude.{◌≡◌, ℕ, ℤ, pos, ◌+◌, ◌*◌, ◌<◌, ◌≤◌, ◌==◌, ◌&&◌, ◌||◌, nat_lt}
+use Rattle.std.specs.Prelude.{nat_le, max, not, Bool, true, false, List, [], ◌∷◌, ◌++◌, length}
 use Rattle.std.proofs.Common.{neg_ℤ}
 use Rattle.std.specs.List.{list_all}
 use Rattle.std.specs.Char.{digit_value}
@@ -97,8 +98,10 @@ abbrev mutual
   pub SpellsValue : Datum → List ℕ → List ℕ → Type 0
   SpellsValue (number z) bytes rest = Token (a_number z) bytes rest
   SpellsValue (string s) bytes rest = Token (a_text s) bytes rest
-  SpellsValue (elements ds) bytes rest = (inside : List ℕ) × (last : List ℕ) × Token (a_mark 91) bytes inside × SpellsValues ds inside last × Token (a_mark 93) last rest
-  SpellsValue (fields ds) bytes rest = (inside : List ℕ) × (last : List ℕ) × Token (a_mark 123) bytes inside × SpellsValues ds inside last × Token (a_mark 125) last rest
+  SpellsValue (elements ds) bytes rest =
+      (inside : List ℕ) × (last : List ℕ) × Token (a_mark 91) bytes inside × SpellsValues ds inside last × Token (a_mark 93) last rest
+  SpellsValue (fields ds) bytes rest =
+      (inside : List ℕ) × (last : List ℕ) × Token (a_mark 123) bytes inside × SpellsValues ds inside last × Token (a_mark 125) last rest
 
   -- values with a comma between any two
   pub SpellsValues : Data → List ℕ → List ℕ → Type 0
@@ -147,4 +150,16 @@ Listed closing ds bytes rest = (last : List ℕ) × SpellsValues ds bytes last �
 
 -- values between an opening and a closing mark
 abbrev pub Enclosed : ℕ → ℕ → Data → List ℕ → List ℕ → Type 0
-Enclosed opening closing ds bytes rest = (inside : List ℕ) × (last : List ℕ) × Token (a_mark opening) bytes inside × SpellsValues ds inside last × Token (a_mark closing) last rest
+Enclosed opening closing ds bytes rest =
+    (inside : List ℕ) × (last : List ℕ) × Token (a_mark opening) bytes inside × SpellsValues ds inside last × Token (a_mark closing) last rest
+
+-- no values stand so that nest less deep
+abbrev pub NoneEnclosed : ℕ → ℕ → ℕ → List ℕ → Type 0
+NoneEnclosed opening closing depth bytes = (ds : Data) (rest : List ℕ) → 1 + greatest_depth ds ≤ depth → Enclosed opening closing ds bytes rest → ⊥
+
+-- ---- the law of one reading
+
+-- a text spells at most one name and one list of values
+abbrev pub OneSpelling : Type 0
+OneSpelling = (bytes one other : List ℕ) (values others : List Datum) → SpellsCall bytes one values → SpellsCall bytes other others
+    → (one ≡ other) × (values ≡ others)

@@ -1,14 +1,18 @@
 -- What stands at the front of a tape: a value, an argument, or several of them one after another; and which
 -- call has a tape.
-use Rattle.std.specs.Prelude.{◌≡◌, ◌≤◌, ℕ, ℤ, pos, negsuc, ◌-◌, ◌*◌, nat_lt, Bool, true, if◌then◌else◌, List, [], ◌∷◌, ◌++◌, length, Option, Some, None}
+use Rattle.std.specs.Prelude.{◌≡◌, ◌≤◌, ℕ, ℤ, pos, negsuc, ◌-◌, ◌*◌, nat_lt, true, if◌then◌else◌, List, [], ◌∷◌, ◌++◌, map, length, Option, Some, None}
 use Rattle.std.specs.List.{list_all}
 use Rattle.fl_check.specs.declared.interface.Scalar.{Scalar}
-use Rattle.fl_check.specs.Interface.{TheType, TheArgType, TheMessage, TheInterface}
+use Rattle.fl_check.specs.Interface.{TheType, TheArgType, TheInterface}
+use Rattle.fl_check.specs.declared.interface.ArgType.{ArgType}
+use Rattle.fl_check.specs.Interface.{arg_type_of}
+use Rattle.fl_check.specs.Counts.{interface_words_fit}
 use Rattle.fl_value.specs.declared.value.PlanNo.{PlanNo}
-use Rattle.fl_value.specs.Value.{Datum, TheCall}
+use Rattle.fl_value.specs.declared.value.PlanNo.TheVariants.{Two}
+use Rattle.fl_value.specs.declared.value.Value.{Value}
+use Rattle.fl_value.specs.Value.{Datum, TheCall, datum_of}
 use Rattle.fl_value.specs.Fits.{is_signed, least_above, how_many_below, has_type, is_argument, is_text_byte, fits_of}
-use Rattle.fl_value.specs.Plan.{of_rank}
-use Rattle.fl_value.specs.Printed.{argument_has_small_enums}
+use Rattle.fl_value.specs.Plan.{arranged, of_rank, by_ranks}
 use Rattle.fl_value.specs.Tape.{value_tape, argument_tape, tape_of}
 
 -- the number below a bound that has these bits, if one has
@@ -53,9 +57,19 @@ InTurn At [] tape (d ∷ ds) rest = ⊥
 InTurn At (t ∷ ts) tape [] rest = ⊥
 InTurn At (t ∷ ts) tape (d ∷ ds) rest = (next : List ℕ) × At t tape d next × InTurn At ts next ds rest
 
--- the types of a rank's arguments, in declared order
+-- the types of a rank's arguments, in declared order; of all under plan 2, rank by rank; and of all, in the plan's order
 abbrev pub types_of_rank : PlanNo → ℕ → List TheArgType → List TheArgType
 types_of_rank plan rank types = of_rank (λ t. t) plan rank types
+
+abbrev pub types_by_ranks : List TheArgType → List TheArgType
+types_by_ranks types = by_ranks (λ t. t) Two types
+
+abbrev pub planned_types : PlanNo → List TheArgType → List TheArgType
+planned_types plan types = arranged (λ t. t) plan types
+
+-- arguments' types, as the code has them
+abbrev pub arg_types : List ArgType → List TheArgType
+arg_types types = map arg_type_of types
 
 -- it stands there, and nothing else does, nor before another rest
 pub record TheOne {B : Type 0} (At : B → List ℕ → Type 0) (b : B) (rest : List ℕ) : Type 0 where
@@ -66,17 +80,27 @@ pub record TheOne {B : Type 0} (At : B → List ℕ → Type 0) (b : B) (rest : 
 abbrev pub NoneOf : {B : Type 0} → (B → List ℕ → Type 0) → Type 0
 NoneOf {B = B} At = (b : B) (rest : List ℕ) → At b rest → ⊥
 
+-- it stands there with these values, as the code has them
+abbrev pub TheValues : (List Datum → List ℕ → Type 0) → List Value → List ℕ → Type 0
+TheValues At values rest = TheOne At (map datum_of values) rest
+
+-- behind values that were read before, up to a tape: the arguments of these types
+abbrev pub MoreRead : List Value → List ℕ → List TheArgType → List Value → List ℕ → Type 0
+MoreRead before tape types values rest =
+    (done : List TheArgType) (whole : List ℕ) → TheValues (InTurn ArgumentAt done whole) before tape
+    → TheValues (InTurn ArgumentAt (done ++ types) whole) values rest
+
+abbrev pub NoneRead : List Value → List ℕ → List TheArgType → Type 0
+NoneRead before tape types =
+    (done : List TheArgType) (whole : List ℕ) → TheValues (InTurn ArgumentAt done whole) before tape → NoneOf (InTurn ArgumentAt (done ++ types) whole)
+
 -- a fitting call of a message, whose tape is this one
 pub record HasTape (plan : PlanNo) (i : TheInterface) (msg : ℕ) (tape : List ℕ) (c : TheCall) : Type 0 where
   pub message : c.msg ≡ msg
   pub fits : fits_of i c ≡ true
   pub whole : tape ≡ tape_of plan i c
 
--- the enums of an interface have at most 2 ^ 32 enumerators each
-abbrev pub interface_has_small_enums : TheInterface → Bool
-interface_has_small_enums i = list_all (λ m. list_all argument_has_small_enums (TheMessage.args m)) i.messages
-
--- fitting calls of one message with one tape are equal
+-- fitting calls of one message with one tape are equal, where the counts of the interface fit words of 32 bits
 abbrev pub OneCallOfATape : Type 0
-OneCallOfATape = (plan : PlanNo) (i : TheInterface) (msg : ℕ) (tape : List ℕ) (c d : TheCall) → interface_has_small_enums i ≡ true
+OneCallOfATape = (plan : PlanNo) (i : TheInterface) (msg : ℕ) (tape : List ℕ) (c d : TheCall) → interface_words_fit i ≡ true
     → HasTape plan i msg tape c → HasTape plan i msg tape d → c ≡ d

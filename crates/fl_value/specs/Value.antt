@@ -34,5 +34,9 @@ datum_step (Fields all) = fields (data_from all.items)
 abbrev pub datum_of : Value → Datum
 datum_of = fold-Value Datum datum_step
 
+-- the values of a struct or an array, as the code has them
+abbrev pub data_of : List Value → Data
+data_of values = data_from (map datum_of values)
+
 abbrev pub call_of : Call → TheCall
 call_of c = record { msg = c.msg.0; args = map datum_of c.args.items }

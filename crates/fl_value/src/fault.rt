@@ -1,6 +1,6 @@
 //! Why a text isn't a call, and why a call doesn't fit.
 
-ghost use Rattle.std.specs.Prelude.{◌≡◌, ℕ};
+ghost use Rattle.std.specs.Prelude.{◌≡◌};
 ghost use Rattle.fl_value.specs.declared.fault.ValueFault.TheVariants.{Memory};
 ghost use Rattle.fl_value.specs.Fault.{number_of};
 

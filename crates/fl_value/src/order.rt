@@ -1,13 +1,12 @@
 //! The plan's order of arguments: an argument's rank, and arguments from that order back into the declared one.
 
 ghost use Rattle.std.specs.Prelude.{◌≡◌, ◌≤◌, length, map, nat_lt, IfOk};
-ghost use Rattle.std.specs.List.{count_by, zip};
+ghost use Rattle.std.specs.List.{count_by};
 ghost use Rattle.fl_check.specs.Interface.{arg_type_of};
 ghost use Rattle.fl_value.specs.Value.{datum_of};
 ghost use Rattle.fl_value.specs.Plan.{arranged, fixed_rank, rank_of};
-ghost use Rattle.fl_value.specs.Tape.{kind, values_of};
+ghost use Rattle.fl_value.specs.Tape.{beside, kind, values_of};
 
-use crate::tape::alignment;
 use crate::value::{PlanNo, Value};
 use fl_check::ArgType;
 use std::alloc::{AllocError, Global};
@@ -37,7 +36,7 @@ impl PlanNo {
         match self {
             PlanNo::One => 0,
             PlanNo::Two => match argument {
-                ArgType::Fixed(fixed) => fixed_rank(alignment(fixed)),
+                ArgType::Fixed(fixed) => fixed_rank(fixed.alignment()),
                 _ => 4,
             },
         }
@@ -70,7 +69,7 @@ pub(crate) fn declared_order(
 ) -> Result<Vec<Value>, AllocError>
     requires as_many { length laid_out.items ≡ length arguments.now }
     ensures many { IfOk result (λ values. length values.items ≡ length arguments.now) }
-    ensures back { IfOk result (λ values. values_of (arranged kind plan (zip (map arg_type_of arguments.now) (map datum_of values.items))) ≡ map datum_of laid_out.items) }
+    ensures back { IfOk result (λ values. values_of (arranged kind plan (beside arguments.now values.items)) ≡ map datum_of laid_out.items) }
 {
     if plan == PlanNo::One {
         return Ok(laid_out);

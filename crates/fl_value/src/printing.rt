@@ -1,13 +1,10 @@
 //! Calls as text, each in one form: what answers show.
 
-ghost use Rattle.std.specs.Prelude.{◌≡◌, ◌++◌, ◌∷◌, [], ◌<◌, ◌≤◌, ℕ, List, true, OnOk, OnErr, map};
+ghost use Rattle.std.specs.Prelude.{◌≡◌, ◌++◌, ◌<◌, List, OnOk, OnErr, map};
 ghost use Rattle.std.specs.Char.{digit_char};
 ghost use Rattle.std.specs.Fmt.{signed_decimal};
-ghost use Rattle.fl_check.specs.Interface.{TheInterface, TheMessage};
-ghost use Rattle.fl_value.specs.Resolve.{ComesTo};
-ghost use Rattle.fl_value.specs.Value.{TheCall, Datum, datum_of, data_from};
-ghost use Rattle.fl_value.specs.Printed.{printed_byte, printed_text, printed_value, printed_values, printed_call, separator, are_printable, HasText, BeginsToAppend};
-ghost use Rattle.fl_value.specs.CallText.{IsWord, SpellsCall, greatest_depth};
+ghost use Rattle.fl_value.specs.Value.{datum_of, data_from};
+ghost use Rattle.fl_value.specs.Printed.{printed_byte, printed_text, printed_value, printed_values, printed_call, separator, BeginsToAppend};
 
 use crate::value::Value;
 use std::alloc::{AllocError, Global};

@@ -2,7 +2,7 @@
 
 ghost use Rattle.std.specs.Prelude.{◌≡◌, ℕ, ◌+◌, ◌<◌, ◌≤◌, List, map, true, length, IfOk, IfErr, IfSome, IfNone};
 ghost use Rattle.fl_value.specs.Value.{Datum, Data, datum_of, data_from};
-ghost use Rattle.fl_value.specs.CallText.{SpellsValue, SpellsValues, Listed, Enclosed, Token, a_mark, is_mark, is_close, depth_of, greatest_depth};
+ghost use Rattle.fl_value.specs.CallText.{SpellsValue, Listed, Enclosed, NoneEnclosed, Token, a_mark, is_mark, is_close, depth_of, greatest_depth};
 ghost use Rattle.fl_value.specs.Fault.{Refuses};
 
 use crate::fault::ValueFault;
@@ -50,7 +50,7 @@ fn read_nested(
     ensures shallow { IfOk result (λ o. IfSome o (λ r. 1 + greatest_depth (data_from (map datum_of r.0.items)) ≤ depth)) }
     ensures shorter { IfOk result (λ o. IfSome o (λ r. length r.1.now < length bytes.now)) }
     ensures none { IfOk result (λ o. IfNone o ((rest : List ℕ) → Token (a_mark opening) bytes.now rest → ⊥)) }
-    ensures fault { IfErr result (λ e. Refuses e ((ds : Data) (rest : List ℕ) → 1 + greatest_depth ds ≤ depth → Enclosed opening closing ds bytes.now rest → ⊥)) }
+    ensures fault { IfErr result (λ e. Refuses e (NoneEnclosed opening closing depth bytes.now)) }
     ensures opened { IfErr result (λ e. (rest : List ℕ) × Token (a_mark opening) bytes.now rest) }
 {
     let Some(inside) = read_mark(bytes, opening) else {

@@ -1,37 +1,19 @@
 //! A call as the tape that stub code runs on: its scalars' bits and its lengths, one number after
 //! another, in the plan's order of arguments.
 
-ghost use Rattle.std.specs.Prelude.{◌≡◌, ◌++◌, ◌==◌, ◌≤◌, ◌%◌, ◌^◌, ◌-◌, length, map, filter, IfOk, OnOk, pos};
-ghost use Rattle.std.specs.List.{zip, flat_map};
+ghost use Rattle.std.specs.Prelude.{◌≡◌, ◌++◌, ◌≤◌, ◌%◌, ◌-◌, map, IfOk, OnOk};
+ghost use Rattle.std.specs.List.{flat_map};
 ghost use Rattle.fl_check.specs.Interface.{type_of, arg_type_of, fields_from, interface_of};
-ghost use Rattle.fl_check.specs.Sizes.{scalar_size, align_of, greatest_align};
 ghost use Rattle.fl_value.specs.Value.{datum_of, data_from, call_of};
-ghost use Rattle.fl_value.specs.Fits.{count_of, scalar_bits};
+ghost use Rattle.fl_value.specs.Fits.{count_of};
 ghost use Rattle.fl_value.specs.Plan.{arranged, rank_of, by_ranks};
-ghost use Rattle.fl_value.specs.Tape.{raw_of, value_tape, fields_tape, elements_tape, argument_tape, tape_of_argument, kind, rank_tape, tape_of};
+ghost use Rattle.fl_value.specs.Tape.{raw_of, value_tape, fields_tape, elements_tape, argument_tape};
+ghost use Rattle.fl_value.specs.Tape.{tape_of_argument, beside, kind, rank_tape, tape_of};
 
 use crate::order::RANKS;
 use crate::value::{Call, PlanNo, Value};
-use fl_check::{ArgType, FixedType, Interface, Scalar};
+use fl_check::{ArgType, FixedType, Interface};
 use std::alloc::{AllocError, Global};
-
-/// How many bits a scalar has.
-fn scalar_bits(scalar: Scalar) -> u32
-    ensures same { result ≡ scalar_bits scalar }
-    ensures most { result ≤ 64 }
-{
-    match scalar {
-        Scalar::Uint8 | Scalar::Int8 | Scalar::Bool | Scalar::Char => 8,
-        Scalar::Uint16 | Scalar::Int16 => 16,
-        Scalar::Uint32 | Scalar::Int32 | Scalar::Iref => 32,
-        Scalar::Uint64
-        | Scalar::Int64
-        | Scalar::Uintptr
-        | Scalar::Intptr
-        | Scalar::Size
-        | Scalar::Errval => 64,
-    }
-}
 
 /// A number's low bits, two's complement.
 fn raw(bits: u32, number: i128) -> u64
@@ -54,7 +36,7 @@ fn push_value(tape: &mut Vec<u64>, fixed: &FixedType, value: &Value) -> Result<(
     match fixed {
         FixedType::Scalar(scalar) => match value {
             Value::Int(number) => {
-                tape.push(raw(scalar_bits(*scalar), *number))?;
+                tape.push(raw(8 * scalar.size(), *number))?;
                 Ok(())
             }
             _ => Ok(()),
@@ -151,48 +133,6 @@ fn push_argument(tape: &mut Vec<u64>, argument: &ArgType, value: &Value) -> Resu
     }
 }
 
-/// A scalar's size in bytes, which is its alignment.
-fn scalar_size(scalar: Scalar) -> u32
-    ensures same { result ≡ scalar_size scalar }
-{
-    match scalar {
-        Scalar::Uint8 | Scalar::Int8 | Scalar::Bool | Scalar::Char => 1,
-        Scalar::Uint16 | Scalar::Int16 => 2,
-        Scalar::Uint32 | Scalar::Int32 | Scalar::Iref => 4,
-        Scalar::Uint64
-        | Scalar::Int64
-        | Scalar::Uintptr
-        | Scalar::Intptr
-        | Scalar::Size
-        | Scalar::Errval => 8,
-    }
-}
-
-/// A type's alignment in bytes.
-#[cycle(alignments)]
-pub(crate) fn alignment(fixed: &FixedType) -> u32
-    ensures same { result ≡ align_of (type_of fixed.now) }
-{
-    match fixed {
-        FixedType::Scalar(scalar) => scalar_size(*scalar),
-        FixedType::Enumeration(_) => 4,
-        FixedType::Structure(fields) => greatest_alignment(fields),
-        FixedType::Array(_, element) => alignment(element),
-    }
-}
-
-/// The greatest alignment of some fields; 1 of none.
-#[cycle(alignments)]
-fn greatest_alignment(fields: &[FixedType]) -> u32
-    ensures same { result ≡ greatest_align (fields_from (map type_of fields.now)) }
-{
-    let mut greatest = 1;
-    for field in fields {
-        greatest = alignment(field).max(greatest);
-    }
-    greatest
-}
-
 /// Appends the numbers of a rank's arguments, in declared order.
 fn push_rank(
     tape: &mut Vec<u64>,
@@ -201,7 +141,7 @@ fn push_rank(
     arguments: &[ArgType],
     values: &[Value],
 ) -> Result<(), AllocError>
-    ensures tape { OnOk result (tape.new.items ≡ tape.old.items ++ rank_tape plan rank (zip (map arg_type_of arguments.now) (map datum_of values.now))) }
+    ensures tape { OnOk result (tape.new.items ≡ tape.old.items ++ rank_tape plan rank (beside arguments.now values.now)) }
 {
     for (index, argument) in arguments.iter().enumerate() {
         let Some(value) = values.get(index) else {
@@ -221,7 +161,7 @@ fn push_ranks(
     arguments: &[ArgType],
     values: &[Value],
 ) -> Result<(), AllocError>
-    ensures tape { OnOk result (tape.new.items ≡ tape.old.items ++ flat_map tape_of_argument (by_ranks kind PlanNo.Two (zip (map arg_type_of arguments.now) (map datum_of values.now)))) }
+    ensures tape { OnOk result (tape.new.items ≡ tape.old.items ++ flat_map tape_of_argument (by_ranks kind PlanNo.Two (beside arguments.now values.now))) }
 {
     for rank in 0..RANKS {
         push_rank(tape, PlanNo::Two, rank, arguments, values)?;
@@ -236,7 +176,7 @@ fn push_arguments(
     arguments: &[ArgType],
     values: &[Value],
 ) -> Result<(), AllocError>
-    ensures tape { OnOk result (tape.new.items ≡ tape.old.items ++ flat_map tape_of_argument (arranged kind plan (zip (map arg_type_of arguments.now) (map datum_of values.now)))) }
+    ensures tape { OnOk result (tape.new.items ≡ tape.old.items ++ flat_map tape_of_argument (arranged kind plan (beside arguments.now values.now))) }
 {
     match plan {
         PlanNo::One => push_rank(tape, plan, 0, arguments, values),

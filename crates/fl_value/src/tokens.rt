@@ -1,10 +1,11 @@
 //! The tokens of a call's text: numbers, texts in quotes, and marks.
 
-ghost use Rattle.std.specs.Prelude.{◌≡◌, ◌≢◌, ◌+◌, ◌<◌, ◌≤◌, ◌^◌, ℕ, ℤ, pos, neg_ℤ, List, ◌∷◌, IfSome, IfNone, IfOk, MatchOption, length, drop, take, true, false};
+ghost use Rattle.std.specs.Prelude.{◌≡◌, ◌+◌, ◌<◌, ◌≤◌, ◌^◌, ℕ, ℤ, pos, neg_ℤ, List, ◌∷◌, IfSome, IfNone, IfOk, MatchOption, length, true};
 ghost use Rattle.std.specs.List.{prefix_len, list_all};
 ghost use Rattle.std.specs.Char.{digit_value};
 ghost use Rattle.std.specs.Str.Parse.{digits_value};
-ghost use Rattle.fl_value.specs.CallText.{is_blank, is_digit, is_mark, is_plain, Blanks, Digits, Number, TextByte, TextBytes, Token, a_number, a_text, a_mark, StopsAt, Closed};
+ghost use Rattle.fl_value.specs.CallText.{is_blank, is_digit, is_mark, Blanks, Digits, TextByte, TextBytes};
+ghost use Rattle.fl_value.specs.CallText.{Token, a_number, a_text, a_mark, StopsAt, Closed};
 
 use std::alloc::{AllocError, Global};
 

@@ -1,13 +1,14 @@
 //! A call back from its tape. The tape may come from anywhere: what no fitting call has is refused.
 
-ghost use Rattle.std.specs.Prelude.{◌≡◌, ◌≤◌, ◌++◌, ◌^◌, ℕ, List, true, false, map, filter, replicate, Some, IfOk, IfSome, IfNone};
+ghost use Rattle.std.specs.Prelude.{◌≡◌, ◌≤◌, ◌^◌, List, true, false, map, replicate, Some, IfOk, IfSome, IfNone};
 ghost use Rattle.std.specs.Option.{option_map};
 ghost use Rattle.std.specs.List.{list_all};
-ghost use Rattle.fl_check.specs.Interface.{TheArgType, scalar, enumeration, text, sized, type_of, arg_type_of, interface_of};
-ghost use Rattle.fl_value.specs.Value.{TheCall, number, string, elements, data_from, datum_of, call_of};
-ghost use Rattle.fl_value.specs.Plan.{arranged, rank_of, by_ranks};
+ghost use Rattle.fl_check.specs.Interface.{scalar, enumeration, text, sized, type_of, arg_type_of, interface_of};
+ghost use Rattle.fl_value.specs.Value.{TheCall, number, string, elements, data_of, datum_of, call_of};
+ghost use Rattle.fl_value.specs.Plan.{rank_of};
 ghost use Rattle.fl_value.specs.Fits.{is_text_byte};
-ghost use Rattle.fl_value.specs.Taken.{unsigned_back, signed_back, scalar_back, ValueAt, ArgumentAt, LengthAt, BytesAt, InTurn, TheOne, NoneOf, types_of_rank, HasTape, OneCallOfATape};
+ghost use Rattle.fl_value.specs.Taken.{unsigned_back, signed_back, scalar_back, ValueAt, ArgumentAt, LengthAt, BytesAt, InTurn, TheOne, NoneOf};
+ghost use Rattle.fl_value.specs.Taken.{TheValues, MoreRead, NoneRead, types_of_rank, types_by_ranks, planned_types, arg_types, HasTape};
 
 use crate::order::{RANKS, declared_order};
 use crate::value::{Call, PlanNo, Value};
@@ -151,7 +152,7 @@ fn read_elements<'a>(
     count: u32,
     element: &FixedType,
 ) -> Result<Option<(Vec<Value>, &'a [u64])>, AllocError>
-    ensures found { IfOk result (λ o. IfSome o (λ r. TheOne (InTurn ValueAt (replicate count (type_of element.now)) tape.now) (map datum_of r.0.items) r.1.now)) }
+    ensures found { IfOk result (λ o. IfSome o (λ r. TheValues (InTurn ValueAt (replicate count (type_of element.now)) tape.now) r.0.items r.1.now)) }
     ensures none { IfOk result (λ o. IfNone o (NoneOf (InTurn ValueAt (replicate count (type_of element.now)) tape.now))) }
 {
     let mut values = Vec::with_capacity(alloc, tape.len().min(count as usize))?;
@@ -237,7 +238,7 @@ fn read_sized<'a>(
     most: u32,
     element: &FixedType,
 ) -> Result<Option<(Vec<Value>, &'a [u64])>, AllocError>
-    ensures found { IfOk result (λ o. IfSome o (λ r. TheOne (ArgumentAt (sized most (type_of element.now)) tape.now) (elements (data_from (map datum_of r.0.items))) r.1.now)) }
+    ensures found { IfOk result (λ o. IfSome o (λ r. TheOne (ArgumentAt (sized most (type_of element.now)) tape.now) (elements (data_of r.0.items)) r.1.now)) }
     ensures none { IfOk result (λ o. IfNone o (NoneOf (ArgumentAt (sized most (type_of element.now)) tape.now))) }
 {
     let Some((count, elements)) = read_length(tape, most) else {
@@ -282,8 +283,8 @@ fn read_rank<'a>(
     arguments: &[ArgType],
     before: Vec<Value>,
 ) -> Result<Option<(Vec<Value>, &'a [u64])>, AllocError>
-    ensures found { IfOk result (λ o. IfSome o (λ r. (done : List TheArgType) (whole : List ℕ) → TheOne (InTurn ArgumentAt done whole) (map datum_of before.items) tape.now → TheOne (InTurn ArgumentAt (done ++ types_of_rank plan rank (map arg_type_of arguments.now)) whole) (map datum_of r.0.items) r.1.now)) }
-    ensures none { IfOk result (λ o. IfNone o ((done : List TheArgType) (whole : List ℕ) → TheOne (InTurn ArgumentAt done whole) (map datum_of before.items) tape.now → NoneOf (InTurn ArgumentAt (done ++ types_of_rank plan rank (map arg_type_of arguments.now)) whole))) }
+    ensures found { IfOk result (λ o. IfSome o (λ r. MoreRead before.items tape.now (types_of_rank plan rank (arg_types arguments.now)) r.0.items r.1.now)) }
+    ensures none { IfOk result (λ o. IfNone o (NoneRead before.items tape.now (types_of_rank plan rank (arg_types arguments.now)))) }
 {
     let mut values = before;
     let mut rest = tape;
@@ -306,8 +307,8 @@ fn read_ranks<'a>(
     tape: &'a [u64],
     arguments: &[ArgType],
 ) -> Result<Option<(Vec<Value>, &'a [u64])>, AllocError>
-    ensures found { IfOk result (λ o. IfSome o (λ r. TheOne (InTurn ArgumentAt (by_ranks (λ t. t) PlanNo.Two (map arg_type_of arguments.now)) tape.now) (map datum_of r.0.items) r.1.now)) }
-    ensures none { IfOk result (λ o. IfNone o (NoneOf (InTurn ArgumentAt (by_ranks (λ t. t) PlanNo.Two (map arg_type_of arguments.now)) tape.now))) }
+    ensures found { IfOk result (λ o. IfSome o (λ r. TheValues (InTurn ArgumentAt (types_by_ranks (arg_types arguments.now)) tape.now) r.0.items r.1.now)) }
+    ensures none { IfOk result (λ o. IfNone o (NoneOf (InTurn ArgumentAt (types_by_ranks (arg_types arguments.now)) tape.now))) }
 {
     let mut values = Vec::with_capacity(alloc, arguments.len())?;
     let mut rest = tape;
@@ -328,8 +329,8 @@ fn read_arguments<'a>(
     plan: PlanNo,
     arguments: &[ArgType],
 ) -> Result<Option<(Vec<Value>, &'a [u64])>, AllocError>
-    ensures found { IfOk result (λ o. IfSome o (λ r. TheOne (InTurn ArgumentAt (arranged (λ t. t) plan (map arg_type_of arguments.now)) tape.now) (map datum_of r.0.items) r.1.now)) }
-    ensures none { IfOk result (λ o. IfNone o (NoneOf (InTurn ArgumentAt (arranged (λ t. t) plan (map arg_type_of arguments.now)) tape.now))) }
+    ensures found { IfOk result (λ o. IfSome o (λ r. TheValues (InTurn ArgumentAt (planned_types plan (arg_types arguments.now)) tape.now) r.0.items r.1.now)) }
+    ensures none { IfOk result (λ o. IfNone o (NoneOf (InTurn ArgumentAt (planned_types plan (arg_types arguments.now)) tape.now))) }
 {
     match plan {
         PlanNo::One => {

@@ -20,7 +20,7 @@ use Rattle.fl_wire.specs.Payload.{payload_at}
 use Rattle.fl_value.specs.declared.value.PlanNo.{PlanNo}
 use Rattle.fl_value.specs.declared.value.PlanNo.TheVariants.{One, Two}
 use Rattle.fl_wire.specs.Standing.{Over, firsts, fitting}
-use Rattle.fl_wire.specs.Words.{words_fit, all_words_fit, argument_words_fit}
+use Rattle.fl_check.specs.Counts.{words_fit, all_words_fit, argument_words_fit}
 use Rattle.fl_wire.proofs.Bytes.{size_le_place, below_place, at_place}
 use Rattle.fl_wire.proofs.Arguments.{IsAlign, type_align, along_align, scalar_align}
 

@@ -1,12 +1,12 @@
 -- What the encoder writes: gaps, strings, values, and arguments rank by rank.
-use Rattle.std.proofs.Common.{◌≡◌, ◌≢◌, ℕ, zero, suc, ◌+◌, ◌-◌, ◌<◌, ◌≤◌, Bool, true, false, List, [], ◌∷◌, ◌++◌, map, length, replicate, drop, get_or, refl, sym, ◌∙◌, ap, subst, arith, cond, eqb, append_assoc, eq-eqb}
+use Rattle.std.proofs.Common.{◌≡◌, ◌≢◌, ℕ, zero, suc, ◌+◌, ◌-◌, ◌<◌, Bool, true, false, List, [], ◌∷◌, ◌++◌, map, length, replicate, drop, get_or, refl, sym, ◌∙◌, ap, subst, arith, cond, eqb, append_assoc, eq-eqb}
 use Rattle.std.specs.List.{list_all}
 use Rattle.std.specs.Int.{byte_at}
 use Rattle.std.specs.Cmp.{first_so, second_so}
 use Rattle.std.proofs.lemmas.List.{append-nil, drop_more}
 use Rattle.std.proofs.lemmas.Bool.{ltb-true, eqb-true, ne_eqb}
-use Rattle.fl_check.specs.Interface.{TheType, TheTypes, no_more, field, TheArgType}
-use Rattle.fl_check.specs.Sizes.{round_up, greatest_align}
+use Rattle.fl_check.specs.Interface.{TheType, TheArgType}
+use Rattle.fl_check.specs.Sizes.{round_up}
 use Rattle.fl_value.specs.Value.{data_from, datum_of}
 use Rattle.fl_value.specs.declared.value.Value.{Value}
 use Rattle.fl_value.specs.Fits.{count_of, all_have_type, is_text_byte}
@@ -18,10 +18,6 @@ use Rattle.fl_layout.specs.Places.{size}
 use Rattle.fl_wire.specs.Payload.{payload_bytes}
 use Rattle.fl_value.proofs.Ranked.{is_last}
 use Rattle.fl_wire.proofs.Bytes.{length_payload, payload_more, size_le_place}
-
-pub one_or_more : (ts : TheTypes) → 1 ≤ greatest_align ts
-one_or_more no_more = omega arith
-one_or_more (field t ts) = omega (arith, one_or_more ts)
 
 -- ---- bytes
 

@@ -18,14 +18,14 @@ use Rattle.fl_value.specs.declared.value.PlanNo.{PlanNo}
 use Rattle.fl_layout.specs.Leaves.{Leaf, leaves, Argument, kind, argument_types, types_of}
 use Rattle.fl_layout.specs.Places.{size, count, count_for}
 use Rattle.fl_wire.specs.Alive.{has_values, all_have_values, argument_has_values}
-use Rattle.fl_wire.specs.Words.{interface_words_fit}
+use Rattle.fl_check.specs.Counts.{interface_words_fit}
 use Rattle.fl_wire.specs.Payload.{frags_of}
 use Rattle.fl_wire.specs.Standing.{byte_in, words_in}
 use Rattle.fl_wire.specs.Covered.{is_covered, is_length}
 use Rattle.fl_wire.specs.Reading.{AllFit, IsPart, IsWrong, ReadsLeaving}
 use Rattle.fl_wire.specs.Shapes.{Agrees, IsWhy, Cut, calls_of}
 use Rattle.fl_wire.specs.Whole.{leaves_of, Whole, NearCall, WrongCall, StopsWhole}
-use Rattle.fl_wire.specs.Wrong.{start_fault, follow_fault, header_fault, IsWrongAt}
+use Rattle.fl_wire.specs.Wrong.{start_fault, follow_fault, header_fault, IsWrongAt, BeginsWell, BeginsAfterCalls, IsFirstFault}
 use Rattle.fl_wire.specs.Headers.{Line, Group, StandsFirst}
 use Rattle.fl_wire.specs.declared.leaf.Stop.{Stop}
 use Rattle.fl_wire.specs.declared.leaf.Stop.TheVariants.{Short, Padding, Value, Length, Memory}
@@ -321,9 +321,27 @@ all_read plan i frags calls left m part = record {
 pub leaves_right : (plan : PlanNo) (i : TheInterface) (frags : List Frag) (calls : List TheCall) (left : ℕ) → ReadsLeaving plan i frags calls left → IsWrong plan i frags → ⊥
 leaves_right plan i frags calls left r = reads_right plan i frags calls r.rest r.reads
 
+-- the calls so far, and what begins behind them
+pub calls_then : (plan : PlanNo) (i : TheInterface) (frags : List Frag) (calls : List TheCall) (left : List Frag) → MeansCalls plan i frags calls left → BeginsWell i left → BeginsAfterCalls plan i frags
+calls_then plan i frags calls left m begins = record {
+  before = m.whole;
+  rest = left;
+  is = m.joined;
+  calls = calls;
+  reads = record { whole = m.whole; joined = sym (append-nil m.whole); fit = m.fit; mean = m.mean; part = inl refl };
+  begins = begins;
+}
+
+-- a group's first fragment begins well
+pub begins_well : (i : TheInterface) (msg n : ℕ) (frags : List Frag) → 0 < length frags → Group i msg (take n frags) → BeginsWell i frags
+begins_well i msg n frags some group =
+    let is = slice_get-get_or frags 0 blank some in
+    let few : 0 < n = omega (arith, group.some, length-take n frags) in
+    record { one = get_or frags 0 blank; first = is; starts = group.starts (get_or frags 0 blank) (get_front n 0 frags few ∙ is) }
+
 pub wrong_left : (plan : PlanNo) (i : TheInterface) (frags : List Frag) (calls : List TheCall) (left : List Frag) (fault : WireFault) → interface_words_fit i ≡ true → MeansCalls plan i frags calls left
-    → (fault ≡ NoMemory) ⊎ IsWrongAt plan i left fault → (fault ≡ NoMemory) ⊎ IsWrongAt plan i frags fault
-wrong_left plan i frags calls left fault words m (inl memory) = inl memory
+    → ((fault ≡ NoMemory) × BeginsWell i left) ⊎ IsWrongAt plan i left fault → IsFirstFault plan i frags fault
+wrong_left plan i frags calls left fault words m (inl memory) = inl (memory.0, calls_then plan i frags calls left m memory.1)
 wrong_left plan i frags calls left fault words m (inr wrong) =
     inr (subst (λ (xs : List Frag). IsWrongAt plan i xs fault) (sym m.joined) (wrong_after plan i m.whole left calls fault words m.fit m.mean wrong))
 

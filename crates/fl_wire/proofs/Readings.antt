@@ -18,7 +18,7 @@ use Rattle.fl_value.specs.Plan.{of_ranks}
 use Rattle.std.specs.Cmp.{first_so, second_so}
 use Rattle.fl_layout.specs.Places.{size, place, count}
 use Rattle.fl_wire.specs.Payload.{payload_at, payload_bytes, payload_of, word, frag_on, frags_of}
-use Rattle.fl_wire.specs.Words.{interface_words_fit, argument_words_fit}
+use Rattle.fl_check.specs.Counts.{interface_words_fit, argument_words_fit}
 use Rattle.fl_wire.specs.Reading.{AllFit, IsRest, IsPart, Reads}
 use Rattle.fl_wire.proofs.Bytes.{length_payload, get_payload, past_end}
 use Rattle.fl_wire.proofs.Arguments.{leaves_ranks, arguments_fit}

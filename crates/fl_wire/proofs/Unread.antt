@@ -14,7 +14,7 @@ use Rattle.fl_value.specs.Fits.{fits_of, fit_message}
 use Rattle.fl_value.specs.declared.value.PlanNo.{PlanNo}
 use Rattle.fl_layout.specs.Leaves.{leaves}
 use Rattle.fl_layout.specs.Places.{count}
-use Rattle.fl_wire.specs.Words.{interface_words_fit}
+use Rattle.fl_check.specs.Counts.{interface_words_fit}
 use Rattle.fl_wire.specs.Payload.{payload_of, frag_on, frags_of}
 use Rattle.fl_wire.specs.Standing.{byte_in, words_in}
 use Rattle.fl_wire.specs.Reading.{AllFit, IsPart, IsWrong, Reads}

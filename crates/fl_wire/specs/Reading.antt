@@ -1,6 +1,6 @@
 -- What lists of fragments mean. The epoch and the count told, which change from one writing to the next,
 -- are set aside.
-use Rattle.std.specs.Prelude.{◌≡◌, ℕ, ◌<◌, ◌≤◌, true, List, [], ◌++◌, map, take, length, ◌⊎◌, All}
+use Rattle.std.specs.Prelude.{◌≡◌, ◌^◌, nat_lt, if◌then◌else◌, Option, Some, None, ℕ, ◌<◌, ◌≤◌, true, List, [], ◌++◌, map, take, length, ◌⊎◌, All}
 use Rattle.std.specs.List.{flat_map}
 use Rattle.fl_base.specs.declared.fragment.Frag.{Frag}
 use Rattle.fl_base.specs.Control.{bare}
@@ -8,7 +8,7 @@ use Rattle.fl_check.specs.Interface.{TheInterface}
 use Rattle.fl_value.specs.Value.{TheCall}
 use Rattle.fl_value.specs.Fits.{fits_of}
 use Rattle.fl_value.specs.declared.value.PlanNo.{PlanNo}
-use Rattle.fl_wire.specs.Words.{interface_words_fit}
+use Rattle.fl_check.specs.Counts.{interface_words_fit}
 use Rattle.fl_layout.specs.Places.{count}
 use Rattle.fl_wire.specs.Payload.{frags_of, frags_on}
 
@@ -22,6 +22,11 @@ pub record IsPart (plan : PlanNo) (i : TheInterface) (frags : List Frag) : Type 
   pub fits : fits_of i call ≡ true
   pub short : length frags < count plan i call
   pub front : map bare frags ≡ take (length frags) (frags_of plan i call)
+
+-- what is read of a fitting call's first fragments: that call once all are there, else none
+abbrev pub ReadsBack : PlanNo → TheInterface → List Frag → Option TheCall → Type 0
+ReadsBack plan i frags found = (c : TheCall) (k : ℕ) → fits_of i c ≡ true → c.msg < 2 ^ 16 → 0 < k → k ≤ count plan i c
+    → frags ≡ take k (frags_of plan i c) → found ≡ (if nat_lt k (count plan i c) then None else Some c)
 
 -- calls that fit the interface
 abbrev pub AllFit : TheInterface → List TheCall → Type 0

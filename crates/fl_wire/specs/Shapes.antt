@@ -1,5 +1,5 @@
 -- What may stand at a place of a payload, and what reading it there tells.
-use Rattle.std.specs.Prelude.{◌≡◌, ℕ, ◌+◌, ◌*◌, ◌<◌, ◌≤◌, ◌&&◌, Bool, true, false, List, ◌∷◌, length}
+use Rattle.std.specs.Prelude.{◌≡◌, ℕ, ◌+◌, ◌*◌, ◌^◌, ◌<◌, ◌≤◌, ◌&&◌, Bool, true, false, List, ◌∷◌, length}
 use Rattle.std.specs.List.{list_all, zip}
 use Rattle.fl_base.specs.declared.fragment.Frag.{Frag}
 use Rattle.fl_check.specs.Interface.{TheType, TheTypes, TheArgType}
@@ -8,7 +8,8 @@ use Rattle.fl_value.specs.Value.{Datum, Data}
 use Rattle.fl_value.specs.Fits.{has_type, have_types, all_have_type, count_of, is_text_byte, is_argument, are_arguments}
 use Rattle.fl_value.specs.Plan.{is_dynamic, of_ranks}
 use Rattle.fl_value.specs.declared.value.PlanNo.{PlanNo}
-use Rattle.fl_layout.specs.Leaves.{kind, Leaf, gap, whole, single, value_onto, fields_onto, elements_onto, bytes_onto, argument_onto, start_onto, arguments_onto}
+use Rattle.fl_layout.specs.Leaves.{kind, Leaf, gap, whole, single, value_onto}
+use Rattle.fl_layout.specs.Leaves.{fields_onto, elements_onto, bytes_onto, argument_onto, start_onto, arguments_onto}
 use Rattle.fl_layout.specs.Places.{size, place}
 use Rattle.fl_wire.specs.Payload.{payload_at}
 use Rattle.fl_wire.specs.Standing.{Over, byte_in}
@@ -172,3 +173,7 @@ ReadAt x frags at d end = (low : List Leaf) → at ≡ size low → Agrees frags
 -- the reading from a place on stops
 abbrev pub StopsAt : Stop → Shape → List Frag → ℕ → Type 0
 StopsAt stop x frags at = (low : List Leaf) → at ≡ size low → Agrees frags low at → Stops stop x frags low
+
+-- the reading of a number of so many bytes stops, a length or another, whatever its bound is
+abbrev pub StopsNumber : Stop → ℕ → List Frag → ℕ → Type 0
+StopsNumber stop width frags at = (of_length : Bool) (bound : ℕ) → bound ≤ 2 ^ (8 * width) → StopsAt stop (number_in of_length width bound) frags at

@@ -1,6 +1,6 @@
 //! What control words tell: which fragments may stand in a call, and how many of them come first.
 
-ghost use Rattle.std.specs.Prelude.{◌≡◌, ℕ, ◌+◌, ◌*◌, ◌/◌, ◌%◌, ◌^◌, ◌<◌, ◌≤◌, ◌==◌, ◌&&◌, length, All, slice_get, Some, None, IfOk, IfErr};
+ghost use Rattle.std.specs.Prelude.{◌≡◌, ℕ, ◌*◌, ◌/◌, ◌%◌, ◌<◌, ◌≤◌, ◌==◌, ◌&&◌, length, slice_get, Some, None};
 ghost use Rattle.fl_base.specs.declared.fragment.Frag.{Frag as TheFrag};
 ghost use Rattle.fl_check.specs.Interface.{interface_of};
 ghost use Rattle.fl_wire.specs.Wrong.{is_clean, start_fault, follow_fault};

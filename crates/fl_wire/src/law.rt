@@ -1,6 +1,11 @@
 //! What holds of the fragments of any calls: laws, as the contracts of functions that do nothing.
 
+ghost use Rattle.std.specs.Prelude.{◌≡◌, true};
+ghost use Rattle.fl_check.specs.Interface.{interface_of};
+ghost use Rattle.fl_check.specs.Counts.{interface_words_fit};
 ghost use Rattle.fl_wire.specs.Reading.{OneReading, NoneBeginsWithAnother, ReadsOnce};
+
+use fl_check::Interface;
 
 /// No list of fragments has two readings as whole calls and a rest, under either plan.
 pub fn one_reading()
@@ -15,4 +20,10 @@ pub fn none_begins_with_another()
 /// No list of fragments reads as calls and a rest in two ways, whatever its epochs and the counts told.
 pub fn reads_once()
     ensures once { ReadsOnce }
+{}
+
+/// Every bound and every number of enumerators of an interface in memory is at most 2^32, by its invariant: so [`one_reading`],
+/// [`none_begins_with_another`] and [`reads_once`] hold of each. Takes no time.
+pub fn numbers_fit_words(interface: &Interface)
+    ensures fit { interface_words_fit (interface_of interface.now) ≡ true }
 {}

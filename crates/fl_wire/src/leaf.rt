@@ -1,13 +1,11 @@
 //! One leaf of a payload from the bytes of fragments, and the zeros before it.
 
-ghost use Rattle.std.specs.Prelude.{◌≡◌, ◌≢◌, ℕ, ◌+◌, ◌-◌, ◌*◌, ◌/◌, ◌%◌, ◌^◌, ◌<◌, ◌≤◌, ◌⊎◌, nat_lt, Bool, List, map, length, slice_index, if◌then◌else◌, IfOk, IfErr};
+ghost use Rattle.std.specs.Prelude.{◌≡◌, ℕ, ◌+◌, ◌-◌, ◌*◌, ◌/◌, ◌%◌, ◌^◌, ◌<◌, ◌≤◌, ◌⊎◌, nat_lt, map, length, if◌then◌else◌, IfOk, IfErr};
 ghost use Rattle.std.specs.List.{range_with_len};
 ghost use Rattle.std.specs.Int.{from_le_bytes, w64, byte_at};
 ghost use Rattle.fl_check.specs.Sizes.{round_up};
-ghost use Rattle.fl_layout.specs.Leaves.{Leaf};
-ghost use Rattle.fl_layout.specs.Places.{size};
 ghost use Rattle.fl_wire.specs.Standing.{FirstNonzero, byte_in, word_in};
-ghost use Rattle.fl_wire.specs.Shapes.{Agrees, Got, Stops, padding, number_in, number_below, ReadAt, StopsAt};
+ghost use Rattle.fl_wire.specs.Shapes.{StopsNumber, padding, number_below, ReadAt, StopsAt};
 ghost use Rattle.fl_wire.specs.declared.leaf.Stop.TheVariants.{Padding, Memory};
 
 use fl_base::{FRAG_BYTES, Frag};
@@ -88,15 +86,6 @@ fn number_at(frags: &[Frag], place: usize, width: usize) -> u64
     }
 }
 
-// The next multiple of an alignment.
-fn next_place(at: usize, align: usize) -> usize
-    requires align { (align ≡ 1) ⊎ ((align ≡ 2) ⊎ ((align ≡ 4) ⊎ (align ≡ 8))) }
-    requires room { at < 2 ^ 63 }
-    ensures place { result ≡ round_up at align }
-{
-    at + (align - at % align) % align
-}
-
 /// Past bytes that are all 0; a stop at the first that isn't.
 pub(crate) fn read_zeros(frags: &[Frag], at: usize, end: usize) -> Result<(), Stop>
     ensures zeros { IfOk result (λ u. (p : ℕ) → at ≤ p → p < end → byte_in frags.now p ≡ 0) }
@@ -118,7 +107,7 @@ fn skip(frags: &[Frag], at: usize, align: usize) -> Result<usize, Stop>
     ensures zeros { IfOk result (λ place. (p : ℕ) → at ≤ p → p < place → byte_in frags.now p ≡ 0) }
     ensures wrong { IfErr result (λ stop. (stop ≡ Padding) × FirstNonzero frags.now at (round_up at align)) }
 {
-    let place = next_place(at, align);
+    let place = at.next_multiple_of(align);
     read_zeros(frags, at, place)?;
     Ok(place)
 }
@@ -143,7 +132,7 @@ pub(crate) fn read_number(frags: &[Frag], at: usize, width: usize) -> Result<(u6
     ensures within { IfOk result (λ r. r.1 ≤ 56 * length frags.now) }
     ensures later { IfOk result (λ r. at < r.1) }
     ensures read { IfOk result (λ r. ReadAt (number_below width (2 ^ (8 * width))) frags.now at r.0 r.1) }
-    ensures stop { IfErr result (λ stop. (of_length : Bool) (bound : ℕ) → bound ≤ 2 ^ (8 * width) → StopsAt stop (number_in of_length width bound) frags.now at) }
+    ensures stop { IfErr result (λ stop. StopsNumber stop width frags.now at) }
 {
     let place = skip(frags, at, width)?;
     let end = place + width;

@@ -19,10 +19,8 @@
 //! - `reading.rt`: a call from its fragments, where these are a call's
 //! - `fault.rt`: why fragments are those of no calls
 //! - `law.rt`: the laws
-//! - `bounds.rt`: the laws hold of every interface in memory
 #![tactic(auto)]
 
-mod bounds;
 mod call;
 mod encode;
 mod fault;
@@ -35,11 +33,11 @@ mod reading;
 mod types;
 mod value;
 
-pub use bounds::numbers_fit_words;
 pub use encode::payload;
 pub use fault::WireFault;
-pub use fragments::{fragment, fragment_at, fragment_count};
+pub use fl_layout::fragment_count;
+pub use fragments::{fragment, fragment_at};
 pub use header::{follow_fault, is_line, start_fault};
-pub use law::{none_begins_with_another, one_reading, reads_once};
+pub use law::{none_begins_with_another, numbers_fit_words, one_reading, reads_once};
 pub use reader::{Reading, read_frags};
 pub use reading::read_call_frags;

@@ -1,12 +1,10 @@
 //! A call from its fragments.
 
-ghost use Rattle.std.specs.Prelude.{◌≡◌, ◌≢◌, ℕ, ◌^◌, ◌<◌, ◌≤◌, nat_lt, true, map, take, if◌then◌else◌, IfOk, Some, None};
+ghost use Rattle.std.specs.Prelude.{◌≢◌, ◌<◌, IfOk, Some, None};
 ghost use Rattle.std.specs.Option.{option_map};
 ghost use Rattle.fl_check.specs.Interface.{interface_of};
-ghost use Rattle.fl_value.specs.Value.{TheCall, call_of};
-ghost use Rattle.fl_value.specs.Fits.{fits_of};
-ghost use Rattle.fl_layout.specs.Places.{count};
-ghost use Rattle.fl_wire.specs.Payload.{frags_of};
+ghost use Rattle.fl_value.specs.Value.{call_of};
+ghost use Rattle.fl_wire.specs.Reading.{ReadsBack};
 ghost use Rattle.fl_wire.specs.declared.leaf.Stop.TheVariants.{Memory};
 
 use crate::call::read_arguments;
@@ -37,7 +35,7 @@ pub fn read_call_frags(
     plan: PlanNo,
     frags: &[Frag],
 ) -> Result<Option<Call>, AllocError>
-    ensures read { IfOk result (λ found. (c : TheCall) (k : ℕ) → fits_of (interface_of interface.now) c ≡ true → c.msg < 2 ^ 16 → 0 < k → k ≤ count plan (interface_of interface.now) c → frags.now ≡ take k (frags_of plan (interface_of interface.now) c) → option_map call_of found ≡ (if nat_lt k (count plan (interface_of interface.now) c) then None else Some c)) }
+    ensures read { IfOk result (λ found. ReadsBack plan (interface_of interface.now) frags.now (option_map call_of found)) }
 {
     let Some(first) = frags.first() else {
         return Ok(None);
