@@ -8,7 +8,7 @@ use Rattle.std.specs.Int.{is_power_of_two}
 use Rattle.fl_base.specs.declared.fragment.Frag.{Frag}
 use Rattle.fl_base.specs.Control.{is_ack_only, stamped}
 use Rattle.fl_link.specs.Cursor.{epoch_at}
-use Rattle.fl_link.specs.Looks.{Look, Looks, LinkStep, placed, no_room, spent, saw, saw_ack, found, found_ack, missed, told, kept}
+use Rattle.fl_link.specs.Looks.{Look, LinkStep, placed, no_room, spent, saw, saw_ack, found, found_ack, missed, told, kept}
 use Rattle.fl_link.specs.Queue.{front_of}
 use Rattle.fl_ring.specs.Counts.{known_after, LastTells}
 use Rattle.fl_ring.specs.Way.{WayStands}

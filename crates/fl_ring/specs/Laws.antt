@@ -1,7 +1,6 @@
 -- What holds of rings over looks in a row: laws.
-use Rattle.std.specs.Prelude.{ℕ, ◌≡◌, ◌+◌, List, [], ◌∷◌, ◌++◌, map, length}
+use Rattle.std.specs.Prelude.{◌≡◌, ◌+◌, List, [], ◌∷◌, ◌++◌, map, length}
 use Rattle.std.specs.List.{flat_map}
-use Rattle.atomic_table.specs.Seated.{TableId}
 use Rattle.fl_base.specs.declared.fragment.Frag.{Frag}
 use Rattle.fl_base.specs.Control.{bare}
 use Rattle.fl_link.specs.Looks.{Look, Looks, LinkStep, placed, found, found_ack, told, puts_of, takes_of}

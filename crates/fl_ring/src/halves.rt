@@ -37,7 +37,13 @@ impl Half {
     pub(crate) fn new(base: usize, other: usize, size: usize) -> Half
         requires { 0 < size }
         ensures start { result ≡ record {
-            base = base; other = other; put = record { index = 0; size = size }; take = record { index = 0; size = size }; known = 0; told = 0 } }
+          base = base;
+          other = other;
+          put = record { index = 0; size = size };
+          take = record { index = 0; size = size };
+          known = 0;
+          told = 0;
+        } }
     {
         Half {
             base,
@@ -108,7 +114,7 @@ fn write(words: &mut Vec<u64>, mine: &mut Half, frag: &Frag)
         → InStep n words.new.items mine.new theirs
         × (half_of n words.new.items mine.new theirs ≡ with_written (half_of n words.old.items mine.old theirs))
         × (half_of n words.new.items theirs mine.new
-            ≡ with_arrived (half_of n words.old.items theirs mine.old) (written n (half_of n words.old.items mine.old theirs) frag.now)) }
+        ≡ with_arrived (half_of n words.old.items theirs mine.old) (written n (half_of n words.old.items mine.old theirs) frag.now)) }
     ensures place { mine.new.base ≡ mine.old.base }
 {
     let taken = mine.take.index();

@@ -3,8 +3,8 @@
 use crate::fragments::{Step, arrived, fill, pass_on, ping};
 use fl_base::Frag;
 use fl_link::{
-    Cursor, LinkFault, Passed, PutFault, PutSide, QueueLink, Sight, Told, calls_alone, filters_join,
-    looks_join, queue_conserves,
+    Cursor, LinkFault, Passed, PutFault, PutSide, QueueLink, Sight, Told, calls_alone,
+    filters_join, looks_join, queue_conserves,
 };
 use std::process::Abort;
 use std::test::Fail;

@@ -8,7 +8,9 @@ ghost use Rattle.fl_ring.specs.Duo.{DuoPuts, DuoTakes};
 use crate::fragments::{Step, arrived, fill, pass_on, ping};
 use fl_base::Frag;
 use fl_link::{Link, Passed, PutFault, PutSide, QueueLink, Sight, TakeSide, Told};
-use fl_ring::{OneDuo, OneRing, RingFault, Which, count_from, duo_conserves, forgets_looks, ring_conserves};
+use fl_ring::{
+    OneDuo, OneRing, RingFault, Which, count_from, duo_conserves, forgets_looks, ring_conserves,
+};
 use std::alloc::{AllocError, Global};
 use std::test::Fail;
 

@@ -64,10 +64,10 @@ pub(crate) fn load_control(
     ensures known { (seat.new.me.0.mine.put.known ≡ known.new) × (known.old ≤ known.new) × (known.new ≤ length seat.old.me.0.mine.put.sent) }
     ensures found { MatchOption result
         ((c : ℕ) × (epoch_of c ≢ due) × (seat.old.me.0.mine.take.peeked ≡ None)
-            × (seat.new.me ≡ (with_mine seat.old.me.0 (side_control seat.old.me.0.size seat.old.me.0.mine c), seat.old.me.1)))
+        × (seat.new.me ≡ (with_mine seat.old.me.0 (side_control seat.old.me.0.size seat.old.me.0.mine c), seat.old.me.1)))
         (λ c. (epoch_of c ≡ due)
-            × (seat.new.me ≡ (with_mine seat.old.me.0 (side_control seat.old.me.0.size seat.old.me.0.mine c), seat.old.me.1))
-            × IsPeekedControl seat.old.me.0.mine.take c) }
+        × (seat.new.me ≡ (with_mine seat.old.me.0 (side_control seat.old.me.0.size seat.old.me.0.mine c), seat.old.me.1))
+        × IsPeekedControl seat.old.me.0.mine.take c) }
 {
     let control = top.load::<LoadControl>(seat, first + 7);
     if control % 2 != due {

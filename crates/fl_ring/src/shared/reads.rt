@@ -21,7 +21,7 @@ fn load_control(top: &Top, seat: &mut Place, first: usize, due: u64) -> Option<u
     ensures table { seat.new.table_id ≡ seat.old.table_id }
     ensures found { MatchOption result
         ((c : ℕ) × (epoch_of c ≢ due) × (seat.old.me.0.take.peeked ≡ None)
-            × (seat.new.me ≡ (with_reading seat.old.me.0 (with_control seat.old.me.0.size seat.old.me.0.take c), seat.old.me.1)))
+        × (seat.new.me ≡ (with_reading seat.old.me.0 (with_control seat.old.me.0.size seat.old.me.0.take c), seat.old.me.1)))
         (λ c. (epoch_of c ≡ due) × (seat.new.me ≡ (with_reading seat.old.me.0 (with_control seat.old.me.0.size seat.old.me.0.take c), seat.old.me.1))) }
 {
     let control = top.load::<LoadControl>(seat, first + 7);
