@@ -2,7 +2,7 @@
 
 ghost use Rattle.std.specs.Prelude.{◌≡◌, false, OnOk, OnErr};
 ghost use Rattle.fl_base.specs.Control.{is_ack_only, bare};
-ghost use Rattle.fl_link.specs.Looks.{placed, taken};
+ghost use Rattle.fl_link.specs.Looks.{placed, peeked, taken};
 ghost use Rattle.fl_ring.specs.Duo.{DuoPuts, DuoTakes};
 
 use crate::fragments::{Step, arrived, fill, pass_on, ping};
@@ -47,6 +47,13 @@ fn take_by_side(duo: &mut OneDuo, which: Which) -> Sight
     side.take()
 }
 
+fn look_by_side(duo: &mut OneDuo, which: Which) -> Sight
+    ensures look { DuoTakes which duo.old (peeked result) duo.new }
+{
+    let mut side = duo.side(which);
+    side.peek()
+}
+
 // Looks at a side, and forgets what the look told.
 fn look_and_forget(duo: &mut OneDuo, which: Which) -> Sight
     ensures forgotten { duo.new ≡ duo.old }
@@ -58,7 +65,7 @@ fn look_and_forget(duo: &mut OneDuo, which: Which) -> Sight
     seen
 }
 
-// Looks at a side and takes memory; where there is none the ring is as it was.
+// Looks at a lent side and then takes memory; where there is none the ring is as it was.
 fn look_and_take_memory(
     alloc: Global,
     duo: &mut OneDuo,
@@ -67,7 +74,7 @@ fn look_and_take_memory(
     ensures unchanged { OnErr result (duo.new ≡ duo.old) }
 {
     let known = duo.known(which);
-    let _ = duo.peek(which);
+    let _ = look_by_side(duo, which);
     match Vec::with_capacity(alloc, 8) {
         Ok(room) => Ok(room),
         Err(fault) => {
@@ -217,7 +224,7 @@ fn look_at(duo: &mut OneDuo, which: Which) -> Sight {
     duo.peek(which)
 }
 
-fn look_again_at(duo: &mut OneDuo, which: Which) -> Sight {
+fn look_and_forget_at(duo: &mut OneDuo, which: Which) -> Sight {
     look_and_forget(duo, which)
 }
 
@@ -234,7 +241,7 @@ fn forgets_what_a_look_told(rt: HostRuntime) -> Result<(), Fail> {
     let mut duo = OneDuo::new(rt.alloc(), 4)?;
     assert!(rt; ask_and_answer(&mut duo));
     let answer = arrived(8, 0x0001_0000_0000_0003);
-    assert_eq!(rt; look_again_at(&mut duo, Which::One), answer);
+    assert_eq!(rt; look_and_forget_at(&mut duo, Which::One), answer);
     assert_eq!(rt; known_at(&duo, Which::One), 0);
     assert_eq!(rt; look_at(&mut duo, Which::One), answer);
     assert_eq!(rt; known_at(&duo, Which::One), 1);
