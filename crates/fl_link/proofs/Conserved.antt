@@ -1,17 +1,18 @@
 -- Looks in a row: what they placed and found, and what a queue holds over them.
-use Rattle.std.proofs.Common.{ℕ, ◌≡◌, ◌<◌, ◌+◌, ◌*◌, ◌/◌, ◌%◌, ◌^◌, ◌⊎◌, ◌==◌, ◌&&◌, inl, inr, refl, sym, ap, subst, ◌∙◌, append_assoc, Bool, true, false, not, cond, List, [], ◌∷◌, ◌++◌, map, arith}
-use Rattle.std.specs.List.{flat_map, filter, list_all}
+use Rattle.std.proofs.Common.{ℕ, ◌≡◌, ◌<◌, ◌+◌, ◌*◌, ◌/◌, ◌%◌, ◌^◌, ◌==◌, ◌&&◌, inl, inr, refl, sym, ap, subst, ◌∙◌, append_assoc, Bool, true, false, not, cond, List, [], ◌∷◌, ◌++◌, map, arith}
+use Rattle.std.specs.List.{list_all}
 use Rattle.std.proofs.lemmas.List.{append-nil, map-append}
 use Rattle.std.proofs.lemmas.List.Elements.{filter-append}
 use Rattle.std.proofs.lemmas.Grind.{flat_map-append}
 use Rattle.fl_base.specs.declared.fragment.Frag.{Frag}
 use Rattle.fl_base.specs.Control.{is_ack_only, body, bare, stamped}
+use Rattle.fl_base.specs.Prefix.{IsPrefix}
 use Rattle.fl_link.specs.Cursor.{epoch_at}
 use Rattle.fl_link.specs.Looks.{Look, placed, no_room, spent, saw, saw_ack, found, found_ack, missed, told, kept, Looks, LinkStep, put_in, took_in, puts_of, takes_of}
 use Rattle.fl_link.specs.Calls.{calls_only, bare_calls}
 use Rattle.fl_link.specs.Queue.{TheQueue, QueuePuts, QueueTakes, next_epoch_of, with_put, with_taken, look_at, front_of}
 use Rattle.fl_link.specs.Laws.{QueueConserves}
-use Rattle.fl_link.proofs.Carried.{body-body, body-stamped, bare-stamped}
+use Rattle.fl_link.proofs.Carried.{bare-stamped}
 
 -- ---- looks in a row
 
@@ -91,11 +92,14 @@ calls_only-again [] = refl
 calls_only-again (f ∷ fs) = cases (is_ack_only f) refl (calls_only-again fs) where
   cases : (b : Bool) → is_ack_only f ≡ b → calls_only (calls_only fs) ≡ calls_only fs → calls_only (calls_only (f ∷ fs)) ≡ calls_only (f ∷ fs)
   cases true e rest = let
-    left : calls_only (f ∷ fs) ≡ calls_only fs = ap (λ (b : Bool). cond (not b) (f ∷ calls_only fs) (calls_only fs)) e in
-    ap calls_only left ∙ rest ∙ sym left
+      left : calls_only (f ∷ fs) ≡ calls_only fs = ap (λ (b : Bool). cond (not b) (f ∷ calls_only fs) (calls_only fs)) e in
+      ap calls_only left ∙ rest ∙ sym left
   cases false e rest = let
-    kept_f : calls_only (f ∷ fs) ≡ f ∷ calls_only fs = ap (λ (b : Bool). cond (not b) (f ∷ calls_only fs) (calls_only fs)) e in
-    ap calls_only kept_f ∙ ap (λ (b : Bool). cond (not b) (f ∷ calls_only (calls_only fs)) (calls_only (calls_only fs))) e ∙ ap (λ (l : List Frag). f ∷ l) rest ∙ sym kept_f
+      kept_f : calls_only (f ∷ fs) ≡ f ∷ calls_only fs = ap (λ (b : Bool). cond (not b) (f ∷ calls_only fs) (calls_only fs)) e in
+      ap calls_only kept_f ∙ ap (λ (b : Bool). cond (not b) (f ∷ calls_only (calls_only fs)) (calls_only (calls_only fs))) e ∙ ap (λ (l : List Frag). f ∷ l) rest ∙ sym kept_f
+
+pub calls_prefix : (xs ys : List Frag) → IsPrefix xs ys → IsPrefix (bare_calls xs) (bare_calls ys)
+calls_prefix xs ys (rest, e) = (bare_calls rest, ap bare_calls e ∙ bare_calls-join xs rest)
 
 -- ---- what a look at a fragment tells
 
@@ -129,7 +133,7 @@ same_queue s t look e put took = record {
   same_capacity = ap (λ (q : TheQueue). q.capacity) e;
   same_kind = ap (λ (q : TheQueue). q.acked) e;
   calls = ap (λ (fs : List Frag). bare_calls s.items ++ map bare (fs ++ [])) put ∙ append-nil (bare_calls s.items)
-    ∙ ap (λ (q : TheQueue). bare_calls q.items) (sym e) ∙ ap (λ (fs : List Frag). (fs ++ []) ++ bare_calls t.items) (sym took);
+      ∙ ap (λ (q : TheQueue). bare_calls q.items) (sym e) ∙ ap (λ (fs : List Frag). (fs ++ []) ++ bare_calls t.items) (sym took);
 }
 
 gained : (s t : TheQueue) (f : Frag) → is_ack_only f ≡ false → t ≡ with_put s f → QueueConserves s (placed f ∷ []) t
@@ -149,7 +153,7 @@ lost s t look first rest items e put took = record {
   same_capacity = ap (λ (q : TheQueue). q.capacity) e;
   same_kind = ap (λ (q : TheQueue). q.acked) e;
   calls = ap (λ (fs : List Frag). bare_calls s.items ++ map bare (fs ++ [])) put ∙ append-nil (bare_calls s.items) ∙ ap bare_calls items ∙ took
-    ∙ ap (λ (fs : List Frag). fs ++ bare_calls rest) (sym (append-nil (took_in look))) ∙ ap (λ (q : TheQueue). (took_in look ++ []) ++ bare_calls q.items) (sym e);
+      ∙ ap (λ (fs : List Frag). fs ++ bare_calls rest) (sym (append-nil (took_in look))) ∙ ap (λ (q : TheQueue). (took_in look ++ []) ++ bare_calls q.items) (sym e);
 }
 
 puts_conserve : (s t : TheQueue) (look : Look) → QueuePuts s look t → QueueConserves s (look ∷ []) t
@@ -192,9 +196,9 @@ conserves_join s t u xs ys a b = record {
   same_capacity = b.same_capacity ∙ a.same_capacity;
   same_kind = b.same_kind ∙ a.same_kind;
   calls = ap (λ (fs : List Frag). bare_calls s.items ++ map bare fs) (puts_of-join xs ys)
-    ∙ ap (λ (fs : List Frag). bare_calls s.items ++ fs) (map-append bare (puts_of xs) (puts_of ys))
-    ∙ goes_through (bare_calls s.items) (map bare (puts_of xs)) (takes_of xs) (bare_calls t.items) (map bare (puts_of ys)) (takes_of ys) (bare_calls u.items) a.calls b.calls
-    ∙ ap (λ (fs : List Frag). fs ++ bare_calls u.items) (sym (takes_of-join xs ys));
+      ∙ ap (λ (fs : List Frag). bare_calls s.items ++ fs) (map-append bare (puts_of xs) (puts_of ys))
+      ∙ goes_through (bare_calls s.items) (map bare (puts_of xs)) (takes_of xs) (bare_calls t.items) (map bare (puts_of ys)) (takes_of ys) (bare_calls u.items) a.calls b.calls
+      ∙ ap (λ (fs : List Frag). fs ++ bare_calls u.items) (sym (takes_of-join xs ys));
 }
 
 pub queue_conserves : (s t : TheQueue) (looks : List Look) → Looks (LinkStep QueuePuts QueueTakes) s looks t → QueueConserves s looks t

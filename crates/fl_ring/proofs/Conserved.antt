@@ -1,6 +1,5 @@
 -- Rings over looks in a row: nothing is lost, nothing comes from elsewhere, order stays.
-use Rattle.std.proofs.Common.{ℕ, ◌≡◌, ◌<◌, ◌≤◌, ◌+◌, ◌-◌, ◌*◌, ◌/◌, ◌%◌, ◌^◌, ◌⊎◌, inl, inr, refl, sym, ap, subst, ◌∙◌, append_assoc, length-append, nat_le, nat_lt, Bool, true, false, cond, List, [], ◌∷◌, ◌++◌, map, length, Option, Some, None, arith}
-use Rattle.std.specs.List.{flat_map}
+use Rattle.std.proofs.Common.{ℕ, ◌≡◌, ◌<◌, ◌+◌, ◌/◌, ◌%◌, ◌⊎◌, inl, inr, refl, sym, ap, ◌∙◌, append_assoc, length-append, nat_le, Bool, true, false, List, [], ◌∷◌, ◌++◌, map, length, None, arith}
 use Rattle.std.proofs.lemmas.List.{append-nil, map-append}
 use Rattle.std.proofs.lemmas.Bool.{leb-true, leb-false}
 use Rattle.std.proofs.lemmas.Grind.{flat_map-append}
@@ -13,15 +12,14 @@ use Rattle.fl_link.specs.Queue.{QueuePuts, QueueTakes, look_at, front_of}
 use Rattle.fl_link.specs.Laws.{QueueConserves}
 use Rattle.fl_link.proofs.Carried.{bare-stamped}
 use Rattle.fl_link.proofs.Conserved.{over_looks, puts_of-join, takes_of-join, bare_calls-join, one_call, first_call, first_ack, stamped-ack, sees_call, sees_ack, queue_conserves}
-use Rattle.fl_ring.specs.Counts.{known_after, count_from}
+use Rattle.fl_ring.specs.Counts.{count_from}
 use Rattle.fl_ring.specs.Ring.{TheRing, queue_of, RingPuts, RingTakes}
-use Rattle.fl_ring.specs.Duo.{TheHalf, TheDuo, HalfPuts, HalfTakes, DuoPuts, DuoTakes, DuoLooks, CountsAreNear, MayForget, acknowledgement, only_looks, side_of, across, got, knowing, looked, counts_by, free, written, with_known, with_written, with_arrived, with_taken, with_waiting}
+use Rattle.fl_ring.specs.Duo.{TheHalf, TheDuo, HalfPuts, HalfTakes, DuoPuts, DuoTakes, acknowledgement, side_of, across, got, looked, counts_by, written, with_known, with_written, with_arrived, with_taken, with_waiting}
 use Rattle.fl_ring.specs.SharedSeats.{Sender, Receiver, SenderPuts, ReceiverTakes}
 use Rattle.fl_ring.specs.SharedSides.{TheSide, SharedPuts, SharedTakes, Looked, free_of, side_written, side_seen, side_taken, side_missed, side_counted, MayStand, KnowsSent}
 use Rattle.fl_ring.specs.Laws.{wrote_in, read_in, writes_of, reads_of, HalfConserves, DuoConserves, SenderConserves, ReceiverConserves, SideConserves}
 use Rattle.fl_ring.specs.declared.one_duo.Which.{Which}
 use Rattle.fl_ring.specs.declared.one_duo.Which.TheVariants.{One, Two}
-use Rattle.fl_ring.proofs.Numbers.{after_rises}
 
 -- ---- a ring with one owner
 
@@ -101,7 +99,7 @@ half_writes n s p t q k look f e d wrote took read put = record {
   sent = ap (λ (h : TheHalf). h.sent) e ∙ (let l : length (wrote_in look ++ []) ≡ 1 = ap (λ (fs : List Frag). length (fs ++ [])) wrote in omega (arith, l));
   read = ap got e ∙ (let l : length (read_in look ++ []) ≡ 0 = ap (λ (fs : List Frag). length (fs ++ [])) read in omega (arith, l));
   wrote = ap (λ (h : TheHalf). map bare h.waiting) d ∙ bare_one p.waiting f (epoch_at n s.sent) (got s % 65536) (bit_of n s.sent)
-    ∙ ap (λ (fs : List Frag). map bare p.waiting ++ map bare (fs ++ [])) (sym wrote);
+      ∙ ap (λ (fs : List Frag). map bare p.waiting ++ map bare (fs ++ [])) (sym wrote);
   put = ap (λ (h : TheHalf). bare_calls h.waiting) d ∙ put;
   took = ap (λ (h : TheHalf). bare_calls h.waiting) (sym e) ∙ ap (λ (fs : List Frag). (fs ++ []) ++ bare_calls t.waiting) (sym took);
   elsewhere = d ∙ ap (λ (h : TheHalf). with_waiting p h.waiting) (sym d);
@@ -165,11 +163,11 @@ half_join s p t q u v xs ys a b = record {
   sent = counts_both s.sent t.sent u.sent (writes_of xs) (writes_of ys) a.sent b.sent ∙ ap (λ (l : List Frag). s.sent + length l) (sym (writes_of-join xs ys));
   read = counts_both (got s) (got t) (got u) (reads_of xs) (reads_of ys) a.read b.read ∙ ap (λ (l : List Frag). got s + length l) (sym (reads_of-join xs ys));
   wrote = bare_adds (map bare p.waiting) (map bare q.waiting) (map bare v.waiting) (writes_of xs) (writes_of ys) a.wrote b.wrote
-    ∙ ap (λ (l : List Frag). map bare p.waiting ++ map bare l) (sym (writes_of-join xs ys));
+      ∙ ap (λ (l : List Frag). map bare p.waiting ++ map bare l) (sym (writes_of-join xs ys));
   put = bare_adds (bare_calls p.waiting) (bare_calls q.waiting) (bare_calls v.waiting) (puts_of xs) (puts_of ys) a.put b.put
-    ∙ ap (λ (l : List Frag). bare_calls p.waiting ++ map bare l) (sym (puts_of-join xs ys));
+      ∙ ap (λ (l : List Frag). bare_calls p.waiting ++ map bare l) (sym (puts_of-join xs ys));
   took = takes_both (bare_calls s.waiting) (bare_calls t.waiting) (bare_calls u.waiting) (takes_of xs) (takes_of ys) a.took b.took
-    ∙ ap (λ (l : List Frag). l ++ bare_calls u.waiting) (sym (takes_of-join xs ys));
+      ∙ ap (λ (l : List Frag). l ++ bare_calls u.waiting) (sym (takes_of-join xs ys));
   elsewhere = b.elsewhere ∙ ap (λ (h : TheHalf). with_waiting h v.waiting) a.elsewhere;
 }
 
@@ -332,10 +330,10 @@ side_writes s m t look f same e wrote took read put = record {
   same_holder = ap (λ (x : TheSide). x.holder) e ∙ same.holder;
   same_size = ap (λ (x : TheSide). x.size) e ∙ same.size;
   sent = ap (λ (x : TheSide). map bare x.sent) e ∙ bare_one m.sent f (epoch_at m.size (length m.sent)) (length m.got % 65536) (bit_of m.size (length m.sent))
-    ∙ ap (λ (fs : List Frag). map bare fs ++ map bare (f ∷ [])) same.sent ∙ ap (λ (fs : List Frag). map bare s.sent ++ map bare (fs ++ [])) (sym wrote);
+      ∙ ap (λ (fs : List Frag). map bare fs ++ map bare (f ∷ [])) same.sent ∙ ap (λ (fs : List Frag). map bare s.sent ++ map bare (fs ++ [])) (sym wrote);
   put = ap (λ (x : TheSide). bare_calls x.sent) e ∙ put ∙ ap (λ (fs : List Frag). bare_calls fs ++ map bare (put_in look ++ [])) same.sent;
   read = let l : length (read_in look ++ []) ≡ 0 = ap (λ (fs : List Frag). length (fs ++ [])) read in
-    let g : length t.got ≡ length s.got = ap (λ (x : TheSide). length x.got) e ∙ ap length same.got in omega (arith, l, g);
+      let g : length t.got ≡ length s.got = ap (λ (x : TheSide). length x.got) e ∙ ap length same.got in omega (arith, l, g);
   took = ap (λ (x : TheSide). bare_calls x.got) e ∙ ap bare_calls same.got ∙ sym (append-nil (bare_calls s.got)) ∙ ap (λ (fs : List Frag). bare_calls s.got ++ (fs ++ [])) (sym took);
 }
 
@@ -377,7 +375,7 @@ side_take s t missed (none, e) = side_looks s t missed (when_missed s t e) refl 
 side_take s t told (much, unspent, (m, by, room, e)) =
     side_writes s m t told acknowledgement (looked_same 1 s m by) e refl refl refl
     (calls_none m.sent (stamped acknowledgement (epoch_at m.size (length m.sent)) (length m.got % 65536)) (stamped-ack acknowledgement (epoch_at m.size (length m.sent)) (length m.got % 65536) (bit_of m.size (length m.sent)))
-      ∙ sym (append-nil (bare_calls m.sent)))
+    ∙ sym (append-nil (bare_calls m.sent)))
 side_take s t kept (few, e) = side_looks s t kept (same_lists s t e) refl refl refl refl
 side_take s t no_room (much, inl (last, e)) = side_looks s t no_room (same_lists s t e) refl refl refl refl
 side_take s t no_room (much, inr (unspent, by, few, still)) = side_looks s t no_room (looked_same 1 s t by) refl refl refl refl

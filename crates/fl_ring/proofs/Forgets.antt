@@ -1,10 +1,9 @@
 -- What a side of a ring of two directions learned by looks can be forgotten.
-use Rattle.std.proofs.Common.{ℕ, ◌≡◌, ◌<◌, ◌≤◌, ◌+◌, ◌⊎◌, inl, inr, refl, sym, ap, subst, ◌∙◌, nat_le, Bool, true, false, cond, List, [], ◌∷◌, ◌++◌, arith}
-use Rattle.fl_base.specs.declared.fragment.Frag.{Frag}
-use Rattle.fl_link.specs.Looks.{Look, placed, no_room, spent, saw, saw_ack, found, found_ack, missed, told, kept, Looks, LinkStep}
+use Rattle.std.proofs.Common.{ℕ, ◌≡◌, ◌≤◌, inl, inr, refl, sym, ap, subst, ◌∙◌, nat_le, Bool, true, false, cond, List, [], arith}
+use Rattle.fl_link.specs.Looks.{Look, placed, no_room, spent, saw, saw_ack, found, found_ack, missed, told, kept, Looks}
 use Rattle.fl_link.proofs.Conserved.{over_looks}
 use Rattle.fl_ring.specs.Counts.{known_after}
-use Rattle.fl_ring.specs.Duo.{TheHalf, TheDuo, HalfPuts, HalfTakes, DuoPuts, DuoTakes, DuoLooks, CountsAreNear, MayForget, only_looks, side_of, across, knowing, looked, counts_by, free, with_known}
+use Rattle.fl_ring.specs.Duo.{TheHalf, TheDuo, HalfPuts, HalfTakes, DuoLooks, CountsAreNear, MayForget, only_looks, side_of, across, knowing, looked, counts_by, free, with_known}
 use Rattle.fl_ring.specs.declared.one_duo.Which.{Which}
 use Rattle.fl_ring.specs.declared.one_duo.Which.TheVariants.{One, Two}
 use Rattle.fl_ring.proofs.Numbers.{after_rises}

@@ -2,7 +2,7 @@
 use Rattle.std.proofs.Common.{ℕ, zero, suc, ◌≡◌, ◌≢◌, ◌<◌, ◌≤◌, ◌+◌, ◌*◌, ◌%◌, ◌-◌, ◌^◌, Bool, true, false, cond, ltb, ◌&&◌, set, inr, List, [], ◌∷◌, ◌++◌, length, get_or, ap, subst, ◌∙◌, sym, refl, arith, Option, Some, None, MatchOption, length-append, append_assoc, length-set, get_or-set_same, get_or-set_other}
 use Rattle.fl_base.specs.declared.fragment.Frag.{Frag}
 use Rattle.fl_base.specs.Control.{epoch_of, is_ack_only, bare, stamped}
-use Rattle.fl_link.specs.Looks.{placed, no_room, spent, saw, saw_ack, found, found_ack, told}
+use Rattle.fl_link.specs.Looks.{no_room, spent, saw, saw_ack, found, found_ack, told}
 use Rattle.fl_link.specs.Queue.{TheQueue, with_taken, front_of, has_room, next_epoch_of}
 use Rattle.fl_link.proofs.Carried.{stamped-bare}
 use Rattle.fl_link.specs.Cursor.{epoch_at}

@@ -1,8 +1,7 @@
 -- The steps of a ring over shared words: what the rule allows each side.
-use Rattle.std.proofs.Common.{ℕ, ◌≡◌, ◌≢◌, ◌<◌, ◌≤◌, ◌+◌, ◌*◌, ◌^◌, true, List, length, get_or, set, ap, subst, ◌∙◌, sym, refl, arith, length-set, get_or-set_same, get_or-set_other}
+use Rattle.std.proofs.Common.{ℕ, ◌≡◌, ◌≢◌, ◌<◌, ◌≤◌, ◌+◌, ◌*◌, ◌^◌, true, List, length, get_or, set, subst, ◌∙◌, sym, refl, arith, length-set, get_or-set_same, get_or-set_other}
 use mathlib.Core.Option.{none}
 use Rattle.atomic_table.specs.Table.{Me, step, Allows}
-use Rattle.fl_base.specs.declared.fragment.Frag.{Frag}
 use Rattle.fl_base.specs.Control.{epoch_of}
 use Rattle.fl_link.specs.Cursor.{epoch_at}
 use Rattle.fl_ring.specs.declared.shared.board.Writing.{Writing}

@@ -2,12 +2,13 @@
 --
 -- Each side puts fragments into its own way and takes those of the other. Every control word that
 -- it writes tells how many fragments it has taken.
-use Rattle.std.specs.Prelude.{ℕ, ◌≡◌, ◌+◌, ◌-◌, ◌*◌, ◌/◌, ◌%◌, ◌≤◌, ◌<◌, ◌^◌, ◌⊎◌, nat_le, nat_lt, ◌&&◌, Bool, true, false, if◌then◌else◌, IsTrue, List, [], ◌∷◌, ◌++◌, length}
+use Rattle.std.specs.Prelude.{ℕ, ◌≡◌, ◌+◌, ◌-◌, ◌*◌, ◌/◌, ◌%◌, ◌≤◌, ◌<◌, ◌^◌, ◌⊎◌, nat_le, nat_lt, ◌&&◌, Bool, true, false, if◌then◌else◌, IsTrue}
+use Rattle.std.specs.Prelude.{List, [], ◌∷◌, ◌++◌, length}
 use Rattle.std.specs.Int.{is_power_of_two}
 use Rattle.fl_base.specs.declared.fragment.Frag.{Frag}
 use Rattle.fl_base.specs.Control.{is_ack_only, stamped}
 use Rattle.fl_link.specs.Cursor.{epoch_at}
-use Rattle.fl_link.specs.Looks.{Look, Looks, LinkStep, placed, no_room, spent, saw, saw_ack, found, found_ack, missed, told, kept}
+use Rattle.fl_link.specs.Looks.{Look, LinkStep, placed, no_room, spent, saw, saw_ack, found, found_ack, missed, told, kept}
 use Rattle.fl_link.specs.Queue.{front_of}
 use Rattle.fl_ring.specs.Counts.{known_after, LastTells}
 use Rattle.fl_ring.specs.Way.{WayStands}

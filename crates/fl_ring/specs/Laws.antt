@@ -1,14 +1,14 @@
 -- What holds of rings over looks in a row: laws.
-use Rattle.std.specs.Prelude.{ℕ, ◌≡◌, ◌+◌, List, [], ◌∷◌, ◌++◌, map, length}
+use Rattle.std.specs.Prelude.{◌≡◌, ◌+◌, List, [], ◌∷◌, ◌++◌, map, length}
 use Rattle.std.specs.List.{flat_map}
-use Rattle.atomic_table.specs.Seated.{TableId}
 use Rattle.fl_base.specs.declared.fragment.Frag.{Frag}
 use Rattle.fl_base.specs.Control.{bare}
 use Rattle.fl_link.specs.Looks.{Look, Looks, LinkStep, placed, found, found_ack, told, puts_of, takes_of}
 use Rattle.fl_link.specs.Calls.{bare_calls}
 use Rattle.fl_link.specs.Laws.{QueueConserves}
 use Rattle.fl_ring.specs.Ring.{TheRing, queue_of, RingPuts, RingTakes}
-use Rattle.fl_ring.specs.Duo.{TheHalf, TheDuo, DuoPuts, DuoTakes, DuoLooks, CountsAreNear, MayForget, acknowledgement, side_of, across, got, knowing, with_waiting}
+use Rattle.fl_ring.specs.Duo.{TheHalf, TheDuo, DuoPuts, DuoTakes, DuoLooks, CountsAreNear, MayForget, acknowledgement, side_of, across, got, knowing}
+use Rattle.fl_ring.specs.Duo.{with_waiting}
 use Rattle.fl_ring.specs.SharedSeats.{Sender, Receiver, SenderPuts, ReceiverTakes}
 use Rattle.fl_ring.specs.SharedSides.{TheSide, SharedPuts, SharedTakes}
 use Rattle.fl_ring.specs.declared.one_duo.Which.{Which}

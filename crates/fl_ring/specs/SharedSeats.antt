@@ -1,5 +1,6 @@
 -- The seats of a ring over shared words, as its code holds them, and what callers see of a side.
-use Rattle.std.specs.Prelude.{ℕ, ◌≡◌, ◌+◌, ◌*◌, ◌≤◌, ◌<◌, ◌^◌, ◌&&◌, nat_lt, Bool, true, false, if◌then◌else◌, List, [], ◌∷◌, ◌++◌, length, Option, Some, None}
+use Rattle.std.specs.Prelude.{ℕ, ◌≡◌, ◌+◌, ◌*◌, ◌≤◌, ◌<◌, ◌^◌, ◌&&◌, nat_lt, Bool, true, false, if◌then◌else◌, List, [], ◌∷◌, ◌++◌, length, Option}
+use Rattle.std.specs.Prelude.{Some, None}
 use Rattle.atomic_table.specs.Seated.{TableId}
 use Rattle.atomic_table.specs.declared.shared.Seat.{Seat}
 use Rattle.fl_base.specs.declared.fragment.Frag.{Frag}
@@ -75,7 +76,14 @@ abbrev pub sender_of : RingSeat → Sender
 sender_of s = record { ring = s.table_id; size = s.me.0.size; sent = s.me.0.put.sent; known = s.me.0.put.known; loads = s.me.0.put.loads }
 
 abbrev pub receiver_of : RingSeat → Receiver
-receiver_of s = record { ring = s.table_id; size = s.me.0.size; got = s.me.0.take.got; peeked = s.me.0.take.peeked; misses = s.me.0.take.misses; told = s.me.0.take.told }
+receiver_of s = record {
+  ring = s.table_id;
+  size = s.me.0.size;
+  got = s.me.0.take.got;
+  peeked = s.me.0.take.peeked;
+  misses = s.me.0.take.misses;
+  told = s.me.0.take.told;
+}
 
 -- The sender counts the free slots. The number told is loaded only where what is known leaves none.
 pub record Counts (s t : Sender) : Type 0 where

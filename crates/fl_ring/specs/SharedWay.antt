@@ -31,7 +31,7 @@ pub record IsLoaded (sent got : List Frag) (part : List ℕ) (last : ℕ) : Type
 pub record WayRuns (b n : ℕ) (words : List ℕ) (w : Writing) (r : Reading) (told : ℕ) : Type 0 where
   -- every fragment sent and not told is in its slot, and the epochs say so
   pub holds : WayHolds b n words w.sent told
-  -- what was told was got, and what was got is a front of what was sent
+  -- what was told was got, and what was got is a prefix of what was sent
   pub told_got : told ≤ length r.got
   pub got_sent : IsPrefix r.got w.sent
   -- the writer knows no more than what was told, and goes no round beyond what it knows

@@ -28,7 +28,8 @@ pub use counts::count_from;
 pub use duo_side::DuoSide;
 pub use fault::RingFault;
 pub use law::{
-    duo_conserves, forgets_looks, receiver_conserves, ring_conserves, sender_conserves, side_conserves,
+    duo_conserves, forgets_looks, receiver_conserves, ring_conserves, sender_conserves,
+    side_conserves,
 };
 pub use one_duo::{OneDuo, Which};
 pub use one_ring::OneRing;

@@ -1,12 +1,14 @@
 //! A ring of two directions with one owner.
 
-ghost use Rattle.std.specs.Prelude.{◌≡◌, ◌≢◌, ◌+◌, ◌*◌, ◌-◌, ◌^◌, ◌/◌, ◌%◌, ◌<◌, ◌≤◌, ◌↔◌, ℕ, true, false, nat_le, nat_lt, ◌&&◌, [], List, length, IfOk, OnOk, Ok, Err};
+ghost use Rattle.std.specs.Prelude.{◌≡◌, ◌≢◌, ◌+◌, ◌*◌, ◌-◌, ◌^◌, ◌/◌, ◌%◌, ◌<◌, ◌≤◌, ◌↔◌, ℕ, true, false, nat_le, nat_lt, ◌&&◌, [], List, length};
+ghost use Rattle.std.specs.Prelude.{IfOk, OnOk, Ok, Err};
 ghost use Rattle.fl_base.specs.declared.fragment.Frag.{Frag};
 ghost use Rattle.fl_base.specs.Control.{is_ack_only, bare};
 ghost use Rattle.fl_link.specs.Cursor.{epoch_at};
 ghost use Rattle.fl_link.specs.Looks.{placed, no_room, spent, saw, saw_ack, peeked, taken, tells};
 ghost use Rattle.fl_link.specs.Queue.{BeginsWith, front_of};
-ghost use Rattle.fl_ring.specs.Duo.{TheDuo, DuoPuts, DuoTakes, DuoStands, MayHaveSlots, CountsAreNear, side_of, across, got, half_has_room, new_half, MayForget, knowing};
+ghost use Rattle.fl_ring.specs.Duo.{TheDuo, DuoPuts, DuoTakes, DuoStands, MayHaveSlots, CountsAreNear, side_of, across, got, half_has_room, new_half};
+ghost use Rattle.fl_ring.specs.Duo.{MayForget, knowing};
 
 use crate::fault::RingFault;
 use crate::halves::{Half, peek_at, put_at, room_at, take_at, tell_at};

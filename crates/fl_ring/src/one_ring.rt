@@ -1,6 +1,7 @@
 //! A ring with one owner.
 
-ghost use Rattle.std.specs.Prelude.{◌≡◌, ◌≢◌, ◌+◌, ◌*◌, ◌-◌, ◌^◌, ◌/◌, ◌%◌, ◌<◌, ◌≤◌, ◌↔◌, true, false, [], ◌∷◌, List, length, IfOk, OnOk, Ok, Err, vec_len, MatchOption, refl};
+ghost use Rattle.std.specs.Prelude.{◌≡◌, ◌≢◌, ◌+◌, ◌*◌, ◌-◌, ◌^◌, ◌/◌, ◌%◌, ◌<◌, ◌≤◌, ◌↔◌, true, false, [], ◌∷◌, List, length, IfOk, OnOk, Ok, Err};
+ghost use Rattle.std.specs.Prelude.{vec_len, MatchOption, refl};
 ghost use Rattle.fl_base.specs.declared.fragment.Frag.{Frag};
 ghost use Rattle.fl_base.specs.Control.{is_ack_only, bare};
 ghost use Rattle.fl_link.specs.Looks.{placed, no_room, spent, saw, saw_ack, found, found_ack, peeked, taken, tells};

@@ -60,7 +60,8 @@ fn mark(words: &mut Vec<u64>, size: usize, start: u64)
     requires start { start ≤ 2 ^ 62 }
     requires wide { vec_len words.old ≡ 16 * size }
     ensures wide { vec_len words.new ≡ 16 * size }
-    ensures free { (i : ℕ) → start ≤ i → i < start + size → (epoch_in 0 size words.new.items i ≢ epoch_at size i) × (epoch_in (8 * size) size words.new.items i ≢ epoch_at size i) }
+    ensures free { (i : ℕ) → start ≤ i → i < start + size
+        → (epoch_in 0 size words.new.items i ≢ epoch_at size i) × (epoch_in (8 * size) size words.new.items i ≢ epoch_at size i) }
 {
     let mut next = Cursor::at(size, start);
     for k in 0..size {

@@ -42,7 +42,8 @@ impl Model for SharedSide {
 
     ghost view = { λ s. side_of_seat s.seat };
 
-    ghost invariant = { λ s. IsDuoSeated (arc_value s.table).shared.table_id (arc_value s.table).shared.key s.seat × IsSide s.seat s.base s.other s.put s.take s.known s.told };
+    ghost invariant = { λ s. IsDuoSeated (arc_value s.table).shared.table_id (arc_value s.table).shared.key s.seat
+        × IsSide s.seat s.base s.other s.put s.take s.known s.told };
 }
 
 // A fragment that only acknowledges: bit 2 is set and nothing else.

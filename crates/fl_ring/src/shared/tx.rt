@@ -33,7 +33,8 @@ impl Model for RingTx {
 
     ghost view = { λ s. sender_of s.seat };
 
-    ghost invariant = { λ s. IsSeated (arc_value s.table).shared.table_id (arc_value s.table).shared.key s.seat × IsWriter s.seat s.put.size s.put.index s.known };
+    ghost invariant = { λ s. IsSeated (arc_value s.table).shared.table_id (arc_value s.table).shared.key s.seat
+        × IsWriter s.seat s.put.size s.put.index s.known };
 }
 
 impl RingTx {

@@ -1,4 +1,4 @@
-use Rattle.std.proofs.Common.{◌≡◌, refl, ◌<◌, ◌^◌, ap, ◌∙◌, sym, arith, true, nat_le}
+use Rattle.std.proofs.Common.{◌≡◌, ◌<◌, ◌^◌, ap, ◌∙◌, sym, arith, true, nat_le}
 use Rattle.fl_ring.specs.Duo.{free}
 use Rattle.fl_ring.specs.declared.halves.Half.{Half}
 use Rattle.fl_ring.proofs.DuoGoes.{put_goes, too_few, room_for}

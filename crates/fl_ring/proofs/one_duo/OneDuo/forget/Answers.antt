@@ -1,7 +1,6 @@
-use Rattle.std.proofs.Common.{ℕ, List, ap, subst, sym, ◌∙◌, rules}
+use Rattle.std.proofs.Common.{ℕ, subst, sym}
 use Rattle.fl_ring.specs.Duo.{TheDuo, MayForget, side_of}
 use Rattle.fl_ring.specs.declared.one_duo.Which.{Which}
-use Rattle.fl_ring.specs.declared.one_duo.Which.TheVariants.{One, Two}
 use Rattle.fl_ring.proofs.DuoSteps.{forget_steps, turned}
 use Rattle.fl_ring.proofs.one_duo.OneDuo.forget.Goals as goal
 
