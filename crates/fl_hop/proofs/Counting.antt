@@ -255,7 +255,7 @@ cond_some : {X : Type 0} (b : Bool) (x : X) → (if b then Some x else None) ≡
 cond_some true x e = absurd (cc)
 cond_some false x e = refl
 
-none_there : {X : Type 0} (p : X → Bool) (xs : List X) → position p xs ≡ None → (i : ℕ) (x : X) → slice_get xs i ≡ Some x → p x ≡ false
+pub none_there : {X : Type 0} (p : X → Bool) (xs : List X) → position p xs ≡ None → (i : ℕ) (x : X) → slice_get xs i ≡ Some x → p x ≡ false
 none_there p xs none i x at =
     let no = cond_some (nat_lt (position_or_len p xs) (length xs)) (position_or_len p xs) none in
     let inside = within xs i x at in
@@ -269,7 +269,7 @@ none_of (Some x) b e h = cc
 mapped_none : {X Y : Type 0} (f : X → Y) (o : Option X) → o ≡ None → option_map f o ≡ None
 mapped_none f o e = ap (option_map f) e
 
-unlike_core : (a b : ℕ) → (a == b) ≡ false → a ≡ b → ⊥
+pub unlike_core : (a b : ℕ) → (a == b) ≡ false → a ≡ b → ⊥
 unlike_core a b e is = grind (arith, nat_tests, e, is)
 
 sits_on : (way : Way) (x : Cell) (cells more : List Cell) → Sits cells way x → Sits (cells ++ more) way x

@@ -153,7 +153,7 @@ is_eq a b e = grind (arith, nat_tests, e)
 pub not_eq : (a b : ℕ) → a ≢ b → (a == b) ≡ false
 not_eq a b n = grind (arith, nat_tests, n)
 
-bool_cases : (b : Bool) → (b ≡ true) ⊎ (b ≡ false)
+pub bool_cases : (b : Bool) → (b ≡ true) ⊎ (b ≡ false)
 bool_cases true = inl refl
 bool_cases false = inr refl
 

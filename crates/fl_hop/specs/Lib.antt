@@ -1,6 +1,7 @@
 pub mod Table
 pub mod Numbers
 pub mod Joined
+pub mod Limits
 pub mod Openings
 pub mod Later
 pub mod OfCircuit

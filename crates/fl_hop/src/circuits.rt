@@ -95,6 +95,7 @@ impl Circuits {
     pub fn add_link(&mut self, neighbour: CoreId) -> Result<LinkId, HopFault>
         ensures added { OnOk result (self.new ≡ with_link self.old neighbour) }
         ensures link { IfOk result (λ link. link.0 ≡ length self.old.links) }
+        ensures later { OnOk result (Later self.old self.new) }
         ensures may { OnOk result (link_fault self.old neighbour.0 ≡ None) }
         ensures refused { IfErr result (IsRefusal (link_fault self.old neighbour.0)) }
         ensures kept { OnErr result (self.new ≡ self.old) }

@@ -6,6 +6,7 @@ ghost use Rattle.fl_base.specs.Prefix.{IsPrefix};
 ghost use Rattle.fl_hop.specs.Table.{TheCircuits, hop_at};
 ghost use Rattle.fl_hop.specs.Numbers.{OpenedHere, OpenedThere};
 ghost use Rattle.fl_hop.specs.Joined.{Sound};
+ghost use Rattle.fl_hop.specs.Limits.{LinksSuffice};
 ghost use Rattle.fl_hop.specs.Later.{Later};
 ghost use Rattle.fl_hop.specs.Carried.{OneEntry, Joins, StoodToo, CarriedOn, CarriedIn, OwnAlone, SetAside, Leg, Along};
 ghost use Rattle.fl_hop.specs.Adds.{PassageAdds, ForwardsAdd};
@@ -27,6 +28,12 @@ pub fn never_shared(circuits: &Circuits)
 pub fn numbers_apart()
     ensures apart { (t : TheCircuits) → Sound t → (l n : ℕ) → OpenedHere t l n → OpenedThere t l n → ⊥ }
     ensures zero { (t : TheCircuits) → Sound t → (l : ℕ) → hop_at t l 0 ≡ None }
+{}
+
+/// Among the cores of a world, 0 to 15, no link is refused for there being too many: whoever has 15 has one to each other
+/// core.
+pub fn links_suffice()
+    ensures suffice { LinksSuffice }
 {}
 
 /// What a table became, and what that became: a table keeps what each call keeps. An entry's number names it for ever.
