@@ -1,10 +1,10 @@
 //! What holds of every table, and of every stretch of forwards.
 
-ghost use Rattle.std.specs.Prelude.{◌≡◌, ◌++◌, ℕ, List, None};
+ghost use Rattle.std.specs.Prelude.{◌≡◌, ◌++◌, ℕ, List, None, Some};
 ghost use Rattle.fl_base.specs.declared.fragment.Frag.{Frag};
 ghost use Rattle.fl_base.specs.Prefix.{IsPrefix};
 ghost use Rattle.fl_hop.specs.Table.{TheCircuits, hop_at};
-ghost use Rattle.fl_hop.specs.Numbers.{OpenedHere, OpenedThere};
+ghost use Rattle.fl_hop.specs.Numbers.{OpenedHere, OpenedThere, Given, next_own, next_due};
 ghost use Rattle.fl_hop.specs.Joined.{Sound};
 ghost use Rattle.fl_hop.specs.Limits.{LinksSuffice};
 ghost use Rattle.fl_hop.specs.Later.{Later};
@@ -24,10 +24,13 @@ pub fn never_shared(circuits: &Circuits)
     let _ = &circuits.cells;
 }
 
-/// In every table no number of a link is both cores', and number 0, the monitors' own, has no entry.
+/// In every table no number of a link is both cores', and number 0, the monitors' own, has no entry. The number of a core's
+/// next opening was given by nobody, and stays given afterwards (`later_on`): so no number is given twice.
 pub fn numbers_apart()
     ensures apart { (t : TheCircuits) → Sound t → (l n : ℕ) → OpenedHere t l n → OpenedThere t l n → ⊥ }
     ensures zero { (t : TheCircuits) → Sound t → (l : ℕ) → hop_at t l 0 ≡ None }
+    ensures own { (t : TheCircuits) → Sound t → (l n : ℕ) → next_own t l ≡ Some n → Given t l n → ⊥ }
+    ensures due { (t : TheCircuits) → Sound t → (l n : ℕ) → next_due t l ≡ Some n → Given t l n → ⊥ }
 {}
 
 /// Among the cores of a world, 0 to 15, no link is refused for there being too many: whoever has 15 has one to each other
