@@ -22,18 +22,20 @@ OneEntry =
     (t u : TheCircuits) (l n binding other : ℕ) (way on : Way) → Sound t → Later t u
     → Leads t l n binding way → Leads u l n other on → (binding ≡ other) × (way ≡ on)
 
--- one stretch and then another are one
+-- one stretch, and then one that goes on from there
+abbrev pub then_on : Stretch → Stretch → Stretch
+then_on s r = record { start = s.start; steps = s.steps ++ r.steps; finish = r.finish }
+
+-- which is a stretch too
 abbrev pub Joins : Type 0
-Joins =
-    (s r : Stretch) → s.finish ≡ r.start → AllWent s → AllWent r
-    → AllWent (record { start = s.start; steps = s.steps ++ r.steps; finish = r.finish })
+Joins = (s r : Stretch) → s.finish ≡ r.start → AllWent s → AllWent r → AllWent (then_on s r)
 
 -- an entry that stood at some moment of a stretch did so too in one that goes on, or that began before
 abbrev pub StoodToo : Type 0
 StoodToo =
     (s r : Stretch) (l n binding : ℕ) (way : Way) → s.finish ≡ r.start
-    → (Stood s l n binding way × AllWent r → Stood (record { start = s.start; steps = s.steps ++ r.steps; finish = r.finish }) l n binding way)
-    × (AllWent s × Stood r l n binding way → Stood (record { start = s.start; steps = s.steps ++ r.steps; finish = r.finish }) l n binding way)
+    → (Stood s l n binding way × AllWent r → Stood (then_on s r) l n binding way)
+    × (AllWent s × Stood r l n binding way → Stood (then_on s r) l n binding way)
 
 -- ---- what an entry carries, if it stood at any moment of the stretch
 
@@ -47,7 +49,8 @@ CarriedOn =
 -- from a link to an end to which no other number led: what came to the end is what went in under the entry's number
 abbrev pub CarriedIn : Type 0
 CarriedIn =
-    (s : Stretch) (l : LinkId) (c : Circuit) (binding : ℕ) (e : EndId) → Stood s l.0 c.0 binding (End e) → OnlyFrom l.0 c.0 e s.steps
+    (s : Stretch) (l : LinkId) (c : Circuit) (binding : ℕ) (e : EndId)
+    → Stood s l.0 c.0 binding (End e) → OnlyFrom l.0 c.0 e s.steps
     → come_to e s.steps ≡ of_circuit c.0 (taken_from l.0 s.steps)
 
 -- from an end to a link: no forward puts anything under the number that the end writes on
