@@ -6,6 +6,7 @@ use Rattle.std.proofs.lemmas.List.Elements.{filter-append}
 use Rattle.std.proofs.lemmas.Grind.{flat_map-append}
 use Rattle.fl_base.specs.declared.fragment.Frag.{Frag}
 use Rattle.fl_base.specs.Control.{is_ack_only, body, bare, stamped}
+use Rattle.fl_base.specs.Prefix.{IsPrefix}
 use Rattle.fl_link.specs.Cursor.{epoch_at}
 use Rattle.fl_link.specs.Looks.{Look, placed, no_room, spent, saw, saw_ack, found, found_ack, missed, told, kept, Looks, LinkStep, put_in, took_in, puts_of, takes_of}
 use Rattle.fl_link.specs.Calls.{calls_only, bare_calls}
@@ -96,6 +97,9 @@ calls_only-again (f ∷ fs) = cases (is_ack_only f) refl (calls_only-again fs) w
   cases false e rest = let
     kept_f : calls_only (f ∷ fs) ≡ f ∷ calls_only fs = ap (λ (b : Bool). cond (not b) (f ∷ calls_only fs) (calls_only fs)) e in
     ap calls_only kept_f ∙ ap (λ (b : Bool). cond (not b) (f ∷ calls_only (calls_only fs)) (calls_only (calls_only fs))) e ∙ ap (λ (l : List Frag). f ∷ l) rest ∙ sym kept_f
+
+pub calls_prefix : (xs ys : List Frag) → IsPrefix xs ys → IsPrefix (bare_calls xs) (bare_calls ys)
+calls_prefix xs ys (rest, e) = (bare_calls rest, ap bare_calls e ∙ bare_calls-join xs rest)
 
 -- ---- what a look at a fragment tells
 

@@ -2,6 +2,7 @@
 use Rattle.std.specs.Prelude.{◌≡◌, List, ◌++◌, map}
 use Rattle.fl_base.specs.declared.fragment.Frag.{Frag}
 use Rattle.fl_base.specs.Control.{bare}
+use Rattle.fl_base.specs.Prefix.{IsPrefix}
 use Rattle.fl_link.specs.Looks.{Look, Looks, LinkStep, puts_of, takes_of}
 use Rattle.fl_link.specs.Calls.{calls_only, bare_calls}
 use Rattle.fl_link.specs.Queue.{TheQueue, QueuePuts, QueueTakes}
@@ -32,6 +33,10 @@ CallsBare = (xs : List Frag) → bare_calls xs ≡ map bare (calls_only xs)
 -- nothing is left out twice
 abbrev pub CallsAgain : Type 0
 CallsAgain = (xs : List Frag) → calls_only (calls_only xs) ≡ calls_only xs
+
+-- the fragments of calls in a prefix are a prefix of those in the whole
+abbrev pub CallsPrefix : Type 0
+CallsPrefix = (xs ys : List Frag) → IsPrefix xs ys → IsPrefix (bare_calls xs) (bare_calls ys)
 
 -- Over a stretch of steps of either kind a queue loses no call's fragment, makes none up, and keeps their order: what
 -- stood in it and then what was put is what was taken and then what stands in it.

@@ -95,12 +95,16 @@ QueuePuts s no_room t = IsFull s × (t ≡ s)
 QueuePuts s spent t = IsSpent s × (t ≡ s)
 QueuePuts s _ t = ⊥
 
+-- the first fragment is taken
+abbrev pub LosesFirst : TheQueue → TheQueue → Type 0
+LosesFirst s t = (first : Frag) × (rest : List Frag) × (s.items ≡ first ∷ rest) × (t ≡ with_taken s rest)
+
 -- one look, take or tell, by what it came to
 abbrev pub QueueTakes : TheQueue → Look → TheQueue → Type 0
 QueueTakes s (saw frag) t = (front_of s.items ≡ saw frag) × (t ≡ s)
 QueueTakes s saw_ack t = (front_of s.items ≡ saw_ack) × (t ≡ s)
-QueueTakes s (found frag) t = (front_of s.items ≡ saw frag) × ((first : Frag) × (rest : List Frag) × (s.items ≡ first ∷ rest) × (t ≡ with_taken s rest))
-QueueTakes s found_ack t = (front_of s.items ≡ saw_ack) × ((first : Frag) × (rest : List Frag) × (s.items ≡ first ∷ rest) × (t ≡ with_taken s rest))
+QueueTakes s (found frag) t = (front_of s.items ≡ saw frag) × LosesFirst s t
+QueueTakes s found_ack t = (front_of s.items ≡ saw_ack) × LosesFirst s t
 QueueTakes s missed t = (s.items ≡ []) × (t ≡ s)
 QueueTakes s told t = (s.acked ≡ true) × (t ≡ with_told s)
 QueueTakes s kept t = (s.acked ≡ false) × (t ≡ s)

@@ -1,7 +1,7 @@
 //! What holds of looks in a row, and of a queue over them: laws, as the contracts of functions that do nothing.
 
 ghost use Rattle.fl_link.specs.Looks.{LinkStep};
-ghost use Rattle.fl_link.specs.Laws.{LooksJoin, LooksWiden, PutsJoin, TakesJoin, CallsJoin, CallsBare, CallsAgain, QueueLaw};
+ghost use Rattle.fl_link.specs.Laws.{LooksJoin, LooksWiden, PutsJoin, TakesJoin, CallsJoin, CallsBare, CallsAgain, CallsPrefix, QueueLaw};
 
 use crate::sides::{PutSide, TakeSide};
 
@@ -21,11 +21,12 @@ pub fn filters_join()
     ensures takes { TakesJoin }
 {}
 
-/// The fragments of calls in a list and then another; and with what links write set aside.
+/// The fragments of calls in a list and then another, in a prefix, and with what links write set aside.
 pub fn calls_alone()
     ensures joins { CallsJoin }
     ensures bare { CallsBare }
     ensures again { CallsAgain }
+    ensures prefix { CallsPrefix }
 {}
 
 /// What stood in a queue and what was put is what was taken and what stands there; its capacity and kind stay.

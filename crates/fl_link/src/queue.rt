@@ -37,7 +37,9 @@ impl Model for QueueLink {
 
     ghost view = { λ q. record { items = q.items.items; untold = q.untold; sent = q.next.index; capacity = q.capacity; acked = q.acked } };
 
-    ghost invariant = { λ q. (q.capacity ≤ deque_capacity q.items) × (q.next.size ≡ q.capacity) × (0 < q.capacity) × (q.capacity ≤ 1024) × (length q.items.items + q.untold ≤ q.capacity) × (q.next.index ≤ 2 ^ 62) × (q.acked ≡ false → (q.next.index ≡ 0) × (q.untold ≡ 0)) };
+    ghost invariant = { λ q. (q.capacity ≤ deque_capacity q.items) × (q.next.size ≡ q.capacity)
+        × (0 < q.capacity) × (q.capacity ≤ 1024) × (length q.items.items + q.untold ≤ q.capacity)
+        × (q.next.index ≤ 2 ^ 62) × (q.acked ≡ false → (q.next.index ≡ 0) × (q.untold ≡ 0)) };
 }
 
 impl QueueLink {

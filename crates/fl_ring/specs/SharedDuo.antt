@@ -211,7 +211,8 @@ abbrev pub duo_loads_peeked : DuoPlayer
 duo_loads_peeked st m x m' = (m' ≡ (with_mine m.0 (side_peeked m.0.mine x), m.1)) × DuoAgain m.0.mine.take x × DuoSeventh st m.0
 
 abbrev pub duo_loads_taken : DuoPlayer
-duo_loads_taken st m x m' = (m' ≡ (with_mine m.0 (side_got m.0.mine x), m.1)) × DuoAgain m.0.mine.take x × (length m.0.mine.take.got < 2 ^ 62) × DuoSeventh st m.0
+duo_loads_taken st m x m' = (m' ≡ (with_mine m.0 (side_got m.0.mine x), m.1))
+    × DuoAgain m.0.mine.take x × (length m.0.mine.take.got < 2 ^ 62) × DuoSeventh st m.0
 
 -- The law by which a 16-bit number names one count, of the fragments that a side w sent and a side r
 -- got: what w knows was told, what was told was got, and what was got was sent, no more than n beyond.

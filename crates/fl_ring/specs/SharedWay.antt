@@ -31,7 +31,7 @@ pub record IsLoaded (sent got : List Frag) (part : List ℕ) (last : ℕ) : Type
 pub record WayRuns (b n : ℕ) (words : List ℕ) (w : Writing) (r : Reading) (told : ℕ) : Type 0 where
   -- every fragment sent and not told is in its slot, and the epochs say so
   pub holds : WayHolds b n words w.sent told
-  -- what was told was got, and what was got is a front of what was sent
+  -- what was told was got, and what was got is a prefix of what was sent
   pub told_got : told ≤ length r.got
   pub got_sent : IsPrefix r.got w.sent
   -- the writer knows no more than what was told, and goes no round beyond what it knows
@@ -44,6 +44,14 @@ pub record WayRuns (b n : ℕ) (words : List ℕ) (w : Writing) (r : Reading) (t
   -- where the reader has seen the epoch due, the next fragment is there, and so is one that it peeked
   pub due : IsDue n r → length r.part < 7 → IsLoaded w.sent r.got r.part r.last
   pub peeked : (frag : Frag) → r.peeked ≡ Some frag → IsNext w.sent r.got frag
+
+-- Both sides' knowledge in one hand, of a way of n slots: what was got is a prefix of what was sent, what the writer knows
+-- was told, what was told was got, and no more than n were sent beyond what the writer knows.
+pub record WayNear (n : ℕ) (w : Writing) (r : Reading) : Type 0 where
+  pub got_sent : IsPrefix r.got w.sent
+  pub known_told : w.known ≤ r.told
+  pub told_got : r.told ≤ length r.got
+  pub sent_near : length w.sent ≤ w.known + n
 
 -- ---- what the steps do to a side's knowledge
 

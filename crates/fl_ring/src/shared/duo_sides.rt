@@ -42,7 +42,8 @@ impl Model for SharedSide {
 
     ghost view = { λ s. side_of_seat s.seat };
 
-    ghost invariant = { λ s. IsDuoSeated (arc_value s.table).shared.table_id (arc_value s.table).shared.key s.seat × IsSide s.seat s.base s.other s.put s.take s.known s.told };
+    ghost invariant = { λ s. IsDuoSeated (arc_value s.table).shared.table_id (arc_value s.table).shared.key s.seat
+        × IsSide s.seat s.base s.other s.put s.take s.known s.told };
 }
 
 // A fragment that only acknowledges: bit 2 is set and nothing else.
@@ -122,6 +123,8 @@ impl SharedSide {
     pub fn try_peek(&mut self) -> Sight
         ensures look { SharedTakes self.old (peeked result) self.new }
         ensures exact { (frag : Frag) → result ≡ Sight.Data frag → self.new.peeked ≡ Some frag }
+        ensures again { (frag : Frag) → front_seen self.old.peeked ≡ saw frag → peeked result ≡ saw frag }
+        ensures again_acknowledged { front_seen self.old.peeked ≡ saw_ack → peeked result ≡ saw_ack }
         ensures front { peeked result ≡ front_seen self.new.peeked }
         ensures of_call { (frag : Frag) → result ≡ Sight.Data frag → is_ack_only frag ≡ false }
         ensures ring { self.new.ring ≡ self.old.ring }
@@ -200,6 +203,7 @@ impl SharedSide {
     /// The epoch bit of the fragment that is put next.
     pub fn next_epoch(&self) -> u64
         ensures epoch { result ≡ epoch_at self.now.size (length self.now.sent) }
+        ensures bit { result < 2 }
     {
         self.put.epoch()
     }

@@ -1,10 +1,10 @@
 //! The side of a ring that puts.
 
-ghost use Rattle.std.specs.Prelude.{◌≡◌, length, Ok, Err, OnOk};
+ghost use Rattle.std.specs.Prelude.{◌≡◌, ◌<◌, length, Ok, Err, OnOk};
 ghost use Rattle.fl_base.specs.Control.{bare};
 ghost use Rattle.fl_link.specs.Cursor.{epoch_at};
 ghost use Rattle.fl_link.specs.Looks.{placed, no_room, spent};
-ghost use Rattle.fl_ring.specs.SharedSeats.{SenderPuts, sender_has_room};
+ghost use Rattle.fl_ring.specs.SharedSeats.{SenderGains, SenderPuts, sender_has_room};
 
 use crate::shared::board::{Board, Place};
 use crate::shared::writes::{has_room, put_frag};
@@ -33,7 +33,8 @@ impl Model for RingTx {
 
     ghost view = { λ s. sender_of s.seat };
 
-    ghost invariant = { λ s. IsSeated (arc_value s.table).shared.table_id (arc_value s.table).shared.key s.seat × IsWriter s.seat s.put.size s.put.index s.known };
+    ghost invariant = { λ s. IsSeated (arc_value s.table).shared.table_id (arc_value s.table).shared.key s.seat
+        × IsWriter s.seat s.put.size s.put.index s.known };
 }
 
 impl RingTx {
@@ -41,7 +42,7 @@ impl RingTx {
     /// else E30 where a look at the number told has shown that no slot is free.
     #[inline]
     pub fn try_put(&mut self, frag: &Frag) -> Result<(), PutFault>
-        ensures placed { OnOk result (SenderPuts self.old (placed (bare frag.now)) self.new) }
+        ensures placed { OnOk result (SenderGains self.old (bare frag.now) self.new) }
         ensures full { result ≡ Err PutFault.Full → SenderPuts self.old no_room self.new }
         ensures spent { result ≡ Err PutFault.Spent → SenderPuts self.old spent self.new }
         ensures ring { self.new.ring ≡ self.old.ring }
@@ -71,6 +72,7 @@ impl RingTx {
     /// The epoch bit of the fragment that is put next.
     pub fn next_epoch(&self) -> u64
         ensures epoch { result ≡ epoch_at self.now.size (length self.now.sent) }
+        ensures bit { result < 2 }
     {
         self.put.epoch()
     }
