@@ -9,7 +9,7 @@ use Rattle.fl_hop.specs.declared.forward.Outcome.TheVariants.{Moved, Full, Spent
 use Rattle.fl_hop.specs.declared.forward.Forwarded.{Forwarded}
 use Rattle.fl_hop.specs.declared.fault.HopFault.{HopFault}
 use Rattle.fl_hop.specs.Joined.{Sound}
-use Rattle.fl_hop.specs.Stretch.{Step, Stretch, AllWent, taken_from, put_on, come_to}
+use Rattle.fl_hop.specs.Stretch.{Step, passed, Stretch, AllWent, taken_from, put_on, come_to}
 use Rattle.fl_hop.specs.Forward.{Change, Lent, Incoming, Passage, Passes, Forwards}
 
 -- a step, if the fragment was moved
@@ -20,7 +20,7 @@ if_moved Spent step = []
 
 -- the steps that a fragment's passage is: one, or none where it stayed
 abbrev pub steps_of : Incoming → Passage → List Step
-steps_of at p = if_moved p.outcome (record { moment = at.table; from = at.link; frag = p.frag; way = p.way })
+steps_of at p = if_moved p.outcome (record { moment = at.table; deed = passed at.link p.frag p.way })
 
 -- what was put on the link that a way leads to, or came to the end
 abbrev pub gone_to : Way → List Step → List Frag

@@ -8,7 +8,8 @@ ghost use Rattle.fl_hop.specs.Numbers.{OpenedHere, OpenedThere, Given, next_own,
 ghost use Rattle.fl_hop.specs.Joined.{Sound};
 ghost use Rattle.fl_hop.specs.Limits.{LinksSuffice};
 ghost use Rattle.fl_hop.specs.Later.{Later};
-ghost use Rattle.fl_hop.specs.Carried.{OneEntry, Joins, StoodToo, CarriedOn, CarriedIn, OwnAlone, SetAside, Leg, Along};
+ghost use Rattle.fl_hop.specs.Carried.{OneEntry, OneStep, Joins, StoodThere, StoodToo};
+ghost use Rattle.fl_hop.specs.Carried.{CarriedOn, CarriedIn, OwnAlone, SetAside, Leg, Along};
 ghost use Rattle.fl_hop.specs.Adds.{PassageAdds, ForwardsAdd};
 ghost use Rattle.fl_hop.specs.OfCircuit.{of_circuit};
 
@@ -46,25 +47,27 @@ pub fn later_on()
     ensures one { OneEntry }
 {}
 
-/// One stretch of forwards and then another are one; an entry that stood at some moment of either stood at some moment of
-/// both together.
+/// A step alone is a stretch, and one stretch and then another are one. An entry that stands at a stretch's start or finish
+/// stood at some moment of it; one that stood at some moment of either of two stood at some moment of both together.
 pub fn stretches_join()
+    ensures one { OneStep }
     ensures joins { Joins }
+    ensures there { StoodThere }
     ensures stood { StoodToo }
 {}
 
-/// Over any stretch of forwards at one core, what came out under the number of an entry that stood at some moment of it is
-/// what went in under the number on its other side, whatever other circuits share the links.
+/// Over any stretch of forwards, writes and monitors' messages at one core, what was put under the number of an entry that
+/// stood at some moment of it is what was taken under the number on its other side, whatever else shares the links.
 pub fn carried_on()
     ensures carried { CarriedOn }
 {}
 
-/// And what came to an end is what went in under its entry's number.
+/// And what came to an end is what was taken under its entry's number.
 pub fn carried_in()
     ensures carried { CarriedIn }
 {}
 
-/// And nothing is put under the number that an end at this core writes on.
+/// And what was put under the number that an end at this core writes on is what the end wrote.
 pub fn own_alone()
     ensures alone { OwnAlone }
 {}
