@@ -1,4 +1,4 @@
-//! What holds of every table, and of every stretch of forwards.
+//! What holds of every table, and of every stretch.
 
 ghost use Rattle.std.specs.Prelude.{◌≡◌, ◌++◌, ℕ, List, None, Some};
 ghost use Rattle.fl_base.specs.declared.fragment.Frag.{Frag};
