@@ -1,5 +1,5 @@
 -- What a forward adds to a stretch.
-use Rattle.std.proofs.Common.{◌≡◌, ◌≢◌, refl, sym, ap, subst, ◌∙◌, ℕ, ◌==◌, inl, inr, List, [], ◌∷◌, length, slice_get, slice_set, length-set, Some, Result, Ok, Err}
+use Rattle.std.proofs.Common.{Bool, true, false, ◌++◌, ◌≡◌, ◌≢◌, refl, sym, ap, subst, ◌∙◌, ℕ, ◌==◌, inl, inr, List, [], ◌∷◌, ◌++◌, length, slice_get, slice_set, length-set, Some, Result, Ok, Err}
 use Rattle.fl_base.specs.declared.fragment.Frag.{Frag}
 use Rattle.fl_base.specs.declared.identity.LinkId.{LinkId}
 use Rattle.fl_base.specs.declared.identity.Circuit.{Circuit}
@@ -17,10 +17,9 @@ use Rattle.fl_hop.specs.declared.fault.HopFault.{HopFault}
 use Rattle.fl_hop.specs.declared.fault.HopFault.TheVariants.{Marked, Astray, NoLink, UsedUp, Limit, Memory}
 use Rattle.fl_hop.specs.Joined.{Sound}
 use Rattle.fl_hop.specs.OfCircuit.{as_carried}
-use Rattle.fl_hop.specs.Stretch.{Step, taken_from, put_on, same_end}
+use Rattle.fl_hop.specs.Stretch.{passed, Step, if_so, taken_from, put_on, same_end}
 use Rattle.fl_hop.specs.Forward.{Change, Lent, Incoming, Passage, as_sent, Finds, put_label, Leaves, Passes, Looked, WentOn, Forwards}
 use Rattle.fl_hop.specs.Adds.{if_moved, steps_of, gone_to, Takes, Puts, Adds, SideAdds, ForwardAdds}
-use Rattle.fl_hop.proofs.Cells.{cond_true, cond_false}
 use Rattle.fl_hop.proofs.Lists.{set_cases}
 use Rattle.fl_hop.proofs.Laws.{later_same, is_eq, not_eq, end_same}
 use Rattle.fl_hop.proofs.Crossing.{change}
@@ -28,14 +27,23 @@ use Rattle.fl_hop.proofs.Crossing.{change}
 -- The step of a passage.
 
 abbrev pub step_of : Incoming → Frag → Way → Step
-step_of at frag way = record { moment = at.table; from = at.link; frag = frag; way = way }
+step_of at frag way = record { moment = at.table; deed = passed at.link frag way }
+
+-- one fragment, or none, and nothing else
+one_so : (so : Bool) (frag : Frag) → so ≡ true → frag ∷ [] ≡ if_so so frag ++ []
+one_so true frag e = refl
+one_so false frag e = absurd (cc)
+
+none_so : (so : Bool) (frag : Frag) → so ≡ false → [] ≡ if_so so frag ++ []
+none_so true frag e = absurd (cc)
+none_so false frag e = refl
 
 took_one : (at : Incoming) (frag : Frag) (way : Way) → bare frag ∷ [] ≡ taken_from at.link (step_of at frag way ∷ [])
-took_one at frag way = sym (cond_true (at.link == at.link) (bare frag ∷ []) [] (is_eq at.link at.link refl))
+took_one at frag way = one_so (at.link == at.link) (bare frag) (is_eq at.link at.link refl)
 
 gone_one : (at : Incoming) (frag : Frag) (way : Way) → bare (as_sent way frag) ∷ [] ≡ gone_to way (step_of at frag way ∷ [])
-gone_one at frag (Link m c) = sym (cond_true (m.0 == m.0) (bare (with_circuit c.0 frag) ∷ []) [] (is_eq m.0 m.0 refl))
-gone_one at frag (End e) = sym (cond_true (same_end e e) (as_carried frag ∷ []) [] (end_same e))
+gone_one at frag (Link m c) = one_so (m.0 == m.0) (bare (with_circuit c.0 frag)) (is_eq m.0 m.0 refl)
+gone_one at frag (End e) = one_so (same_end e e) (as_carried frag) (end_same e)
 
 gone_none : (way : Way) → [] ≡ gone_to way []
 gone_none (Link m c) = refl
@@ -43,12 +51,12 @@ gone_none (End e) = refl
 
 -- nothing was taken from another link, and nothing put on another
 took_off : (at : Incoming) (frag : Frag) (way : Way) (o : Outcome) (k : ℕ) → at.link ≢ k → [] ≡ taken_from k (if_moved o (step_of at frag way))
-took_off at frag way Moved k n = sym (cond_false (at.link == k) (bare frag ∷ []) [] (not_eq at.link k n))
+took_off at frag way Moved k n = none_so (at.link == k) (bare frag) (not_eq at.link k n)
 took_off at frag way Full k n = refl
 took_off at frag way Spent k n = refl
 
 put_off : (at : Incoming) (frag : Frag) (m : LinkId) (c : Circuit) (o : Outcome) (k : ℕ) → m.0 ≢ k → [] ≡ put_on k (if_moved o (step_of at frag (Link m c)))
-put_off at frag m c Moved k n = sym (cond_false (m.0 == k) (bare (with_circuit c.0 frag) ∷ []) [] (not_eq m.0 k n))
+put_off at frag m c Moved k n = none_so (m.0 == k) (bare (with_circuit c.0 frag)) (not_eq m.0 k n)
 put_off at frag m c Full k n = refl
 put_off at frag m c Spent k n = refl
 

@@ -156,6 +156,39 @@ counted_opening core links l n x = let f : Option LinkState → List LinkState =
 pub counted_taking : (core : ℕ) (links : List LinkState) (l n : ℕ) → (x : Due core links l n) → count_taking links l ≡ slice_set links l (with_taking x.link)
 counted_taking core links l n x = let f : Option LinkState → List LinkState = λ o. changed with_taking links l o in ap f x.there
 
+-- a number that is next, or due, was given by nobody
+pub never_next : (core : ℕ) (links : List LinkState) → ((l : ℕ) (a : LinkState) → slice_get links l ≡ Some a → a.neighbour.0 ≢ core) → (l n : ℕ) → Next core links l n → IsGiven core links l n → ⊥
+never_next core links apart l n x (inl o) =
+    let some : Some x.link ≡ Some o.link = sym x.there ∙ o.there in
+    let same : x.link ≡ o.link = cc in
+    let (i, less, is) = o.among in
+    let f : LinkState → ℕ = λ a. number core a.neighbour.0 i in
+    let g : LinkState → ℕ = λ a. a.opened in
+    let e = number_once core x.link.neighbour.0 x.link.opened i (x.is ∙ is ∙ ap f (sym same)) in
+    omega (arith, e, ap g same, less)
+never_next core links apart l n x (inr o) =
+    let some : Some x.link ≡ Some o.link = sym x.there ∙ o.there in
+    let same : x.link ≡ o.link = cc in
+    let (i, less, is) = o.among in
+    let f : LinkState → ℕ = λ a. number a.neighbour.0 core i in
+    number_apart core x.link.neighbour.0 x.link.opened i (λ e. apart l x.link x.there (sym e)) (x.is ∙ is ∙ ap f (sym same))
+
+pub never_due : (core : ℕ) (links : List LinkState) → ((l : ℕ) (a : LinkState) → slice_get links l ≡ Some a → a.neighbour.0 ≢ core) → (l n : ℕ) → Due core links l n → IsGiven core links l n → ⊥
+never_due core links apart l n x (inr o) =
+    let some : Some x.link ≡ Some o.link = sym x.there ∙ o.there in
+    let same : x.link ≡ o.link = cc in
+    let (i, less, is) = o.among in
+    let f : LinkState → ℕ = λ a. number a.neighbour.0 core i in
+    let g : LinkState → ℕ = λ a. a.taken in
+    let e = number_once x.link.neighbour.0 core x.link.taken i (x.is ∙ is ∙ ap f (sym same)) in
+    omega (arith, e, ap g same, less)
+never_due core links apart l n x (inl o) =
+    let some : Some x.link ≡ Some o.link = sym x.there ∙ o.there in
+    let same : x.link ≡ o.link = cc in
+    let (i, less, is) = o.among in
+    let f : LinkState → ℕ = λ a. number core a.neighbour.0 i in
+    number_apart x.link.neighbour.0 core x.link.taken i (apart l x.link x.there) (x.is ∙ is ∙ ap f (sym same))
+
 module _ (core : ℕ) (links : List LinkState) (cells : List Cell) (s : Slab Entry) (k : Kept core links cells s) (l n : ℕ) where
   pub grown_opening : Next core links l n → Grown links (count_opening links l)
   grown_opening x =
@@ -181,36 +214,10 @@ module _ (core : ℕ) (links : List LinkState) (cells : List Cell) (s : Slab Ent
 
   -- the next number was given by nobody
   pub next_new : Next core links l n → IsGiven core links l n → ⊥
-  next_new x (inl o) =
-      let some : Some x.link ≡ Some o.link = sym x.there ∙ o.there in
-      let same : x.link ≡ o.link = cc in
-      let (i, less, is) = o.among in
-      let f : LinkState → ℕ = λ a. number core a.neighbour.0 i in
-      let g : LinkState → ℕ = λ a. a.opened in
-      let e = number_once core x.link.neighbour.0 x.link.opened i (x.is ∙ is ∙ ap f (sym same)) in
-      omega (arith, e, ap g same, less)
-  next_new x (inr o) =
-      let some : Some x.link ≡ Some o.link = sym x.there ∙ o.there in
-      let same : x.link ≡ o.link = cc in
-      let (i, less, is) = o.among in
-      let f : LinkState → ℕ = λ a. number a.neighbour.0 core i in
-      number_apart core x.link.neighbour.0 x.link.opened i (λ e. k.apart l x.link x.there (sym e)) (x.is ∙ is ∙ ap f (sym same))
+  next_new x given = never_next core links k.apart l n x given
 
   pub due_new : Due core links l n → IsGiven core links l n → ⊥
-  due_new x (inr o) =
-      let some : Some x.link ≡ Some o.link = sym x.there ∙ o.there in
-      let same : x.link ≡ o.link = cc in
-      let (i, less, is) = o.among in
-      let f : LinkState → ℕ = λ a. number a.neighbour.0 core i in
-      let g : LinkState → ℕ = λ a. a.taken in
-      let e = number_once x.link.neighbour.0 core x.link.taken i (x.is ∙ is ∙ ap f (sym same)) in
-      omega (arith, e, ap g same, less)
-  due_new x (inl o) =
-      let some : Some x.link ≡ Some o.link = sym x.there ∙ o.there in
-      let same : x.link ≡ o.link = cc in
-      let (i, less, is) = o.among in
-      let f : LinkState → ℕ = λ a. number core a.neighbour.0 i in
-      number_apart x.link.neighbour.0 core x.link.taken i (k.apart l x.link x.there) (x.is ∙ is ∙ ap f (sym same))
+  due_new x given = never_due core links k.apart l n x given
 
   -- and is among those given afterwards
   pub opened_now : Next core links l n → IsOpened core (count_opening links l) l n
@@ -255,7 +262,7 @@ cond_some : {X : Type 0} (b : Bool) (x : X) → (if b then Some x else None) ≡
 cond_some true x e = absurd (cc)
 cond_some false x e = refl
 
-none_there : {X : Type 0} (p : X → Bool) (xs : List X) → position p xs ≡ None → (i : ℕ) (x : X) → slice_get xs i ≡ Some x → p x ≡ false
+pub none_there : {X : Type 0} (p : X → Bool) (xs : List X) → position p xs ≡ None → (i : ℕ) (x : X) → slice_get xs i ≡ Some x → p x ≡ false
 none_there p xs none i x at =
     let no = cond_some (nat_lt (position_or_len p xs) (length xs)) (position_or_len p xs) none in
     let inside = within xs i x at in
@@ -269,7 +276,7 @@ none_of (Some x) b e h = cc
 mapped_none : {X Y : Type 0} (f : X → Y) (o : Option X) → o ≡ None → option_map f o ≡ None
 mapped_none f o e = ap (option_map f) e
 
-unlike_core : (a b : ℕ) → (a == b) ≡ false → a ≡ b → ⊥
+pub unlike_core : (a b : ℕ) → (a == b) ≡ false → a ≡ b → ⊥
 unlike_core a b e is = grind (arith, nat_tests, e, is)
 
 sits_on : (way : Way) (x : Cell) (cells more : List Cell) → Sits cells way x → Sits (cells ++ more) way x

@@ -1,5 +1,6 @@
 -- What comes out of a circuit is what went in.
 use Rattle.std.proofs.Common.{◌≡◌, ◌≢◌, refl, sym, ap, subst, ◌∙◌, ℕ, ◌+◌, ◌-◌, ◌*◌, ◌^◌, ◌≤◌, ◌==◌, ◌&&◌, ◌⊎◌, inl, inr, Bool, true, false, not, cond, List, [], ◌∷◌, ◌++◌, map, Option, Some, None, option_map, append_assoc, arith}
+use Rattle.std.proofs.lemmas.List.{append-nil}
 use Rattle.std.proofs.lemmas.Bool.{cases_eq}
 use Rattle.std.proofs.lemmas.Bool.Decides.{nat_tests}
 use Rattle.fl_base.specs.declared.fragment.Frag.{Frag}
@@ -20,7 +21,7 @@ use Rattle.fl_hop.specs.Numbers.{Given}
 use Rattle.fl_hop.specs.Joined.{Sound, Leads}
 use Rattle.fl_hop.specs.Later.{Later, way_at, entry_at, unanswered}
 use Rattle.fl_hop.specs.OfCircuit.{as_carried, with_number, of_circuit}
-use Rattle.fl_hop.specs.Stretch.{Step, Went, Stretch, goes_through, AllWent, Stood, taken_from, if_put_on, put_on, same_side, same_end, if_come_to, come_to, OnlyFrom}
+use Rattle.fl_hop.specs.Stretch.{Deed, passed, wrote, said, heard, AsLed, Step, Went, Stretch, goes_through, AllWent, Stood, if_so, same_side, same_end, taken_by, sent_to, brought_to, put_by, come_by, written_in, taken_from, put_on, come_to, written_by, OnlyFrom, OnlyOnto}
 use Rattle.fl_hop.specs.Carried.{Leg, Along}
 use Rattle.fl_hop.proofs.Numbering.{small, not_ack}
 use Rattle.fl_hop.proofs.Cells.{same_link, same_circuit, cond_true, cond_false}
@@ -153,7 +154,7 @@ is_eq a b e = grind (arith, nat_tests, e)
 pub not_eq : (a b : ℕ) → a ≢ b → (a == b) ≡ false
 not_eq a b n = grind (arith, nat_tests, n)
 
-bool_cases : (b : Bool) → (b ≡ true) ⊎ (b ≡ false)
+pub bool_cases : (b : Bool) → (b ≡ true) ⊎ (b ≡ false)
 bool_cases true = inl refl
 bool_cases false = inr refl
 
@@ -224,44 +225,48 @@ of_bare c (x ∷ xs) =
           ∙ sym (of_call_first c x xs call)
     ]
 
--- One step.
+-- One fragment, if there is one.
 
--- what is taken on a link by a step from it, or from another
-from_here : (l c : ℕ) (p : Step) (ps : List Step) → c ≢ 0 → p.from ≡ l → circuit_of p.frag.control ≡ c → of_circuit c (taken_from l (p ∷ ps)) ≡ as_carried p.frag ∷ of_circuit c (taken_from l ps)
-from_here l c p ps some e f =
-    ap (of_circuit c) (cond_true (p.from == l) (bare p.frag ∷ taken_from l ps) (taken_from l ps) (is_eq p.from l e))
-    ∙ of_here c (bare p.frag) (taken_from l ps) some (bare_circuit p.frag ∙ f)
-    ∙ ap (λ x. x ∷ of_circuit c (taken_from l ps)) (bare_carried p.frag)
+of_none : (c : ℕ) (so : Bool) (frag : Frag) → (so ≡ true → circuit_of frag.control ≡ c → ⊥) → of_circuit c (if_so so frag) ≡ []
+of_none c false frag n = refl
+of_none c true frag n = of_other c frag [] (n refl)
 
-from_other : (l c : ℕ) (p : Step) (ps : List Step) → ((p.from ≡ l) → (circuit_of p.frag.control ≡ c) → ⊥) → of_circuit c (taken_from l (p ∷ ps)) ≡ of_circuit c (taken_from l ps)
-from_other l c p ps n =
-    elim (cases_eq p.from l) [
-      | inl same ↦
-          ap (of_circuit c) (cond_true (p.from == l) (bare p.frag ∷ taken_from l ps) (taken_from l ps) (is_eq p.from l same))
-          ∙ of_other c (bare p.frag) (taken_from l ps) (λ e. n same (sym (bare_circuit p.frag) ∙ e))
-      | inr other ↦ ap (of_circuit c) (cond_false (p.from == l) (bare p.frag ∷ taken_from l ps) (taken_from l ps) (not_eq p.from l other))
-    ]
+of_one : (c : ℕ) (so : Bool) (frag : Frag) → so ≡ true → c ≢ 0 → circuit_of frag.control ≡ c → of_circuit c (if_so so frag) ≡ as_carried frag ∷ []
+of_one c false frag e some is = absurd (cc)
+of_one c true frag e some is = of_here c frag [] some is
 
--- what is put on a link by a step that goes there under a number, or another way
-put_here : (m : LinkId) (d : Circuit) (frag : Frag) (way : Way) (rest : List Frag) → way ≡ Link m d → d.0 ≢ 0 → d.0 ≤ 2046 → of_circuit d.0 (if_put_on m.0 frag way rest) ≡ as_carried frag ∷ of_circuit d.0 rest
-put_here m d frag way rest is some small =
-    ap (λ w. of_circuit d.0 (if_put_on m.0 frag w rest)) is
-    ∙ ap (of_circuit d.0) (cond_true (m.0 == m.0) (bare (with_circuit d.0 frag) ∷ rest) rest (is_eq m.0 m.0 refl))
-    ∙ of_here d.0 (bare (with_circuit d.0 frag)) rest some (bare_circuit (with_circuit d.0 frag) ∙ has_circuit frag d.0 small)
-    ∙ ap (λ f. f ∷ of_circuit d.0 rest) (bare_carried (with_circuit d.0 frag) ∙ same_carried frag d.0 small)
+is_same : (a b : ℕ) → (a == b) ≡ true → a ≡ b
+is_same a b e = grind (arith, nat_tests, e)
 
-put_other : (m : LinkId) (d : Circuit) (frag : Frag) (way : Way) (rest : List Frag) → (way ≡ Link m d → ⊥) → ((k : LinkId) (i : Circuit) → way ≡ Link k i → i.0 ≤ 2046) → of_circuit d.0 (if_put_on m.0 frag way rest) ≡ of_circuit d.0 rest
-put_other m d frag (End e) rest n small = refl
-put_other m d frag (Link k i) rest n small =
-    elim (cases_eq k.0 m.0) [
-      | inl same ↦
-          ap (of_circuit d.0) (cond_true (k.0 == m.0) (bare (with_circuit i.0 frag) ∷ rest) rest (is_eq k.0 m.0 same))
-          ∙ of_other d.0 (bare (with_circuit i.0 frag)) rest (λ e.
-          let f : LinkId → Way = λ x. Link x i in
-          let g : Circuit → Way = λ x. Link m x in
-          n (ap f (same_link k m same) ∙ ap g (same_circuit i d (sym (has_circuit frag i.0 (small k i refl)) ∙ sym (bare_circuit (with_circuit i.0 frag)) ∙ e))))
-      | inr other ↦ ap (of_circuit d.0) (cond_false (k.0 == m.0) (bare (with_circuit i.0 frag) ∷ rest) rest (not_eq k.0 m.0 other))
-    ]
+-- what is taken from a link, or put on it unchanged, under a number
+bare_here : (l c k : ℕ) (frag : Frag) → c ≢ 0 → k ≡ l → circuit_of frag.control ≡ c → of_circuit c (if_so (k == l) (bare frag)) ≡ as_carried frag ∷ []
+bare_here l c k frag some e f =
+    of_one c (k == l) (bare frag) (is_eq k l e) some (bare_circuit frag ∙ f)
+    ∙ ap (λ x. x ∷ []) (bare_carried frag)
+
+bare_other : (l c k : ℕ) (frag : Frag) → ((k ≡ l) → (circuit_of frag.control ≡ c) → ⊥) → of_circuit c (if_so (k == l) (bare frag)) ≡ []
+bare_other l c k frag n = of_none c (k == l) (bare frag) (λ e f. n (is_same k l e) (sym (bare_circuit frag) ∙ f))
+
+-- what is put on a link by a fragment that goes there under a number, or another way
+put_here : (m : LinkId) (d : Circuit) (frag : Frag) (way : Way) → way ≡ Link m d → d.0 ≢ 0 → d.0 ≤ 2046 → of_circuit d.0 (sent_to m.0 frag way) ≡ as_carried frag ∷ []
+put_here m d frag way is some small =
+    ap (λ w. of_circuit d.0 (sent_to m.0 frag w)) is
+    ∙ of_one d.0 (m.0 == m.0) (bare (with_circuit d.0 frag)) (is_eq m.0 m.0 refl) some (bare_circuit (with_circuit d.0 frag) ∙ has_circuit frag d.0 small)
+    ∙ ap (λ f. f ∷ []) (bare_carried (with_circuit d.0 frag) ∙ same_carried frag d.0 small)
+
+put_other : (m : LinkId) (d : Circuit) (frag : Frag) (way : Way) → (way ≡ Link m d → ⊥) → ((k : LinkId) (i : Circuit) → way ≡ Link k i → i.0 ≤ 2046) → of_circuit d.0 (sent_to m.0 frag way) ≡ []
+put_other m d frag (End e) n small = refl
+put_other m d frag (Link k i) n small =
+    of_none d.0 (k.0 == m.0) (bare (with_circuit i.0 frag)) (λ same e.
+    let f : LinkId → Way = λ x. Link x i in
+    let g : Circuit → Way = λ x. Link m x in
+    n (ap f (same_link k m (is_same k.0 m.0 same)) ∙ ap g (same_circuit i d (sym (has_circuit frag i.0 (small k i refl)) ∙ sym (bare_circuit (with_circuit i.0 frag)) ∙ e))))
+
+of_both : (c d : ℕ) (x y xs ys : List Frag) → of_circuit d x ≡ of_circuit c y → of_circuit d xs ≡ of_circuit c ys → of_circuit d (x ++ xs) ≡ of_circuit c (y ++ ys)
+of_both c d x y xs ys e f = of_join d x xs ∙ ap (λ v. v ++ of_circuit d xs) e ∙ ap (λ v. of_circuit c y ++ v) f ∙ sym (of_join c y ys)
+
+of_each : (c : ℕ) (x y xs ys : List Frag) → x ≡ of_circuit c y → xs ≡ of_circuit c ys → x ++ xs ≡ of_circuit c (y ++ ys)
+of_each c x y xs ys e f = ap (λ v. v ++ xs) e ∙ ap (λ v. of_circuit c y ++ v) f ∙ sym (of_join c y ys)
 
 -- Tables.
 
@@ -340,6 +345,33 @@ stood_before s r l n binding way e h =
       since = x.since;
     }
 
+pub stood_finish : (s : Stretch) (l n binding : ℕ) (way : Way) → AllWent s → Sound s.finish × Leads s.finish l n binding way → Stood s l n binding way
+stood_finish s l n binding way all h = record {
+  moment = s.finish;
+  sound = h.0;
+  leads = h.1;
+  before = s.steps;
+  after = [];
+  all = sym (append-nil s.steps);
+  until = all;
+  since = later_same s.finish;
+}
+
+pub stood_start : (s : Stretch) (l n binding : ℕ) (way : Way) → AllWent s → Sound s.start × Leads s.start l n binding way → Stood s l n binding way
+stood_start s l n binding way all h = record {
+  moment = s.start;
+  sound = h.0;
+  leads = h.1;
+  before = [];
+  after = s.steps;
+  all = refl;
+  until = later_same s.start;
+  since = all;
+}
+
+pub one_step : (p : Step) → Went p → AllWent (record { start = p.moment; steps = p ∷ []; finish = p.moment })
+one_step p went = (later_same p.moment, went, later_same p.moment)
+
 -- a step of a stretch, seen from a table of another moment
 abbrev pub Near : TheCircuits → Step → Type 0
 Near t p = Went p × Beside p.moment t
@@ -371,57 +403,67 @@ near s l n binding way x =
 -- From link to link.
 
 module _ (t : TheCircuits) (sound : Sound t) (l m : LinkId) (c d : Circuit) (binding : ℕ) (leads : Leads t l.0 c.0 binding (Link m d)) where
-  -- a step from the near number goes out under the far one
-  goes : (p : Step) → Near t p → p.from ≡ l.0 → circuit_of p.frag.control ≡ c.0 → p.way ≡ Link m d
-  goes p w e f =
-      same_way p.moment t w.0.sound sound w.1 l.0 c.0 p.way (Link m d)
-      (moved p.moment p.from l.0 (circuit_of p.frag.control) c.0 p.way e f w.0.led)
-      (leads_way t l.0 c.0 binding (Link m d) leads)
+  here : way_at t l.0 c.0 ≡ Some (Link m d)
+  here = leads_way t l.0 c.0 binding (Link m d) leads
 
-  -- and no other does
-  comes : (p : Step) → Near t p → p.way ≡ Link m d → (p.from ≡ l.0) × (circuit_of p.frag.control ≡ c.0)
-  comes p w is =
+  far : way_at t m.0 d.0 ≡ Some (Link l c)
+  far = back t sound l.0 c.0 m d here
+
+  some_near : c.0 ≢ 0
+  some_near = some_number t sound l.0 c.0 (Link m d) here
+
+  some_far : d.0 ≢ 0
+  some_far = some_number t sound m.0 d.0 (Link l c) far
+
+  -- what is forwarded from the near number goes out under the far one
+  goes : (u : TheCircuits) → Sound u → Beside u t → (k n : ℕ) (way : Way) → way_at u k n ≡ Some way → k ≡ l.0 → n ≡ c.0 → way ≡ Link m d
+  goes u us b k n way led e f = same_way u t us sound b l.0 c.0 way (Link m d) (moved u k l.0 n c.0 way e f led) here
+
+  -- and nothing else does
+  comes : (u : TheCircuits) → Sound u → Beside u t → (k n : ℕ) (way : Way) → way_at u k n ≡ Some way → way ≡ Link m d → (k ≡ l.0) × (n ≡ c.0)
+  comes u us b k n way led is =
       let some : Way → Option Way = λ x. Some x in
-      let then_back = back p.moment w.0.sound p.from (circuit_of p.frag.control) m d (w.0.led ∙ ap some is) in
-      let now_back = back t sound l.0 c.0 m d (leads_way t l.0 c.0 binding (Link m d) leads) in
-      let same = same_way p.moment t w.0.sound sound w.1 m.0 d.0 (Link (record { 0 = p.from }) (record { 0 = circuit_of p.frag.control })) (Link l c) then_back now_back in
-      let a : record { 0 = p.from } ≡ l = cc in
-      let b : record { 0 = circuit_of p.frag.control } ≡ c = cc in
+      let then_back = back u us k n m d (led ∙ ap some is) in
+      let same = same_way u t us sound b m.0 d.0 (Link (record { 0 = k }) (record { 0 = n })) (Link l c) then_back far in
+      let a : record { 0 = k } ≡ l = cc in
+      let b : record { 0 = n } ≡ c = cc in
       (ap (λ (x : LinkId). x.0) a, ap (λ (x : Circuit). x.0) b)
 
-  smalls : (p : Step) → Near t p → (k : LinkId) (i : Circuit) → p.way ≡ Link k i → i.0 ≤ 2046
-  smalls p w k i is =
+  deed_on : (u : TheCircuits) (deed : Deed) → Sound u → AsLed u deed → Beside u t → of_circuit d.0 (put_by m.0 deed) ≡ of_circuit c.0 (taken_by l.0 deed)
+  deed_on u (passed k frag way) us led b =
       let some : Way → Option Way = λ x. Some x in
-      far_small p.moment w.0.sound p.from (circuit_of p.frag.control) k i (w.0.led ∙ ap some is)
-
-  on_step : (p : Step) (ps : List Step) → Near t p → of_circuit d.0 (put_on m.0 ps) ≡ of_circuit c.0 (taken_from l.0 ps) → of_circuit d.0 (put_on m.0 (p ∷ ps)) ≡ of_circuit c.0 (taken_from l.0 (p ∷ ps))
-  on_step p ps w rest =
-      let way = leads_way t l.0 c.0 binding (Link m d) leads in
-      let far = far_small t sound l.0 c.0 m d way in
-      let some = some_number t sound l.0 c.0 (Link m d) way in
-      let other = some_number t sound m.0 d.0 (Link l c) (back t sound l.0 c.0 m d way) in
-      let away : ((p.from ≡ l.0) → (circuit_of p.frag.control ≡ c.0) → ⊥) → of_circuit d.0 (put_on m.0 (p ∷ ps)) ≡ of_circuit c.0 (taken_from l.0 (p ∷ ps)) = λ n.
-      put_other m d p.frag p.way (put_on m.0 ps) (λ is. n (comes p w is).0 (comes p w is).1) (smalls p w) ∙ rest ∙ sym (from_other l.0 c.0 p ps n) in
-      elim (cases_eq p.from l.0) [
+      let smalls : (j : LinkId) (i : Circuit) → way ≡ Link j i → i.0 ≤ 2046 = λ j i is. far_small u us k (circuit_of frag.control) j i (led ∙ ap some is) in
+      let away : ((k ≡ l.0) → (circuit_of frag.control ≡ c.0) → ⊥) → of_circuit d.0 (sent_to m.0 frag way) ≡ of_circuit c.0 (if_so (k == l.0) (bare frag)) = λ n.
+      put_other m d frag way (λ is. n (comes u us b k (circuit_of frag.control) way led is).0 (comes u us b k (circuit_of frag.control) way led is).1) smalls
+      ∙ sym (bare_other l.0 c.0 k frag n) in
+      elim (cases_eq k l.0) [
         | inr apart ↦ away (λ e f. apart e)
         | inl same ↦
-            elim (cases_eq (circuit_of p.frag.control) c.0) [
+            elim (cases_eq (circuit_of frag.control) c.0) [
               | inr apart ↦ away (λ e f. apart f)
               | inl too ↦
-                  put_here m d p.frag p.way (put_on m.0 ps) (goes p w same too) other far
-                  ∙ ap (λ fs. as_carried p.frag ∷ fs) rest
-                  ∙ sym (from_here l.0 c.0 p ps some same too)
+                  put_here m d frag way (goes u us b k (circuit_of frag.control) way led same too) some_far (far_small t sound l.0 c.0 m d here)
+                  ∙ sym (bare_here l.0 c.0 k frag some_near same too)
             ]
       ]
+  deed_on u (wrote e k frag) us led b =
+      bare_other m.0 d.0 k frag (λ x y.
+      let same = same_way u t us sound b m.0 d.0 (End e) (Link l c) (moved u k m.0 (circuit_of frag.control) d.0 (End e) x y led) far in
+      absurd (cc))
+  deed_on u (said k frag) us led b = bare_other m.0 d.0 k frag (λ x y. some_far (sym y ∙ led))
+  deed_on u (heard k frag) us led b = sym (bare_other l.0 c.0 k frag (λ x y. some_near (sym y ∙ led)))
 
   carry : (ps : List Step) → AllNear t ps → of_circuit d.0 (put_on m.0 ps) ≡ of_circuit c.0 (taken_from l.0 ps)
   carry [] all = refl
-  carry (p ∷ ps) all = on_step p ps all.0 (carry ps all.1)
+  carry (p ∷ ps) all =
+      of_both c.0 d.0 (put_by m.0 p.deed) (taken_by l.0 p.deed) (put_on m.0 ps) (taken_from l.0 ps)
+      (deed_on p.moment p.deed all.0.0.sound all.0.0.led all.0.1)
+      (carry ps all.1)
 
 pub carried_on : (s : Stretch) (l m : LinkId) (c d : Circuit) (binding : ℕ) → Stood s l.0 c.0 binding (Link m d) → of_circuit d.0 (put_on m.0 s.steps) ≡ of_circuit c.0 (taken_from l.0 s.steps)
 carried_on s l m c d binding x = carry x.moment x.sound l m c d binding x.leads s.steps (near s l.0 c.0 binding (Link m d) x)
 
--- From a link to an end.
+-- From a link to an end, and from an end to a link.
 
 same_side_is : (a b : Side) → same_side a b ≡ true → a ≡ b
 same_side_is Client Client e = refl
@@ -452,64 +494,94 @@ both_true false b e f = cc
 pub end_same : (e : EndId) → same_end e e ≡ true
 end_same e = both_true (e.binding == e.binding) (same_side e.side e.side) (is_eq e.binding e.binding refl) (side_same e.side)
 
-come_here : (e : EndId) (frag : Frag) (way : Way) (rest : List Frag) → way ≡ End e → if_come_to e frag way rest ≡ as_carried frag ∷ rest
-come_here e frag way rest is =
-    ap (λ w. if_come_to e frag w rest) is ∙ cond_true (same_end e e) (as_carried frag ∷ rest) rest (end_same e)
+come_here : (e : EndId) (frag : Frag) (way : Way) → way ≡ End e → brought_to e frag way ≡ as_carried frag ∷ []
+come_here e frag way is =
+    ap (λ w. brought_to e frag w) is ∙ cond_true (same_end e e) (as_carried frag ∷ []) [] (end_same e)
 
-come_other : (e : EndId) (frag : Frag) (way : Way) (rest : List Frag) → (way ≡ End e → ⊥) → if_come_to e frag way rest ≡ rest
-come_other e frag (Link k i) rest n = refl
-come_other e frag (End f) rest n =
+come_other : (e : EndId) (frag : Frag) (way : Way) → (way ≡ End e → ⊥) → brought_to e frag way ≡ []
+come_other e frag (Link k i) n = refl
+come_other e frag (End f) n =
     elim (bool_cases (same_end f e)) [
       | inl same ↦ let g : EndId → Way = λ x. End x in absurd (n (ap g (same_end_is f e same)))
-      | inr other ↦ cond_false (same_end f e) (as_carried frag ∷ rest) rest other
+      | inr other ↦ cond_false (same_end f e) (as_carried frag ∷ []) [] other
     ]
 
+same_ends : (f e : EndId) → End f ≡ End e → f ≡ e
+same_ends f e h = cc
+
 module _ (t : TheCircuits) (sound : Sound t) (l : LinkId) (c : Circuit) (binding : ℕ) (e : EndId) (leads : Leads t l.0 c.0 binding (End e)) where
-  in_step : (p : Step) (ps : List Step) → Near t p → (p.way ≡ End e → (p.from ≡ l.0) × (circuit_of p.frag.control ≡ c.0)) → come_to e ps ≡ of_circuit c.0 (taken_from l.0 ps) → come_to e (p ∷ ps) ≡ of_circuit c.0 (taken_from l.0 (p ∷ ps))
-  in_step p ps w only rest =
-      let way = leads_way t l.0 c.0 binding (End e) leads in
-      let some = some_number t sound l.0 c.0 (End e) way in
-      let away : ((p.from ≡ l.0) → (circuit_of p.frag.control ≡ c.0) → ⊥) → come_to e (p ∷ ps) ≡ of_circuit c.0 (taken_from l.0 (p ∷ ps)) = λ n.
-      come_other e p.frag p.way (come_to e ps) (λ is. n (only is).0 (only is).1) ∙ rest ∙ sym (from_other l.0 c.0 p ps n) in
-      elim (cases_eq p.from l.0) [
+  at_end : way_at t l.0 c.0 ≡ Some (End e)
+  at_end = leads_way t l.0 c.0 binding (End e) leads
+
+  some_here : c.0 ≢ 0
+  some_here = some_number t sound l.0 c.0 (End e) at_end
+
+  deed_in : (u : TheCircuits) (deed : Deed) → Sound u → AsLed u deed → Beside u t → ((m : ℕ) (frag : Frag) → deed ≡ passed m frag (End e) → (m ≡ l.0) × (circuit_of frag.control ≡ c.0)) → come_by e deed ≡ of_circuit c.0 (taken_by l.0 deed)
+  deed_in u (passed k frag way) us led b only =
+      let f : Way → Deed = λ w. passed k frag w in
+      let away : ((k ≡ l.0) → (circuit_of frag.control ≡ c.0) → ⊥) → brought_to e frag way ≡ of_circuit c.0 (if_so (k == l.0) (bare frag)) = λ n.
+      come_other e frag way (λ is. n (only k frag (ap f is)).0 (only k frag (ap f is)).1) ∙ sym (bare_other l.0 c.0 k frag n) in
+      elim (cases_eq k l.0) [
         | inr other ↦ away (λ x y. other x)
         | inl same ↦
-            elim (cases_eq (circuit_of p.frag.control) c.0) [
+            elim (cases_eq (circuit_of frag.control) c.0) [
               | inr apart ↦ away (λ x y. apart y)
               | inl too ↦
-                  let on = same_way p.moment t w.0.sound sound w.1 l.0 c.0 p.way (End e)
-                  (moved p.moment p.from l.0 (circuit_of p.frag.control) c.0 p.way same too w.0.led) way in
-                  come_here e p.frag p.way (come_to e ps) on
-                  ∙ ap (λ fs. as_carried p.frag ∷ fs) rest
-                  ∙ sym (from_here l.0 c.0 p ps some same too)
+                  come_here e frag way (same_way u t us sound b l.0 c.0 way (End e) (moved u k l.0 (circuit_of frag.control) c.0 way same too led) at_end)
+                  ∙ sym (bare_here l.0 c.0 k frag some_here same too)
             ]
       ]
+  deed_in u (wrote f k frag) us led b only = refl
+  deed_in u (said k frag) us led b only = refl
+  deed_in u (heard k frag) us led b only = sym (bare_other l.0 c.0 k frag (λ x y. some_here (sym y ∙ led)))
 
   carry_in : (ps : List Step) → AllNear t ps → OnlyFrom l.0 c.0 e ps → come_to e ps ≡ of_circuit c.0 (taken_from l.0 ps)
   carry_in [] all only = refl
-  carry_in (p ∷ ps) all only = in_step p ps all.0 only.0 (carry_in ps all.1 only.1)
+  carry_in (p ∷ ps) all only =
+      of_each c.0 (come_by e p.deed) (taken_by l.0 p.deed) (come_to e ps) (taken_from l.0 ps)
+      (deed_in p.moment p.deed all.0.0.sound all.0.0.led all.0.1 only.0)
+      (carry_in ps all.1 only.1)
 
-  -- no step goes out under the number that the end writes on
-  never : (p : Step) → Near t p → p.way ≡ Link l c → ⊥
-  never p w is =
+  -- no forward goes out under the number that the end writes on
+  never : (u : TheCircuits) → Sound u → Beside u t → (k n : ℕ) (way : Way) → way_at u k n ≡ Some way → way ≡ Link l c → ⊥
+  never u us b k n way led is =
       let some : Way → Option Way = λ x. Some x in
-      let then_back = back p.moment w.0.sound p.from (circuit_of p.frag.control) l c (w.0.led ∙ ap some is) in
-      let same = same_way p.moment t w.0.sound sound w.1 l.0 c.0 (Link (record { 0 = p.from }) (record { 0 = circuit_of p.frag.control })) (End e) then_back (leads_way t l.0 c.0 binding (End e) leads) in
+      let then_back = back u us k n l c (led ∙ ap some is) in
+      let same = same_way u t us sound b l.0 c.0 (Link (record { 0 = k }) (record { 0 = n })) (End e) then_back at_end in
       cc
 
-  alone : (ps : List Step) → AllNear t ps → of_circuit c.0 (put_on l.0 ps) ≡ []
-  alone [] all = refl
-  alone (p ∷ ps) all =
-      let w = all.0 in
+  deed_out : (u : TheCircuits) (deed : Deed) → Sound u → AsLed u deed → Beside u t → ((m : ℕ) (frag : Frag) → deed ≡ wrote e m frag → (m ≡ l.0) × (circuit_of frag.control ≡ c.0)) → written_in e deed ≡ of_circuit c.0 (put_by l.0 deed)
+  deed_out u (passed k frag way) us led b only =
       let some : Way → Option Way = λ x. Some x in
-      put_other l c p.frag p.way (put_on l.0 ps) (never p w) (λ k i is. far_small p.moment w.0.sound p.from (circuit_of p.frag.control) k i (w.0.led ∙ ap some is))
-      ∙ alone ps all.1
+      sym (put_other l c frag way (never u us b k (circuit_of frag.control) way led) (λ j i is. far_small u us k (circuit_of frag.control) j i (led ∙ ap some is)))
+  deed_out u (wrote f k frag) us led b only =
+      elim (bool_cases (same_end f e)) [
+        | inl same ↦
+            let g : EndId → Deed = λ x. wrote x k frag in
+            let there = only k frag (ap g (same_end_is f e same)) in
+            cond_true (same_end f e) (as_carried frag ∷ []) [] same ∙ sym (bare_here l.0 c.0 k frag some_here there.0 there.1)
+        | inr other ↦
+            cond_false (same_end f e) (as_carried frag ∷ []) [] other
+            ∙ sym (bare_other l.0 c.0 k frag (λ x y.
+            let is = same_way u t us sound b l.0 c.0 (End f) (End e) (moved u k l.0 (circuit_of frag.control) c.0 (End f) x y led) at_end in
+            let same = ap (λ v. same_end v e) (same_ends f e is) ∙ end_same e in
+            absurd (cc)))
+      ]
+  deed_out u (said k frag) us led b only = sym (bare_other l.0 c.0 k frag (λ x y. some_here (sym y ∙ led)))
+  deed_out u (heard k frag) us led b only = refl
+
+  carry_out : (ps : List Step) → AllNear t ps → OnlyOnto l.0 c.0 e ps → written_by e ps ≡ of_circuit c.0 (put_on l.0 ps)
+  carry_out [] all only = refl
+  carry_out (p ∷ ps) all only =
+      of_each c.0 (written_in e p.deed) (put_by l.0 p.deed) (written_by e ps) (put_on l.0 ps)
+      (deed_out p.moment p.deed all.0.0.sound all.0.0.led all.0.1 only.0)
+      (carry_out ps all.1 only.1)
 
 pub carried_in : (s : Stretch) (l : LinkId) (c : Circuit) (binding : ℕ) (e : EndId) → Stood s l.0 c.0 binding (End e) → OnlyFrom l.0 c.0 e s.steps → come_to e s.steps ≡ of_circuit c.0 (taken_from l.0 s.steps)
 carried_in s l c binding e x only = carry_in x.moment x.sound l c binding e x.leads s.steps (near s l.0 c.0 binding (End e) x) only
 
-pub own_alone : (s : Stretch) (l : LinkId) (c : Circuit) (binding : ℕ) (e : EndId) → Stood s l.0 c.0 binding (End e) → of_circuit c.0 (put_on l.0 s.steps) ≡ []
-own_alone s l c binding e x = alone x.moment x.sound l c binding e x.leads s.steps (near s l.0 c.0 binding (End e) x)
+pub own_alone : (s : Stretch) (l : LinkId) (c : Circuit) (binding : ℕ) (e : EndId) → Stood s l.0 c.0 binding (End e) → OnlyOnto l.0 c.0 e s.steps → of_circuit c.0 (put_on l.0 s.steps) ≡ written_by e s.steps
+own_alone s l c binding e x only = sym (carry_out x.moment x.sound l c binding e x.leads s.steps (near s l.0 c.0 binding (End e) x) only)
 
 -- Along a route.
 

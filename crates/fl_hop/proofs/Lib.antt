@@ -9,6 +9,7 @@ pub mod Laws
 pub mod Crossing
 pub mod Numbering
 pub mod Adding
+pub mod Limits
 pub mod Standing
 pub mod Opening
 pub mod Answering

@@ -9,7 +9,7 @@ use Rattle.fl_hop.specs.declared.forward.Outcome.TheVariants.{Moved, Full, Spent
 use Rattle.fl_hop.specs.declared.forward.Forwarded.{Forwarded}
 use Rattle.fl_hop.specs.declared.fault.HopFault.{HopFault}
 use Rattle.fl_hop.specs.Joined.{Sound}
-use Rattle.fl_hop.specs.Stretch.{Step, Stretch, AllWent, taken_from, put_on, come_to}
+use Rattle.fl_hop.specs.Stretch.{Step, passed, Stretch, AllWent, taken_from, put_on, come_to}
 use Rattle.fl_hop.specs.Forward.{Change, Lent, Incoming, Passage, Passes, Forwards}
 
 -- a step, if the fragment was moved
@@ -20,7 +20,7 @@ if_moved Spent step = []
 
 -- the steps that a fragment's passage is: one, or none where it stayed
 abbrev pub steps_of : Incoming → Passage → List Step
-steps_of at p = if_moved p.outcome (record { moment = at.table; from = at.link; frag = p.frag; way = p.way })
+steps_of at p = if_moved p.outcome (record { moment = at.table; deed = passed at.link p.frag p.way })
 
 -- what was put on the link that a way leads to, or came to the end
 abbrev pub gone_to : Way → List Step → List Frag
@@ -33,21 +33,25 @@ at_once at steps = record { start = at.table; steps = steps; finish = at.table }
 
 -- over some looks a side placed nothing, and took these
 abbrev pub Takes : {T : Type 0} → (T → Look → T → Type 0) → List Frag → Change T → Type 0
-Takes takes frags side = (looks : List Look) × Looks takes side.before looks side.after × (takes_of looks ≡ frags) × (puts_of looks ≡ [])
+Takes takes frags side =
+    (looks : List Look) × Looks takes side.before looks side.after × (takes_of looks ≡ frags) × (puts_of looks ≡ [])
 
 -- over some looks a side took nothing, and placed these
 abbrev pub Puts : {P : Type 0} → (P → Look → P → Type 0) → List Frag → Change P → Type 0
-Puts puts frags side = (looks : List Look) × Looks puts side.before looks side.after × (takes_of looks ≡ []) × (puts_of looks ≡ frags)
+Puts puts frags side =
+    (looks : List Look) × Looks puts side.before looks side.after × (takes_of looks ≡ []) × (puts_of looks ≡ frags)
 
 -- the passage of a fragment over two sides that were lent
-pub record Adds {T P : Type 0} (takes : T → Look → T → Type 0) (puts : P → Look → P → Type 0) (at : Incoming) (p : Passage) (lent : Lent T P) : Type 0 where
+pub record Adds {T P : Type 0} (takes : T → Look → T → Type 0) (puts : P → Look → P → Type 0) (at : Incoming) (p : Passage)
+    (lent : Lent T P) : Type 0 where
   pub went : AllWent (at_once at (steps_of at p))
   pub taken : Takes takes (taken_from at.link (steps_of at p)) lent.from
   pub put : Puts puts (gone_to p.way (steps_of at p)) lent.onto
 
 abbrev pub PassageAdds : {T P : Type 0} → (T → Look → T → Type 0) → (P → Look → P → Type 0) → (T → Look) → Type 0
 PassageAdds {T} {P} takes puts front =
-    (at : Incoming) (p : Passage) (lent : Lent T P) → Sound at.table → Passes takes puts front at p lent → Adds takes puts at p lent
+    (at : Incoming) (p : Passage) (lent : Lent T P) → Sound at.table → Passes takes puts front at p lent
+    → Adds takes puts at p lent
 
 -- over some looks of either kind the side of link k took and placed what these steps took from the link and put there
 abbrev pub SideAdds : {S : Type 0} → (S → Look → S → Type 0) → (S → Look → S → Type 0) → List Step → ℕ → Change S → Type 0

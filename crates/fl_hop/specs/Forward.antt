@@ -61,7 +61,8 @@ IsOther t l (End e) = Unit {0}
 -- ---- one fragment
 
 -- a look, by its answer: what the side of the link that takes comes to; a fragment that was seen stands first there
-abbrev pub Finds : {T : Type 0} → (T → Look → T → Type 0) → (T → Look) → Incoming → Result First HopFault → Change T → Type 0
+abbrev pub Finds : {T : Type 0} → (T → Look → T → Type 0) → (T → Look)
+    → Incoming → Result First HopFault → Change T → Type 0
 Finds takes front at (Ok Nothing) from = takes from.before missed from.after
 Finds {T} takes front at (Ok Acknowledged) from = (seen : T) × takes from.before saw_ack seen × takes seen found_ack from.after
 Finds takes front at (Ok (Monitor frag)) from =
@@ -91,8 +92,8 @@ Leaves takes Full frag from = from.after ≡ from.before
 Leaves takes Spent frag from = from.after ≡ from.before
 
 -- a fragment of a circuit was seen, and passed on with the number of its way, or left
-pub record Passes {T P : Type 0} (takes : T → Look → T → Type 0) (puts : P → Look → P → Type 0) (front : T → Look) (at : Incoming) (p : Passage) (lent : Lent T P)
-    : Type 0 where
+pub record Passes {T P : Type 0} (takes : T → Look → T → Type 0) (puts : P → Look → P → Type 0) (front : T → Look)
+    (at : Incoming) (p : Passage) (lent : Lent T P) : Type 0 where
   pub seen : T
   pub sees : Finds takes front at (Ok (Goes p.frag p.way)) (record { before = lent.from.before; after = seen })
   pub left : Leaves takes p.outcome (bare p.frag) (record { before = seen; after = lent.from.after })
@@ -118,8 +119,8 @@ pub record Crosses {S : Type 0} (takes puts : S → Look → S → Type 0) (x : 
   pub rest : ss.after ≡ slice_set (slice_set ss.before x.from lent.from.after) x.to lent.onto.after
 
 -- only the side of the link was changed, as a look with this answer does
-pub record Looked {S : Type 0} (takes : S → Look → S → Type 0) (front : S → Look) (at : Incoming) (found : Result First HopFault) (ss : Change (List S))
-    : Type 0 where
+pub record Looked {S : Type 0} (takes : S → Look → S → Type 0) (front : S → Look) (at : Incoming)
+    (found : Result First HopFault) (ss : Change (List S)) : Type 0 where
   pub before : S
   pub after : S
   pub there : slice_get ss.before at.link ≡ Some before
@@ -127,8 +128,8 @@ pub record Looked {S : Type 0} (takes : S → Look → S → Type 0) (front : S 
   pub rest : ss.after ≡ slice_set ss.before at.link after
 
 -- a fragment of the link was looked at, and went on over another link, or stayed, by the outcome; no other side was changed
-pub record WentOn {S : Type 0} (takes puts : S → Look → S → Type 0) (front : S → Look) (at : Incoming) (outcome : Outcome) (ss : Change (List S))
-    : Type 0 where
+pub record WentOn {S : Type 0} (takes puts : S → Look → S → Type 0) (front : S → Look) (at : Incoming)
+    (outcome : Outcome) (ss : Change (List S)) : Type 0 where
   pub frag : Frag
   pub link : LinkId
   pub circuit : Circuit
@@ -139,8 +140,8 @@ pub record WentOn {S : Type 0} (takes puts : S → Look → S → Type 0) (front
   pub rest : ss.after ≡ slice_set (slice_set ss.before at.link lent.from.after) link.0 lent.onto.after
 
 -- a forward over the sides of this core's links, by its answer
-abbrev pub Forwards
-    : {S : Type 0} → (S → Look → S → Type 0) → (S → Look → S → Type 0) → (S → Look) → Incoming → Result Forwarded HopFault → Change (List S) → Type 0
+abbrev pub Forwards : {S : Type 0} → (S → Look → S → Type 0) → (S → Look → S → Type 0) → (S → Look)
+    → Incoming → Result Forwarded HopFault → Change (List S) → Type 0
 Forwards takes puts front at (Ok is.Nothing) ss = Looked takes front at (Ok Nothing) ss
 Forwards takes puts front at (Ok is.Acknowledged) ss = Looked takes front at (Ok Acknowledged) ss
 Forwards takes puts front at (Ok (is.Monitor frag)) ss = Looked takes front at (Ok (Monitor frag)) ss

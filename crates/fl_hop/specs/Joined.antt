@@ -31,13 +31,15 @@ pub record Sound (t : TheCircuits) : Type 0 where
   pub whole : length t.hops ≡ numbers * length t.links
   -- no link goes to the core itself, and no two to one core
   pub apart : (l : ℕ) (a : LinkState) → slice_get t.links l ≡ Some a → a.neighbour.0 ≢ t.core
-  pub once : (l m : ℕ) (a b : LinkState) → slice_get t.links l ≡ Some a → slice_get t.links m ≡ Some b → a.neighbour.0 ≡ b.neighbour.0 → l ≡ m
+  pub once : (l m : ℕ) (a b : LinkState) → slice_get t.links l ≡ Some a → slice_get t.links m ≡ Some b
+      → a.neighbour.0 ≡ b.neighbour.0 → l ≡ m
   pub counts : (l : ℕ) (a : LinkState) → slice_get t.links l ≡ Some a → (a.opened ≤ most_openings) × (a.taken ≤ most_openings)
   -- a number that this core gave leads to the client, and one that the neighbour gave to the server
   pub toward : (l n binding : ℕ) (way : Way) → Leads t l n binding way
       → (OpenedHere t l n × IsClientWay t.core t.links binding way) ⊎ (OpenedThere t l n × IsServerWay t.core t.links binding way)
   -- reading an entry from its other side leads back
-  pub both : (l m : LinkId) (c d : Circuit) (binding : ℕ) → Leads t l.0 c.0 binding (Link m d) → Leads t m.0 d.0 binding (Link l c)
+  pub both : (l m : LinkId) (c d : Circuit) (binding : ℕ) → Leads t l.0 c.0 binding (Link m d)
+      → Leads t m.0 d.0 binding (Link l c)
   -- an entry joins two links
   pub over : (l n binding : ℕ) (m : LinkId) (d : Circuit) → Leads t l n binding (Link m d) → l ≢ m.0
   -- a binding has one entry: where two numbers are of one binding, they are one, or the entry's two sides

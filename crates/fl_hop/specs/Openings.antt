@@ -28,7 +28,8 @@ open_fault t l binding =
 
 -- the table with a circuit opened on link l, joined with the binding's client
 abbrev pub opened : TheCircuits → LinkId → Circuit → ℕ → TheCircuits
-opened t l c binding = with_entry (after_opening t l.0) binding false (End (record { binding = binding; side = Client })) (Link l c)
+opened t l c binding =
+    with_entry (after_opening t l.0) binding false (End (record { binding = binding; side = Client })) (Link l c)
 
 -- why the neighbour's opening c on link l isn't passed on over link m, if it isn't for want of memory
 abbrev pub pass_fault : TheCircuits → ℕ → ℕ → ℕ → ℕ → Option HopFault
@@ -51,7 +52,8 @@ arrive_fault t l c binding =
 
 -- the table with the neighbour's opening c on link l taken, and joined with the binding's server
 abbrev pub arrived : TheCircuits → LinkId → Circuit → ℕ → TheCircuits
-arrived t l c binding = with_entry (after_taking t l.0) binding false (Link l c) (End (record { binding = binding; side = Server }))
+arrived t l c binding =
+    with_entry (after_taking t l.0) binding false (Link l c) (End (record { binding = binding; side = Server }))
 
 -- why the neighbour's opening c on link l isn't counted as refused
 abbrev pub refuse_fault : TheCircuits → ℕ → ℕ → Option HopFault

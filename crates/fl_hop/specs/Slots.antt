@@ -1,5 +1,6 @@
--- How a table keeps its entries: each once, in a slab, found by a cell for each number of each link.
-use Rattle.std.specs.Prelude.{ℕ, ◌≡◌, ◌≢◌, ◌*◌, ◌≤◌, List, length, map, slice_get, slice_set, slice_index_or, nat_lt, if◌then◌else◌, Option, Some, None, option_map}
+-- Working file: how a table keeps its entries, each once, in a slab, found by a cell for each number of each link.
+use Rattle.std.specs.Prelude.{ℕ, ◌≡◌, ◌≢◌, ◌*◌, ◌≤◌, nat_lt, if◌then◌else◌, Option, Some, None, option_map}
+use Rattle.std.specs.Prelude.{List, length, map, slice_get, slice_set, slice_index_or}
 use Rattle.slab.specs.Slab.{Slab, get, Updates}
 use Rattle.fl_base.specs.declared.identity.LinkId.{LinkId}
 use Rattle.fl_base.specs.declared.identity.Circuit.{Circuit}
@@ -72,7 +73,8 @@ pub record Kept (core : ℕ) (links : List LinkState) (cells : List Cell) (s : S
   pub few : length links ≤ most_links
   pub whole : length cells ≡ numbers * length links
   pub apart : (l : ℕ) (a : LinkState) → slice_get links l ≡ Some a → a.neighbour.0 ≢ core
-  pub once : (l m : ℕ) (a b : LinkState) → slice_get links l ≡ Some a → slice_get links m ≡ Some b → a.neighbour.0 ≡ b.neighbour.0 → l ≡ m
+  pub once : (l m : ℕ) (a b : LinkState) → slice_get links l ≡ Some a → slice_get links m ≡ Some b
+      → a.neighbour.0 ≡ b.neighbour.0 → l ≡ m
   pub counts : (l : ℕ) (a : LinkState) → slice_get links l ≡ Some a → (a.opened ≤ most_openings) × (a.taken ≤ most_openings)
   -- each cell leads to its entry, and that side of the entry is where the cell stands
   pub client : (i key : ℕ) → slice_get cells i ≡ Some (ClientSide key) → Found (λ e. e.client) s i key
@@ -80,7 +82,8 @@ pub record Kept (core : ℕ) (links : List LinkState) (cells : List Cell) (s : S
   -- each side of an entry that is a number of a link has its cell
   pub client_back : (key : ℕ) (e : Entry) → get s key ≡ Some e → Sits cells e.client (ClientSide key)
   pub server_back : (key : ℕ) (e : Entry) → get s key ≡ Some e → Sits cells e.server (ServerSide key)
-  pub ways : (key : ℕ) (e : Entry) → get s key ≡ Some e → IsClientWay core links e.binding e.client × IsServerWay core links e.binding e.server
+  pub ways : (key : ℕ) (e : Entry) → get s key ≡ Some e
+      → IsClientWay core links e.binding e.client × IsServerWay core links e.binding e.server
   pub over : (key : ℕ) (e : Entry) → get s key ≡ Some e → IsOver e.client e.server
   pub one : (key other : ℕ) (e f : Entry) → get s key ≡ Some e → get s other ≡ Some f → e.binding ≡ f.binding → key ≡ other
 

@@ -1,4 +1,5 @@
--- A stretch of time at one core: fragments are passed on, and meanwhile circuits are opened and removed.
+-- A stretch of time at one core: fragments are passed on, ends and the monitor here write theirs, and meanwhile circuits are
+-- opened and removed.
 use Rattle.std.specs.Prelude.{ℕ, ◌≡◌, ◌==◌, ◌&&◌, Bool, true, false, if◌then◌else◌, List, [], ◌∷◌, ◌++◌, Some}
 use Rattle.fl_base.specs.declared.fragment.Frag.{Frag}
 use Rattle.fl_base.specs.declared.identity.EndId.{EndId}
@@ -12,19 +13,37 @@ use Rattle.fl_hop.specs.Joined.{Sound, Leads}
 use Rattle.fl_hop.specs.Later.{Later, way_at}
 use Rattle.fl_hop.specs.OfCircuit.{as_carried}
 
--- one fragment passed on: the table of that moment, from which link, the fragment as it stood there, and which way
+-- ---- what happens to a fragment at a core
+
+pub data Deed : Type 0 where
+  -- it was taken from this link, as it stood there, and went this way
+  passed : ℕ → Frag → Way → Deed
+  -- an end here put it on this link
+  wrote : EndId → ℕ → Frag → Deed
+  -- the monitor here put it on this link
+  said : ℕ → Frag → Deed
+  -- the monitor here took it from this link
+  heard : ℕ → Frag → Deed
+
+-- as the table leads: a forward by the entry, an end under its own number, the monitor on circuit 0
+abbrev pub AsLed : TheCircuits → Deed → Type 0
+AsLed t (passed l frag way) = way_at t l (circuit_of frag.control) ≡ Some way
+AsLed t (wrote e l frag) = way_at t l (circuit_of frag.control) ≡ Some (End e)
+AsLed t (said l frag) = circuit_of frag.control ≡ 0
+AsLed t (heard l frag) = circuit_of frag.control ≡ 0
+
+-- a deed, and the table of that moment
 pub record Step : Type 0 where
   pub moment : TheCircuits
-  pub from : ℕ
-  pub frag : Frag
-  pub way : Way
+  pub deed : Deed
 
--- it went the way that the table led
 pub record Went (p : Step) : Type 0 where
   pub sound : Sound p.moment
-  pub led : way_at p.moment p.from (circuit_of p.frag.control) ≡ Some p.way
+  pub led : AsLed p.moment p.deed
 
--- what was passed on, in order, while the table at the start became the one at the finish
+-- ---- a stretch
+
+-- what was done, in order, while the table at the start became the one at the finish
 pub record Stretch : Type 0 where
   pub start : TheCircuits
   pub steps : List Step
@@ -52,20 +71,9 @@ pub record Stood (s : Stretch) (l n binding : ℕ) (way : Way) : Type 0 where
 
 -- ---- what went in and came out; of each fragment what a label of a side says, with its epoch and the count told set aside
 
--- what was taken from link l, in order
-abbrev pub taken_from : ℕ → List Step → List Frag
-taken_from l [] = []
-taken_from l (p ∷ ps) = if p.from == l then bare p.frag ∷ taken_from l ps else taken_from l ps
-
--- a fragment as it was put on link l, if it went there
-abbrev pub if_put_on : ℕ → Frag → Way → List Frag → List Frag
-if_put_on l frag (Link m c) rest = if m.0 == l then bare (with_circuit c.0 frag) ∷ rest else rest
-if_put_on l frag (End e) rest = rest
-
--- what was put on link l, in order
-abbrev pub put_on : ℕ → List Step → List Frag
-put_on l [] = []
-put_on l (p ∷ ps) = if_put_on l p.frag p.way (put_on l ps)
+-- the one fragment, or none
+abbrev pub if_so : Bool → Frag → List Frag
+if_so so frag = if so then frag ∷ [] else []
 
 -- whether two sides are one, and two ends
 abbrev pub same_side : Side → Side → Bool
@@ -76,17 +84,68 @@ same_side _ _ = false
 abbrev pub same_end : EndId → EndId → Bool
 same_end a b = (a.binding == b.binding) && same_side a.side b.side
 
--- a fragment as it came to an end, if it went there
-abbrev pub if_come_to : EndId → Frag → Way → List Frag → List Frag
-if_come_to e frag (Link m c) rest = rest
-if_come_to e frag (End f) rest = if same_end f e then as_carried frag ∷ rest else rest
+-- what a deed took from link l
+abbrev pub taken_by : ℕ → Deed → List Frag
+taken_by l (passed m frag way) = if_so (m == l) (bare frag)
+taken_by l (wrote e m frag) = []
+taken_by l (said m frag) = []
+taken_by l (heard m frag) = if_so (m == l) (bare frag)
 
--- what came to an end's arrival queue, in order
+-- what a fragment that goes this way is on link l, and at an end
+abbrev pub sent_to : ℕ → Frag → Way → List Frag
+sent_to l frag (Link m c) = if_so (m.0 == l) (bare (with_circuit c.0 frag))
+sent_to l frag (End e) = []
+
+abbrev pub brought_to : EndId → Frag → Way → List Frag
+brought_to e frag (Link m c) = []
+brought_to e frag (End f) = if_so (same_end f e) (as_carried frag)
+
+-- what a deed put on link l
+abbrev pub put_by : ℕ → Deed → List Frag
+put_by l (passed m frag way) = sent_to l frag way
+put_by l (wrote e m frag) = if_so (m == l) (bare frag)
+put_by l (said m frag) = if_so (m == l) (bare frag)
+put_by l (heard m frag) = []
+
+-- what a deed brought to an end's arrival queue
+abbrev pub come_by : EndId → Deed → List Frag
+come_by e (passed m frag way) = brought_to e frag way
+come_by e (wrote f m frag) = []
+come_by e (said m frag) = []
+come_by e (heard m frag) = []
+
+-- what a deed of an end wrote, as it is carried
+abbrev pub written_in : EndId → Deed → List Frag
+written_in e (passed m frag way) = []
+written_in e (wrote f m frag) = if_so (same_end f e) (as_carried frag)
+written_in e (said m frag) = []
+written_in e (heard m frag) = []
+
+-- the same of all steps, in order
+abbrev pub taken_from : ℕ → List Step → List Frag
+taken_from l [] = []
+taken_from l (p ∷ ps) = taken_by l p.deed ++ taken_from l ps
+
+abbrev pub put_on : ℕ → List Step → List Frag
+put_on l [] = []
+put_on l (p ∷ ps) = put_by l p.deed ++ put_on l ps
+
 abbrev pub come_to : EndId → List Step → List Frag
 come_to e [] = []
-come_to e (p ∷ ps) = if_come_to e p.frag p.way (come_to e ps)
+come_to e (p ∷ ps) = come_by e p.deed ++ come_to e ps
+
+abbrev pub written_by : EndId → List Step → List Frag
+written_by e [] = []
+written_by e (p ∷ ps) = written_in e p.deed ++ written_by e ps
 
 -- whatever came to the end came under number n of link l
 abbrev pub OnlyFrom : ℕ → ℕ → EndId → List Step → Type 0
 OnlyFrom l n e [] = Unit {0}
-OnlyFrom l n e (p ∷ ps) = (p.way ≡ End e → (p.from ≡ l) × (circuit_of p.frag.control ≡ n)) × OnlyFrom l n e ps
+OnlyFrom l n e (p ∷ ps) =
+    ((m : ℕ) (frag : Frag) → p.deed ≡ passed m frag (End e) → (m ≡ l) × (circuit_of frag.control ≡ n)) × OnlyFrom l n e ps
+
+-- whatever the end wrote it wrote under number n of link l
+abbrev pub OnlyOnto : ℕ → ℕ → EndId → List Step → Type 0
+OnlyOnto l n e [] = Unit {0}
+OnlyOnto l n e (p ∷ ps) =
+    ((m : ℕ) (frag : Frag) → p.deed ≡ wrote e m frag → (m ≡ l) × (circuit_of frag.control ≡ n)) × OnlyOnto l n e ps

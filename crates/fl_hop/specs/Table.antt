@@ -1,5 +1,6 @@
 -- One core's table of circuits: its links, and where each circuit number on each link leads.
-use Rattle.std.specs.Prelude.{ℕ, ◌+◌, ◌*◌, ◌==◌, List, [], ◌∷◌, ◌++◌, length, replicate, position, Option, Some, None, is_some, slice_set, slice_index_or, Bool, false, nat_lt, if◌then◌else◌}
+use Rattle.std.specs.Prelude.{ℕ, ◌+◌, ◌*◌, ◌==◌, nat_lt, Bool, false, if◌then◌else◌, Option, Some, None, is_some}
+use Rattle.std.specs.Prelude.{List, [], ◌∷◌, ◌++◌, length, replicate, position, slice_set, slice_index_or}
 use Rattle.std.specs.List.{list_any}
 use Rattle.fl_base.specs.declared.identity.CoreId.{CoreId}
 use Rattle.fl_hop.specs.declared.entry.Way.{Way}

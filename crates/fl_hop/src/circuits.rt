@@ -1,6 +1,7 @@
 //! The table of circuits: its links, the numbers on them, and what stands there.
 
-ghost use Rattle.std.specs.Prelude.{◌≡◌, ◌⊎◌, ◌↔◌, ℕ, IsTrue, [], length, None, Some, IfOk, IfErr, OnOk, OnErr, IfSome, slice_get, option_map};
+ghost use Rattle.std.specs.Prelude.{◌≡◌, ◌⊎◌, ◌↔◌, ℕ, IsTrue, [], length, None, Some, IfSome, slice_get, option_map};
+ghost use Rattle.std.specs.Prelude.{IfOk, IfErr, OnOk, OnErr};
 ghost use Rattle.fl_base.specs.declared.identity.LinkId.{LinkId};
 ghost use Rattle.fl_base.specs.declared.identity.CoreId.{CoreId};
 ghost use Rattle.fl_base.specs.declared.identity.Circuit.{Circuit};
@@ -95,6 +96,7 @@ impl Circuits {
     pub fn add_link(&mut self, neighbour: CoreId) -> Result<LinkId, HopFault>
         ensures added { OnOk result (self.new ≡ with_link self.old neighbour) }
         ensures link { IfOk result (λ link. link.0 ≡ length self.old.links) }
+        ensures later { OnOk result (Later self.old self.new) }
         ensures may { OnOk result (link_fault self.old neighbour.0 ≡ None) }
         ensures refused { IfErr result (IsRefusal (link_fault self.old neighbour.0)) }
         ensures kept { OnErr result (self.new ≡ self.old) }

@@ -124,7 +124,9 @@ impl Circuits {
     /// fragment would be one that only acknowledges, which no fragment of a call is (E63). The fragment stays then. The
     /// caller calls no more for a direction that has failed.
     pub fn look<T: TakeSide>(&self, link: LinkId, from: &mut T) -> Result<First, HopFault>
-        ensures finds { Finds T.takes T.front (record { table = self.now; link = link.0 }) result (record { before = from.old; after = from.new }) }
+        ensures finds { Finds T.takes T.front
+            (record { table = self.now; link = link.0 }) result
+            (record { before = from.old; after = from.new }) }
     {
         let frag = match from.peek() {
             Sight::Empty => return Ok(First::Nothing),

@@ -1,13 +1,15 @@
-//! What holds of every table, and of every stretch of forwards.
+//! What holds of every table, and of every stretch.
 
-ghost use Rattle.std.specs.Prelude.{◌≡◌, ◌++◌, ℕ, List, None};
+ghost use Rattle.std.specs.Prelude.{◌≡◌, ◌++◌, ℕ, List, None, Some};
 ghost use Rattle.fl_base.specs.declared.fragment.Frag.{Frag};
 ghost use Rattle.fl_base.specs.Prefix.{IsPrefix};
 ghost use Rattle.fl_hop.specs.Table.{TheCircuits, hop_at};
-ghost use Rattle.fl_hop.specs.Numbers.{OpenedHere, OpenedThere};
+ghost use Rattle.fl_hop.specs.Numbers.{OpenedHere, OpenedThere, Given, next_own, next_due};
 ghost use Rattle.fl_hop.specs.Joined.{Sound};
+ghost use Rattle.fl_hop.specs.Limits.{LinksSuffice};
 ghost use Rattle.fl_hop.specs.Later.{Later};
-ghost use Rattle.fl_hop.specs.Carried.{OneEntry, Joins, StoodToo, CarriedOn, CarriedIn, OwnAlone, SetAside, Leg, Along};
+ghost use Rattle.fl_hop.specs.Carried.{OneEntry, OneStep, Joins, StoodThere, StoodToo};
+ghost use Rattle.fl_hop.specs.Carried.{CarriedOn, CarriedIn, OwnAlone, SetAside, Leg, Along};
 ghost use Rattle.fl_hop.specs.Adds.{PassageAdds, ForwardsAdd};
 ghost use Rattle.fl_hop.specs.OfCircuit.{of_circuit};
 
@@ -23,10 +25,19 @@ pub fn never_shared(circuits: &Circuits)
     let _ = &circuits.cells;
 }
 
-/// In every table no number of a link is both cores', and number 0, the monitors' own, has no entry.
+/// In every table no number of a link is both cores', and number 0, the monitors' own, has no entry. The number of a core's
+/// next opening was given by nobody, and stays given afterwards (`later_on`): so no number is given twice.
 pub fn numbers_apart()
     ensures apart { (t : TheCircuits) → Sound t → (l n : ℕ) → OpenedHere t l n → OpenedThere t l n → ⊥ }
     ensures zero { (t : TheCircuits) → Sound t → (l : ℕ) → hop_at t l 0 ≡ None }
+    ensures own { (t : TheCircuits) → Sound t → (l n : ℕ) → next_own t l ≡ Some n → Given t l n → ⊥ }
+    ensures due { (t : TheCircuits) → Sound t → (l n : ℕ) → next_due t l ≡ Some n → Given t l n → ⊥ }
+{}
+
+/// Among the cores of a world, 0 to 15, no link is refused for there being too many: whoever has 15 has one to each other
+/// core.
+pub fn links_suffice()
+    ensures suffice { LinksSuffice }
 {}
 
 /// What a table became, and what that became: a table keeps what each call keeps. An entry's number names it for ever.
@@ -36,25 +47,27 @@ pub fn later_on()
     ensures one { OneEntry }
 {}
 
-/// One stretch of forwards and then another are one; an entry that stood at some moment of either stood at some moment of
-/// both together.
+/// A step alone is a stretch, and one stretch and then another are one. An entry that stands at a stretch's start or finish
+/// stood at some moment of it; one that stood at some moment of either of two stood at some moment of both together.
 pub fn stretches_join()
+    ensures one { OneStep }
     ensures joins { Joins }
+    ensures there { StoodThere }
     ensures stood { StoodToo }
 {}
 
-/// Over any stretch of forwards at one core, what came out under the number of an entry that stood at some moment of it is
-/// what went in under the number on its other side, whatever other circuits share the links.
+/// Over any stretch of forwards, writes and monitors' messages at one core, what was put under the number of an entry that
+/// stood at some moment of it is what was taken under the number on its other side, whatever else shares the links.
 pub fn carried_on()
     ensures carried { CarriedOn }
 {}
 
-/// And what came to an end is what went in under its entry's number.
+/// And what came to an end is what was taken under its entry's number.
 pub fn carried_in()
     ensures carried { CarriedIn }
 {}
 
-/// And nothing is put under the number that an end at this core writes on.
+/// And what was put under the number that an end at this core writes on is what the end wrote.
 pub fn own_alone()
     ensures alone { OwnAlone }
 {}

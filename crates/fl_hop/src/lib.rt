@@ -9,8 +9,9 @@
 //!
 //! Contract for the layers above: a [`Circuits`] is the table of `specs/Table.antt`, numbered by `specs/Numbers.antt`;
 //! each call makes exactly the change that `specs/Openings.antt` names, and leaves everything else alone.
-//! `specs/Joined.antt` has what holds of every table, `specs/Later.antt` what a table keeps while it changes,
-//! `specs/Forward.antt` what a forward does, and `specs/Carried.antt` what comes of many.
+//! `specs/Joined.antt` has what holds of every table, `specs/Later.antt` what a table keeps while it changes, and
+//! `specs/Forward.antt` what a forward does. `specs/Stretch.antt` has what a core does over a stretch of time,
+//! `specs/Adds.antt` which step of it a forward is, and `specs/Carried.antt` what a circuit carries then.
 //!
 //! - `circuits.rt`: `Circuits`, its links, the numbers there, and look-ups
 //! - `openings.rt`: how entries come and go
@@ -18,7 +19,7 @@
 //! - `links.rt`: what a core knows of its links
 //! - `numbers.rt`: the numbering
 //! - `forward.rt`: looking at a link's first fragment, and passing it on
-//! - `law.rt`: what holds of every table and of every stretch of forwards
+//! - `law.rt`: what holds of every table and of every stretch
 //! - `fault.rt`: why a call is refused
 #![tactic(auto)]
 
@@ -36,8 +37,8 @@ pub use entry::{Hop, Way};
 pub use fault::HopFault;
 pub use forward::{First, Forwarded, Outcome, deliver, move_on};
 pub use law::{
-    along, carried_in, carried_on, circuits_join, forward_adds, later_on, never_shared,
-    numbers_apart, own_alone, passage_adds, stretches_join,
+    along, carried_in, carried_on, circuits_join, forward_adds, later_on, links_suffice,
+    never_shared, numbers_apart, own_alone, passage_adds, stretches_join,
 };
 pub use links::LinkState;
 pub use numbers::{MAX_LINKS, MAX_OPENINGS};

@@ -5,7 +5,8 @@ ghost use Rattle.fl_hop.specs.declared.entry.Way.{Way};
 ghost use Rattle.fl_hop.specs.declared.entry.Hop.{Hop};
 ghost use Rattle.fl_hop.specs.Table.{hop_at, without_entry};
 ghost use Rattle.fl_hop.specs.Numbers.{next_own, next_due, after_taking};
-ghost use Rattle.fl_hop.specs.Openings.{IsRefusal, open_fault, opened, pass_fault, passed_on, arrive_fault, arrived, refuse_fault, is_next, IsWaiting, answered};
+ghost use Rattle.fl_hop.specs.Openings.{IsRefusal, open_fault, opened, pass_fault, passed_on};
+ghost use Rattle.fl_hop.specs.Openings.{arrive_fault, arrived, refuse_fault, is_next, IsWaiting, answered};
 ghost use Rattle.fl_hop.specs.Later.{Later};
 
 use crate::circuits::Circuits;

@@ -1,4 +1,4 @@
--- What a table keeps: names and services, in order. A registration's interface reference is its place,
+-- Working file: what a table keeps, names and services, in order. A registration's interface reference is its place,
 -- from 1, and is kept nowhere.
 use Rattle.std.specs.Prelude.{ℕ, ◌+◌, List, [], ◌∷◌}
 use Rattle.std.specs.Global.{Vec}

@@ -6,14 +6,15 @@ ghost use Rattle.fl_nameserv.specs.Numbered.{numbered};
 
 use fl_base::{CoreId, IRef};
 
-/// Who offers what, and where.
+/// Who offers what, and where: said so that every core reads it alike, also one that runs by itself and has no more than its
+/// own dispatchers and a copy of the list of interfaces.
 #[derive(Clone, Copy, Debug, PartialEq, Eq)]
 pub struct Service {
-    /// The dispatcher that offers it, by its place in the world's list.
-    pub dispatcher: usize,
-    /// The dispatcher's core.
+    /// The core at which it is offered.
     pub core: CoreId,
-    /// The interface that is offered, by its place in the world's list.
+    /// The dispatcher that offers it, by its place among the dispatchers of that core.
+    pub dispatcher: usize,
+    /// The interface that is offered, by its place in the list of interfaces, of which each core has a copy.
     pub interface: usize,
 }
 

@@ -7,11 +7,11 @@ use crate::{NameFault, Names, Registration, Service};
 use fl_base::{CoreId, IRef};
 use std::test::Fail;
 
-// A service's dispatcher, core and interface, all told apart.
+// A service's core, dispatcher and interface, all told apart.
 fn service(number: u8) -> Service {
     Service {
-        dispatcher: usize::from(number) + 100,
         core: CoreId(number),
+        dispatcher: usize::from(number) + 100,
         interface: usize::from(number) + 50,
     }
 }

@@ -160,6 +160,57 @@ fn two_circuits_of_one_link(rt: HostRuntime) -> Result<(), Fail> {
     Ok(())
 }
 
+// Whether the next fragment of a link is this call's, on this circuit.
+fn brings(side: &mut SharedSide, v: u64, circuit: u16) -> bool {
+    match side.take() {
+        Sight::Data(frag) => frag.words[0] == v && frag.circuit() == Circuit(circuit),
+        _ => false,
+    }
+}
+
+// Of two openings that passed the middle core the first is refused further on, and the second's server calls before its
+// answer comes.
+fn refused_and_overtaken(alloc: Global) -> Result<([bool; 6], [bool; 6], [bool; 4]), Fail> {
+    let (near, far) = (LinkId(0), LinkId(1));
+    let mut middle = table(alloc, 1, &[0, 2])?;
+    let (mut client, b) = duo(alloc, 8)?;
+    let (c, mut server) = duo(alloc, 8)?;
+    let mut sides = [b, c];
+    let opening = [
+        middle.pass_on(near, Circuit(1), far, 0) == Ok(Circuit(1)),
+        middle.pass_on(near, Circuit(3), far, 1) == Ok(Circuit(3)),
+        put(&mut server, call(7, 3)),
+        middle.forward(far, &mut sides) == MOVED,
+        middle.answer(far, Circuit(1)).is_ok(),
+        middle.remove(far, Circuit(1)).is_some(),
+    ];
+    let later = [
+        middle.answer(far, Circuit(3)).is_ok(),
+        put(&mut client, call(8, 3)),
+        middle.forward(near, &mut sides) == MOVED,
+        middle.pass_on(near, Circuit(5), far, 2) == Ok(Circuit(5)),
+        put(&mut client, call(9, 1)),
+        middle.forward(near, &mut sides) == Err(HopFault::Astray),
+    ];
+    let out = [
+        brings(&mut client, 7, 3),
+        brings(&mut server, 8, 3),
+        client.take() == Sight::Empty,
+        server.take() == Sight::Empty,
+    ];
+    Ok((opening, later, out))
+}
+
+// A refused opening leaves no entry and gives its numbers to nobody; a call from the server may come before the answer.
+#[test]
+fn a_refused_opening_and_an_early_call(rt: HostRuntime) -> Result<(), Fail> {
+    assert_eq!(rt;
+        refused_and_overtaken(rt.alloc())?,
+        ([true; 6], [true; 6], [true; 4])
+    );
+    Ok(())
+}
+
 // What a forward answers twice to a fragment without words, where number 1 leads to an end.
 fn answered(alloc: Global, control: u64) -> Result<[Result<Forwarded, HopFault>; 2], Fail> {
     let link = LinkId(0);

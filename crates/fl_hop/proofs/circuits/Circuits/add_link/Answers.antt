@@ -1,8 +1,10 @@
 use Rattle.std.proofs.Common.{◌≡◌, ◌==◌, sym, ap, ◌∙◌, subst, [], ◌∷◌, ◌++◌, length, position, None, arith}
 use Rattle.fl_hop.specs.declared.links.LinkState.{LinkState}
 use Rattle.fl_hop.specs.Table.{link_of, with_link}
+use Rattle.fl_hop.specs.Later.{Later}
 use Rattle.fl_hop.specs.Slots.{table_of, Kept}
 use Rattle.fl_hop.proofs.Counting.{kept_link, no_link, map_fill}
+use Rattle.fl_hop.proofs.Limits.{later_link}
 use Rattle.fl_hop.proofs.circuits.Circuits.add_link.Goals as goal
 
 links : (c : goal.After-push_reserved) → c.push_reserved.new.self.items ≡ c.self.inside.links.items ++ record { neighbour = c.args.neighbour; opened = 0; taken = 0 } ∷ []
@@ -21,9 +23,15 @@ invariant_of-self-2 c =
     subst (λ v. Kept c.self.inside.core.0 v c.add_cells.new.cells.items c.self.inside.entries) (sym (links c))
     (subst (λ w. Kept c.self.inside.core.0 (c.self.inside.links.items ++ record { neighbour = c.args.neighbour; opened = 0; taken = 0 } ∷ []) w c.self.inside.entries) (sym c.in-Ok.ensures.added) k)
 
-pub returns-clause-added : goal.returns-clause-added
-returns-clause-added c =
+added : (c : goal.After-push_reserved) → table_of c.self.inside.core.0 c.push_reserved.new.self.items c.add_cells.new.cells.items c.self.inside.entries ≡ with_link c.args.self.now c.args.neighbour
+added c =
     ap (λ v. table_of c.self.inside.core.0 v c.add_cells.new.cells.items c.self.inside.entries) (links c)
     ∙ ap (λ w. table_of c.self.inside.core.0 (c.self.inside.links.items ++ record { neighbour = c.args.neighbour; opened = 0; taken = 0 } ∷ []) w c.self.inside.entries) c.in-Ok.ensures.added
     ∙ map_fill c.self.inside.core.0 c.self.inside.links.items c.self.inside.cells.items c.self.inside.entries c.args.neighbour
     ∙ ap (λ t. with_link t c.args.neighbour) c.self.view_is
+
+pub returns-clause-added : goal.returns-clause-added
+returns-clause-added c = added c
+
+pub returns-clause-later : goal.returns-clause-later
+returns-clause-later c = subst (Later c.args.self.now) (sym (added c)) (later_link c.args.self.now c.args.neighbour)
