@@ -14,7 +14,7 @@ use Rattle.fl_stub.specs.Code.{TheCode, IsVerified}
 use Rattle.fl_stub.specs.Frames.{block_of}
 use Rattle.fl_compile.specs.declared.arguments.Standing.TheVariants.{At}
 use Rattle.fl_compile.specs.Compiled.{arguments_block, in_order, message_block, message_code}
-use Rattle.fl_compile.specs.Codes.{compiled}
+use Rattle.fl_compile.specs.Codes.{compiled_code}
 use Rattle.fl_compile.proofs.Ordering.{all_arranged, arranged_short}
 use Rattle.fl_compile.proofs.Depths.{all_within, within_all, message_args, message_is_code}
 
@@ -47,7 +47,7 @@ make_code column ops = record { column = column; ops = ops }
 
 -- verified code of one structure is the compiler's
 pub verified_is : (column : Column) (plan : PlanNo) (m : TheMessage) (ops : List Op) (code : TheCode) → OneStructure → IsCode column ops (message_block column plan m)
-    → ops ≡ message_code column plan m → code.ops ≡ ops → IsVerified code → code ≡ compiled column plan m
+    → ops ≡ message_code column plan m → code.ops ≡ ops → IsVerified code → code ≡ compiled_code column plan m
 verified_is column plan m ops code one is e same verified =
     let own : IsCode code.column ops (block_of code.ops) = subst (λ (o : List Op). IsCode code.column o (block_of code.ops)) same verified in
     let told = one ops code.column column (block_of code.ops) (message_block column plan m) own is in

@@ -41,7 +41,7 @@ use Rattle.fl_stub.specs.Marks.{marks_of, mark_at}
 use Rattle.fl_stub.specs.Streams.{BeginsPayload, IsPayload, LeavesPayloads}
 use Rattle.fl_stub.proofs.Structures.{structure_is}
 use Rattle.fl_stub.proofs.Giving.{turns_into_given}
-use Rattle.fl_compile.specs.Codes.{compiled}
+use Rattle.fl_compile.specs.Codes.{compiled_code}
 use Rattle.fl_compile.specs.Compiled.{message_block, message_code}
 use Rattle.fl_compile.specs.Laws.{HasMessage, Carries, TellsFaults, fault_of}
 use Rattle.fl_compile.proofs.Lawful.{takes_calls, compiles_to_code}
@@ -212,15 +212,15 @@ pub record Taking (plan : PlanNo) (i : TheInterface) (tape : List ℕ) (b : Begu
   pub parts_are : parts_of plan i tape b ≡ frags_begun b.msg.0 bytes b.fed
   pub grown : Grown b.msg.0 (parts_of plan i tape b) f bytes (bytes ++ words_bytes f.words) b.fed
 
-code_is : (code : TheCode) (plan : PlanNo) (m : TheMessage) (o : Option TheMessage) → o ≡ Some m → Some code ≡ option_map (compiled Receive plan) o → code.ops ≡ message_code Receive plan m
+code_is : (code : TheCode) (plan : PlanNo) (m : TheMessage) (o : Option TheMessage) → o ≡ Some m → Some code ≡ option_map (compiled_code Receive plan) o → code.ops ≡ message_code Receive plan m
 code_is code plan m o known h =
-    let both : Some code ≡ Some (compiled Receive plan m) = h ∙ ap (option_map (compiled Receive plan)) known in
-    let same : code ≡ compiled Receive plan m = cc in
+    let both : Some code ≡ Some (compiled_code Receive plan m) = h ∙ ap (option_map (compiled_code Receive plan)) known in
+    let same : code ≡ compiled_code Receive plan m = cc in
     ap (λ (c : TheCode). c.ops) same
 
 pub taking : (plan : PlanNo) (i : TheInterface) (tape : List ℕ) (b : Begun) (f : Frag) (code : TheCode) (ops : List Op) → is_within_limits i ≡ true → interface_words_fit i ≡ true → Line f
     → (x : IsBegun plan i tape b) → body f.control ≡ control_word (eqb b.fed 0) b.msg.0 0
-    → Some code ≡ option_map (compiled Receive plan) (slice_get i.messages b.msg.0) → ops ≡ code.ops → Taking plan i tape b f ops
+    → Some code ≡ option_map (compiled_code Receive plan) (slice_get i.messages b.msg.0) → ops ≡ code.ops → Taking plan i tape b f ops
 taking plan i tape b f code ops within words line x control exact lent =
     let fits = few_messages i b.msg.0 x.message within x.known in
     let has = has_message i b.msg.0 x.message within words x.known in

@@ -276,7 +276,7 @@ impl RecvRun {
     /// the tape of any call (`fl_layout` tells the greatest of each message).
     ///
     /// # Errors
-    /// Want of memory (E99). No other call but [`RecvRun::whole_call`] takes memory.
+    /// Out of memory (E99), and nothing else. No other call but [`RecvRun::whole_call`] takes memory.
     pub fn new(alloc: Global, program: Program, capacity: usize) -> Result<RecvRun, AllocError>
         requires room { HoldsTapes (program_of program).plan (program_of program).interface capacity }
         ensures made { IfOk result (λ r. r ≡ record { program = program; parts = []; whole = []; before = None }) }
@@ -326,7 +326,8 @@ impl RecvRun {
     /// The call that the last fragment fed made whole, also after an [`RecvRun::undo`] that leads back there.
     ///
     /// # Errors
-    /// Want of memory (E99), which changes nothing.
+    /// Out of memory (E99), and nothing else: that the call is whole is asked, so nothing is refused before memory is taken, and
+    /// nothing changes.
     pub fn whole_call(&self, alloc: Global) -> Result<Call, AllocError>
         requires whole { self.now.whole ≢ [] }
         ensures fits { IfOk result (λ call. fits_of (interface_in self.now) (call_of call) ≡ true) }
@@ -337,7 +338,7 @@ impl RecvRun {
         };
         let tape = &self.stored.tape[..ended.count];
         let interface = self.program.interface();
-        match unflatten(alloc, interface, ended.msg, tape, self.program.plan())? {
+        match unflatten(alloc, ended.msg, tape, interface, self.program.plan())? {
             Some(call) => Ok(call),
             None => unreachable!(),
         }
