@@ -46,7 +46,7 @@ fn low_byte(number: u64) -> u8
 }
 
 // The lowest bytes of a number and of seven more as one number, the first lowest.
-fn packed(first: u64, numbers: &[u64], from: usize) -> u64
+fn pack(first: u64, numbers: &[u64], from: usize) -> u64
     requires inside { from + 7 ≤ length numbers.now }
     ensures { number_bytes 8 result ≡ map low_byte_of (first ∷ take 7 (drop from numbers.now)) }
 {
@@ -362,7 +362,7 @@ impl Cursor {
         ensures spot { IsSpot ops.now (spot_of tape.now self.new) }
         ensures bytes { bytes_from ops.now (spot_of tape.now self.old) ≡ number_bytes 8 result ++ bytes_from ops.now (spot_of tape.now self.new) }
     {
-        let taken = packed(self.value, tape, self.next);
+        let taken = pack(self.value, tape, self.next);
         self.value = tape[self.next + 7] % 256;
         self.next += 8;
         self.phase %= 8;

@@ -67,7 +67,7 @@ fn put_word(buffer: &mut [u8; 64], at: usize, word: u64)
 }
 
 // The bytes of a fragment's words, and zeros behind them, so that eight can be read at each place.
-fn filled(words: &[u64; 7]) -> [u8; 64]
+fn spread(words: &[u64; 7]) -> [u8; 64]
     ensures { take 56 result ≡ words_bytes words.now }
 {
     let mut buffer = [0; 64];
@@ -115,7 +115,7 @@ fn low_part(word: u64, bytes: usize) -> u64
 }
 
 // The number with so many zero bytes before it.
-fn raised(number: u64, bytes: u32) -> u64
+fn raise(number: u64, bytes: u32) -> u64
     requires few { bytes < 8 }
     requires room { number * 256 ^ bytes < 2 ^ 64 }
     ensures { result ≡ number * 256 ^ bytes }
@@ -399,7 +399,7 @@ impl Intake {
     }
 
     // The number that a field's bytes are up to now, with those that are there, and how many these are.
-    fn grown(&self, field: Field, buffer: &[u8; 64], used: usize) -> (u64, usize)
+    fn grow(&self, field: Field, buffer: &[u8; 64], used: usize) -> (u64, usize)
         requires less { self.now.have < field.width }
         requires narrow { field.width ≤ 8 }
         requires small { self.now.value < 256 ^ self.now.have }
@@ -413,7 +413,7 @@ impl Intake {
         let wanted = (field.width - self.have) as usize;
         let there = wanted.min(56 - used);
         let more = low_part(word_at(buffer, used), there);
-        (self.value + raised(more, self.have), there)
+        (self.value + raise(more, self.have), there)
     }
 
     // Puts a field's number on the tape.
@@ -620,7 +620,7 @@ impl Intake {
         ensures long { length tape.new ≡ length tape.old }
         ensures count { (self.old.count ≤ self.new.count) × (self.new.count ≤ length tape.new) }
     {
-        let (number, there) = self.grown(field, buffer, used);
+        let (number, there) = self.grow(field, buffer, used);
         if number > field.last {
             return Err(field.mark);
         }
@@ -698,7 +698,7 @@ impl Intake {
         ensures within { self.new.count ≤ length tape.new }
         ensures long { length tape.new ≡ length tape.old }
     {
-        let buffer = filled(words);
+        let buffer = spread(words);
         self.resume(ops);
         let mut used = 0;
         while used < 56 {
