@@ -93,6 +93,7 @@ impl Model for RecvRun {
 }
 
 // The fault of a byte that can't stand where another stands.
+#[inline(always)]
 fn fault_of(mark: Mark) -> WireFault
     ensures fault { result ≡ fault_of_mark mark }
 {
@@ -105,6 +106,7 @@ fn fault_of(mark: Mark) -> WireFault
 
 impl Stand {
     // What a feed that led here answers.
+    #[inline(always)]
     fn answer(self) -> Fed
         ensures answer { result ≡ answer_of self }
     {
@@ -156,6 +158,7 @@ fn take_in(
 }
 
 // Takes a fragment where a call is to begin: where the run stands then.
+#[inline(always)]
 fn begin(program: &Program, tape: &mut [u64], frag: &Frag) -> Result<Stand, WireFault>
     requires room { HoldsTapes (program_of program.now).plan (program_of program.now).interface (length tape.old) }
     ensures stands { IfOk result (λ stand. StandsIn (program_of program.now) tape.new stand) }
@@ -176,6 +179,7 @@ fn begin(program: &Program, tape: &mut [u64], frag: &Frag) -> Result<Stand, Wire
 }
 
 // Takes a fragment inside a call: where the run stands then.
+#[inline(always)]
 fn go_on(program: &Program, begun: Begun, tape: &mut [u64], frag: &Frag) -> Result<Stand, WireFault>
     requires begun { StandsIn (program_of program.now) tape.old (inside begun) }
     requires room { HoldsTapes (program_of program.now).plan (program_of program.now).interface (length tape.old) }
