@@ -67,18 +67,16 @@ fn put_word(buffer: &mut [u8; 64], at: usize, word: u64)
     buffer[at..at + 8].copy_from_slice(&word.to_le_bytes());
 }
 
-// The bytes of a fragment's words, and zeros behind them, so that eight can be read at each place.
+// Puts the bytes of a fragment's words into a buffer with eight more behind them, so that eight can be read at each place.
 #[inline(always)]
-fn spread(words: &[u64; 7]) -> [u8; 64]
-    ensures { take 56 result ≡ words_bytes words.now }
+fn spread(buffer: &mut [u8; 64], words: &[u64; 7])
+    ensures { take 56 buffer.new ≡ words_bytes words.now }
 {
-    let mut buffer = [0; 64];
     let mut index = 0;
     while index < 7 {
-        put_word(&mut buffer, 8 * index, words[index]);
+        put_word(buffer, 8 * index, words[index]);
         index += 1;
     }
-    buffer
 }
 
 // The eight bytes from a place on as a number.
@@ -724,7 +722,8 @@ impl Intake {
         ensures within { self.new.count ≤ length tape.new }
         ensures long { length tape.new ≡ length tape.old }
     {
-        let buffer = spread(words);
+        let mut buffer = [0; 64];
+        spread(&mut buffer, words);
         self.resume(ops);
         let mut used = 0;
         while used < 56 {

@@ -206,15 +206,17 @@ impl SendRun {
         ensures meant { (bytes : List ℕ) → Turns (block_of code.now.ops) tape.items bytes
             → frags_left code.now result ≡ frags_holding true msg.0 circuit.0 bytes }
     {
-        let mut cursor = Cursor::new();
-        cursor.settle(code.ops(), &tape);
-        SendRun {
+        let cursor = Cursor::new();
+        // Settled where it lies, so that the loops aren't copied.
+        let mut run = SendRun {
             msg,
             circuit,
             tape,
             begins: true,
             cursor,
-        }
+        };
+        run.cursor.settle(code.ops(), &run.tape);
+        run
     }
 
     /// The next fragment, which stays the next; `None` after the last. Asks for the code of the start. Takes no memory.

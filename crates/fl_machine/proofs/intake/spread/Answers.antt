@@ -5,7 +5,7 @@ use Rattle.fl_machine.proofs.Intakes.{filled_more}
 use Rattle.fl_machine.proofs.intake.spread.Goals as goal
 
 pub loop-index-init : goal.loop-index-init
-loop-index-init c = (refl, refl, omega arith)
+loop-index-init c = (omega arith, refl, omega arith)
 
 pub loop-index-preserved : goal.loop-index-preserved
 loop-index-preserved c =
