@@ -10,3 +10,5 @@ pub mod Limits
 pub mod Longs
 pub mod NameSets
 pub mod NameMaps
+pub mod TextInterfaces
+pub mod TextTrees

@@ -1,11 +1,13 @@
 pub mod Types
 pub mod Interface
 pub mod Sizes
+pub mod Counts
 pub mod Depth
 pub mod Payload
 pub mod Known
 pub mod Places
 pub mod Checks
+pub mod Texts
 pub mod TooLong
 pub mod Faults
 pub mod Views

@@ -3,7 +3,9 @@
 ghost use Rattle.std.specs.Prelude.{◌≡◌, ◌≤◌, ◌<◌, ◌+◌, ◌∷◌, [], ◌++◌, OnOk, IfOk, IfErr, option_map, None, map, vec_len, if◌then◌else◌};
 ghost use Rattle.fl_check.specs.Interface.{fixed, text, sized, arg_type_of};
 ghost use Rattle.fl_check.specs.Known.{is_string, stands_for, bound_or, argument_type, ins, outs, if_in, if_out};
-ghost use Rattle.fl_check.specs.Places.{fixed_type_place, plain_type_place, string_place, listed_place, other_place, bound_place, bound_places, argument_names, argument_place, argument_places, arguments_of};
+ghost use Rattle.fl_check.specs.Places.{plain_argument_places, sized_argument_places, string_argument_places, fixed_type_place, plain_type_place};
+ghost use Rattle.fl_check.specs.Places.{string_place, listed_place, other_place, bound_place, bound_places, argument_names, argument_place};
+ghost use Rattle.fl_check.specs.Places.{argument_places, arguments_of};
 ghost use Rattle.fl_check.specs.Checks.{first_fault};
 ghost use Rattle.fl_check.specs.Faults.{Tells};
 ghost use Rattle.fl_check.specs.Views.{before_of, list_of, checked_of, IsBounded};
@@ -44,7 +46,8 @@ impl Halves {
         requires few { vec_len self.old.ins.args + vec_len self.old.outs.args < 32 }
         requires bounded { IsBounded (checked_of checked) }
         ensures ins { OnOk result (map arg_type_of self.new.ins.args.items ≡ map arg_type_of self.old.ins.args.items ++ if_in direction (checked_of checked)) }
-        ensures outs { OnOk result (map arg_type_of self.new.outs.args.items ≡ map arg_type_of self.old.outs.args.items ++ if_out direction (checked_of checked)) }
+        ensures outs { OnOk result (map arg_type_of self.new.outs.args.items ≡ map arg_type_of self.old.outs.args.items ++ if_out direction
+            (checked_of checked)) }
         ensures len { OnOk result (vec_len self.new.ins.args + vec_len self.new.outs.args ≡ vec_len self.old.ins.args + vec_len self.old.outs.args + 1) }
     {
         match direction {
@@ -73,12 +76,15 @@ impl<'a> Declared<'a> {
         kind: &Name,
         name: &Name<'a>,
     ) -> Result<Checked, CheckFault>
-        ensures sound { OnOk result (first_fault (plain_type_place (before_of self.now) (name_of kind.now) ∷ (listed_place (list_of names.old) counted_before (name_of name.now) ∷ [])) ≡ None) }
+        ensures sound { OnOk result (first_fault
+            (plain_argument_places (before_of self.now) (list_of names.old) counted_before (name_of kind.now) (name_of name.now)) ≡ None) }
         ensures names { OnOk result (list_of names.new ≡ list_of names.old ++ name.now.text.now ∷ []) }
         ensures few { OnOk result (counted_before < 32) }
-        ensures stands { IfOk result (λ a. checked_of a ≡ (if is_string kind.now.text.now then text 2047 else fixed (stands_for (before_of self.now) (name_of kind.now)))) }
+        ensures stands { IfOk result (λ a. checked_of a ≡ (if is_string kind.now.text.now then text 2047 else fixed
+            (stands_for (before_of self.now) (name_of kind.now)))) }
         ensures bounded { IfOk result (λ a. IsBounded (checked_of a)) }
-        ensures fault { IfErr result (λ e. Tells e (first_fault (plain_type_place (before_of self.now) (name_of kind.now) ∷ (listed_place (list_of names.old) counted_before (name_of name.now) ∷ [])))) }
+        ensures fault { IfErr result (λ e. Tells e (first_fault
+            (plain_argument_places (before_of self.now) (list_of names.old) counted_before (name_of kind.now) (name_of name.now)))) }
     {
         let checked = self.plain_type(alloc, kind)?;
         listed_name(names, counted_before, name)?;
@@ -95,12 +101,15 @@ impl<'a> Declared<'a> {
         length: &Name<'a>,
         bound: Option<Number>,
     ) -> Result<Checked, CheckFault>
-        ensures sound { OnOk result (first_fault (fixed_type_place (before_of self.now) (name_of argument.now.type_name) ∷ (listed_place (list_of names.old) counted_before (name_of argument.now.name) ∷ (other_place (list_of names.old ++ argument.now.name.text.now ∷ []) (name_of length.now) ∷ bound_places (option_map number_of bound)))) ≡ None) }
+        ensures sound { OnOk result (first_fault (sized_argument_places (before_of self.now) (list_of names.old) counted_before
+            (argument_of argument.now) (name_of length.now) (option_map number_of bound)) ≡ None) }
         ensures names { OnOk result (list_of names.new ≡ list_of names.old ++ argument.now.name.text.now ∷ (length.now.text.now ∷ [])) }
         ensures few { OnOk result (counted_before < 32) }
-        ensures stands { IfOk result (λ a. checked_of a ≡ sized (bound_or 1024 (option_map number_of bound)) (stands_for (before_of self.now) (name_of argument.now.type_name))) }
+        ensures stands { IfOk result (λ a. checked_of a ≡ sized (bound_or 1024 (option_map number_of bound))
+            (stands_for (before_of self.now) (name_of argument.now.type_name))) }
         ensures bounded { IfOk result (λ a. IsBounded (checked_of a)) }
-        ensures fault { IfErr result (λ e. Tells e (first_fault (fixed_type_place (before_of self.now) (name_of argument.now.type_name) ∷ (listed_place (list_of names.old) counted_before (name_of argument.now.name) ∷ (other_place (list_of names.old ++ argument.now.name.text.now ∷ []) (name_of length.now) ∷ bound_places (option_map number_of bound)))))) }
+        ensures fault { IfErr result (λ e. Tells e (first_fault (sized_argument_places (before_of self.now) (list_of names.old) counted_before
+            (argument_of argument.now) (name_of length.now) (option_map number_of bound)))) }
     {
         let element = self.fixed_type(alloc, &argument.type_name)?;
         listed_name(names, counted_before, &argument.name)?;
@@ -125,7 +134,8 @@ impl<'a> Declared<'a> {
         ensures few { OnOk result (counted_before < 32) }
         ensures stands { IfOk result (λ a. checked_of a ≡ argument_type (before_of self.now) (argument_of argument.now)) }
         ensures bounded { IfOk result (λ a. IsBounded (checked_of a)) }
-        ensures fault { IfErr result (λ e. Tells e (first_fault (argument_place (before_of self.now) (list_of names.old) counted_before (argument_of argument.now)))) }
+        ensures fault { IfErr result (λ e. Tells e (first_fault
+            (argument_place (before_of self.now) (list_of names.old) counted_before (argument_of argument.now)))) }
     {
         match argument.shape {
             Shape::Plain => {
@@ -190,12 +200,14 @@ fn string_argument<'a>(
     argument: &Argument<'a>,
     bound: Number,
 ) -> Result<Checked, CheckFault>
-    ensures sound { OnOk result (first_fault (string_place (name_of argument.now.type_name) ∷ (listed_place (list_of names.old) counted_before (name_of argument.now.name) ∷ (bound_place (number_of bound) ∷ []))) ≡ None) }
+    ensures sound { OnOk result (first_fault (string_argument_places (list_of names.old) counted_before
+        (argument_of argument.now) (number_of bound)) ≡ None) }
     ensures names { OnOk result (list_of names.new ≡ list_of names.old ++ argument.now.name.text.now ∷ []) }
     ensures few { OnOk result (counted_before < 32) }
     ensures stands { IfOk result (λ a. checked_of a ≡ text bound.value) }
     ensures bounded { IfOk result (λ a. IsBounded (checked_of a)) }
-    ensures fault { IfErr result (λ e. Tells e (first_fault (string_place (name_of argument.now.type_name) ∷ (listed_place (list_of names.old) counted_before (name_of argument.now.name) ∷ (bound_place (number_of bound) ∷ []))))) }
+    ensures fault { IfErr result (λ e. Tells e (first_fault (string_argument_places (list_of names.old) counted_before
+        (argument_of argument.now) (number_of bound)))) }
 {
     string_type(&argument.type_name)?;
     listed_name(names, counted_before, &argument.name)?;

@@ -6,7 +6,8 @@ ghost use Rattle.fl_check.specs.Places.{message_names, message_name_place, rpc_n
 ghost use Rattle.fl_check.specs.Checks.{first_fault};
 ghost use Rattle.fl_check.specs.Faults.{Tells};
 ghost use Rattle.fl_check.specs.Views.{before_of};
-ghost use Rattle.fl_parse.specs.Tree.{name_of, number_of, field_of, argument_of, directed_of, declaration_of, alias_of, typedef_of, enum_of, struct_of, message_of, rpc_of};
+ghost use Rattle.fl_parse.specs.Tree.{name_of, number_of, field_of, argument_of, directed_of, declaration_of, alias_of, typedef_of, enum_of};
+ghost use Rattle.fl_parse.specs.Tree.{struct_of, message_of, rpc_of};
 
 use crate::declared::Declared;
 use crate::fault::{CheckFault, Rule};
@@ -82,9 +83,12 @@ impl<'a> Declared<'a> {
         new: &Name<'a>,
         count: Option<Number>,
     ) -> Result<(), CheckFault>
-        ensures sound { OnOk result (first_fault (declaration_places (before_of self.old) (typedef_of (name_of old.now) (name_of new.now) (option_map number_of count))) ≡ None) }
-        ensures after { OnOk result (before_of self.new ≡ after (before_of self.old) (typedef_of (name_of old.now) (name_of new.now) (option_map number_of count))) }
-        ensures fault { IfErr result (λ e. Tells e (first_fault (declaration_places (before_of self.old) (typedef_of (name_of old.now) (name_of new.now) (option_map number_of count))))) }
+        ensures sound { OnOk result (first_fault (declaration_places (before_of self.old)
+            (typedef_of (name_of old.now) (name_of new.now) (option_map number_of count))) ≡ None) }
+        ensures after { OnOk result (before_of self.new ≡ after (before_of self.old)
+            (typedef_of (name_of old.now) (name_of new.now) (option_map number_of count))) }
+        ensures fault { IfErr result (λ e. Tells e (first_fault
+            (declaration_places (before_of self.old) (typedef_of (name_of old.now) (name_of new.now) (option_map number_of count))))) }
     {
         let element = self.fixed_type(alloc, old)?;
         self.new_type(new, false)?;
@@ -101,7 +105,8 @@ impl<'a> Declared<'a> {
     ) -> Result<(), CheckFault>
         ensures sound { OnOk result (first_fault (declaration_places (before_of self.old) (enum_of (map name_of names.now) (name_of name.now))) ≡ None) }
         ensures after { OnOk result (before_of self.new ≡ after (before_of self.old) (enum_of (map name_of names.now) (name_of name.now))) }
-        ensures fault { IfErr result (λ e. Tells e (first_fault (declaration_places (before_of self.old) (enum_of (map name_of names.now) (name_of name.now))))) }
+        ensures fault { IfErr result (λ e. Tells e (first_fault
+            (declaration_places (before_of self.old) (enum_of (map name_of names.now) (name_of name.now))))) }
     {
         members(alloc, names)?;
         self.new_type(name, names.is_empty())?;
@@ -120,7 +125,8 @@ impl<'a> Declared<'a> {
     ) -> Result<(), CheckFault>
         ensures sound { OnOk result (first_fault (declaration_places (before_of self.old) (struct_of (map field_of fields.now) (name_of name.now))) ≡ None) }
         ensures after { OnOk result (before_of self.new ≡ after (before_of self.old) (struct_of (map field_of fields.now) (name_of name.now))) }
-        ensures fault { IfErr result (λ e. Tells e (first_fault (declaration_places (before_of self.old) (struct_of (map field_of fields.now) (name_of name.now))))) }
+        ensures fault { IfErr result (λ e. Tells e (first_fault
+            (declaration_places (before_of self.old) (struct_of (map field_of fields.now) (name_of name.now))))) }
     {
         let measured = self.structure(alloc, fields)?;
         self.new_type(name, fields.is_empty())?;
@@ -135,9 +141,11 @@ impl<'a> Declared<'a> {
         name: &Name,
         args: &[Argument<'a>],
     ) -> Result<(), CheckFault>
-        ensures sound { OnOk result (first_fault (declaration_places (before_of self.old) (message_of kind (name_of name.now) (map argument_of args.now))) ≡ None) }
+        ensures sound { OnOk result (first_fault (declaration_places (before_of self.old)
+            (message_of kind (name_of name.now) (map argument_of args.now))) ≡ None) }
         ensures after { OnOk result (before_of self.new ≡ after (before_of self.old) (message_of kind (name_of name.now) (map argument_of args.now))) }
-        ensures fault { IfErr result (λ e. Tells e (first_fault (declaration_places (before_of self.old) (message_of kind (name_of name.now) (map argument_of args.now))))) }
+        ensures fault { IfErr result (λ e. Tells e (first_fault
+            (declaration_places (before_of self.old) (message_of kind (name_of name.now) (map argument_of args.now))))) }
     {
         self.message_name(name)?;
         let payload = self.arguments(alloc, args)?;
@@ -155,7 +163,8 @@ impl<'a> Declared<'a> {
     ) -> Result<(), CheckFault>
         ensures sound { OnOk result (first_fault (declaration_places (before_of self.old) (rpc_of (name_of name.now) (map directed_of args.now))) ≡ None) }
         ensures after { OnOk result (before_of self.new ≡ after (before_of self.old) (rpc_of (name_of name.now) (map directed_of args.now))) }
-        ensures fault { IfErr result (λ e. Tells e (first_fault (declaration_places (before_of self.old) (rpc_of (name_of name.now) (map directed_of args.now))))) }
+        ensures fault { IfErr result (λ e. Tells e (first_fault
+            (declaration_places (before_of self.old) (rpc_of (name_of name.now) (map directed_of args.now))))) }
     {
         let call = joined(alloc, name.text, b"_call".as_slice())?;
         let response = joined(alloc, name.text, b"_response".as_slice())?;

@@ -3,7 +3,8 @@
 ghost use Rattle.std.specs.Prelude.{◌≡◌, ◌≤◌, ◌∷◌, [], ◌++◌, OnOk, OnErr, IfOk, IfErr, IfSome, option_map, None, false, if◌then◌else◌};
 ghost use Rattle.fl_check.specs.Interface.{type_of, fixed, text};
 ghost use Rattle.fl_check.specs.Known.{is_among, is_string, type_named, stands_for};
-ghost use Rattle.fl_check.specs.Places.{fixed_type_place, plain_type_place, string_place, new_type_place, whole_type_place, count_places, bound_places, type_names};
+ghost use Rattle.fl_check.specs.Places.{fixed_type_place, plain_type_place, string_place, new_type_place, whole_type_place, count_places};
+ghost use Rattle.fl_check.specs.Places.{bound_places, type_names};
 ghost use Rattle.fl_check.specs.Checks.{first_fault};
 ghost use Rattle.fl_check.specs.Faults.{Tells};
 ghost use Rattle.fl_check.specs.Views.{before_of, checked_of, IsBounded};
@@ -70,7 +71,8 @@ impl<'a> Declared<'a> {
     #[tactic(auto, unfolding(crate::specs::Checks::first_fault, crate::specs::Places::plain_type_place))]
     pub fn plain_type(&self, alloc: Global, name: &Name) -> Result<Checked, CheckFault>
         ensures sound { OnOk result (first_fault (plain_type_place (before_of self.now) (name_of name.now) ∷ []) ≡ None) }
-        ensures stands { IfOk result (λ a. checked_of a ≡ (if is_string name.now.text.now then text 2047 else fixed (stands_for (before_of self.now) (name_of name.now)))) }
+        ensures stands { IfOk result (λ a. checked_of a ≡ (if is_string name.now.text.now then text 2047 else fixed
+            (stands_for (before_of self.now) (name_of name.now)))) }
         ensures bounded { IfOk result (λ a. IsBounded (checked_of a)) }
         ensures fault { IfErr result (λ e. Tells e (first_fault (plain_type_place (before_of self.now) (name_of name.now) ∷ []))) }
     {
@@ -110,7 +112,8 @@ impl<'a> Declared<'a> {
     pub fn add_type(&mut self, name: &Name<'a>, measured: Measured) -> Result<(), CheckFault>
         requires new { is_among (type_names (before_of self.old)) name.now.text.now ≡ false }
         ensures sound { OnOk result (first_fault (whole_type_place (name_of name.now) (type_of measured.fixed) ∷ []) ≡ None) }
-        ensures types { OnOk result ((before_of self.new).types ≡ (before_of self.old).types ++ record { name = name.now.text.now; type = type_of measured.fixed } ∷ []) }
+        ensures types { OnOk result ((before_of self.new).types ≡ (before_of self.old).types
+            ++ record { name = name.now.text.now; type = type_of measured.fixed } ∷ []) }
         ensures messages { OnOk result ((before_of self.new).messages ≡ (before_of self.old).messages) }
         ensures fault { IfErr result (λ e. Tells e (first_fault (whole_type_place (name_of name.now) (type_of measured.fixed) ∷ []))) }
     {

@@ -1,77 +1,61 @@
 -- The plan's order of extents is that of types; and what holds of the extents within the limits.
-use Rattle.std.proofs.Common.{◌≡◌, ℕ, ◌+◌, ◌≤◌, true, false, Bool, if◌then◌else◌, List, [], ◌∷◌, ◌++◌, map, filter, length, refl, ◌∙◌, ap, subst, arith, ◌||◌, not}
-use Rattle.std.proofs.lemmas.List.{length-append}
-use Rattle.std.proofs.lemmas.Bool.{and_parts, and_from, le-leb, leb-true, ltb-false, false≢true}
-use Rattle.std.specs.List.{zip, range_with_len}
+use Rattle.std.proofs.Common.{◌≡◌, ◌≢◌, ℕ, eq-eqb, ◌+◌, ◌≤◌, true, false, Bool, if◌then◌else◌, List, [], ◌∷◌, ◌++◌, map, filter, length, refl, ap, arith, ◌||◌, not}
+use Rattle.std.proofs.lemmas.List.{length-append, length-map}
+use Rattle.std.proofs.lemmas.Bool.{ne_eqb, and_parts, and_from, le-leb, leb-true, ltb-false, false≢true}
+use Rattle.std.specs.List.{zip, range_with_len, list_all}
 use Rattle.fl_check.specs.Interface.{TheType, TheArgType, fixed, text, sized, TheMessage}
 use Rattle.fl_check.specs.Sizes.{size_of}
 use Rattle.fl_check.specs.Checks.{is_type_within, is_argument_within, are_arguments_within, is_message_within}
 use Rattle.fl_value.specs.declared.value.PlanNo.{PlanNo}
 use Rattle.fl_value.specs.declared.value.PlanNo.TheVariants.{One, Two}
-use Rattle.fl_value.specs.Plan.{arranged, is_fixed_at, is_dynamic}
+use Rattle.fl_value.specs.Plan.{arranged, is_fixed_at, is_dynamic, rank_of, of_rank}
 use Rattle.fl_layout.specs.declared.extent.Placed.{Placed}
-use Rattle.fl_layout.specs.declared.extent.Rank.{Rank}
-use Rattle.fl_layout.specs.declared.extent.Rank.TheVariants.{FixedAt, Dynamic}
-use Rattle.fl_layout.specs.Extents.{extent_of, numbered, placing, placed_of, in_rank, of_rank, in_order, is_within, are_within}
-use Rattle.fl_layout.proofs.Order.{filter_map, both, all_append, all_filter}
+use Rattle.fl_layout.specs.Extents.{extent_of, numbered, placing, typed, placed_of, is_varying, is_within, are_within}
+use Rattle.fl_layout.proofs.Order.{all_arranged}
 use Rattle.fl_layout.proofs.Measures.{numbers_small, some_align}
 
 pub filter_ext : {A : Type 0} (p q : A → Bool) → ((x : A) → p x ≡ q x) → (xs : List A) → filter p xs ≡ filter q xs
 filter_ext p q same [] = refl
 filter_ext p q same (x ∷ xs) = let head = same x in let rest = filter_ext p q same xs in rw head (elim (q x) as (λ b. (if b then x ∷ filter p xs else filter p xs) ≡ (if b then x ∷ filter q xs else filter q xs)) [ true ↦ ap (λ ys. x ∷ ys) rest | false ↦ rest ])
 
-fixed_rank : (a : ℕ) (t : TheArgType) → in_rank (FixedAt a) (extent_of t) ≡ is_fixed_at a t
-fixed_rank a (fixed t) = refl
-fixed_rank a (text most) = refl
-fixed_rank a (sized most t) = refl
+pub varying_kind : (t : TheArgType) → is_varying (extent_of t) ≡ is_dynamic t
+varying_kind (fixed t) = refl
+varying_kind (text most) = refl
+varying_kind (sized most t) = refl
 
-pub dynamic_rank : (t : TheArgType) → in_rank Dynamic (extent_of t) ≡ is_dynamic t
-dynamic_rank (fixed t) = refl
-dynamic_rank (text most) = refl
-dynamic_rank (sized most t) = refl
+-- what a plan keeps of the arguments of a rank, if the first of these has a number
+abbrev pub left_of_rank : PlanNo → ℕ → ℕ → List TheArgType → List Placed
+left_of_rank plan rank k types = map placing (of_rank typed plan rank (zip (range_with_len k (length types)) types))
 
-rank_map : (rank : Rank) (p : TheArgType → Bool) → ((t : TheArgType) → in_rank rank (extent_of t) ≡ p t) → (xs : List (ℕ × TheArgType))
-    → of_rank rank (map placing xs) ≡ map placing (filter (λ x. p (x.1)) xs)
-rank_map rank p same xs =
-    filter_map placing (λ (q : Placed). in_rank rank q.extent) xs
-    ∙ ap (map placing) (filter_ext (λ (x : ℕ × TheArgType). in_rank rank (extent_of x.1)) (λ (x : ℕ × TheArgType). p x.1) (λ x. same x.1) xs)
+pub rank_taken : (plan : PlanNo) (rank k : ℕ) (t : TheArgType) (ts : List TheArgType) → rank_of plan t ≡ rank → left_of_rank plan rank k (t ∷ ts) ≡ placing (k, t) ∷ left_of_rank plan rank (k + 1) ts
+rank_taken plan rank k t ts e = rw (eq-eqb (rank_of plan t) rank e) refl
 
-pub order_map : (plan : PlanNo) (xs : List (ℕ × TheArgType)) → in_order plan (map placing xs) ≡ map placing (arranged (λ (x : ℕ × TheArgType). x.1) plan xs)
-order_map One xs = refl
-order_map Two xs =
-    let e = λ (a : ℕ). rank_map (FixedAt a) (is_fixed_at a) (fixed_rank a) xs in
-    both placing _ _ _ _ (both placing _ _ _ _ (both placing _ _ _ _ (both placing _ _ _ _ (e 8) (e 4)) (e 2)) (e 1)) (rank_map Dynamic is_dynamic dynamic_rank xs)
+pub rank_passed : (plan : PlanNo) (rank k : ℕ) (t : TheArgType) (ts : List TheArgType) → rank_of plan t ≢ rank → left_of_rank plan rank k (t ∷ ts) ≡ left_of_rank plan rank (k + 1) ts
+rank_passed plan rank k t ts e = rw (ne_eqb (rank_of plan t) rank e) refl
 
 filter_short : {A : Type 0} (p : A → Bool) (xs : List A) → length (filter p xs) ≤ length xs
 filter_short p [] = omega arith
 filter_short p (x ∷ xs) = let rest = filter_short p xs in elim (p x) as (λ b. length (if b then x ∷ filter p xs else filter p xs) ≤ length (x ∷ xs)) [ true ↦ omega (arith, rest) | false ↦ omega (arith, rest) ]
 
-pub order_short : (plan : PlanNo) (ps : List Placed) → length ps ≤ 32 → length (in_order plan ps) ≤ 160
-order_short One ps h = omega (arith, h)
-order_short Two ps h =
-    let f = λ (rank : Rank). filter_short (λ (p : Placed). in_rank rank p.extent) ps in
-    let a = of_rank (FixedAt 8) ps in let b = of_rank (FixedAt 4) ps in let c = of_rank (FixedAt 2) ps in let d = of_rank (FixedAt 1) ps in let e = of_rank Dynamic ps in
+pub order_short : {A : Type 0} (type : A → TheArgType) (plan : PlanNo) (xs : List A) → length xs ≤ 32 → length (arranged type plan xs) ≤ 160
+order_short type One xs h = omega (arith, h)
+order_short type Two xs h =
+    let of = λ (p : TheArgType → Bool). filter (λ x. p (type x)) xs in
+    let f = λ (p : TheArgType → Bool). filter_short (λ x. p (type x)) xs in
+    let a = of (is_fixed_at 8) in let b = of (is_fixed_at 4) in let c = of (is_fixed_at 2) in let d = of (is_fixed_at 1) in let e = of is_dynamic in
     omega (
       arith,
       h,
-      f (FixedAt 8),
-      f (FixedAt 4),
-      f (FixedAt 2),
-      f (FixedAt 1),
-      f Dynamic,
+      f (is_fixed_at 8),
+      f (is_fixed_at 4),
+      f (is_fixed_at 2),
+      f (is_fixed_at 1),
+      f is_dynamic,
       length-append a b,
       length-append (a ++ b) c,
       length-append (a ++ b ++ c) d,
       length-append (a ++ b ++ c ++ d) e,
     )
-
-pub order_within : (plan : PlanNo) (ps : List Placed) → are_within ps ≡ true → are_within (in_order plan ps) ≡ true
-order_within One ps h = h
-order_within Two ps h =
-    let f = λ (rank : Rank). all_filter (λ (p : Placed). is_within p.extent) (λ (p : Placed). in_rank rank p.extent) ps h in
-    let a = of_rank (FixedAt 8) ps in let b = of_rank (FixedAt 4) ps in let c = of_rank (FixedAt 2) ps in let d = of_rank (FixedAt 1) ps in let e = of_rank Dynamic ps in
-    let test = λ (p : Placed). is_within p.extent in
-    all_append test (a ++ b ++ c ++ d) e (all_append test (a ++ b ++ c) d (all_append test (a ++ b) c (all_append test a b (f (FixedAt 8)) (f (FixedAt 4))) (f (FixedAt 2))) (f (FixedAt 1))) (f Dynamic)
 
 first_false : (a b : Bool) → not (a || b) ≡ true → a ≡ false
 first_false true b h = absurd (false≢true h)
@@ -90,15 +74,19 @@ extent_within (sized most t) h =
     let small = type_small t bound.1 in
     and_from _ _ bound.0 (and_from _ _ (le-leb _ _ small) (le-leb _ _ (omega (arith, numbers_small t, small))))
 
-pub placed_within : (ts : List TheArgType) (k : ℕ) → are_arguments_within ts ≡ true → are_within (map placing (zip (range_with_len k (length ts)) ts)) ≡ true
-placed_within [] k h = refl
-placed_within (t ∷ ts) k h =
+pub numbered_within : (ts : List TheArgType) (k : ℕ) → are_arguments_within ts ≡ true → list_all (λ (a : ℕ × TheArgType). is_within (extent_of a.1)) (zip (range_with_len k (length ts)) ts) ≡ true
+numbered_within [] k h = refl
+numbered_within (t ∷ ts) k h =
     let parts = and_parts (is_argument_within t) (are_arguments_within ts) h in
-    and_from _ _ (extent_within t parts.0) (placed_within ts (k + 1) parts.1)
+    and_from _ _ (extent_within t parts.0) (numbered_within ts (k + 1) parts.1)
 
-pub placed_length : (ts : List TheArgType) (k : ℕ) → length (map placing (zip (range_with_len k (length ts)) ts)) ≡ length ts
-placed_length [] k = refl
-placed_length (t ∷ ts) k = omega (arith, placed_length ts (k + 1))
+pub numbered_length : (ts : List TheArgType) (k : ℕ) → length (zip (range_with_len k (length ts)) ts) ≡ length ts
+numbered_length [] k = refl
+numbered_length (t ∷ ts) k = omega (arith, numbered_length ts (k + 1))
+
+map_within : (xs : List (ℕ × TheArgType)) → list_all (λ (a : ℕ × TheArgType). is_within (extent_of a.1)) xs ≡ true → are_within (map placing xs) ≡ true
+map_within [] h = refl
+map_within (x ∷ xs) h = let parts = and_parts _ _ h in and_from _ _ parts.0 (map_within xs parts.1)
 
 -- a message within the limits has few arguments, each within the limits
 pub args_within : (m : TheMessage) → is_message_within m ≡ true → (length m.args ≤ 32) × (are_arguments_within m.args ≡ true)
@@ -106,10 +94,10 @@ args_within m h = let parts = and_parts _ _ h in (leb-true _ _ parts.0, (and_par
 
 pub message_short : (plan : PlanNo) (m : TheMessage) → is_message_within m ≡ true → length (placed_of plan m) ≤ 160
 message_short plan m h =
-    let short = order_short plan (map placing (numbered m.args)) (omega (arith, placed_length m.args 0, (args_within m h).0)) in
-    subst (λ (ps : List Placed). length ps ≤ 160) (order_map plan (numbered m.args)) short
+    let short = order_short typed plan (numbered m.args) (omega (arith, numbered_length m.args 0, (args_within m h).0)) in
+    omega (arith, short, length-map (arranged typed plan (numbered m.args)) placing)
 
 pub placed_are_within : (plan : PlanNo) (m : TheMessage) → is_message_within m ≡ true → are_within (placed_of plan m) ≡ true
 placed_are_within plan m h =
-    let within = order_within plan (map placing (numbered m.args)) (placed_within m.args 0 (args_within m h).1) in
-    subst (λ (ps : List Placed). are_within ps ≡ true) (order_map plan (numbered m.args)) within
+    map_within (arranged typed plan (numbered m.args))
+    (all_arranged (λ (a : ℕ × TheArgType). is_within (extent_of a.1)) typed plan (numbered m.args) (numbered_within m.args 0 (args_within m h).1))

@@ -15,17 +15,16 @@ use Rattle.fl_value.specs.Value.{Datum, number, TheCall}
 use Rattle.fl_value.specs.Fits.{are_arguments}
 use Rattle.fl_value.specs.Plan.{arranged, is_fixed_at, is_dynamic}
 use Rattle.fl_layout.specs.declared.extent.Extent.{Extent}
-use Rattle.fl_layout.specs.declared.extent.Rank.TheVariants.{Dynamic}
 use Rattle.fl_layout.specs.declared.extent.Placed.{Placed}
 use Rattle.fl_layout.specs.Leaves.{Argument, kind, types_of, argument_types, start_onto, arguments_onto}
 use Rattle.fl_layout.specs.Places.{size}
-use Rattle.fl_layout.specs.Extents.{extent_of, count_at, numbered, placing, placed_of, start_of, end_of, end_of_all, due_after, in_rank, extent_among, start_among, unit_of}
+use Rattle.fl_layout.specs.Extents.{extent_of, count_at, numbered, placing, placed_of, start_of, end_of, end_of_all, due_after, is_varying, extent_among, start_among, unit_of}
 use Rattle.fl_layout.specs.Layouts.{until, standing_before, start_align, start_align_at, ends_dynamic, end_of_arguments, argument_place, argument_size, has_one_place, IsPlace}
 use Rattle.fl_layout.proofs.Rounding.{align_small}
 use Rattle.fl_layout.proofs.Sizes.{aligned}
 use Rattle.fl_layout.proofs.Ends.{filled, is_good, arguments_end}
 use Rattle.fl_layout.proofs.Order.{arranged_map, numbered_are}
-use Rattle.fl_layout.proofs.Arranging.{filter_ext, dynamic_rank}
+use Rattle.fl_layout.proofs.Arranging.{filter_ext, varying_kind}
 use Rattle.fl_layout.proofs.Bounds.{same_length}
 use Rattle.fl_layout.proofs.Lengths.{Sent, laid, laid_good, is_sent, map_map, map_ext}
 use Rattle.fl_layout.proofs.Sums.{total, total_arranged}
@@ -191,7 +190,7 @@ abbrev pub varies : List TheArgType → ℕ → List ℕ → Bool
 varies ts j ks = list_any is_dynamic (map (type_at ts) (before j ks))
 
 record IsFixed (t : TheArgType) (d : Datum) : Type 0 where
-  rank : in_rank Dynamic (extent_of t) ≡ false
+  rank : is_varying (extent_of t) ≡ false
   due : due_after (extent_of t) ≡ 1
   count : count_at (extent_of t) d ≡ 0
 
@@ -233,10 +232,10 @@ start_past ts j (k ∷ ks) at due f =
     (λ e.
     let all : (is_dynamic t || varies ts j ks) ≡ true = subst (λ (b : Bool). list_any is_dynamic (map (type_at ts) (if b then [] else k ∷ before j ks)) ≡ true) e f in
     cases (is_dynamic t)
-    (λ d. rw (e, dynamic_rank t ∙ d) refl)
+    (λ d. rw (e, varying_kind t ∙ d) refl)
     (λ d.
     let later : varies ts j ks ≡ true = subst (λ (b : Bool). (b || varies ts j ks) ≡ true) d all in
-    rw (e, dynamic_rank t ∙ d) (start_past ts j ks end (due_after (extent_of t)) later)))
+    rw (e, varying_kind t ∙ d) (start_past ts j ks end (due_after (extent_of t)) later)))
 
 pub start_absent : (ts : List TheArgType) (j : ℕ) (ks : List ℕ) (at due : ℕ) → Absent j ks → start_among j at due (map (placed_at ts) ks) ≡ None
 start_absent ts j [] at due h = refl
@@ -245,8 +244,8 @@ start_absent ts j (k ∷ ks) at due h =
     let end = end_of at due (extent_of t) 0 in
     let e = absent_here j k ks h in
     cases (is_dynamic t)
-    (λ d. rw (e, dynamic_rank t ∙ d) refl)
-    (λ d. rw (e, dynamic_rank t ∙ d) (start_absent ts j ks end (due_after (extent_of t)) (absent_later j k ks h)))
+    (λ d. rw (e, varying_kind t ∙ d) refl)
+    (λ d. rw (e, varying_kind t ∙ d) (start_absent ts j ks end (due_after (extent_of t)) (absent_later j k ks h)))
 
 -- ---- in a call
 

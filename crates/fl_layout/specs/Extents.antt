@@ -1,18 +1,15 @@
 -- What a plan keeps of an argument, and where arguments end one after another.
-use Rattle.std.specs.Prelude.{ℕ, pos, ◌+◌, ◌*◌, ◌==◌, ◌&&◌, nat_le, max, Bool, true, false, if◌then◌else◌, Option, Some, None, List, [], ◌∷◌, ◌++◌, map, filter, length, get_or}
+use Rattle.std.specs.Prelude.{ℕ, pos, ◌+◌, ◌*◌, ◌==◌, ◌&&◌, nat_le, max, Bool, true, false, if◌then◌else◌, Option, Some, None, List, [], ◌∷◌, map, length, get_or}
 use Rattle.std.specs.List.{zip, range_with_len, list_all}
 use Rattle.fl_check.specs.Interface.{TheType, scalar, enumeration, structure, array, TheTypes, no_more, field, TheArgType, fixed, text, sized, TheMessage}
 use Rattle.fl_check.specs.Sizes.{size_of, align_of, round_up}
 use Rattle.fl_value.specs.declared.value.PlanNo.{PlanNo}
-use Rattle.fl_value.specs.declared.value.PlanNo.TheVariants.{One, Two}
-use Rattle.fl_value.specs.Plan.{arranged}
+use Rattle.fl_value.specs.Plan.{arranged, of_rank}
 use Rattle.fl_value.specs.Value.{Datum, number, string, elements, fields}
 use Rattle.fl_value.specs.Fits.{count_of}
 use Rattle.fl_layout.specs.declared.extent.Extent.{Extent}
 use Rattle.fl_layout.specs.declared.extent.Extent.TheVariants.{Fixed, Text, Sized}
 use Rattle.fl_layout.specs.declared.extent.Placed.{Placed}
-use Rattle.fl_layout.specs.declared.extent.Rank.{Rank}
-use Rattle.fl_layout.specs.declared.extent.Rank.TheVariants.{FixedAt, Dynamic}
 use Rattle.fl_layout.specs.declared.extent.Fill.{Fill}
 use Rattle.fl_layout.specs.declared.extent.Fill.TheVariants.{Empty, Full}
 
@@ -41,9 +38,17 @@ numbered xs = zip (range_with_len 0 (length xs)) xs
 abbrev pub placing : ℕ × TheArgType → Placed
 placing a = record { argument = a.0; extent = extent_of a.1 }
 
+-- arguments with their numbers, as a plan keeps them
+abbrev pub typed : ℕ × TheArgType → TheArgType
+typed a = a.1
+
 -- what a plan keeps of a message: each argument's number and extent, in the plan's order
 abbrev pub placed_of : PlanNo → TheMessage → List Placed
-placed_of plan m = map placing (arranged (λ (a : ℕ × TheArgType). a.1) plan (numbered m.args))
+placed_of plan m = map placing (arranged typed plan (numbered m.args))
+
+-- what it keeps of the arguments of a rank, as declared
+abbrev pub placed_of_rank : PlanNo → ℕ → List TheArgType → List Placed
+placed_of_rank plan rank types = map placing (of_rank typed plan rank (numbered types))
 
 -- where an argument with so many bytes or elements ends, if what stands before it ends at a place after which
 -- an alignment is due
@@ -124,20 +129,10 @@ are_within ps = list_all (λ (p : Placed). is_within p.extent) ps
 abbrev pub is_short : List Datum → Placed → Bool
 is_short ds p = nat_le (count_at p.extent (get_or ds p.argument (number (pos 0)))) 4096
 
-abbrev pub in_rank : Rank → Extent → Bool
-in_rank (FixedAt a) (Fixed size align numbers) = align == a
-in_rank Dynamic (Fixed size align numbers) = false
-in_rank (FixedAt a) extent = false
-in_rank Dynamic extent = true
-
-abbrev pub of_rank : Rank → List Placed → List Placed
-of_rank rank ps = filter (λ (p : Placed). in_rank rank p.extent) ps
-
--- the plan's order
-abbrev pub in_order : PlanNo → List Placed → List Placed
-in_order One ps = ps
-in_order Two ps =
-    of_rank (FixedAt 8) ps ++ of_rank (FixedAt 4) ps ++ of_rank (FixedAt 2) ps ++ of_rank (FixedAt 1) ps ++ of_rank Dynamic ps
+-- that of a string or a sized array
+abbrev pub is_varying : Extent → Bool
+is_varying (Fixed size align numbers) = false
+is_varying extent = true
 
 -- the extent of argument j
 abbrev pub extent_among : ℕ → List Placed → Option Extent
@@ -149,7 +144,7 @@ abbrev pub start_among : ℕ → ℕ → ℕ → List Placed → Option ℕ
 start_among j at due [] = None
 start_among j at due (p ∷ ps) =
     if p.argument == j then Some (start_of at due p.extent)
-    else if in_rank Dynamic p.extent then None
+    else if is_varying p.extent then None
     else start_among j (end_of at due p.extent 0) (due_after p.extent) ps
 
 -- the bytes of a fixed argument, of a sized array's element, and of a string's

@@ -1,8 +1,7 @@
 //! What a plan keeps of an argument.
 
 ghost use Rattle.std.specs.Prelude.{◌≡◌};
-ghost use Rattle.fl_layout.specs.declared.extent.Rank.TheVariants.{Dynamic};
-ghost use Rattle.fl_layout.specs.Extents.{in_rank, unit_of};
+ghost use Rattle.fl_layout.specs.Extents.{is_varying, unit_of};
 
 /// An argument's extent in a payload and on a tape.
 #[derive(Clone, Copy, Debug, PartialEq, Eq)]
@@ -27,8 +26,8 @@ pub(crate) enum Extent {
 
 impl Extent {
     /// Whether it is that of a string or a sized array.
-    pub(crate) fn is_dynamic(self) -> bool
-        ensures exact { result ≡ in_rank Dynamic self }
+    pub(crate) fn is_varying(self) -> bool
+        ensures exact { result ≡ is_varying self }
     {
         match self {
             Extent::Fixed { .. } => false,
@@ -53,15 +52,6 @@ impl Extent {
 pub(crate) struct Placed {
     pub argument: u32,
     pub extent: Extent,
-}
-
-/// Arguments that the second plan lays out together.
-#[derive(Clone, Copy, Debug, PartialEq, Eq)]
-pub(crate) enum Rank {
-    /// Fixed arguments of one alignment.
-    FixedAt(u32),
-    /// Strings and sized arrays.
-    Dynamic,
 }
 
 /// How far strings and sized arrays are filled.

@@ -3,7 +3,6 @@
 ghost use Rattle.std.specs.Prelude.{◌≡◌, pos, ◌<◌, ◌≤◌, ◌+◌, ◌*◌, ◌^◌, map, length, get_or, true};
 ghost use Rattle.std.specs.List.{list_all};
 ghost use Rattle.fl_layout.specs.declared.extent.Fill.TheVariants.{Full};
-ghost use Rattle.fl_check.specs.Sizes.{round_up};
 ghost use Rattle.fl_value.specs.Value.{number, datum_of};
 ghost use Rattle.fl_layout.specs.Extents.{start_of, end_of, end_of_all, due_after, count_by, count_in, count_at, filled_up, filled_by, numbers_in, numbers_in_all, most_of, is_within, are_within, is_short, extent_among, start_among};
 
@@ -17,17 +16,6 @@ struct End {
     due: usize,
 }
 
-// The next multiple of an alignment.
-fn next_multiple(n: usize, align: usize) -> usize
-    requires some { 0 < align }
-    requires few { align ≤ 8 }
-    requires fits { n < 2 ^ 60 }
-    ensures exact { result ≡ round_up n align }
-    ensures near { result ≤ n + 8 }
-{
-    n + (align - n % align) % align
-}
-
 impl End {
     // Where an argument begins that follows.
     fn start(self, extent: Extent) -> usize
@@ -38,8 +26,8 @@ impl End {
         ensures start { result ≡ start_of self.at self.due extent }
     {
         match extent {
-            Extent::Fixed { align, .. } => next_multiple(self.at, self.due.max(align as usize)),
-            _ => next_multiple(self.at, 8),
+            Extent::Fixed { align, .. } => self.at.next_multiple_of(self.due.max(align as usize)),
+            _ => self.at.next_multiple_of(8),
         }
     }
 
@@ -58,15 +46,15 @@ impl End {
     {
         match extent {
             Extent::Fixed { size, align, .. } => End {
-                at: next_multiple(self.at, self.due.max(align as usize)) + size as usize,
+                at: self.at.next_multiple_of(self.due.max(align as usize)) + size as usize,
                 due: 1,
             },
             Extent::Text { .. } => End {
-                at: next_multiple(self.at, 8) + (8 + count),
+                at: self.at.next_multiple_of(8) + (8 + count),
                 due: 8,
             },
             Extent::Sized { stride, .. } => End {
-                at: next_multiple(self.at, 8) + (8 + count * stride as usize),
+                at: self.at.next_multiple_of(8) + (8 + count * stride as usize),
                 due: 8,
             },
         }
@@ -119,7 +107,7 @@ fn count(value: &Value) -> usize
 fn count_among(values: &[Value], placed: Placed) -> usize
     ensures exact { result ≡ count_at placed.extent (get_or (map datum_of values.now) placed.argument (number (pos 0))) }
 {
-    if !placed.extent.is_dynamic() {
+    if !placed.extent.is_varying() {
         return 0;
     }
     match values.get(placed.argument as usize) {
@@ -165,7 +153,7 @@ pub(crate) fn start_among(placed: &[Placed], argument: usize) -> Option<usize>
         if each.argument as usize == argument {
             return Some(end.start(each.extent));
         }
-        if each.extent.is_dynamic() {
+        if each.extent.is_varying() {
             return None;
         }
         end = end.after(each.extent, 0);

@@ -22,4 +22,4 @@ mod measure;
 mod plans;
 
 pub use limit::limit_is_of_plan_one;
-pub use plans::{Plans, plan};
+pub use plans::{Plans, fragment_count, plan};

@@ -18,6 +18,14 @@ use fl_check::Interface;
 use fl_value::{Call, PlanNo};
 use std::alloc::{AllocError, Global};
 
+/// How many fragments a payload of so many bytes takes: one for each 56 bytes or part of them, and one for none.
+pub fn fragment_count(len: usize) -> usize
+    ensures count { result ≡ count_for len }
+    ensures some { 0 < result }
+{
+    len.div_ceil(FRAG_BYTES).max(1)
+}
+
 /// The layout of each message of an interface under a plan, with a copy of the interface.
 #[derive(Debug, Drop)]
 pub struct Plans {
@@ -87,7 +95,7 @@ impl Plans {
         ensures some { 0 < result }
         ensures few { result ≤ 586 }
     {
-        self.size_of(call).div_ceil(FRAG_BYTES).max(1)
+        fragment_count(self.size_of(call))
     }
 
     /// The offset in bytes at which an argument begins in the payload of every call of the message. Arguments count

@@ -5,7 +5,7 @@ use Rattle.std.specs.Option.{IfSome}
 use Rattle.fl_lex.specs.Token.{TheToken}
 use Rattle.fl_lex.specs.Spelling.{Item, gap, token, Begins, token_in, Spells}
 use Rattle.fl_lex.specs.Outcome.{Fits, Flaw, no_token, open_comment, open_description, long_word, large_number, number_of, Stands, IsFaulty, Lexes, outcome_of}
-use Rattle.fl_lex.specs.Front.{ItemFits, Cuts, FlawAt}
+use Rattle.fl_lex.specs.Item.{ItemFits, Cuts, FlawAt}
 use Rattle.fl_lex.specs.declared.fault.LexFault.{LexFault}
 use Rattle.fl_lex.specs.declared.fault.LexFault.TheVariants as faults
 use Rattle.fl_lex.proofs.Turns.{spells_more}

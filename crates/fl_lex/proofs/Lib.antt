@@ -1,3 +1,4 @@
+pub mod Classes
 pub mod Cuts
 pub mod Items
 pub mod Lexing

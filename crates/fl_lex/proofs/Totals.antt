@@ -4,9 +4,10 @@ use Rattle.std.specs.List.{prefix_len, AllByRecursion}
 use Rattle.std.proofs.lemmas.Bool.{leb-true, leb-false, eqb-true, eqb-false}
 use Rattle.std.proofs.lemmas.List.{length-drop}
 use Rattle.fl_lex.specs.Token.{TheToken}
-use Rattle.fl_lex.specs.Spelling.{class_of, is_word_byte, is_digit, is_on_line, is_described, decimal_value, Item, gap, token, token_in, Spells}
+use Rattle.fl_lex.specs.Spelling.{class_of, is_on_line, is_described, decimal_value, Item, gap, token, token_in, Spells}
+use Rattle.fl_lex.specs.Words.{is_word_byte, is_digit}
 use Rattle.fl_lex.specs.Outcome.{Fits, Flaw, no_token, open_comment, open_description, long_word, large_number, number_of, Stands, LexOutcome, lexed, lex_fault, Lexes, SomeOutcome}
-use Rattle.fl_lex.specs.Front.{FirstIs, Cuts}
+use Rattle.fl_lex.specs.Item.{FirstIs, Cuts}
 use Rattle.fl_lex.specs.declared.token.TokenKind.TheVariants as kinds
 use Rattle.fl_lex.specs.declared.class.ByteClass.{ByteClass}
 use Rattle.fl_lex.specs.declared.class.ByteClass.TheVariants as classes

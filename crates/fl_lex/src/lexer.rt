@@ -3,12 +3,12 @@
 ghost use Rattle.std.specs.Prelude.{◌≡◌, ◌≤◌, ◌++◌, IfSome, IfOk, IfErr, OnOk, length, map, Some};
 ghost use Rattle.fl_lex.specs.Outcome.{Lexes, outcome_of, AreTokensIn};
 ghost use Rattle.fl_lex.specs.Spelling.{token_in};
-ghost use Rattle.fl_lex.specs.Front.{item_of};
+ghost use Rattle.fl_lex.specs.Item.{item_of};
 ghost use Rattle.fl_lex.specs.declared.fault.LexFault.TheVariants.{Memory};
 ghost use Rattle.fl_lex.specs.Token.{tokens_of, token_of};
 
 use crate::fault::LexFault;
-use crate::front::front;
+use crate::item::read_item;
 use crate::token::{Token, TokenKind, Tokens};
 use std::alloc::Global;
 
@@ -33,7 +33,7 @@ pub fn lex(alloc: Global, text: &[u8]) -> Result<Tokens<'_>, LexFault>
     let mut rest = text;
     while !rest.is_empty() {
         let at = text.len() - rest.len();
-        let piece = front(rest, at)?;
+        let piece = read_item(rest, at)?;
         let (bytes, after) = rest.split_at(piece.length);
         keep(&mut items, piece.kind, bytes, at)?;
         rest = after;

@@ -13,7 +13,8 @@ use Rattle.fl_parse.specs.declared.fault.ParseFault.{ParseFault}
 use Rattle.fl_parse.specs.declared.fault.ParseFault.TheVariants as faults
 use Rattle.fl_parse.specs.Reading.{place_of}
 use Rattle.fl_parse.specs.Tree.{name_of, number_of}
-use Rattle.fl_parse.specs.Grammar.{Inside, bound_word, length_word, Opening, alias_word, typedef_word, message_word, rpc_word, Defined, enum_word, struct_word, type_word}
+use Rattle.fl_parse.specs.Grammar.{Inside, bound_word, length_word, Opening, alias_word, typedef_word, message_word, rpc_word, Defined, enum_word}
+use Rattle.fl_parse.specs.Grammar.{struct_word, type_word}
 
 abbrev pub inside_of : insides.Inside → Inside
 inside_of (inside_variants.Bound value) = bound_word (number_of value)

@@ -7,8 +7,11 @@ use Rattle.fl_lex.specs.Token.{TheToken, token_of}
 use Rattle.fl_parse.specs.declared.tree.MessageKind.{MessageKind}
 use Rattle.fl_parse.specs.declared.stop.Stop.{Stop}
 use Rattle.fl_parse.specs.declared.stop.Stop.TheVariants as stops
-use Rattle.fl_parse.specs.Tree.{TheName, TheNumber, TheField, TheShape, plain, bounded, sized, TheArgument, TheDirected, TheDeclaration, alias_of, typedef_of, enum_of, struct_of, message_of, rpc_of, TheTree}
-use Rattle.fl_parse.specs.Grammar.{is_word, is_mark, if_so, name_in, number_in, description_in, Opening, opening_in, alias_word, typedef_word, message_word, rpc_word, Defined, defined_in, enum_word, struct_word, type_word, direction_in, Inside, inside_in, bound_word, length_word}
+use Rattle.fl_parse.specs.Tree.{TheName, TheNumber, TheField, TheShape, plain, bounded, sized, TheArgument, TheDirected, TheDeclaration, alias_of}
+use Rattle.fl_parse.specs.Tree.{typedef_of, enum_of, struct_of, message_of, rpc_of, TheTree}
+use Rattle.fl_parse.specs.Grammar.{is_word, is_mark, if_so, name_in, number_in, description_in, Opening, opening_in, alias_word, typedef_word}
+use Rattle.fl_parse.specs.Grammar.{message_word, rpc_word, Defined, defined_in, enum_word, struct_word, type_word, direction_in, Inside, inside_in}
+use Rattle.fl_parse.specs.Grammar.{bound_word, length_word}
 
 -- what reading some tokens gives
 abbrev pub Read : Type 0 → Type 0

@@ -6,7 +6,9 @@ ghost use Rattle.fl_parse.specs.Tree.{name_of, declaration_of, tree_of};
 ghost use Rattle.fl_parse.specs.Grammar.{opening_in, defined_in, Parses};
 ghost use Rattle.fl_parse.specs.Outcome.{outcome_of};
 ghost use Rattle.fl_parse.specs.Parts.{opening_of, defined_of, stop_fault};
-ghost use Rattle.fl_parse.specs.Reading.{Gives, one_at, word_at, alias_at, enumeration_at, structure_at, renaming_at, definition_at, typedef_at, message_at, rpc_at, production_at, declaration_at, declarations_at, description_at, body_at, behind_semicolon};
+ghost use Rattle.fl_parse.specs.Reading.{Gives, one_at, word_at, alias_at, enumeration_at, structure_at, renaming_at, definition_at, typedef_at};
+ghost use Rattle.fl_parse.specs.Reading.{message_at, rpc_at, production_at, declaration_at, declarations_at, description_at, body_at};
+ghost use Rattle.fl_parse.specs.Reading.{behind_semicolon};
 
 use crate::fault::ParseFault;
 use crate::parts::{arguments, count, directed_arguments, fields, members};

@@ -43,7 +43,7 @@ rearranged Two ts xs = ranked 5 0 ts xs
 abbrev IsAlign : ℕ → Type 0
 IsAlign n = (n ≡ 1) ⊎ ((n ≡ 2) ⊎ ((n ≡ 4) ⊎ (n ≡ 8)))
 
-scalar_align : (s : Scalar) → IsAlign (scalar_size s)
+pub scalar_align : (s : Scalar) → IsAlign (scalar_size s)
 scalar_align Uint8 = inl refl
 scalar_align Int8 = inl refl
 scalar_align BoolType = inl refl
@@ -79,18 +79,18 @@ max_align a b (inr (inr (inr e))) (inr (inr (inl f))) = rw (e, f) (inr (inr (inr
 max_align a b (inr (inr (inr e))) (inr (inr (inr f))) = rw (e, f) (inr (inr (inr refl)))
 
 mutual
-  type_align : (t : TheType) → IsAlign (align_of t)
+  pub type_align : (t : TheType) → IsAlign (align_of t)
   type_align (scalar s) = scalar_align s
   type_align (enumeration n) = inr (inr (inl refl))
   type_align (structure ts) = types_align ts
   type_align (array n t) = type_align t
 
-  types_align : (ts : TheTypes) → IsAlign (greatest_align ts)
+  pub types_align : (ts : TheTypes) → IsAlign (greatest_align ts)
   types_align no_more = inl refl
   types_align (field t ts) = max_align (align_of t) (greatest_align ts) (type_align t) (types_align ts)
 
 -- what holds at 1, 2, 4 and 8 holds at an alignment
-along_align : (P : ℕ → Type 0) → P 1 → P 2 → P 4 → P 8 → (n : ℕ) → IsAlign n → P n
+pub along_align : (P : ℕ → Type 0) → P 1 → P 2 → P 4 → P 8 → (n : ℕ) → IsAlign n → P n
 along_align P one two four eight n (inl e) = subst P (sym e) one
 along_align P one two four eight n (inr (inl e)) = subst P (sym e) two
 along_align P one two four eight n (inr (inr (inl e))) = subst P (sym e) four
@@ -121,7 +121,7 @@ is_one (fixed t) = along_align (λ (n : ℕ). eqb n 1 ≡ eqb (fixed_rank n) 3) 
 is_one (text max) = refl
 is_one (sized max t) = refl
 
-is_last : (t : TheArgType) → is_dynamic t ≡ eqb (rank t) 4
+pub is_last : (t : TheArgType) → is_dynamic t ≡ eqb (rank t) 4
 is_last (fixed t) = along_align (λ (n : ℕ). false ≡ eqb (fixed_rank n) 4) refl refl refl refl (align_of t) (type_align t)
 is_last (text max) = refl
 is_last (sized max t) = refl

@@ -12,9 +12,9 @@ use Rattle.fl_value.specs.declared.value.PlanNo.TheVariants.{One, Two}
 use Rattle.fl_value.specs.Value.{Datum, number, string, elements, fields, Data, nothing_more, also, TheCall}
 use Rattle.fl_value.specs.Fits.{has_type, have_types, all_have_type, count_of, is_argument, are_arguments, fit_message, scalar_bits, least_above, how_many_below}
 use Rattle.fl_value.specs.Plan.{arranged}
-use Rattle.fl_value.specs.Printed.{has_small_enums, have_small_enums, argument_has_small_enums}
+use Rattle.fl_check.specs.Counts.{words_fit, all_words_fit, argument_words_fit, interface_words_fit}
 use Rattle.fl_value.specs.Tape.{value_tape, fields_tape, elements_tape, argument_tape, Argument, kind, tape_of_argument, types_of}
-use Rattle.fl_value.specs.Taken.{ArgumentAt, InTurn, TheOne, NoneOf, HasTape, interface_has_small_enums}
+use Rattle.fl_value.specs.Taken.{ArgumentAt, InTurn, TheOne, NoneOf, HasTape}
 use Rattle.fl_value.proofs.Bits.{raw_told, scalar_range, enum_range, scalar_room}
 use Rattle.fl_value.proofs.Turns.{split_same}
 use Rattle.fl_value.proofs.Ranked.{rearranged, before, front, seconds_arranged, firsts_arranged, types_arranged, rearranged_told, rearranged_typed, typed_again, length_rearranged}
@@ -162,7 +162,7 @@ cons_told a b r s e =
     (heads, tails)
 
 mutual
-  value_told : (t : TheType) (x y : Datum) (r s : List ℕ) → has_small_enums t ≡ true → has_type t x ≡ true → has_type t y ≡ true
+  value_told : (t : TheType) (x y : Datum) (r s : List ℕ) → words_fit t ≡ true → has_type t x ≡ true → has_type t y ≡ true
       → value_tape t x ++ r ≡ value_tape t y ++ s → (x ≡ y) × (r ≡ s)
   value_told (scalar k) (number x) (number y) r s w hx hy e =
       let (bits, rest) = cons_told _ _ r s e in
@@ -179,7 +179,7 @@ mutual
       (ap elements same, rest)
   value_told t x y r s w hx hy e = absurd (cc)
 
-  fields_told : (ts : TheTypes) (xs ys : Data) (r s : List ℕ) → have_small_enums ts ≡ true → have_types ts xs ≡ true → have_types ts ys ≡ true
+  fields_told : (ts : TheTypes) (xs ys : Data) (r s : List ℕ) → all_words_fit ts ≡ true → have_types ts xs ≡ true → have_types ts ys ≡ true
       → fields_tape ts xs ++ r ≡ fields_tape ts ys ++ s → (xs ≡ ys) × (r ≡ s)
   fields_told no_more nothing_more nothing_more r s w hx hy e = (refl, e)
   fields_told (field t ts) (also x xs) (also y ys) r s w hx hy e =
@@ -189,7 +189,7 @@ mutual
       (ap (λ (d : Datum). also d xs) one ∙ ap (λ (ds : Data). also y ds) same, rest)
   fields_told ts xs ys r s w hx hy e = absurd (cc)
 
-  elements_told : (t : TheType) (xs ys : Data) (r s : List ℕ) → has_small_enums t ≡ true → count_of xs ≡ count_of ys → all_have_type t xs ≡ true → all_have_type t ys ≡ true
+  elements_told : (t : TheType) (xs ys : Data) (r s : List ℕ) → words_fit t ≡ true → count_of xs ≡ count_of ys → all_have_type t xs ≡ true → all_have_type t ys ≡ true
       → elements_tape t xs ++ r ≡ elements_tape t ys ++ s → (xs ≡ ys) × (r ≡ s)
   elements_told t nothing_more nothing_more r s w many hx hy e = (refl, e)
   elements_told t nothing_more (also y ys) r s w many hx hy e = absurd (omega (arith, many))
@@ -200,7 +200,7 @@ mutual
       let (same, rest) = elements_told t xs ys r s w (omega (arith, many)) (second_so _ _ hx) (second_so _ _ hy) others in
       (ap (λ (d : Datum). also d xs) one ∙ ap (λ (ds : Data). also y ds) same, rest)
 
-argument_told : (t : TheArgType) (x y : Datum) (r s : List ℕ) → argument_has_small_enums t ≡ true → is_argument t x ≡ true → is_argument t y ≡ true
+argument_told : (t : TheArgType) (x y : Datum) (r s : List ℕ) → argument_words_fit t ≡ true → is_argument t x ≡ true → is_argument t y ≡ true
     → argument_tape t x ++ r ≡ argument_tape t y ++ s → (x ≡ y) × (r ≡ s)
 argument_told (fixed t) x y r s w hx hy e = value_told t x y r s w hx hy e
 argument_told (text max) (string xs) (string ys) r s w hx hy e =
@@ -209,11 +209,11 @@ argument_told (text max) (string xs) (string ys) r s w hx hy e =
     (ap string same, rest)
 argument_told (sized max t) (elements xs) (elements ys) r s w hx hy e =
     let (many, behind) = cons_told (count_of xs) (count_of ys) (elements_tape t xs ++ r) (elements_tape t ys ++ s) e in
-    let (same, rest) = elements_told t xs ys r s w many (second_so _ _ hx) (second_so _ _ hy) behind in
+    let (same, rest) = elements_told t xs ys r s (second_so _ (words_fit t) w) many (second_so _ _ hx) (second_so _ _ hy) behind in
     (ap elements same, rest)
 argument_told t x y r s w hx hy e = absurd (cc)
 
-arguments_told : (ts : List TheArgType) (xs ys : List Datum) (r s : List ℕ) → list_all argument_has_small_enums ts ≡ true → are_arguments ts xs ≡ true → are_arguments ts ys ≡ true
+arguments_told : (ts : List TheArgType) (xs ys : List Datum) (r s : List ℕ) → list_all argument_words_fit ts ≡ true → are_arguments ts xs ≡ true → are_arguments ts ys ≡ true
     → tape_with ts xs ++ r ≡ tape_with ts ys ++ s → (xs ≡ ys) × (r ≡ s)
 arguments_told [] [] [] r s w hx hy e = (refl, e)
 arguments_told [] [] (y ∷ ys) r s w hx hy e = absurd (false≢true hy)
@@ -244,14 +244,14 @@ message_all p [] n m h e = absurd (cc)
 message_all p (k ∷ ms) zero m h e = let same : k ≡ m = cc in subst (λ (v : TheMessage). p v ≡ true) same (first_so (p k) _ h)
 message_all p (k ∷ ms) (suc n) m h e = message_all p ms n m (second_so (p k) _ h) e
 
-two_calls : (plan : PlanNo) (i : TheInterface) (m : TheMessage) (msg : ℕ) (tape : List ℕ) (c d : TheCall) → interface_has_small_enums i ≡ true → slice_get i.messages msg ≡ Some m
+two_calls : (plan : PlanNo) (i : TheInterface) (m : TheMessage) (msg : ℕ) (tape : List ℕ) (c d : TheCall) → interface_words_fit i ≡ true → slice_get i.messages msg ≡ Some m
     → HasTape plan i msg tape c → HasTape plan i msg tape d → c ≡ d
 two_calls plan i m msg tape c d w here h k =
     let ts = m.args in
     let us = arranged (λ (t : TheArgType). t) plan ts in
-    let small = message_all (λ (m : TheMessage). list_all argument_has_small_enums m.args) i.messages msg m w here in
-    let smalls : list_all argument_has_small_enums us ≡ true
-    = subst (λ (vs : List TheArgType). list_all argument_has_small_enums vs ≡ true) (sym (types_arranged plan ts)) (rearranged_all argument_has_small_enums plan ts small) in
+    let small = message_all (λ (m : TheMessage). list_all argument_words_fit m.args) i.messages msg m w here in
+    let smalls : list_all argument_words_fit us ≡ true
+    = subst (λ (vs : List TheArgType). list_all argument_words_fit vs ≡ true) (sym (types_arranged plan ts)) (rearranged_all argument_words_fit plan ts small) in
     let one = call_stands plan i m msg tape c here h in
     let two = call_stands plan i m msg tape d here k in
     let same = arguments_told us (rearranged plan ts c.args) (rearranged plan ts d.args) [] [] smalls
@@ -260,12 +260,12 @@ two_calls plan i m msg tape c d w here h k =
     let args : c.args ≡ d.args = rearranged_told plan ts c.args d.args (arguments_many ts c.args (call_fits plan i m msg tape c here h)) (arguments_many ts d.args (call_fits plan i m msg tape d here k)) same.0 in
     call_same c d (h.message ∙ sym k.message) args
 
-one_call_at : (plan : PlanNo) (i : TheInterface) (msg : ℕ) (tape : List ℕ) (c d : TheCall) → interface_has_small_enums i ≡ true
+one_call_at : (plan : PlanNo) (i : TheInterface) (msg : ℕ) (tape : List ℕ) (c d : TheCall) → interface_words_fit i ≡ true
     → HasTape plan i msg tape c → HasTape plan i msg tape d → (found : Option TheMessage) → slice_get i.messages msg ≡ found → c ≡ d
 one_call_at plan i msg tape c d w h k None e = absurd (call_missing plan i msg tape e c h)
 one_call_at plan i msg tape c d w h k (Some m) e = two_calls plan i m msg tape c d w e h k
 
-pub one_call : (plan : PlanNo) (i : TheInterface) (msg : ℕ) (tape : List ℕ) (c d : TheCall) → interface_has_small_enums i ≡ true
+pub one_call : (plan : PlanNo) (i : TheInterface) (msg : ℕ) (tape : List ℕ) (c d : TheCall) → interface_words_fit i ≡ true
     → HasTape plan i msg tape c → HasTape plan i msg tape d → c ≡ d
 one_call plan i msg tape c d w h k = one_call_at plan i msg tape c d w h k (slice_get i.messages msg) refl
 

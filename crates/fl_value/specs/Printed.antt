@@ -1,12 +1,13 @@
 -- How a call is printed: one text for each call.
-use Rattle.std.specs.Prelude.{ℕ, ℤ, pos, negsuc, ◌+◌, ◌/◌, ◌%◌, ◌^◌, ◌==◌, ◌&&◌, nat_lt, nat_le, Bool, true, if◌then◌else◌, List, [], ◌∷◌, ◌++◌, ◌≤◌, Some, slice_get, ◌≡◌, ◌<◌}
+use Rattle.std.specs.Prelude.{ℕ, ℤ, pos, negsuc, ◌+◌, ◌/◌, ◌%◌, ◌^◌, ◌==◌, ◌&&◌, nat_lt, nat_le, Bool, true, if◌then◌else◌, List, [], ◌∷◌, ◌++◌, Some, slice_get, ◌≡◌}
 use Rattle.std.specs.List.{flat_map, list_all}
 use Rattle.std.specs.Char.{digit_char}
 use Rattle.std.specs.Fmt.{signed_decimal}
-use Rattle.fl_check.specs.Interface.{TheType, scalar, enumeration, structure, array, TheTypes, no_more, field, TheArgType, fixed, text, sized, TheMessage, TheInterface}
-use Rattle.fl_value.specs.CallText.{IsWord, greatest_depth}
+use Rattle.fl_check.specs.Interface.{TheMessage, TheInterface}
+use Rattle.fl_check.specs.Checks.{is_within_limits}
+use Rattle.fl_check.specs.Counts.{interface_words_fit}
+use Rattle.fl_value.specs.CallText.{IsWord}
 use Rattle.fl_value.specs.Fits.{fits_of}
-use Rattle.fl_value.specs.Resolve.{named_from}
 use Rattle.fl_value.specs.Value.{TheCall, Datum, number, string, elements, fields, Data, nothing_more, also, data_from}
 
 -- bytes 32 to 126 as they are, but `\"` and `\\`; all others as `\x` and two lower-case digits
@@ -64,30 +65,11 @@ abbrev mutual
   are_printable nothing_more = true
   are_printable (also d ds) = is_printable d && are_printable ds
 
--- an enum has at most 2 ^ 32 enumerators
-abbrev mutual
-  pub has_small_enums : TheType → Bool
-  has_small_enums (scalar s) = true
-  has_small_enums (enumeration n) = nat_le n (2 ^ 32)
-  has_small_enums (structure ts) = have_small_enums ts
-  has_small_enums (array n t) = has_small_enums t
-
-  pub have_small_enums : TheTypes → Bool
-  have_small_enums no_more = true
-  have_small_enums (field t ts) = has_small_enums t && have_small_enums ts
-
-abbrev pub argument_has_small_enums : TheArgType → Bool
-argument_has_small_enums (fixed t) = has_small_enums t
-argument_has_small_enums (text max) = true
-argument_has_small_enums (sized max t) = has_small_enums t
-
--- a call that an interface prints and reads: it fits, its message is the first of its name, which is a
--- word, and its values nest at most 20 deep
+-- a call that an interface prints and reads: it fits the interface, which is within the limits and whose counts fit words of
+-- 32 bits, as those of each interface in memory; and the name of its message is a word
 pub record HasText (i : TheInterface) (m : TheMessage) (c : TheCall) : Type 0 where
+  pub within : is_within_limits i ≡ true
+  pub counted : interface_words_fit i ≡ true
   pub fits : fits_of i c ≡ true
   pub message : slice_get i.messages c.msg ≡ Some m
-  pub small_enums : list_all argument_has_small_enums m.args ≡ true
-  pub named : named_from m.name i.messages 0 ≡ Some c.msg
-  pub few : c.msg < 2 ^ 16
   pub word : IsWord m.name
-  pub shallow : greatest_depth (data_from c.args) ≤ 20

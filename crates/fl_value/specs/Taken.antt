@@ -1,14 +1,14 @@
 -- What stands at the front of a tape: a value, an argument, or several of them one after another; and which
 -- call has a tape.
-use Rattle.std.specs.Prelude.{◌≡◌, ◌≤◌, ℕ, ℤ, pos, negsuc, ◌-◌, ◌*◌, nat_lt, Bool, true, if◌then◌else◌, List, [], ◌∷◌, ◌++◌, length, Option, Some, None}
+use Rattle.std.specs.Prelude.{◌≡◌, ◌≤◌, ℕ, ℤ, pos, negsuc, ◌-◌, ◌*◌, nat_lt, true, if◌then◌else◌, List, [], ◌∷◌, ◌++◌, length, Option, Some, None}
 use Rattle.std.specs.List.{list_all}
 use Rattle.fl_check.specs.declared.interface.Scalar.{Scalar}
-use Rattle.fl_check.specs.Interface.{TheType, TheArgType, TheMessage, TheInterface}
+use Rattle.fl_check.specs.Interface.{TheType, TheArgType, TheInterface}
+use Rattle.fl_check.specs.Counts.{interface_words_fit}
 use Rattle.fl_value.specs.declared.value.PlanNo.{PlanNo}
 use Rattle.fl_value.specs.Value.{Datum, TheCall}
 use Rattle.fl_value.specs.Fits.{is_signed, least_above, how_many_below, has_type, is_argument, is_text_byte, fits_of}
 use Rattle.fl_value.specs.Plan.{of_rank}
-use Rattle.fl_value.specs.Printed.{argument_has_small_enums}
 use Rattle.fl_value.specs.Tape.{value_tape, argument_tape, tape_of}
 
 -- the number below a bound that has these bits, if one has
@@ -72,11 +72,7 @@ pub record HasTape (plan : PlanNo) (i : TheInterface) (msg : ℕ) (tape : List �
   pub fits : fits_of i c ≡ true
   pub whole : tape ≡ tape_of plan i c
 
--- the enums of an interface have at most 2 ^ 32 enumerators each
-abbrev pub interface_has_small_enums : TheInterface → Bool
-interface_has_small_enums i = list_all (λ m. list_all argument_has_small_enums (TheMessage.args m)) i.messages
-
--- fitting calls of one message with one tape are equal
+-- fitting calls of one message with one tape are equal, where the counts of the interface fit words of 32 bits
 abbrev pub OneCallOfATape : Type 0
-OneCallOfATape = (plan : PlanNo) (i : TheInterface) (msg : ℕ) (tape : List ℕ) (c d : TheCall) → interface_has_small_enums i ≡ true
+OneCallOfATape = (plan : PlanNo) (i : TheInterface) (msg : ℕ) (tape : List ℕ) (c d : TheCall) → interface_words_fit i ≡ true
     → HasTape plan i msg tape c → HasTape plan i msg tape d → c ≡ d

@@ -7,7 +7,6 @@ ghost use Rattle.fl_value.specs.Value.{datum_of};
 ghost use Rattle.fl_value.specs.Plan.{arranged, fixed_rank, rank_of};
 ghost use Rattle.fl_value.specs.Tape.{kind, values_of};
 
-use crate::tape::alignment;
 use crate::value::{PlanNo, Value};
 use fl_check::ArgType;
 use std::alloc::{AllocError, Global};
@@ -37,7 +36,7 @@ impl PlanNo {
         match self {
             PlanNo::One => 0,
             PlanNo::Two => match argument {
-                ArgType::Fixed(fixed) => fixed_rank(alignment(fixed)),
+                ArgType::Fixed(fixed) => fixed_rank(fixed.alignment()),
                 _ => 4,
             },
         }

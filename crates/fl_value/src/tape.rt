@@ -12,26 +12,8 @@ ghost use Rattle.fl_value.specs.Tape.{raw_of, value_tape, fields_tape, elements_
 
 use crate::order::RANKS;
 use crate::value::{Call, PlanNo, Value};
-use fl_check::{ArgType, FixedType, Interface, Scalar};
+use fl_check::{ArgType, FixedType, Interface};
 use std::alloc::{AllocError, Global};
-
-/// How many bits a scalar has.
-fn scalar_bits(scalar: Scalar) -> u32
-    ensures same { result ≡ scalar_bits scalar }
-    ensures most { result ≤ 64 }
-{
-    match scalar {
-        Scalar::Uint8 | Scalar::Int8 | Scalar::Bool | Scalar::Char => 8,
-        Scalar::Uint16 | Scalar::Int16 => 16,
-        Scalar::Uint32 | Scalar::Int32 | Scalar::Iref => 32,
-        Scalar::Uint64
-        | Scalar::Int64
-        | Scalar::Uintptr
-        | Scalar::Intptr
-        | Scalar::Size
-        | Scalar::Errval => 64,
-    }
-}
 
 /// A number's low bits, two's complement.
 fn raw(bits: u32, number: i128) -> u64
@@ -54,7 +36,7 @@ fn push_value(tape: &mut Vec<u64>, fixed: &FixedType, value: &Value) -> Result<(
     match fixed {
         FixedType::Scalar(scalar) => match value {
             Value::Int(number) => {
-                tape.push(raw(scalar_bits(*scalar), *number))?;
+                tape.push(raw(8 * scalar.size(), *number))?;
                 Ok(())
             }
             _ => Ok(()),
@@ -149,48 +131,6 @@ fn push_argument(tape: &mut Vec<u64>, argument: &ArgType, value: &Value) -> Resu
             _ => Ok(()),
         },
     }
-}
-
-/// A scalar's size in bytes, which is its alignment.
-fn scalar_size(scalar: Scalar) -> u32
-    ensures same { result ≡ scalar_size scalar }
-{
-    match scalar {
-        Scalar::Uint8 | Scalar::Int8 | Scalar::Bool | Scalar::Char => 1,
-        Scalar::Uint16 | Scalar::Int16 => 2,
-        Scalar::Uint32 | Scalar::Int32 | Scalar::Iref => 4,
-        Scalar::Uint64
-        | Scalar::Int64
-        | Scalar::Uintptr
-        | Scalar::Intptr
-        | Scalar::Size
-        | Scalar::Errval => 8,
-    }
-}
-
-/// A type's alignment in bytes.
-#[cycle(alignments)]
-pub(crate) fn alignment(fixed: &FixedType) -> u32
-    ensures same { result ≡ align_of (type_of fixed.now) }
-{
-    match fixed {
-        FixedType::Scalar(scalar) => scalar_size(*scalar),
-        FixedType::Enumeration(_) => 4,
-        FixedType::Structure(fields) => greatest_alignment(fields),
-        FixedType::Array(_, element) => alignment(element),
-    }
-}
-
-/// The greatest alignment of some fields; 1 of none.
-#[cycle(alignments)]
-fn greatest_alignment(fields: &[FixedType]) -> u32
-    ensures same { result ≡ greatest_align (fields_from (map type_of fields.now)) }
-{
-    let mut greatest = 1;
-    for field in fields {
-        greatest = alignment(field).max(greatest);
-    }
-    greatest
 }
 
 /// Appends the numbers of a rank's arguments, in declared order.

@@ -13,13 +13,12 @@ use Rattle.fl_check.specs.Interface.{TheType, scalar, enumeration, structure, ar
 use Rattle.fl_check.specs.Sizes.{scalar_size, align_of, greatest_align}
 use Rattle.fl_value.specs.Value.{Datum, number, string, elements, fields, Data, nothing_more, also}
 use Rattle.fl_value.specs.Fits.{has_type, have_types, all_have_type, count_of, is_argument, are_arguments, is_scalar_value, is_enumerator, least_above, how_many_below, is_text_byte}
-use Rattle.fl_value.specs.Plan.{is_dynamic}
-use Rattle.fl_layout.specs.Leaves.{Leaf, gap, whole, single, bits_of, value_onto, fields_onto, elements_onto, bytes_onto, Argument, argument_onto, arguments_onto, start_onto}
+use Rattle.fl_value.specs.Plan.{is_dynamic, rank_of, fixed_rank, of_rank, of_ranks}
+use Rattle.fl_layout.specs.Leaves.{kind, Leaf, gap, whole, single, bits_of, value_onto, fields_onto, elements_onto, bytes_onto, Argument, argument_onto, arguments_onto, start_onto}
 use Rattle.fl_layout.specs.Places.{size, place}
 use Rattle.fl_wire.specs.Payload.{payload_at}
 use Rattle.fl_value.specs.declared.value.PlanNo.{PlanNo}
 use Rattle.fl_value.specs.declared.value.PlanNo.TheVariants.{One, Two}
-use Rattle.fl_wire.specs.Classes.{class_of, fixed_class, in_class, in_classes}
 use Rattle.fl_wire.specs.Standing.{Over, firsts, fitting}
 use Rattle.fl_wire.specs.Words.{words_fit, all_words_fit, argument_words_fit}
 use Rattle.fl_wire.proofs.Bytes.{size_le_place, below_place, at_place}
@@ -294,48 +293,48 @@ words_zip [] ds h = refl
 words_zip (t ∷ ts) [] h = refl
 words_zip (t ∷ ts) (d ∷ ds) h = rw (first_so (argument_words_fit t) _ h) (words_zip ts ds (second_so (argument_words_fit t) _ h))
 
--- what holds of all holds of a class, and of all classes
-all_class : (p : Argument → Bool) (plan : PlanNo) (k : ℕ) (args : List Argument) → list_all p args ≡ true → list_all p (in_class plan k args) ≡ true
-all_class p plan k [] h = refl
-all_class p plan k (a ∷ args) h =
+-- what holds of all holds of a rank, and of all ranks
+all_rank : (p : Argument → Bool) (plan : PlanNo) (k : ℕ) (args : List Argument) → list_all p args ≡ true → list_all p (of_rank kind plan k args) ≡ true
+all_rank p plan k [] h = refl
+all_rank p plan k (a ∷ args) h =
     let one = first_so (p a) _ h in
-    let rest = all_class p plan k args (second_so (p a) _ h) in
-    elim (eqb (class_of plan a.0) k) as (λ v. list_all p (cond v (a ∷ in_class plan k args) (in_class plan k args)) ≡ true) [ true ↦ rw one rest | false ↦ rest ]
+    let rest = all_rank p plan k args (second_so (p a) _ h) in
+    elim (eqb (rank_of plan a.0) k) as (λ v. list_all p (cond v (a ∷ of_rank kind plan k args) (of_rank kind plan k args)) ≡ true) [ true ↦ rw one rest | false ↦ rest ]
 
 all_joined : (p : Argument → Bool) (xs ys : List Argument) → list_all p xs ≡ true → list_all p ys ≡ true → list_all p (xs ++ ys) ≡ true
 all_joined p [] ys hx hy = hy
 all_joined p (x ∷ xs) ys hx hy = rw (first_so (p x) _ hx) (all_joined p xs ys (second_so (p x) _ hx) hy)
 
-pub all_classes : (p : Argument → Bool) (plan : PlanNo) (n k : ℕ) (args : List Argument) → list_all p args ≡ true → list_all p (in_classes plan n k args) ≡ true
-all_classes p plan zero k args h = refl
-all_classes p plan (suc n) k args h = all_joined p (in_class plan k args) (in_classes plan n (k + 1) args) (all_class p plan k args h) (all_classes p plan n (k + 1) args h)
+pub all_ranks : (p : Argument → Bool) (plan : PlanNo) (n k : ℕ) (args : List Argument) → list_all p args ≡ true → list_all p (of_ranks kind plan n k args) ≡ true
+all_ranks p plan zero k args h = refl
+all_ranks p plan (suc n) k args h = all_joined p (of_rank kind plan k args) (of_ranks kind plan n (k + 1) args) (all_rank p plan k args h) (all_ranks p plan n (k + 1) args h)
 
--- the types of a class are told by the types alone
-types_class : (plan : PlanNo) (k : ℕ) (ts : List TheArgType) (ds : List Datum) → are_arguments ts ds ≡ true
-    → firsts (in_class plan k (zip ts ds)) ≡ filter (λ (t : TheArgType). eqb (class_of plan t) k) ts
-types_class plan k [] ds h = refl
-types_class plan k (t ∷ ts) [] h = absurd (false≢true h)
-types_class plan k (t ∷ ts) (d ∷ ds) h =
-    let rest = types_class plan k ts ds (second_so (is_argument t d) _ h) in
-    elim (eqb (class_of plan t) k) as (λ v. firsts (cond v ((t, d) ∷ in_class plan k (zip ts ds)) (in_class plan k (zip ts ds)))
-    ≡ cond v (t ∷ filter (λ (u : TheArgType). eqb (class_of plan u) k) ts) (filter (λ (u : TheArgType). eqb (class_of plan u) k) ts)) [
+-- the types of a rank are told by the types alone
+types_rank : (plan : PlanNo) (k : ℕ) (ts : List TheArgType) (ds : List Datum) → are_arguments ts ds ≡ true
+    → firsts (of_rank kind plan k (zip ts ds)) ≡ filter (λ (t : TheArgType). eqb (rank_of plan t) k) ts
+types_rank plan k [] ds h = refl
+types_rank plan k (t ∷ ts) [] h = absurd (false≢true h)
+types_rank plan k (t ∷ ts) (d ∷ ds) h =
+    let rest = types_rank plan k ts ds (second_so (is_argument t d) _ h) in
+    elim (eqb (rank_of plan t) k) as (λ v. firsts (cond v ((t, d) ∷ of_rank kind plan k (zip ts ds)) (of_rank kind plan k (zip ts ds)))
+    ≡ cond v (t ∷ filter (λ (u : TheArgType). eqb (rank_of plan u) k) ts) (filter (λ (u : TheArgType). eqb (rank_of plan u) k) ts)) [
       | true ↦ ap (λ (us : List TheArgType). t ∷ us) rest
       | false ↦ rest
     ]
 
-same_types_class : (plan : PlanNo) (k : ℕ) (ts : List TheArgType) (xs ys : List Datum) → are_arguments ts xs ≡ true → are_arguments ts ys ≡ true
-    → firsts (in_class plan k (zip ts xs)) ≡ firsts (in_class plan k (zip ts ys))
-same_types_class plan k ts xs ys hx hy = types_class plan k ts xs hx ∙ sym (types_class plan k ts ys hy)
+same_types_rank : (plan : PlanNo) (k : ℕ) (ts : List TheArgType) (xs ys : List Datum) → are_arguments ts xs ≡ true → are_arguments ts ys ≡ true
+    → firsts (of_rank kind plan k (zip ts xs)) ≡ firsts (of_rank kind plan k (zip ts ys))
+same_types_rank plan k ts xs ys hx hy = types_rank plan k ts xs hx ∙ sym (types_rank plan k ts ys hy)
 
 same_types : (plan : PlanNo) (n k : ℕ) (ts : List TheArgType) (xs ys : List Datum) → are_arguments ts xs ≡ true → are_arguments ts ys ≡ true
-    → firsts (in_classes plan n k (zip ts xs)) ≡ firsts (in_classes plan n k (zip ts ys))
+    → firsts (of_ranks kind plan n k (zip ts xs)) ≡ firsts (of_ranks kind plan n k (zip ts ys))
 same_types plan zero k ts xs ys hx hy = refl
 same_types plan (suc n) k ts xs ys hx hy =
     let first = λ (a : Argument). a.0 in
-    map-append first (in_class plan k (zip ts xs)) (in_classes plan n (k + 1) (zip ts xs))
-    ∙ ap (λ (us : List TheArgType). us ++ firsts (in_classes plan n (k + 1) (zip ts xs))) (same_types_class plan k ts xs ys hx hy)
-    ∙ ap (λ (us : List TheArgType). firsts (in_class plan k (zip ts ys)) ++ us) (same_types plan n (k + 1) ts xs ys hx hy)
-    ∙ sym (map-append first (in_class plan k (zip ts ys)) (in_classes plan n (k + 1) (zip ts ys)))
+    map-append first (of_rank kind plan k (zip ts xs)) (of_ranks kind plan n (k + 1) (zip ts xs))
+    ∙ ap (λ (us : List TheArgType). us ++ firsts (of_ranks kind plan n (k + 1) (zip ts xs))) (same_types_rank plan k ts xs ys hx hy)
+    ∙ ap (λ (us : List TheArgType). firsts (of_rank kind plan k (zip ts ys)) ++ us) (same_types plan n (k + 1) ts xs ys hx hy)
+    ∙ sym (map-append first (of_rank kind plan k (zip ts ys)) (of_ranks kind plan n (k + 1) (zip ts ys)))
 
 -- two joins with fronts of one length
 split_same : {A : Type 0} (a b c d : List A) → length a ≡ length b → a ++ c ≡ b ++ d → (a ≡ b) × (c ≡ d)
@@ -348,26 +347,26 @@ split_same (x ∷ a) (y ∷ b) c d long e =
     let (same, rest) = split_same a b c d (omega (arith, long)) tails in
     (cc, rest)
 
-classes_told : (plan : PlanNo) (n k j : ℕ) (ts : List TheArgType) (xs ys : List Datum) → are_arguments ts xs ≡ true → are_arguments ts ys ≡ true
-    → in_classes plan n k (zip ts xs) ≡ in_classes plan n k (zip ts ys) → k ≤ j → j < k + n → in_class plan j (zip ts xs) ≡ in_class plan j (zip ts ys)
-classes_told plan zero k j ts xs ys hx hy e low high = absurd (omega (arith, low, high))
-classes_told plan (suc n) k j ts xs ys hx hy e low high =
+ranks_told : (plan : PlanNo) (n k j : ℕ) (ts : List TheArgType) (xs ys : List Datum) → are_arguments ts xs ≡ true → are_arguments ts ys ≡ true
+    → of_ranks kind plan n k (zip ts xs) ≡ of_ranks kind plan n k (zip ts ys) → k ≤ j → j < k + n → of_rank kind plan j (zip ts xs) ≡ of_rank kind plan j (zip ts ys)
+ranks_told plan zero k j ts xs ys hx hy e low high = absurd (omega (arith, low, high))
+ranks_told plan (suc n) k j ts xs ys hx hy e low high =
     let first = λ (a : Argument). a.0 in
-    let types = same_types_class plan k ts xs ys hx hy in
-    let long : length (in_class plan k (zip ts xs)) ≡ length (in_class plan k (zip ts ys))
-    = sym (length-map (in_class plan k (zip ts xs)) first) ∙ ap length types ∙ length-map (in_class plan k (zip ts ys)) first in
-    let parts = split_same (in_class plan k (zip ts xs)) (in_class plan k (zip ts ys)) (in_classes plan n (k + 1) (zip ts xs)) (in_classes plan n (k + 1) (zip ts ys)) long e in
+    let types = same_types_rank plan k ts xs ys hx hy in
+    let long : length (of_rank kind plan k (zip ts xs)) ≡ length (of_rank kind plan k (zip ts ys))
+    = sym (length-map (of_rank kind plan k (zip ts xs)) first) ∙ ap length types ∙ length-map (of_rank kind plan k (zip ts ys)) first in
+    let parts = split_same (of_rank kind plan k (zip ts xs)) (of_rank kind plan k (zip ts ys)) (of_ranks kind plan n (k + 1) (zip ts xs)) (of_ranks kind plan n (k + 1) (zip ts ys)) long e in
     ⊎_elim
-    (λ (past : k < j). classes_told plan n (k + 1) j ts xs ys hx hy parts.1 (omega (arith, past)) (omega (arith, high)))
+    (λ (past : k < j). ranks_told plan n (k + 1) j ts xs ys hx hy parts.1 (omega (arith, past)) (omega (arith, high)))
     (λ (here : j ≤ k). let same : k ≡ j = omega (arith, low, here) in
-    subst (λ (m : ℕ). in_class plan m (zip ts xs) ≡ in_class plan m (zip ts ys)) same parts.0)
+    subst (λ (m : ℕ). of_rank kind plan m (zip ts xs) ≡ of_rank kind plan m (zip ts ys)) same parts.0)
     (cases_lt k j)
 
-pub class_small : (plan : PlanNo) (t : TheArgType) → class_of plan t < 5
-class_small One t = omega arith
-class_small Two (fixed t) = along_align (λ (n : ℕ). fixed_class n < 5) (omega arith) (omega arith) (omega arith) (omega arith) (align_of t) (type_align t)
-class_small Two (text m) = omega arith
-class_small Two (sized m t) = omega arith
+pub rank_small : (plan : PlanNo) (t : TheArgType) → rank_of plan t < 5
+rank_small One t = omega arith
+rank_small Two (fixed t) = along_align (λ (n : ℕ). fixed_rank n < 5) (omega arith) (omega arith) (omega arith) (omega arith) (align_of t) (type_align t)
+rank_small Two (text m) = omega arith
+rank_small Two (sized m t) = omega arith
 
 head_same : (a b : Argument) (xs ys : List Argument) → a ∷ xs ≡ b ∷ ys → a ≡ b
 head_same a b xs ys e = cc
@@ -375,36 +374,36 @@ head_same a b xs ys e = cc
 cons_same : (x y : Datum) (xs ys : List Datum) → x ≡ y → xs ≡ ys → x ∷ xs ≡ y ∷ ys
 cons_same x y xs ys e f = cc
 
-tail_class : (v : Bool) (a b : Argument) (xs ys : List Argument) → cond v (a ∷ xs) xs ≡ cond v (b ∷ ys) ys → xs ≡ ys
-tail_class true a b xs ys e = cc
-tail_class false a b xs ys e = e
+tail_rank : (v : Bool) (a b : Argument) (xs ys : List Argument) → cond v (a ∷ xs) xs ≡ cond v (b ∷ ys) ys → xs ≡ ys
+tail_rank true a b xs ys e = cc
+tail_rank false a b xs ys e = e
 
--- values whose classes are equal are equal
+-- values whose ranks are equal are equal
 values_told : (plan : PlanNo) (ts : List TheArgType) (xs ys : List Datum) → are_arguments ts xs ≡ true → are_arguments ts ys ≡ true
-    → ((k : ℕ) → k < 5 → in_class plan k (zip ts xs) ≡ in_class plan k (zip ts ys)) → xs ≡ ys
+    → ((k : ℕ) → k < 5 → of_rank kind plan k (zip ts xs) ≡ of_rank kind plan k (zip ts ys)) → xs ≡ ys
 values_told plan [] [] [] hx hy h = refl
 values_told plan [] [] (y ∷ ys) hx hy h = absurd (false≢true hy)
 values_told plan [] (x ∷ xs) ys hx hy h = absurd (false≢true hx)
 values_told plan (t ∷ ts) [] ys hx hy h = absurd (false≢true hx)
 values_told plan (t ∷ ts) (x ∷ xs) [] hx hy h = absurd (false≢true hy)
 values_told plan (t ∷ ts) (x ∷ xs) (y ∷ ys) hx hy h =
-    let own : (t, x) ∷ in_class plan (class_of plan t) (zip ts xs) ≡ (t, y) ∷ in_class plan (class_of plan t) (zip ts ys)
-    = subst (λ (v : Bool). cond v ((t, x) ∷ in_class plan (class_of plan t) (zip ts xs)) (in_class plan (class_of plan t) (zip ts xs))
-    ≡ cond v ((t, y) ∷ in_class plan (class_of plan t) (zip ts ys)) (in_class plan (class_of plan t) (zip ts ys)))
-    (eq-eqb (class_of plan t) (class_of plan t) refl) (h (class_of plan t) (class_small plan t)) in
-    let one : x ≡ y = ap (λ (a : Argument). a.1) (head_same (t, x) (t, y) (in_class plan (class_of plan t) (zip ts xs)) (in_class plan (class_of plan t) (zip ts ys)) own) in
+    let own : (t, x) ∷ of_rank kind plan (rank_of plan t) (zip ts xs) ≡ (t, y) ∷ of_rank kind plan (rank_of plan t) (zip ts ys)
+    = subst (λ (v : Bool). cond v ((t, x) ∷ of_rank kind plan (rank_of plan t) (zip ts xs)) (of_rank kind plan (rank_of plan t) (zip ts xs))
+    ≡ cond v ((t, y) ∷ of_rank kind plan (rank_of plan t) (zip ts ys)) (of_rank kind plan (rank_of plan t) (zip ts ys)))
+    (eq-eqb (rank_of plan t) (rank_of plan t) refl) (h (rank_of plan t) (rank_small plan t)) in
+    let one : x ≡ y = ap (λ (a : Argument). a.1) (head_same (t, x) (t, y) (of_rank kind plan (rank_of plan t) (zip ts xs)) (of_rank kind plan (rank_of plan t) (zip ts ys)) own) in
     let rest : xs ≡ ys = values_told plan ts xs ys (second_so (is_argument t x) _ hx) (second_so (is_argument t y) _ hy)
-    (λ k small. tail_class (eqb (class_of plan t) k) (t, x) (t, y) (in_class plan k (zip ts xs)) (in_class plan k (zip ts ys)) (h k small)) in
+    (λ k small. tail_rank (eqb (rank_of plan t) k) (t, x) (t, y) (of_rank kind plan k (zip ts xs)) (of_rank kind plan k (zip ts ys)) (h k small)) in
     cons_same x y xs ys one rest
 
 -- fitting arguments whose payloads agree
 pub values_agree : (plan : PlanNo) (ts : List TheArgType) (xs ys : List Datum) → list_all argument_words_fit ts ≡ true → are_arguments ts xs ≡ true → are_arguments ts ys ≡ true
-    → Agree (arguments_onto false (in_classes plan 5 0 (zip ts xs)) []) (arguments_onto false (in_classes plan 5 0 (zip ts ys)) []) → xs ≡ ys
+    → Agree (arguments_onto false (of_ranks kind plan 5 0 (zip ts xs)) []) (arguments_onto false (of_ranks kind plan 5 0 (zip ts ys)) []) → xs ≡ ys
 values_agree plan ts xs ys w hx hy agree =
-    let args : List Datum → List Argument = λ ds. in_classes plan 5 0 (zip ts ds) in
+    let args : List Datum → List Argument = λ ds. of_ranks kind plan 5 0 (zip ts ds) in
     let fit = λ (a : Argument). is_argument a.0 a.1 in
     let same : args xs ≡ args ys = arguments_told false (args xs) (args ys) (same_types plan 5 0 ts xs ys hx hy)
-    (all_classes (λ (a : Argument). argument_words_fit a.0) plan 5 0 (zip ts xs) (words_zip ts xs w))
-    (all_classes fit plan 5 0 (zip ts xs) (fit_zip ts xs hx)) (all_classes fit plan 5 0 (zip ts ys) (fit_zip ts ys hy))
+    (all_ranks (λ (a : Argument). argument_words_fit a.0) plan 5 0 (zip ts xs) (words_zip ts xs w))
+    (all_ranks fit plan 5 0 (zip ts xs) (fit_zip ts xs hx)) (all_ranks fit plan 5 0 (zip ts ys) (fit_zip ts ys hy))
     [] _ _ (over_self _) (over_self _) agree in
-    values_told plan ts xs ys hx hy (λ k small. classes_told plan 5 0 k ts xs ys hx hy same (omega arith) (omega (arith, small)))
+    values_told plan ts xs ys hx hy (λ k small. ranks_told plan 5 0 k ts xs ys hx hy same (omega arith) (omega (arith, small)))

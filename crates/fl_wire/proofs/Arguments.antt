@@ -1,22 +1,22 @@
--- Arguments in the plan's order, class by class.
-use Rattle.std.proofs.Common.{◌≡◌, ℕ, pos, negsuc, zero, suc, ◌+◌, ◌-◌, ◌*◌, ◌^◌, ◌<◌, ◌≤◌, Bool, true, false, inl, inr, ⊎_elim, List, [], ◌∷◌, ◌++◌, map, length, drop, refl, sym, ◌∙◌, ap, subst, arith, cond, ltb, eqb, append_assoc, min, max, lit≤}
-use Rattle.std.specs.Prelude.{filter, slice_get, Option, Some, None}
+-- Arguments in the plan's order, rank by rank.
+use Rattle.std.proofs.Common.{◌≡◌, ℕ, pos, negsuc, zero, suc, ◌+◌, ◌-◌, ◌*◌, ◌^◌, ◌<◌, ◌≤◌, Bool, true, false, ⊎_elim, List, [], ◌∷◌, ◌++◌, map, length, drop, refl, sym, ◌∙◌, ap, subst, arith, cond, ltb, eqb, min, lit≤}
+use Rattle.std.specs.Prelude.{slice_get, Option, Some, None}
 use Rattle.std.specs.List.{zip, list_all}
-use Rattle.std.proofs.lemmas.List.{append-nil, drop_all}
+use Rattle.std.proofs.lemmas.List.{drop_all}
 use Rattle.std.proofs.lemmas.Bool.{cases_lt, lt-ltb, ltb-true, false≢true}
 use Rattle.std.specs.Cmp.{first_so, second_so}
 use Rattle.fl_check.specs.declared.interface.Scalar.{Scalar}
 use Rattle.fl_check.specs.declared.interface.Scalar.TheVariants.{Uint8, Int8, Bool as BoolType, Char, Uint16, Int16, Uint32, Int32, Iref, Uint64, Int64, Uintptr, Intptr, Size, Errval}
-use Rattle.fl_check.specs.Interface.{TheType, scalar, enumeration, structure, array, TheTypes, no_more, field, TheArgType, fixed, text, sized, TheMessage, TheInterface}
-use Rattle.fl_check.specs.Sizes.{scalar_size, align_of, greatest_align}
+use Rattle.fl_check.specs.Interface.{scalar, enumeration, structure, array, TheArgType, fixed, text, sized, TheMessage, TheInterface}
+use Rattle.fl_check.specs.Sizes.{scalar_size}
 use Rattle.fl_value.specs.Value.{Datum, number, string, elements, fields, TheCall}
 use Rattle.fl_value.specs.Fits.{is_argument, are_arguments, fit_message, least_above, how_many_below}
-use Rattle.fl_value.specs.Plan.{arranged, is_fixed_at, is_dynamic}
+use Rattle.fl_value.specs.Plan.{is_dynamic, rank_of, of_rank, of_ranks}
 use Rattle.fl_value.specs.declared.value.PlanNo.{PlanNo}
-use Rattle.fl_value.specs.declared.value.PlanNo.TheVariants.{One, Two}
 use Rattle.fl_layout.specs.Leaves.{Leaf, leaves, Argument, kind, argument_onto, arguments_onto, argument_types, types_of, is_number_type}
-use Rattle.fl_wire.specs.Classes.{class_of, fixed_class, in_class, in_classes, number_width, number_of, fits_width, IsWordSized}
-pub use Rattle.fl_wire.specs.Classes.{IsAlign}
+use Rattle.fl_wire.specs.Widths.{number_width, number_of, fits_width, IsWordSized}
+pub use Rattle.fl_wire.specs.Widths.{IsAlign}
+pub use Rattle.fl_value.proofs.Ranked.{scalar_align, type_align, types_align, along_align, arranged_ranks}
 
 -- ---- two lists side by side
 
@@ -88,7 +88,7 @@ number_fits (fixed (array n t)) d k w h = absurd (false≢true k)
 number_fits (text m) d k w h = absurd (false≢true k)
 number_fits (sized m t) d k w h = absurd (false≢true k)
 
--- ---- classes
+-- ---- ranks
 
 -- one number is no dynamic argument
 pub number_is_fixed : (t : TheArgType) → is_number_type t ≡ true → is_dynamic t ≡ false
@@ -113,13 +113,13 @@ onto_append (a ∷ args) rest before h =
     onto_one a (args ++ rest) before one ∙ onto_append args rest (argument_onto a.0 a.1 before) (second_so (is_number_type a.0) _ h)
     ∙ ap (λ (now : List Leaf). arguments_onto false rest now) (sym (onto_one a args before one))
 
--- numbers of a class
-pub class_numbers : (plan : PlanNo) (class : ℕ) (args : List Argument) → numbers_only args ≡ true → numbers_only (in_class plan class args) ≡ true
-class_numbers plan class [] h = refl
-class_numbers plan class (a ∷ args) h =
+-- numbers of a rank
+pub rank_numbers : (plan : PlanNo) (rank : ℕ) (args : List Argument) → numbers_only args ≡ true → numbers_only (of_rank kind plan rank args) ≡ true
+rank_numbers plan rank [] h = refl
+rank_numbers plan rank (a ∷ args) h =
     let one = first_so (is_number_type a.0) _ h in
-    let rest = class_numbers plan class args (second_so (is_number_type a.0) _ h) in
-    elim (eqb (class_of plan a.0) class) as (λ v. numbers_only (cond v (a ∷ in_class plan class args) (in_class plan class args)) ≡ true) [
+    let rest = rank_numbers plan rank args (second_so (is_number_type a.0) _ h) in
+    elim (eqb (rank_of plan a.0) rank) as (λ v. numbers_only (cond v (a ∷ of_rank kind plan rank args) (of_rank kind plan rank args)) ≡ true) [
       | true ↦ rw one rest
       | false ↦ rest
     ]
@@ -130,13 +130,13 @@ zip_numbers [] ds h = refl
 zip_numbers (t ∷ ts) [] h = refl
 zip_numbers (t ∷ ts) (d ∷ ds) h = rw (first_so (is_number_type t) _ h) (zip_numbers ts ds (second_so (is_number_type t) _ h))
 
--- one class more
-pub class_more : (plan : PlanNo) (class left : ℕ) (args : List Argument) (now : List Leaf) → class < 5 → 5 - (class + 1) ≡ left → numbers_only args ≡ true
-    → arguments_onto false (in_classes plan left (class + 1) args) (arguments_onto false (in_class plan class args) now)
-    ≡ arguments_onto false (in_classes plan (5 - class) class args) now
-class_more plan class left args now small e h =
-    let more : 5 - class ≡ suc left = omega arith in
-    rw more (sym (onto_append (in_class plan class args) (in_classes plan left (class + 1) args) now (class_numbers plan class args h)))
+-- one rank more
+pub rank_more : (plan : PlanNo) (rank left : ℕ) (args : List Argument) (now : List Leaf) → rank < 5 → 5 - (rank + 1) ≡ left → numbers_only args ≡ true
+    → arguments_onto false (of_ranks kind plan left (rank + 1) args) (arguments_onto false (of_rank kind plan rank args) now)
+    ≡ arguments_onto false (of_ranks kind plan (5 - rank) rank args) now
+rank_more plan rank left args now small e h =
+    let more : 5 - rank ≡ suc left = omega arith in
+    rw more (sym (onto_append (of_rank kind plan rank args) (of_ranks kind plan left (rank + 1) args) now (rank_numbers plan rank args h)))
 
 -- ---- the message of a call
 
@@ -154,103 +154,6 @@ arguments_fit (Some m) ds h = h
 pub align_along : (m n : ℕ) → m ≡ n → IsAlign n → IsAlign m
 align_along m n e h = subst IsAlign (sym e) h
 
-pub scalar_align : (s : Scalar) → IsAlign (scalar_size s)
-scalar_align Uint8 = inl refl
-scalar_align Int8 = inl refl
-scalar_align BoolType = inl refl
-scalar_align Char = inl refl
-scalar_align Uint16 = inr (inl refl)
-scalar_align Int16 = inr (inl refl)
-scalar_align Uint32 = inr (inr (inl refl))
-scalar_align Int32 = inr (inr (inl refl))
-scalar_align Iref = inr (inr (inl refl))
-scalar_align Uint64 = inr (inr (inr refl))
-scalar_align Int64 = inr (inr (inr refl))
-scalar_align Uintptr = inr (inr (inr refl))
-scalar_align Intptr = inr (inr (inr refl))
-scalar_align Size = inr (inr (inr refl))
-scalar_align Errval = inr (inr (inr refl))
-
-max_align : (m n : ℕ) → IsAlign m → IsAlign n → IsAlign (max m n)
-max_align m n a b = ⊎_elim
-    (λ (h : m < n). align_along (max m n) n (omega (arith, h)) b)
-    (λ (h : n ≤ m). align_along (max m n) m (omega (arith, h)) a)
-    (cases_lt m n)
-
-mutual
-  pub type_align : (t : TheType) → IsAlign (align_of t)
-  type_align (scalar s) = scalar_align s
-  type_align (enumeration n) = inr (inr (inl refl))
-  type_align (structure ts) = greatest_is_align ts
-  type_align (array n t) = type_align t
-
-  pub greatest_is_align : (ts : TheTypes) → IsAlign (greatest_align ts)
-  greatest_is_align no_more = inl refl
-  greatest_is_align (field t ts) = max_align (align_of t) (greatest_align ts) (type_align t) (greatest_is_align ts)
-
--- ---- the plan's order is class by class
-
-filter_all : (p : Argument → Bool) (args : List Argument) → ((a : Argument) → p a ≡ true) → filter p args ≡ args
-filter_all p [] h = refl
-filter_all p (a ∷ args) h = rw (h a) (ap (λ (xs : List Argument). a ∷ xs) (filter_all p args h))
-
-filter_none : (p : Argument → Bool) (args : List Argument) → ((a : Argument) → p a ≡ false) → filter p args ≡ []
-filter_none p [] h = refl
-filter_none p (a ∷ args) h = rw (h a) (filter_none p args h)
-
-filter_same : (p q : Argument → Bool) (args : List Argument) → ((a : Argument) → p a ≡ q a) → filter p args ≡ filter q args
-filter_same p q [] h = refl
-filter_same p q (a ∷ args) h = rw (h a, filter_same p q args h) refl
-
-pub along_align : (P : ℕ → Type 0) → P 1 → P 2 → P 4 → P 8 → (n : ℕ) → IsAlign n → P n
-along_align P a b c d n (inl e) = subst P (sym e) a
-along_align P a b c d n (inr (inl e)) = subst P (sym e) b
-along_align P a b c d n (inr (inr (inl e))) = subst P (sym e) c
-along_align P a b c d n (inr (inr (inr e))) = subst P (sym e) d
-
-class_8 : (a : Argument) → is_fixed_at 8 a.0 ≡ eqb (class_of Two a.0) 0
-class_8 (fixed t, d) = along_align (λ n. eqb n 8 ≡ eqb (fixed_class n) 0) refl refl refl refl (align_of t) (type_align t)
-class_8 (text m, d) = refl
-class_8 (sized m t, d) = refl
-
-class_4 : (a : Argument) → is_fixed_at 4 a.0 ≡ eqb (class_of Two a.0) 1
-class_4 (fixed t, d) = along_align (λ n. eqb n 4 ≡ eqb (fixed_class n) 1) refl refl refl refl (align_of t) (type_align t)
-class_4 (text m, d) = refl
-class_4 (sized m t, d) = refl
-
-class_2 : (a : Argument) → is_fixed_at 2 a.0 ≡ eqb (class_of Two a.0) 2
-class_2 (fixed t, d) = along_align (λ n. eqb n 2 ≡ eqb (fixed_class n) 2) refl refl refl refl (align_of t) (type_align t)
-class_2 (text m, d) = refl
-class_2 (sized m t, d) = refl
-
-class_1 : (a : Argument) → is_fixed_at 1 a.0 ≡ eqb (class_of Two a.0) 3
-class_1 (fixed t, d) = along_align (λ n. eqb n 1 ≡ eqb (fixed_class n) 3) refl refl refl refl (align_of t) (type_align t)
-class_1 (text m, d) = refl
-class_1 (sized m t, d) = refl
-
-class_0 : (a : Argument) → is_dynamic a.0 ≡ eqb (class_of Two a.0) 4
-class_0 (fixed t, d) = along_align (λ n. false ≡ eqb (fixed_class n) 4) refl refl refl refl (align_of t) (type_align t)
-class_0 (text m, d) = refl
-class_0 (sized m t, d) = refl
-
-five : {A : Type 0} (a b c d e f g h i j : List A) → a ≡ f → b ≡ g → c ≡ h → d ≡ i → e ≡ j → (((a ++ b) ++ c) ++ d) ++ e ≡ f ++ (g ++ (h ++ (i ++ (j ++ []))))
-five a b c d e f g h i j p q r s t = rw (p, q, r, s, t) (simp (append_assoc, append-nil))
-
-pub arranged_classes : (plan : PlanNo) (args : List Argument) → arranged kind plan args ≡ in_classes plan 5 0 args
-arranged_classes One args =
-    let all = filter_all (λ (a : Argument). true) args (λ a. refl) in
-    let none = filter_none (λ (a : Argument). false) args (λ a. refl) in
-    rw (all, none) (sym (append-nil args))
-arranged_classes Two args = five
-    (filter (λ (a : Argument). is_fixed_at 8 a.0) args) (filter (λ (a : Argument). is_fixed_at 4 a.0) args) (filter (λ (a : Argument). is_fixed_at 2 a.0) args)
-    (filter (λ (a : Argument). is_fixed_at 1 a.0) args) (filter (λ (a : Argument). is_dynamic a.0) args)
-    (in_class Two 0 args) (in_class Two 1 args) (in_class Two 2 args) (in_class Two 3 args) (in_class Two 4 args)
-    (filter_same (λ (a : Argument). is_fixed_at 8 a.0) (λ (a : Argument). eqb (class_of Two a.0) 0) args class_8)
-    (filter_same (λ (a : Argument). is_fixed_at 4 a.0) (λ (a : Argument). eqb (class_of Two a.0) 1) args class_4)
-    (filter_same (λ (a : Argument). is_fixed_at 2 a.0) (λ (a : Argument). eqb (class_of Two a.0) 2) args class_2)
-    (filter_same (λ (a : Argument). is_fixed_at 1 a.0) (λ (a : Argument). eqb (class_of Two a.0) 3) args class_1)
-    (filter_same (λ (a : Argument). is_dynamic a.0) (λ (a : Argument). eqb (class_of Two a.0) 4) args class_0)
-
--- a call's leaves, class by class
-pub leaves_classes : (plan : PlanNo) (i : TheInterface) (c : TheCall) → leaves plan i c ≡ arguments_onto false (in_classes plan 5 0 (zip (argument_types i c.msg) c.args)) []
-leaves_classes plan i c = ap (λ (xs : List Argument). arguments_onto false xs []) (arranged_classes plan (zip (argument_types i c.msg) c.args))
+-- a call's leaves, rank by rank
+pub leaves_ranks : (plan : PlanNo) (i : TheInterface) (c : TheCall) → leaves plan i c ≡ arguments_onto false (of_ranks kind plan 5 0 (zip (argument_types i c.msg) c.args)) []
+leaves_ranks plan i c = ap (λ (xs : List Argument). arguments_onto false xs []) (arranged_ranks kind plan (zip (argument_types i c.msg) c.args))

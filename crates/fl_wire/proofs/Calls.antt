@@ -1,4 +1,4 @@
--- The arguments of a call, read class by class.
+-- The arguments of a call, read rank by rank.
 use Rattle.std.proofs.Common.{◌≡◌, ◌≢◌, ℕ, zero, suc, ◌+◌, ◌-◌, ◌<◌, ◌≤◌, Bool, true, false, ◌⊎◌, inl, inr, ⊎_elim, List, [], ◌∷◌, ◌++◌, length, drop, get_or, set, refl, sym, ◌∙◌, ap, subst, arith, ◌&&◌}
 use Rattle.std.specs.List.{zip, list_all}
 use Rattle.std.specs.Prelude.{◌||◌}
@@ -9,16 +9,15 @@ use Rattle.fl_base.specs.declared.fragment.Frag.{Frag}
 use Rattle.fl_check.specs.Interface.{TheArgType, fixed, text, sized}
 use Rattle.fl_value.specs.Value.{Datum, string, elements}
 use Rattle.fl_value.specs.Fits.{is_argument, are_arguments, count_of}
-use Rattle.fl_value.specs.Plan.{is_dynamic}
+use Rattle.fl_value.specs.Plan.{is_dynamic, rank_of, of_rank, of_ranks}
 use Rattle.fl_value.specs.declared.value.PlanNo.{PlanNo}
-use Rattle.fl_layout.specs.Leaves.{Leaf, Argument, gap, whole, bytes_onto, elements_onto, argument_onto, arguments_onto, start_onto}
+use Rattle.fl_layout.specs.Leaves.{kind, Leaf, Argument, gap, whole, bytes_onto, elements_onto, argument_onto, arguments_onto, start_onto}
 use Rattle.fl_layout.specs.Places.{size, place}
-use Rattle.fl_wire.specs.Classes.{class_of, in_class, in_classes}
 use Rattle.fl_wire.specs.Alive.{argument_has_values}
 use Rattle.fl_wire.specs.Covered.{holds, is_length}
 use Rattle.fl_wire.specs.Shapes.{Agrees, Shape, starts_after, arguments_of, next_argument, calls_of, ReadAt}
-use Rattle.fl_wire.proofs.Agreement.{over_argument, over_arguments, over_bytes, over_elements, grows, class_small}
-use Rattle.fl_wire.proofs.Numbers.{none_such, class_here, class_elsewhere}
+use Rattle.fl_wire.proofs.Agreement.{over_argument, over_arguments, over_bytes, over_elements, grows, rank_small}
+use Rattle.fl_wire.proofs.Numbers.{none_such, rank_here, rank_elsewhere}
 use Rattle.fl_wire.proofs.Steps.{goes_on, Begins, Come, come_self}
 use Rattle.fl_wire.proofs.Defaults.{both, default_argument, default_arguments}
 use Rattle.fl_wire.proofs.Covers.{holds_before, holds_past, no_length_before}
@@ -84,38 +83,38 @@ come_same x y z frags start at join next come s = λ low here agree.
 
 -- ---- which arguments are read
 
-abbrev pub class_at : PlanNo → List TheArgType → ℕ → ℕ
-class_at plan ts k = class_of plan (get_or ts k (text 0))
+abbrev pub rank_at : PlanNo → List TheArgType → ℕ → ℕ
+rank_at plan ts k = rank_of plan (get_or ts k (text 0))
 
--- those of the classes below one, and those of that class before an index
+-- those of the ranks below one, and those of that rank before an index
 abbrev pub IsRead : PlanNo → ℕ → ℕ → List TheArgType → ℕ → Type 0
-IsRead plan class j ts k = (class_at plan ts k < class) ⊎ ((class_at plan ts k ≡ class) × (k < j))
+IsRead plan rank j ts k = (rank_at plan ts k < rank) ⊎ ((rank_at plan ts k ≡ rank) × (k < j))
 
 -- they are these values
-pub record SameRead (plan : PlanNo) (class j : ℕ) (ts : List TheArgType) (ds vs : List Datum) : Type 0 where
-  pub at : (k : ℕ) → k < length ts → IsRead plan class j ts k → get_or ds k (string []) ≡ get_or vs k (string [])
+pub record SameRead (plan : PlanNo) (rank j : ℕ) (ts : List TheArgType) (ds vs : List Datum) : Type 0 where
+  pub at : (k : ℕ) → k < length ts → IsRead plan rank j ts k → get_or ds k (string []) ≡ get_or vs k (string [])
 
 -- they have their types
-pub record FitRead (plan : PlanNo) (class j : ℕ) (ts : List TheArgType) (vs : List Datum) : Type 0 where
-  pub at : (k : ℕ) → k < length ts → IsRead plan class j ts k → is_argument (get_or ts k (text 0)) (get_or vs k (string [])) ≡ true
+pub record FitRead (plan : PlanNo) (rank j : ℕ) (ts : List TheArgType) (vs : List Datum) : Type 0 where
+  pub at : (k : ℕ) → k < length ts → IsRead plan rank j ts k → is_argument (get_or ts k (text 0)) (get_or vs k (string [])) ≡ true
 
--- what is left within a class, and from a class on
+-- what is left within a rank, and from a rank on
 abbrev pub left_in : PlanNo → ℕ → ℕ → List TheArgType → List Datum → Bool → Shape
-left_in plan class j ts vs after = record {
+left_in plan rank j ts vs after = record {
   what = List Datum;
-  fits = λ ds. (are_arguments ts ds ≡ true) × SameRead plan class j ts ds vs;
-  onto = λ ds low. arguments_onto after (in_class plan class (drop j (zip ts ds)) ++ in_classes plan (4 - class) (class + 1) (zip ts ds)) low;
-  lengths = λ ds low p. is_length after (in_class plan class (drop j (zip ts ds)) ++ in_classes plan (4 - class) (class + 1) (zip ts ds)) low p;
-  alive = (list_all argument_has_values ts ≡ true) × ((ds : List Datum) × ((are_arguments ts ds ≡ true) × SameRead plan class j ts ds vs));
+  fits = λ ds. (are_arguments ts ds ≡ true) × SameRead plan rank j ts ds vs;
+  onto = λ ds low. arguments_onto after (of_rank kind plan rank (drop j (zip ts ds)) ++ of_ranks kind plan (4 - rank) (rank + 1) (zip ts ds)) low;
+  lengths = λ ds low p. is_length after (of_rank kind plan rank (drop j (zip ts ds)) ++ of_ranks kind plan (4 - rank) (rank + 1) (zip ts ds)) low p;
+  alive = (list_all argument_has_values ts ≡ true) × ((ds : List Datum) × ((are_arguments ts ds ≡ true) × SameRead plan rank j ts ds vs));
 }
 
 abbrev pub left_from : PlanNo → ℕ → List TheArgType → List Datum → Bool → Shape
-left_from plan class ts vs after = record {
+left_from plan rank ts vs after = record {
   what = List Datum;
-  fits = λ ds. (are_arguments ts ds ≡ true) × SameRead plan class 0 ts ds vs;
-  onto = λ ds low. arguments_onto after (in_classes plan (5 - class) class (zip ts ds)) low;
-  lengths = λ ds low p. is_length after (in_classes plan (5 - class) class (zip ts ds)) low p;
-  alive = (list_all argument_has_values ts ≡ true) × ((ds : List Datum) × ((are_arguments ts ds ≡ true) × SameRead plan class 0 ts ds vs));
+  fits = λ ds. (are_arguments ts ds ≡ true) × SameRead plan rank 0 ts ds vs;
+  onto = λ ds low. arguments_onto after (of_ranks kind plan (5 - rank) rank (zip ts ds)) low;
+  lengths = λ ds low p. is_length after (of_ranks kind plan (5 - rank) rank (zip ts ds)) low p;
+  alive = (list_all argument_has_values ts ≡ true) × ((ds : List Datum) × ((are_arguments ts ds ≡ true) × SameRead plan rank 0 ts ds vs));
 }
 
 abbrev pub itself : List Datum → List Datum
@@ -156,10 +155,10 @@ zip_get (t ∷ ts) (d ∷ ds) (suc k) long small = zip_get ts ds k (omega (arith
 -- ---- steps
 
 none_read : (plan : PlanNo) (ts : List TheArgType) (ds vs : List Datum) → SameRead plan 0 0 ts ds vs
-none_read plan ts ds vs = record { at = λ k small read. ⊎_elim (λ (h : class_at plan ts k < 0). absurd (omega (arith, h))) (λ h. absurd (omega (arith, h.1))) read }
+none_read plan ts ds vs = record { at = λ k small read. ⊎_elim (λ (h : rank_at plan ts k < 0). absurd (omega (arith, h))) (λ h. absurd (omega (arith, h.1))) read }
 
 pub none_fit : (plan : PlanNo) (ts : List TheArgType) (vs : List Datum) → FitRead plan 0 0 ts vs
-none_fit plan ts vs = record { at = λ k small read. ⊎_elim (λ (h : class_at plan ts k < 0). absurd (omega (arith, h))) (λ h. absurd (omega (arith, h.1))) read }
+none_fit plan ts vs = record { at = λ k small read. ⊎_elim (λ (h : rank_at plan ts k < 0). absurd (omega (arith, h))) (λ h. absurd (omega (arith, h.1))) read }
 
 pub at_start : (plan : PlanNo) (ts : List TheArgType) (vs : List Datum) → Same (calls_of plan ts) (left_from plan 0 ts vs false) itself
 at_start plan ts vs = record {
@@ -170,93 +169,93 @@ at_start plan ts vs = record {
   lengths = λ e low n f. refl;
 }
 
-pub into_class : (plan : PlanNo) (class : ℕ) (ts : List TheArgType) (vs : List Datum) (after : Bool) → class < 5 → Same (left_from plan class ts vs after) (left_in plan class 0 ts vs after) itself
-into_class plan class ts vs after small = record {
+pub into_rank : (plan : PlanNo) (rank : ℕ) (ts : List TheArgType) (vs : List Datum) (after : Bool) → rank < 5 → Same (left_from plan rank ts vs after) (left_in plan rank 0 ts vs after) itself
+into_rank plan rank ts vs after small = record {
   fit = λ e f. f;
-  same = λ e low f. ap (λ (n : ℕ). arguments_onto after (in_classes plan n class (zip ts e)) low) more;
+  same = λ e low f. ap (λ (n : ℕ). arguments_onto after (of_ranks kind plan n rank (zip ts e)) low) more;
   told = λ d f. (d, (refl, f));
   alive = λ some. some;
-  lengths = λ e low p f. ap (λ (n : ℕ). is_length after (in_classes plan n class (zip ts e)) low p) more;
+  lengths = λ e low p f. ap (λ (n : ℕ). is_length after (of_ranks kind plan n rank (zip ts e)) low p) more;
 }
   where
-    more : 5 - class ≡ suc (4 - class)
+    more : 5 - rank ≡ suc (4 - rank)
     more = omega arith
 
--- past an argument of another class
-further : (plan : PlanNo) (class j k : ℕ) (ts : List TheArgType) → IsRead plan class j ts k → IsRead plan class (j + 1) ts k
-further plan class j k ts (inl h) = inl h
-further plan class j k ts (inr h) = inr (h.0, omega (arith, h.1))
+-- past an argument of another rank
+further : (plan : PlanNo) (rank j k : ℕ) (ts : List TheArgType) → IsRead plan rank j ts k → IsRead plan rank (j + 1) ts k
+further plan rank j k ts (inl h) = inl h
+further plan rank j k ts (inr h) = inr (h.0, omega (arith, h.1))
 
-not_further : (plan : PlanNo) (class j k : ℕ) (ts : List TheArgType) → class_at plan ts j ≢ class → IsRead plan class (j + 1) ts k → IsRead plan class j ts k
-not_further plan class j k ts other (inl h) = inl h
-not_further plan class j k ts other (inr h) = ⊎_elim
+not_further : (plan : PlanNo) (rank j k : ℕ) (ts : List TheArgType) → rank_at plan ts j ≢ rank → IsRead plan rank (j + 1) ts k → IsRead plan rank j ts k
+not_further plan rank j k ts other (inl h) = inl h
+not_further plan rank j k ts other (inr h) = ⊎_elim
     (λ (before : k < j). inr (h.0, before))
-    (λ (here : j ≤ k). let e : k ≡ j = omega (arith, here, h.1) in absurd (other (subst (λ (m : ℕ). class_at plan ts m ≡ class) e h.0)))
+    (λ (here : j ≤ k). let e : k ≡ j = omega (arith, here, h.1) in absurd (other (subst (λ (m : ℕ). rank_at plan ts m ≡ rank) e h.0)))
     (cases_lt k j)
 
--- what is left of a class, past an argument of another
-skip_other : (plan : PlanNo) (class j : ℕ) (ts : List TheArgType) (e : List Datum) → j < length ts → class_at plan ts j ≢ class → are_arguments ts e ≡ true
-    → in_class plan class (drop j (zip ts e)) ≡ in_class plan class (drop (j + 1) (zip ts e))
-skip_other plan class j ts e small other fits =
+-- what is left of a rank, past an argument of another
+skip_other : (plan : PlanNo) (rank j : ℕ) (ts : List TheArgType) (e : List Datum) → j < length ts → rank_at plan ts j ≢ rank → are_arguments ts e ≡ true
+    → of_rank kind plan rank (drop j (zip ts e)) ≡ of_rank kind plan rank (drop (j + 1) (zip ts e))
+skip_other plan rank j ts e small other fits =
     let long = fit_length ts e fits in
     let type : (get_or (zip ts e) j none_such).0 ≡ get_or ts j (text 0) = ap (λ (a : Argument). a.0) (zip_get ts e j long small) in
-    class_elsewhere plan class j (zip ts e) none_such (omega (arith, small, zip_length ts e long)) (λ h. other (sym (ap (class_of plan) type) ∙ h))
+    rank_elsewhere plan rank j (zip ts e) none_such (omega (arith, small, zip_length ts e long)) (λ h. other (sym (ap (rank_of plan) type) ∙ h))
 
-pub past_other : (plan : PlanNo) (class j : ℕ) (ts : List TheArgType) (vs : List Datum) (after : Bool) → j < length ts → class_at plan ts j ≢ class
-    → Same (left_in plan class j ts vs after) (left_in plan class (j + 1) ts vs after) itself
-past_other plan class j ts vs after small other = record {
-  fit = λ e f. (f.0, record { at = λ k h read. f.1.at k h (further plan class j k ts read) });
-  same = λ e low f. ap (λ (xs : List Argument). arguments_onto after (xs ++ in_classes plan (4 - class) (class + 1) (zip ts e)) low) (skip_other plan class j ts e small other f.0);
-  told = λ d f. (d, (refl, (f.0, record { at = λ k h read. f.1.at k h (not_further plan class j k ts other read) })));
-  alive = λ some. (some.0, (some.1.0, (some.1.1.0, record { at = λ k h read. some.1.1.1.at k h (not_further plan class j k ts other read) })));
-  lengths = λ e low n f. ap (λ (xs : List Argument). is_length after (xs ++ in_classes plan (4 - class) (class + 1) (zip ts e)) low n) (skip_other plan class j ts e small other f.0);
+pub past_other : (plan : PlanNo) (rank j : ℕ) (ts : List TheArgType) (vs : List Datum) (after : Bool) → j < length ts → rank_at plan ts j ≢ rank
+    → Same (left_in plan rank j ts vs after) (left_in plan rank (j + 1) ts vs after) itself
+past_other plan rank j ts vs after small other = record {
+  fit = λ e f. (f.0, record { at = λ k h read. f.1.at k h (further plan rank j k ts read) });
+  same = λ e low f. ap (λ (xs : List Argument). arguments_onto after (xs ++ of_ranks kind plan (4 - rank) (rank + 1) (zip ts e)) low) (skip_other plan rank j ts e small other f.0);
+  told = λ d f. (d, (refl, (f.0, record { at = λ k h read. f.1.at k h (not_further plan rank j k ts other read) })));
+  alive = λ some. (some.0, (some.1.0, (some.1.1.0, record { at = λ k h read. some.1.1.1.at k h (not_further plan rank j k ts other read) })));
+  lengths = λ e low n f. ap (λ (xs : List Argument). is_length after (xs ++ of_ranks kind plan (4 - rank) (rank + 1) (zip ts e)) low n) (skip_other plan rank j ts e small other f.0);
 }
 
-pub past_fit : (plan : PlanNo) (class j : ℕ) (ts : List TheArgType) (vs : List Datum) → class_at plan ts j ≢ class → FitRead plan class j ts vs → FitRead plan class (j + 1) ts vs
-past_fit plan class j ts vs other r = record { at = λ k h read. r.at k h (not_further plan class j k ts other read) }
+pub past_fit : (plan : PlanNo) (rank j : ℕ) (ts : List TheArgType) (vs : List Datum) → rank_at plan ts j ≢ rank → FitRead plan rank j ts vs → FitRead plan rank (j + 1) ts vs
+past_fit plan rank j ts vs other r = record { at = λ k h read. r.at k h (not_further plan rank j k ts other read) }
 
--- past a class
-class_done : (plan : PlanNo) (class j k : ℕ) (ts : List TheArgType) → IsRead plan class j ts k → IsRead plan (class + 1) 0 ts k
-class_done plan class j k ts (inl h) = inl (omega (arith, h))
-class_done plan class j k ts (inr h) = inl (omega (arith, h.0))
+-- past a rank
+rank_done : (plan : PlanNo) (rank j k : ℕ) (ts : List TheArgType) → IsRead plan rank j ts k → IsRead plan (rank + 1) 0 ts k
+rank_done plan rank j k ts (inl h) = inl (omega (arith, h))
+rank_done plan rank j k ts (inr h) = inl (omega (arith, h.0))
 
-class_read : (plan : PlanNo) (class j k : ℕ) (ts : List TheArgType) → k < j → IsRead plan (class + 1) 0 ts k → IsRead plan class j ts k
-class_read plan class j k ts before (inl h) = ⊎_elim
-    (λ (below : class_at plan ts k < class). inl below)
-    (λ (own : class ≤ class_at plan ts k). inr (omega (arith, own, h), before))
-    (cases_lt (class_at plan ts k) class)
-class_read plan class j k ts before (inr h) = absurd (omega (arith, h.1))
+rank_read : (plan : PlanNo) (rank j k : ℕ) (ts : List TheArgType) → k < j → IsRead plan (rank + 1) 0 ts k → IsRead plan rank j ts k
+rank_read plan rank j k ts before (inl h) = ⊎_elim
+    (λ (below : rank_at plan ts k < rank). inl below)
+    (λ (own : rank ≤ rank_at plan ts k). inr (omega (arith, own, h), before))
+    (cases_lt (rank_at plan ts k) rank)
+rank_read plan rank j k ts before (inr h) = absurd (omega (arith, h.1))
 
--- nothing is left of a class past its last argument
-class_over : (plan : PlanNo) (class j : ℕ) (ts : List TheArgType) (e : List Datum) → length ts ≤ j → are_arguments ts e ≡ true
-    → in_class plan class (drop j (zip ts e)) ++ in_classes plan (4 - class) (class + 1) (zip ts e) ≡ in_classes plan (5 - (class + 1)) (class + 1) (zip ts e)
-class_over plan class j ts e all fits =
+-- nothing is left of a rank past its last argument
+rank_over : (plan : PlanNo) (rank j : ℕ) (ts : List TheArgType) (e : List Datum) → length ts ≤ j → are_arguments ts e ≡ true
+    → of_rank kind plan rank (drop j (zip ts e)) ++ of_ranks kind plan (4 - rank) (rank + 1) (zip ts e) ≡ of_ranks kind plan (5 - (rank + 1)) (rank + 1) (zip ts e)
+rank_over plan rank j ts e all fits =
     let none : drop j (zip ts e) ≡ [] = drop_all j (zip ts e) (omega (arith, all, zip_length ts e (fit_length ts e fits))) in
-    let left : 4 - class ≡ 5 - (class + 1) = omega arith in
-    ap (λ (xs : List Argument). in_class plan class xs ++ in_classes plan (4 - class) (class + 1) (zip ts e)) none
-    ∙ ap (λ (n : ℕ). in_classes plan n (class + 1) (zip ts e)) left
+    let left : 4 - rank ≡ 5 - (rank + 1) = omega arith in
+    ap (λ (xs : List Argument). of_rank kind plan rank xs ++ of_ranks kind plan (4 - rank) (rank + 1) (zip ts e)) none
+    ∙ ap (λ (n : ℕ). of_ranks kind plan n (rank + 1) (zip ts e)) left
 
-pub past_class : (plan : PlanNo) (class j : ℕ) (ts : List TheArgType) (vs : List Datum) (after : Bool) → length ts ≤ j → Same (left_in plan class j ts vs after) (left_from plan (class + 1) ts vs after) itself
-past_class plan class j ts vs after all = record {
-  fit = λ e f. (f.0, record { at = λ k h read. f.1.at k h (class_done plan class j k ts read) });
-  same = λ e low f. ap (λ (xs : List Argument). arguments_onto after xs low) (class_over plan class j ts e all f.0);
-  told = λ d f. (d, (refl, (f.0, record { at = λ k h read. f.1.at k h (class_read plan class j k ts (omega (arith, h, all)) read) })));
-  alive = λ some. (some.0, (some.1.0, (some.1.1.0, record { at = λ k h read. some.1.1.1.at k h (class_read plan class j k ts (omega (arith, h, all)) read) })));
-  lengths = λ e low n f. ap (λ (xs : List Argument). is_length after xs low n) (class_over plan class j ts e all f.0);
+pub past_rank : (plan : PlanNo) (rank j : ℕ) (ts : List TheArgType) (vs : List Datum) (after : Bool) → length ts ≤ j → Same (left_in plan rank j ts vs after) (left_from plan (rank + 1) ts vs after) itself
+past_rank plan rank j ts vs after all = record {
+  fit = λ e f. (f.0, record { at = λ k h read. f.1.at k h (rank_done plan rank j k ts read) });
+  same = λ e low f. ap (λ (xs : List Argument). arguments_onto after xs low) (rank_over plan rank j ts e all f.0);
+  told = λ d f. (d, (refl, (f.0, record { at = λ k h read. f.1.at k h (rank_read plan rank j k ts (omega (arith, h, all)) read) })));
+  alive = λ some. (some.0, (some.1.0, (some.1.1.0, record { at = λ k h read. some.1.1.1.at k h (rank_read plan rank j k ts (omega (arith, h, all)) read) })));
+  lengths = λ e low n f. ap (λ (xs : List Argument). is_length after xs low n) (rank_over plan rank j ts e all f.0);
 }
 
-pub class_fit : (plan : PlanNo) (class j : ℕ) (ts : List TheArgType) (vs : List Datum) → length ts ≤ j → FitRead plan class j ts vs → FitRead plan (class + 1) 0 ts vs
-class_fit plan class j ts vs all r = record { at = λ k h read. r.at k h (class_read plan class j k ts (omega (arith, h, all)) read) }
+pub rank_fit : (plan : PlanNo) (rank j : ℕ) (ts : List TheArgType) (vs : List Datum) → length ts ≤ j → FitRead plan rank j ts vs → FitRead plan (rank + 1) 0 ts vs
+rank_fit plan rank j ts vs all r = record { at = λ k h read. r.at k h (rank_read plan rank j k ts (omega (arith, h, all)) read) }
 
 -- an argument is read
-not_itself : (plan : PlanNo) (class j k : ℕ) (ts : List TheArgType) → class_at plan ts j ≡ class → IsRead plan class j ts k → k ≢ j
-not_itself plan class j k ts own (inl h) = λ e. absurd (omega (arith, h, own, ap (class_at plan ts) e))
-not_itself plan class j k ts own (inr h) = λ e. absurd (omega (arith, h.1, e))
+not_itself : (plan : PlanNo) (rank j k : ℕ) (ts : List TheArgType) → rank_at plan ts j ≡ rank → IsRead plan rank j ts k → k ≢ j
+not_itself plan rank j k ts own (inl h) = λ e. absurd (omega (arith, h, own, ap (rank_at plan ts) e))
+not_itself plan rank j k ts own (inr h) = λ e. absurd (omega (arith, h.1, e))
 
-one_more : (plan : PlanNo) (class j k : ℕ) (ts : List TheArgType) → class_at plan ts j ≡ class → IsRead plan class (j + 1) ts k → (k ≡ j) ⊎ ((k ≢ j) × IsRead plan class j ts k)
-one_more plan class j k ts own (inl h) = inr (not_itself plan class j k ts own (inl h), inl h)
-one_more plan class j k ts own (inr h) = ⊎_elim
-    (λ (before : k < j). inr (not_itself plan class j k ts own (inr (h.0, before)), inr (h.0, before)))
+one_more : (plan : PlanNo) (rank j k : ℕ) (ts : List TheArgType) → rank_at plan ts j ≡ rank → IsRead plan rank (j + 1) ts k → (k ≡ j) ⊎ ((k ≢ j) × IsRead plan rank j ts k)
+one_more plan rank j k ts own (inl h) = inr (not_itself plan rank j k ts own (inl h), inl h)
+one_more plan rank j k ts own (inr h) = ⊎_elim
+    (λ (before : k < j). inr (not_itself plan rank j k ts own (inr (h.0, before)), inr (h.0, before)))
     (λ (here : j ≤ k). inl (omega (arith, here, h.1)))
     (cases_lt k j)
 
@@ -275,15 +274,15 @@ set_fit ts ds j d small fits one =
     (cases_lt j k))
     (cases_lt k j))
 
-set_same : (plan : PlanNo) (class j : ℕ) (ts : List TheArgType) (ds vs : List Datum) (d : Datum) → j < length ts → length ds ≡ length ts → length vs ≡ length ts → class_at plan ts j ≡ class
-    → SameRead plan class j ts ds vs → SameRead plan class (j + 1) ts (set ds j d) (set vs j d)
-set_same plan class j ts ds vs d small long_ds long_vs own same = record {
+set_same : (plan : PlanNo) (rank j : ℕ) (ts : List TheArgType) (ds vs : List Datum) (d : Datum) → j < length ts → length ds ≡ length ts → length vs ≡ length ts → rank_at plan ts j ≡ rank
+    → SameRead plan rank j ts ds vs → SameRead plan rank (j + 1) ts (set ds j d) (set vs j d)
+set_same plan rank j ts ds vs d small long_ds long_vs own same = record {
   at = λ k h read. ⊎_elim
       (λ (e : k ≡ j).
       let P : ℕ → Type 0 = λ m. get_or (set ds j d) m (string []) ≡ get_or (set vs j d) m (string []) in
       subst P (sym e) (get_or-set_same ds j d (string []) (omega (arith, small, long_ds)) ∙ sym (get_or-set_same vs j d (string []) (omega (arith, small, long_vs)))))
-      (λ (apart : (k ≢ j) × IsRead plan class j ts k). get_or-set_other ds j k d (string []) apart.0 ∙ same.at k h apart.1 ∙ sym (get_or-set_other vs j k d (string []) apart.0))
-      (one_more plan class j k ts own read);
+      (λ (apart : (k ≢ j) × IsRead plan rank j ts k). get_or-set_other ds j k d (string []) apart.0 ∙ same.at k h apart.1 ∙ sym (get_or-set_other vs j k d (string []) apart.0))
+      (one_more plan rank j k ts own read);
 }
 
 all_get : (ts : List TheArgType) (j : ℕ) → j < length ts → list_all argument_has_values ts ≡ true → argument_has_values (get_or ts j (text 0)) ≡ true
@@ -320,9 +319,9 @@ or_none : (b : Bool) → (b || false) ≡ b
 or_none true = refl
 or_none false = refl
 
-pub begins_next : (plan : PlanNo) (class j : ℕ) (ts : List TheArgType) (t : TheArgType) (vs : List Datum) (after : Bool) → j < length ts → length vs ≡ length ts → t ≡ get_or ts j (text 0) → class_at plan ts j ≡ class
-    → (low : List Leaf) → Begins (left_in plan class j ts vs after) (next_argument after t) (λ d. left_in plan class (j + 1) ts (set vs j d) (is_dynamic t)) low (λ d ds. ds)
-begins_next plan class j ts t vs after small long type own low = record {
+pub begins_next : (plan : PlanNo) (rank j : ℕ) (ts : List TheArgType) (t : TheArgType) (vs : List Datum) (after : Bool) → j < length ts → length vs ≡ length ts → t ≡ get_or ts j (text 0) → rank_at plan ts j ≡ rank
+    → (low : List Leaf) → Begins (left_in plan rank j ts vs after) (next_argument after t) (λ d. left_in plan rank (j + 1) ts (set vs j d) (is_dynamic t)) low (λ d ds. ds)
+begins_next plan rank j ts t vs after small long type own low = record {
   split = λ ds f.
       let d = get_or ds j (string []) in
       let same = get_or-set_same vs j d (string []) (omega (arith, small, long)) in (
@@ -338,8 +337,8 @@ begins_next plan class j ts t vs after small long type own low = record {
                 record {
                   at = λ k h read. ⊎_elim
                       (λ (e : k ≡ j). ap (λ (m : ℕ). get_or ds m (string [])) e ∙ sym same ∙ sym (ap (λ (m : ℕ). get_or (set vs j d) m (string [])) e))
-                      (λ (apart : (k ≢ j) × IsRead plan class j ts k). f.1.at k h apart.1 ∙ sym (get_or-set_other vs j k d (string []) apart.0))
-                      (one_more plan class j k ts own read);
+                      (λ (apart : (k ≢ j) × IsRead plan rank j ts k). f.1.at k h apart.1 ∙ sym (get_or-set_other vs j k d (string []) apart.0))
+                      (one_more plan rank j k ts own read);
                 },
               ),
             ),
@@ -349,65 +348,65 @@ begins_next plan class j ts t vs after small long type own low = record {
   fit = λ d ds fd fds. (
     fds.0,
     record {
-      at = λ k h read. fds.1.at k h (further plan class j k ts read) ∙ get_or-set_other vs j k d (string []) (not_itself plan class j k ts own read);
+      at = λ k h read. fds.1.at k h (further plan rank j k ts read) ∙ get_or-set_other vs j k d (string []) (not_itself plan rank j k ts own read);
     },
   );
   same = λ d ds fd fds. ap (λ (xs : List Argument). arguments_onto after xs low) (next_list d ds fds);
-  over = λ d ds. over_arguments (is_dynamic t) (in_class plan class (drop (j + 1) (zip ts ds)) ++ in_classes plan (4 - class) (class + 1) (zip ts ds)) _;
+  over = λ d ds. over_arguments (is_dynamic t) (of_rank kind plan rank (drop (j + 1) (zip ts ds)) ++ of_ranks kind plan (4 - rank) (rank + 1) (zip ts ds)) _;
   alive = λ some. subst (λ (u : TheArgType). argument_has_values u ≡ true) (sym type) (all_get ts j small some.0);
   more = λ some d fd. more_of some.1.0 some.1.1.0 some.1.1.1 d fd;
   alive_more = λ some d fd. (some.0, more_of some.1.0 some.1.1.0 some.1.1.1 d fd);
   lengths_first = λ d ds fd fds n inside.
-      let rest = in_class plan class (drop (j + 1) (zip ts ds)) ++ in_classes plan (4 - class) (class + 1) (zip ts ds) in
+      let rest = of_rank kind plan rank (drop (j + 1) (zip ts ds)) ++ of_ranks kind plan (4 - rank) (rank + 1) (zip ts ds) in
       ap (λ (xs : List Argument). is_length after xs low n) (next_list d ds fds)
       ∙ ap (λ (v : Bool). (is_dynamic t && holds (place (gap 8) low) 8 n) || v) (no_length_before (is_dynamic t) rest (argument_onto t d (start_onto after low)) n inside)
       ∙ or_none (is_dynamic t && holds (place (gap 8) low) 8 n);
   lengths_rest = λ d ds fd fds n past.
-      let rest = in_class plan class (drop (j + 1) (zip ts ds)) ++ in_classes plan (4 - class) (class + 1) (zip ts ds) in
+      let rest = of_rank kind plan rank (drop (j + 1) (zip ts ds)) ++ of_ranks kind plan (4 - rank) (rank + 1) (zip ts ds) in
       ap (λ (xs : List Argument). is_length after xs low n) (next_list d ds fds)
       ∙ ap (λ (v : Bool). v || is_length (is_dynamic t) rest (argument_onto t d (start_onto after low)) n) (no_length_past after t d low n fd past);
 }
   where
-    more_of : (ds : List Datum) → are_arguments ts ds ≡ true → SameRead plan class j ts ds vs → (d : Datum) → is_argument t d ≡ true
-        → (es : List Datum) × ((are_arguments ts es ≡ true) × SameRead plan class (j + 1) ts es (set vs j d))
+    more_of : (ds : List Datum) → are_arguments ts ds ≡ true → SameRead plan rank j ts ds vs → (d : Datum) → is_argument t d ≡ true
+        → (es : List Datum) × ((are_arguments ts es ≡ true) × SameRead plan rank (j + 1) ts es (set vs j d))
     more_of ds f same d fd = (
       set ds j d,
-      (set_fit ts ds j d small f (subst (λ (u : TheArgType). is_argument u d ≡ true) type fd), set_same plan class j ts ds vs d small (fit_length ts ds f) long own same),
+      (set_fit ts ds j d small f (subst (λ (u : TheArgType). is_argument u d ≡ true) type fd), set_same plan rank j ts ds vs d small (fit_length ts ds f) long own same),
     )
 
     -- the argument stands first in what is left
-    next_list : (d : Datum) (ds : List Datum) → (are_arguments ts ds ≡ true) × SameRead plan class (j + 1) ts ds (set vs j d)
-        → in_class plan class (drop j (zip ts ds)) ++ in_classes plan (4 - class) (class + 1) (zip ts ds)
-        ≡ (t, d) ∷ (in_class plan class (drop (j + 1) (zip ts ds)) ++ in_classes plan (4 - class) (class + 1) (zip ts ds))
+    next_list : (d : Datum) (ds : List Datum) → (are_arguments ts ds ≡ true) × SameRead plan rank (j + 1) ts ds (set vs j d)
+        → of_rank kind plan rank (drop j (zip ts ds)) ++ of_ranks kind plan (4 - rank) (rank + 1) (zip ts ds)
+        ≡ (t, d) ∷ (of_rank kind plan rank (drop (j + 1) (zip ts ds)) ++ of_ranks kind plan (4 - rank) (rank + 1) (zip ts ds))
     next_list d ds fds =
         let lengths = fit_length ts ds fds.0 in
         let at_j : get_or ds j (string []) ≡ d = fds.1.at j small (inr (own, omega arith)) ∙ get_or-set_same vs j d (string []) (omega (arith, small, long)) in
         let here : get_or (zip ts ds) j none_such ≡ (t, d)
         = zip_get ts ds j lengths small ∙ ap (λ (u : TheArgType). (u, get_or ds j (string []))) (sym type) ∙ ap (λ (v : Datum). (t, v)) at_j in
-        let of_class : class_of plan (get_or (zip ts ds) j none_such).0 ≡ class = ap (λ (a : Argument). class_of plan a.0) here ∙ ap (class_of plan) type ∙ own in
-        let rest = in_classes plan (4 - class) (class + 1) (zip ts ds) in
+        let its_rank : rank_of plan (get_or (zip ts ds) j none_such).0 ≡ rank = ap (λ (a : Argument). rank_of plan a.0) here ∙ ap (rank_of plan) type ∙ own in
+        let rest = of_ranks kind plan (4 - rank) (rank + 1) (zip ts ds) in
         ap (λ (xs : List Argument). xs ++ rest)
-        (class_here plan class j (zip ts ds) none_such (omega (arith, small, zip_length ts ds lengths)) of_class
-        ∙ ap (λ (a : Argument). a ∷ in_class plan class (drop (j + 1) (zip ts ds))) here)
+        (rank_here plan rank j (zip ts ds) none_such (omega (arith, small, zip_length ts ds lengths)) its_rank
+        ∙ ap (λ (a : Argument). a ∷ of_rank kind plan rank (drop (j + 1) (zip ts ds))) here)
 
-pub next_fit : (plan : PlanNo) (class j : ℕ) (ts : List TheArgType) (t : TheArgType) (vs : List Datum) (d : Datum) → j < length ts → length vs ≡ length ts → t ≡ get_or ts j (text 0) → class_at plan ts j ≡ class
-    → is_argument t d ≡ true → FitRead plan class j ts vs → FitRead plan class (j + 1) ts (set vs j d)
-next_fit plan class j ts t vs d small long type own fits r = record {
+pub next_fit : (plan : PlanNo) (rank j : ℕ) (ts : List TheArgType) (t : TheArgType) (vs : List Datum) (d : Datum) → j < length ts → length vs ≡ length ts → t ≡ get_or ts j (text 0) → rank_at plan ts j ≡ rank
+    → is_argument t d ≡ true → FitRead plan rank j ts vs → FitRead plan rank (j + 1) ts (set vs j d)
+next_fit plan rank j ts t vs d small long type own fits r = record {
   at = λ k h read. ⊎_elim
       (λ (e : k ≡ j).
       let P : ℕ → Type 0 = λ m. is_argument (get_or ts m (text 0)) (get_or (set vs j d) m (string [])) ≡ true in
       subst P (sym e) (rw (get_or-set_same vs j d (string []) (omega (arith, small, long))) (subst (λ (u : TheArgType). is_argument u d ≡ true) type fits)))
-      (λ (apart : (k ≢ j) × IsRead plan class j ts k). rw (get_or-set_other vs j k d (string []) apart.0) (r.at k h apart.1))
-      (one_more plan class j k ts own read);
+      (λ (apart : (k ≢ j) × IsRead plan rank j ts k). rw (get_or-set_other vs j k d (string []) apart.0) (r.at k h apart.1))
+      (one_more plan rank j k ts own read);
 }
 
 -- all arguments are read
 pub all_read : (plan : PlanNo) (ts : List TheArgType) (vs : List Datum) (after : Bool) (frags : List Frag) (at : ℕ) → length vs ≡ length ts → FitRead plan 5 0 ts vs → ReadAt (left_from plan 5 ts vs after) frags at vs at
 all_read plan ts vs after frags at long fits low here agree = record {
-  fit = (all_fit ts vs long (λ k h. fits.at k h (inl (class_small plan (get_or ts k (text 0))))), record { at = λ k h read. refl });
+  fit = (all_fit ts vs long (λ k h. fits.at k h (inl (rank_small plan (get_or ts k (text 0))))), record { at = λ k h read. refl });
   ends = sym here;
   agree = agree;
-  told = λ e full f over agrees. ext_get_or (string []) e vs (fit_length ts e f.0 ∙ sym long) (λ k h. f.1.at k (omega (arith, h, fit_length ts e f.0)) (inl (class_small plan (get_or ts k (text 0)))));
+  told = λ e full f over agrees. ext_get_or (string []) e vs (fit_length ts e f.0 ∙ sym long) (λ k h. f.1.at k (omega (arith, h, fit_length ts e f.0)) (inl (rank_small plan (get_or ts k (text 0)))));
 }
 
 -- what was read is one of its type

@@ -1,28 +1,23 @@
--- What the encoder writes: gaps, strings, values, and arguments class by class.
-use Rattle.std.proofs.Common.{◌≡◌, ◌≢◌, ℕ, zero, suc, ◌+◌, ◌-◌, ◌<◌, ◌≤◌, Bool, true, false, List, [], ◌∷◌, ◌++◌, map, length, replicate, drop, get_or, refl, sym, ◌∙◌, ap, subst, arith, cond, eqb, append_assoc, eq-eqb}
+-- What the encoder writes: gaps, strings, values, and arguments rank by rank.
+use Rattle.std.proofs.Common.{◌≡◌, ◌≢◌, ℕ, zero, suc, ◌+◌, ◌-◌, ◌<◌, Bool, true, false, List, [], ◌∷◌, ◌++◌, map, length, replicate, drop, get_or, refl, sym, ◌∙◌, ap, subst, arith, cond, eqb, append_assoc, eq-eqb}
 use Rattle.std.specs.List.{list_all}
 use Rattle.std.specs.Int.{byte_at}
 use Rattle.std.specs.Cmp.{first_so, second_so}
 use Rattle.std.proofs.lemmas.List.{append-nil, drop_more}
 use Rattle.std.proofs.lemmas.Bool.{ltb-true, eqb-true, ne_eqb}
-use Rattle.fl_check.specs.Interface.{TheType, TheTypes, no_more, field, TheArgType, fixed, text, sized}
-use Rattle.fl_check.specs.Sizes.{round_up, align_of, greatest_align}
+use Rattle.fl_check.specs.Interface.{TheType, TheArgType}
+use Rattle.fl_check.specs.Sizes.{round_up}
 use Rattle.fl_value.specs.Value.{data_from, datum_of}
 use Rattle.fl_value.specs.declared.value.Value.{Value}
 use Rattle.fl_value.specs.Fits.{count_of, all_have_type, is_text_byte}
-use Rattle.fl_value.specs.Plan.{is_dynamic}
+use Rattle.fl_value.specs.Plan.{is_dynamic, rank_of, of_rank, of_ranks}
 use Rattle.fl_value.specs.declared.value.PlanNo.{PlanNo}
-use Rattle.fl_value.specs.declared.value.PlanNo.TheVariants.{One, Two}
-use Rattle.fl_layout.specs.Leaves.{Leaf, gap, single, value_onto, elements_onto, Argument, bytes_onto, argument_onto, arguments_onto, start_onto}
+use Rattle.fl_value.specs.declared.value.PlanNo.TheVariants.{Two}
+use Rattle.fl_layout.specs.Leaves.{kind, Leaf, gap, single, value_onto, elements_onto, Argument, bytes_onto, argument_onto, arguments_onto, start_onto}
 use Rattle.fl_layout.specs.Places.{size}
 use Rattle.fl_wire.specs.Payload.{payload_bytes}
-use Rattle.fl_wire.specs.Classes.{class_of, fixed_class, in_class, in_classes}
+use Rattle.fl_value.proofs.Ranked.{is_last}
 use Rattle.fl_wire.proofs.Bytes.{length_payload, payload_more, size_le_place}
-use Rattle.fl_wire.proofs.Arguments.{along_align, type_align}
-
-pub one_or_more : (ts : TheTypes) → 1 ≤ greatest_align ts
-one_or_more no_more = omega arith
-one_or_more (field t ts) = omega (arith, one_or_more ts)
 
 -- ---- bytes
 
@@ -69,56 +64,46 @@ pub elements_left : (t : TheType) (vs : List Value) (j : ℕ) (v : Value) → j 
 elements_left t vs j v small h =
     second_so _ _ (subst (λ (us : List Value). all_have_type t (data_from (map datum_of us)) ≡ true) (drop_more vs j v small) h)
 
--- ---- classes
+-- ---- ranks
 
-dynamic_class : (t : TheArgType) → is_dynamic t ≡ eqb (class_of Two t) 4
-dynamic_class (fixed t) = along_align (λ n. false ≡ eqb (fixed_class n) 4) refl refl refl refl (align_of t) (type_align t)
-dynamic_class (text m) = refl
-dynamic_class (sized m t) = refl
+-- an argument of another rank than the last is fixed
+is_fixed : (t : TheArgType) (rank : ℕ) → rank ≢ 4 → rank_of Two t ≡ rank → is_dynamic t ≡ false
+is_fixed t rank other e = is_last t ∙ ap (λ (n : ℕ). eqb n 4) e ∙ ne_eqb rank 4 other
 
--- an argument of another class than the last is fixed
-is_fixed : (t : TheArgType) (class : ℕ) → class ≢ 4 → class_of Two t ≡ class → is_dynamic t ≡ false
-is_fixed t class other e = dynamic_class t ∙ ap (λ (n : ℕ). eqb n 4) e ∙ ne_eqb class 4 other
-
--- what follows the arguments of such a class
-class_append : (class : ℕ) (args rest : List Argument) (before : List Leaf) → class ≢ 4
-    → arguments_onto false (in_class Two class args ++ rest) before ≡ arguments_onto false rest (arguments_onto false (in_class Two class args) before)
-class_append class [] rest before other = refl
-class_append class (a ∷ args) rest before other =
-    let xs = in_class Two class args in
+-- what follows the arguments of such a rank
+rank_append : (rank : ℕ) (args rest : List Argument) (before : List Leaf) → rank ≢ 4
+    → arguments_onto false (of_rank kind Two rank args ++ rest) before ≡ arguments_onto false rest (arguments_onto false (of_rank kind Two rank args) before)
+rank_append rank [] rest before other = refl
+rank_append rank (a ∷ args) rest before other =
+    let xs = of_rank kind Two rank args in
     let P : Bool → Type 0 = λ v. arguments_onto false (cond v (a ∷ xs) xs ++ rest) before ≡ arguments_onto false rest (arguments_onto false (cond v (a ∷ xs) xs) before) in
-    let Q : Bool → Type 0 = λ v. eqb (class_of Two a.0) class ≡ v → P v in
+    let Q : Bool → Type 0 = λ v. eqb (rank_of Two a.0) rank ≡ v → P v in
     let taken : Q true = λ e.
     let now = argument_onto a.0 a.1 before in
-    let flag : is_dynamic a.0 ≡ false = is_fixed a.0 class other (eqb-true (class_of Two a.0) class e) in
-    ap (λ (v : Bool). arguments_onto v (xs ++ rest) now) flag ∙ class_append class args rest now other
+    let flag : is_dynamic a.0 ≡ false = is_fixed a.0 rank other (eqb-true (rank_of Two a.0) rank e) in
+    ap (λ (v : Bool). arguments_onto v (xs ++ rest) now) flag ∙ rank_append rank args rest now other
     ∙ ap (λ (v : Bool). arguments_onto false rest (arguments_onto v xs now)) (sym flag) in
-    let passed : Q false = λ e. class_append class args rest before other in
+    let passed : Q false = λ e. rank_append rank args rest before other in
     let both : (v : Bool) → Q v = λ v. elim v as Q [ true ↦ taken | false ↦ passed ] in
-    both (eqb (class_of Two a.0) class) refl
+    both (eqb (rank_of Two a.0) rank) refl
 
--- one class more
-pub class_then_rest : (class left : ℕ) (args : List Argument) (now : List Leaf) → class < 5 → 5 - (class + 1) ≡ left
-    → arguments_onto false (in_classes Two left (class + 1) args) (arguments_onto false (in_class Two class args) now)
-    ≡ arguments_onto false (in_classes Two (5 - class) class args) now
-class_then_rest class zero args now small e =
-    let more : 5 - class ≡ 1 = omega arith in
-    rw (more, append-nil (in_class Two class args)) refl
-class_then_rest class (suc left) args now small e =
-    let more : 5 - class ≡ suc (suc left) = omega arith in
-    let other : class ≢ 4 = λ h. absurd (omega (arith, h, e)) in
-    rw more (sym (class_append class args (in_classes Two (suc left) (class + 1) args) now other))
+-- one rank more
+pub rank_then_rest : (rank left : ℕ) (args : List Argument) (now : List Leaf) → rank < 5 → 5 - (rank + 1) ≡ left
+    → arguments_onto false (of_ranks kind Two left (rank + 1) args) (arguments_onto false (of_rank kind Two rank args) now)
+    ≡ arguments_onto false (of_ranks kind Two (5 - rank) rank args) now
+rank_then_rest rank zero args now small e =
+    let more : 5 - rank ≡ 1 = omega arith in
+    rw (more, append-nil (of_rank kind Two rank args)) refl
+rank_then_rest rank (suc left) args now small e =
+    let more : 5 - rank ≡ suc (suc left) = omega arith in
+    let other : rank ≢ 4 = λ h. absurd (omega (arith, h, e)) in
+    rw more (sym (rank_append rank args (of_ranks kind Two (suc left) (rank + 1) args) now other))
 
--- plan 1 has one class
-pub one_class : (args : List Argument) → in_class One 0 args ≡ args
-one_class [] = refl
-one_class (a ∷ args) = ap (λ (xs : List Argument). a ∷ xs) (one_class args)
+-- an argument of the rank goes first, after a gap where one is due
+pub rank_taken : (plan : PlanNo) (rank : ℕ) (v : Bool) (a : Argument) (args : List Argument) (now : List Leaf) → rank_of plan a.0 ≡ rank
+    → arguments_onto v (of_rank kind plan rank (a ∷ args)) now ≡ arguments_onto (is_dynamic a.0) (of_rank kind plan rank args) (argument_onto a.0 a.1 (start_onto v now))
+rank_taken plan rank v a args now e = rw (eq-eqb (rank_of plan a.0) rank e) refl
 
--- an argument of the class goes first, after a gap where one is due
-pub class_taken : (plan : PlanNo) (class : ℕ) (v : Bool) (a : Argument) (args : List Argument) (now : List Leaf) → class_of plan a.0 ≡ class
-    → arguments_onto v (in_class plan class (a ∷ args)) now ≡ arguments_onto (is_dynamic a.0) (in_class plan class args) (argument_onto a.0 a.1 (start_onto v now))
-class_taken plan class v a args now e = rw (eq-eqb (class_of plan a.0) class e) refl
-
-pub class_passed : (plan : PlanNo) (class : ℕ) (v : Bool) (a : Argument) (args : List Argument) (now : List Leaf) → class_of plan a.0 ≢ class
-    → arguments_onto v (in_class plan class (a ∷ args)) now ≡ arguments_onto v (in_class plan class args) now
-class_passed plan class v a args now e = rw (ne_eqb (class_of plan a.0) class e) refl
+pub rank_passed : (plan : PlanNo) (rank : ℕ) (v : Bool) (a : Argument) (args : List Argument) (now : List Leaf) → rank_of plan a.0 ≢ rank
+    → arguments_onto v (of_rank kind plan rank (a ∷ args)) now ≡ arguments_onto v (of_rank kind plan rank args) now
+rank_passed plan rank v a args now e = rw (ne_eqb (rank_of plan a.0) rank e) refl

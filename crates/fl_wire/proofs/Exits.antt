@@ -13,26 +13,25 @@ use Rattle.fl_check.specs.Interface.{TheType, scalar, enumeration, structure, ar
 use Rattle.fl_check.specs.Checks.{is_within_limits, is_well_made, are_well_made, is_argument_within, are_arguments_within, is_message_within, are_messages_within, count_of}
 use Rattle.fl_value.specs.Value.{Datum, TheCall}
 use Rattle.fl_value.specs.Fits.{fits_of, fit_message, are_arguments}
-use Rattle.fl_value.specs.Plan.{arranged}
+use Rattle.fl_value.specs.Plan.{arranged, of_ranks}
 use Rattle.fl_value.specs.declared.value.PlanNo.{PlanNo}
 use Rattle.fl_layout.specs.Leaves.{Leaf, leaves, Argument, kind, argument_types, types_of}
 use Rattle.fl_layout.specs.Places.{size, count, count_for}
 use Rattle.fl_wire.specs.Alive.{has_values, all_have_values, argument_has_values}
 use Rattle.fl_wire.specs.Words.{interface_words_fit}
 use Rattle.fl_wire.specs.Payload.{frags_of}
-use Rattle.fl_wire.specs.Classes.{in_classes}
 use Rattle.fl_wire.specs.Standing.{byte_in, words_in}
 use Rattle.fl_wire.specs.Covered.{is_covered, is_length}
 use Rattle.fl_wire.specs.Reading.{AllFit, IsPart, IsWrong, ReadsLeaving}
 use Rattle.fl_wire.specs.Shapes.{Agrees, IsWhy, Cut, calls_of}
 use Rattle.fl_wire.specs.Whole.{leaves_of, Whole, NearCall, WrongCall, StopsWhole}
-use Rattle.fl_wire.specs.Wrong.{start_fault, follow_fault, header_fault, IsWrongAt}
+use Rattle.fl_wire.specs.Wrong.{start_fault, follow_fault, header_fault, IsWrongAt, BeginsWell, BeginsAfterCalls, IsFirstFault}
 use Rattle.fl_wire.specs.Headers.{Line, Group, StandsFirst}
 use Rattle.fl_wire.specs.declared.leaf.Stop.{Stop}
 use Rattle.fl_wire.specs.declared.leaf.Stop.TheVariants.{Short, Padding, Value, Length, Memory}
 use Rattle.fl_wire.specs.declared.fault.WireFault.{WireFault}
 use Rattle.fl_wire.specs.declared.fault.WireFault.TheVariants.{NotZero, OutOfType, TooLong, Memory as NoMemory}
-use Rattle.fl_wire.proofs.Arguments.{leaves_classes, arranged_classes, arguments_fit}
+use Rattle.fl_wire.proofs.Arguments.{leaves_ranks, arranged_ranks, arguments_fit}
 use Rattle.fl_wire.proofs.Readings.{make_call, length_frags, count_positive}
 use Rattle.fl_wire.proofs.Decoding.{short_count}
 use Rattle.fl_wire.proofs.Steps.{fewer}
@@ -106,7 +105,7 @@ call_fits : (i : TheInterface) (msg : ℕ) (group : List Frag) (ds : List Datum)
 call_fits i msg group ds g h = fits_known i.messages msg ds (group_known i msg group g) h
 
 call_leaves : (plan : PlanNo) (i : TheInterface) (msg : ℕ) (ds : List Datum) → leaves plan i (make_call msg ds) ≡ leaves_of plan (argument_types i msg) ds
-call_leaves plan i msg ds = leaves_classes plan i (make_call msg ds)
+call_leaves plan i msg ds = leaves_ranks plan i (make_call msg ds)
 
 -- cut short, it is part of a call
 pub part_of : (plan : PlanNo) (i : TheInterface) (msg : ℕ) (group : List Frag) → Sound i → Group i msg group → Cut (calls_of plan (argument_types i msg)) group [] → IsPart plan i group
@@ -194,7 +193,7 @@ wrong_call plan i msg frags n stop fault within sound g w told =
         before = record { at = λ q small. front_byte q (omega (arith, small)) ∙ agree.at q small };
         none = λ d named fd agrees. none_of d named fd (record { at = λ q small. sym (front_byte q (omega (arith, small))) ∙ agrees.at q small });
         is = fault_told stop fault _ _ told near.why ∙ sym (ap (λ (v : Bool). cond v TooLong (cond (is_covered (leaves plan i c) w.p) OutOfType NotZero)) lengths
-            ∙ ap (λ (ls : List Leaf). cond (is_length false (in_classes plan 5 0 (zip ts near.one)) [] w.p) TooLong (cond (is_covered ls w.p) OutOfType NotZero)) same);
+            ∙ ap (λ (ls : List Leaf). cond (is_length false (of_ranks kind plan 5 0 (zip ts near.one)) [] w.p) TooLong (cond (is_covered ls w.p) OutOfType NotZero)) same);
       },
     ))
   where
@@ -243,8 +242,8 @@ wrong_call plan i msg frags n stop fault within sound g w told =
     more : k < count plan i c
     more = omega (arith, longer)
 
-    lengths : is_length false (arranged kind plan (zip ts near.one)) [] w.p ≡ is_length false (in_classes plan 5 0 (zip ts near.one)) [] w.p
-    lengths = ap (λ (xs : List Argument). is_length false xs [] w.p) (arranged_classes plan (zip ts near.one))
+    lengths : is_length false (arranged kind plan (zip ts near.one)) [] w.p ≡ is_length false (of_ranks kind plan 5 0 (zip ts near.one)) [] w.p
+    lengths = ap (λ (xs : List Argument). is_length false xs [] w.p) (arranged_ranks kind plan (zip ts near.one))
 
     length_front : w.p < 56 * length (with_one (take k frags) f)
     length_front =
@@ -265,7 +264,7 @@ wrong_call plan i msg frags n stop fault within sound g w told =
     none_of d named fd agrees =
         let own : d.msg ≡ msg = named ∙ name k refl in
         w.none d.args (subst (λ (m : ℕ). are_arguments (argument_types i m) d.args ≡ true) own (arguments_fit (slice_get i.messages d.msg) d.args fd))
-        (subst (λ (ls : List Leaf). Agrees group ls (w.p + 1)) (leaves_classes plan i d ∙ ap (λ (m : ℕ). leaves_of plan (argument_types i m) d.args) own) agrees)
+        (subst (λ (ls : List Leaf). Agrees group ls (w.p + 1)) (leaves_ranks plan i d ∙ ap (λ (m : ℕ). leaves_of plan (argument_types i m) d.args) own) agrees)
 
     header : (m : ℕ) → k ≡ m → header_fault i (take k frags) f ≡ None
     header zero e = ap (λ (n : ℕ). header_fault i (take n frags) f) e ∙ g.starts f (ap (slice_get group) (sym e) ∙ in_group)
@@ -322,9 +321,27 @@ all_read plan i frags calls left m part = record {
 pub leaves_right : (plan : PlanNo) (i : TheInterface) (frags : List Frag) (calls : List TheCall) (left : ℕ) → ReadsLeaving plan i frags calls left → IsWrong plan i frags → ⊥
 leaves_right plan i frags calls left r = reads_right plan i frags calls r.rest r.reads
 
+-- the calls so far, and what begins behind them
+pub calls_then : (plan : PlanNo) (i : TheInterface) (frags : List Frag) (calls : List TheCall) (left : List Frag) → MeansCalls plan i frags calls left → BeginsWell i left → BeginsAfterCalls plan i frags
+calls_then plan i frags calls left m begins = record {
+  before = m.whole;
+  rest = left;
+  is = m.joined;
+  calls = calls;
+  reads = record { whole = m.whole; joined = sym (append-nil m.whole); fit = m.fit; mean = m.mean; part = inl refl };
+  begins = begins;
+}
+
+-- a group's first fragment begins well
+pub begins_well : (i : TheInterface) (msg n : ℕ) (frags : List Frag) → 0 < length frags → Group i msg (take n frags) → BeginsWell i frags
+begins_well i msg n frags some group =
+    let is = slice_get-get_or frags 0 blank some in
+    let few : 0 < n = omega (arith, group.some, length-take n frags) in
+    record { one = get_or frags 0 blank; first = is; starts = group.starts (get_or frags 0 blank) (get_front n 0 frags few ∙ is) }
+
 pub wrong_left : (plan : PlanNo) (i : TheInterface) (frags : List Frag) (calls : List TheCall) (left : List Frag) (fault : WireFault) → interface_words_fit i ≡ true → MeansCalls plan i frags calls left
-    → (fault ≡ NoMemory) ⊎ IsWrongAt plan i left fault → (fault ≡ NoMemory) ⊎ IsWrongAt plan i frags fault
-wrong_left plan i frags calls left fault words m (inl memory) = inl memory
+    → ((fault ≡ NoMemory) × BeginsWell i left) ⊎ IsWrongAt plan i left fault → IsFirstFault plan i frags fault
+wrong_left plan i frags calls left fault words m (inl memory) = inl (memory.0, calls_then plan i frags calls left m memory.1)
 wrong_left plan i frags calls left fault words m (inr wrong) =
     inr (subst (λ (xs : List Frag). IsWrongAt plan i xs fault) (sym m.joined) (wrong_after plan i m.whole left calls fault words m.fit m.mean wrong))
 

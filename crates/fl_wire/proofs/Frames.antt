@@ -1,5 +1,5 @@
 -- Fragments from their control words and bytes.
-use Rattle.std.proofs.Common.{◌≡◌, ℕ, zero, suc, ◌+◌, ◌*◌, ◌/◌, ◌%◌, ◌^◌, ◌<◌, ◌≤◌, Bool, true, false, List, [], map, length, take, get_or, Some, None, refl, sym, ◌∙◌, ap, subst, arith, eqb, ltb, cond, eq-eqb}
+use Rattle.std.proofs.Common.{◌≡◌, ℕ, zero, suc, ◌+◌, ◌*◌, ◌/◌, ◌%◌, ◌^◌, ◌<◌, ◌≤◌, Bool, true, false, List, [], map, length, take, get_or, Some, None, refl, sym, ◌∙◌, ap, subst, arith, eqb, ltb, cond, ◌&&◌, eq-eqb}
 use Rattle.std.specs.Prelude.{slice_get, slice_index, Option, not}
 use Rattle.std.specs.List.{range_with_len}
 use Rattle.std.specs.Int.{byte_at, to_le_bytes, from_le_bytes, w64}
@@ -10,7 +10,7 @@ use Rattle.std.proofs.lemmas.List.FromFn.{length-map-range_with_len, get_or-map-
 use Rattle.std.proofs.lemmas.Option.{slice_get-get_or}
 use Rattle.std.proofs.lemmas.Bool.{eqb-true, ltb-true, lt-ltb, ne_eqb, false≢true}
 use Rattle.fl_base.specs.declared.fragment.Frag.{Frag}
-use Rattle.fl_base.specs.Control.{first_of, message_of, circuit_of, control_word, bare}
+use Rattle.fl_base.specs.Control.{first_of, acknowledges_of, reserved_of, message_of, circuit_of, control_word, bare}
 use Rattle.fl_check.specs.Interface.{TheInterface}
 use Rattle.fl_value.specs.Value.{TheCall}
 use Rattle.fl_value.specs.declared.value.PlanNo.{PlanNo}
@@ -67,11 +67,32 @@ not_one zero small e = refl
 not_one (suc zero) small e = absurd (false≢true (sym e))
 not_one (suc (suc n)) small e = absurd (omega (arith, small))
 
+zero_one : (n : ℕ) → n ≡ 0 → eqb n 1 ≡ false
+zero_one n e = ap (λ (m : ℕ). eqb m 1) e
+
+not_true : (b : Bool) → not b ≡ true → b ≡ false
+not_true true h = absurd (false≢true h)
+not_true false h = refl
+
+-- bit 2 and the reserved bits are 0
+no_bits : (w : ℕ) → eqb (w / 4 % 2) 1 ≡ false → w / 8 % 8192 ≡ 0 → w / 4 % 2 ^ 14 ≡ 0
+no_bits w bit rest = let none = not_one (w / 4 % 2) (omega arith) bit in omega (arith, none, rest)
+
+some_bits : (w : ℕ) → w / 4 % 2 ^ 14 ≡ 0 → (w / 4 % 2 ≡ 0) × (w / 8 % 8192 ≡ 0)
+some_bits w none = (omega (arith, none), omega (arith, none))
+
 clean_told : (f : Frag) → is_clean f ≡ true → (f.control / 4 % 2 ^ 14 ≡ 0) × (f.control / 2 ^ 32 % 65536 ≡ 0)
-clean_told f h = (eqb-true (f.control / 4 % 2 ^ 14) 0 (first_so (eqb (f.control / 4 % 2 ^ 14) 0) _ h), eqb-true (circuit_of f.control) 0 (second_so (eqb (f.control / 4 % 2 ^ 14) 0) _ h))
+clean_told f h =
+    let bits = first_so (not (acknowledges_of f.control) && eqb (reserved_of f.control) 0) (eqb (circuit_of f.control) 0) h in
+    let bit = first_so (not (acknowledges_of f.control)) (eqb (reserved_of f.control) 0) bits in
+    let rest = second_so (not (acknowledges_of f.control)) (eqb (reserved_of f.control) 0) bits in
+    (no_bits f.control (not_true (acknowledges_of f.control) bit) (eqb-true (reserved_of f.control) 0 rest),
+    eqb-true (circuit_of f.control) 0 (second_so (not (acknowledges_of f.control) && eqb (reserved_of f.control) 0) (eqb (circuit_of f.control) 0) h))
 
 clean_from : (f : Frag) → f.control / 4 % 2 ^ 14 ≡ 0 → f.control / 2 ^ 32 % 65536 ≡ 0 → is_clean f ≡ true
-clean_from f a b = rw (eq-eqb (f.control / 4 % 2 ^ 14) 0 a, eq-eqb (circuit_of f.control) 0 b) refl
+clean_from f a b =
+    let (bit, rest) = some_bits f.control a in
+    rw (zero_one (f.control / 4 % 2) bit, eq-eqb (f.control / 8 % 8192) 0 rest, eq-eqb (circuit_of f.control) 0 b) refl
 
 -- a first fragment's control word
 pub start_control : (i : TheInterface) (f : Frag) → start_fault i f ≡ None → 2 * (f.control / 2 % 2 ^ 47) ≡ control_word true (message_of f.control) 0
@@ -108,10 +129,6 @@ pub follows_well : (f : Frag) (msg : ℕ) → msg < 2 ^ 16 → 2 * (f.control / 
 follows_well f msg small e =
     let (reserved, (circuit, (first, is))) = later_told f.control msg small e in
     (rw (clean_from f reserved circuit, zero_one (f.control / 2 % 2) first, eq-eqb (message_of f.control) msg is) refl, is)
-  where
-    zero_one : (n : ℕ) → n ≡ 0 → eqb n 1 ≡ false
-    zero_one n e = rw e refl
-
 -- ---- words from their bytes
 
 line_word : (f : Frag) → Line f → (xs : List ℕ) (m j : ℕ) → j < 7 → ((r : ℕ) → r < 8 → byte_at r (get_or f.words j 0) ≡ slice_index xs (8 * m + r)) → get_or f.words j 0 ≡ word xs m

@@ -7,14 +7,14 @@ use Rattle.fl_check.specs.Interface.{TheArgType, TheInterface}
 use Rattle.fl_value.specs.Value.{Datum, TheCall}
 use Rattle.fl_value.specs.Fits.{fits_of, are_arguments}
 use Rattle.fl_value.specs.declared.value.PlanNo.{PlanNo}
-use Rattle.fl_layout.specs.Leaves.{Leaf, leaves, argument_types, arguments_onto}
+use Rattle.fl_layout.specs.Leaves.{kind, Leaf, leaves, argument_types, arguments_onto}
 use Rattle.fl_layout.specs.Places.{size, count}
 use Rattle.fl_wire.specs.Payload.{frags_of}
-use Rattle.fl_wire.specs.Classes.{in_classes}
+use Rattle.fl_value.specs.Plan.{of_ranks}
 use Rattle.fl_wire.specs.Shapes.{Agrees, Shape, Wrong, Stops, StopsAt, ReadAt, calls_of}
 use Rattle.fl_wire.specs.declared.leaf.Stop.{Stop}
 use Rattle.fl_wire.specs.declared.leaf.Stop.TheVariants.{Short, Padding, Value, Length, Memory}
-use Rattle.fl_wire.proofs.Arguments.{arguments_fit, leaves_classes}
+use Rattle.fl_wire.proofs.Arguments.{arguments_fit, leaves_ranks}
 use Rattle.fl_wire.proofs.Agreement.{over_self}
 use Rattle.fl_wire.proofs.Decoding.{front_holds, front_length, short_count, whole_count}
 use Rattle.fl_wire.proofs.Steps.{fewer}
@@ -39,13 +39,13 @@ pub front_agrees : (plan : PlanNo) (i : TheInterface) (c : TheCall) (k : ℕ) (f
     → ts ≡ argument_types i c.msg → Agrees frags ((calls_of plan ts).onto c.args []) (56 * length frags)
 front_agrees plan i c k frags ts within are types =
     let holds = front_holds plan i c k frags within are in
-    let same : leaves plan i c ≡ arguments_onto false (in_classes plan 5 0 (zip ts c.args)) []
-    = leaves_classes plan i c ∙ ap (λ (us : List TheArgType). arguments_onto false (in_classes plan 5 0 (zip us c.args)) []) (sym types) in
+    let same : leaves plan i c ≡ arguments_onto false (of_ranks kind plan 5 0 (zip ts c.args)) []
+    = leaves_ranks plan i c ∙ ap (λ (us : List TheArgType). arguments_onto false (of_ranks kind plan 5 0 (zip us c.args)) []) (sym types) in
     subst (λ (ls : List Leaf). Agrees frags ls (56 * length frags)) same (record { at = holds.at })
 
 pub front_size : (plan : PlanNo) (i : TheInterface) (c : TheCall) (ts : List TheArgType) → ts ≡ argument_types i c.msg → size (leaves plan i c) ≡ size ((calls_of plan ts).onto c.args [])
 front_size plan i c ts types =
-    ap size (leaves_classes plan i c ∙ ap (λ (us : List TheArgType). arguments_onto false (in_classes plan 5 0 (zip us c.args)) []) (sym types))
+    ap size (leaves_ranks plan i c ∙ ap (λ (us : List TheArgType). arguments_onto false (of_ranks kind plan 5 0 (zip us c.args)) []) (sym types))
 
 types_fit : (i : TheInterface) (c : TheCall) (ts : List TheArgType) → fits_of i c ≡ true → ts ≡ argument_types i c.msg → are_arguments ts c.args ≡ true
 types_fit i c ts fits types = subst (λ (us : List TheArgType). are_arguments us c.args ≡ true) (sym types) (arguments_fit (slice_get i.messages c.msg) c.args fits)

@@ -1,4 +1,4 @@
--- Numbers from their low bytes, and arguments of a class by their index.
+-- Numbers from their low bytes, and arguments of a rank by their index.
 use Rattle.std.proofs.Common.{◌≡◌, ◌≢◌, ℕ, zero, suc, ◌+◌, ◌^◌, ◌<◌, ◌≤◌, Bool, ⊎_elim, List, [], ◌∷◌, map, length, get_or, drop, ◌∙◌, ap, subst, arith, cond, ltb, eq-eqb}
 use Rattle.std.specs.List.{range_with_len}
 use Rattle.std.specs.Int.{byte_at, from_le_bytes, w64}
@@ -8,8 +8,8 @@ use Rattle.std.proofs.lemmas.Bool.{cases_lt, ne_eqb}
 use Rattle.fl_check.specs.Interface.{text}
 use Rattle.fl_value.specs.Value.{string}
 use Rattle.fl_value.specs.declared.value.PlanNo.{PlanNo}
-use Rattle.fl_layout.specs.Leaves.{Argument}
-use Rattle.fl_wire.specs.Classes.{class_of, in_class}
+use Rattle.fl_layout.specs.Leaves.{kind, Argument}
+use Rattle.fl_value.specs.Plan.{rank_of, of_rank}
 
 -- the number whose low bytes are given
 abbrev pub from_low : ℕ → (ℕ → ℕ) → ℕ
@@ -50,14 +50,14 @@ front_le k e f few small h =
 pub none_such : Argument
 none_such = (text 0, string [])
 
-pub class_here : (plan : PlanNo) (class j : ℕ) (args : List Argument) (d : Argument) → j < length args → class_of plan (get_or args j d).0 ≡ class
-    → in_class plan class (drop j args) ≡ get_or args j d ∷ in_class plan class (drop (j + 1) args)
-class_here plan class j args d small e =
-    ap (in_class plan class) (drop_more args j d small)
-    ∙ ap (λ (v : Bool). cond v (get_or args j d ∷ in_class plan class (drop (j + 1) args)) (in_class plan class (drop (j + 1) args))) (eq-eqb (class_of plan (get_or args j d).0) class e)
+pub rank_here : (plan : PlanNo) (rank j : ℕ) (args : List Argument) (d : Argument) → j < length args → rank_of plan (get_or args j d).0 ≡ rank
+    → of_rank kind plan rank (drop j args) ≡ get_or args j d ∷ of_rank kind plan rank (drop (j + 1) args)
+rank_here plan rank j args d small e =
+    ap (of_rank kind plan rank) (drop_more args j d small)
+    ∙ ap (λ (v : Bool). cond v (get_or args j d ∷ of_rank kind plan rank (drop (j + 1) args)) (of_rank kind plan rank (drop (j + 1) args))) (eq-eqb (rank_of plan (get_or args j d).0) rank e)
 
-pub class_elsewhere : (plan : PlanNo) (class j : ℕ) (args : List Argument) (d : Argument) → j < length args → class_of plan (get_or args j d).0 ≢ class
-    → in_class plan class (drop j args) ≡ in_class plan class (drop (j + 1) args)
-class_elsewhere plan class j args d small e =
-    ap (in_class plan class) (drop_more args j d small)
-    ∙ ap (λ (v : Bool). cond v (get_or args j d ∷ in_class plan class (drop (j + 1) args)) (in_class plan class (drop (j + 1) args))) (ne_eqb (class_of plan (get_or args j d).0) class e)
+pub rank_elsewhere : (plan : PlanNo) (rank j : ℕ) (args : List Argument) (d : Argument) → j < length args → rank_of plan (get_or args j d).0 ≢ rank
+    → of_rank kind plan rank (drop j args) ≡ of_rank kind plan rank (drop (j + 1) args)
+rank_elsewhere plan rank j args d small e =
+    ap (of_rank kind plan rank) (drop_more args j d small)
+    ∙ ap (λ (v : Bool). cond v (get_or args j d ∷ of_rank kind plan rank (drop (j + 1) args)) (of_rank kind plan rank (drop (j + 1) args))) (ne_eqb (rank_of plan (get_or args j d).0) rank e)

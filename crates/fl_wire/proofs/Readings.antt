@@ -13,15 +13,15 @@ use Rattle.fl_check.specs.Interface.{TheInterface, TheMessage}
 use Rattle.fl_value.specs.Value.{Datum, TheCall}
 use Rattle.fl_value.specs.Fits.{fits_of, are_arguments}
 use Rattle.fl_value.specs.declared.value.PlanNo.{PlanNo}
-use Rattle.fl_layout.specs.Leaves.{Leaf, leaves, argument_types, types_of, arguments_onto}
-use Rattle.fl_wire.specs.Classes.{in_classes}
+use Rattle.fl_layout.specs.Leaves.{kind, Leaf, leaves, argument_types, types_of, arguments_onto}
+use Rattle.fl_value.specs.Plan.{of_ranks}
 use Rattle.std.specs.Cmp.{first_so, second_so}
 use Rattle.fl_layout.specs.Places.{size, place, count}
 use Rattle.fl_wire.specs.Payload.{payload_at, payload_bytes, payload_of, word, frag_on, frags_of}
 use Rattle.fl_wire.specs.Words.{interface_words_fit, argument_words_fit}
 use Rattle.fl_wire.specs.Reading.{AllFit, IsRest, IsPart, Reads}
 use Rattle.fl_wire.proofs.Bytes.{length_payload, get_payload, past_end}
-use Rattle.fl_wire.proofs.Arguments.{leaves_classes, arguments_fit}
+use Rattle.fl_wire.proofs.Arguments.{leaves_ranks, arguments_fit}
 use Rattle.fl_wire.proofs.Agreement.{Agree, values_agree}
 
 positive : (n : ℕ) → 0 < max 1 n
@@ -143,11 +143,11 @@ call_told plan i c d w hc hd same =
     let fit_c = arguments_fit (slice_get i.messages c.msg) c.args hc in
     let fit_d = subst (λ (n : ℕ). are_arguments (argument_types i n) d.args ≡ true) (sym e) (arguments_fit (slice_get i.messages d.msg) d.args hd) in
     let agree : Agree (leaves plan i c) (leaves plan i d) = agree_from_frags c.msg d.msg (leaves plan i c) (leaves plan i d) (count plan i c) (size_in_frags plan i c) same in
-    let classes : (n : ℕ) → List Datum → List Leaf = λ n ds. arguments_onto false (in_classes plan 5 0 (zip (argument_types i n) ds)) [] in
-    let by_class : Agree (classes c.msg c.args) (classes c.msg d.args)
-    = subst (λ (f : List Leaf). Agree f (classes c.msg d.args)) (leaves_classes plan i c)
-    (subst (λ (g : List Leaf). Agree (leaves plan i c) g) (leaves_classes plan i d ∙ ap (λ (n : ℕ). classes n d.args) (sym e)) agree) in
-    same_call c d e (values_agree plan ts c.args d.args (types_words i c.msg w) fit_c fit_d by_class)
+    let ranks : (n : ℕ) → List Datum → List Leaf = λ n ds. arguments_onto false (of_ranks kind plan 5 0 (zip (argument_types i n) ds)) [] in
+    let by_rank : Agree (ranks c.msg c.args) (ranks c.msg d.args)
+    = subst (λ (f : List Leaf). Agree f (ranks c.msg d.args)) (leaves_ranks plan i c)
+    (subst (λ (g : List Leaf). Agree (leaves plan i c) g) (leaves_ranks plan i d ∙ ap (λ (n : ℕ). ranks n d.args) (sym e)) agree) in
+    same_call c d e (values_agree plan ts c.args d.args (types_words i c.msg w) fit_c fit_d by_rank)
 
 -- a fitting call whose fragments begin with those of another is that one
 pub begins_with : (plan : PlanNo) (i : TheInterface) (c d : TheCall) → interface_words_fit i ≡ true → fits_of i c ≡ true → fits_of i d ≡ true

@@ -8,12 +8,11 @@ use Rattle.fl_base.specs.declared.fragment.Frag.{Frag}
 use Rattle.fl_check.specs.Interface.{TheArgType}
 use Rattle.fl_value.specs.Value.{Datum}
 use Rattle.fl_value.specs.Fits.{is_argument}
-use Rattle.fl_value.specs.Plan.{is_dynamic}
+use Rattle.fl_value.specs.Plan.{is_dynamic, of_ranks}
 use Rattle.fl_value.specs.declared.value.PlanNo.{PlanNo}
-use Rattle.fl_layout.specs.Leaves.{Leaf, Argument, argument_onto, arguments_onto, start_onto}
+use Rattle.fl_layout.specs.Leaves.{kind, Leaf, Argument, argument_onto, arguments_onto, start_onto}
 use Rattle.fl_layout.specs.Places.{size, count_for}
 use Rattle.fl_wire.specs.Payload.{payload_at}
-use Rattle.fl_wire.specs.Classes.{in_classes}
 use Rattle.fl_wire.specs.Standing.{FirstNonzero, byte_in, fitting}
 use Rattle.fl_wire.specs.Covered.{is_length}
 use Rattle.fl_wire.specs.Shapes.{Got, Wrong, ReadAt, StopsAt, calls_of}
@@ -21,7 +20,7 @@ use Rattle.fl_wire.specs.Whole.{leaves_of, Whole, WrongCall, StopsWhole}
 use Rattle.fl_wire.specs.declared.leaf.Stop.{Stop}
 use Rattle.fl_wire.specs.declared.leaf.Stop.TheVariants.{Short, Padding, Value, Length, Memory}
 use Rattle.fl_wire.proofs.Bytes.{past_end}
-use Rattle.fl_wire.proofs.Agreement.{over_self, over_arguments, grows, all_classes, fit_zip}
+use Rattle.fl_wire.proofs.Agreement.{over_self, over_arguments, grows, all_ranks, fit_zip}
 use Rattle.fl_wire.proofs.Covers.{covered_past}
 use Rattle.fl_wire.proofs.Steps.{fewer}
 use Rattle.fl_wire.proofs.Calls.{no_length_past}
@@ -96,7 +95,7 @@ whole_zeros plan ts frags ds end count some counts within read w = record {
           (cases_lt q end);
     };
     longer = subst (λ (n : ℕ). w.p < 56 * n) (counts ∙ ap count_for (sym ends)) (omega (arith, w.before));
-    why = (no_length_after false (in_classes plan 5 0 (zip ts ds)) [] w.p (all_classes (λ (a : Argument). is_argument a.0 a.1) plan 5 0 (zip ts ds) (fit_zip ts ds got.fit)) late, covered_past (leaves_of plan ts ds) w.p late);
+    why = (no_length_after false (of_ranks kind plan 5 0 (zip ts ds)) [] w.p (all_ranks (λ (a : Argument). is_argument a.0 a.1) plan 5 0 (zip ts ds) (fit_zip ts ds got.fit)) late, covered_past (leaves_of plan ts ds) w.p late);
   };
 }
   where

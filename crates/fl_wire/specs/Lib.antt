@@ -1,6 +1,6 @@
 pub mod Payload
 pub mod Reading
-pub mod Classes
+pub mod Widths
 pub mod Words
 pub mod Standing
 pub mod Alive

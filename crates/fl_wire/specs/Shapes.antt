@@ -6,12 +6,11 @@ use Rattle.fl_check.specs.Interface.{TheType, TheTypes, TheArgType}
 use Rattle.fl_check.specs.Sizes.{greatest_align}
 use Rattle.fl_value.specs.Value.{Datum, Data}
 use Rattle.fl_value.specs.Fits.{has_type, have_types, all_have_type, count_of, is_text_byte, is_argument, are_arguments}
-use Rattle.fl_value.specs.Plan.{is_dynamic}
+use Rattle.fl_value.specs.Plan.{is_dynamic, of_ranks}
 use Rattle.fl_value.specs.declared.value.PlanNo.{PlanNo}
-use Rattle.fl_layout.specs.Leaves.{Leaf, gap, whole, single, value_onto, fields_onto, elements_onto, bytes_onto, argument_onto, start_onto, arguments_onto}
+use Rattle.fl_layout.specs.Leaves.{kind, Leaf, gap, whole, single, value_onto, fields_onto, elements_onto, bytes_onto, argument_onto, start_onto, arguments_onto}
 use Rattle.fl_layout.specs.Places.{size, place}
 use Rattle.fl_wire.specs.Payload.{payload_at}
-use Rattle.fl_wire.specs.Classes.{in_classes}
 use Rattle.fl_wire.specs.Standing.{Over, byte_in}
 use Rattle.fl_wire.specs.Alive.{has_values, all_have_values, argument_has_values}
 use Rattle.fl_wire.specs.Covered.{holds, is_covered, is_length}
@@ -108,13 +107,13 @@ next_argument after_dynamic t = record {
   alive = argument_has_values t ≡ true;
 }
 
--- the arguments of a message's calls, class by class
+-- the arguments of a message's calls, rank by rank
 abbrev pub calls_of : PlanNo → List TheArgType → Shape
 calls_of plan ts = record {
   what = List Datum;
   fits = λ ds. are_arguments ts ds ≡ true;
-  onto = λ ds low. arguments_onto false (in_classes plan 5 0 (zip ts ds)) low;
-  lengths = λ ds low p. is_length false (in_classes plan 5 0 (zip ts ds)) low p;
+  onto = λ ds low. arguments_onto false (of_ranks kind plan 5 0 (zip ts ds)) low;
+  lengths = λ ds low p. is_length false (of_ranks kind plan 5 0 (zip ts ds)) low p;
   alive = list_all argument_has_values ts ≡ true;
 }
 

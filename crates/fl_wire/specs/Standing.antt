@@ -7,7 +7,7 @@ use Rattle.fl_check.specs.Interface.{scalar, TheArgType, fixed}
 use Rattle.fl_value.specs.Fits.{is_argument, is_signed, scalar_bits}
 use Rattle.fl_layout.specs.Leaves.{Leaf, Argument, bits_of}
 use Rattle.fl_wire.specs.Payload.{payload_at}
-use Rattle.fl_wire.specs.Classes.{number_width, number_of}
+use Rattle.fl_wire.specs.Widths.{number_width, number_of}
 
 -- some leaves stand under others
 pub record Over (low high : List Leaf) : Type 0 where

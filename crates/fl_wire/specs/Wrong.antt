@@ -1,8 +1,8 @@
 -- Why the next fragment can't follow those since the last whole call: its first fault.
-use Rattle.std.specs.Prelude.{◌≡◌, ◌⊎◌, ℕ, ◌+◌, ◌*◌, ◌/◌, ◌%◌, ◌^◌, ◌<◌, ◌==◌, ◌&&◌, not, nat_lt, Bool, true, false, if◌then◌else◌, List, [], ◌∷◌, ◌++◌, length, Option, Some, None}
+use Rattle.std.specs.Prelude.{◌≡◌, ◌⊎◌, ℕ, ◌+◌, ◌*◌, ◌<◌, ◌==◌, ◌&&◌, not, nat_lt, Bool, true, false, if◌then◌else◌, List, [], ◌∷◌, ◌++◌, length, slice_get, Option, Some, None}
 use Rattle.std.specs.List.{zip}
 use Rattle.fl_base.specs.declared.fragment.Frag.{Frag}
-use Rattle.fl_base.specs.Control.{first_of, message_of, circuit_of}
+use Rattle.fl_base.specs.Control.{first_of, acknowledges_of, reserved_of, message_of, circuit_of}
 use Rattle.fl_check.specs.Interface.{TheInterface}
 use Rattle.fl_value.specs.Value.{TheCall}
 use Rattle.fl_value.specs.Fits.{fits_of}
@@ -13,7 +13,7 @@ use Rattle.fl_wire.specs.Reading.{Reads, IsWrong}
 use Rattle.fl_wire.specs.Covered.{is_covered, is_length}
 use Rattle.fl_wire.specs.Shapes.{Agrees}
 use Rattle.fl_wire.specs.declared.fault.WireFault.{WireFault}
-use Rattle.fl_wire.specs.declared.fault.WireFault.TheVariants.{NotFirst, FirstInside, UnknownMessage, NotZero, OutOfType, TooLong}
+use Rattle.fl_wire.specs.declared.fault.WireFault.TheVariants.{NotFirst, FirstInside, UnknownMessage, NotZero, OutOfType, TooLong, Memory}
 
 -- the fault of a byte that can't stand there: in a length, in a number, an enumerator or a string, and where
 -- nothing stands
@@ -37,9 +37,9 @@ pub record WrongByte (plan : PlanNo) (i : TheInterface) (msg : ℕ) (frags : Lis
 
 -- ---- the first fault of a fragment
 
--- bits 2 to 15, and the circuit, are 0
+-- it doesn't acknowledge, and the reserved bits and the circuit are 0
 abbrev pub is_clean : Frag → Bool
-is_clean f = (f.control / 4 % 2 ^ 14 == 0) && (circuit_of f.control == 0)
+is_clean f = not (acknowledges_of f.control) && (reserved_of f.control == 0) && (circuit_of f.control == 0)
 
 -- in order: a reserved bit or a circuit; no first fragment; no such message
 abbrev pub start_fault : TheInterface → Frag → Option WireFault
@@ -77,3 +77,24 @@ pub record IsWrongAt (plan : PlanNo) (i : TheInterface) (frags : List Frag) (fau
   pub reads : Reads plan i before calls rest
   pub wrong : IsWrong plan i (before ++ one ∷ [])
   pub first : HasFault plan i rest one fault
+
+-- ---- want of memory
+
+-- there is a first fragment, and its control word may begin a call
+pub record BeginsWell (i : TheInterface) (frags : List Frag) : Type 0 where
+  pub one : Frag
+  pub first : slice_get frags 0 ≡ Some one
+  pub starts : start_fault i one ≡ None
+
+-- fragments that read as whole calls, and behind them one whose control word may begin a call
+pub record BeginsAfterCalls (plan : PlanNo) (i : TheInterface) (frags : List Frag) : Type 0 where
+  pub before : List Frag
+  pub rest : List Frag
+  pub is : frags ≡ before ++ rest
+  pub calls : List TheCall
+  pub reads : Reads plan i before calls []
+  pub begins : BeginsWell i rest
+
+-- a fault of fragments: want of memory comes only after whole calls and the control word of the fragment behind them
+abbrev pub IsFirstFault : PlanNo → TheInterface → List Frag → WireFault → Type 0
+IsFirstFault plan i frags fault = ((fault ≡ Memory) × BeginsAfterCalls plan i frags) ⊎ IsWrongAt plan i frags fault

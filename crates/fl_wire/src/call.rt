@@ -6,13 +6,13 @@ ghost use Rattle.fl_value.specs.Value.{datum_of};
 ghost use Rattle.fl_wire.specs.Shapes.{ReadAt, StopsAt, starts_after, next_argument, calls_of};
 ghost use Rattle.fl_wire.specs.Whole.{Whole, StopsWhole};
 
-use crate::fragments::fragment_count;
 use crate::leaf::{Stop, read_padding, read_zeros};
-use crate::types::{CLASSES, class_for, is_dynamic};
+use crate::types::is_dynamic;
 use crate::value::read_argument;
 use fl_base::{FRAG_BYTES, Frag};
 use fl_check::ArgType;
-use fl_value::{PlanNo, Value};
+use fl_layout::fragment_count;
+use fl_value::{PlanNo, RANKS, Value};
 use std::alloc::{AllocError, Global};
 
 /// Where an argument may start: after a string or a sized array, past zeros up to a multiple of 8.
@@ -60,8 +60,8 @@ fn blanks(alloc: Global, count: usize) -> Result<Vec<Value>, AllocError>
     Ok(values)
 }
 
-/// The arguments of a call, in declared order, and where the last one ends: the plan lays them out class by
-/// class.
+/// The arguments of a call, in declared order, and where the last one ends: the plan lays them out rank by
+/// rank.
 pub(crate) fn read_arguments(
     alloc: Global,
     frags: &[Frag],
@@ -75,9 +75,9 @@ pub(crate) fn read_arguments(
     let mut values = blanks(alloc, types.len())?;
     let mut at = 0;
     let mut after_dynamic = false;
-    for class in 0..CLASSES {
+    for rank in 0..RANKS {
         for (j, ty) in types.iter().enumerate() {
-            if class_for(plan, ty) != class {
+            if plan.rank_of(ty) != rank {
                 continue;
             }
             let (value, end) = read_next(alloc, frags, at, after_dynamic, ty)?;

@@ -7,16 +7,16 @@ ghost use Rattle.fl_check.specs.Interface.{type_of, fields_from, arg_type_of, in
 ghost use Rattle.fl_check.specs.Sizes.{round_up, align_of, greatest_align};
 ghost use Rattle.fl_value.specs.Value.{datum_of, data_from, call_of};
 ghost use Rattle.fl_value.specs.Fits.{count_of, fits_of, has_type, have_types, all_have_type, are_arguments, is_argument, is_text_byte};
-ghost use Rattle.fl_value.specs.Plan.{arranged, is_dynamic};
+ghost use Rattle.fl_value.specs.Plan.{arranged, is_dynamic, of_rank, of_ranks};
 ghost use Rattle.fl_layout.specs.Leaves.{Leaf, gap, whole, bits_of, kind, value_onto, fields_onto, elements_onto, bytes_onto, argument_onto, arguments_onto};
 ghost use Rattle.fl_layout.specs.Places.{size};
 ghost use Rattle.fl_wire.specs.Payload.{payload_bytes, payload_of};
-ghost use Rattle.fl_wire.specs.Classes.{IsAlign, in_class, in_classes, fits_width};
+ghost use Rattle.fl_wire.specs.Widths.{IsAlign, fits_width};
 
-use crate::types::{CLASSES, alignment, arguments_of, class_for, is_dynamic};
+use crate::types::{arguments_of, is_dynamic};
 use fl_base::FRAG_BYTES;
 use fl_check::{ArgType, FixedType, Interface};
-use fl_value::{Call, PlanNo, Value};
+use fl_value::{Call, PlanNo, RANKS, Value};
 use std::alloc::{AllocError, Global};
 
 // How many bytes are missing up to the next multiple of an alignment.
@@ -162,7 +162,7 @@ fn put_fields(out: &mut Vec<u8>, fields: &[FixedType], values: &[Value]) -> Resu
     ensures ok { OnOk result ((before : List Leaf) → out.old.items ≡ payload_bytes before → out.new.items ≡ payload_bytes (fields_onto (fields_from (map type_of fields.now)) (data_from (map datum_of values.now)) before)) }
 {
     for (field, value) in fields.iter().zip(values) {
-        put_value(out, field, alignment(field), value)?;
+        put_value(out, field, field.alignment() as usize, value)?;
     }
     Ok(())
 }
@@ -202,7 +202,7 @@ fn put_sized(out: &mut Vec<u8>, element: &FixedType, values: &[Value]) -> Result
     ensures ok { OnOk result ((before : List Leaf) → out.old.items ≡ payload_bytes before → out.new.items ≡ payload_bytes (elements_onto (type_of element.now) (data_from (map datum_of values.now)) (whole 8 (count_of (data_from (map datum_of values.now))) ∷ before))) }
 {
     put_number(out, 8, values.len() as u64)?;
-    put_elements(out, element, alignment(element), values)
+    put_elements(out, element, element.alignment() as usize, values)
 }
 
 // An argument's leaves, at their places.
@@ -211,7 +211,7 @@ fn put_argument(out: &mut Vec<u8>, ty: &ArgType, value: &Value) -> Result<(), Al
     ensures ok { OnOk result ((before : List Leaf) → out.old.items ≡ payload_bytes before → out.new.items ≡ payload_bytes (argument_onto (arg_type_of ty.now) (datum_of value.now) before)) }
 {
     match ty {
-        ArgType::Fixed(fixed) => put_value(out, fixed, alignment(fixed), value),
+        ArgType::Fixed(fixed) => put_value(out, fixed, fixed.alignment() as usize, value),
         ArgType::Text(_) => match value {
             Value::Text(bytes) => put_text(out, bytes),
             _ => Ok(()),
@@ -223,21 +223,21 @@ fn put_argument(out: &mut Vec<u8>, ty: &ArgType, value: &Value) -> Result<(), Al
     }
 }
 
-// The arguments of one class, one after another. What follows a string or a sized array starts at a
+// The arguments of one rank, one after another. What follows a string or a sized array starts at a
 // multiple of 8.
-fn put_class(
+fn put_rank(
     out: &mut Vec<u8>,
     plan: PlanNo,
-    class: u8,
+    rank: u8,
     types: &[ArgType],
     values: &[Value],
 ) -> Result<(), AllocError>
     requires fit { are_arguments (map arg_type_of types.now) (map datum_of values.now) ≡ true }
-    ensures ok { OnOk result ((before : List Leaf) → out.old.items ≡ payload_bytes before → out.new.items ≡ payload_bytes (arguments_onto false (in_class plan class (zip (map arg_type_of types.now) (map datum_of values.now))) before)) }
+    ensures ok { OnOk result ((before : List Leaf) → out.old.items ≡ payload_bytes before → out.new.items ≡ payload_bytes (arguments_onto false (of_rank kind plan rank (zip (map arg_type_of types.now) (map datum_of values.now))) before)) }
 {
     let mut after_dynamic = false;
     for (ty, value) in types.iter().zip(values) {
-        if class_for(plan, ty) != class {
+        if plan.rank_of(ty) != rank {
             continue;
         }
         if after_dynamic {
@@ -249,13 +249,13 @@ fn put_class(
     Ok(())
 }
 
-// The arguments of plan 2's classes, one class after another.
-fn put_classes(out: &mut Vec<u8>, types: &[ArgType], values: &[Value]) -> Result<(), AllocError>
+// The arguments of plan 2's ranks, one rank after another.
+fn put_ranks(out: &mut Vec<u8>, types: &[ArgType], values: &[Value]) -> Result<(), AllocError>
     requires fit { are_arguments (map arg_type_of types.now) (map datum_of values.now) ≡ true }
-    ensures ok { OnOk result ((before : List Leaf) → out.old.items ≡ payload_bytes before → out.new.items ≡ payload_bytes (arguments_onto false (in_classes PlanNo.Two 5 0 (zip (map arg_type_of types.now) (map datum_of values.now))) before)) }
+    ensures ok { OnOk result ((before : List Leaf) → out.old.items ≡ payload_bytes before → out.new.items ≡ payload_bytes (arguments_onto false (of_ranks kind PlanNo.Two 5 0 (zip (map arg_type_of types.now) (map datum_of values.now))) before)) }
 {
-    for class in 0..CLASSES {
-        put_class(out, PlanNo::Two, class, types, values)?;
+    for rank in 0..RANKS {
+        put_rank(out, PlanNo::Two, rank, types, values)?;
     }
     Ok(())
 }
@@ -271,14 +271,14 @@ fn put_arguments(
     ensures ok { OnOk result ((before : List Leaf) → out.old.items ≡ payload_bytes before → out.new.items ≡ payload_bytes (arguments_onto false (arranged kind plan (zip (map arg_type_of types.now) (map datum_of values.now))) before)) }
 {
     match plan {
-        PlanNo::One => put_class(out, plan, 0, types, values),
-        PlanNo::Two => put_classes(out, types, values),
+        PlanNo::One => put_rank(out, plan, 0, types, values),
+        PlanNo::Two => put_ranks(out, types, values),
     }
 }
 
 /// The payload of a call: each number little-endian at its place under the plan, every other byte 0.
 ///
-/// Each byte is written once. Plan 2 goes over the arguments' types once for each class. The alignment of an
+/// Each byte is written once. Plan 2 goes over the arguments' types once for each rank. The alignment of an
 /// array's elements is found once, and that of a field each time that a value of its struct is written.
 ///
 /// Fails only where memory runs out.

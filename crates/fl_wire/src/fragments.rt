@@ -4,27 +4,14 @@ ghost use Rattle.std.specs.Prelude.{◌≡◌, ℕ, ◌+◌, ◌-◌, ◌*◌, �
 ghost use Rattle.fl_check.specs.Interface.{interface_of};
 ghost use Rattle.fl_value.specs.Value.{call_of};
 ghost use Rattle.fl_value.specs.Fits.{fits_of};
-ghost use Rattle.fl_layout.specs.Places.{count_for};
 ghost use Rattle.fl_wire.specs.Payload.{frag_on, frags_of, word};
 
 use crate::encode::payload;
 use fl_base::{Circuit, FRAG_BYTES, Frag, MsgNo, control};
 use fl_check::Interface;
+use fl_layout::fragment_count;
 use fl_value::{Call, PlanNo};
 use std::alloc::{AllocError, Global};
-
-/// How many fragments a payload of so many bytes takes: one for each 56 bytes or part of them, and one
-/// for none.
-pub fn fragment_count(len: usize) -> usize
-    ensures count { result ≡ count_for len }
-{
-    let full = len / FRAG_BYTES;
-    if len % FRAG_BYTES == 0 && len > 0 {
-        full
-    } else {
-        full + 1
-    }
-}
 
 // What follows the first `k` fragments' bytes.
 fn rest_from(payload: &[u8], k: usize) -> &[u8]

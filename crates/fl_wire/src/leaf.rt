@@ -88,15 +88,6 @@ fn number_at(frags: &[Frag], place: usize, width: usize) -> u64
     }
 }
 
-// The next multiple of an alignment.
-fn next_place(at: usize, align: usize) -> usize
-    requires align { (align ≡ 1) ⊎ ((align ≡ 2) ⊎ ((align ≡ 4) ⊎ (align ≡ 8))) }
-    requires room { at < 2 ^ 63 }
-    ensures place { result ≡ round_up at align }
-{
-    at + (align - at % align) % align
-}
-
 /// Past bytes that are all 0; a stop at the first that isn't.
 pub(crate) fn read_zeros(frags: &[Frag], at: usize, end: usize) -> Result<(), Stop>
     ensures zeros { IfOk result (λ u. (p : ℕ) → at ≤ p → p < end → byte_in frags.now p ≡ 0) }
@@ -118,7 +109,7 @@ fn skip(frags: &[Frag], at: usize, align: usize) -> Result<usize, Stop>
     ensures zeros { IfOk result (λ place. (p : ℕ) → at ≤ p → p < place → byte_in frags.now p ≡ 0) }
     ensures wrong { IfErr result (λ stop. (stop ≡ Padding) × FirstNonzero frags.now at (round_up at align)) }
 {
-    let place = next_place(at, align);
+    let place = at.next_multiple_of(align);
     read_zeros(frags, at, place)?;
     Ok(place)
 }

@@ -8,7 +8,7 @@
 //! `specs/Reading.antt` and `specs/Wrong.antt`, those of leaves and places in `fl_layout`; what reading a
 //! thing at a place tells, in `specs/Shapes.antt`.
 //!
-//! - `types.rt`: sizes and alignments of types, and the plan's order by classes
+//! - `types.rt`: sizes and alignments of types, and the plan's order by ranks
 //! - `encode.rt`: the payload of a call
 //! - `fragments.rt`: fragments of a payload
 //! - `leaf.rt`: one leaf of a payload from the bytes of fragments, and why a reading stops
@@ -38,7 +38,8 @@ mod value;
 pub use bounds::numbers_fit_words;
 pub use encode::payload;
 pub use fault::WireFault;
-pub use fragments::{fragment, fragment_at, fragment_count};
+pub use fl_layout::fragment_count;
+pub use fragments::{fragment, fragment_at};
 pub use header::{follow_fault, is_line, start_fault};
 pub use law::{none_begins_with_another, one_reading, reads_once};
 pub use reader::{Reading, read_frags};

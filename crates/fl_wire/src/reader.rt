@@ -5,7 +5,7 @@ ghost use Rattle.fl_base.specs.declared.fragment.Frag.{Frag as TheFrag};
 ghost use Rattle.fl_check.specs.Interface.{interface_of};
 ghost use Rattle.fl_value.specs.Value.{call_of};
 ghost use Rattle.fl_wire.specs.Reading.{ReadsLeaving, IsPart, IsWrong};
-ghost use Rattle.fl_wire.specs.Wrong.{start_fault, follow_fault, IsWrongAt};
+ghost use Rattle.fl_wire.specs.Wrong.{start_fault, follow_fault, IsWrongAt, BeginsWell, IsFirstFault};
 ghost use Rattle.fl_wire.specs.Headers.{Group, StandsFirst};
 ghost use Rattle.fl_wire.specs.Words.{interface_words_fit};
 ghost use Rattle.fl_wire.specs.declared.fault.WireFault.{WireFault as TheFault};
@@ -77,7 +77,8 @@ fn next_call(
     requires words { interface_words_fit (interface_of interface.now) ≡ true }
     ensures call { IfOk result (λ found. IfSome found (λ r. StandsFirst plan (interface_of interface.now) frags.now (call_of r.0) r.1)) }
     ensures part { IfOk result (λ found. found ≡ None → IsPart plan (interface_of interface.now) frags.now) }
-    ensures wrong { IfErr result (λ fault. (fault ≡ Memory) ⊎ IsWrongAt plan (interface_of interface.now) frags.now fault) }
+    ensures begins { IfOk result (λ found. BeginsWell (interface_of interface.now) frags.now) }
+    ensures wrong { IfErr result (λ fault. ((fault ≡ Memory) × BeginsWell (interface_of interface.now) frags.now) ⊎ IsWrongAt plan (interface_of interface.now) frags.now fault) }
 {
     let front = front_of(interface, frags)?;
     let msg = front.msg;
@@ -102,7 +103,8 @@ fn next_call(
 /// The first fault of the first fragment that makes the list one that no calls' fragments begin with: a
 /// reserved bit or a circuit that isn't 0 (E63), no first fragment where one is due (E60), a first
 /// fragment inside a call (E61), a message that the interface doesn't have or that changes (E62), then the first byte at
-/// fault: where nothing stands (E63), in a value (E65) or in a length (E66). Want of memory (E99).
+/// fault: where nothing stands (E63), in a value (E65) or in a length (E66). Want of memory (E99): then some of the
+/// fragments read as whole calls, and the control word of the next one may begin a call.
 pub fn read_frags(
     alloc: Global,
     interface: &Interface,
@@ -111,7 +113,7 @@ pub fn read_frags(
 ) -> Result<Reading, WireFault>
     ensures read { IfOk result (λ r. ReadsLeaving plan (interface_of interface.now) frags.now (map call_of r.calls.items) r.rest) }
     ensures right { IfOk result (λ r. IsWrong plan (interface_of interface.now) frags.now → ⊥) }
-    ensures wrong { IfErr result (λ fault. (fault ≡ Memory) ⊎ IsWrongAt plan (interface_of interface.now) frags.now fault) }
+    ensures wrong { IfErr result (IsFirstFault plan (interface_of interface.now) frags.now) }
 {
     numbers_fit_words(interface);
     let mut calls = Vec::new(alloc);

@@ -1,60 +1,12 @@
-//! Widths, alignments and classes of arguments' types.
+//! The types of a message's arguments.
 
 ghost use Rattle.std.specs.Prelude.{◌≡◌, ℕ, true, map};
-ghost use Rattle.fl_check.specs.Interface.{arg_type_of, type_of, fields_from, interface_of};
-ghost use Rattle.fl_check.specs.Sizes.{scalar_size, align_of, greatest_align};
+ghost use Rattle.fl_check.specs.Interface.{arg_type_of, interface_of};
 ghost use Rattle.fl_layout.specs.Leaves.{argument_types};
 ghost use Rattle.fl_value.specs.Plan.{is_dynamic};
-ghost use Rattle.fl_wire.specs.Classes.{class_of};
 
 use fl_base::MsgNo;
-use fl_check::{ArgType, FixedType, Interface, Scalar};
-use fl_value::PlanNo;
-
-/// How many classes of arguments a plan may have: it lays them out class by class.
-pub(crate) const CLASSES: u8 = 5;
-
-/// The bytes of a scalar, which are its alignment.
-pub(crate) fn scalar_size(scalar: Scalar) -> usize
-    ensures size { result ≡ scalar_size scalar }
-{
-    match scalar {
-        Scalar::Uint8 | Scalar::Int8 | Scalar::Bool | Scalar::Char => 1,
-        Scalar::Uint16 | Scalar::Int16 => 2,
-        Scalar::Uint32 | Scalar::Int32 | Scalar::Iref => 4,
-        Scalar::Uint64
-        | Scalar::Int64
-        | Scalar::Uintptr
-        | Scalar::Intptr
-        | Scalar::Size
-        | Scalar::Errval => 8,
-    }
-}
-
-/// A type's alignment in bytes. It goes over the fields of a struct.
-#[cycle(alignments)]
-pub(crate) fn alignment(fixed: &FixedType) -> usize
-    ensures same { result ≡ align_of (type_of fixed.now) }
-{
-    match fixed {
-        FixedType::Scalar(scalar) => scalar_size(*scalar),
-        FixedType::Enumeration(_) => 4,
-        FixedType::Structure(fields) => greatest_alignment(fields),
-        FixedType::Array(_, element) => alignment(element),
-    }
-}
-
-/// The greatest alignment of some fields; 1 of none.
-#[cycle(alignments)]
-pub(crate) fn greatest_alignment(fields: &[FixedType]) -> usize
-    ensures same { result ≡ greatest_align (fields_from (map type_of fields.now)) }
-{
-    let mut greatest = 1;
-    for field in fields {
-        greatest = alignment(field).max(greatest);
-    }
-    greatest
-}
+use fl_check::{ArgType, Interface};
 
 /// Whether an argument is a string or a sized array.
 pub(crate) fn is_dynamic(ty: &ArgType) -> bool
@@ -63,24 +15,6 @@ pub(crate) fn is_dynamic(ty: &ArgType) -> bool
     match ty {
         ArgType::Fixed(_) => false,
         _ => true,
-    }
-}
-
-/// The place of an argument's type in the plan's order.
-pub(crate) fn class_for(plan: PlanNo, ty: &ArgType) -> u8
-    ensures class { result ≡ class_of plan (arg_type_of ty.now) }
-{
-    match plan {
-        PlanNo::One => 0,
-        PlanNo::Two => match ty {
-            ArgType::Fixed(fixed) => match alignment(fixed) {
-                8 => 0,
-                4 => 1,
-                2 => 2,
-                _ => 3,
-            },
-            _ => 4,
-        },
     }
 }
 

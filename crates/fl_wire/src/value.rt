@@ -8,9 +8,8 @@ ghost use Rattle.fl_wire.specs.Standing.{signed_half, number_back, word_in};
 ghost use Rattle.fl_wire.specs.Shapes.{ReadAt, StopsAt, values_of, fields_of, elements_of, text_byte, texts_of, length_below, arguments_of};
 
 use crate::leaf::{Stop, byte_of, read_number, read_padding, word_at};
-use crate::types::{greatest_alignment, scalar_size};
 use fl_base::{FRAG_BYTES, Frag};
-use fl_check::{ArgType, FixedType, Scalar};
+use fl_check::{ArgType, FixedType, Scalar, greatest_alignment};
 use fl_value::Value;
 use std::alloc::Global;
 
@@ -89,7 +88,7 @@ fn read_scalar(frags: &[Frag], at: usize, kind: Scalar) -> Result<(Value, usize)
     ensures read { IfOk result (λ r. ReadAt (values_of (scalar kind)) frags.now at (datum_of r.0) r.1) }
     ensures stop { IfErr result (λ stop. StopsAt stop (values_of (scalar kind)) frags.now at) }
 {
-    let (raw, end) = read_number(frags, at, scalar_size(kind))?;
+    let (raw, end) = read_number(frags, at, kind.size() as usize)?;
     if raw > greatest_bits(kind) {
         return Err(Stop::Value);
     }
@@ -136,7 +135,7 @@ pub(crate) fn read_value(
         FixedType::Scalar(scalar) => read_scalar(frags, at, *scalar),
         FixedType::Enumeration(count) => read_enumerator(frags, at, *count),
         FixedType::Structure(fields) => {
-            let align = greatest_alignment(fields);
+            let align = greatest_alignment(fields) as usize;
             let start = read_padding(frags, at, align)?;
             let (values, last) = read_fields(alloc, frags, start, fields)?;
             let end = read_padding(frags, last, align)?;

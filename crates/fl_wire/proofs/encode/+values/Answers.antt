@@ -2,7 +2,7 @@ use Rattle.std.proofs.Common.{◌∙◌, map}
 use Rattle.std.proofs.lemmas.Result.{on_ok_weaker}
 use Rattle.fl_check.specs.Interface.{fields_from, type_of}
 use Rattle.fl_check.specs.Sizes.{greatest_align}
-use Rattle.fl_wire.proofs.Arguments.{align_along, greatest_is_align}
+use Rattle.fl_wire.proofs.Arguments.{align_along, types_align}
 use Rattle.fl_wire.proofs.Encoding.{elements_left, elements_next}
 use Rattle.fl_wire.proofs.encode.+values.Goals as goal
 
@@ -22,12 +22,12 @@ put_elements-loop-value-preserved t c =
 pub put_struct-put_gap-requires : goal.put_struct-put_gap-requires
 put_struct-put_gap-requires t c =
     let ts = fields_from (map type_of c.args.fields.now) in
-    record { align = align_along c.args.align (greatest_align ts) c.requires.aligned (greatest_is_align ts) }
+    record { align = align_along c.args.align (greatest_align ts) c.requires.aligned (types_align ts) }
 
 pub put_struct-put_gap-requires-2 : goal.put_struct-put_gap-requires-2
 put_struct-put_gap-requires-2 t c =
     let ts = fields_from (map type_of c.args.fields.now) in
-    record { align = align_along c.args.align (greatest_align ts) c.requires.aligned (greatest_is_align ts) }
+    record { align = align_along c.args.align (greatest_align ts) c.requires.aligned (types_align ts) }
 
 pub put_struct-returns : goal.put_struct-returns
 put_struct-returns t c = record {

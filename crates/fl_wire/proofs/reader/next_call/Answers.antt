@@ -1,4 +1,4 @@
-use Rattle.std.proofs.Common.{◌≡◌, ◌∙◌, subst, refl, inr, arith, map, take, length, get_or, List, Some}
+use Rattle.std.proofs.Common.{◌≡◌, ◌∙◌, subst, refl, inl, inr, arith, map, take, length, get_or, List, Some}
 use Rattle.std.proofs.lemmas.Result.{err_from_is_err_and}
 use Rattle.std.specs.Prelude.{slice_get}
 use Rattle.std.proofs.lemmas.List.{take_all}
@@ -11,7 +11,7 @@ use Rattle.fl_wire.specs.Reading.{IsPart}
 use Rattle.fl_wire.specs.Whole.{Whole}
 use Rattle.fl_wire.specs.declared.leaf.Stop.TheVariants.{Padding, Value, Length}
 use Rattle.fl_wire.specs.declared.fault.WireFault.TheVariants.{NotZero, OutOfType, TooLong}
-use Rattle.fl_wire.proofs.Exits.{blank, sound_within, start_wrong, whole_of, part_of, cut_wrong, wrong_call, cut_told, stop_told}
+use Rattle.fl_wire.proofs.Exits.{blank, begins_well, sound_within, start_wrong, whole_of, part_of, cut_wrong, wrong_call, cut_told, stop_told}
 use Rattle.fl_wire.proofs.reader.next_call.Goals as goal
 
 pub returns-in_err-front-clause-wrong : goal.returns-in_err-front-clause-wrong
@@ -79,3 +79,15 @@ returns-in-Err-Length-clause-wrong c =
     let n = c.in_ok-front.front.count in
     let stop = stop_told plan (map arg_type_of c.arguments_of-types.result.now) (argument_types i msg) (take n frags) c.in-Err-Length.field-0 Length c.in-Err-Length.field-0-is c.arguments_of-types.ensures.types c.in-Err-Length.ensures.stop in
     inr (wrong_call plan i msg frags n Length TooLong c.in_ok-front.ensures.within (sound_within i c.requires.words c.args.interface.now.within) c.in_ok-front.ensures.group stop refl)
+
+pub returns-in-Ok-clause-begins : goal.returns-in-Ok-clause-begins
+returns-in-Ok-clause-begins c =
+    begins_well (interface_of c.args.interface.now) c.in_ok-front.front.msg.0 c.in_ok-front.front.count c.args.frags.now c.requires.some c.in_ok-front.ensures.group
+
+pub returns-in-None-clause-begins : goal.returns-in-None-clause-begins
+returns-in-None-clause-begins c =
+    begins_well (interface_of c.args.interface.now) c.in_ok-front.front.msg.0 c.in_ok-front.front.count c.args.frags.now c.requires.some c.in_ok-front.ensures.group
+
+pub returns-in-Err-Memory-clause-wrong : goal.returns-in-Err-Memory-clause-wrong
+returns-in-Err-Memory-clause-wrong c =
+    inl (refl, begins_well (interface_of c.args.interface.now) c.in_ok-front.front.msg.0 c.in_ok-front.front.count c.args.frags.now c.requires.some c.in_ok-front.ensures.group)

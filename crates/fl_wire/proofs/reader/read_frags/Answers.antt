@@ -1,4 +1,4 @@
-use Rattle.std.proofs.Common.{◌∙◌, ℕ, sym, subst, map, length, inl, inr}
+use Rattle.std.proofs.Common.{◌∙◌, ℕ, refl, sym, subst, map, length, inl, inr}
 use Rattle.std.proofs.lemmas.Result.{err_from_is_err_and}
 use Rattle.std.proofs.lemmas.List.{take_rest}
 use Rattle.std.specs.Prelude.{Option, IfSome}
@@ -7,7 +7,7 @@ use Rattle.fl_wire.specs.Headers.{StandsFirst}
 use Rattle.fl_check.specs.Interface.{interface_of}
 use Rattle.fl_value.specs.Value.{call_of}
 use Rattle.fl_wire.proofs.Parts.{pushed}
-use Rattle.fl_wire.proofs.Exits.{one_call, all_read, leaves_right, wrong_left, nothing_left}
+use Rattle.fl_wire.proofs.Exits.{one_call, calls_then, all_read, leaves_right, wrong_left, nothing_left}
 use Rattle.fl_wire.proofs.reader.read_frags.Goals as goal
 use Rattle.fl_wire.proofs.reader.read_frags.Goals.{else-loop-alloc-test, then-loop-alloc-test+in_ok-call+in-None}
 
@@ -16,6 +16,12 @@ returns-in_err-call-clause-wrong c =
     let p = err_from_is_err_and c.from_residual.result c.from_residual.ensures.1 in
     let i = interface_of c.args.interface.now in
     rw (p.1, p.2) (wrong_left c.args.plan i c.args.frags.now (map call_of c.loop-alloc.calls.items) c.loop-alloc.left.now c.in_err-call.field-0.0 c.numbers_fit_words.ensures.fit c.loop-alloc.invariant c.in_err-call.ensures.wrong)
+
+pub returns-in_err-push-in-Some-clause-wrong : goal.returns-in_err-push-in-Some-clause-wrong
+returns-in_err-push-in-Some-clause-wrong c =
+    let p = err_from_is_err_and c.from_residual-in_err-push-in-Some.result c.from_residual-in_err-push-in-Some.ensures.1 in
+    let i = interface_of c.args.interface.now in
+    rw (p.1, p.2) (inl (refl, calls_then c.args.plan i c.args.frags.now (map call_of c.loop-alloc.calls.items) c.loop-alloc.left.now c.loop-alloc.invariant c.in_ok-call.ensures.begins))
 
 pub loop-alloc-preserved : goal.loop-alloc-preserved
 loop-alloc-preserved c =

@@ -7,7 +7,7 @@ use Rattle.fl_check.specs.declared.interface.FixedType.TheFolds.{fold-roll-Fixed
 use Rattle.fl_check.specs.Sizes.{greatest_align}
 use Rattle.fl_value.specs.Value.{Datum, fields, elements, datum_of, data_from}
 use Rattle.fl_wire.specs.Shapes.{nothing, padding, values_of, fields_of, struct_from, elements_of, ReadAt, StopsAt}
-use Rattle.fl_wire.proofs.Arguments.{IsAlign, greatest_is_align}
+use Rattle.fl_wire.proofs.Arguments.{IsAlign, types_align}
 use Rattle.fl_wire.proofs.Steps.{first_stop, come_rest, come_done}
 use Rattle.fl_wire.proofs.Parts.{pushed, elements_on, elements_stop, elements_end, fields_on, fields_stop, fields_end, begins_struct, begins_array, whole_read, struct_start, struct_fields, struct_stop}
 use Rattle.fl_wire.proofs.value.+reading.Goals as goal
@@ -53,19 +53,19 @@ read_fields-returns-clause-read t c =
 pub read_value-read_padding-requires-clause-align : goal.read_value-read_padding-requires-clause-align
 read_value-read_padding-requires-clause-align t c =
     let ts = fields_from (map type_of c.in-Structure.fields.items) in
-    let g : c.greatest_alignment-align.result ≡ greatest_align ts = c.greatest_alignment-align.ensures.same ∙ ap (λ (fs : List FixedType). greatest_align (fields_from (map type_of fs))) c.deref.ensures.value in
-    subst IsAlign (sym g) (greatest_is_align ts)
+    let g : c.greatest_alignment-align.result ≡ greatest_align ts = c.greatest_alignment-align.ensures.exact ∙ ap (λ (fs : List FixedType). greatest_align (fields_from (map type_of fs))) c.deref.ensures.value in
+    subst IsAlign (sym g) (types_align ts)
 
 pub read_value-read_padding-requires-in-Structure-clause-align : goal.read_value-read_padding-requires-in-Structure-clause-align
 read_value-read_padding-requires-in-Structure-clause-align t c =
     let ts = fields_from (map type_of c.in-Structure.fields.items) in
-    let g : c.greatest_alignment-align.result ≡ greatest_align ts = c.greatest_alignment-align.ensures.same ∙ ap (λ (fs : List FixedType). greatest_align (fields_from (map type_of fs))) c.deref.ensures.value in
-    subst IsAlign (sym g) (greatest_is_align ts)
+    let g : c.greatest_alignment-align.result ≡ greatest_align ts = c.greatest_alignment-align.ensures.exact ∙ ap (λ (fs : List FixedType). greatest_align (fields_from (map type_of fs))) c.deref.ensures.value in
+    subst IsAlign (sym g) (types_align ts)
 
 pub read_value-returns-in_err-start-in-Structure-clause-stop : goal.read_value-returns-in_err-start-in-Structure-clause-stop
 read_value-returns-in_err-start-in-Structure-clause-stop t c =
     let ts = fields_from (map type_of c.in-Structure.fields.items) in
-    let g : c.greatest_alignment-align.result ≡ greatest_align ts = c.greatest_alignment-align.ensures.same ∙ ap (λ (fs : List FixedType). greatest_align (fields_from (map type_of fs))) c.deref.ensures.value in
+    let g : c.greatest_alignment-align.result ≡ greatest_align ts = c.greatest_alignment-align.ensures.exact ∙ ap (λ (fs : List FixedType). greatest_align (fields_from (map type_of fs))) c.deref.ensures.value in
     let ty : type_of c.args.ty.now ≡ structure ts = search (rules, the_lemmas, fold-roll-FixedType TheType type_step, fold_out-FixedType TheType type_step) in
     let p = err_from_is_err_and c.from_residual.result c.from_residual.ensures.1 in
     let stop = c.in_err-start-in-Structure.field-0.0 in
@@ -76,7 +76,7 @@ read_value-returns-in_err-start-in-Structure-clause-stop t c =
 pub read_value-returns-in_err-values-in-Structure-clause-stop : goal.read_value-returns-in_err-values-in-Structure-clause-stop
 read_value-returns-in_err-values-in-Structure-clause-stop t c =
     let ts = fields_from (map type_of c.in-Structure.fields.items) in
-    let g : c.greatest_alignment-align.result ≡ greatest_align ts = c.greatest_alignment-align.ensures.same ∙ ap (λ (fs : List FixedType). greatest_align (fields_from (map type_of fs))) c.deref.ensures.value in
+    let g : c.greatest_alignment-align.result ≡ greatest_align ts = c.greatest_alignment-align.ensures.exact ∙ ap (λ (fs : List FixedType). greatest_align (fields_from (map type_of fs))) c.deref.ensures.value in
     let ty : type_of c.args.ty.now ≡ structure ts = search (rules, the_lemmas, fold-roll-FixedType TheType type_step, fold_out-FixedType TheType type_step) in
     let frags = c.args.frags.now in
     let at = c.args.at in
@@ -93,7 +93,7 @@ read_value-returns-in_err-values-in-Structure-clause-stop t c =
 pub read_value-returns-in_err-end-in-Structure-clause-stop : goal.read_value-returns-in_err-end-in-Structure-clause-stop
 read_value-returns-in_err-end-in-Structure-clause-stop t c =
     let ts = fields_from (map type_of c.in-Structure.fields.items) in
-    let g : c.greatest_alignment-align.result ≡ greatest_align ts = c.greatest_alignment-align.ensures.same ∙ ap (λ (fs : List FixedType). greatest_align (fields_from (map type_of fs))) c.deref.ensures.value in
+    let g : c.greatest_alignment-align.result ≡ greatest_align ts = c.greatest_alignment-align.ensures.exact ∙ ap (λ (fs : List FixedType). greatest_align (fields_from (map type_of fs))) c.deref.ensures.value in
     let ty : type_of c.args.ty.now ≡ structure ts = search (rules, the_lemmas, fold-roll-FixedType TheType type_step, fold_out-FixedType TheType type_step) in
     let frags = c.args.frags.now in
     let at = c.args.at in
@@ -114,7 +114,7 @@ read_value-returns-in_err-end-in-Structure-clause-stop t c =
 pub read_value-returns-in_ok-end-in-Structure-clause-read : goal.read_value-returns-in_ok-end-in-Structure-clause-read
 read_value-returns-in_ok-end-in-Structure-clause-read t c =
     let ts = fields_from (map type_of c.in-Structure.fields.items) in
-    let g : c.greatest_alignment-align.result ≡ greatest_align ts = c.greatest_alignment-align.ensures.same ∙ ap (λ (fs : List FixedType). greatest_align (fields_from (map type_of fs))) c.deref.ensures.value in
+    let g : c.greatest_alignment-align.result ≡ greatest_align ts = c.greatest_alignment-align.ensures.exact ∙ ap (λ (fs : List FixedType). greatest_align (fields_from (map type_of fs))) c.deref.ensures.value in
     let ty : type_of c.args.ty.now ≡ structure ts = search (rules, the_lemmas, fold-roll-FixedType TheType type_step, fold_out-FixedType TheType type_step) in
     let frags = c.args.frags.now in
     let at = c.args.at in

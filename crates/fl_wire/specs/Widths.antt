@@ -1,0 +1,32 @@
+-- Alignments, the widths of numbers, and which numbers fit them.
+use Rattle.std.specs.Prelude.{◌≡◌, ◌⊎◌, ◌≤◌, ℕ, ℤ, pos, negsuc, ◌*◌, ◌^◌, nat_lt, Bool}
+use Rattle.fl_check.specs.Interface.{scalar, enumeration, TheArgType, fixed}
+use Rattle.fl_check.specs.Sizes.{scalar_size}
+use Rattle.fl_value.specs.Value.{Datum, number, string, elements, fields}
+
+-- the alignments that types have, which are the widths that numbers have
+abbrev pub IsAlign : ℕ → Type 0
+IsAlign n = (n ≡ 1) ⊎ ((n ≡ 2) ⊎ ((n ≡ 4) ⊎ (n ≡ 8)))
+
+-- the bytes of a number's type
+abbrev pub number_width : TheArgType → ℕ
+number_width (fixed (scalar s)) = scalar_size s
+number_width (fixed (enumeration n)) = 4
+number_width t = 0
+
+-- the number that a value is; 0 of other values
+abbrev pub number_of : Datum → ℤ
+number_of (number z) = z
+number_of (string bytes) = pos 0
+number_of (elements ds) = pos 0
+number_of (fields ds) = pos 0
+
+-- a number whose bits are below 2 ^ (8 * width)
+abbrev pub fits_width : ℕ → ℤ → Bool
+fits_width width (pos n) = nat_lt n (2 ^ (8 * width))
+fits_width width (negsuc n) = nat_lt n (2 ^ (8 * width))
+
+-- an enum has at most as many enumerators as its 4 bytes can tell apart
+abbrev pub IsWordSized : TheArgType → Type 0
+IsWordSized (fixed (enumeration n)) = n ≤ 2 ^ 32
+IsWordSized t = Unit {0}
