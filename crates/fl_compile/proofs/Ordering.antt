@@ -14,7 +14,7 @@ use Rattle.fl_value.specs.Fits.{is_argument, are_arguments}
 use Rattle.fl_value.specs.Plan.{arranged, is_fixed_at, is_dynamic, fixed_rank, rank_of}
 use Rattle.fl_value.specs.Tape.{Argument, kind}
 use Rattle.fl_value.proofs.Ranked.{arranged_ranks}
-use Rattle.fl_wire.specs.Words.{argument_words_fit}
+use Rattle.fl_check.specs.Counts.{argument_words_fit}
 use Rattle.fl_compile.proofs.Measures.{by_align, type_align}
 use Rattle.fl_compile.proofs.Placing.{is_sound}
 

@@ -4,7 +4,7 @@ ghost use Rattle.std.specs.Prelude.{◌≡◌, true, map, IfOk};
 ghost use Rattle.std.specs.List.{list_all};
 ghost use Rattle.fl_check.specs.Interface.{arg_type_of, interface_of, message_of};
 ghost use Rattle.fl_check.specs.Checks.{is_message_within};
-ghost use Rattle.fl_wire.specs.Words.{interface_words_fit, argument_words_fit};
+ghost use Rattle.fl_check.specs.Counts.{argument_words_fit};
 ghost use Rattle.fl_compile.specs.Codes.{compiled_code, compiled_codes};
 ghost use Rattle.fl_compile.specs.Programs.{program_of};
 
@@ -14,7 +14,6 @@ use crate::program::{MessageCode, Program};
 use fl_check::{Interface, Message};
 use fl_stub::{Code, Column, VerifiedCode, one_structure, verify};
 use fl_value::PlanNo;
-use fl_wire::numbers_fit_words;
 use std::alloc::{AllocError, Global};
 
 // The code of a message for a column, which is verified.
@@ -54,7 +53,6 @@ fn compile_messages(
     interface: &Interface,
     plan: PlanNo,
 ) -> Result<Vec<MessageCode>, AllocError>
-    requires words { interface_words_fit (interface_of interface.now) ≡ true }
     ensures codes { IfOk result (λ v. v.items ≡ map (compiled_codes plan) (map message_of interface.now.messages.items)) }
 {
     let mut messages = Vec::with_capacity(alloc, interface.messages.len())?;
@@ -73,7 +71,6 @@ pub fn compile(alloc: Global, interface: &Interface, plan: PlanNo) -> Result<Pro
     ensures plan { IfOk result (λ p. (program_of p).plan ≡ plan) }
 {
     let copy = interface.duplicate(alloc)?;
-    numbers_fit_words(&copy);
     let messages = compile_messages(alloc, &copy, plan)?;
     Ok(Program {
         interface: copy,

@@ -2,7 +2,7 @@
 
 ghost use Rattle.std.specs.Prelude.{◌≡◌, true, map, IfOk};
 ghost use Rattle.fl_check.specs.Interface.{interface_of, message_of};
-ghost use Rattle.fl_wire.specs.Words.{interface_words_fit};
+ghost use Rattle.fl_check.specs.Counts.{interface_words_fit};
 ghost use Rattle.fl_compile.specs.Codes.{compiled_codes};
 
 use fl_base::MsgNo;
@@ -46,7 +46,7 @@ impl Program {
     ghost use Rattle.std.specs.Prelude.{◌≡◌, true, map, IfOk};
     ghost use Rattle.std.specs.Option.{option_map};
     ghost use Rattle.fl_check.specs.Interface.{interface_of};
-    ghost use Rattle.fl_wire.specs.Words.{interface_words_fit};
+    ghost use Rattle.fl_check.specs.Counts.{interface_words_fit};
     ghost use Rattle.fl_stub.specs.declared.op.Column.TheVariants.{Send, Receive};
     ghost use Rattle.fl_compile.specs.Programs.{program_of, code_in};
 
