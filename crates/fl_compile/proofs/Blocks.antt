@@ -10,7 +10,7 @@ use Rattle.fl_stub.specs.Structure.{Block, finished, next, one, times, counted, 
 use Rattle.fl_compile.specs.declared.arguments.Standing.{Standing}
 use Rattle.fl_compile.specs.declared.arguments.Standing.TheVariants.{At, AfterDynamic}
 use Rattle.fl_compile.specs.Compiled.{padding, pad_op, zeros_then, type_then, fields_then, start_at, start_then, counted_then, arguments_block}
-use Rattle.fl_compile.proofs.Measures.{rest_is}
+use Rattle.fl_check.proofs.FieldSizes.{rest_is}
 
 pub zeros_code : (column : Column) (count : ℕ) (rest : Block)
     → block_ops column (zeros_then column count rest) ≡ block_ops column (zeros_then column count finished) ++ block_ops column rest

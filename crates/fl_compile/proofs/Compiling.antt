@@ -6,7 +6,7 @@ use Rattle.std.proofs.lemmas.List.{length-map}
 use Rattle.fl_check.specs.Interface.{TheArgType, TheMessage}
 use Rattle.fl_check.specs.Checks.{is_argument_within, are_arguments_within, is_message_within}
 use Rattle.fl_value.specs.declared.value.PlanNo.{PlanNo}
-use Rattle.fl_wire.specs.Words.{argument_words_fit}
+use Rattle.fl_check.specs.Counts.{argument_words_fit}
 use Rattle.fl_stub.specs.declared.op.Op.{Op}
 use Rattle.fl_stub.specs.declared.op.Column.{Column}
 use Rattle.fl_stub.specs.Structure.{block_ops, last_op, IsCode, OneStructure}

@@ -15,7 +15,7 @@ use Rattle.fl_layout.specs.Leaves.{Leaf, gap, whole, single, bits_of, value_onto
 use Rattle.fl_layout.specs.Places.{size, place}
 use Rattle.fl_wire.specs.Covered.{holds, is_covered, is_length}
 use Rattle.fl_wire.specs.Payload.{payload_bytes}
-use Rattle.fl_wire.specs.Words.{words_fit, all_words_fit, argument_words_fit}
+use Rattle.fl_check.specs.Counts.{words_fit, all_words_fit, argument_words_fit}
 use Rattle.fl_wire.proofs.Covers.{holds_before, holds_in, covered_past, covered_before, covered_in}
 use Rattle.fl_stub.specs.declared.mark.Mark.{Mark}
 use Rattle.fl_stub.specs.declared.mark.Mark.TheVariants.{Length, Number, Zero}

@@ -10,7 +10,7 @@ use Rattle.fl_check.specs.Sizes.{round_up, scalar_size, size_of, align_of, great
 use Rattle.fl_check.specs.Depth.{array_depth_of, deepest_array, depth_of}
 use Rattle.fl_check.specs.Checks.{is_well_made, are_well_made, is_type_within, is_argument_within, are_arguments_within, is_message_within, are_messages_within, is_within_limits}
 use Rattle.fl_value.specs.declared.value.PlanNo.{PlanNo}
-use Rattle.fl_wire.specs.Words.{words_fit, all_words_fit, argument_words_fit, interface_words_fit}
+use Rattle.fl_check.specs.Counts.{words_fit, all_words_fit, argument_words_fit, interface_words_fit}
 use Rattle.fl_stub.specs.declared.op.Column.{Column}
 use Rattle.fl_stub.specs.declared.op.Column.TheVariants.{Send, Receive}
 use Rattle.fl_stub.specs.Structure.{Block, finished, next, one, is_width, is_within, is_step, block_fits, block_depth, IsCode}

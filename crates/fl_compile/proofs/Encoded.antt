@@ -11,7 +11,7 @@ use Rattle.fl_value.specs.Tape.{raw_of}
 use Rattle.fl_layout.specs.Leaves.{Leaf, gap, bits_of, value_onto, fields_onto, elements_onto}
 use Rattle.fl_layout.specs.Places.{size}
 use Rattle.fl_wire.specs.Payload.{payload_bytes}
-use Rattle.fl_wire.specs.Words.{words_fit, all_words_fit}
+use Rattle.fl_check.specs.Counts.{words_fit, all_words_fit}
 use Rattle.fl_stub.specs.Meaning.{number_bytes}
 use Rattle.fl_compile.specs.Compiled.{padding}
 use Rattle.fl_compile.proofs.Measures.{IsAlign, type_align, types_align}

@@ -11,7 +11,7 @@ use Rattle.fl_value.specs.Plan.{arranged}
 use Rattle.fl_value.specs.Tape.{Argument, kind, tape_of_argument, tape_of, types_of}
 use Rattle.fl_layout.specs.Leaves.{arguments_onto, types_of as leaf_types_of}
 use Rattle.fl_wire.specs.Payload.{payload_bytes, payload_of}
-use Rattle.fl_wire.specs.Words.{argument_words_fit}
+use Rattle.fl_check.specs.Counts.{argument_words_fit}
 use Rattle.fl_stub.specs.declared.op.Column.{Column}
 use Rattle.fl_stub.specs.declared.op.Column.TheVariants.{Send, Receive}
 use Rattle.fl_stub.specs.Meaning.{BlockTurns, moment_first, moment_last, Turns}

@@ -1,7 +1,6 @@
 -- Alignments, multiples of them, and parts of a type that is small.
-use Rattle.std.proofs.Common.{◌≡◌, ℕ, zero, suc, ◌+◌, ◌*◌, ◌<◌, ◌≤◌, ◌⊎◌, inl, inr, ⊎_elim, true, max, ◌&&◌, List, [], ◌∷◌, map, drop, length, get_or, refl, sym, ◌∙◌, ap, subst, arith}
+use Rattle.std.proofs.Common.{◌≡◌, ℕ, zero, suc, ◌+◌, ◌*◌, ◌<◌, ◌≤◌, ◌⊎◌, inl, inr, ⊎_elim, true, max, ◌&&◌, List, [], map, drop, length, get_or, refl, sym, ◌∙◌, ap, subst, arith}
 use Rattle.std.proofs.Math.Nat.{mul-le-mul_right}
-use Rattle.std.proofs.Math.Seq.{drop-cons}
 use Rattle.std.proofs.lemmas.List.{drop_all}
 use Rattle.std.proofs.lemmas.Bool.{and_parts, leb-true}
 use Rattle.fl_check.specs.declared.interface.Scalar.{Scalar}
@@ -9,6 +8,7 @@ use Rattle.fl_check.specs.declared.interface.Scalar.TheVariants.{Uint8, Int8, Bo
 use Rattle.fl_check.specs.Interface.{TheType, scalar, enumeration, structure, array, TheTypes, no_more, field, fields_from}
 use Rattle.fl_check.specs.Sizes.{size_of, align_of, greatest_align, end_after, round_up, scalar_size}
 use Rattle.fl_check.specs.Checks.{is_well_made, are_well_made}
+use Rattle.fl_check.proofs.FieldSizes.{end_least, rest_is}
 
 -- ---- alignments
 
@@ -85,11 +85,6 @@ round_least a n = omega arith
 
 -- ---- parts of a small type
 
--- what follows never ends earlier
-end_least : (ts : TheTypes) (at : ℕ) → at ≤ end_after at ts
-end_least no_more at = omega arith
-end_least (field t ts) at = omega (arith, end_least ts (round_up at (align_of t) + size_of t), round_least (align_of t) at)
-
 pub times_more : (k m n : ℕ) → m ≤ n → k * m ≤ k * n
 times_more k m n h = let e : m * k ≤ n * k = mul-le-mul_right k h in omega (arith, e)
 
@@ -104,52 +99,28 @@ element_made n t h = (and_parts _ _ (and_parts _ _ h).1).1
 pub element_small : (n : ℕ) (t : TheType) → is_well_made (array n t) ≡ true → size_of (array n t) ≤ 4096 → size_of t ≤ 4096
 element_small n t h small = least_part n (size_of t) (leb-true 1 n (and_parts _ _ h).0) small
 
--- the fields from one on
-pub rest_is : {F : Type 0} (type : F → TheType) (fs : List F) (k : ℕ) (f : F) → k < length fs → f ≡ get_or fs k f
-    → fields_from (map type (drop k fs)) ≡ field (type f) (fields_from (map type (drop (k + 1) fs)))
-rest_is {F = F} type fs k f h e =
-    let split : drop k fs ≡ get_or fs k f ∷ drop (suc k) fs = drop-cons fs k f h in
-    let one : suc k ≡ k + 1 = omega arith in
-    ap (λ (xs : List F). fields_from (map type xs)) (split ∙ ap (λ (n : ℕ). get_or fs k f ∷ drop n fs) one ∙ ap (λ (g : F). g ∷ drop (k + 1) fs) (sym e))
-
--- what a loop over fields knows before field k: where they ended so far, and their greatest alignment
-pub record Before {F : Type 0} (type : F → TheType) (fs : List F) (k end align : ℕ) : Type 0 where
+-- what a loop over fields knows before field k: where they ended so far
+pub record Before {F : Type 0} (type : F → TheType) (fs : List F) (k end : ℕ) : Type 0 where
   pub ended : end_after end (fields_from (map type (drop k fs))) ≡ end_after 0 (fields_from (map type fs))
-  pub aligned : max align (greatest_align (fields_from (map type (drop k fs)))) ≡ greatest_align (fields_from (map type fs))
   pub made : are_well_made (fields_from (map type (drop k fs))) ≡ true
-  pub some : 1 ≤ align
-  pub few : align ≤ 8
-
--- before the first field
-pub at_first : {F : Type 0} (type : F → TheType) (fs : List F) → are_well_made (fields_from (map type fs)) ≡ true → Before type fs 0 0 1
-at_first type fs made =
-    record {
-      ended = refl;
-      aligned = omega (arith, (some_greatest (fields_from (map type fs))).0);
-      made = made;
-      some = omega arith;
-      few = omega arith;
-    }
 
 -- and of field k of a small struct
-pub record Field {F : Type 0} (type : F → TheType) (fs : List F) (k end align : ℕ) (f : F) : Type 0 where
+pub record Field {F : Type 0} (type : F → TheType) (fs : List F) (k end : ℕ) (f : F) : Type 0 where
   pub made : is_well_made (type f) ≡ true
   pub before : end ≤ 4096
   pub size : size_of (type f) ≤ 4096
   pub after : round_up end (align_of (type f)) + size_of (type f) ≤ 4096
-  pub next : Before type fs (k + 1) (round_up end (align_of (type f)) + size_of (type f)) (max (align_of (type f)) align)
+  pub next : Before type fs (k + 1) (round_up end (align_of (type f)) + size_of (type f))
 
-pub field_at : {F : Type 0} (type : F → TheType) (fs : List F) (k end align : ℕ) (f : F) → k < length fs → f ≡ get_or fs k f
-    → size_of (structure (fields_from (map type fs))) ≤ 4096 → Before type fs k end align → Field type fs k end align f
-field_at {F = F} type fs k end align f h e small b =
+pub field_at : {F : Type 0} (type : F → TheType) (fs : List F) (k end : ℕ) (f : F) → k < length fs → f ≡ get_or fs k f
+    → size_of (structure (fields_from (map type fs))) ≤ 4096 → Before type fs k end → Field type fs k end f
+field_at {F = F} type fs k end f h e small b =
     let all = fields_from (map type fs) in
     let ts = fields_from (map type (drop (k + 1) fs)) in
     let is = rest_is type fs k f h e in
     let ended : end_after end (field (type f) ts) ≡ end_after 0 all = sym (ap (end_after end) is) ∙ b.ended in
-    let aligned : max align (max (align_of (type f)) (greatest_align ts)) ≡ greatest_align all = sym (ap (λ (x : TheTypes). max align (greatest_align x)) is) ∙ b.aligned in
     let made : (is_well_made (type f) && are_well_made ts) ≡ true = sym (ap are_well_made is) ∙ b.made in
     let both = and_parts (is_well_made (type f)) (are_well_made ts) made in
-    let own = some_align (type f) in
     let least = end_least ts (round_up end (align_of (type f)) + size_of (type f)) in
     let top = round_least (greatest_align all) (end_after 0 all) in
     let up = round_least (align_of (type f)) end in
@@ -159,32 +130,21 @@ field_at {F = F} type fs k end align f h e small b =
       before = omega (arith, least, top, up, whole, ended);
       size = omega (arith, least, top, up, whole, ended);
       after = omega (arith, least, top, whole, ended);
-      next = record {
-        ended = ended;
-        aligned = omega (arith, aligned);
-        made = both.1;
-        some = omega (arith, b.some, own.0);
-        few = omega (arith, b.few, own.1);
-      };
+      next = record { ended = ended; made = both.1 };
     }
 
 -- what a loop knows of the next field, by the numbers that it has
-pub next_field : {F : Type 0} (type : F → TheType) (fs : List F) (k end align : ℕ) (f : F) (size own start greatest : ℕ) → Field type fs k end align f
-    → size ≡ size_of (type f) → own ≡ align_of (type f) → start ≡ round_up end own → greatest ≡ max own align
-    → Before type fs (k + 1) (start + size) greatest
-next_field type fs k end align f size own start greatest h is_size is_own is_start is_greatest =
-    let at : start + size ≡ round_up end (align_of (type f)) + size_of (type f) = omega (arith, is_size, is_start ∙ ap (round_up end) is_own) in
-    let top : greatest ≡ max (align_of (type f)) align = is_greatest ∙ ap (λ (n : ℕ). max n align) is_own in
-    subst (λ (n : ℕ). Before type fs (k + 1) n greatest) (sym at) (subst (λ (n : ℕ). Before type fs (k + 1) (round_up end (align_of (type f)) + size_of (type f)) n) (sym top) h.next)
+pub next_field : {F : Type 0} (type : F → TheType) (fs : List F) (k end : ℕ) (f : F) (after : ℕ) → Field type fs k end f
+    → after ≡ round_up end (align_of (type f)) + size_of (type f) → Before type fs (k + 1) after
+next_field type fs k end f after h is = subst (λ (n : ℕ). Before type fs (k + 1) n) (sym is) h.next
 
 -- after the last field
-pub at_last : {F : Type 0} (type : F → TheType) (fs : List F) (k end align : ℕ) → length fs ≤ k → size_of (structure (fields_from (map type fs))) ≤ 4096
-    → Before type fs k end align → (end ≡ end_after 0 (fields_from (map type fs))) × (align ≡ greatest_align (fields_from (map type fs))) × (end ≤ 4096)
-at_last {F = F} type fs k end align h small b =
+pub at_last : {F : Type 0} (type : F → TheType) (fs : List F) (k end : ℕ) → length fs ≤ k → size_of (structure (fields_from (map type fs))) ≤ 4096
+    → Before type fs k end → end ≤ 4096
+at_last {F = F} type fs k end h small b =
     let none : drop k fs ≡ [] = drop_all k fs h in
     let all = fields_from (map type fs) in
     let ended : end ≡ end_after 0 all = sym (ap (λ (xs : List F). end_after end (fields_from (map type xs))) none) ∙ b.ended in
-    let aligned : max align 1 ≡ greatest_align all = sym (ap (λ (xs : List F). max align (greatest_align (fields_from (map type xs)))) none) ∙ b.aligned in
     let top = round_least (greatest_align all) (end_after 0 all) in
     let whole : round_up (end_after 0 all) (greatest_align all) ≤ 4096 = small in
-    (ended, omega (arith, aligned, b.some), omega (arith, top, whole, ended))
+    omega (arith, top, whole, ended)

@@ -15,7 +15,7 @@ use Rattle.fl_layout.specs.Leaves.{leaves}
 use Rattle.fl_wire.specs.Payload.{payload_of}
 use Rattle.fl_wire.specs.Reading.{IsWrong, Reads}
 use Rattle.fl_wire.specs.Shapes.{Agrees}
-use Rattle.fl_wire.specs.Words.{interface_words_fit}
+use Rattle.fl_check.specs.Counts.{interface_words_fit}
 use Rattle.fl_wire.specs.Wrong.{fault_at, WrongByte, HasFault, IsWrongAt}
 use Rattle.fl_wire.specs.declared.fault.WireFault.{WireFault}
 use Rattle.fl_wire.proofs.Readings.{byte_of_payload, reads_once}

@@ -1,5 +1,5 @@
 -- The plan's order of arguments: what it keeps, and how it is undone.
-use Rattle.std.proofs.Common.{◌≡◌, ℕ, zero, suc, ◌<◌, ◌≤◌, Bool, true, false, cond, eqb, List, [], ◌∷◌, ◌++◌, length, map, refl, sym, ◌∙◌, ap, subst, arith, eq-eqb, length-append}
+use Rattle.std.proofs.Common.{◌≡◌, ℕ, zero, suc, ◌<◌, ◌≤◌, Bool, true, false, cond, eqb, List, [], ◌∷◌, ◌++◌, length, map, refl, sym, ◌∙◌, ap, subst, arith, eq-eqb, length-append, append_assoc, append-nil}
 use Rattle.std.specs.Prelude.{filter}
 use Rattle.std.specs.List.{zip, list_all}
 use Rattle.std.proofs.lemmas.Bool.{and_parts, and_from, eqb-true, false≢true}
@@ -11,10 +11,10 @@ use Rattle.fl_value.specs.declared.value.PlanNo.{PlanNo}
 use Rattle.fl_value.specs.declared.value.PlanNo.TheVariants.{One, Two}
 use Rattle.fl_value.specs.Value.{Datum}
 use Rattle.fl_value.specs.Fits.{is_argument, are_arguments}
-use Rattle.fl_value.specs.Plan.{arranged, is_fixed_at, is_dynamic}
+use Rattle.fl_value.specs.Plan.{arranged, is_fixed_at, is_dynamic, fixed_rank, rank_of}
 use Rattle.fl_value.specs.Tape.{Argument, kind}
-use Rattle.fl_value.specs.Ranks.{rank_of}
-use Rattle.fl_wire.specs.Words.{argument_words_fit}
+use Rattle.fl_value.proofs.Ranked.{arranged_ranks}
+use Rattle.fl_check.specs.Counts.{argument_words_fit}
 use Rattle.fl_compile.proofs.Measures.{by_align, type_align}
 use Rattle.fl_compile.proofs.Placing.{is_sound}
 
@@ -124,48 +124,19 @@ values_fit args ts e h = subst (λ (us : List TheArgType). are_arguments us (val
 
 -- ---- ranks
 
-abbrev rank_at : ℕ → ℕ
-rank_at align = cond (eqb align 8) 0 (cond (eqb align 4) 1 (cond (eqb align 2) 2 3))
+abbrev rank : TheArgType → ℕ
+rank t = rank_of Two t
 
-rank_small : (t : TheArgType) → rank_of t < 5
-rank_small (fixed t) = by_align (λ (n : ℕ). rank_at n < 5) (omega arith) (omega arith) (omega arith) (omega arith) (align_of t) (type_align t)
+rank_small : (t : TheArgType) → rank t < 5
+rank_small (fixed t) = by_align (λ (n : ℕ). fixed_rank n < 5) (omega arith) (omega arith) (omega arith) (omega arith) (align_of t) (type_align t)
 rank_small (text most) = omega arith
 rank_small (sized most t) = omega arith
 
-is_eight : (t : TheArgType) → is_fixed_at 8 t ≡ eqb (rank_of t) 0
-is_eight (fixed t) = by_align (λ (n : ℕ). eqb n 8 ≡ eqb (rank_at n) 0) refl refl refl refl (align_of t) (type_align t)
-is_eight (text most) = refl
-is_eight (sized most t) = refl
-
-is_four : (t : TheArgType) → is_fixed_at 4 t ≡ eqb (rank_of t) 1
-is_four (fixed t) = by_align (λ (n : ℕ). eqb n 4 ≡ eqb (rank_at n) 1) refl refl refl refl (align_of t) (type_align t)
-is_four (text most) = refl
-is_four (sized most t) = refl
-
-is_two : (t : TheArgType) → is_fixed_at 2 t ≡ eqb (rank_of t) 2
-is_two (fixed t) = by_align (λ (n : ℕ). eqb n 2 ≡ eqb (rank_at n) 2) refl refl refl refl (align_of t) (type_align t)
-is_two (text most) = refl
-is_two (sized most t) = refl
-
-is_one : (t : TheArgType) → is_fixed_at 1 t ≡ eqb (rank_of t) 3
-is_one (fixed t) = by_align (λ (n : ℕ). eqb n 1 ≡ eqb (rank_at n) 3) refl refl refl refl (align_of t) (type_align t)
-is_one (text most) = refl
-is_one (sized most t) = refl
-
-is_last : (t : TheArgType) → is_dynamic t ≡ eqb (rank_of t) 4
-is_last (fixed t) = by_align (λ (n : ℕ). false ≡ eqb (rank_at n) 4) refl refl refl refl (align_of t) (type_align t)
-is_last (text most) = refl
-is_last (sized most t) = refl
-
-filter_same : {A : Type 0} (p q : A → Bool) → ((x : A) → p x ≡ q x) → (xs : List A) → filter p xs ≡ filter q xs
-filter_same p q same [] = refl
-filter_same p q same (x ∷ xs) = rw (same x, filter_same p q same xs) refl
-
 abbrev of_rank : ℕ → List TheArgType → List TheArgType
-of_rank k ts = filter (λ (t : TheArgType). eqb (rank_of t) k) ts
+of_rank k ts = filter (λ (t : TheArgType). eqb (rank t) k) ts
 
 abbrev args_of_rank : ℕ → List Argument → List Argument
-args_of_rank k args = filter (λ (a : Argument). eqb (rank_of (kind a)) k) args
+args_of_rank k args = filter (λ (a : Argument). eqb (rank (kind a)) k) args
 
 -- ---- back from the plan's order
 
@@ -196,8 +167,8 @@ none_left (a ∷ args) e = absurd (cc)
 abbrev without : ℕ → List Argument → (ℕ → List Argument) → ℕ → List Argument
 without r rest f k = cond (eqb k r) rest (f k)
 
-rank_taken : (t : TheArgType) (ts : List TheArgType) (k : ℕ) → rank_of t ≡ k → of_rank k (t ∷ ts) ≡ t ∷ of_rank k ts
-rank_taken t ts k e = rw (eq-eqb (rank_of t) k e) refl
+rank_taken : (t : TheArgType) (ts : List TheArgType) (k : ℕ) → rank t ≡ k → of_rank k (t ∷ ts) ≡ t ∷ of_rank k ts
+rank_taken t ts k e = rw (eq-eqb (rank t) k e) refl
 
 not_same_by : (r k : ℕ) (v : Bool) → eqb r k ≡ v → eqb k r ≡ false → v ≡ false
 not_same_by r k true same e = absurd (false≢true (sym e ∙ eq-eqb k r (sym (eqb-true r k same))))
@@ -207,11 +178,11 @@ not_same : (r k : ℕ) → eqb k r ≡ false → eqb r k ≡ false
 not_same r k e = not_same_by r k (eqb r k) refl e
 
 merge_step : (t : TheArgType) (ts : List TheArgType) (f : ℕ → List Argument) → ((k : ℕ) → k < 5 → map kind (f k) ≡ of_rank k (t ∷ ts))
-    → (x : First t (of_rank (rank_of t) ts) (f (rank_of t))) → (k : ℕ) → k < 5 → (same : Bool) → eqb k (rank_of t) ≡ same
+    → (x : First t (of_rank (rank t) ts) (f (rank t))) → (k : ℕ) → k < 5 → (same : Bool) → eqb k (rank t) ≡ same
     → map kind (cond same x.rest (f k)) ≡ of_rank k ts
-merge_step t ts f h x k small true e = x.kinds ∙ ap (λ (j : ℕ). of_rank j ts) (sym (eqb-true k (rank_of t) e))
+merge_step t ts f h x k small true e = x.kinds ∙ ap (λ (j : ℕ). of_rank j ts) (sym (eqb-true k (rank t) e))
 merge_step t ts f h x k small false e =
-    let other : eqb (rank_of t) k ≡ false = not_same (rank_of t) k e in
+    let other : eqb (rank t) k ≡ false = not_same (rank t) k e in
     h k small ∙ ap (λ (v : Bool). cond v (t ∷ of_rank k ts) (of_rank k ts)) other
 
 fit_step : (r : ℕ) (rest : List Argument) (f : ℕ → List Argument) (k : ℕ) (same : Bool) → list_all is_fitting rest ≡ true → list_all is_fitting (f k) ≡ true
@@ -230,12 +201,12 @@ back_step one rest all r f is k false e h = h ∙ ap (λ (v : Bool). cond v rest
 merge : (ts : List TheArgType) (f : ℕ → List Argument) → ((k : ℕ) → k < 5 → map kind (f k) ≡ of_rank k ts) → ((k : ℕ) → k < 5 → list_all is_fitting (f k) ≡ true) → Merged ts f
 merge [] f h g = record { all = []; kinds = refl; fitting = refl; ranks = λ k small. sym (none_left (f k) (h k small)) }
 merge (t ∷ ts) f h g =
-    let r = rank_of t in
+    let r = rank t in
     let x = first t (of_rank r ts) (f r) (h r (rank_small t) ∙ rank_taken t ts r refl) in
     let fit : list_all is_fitting (x.one ∷ x.rest) ≡ true = sym (ap (list_all is_fitting) x.is) ∙ g r (rank_small t) in
     let parts = and_parts (is_fitting x.one) (list_all is_fitting x.rest) fit in
     let m = merge ts (without r x.rest f) (λ k small. merge_step t ts f h x k small (eqb k r) refl) (λ k small. fit_step r x.rest f k (eqb k r) parts.1 (g k small)) in
-    let rank : rank_of (kind x.one) ≡ r = ap rank_of x.its_kind in
+    let rank : rank (kind x.one) ≡ r = ap rank x.its_kind in
     record {
       all = x.one ∷ m.all;
       kinds = ap (λ (u : TheArgType). u ∷ map kind m.all) x.its_kind ∙ ap (λ (us : List TheArgType). t ∷ us) m.kinds;
@@ -303,28 +274,17 @@ undone_from plan ts args all kinds fit e = record {
 -- the plan's order by ranks
 by_ranks : (args : List Argument)
     → arranged kind Two args ≡ args_of_rank 0 args ++ args_of_rank 1 args ++ args_of_rank 2 args ++ args_of_rank 3 args ++ args_of_rank 4 args
-by_ranks args =
-    same_five _ _ _ _ _ _ _ _ _ _
-    (filter_same (λ (a : Argument). is_fixed_at 8 (kind a)) (λ (a : Argument). eqb (rank_of (kind a)) 0) (λ a. is_eight (kind a)) args)
-    (filter_same (λ (a : Argument). is_fixed_at 4 (kind a)) (λ (a : Argument). eqb (rank_of (kind a)) 1) (λ a. is_four (kind a)) args)
-    (filter_same (λ (a : Argument). is_fixed_at 2 (kind a)) (λ (a : Argument). eqb (rank_of (kind a)) 2) (λ a. is_two (kind a)) args)
-    (filter_same (λ (a : Argument). is_fixed_at 1 (kind a)) (λ (a : Argument). eqb (rank_of (kind a)) 3) (λ a. is_one (kind a)) args)
-    (filter_same (λ (a : Argument). is_dynamic (kind a)) (λ (a : Argument). eqb (rank_of (kind a)) 4) (λ a. is_last (kind a)) args)
+by_ranks args = arranged_ranks kind Two args ∙ simp (append_assoc, append-nil)
 
 -- five lists of the plan's order, put together again
 undo_five : (ts : List TheArgType) (a b c d e : List Argument)
-    → map kind a ≡ filter (is_fixed_at 8) ts → map kind b ≡ filter (is_fixed_at 4) ts → map kind c ≡ filter (is_fixed_at 2) ts → map kind d ≡ filter (is_fixed_at 1) ts → map kind e ≡ filter is_dynamic ts
+    → map kind a ≡ of_rank 0 ts → map kind b ≡ of_rank 1 ts → map kind c ≡ of_rank 2 ts → map kind d ≡ of_rank 3 ts → map kind e ≡ of_rank 4 ts
     → list_all is_fitting a ≡ true → list_all is_fitting b ≡ true → list_all is_fitting c ≡ true → list_all is_fitting d ≡ true → list_all is_fitting e ≡ true
     → Undone Two ts (a ++ b ++ c ++ d ++ e)
 undo_five ts a b c d e ka kb kc kd ke fa fb fc fd fe =
     let f = one_of a b c d e in
     let m = merge ts f
-    (by_five (λ (k : ℕ). map kind (f k) ≡ of_rank k ts)
-    (ka ∙ filter_same (is_fixed_at 8) (λ (t : TheArgType). eqb (rank_of t) 0) is_eight ts)
-    (kb ∙ filter_same (is_fixed_at 4) (λ (t : TheArgType). eqb (rank_of t) 1) is_four ts)
-    (kc ∙ filter_same (is_fixed_at 2) (λ (t : TheArgType). eqb (rank_of t) 2) is_two ts)
-    (kd ∙ filter_same (is_fixed_at 1) (λ (t : TheArgType). eqb (rank_of t) 3) is_one ts)
-    (ke ∙ filter_same is_dynamic (λ (t : TheArgType). eqb (rank_of t) 4) is_last ts))
+    (by_five (λ (k : ℕ). map kind (f k) ≡ of_rank k ts) ka kb kc kd ke)
     (by_five (λ (k : ℕ). list_all is_fitting (f k) ≡ true) fa fb fc fd fe) in
     undone_from Two ts (a ++ b ++ c ++ d ++ e) m.all m.kinds m.fitting
     (by_ranks m.all ∙ same_five (args_of_rank 0 m.all) (args_of_rank 1 m.all) (args_of_rank 2 m.all) (args_of_rank 3 m.all) (args_of_rank 4 m.all) a b c d e
@@ -334,8 +294,8 @@ joined : (args a b c d e abcd abc ab : List Argument) → args ≡ abcd ++ e →
 joined args a b c d e abcd abc ab p q r s =
     sym (p ∙ ap (λ (l : List Argument). l ++ e) (q ∙ ap (λ (l : List Argument). l ++ d) (r ∙ ap (λ (l : List Argument). l ++ c) s)))
 
-undo_last : (ts : List TheArgType) (args abcd abc ab c d e : List Argument) → args ≡ abcd ++ e → abcd ≡ abc ++ d → abc ≡ ab ++ c → Split (filter (is_fixed_at 8) ts) (filter (is_fixed_at 4) ts) ab
-    → map kind c ≡ filter (is_fixed_at 2) ts → map kind d ≡ filter (is_fixed_at 1) ts → map kind e ≡ filter is_dynamic ts
+undo_last : (ts : List TheArgType) (args abcd abc ab c d e : List Argument) → args ≡ abcd ++ e → abcd ≡ abc ++ d → abc ≡ ab ++ c → Split (of_rank 0 ts) (of_rank 1 ts) ab
+    → map kind c ≡ of_rank 2 ts → map kind d ≡ of_rank 3 ts → map kind e ≡ of_rank 4 ts
     → list_all is_fitting c ≡ true → list_all is_fitting d ≡ true → list_all is_fitting e ≡ true → Undone Two ts args
 undo_last ts args abcd abc ab c d e p q r s kc kd ke fc fd fe =
     subst (Undone Two ts) {x = s.front ++ s.back ++ c ++ d ++ e} (joined args s.front s.back c d e abcd abc ab p q r s.is)
@@ -344,9 +304,11 @@ undo_last ts args abcd abc ab c d e p q r s kc kd ke fc fd fe =
 pub undo : (plan : PlanNo) (ts : List TheArgType) (args : List Argument) → map kind args ≡ arranged (λ (t : TheArgType). t) plan ts → list_all is_fitting args ≡ true → Undone plan ts args
 undo One ts args e h = undone_from One ts args args e h refl
 undo Two ts args e h =
-    let f8 = filter (is_fixed_at 8) ts in let f4 = filter (is_fixed_at 4) ts in let f2 = filter (is_fixed_at 2) ts in let f1 = filter (is_fixed_at 1) ts in let fd = filter is_dynamic ts in
-    let s4 = split (f8 ++ f4 ++ f2 ++ f1) fd args e h in
-    let s3 = split (f8 ++ f4 ++ f2) f1 s4.front s4.fronts s4.front_fits in
-    let s2 = split (f8 ++ f4) f2 s3.front s3.fronts s3.front_fits in
-    undo_last ts args s4.front s3.front s2.front s2.back s3.back s4.back s4.is s3.is s2.is (split f8 f4 s2.front s2.fronts s2.front_fits)
+    let ranks : map kind args ≡ of_rank 0 ts ++ of_rank 1 ts ++ of_rank 2 ts ++ of_rank 3 ts ++ of_rank 4 ts
+    = e ∙ arranged_ranks (λ (t : TheArgType). t) Two ts ∙ simp (append_assoc, append-nil) in
+    let r0 = of_rank 0 ts in let r1 = of_rank 1 ts in let r2 = of_rank 2 ts in let r3 = of_rank 3 ts in
+    let s4 = split (r0 ++ r1 ++ r2 ++ r3) (of_rank 4 ts) args ranks h in
+    let s3 = split (r0 ++ r1 ++ r2) r3 s4.front s4.fronts s4.front_fits in
+    let s2 = split (r0 ++ r1) r2 s3.front s3.fronts s3.front_fits in
+    undo_last ts args s4.front s3.front s2.front s2.back s3.back s4.back s4.is s3.is s2.is (split r0 r1 s2.front s2.fronts s2.front_fits)
     s2.backs s3.backs s4.backs s2.back_fits s3.back_fits s4.back_fits

@@ -13,7 +13,7 @@ use Rattle.fl_value.specs.Tape.{value_tape, elements_tape, argument_tape, Argume
 use Rattle.fl_layout.specs.Leaves.{Leaf, gap, whole, single, elements_onto, bytes_onto, argument_onto, start_onto, arguments_onto}
 use Rattle.fl_layout.specs.Places.{size}
 use Rattle.fl_wire.specs.Payload.{payload_bytes}
-use Rattle.fl_wire.specs.Words.{words_fit, argument_words_fit}
+use Rattle.fl_check.specs.Counts.{words_fit, argument_words_fit}
 use Rattle.fl_stub.specs.declared.op.Op.TheVariants.{Align}
 use Rattle.fl_stub.specs.declared.op.Column.{Column}
 use Rattle.fl_stub.specs.declared.op.Column.TheVariants.{Receive}

@@ -10,7 +10,7 @@ use Rattle.fl_value.specs.Fits.{fit_message, are_arguments}
 use Rattle.fl_value.specs.Plan.{arranged}
 use Rattle.fl_value.specs.Tape.{kind, tape_of_argument, types_of}
 use Rattle.fl_layout.specs.Leaves.{types_of as leaf_types_of}
-use Rattle.fl_wire.specs.Words.{argument_words_fit}
+use Rattle.fl_check.specs.Counts.{argument_words_fit}
 use Rattle.fl_wire.specs.declared.fault.WireFault.TheVariants.{NotZero, OutOfType, TooLong}
 use Rattle.fl_stub.specs.declared.mark.Mark.{Mark}
 use Rattle.fl_stub.specs.declared.mark.Mark.TheVariants.{Length, Number, Zero}

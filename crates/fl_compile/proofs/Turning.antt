@@ -8,7 +8,7 @@ use Rattle.fl_check.specs.Sizes.{round_up, scalar_size, size_of, align_of, great
 use Rattle.fl_value.specs.Value.{Datum, number, string, elements, fields, Data, nothing_more, also}
 use Rattle.fl_value.specs.Fits.{has_type, have_types, all_have_type, count_of, scalar_bits, is_text_byte}
 use Rattle.fl_value.specs.Tape.{raw_of, value_tape, fields_tape, elements_tape}
-use Rattle.fl_wire.specs.Words.{words_fit, all_words_fit}
+use Rattle.fl_check.specs.Counts.{words_fit, all_words_fit}
 use Rattle.fl_stub.specs.declared.op.Op.{Op}
 use Rattle.fl_stub.specs.declared.op.Column.{Column}
 use Rattle.fl_stub.specs.declared.op.Column.TheVariants.{Send, Receive}

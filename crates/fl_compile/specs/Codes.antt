@@ -8,9 +8,9 @@ use Rattle.fl_compile.specs.Compiled.{message_code}
 use Rattle.fl_compile.specs.declared.program.MessageCode.{MessageCode}
 
 -- the compiler's code of a message, for a column
-abbrev pub compiled : Column → PlanNo → TheMessage → TheCode
-compiled column plan m = record { column = column; ops = message_code column plan m }
+abbrev pub compiled_code : Column → PlanNo → TheMessage → TheCode
+compiled_code column plan m = record { column = column; ops = message_code column plan m }
 
 -- both
-abbrev pub both_compiled : PlanNo → TheMessage → MessageCode
-both_compiled plan m = record { send = compiled Send plan m; receive = compiled Receive plan m }
+abbrev pub compiled_codes : PlanNo → TheMessage → MessageCode
+compiled_codes plan m = record { send = compiled_code Send plan m; receive = compiled_code Receive plan m }

@@ -92,6 +92,10 @@ in_order plan m = arranged (λ (t : TheArgType). t) plan m.args
 abbrev pub message_block : Column → PlanNo → TheMessage → Block
 message_block column plan m = arguments_block column (At 0) (in_order plan m)
 
+-- the code of arguments that are all of a payload, in their order there
+abbrev pub arguments_code : Column → List TheArgType → List Op
+arguments_code column args = block_ops column (arguments_block column (At 0) args) ++ last_op column ∷ []
+
 -- the compiler's code of a message
 abbrev pub message_code : Column → PlanNo → TheMessage → List Op
-message_code column plan m = block_ops column (message_block column plan m) ++ last_op column ∷ []
+message_code column plan m = arguments_code column (in_order plan m)

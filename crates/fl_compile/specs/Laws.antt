@@ -9,7 +9,7 @@ use Rattle.fl_value.specs.Fits.{fits_of}
 use Rattle.fl_value.specs.Tape.{tape_of}
 use Rattle.fl_value.specs.declared.value.PlanNo.{PlanNo}
 use Rattle.fl_wire.specs.Payload.{payload_of}
-use Rattle.fl_wire.specs.Words.{interface_words_fit}
+use Rattle.fl_check.specs.Counts.{interface_words_fit}
 use Rattle.fl_wire.specs.Wrong.{fault_at, HasFault, IsWrongAt}
 use Rattle.fl_wire.specs.declared.fault.WireFault.{WireFault}
 use Rattle.fl_wire.specs.declared.fault.WireFault.TheVariants.{NotZero, OutOfType, TooLong}

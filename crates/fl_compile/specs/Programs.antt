@@ -1,7 +1,12 @@
 -- Programs as contracts see them.
+use Rattle.std.specs.Prelude.{ℕ, Option, slice_get}
+use Rattle.std.specs.Option.{option_map}
 use Rattle.fl_check.specs.Interface.{TheInterface, interface_of}
 use Rattle.fl_value.specs.declared.value.PlanNo.{PlanNo}
+use Rattle.fl_stub.specs.declared.op.Column.{Column}
+use Rattle.fl_stub.specs.Code.{TheCode}
 use Rattle.fl_compile.specs.declared.program.Program.{Program}
+use Rattle.fl_compile.specs.Codes.{compiled_code}
 
 -- an interface compiled under a plan: what else a program has is told by these two
 pub record TheProgram : Type 0 where
@@ -10,3 +15,7 @@ pub record TheProgram : Type 0 where
 
 abbrev pub program_of : Program → TheProgram
 program_of p = record { interface = interface_of p.interface; plan = p.plan }
+
+-- the code of a program's message for a column; none where there is no such message
+abbrev pub code_in : Column → TheProgram → ℕ → Option TheCode
+code_in column p msg = option_map (compiled_code column p.plan) (slice_get p.interface.messages msg)

@@ -1,4 +1,4 @@
--- How far arguments have come.
+-- Working file: how far arguments have come.
 use Rattle.std.specs.Prelude.{ℕ, ◌≤◌}
 use Rattle.fl_compile.specs.declared.arguments.Standing.{Standing}
 use Rattle.fl_compile.specs.declared.arguments.Standing.TheVariants.{At, AfterDynamic}

@@ -1,14 +1,14 @@
 //! The code of arguments, one after another.
 
-ghost use Rattle.std.specs.Prelude.{◌≡◌, ◌≤◌, ◌+◌, ◌^◌, ◌++◌, ◌∷◌, [], ℕ, List, map, length, true, IfOk, OnOk};
-ghost use Rattle.fl_check.specs.Interface.{TheArgType, type_of, arg_type_of, fixed, text, sized};
+ghost use Rattle.std.specs.Prelude.{◌≡◌, ◌≤◌, ◌+◌, ◌++◌, ℕ, length, true, IfOk, OnOk};
+ghost use Rattle.fl_check.specs.Interface.{type_of, arg_type_of, fixed};
 ghost use Rattle.fl_check.specs.Sizes.{size_of};
 ghost use Rattle.fl_check.specs.Checks.{is_well_made, is_argument_within, are_arguments_within};
 ghost use Rattle.fl_stub.specs.Structure.{finished, next, one, block_ops, length_op, last_op};
-ghost use Rattle.fl_compile.specs.Compiled.{start_then, start_at, text_op, type_then, counted_then, arguments_block};
+ghost use Rattle.fl_compile.specs.Compiled.{start_then, start_at, text_op, type_then, counted_then, arguments_code as code_of};
+ghost use Rattle.fl_compile.specs.Arguments.{types_in, Appends};
 ghost use Rattle.fl_compile.specs.Standings.{StandsBy};
 
-use crate::measure::{measure, next_multiple, padding};
 use crate::types::{push_type, push_zeros};
 use fl_check::{ArgType, FixedType};
 use fl_stub::{Column, Op};
@@ -68,8 +68,9 @@ fn push_start(
 {
     match standing {
         Standing::At(at) => {
-            push_zeros(ops, column, padding(at, align))?;
-            Ok(next_multiple(at, align))
+            let start = at.next_multiple_of(align);
+            push_zeros(ops, column, start - at)?;
+            Ok(start)
         }
         Standing::AfterDynamic => {
             ops.push(Op::Align)?;
@@ -88,13 +89,14 @@ fn push_fixed(
     requires made { is_well_made (type_of ty.now) ≡ true }
     requires small { size_of (type_of ty.now) ≤ 4096 }
     requires near { StandsBy 700000 standing }
-    ensures ops { IfOk result (λ after. (args : List TheArgType) → ops.new.items ++ block_ops column (arguments_block column after args) ≡ ops.old.items ++ block_ops column (arguments_block column standing (fixed (type_of ty.now) ∷ args))) }
+    ensures ops { IfOk result (λ after. Appends column standing (fixed (type_of ty.now)) after ops.old.items ops.new.items) }
     ensures near { IfOk result (λ after. (n : ℕ) → StandsBy n standing → StandsBy (n + 4104) after) }
 {
-    let measured = measure(ty);
-    let start = push_start(ops, column, standing, measured.align)?;
+    let align = ty.alignment();
+    let start = push_start(ops, column, standing, align)?;
     push_type(ops, column, ty)?;
-    Ok(Standing::At(start + measured.size))
+    let size = ty.size();
+    Ok(Standing::At(start + size))
 }
 
 /// Appends the code of a string of at most so many bytes.
@@ -118,7 +120,8 @@ fn push_sized(
 ) -> Result<(), AllocError>
     requires made { is_well_made (type_of element.now) ≡ true }
     requires small { size_of (type_of element.now) ≤ 4096 }
-    ensures ops { OnOk result (ops.new.items ≡ ops.old.items ++ block_ops column (counted_then most (type_then column (type_of element.now) finished) finished)) }
+    ensures ops { OnOk result (ops.new.items
+        ≡ ops.old.items ++ block_ops column (counted_then most (type_then column (type_of element.now) finished) finished)) }
 {
     ops.push(Op::Align)?;
     ops.push(length_op(column, most))?;
@@ -137,7 +140,7 @@ fn push_argument(
 ) -> Result<Standing, AllocError>
     requires within { is_argument_within (arg_type_of argument.now) ≡ true }
     requires near { StandsBy 700000 standing }
-    ensures ops { IfOk result (λ after. (args : List TheArgType) → ops.new.items ++ block_ops column (arguments_block column after args) ≡ ops.old.items ++ block_ops column (arguments_block column standing (arg_type_of argument.now ∷ args))) }
+    ensures ops { IfOk result (λ after. Appends column standing (arg_type_of argument.now) after ops.old.items ops.new.items) }
     ensures near { IfOk result (λ after. (n : ℕ) → StandsBy n standing → StandsBy (n + 4104) after) }
 {
     match argument {
@@ -159,9 +162,9 @@ pub(crate) fn arguments_code(
     column: Column,
     arguments: &[&ArgType],
 ) -> Result<Vec<Op>, AllocError>
-    requires within { are_arguments_within (map (λ a. arg_type_of a.now) arguments.now) ≡ true }
+    requires within { are_arguments_within (types_in arguments.now) ≡ true }
     requires few { length arguments.now ≤ 160 }
-    ensures code { IfOk result (λ v. v.items ≡ block_ops column (arguments_block column (Standing.At 0) (map (λ a. arg_type_of a.now) arguments.now)) ++ last_op column ∷ []) }
+    ensures code { IfOk result (λ v. v.items ≡ code_of column (types_in arguments.now)) }
 {
     let mut ops = Vec::with_capacity(alloc, arguments.len() + 1)?;
     let mut standing = Standing::At(0);

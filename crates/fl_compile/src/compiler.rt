@@ -4,8 +4,8 @@ ghost use Rattle.std.specs.Prelude.{◌≡◌, true, map, IfOk};
 ghost use Rattle.std.specs.List.{list_all};
 ghost use Rattle.fl_check.specs.Interface.{arg_type_of, interface_of, message_of};
 ghost use Rattle.fl_check.specs.Checks.{is_message_within};
-ghost use Rattle.fl_wire.specs.Words.{interface_words_fit, argument_words_fit};
-ghost use Rattle.fl_compile.specs.Codes.{compiled_code, both_compiled};
+ghost use Rattle.fl_check.specs.Counts.{argument_words_fit};
+ghost use Rattle.fl_compile.specs.Codes.{compiled_code, compiled_codes};
 ghost use Rattle.fl_compile.specs.Programs.{program_of};
 
 use crate::arguments::arguments_code;
@@ -14,7 +14,6 @@ use crate::program::{MessageCode, Program};
 use fl_check::{Interface, Message};
 use fl_stub::{Code, Column, VerifiedCode, one_structure, verify};
 use fl_value::PlanNo;
-use fl_wire::numbers_fit_words;
 use std::alloc::{AllocError, Global};
 
 // The code of a message for a column, which is verified.
@@ -41,7 +40,7 @@ fn compile_message(
 fn compile_both(alloc: Global, message: &Message, plan: PlanNo) -> Result<MessageCode, AllocError>
     requires within { is_message_within (message_of message.now) ≡ true }
     requires words { list_all argument_words_fit (map arg_type_of message.now.args.items) ≡ true }
-    ensures codes { IfOk result (λ codes. codes ≡ both_compiled plan (message_of message.now)) }
+    ensures codes { IfOk result (λ codes. codes ≡ compiled_codes plan (message_of message.now)) }
 {
     let send = compile_message(alloc, message, plan, Column::Send)?;
     let receive = compile_message(alloc, message, plan, Column::Receive)?;
@@ -54,8 +53,7 @@ fn compile_messages(
     interface: &Interface,
     plan: PlanNo,
 ) -> Result<Vec<MessageCode>, AllocError>
-    requires words { interface_words_fit (interface_of interface.now) ≡ true }
-    ensures codes { IfOk result (λ v. v.items ≡ map (both_compiled plan) (map message_of interface.now.messages.items)) }
+    ensures codes { IfOk result (λ v. v.items ≡ map (compiled_codes plan) (map message_of interface.now.messages.items)) }
 {
     let mut messages = Vec::with_capacity(alloc, interface.messages.len())?;
     for message in &interface.messages {
@@ -67,13 +65,12 @@ fn compile_messages(
 /// Compiles an interface under a plan.
 ///
 /// # Errors
-/// Want of memory (E99).
+/// Out of memory (E99), and nothing else: every interface has its code.
 pub fn compile(alloc: Global, interface: &Interface, plan: PlanNo) -> Result<Program, AllocError>
     ensures interface { IfOk result (λ p. (program_of p).interface ≡ interface_of interface.now) }
     ensures plan { IfOk result (λ p. (program_of p).plan ≡ plan) }
 {
     let copy = interface.duplicate(alloc)?;
-    numbers_fit_words(&copy);
     let messages = compile_messages(alloc, &copy, plan)?;
     Ok(Program {
         interface: copy,

@@ -3,7 +3,6 @@
 //! Contract for the layers above: [`compile`] gives exactly the stated code (`specs/Compiled.antt`), which
 //! turns the tape of a fitting call into its payload, and takes nothing but these back (`specs/Laws.antt`).
 //!
-//! - `measure.rt`: sizes and alignments of types
 //! - `types.rt`: the code of types
 //! - `arguments.rt`: the code of arguments, one after another
 //! - `order.rt`: the plan's order of arguments
@@ -15,7 +14,6 @@
 mod arguments;
 mod compiler;
 mod law;
-mod measure;
 mod order;
 mod program;
 mod types;

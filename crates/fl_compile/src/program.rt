@@ -2,8 +2,8 @@
 
 ghost use Rattle.std.specs.Prelude.{◌≡◌, true, map, IfOk};
 ghost use Rattle.fl_check.specs.Interface.{interface_of, message_of};
-ghost use Rattle.fl_wire.specs.Words.{interface_words_fit};
-ghost use Rattle.fl_compile.specs.Codes.{both_compiled};
+ghost use Rattle.fl_check.specs.Counts.{interface_words_fit};
+ghost use Rattle.fl_compile.specs.Codes.{compiled_codes};
 
 use fl_base::MsgNo;
 use fl_check::Interface;
@@ -26,7 +26,7 @@ pub struct Program {
     pub(crate) plan: PlanNo,
     pub(crate) messages: Vec<MessageCode>,
     ghost words: { interface_words_fit (interface_of interface) ≡ true },
-    ghost exact: { messages.items ≡ map (both_compiled plan) (map message_of interface.messages.items) },
+    ghost exact: { messages.items ≡ map (compiled_codes plan) (map message_of interface.messages.items) },
 }
 
 // Equal codes, in memory of their own.
@@ -43,13 +43,12 @@ fn duplicate_codes(alloc: Global, codes: &[MessageCode]) -> Result<Vec<MessageCo
 }
 
 impl Program {
-    ghost use Rattle.std.specs.Prelude.{◌≡◌, true, map, IfOk, slice_get};
+    ghost use Rattle.std.specs.Prelude.{◌≡◌, true, map, IfOk};
     ghost use Rattle.std.specs.Option.{option_map};
     ghost use Rattle.fl_check.specs.Interface.{interface_of};
-    ghost use Rattle.fl_wire.specs.Words.{interface_words_fit};
+    ghost use Rattle.fl_check.specs.Counts.{interface_words_fit};
     ghost use Rattle.fl_stub.specs.declared.op.Column.TheVariants.{Send, Receive};
-    ghost use Rattle.fl_compile.specs.Codes.{compiled_code};
-    ghost use Rattle.fl_compile.specs.Programs.{program_of};
+    ghost use Rattle.fl_compile.specs.Programs.{program_of, code_in};
 
     /// The plan.
     pub fn plan(&self) -> PlanNo
@@ -68,7 +67,7 @@ impl Program {
 
     /// The send code of a message; none where the interface has no such message.
     pub fn send_code(&self, msg: MsgNo) -> Option<&VerifiedCode>
-        ensures exact { option_map (λ code. code.now) result ≡ option_map (compiled_code Send (program_of self.now).plan) (slice_get (program_of self.now).interface.messages msg.0) }
+        ensures exact { option_map (λ code. code.now) result ≡ code_in Send (program_of self.now) msg.0 }
     {
         match self.messages.get(usize::from(msg.0)) {
             Some(message) => Some(&message.send),
@@ -78,7 +77,7 @@ impl Program {
 
     /// The receive code of a message; none where the interface has no such message.
     pub fn receive_code(&self, msg: MsgNo) -> Option<&VerifiedCode>
-        ensures exact { option_map (λ code. code.now) result ≡ option_map (compiled_code Receive (program_of self.now).plan) (slice_get (program_of self.now).interface.messages msg.0) }
+        ensures exact { option_map (λ code. code.now) result ≡ code_in Receive (program_of self.now) msg.0 }
     {
         match self.messages.get(usize::from(msg.0)) {
             Some(message) => Some(&message.receive),
@@ -89,7 +88,7 @@ impl Program {
     /// An equal program, in memory of its own.
     ///
     /// # Errors
-    /// Want of memory (E99).
+    /// Out of memory (E99), and nothing else.
     pub fn duplicate(&self, alloc: Global) -> Result<Program, AllocError>
         ensures equal { IfOk result (λ copy. program_of copy ≡ program_of self.now) }
     {

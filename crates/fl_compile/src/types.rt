@@ -7,8 +7,7 @@ ghost use Rattle.fl_check.specs.Checks.{is_well_made, are_well_made};
 ghost use Rattle.fl_stub.specs.Structure.{finished, next, times, block_ops};
 ghost use Rattle.fl_compile.specs.Compiled.{scalar_op, enum_op, pad_op, zeros_then, type_then, fields_then};
 
-use crate::measure::{measure, next_multiple, padding, scalar_bytes};
-use fl_check::{FixedType, Scalar};
+use fl_check::{FixedType, Scalar, greatest_alignment};
 use fl_stub::{Column, Op};
 use std::alloc::AllocError;
 
@@ -17,11 +16,11 @@ fn scalar_op(column: Column, scalar: Scalar) -> Op
     ensures exact { result ≡ scalar_op column scalar }
 {
     match column {
-        Column::Send => Op::Emit(scalar_bytes(scalar)),
+        Column::Send => Op::Emit(scalar.size()),
         Column::Receive => match scalar {
             Scalar::Bool => Op::ReadBool,
             Scalar::Char => Op::ReadChar,
-            _ => Op::Read(scalar_bytes(scalar)),
+            _ => Op::Read(scalar.size()),
         },
     }
 }
@@ -92,7 +91,8 @@ fn push_array(
 ) -> Result<(), AllocError>
     requires made { is_well_made (type_of element.now) ≡ true }
     requires small { size_of (type_of element.now) ≤ 4096 }
-    ensures ops { OnOk result (ops.new.items ≡ ops.old.items ++ block_ops column (next (times count (type_then column (type_of element.now) finished)) finished)) }
+    ensures ops { OnOk result (ops.new.items
+        ≡ ops.old.items ++ block_ops column (next (times count (type_then column (type_of element.now) finished)) finished)) }
 {
     ops.push(Op::Times(count))?;
     push_type(ops, column, element)?;
@@ -105,16 +105,19 @@ fn push_array(
 fn push_fields(ops: &mut Vec<Op>, column: Column, fields: &[FixedType]) -> Result<(), AllocError>
     requires made { are_well_made (fields_from (map type_of fields.now)) ≡ true }
     requires small { size_of (structure (fields_from (map type_of fields.now))) ≤ 4096 }
-    ensures ops { OnOk result (ops.new.items ≡ ops.old.items ++ block_ops column (type_then column (structure (fields_from (map type_of fields.now))) finished)) }
+    ensures ops { OnOk result (ops.new.items
+        ≡ ops.old.items ++ block_ops column (type_then column (structure (fields_from (map type_of fields.now))) finished)) }
 {
-    let mut at = 0;
-    let mut greatest = 1;
+    let mut at: u32 = 0;
     for field in fields {
-        let next = measure(field);
-        push_zeros(ops, column, padding(at, next.align))?;
+        let align = field.alignment();
+        let start = at.next_multiple_of(align);
+        push_zeros(ops, column, start - at)?;
         push_type(ops, column, field)?;
-        at = next_multiple(at, next.align) + next.size;
-        greatest = next.align.max(greatest);
+        let size = field.size();
+        at = start + size;
     }
-    push_zeros(ops, column, padding(at, greatest))
+    let greatest = greatest_alignment(fields);
+    let end = at.next_multiple_of(greatest);
+    push_zeros(ops, column, end - at)
 }

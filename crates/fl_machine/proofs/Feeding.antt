@@ -22,7 +22,7 @@ use Rattle.fl_wire.specs.Payload.{payload_of, frags_of}
 use Rattle.fl_wire.specs.Reading.{Means, IsPart, IsWrong}
 use Rattle.fl_wire.specs.Headers.{Line}
 use Rattle.fl_wire.specs.Wrong.{WrongByte, HasFault, header_fault, start_fault, follow_fault}
-use Rattle.fl_wire.specs.Words.{interface_words_fit}
+use Rattle.fl_check.specs.Counts.{interface_words_fit}
 use Rattle.fl_wire.specs.declared.fault.WireFault.{WireFault}
 use Rattle.fl_wire.proofs.Bytes.{length_payload}
 use Rattle.fl_wire.proofs.Readings.{count_positive, byte_of_payload}

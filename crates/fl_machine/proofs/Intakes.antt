@@ -394,7 +394,7 @@ cut_here ops taken c all left rest f low n fed field quiet g less high =
     let h = here_of ops taken c all left f fed field in
     let front : List ℕ = h.done ++ number_bytes (c.have + n) low in
     record {
-      front = front;
+      prefix = front;
       at = record {
         done = h.done;
         stance = h.stance;
@@ -438,7 +438,7 @@ whole_here ops taken taken2 c c1 c2 c3 all left rest f low n fed field g whole h
     let have : c3.have ≡ 0 = ap Intake.have passes.others ∙ over.idle in
     let value : c3.value ≡ 0 = ap Intake.value passes.others ∙ over.none in
     record {
-      front = done;
+      prefix = done;
       at = record {
         done = done;
         stance = passes.stance;
@@ -478,13 +478,13 @@ settled_stands ops taken bytes c d idle p s =
     no_value {r} (inr part) = let small = part.small in let one : 256 ^ c.have ≡ 1 = ap (λ (k : ℕ). 256 ^ k) idle in omega (arith, small, one)
 
 pub fed_first : (ops : List Op) (taken bytes words : List ℕ) (c : Intake) → Stands ops taken c bytes → IsFed ops taken c (bytes ++ words) words
-fed_first ops taken bytes words c s = record { front = bytes; at = s.at; joined = refl }
+fed_first ops taken bytes words c s = record { prefix = bytes; at = s.at; joined = refl }
 
 -- all bytes of a fragment taken, and the call goes on
 pub stands_after : (ops : List Op) (taken : List ℕ) (c : Intake) (all left : List ℕ) → IsFed ops taken c all left → left ≡ [] → length taken ≡ c.count → Stands ops taken c all
 stands_after ops taken c all left fed none long =
     let a = fed.at in
-    let is : all ≡ fed.front = fed.joined ∙ ap (λ (x : List ℕ). fed.front ++ x) none ∙ append-nil fed.front in
+    let is : all ≡ fed.prefix = fed.joined ∙ ap (λ (x : List ℕ). fed.prefix ++ x) none ∙ append-nil fed.prefix in
     record {
       at = subst (λ (x : List ℕ). IsAt ops taken c x) (sym is) a;
       long = long;
@@ -509,7 +509,7 @@ pub ended_here : (ops : List Op) (taken : List ℕ) (c : Intake) (all left : Lis
 ended_here ops taken c all left fed last =
     let a = fed.at in
     let idle : c.have ≡ 0 = by_waiting (last (length a.done)) a.waiting in
-    let front : fed.front ≡ a.done = a.bytes_are ∙ ap (λ (w : ℕ). a.done ++ number_bytes w c.value) idle ∙ append-nil a.done in
+    let front : fed.prefix ≡ a.done = a.bytes_are ∙ ap (λ (w : ℕ). a.done ++ number_bytes w c.value) idle ∙ append-nil a.done in
     record { done = a.done; reach = a.reach; is = fed.joined ∙ ap (λ (x : List ℕ). x ++ left) front }
   where
     never : (f : TheField) (k : ℕ → Rest) → no_more ≡ takes f k → ⊥

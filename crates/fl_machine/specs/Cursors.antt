@@ -1,4 +1,4 @@
--- A cursor as a spot of its code and tape.
+-- Working file: a cursor as a spot of its code and tape.
 use Rattle.std.specs.Prelude.{◌≡◌, ℕ, zero, suc, ◌+◌, ◌-◌, ◌%◌, ◌<◌, List, [], ◌∷◌, drop, slice_get, slice_index_or, Option, Some, None}
 use Rattle.fl_stub.specs.declared.op.Op.{Op}
 use Rattle.fl_stub.specs.declared.op.Op.TheVariants.{Emit, Times, Each, Back}

@@ -1,4 +1,4 @@
--- How the bytes of a fragment fill.
+-- Working file: how the bytes of a fragment fill.
 use Rattle.std.specs.Prelude.{◌≡◌, ℕ, ◌<◌, ◌≤◌, List, ◌++◌, length, slice_index}
 use Rattle.fl_stub.specs.declared.op.Op.{Op}
 use Rattle.fl_stub.specs.Meaning.{number_bytes}

@@ -1,8 +1,10 @@
-pub mod Cursors
-pub mod Filling
+-- The public promises rest on these: the fragments that a run gives or was fed, and the laws.
 pub mod Sending
-pub mod Taking
 pub mod Receiving
-pub mod Runs
-pub mod Laws
 pub mod Rounds
+pub mod Laws
+-- Working files: what runs store as the first group sees it (`Cursors`, `Taking`, `Runs`), and how a fragment is filled.
+pub mod Cursors
+pub mod Taking
+pub mod Runs
+pub mod Filling

@@ -1,4 +1,4 @@
--- Receive runs as contracts see them.
+-- Working file: a receive run's view and invariant, from what it stores.
 use Rattle.fl_compile.specs.Programs.{program_of}
 use Rattle.fl_machine.specs.Receiving.{TheReceiving, stored_of, receiving, IsStored}
 use Rattle.fl_machine.specs.declared.recv.RecvRun.TheInside.{Inside}

@@ -1,4 +1,4 @@
--- A run of receive code that stands between two bytes of a call.
+-- Working file: a run of receive code that stands between two bytes of a call.
 use Rattle.std.specs.Prelude.{◌≡◌, ◌≢◌, ℕ, suc, ◌+◌, ◌-◌, ◌%◌, ◌^◌, ◌<◌, ◌≤◌, ◌⊎◌, true, false, List, [], ◌∷◌, ◌++◌}
 use Rattle.std.specs.Prelude.{flat_map, take, drop, length, slice_get, slice_index, slice_index_or, slice_set, Some}
 use Rattle.fl_stub.specs.declared.op.Op.{Op}
@@ -76,9 +76,9 @@ TakesWrong ops tape c words mark = (bytes : List ℕ) → Stands ops (take c.cou
 
 -- a run stands after some bytes, having taken these numbers, and others are still to be taken
 pub record IsFed (ops : List Op) (taken : List ℕ) (c : Intake) (all left : List ℕ) : Type 0 where
-  pub front : List ℕ
-  pub at : IsAt ops taken c front
-  pub joined : all ≡ front ++ left
+  pub prefix : List ℕ
+  pub at : IsAt ops taken c prefix
+  pub joined : all ≡ prefix ++ left
 
 -- the bytes of a fragment from a place on
 abbrev pub bytes_left : List ℕ → ℕ → List ℕ

@@ -46,7 +46,7 @@ fn low_byte(number: u64) -> u8
 }
 
 // The lowest bytes of a number and of seven more as one number, the first lowest.
-fn packed(first: u64, numbers: &[u64], from: usize) -> u64
+fn pack(first: u64, numbers: &[u64], from: usize) -> u64
     requires inside { from + 7 ≤ length numbers.now }
     ensures { number_bytes 8 result ≡ map low_byte_of (first ∷ take 7 (drop from numbers.now)) }
 {
@@ -63,6 +63,7 @@ fn packed(first: u64, numbers: &[u64], from: usize) -> u64
 }
 
 // The number without the bytes above so many.
+#[inline(always)]
 fn low_bytes(value: u64, width: u32) -> u64
     requires { is_width width ≡ true }
     ensures bytes { number_bytes width result ≡ number_bytes width value }
@@ -133,6 +134,7 @@ impl Cursor {
     }
 
     // The next number of the tape; 0 behind its end.
+    #[inline(always)]
     fn take_number(&mut self, tape: &[u64]) -> u64
         ensures number { result ≡ first_of_tape (drop self.old.next tape.now) }
         ensures spot { spot_of tape.now self.new ≡ record (spot_of tape.now self.old) { tape = rest_of_tape (drop self.old.next tape.now) } }
@@ -147,6 +149,7 @@ impl Cursor {
     }
 
     // Past this instruction, with these bytes to be given.
+    #[inline(always)]
     fn give(&mut self, value: u64, width: u32)
         requires room { self.old.place + 1 < 2 ^ 64 }
         requires width { width ≤ 8 }
@@ -160,6 +163,7 @@ impl Cursor {
     }
 
     // Into a loop that begins there.
+    #[inline(always)]
     fn enter(&mut self, start: usize, turns: u64)
         requires { self.old.depth < 8 }
         ensures { (tape : List ℕ) → spot_of tape self.new
@@ -170,6 +174,7 @@ impl Cursor {
         self.place = start;
     }
 
+    #[inline(always)]
     fn emit(&mut self, ops: &[Op], tape: &[u64], width: u32)
         requires op { slice_get ops.now self.old.place ≡ Some (emit_op width) }
         requires spot { IsSpot ops.now (spot_of tape.now self.old) }
@@ -180,6 +185,7 @@ impl Cursor {
         self.give(low_bytes(number, width), width);
     }
 
+    #[inline(always)]
     fn pad(&mut self, ops: &[Op], tape: &[u64], zeros: u32)
         requires op { slice_get ops.now self.old.place ≡ Some (pad_op zeros) }
         requires spot { IsSpot ops.now (spot_of tape.now self.old) }
@@ -189,6 +195,7 @@ impl Cursor {
         self.give(0, zeros);
     }
 
+    #[inline(always)]
     fn align(&mut self, ops: &[Op], tape: &[u64])
         requires op { slice_get ops.now self.old.place ≡ Some Op.Align }
         requires spot { IsSpot ops.now (spot_of tape.now self.old) }
@@ -198,6 +205,7 @@ impl Cursor {
         self.give(0, (8 - self.phase % 8) % 8);
     }
 
+    #[inline(always)]
     fn repeat(&mut self, ops: &[Op], tape: &[u64], turns: u32)
         requires op { slice_get ops.now self.old.place ≡ Some (times_op turns) }
         requires spot { IsSpot ops.now (spot_of tape.now self.old) }
@@ -223,6 +231,7 @@ impl Cursor {
         self.enter(start, turns - 1);
     }
 
+    #[inline(always)]
     fn turn(&mut self, ops: &[Op], tape: &[u64])
         requires op { slice_get ops.now self.old.place ≡ Some back_op }
         requires spot { IsSpot ops.now (spot_of tape.now self.old) }
@@ -239,6 +248,7 @@ impl Cursor {
     }
 
     // One instruction; false at the end of the code.
+    #[inline(always)]
     fn advance(&mut self, ops: &[Op], tape: &[u64]) -> bool
         requires spot { IsSpot ops.now (spot_of tape.now self.old) }
         requires idle { self.old.width ≡ 0 }
@@ -262,6 +272,7 @@ impl Cursor {
     }
 
     /// Whether no byte is to be given before the next instruction.
+    #[inline(always)]
     pub(crate) fn is_idle(&self) -> bool
         ensures { result ≡ (self.now.width == 0) }
     {
@@ -269,6 +280,7 @@ impl Cursor {
     }
 
     /// A number's bytes: the number, and how many of its bytes.
+    #[inline(always)]
     pub(crate) fn take_bytes(&mut self, ops: &[Op], tape: &[u64]) -> (u64, usize)
         requires { IsSpot ops.now (spot_of tape.now self.old) }
         ensures number { result.0 ≡ self.old.value }
@@ -284,6 +296,7 @@ impl Cursor {
     }
 
     /// Whether the innermost loop is over one number alone, and that number's bytes are the next.
+    #[inline(always)]
     pub(crate) fn is_run(&self, ops: &[Op]) -> bool
         requires { self.now.depth ≤ 8 }
         ensures { IsTrue result → IsRun ops.now self.now }
@@ -362,7 +375,7 @@ impl Cursor {
         ensures spot { IsSpot ops.now (spot_of tape.now self.new) }
         ensures bytes { bytes_from ops.now (spot_of tape.now self.old) ≡ number_bytes 8 result ++ bytes_from ops.now (spot_of tape.now self.new) }
     {
-        let taken = packed(self.value, tape, self.next);
+        let taken = pack(self.value, tape, self.next);
         self.value = tape[self.next + 7] % 256;
         self.next += 8;
         self.phase %= 8;
@@ -383,6 +396,7 @@ impl Cursor {
     }
 
     /// On to the next bytes, or to the end of the code.
+    #[inline(always)]
     pub(crate) fn settle(&mut self, ops: &[Op], tape: &[u64])
         requires { IsSpot ops.now (spot_of tape.now self.old) }
         ensures spot { IsSpot ops.now (spot_of tape.now self.new) }

@@ -59,6 +59,7 @@ pub struct Intake {
 }
 
 // A word's eight bytes from a place on.
+#[inline(always)]
 fn put_word(buffer: &mut [u8; 64], at: usize, word: u64)
     requires { at + 8 ≤ 64 }
     ensures { buffer.new ≡ take at buffer.old ++ (number_bytes 8 word ++ drop (at + 8) buffer.old) }
@@ -66,70 +67,73 @@ fn put_word(buffer: &mut [u8; 64], at: usize, word: u64)
     buffer[at..at + 8].copy_from_slice(&word.to_le_bytes());
 }
 
-// The bytes of a fragment's words, and zeros behind them, so that eight can be read at each place.
-fn filled(words: &[u64; 7]) -> [u8; 64]
-    ensures { take 56 result ≡ words_bytes words.now }
+// Puts the bytes of a fragment's words into a buffer with eight more behind them, so that eight can be read at each place.
+#[inline(always)]
+fn spread(buffer: &mut [u8; 64], words: &[u64; 7])
+    ensures { take 56 buffer.new ≡ words_bytes words.now }
 {
-    let mut buffer = [0; 64];
     let mut index = 0;
     while index < 7 {
-        put_word(&mut buffer, 8 * index, words[index]);
+        put_word(buffer, 8 * index, words[index]);
         index += 1;
     }
-    buffer
 }
 
 // The eight bytes from a place on as a number.
+#[inline(always)]
 fn word_at(buffer: &[u8; 64], at: usize) -> u64
     requires { at + 8 ≤ 64 }
     ensures { number_bytes 8 result ≡ take 8 (drop at buffer.now) }
 {
-    u64::from_le_bytes([
-        buffer[at],
-        buffer[at + 1],
-        buffer[at + 2],
-        buffer[at + 3],
-        buffer[at + 4],
-        buffer[at + 5],
-        buffer[at + 6],
-        buffer[at + 7],
-    ])
+    let mut bytes = [0; 8];
+    bytes.copy_from_slice(&buffer[at..at + 8]);
+    u64::from_le_bytes(bytes)
+}
+
+// How many numbers so many bytes can be.
+#[inline(always)]
+fn power(bytes: usize) -> u64
+    requires { bytes < 8 }
+    ensures { result ≡ 256 ^ bytes }
+{
+    1 << (8 * bytes)
 }
 
 // The number in a word's first bytes.
+#[inline(always)]
 fn low_part(word: u64, bytes: usize) -> u64
     requires { bytes ≤ 8 }
     ensures { result ≡ word % 256 ^ bytes }
 {
-    match bytes {
-        0 => 0,
-        1 => word % 256,
-        2 => word % 65_536,
-        3 => word % 16_777_216,
-        4 => word % 4_294_967_296,
-        5 => word % 1_099_511_627_776,
-        6 => word % 281_474_976_710_656,
-        7 => word % 72_057_594_037_927_936,
-        _ => word,
+    if bytes == 8 {
+        return word;
     }
+    word % power(bytes)
 }
 
 // The number with so many zero bytes before it.
-fn raised(number: u64, bytes: u32) -> u64
+#[inline(always)]
+fn raise(number: u64, bytes: u32) -> u64
     requires few { bytes < 8 }
     requires room { number * 256 ^ bytes < 2 ^ 64 }
     ensures { result ≡ number * 256 ^ bytes }
 {
-    match bytes {
-        0 => number,
-        1 => number * 256,
-        2 => number * 65_536,
-        3 => number * 16_777_216,
-        4 => number * 4_294_967_296,
-        5 => number * 1_099_511_627_776,
-        6 => number * 281_474_976_710_656,
-        _ => number * 72_057_594_037_927_936,
+    number * power(bytes as usize)
+}
+
+// Past zeros, eight at a time.
+#[inline(always)]
+fn past_zeros(buffer: &[u8; 64], used: usize) -> usize
+    requires { used ≤ 56 }
+    ensures from { used ≤ result }
+    ensures inside { result ≤ 56 }
+    ensures zeros { AreZeros buffer.now used result }
+{
+    let mut at = used;
+    while at <= 48 && word_at(buffer, at) == 0 {
+        at += 8;
     }
+    at
 }
 
 // Whether all bytes from a place up to the last of a fragment are zeros.
@@ -138,7 +142,7 @@ fn end_of(buffer: &[u8; 64], used: usize) -> Result<Fed, Mark>
     ensures whole { IfOk result (λ fed. (fed ≡ whole) × AreZeros buffer.now used 56) }
     ensures wrong { IfErr result (λ mark. (mark ≡ zero_mark) × FirstSet buffer.now used) }
 {
-    let mut at = used;
+    let mut at = past_zeros(buffer, used);
     while at < 56 {
         if buffer[at] != 0 {
             return Err(Mark::Zero);
@@ -207,6 +211,7 @@ fn copy_bytes(
     most
 }
 
+#[inline(always)]
 fn is_length(mark: Mark) -> bool
     ensures yes { IsTrue result → mark ≡ length_mark }
     ensures no { result ≡ false → mark ≢ length_mark }
@@ -214,6 +219,7 @@ fn is_length(mark: Mark) -> bool
     matches!(mark, Mark::Length)
 }
 
+#[inline(always)]
 fn is_last(op: Op) -> bool
     ensures yes { IsTrue result → op ≡ done_op }
     ensures no { result ≡ false → op ≢ done_op }
@@ -221,6 +227,7 @@ fn is_last(op: Op) -> bool
     matches!(op, Op::Done)
 }
 
+#[inline(always)]
 fn op_at(ops: &[Op], place: usize) -> Option<Op>
     ensures { result ≡ slice_get ops.now place }
 {
@@ -231,6 +238,7 @@ fn op_at(ops: &[Op], place: usize) -> Option<Op>
 }
 
 // The greatest number of so many bytes.
+#[inline(always)]
 fn greatest(width: u32) -> u64
     requires { is_width width ≡ true }
     ensures { result + 1 ≡ 256 ^ width }
@@ -244,6 +252,7 @@ fn greatest(width: u32) -> u64
 }
 
 impl Field {
+    #[inline(always)]
     fn number(width: u32, least: u64, last: u64) -> Field
         ensures { result ≡ record { mark = Mark.Number; width = width; least = least; last = last; told = true } }
     {
@@ -256,6 +265,7 @@ impl Field {
         }
     }
 
+    #[inline(always)]
     fn zeros(width: u32) -> Field
         ensures { field_view result ≡ zeros_field width }
     {
@@ -269,6 +279,7 @@ impl Field {
     }
 
     // What an instruction takes, at a place modulo 8.
+    #[inline(always)]
     fn of(op: Op, phase: u32) -> Field
         requires { is_taken op ≡ true }
         ensures { (at : ℕ) → phase % 8 ≡ at % 8 → field_view result ≡ taken_field op at }
@@ -316,6 +327,7 @@ impl Intake {
     }
 
     // Into a loop that begins there.
+    #[inline(always)]
     fn enter(&mut self, start: usize, turns: u64)
         requires { self.old.depth < 8 }
         ensures loops { loops_of self.new.loops self.new.depth ≡ (record { start = start; turns = turns }) ∷ loops_of self.old.loops self.old.depth }
@@ -326,6 +338,7 @@ impl Intake {
         self.place = start;
     }
 
+    #[inline(always)]
     fn repeat(&mut self, ops: &[Op], turns: u32)
         requires op { slice_get ops.now self.old.place ≡ Some (times_op turns) }
         requires stance { IsTaking ops.now self.old }
@@ -334,6 +347,7 @@ impl Intake {
         self.enter(self.place + 1, u64::from(turns) - 1);
     }
 
+    #[inline(always)]
     fn turn(&mut self, ops: &[Op])
         requires op { slice_get ops.now self.old.place ≡ Some back_op }
         requires stance { IsTaking ops.now self.old }
@@ -350,6 +364,7 @@ impl Intake {
     }
 
     // Past the next instruction, if it takes no bytes.
+    #[inline(always)]
     fn pass(&mut self, ops: &[Op]) -> bool
         requires { IsTaking ops.now self.old }
         ensures passes { IsTrue result → PassesOne ops.now self.old self.new }
@@ -374,6 +389,7 @@ impl Intake {
     }
 
     // On to the next instruction that takes bytes, or to the end of the code.
+    #[inline(always)]
     fn settle(&mut self, ops: &[Op])
         requires { IsTaking ops.now self.old }
         ensures passes { Passes ops.now self.old self.new }
@@ -383,6 +399,7 @@ impl Intake {
     }
 
     // What the next instruction takes; `None` at the end of the code.
+    #[inline(always)]
     fn field(&self, ops: &[Op]) -> Option<Field>
         requires stance { IsTaking ops.now self.now }
         requires settled { IsAtField ops.now self.now }
@@ -399,7 +416,8 @@ impl Intake {
     }
 
     // The number that a field's bytes are up to now, with those that are there, and how many these are.
-    fn grown(&self, field: Field, buffer: &[u8; 64], used: usize) -> (u64, usize)
+    #[inline(always)]
+    fn grow(&self, field: Field, buffer: &[u8; 64], used: usize) -> (u64, usize)
         requires less { self.now.have < field.width }
         requires narrow { field.width ≤ 8 }
         requires small { self.now.value < 256 ^ self.now.have }
@@ -413,10 +431,11 @@ impl Intake {
         let wanted = (field.width - self.have) as usize;
         let there = wanted.min(56 - used);
         let more = low_part(word_at(buffer, used), there);
-        (self.value + raised(more, self.have), there)
+        (self.value + raise(more, self.have), there)
     }
 
     // Puts a field's number on the tape.
+    #[inline(always)]
     fn tell(&mut self, tape: &mut [u64], field: Field, number: u64)
         requires { field.told ≡ true → self.old.count < length tape.old }
         ensures others { self.new ≡ record self.old { count = self.new.count } }
@@ -433,6 +452,7 @@ impl Intake {
     }
 
     // Past an instruction that has got its bytes.
+    #[inline(always)]
     fn step_over(&mut self, ops: &[Op], field: Field, number: u64)
         requires stance { IsTaking ops.now self.old }
         requires field { HasField ops.now self.old field }
@@ -455,6 +475,7 @@ impl Intake {
     }
 
     // Whether the innermost loop is over this number alone, and none of its bytes was taken.
+    #[inline(always)]
     fn is_run(&self, ops: &[Op], field: Field) -> bool
         requires stance { IsTaking ops.now self.now }
         requires field { HasField ops.now self.now field }
@@ -598,6 +619,7 @@ impl Intake {
     }
 
     // Takes those of a field's bytes that are there; where the next bytes are.
+    #[inline(always)]
     fn take_field(
         &mut self,
         ops: &[Op],
@@ -620,7 +642,7 @@ impl Intake {
         ensures long { length tape.new ≡ length tape.old }
         ensures count { (self.old.count ≤ self.new.count) × (self.new.count ≤ length tape.new) }
     {
-        let (number, there) = self.grown(field, buffer, used);
+        let (number, there) = self.grow(field, buffer, used);
         if number > field.last {
             return Err(field.mark);
         }
@@ -639,6 +661,7 @@ impl Intake {
     }
 
     // Takes the bytes of a field, behind those of the numbers before it in a loop over it alone; where the next bytes are.
+    #[inline(always)]
     fn take_next(
         &mut self,
         ops: &[Op],
@@ -669,6 +692,7 @@ impl Intake {
     }
 
     // On to the next bytes, unless the next instruction has got some.
+    #[inline(always)]
     fn resume(&mut self, ops: &[Op])
         requires { (taken bytes : List ℕ) × Stands ops.now taken self.old bytes }
         ensures settled { IsAtField ops.now self.new }
@@ -698,7 +722,8 @@ impl Intake {
         ensures within { self.new.count ≤ length tape.new }
         ensures long { length tape.new ≡ length tape.old }
     {
-        let buffer = filled(words);
+        let mut buffer = [0; 64];
+        spread(&mut buffer, words);
         self.resume(ops);
         let mut used = 0;
         while used < 56 {

@@ -93,6 +93,7 @@ impl Model for RecvRun {
 }
 
 // The fault of a byte that can't stand where another stands.
+#[inline(always)]
 fn fault_of(mark: Mark) -> WireFault
     ensures fault { result ≡ fault_of_mark mark }
 {
@@ -105,6 +106,7 @@ fn fault_of(mark: Mark) -> WireFault
 
 impl Stand {
     // What a feed that led here answers.
+    #[inline(always)]
     fn answer(self) -> Fed
         ensures answer { result ≡ answer_of self }
     {
@@ -156,6 +158,7 @@ fn take_in(
 }
 
 // Takes a fragment where a call is to begin: where the run stands then.
+#[inline(always)]
 fn begin(program: &Program, tape: &mut [u64], frag: &Frag) -> Result<Stand, WireFault>
     requires room { HoldsTapes (program_of program.now).plan (program_of program.now).interface (length tape.old) }
     ensures stands { IfOk result (λ stand. StandsIn (program_of program.now) tape.new stand) }
@@ -176,6 +179,7 @@ fn begin(program: &Program, tape: &mut [u64], frag: &Frag) -> Result<Stand, Wire
 }
 
 // Takes a fragment inside a call: where the run stands then.
+#[inline(always)]
 fn go_on(program: &Program, begun: Begun, tape: &mut [u64], frag: &Frag) -> Result<Stand, WireFault>
     requires begun { StandsIn (program_of program.now) tape.old (inside begun) }
     requires room { HoldsTapes (program_of program.now).plan (program_of program.now).interface (length tape.old) }
@@ -276,7 +280,7 @@ impl RecvRun {
     /// the tape of any call (`fl_layout` tells the greatest of each message).
     ///
     /// # Errors
-    /// Want of memory (E99). No other call but [`RecvRun::whole_call`] takes memory.
+    /// Out of memory (E99), and nothing else. No other call but [`RecvRun::whole_call`] takes memory.
     pub fn new(alloc: Global, program: Program, capacity: usize) -> Result<RecvRun, AllocError>
         requires room { HoldsTapes (program_of program).plan (program_of program).interface capacity }
         ensures made { IfOk result (λ r. r ≡ record { program = program; parts = []; whole = []; before = None }) }
@@ -326,7 +330,8 @@ impl RecvRun {
     /// The call that the last fragment fed made whole, also after an [`RecvRun::undo`] that leads back there.
     ///
     /// # Errors
-    /// Want of memory (E99), which changes nothing.
+    /// Out of memory (E99), and nothing else: that the call is whole is asked, so nothing is refused before memory is taken, and
+    /// nothing changes.
     pub fn whole_call(&self, alloc: Global) -> Result<Call, AllocError>
         requires whole { self.now.whole ≢ [] }
         ensures fits { IfOk result (λ call. fits_of (interface_in self.now) (call_of call) ≡ true) }

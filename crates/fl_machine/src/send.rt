@@ -39,6 +39,7 @@ impl Model for SendRun {
 }
 
 // Eight bytes of a fragment as a word.
+#[inline(always)]
 fn word(buffer: &[u8; 56], index: usize) -> u64
     requires { index < 7 }
     ensures { result ≡ word_of buffer.now index }
@@ -56,6 +57,7 @@ fn word(buffer: &[u8; 56], index: usize) -> u64
     ])
 }
 
+#[inline(always)]
 fn frag_with(buffer: &[u8; 56], begins: bool, msg: MsgNo, circuit: Circuit) -> Frag
     ensures { result ≡ record { words = map (word_of buffer.now) (range_with_len 0 7); control = control_word begins msg.0 circuit.0 } }
 {
@@ -74,6 +76,7 @@ fn frag_with(buffer: &[u8; 56], begins: bool, msg: MsgNo, circuit: Circuit) -> F
 }
 
 // A number's eight bytes from a place on.
+#[inline(always)]
 fn put_number(buffer: &mut [u8; 56], at: usize, number: u64)
     requires { at + 8 ≤ 56 }
     ensures { buffer.new ≡ take at buffer.old ++ (number_bytes 8 number ++ drop (at + 8) buffer.old) }
@@ -82,6 +85,7 @@ fn put_number(buffer: &mut [u8; 56], at: usize, number: u64)
 }
 
 // The next bytes of a number, put at a place; the place behind them.
+#[inline(always)]
 fn put_last(
     buffer: &mut [u8; 56],
     at: usize,
@@ -153,6 +157,7 @@ fn put_run(buffer: &mut [u8; 56], at: usize, cursor: &mut Cursor, ops: &[Op], ta
 }
 
 // The next bytes, put at a place; the place behind them.
+#[inline(always)]
 fn put_next(
     buffer: &mut [u8; 56],
     at: usize,
@@ -174,6 +179,7 @@ fn put_next(
 }
 
 // The next 56 bytes, zeros after their end.
+#[inline(always)]
 fn fill(cursor: &mut Cursor, ops: &[Op], tape: &[u64]) -> [u8; 56]
     requires spot { IsSpot ops.now (spot_of tape.now cursor.old) }
     requires settled { IsSettled ops.now (spot_of tape.now cursor.old) }
@@ -200,15 +206,17 @@ impl SendRun {
         ensures meant { (bytes : List ℕ) → Turns (block_of code.now.ops) tape.items bytes
             → frags_left code.now result ≡ frags_holding true msg.0 circuit.0 bytes }
     {
-        let mut cursor = Cursor::new();
-        cursor.settle(code.ops(), &tape);
-        SendRun {
+        let cursor = Cursor::new();
+        // Settled where it lies, so that the loops aren't copied.
+        let mut run = SendRun {
             msg,
             circuit,
             tape,
             begins: true,
             cursor,
-        }
+        };
+        run.cursor.settle(code.ops(), &run.tape);
+        run
     }
 
     /// The next fragment, which stays the next; `None` after the last. Asks for the code of the start. Takes no memory.

@@ -5,7 +5,7 @@ use Rattle.fl_stub.specs.declared.op.Op.{Op}
 use Rattle.fl_stub.specs.declared.op.Op.TheVariants.{Length, Times, Each, Back, End, ReadLength, Done}
 use Rattle.fl_stub.specs.Structure.{Piece, one, times, counted, Block, finished, next}
 
--- a piece in front of the innermost block
+-- a piece before the innermost block
 abbrev pub starts_with : Piece → List Block → List Block
 starts_with p [] = []
 starts_with p (b ∷ outer) = next p b ∷ outer

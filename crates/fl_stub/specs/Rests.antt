@@ -1,6 +1,6 @@
--- What is left of receive code, as a tree: the next bytes that are one number or zeros, and for each number in them what
--- is left after it. Code is turned into such a tree once (`rest_block`); its meaning, what it gives and its marks
--- can all be read off the tree, and a machine that stands in code knows the tree that is left there.
+-- Working file, for machines: what is left of receive code, as a tree. It has the next bytes that are one number or zeros,
+-- and for each number in them what is left after it. Code is turned into such a tree once (`rest_block`); its meaning,
+-- what it gives and its marks can all be read off the tree, and a machine that stands in code knows the tree that is left.
 use Rattle.std.specs.Prelude.{◌≡◌, ℕ, zero, suc, ◌+◌, ◌<◌, ◌≤◌, ◌^◌, ◌%◌, ◌==◌, Bool, true, false, List, [], ◌∷◌, ◌++◌, length, drop, replicate, Some}
 use Rattle.fl_stub.specs.declared.op.Op.{Op}
 use Rattle.fl_stub.specs.declared.op.Op.TheVariants.{Align, Times, Back, ReadLength}
@@ -111,7 +111,7 @@ steps_left no_more = 0
 steps_left (goes_by r) = suc (steps_left r)
 steps_left (takes f k) = suc (steps_left (k 0))
 
--- a number in front of the tape, if it is told
+-- a number before the tape, if it is told
 abbrev pub onto : Bool → ℕ → List ℕ → List ℕ
 onto true x tape = x ∷ tape
 onto false x tape = tape

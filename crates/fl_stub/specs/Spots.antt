@@ -1,5 +1,5 @@
--- A spot of a run of send code: where it stands in the code, in its loops and on the tape. What the code gives from
--- there on is a function of the spot alone.
+-- Working file, for machines: a spot of a run of send code, where it stands in the code, in its loops and on the tape.
+-- What the code gives from there on is a function of the spot alone.
 use Rattle.std.specs.Prelude.{◌≡◌, ℕ, suc, ◌<◌, ◌≤◌, ◌^◌, true, List, [], ◌∷◌, ◌++◌, drop, length, Some}
 use Rattle.fl_stub.specs.declared.op.Op.{Op}
 use Rattle.fl_stub.specs.declared.op.Column.TheVariants.{Send}

@@ -1,4 +1,4 @@
--- How `verify` walks through code, an instruction at a time, and what it accepts so.
+-- Working file: how `verify` walks through code, an instruction at a time, and what it accepts so.
 use Rattle.std.specs.Prelude.{ℕ, ◌+◌, ◌-◌, ◌&&◌, ◌==◌, nat_lt, Bool, true, false, if◌then◌else◌, List, [], ◌∷◌, Option, Some, None}
 use Rattle.fl_stub.specs.declared.op.Op.{Op}
 use Rattle.fl_stub.specs.declared.op.Op.TheVariants.{Length, Times, Each, Back, End, ReadLength, Done}

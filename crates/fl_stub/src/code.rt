@@ -84,7 +84,10 @@ impl VerifiedCode {
         &self.ops
     }
 
-    /// The same code again, or `AllocError` where no memory is left for it.
+    /// The same code again, in memory of its own.
+    ///
+    /// # Errors
+    /// Out of memory (E99), and nothing else.
     pub fn duplicate(&self, alloc: Global) -> Result<VerifiedCode, AllocError>
         ensures same { IfOk result (λ copy. copy ≡ self.now) }
     {

@@ -69,7 +69,7 @@ fn capacity(plans: &Plans) -> usize
     most
 }
 
-// A run of an interface's program; none for want of memory alone.
+// A run of an interface's program; none only where memory runs out.
 fn run(alloc: Global, text: &[u8], number: PlanNo) -> Result<RecvRun, AllocError> {
     let Ok(interface) = interface(alloc, text) else {
         return Err(AllocError);

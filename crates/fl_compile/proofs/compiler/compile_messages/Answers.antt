@@ -20,4 +20,4 @@ compile_both-requires-clause-words c =
     let all = interface_of c.args.interface.now in
     let there : slice_get all.messages c.loop-message.message-index ≡ Some (message_of c.message-item.result)
     = ap (λ (ms : List Message). slice_get (map message_of ms) c.loop-message.message-index) (sym c.deref-message-items.ensures.value) ∙ here in
-    message_words all c.loop-message.message-index (message_of c.message-item.result) c.requires.words there
+    message_words all c.loop-message.message-index (message_of c.message-item.result) c.args.interface.now.counted there

@@ -10,7 +10,7 @@ abbrev pub invariant-push_fields-loop-field : goal.invariant-push_fields-loop-fi
 invariant-push_fields-loop-field l =
     let all = fields_from (map type_of l.fields) in
     record {
-      known : Before type_of l.fields l.field-index l.at l.greatest;
+      known : Before type_of l.fields l.field-index l.at;
       written : l.ops.items ++ block_ops l.column (fields_then l.column (greatest_align all) l.at (fields_from (map type_of (drop l.field-index l.fields))) finished)
           ≡ l.fn.ops.items ++ block_ops l.column (fields_then l.column (greatest_align all) 0 all finished);
     }

@@ -3,7 +3,7 @@ use Rattle.std.proofs.lemmas.Bool.{cases_lt}
 use Rattle.fl_machine.proofs.intake.end_of.Goals as goal
 
 pub loop-at-init : goal.loop-at-init
-loop-at-init c = (omega arith, λ i from below. absurd (omega (arith, from, below)))
+loop-at-init c = (c.past_zeros-at.ensures.from, c.past_zeros-at.ensures.zeros)
 
 pub returns-then-buffer-at-ne0-clause-wrong : goal.returns-then-buffer-at-ne0-clause-wrong
 returns-then-buffer-at-ne0-clause-wrong c =

@@ -10,4 +10,4 @@ returns-clause-spot c =
 pub returns-clause-bytes : goal.returns-clause-bytes
 returns-clause-bytes c =
     let long : length c.args.self.now.loops ≡ 8 = omega arith in
-    eight_bytes c.args.ops.now c.args.tape.now c.args.self.now c.packed-taken.result c.requires.spot c.requires.run c.requires.one c.requires.more c.requires.there long c.packed-taken.ensures
+    eight_bytes c.args.ops.now c.args.tape.now c.args.self.now c.pack-taken.result c.requires.spot c.requires.run c.requires.one c.requires.more c.requires.there long c.pack-taken.ensures

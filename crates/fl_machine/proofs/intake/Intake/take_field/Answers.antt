@@ -4,33 +4,33 @@ use Rattle.fl_machine.specs.declared.intake.Intake.{Intake}
 use Rattle.fl_machine.proofs.Intakes.{here_of, too_high, too_low, cut_here, room_here, whole_here, same_field, same_stance}
 use Rattle.fl_machine.proofs.intake.Intake.take_field.Goals as goal
 
-pub grown-number-requires-clause-less : goal.grown-number-requires-clause-less
-grown-number-requires-clause-less c = let (all, fed) = c.requires.fed in (here_of c.args.ops.now _ c.args.self.now all _ c.args.field fed c.requires.field).less
+pub grow-number-requires-clause-less : goal.grow-number-requires-clause-less
+grow-number-requires-clause-less c = let (all, fed) = c.requires.fed in (here_of c.args.ops.now _ c.args.self.now all _ c.args.field fed c.requires.field).less
 
-pub grown-number-requires-clause-narrow : goal.grown-number-requires-clause-narrow
-grown-number-requires-clause-narrow c = let (all, fed) = c.requires.fed in (here_of c.args.ops.now _ c.args.self.now all _ c.args.field fed c.requires.field).reach.sound.0.width
+pub grow-number-requires-clause-narrow : goal.grow-number-requires-clause-narrow
+grow-number-requires-clause-narrow c = let (all, fed) = c.requires.fed in (here_of c.args.ops.now _ c.args.self.now all _ c.args.field fed c.requires.field).reach.sound.0.width
 
-pub grown-number-requires-clause-small : goal.grown-number-requires-clause-small
-grown-number-requires-clause-small c = let (all, fed) = c.requires.fed in (here_of c.args.ops.now _ c.args.self.now all _ c.args.field fed c.requires.field).small
+pub grow-number-requires-clause-small : goal.grow-number-requires-clause-small
+grow-number-requires-clause-small c = let (all, fed) = c.requires.fed in (here_of c.args.ops.now _ c.args.self.now all _ c.args.field fed c.requires.field).small
 
 pub returns-then-number-field-clause-wrong : goal.returns-then-number-field-clause-wrong
 returns-then-number-field-clause-wrong c all fed =
-    too_high c.args.ops.now _ c.args.self.now all _ _ c.args.field c.grown-number.result.0 c.grown-number.result.1 fed c.requires.field c.grown-number.ensures.grows c.grown-number.ensures.within c.if-number-field.true
+    too_high c.args.ops.now _ c.args.self.now all _ _ c.args.field c.grow-number.result.0 c.grow-number.result.1 fed c.requires.field c.grow-number.ensures.grows c.grow-number.ensures.within c.if-number-field.true
 
 pub returns-then-self-there-clause-fed : goal.returns-then-self-there-clause-fed
 returns-then-self-there-clause-fed c all fed =
-    cut_here c.args.ops.now _ c.args.self.now all _ _ c.args.field c.grown-number.result.0 c.grown-number.result.1 fed c.requires.field c.requires.settled c.grown-number.ensures.grows c.if-self-there.true c.if-number-field.false
+    cut_here c.args.ops.now _ c.args.self.now all _ _ c.args.field c.grow-number.result.0 c.grow-number.result.1 fed c.requires.field c.requires.settled c.grow-number.ensures.grows c.if-self-there.true c.if-number-field.false
 
 pub returns-then-number-field-2-clause-wrong : goal.returns-then-number-field-2-clause-wrong
 returns-then-number-field-2-clause-wrong c all fed =
-    let within = c.grown-number.ensures.within in
+    let within = c.grow-number.ensures.within in
     let past = c.if-self-there.false in
-    too_low c.args.ops.now _ c.args.self.now all _ _ c.args.field c.grown-number.result.0 c.grown-number.result.1 fed c.requires.field c.grown-number.ensures.grows (omega (arith, within, past)) c.if-number-field.false c.if-number-field-2.true
+    too_low c.args.ops.now _ c.args.self.now all _ _ c.args.field c.grow-number.result.0 c.grow-number.result.1 fed c.requires.field c.grow-number.ensures.grows (omega (arith, within, past)) c.if-number-field.false c.if-number-field-2.true
 
 pub tell-requires : goal.tell-requires
 tell-requires c so =
     let (all, fed) = c.requires.fed in
-    let room = room_here c.args.ops.now _ c.args.self.now all _ c.args.field c.grown-number.result.0 (length c.args.tape.now) fed c.requires.field c.if-number-field-2.false c.if-number-field.false c.requires.tape so in
+    let room = room_here c.args.ops.now _ c.args.self.now all _ c.args.field c.grow-number.result.0 (length c.args.tape.now) fed c.requires.field c.if-number-field-2.false c.if-number-field.false c.requires.tape so in
     omega (arith, room, length-take-le c.args.self.now.count c.args.tape.now c.requires.count)
 
 pub step_over-requires-clause-stance : goal.step_over-requires-clause-stance
@@ -44,9 +44,9 @@ step_over-requires-clause-narrow c = let (all, fed) = c.requires.fed in (here_of
 
 pub returns-clause-fed : goal.returns-clause-fed
 returns-clause-fed c all fed =
-    let within = c.grown-number.ensures.within in
+    let within = c.grow-number.ensures.within in
     let past = c.if-self-there.false in
     let count : c.settle.new.self.count ≡ c.tell.new.self.count = ap Intake.count c.settle.ensures.passes.others ∙ c.step_over.ensures.count in
-    whole_here c.args.ops.now (take c.args.self.now.count c.args.tape.now) _ c.args.self.now c.tell.new.self c.step_over.new.self c.settle.new.self all _ _ c.args.field c.grown-number.result.0 c.grown-number.result.1
-    fed c.requires.field c.grown-number.ensures.grows (omega (arith, within, past)) c.if-number-field.false c.if-number-field-2.false c.tell.ensures.others
+    whole_here c.args.ops.now (take c.args.self.now.count c.args.tape.now) _ c.args.self.now c.tell.new.self c.step_over.new.self c.settle.new.self all _ _ c.args.field c.grow-number.result.0 c.grow-number.result.1
+    fed c.requires.field c.grow-number.ensures.grows (omega (arith, within, past)) c.if-number-field.false c.if-number-field-2.false c.tell.ensures.others
     (ap (λ k. take k c.tell.new.tape) count ∙ c.tell.ensures.tape) c.step_over.ensures c.settle.ensures.passes

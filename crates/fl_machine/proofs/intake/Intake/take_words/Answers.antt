@@ -22,7 +22,7 @@ loop-used-init c =
       refl,
       refl,
       λ bytes s.
-          subst (λ (left : List ℕ). IsFed c.args.ops.now (take c.resume.new.self.count c.args.tape.now) c.resume.new.self (bytes ++ words_bytes c.args.words.now) left) (sym c.filled-buffer.ensures)
+          subst (λ (left : List ℕ). IsFed c.args.ops.now (take c.resume.new.self.count c.args.tape.now) c.resume.new.self (bytes ++ words_bytes c.args.words.now) left) (sym c.spread.ensures)
           (fed_first c.args.ops.now (take c.resume.new.self.count c.args.tape.now) bytes (words_bytes c.args.words.now) c.resume.new.self
           (subst (λ (k : ℕ). Stands c.args.ops.now (take k c.args.tape.now) c.resume.new.self bytes) (sym same) (c.resume.ensures.stands (take c.args.self.now.count c.args.tape.now) bytes s))),
     )
@@ -35,18 +35,18 @@ returns-in_default-clause-part c = IfOk-weaker c.end_of.result _ _ (λ fed h e. 
 
 pub returns-in_default-clause-whole : goal.returns-in_default-clause-whole
 returns-in_default-clause-whole c =
-    let long : length c.filled-buffer.result ≡ 64 = omega arith in
+    let long : length c.spread.new.buffer ≡ 64 = omega arith in
     IfOk-weaker c.end_of.result _ _
-    (λ fed h e bytes s. payload_whole c.args.ops.now (take c.loop-used.self.count c.loop-used.tape) c.loop-used.self (bytes ++ words_bytes c.args.words.now) c.filled-buffer.result c.loop-used.used
+    (λ fed h e bytes s. payload_whole c.args.ops.now (take c.loop-used.self.count c.loop-used.tape) c.loop-used.self (bytes ++ words_bytes c.args.words.now) c.spread.new.buffer c.loop-used.used
     (c.loop-used.invariant.6 bytes s) c.in_default.ensures.none long h.1)
     c.end_of.ensures.whole
 
 pub returns-in_default-clause-wrong : goal.returns-in_default-clause-wrong
 returns-in_default-clause-wrong c =
-    let long : length c.filled-buffer.result ≡ 64 = omega arith in
+    let long : length c.spread.new.buffer ≡ 64 = omega arith in
     IfErr-weaker c.end_of.result _ _
     (λ mark h bytes s. subst (λ (m : Mark). LeavesPayloads (block_of c.args.ops.now) (bytes ++ words_bytes c.args.words.now) m) (sym h.0)
-    (payload_wrong c.args.ops.now (take c.loop-used.self.count c.loop-used.tape) c.loop-used.self (bytes ++ words_bytes c.args.words.now) c.filled-buffer.result c.loop-used.used
+    (payload_wrong c.args.ops.now (take c.loop-used.self.count c.loop-used.tape) c.loop-used.self (bytes ++ words_bytes c.args.words.now) c.spread.new.buffer c.loop-used.used
     (c.loop-used.invariant.6 bytes s) c.in_default.ensures.none long h.1))
     c.end_of.ensures.wrong
 
@@ -84,7 +84,7 @@ loop-used-preserved c =
 pub returns-in-Some-field-clause-part : goal.returns-in-Some-field-clause-part
 returns-in-Some-field-clause-part c e bytes s =
     let fed = c.loop-used.invariant.6 bytes s in
-    let none = nothing_left c.filled-buffer.result c.loop-used.used c.loop-used-test.false in
+    let none = nothing_left c.spread.new.buffer c.loop-used.used c.loop-used-test.false in
     let long = c.loop-used.invariant.3 in (
       stands_after c.args.ops.now (take c.loop-used.self.count c.loop-used.tape) c.loop-used.self (bytes ++ words_bytes c.args.words.now) _ fed none (length-take-le c.loop-used.self.count c.loop-used.tape long),
       begins_after c.args.ops.now (take c.loop-used.self.count c.loop-used.tape) c.loop-used.self (bytes ++ words_bytes c.args.words.now) _ c.in-Some-field.field-0 fed c.in-Some-field.ensures.some none,
@@ -93,7 +93,7 @@ returns-in-Some-field-clause-part c e bytes s =
 pub returns-in-None-clause-whole : goal.returns-in-None-clause-whole
 returns-in-None-clause-whole c e bytes s =
     payload_ends c.args.ops.now (take c.loop-used.self.count c.loop-used.tape) c.loop-used.self (bytes ++ words_bytes c.args.words.now) _ (c.loop-used.invariant.6 bytes s) c.in-None.ensures.none
-    (nothing_left c.filled-buffer.result c.loop-used.used c.loop-used-test.false)
+    (nothing_left c.spread.new.buffer c.loop-used.used c.loop-used-test.false)
 
 pub returns-in_default-clause-grows : goal.returns-in_default-clause-grows
 returns-in_default-clause-grows c = c.loop-used.invariant.2

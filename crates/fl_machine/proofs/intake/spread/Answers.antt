@@ -2,10 +2,10 @@ use Rattle.std.proofs.Common.{ℕ, ◌≡◌, ◌+◌, ◌*◌, take, refl, ◌�
 use Rattle.std.proofs.lemmas.List.{take_all}
 use Rattle.fl_machine.specs.Taking.{words_bytes}
 use Rattle.fl_machine.proofs.Intakes.{filled_more}
-use Rattle.fl_machine.proofs.intake.filled.Goals as goal
+use Rattle.fl_machine.proofs.intake.spread.Goals as goal
 
 pub loop-index-init : goal.loop-index-init
-loop-index-init c = (refl, refl, omega arith)
+loop-index-init c = (omega arith, refl, omega arith)
 
 pub loop-index-preserved : goal.loop-index-preserved
 loop-index-preserved c =
