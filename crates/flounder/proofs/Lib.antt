@@ -1,1 +1,2 @@
 mod Doing
+mod Asking
