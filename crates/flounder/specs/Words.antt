@@ -1,6 +1,6 @@
 -- What the words of the command line ask for: the program's commands as `clap` is told of them, what its definition makes of
 -- words, and the laws on plain words. Public promises rest on this file.
-use Rattle.std.specs.Prelude.{◌≡◌, ℕ, Bool, true, false, List, [], ◌∷◌, Option, Some, None, option_map, option_and_then, if◌then◌else◌, codes}
+use Rattle.std.specs.Prelude.{◌≡◌, ◌==◌, ℕ, Bool, true, false, List, [], ◌∷◌, Option, Some, None, option_map, option_and_then, if◌then◌else◌, codes}
 use Rattle.std.specs.Str.{bytes_eq}
 use Rattle.clap.specs.Words.{App, Row, Rule, app_of, Text, Kinds, new_app, new_rule, with_rule, with_subcommand, subcommand_of, fault_of, first_of}
 use Rattle.clap.specs.Kinds.{or_else}
@@ -79,3 +79,33 @@ missing_kinds (Some asked) = []
 
 abbrev pub refusals : List Text → Kinds
 refusals words = or_else (fault_of program words) (missing_kinds (asks_for words))
+
+-- ---- laws on plain words
+
+-- words that ask for this, and that nothing but want of memory refuses
+abbrev pub AskFor : List Text → Asked → Type 0
+AskFor words asked = (asks_for words ≡ Some asked) × (refusals words ≡ [])
+
+-- a word that doesn't begin with `-`
+abbrev pub IsPlainWord : Text → Type 0
+IsPlainWord [] = Unit {0}
+IsPlainWord (byte ∷ bytes) = (byte == 45) ≡ false
+
+-- Without a word, or with `exec` alone, a script is run.
+abbrev pub ExecIsAsked : Type 0
+ExecIsAsked = (name : Text) → AskFor (name ∷ []) to_run × AskFor (name ∷ codes "exec" ∷ []) to_run
+
+-- `show FILE` and `compile FILE OUT` ask for that, where the files' names don't begin with `-`.
+abbrev pub ShowIsAsked : Type 0
+ShowIsAsked = (name file : Text) → IsPlainWord file → AskFor (name ∷ codes "show" ∷ file ∷ []) (to_show file)
+
+abbrev pub CompileIsAsked : Type 0
+CompileIsAsked = (name file out : Text) → IsPlainWord file → IsPlainWord out
+    → AskFor (name ∷ codes "compile" ∷ file ∷ out ∷ []) (to_compile file out)
+
+-- `--help` asks for help, also behind a command.
+abbrev pub HelpIsAsked : Type 0
+HelpIsAsked = (name : Text) → (refusals (name ∷ codes "--help" ∷ []) ≡ DisplayHelp ∷ [])
+    × (refusals (name ∷ codes "exec" ∷ codes "--help" ∷ []) ≡ DisplayHelp ∷ [])
+    × (refusals (name ∷ codes "show" ∷ codes "--help" ∷ []) ≡ DisplayHelp ∷ [])
+    × (refusals (name ∷ codes "compile" ∷ codes "--help" ∷ []) ≡ DisplayHelp ∷ [])
