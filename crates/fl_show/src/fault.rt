@@ -1,7 +1,7 @@
 //! Why nothing is shown.
 
 ghost use Rattle.std.specs.Prelude.{◌≡◌};
-ghost use Rattle.fl_show.specs.Shown.{status_of};
+ghost use Rattle.fl_show.specs.Content.{status_of};
 ghost use Rattle.fl_show.specs.declared.fault.ShowFault.TheVariants.{Memory};
 
 use fl_check::Explained;
@@ -65,7 +65,7 @@ pub enum ShowFault<'a> {
 
 impl ShowFault<'_> {
     /// The status with which a program ends that met it.
-    pub fn number(self) -> u8
+    pub fn status(self) -> u8
         ensures status { result ≡ status_of self.entry }
     {
         match self {

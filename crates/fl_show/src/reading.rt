@@ -4,7 +4,7 @@ ghost use Rattle.std.specs.Prelude.{◌≡◌, ◌==◌, ◌≤◌, true, length
 ghost use Rattle.std.specs.List.{position};
 ghost use Rattle.fl_check.specs.Interface.{interface_of};
 ghost use Rattle.fl_image.specs.Image.{has_image};
-ghost use Rattle.fl_show.specs.Shown.{StandsFor, IsFaultOf, excerpt_at, first_line, IsRefusalOf, TextsHaveImages};
+ghost use Rattle.fl_show.specs.Content.{StandsFor, IsFaultOf, excerpt_at, first_line, IsRefusalOf, TextsHaveImages};
 
 use crate::fault::{Refusal, ShowFault};
 use fl_check::{Interface, TextFault, check};

@@ -2,7 +2,7 @@
 
 ghost use Rattle.std.specs.Prelude.{◌≡◌, IfOk, IfErr};
 ghost use Rattle.fl_image.specs.Reading.{FirstFault};
-ghost use Rattle.fl_show.specs.Shown.{is_meant_as_image, ShowsText, ShowsImage, Shows, IsRefusalOf, IsImageRefusalOf, IsRefusedAs};
+ghost use Rattle.fl_show.specs.Content.{is_meant_as_image, ShowsText, ShowsImage, Shows, IsRefusalOf, IsImageRefusalOf, IsRefusedAs};
 
 use crate::fault::{ImageRefusal, ShowFault};
 use crate::reading::accepted;

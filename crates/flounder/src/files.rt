@@ -10,7 +10,7 @@ use std::{fs, io};
 
 /// Reads and writes whole files by their paths.
 pub trait FileStore {
-    // What was done with files so far, in order, where the store tells it.
+    // What was done with files so far, in order, where the store tells it. A store may never tell, or stop telling.
     ghost deeds: { Self → Option (List Deed) } = { λ _. None };
 
     /// All bytes of a file.
@@ -23,7 +23,7 @@ pub trait FileStore {
     /// Makes a file of these bytes, in the place of one of that path.
     ///
     /// # Errors
-    /// As of the system; of the kind `OutOfMemory` for want of memory. The file may then hold a front of the bytes.
+    /// As of the system; of the kind `OutOfMemory` for want of memory. The file may then hold a prefix of the bytes.
     fn write(&mut self, path: &str, bytes: &[u8]) -> io::Result<()>
         ensures done { Adds (deeds self.old) (deeds self.new) (writing path.now bytes.now result) };
 }

@@ -59,7 +59,7 @@ fn texts_that_are_refused(rt: HostRuntime) -> Result<(), Fail> {
             return Err(Fail::from("it is compiled"));
         };
         assert!(rt; fault.to_string(rt.alloc())?.as_str() == told, "{fault}");
-        assert_eq!(rt; fault.number(), 2);
+        assert_eq!(rt; fault.status(), 2);
     }
     Ok(())
 }
