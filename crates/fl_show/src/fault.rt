@@ -58,7 +58,7 @@ pub enum ShowFault<'a> {
     /// The image is refused, for a fault of E80 to E85.
     #[error("{0}")]
     NoImage(ImageRefusal),
-    /// Want of memory (E99).
+    /// Out of memory (E99).
     #[error("out of memory")]
     Memory,
 }

@@ -53,7 +53,7 @@ pub fn show_text(alloc: Global, text: &[u8]) -> Result<Vec<u8>, ShowFault<'_>>
 /// The plan table of the interface that an image is of, under the plan that it is of.
 ///
 /// # Errors
-/// [`ShowFault::NoImage`] with the first fault where the bytes are no image; [`ShowFault::Memory`] for want of memory.
+/// [`ShowFault::NoImage`] with the first fault where the bytes are no image; [`ShowFault::Memory`] when out of memory.
 pub fn show_image<'a>(alloc: Global, bytes: &[u8]) -> Result<Vec<u8>, ShowFault<'a>>
     ensures table { IfOk result (λ t. ShowsImage bytes.now t.items) }
     ensures refused { IfErr result (λ e. IsImageRefusalOf bytes.now e) }

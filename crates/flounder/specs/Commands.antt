@@ -19,12 +19,12 @@ use Rattle.flounder.specs.Words.{Asked, to_run, to_show, to_compile, AskFor, ref
 use Rattle.flounder.specs.Deeds.{Deed, was_read, was_not_read, was_written, was_not_written}
 use Rattle.flounder.specs.Streams.{Output, Streams, Puts, PutsPrefix, Prints, IsUntouched, IsUnread}
 
--- the status of a read or a write that failed with an error of a kind: 3 for want of memory, else 4
+-- the status of a read or a write that failed with an error of a kind: 3 when out of memory, else 4
 abbrev pub failed_status : ErrorKind → ℕ
 failed_status OutOfMemory = 3
 failed_status kind = 4
 
--- the status where the words of the command line can't be had: 3 for want of memory, else 1
+-- the status where the words of the command line can't be had: 3 when out of memory, else 1
 abbrev pub no_words_status : ErrorKind → ℕ
 no_words_status OutOfMemory = 3
 no_words_status kind = 1

@@ -2,7 +2,8 @@
 -- words, and the laws on plain words. Public promises rest on this file.
 use Rattle.std.specs.Prelude.{◌≡◌, ◌==◌, ℕ, Bool, true, false, List, [], ◌∷◌, Option, Some, None, option_map, option_and_then, if◌then◌else◌, codes}
 use Rattle.std.specs.Str.{bytes_eq}
-use Rattle.clap.specs.Words.{App, Row, Rule, app_of, Text, Kinds, new_app, new_rule, with_rule, with_subcommand, subcommand_of, fault_of, first_of}
+use Rattle.clap.specs.Words.{App, Row, Rule, app_of, Text, Kinds, new_app, new_rule, with_rule, with_subcommand}
+use Rattle.clap.specs.Words.{subcommand_of, fault_of, first_of}
 use Rattle.clap.specs.Kinds.{or_else}
 use Rattle.clap.specs.declared.builder.command.Command.{Command}
 use Rattle.clap.specs.declared.builder.command.Command.TheViews.{out-Command as fields_of}
@@ -82,7 +83,7 @@ refusals words = or_else (fault_of program words) (missing_kinds (asks_for words
 
 -- ---- laws on plain words
 
--- words that ask for this, and that nothing but want of memory refuses
+-- words that ask for this, and that are refused only when out of memory
 abbrev pub AskFor : List Text → Asked → Type 0
 AskFor words asked = (asks_for words ≡ Some asked) × (refusals words ≡ [])
 

@@ -16,14 +16,14 @@ pub trait FileStore {
     /// All bytes of a file.
     ///
     /// # Errors
-    /// As of the system; of the kind `OutOfMemory` for want of memory.
+    /// As of the system; of the kind `OutOfMemory` when out of memory.
     fn read(&mut self, alloc: Global, path: &str) -> io::Result<Vec<u8>>
         ensures done { Adds (deeds self.old) (deeds self.new) (reading (λ v. v.items) path.now result) };
 
     /// Makes a file of these bytes, in the place of one of that path.
     ///
     /// # Errors
-    /// As of the system; of the kind `OutOfMemory` for want of memory. The file may then hold a prefix of the bytes.
+    /// As of the system; of the kind `OutOfMemory` when out of memory. The file may then hold a prefix of the bytes.
     fn write(&mut self, path: &str, bytes: &[u8]) -> io::Result<()>
         ensures done { Adds (deeds self.old) (deeds self.new) (writing path.now bytes.now result) };
 }

@@ -26,7 +26,7 @@ use std::io::{BufWriter, Read, Write};
 /// Does what the words ask for, and answers the status. All that is printed has reached the writer behind `output`
 /// where the status is 0.
 ///
-/// Faults are found in the order usage, reading the file, its content, writing; want of memory where it happens.
+/// Faults are found in the order usage, reading the file, its content, writing; out of memory where it happens.
 /// Only the first is told, on `errors`.
 pub fn run<S: AsStr, F: FileStore, R: Read, W: Write + Drop, E: Write>(
     alloc: Global,

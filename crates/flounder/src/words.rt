@@ -2,7 +2,8 @@
 
 ghost use Rattle.std.specs.Prelude.{◌≡◌, ℕ, map, option_map, IfOk, Some, codes};
 ghost use Rattle.clap.specs.Words.{FailsBy, first_of, found_of, rows_of, subcommand_rows_of};
-ghost use Rattle.flounder.specs.Words.{exec_command, bare_program, to_compile, show_command, compile_command, program, IsCommand, asked_by, show_asked, compile_asked, command_asked, asked_of, asks_for, refusals};
+ghost use Rattle.flounder.specs.Words.{exec_command, bare_program, to_compile, show_command, compile_command, program, IsCommand};
+ghost use Rattle.flounder.specs.Words.{asked_by, show_asked, compile_asked, command_asked, asked_of, asks_for, refusals};
 
 use clap::error::ErrorKind;
 use clap::{Arg, ArgMatches, Command, Error};
@@ -41,7 +42,7 @@ Status:
   1  the command line isn't of a form shown here
   2  the file's content is refused: the first line on standard error is the fault alone, as `E14 at 24` of a
      text (its number, and its place in bytes) or `E82` of an image; the lines after it say it in words
-  3  want of memory
+  3  out of memory
   4  a read or a write failed
 
 The first fault is answered, in this order: the command line, reading FILE, its content, writing. FILE is read
@@ -217,7 +218,7 @@ fn request_of<'a>(matches: &ArgMatches<'a>) -> Option<Request<'a>>
 /// What the words ask for; the first is the program's name.
 ///
 /// # Errors
-/// An error of the kind `DisplayHelp` where help is asked for, `OutOfMemory` for want of memory, and else one
+/// An error of the kind `DisplayHelp` where help is asked for, `OutOfMemory` when out of memory, and else one
 /// that says what is wrong with the words.
 pub fn read_words<'a, S: AsStr>(alloc: Global, words: &'a [S]) -> Result<Request<'a>, Error>
     ensures asked { IfOk result (λ request. asks_for (map S.text words.entry.now) ≡ Some (asked_by request)) }

@@ -64,7 +64,7 @@ fn texts_that_are_refused(rt: HostRuntime) -> Result<(), Fail> {
     Ok(())
 }
 
-// An image and its table, or want of memory and nothing else.
+// An image and its table, or out of memory and nothing else.
 #[test]
 fn compiled_and_shown_without_memory(rt: HostRuntime) {
     match compile_text(rt.alloc(), TEXT) {
