@@ -4,12 +4,14 @@ use Rattle.std.specs.List.{list_all, flat_map}
 use Rattle.std.specs.Char.{is_ascii_alphabetic, is_ascii_digit}
 use Rattle.fl_check.specs.declared.interface.Scalar.{Scalar}
 use Rattle.fl_check.specs.declared.interface.Scalar.TheVariants as scalars
-use Rattle.fl_check.specs.Interface.{TheType, scalar, enumeration, structure, array, TheTypes, no_more, field, TheArgType, fixed, text, sized, TheMessage, TheInterface}
+use Rattle.fl_check.specs.Interface.{TheType, scalar, enumeration, structure, array, TheTypes, no_more, field, TheArgType, fixed}
+use Rattle.fl_check.specs.Interface.{text, sized, TheMessage, TheInterface}
 use Rattle.fl_check.specs.Checks.{count_of, is_within_limits}
 use Rattle.fl_value.specs.declared.value.PlanNo.{PlanNo}
 use Rattle.fl_value.specs.declared.value.PlanNo.TheVariants.{One, Two}
 use Rattle.fl_stub.specs.declared.op.Op.{Op}
-use Rattle.fl_stub.specs.declared.op.Op.TheVariants.{Emit, Pad, Align, Length, Times, Each, Back, End, Read, ReadBool, ReadEnum, ReadChar, Skip, ReadLength, ReadText, Done}
+use Rattle.fl_stub.specs.declared.op.Op.TheVariants.{Emit, Pad, Align, Length, Times, Each, Back, End, Read, ReadBool, ReadEnum}
+use Rattle.fl_stub.specs.declared.op.Op.TheVariants.{ReadChar, Skip, ReadLength, ReadText, Done}
 use Rattle.fl_stub.specs.declared.op.Column.TheVariants.{Send, Receive}
 use Rattle.fl_compile.specs.Compiled.{message_code}
 

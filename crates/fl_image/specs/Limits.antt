@@ -1,4 +1,4 @@
--- Measures of types and payloads that may be of any size: past 65,536 it is only known that they are.
+-- For the code alone: measures of types and payloads that may be of any size; past 65,536 it is only known that they are.
 use Rattle.std.specs.Prelude.{◌≡◌, ℕ, ◌≤◌, ◌⊎◌, max, List}
 use Rattle.fl_check.specs.Interface.{TheType, TheTypes, TheArgType}
 use Rattle.fl_check.specs.Sizes.{size_of, align_of, greatest_align, end_after}

@@ -11,7 +11,7 @@ use Rattle.fl_image.specs.declared.fault.ImageFault.TheVariants.{Refused, Memory
 use Rattle.fl_image.specs.Image.{two, name_image, magic, version_of, is_name}
 use Rattle.fl_image.specs.Reading.{FirstFault}
 
--- the number of a fault; want of memory is E99
+-- the number of a fault; out of memory is E99
 abbrev pub refusal_number : Refusal → ℕ
 refusal_number OtherMagic = 80
 refusal_number OtherVersion = 81

@@ -1,4 +1,4 @@
--- What was read, as contracts see it.
+-- For the code alone: what was read, as contracts see it.
 use Rattle.std.specs.Prelude.{map}
 use Rattle.fl_check.specs.Interface.{interface_of}
 use Rattle.fl_image.specs.declared.code.MessageOps.{MessageOps}

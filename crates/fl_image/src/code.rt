@@ -1,4 +1,4 @@
-//! Stub code off the front of an image.
+//! Stub code read off the bytes of an image.
 
 ghost use Rattle.std.specs.Prelude.{◌≡◌, map};
 ghost use Rattle.fl_image.specs.Image.{operand_of};

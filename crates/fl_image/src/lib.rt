@@ -7,7 +7,7 @@
 //!
 //! - `writer.rt`: [`write_image`]
 //! - `reader.rt`: [`read_image`]
-//! - `number.rt`, `types.rt`, `messages.rt`, `code.rt`: fields off the front of an image
+//! - `number.rt`, `types.rt`, `messages.rt`, `code.rt`: fields read off the bytes of an image
 //! - `limits.rt`: whether types and messages keep the limits
 //! - `writable.rt`: [`is_writable`]
 //! - `fault.rt`: why there is no program

@@ -1,7 +1,8 @@
 //! Whether types and messages keep the limits.
 
 ghost use Rattle.std.specs.Prelude.{◌≡◌, ◌<◌, ◌≤◌, ◌*◌, ◌+◌, ◌∷◌, ℕ, List, map, nat_lt, min};
-ghost use Rattle.fl_check.specs.Interface.{TheType, TheTypes, TheArgType, type_of, arg_type_of, message_of, scalar, enumeration, structure, array, no_more, field, fixed, text, sized, fields_from};
+ghost use Rattle.fl_check.specs.Interface.{TheType, TheTypes, TheArgType, type_of, arg_type_of, message_of, scalar, enumeration};
+ghost use Rattle.fl_check.specs.Interface.{structure, array, no_more, field, fixed, text, sized, fields_from};
 ghost use Rattle.fl_check.specs.Sizes.{scalar_size, round_up};
 ghost use Rattle.fl_check.specs.Depth.{is_too_big};
 ghost use Rattle.fl_check.specs.Checks.{is_well_made, are_well_made, is_type_within, is_argument_within, are_arguments_within, is_message_within};
@@ -252,7 +253,8 @@ fn behind_fixed(before: Extent, measured: Measured) -> Extent
     requires align { IsAlign measured.align }
     requires small { before.end ≤ 65536 }
     requires size { measured.size ≤ 65536 }
-    ensures reaches { (t : TheType) (left : List TheArgType) (total : ℕ) → Measures measured t → Reaches before (fixed t ∷ left) total → Reaches result left total }
+    ensures reaches { (t : TheType) (left : List TheArgType) (total : ℕ) → Measures measured t
+        → Reaches before (fixed t ∷ left) total → Reaches result left total }
 {
     let end = next_multiple(before.end, before.due.max(measured.align)) + measured.size;
     Extent {

@@ -1,4 +1,4 @@
-//! Messages and interfaces off the front of an image.
+//! Messages and interfaces read off the bytes of an image.
 
 ghost use Rattle.std.specs.Prelude.{◌≡◌, [], map, IfErr};
 ghost use Rattle.fl_check.specs.Interface.{message_of, interface_of};

@@ -1,4 +1,4 @@
-//! Numbers and names off the front of an image.
+//! Numbers and names read off the bytes of an image.
 
 ghost use Rattle.std.specs.Prelude.{◌≡◌, ◌<◌, IfOk, IfErr};
 ghost use Rattle.std.specs.List.{list_all};
@@ -84,11 +84,11 @@ fn word(alloc: Global, len: usize, bytes: &[u8]) -> Result<(Word, &[u8]), ImageF
     if bytes.len() < len {
         return Err(ImageFault::Refused(Refusal::EndsEarly));
     }
-    let (front, rest) = bytes.split_at(len);
-    if !is_word(front) {
+    let (start, rest) = bytes.split_at(len);
+    if !is_word(start) {
         return Err(ImageFault::Refused(Refusal::BadField));
     }
-    let bytes = Vec::from_slice(alloc, front)?;
+    let bytes = Vec::from_slice(alloc, start)?;
     Ok((Word { bytes }, rest))
 }
 

@@ -7,7 +7,9 @@ ghost use Rattle.fl_check.specs.Interface.{TheMessage, type_of, arg_type_of, mes
 ghost use Rattle.fl_compile.specs.Programs.{program_of};
 ghost use Rattle.fl_compile.specs.Compiled.{message_code};
 ghost use Rattle.fl_stub.specs.declared.op.Column.TheVariants.{Send, Receive};
-ghost use Rattle.fl_image.specs.Image.{one, two, four, name_image, scalar_code, type_image, fields_image, argument_image, message_image, interface_image, op_code, op_image, code_image, codes_image, codes_of, version_of, is_writable, has_image, image_of};
+ghost use Rattle.fl_image.specs.Image.{one, two, four, name_image, scalar_code, type_image, fields_image, argument_image};
+ghost use Rattle.fl_image.specs.Image.{message_image, interface_image, op_code, op_image, code_image, codes_image, codes_of};
+ghost use Rattle.fl_image.specs.Image.{version_of, is_writable, has_image, image_of};
 
 use crate::code::operand_of;
 use fl_base::MsgNo;
@@ -243,7 +245,8 @@ fn put_codes(out: &mut Vec<u8>, send: &[Op], receive: &[Op]) -> Result<(), Alloc
 
 /// The codes of a message of a program.
 fn put_message_codes(out: &mut Vec<u8>, program: &Program, number: MsgNo) -> Result<(), AllocError>
-    ensures put { (m : TheMessage) → slice_get (program_of program.now).interface.messages number.0 ≡ Some m → OnOk result (out.new.items ≡ out.old.items ++ codes_image (codes_of (program_of program.now).plan m)) }
+    ensures put { (m : TheMessage) → slice_get (program_of program.now).interface.messages number.0 ≡ Some m
+        → OnOk result (out.new.items ≡ out.old.items ++ codes_image (codes_of (program_of program.now).plan m)) }
 {
     if let Some(send) = program.send_code(number) {
         if let Some(receive) = program.receive_code(number) {
@@ -255,7 +258,8 @@ fn put_message_codes(out: &mut Vec<u8>, program: &Program, number: MsgNo) -> Res
 
 /// The codes of all messages of a program.
 fn put_all_codes(out: &mut Vec<u8>, program: &Program) -> Result<(), AllocError>
-    ensures put { OnOk result (out.new.items ≡ out.old.items ++ flat_map codes_image (map (codes_of (program_of program.now).plan) (program_of program.now).interface.messages)) }
+    ensures put { OnOk result (out.new.items ≡ out.old.items
+        ++ flat_map codes_image (map (codes_of (program_of program.now).plan) (program_of program.now).interface.messages)) }
 {
     let count = program.interface().messages.len();
     for number in 0..count {
@@ -280,7 +284,7 @@ fn version_of(plan: PlanNo) -> u64
 /// [`is_writable`](crate::is_writable) tells it of any other.
 ///
 /// # Errors
-/// Want of memory (E99).
+/// Out of memory (E99).
 pub fn write_image(alloc: Global, program: &Program) -> Result<Vec<u8>, AllocError>
     requires writable { is_writable (program_of program.now).interface ≡ true }
     ensures image { IfOk result (λ v. v.items ≡ image_of (program_of program.now).plan (program_of program.now).interface) }

@@ -1,17 +1,17 @@
 -- What a text's declarations declare has room in an image: names, and enums of at most 65,535.
-use Rattle.std.proofs.Common.{◌≡◌, ℕ, ◌+◌, ◌≤◌, ◌<◌, Bool, true, false, ◌||◌, ◌&&◌, not, List, [], ◌∷◌, ◌++◌, map, length, length-append, Option, Some, None, option_map, is_some, unwrap_or, nat_le, nat_lt, nat_eq, codes, refl, sym, ap, ◌∙◌, subst, arith, if◌then◌else◌}
+use Rattle.std.proofs.Common.{◌≡◌, ℕ, ◌+◌, ◌≤◌, Bool, true, false, ◌||◌, ◌&&◌, List, [], ◌∷◌, ◌++◌, map, length, length-append, Option, Some, None, option_map, is_some, unwrap_or, nat_le, nat_lt, codes, refl, ◌∙◌, arith, if◌then◌else◌}
 use Rattle.std.specs.List.{All, AllByRecursion, list_all}
 use Rattle.std.specs.Str.{bytes_eq}
 use Rattle.std.specs.Cmp.{first_so, second_so}
-use Rattle.std.proofs.lemmas.Bool.{leb-false, ltb-false, leb-true, le-leb}
+use Rattle.std.proofs.lemmas.Bool.{ltb-false, le-leb}
 use Rattle.std.proofs.lemmas.List.Folds.{list_all-append}
 use Rattle.std.proofs.lemmas.List.Elements.{All-nil, All-cons, All-head, All-tail}
 use Rattle.fl_check.specs.declared.interface.Scalar.{Scalar as RustScalar}
-use Rattle.fl_check.specs.Interface.{TheType, scalar, enumeration, structure, array, fields_from, TheArgType, fixed, text, sized, TheMessage, TheInterface}
-use Rattle.fl_check.specs.Known.{is_string, scalar_named, is_among, Named, Before, declared_as, type_named, bound_or, message_from, stands_for, counted, field_type, argument_type, types_of, messages_of, after, after_all, nothing_declared, call_name, response_name, ins, outs}
+use Rattle.fl_check.specs.Interface.{TheType, scalar, enumeration, structure, fields_from, fixed, text, TheMessage}
+use Rattle.fl_check.specs.Known.{is_string, scalar_named, is_among, Named, Before, declared_as, type_named, message_from, stands_for, counted, field_type, argument_type, after, after_all, nothing_declared, call_name, response_name, ins, outs}
 use Rattle.fl_check.specs.Places.{Place, rule, rpc_name_place, declaration_places, places_from, arguments_of, argument_places, some_too_long, whole_message_place, message_names}
 use Rattle.fl_check.specs.Checks.{IsSound}
-use Rattle.fl_parse.specs.Tree.{TheName, TheNumber, TheField, TheShape, plain, bounded, sized as sized_shape, TheArgument, TheDirected, TheDeclaration, alias_of, typedef_of, enum_of, struct_of, message_of, rpc_of, TheTree}
+use Rattle.fl_parse.specs.Tree.{TheName, TheNumber, TheField, TheShape, plain, bounded, sized as sized_shape, TheArgument, TheDeclaration, alias_of, typedef_of, enum_of, struct_of, message_of, rpc_of}
 use Rattle.fl_image.specs.Image.{is_letter, is_in_word, is_word, is_name, has_short_enums, have_short_enums, argument_has_short_enums, is_message_writable}
 use Rattle.fl_show.proofs.Words.{both}
 use Rattle.fl_show.proofs.TreeNames.{IsSmall}

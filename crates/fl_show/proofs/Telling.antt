@@ -3,7 +3,6 @@ use Rattle.std.proofs.Common.{◌≡◌, ◌∙◌, ℕ, ◌+◌, ◌<◌, ◌�
 use Rattle.std.proofs.lemmas.List.{drop_all, append-nil}
 use Rattle.std.proofs.lemmas.Option.{slice_get-map, slice_get_read}
 use Rattle.std.specs.Option.{option_map}
-use Rattle.fl_value.proofs.Turns.{map_dropped}
 use Rattle.fl_show.specs.Table.{TellsEach}
 
 -- some things are written behind what stood there, and what tells of the others tells behind them of all

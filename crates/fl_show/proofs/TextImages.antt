@@ -13,7 +13,7 @@ use Rattle.fl_value.specs.declared.value.PlanNo.{PlanNo}
 use Rattle.fl_value.specs.declared.value.PlanNo.TheVariants.{Two}
 use Rattle.fl_compile.specs.Programs.{TheProgram}
 use Rattle.fl_image.specs.Image.{is_name, is_message_writable, is_writable, has_image, image_of}
-use Rattle.fl_show.specs.Shown.{StandsFor as TextStandsFor, IsImageOf, ShowsImage}
+use Rattle.fl_show.specs.Content.{StandsFor as TextStandsFor, IsImageOf, ShowsImage}
 use Rattle.fl_show.specs.Table.{IsTable}
 use Rattle.fl_show.proofs.Words.{both}
 use Rattle.fl_show.proofs.TreeNames.{text_is_small}

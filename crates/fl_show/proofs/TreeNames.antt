@@ -1,15 +1,15 @@
 -- What the grammar says of the names of a text's tree, and of how many enumerators an enum has.
-use Rattle.std.proofs.Common.{◌≡◌, ℕ, ◌+◌, ◌≤◌, true, List, [], ◌∷◌, ◌++◌, length, length-append, Option, Some, None, refl, sym, ap, subst, arith, inl, inr, ◌⊎◌}
+use Rattle.std.proofs.Common.{◌≡◌, ℕ, ◌≤◌, true, List, [], ◌∷◌, ◌++◌, length, length-append, Option, Some, sym, ap, subst, arith, inl, inr, ◌⊎◌}
 use Rattle.std.specs.List.{AllByRecursion}
 use Rattle.fl_lex.specs.Spelling.{token, IsItem}
 use Rattle.fl_lex.specs.Token.{TheToken, TheTokens}
 use Rattle.fl_lex.specs.Outcome.{Fits, KindFits, IsLexed, IsTokenIn}
-use Rattle.fl_lex.specs.declared.token.Mark.TheVariants.{OpenBrace, CloseBrace, OpenParen, CloseParen, OpenBracket, CloseBracket, Comma, Semicolon}
+use Rattle.fl_lex.specs.declared.token.Mark.TheVariants.{Comma}
 use Rattle.fl_lex.specs.declared.token.TokenKind.{TokenKind}
 use Rattle.fl_lex.specs.declared.token.TokenKind.TheVariants as kinds
 use Rattle.fl_lex.proofs.Turns.{tokens_in}
-use Rattle.fl_parse.specs.Tree.{TheName, TheArgument, TheDirected, TheDeclaration, alias_of, typedef_of, enum_of, struct_of, message_of, rpc_of, TheTree}
-use Rattle.fl_parse.specs.Grammar.{One, Means, Then, Optional, Joined, Many, TheMark, AName, Members, Defined, enum_word, struct_word, type_word, Definition, Opening, alias_word, typedef_word, message_word, rpc_word, Production, ADeclaration, Body, Derives, name_in, name_from}
+use Rattle.fl_parse.specs.Tree.{TheName, TheDeclaration, alias_of, typedef_of, enum_of, struct_of, message_of, rpc_of, TheTree}
+use Rattle.fl_parse.specs.Grammar.{One, Then, Joined, Many, TheMark, AName, Members, Defined, enum_word, struct_word, type_word, Definition, Opening, alias_word, typedef_word, message_word, rpc_word, Production, ADeclaration, Body, Derives, name_from}
 use Rattle.fl_image.specs.Image.{is_name}
 use Rattle.fl_show.proofs.Words.{name_of_word}
 

@@ -1,7 +1,7 @@
 //! Why nothing is shown.
 
 ghost use Rattle.std.specs.Prelude.{◌≡◌};
-ghost use Rattle.fl_show.specs.Shown.{status_of};
+ghost use Rattle.fl_show.specs.Content.{status_of};
 ghost use Rattle.fl_show.specs.declared.fault.ShowFault.TheVariants.{Memory};
 
 use fl_check::Explained;
@@ -58,14 +58,14 @@ pub enum ShowFault<'a> {
     /// The image is refused, for a fault of E80 to E85.
     #[error("{0}")]
     NoImage(ImageRefusal),
-    /// Want of memory (E99).
+    /// Out of memory (E99).
     #[error("out of memory")]
     Memory,
 }
 
 impl ShowFault<'_> {
     /// The status with which a program ends that met it.
-    pub fn number(self) -> u8
+    pub fn status(self) -> u8
         ensures status { result ≡ status_of self.entry }
     {
         match self {

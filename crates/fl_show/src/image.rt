@@ -3,7 +3,7 @@
 ghost use Rattle.std.specs.Prelude.{IfOk, IfErr};
 ghost use Rattle.fl_check.specs.Interface.{TheInterface};
 ghost use Rattle.fl_value.specs.declared.value.PlanNo.TheVariants.{Two};
-ghost use Rattle.fl_show.specs.Shown.{StandsFor, IsRefusalOf, IsImageOf};
+ghost use Rattle.fl_show.specs.Content.{StandsFor, IsRefusalOf, IsImageOf};
 
 use crate::fault::ShowFault;
 use crate::reading::accepted;

@@ -4,7 +4,7 @@ ghost use Rattle.std.specs.Prelude.{◌≡◌, ◌==◌, ◌≤◌, true, length
 ghost use Rattle.std.specs.List.{position};
 ghost use Rattle.fl_check.specs.Interface.{interface_of};
 ghost use Rattle.fl_image.specs.Image.{has_image};
-ghost use Rattle.fl_show.specs.Shown.{StandsFor, IsFaultOf, excerpt_at, first_line, IsRefusalOf, TextsHaveImages};
+ghost use Rattle.fl_show.specs.Content.{StandsFor, IsFaultOf, excerpt_at, first_line, IsRefusalOf, TextsHaveImages};
 
 use crate::fault::{Refusal, ShowFault};
 use fl_check::{Interface, TextFault, check};
@@ -43,7 +43,7 @@ pub fn texts_have_images()
 /// The interface that a text stands for, or what a person is told.
 ///
 /// # Errors
-/// [`ShowFault::Refused`] with the text's first fault; [`ShowFault::Memory`] for want of memory.
+/// [`ShowFault::Refused`] with the text's first fault; [`ShowFault::Memory`] when out of memory.
 pub(crate) fn accepted(alloc: Global, text: &[u8]) -> Result<Interface, ShowFault<'_>>
     ensures interface { IfOk result (λ i. StandsFor text.now (interface_of i)) }
     ensures refused { IfErr result (λ e. IsRefusalOf text.now e) }
@@ -54,7 +54,7 @@ pub(crate) fn accepted(alloc: Global, text: &[u8]) -> Result<Interface, ShowFaul
     }
 }
 
-// A fault at a place is the text's; without one it is want of memory.
+// A fault at a place is the text's; without one memory ran out.
 fn refusal(fault: TextFault, text: &[u8]) -> ShowFault<'_>
     requires fault { IsFaultOf text.now fault }
     ensures refused { IsRefusalOf text.now result }

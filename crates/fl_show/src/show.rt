@@ -2,7 +2,7 @@
 
 ghost use Rattle.std.specs.Prelude.{◌≡◌, IfOk, IfErr};
 ghost use Rattle.fl_image.specs.Reading.{FirstFault};
-ghost use Rattle.fl_show.specs.Shown.{is_meant_as_image, ShowsText, ShowsImage, Shows, IsRefusalOf, IsImageRefusalOf, IsRefusedAs};
+ghost use Rattle.fl_show.specs.Content.{is_meant_as_image, ShowsText, ShowsImage, Shows, IsRefusalOf, IsImageRefusalOf, IsRefusedAs};
 
 use crate::fault::{ImageRefusal, ShowFault};
 use crate::reading::accepted;
@@ -53,7 +53,7 @@ pub fn show_text(alloc: Global, text: &[u8]) -> Result<Vec<u8>, ShowFault<'_>>
 /// The plan table of the interface that an image is of, under the plan that it is of.
 ///
 /// # Errors
-/// [`ShowFault::NoImage`] with the first fault where the bytes are no image; [`ShowFault::Memory`] for want of memory.
+/// [`ShowFault::NoImage`] with the first fault where the bytes are no image; [`ShowFault::Memory`] when out of memory.
 pub fn show_image<'a>(alloc: Global, bytes: &[u8]) -> Result<Vec<u8>, ShowFault<'a>>
     ensures table { IfOk result (λ t. ShowsImage bytes.now t.items) }
     ensures refused { IfErr result (λ e. IsImageRefusalOf bytes.now e) }

@@ -26,7 +26,7 @@ use std::alloc::{AllocError, Global};
 /// KIND is `fixed SIZE`, `string max M` or `array max M stride S`, with sizes in bytes.
 ///
 /// # Errors
-/// Want of memory (E99).
+/// Out of memory (E99).
 pub fn plan_table(alloc: Global, plans: &Plans) -> Result<Vec<u8>, AllocError>
     ensures table { IfOk result (λ t. IsTable plans.now.plan (interface_of plans.now.interface) t.items) }
 {
@@ -50,7 +50,8 @@ fn put_interface(alloc: Global, plans: &Plans, table: &mut Vec<u8>) -> Result<()
 }
 
 fn put_messages(alloc: Global, plans: &Plans, table: &mut Vec<u8>) -> Result<(), AllocError>
-    ensures told { OnOk result ((lines : List ℕ) × TellsEach (TellsMessage plans.now.plan (interface_of plans.now.interface)) 0 (interface_of plans.now.interface).messages lines
+    ensures told { OnOk result ((lines : List ℕ)
+        × TellsEach (TellsMessage plans.now.plan (interface_of plans.now.interface)) 0 (interface_of plans.now.interface).messages lines
         × (table.new.items ≡ table.old.items ++ lines)) }
 {
     for (number, message) in plans.interface.messages.iter().enumerate() {
@@ -108,7 +109,8 @@ fn put_arguments(
     table: &mut Vec<u8>,
 ) -> Result<(), AllocError>
     requires stands { slice_get (interface_of plans.now.interface).messages msg.0 ≡ Some (message_of message.now) }
-    ensures told { OnOk result ((lines : List ℕ) × TellsEach (TellsArgument plans.now.plan (interface_of plans.now.interface) msg.0) 0 (message_of message.now).args lines
+    ensures told { OnOk result ((lines : List ℕ)
+        × TellsEach (TellsArgument plans.now.plan (interface_of plans.now.interface) msg.0) 0 (message_of message.now).args lines
         × (table.new.items ≡ table.old.items ++ lines)) }
 {
     for (number, argument) in message.args.iter().enumerate() {

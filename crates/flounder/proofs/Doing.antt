@@ -1,9 +1,14 @@
 -- What commands did, from what each of their calls did.
-use Rattle.std.proofs.Common.{◌≡◌, ℕ, List, [], ◌∷◌, ◌++◌, Option, None, Some, refl, sym, ap, ◌∙◌, subst, inl, inr, append_assoc, append-nil}
-use Rattle.std.specs.Prelude.{IfSome, IfErr, OnOk, MatchResult, Result, Ok, Err}
+use Rattle.std.proofs.Common.{◌≡◌, ℕ, List, [], ◌∷◌, ◌++◌, Option, None, Some, refl, sym, ap, ◌∙◌, subst, inl, inr, append_assoc, append-nil, take, drop}
+use Rattle.std.specs.Prelude.{IfSome, IfErr, OnOk, OnErr, MatchResult, Result, Ok, Err}
 use Rattle.std.specs.Io.KnownBytes.{Appends, Keeps, append_known}
 use Rattle.std.specs.declared.io.ErrorKind.{ErrorKind}
+use Rattle.std.proofs.lemmas.List.{take-append-drop}
+use Rattle.clap.specs.Words.{Text, HasKind, kind_of}
+use Rattle.clap.specs.declared.error.Error.{Error}
 use Rattle.clap.specs.declared.error.kind.ErrorKind.{ErrorKind as UsageKind}
+use Rattle.clap.specs.declared.error.kind.ErrorKind.TheVariants.{DisplayHelp}
+use Rattle.fl_base.specs.Prefix.{IsPrefix}
 use Rattle.fl_check.specs.Interface.{TheInterface}
 use Rattle.fl_value.specs.declared.value.PlanNo.TheVariants.{Two}
 use Rattle.fl_script.specs.declared.running.ExecFault.{ExecFault}
@@ -11,23 +16,27 @@ use Rattle.fl_script.specs.Transcript.{Transcript}
 use Rattle.fl_script.specs.CutShort.{Leaves}
 use Rattle.fl_script.specs.Runs as script
 use Rattle.fl_show.specs.declared.fault.ShowFault.{ShowFault}
-use Rattle.fl_show.specs.Shown.{StandsFor, IsImageOf, IsRefusalOf, Shows, IsRefusedAs, status_of}
+use Rattle.fl_show.specs.Content.{StandsFor, IsImageOf, IsRefusalOf, Shows, IsRefusedAs, status_of}
 use Rattle.flounder.specs.declared.fault.Fault.{Fault}
-use Rattle.flounder.specs.declared.words.Request.{Request}
+use Rattle.flounder.specs.Words.{Asked, asks_for, refusals}
 use Rattle.flounder.specs.Status as program
-use Rattle.flounder.specs.Deeds.{Deed, was_read, was_not_read, was_written, was_not_written, Adds, Does}
-use Rattle.flounder.specs.Streams.{Output, Streams, Puts, Prints, IsUntouched, IsUnread}
+use Rattle.flounder.specs.Deeds.{Deed, was_read, was_not_read, was_written, was_not_written, Tells, Adds, Does}
+use Rattle.flounder.specs.Streams.{Output, Streams, Puts, PutsPrefix, Prints, IsUntouched, IsUnread}
 use Rattle.flounder.specs.Commands.{failed_status, Compiles, Views, Execs, Helps, Performs, Runs}
 
-added_none : (old : Option (List Deed)) → IfSome old (λ before. old ≡ Some (before ++ []))
+added_none : (old : Option (List Deed)) → Tells old old []
 added_none None = tt
-added_none (Some before) = ap (λ (ds : List Deed). Some ds) (sym (append-nil before))
+added_none (Some before) = sym (append-nil before)
 
-added_two : (old middle new : Option (List Deed)) (first second : Deed) → Adds old middle first → Adds middle new second → IfSome old (λ before. new ≡ Some (before ++ first ∷ second ∷ []))
-added_two None middle new first second a b = tt
-added_two (Some before) middle new first second a b =
-    let c : new ≡ Some ((before ++ first ∷ []) ++ second ∷ []) = subst (λ (m : Option (List Deed)). Adds m new second) a b in
-    c ∙ ap (λ (ds : List Deed). Some ds) (append_assoc before (first ∷ []) (second ∷ []))
+added_two : (old middle new : Option (List Deed)) (first second : Deed) → Adds old middle first → Adds middle new second → Tells old new (first ∷ second ∷ [])
+added_two None None None first second a b = tt
+added_two None None (Some after) first second a b = absurd b
+added_two None (Some between) new first second a b = absurd a
+added_two (Some before) None None first second a b = tt
+added_two (Some before) None (Some after) first second a b = absurd b
+added_two (Some before) (Some between) None first second a b = tt
+added_two (Some before) (Some between) (Some after) first second a b =
+    b ∙ ap (λ (ds : List Deed). ds ++ second ∷ []) a ∙ append_assoc before (first ∷ []) (second ∷ [])
 
 does_none : (old : Option (List Deed)) (P : List Deed → Type 0) → P [] → Does old old P
 does_none old P p = ([], added_none old, p)
@@ -100,10 +109,10 @@ pub shown : (old new : Option (List Deed)) (file bytes table : List ℕ) (o : Ou
 shown old new file bytes table o status a h p e =
     does_one old new (was_read file bytes) (Views file o status) a (inl record { bytes = bytes; table = table; shows = h; printed = p; done = refl; ends = e })
 
-pub not_printed : (old new : Option (List Deed)) (file bytes table : List ℕ) (o : Output) (status : ℕ) → Adds old new (was_read file bytes) → Shows bytes table → status ≡ 4
+pub not_printed : (old new : Option (List Deed)) (file bytes table : List ℕ) (o : Output) (status : ℕ) → Adds old new (was_read file bytes) → Shows bytes table → PutsPrefix o table → status ≡ 4
     → Does old new (Views file o status)
-not_printed old new file bytes table o status a h e =
-    does_one old new (was_read file bytes) (Views file o status) a (inr (inr (inr record { bytes = bytes; table = table; shows = h; done = refl; ends = e })))
+not_printed old new file bytes table o status a h p e =
+    does_one old new (was_read file bytes) (Views file o status) a (inr (inr (inr record { bytes = bytes; table = table; shows = h; put = p; done = refl; ends = e })))
 
 -- ---- standard output
 
@@ -130,6 +139,54 @@ pub flushed : {T E : Type 0} (r : Result T E) (o : Output) (v : Option (List ℕ
     → OnOk r (buffer ≡ []) → OnOk r (Prints o text)
 flushed (Ok x) o v buffer text a k same e = prints o v buffer text a k same e
 flushed (Err x) o v buffer text a k same e = tt
+
+-- where the buffer couldn't be written out, all was put
+pub put_unflushed : (o : Output) (v : Option (List ℕ)) (text : List ℕ) → Appends o.before v text → Keeps v o.put → PutsPrefix o text
+put_unflushed o v text a k = (text, ([], sym (append-nil text)), puts_kept o.before v o.put text a k)
+
+pub whatever : {T E : Type 0} (r : Result T E) (P : Type 0) → P → OnErr r P
+whatever (Ok x) P p = tt
+whatever (Err e) P p = p
+
+-- ---- by as many writes as it takes
+
+-- a part of a text was put
+pub record PutSo (u v : Option (List ℕ)) (text rest : List ℕ) : Type 0 where
+  pub prefix : List ℕ
+  pub parts : text ≡ prefix ++ rest
+  pub put : Appends u v prefix
+
+appends_then : (u v w : Option (List ℕ)) (a b : List ℕ) → Appends u v a → Appends v w b → Appends u w (a ++ b)
+appends_then None v w a b x y = tt
+appends_then (Some xs) None w a b x y = absurd x
+appends_then (Some xs) (Some ys) None a b x y = y
+appends_then (Some xs) (Some ys) (Some zs) a b x y = y ∙ (ap (λ (t : List ℕ). t ++ b) x ∙ append_assoc xs a b)
+
+appends_nothing : (u : Option (List ℕ)) → Appends u u []
+appends_nothing None = tt
+appends_nothing (Some xs) = sym (append-nil xs)
+
+pub nothing_put : (u : Option (List ℕ)) (text : List ℕ) → PutSo u u text text
+nothing_put u text = record { prefix = []; parts = refl; put = appends_nothing u }
+
+pub more_put : (u v w : Option (List ℕ)) (text rest left : List ℕ) (n : ℕ) → left ≡ drop n rest → PutSo u v text rest → Appends v w (take n rest) → PutSo u w text left
+more_put u v w text rest left n e p a = record {
+  prefix = p.prefix ++ take n rest;
+  parts = p.parts ∙ (ap (λ (t : List ℕ). p.prefix ++ t) (sym (take-append-drop n rest)) ∙ (sym (append_assoc p.prefix (take n rest) (drop n rest))
+      ∙ ap (λ (t : List ℕ). (p.prefix ++ take n rest) ++ t) (sym e)));
+  put = appends_then u v w p.prefix (take n rest) p.put a;
+}
+
+pub all_put : (u v : Option (List ℕ)) (text rest : List ℕ) → rest ≡ [] → PutSo u v text rest → Appends u v text
+all_put u v text rest e p = subst (λ (t : List ℕ). Appends u v t) (sym (p.parts ∙ ap (λ (t : List ℕ). p.prefix ++ t) e ∙ append-nil p.prefix)) p.put
+
+pub part_put : (u v w : Option (List ℕ)) (text rest : List ℕ) → PutSo u v text rest → Keeps v w → (prefix : List ℕ) × IsPrefix prefix text × Appends u w prefix
+part_put u v w text rest p k = (p.prefix, (rest, p.parts), puts_kept u v w p.prefix p.put k)
+
+pub part_stalled : (u v w : Option (List ℕ)) (text rest : List ℕ) (n : ℕ) → PutSo u v text rest → n ≡ 0 → Appends v w (take n rest) → (prefix : List ℕ) × IsPrefix prefix text × Appends u w prefix
+part_stalled u v w text rest n p e a =
+    let q = more_put u v w text rest (drop n rest) n refl p a in
+    (q.prefix, (drop n rest, q.parts), q.put)
 
 -- ---- exec
 
@@ -164,7 +221,7 @@ pub cut_short : (io : Streams) (v : Option (List ℕ)) (fault : ExecFault) (stat
     → Keeps v io.output.put → status ≡ script.status_of fault → Execs io status
 cut_short io v fault status t k z = inr (inl record {
   fault = fault;
-  front = at_input io.input t;
+  prefix = at_input io.input t;
   ends = z;
 })
   where
@@ -188,13 +245,24 @@ pub performs_compile : (old new : Option (List Deed)) (io : Streams) (file out :
 performs_compile old new io file out status u v h =
     does_weaker old new (Compiles file out status) (λ deeds. IsUnread io × IsUntouched io.output × Compiles file out status deeds) (λ ds p. (u, v, p)) h
 
-pub runs_request : (old new : Option (List Deed)) (io : Streams) (request : Request) (status : ℕ) → Does old new (Performs request io status) → Does old new (Runs io status)
-runs_request old new io request status h = does_weaker old new (Performs request io status) (Runs io status) (λ ds p. inl (request, p)) h
+pub runs_asked : (old new : Option (List Deed)) (words : List Text) (io : Streams) (asked : Asked) (status : ℕ) → asks_for words ≡ Some asked → refusals words ≡ [] → Does old new (Performs asked io status)
+    → Does old new (Runs words io status)
+runs_asked old new words io asked status a r h =
+    does_weaker old new (Performs asked io status) (Runs words io status) (λ ds p. inl record { asked = asked; is_asked = (a, r); done = p }) h
 
 pub helps : {A : Type 0} (r : Result A Fault) (kind : UsageKind) (o : Output) (status : ℕ) → MatchResult r (λ x. Helps kind o 0) (λ f. Helps kind o (program.status_of f))
     → OnOk r (status ≡ 0) → IfErr r (λ f. status ≡ program.status_of f) → Helps kind o status
 helps (Ok x) kind o status h done fault = subst (λ (n : ℕ). Helps kind o n) (sym done) h
 helps (Err f) kind o status h done fault = subst (λ (n : ℕ). Helps kind o n) (sym fault) h
 
-pub runs_help : (old : Option (List Deed)) (io : Streams) (kind : UsageKind) (status : ℕ) → IsUnread io → Helps kind io.output status → Does old old (Runs io status)
-runs_help old io kind status u h = does_none old (Runs io status) (inr (refl, u, kind, h))
+pub runs_refused : (old : Option (List Deed)) (words : List Text) (io : Streams) (error : Error) (status : ℕ) → IsUnread io → HasKind (refusals words) error → Helps (kind_of error) io.output status
+    → Does old old (Runs words io status)
+runs_refused old words io error status u k h =
+    does_none old (Runs words io status) (inr record { kind = kind_of error; is_kind = k; nothing_done = refl; nothing_read = u; told = h })
+
+-- help whose text couldn't be made, printed or written out
+pub help_put : (o : Output) (text : List ℕ) → Prints o text → Helps DisplayHelp o 0
+help_put o text p = inl record { text = text; ends = inl (refl, p) }
+
+pub help_cut : (o : Output) (text : List ℕ) → PutsPrefix o text → Helps DisplayHelp o 4
+help_cut o text p = inl record { text = text; ends = inr (refl, p) }

@@ -1,1 +1,3 @@
 mod Doing
+mod Asking
+mod PlainWords

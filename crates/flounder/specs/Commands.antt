@@ -1,9 +1,11 @@
--- What the commands do with files, standard input and standard output, and the statuses with which they end.
+-- What the commands do with files, standard input and standard output, and the statuses with which they end. Public promises
+-- rest on this file.
 use Rattle.std.specs.Prelude.{◌≡◌, ◌⊎◌, ℕ, List, [], ◌∷◌, IfSome}
 use Rattle.std.specs.declared.io.ErrorKind.{ErrorKind}
 use Rattle.std.specs.declared.io.ErrorKind.TheVariants.{OutOfMemory}
 use Rattle.clap.specs.declared.error.kind.ErrorKind.{ErrorKind as UsageKind}
 use Rattle.clap.specs.declared.error.kind.ErrorKind.TheVariants.{DisplayHelp, OutOfMemory as NoMemory}
+use Rattle.clap.specs.Words.{IsAmong, Text}
 use Rattle.fl_check.specs.Interface.{TheInterface}
 use Rattle.fl_value.specs.declared.value.PlanNo.TheVariants.{Two}
 use Rattle.fl_script.specs.declared.running.ExecFault.{ExecFault}
@@ -11,19 +13,18 @@ use Rattle.fl_script.specs.Transcript.{Transcript}
 use Rattle.fl_script.specs.CutShort.{Leaves}
 use Rattle.fl_script.specs.Runs as script
 use Rattle.fl_show.specs.declared.fault.ShowFault.{ShowFault}
-use Rattle.fl_show.specs.Shown as content
-use Rattle.fl_show.specs.Shown.{StandsFor, IsImageOf, IsRefusalOf, Shows, IsRefusedAs}
-use Rattle.flounder.specs.declared.words.Request.{Request}
-use Rattle.flounder.specs.declared.words.Request.TheVariants.{Exec, Show, Compile}
+use Rattle.fl_show.specs.Content as content
+use Rattle.fl_show.specs.Content.{StandsFor, IsImageOf, IsRefusalOf, Shows, IsRefusedAs}
+use Rattle.flounder.specs.Words.{Asked, to_run, to_show, to_compile, AskFor, refusals}
 use Rattle.flounder.specs.Deeds.{Deed, was_read, was_not_read, was_written, was_not_written}
-use Rattle.flounder.specs.Streams.{Output, Streams, Puts, Prints, IsUntouched, IsUnread}
+use Rattle.flounder.specs.Streams.{Output, Streams, Puts, PutsPrefix, Prints, IsUntouched, IsUnread}
 
--- the status of a read or a write that failed with an error of a kind: 3 for want of memory, else 4
+-- the status of a read or a write that failed with an error of a kind: 3 when out of memory, else 4
 abbrev pub failed_status : ErrorKind → ℕ
 failed_status OutOfMemory = 3
 failed_status kind = 4
 
--- the status where the words of the command line can't be had: 3 for want of memory, else 1
+-- the status where the words of the command line can't be had: 3 when out of memory, else 1
 abbrev pub no_words_status : ErrorKind → ℕ
 no_words_status OutOfMemory = 3
 no_words_status kind = 1
@@ -70,7 +71,7 @@ Compiles file out status deeds =
 -- ---- show FILE
 
 -- FILE was read, and the table that it shows was printed
-pub record Shown (file : List ℕ) (output : Output) (deeds : List Deed) (status : ℕ) : Type 0 where
+pub record Printed (file : List ℕ) (output : Output) (deeds : List Deed) (status : ℕ) : Type 0 where
   pub bytes : List ℕ
   pub table : List ℕ
   pub shows : Shows bytes table
@@ -87,18 +88,19 @@ pub record NotShown (file : List ℕ) (output : Output) (deeds : List Deed) (sta
   pub done : deeds ≡ was_read file bytes ∷ []
   pub ends : status ≡ content.status_of fault
 
--- FILE was read and shows a table, which couldn't be printed, or not whole
-pub record NotPrinted (file : List ℕ) (deeds : List Deed) (status : ℕ) : Type 0 where
+-- FILE was read and shows a table, of which a prefix was put, which may be all of it; the rest couldn't be put or written out
+pub record NotPrinted (file : List ℕ) (output : Output) (deeds : List Deed) (status : ℕ) : Type 0 where
   pub bytes : List ℕ
   pub table : List ℕ
   pub shows : Shows bytes table
+  pub put : PutsPrefix output table
   pub done : deeds ≡ was_read file bytes ∷ []
   pub ends : status ≡ 4
 
 abbrev pub Views : List ℕ → Output → ℕ → List Deed → Type 0
 Views file output status deeds =
-    Shown file output deeds status
-    ⊎ ((IsUntouched output × Unread file deeds status) ⊎ (NotShown file output deeds status ⊎ NotPrinted file deeds status))
+    Printed file output deeds status
+    ⊎ ((IsUntouched output × Unread file deeds status) ⊎ (NotShown file output deeds status ⊎ NotPrinted file output deeds status))
 
 -- ---- exec
 
@@ -107,10 +109,10 @@ pub record Ran (io : Streams) (status : ℕ) : Type 0 where
   pub transcript : IfSome io.input (λ bytes. (out : List ℕ) × Transcript bytes out × Prints io.output out)
   pub ends : status ≡ 0
 
--- memory was refused (3), or a read or a write failed (4): a front of the transcript was put, and for each fault which
+-- memory was refused (3), or a read or a write failed (4): a prefix of the transcript was put, and for each fault which
 pub record CutShort (io : Streams) (status : ℕ) : Type 0 where
   pub fault : ExecFault
-  pub front : IfSome io.input (λ bytes. (out : List ℕ) × Leaves fault bytes out × Puts io.output out)
+  pub prefix : IfSome io.input (λ bytes. (out : List ℕ) × Leaves fault bytes out × Puts io.output out)
   pub ends : status ≡ script.status_of fault
 
 -- the whole transcript was put, and what the buffer kept back couldn't be written out
@@ -123,22 +125,39 @@ Execs io status = Ran io status ⊎ (CutShort io status ⊎ NotFlushed io status
 
 -- ---- no command
 
--- help was asked for, and printed (0) or not (4); memory was refused (3); or the words are of no form (1)
+-- help was asked for: its text was printed (0), or a prefix of it was put (4); or memory was refused before (3)
+pub record Helped (output : Output) (status : ℕ) : Type 0 where
+  pub text : List ℕ
+  pub ends : ((status ≡ 0) × Prints output text) ⊎ ((status ≡ 4) × PutsPrefix output text)
+
+-- help was asked for; memory was refused (3); or the words are of no form (1)
 abbrev pub Helps : UsageKind → Output → ℕ → Type 0
-Helps DisplayHelp output status = (status ≡ 0) ⊎ (status ≡ 4)
+Helps DisplayHelp output status = Helped output status ⊎ (IsUntouched output × (status ≡ 3))
 Helps NoMemory output status = IsUntouched output × (status ≡ 3)
 Helps kind output status = IsUntouched output × (status ≡ 1)
 
 -- ---- a whole run
 
 -- each command does what it says, and touches nothing else
-abbrev pub Performs : Request → Streams → ℕ → List Deed → Type 0
-Performs Exec io status deeds = (deeds ≡ []) × Execs io status
-Performs (Show file) io status deeds = IsUnread io × Views file.now io.output status deeds
-Performs (Compile file out) io status deeds = IsUnread io × IsUntouched io.output × Compiles file.now out.now status deeds
+abbrev pub Performs : Asked → Streams → ℕ → List Deed → Type 0
+Performs to_run io status deeds = (deeds ≡ []) × Execs io status
+Performs (to_show file) io status deeds = IsUnread io × Views file io.output status deeds
+Performs (to_compile file out) io status deeds = IsUnread io × IsUntouched io.output × Compiles file out status deeds
 
--- some command was done, or none was asked for
-abbrev pub Runs : Streams → ℕ → List Deed → Type 0
-Runs io status deeds =
-    ((request : Request) × Performs request io status deeds)
-    ⊎ ((deeds ≡ []) × IsUnread io × (kind : UsageKind) × Helps kind io.output status)
+-- the words ask for something, and it was done
+pub record DoesAsked (words : List Text) (io : Streams) (status : ℕ) (deeds : List Deed) : Type 0 where
+  pub asked : Asked
+  pub is_asked : AskFor words asked
+  pub done : Performs asked io status deeds
+
+-- the words ask for nothing, or memory was refused before it was known what they ask for; nothing was read
+pub record Refuses (words : List Text) (io : Streams) (status : ℕ) (deeds : List Deed) : Type 0 where
+  pub kind : UsageKind
+  pub is_kind : (kind ≡ NoMemory) ⊎ IsAmong kind (refusals words)
+  pub nothing_done : deeds ≡ []
+  pub nothing_read : IsUnread io
+  pub told : Helps kind io.output status
+
+-- a run on these words, of which the first is the program's name
+abbrev pub Runs : List Text → Streams → ℕ → List Deed → Type 0
+Runs words io status deeds = DoesAsked words io status deeds ⊎ Refuses words io status deeds

@@ -1,5 +1,5 @@
--- What commands do with files.
-use Rattle.std.specs.Prelude.{◌≡◌, List, [], ◌∷◌, ◌++◌, ℕ, Option, Some, IfSome, Result, Ok, Err}
+-- What commands do with files. Public promises rest on this file.
+use Rattle.std.specs.Prelude.{◌≡◌, List, [], ◌∷◌, ◌++◌, ℕ, Option, None, Some, Result, Ok, Err}
 use Rattle.std.specs.IoError.{error_kind}
 use Rattle.std.specs.declared.io.Error.{Error}
 use Rattle.std.specs.declared.io.ErrorKind.{ErrorKind}
@@ -11,9 +11,17 @@ pub data Deed : Type 0 where
   was_written : List ℕ → List ℕ → Deed
   was_not_written : List ℕ → ErrorKind → Deed
 
--- one more deed, where deeds are told
+-- Deeds were done, and a store that tells of its deeds told of these. A store may stop telling, as where it has no room to write
+-- them down; one that doesn't tell never tells again.
+abbrev pub Tells : Option (List Deed) → Option (List Deed) → List Deed → Type 0
+Tells None None deeds = Unit {0}
+Tells None (Some after) deeds = ⊥
+Tells (Some before) None deeds = Unit {0}
+Tells (Some before) (Some after) deeds = after ≡ before ++ deeds
+
+-- one deed was done
 abbrev pub Adds : Option (List Deed) → Option (List Deed) → Deed → Type 0
-Adds old new deed = IfSome old (λ before. new ≡ Some (before ++ deed ∷ []))
+Adds old new deed = Tells old new (deed ∷ [])
 
 -- a file was to be read; its bytes are a view of what came back
 abbrev pub reading : {V : Type 0} → (V → List ℕ) → List ℕ → Result V Error → Deed
@@ -25,6 +33,6 @@ abbrev pub writing : {V : Type 0} → List ℕ → List ℕ → Result V Error �
 writing path bytes (Ok v) = was_written path bytes
 writing path bytes (Err e) = was_not_written path (error_kind e)
 
--- some deeds were done, of which a property holds; where deeds are told, they were added
+-- some deeds were done, of which a property holds
 abbrev pub Does : Option (List Deed) → Option (List Deed) → (List Deed → Type 0) → Type 0
-Does old new Property = (deeds : List Deed) × IfSome old (λ before. new ≡ Some (before ++ deeds)) × Property deeds
+Does old new Property = (deeds : List Deed) × Tells old new deeds × Property deeds

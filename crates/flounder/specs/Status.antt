@@ -1,11 +1,11 @@
 -- The statuses with which the program ends.
 use Rattle.std.specs.Prelude.{ℕ}
 use Rattle.fl_script.specs.Runs as script
-use Rattle.fl_show.specs.Shown as shown
+use Rattle.fl_show.specs.Content as shown
 use Rattle.flounder.specs.declared.fault.Fault.{Fault}
 use Rattle.flounder.specs.declared.fault.Fault.TheVariants.{Usage, Words, Unread, Show, Unmade, Exec, Unwritten, Memory}
 
--- 1 usage, 2 a content that is refused, 3 want of memory, 4 a read or a write that failed
+-- 1 usage, 2 a content that is refused, 3 out of memory, 4 a read or a write that failed
 abbrev pub status_of : Fault → ℕ
 status_of (Usage e) = 1
 status_of (Words e) = 1

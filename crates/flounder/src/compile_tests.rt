@@ -133,7 +133,7 @@ fn the_first_fault_of_compile_counts(rt: HostRuntime) {
     assert_eq!(rt; desk.writes, 0);
 }
 
-// The image, or want of memory and nothing written.
+// The image, or out of memory and nothing written.
 #[test]
 fn compiled_without_memory(rt: HostRuntime) {
     let mut desk = Desk::new(PING, None, None);

@@ -32,22 +32,22 @@ pub enum Fault<'a> {
     /// Standard output takes no more.
     #[error("standard output could not be written: {0}\n")]
     Unwritten(io::Error),
-    /// Want of memory.
+    /// Out of memory.
     #[error("out of memory\n")]
     Memory,
 }
 
 impl Fault<'_> {
-    /// The status with which the program ends: 1 usage, 2 a content that is refused, 3 want of memory, 4 a read or
+    /// The status with which the program ends: 1 usage, 2 a content that is refused, 3 out of memory, 4 a read or
     /// a write that failed.
-    pub fn number(&self) -> u8
+    pub fn status(&self) -> u8
         ensures status { result ≡ status_of self.now }
     {
         match self {
             Fault::Usage(_) => 1,
             Fault::Words(_) => 1,
             Fault::Unread { file: _, error: _ } => 4,
-            Fault::Show(fault) => fault.number(),
+            Fault::Show(fault) => fault.status(),
             Fault::Unmade { file: _, error: _ } => 4,
             Fault::Exec(fault) => fault.number(),
             Fault::Unwritten(_) => 4,

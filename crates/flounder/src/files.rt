@@ -10,20 +10,20 @@ use std::{fs, io};
 
 /// Reads and writes whole files by their paths.
 pub trait FileStore {
-    // What was done with files so far, in order, where the store tells it.
+    // What was done with files so far, in order, where the store tells it. A store may never tell, or stop telling.
     ghost deeds: { Self → Option (List Deed) } = { λ _. None };
 
     /// All bytes of a file.
     ///
     /// # Errors
-    /// As of the system; of the kind `OutOfMemory` for want of memory.
+    /// As of the system; of the kind `OutOfMemory` when out of memory.
     fn read(&mut self, alloc: Global, path: &str) -> io::Result<Vec<u8>>
         ensures done { Adds (deeds self.old) (deeds self.new) (reading (λ v. v.items) path.now result) };
 
     /// Makes a file of these bytes, in the place of one of that path.
     ///
     /// # Errors
-    /// As of the system; of the kind `OutOfMemory` for want of memory. The file may then hold a front of the bytes.
+    /// As of the system; of the kind `OutOfMemory` when out of memory. The file may then hold a prefix of the bytes.
     fn write(&mut self, path: &str, bytes: &[u8]) -> io::Result<()>
         ensures done { Adds (deeds self.old) (deeds self.new) (writing path.now bytes.now result) };
 }

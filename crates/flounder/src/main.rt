@@ -5,6 +5,7 @@
 
 mod fault;
 mod files;
+mod law;
 mod run;
 mod words;
 

@@ -1,11 +1,15 @@
 //! A whole run of the program: words and what it reads in, standard output, standard error and a status out.
 
-ghost use Rattle.std.specs.Prelude.{◌≡◌, OnOk, IfErr, MatchResult};
+ghost use Rattle.std.specs.Prelude.{◌≡◌, ℕ, List, map, OnOk, OnErr, IfErr, MatchResult};
 ghost use Rattle.std.specs.IoError.{error_kind};
+ghost use Rattle.std.specs.Io.KnownBytes.{Appends};
 ghost use Rattle.clap.specs.Words.{kind_of};
+ghost use Rattle.clap.specs.declared.error.kind.ErrorKind.TheVariants.{DisplayHelp};
+ghost use Rattle.fl_base.specs.Prefix.{IsPrefix};
+ghost use Rattle.flounder.specs.Words.{asked_by};
 ghost use Rattle.flounder.specs.Status.{status_of};
 ghost use Rattle.flounder.specs.Deeds.{Does};
-ghost use Rattle.flounder.specs.Streams.{output_of, streams_of, Prints};
+ghost use Rattle.flounder.specs.Streams.{output_of, streams_of, PutsPrefix, Prints};
 ghost use Rattle.flounder.specs.Commands.{failed_status, no_words_status, Compiles, Views, Execs, Helps, Performs, Runs};
 
 use crate::fault::Fault;
@@ -22,7 +26,7 @@ use std::io::{BufWriter, Read, Write};
 /// Does what the words ask for, and answers the status. All that is printed has reached the writer behind `output`
 /// where the status is 0.
 ///
-/// Faults are found in the order usage, reading the file, its content, writing; want of memory where it happens.
+/// Faults are found in the order usage, reading the file, its content, writing; out of memory where it happens.
 /// Only the first is told, on `errors`.
 pub fn run<S: AsStr, F: FileStore, R: Read, W: Write + Drop, E: Write>(
     alloc: Global,
@@ -32,11 +36,12 @@ pub fn run<S: AsStr, F: FileStore, R: Read, W: Write + Drop, E: Write>(
     output: &mut BufWriter<W>,
     errors: &mut E,
 ) -> u8
-    ensures runs { Does (F.deeds files.old) (F.deeds files.new) (Runs (streams_of R.remaining W.contents input.old input.new output.old output.new) result) }
+    ensures runs { Does (F.deeds files.old) (F.deeds files.new)
+        (Runs (map S.text words.entry.now) (streams_of R.remaining W.contents input.old input.new output.old output.new) result) }
 {
     match read_words(alloc, words) {
         Ok(request) => perform(alloc, request, files, input, output, errors),
-        Err(error) => finish(tell_usage(error, output), errors),
+        Err(error) => finish(tell_usage(alloc, error, output), errors),
     }
 }
 
@@ -49,7 +54,8 @@ pub fn perform<F: FileStore, R: Read, W: Write + Drop, E: Write>(
     output: &mut BufWriter<W>,
     errors: &mut E,
 ) -> u8
-    ensures done { Does (F.deeds files.old) (F.deeds files.new) (Performs request.entry (streams_of R.remaining W.contents input.old input.new output.old output.new) result) }
+    ensures done { Does (F.deeds files.old) (F.deeds files.new)
+        (Performs (asked_by request.entry) (streams_of R.remaining W.contents input.old input.new output.old output.new) result) }
 {
     match request {
         Request::Exec => run_script(alloc, input, output, errors),
@@ -67,7 +73,7 @@ pub fn finish<E: Write>(outcome: Result<(), Fault<'_>>, errors: &mut E) -> u8
         Ok(()) => 0,
         Err(fault) => {
             let _told = write!(errors, "{fault}");
-            fault.number()
+            fault.status()
         }
     }
 }
@@ -142,11 +148,29 @@ pub fn compile_file<F: FileStore, E: Write>(
     }
 }
 
-// Prints a text, and writes out what the buffer holds.
+// Puts all of a text, by as many writes as it takes. Where one fails, a prefix was put.
+fn put_all<W: Write>(text: &[u8], writer: &mut W) -> io::Result<()>
+    ensures put { OnOk result (Appends (W.contents writer.old) (W.contents writer.new) text.now) }
+    ensures part { OnErr result ((prefix : List ℕ) × IsPrefix prefix text.now
+        × Appends (W.contents writer.old) (W.contents writer.new) prefix) }
+{
+    let mut rest = text;
+    while !rest.is_empty() {
+        let n = writer.write(rest)?;
+        if n == 0 {
+            return Err(io::Error::from(io::ErrorKind::WriteZero));
+        }
+        rest = &rest[n..];
+    }
+    Ok(())
+}
+
+// Prints a text, and writes out what the buffer holds. Where that fails, a prefix of the text was put.
 fn put<W: Write + Drop>(text: &[u8], output: &mut BufWriter<W>) -> io::Result<()>
     ensures put { OnOk result (Prints (output_of W.contents output.old output.new) text.now) }
+    ensures part { OnErr result (PutsPrefix (output_of W.contents output.old output.new) text.now) }
 {
-    output.write_all(text)?;
+    put_all(text, output)?;
     output.flush()
 }
 
@@ -180,6 +204,7 @@ fn unmade(file: &str, error: io::Error) -> Fault<'_>
 
 // Help goes to standard output; what is wrong with the words is a fault.
 fn tell_usage<'a, W: Write + Drop>(
+    alloc: Global,
     error: clap::Error,
     output: &mut BufWriter<W>,
 ) -> Result<(), Fault<'a>>
@@ -188,16 +213,27 @@ fn tell_usage<'a, W: Write + Drop>(
         (λ fault. Helps (kind_of error) (output_of W.contents output.old output.new) (status_of fault)) }
 {
     match error.kind() {
-        ErrorKind::DisplayHelp => match put_help(&error, output) {
-            Ok(()) => Ok(()),
-            Err(error) => Err(Fault::Unwritten(error)),
-        },
+        ErrorKind::DisplayHelp => put_help(alloc, &error, output),
         ErrorKind::OutOfMemory => Err(Fault::Memory),
         _ => Err(Fault::Usage(error)),
     }
 }
 
-fn put_help<W: Write + Drop>(help: &clap::Error, output: &mut BufWriter<W>) -> io::Result<()> {
-    write!(output, "{help}")?;
-    output.flush()
+#[tactic(auto, using(crate::proofs::Doing::help_put, crate::proofs::Doing::help_cut))]
+fn put_help<'a, W: Write + Drop>(
+    alloc: Global,
+    help: &clap::Error,
+    output: &mut BufWriter<W>,
+) -> Result<(), Fault<'a>>
+    ensures told { MatchResult result
+        (λ _. Helps DisplayHelp (output_of W.contents output.old output.new) 0)
+        (λ fault. Helps DisplayHelp (output_of W.contents output.old output.new) (status_of fault)) }
+{
+    let Ok(text) = help.to_string(alloc) else {
+        return Err(Fault::Memory);
+    };
+    match put(text.as_bytes(), output) {
+        Ok(()) => Ok(()),
+        Err(error) => Err(Fault::Unwritten(error)),
+    }
 }

@@ -285,7 +285,7 @@ fn scripts_that_are_not_read(rt: HostRuntime) {
     assert!(rt; !err.is_empty());
 }
 
-// The buffer is written out at the end, and that may fail as well: then a front of the transcript was printed.
+// The buffer is written out at the end, and that may fail as well: then a prefix of the transcript was printed.
 #[test]
 fn scripts_that_are_not_written(rt: HostRuntime) {
     let words = ["flounder", "exec"];

@@ -1,7 +1,12 @@
 //! The words of the command line, read by `clap`.
 
+ghost use Rattle.std.specs.Prelude.{◌≡◌, ℕ, map, option_map, IfOk, Some, codes};
+ghost use Rattle.clap.specs.Words.{FailsBy, first_of, found_of, rows_of, subcommand_rows_of};
+ghost use Rattle.flounder.specs.Words.{exec_command, bare_program, to_compile, show_command, compile_command, program, IsCommand};
+ghost use Rattle.flounder.specs.Words.{asked_by, show_asked, compile_asked, command_asked, asked_of, asks_for, refusals};
+
 use clap::error::ErrorKind;
-use clap::{Arg, Command, Error};
+use clap::{Arg, ArgMatches, Command, Error};
 use std::alloc::{AllocError, Global};
 use std::convert::AsStr;
 
@@ -37,7 +42,7 @@ Status:
   1  the command line isn't of a form shown here
   2  the file's content is refused: the first line on standard error is the fault alone, as `E14 at 24` of a
      text (its number, and its place in bytes) or `E82` of an image; the lines after it say it in words
-  3  want of memory
+  3  out of memory
   4  a read or a write failed
 
 The first fault is answered, in this order: the command line, reading FILE, its content, writing. FILE is read
@@ -109,7 +114,17 @@ const HELP_TEXT: &str = "The interface's text";
 
 const HELP_OUT: &str = "The image; a file of that name is replaced";
 
-fn show_command<'a>(alloc: Global) -> Result<Command<'a>, AllocError> {
+fn exec_command<'a>(alloc: Global) -> Command<'a>
+    ensures is { IsCommand exec_command result }
+{
+    Command::new(alloc, EXEC)
+        .about(ABOUT_EXEC)
+        .after_help(AFTER_EXEC)
+}
+
+fn show_command<'a>(alloc: Global) -> Result<Command<'a>, AllocError>
+    ensures is { IfOk result (IsCommand show_command) }
+{
     let file = Arg::new(alloc, FILE).required(true).help(HELP_SHOWN);
     Command::new(alloc, SHOW)
         .about(ABOUT_SHOW)
@@ -117,7 +132,9 @@ fn show_command<'a>(alloc: Global) -> Result<Command<'a>, AllocError> {
         .arg(file)
 }
 
-fn compile_command<'a>(alloc: Global) -> Result<Command<'a>, AllocError> {
+fn compile_command<'a>(alloc: Global) -> Result<Command<'a>, AllocError>
+    ensures is { IfOk result (IsCommand compile_command) }
+{
     let file = Arg::new(alloc, FILE).required(true).help(HELP_TEXT);
     let out = Arg::new(alloc, OUT).required(true).help(HELP_OUT);
     Command::new(alloc, COMPILE)
@@ -127,39 +144,90 @@ fn compile_command<'a>(alloc: Global) -> Result<Command<'a>, AllocError> {
         .arg(out)
 }
 
-fn command<'a>(alloc: Global) -> Result<Command<'a>, AllocError> {
-    let exec = Command::new(alloc, EXEC)
-        .about(ABOUT_EXEC)
-        .after_help(AFTER_EXEC);
+fn bare_program<'a>(alloc: Global) -> Command<'a>
+    ensures is { IsCommand bare_program result }
+{
     Command::new(alloc, "flounder")
         .about(ABOUT)
         .after_help(STATUSES)
         .disable_help_subcommand(true)
-        .subcommand(exec)?
+}
+
+fn command<'a>(alloc: Global) -> Result<Command<'a>, AllocError>
+    ensures is { IfOk result (IsCommand program) }
+{
+    bare_program(alloc)
+        .subcommand(exec_command(alloc))?
         .subcommand(compile_command(alloc)?)?
         .subcommand(show_command(alloc)?)
+}
+
+/// What `show` is asked for, where its file was named.
+fn show_request<'a>(found: &ArgMatches<'a>) -> Option<Request<'a>>
+    ensures asked { option_map asked_by result ≡ show_asked (rows_of (found_of found.now)) }
+{
+    match found.get_str(FILE) {
+        Some(file) => Some(Request::Show { file }),
+        None => None,
+    }
+}
+
+/// What `compile` is asked for of this file, where the other was named.
+fn compile_to_request<'a>(file: &'a str, found: &ArgMatches<'a>) -> Option<Request<'a>>
+    ensures asked { option_map asked_by result ≡ option_map (to_compile file.now) (first_of (codes "OUT") (rows_of (found_of found.now))) }
+{
+    match found.get_str(OUT) {
+        Some(out) => Some(Request::Compile { file, out }),
+        None => None,
+    }
+}
+
+/// What `compile` is asked for, where both files were named.
+fn compile_request<'a>(found: &ArgMatches<'a>) -> Option<Request<'a>>
+    ensures asked { option_map asked_by result ≡ compile_asked (rows_of (found_of found.now)) }
+{
+    match found.get_str(FILE) {
+        Some(file) => compile_to_request(file, found),
+        None => None,
+    }
+}
+
+/// What a command of that name is asked for.
+fn command_request<'a>(name: &str, found: &ArgMatches<'a>) -> Option<Request<'a>>
+    ensures asked { option_map asked_by result ≡ command_asked name.now (rows_of (found_of found.now)) }
+{
+    if name == SHOW {
+        show_request(found)
+    } else if name == COMPILE {
+        compile_request(found)
+    } else {
+        Some(Request::Exec)
+    }
+}
+
+/// What was asked for.
+fn request_of<'a>(matches: &ArgMatches<'a>) -> Option<Request<'a>>
+    ensures asked { option_map asked_by result ≡ asked_of (subcommand_rows_of matches.now) }
+{
+    match matches.subcommand() {
+        Some((name, found)) => command_request(name, found),
+        None => Some(Request::Exec),
+    }
 }
 
 /// What the words ask for; the first is the program's name.
 ///
 /// # Errors
-/// An error of the kind `DisplayHelp` where help is asked for, `OutOfMemory` for want of memory, and else one
+/// An error of the kind `DisplayHelp` where help is asked for, `OutOfMemory` when out of memory, and else one
 /// that says what is wrong with the words.
-pub fn read_words<'a, S: AsStr>(alloc: Global, words: &'a [S]) -> Result<Request<'a>, Error> {
+pub fn read_words<'a, S: AsStr>(alloc: Global, words: &'a [S]) -> Result<Request<'a>, Error>
+    ensures asked { IfOk result (λ request. asks_for (map S.text words.entry.now) ≡ Some (asked_by request)) }
+    ensures refused { FailsBy (refusals (map S.text words.entry.now)) result }
+{
     let mut command = command(alloc)?;
     let matches = command.try_get_matches_from_mut(words)?;
-    match matches.subcommand() {
-        Some((SHOW, found)) => match found.get_str(FILE) {
-            Some(file) => Ok(Request::Show { file }),
-            None => Err(command.error(ErrorKind::MissingRequiredArgument, "show needs a FILE")?),
-        },
-        Some((COMPILE, found)) => match (found.get_str(FILE), found.get_str(OUT)) {
-            (Some(file), Some(out)) => Ok(Request::Compile { file, out }),
-            _ => Err(command.error(
-                ErrorKind::MissingRequiredArgument,
-                "compile needs a FILE and an OUT",
-            )?),
-        },
-        _ => Ok(Request::Exec),
+    match request_of(&matches) {
+        Some(request) => Ok(request),
+        None => Err(command.error(ErrorKind::MissingRequiredArgument, "a file's name is missing")?),
     }
 }

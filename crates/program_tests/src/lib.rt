@@ -7,7 +7,7 @@
 //! - `tables.rt`: plan tables, and refusals of an interface's text
 //!
 //! `rt try --test --fail-alloc N` runs each with its Nth allocation refused: then `memory_is_refused` has to pass, and
-//! others end with want of memory.
+//! others end with out of memory.
 #![tactic(auto)]
 
 #[cfg(test)]

@@ -59,12 +59,12 @@ fn texts_that_are_refused(rt: HostRuntime) -> Result<(), Fail> {
             return Err(Fail::from("it is compiled"));
         };
         assert!(rt; fault.to_string(rt.alloc())?.as_str() == told, "{fault}");
-        assert_eq!(rt; fault.number(), 2);
+        assert_eq!(rt; fault.status(), 2);
     }
     Ok(())
 }
 
-// An image and its table, or want of memory and nothing else.
+// An image and its table, or out of memory and nothing else.
 #[test]
 fn compiled_and_shown_without_memory(rt: HostRuntime) {
     match compile_text(rt.alloc(), TEXT) {

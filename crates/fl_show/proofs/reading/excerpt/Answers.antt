@@ -1,7 +1,7 @@
 use Rattle.std.proofs.Common.{◌≡◌, ◌-◌, ◌∙◌, List, ℕ, ap, sym, length, take, drop}
 use Rattle.std.proofs.Math.Seq.{take-length}
 use Rattle.std.proofs.lemmas.List.{take_min, drop_min, length-drop}
-use Rattle.fl_show.specs.Shown.{first_line}
+use Rattle.fl_show.specs.Content.{first_line}
 use Rattle.fl_show.proofs.reading.excerpt.Goals as goal
 
 -- all that stands behind the first n

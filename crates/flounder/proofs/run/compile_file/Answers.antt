@@ -1,5 +1,5 @@
 use Rattle.std.proofs.Common.{List, ℕ, refl, subst}
-use Rattle.fl_show.specs.Shown.{IsRefusalOf}
+use Rattle.fl_show.specs.Content.{IsRefusalOf}
 use Rattle.flounder.specs.Status.{status_of}
 use Rattle.flounder.proofs.Doing.{not_read, not_compiled, compiled, not_written}
 use Rattle.flounder.proofs.run.compile_file.Goals as goal

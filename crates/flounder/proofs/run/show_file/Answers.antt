@@ -1,7 +1,7 @@
 use Rattle.std.proofs.Common.{List, ℕ, refl, subst}
-use Rattle.fl_show.specs.Shown.{Shows, IsRefusedAs}
+use Rattle.fl_show.specs.Content.{Shows, IsRefusedAs}
 use Rattle.flounder.specs.Status.{status_of}
-use Rattle.flounder.specs.Streams.{output_of, Prints}
+use Rattle.flounder.specs.Streams.{output_of, PutsPrefix, Prints}
 use Rattle.flounder.proofs.Doing.{not_viewed, not_shown, shown, not_printed}
 use Rattle.flounder.proofs.run.show_file.Goals as goal
 
@@ -34,5 +34,6 @@ returns g c = record {
   shown =
       not_printed (g.F.FileStore.deeds c.args.files.now) (g.F.FileStore.deeds c.read.new.self) c.args.file.now c.in-Ok.content.items c.in-Ok-show_content.table.items
       (output_of g.W.Write.contents c.args.output.now c.put.new.output) c.finish-in-Err-put.result c.in-Ok.ensures.done
-      (subst (λ (t : List ℕ). Shows t c.in-Ok-show_content.table.items) c.deref.ensures.value c.in-Ok-show_content.ensures.table) c.finish-in-Err-put.ensures.fault;
+      (subst (λ (t : List ℕ). Shows t c.in-Ok-show_content.table.items) c.deref.ensures.value c.in-Ok-show_content.ensures.table)
+      (subst (λ (t : List ℕ). PutsPrefix (output_of g.W.Write.contents c.args.output.now c.put.new.output) t) c.deref-2.ensures.value c.in-Err-put.ensures.part) c.finish-in-Err-put.ensures.fault;
 }

@@ -30,7 +30,7 @@ pub record StandsFor (bytes : List ℕ) (i : TheInterface) : Type 0 where
   pub derives : Parses tokens (parsed tree)
   pub checks : Checks tree (checked i)
 
--- the first fault of a text, but for want of memory
+-- the first fault of a text, where memory did not run out
 abbrev pub IsFaultOf : List ℕ → TextFault → Type 0
 IsFaultOf bytes (Lex fault) = IfSome (lex.outcome_of (Err fault)) (Lexes bytes)
 IsFaultOf bytes (Parse fault) =
@@ -52,7 +52,7 @@ first_line bytes = up_to (position (λ byte. byte == 10) bytes) bytes
 abbrev pub excerpt_at : List ℕ → ℕ → List ℕ
 excerpt_at bytes offset = take 40 (first_line (drop offset bytes))
 
--- what is told of a text's fault: where it stands, in bytes and in lines, and what stands there; nothing of want of memory
+-- what is told of a text's fault: where it stands, in bytes and in lines, and what stands there; nothing where memory ran out
 abbrev pub IsRefusalOf : List ℕ → ShowFault → Type 0
 IsRefusalOf bytes (Refused r) =
     IsFaultOf bytes r.explained.fault
@@ -62,7 +62,7 @@ IsRefusalOf bytes (Refused r) =
 IsRefusalOf bytes (NoImage r) = ⊥
 IsRefusalOf bytes Memory = Unit {0}
 
--- what is told of an image's fault: the first; nothing of want of memory
+-- what is told of an image's fault: the first; nothing where memory ran out
 abbrev pub IsImageRefusalOf : List ℕ → ShowFault → Type 0
 IsImageRefusalOf bytes (Refused r) = ⊥
 IsImageRefusalOf bytes (NoImage r) = FirstFault bytes r.fault

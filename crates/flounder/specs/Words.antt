@@ -1,0 +1,112 @@
+-- What the words of the command line ask for: the program's commands as `clap` is told of them, what its definition makes of
+-- words, and the laws on plain words. Public promises rest on this file.
+use Rattle.std.specs.Prelude.{◌≡◌, ◌==◌, ℕ, Bool, true, false, List, [], ◌∷◌, Option, Some, None, option_map, option_and_then, if◌then◌else◌, codes}
+use Rattle.std.specs.Str.{bytes_eq}
+use Rattle.clap.specs.Words.{App, Row, Rule, app_of, Text, Kinds, new_app, new_rule, with_rule, with_subcommand}
+use Rattle.clap.specs.Words.{subcommand_of, fault_of, first_of}
+use Rattle.clap.specs.Kinds.{or_else}
+use Rattle.clap.specs.declared.builder.command.Command.{Command}
+use Rattle.clap.specs.declared.builder.command.Command.TheViews.{out-Command as fields_of}
+use Rattle.clap.specs.declared.error.kind.ErrorKind.TheVariants.{DisplayHelp, MissingRequiredArgument}
+use Rattle.flounder.specs.declared.words.Request.{Request}
+use Rattle.flounder.specs.declared.words.Request.TheVariants.{Exec, Show, Compile}
+
+-- ---- the program's commands
+
+-- an argument that has to be there
+abbrev pub required : Text → Rule
+required name = record (new_rule name) { required = true }
+
+abbrev pub exec_command : App
+exec_command = new_app (codes "exec")
+
+abbrev pub show_command : App
+show_command = with_rule (new_app (codes "show")) (required (codes "FILE"))
+
+abbrev pub compile_command : App
+compile_command = with_rule (with_rule (new_app (codes "compile")) (required (codes "FILE"))) (required (codes "OUT"))
+
+-- the program without its commands; the word `help` is none
+abbrev pub bare_program : App
+bare_program = record (new_app (codes "flounder")) { top = record (new_app (codes "flounder")).top { disable_help_subcommand = true } }
+
+abbrev pub program : App
+program = with_subcommand (with_subcommand (with_subcommand bare_program exec_command.top) compile_command.top) show_command.top
+
+-- a command that `clap` reads so, and that has no argument of all its commands
+pub record IsCommand (app : App) (c : Command) : Type 0 where
+  pub is_app : app_of c ≡ app
+  pub is_local : (fields_of c).has_globals ≡ false
+
+-- ---- what words ask for
+
+-- to run a script; to show a file; to compile a file to another
+pub data Asked : Type 0 where
+  to_run : Asked
+  to_show : Text → Asked
+  to_compile : Text → Text → Asked
+
+abbrev pub asked_by : Request → Asked
+asked_by Exec = to_run
+asked_by (Show file) = to_show file.now
+asked_by (Compile file out) = to_compile file.now out.now
+
+-- a command's values, where all of them are there
+abbrev pub show_asked : List Row → Option Asked
+show_asked rows = option_map to_show (first_of (codes "FILE") rows)
+
+abbrev pub compile_asked : List Row → Option Asked
+compile_asked rows = option_and_then (λ file. option_map (to_compile file) (first_of (codes "OUT") rows)) (first_of (codes "FILE") rows)
+
+abbrev pub command_asked : Text → List Row → Option Asked
+command_asked name rows =
+    if bytes_eq name (codes "show") then show_asked rows
+    else (if bytes_eq name (codes "compile") then compile_asked rows
+    else Some to_run)
+
+-- the command that was met and its values; without one a script is run
+abbrev pub asked_of : Option (Text × List Row) → Option Asked
+asked_of None = Some to_run
+asked_of (Some met) = command_asked met.0 met.1
+
+-- what words ask for, the program's name being the first
+abbrev pub asks_for : List Text → Option Asked
+asks_for words = asked_of (subcommand_of program words)
+
+-- why words ask for nothing: of no kind where they do
+abbrev pub missing_kinds : Option Asked → Kinds
+missing_kinds None = MissingRequiredArgument ∷ []
+missing_kinds (Some asked) = []
+
+abbrev pub refusals : List Text → Kinds
+refusals words = or_else (fault_of program words) (missing_kinds (asks_for words))
+
+-- ---- laws on plain words
+
+-- words that ask for this, and that are refused only when out of memory
+abbrev pub AskFor : List Text → Asked → Type 0
+AskFor words asked = (asks_for words ≡ Some asked) × (refusals words ≡ [])
+
+-- a word that doesn't begin with `-`
+abbrev pub IsPlainWord : Text → Type 0
+IsPlainWord [] = Unit {0}
+IsPlainWord (byte ∷ bytes) = (byte == 45) ≡ false
+
+-- Without a word, or with `exec` alone, a script is run.
+abbrev pub ExecIsAsked : Type 0
+ExecIsAsked = (name : Text) → AskFor (name ∷ []) to_run × AskFor (name ∷ codes "exec" ∷ []) to_run
+
+-- `show FILE` and `compile FILE OUT` ask for that, where the files' names don't begin with `-`.
+abbrev pub ShowIsAsked : Type 0
+ShowIsAsked = (name file : Text) → IsPlainWord file → AskFor (name ∷ codes "show" ∷ file ∷ []) (to_show file)
+
+abbrev pub CompileIsAsked : Type 0
+CompileIsAsked = (name file out : Text) → IsPlainWord file → IsPlainWord out
+    → AskFor (name ∷ codes "compile" ∷ file ∷ out ∷ []) (to_compile file out)
+
+-- `--help` asks for help, also behind a command.
+abbrev pub HelpIsAsked : Type 0
+HelpIsAsked = (name : Text) → (refusals (name ∷ codes "--help" ∷ []) ≡ DisplayHelp ∷ [])
+    × (refusals (name ∷ codes "exec" ∷ codes "--help" ∷ []) ≡ DisplayHelp ∷ [])
+    × (refusals (name ∷ codes "show" ∷ codes "--help" ∷ []) ≡ DisplayHelp ∷ [])
+    × (refusals (name ∷ codes "compile" ∷ codes "--help" ∷ []) ≡ DisplayHelp ∷ [])
