@@ -4,6 +4,7 @@ pub mod FirstFaults
 pub mod Walks
 pub mod Lists
 pub mod Halves
+pub mod FieldSizes
 pub mod Firsts
 pub mod Limits
 pub mod Longs

@@ -14,6 +14,7 @@ mod parts;
 mod payload;
 mod position;
 mod same;
+mod sizes;
 mod types;
 mod words;
 
@@ -22,3 +23,5 @@ pub use explained::{Explained, TextFault};
 pub use fault::{CheckFault, Rule};
 pub use interface::{ArgType, FixedType, Interface, Message, Scalar, Word};
 pub use position::Position;
+pub use same::same_args;
+pub use sizes::greatest_alignment;
