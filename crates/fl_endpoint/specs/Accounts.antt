@@ -92,22 +92,53 @@ stream program circuit calls = flat_map (frags_on circuit program.plan program.i
 abbrev pub streams : TheProgram → ℕ → List TheCall → List (List Frag)
 streams program circuit calls = map (frags_on circuit program.plan program.interface) calls
 
--- from s to t the end accepted these calls, put and took these fragments, handled these calls, and these replies to them
--- were due
-pub record Account (s : TheEnd) (accepted : List Accepted) (put took : List Frag) (handled due : List TheCall) (t : TheEnd) : Type 0 where
+-- the accepted calls as the end puts them, one after another, and call by call
+abbrev pub stream_from : TheEnd → List TheCall → List Frag
+stream_from s calls = stream (program_of s.program) (number_or_0 s.circuit) calls
+
+abbrev pub streams_from : TheEnd → List TheCall → List (List Frag)
+streams_from s calls = streams (program_of s.program) (number_or_0 s.circuit) calls
+
+-- what happened at an end over a stretch of time, each in order
+pub record Stretch : Type 0 where
+  -- the calls that it accepted
+  pub accepted : List Accepted
+  -- the fragments that it put, and those that it took
+  pub put : List Frag
+  pub took : List Frag
+  -- the calls that it handled, and the replies to them that were due
+  pub handled : List TheCall
+  pub due : List TheCall
+
+-- nothing happened
+abbrev pub no_event : Stretch
+no_event = record { accepted = []; put = []; took = []; handled = []; due = [] }
+
+-- one stretch, and then another
+abbrev pub joined : Stretch → Stretch → Stretch
+joined h g = record {
+  accepted = h.accepted ++ g.accepted;
+  put = h.put ++ g.put;
+  took = h.took ++ g.took;
+  handled = h.handled ++ g.handled;
+  due = h.due ++ g.due;
+}
+
+-- by what happened the end went from s to t
+pub record Account (s : TheEnd) (h : Stretch) (t : TheEnd) : Type 0 where
   pub program : t.program ≡ s.program
   pub failed : s.failed ≡ true → t.failed ≡ true
   -- it was bound once at most, and before that nothing was accepted or due
   pub circuit : (c : ℕ) → s.circuit ≡ Some c → t.circuit ≡ Some c
-  pub unbound : t.circuit ≡ None → (accepted ≡ []) × (due ≡ [])
+  pub unbound : t.circuit ≡ None → (h.accepted ≡ []) × (h.due ≡ [])
   -- what it put is what it accepted, in order, up to what is still to be written
-  pub accepted_fit : AllFit (interface_in t) (calls_in accepted)
-  pub sends : s.outgoing.unwritten ++ stream (program_of t.program) (number_or_0 t.circuit) (calls_in accepted) ≡ put ++ t.outgoing.unwritten
+  pub accepted_fit : AllFit (interface_in t) (calls_in h.accepted)
+  pub sends : s.outgoing.unwritten ++ stream_from t (calls_in h.accepted) ≡ h.put ++ t.outgoing.unwritten
   -- the replies that it accepted are those due, in order, up to those that wait
-  pub waits : s.outgoing.waiting ++ streams (program_of t.program) (number_or_0 t.circuit) due ≡ streams (program_of t.program) (number_or_0 t.circuit) (replies_in accepted) ++ t.outgoing.waiting
+  pub waits : s.outgoing.waiting ++ streams_from t h.due ≡ streams_from t (replies_in h.accepted) ++ t.outgoing.waiting
   -- what it took is what it handled, in order, and a rest
-  pub handled_fit : AllFit (interface_in t) handled
-  pub gives : s.parts ++ took ≡ stream (program_of t.program) 0 handled ++ t.parts
+  pub handled_fit : AllFit (interface_in t) h.handled
+  pub gives : s.parts ++ h.took ≡ stream (program_of t.program) 0 h.handled ++ t.parts
 
 -- a call, where there is one, and then others
 abbrev pub followed : Option TheCall → List TheCall → List TheCall
