@@ -12,13 +12,14 @@ use Rattle.fl_endpoint.specs.declared.fault.EndFault.TheVariants.{Wire, Memory}
 use Rattle.fl_endpoint.specs.declared.answer.ReceiveAnswer.TheVariants as receive
 use Rattle.fl_endpoint.specs.View.{TheEnd, bound, bound_by}
 use Rattle.fl_endpoint.specs.Events.{IsReady}
-use Rattle.fl_endpoint.specs.Accounts.{Sound, Account, Replies, takes_of}
+use Rattle.fl_value.specs.Value.{TheCall}
+use Rattle.fl_endpoint.specs.Accounts.{Sound, Accepted, Stretch, Account, Replies, takes_of}
 use Rattle.fl_endpoint.specs.Laws.{AddsNothing, BindAccounts, ReceiveAccounts}
 use Rattle.fl_core.specs.declared.kind.Kind.{Kind}
 use Rattle.fl_core.specs.declared.kind.Kind.TheVariants.{Queue, Ring}
 use Rattle.fl_core.specs.declared.answer.TurnAnswer.{TurnAnswer}
 use Rattle.fl_core.specs.declared.answer.TurnAnswer.TheVariants.{Handle, Part, Ready, Quiet, Full, Nothing, Refused}
-use Rattle.fl_core.specs.Turns.{WaitsIn, Gives, Examines, LooksAt}
+use Rattle.fl_core.specs.Turns.{WaitsIn, lent, moment, Gives, Examines, LooksAt}
 use Rattle.fl_core.specs.Accounts.{handled_in, due_in_turn, TurnAdds}
 
 -- an end that is bound stays as it is when it is bound
@@ -92,6 +93,9 @@ record MoreLooks {T : Type 0} (takes : T → Look → T → Type 0) (m q : T) : 
   side : Looks takes m looks q
   none : (xs : List Look) → takes_of (xs ++ looks) ≡ takes_of xs
 
+abbrev happened : List Accepted → List Frag → List Frag → List TheCall → List TheCall → Stretch
+happened accepted put took handled due = record { accepted = accepted; put = put; took = took; handled = handled; due = due }
+
 more_looks : {T : Type 0} (takes : T → Look → T → Type 0) (kind : Kind) (m q : T) (to : Place) → WaitsIn takes kind m to q → MoreLooks takes m q
 more_looks takes Ring m q place.Polled h = record { looks = []; side = sym h; none = and_none }
 more_looks takes Ring m q place.Pending h = absurd h
@@ -105,7 +109,7 @@ module _ {T : Type 0} (takes : T → Look → T → Type 0) (binds : BindAccount
   nothing : AddsNothing s s × Replies s [] [] s
   nothing = let zero_fits : 0 < 2 ^ 16 = omega arith in subst (λ (x : TheEnd). AddsNothing s x × Replies s [] [] x) (bound_stays s 0 ready.0) (binds s 0 zero_fits sound)
 
-  gave : (kind : Kind) (c : ℕ) (w v : ThreeLists) (answer : Result TurnAnswer AllocError) → Gives takes kind c w s p answer v t q → TurnAdds takes s p answer t q
+  gave : (kind : Kind) (c : ℕ) (w v : ThreeLists) (answer : Result TurnAnswer AllocError) → Gives takes kind c (moment w s p) answer (moment v t q) → TurnAdds takes s p answer t q
   gave kind c w v (Ok (Handle call)) (m, r, (to, waits, e)) =
       let a = receives s t p m (Ok (receive.Handle call)) sound r in let b = more_looks takes kind m q to waits in
       record {
@@ -113,7 +117,7 @@ module _ {T : Type 0} (takes : T → Look → T → Type 0) (binds : BindAccount
         side = looks_join takes p m q a.looks b.looks a.side b.side;
         accepted = a.accepted;
         sound = a.sound;
-        account = subst (λ (fs : List Frag). Account s a.accepted [] fs (handled_in (Ok (Handle call))) (due_in_turn s.rules (Ok (Handle call))) t) (sym (b.none a.looks)) a.account;
+        account = subst (λ (fs : List Frag). Account s (happened a.accepted [] fs (handled_in (Ok (Handle call))) (due_in_turn s.rules (Ok (Handle call)))) t) (sym (b.none a.looks)) a.account;
         replies = a.replies;
       }
   gave kind c w v (Ok Part) (m, r, (to, waits, e)) =
@@ -123,7 +127,7 @@ module _ {T : Type 0} (takes : T → Look → T → Type 0) (binds : BindAccount
         side = looks_join takes p m q a.looks b.looks a.side b.side;
         accepted = a.accepted;
         sound = a.sound;
-        account = subst (λ (fs : List Frag). Account s a.accepted [] fs [] [] t) (sym (b.none a.looks)) a.account;
+        account = subst (λ (fs : List Frag). Account s (happened a.accepted [] fs [] []) t) (sym (b.none a.looks)) a.account;
         replies = a.replies;
       }
   gave kind c w v (Ok Quiet) (m, r, (to, waits, e)) =
@@ -133,7 +137,7 @@ module _ {T : Type 0} (takes : T → Look → T → Type 0) (binds : BindAccount
         side = looks_join takes p m q a.looks b.looks a.side b.side;
         accepted = a.accepted;
         sound = a.sound;
-        account = subst (λ (fs : List Frag). Account s a.accepted [] fs [] [] t) (sym (b.none a.looks)) a.account;
+        account = subst (λ (fs : List Frag). Account s (happened a.accepted [] fs [] []) t) (sym (b.none a.looks)) a.account;
         replies = a.replies;
       }
   gave kind c w v (Ok Nothing) (m, r, (to, waits, e)) =
@@ -143,7 +147,7 @@ module _ {T : Type 0} (takes : T → Look → T → Type 0) (binds : BindAccount
         side = looks_join takes p m q a.looks b.looks a.side b.side;
         accepted = a.accepted;
         sound = a.sound;
-        account = subst (λ (fs : List Frag). Account s a.accepted [] fs [] [] t) (sym (b.none a.looks)) a.account;
+        account = subst (λ (fs : List Frag). Account s (happened a.accepted [] fs [] []) t) (sym (b.none a.looks)) a.account;
         replies = a.replies;
       }
   gave kind c w v (Ok Full) (r, e) =
@@ -160,7 +164,7 @@ module _ {T : Type 0} (takes : T → Look → T → Type 0) (binds : BindAccount
   still : (e : t ≡ s) → AddsNothing s t × Replies s [] [] t
   still e = subst (λ (x : TheEnd). AddsNothing s x × Replies s [] [] x) (sym e) nothing
 
-  examined : (c : ℕ) (w v : ThreeLists) (answer : Result TurnAnswer AllocError) → t ≡ s → Examines takes c w p answer v q → TurnAdds takes s p answer t q
+  examined : (c : ℕ) (w v : ThreeLists) (answer : Result TurnAnswer AllocError) → t ≡ s → Examines takes c (lent w p) answer (lent v q) → TurnAdds takes s p answer t q
   examined c w v (Ok Ready) e ((f, look), off) =
       let a = still e in
       record { looks = saw f ∷ []; side = (q, look, refl); accepted = []; sound = a.0.sound; account = a.0.account; replies = a.1 }
@@ -177,6 +181,6 @@ module _ {T : Type 0} (takes : T → Look → T → Type 0) (binds : BindAccount
   examined c w v (Ok (Refused fault)) e h = absurd h
   examined c w v (Err error) e h = absurd h
 
-  pub turn_adds : (picked : Pick) (kind : Kind) (w v : ThreeLists) (answer : Result TurnAnswer AllocError) → LooksAt takes picked kind w s p answer v t q → TurnAdds takes s p answer t q
+  pub turn_adds : (picked : Pick) (kind : Kind) (w v : ThreeLists) (answer : Result TurnAnswer AllocError) → LooksAt takes picked kind (moment w s p) answer (moment v t q) → TurnAdds takes s p answer t q
   turn_adds (pick.Pending c) kind w v answer h = gave kind c.0 w v answer h
   turn_adds (pick.Polled c) kind w v answer h = examined c.0 w v answer h.1 h.0
