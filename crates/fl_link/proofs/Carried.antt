@@ -2,8 +2,7 @@
 use Rattle.std.proofs.Common.{ℕ, ◌≡◌, ◌<◌, ◌+◌, ◌*◌, ◌/◌, ◌%◌, ◌^◌, ap, ◌∙◌, arith}
 use Rattle.std.proofs.lemmas.Nat.{mod_below}
 use Rattle.fl_base.specs.declared.fragment.Frag.{Frag}
-use Rattle.fl_base.specs.Control.{epoch_of, told_of}
-use Rattle.fl_link.specs.Stamp.{body, bare, stamped}
+use Rattle.fl_base.specs.Control.{epoch_of, told_of, body, bare, stamped}
 
 -- of a number b below 2 ^ 47, the two ends of a control word around it
 halved : (b e m : ℕ) → e < 2 → (2 * b + e + 2 ^ 48 * m) / 2 ≡ b + 2 ^ 47 * m

@@ -1,3 +1,4 @@
 pub mod Carried
+pub mod Conserved
 pub mod Firsts
 pub mod Rounds

@@ -1,7 +1,8 @@
 -- What one step at a side came to: the label of the traits' step relations.
-use Rattle.std.specs.Prelude.{Result, Ok, Err, List, [], ◌∷◌, ◌≡◌}
+use Rattle.std.specs.Prelude.{Result, Ok, Err, List, [], ◌∷◌, ◌≡◌, ◌⊎◌}
+use Rattle.std.specs.List.{flat_map}
 use Rattle.fl_base.specs.declared.fragment.Frag.{Frag}
-use Rattle.fl_link.specs.Stamp.{bare}
+use Rattle.fl_base.specs.Control.{bare}
 use Rattle.fl_link.specs.declared.sides.Sight.{Sight}
 use Rattle.fl_link.specs.declared.sides.Sight.TheVariants.{Data, Acknowledgement, Empty}
 use Rattle.fl_link.specs.declared.sides.Told.{Told}
@@ -10,7 +11,7 @@ use Rattle.fl_link.specs.declared.fault.PutFault.{PutFault}
 
 -- every fragment in a label is bare: its epoch and the count that it tells are set aside
 pub data Look : Type 0 where
-  -- a put placed this fragment
+  -- a put placed this fragment, which is one of a call
   placed : Frag → Look
   -- a put, or a tell that had something to tell, found too few free slots
   no_room : Look
@@ -53,3 +54,23 @@ tells (Err fault) = no_room
 abbrev pub Looks : {S : Type 0} → (S → Look → S → Type 0) → S → List Look → S → Type 0
 Looks R s [] t = s ≡ t
 Looks {S} R s (look ∷ looks) t = (m : S) × R s look m × Looks R m looks t
+
+-- one step of a side that both puts and takes
+abbrev pub LinkStep : {S : Type 0} → (S → Look → S → Type 0) → (S → Look → S → Type 0) → S → Look → S → Type 0
+LinkStep puts takes s look t = puts s look t ⊎ takes s look t
+
+-- the fragment that a step placed, and the one that it found and took, if it did
+abbrev pub put_in : Look → List Frag
+put_in (placed frag) = frag ∷ []
+put_in look = []
+
+abbrev pub took_in : Look → List Frag
+took_in (found frag) = frag ∷ []
+took_in look = []
+
+-- the fragments that a stretch of steps placed, and those that it found and took
+abbrev pub puts_of : List Look → List Frag
+puts_of looks = flat_map put_in looks
+
+abbrev pub takes_of : List Look → List Frag
+takes_of looks = flat_map took_in looks

@@ -2,8 +2,7 @@
 use Rattle.std.specs.Prelude.{ℕ, ◌≡◌, ◌+◌, ◌<◌, ◌≤◌, ◌^◌, ◌&&◌, nat_lt, Bool, IsTrue, true, false, if◌then◌else◌, List, [], ◌∷◌, ◌++◌, length}
 use Rattle.std.specs.Int.{is_power_of_two}
 use Rattle.fl_base.specs.declared.fragment.Frag.{Frag}
-use Rattle.fl_base.specs.Control.{is_ack_only}
-use Rattle.fl_link.specs.Stamp.{bare, stamped}
+use Rattle.fl_base.specs.Control.{is_ack_only, bare, stamped}
 use Rattle.fl_link.specs.Cursor.{epoch_at}
 use Rattle.fl_link.specs.Looks.{Look, placed, no_room, spent, saw, saw_ack, found, found_ack, missed, told, kept}
 
@@ -85,19 +84,27 @@ abbrev pub MayHave : Bool → ℕ → Type 0
 MayHave false n = (0 < n) × (n ≤ 1024)
 MayHave true n = (1 < n) × (n ≤ 1024) × IsTrue (is_power_of_two n)
 
+-- there was room, and this fragment stands last now
+abbrev pub QueueGains : TheQueue → Frag → TheQueue → Type 0
+QueueGains s frag t = HasRoom s × (t ≡ with_put s frag)
+
 -- one put, by what it came to
 abbrev pub QueuePuts : TheQueue → Look → TheQueue → Type 0
-QueuePuts s (placed frag) t = HasRoom s × (t ≡ with_put s frag)
+QueuePuts s (placed frag) t = (is_ack_only frag ≡ false) × QueueGains s frag t
 QueuePuts s no_room t = IsFull s × (t ≡ s)
 QueuePuts s spent t = IsSpent s × (t ≡ s)
 QueuePuts s _ t = ⊥
+
+-- the first fragment is taken
+abbrev pub LosesFirst : TheQueue → TheQueue → Type 0
+LosesFirst s t = (first : Frag) × (rest : List Frag) × (s.items ≡ first ∷ rest) × (t ≡ with_taken s rest)
 
 -- one look, take or tell, by what it came to
 abbrev pub QueueTakes : TheQueue → Look → TheQueue → Type 0
 QueueTakes s (saw frag) t = (front_of s.items ≡ saw frag) × (t ≡ s)
 QueueTakes s saw_ack t = (front_of s.items ≡ saw_ack) × (t ≡ s)
-QueueTakes s (found frag) t = (front_of s.items ≡ saw frag) × ((first : Frag) × (rest : List Frag) × (s.items ≡ first ∷ rest) × (t ≡ with_taken s rest))
-QueueTakes s found_ack t = (front_of s.items ≡ saw_ack) × ((first : Frag) × (rest : List Frag) × (s.items ≡ first ∷ rest) × (t ≡ with_taken s rest))
+QueueTakes s (found frag) t = (front_of s.items ≡ saw frag) × LosesFirst s t
+QueueTakes s found_ack t = (front_of s.items ≡ saw_ack) × LosesFirst s t
 QueueTakes s missed t = (s.items ≡ []) × (t ≡ s)
 QueueTakes s told t = (s.acked ≡ true) × (t ≡ with_told s)
 QueueTakes s kept t = (s.acked ≡ false) × (t ≡ s)

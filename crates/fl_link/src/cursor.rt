@@ -5,6 +5,9 @@ ghost use Rattle.fl_link.specs.Cursor.{TheCursor, epoch_at};
 
 use std::marker::Model;
 
+/// How many fragments a link that counts carries in all, 2^62: then it is spent.
+pub const SPENT: u64 = 4_611_686_018_427_387_904;
+
 /// An index, with its place in a ring of `size` places and the epoch of its round.
 ///
 /// Place and epoch are kept beside the index, so that no step divides.

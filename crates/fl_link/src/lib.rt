@@ -2,7 +2,7 @@
 //!
 //! Ends, monitors and cores are written once over [`PutSide`] and [`TakeSide`], and proved once. A
 //! link is a bounded queue of fragments; how it frees its slots, and what it writes into a
-//! fragment's epoch and count told, is its own affair (`specs/Queue.antt`, `specs/Stamp.antt`).
+//! fragment's epoch and count told, is its own affair (`specs/Queue.antt`).
 //!
 //! Contract for the layers above: each call of a side is one step of the side's relation, labelled
 //! by what it came to (`specs/Looks.antt`): a success says that there was room as much as a refusal
@@ -10,22 +10,22 @@
 //!
 //! - `sides.rt`: the traits
 //! - `queue.rt`: `QueueLink`, the queue within a core or of a link with one owner
-//! - `cursor.rt`: `Cursor`, an index that goes round a ring
-//! - `stamps.rt`: the parts of a control word that a link writes
+//! - `cursor.rt`: `Cursor`, an index that goes round a ring, and the last index
 //! - `passing.rt`: a fragment passed on from one link to another
 //! - `fault.rt`: why a put or a making is refused
+//! - `law.rt`: what holds of looks in a row, and of a queue over them
 #![tactic(auto)]
 
 mod cursor;
 mod fault;
+mod law;
 mod passing;
 mod queue;
 mod sides;
-mod stamps;
 
-pub use cursor::Cursor;
+pub use cursor::{Cursor, SPENT};
 pub use fault::{LinkFault, PutFault};
+pub use law::{calls_alone, filters_join, looks_join, queue_conserves};
 pub use passing::{Passed, pass};
 pub use queue::QueueLink;
 pub use sides::{Link, PutSide, Sight, TakeSide, Told};
-pub use stamps::{SPENT, stamp};

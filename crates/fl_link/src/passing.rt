@@ -23,7 +23,7 @@ pub enum Passed {
 /// Moves the first fragment of `from` to `to`. Nothing is lost: where the way out has no room, the
 /// fragment stays.
 pub fn pass<T: TakeSide, P: PutSide>(from: &mut T, to: &mut P) -> Passed
-    ensures passes { Passes T.takes P.puts from.old to.old result from.new to.new }
+    ensures passes { Passes T.takes P.puts (record { way_in = from.old; way_out = to.old }) result (record { way_in = from.new; way_out = to.new }) }
 {
     let frag = match from.peek() {
         Sight::Empty => return Passed::Nothing,

@@ -2,15 +2,13 @@
 
 ghost use Rattle.std.specs.Prelude.{◌≡◌, ◌+◌, ◌*◌, ◌^◌, ◌/◌, ◌%◌, ◌<◌, ◌≤◌, ◌-◌, ◌↔◌, ℕ, ◌≢◌, IsTrue, true, false, [], IfOk, OnOk, Ok, Err, refl};
 ghost use Rattle.fl_base.specs.declared.fragment.Frag.{Frag};
-ghost use Rattle.fl_base.specs.Control.{is_ack_only};
-ghost use Rattle.fl_link.specs.Stamp.{bare};
+ghost use Rattle.fl_base.specs.Control.{is_ack_only, bare};
 ghost use Rattle.fl_link.specs.Looks.{placed, no_room, spent, saw, saw_ack, found, found_ack, peeked, taken, tells};
-ghost use Rattle.fl_link.specs.Queue.{TheQueue, QueuePuts, QueueTakes, next_epoch_of, used, front_of, BeginsWith, has_room, MayHave};
+ghost use Rattle.fl_link.specs.Queue.{TheQueue, QueueGains, QueuePuts, QueueTakes, next_epoch_of, used, front_of, BeginsWith, has_room, MayHave};
 
-use crate::cursor::Cursor;
+use crate::cursor::{Cursor, SPENT};
 use crate::fault::{LinkFault, PutFault};
 use crate::sides::{PutSide, Sight, TakeSide, Told};
-use crate::stamps::{SPENT, stamp};
 use fl_base::{Frag, MAX_QUEUE};
 use std::alloc::Global;
 use std::collections::VecDeque;
@@ -39,7 +37,9 @@ impl Model for QueueLink {
 
     ghost view = { λ q. record { items = q.items.items; untold = q.untold; sent = q.next.index; capacity = q.capacity; acked = q.acked } };
 
-    ghost invariant = { λ q. (q.capacity ≤ deque_capacity q.items) × (q.next.size ≡ q.capacity) × (0 < q.capacity) × (q.capacity ≤ 1024) × (length q.items.items + q.untold ≤ q.capacity) × (q.next.index ≤ 2 ^ 62) × (q.acked ≡ false → (q.next.index ≡ 0) × (q.untold ≡ 0)) };
+    ghost invariant = { λ q. (q.capacity ≤ deque_capacity q.items) × (q.next.size ≡ q.capacity)
+        × (0 < q.capacity) × (q.capacity ≤ 1024) × (length q.items.items + q.untold ≤ q.capacity)
+        × (q.next.index ≤ 2 ^ 62) × (q.acked ≡ false → (q.next.index ≡ 0) × (q.untold ≡ 0)) };
 }
 
 impl QueueLink {
@@ -97,7 +97,7 @@ impl QueueLink {
     /// Puts the fragment last, with the epoch due and telling nothing. Where every slot is in use
     /// it is E30, and after 2^62 fragments of an `acked` queue E33.
     pub fn put(&mut self, frag: &Frag) -> Result<(), PutFault>
-        ensures placed { OnOk result (QueuePuts self.old (placed (bare frag.now)) self.new) }
+        ensures placed { OnOk result (QueueGains self.old (bare frag.now) self.new) }
         ensures full { result ≡ Err PutFault.Full → QueuePuts self.old no_room self.new }
         ensures spent { result ≡ Err PutFault.Spent → QueuePuts self.old spent self.new }
     {
@@ -107,7 +107,7 @@ impl QueueLink {
         if self.items.len() + self.untold == self.capacity {
             return Err(PutFault::Full);
         }
-        let stamped = stamp(frag, self.next.epoch(), 0);
+        let stamped = frag.stamp(self.next.epoch(), 0);
         self.items.push_back(stamped).unwrap();
         if self.acked {
             self.next.advance();
@@ -118,6 +118,7 @@ impl QueueLink {
     /// The epoch bit of the fragment that is put next: always 1 in a `local` queue.
     pub fn next_epoch(&self) -> u64
         ensures epoch { result ≡ next_epoch_of self.now }
+        ensures bit { result < 2 }
     {
         self.next.epoch()
     }

@@ -2,8 +2,7 @@
 
 ghost use Rattle.std.specs.Prelude.{◌≡◌, ◌≢◌, ℕ, Bool, true, false, IsTrue, OnOk, Ok, Err, ◌<◌, ◌^◌};
 ghost use Rattle.fl_base.specs.declared.fragment.Frag.{Frag};
-ghost use Rattle.fl_base.specs.Control.{is_ack_only};
-ghost use Rattle.fl_link.specs.Stamp.{bare};
+ghost use Rattle.fl_base.specs.Control.{is_ack_only, bare};
 ghost use Rattle.fl_link.specs.Looks.{Look, placed, no_room, spent, saw, saw_ack, found, found_ack, peeked, taken, tells};
 
 use crate::fault::PutFault;
@@ -56,9 +55,10 @@ pub trait PutSide {
         ensures full { result ≡ Err PutFault.Full → puts self.old no_room self.new }
         ensures spent { result ≡ Err PutFault.Spent → puts self.old spent self.new };
 
-    /// The epoch bit of the fragment that is put next.
+    /// The epoch bit of the fragment that is put next, 0 or 1.
     fn next_epoch(&self) -> u64
-        ensures epoch { result ≡ epoch_of self.now };
+        ensures epoch { result ≡ epoch_of self.now }
+        ensures bit { result < 2 };
 
     /// Bits 48 to 63 of the fragment that is put next: 0 where acknowledgements don't ride in
     /// control words.
@@ -80,10 +80,12 @@ pub trait TakeSide {
 
     ghost front: { Self → Look };
 
-    /// What stands first, which is left there.
+    /// What stands first, which is left there. After a peek that found something it is that again.
     fn peek(&mut self) -> Sight
         ensures look { takes self.old (peeked result) self.new }
         ensures front { peeked result ≡ front self.new }
+        ensures again { (frag : Frag) → front self.old ≡ saw frag → peeked result ≡ saw frag }
+        ensures again_acknowledged { front self.old ≡ saw_ack → peeked result ≡ saw_ack }
         ensures of_call { (frag : Frag) → result ≡ Sight.Data frag → is_ack_only frag ≡ false };
 
     /// Takes what stands first. After a peek that found something it is that.

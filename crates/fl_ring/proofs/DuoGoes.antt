@@ -2,11 +2,11 @@
 use Rattle.std.proofs.Common.{ℕ, ◌≡◌, ◌<◌, ◌≤◌, ◌+◌, ◌-◌, ◌/◌, ◌%◌, ◌^◌, true, false, nat_le, List, [], ◌∷◌, ◌++◌, length, ap, subst, ◌∙◌, sym, refl, arith}
 use Rattle.std.proofs.lemmas.Bool.{leb-true, leb-false}
 use Rattle.fl_base.specs.declared.fragment.Frag.{Frag}
-use Rattle.fl_base.specs.Control.{told_of, is_ack_only}
+use Rattle.fl_base.specs.Control.{told_of, is_ack_only, bare}
 use Rattle.fl_link.specs.Cursor.{epoch_at}
-use Rattle.fl_link.specs.Stamp.{bare}
 use Rattle.fl_link.specs.Looks.{placed, found, found_ack, told}
 use Rattle.fl_link.proofs.Carried.{stamped-bare}
+use Rattle.fl_link.proofs.Conserved.{bare-ack}
 use Rattle.fl_ring.specs.Counts.{count_from, known_after}
 use Rattle.fl_ring.specs.Duo.{TheHalf, HalfPuts, HalfTakes, with_known, with_written, with_arrived, with_taken, written, free, counts_by, looked, got, acknowledgement}
 use Rattle.fl_ring.specs.Halves.{InStep, half_of}
@@ -17,17 +17,17 @@ use Rattle.fl_ring.proofs.RingSteps.{front_data, front_ack}
 use Rattle.fl_ring.proofs.DuoSteps.{next_of, take_steps, taken_half, waits}
 
 -- a put where enough slots are free by the count that it counts by
-pub put_goes : (n : ℕ) (ws ws' : List ℕ) (a m a' b : Half) (frag : Frag) → InStep n ws a b → a.put.index < 2 ^ 62
+pub put_goes : (n : ℕ) (ws ws' : List ℕ) (a m a' b : Half) (frag : Frag) → is_ack_only frag ≡ false → InStep n ws a b → a.put.index < 2 ^ 62
     → m ≡ record a { known = counts_by n 2 (half_of n ws a b) } → nat_le 2 (free n a.put.index m.known) ≡ true
     → half_of n ws' a' b ≡ with_written (half_of n ws m b) → half_of n ws' b a' ≡ with_arrived (half_of n ws b m) (written n (half_of n ws m b) frag)
     → HalfPuts n (half_of n ws a b) (half_of n ws b a) (placed (bare frag)) (half_of n ws' a' b) (half_of n ws' b a')
-put_goes n ws ws' a m a' b frag s unspent known room mine theirs =
+put_goes n ws ws' a m a' b frag plain s unspent known room mine theirs =
     let h : TheHalf = half_of n ws a b in
     let k : ℕ = counts_by n 2 h in
     let enough : nat_le 2 (free n a.put.index k) ≡ true = subst (λ (x : Half). nat_le 2 (free n a.put.index x.known) ≡ true) known room in
     let t : half_of n ws' a' b ≡ with_written (with_known h k) = mine ∙ ap (λ (x : Half). with_written (half_of n ws x b)) known in
     let q : half_of n ws' b a' ≡ with_arrived (half_of n ws b a) (written n h frag) = theirs ∙ ap (λ (x : Half). with_arrived (half_of n ws b x) (written n (half_of n ws x b) frag)) known in
-    (unspent, leb-true 2 (free n a.put.index k) enough, t, q ∙ ap (λ (f : Frag). with_arrived (half_of n ws b a) f) (sym (stamped-bare frag (epoch_at n a.put.index) (got h % 65536))))
+    (bare-ack frag ∙ plain, unspent, leb-true 2 (free n a.put.index k) enough, t, q ∙ ap (λ (f : Frag). with_arrived (half_of n ws b a) f) (sym (stamped-bare frag (epoch_at n a.put.index) (got h % 65536))))
 
 -- a tell where enough is untold and a slot is free
 pub tell_goes : (n : ℕ) (ws ws' : List ℕ) (a m a' b : Half) → InStep n ws a b → n / 2 ≤ length (half_of n ws a b).read → a.put.index < 2 ^ 62

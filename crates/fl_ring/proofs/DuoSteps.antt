@@ -5,14 +5,14 @@ use Rattle.fl_base.specs.Control.{epoch_of, told_of}
 use Rattle.fl_link.specs.Cursor.{TheCursor, epoch_at}
 use Rattle.fl_ring.specs.Way.{slot, frag_of, standing, WritesSlot}
 use Rattle.fl_ring.specs.Counts.{count_from, known_after, last_count}
-use Rattle.fl_ring.specs.Duo.{TheHalf, with_written, with_arrived, with_taken, looked}
+use Rattle.fl_ring.specs.Duo.{TheHalf, with_written, with_arrived, with_taken, looked, MayForget}
 use Rattle.fl_ring.specs.Halves.{Direction, InStep, half_of}
 use Rattle.fl_ring.specs.declared.halves.Half.{Half}
 use Rattle.fl_ring.proofs.Places.{slot_within}
 use Rattle.fl_ring.proofs.Ways.{standing_more, keeps_standing, same_standing, kept_apart, length-standing, gains, tells, elsewhere}
 use Rattle.fl_ring.proofs.RingSteps.{standing_first, standing_none}
 use Rattle.fl_ring.proofs.Tells.{tells_kept, tells_put}
-use Rattle.fl_ring.proofs.Numbers.{count_named, last_rises, last_push, after_rises, last_after}
+use Rattle.fl_ring.proofs.Numbers.{count_named, last_rises, last_push, after_rises, last_after, forgets}
 
 -- ---- from either side
 
@@ -50,6 +50,38 @@ known_steps n ws a b k s e = record {
     most = s.there.most;
     room = omega (arith, s.there.room, e, after_rises a.known (half_of n ws a b).waiting);
     counts = ap (λ (x : ℕ). last_count x (half_of n ws a b).waiting) e ∙ last_after a.known (half_of n ws a b).waiting ∙ s.there.counts;
+    last = s.there.last;
+  };
+  back = record {
+    from = s.back.from;
+    put_size = s.back.put_size;
+    take_size = s.back.take_size;
+    marked = s.back.marked;
+    told_taken = s.back.told_taken;
+    taken_sent = s.back.taken_sent;
+    most = s.back.most;
+    room = s.back.room;
+    counts = s.back.counts;
+    last = s.back.last;
+  };
+}
+
+-- back to a count that was known before
+pub forget_steps : (n : ℕ) (ws : List ℕ) (a b : Half) (k : ℕ) → InStep n ws a b → MayForget n (half_of n ws a b) k → InStep n ws (record a { known = k }) b
+forget_steps n ws a b k s before = record {
+  few = s.few;
+  wide = s.wide;
+  apart = s.apart;
+  there = record {
+    from = s.there.from;
+    put_size = s.there.put_size;
+    take_size = s.there.take_size;
+    marked = s.there.marked;
+    told_taken = s.there.told_taken;
+    taken_sent = s.there.taken_sent;
+    most = s.there.most;
+    room = before.sent_near;
+    counts = forgets k a.known b.told (half_of n ws a b).waiting before.before (omega (arith, s.there.told_taken, s.there.taken_sent, before.sent_near, s.few)) before.none_waits s.there.counts;
     last = s.there.last;
   };
   back = record {

@@ -1,9 +1,8 @@
 -- A side writes a fragment: both sides stay in step, and it waits for the other.
 use Rattle.std.proofs.Common.{ℕ, ◌≡◌, ◌<◌, ◌≤◌, ◌+◌, ◌*◌, ◌%◌, ◌^◌, List, ap, subst, ◌∙◌, sym}
 use Rattle.fl_base.specs.declared.fragment.Frag.{Frag}
-use Rattle.fl_base.specs.Control.{told_of}
+use Rattle.fl_base.specs.Control.{told_of, stamped}
 use Rattle.fl_link.specs.Cursor.{epoch_at}
-use Rattle.fl_link.specs.Stamp.{stamped}
 use Rattle.fl_link.proofs.Carried.{epoch-stamped, told-stamped}
 use Rattle.fl_ring.specs.Way.{slot, WritesSlot}
 use Rattle.fl_ring.specs.Duo.{TheHalf, with_written, with_arrived, written, got}

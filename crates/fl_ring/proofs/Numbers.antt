@@ -1,5 +1,5 @@
 -- A 16-bit number names one count.
-use Rattle.std.proofs.Common.{ℕ, ◌≡◌, ◌<◌, ◌≤◌, ◌+◌, ◌%◌, List, [], ◌∷◌, ◌++◌, ap, refl, arith}
+use Rattle.std.proofs.Common.{ℕ, ◌≡◌, ◌<◌, ◌≤◌, ◌+◌, ◌%◌, List, [], ◌∷◌, ◌++◌, ap, ◌∙◌, refl, arith}
 use Rattle.fl_base.specs.declared.fragment.Frag.{Frag}
 use Rattle.fl_base.specs.Control.{told_of}
 use Rattle.fl_ring.specs.Counts.{count_from, known_after, last_count}
@@ -31,3 +31,15 @@ after_rises known (frag ∷ rest) = count_rises known (told_of frag.control)
 pub last_after : (known : ℕ) (frags : List Frag) → last_count (known_after known frags) frags ≡ last_count known frags
 last_after known [] = refl
 last_after known (frag ∷ rest) = ap (λ (k : ℕ). last_count k rest) (count_again known (told_of frag.control))
+
+-- two counts known, not far apart, name the same next one
+same_next : (k known number : ℕ) → k ≤ known → count_from known number < k + 65536 → count_from k number ≡ count_from known number
+same_next k known number le near = omega arith
+
+-- from a count known before, the same fragments tell the same, where there are any
+pub forgets : (k known count : ℕ) (frags : List Frag) → k ≤ known → count < k + 65536 → (frags ≡ [] → k ≡ known) → last_count known frags ≡ count → last_count k frags ≡ count
+forgets k known count [] le near none e = none refl ∙ e
+forgets k known count (frag ∷ rest) le near none e =
+    let number : ℕ = told_of frag.control in
+    let first : count_from known number ≤ count = omega (arith, e, last_rises (count_from known number) rest) in
+    ap (λ (c : ℕ). last_count c rest) (same_next k known number le (omega (arith, first))) ∙ e

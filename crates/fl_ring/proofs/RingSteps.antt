@@ -1,14 +1,13 @@
 -- The steps of a ring with one owner.
 use Rattle.std.proofs.Common.{ℕ, zero, suc, ◌≡◌, ◌≢◌, ◌<◌, ◌≤◌, ◌+◌, ◌*◌, ◌%◌, ◌-◌, ◌^◌, Bool, true, false, cond, ltb, ◌&&◌, set, inr, List, [], ◌∷◌, ◌++◌, length, get_or, ap, subst, ◌∙◌, sym, refl, arith, Option, Some, None, MatchOption, length-append, append_assoc, length-set, get_or-set_same, get_or-set_other}
 use Rattle.fl_base.specs.declared.fragment.Frag.{Frag}
-use Rattle.fl_base.specs.Control.{epoch_of, is_ack_only}
-use Rattle.fl_link.specs.Stamp.{bare, stamped}
-use Rattle.fl_link.specs.Looks.{placed, no_room, spent, saw, saw_ack, found, found_ack, told}
+use Rattle.fl_base.specs.Control.{epoch_of, is_ack_only, bare, stamped}
+use Rattle.fl_link.specs.Looks.{no_room, spent, saw, saw_ack, found, found_ack, told}
 use Rattle.fl_link.specs.Queue.{TheQueue, with_taken, front_of, has_room, next_epoch_of}
 use Rattle.fl_link.proofs.Carried.{stamped-bare}
 use Rattle.fl_link.specs.Cursor.{epoch_at}
 use Rattle.fl_ring.specs.Way.{slot, frag_at, frag_of, epoch_in, standing, Marked, WritesSlot, WayStands}
-use Rattle.fl_ring.specs.Ring.{TheRing, queue_of, IsRing, ring_of, RingStands, RingPuts, RingTakes}
+use Rattle.fl_ring.specs.Ring.{TheRing, queue_of, IsRing, ring_of, RingStands, RingGains, RingPuts, RingTakes}
 use Rattle.fl_ring.proofs.Places.{slot_within}
 use Rattle.fl_ring.proofs.Ways.{standing_join, standing_more, keeps_standing, same_standing, same_frag, length-standing, is_there, is_end, gains, tells, elsewhere}
 
@@ -154,7 +153,7 @@ put_read ws ws' n sent taken f r room w =
 
 pub puts_placed : (ws ws' : List ℕ) (n sent taken e : ℕ) (f : Frag) → IsRing ws n sent taken → sent ≢ 2 ^ 62 → sent - get_or ws (8 * n) 0 ≢ n
     → WritesSlot (slot 0 n sent) (stamped f e 0) ws ws' → e ≡ epoch_at n sent
-    → RingPuts (ring_of ws n sent taken) (placed (bare f)) (ring_of ws' n (sent + 1) taken)
+    → RingGains (ring_of ws n sent taken) (bare f) (ring_of ws' n (sent + 1) taken)
 puts_placed ws ws' n sent taken e f r unspent room w turn =
     let s : TheRing = ring_of ws n sent taken in
     let t : TheRing = ring_of ws' n (sent + 1) taken in

@@ -301,11 +301,13 @@ marked_more n start j place e ws p wide at is from near before i le lt =
 
 -- ---- both sides in one hand
 
-near_of : (n : ℕ) (a b : DuoSeat) → n ≡ a.me.0.size → CountsNear n a.me.0.mine b.me.0.mine → SidesNear (side_of_seat a) (side_of_seat b)
-near_of n a b size h = record {
+near_of : (n : ℕ) (a b : DuoSeat) → n ≡ a.me.0.size → b.me.0.size ≡ a.me.0.size → CountsNear n a.me.0.mine b.me.0.mine → SidesNear (side_of_seat a) (side_of_seat b)
+near_of n a b size same h = record {
   few = omega (arith, size, h.few);
+  same_size = same;
   got_sent = h.got_sent;
   known_told = h.known_told;
+  told_got = h.told_got;
   told_sent = omega (arith, h.told_got, front_within b.me.0.mine.take.got a.me.0.mine.put.sent h.got_sent);
   sent_near = omega (arith, size, h.sent_near);
 }
@@ -317,4 +319,4 @@ settled a b m side same e near =
     let there : CountsNear m.0.size (duo_both_of a.me.0 b.me.0).mine (duo_both_of a.me.0 b.me.0).theirs = subst (λ (z : Me (Unit {0}) DuoView). CountsNear m.0.size z.0.mine z.0.theirs) e near.0 in
     let back : CountsNear m.0.size (duo_both_of a.me.0 b.me.0).theirs (duo_both_of a.me.0 b.me.0).mine = subst (λ (z : Me (Unit {0}) DuoView). CountsNear m.0.size z.0.theirs z.0.mine) e near.1 in
     let both = near_sides m.0.size a.me.0 b.me.0 side there back in
-    (near_of m.0.size a b size both.0, near_of m.0.size b a (size ∙ same) both.1)
+    (near_of m.0.size a b size (sym same) both.0, near_of m.0.size b a (size ∙ same) same both.1)

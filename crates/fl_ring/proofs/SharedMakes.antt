@@ -4,13 +4,15 @@ use Rattle.std.proofs.lemmas.Bool.{false≢true}
 use Rattle.std.proofs.lemmas.Nat.{div-mul-add}
 use mathlib.Core.Option.{some, some-injective, some-ne-none}
 use lib.ListN.{get_elem?, length-replicate}
-use Rattle.atomic_table.specs.Table.{Splits, Joins, opening}
+use Rattle.atomic_table.specs.Table.{Me, Splits, Joins, opening}
 use Rattle.atomic_table.proofs.Lists.{at_set, set_else}
 use Rattle.fl_base.specs.declared.fragment.Frag.{Frag}
 use Rattle.fl_base.specs.Control.{epoch_of}
 use Rattle.fl_link.specs.Cursor.{epoch_at}
 use Rattle.fl_ring.specs.declared.shared.board.View.{View}
 use Rattle.fl_ring.specs.Way.{slot, Marked}
+use Rattle.fl_ring.specs.SharedWay.{WayNear}
+use Rattle.fl_ring.specs.SharedSeats.{RingSeat, RingNear, sender_of, receiver_of}
 use Rattle.fl_ring.specs.SharedRing.{Sides, Fits, RingHolds, RingRule, new_writing, new_reading, opening_view, writer_of, reader_of, both_of, nobody}
 
 -- what stands in a list with one more at its end
@@ -140,3 +142,10 @@ opens n ws p e = record {
     only zero u at =
         subst (λ (x : View). Fits n (record { writer = 0; reader = 0; put = new_writing; take = new_reading }) zero x) (some-injective (opening_view n) u at) ((λ _. (refl, refl, refl)), (λ _. (refl, refl, refl)))
     only (suc j) u at = absurd (some-ne-none u (sym at))
+
+-- what the joined seat compares, as both sides see it
+pub settled_ring : (a b : RingSeat) (m : Me (Unit {0}) View) → m ≡ (both_of a.me.0 b.me.0, a.me.1) → a.me.0.size ≤ 1024 → b.me.0.size ≡ a.me.0.size
+    → WayNear m.0.size m.0.put m.0.take → RingNear (sender_of a) (receiver_of b)
+settled_ring a b m e few same near =
+    let h : WayNear a.me.0.size a.me.0.put b.me.0.take = subst (λ (z : Me (Unit {0}) View). WayNear z.0.size z.0.put z.0.take) e near in
+    record { few = few; same_size = same; got_sent = h.got_sent; known_told = h.known_told; told_got = h.told_got; sent_near = h.sent_near }

@@ -1,15 +1,14 @@
 -- The steps of a ring over shared words: what the rule allows each side.
-use Rattle.std.proofs.Common.{ℕ, ◌≡◌, ◌≢◌, ◌<◌, ◌≤◌, ◌+◌, ◌*◌, ◌^◌, true, List, length, get_or, set, ap, subst, ◌∙◌, sym, refl, arith, length-set, get_or-set_same, get_or-set_other}
+use Rattle.std.proofs.Common.{ℕ, ◌≡◌, ◌≢◌, ◌<◌, ◌≤◌, ◌+◌, ◌*◌, ◌^◌, true, List, length, get_or, set, subst, ◌∙◌, sym, refl, arith, length-set, get_or-set_same, get_or-set_other}
 use mathlib.Core.Option.{none}
 use Rattle.atomic_table.specs.Table.{Me, step, Allows}
-use Rattle.fl_base.specs.declared.fragment.Frag.{Frag}
 use Rattle.fl_base.specs.Control.{epoch_of}
 use Rattle.fl_link.specs.Cursor.{epoch_at}
 use Rattle.fl_ring.specs.declared.shared.board.Writing.{Writing}
 use Rattle.fl_ring.specs.declared.shared.board.Reading.{Reading}
 use Rattle.fl_ring.specs.declared.shared.board.View.{View}
 use Rattle.fl_ring.specs.Way.{slot}
-use Rattle.fl_ring.specs.SharedWay.{IsFront, IsDue, WayRuns, with_stored, with_put, with_known, with_control, with_loaded, with_peeked, with_got, with_told}
+use Rattle.fl_ring.specs.SharedWay.{IsDue, WayRuns, WayNear, with_stored, with_put, with_known, with_control, with_loaded, with_peeked, with_got, with_told}
 use Rattle.fl_ring.specs.SharedRing.{Sides, Fits, RingHolds, RingRule, with_writing, with_reading, stores_word, stores_control, loads_told, loads_control, loads_word, loads_peeked, loads_taken, stores_told, compares}
 use Rattle.fl_ring.proofs.Places.{slot_within}
 use Rattle.fl_ring.proofs.SharedTables.{Moves, allows_by, allows_load}
@@ -224,7 +223,8 @@ pub allows_compare : (n slots id i : ℕ) (me : Seated) → me.0.writes ≡ true
 allows_compare n slots id i me writes reads =
     allows_load (Fits n) (Held n) slots id i me (compares (step slots i 0 0 none) me)
     (λ ws s fits held.
-    let front : IsFront s.take.got s.put.sent = held.way.got_sent in
-    let mine : IsFront me.0.take.got me.0.put.sent =
-    subst (λ (xs : List Frag). IsFront xs me.0.put.sent) (sym (ap (λ (r : Reading). r.got) (fits.1 reads).1)) (subst (λ (xs : List Frag). IsFront s.take.got xs) (sym (ap (λ (w : Writing). w.sent) (fits.0 writes).1)) front) in
+    let there : WayNear n s.put s.take = record { got_sent = held.way.got_sent; known_told = held.way.known_told; told_got = held.way.told_got; sent_near = held.way.room } in
+    let sized : WayNear me.0.size s.put s.take = subst (λ (k : ℕ). WayNear k s.put s.take) (sym (fits.0 writes).2) there in
+    let put : WayNear me.0.size me.0.put s.take = subst (λ (w : Writing). WayNear me.0.size w s.take) (sym (fits.0 writes).1) sized in
+    let mine : WayNear me.0.size me.0.put me.0.take = subst (λ (r : Reading). WayNear me.0.size me.0.put r) (sym (fits.1 reads).1) put in
     record { account = s; view = me.0; mine = fits; others = λ j u ne f. f; holds = held; tells = (refl, mine) })

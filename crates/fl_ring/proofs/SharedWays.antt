@@ -5,11 +5,12 @@ use Rattle.std.proofs.lemmas.List.FromFn.{fill_by_all, get_or-map-range_with_len
 use Rattle.std.proofs.lemmas.Bool.{cases_lt}
 use Rattle.fl_base.specs.declared.fragment.Frag.{Frag}
 use Rattle.fl_base.specs.Control.{epoch_of}
+use Rattle.fl_base.specs.Prefix.{IsPrefix}
 use Rattle.fl_link.specs.Cursor.{epoch_at}
 use Rattle.fl_ring.specs.declared.shared.board.Writing.{Writing}
 use Rattle.fl_ring.specs.declared.shared.board.Reading.{Reading}
 use Rattle.fl_ring.specs.Way.{slot, frag_of, epoch_in, WritesSlot}
-use Rattle.fl_ring.specs.SharedWay.{IsFront, IsNext, IsDue, IsLoaded, WayRuns, frag_from, loaded_frag, with_stored, with_put, with_known, with_control, with_loaded, with_peeked, with_got, with_told}
+use Rattle.fl_ring.specs.SharedWay.{IsNext, IsDue, IsLoaded, WayRuns, frag_from, loaded_frag, with_stored, with_put, with_known, with_control, with_loaded, with_peeked, with_got, with_told}
 use Rattle.fl_ring.proofs.Places.{slot_within}
 use Rattle.fl_ring.proofs.Ways.{same_frag}
 use Rattle.fl_ring.proofs.SlotWrites.{slot_written}
@@ -17,14 +18,14 @@ use Rattle.fl_ring.proofs.Published.{holds_word, holds_control, holds_told, hold
 
 -- ---- fronts
 
-pub more_sent : (got sent : List Frag) (f : Frag) → IsFront got sent → IsFront got (sent ++ f ∷ [])
+pub more_sent : (got sent : List Frag) (f : Frag) → IsPrefix got sent → IsPrefix got (sent ++ f ∷ [])
 more_sent got sent f (more, e) = (more ++ f ∷ [], ap (λ (xs : List Frag). xs ++ f ∷ []) e ∙ append_assoc got more (f ∷ []))
 
-pub front_within : (got sent : List Frag) → IsFront got sent → length got ≤ length sent
+pub front_within : (got sent : List Frag) → IsPrefix got sent → length got ≤ length sent
 front_within got sent (more, e) = omega (arith, ap length e, length-append got more)
 
 -- the next fragment, where more were sent than got
-pub next_at : (sent got : List Frag) → IsFront got sent → length got < length sent → (f : Frag) × IsNext sent got f
+pub next_at : (sent got : List Frag) → IsPrefix got sent → length got < length sent → (f : Frag) × IsNext sent got f
 next_at sent got ([], e) lt = absurd (omega (arith, ap length e, length-append got []))
 next_at sent got (f ∷ rest, e) lt = (f, (rest, e ∙ sym (append_assoc got (f ∷ []) rest)))
 

@@ -2,12 +2,13 @@
 --
 -- Each side puts fragments into its own way and takes those of the other. Every control word that
 -- it writes tells how many fragments it has taken.
-use Rattle.std.specs.Prelude.{ℕ, ◌≡◌, ◌+◌, ◌-◌, ◌*◌, ◌/◌, ◌%◌, ◌≤◌, ◌<◌, ◌^◌, ◌⊎◌, nat_le, nat_lt, ◌&&◌, Bool, if◌then◌else◌, IsTrue, List, [], ◌∷◌, ◌++◌, length}
+use Rattle.std.specs.Prelude.{ℕ, ◌≡◌, ◌+◌, ◌-◌, ◌*◌, ◌/◌, ◌%◌, ◌≤◌, ◌<◌, ◌^◌, ◌⊎◌, nat_le, nat_lt, ◌&&◌, Bool, true, false, if◌then◌else◌, IsTrue}
+use Rattle.std.specs.Prelude.{List, [], ◌∷◌, ◌++◌, length}
 use Rattle.std.specs.Int.{is_power_of_two}
 use Rattle.fl_base.specs.declared.fragment.Frag.{Frag}
-use Rattle.fl_link.specs.Stamp.{stamped}
+use Rattle.fl_base.specs.Control.{is_ack_only, stamped}
 use Rattle.fl_link.specs.Cursor.{epoch_at}
-use Rattle.fl_link.specs.Looks.{Look, placed, no_room, spent, saw, saw_ack, found, found_ack, missed, told, kept}
+use Rattle.fl_link.specs.Looks.{Look, LinkStep, placed, no_room, spent, saw, saw_ack, found, found_ack, missed, told, kept}
 use Rattle.fl_link.specs.Queue.{front_of}
 use Rattle.fl_ring.specs.Counts.{known_after, LastTells}
 use Rattle.fl_ring.specs.Way.{WayStands}
@@ -74,6 +75,10 @@ with_written h = record { sent = h.sent + 1; known = h.known; told = got h; read
 abbrev pub with_arrived : TheHalf → Frag → TheHalf
 with_arrived h frag = record { sent = h.sent; known = h.known; told = h.told; read = h.read; waiting = h.waiting ++ frag ∷ [] }
 
+-- a side with these fragments waiting
+abbrev pub with_waiting : TheHalf → List Frag → TheHalf
+with_waiting h frags = record { sent = h.sent; known = h.known; told = h.told; read = h.read; waiting = frags }
+
 -- the side once it has taken the first fragment, where these are the others
 abbrev pub with_taken : TheHalf → Frag → List Frag → TheHalf
 with_taken h first rest = record { sent = h.sent; known = looked h; told = h.told; read = h.read ++ first ∷ []; waiting = rest }
@@ -89,7 +94,7 @@ acknowledgement = record { words = 0 ∷ 0 ∷ 0 ∷ 0 ∷ 0 ∷ 0 ∷ 0 ∷ [];
 -- One put at a side, by what it came to: n slots, the side from s to t, the other from p to q. Data
 -- needs two free slots.
 abbrev pub HalfPuts : ℕ → TheHalf → TheHalf → Look → TheHalf → TheHalf → Type 0
-HalfPuts n s p (placed frag) t q = (s.sent < 2 ^ 62) × (2 ≤ free n s.sent (counts_by n 2 s))
+HalfPuts n s p (placed frag) t q = (is_ack_only frag ≡ false) × (s.sent < 2 ^ 62) × (2 ≤ free n s.sent (counts_by n 2 s))
     × (t ≡ with_written (with_known s (counts_by n 2 s))) × (q ≡ with_arrived p (written n s frag))
 HalfPuts n s p no_room t q = (s.sent < 2 ^ 62) × (free n s.sent (counts_by n 2 s) < 2) × (t ≡ with_known s (counts_by n 2 s)) × (q ≡ p)
 HalfPuts n s p spent t q = (s.sent ≡ 2 ^ 62) × (t ≡ s) × (q ≡ p)
@@ -142,6 +147,32 @@ pub record CountsAreNear (n : ℕ) (s p : TheHalf) : Type 0 where
   pub sent_near : s.sent ≤ s.known + n
   -- every fragment that the side put was taken and told, taken, or waits
   pub all : p.told + length p.read + length p.waiting ≡ s.sent
+
+-- ---- what a side learned by looks, forgotten
+
+-- the ring with another count known at this side
+abbrev pub knowing : Which → TheDuo → ℕ → TheDuo
+knowing One d count = record { size = d.size; one = with_known d.one count; two = d.two }
+knowing Two d count = record { size = d.size; one = d.one; two = with_known d.two count }
+
+-- a side of a ring of n slots each way may go back to this count: it knew it before, what it put since is within its slots
+-- beyond it, and the first fragment that waits tells what it knows now
+pub record MayForget (n : ℕ) (s : TheHalf) (count : ℕ) : Type 0 where
+  pub before : count ≤ s.known
+  pub sent_near : s.sent ≤ count + n
+  pub none_waits : s.waiting ≡ [] → count ≡ s.known
+
+-- a step with this label leaves the ring as it was, but for what its side knows
+abbrev pub only_looks : Look → Bool
+only_looks (placed frag) = false
+only_looks (found frag) = false
+only_looks found_ack = false
+only_looks told = false
+only_looks look = true
+
+-- a step that leaves the ring so
+abbrev pub DuoLooks : Which → TheDuo → Look → TheDuo → Type 0
+DuoLooks which s look t = (only_looks look ≡ true) × LinkStep (DuoPuts which) (DuoTakes which) s look t
 
 -- The words of a ring of two directions: the way of side one at word 0, that of side two after it. What
 -- a side has told stands in its last control word.

@@ -1,4 +1,4 @@
--- The two sides of a ring of two directions, as its code keeps them beside the words.
+-- For proofs: the two sides of a ring of two directions, as its code keeps them beside the words.
 use Rattle.std.specs.Prelude.{ℕ, ◌≡◌, ◌+◌, ◌-◌, ◌*◌, ◌≤◌, ◌^◌, ◌⊎◌, List, length}
 use Rattle.fl_link.specs.Looks.{Look}
 use Rattle.fl_ring.specs.Counts.{last_count, LastTells}

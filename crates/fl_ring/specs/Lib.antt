@@ -1,9 +1,9 @@
+-- The public promises rest on these.
 pub mod Way
 pub mod Ring
 pub mod Faults
 pub mod Counts
 pub mod Duo
-pub mod Halves
 pub mod Side
 pub mod SharedWay
 pub mod SharedTable
@@ -11,3 +11,6 @@ pub mod SharedRing
 pub mod SharedSeats
 pub mod SharedDuo
 pub mod SharedSides
+pub mod Laws
+-- This one only the proofs need.
+pub mod Halves

@@ -1,8 +1,8 @@
 -- A ring with one owner: a queue that counts, in words.
 use Rattle.std.specs.Prelude.{ℕ, ◌≡◌, ◌+◌, ◌*◌, ◌-◌, ◌≤◌, ◌^◌, true, List, [], ◌++◌, length, slice_index}
 use Rattle.fl_base.specs.declared.fragment.Frag.{Frag}
-use Rattle.fl_link.specs.Looks.{Look, found, found_ack, told}
-use Rattle.fl_link.specs.Queue.{TheQueue, QueuePuts, QueueTakes}
+use Rattle.fl_link.specs.Looks.{Look, placed, found, found_ack, told}
+use Rattle.fl_link.specs.Queue.{TheQueue, QueueGains, QueuePuts, QueueTakes}
 use Rattle.fl_ring.specs.Way.{Marked, standing, WayStands}
 
 -- what contracts see of a ring
@@ -25,6 +25,10 @@ ReadsOn s told t = (t.read ≡ []) × (t.told ≡ s.told + length s.read)
 ReadsOn s (found frag) t = (t.read ++ t.items ≡ s.read ++ s.items) × (t.told ≡ s.told)
 ReadsOn s found_ack t = (t.read ++ t.items ≡ s.read ++ s.items) × (t.told ≡ s.told)
 ReadsOn s _ t = (t.read ≡ s.read) × (t.told ≡ s.told)
+
+-- there was room, and this fragment is put; nothing is read
+abbrev pub RingGains : TheRing → Frag → TheRing → Type 0
+RingGains s frag t = QueueGains (queue_of s) frag (queue_of t) × ReadsOn s (placed frag) t
 
 -- one put: the queue's, and nothing is read
 abbrev pub RingPuts : TheRing → Look → TheRing → Type 0

@@ -16,6 +16,7 @@ use Rattle.std.specs.Prelude.{ℕ, ◌≡◌, ◌+◌, ◌*◌, ◌/◌, ◌%◌
 use Rattle.atomic_table.specs.Table.{State, Me, Step}
 use Rattle.fl_base.specs.declared.fragment.Frag.{Frag}
 use Rattle.fl_base.specs.Control.{epoch_of, told_of}
+use Rattle.fl_base.specs.Prefix.{IsPrefix}
 use Rattle.fl_link.specs.Cursor.{epoch_at}
 use Rattle.fl_ring.specs.Counts.{count_from, last_count, LastTells}
 use Rattle.fl_ring.specs.Way.{slot}
@@ -25,7 +26,7 @@ use Rattle.fl_ring.specs.declared.shared.duo_board.Side.{Side}
 use Rattle.fl_ring.specs.declared.shared.duo_board.Holder.{Holder}
 use Rattle.fl_ring.specs.declared.shared.duo_board.Holder.TheVariants.{One, Two, Both, Nobody}
 use Rattle.fl_ring.specs.declared.shared.duo_board.DuoView.{DuoView}
-use Rattle.fl_ring.specs.SharedWay.{IsFront, IsDue, WayRuns, with_stored, with_put, with_control, with_loaded, with_peeked, with_got, with_told, loaded_frag}
+use Rattle.fl_ring.specs.SharedWay.{IsDue, WayRuns, with_stored, with_put, with_control, with_loaded, with_peeked, with_got, with_told, loaded_frag}
 use Rattle.fl_ring.specs.SharedTable.{Accounted}
 
 -- ---- the rule
@@ -210,13 +211,14 @@ abbrev pub duo_loads_peeked : DuoPlayer
 duo_loads_peeked st m x m' = (m' ≡ (with_mine m.0 (side_peeked m.0.mine x), m.1)) × DuoAgain m.0.mine.take x × DuoSeventh st m.0
 
 abbrev pub duo_loads_taken : DuoPlayer
-duo_loads_taken st m x m' = (m' ≡ (with_mine m.0 (side_got m.0.mine x), m.1)) × DuoAgain m.0.mine.take x × (length m.0.mine.take.got < 2 ^ 62) × DuoSeventh st m.0
+duo_loads_taken st m x m' = (m' ≡ (with_mine m.0 (side_got m.0.mine x), m.1))
+    × DuoAgain m.0.mine.take x × (length m.0.mine.take.got < 2 ^ 62) × DuoSeventh st m.0
 
 -- The law by which a 16-bit number names one count, of the fragments that a side w sent and a side r
 -- got: what w knows was told, what was told was got, and what was got was sent, no more than n beyond.
 pub record CountsNear (n : ℕ) (w r : Side) : Type 0 where
   pub few : n ≤ 1024
-  pub got_sent : IsFront r.take.got w.put.sent
+  pub got_sent : IsPrefix r.take.got w.put.sent
   pub known_told : w.put.known ≤ r.take.told
   pub told_got : r.take.told ≤ length r.take.got
   pub sent_near : length w.put.sent ≤ w.put.known + n

@@ -21,7 +21,8 @@ use Rattle.fl_ring.specs.declared.shared.board.Writing.{Writing}
 use Rattle.fl_ring.specs.declared.shared.board.Reading.{Reading}
 use Rattle.fl_ring.specs.declared.shared.board.View.{View}
 use Rattle.fl_ring.specs.Way.{slot}
-use Rattle.fl_ring.specs.SharedWay.{IsFront, IsDue, WayRuns, with_stored, with_put, with_known, with_control, with_loaded, with_peeked, with_got, with_told, loaded_frag}
+use Rattle.fl_ring.specs.SharedWay.{IsDue, WayRuns, WayNear, with_stored, with_put, with_known, with_control, with_loaded, with_peeked, with_got}
+use Rattle.fl_ring.specs.SharedWay.{with_told, loaded_frag}
 use Rattle.fl_ring.specs.SharedTable.{Accounted}
 
 -- ---- the rule
@@ -35,7 +36,8 @@ pub record Sides : Type 0 where
 
 -- the view of the seat of this number: what it says of a side is so
 abbrev pub Fits : ℕ → Sides → ℕ → View → Type 0
-Fits n s seat v = (v.writes ≡ true → (seat ≡ s.writer) × (v.put ≡ s.put) × (v.size ≡ n)) × (v.reads ≡ true → (seat ≡ s.reader) × (v.take ≡ s.take) × (v.size ≡ n))
+Fits n s seat v = (v.writes ≡ true → (seat ≡ s.writer) × (v.put ≡ s.put) × (v.size ≡ n))
+    × (v.reads ≡ true → (seat ≡ s.reader) × (v.take ≡ s.take) × (v.size ≡ n))
 
 -- the words: a way at word 0, and after it the number told
 pub record RingHolds (n : ℕ) (words : List ℕ) (w : Writing) (r : Reading) : Type 0 where
@@ -113,7 +115,8 @@ stores_control st m x m' = (m' ≡ (with_writing m.0 (with_put m.0.put x), m.1))
     × (epoch_of x ≡ epoch_at m.0.size (length m.0.put.sent))
 
 abbrev pub loads_told : Player
-loads_told st m x m' = (m' ≡ (with_writing m.0 (with_known m.0.put x), m.1)) × (m.0.put.known ≤ x) × (x ≤ length m.0.put.sent) × (st.word ≡ told_word m.0)
+loads_told st m x m' = (m' ≡ (with_writing m.0 (with_known m.0.put x), m.1))
+    × (m.0.put.known ≤ x) × (x ≤ length m.0.put.sent) × (st.word ≡ told_word m.0)
 
 -- a fragment that was peeked is still there, and this is its control word
 abbrev pub loads_control : Player
@@ -146,4 +149,4 @@ stores_told st m x m' = (m' ≡ (with_reading m.0 (with_told m.0.take x), m.1))
     × (st.word ≡ told_word m.0) × (m.0.take.told ≤ x) × (x ≤ length m.0.take.got)
 
 abbrev pub compares : Player
-compares st m x m' = (m' ≡ m) × IsFront m.0.take.got m.0.put.sent
+compares st m x m' = (m' ≡ m) × WayNear m.0.size m.0.put m.0.take

@@ -1,10 +1,11 @@
 -- The seats of a ring over shared words, as its code holds them, and what callers see of a side.
-use Rattle.std.specs.Prelude.{ℕ, ◌≡◌, ◌+◌, ◌*◌, ◌≤◌, ◌<◌, ◌^◌, ◌&&◌, nat_lt, Bool, true, if◌then◌else◌, List, [], ◌∷◌, ◌++◌, length, Option, Some, None}
+use Rattle.std.specs.Prelude.{ℕ, ◌≡◌, ◌+◌, ◌*◌, ◌≤◌, ◌<◌, ◌^◌, ◌&&◌, nat_lt, Bool, true, false, if◌then◌else◌, List, [], ◌∷◌, ◌++◌, length, Option}
+use Rattle.std.specs.Prelude.{Some, None}
 use Rattle.atomic_table.specs.Seated.{TableId}
 use Rattle.atomic_table.specs.declared.shared.Seat.{Seat}
 use Rattle.fl_base.specs.declared.fragment.Frag.{Frag}
-use Rattle.fl_base.specs.Control.{is_ack_only}
-use Rattle.fl_link.specs.Stamp.{stamped}
+use Rattle.fl_base.specs.Control.{is_ack_only, stamped}
+use Rattle.fl_base.specs.Prefix.{IsPrefix}
 use Rattle.fl_link.specs.Cursor.{epoch_at}
 use Rattle.fl_link.specs.Looks.{Look, placed, no_room, spent, saw, saw_ack, found, found_ack, missed, told}
 use Rattle.fl_link.specs.Queue.{look_at}
@@ -75,7 +76,14 @@ abbrev pub sender_of : RingSeat → Sender
 sender_of s = record { ring = s.table_id; size = s.me.0.size; sent = s.me.0.put.sent; known = s.me.0.put.known; loads = s.me.0.put.loads }
 
 abbrev pub receiver_of : RingSeat → Receiver
-receiver_of s = record { ring = s.table_id; size = s.me.0.size; got = s.me.0.take.got; peeked = s.me.0.take.peeked; misses = s.me.0.take.misses; told = s.me.0.take.told }
+receiver_of s = record {
+  ring = s.table_id;
+  size = s.me.0.size;
+  got = s.me.0.take.got;
+  peeked = s.me.0.take.peeked;
+  misses = s.me.0.take.misses;
+  told = s.me.0.take.told;
+}
 
 -- The sender counts the free slots. The number told is loaded only where what is known leaves none.
 pub record Counts (s t : Sender) : Type 0 where
@@ -84,10 +92,14 @@ pub record Counts (s t : Sender) : Type 0 where
   pub by_known : length s.sent < s.known + s.size → (t.known ≡ s.known) × (t.loads ≡ s.loads)
   pub by_look : s.known + s.size ≤ length s.sent → (s.known ≤ t.known) × (t.known ≤ length s.sent) × (t.loads ≡ s.loads + 1)
 
+-- there was room, and this fragment is put
+abbrev pub SenderGains : Sender → Frag → Sender → Type 0
+SenderGains s frag t = (length s.sent < 2 ^ 62) × Counts s t × (length s.sent < t.known + s.size)
+    × (t.sent ≡ s.sent ++ stamped frag (epoch_at s.size (length s.sent)) 0 ∷ [])
+
 -- one put, by what it came to
 abbrev pub SenderPuts : Sender → Look → Sender → Type 0
-SenderPuts s (placed frag) t = (length s.sent < 2 ^ 62) × Counts s t × (length s.sent < t.known + s.size)
-    × (t.sent ≡ s.sent ++ stamped frag (epoch_at s.size (length s.sent)) 0 ∷ [])
+SenderPuts s (placed frag) t = (is_ack_only frag ≡ false) × SenderGains s frag t
 SenderPuts s no_room t = (length s.sent < 2 ^ 62) × Counts s t × (length s.sent ≡ t.known + s.size) × (t.loads ≡ s.loads + 1) × (t.sent ≡ s.sent)
 SenderPuts s spent t = (length s.sent ≡ 2 ^ 62) × (t ≡ s)
 SenderPuts s _ t = ⊥
@@ -163,3 +175,15 @@ new_sender ring n = record { ring = ring; size = n; sent = []; known = 0; loads 
 
 abbrev pub new_receiver : TableId → ℕ → Receiver
 new_receiver ring n = record { ring = ring; size = n; got = []; peeked = None; misses = 0; told = 0 }
+
+-- ---- both sides in one hand again
+
+-- Of one ring: what was got is a prefix of what was sent, what the sender knows was told, what was told was got, and no
+-- more were sent than there are slots beyond what the sender knows.
+pub record RingNear (w : Sender) (r : Receiver) : Type 0 where
+  pub few : w.size ≤ 1024
+  pub same_size : r.size ≡ w.size
+  pub got_sent : IsPrefix r.got w.sent
+  pub known_told : w.known ≤ r.told
+  pub told_got : r.told ≤ length r.got
+  pub sent_near : length w.sent ≤ w.known + w.size

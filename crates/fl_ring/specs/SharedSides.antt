@@ -1,11 +1,12 @@
 -- The sides of a ring of two directions over shared words: as their code holds them, and what callers
 -- see of them.
-use Rattle.std.specs.Prelude.{ℕ, ◌≡◌, ◌+◌, ◌-◌, ◌*◌, ◌/◌, ◌%◌, ◌≤◌, ◌<◌, ◌^◌, ◌⊎◌, ◌&&◌, nat_lt, nat_le, Bool, List, [], ◌∷◌, ◌++◌, length, replicate, Option, Some, None}
+use Rattle.std.specs.Prelude.{ℕ, ◌≡◌, ◌+◌, ◌-◌, ◌*◌, ◌/◌, ◌%◌, ◌≤◌, ◌<◌, ◌^◌, ◌⊎◌, ◌&&◌, nat_lt, nat_le, Bool, false, List, [], ◌∷◌, ◌++◌, length}
+use Rattle.std.specs.Prelude.{replicate, Option, Some, None}
 use Rattle.atomic_table.specs.Seated.{TableId}
 use Rattle.atomic_table.specs.declared.shared.Seat.{Seat}
 use Rattle.fl_base.specs.declared.fragment.Frag.{Frag}
-use Rattle.fl_base.specs.Control.{epoch_of, told_of}
-use Rattle.fl_link.specs.Stamp.{stamped}
+use Rattle.fl_base.specs.Control.{epoch_of, told_of, is_ack_only, stamped}
+use Rattle.fl_base.specs.Prefix.{IsPrefix}
 use Rattle.fl_link.specs.Cursor.{TheCursor, epoch_at}
 use Rattle.fl_link.specs.Looks.{Look, placed, no_room, spent, saw, saw_ack, found, found_ack, missed, told, kept}
 use Rattle.fl_link.specs.Queue.{look_at}
@@ -17,7 +18,6 @@ use Rattle.fl_ring.specs.declared.shared.duo_board.Opening.{Opening}
 use Rattle.fl_ring.specs.declared.shared.duo_board.DuoView.{DuoView}
 use Rattle.fl_ring.specs.SharedDuo.{IsOneSide, base_of, other_of, blank}
 use Rattle.fl_ring.specs.SharedSeats.{with_part, with_frag, with_words}
-use Rattle.fl_ring.specs.SharedWay.{IsFront}
 
 abbrev pub DuoSeat : Type 0
 DuoSeat = Seat (Unit {0}) DuoView
@@ -201,7 +201,8 @@ pub record Looked (need : ℕ) (s t : TheSide) : Type 0 where
 
 -- one put, by what it came to
 abbrev pub SharedPuts : TheSide → Look → TheSide → Type 0
-SharedPuts s (placed frag) t = (length s.sent < 2 ^ 62) × ((m : TheSide) × Looked 2 s m × (2 ≤ free_of m) × (t ≡ side_written m frag))
+SharedPuts s (placed frag) t = (is_ack_only frag ≡ false) × (length s.sent < 2 ^ 62)
+    × ((m : TheSide) × Looked 2 s m × (2 ≤ free_of m) × (t ≡ side_written m frag))
 SharedPuts s no_room t = (length s.sent < 2 ^ 62) × Looked 2 s t × (free_of s < 2) × (free_of t < 2)
 SharedPuts s spent t = (length s.sent ≡ 2 ^ 62) × (t ≡ s)
 SharedPuts s _ t = ⊥
@@ -231,9 +232,11 @@ SharedTakes s saw_ack t = (first : Frag) × (look_at first ≡ saw_ack) × SideS
 SharedTakes s (found frag) t = (first : Frag) × (look_at first ≡ saw frag) × SideGets s first t
 SharedTakes s found_ack t = (first : Frag) × (look_at first ≡ saw_ack) × SideGets s first t
 SharedTakes s missed t = SideMisses s t
-SharedTakes s told t = (s.size / 2 ≤ untold_of s) × (length s.sent < 2 ^ 62) × ((m : TheSide) × Looked 1 s m × (1 ≤ free_of m) × (t ≡ side_written m acknowledgement))
+SharedTakes s told t = (s.size / 2 ≤ untold_of s) × (length s.sent < 2 ^ 62)
+    × ((m : TheSide) × Looked 1 s m × (1 ≤ free_of m) × (t ≡ side_written m acknowledgement))
 SharedTakes s kept t = (untold_of s < s.size / 2) × (t ≡ s)
-SharedTakes s no_room t = (s.size / 2 ≤ untold_of s) × (((length s.sent ≡ 2 ^ 62) × (t ≡ s)) ⊎ ((length s.sent < 2 ^ 62) × Looked 1 s t × (free_of s < 1) × (free_of t < 1)))
+SharedTakes s no_room t = (s.size / 2 ≤ untold_of s)
+    × (((length s.sent ≡ 2 ^ 62) × (t ≡ s)) ⊎ ((length s.sent < 2 ^ 62) × Looked 1 s t × (free_of s < 1) × (free_of t < 1)))
 SharedTakes s _ t = ⊥
 
 -- ---- several steps in a row
@@ -253,12 +256,14 @@ side_with_words s words = record { put = s.put; take = with_words s.take words }
 
 -- ---- both sides in one hand again
 
--- Of the fragments that w put and r took: those taken are a front of those put, and what w knows was
+-- Of the fragments that w put and r took: those taken are a prefix of those put, and what w knows was
 -- told, what was told was taken, and no more than its slots were put beyond what w knows. So a
 -- number of 16 bits names one count.
 pub record SidesNear (w r : TheSide) : Type 0 where
   pub few : w.size ≤ 1024
-  pub got_sent : IsFront r.got w.sent
+  pub same_size : r.size ≡ w.size
+  pub got_sent : IsPrefix r.got w.sent
   pub known_told : w.known ≤ r.told
+  pub told_got : r.told ≤ length r.got
   pub told_sent : r.told ≤ length w.sent
   pub sent_near : length w.sent ≤ w.known + w.size

@@ -6,18 +6,15 @@
 use Rattle.std.specs.Prelude.{ℕ, ◌≡◌, ◌+◌, ◌≤◌, ◌<◌, ◌^◌, List, [], ◌∷◌, ◌++◌, length, slice_index, Some, None, ◌==◌, if◌then◌else◌}
 use Rattle.fl_base.specs.declared.fragment.Frag.{Frag}
 use Rattle.fl_base.specs.Control.{epoch_of}
+use Rattle.fl_base.specs.Prefix.{IsPrefix}
 use Rattle.fl_link.specs.Cursor.{epoch_at}
 use Rattle.fl_ring.specs.Way.{slot, WayHolds}
 use Rattle.fl_ring.specs.declared.shared.board.Writing.{Writing}
 use Rattle.fl_ring.specs.declared.shared.board.Reading.{Reading}
 
--- these fragments are a front of those
-abbrev pub IsFront : List Frag → List Frag → Type 0
-IsFront got sent = (more : List Frag) × (sent ≡ got ++ more)
-
 -- of those sent, this fragment comes next after those got
 abbrev pub IsNext : List Frag → List Frag → Frag → Type 0
-IsNext sent got frag = IsFront (got ++ frag ∷ []) sent
+IsNext sent got frag = IsPrefix (got ++ frag ∷ []) sent
 
 -- the control word that was loaded last has the epoch that is due
 abbrev pub IsDue : ℕ → Reading → Type 0
@@ -34,9 +31,9 @@ pub record IsLoaded (sent got : List Frag) (part : List ℕ) (last : ℕ) : Type
 pub record WayRuns (b n : ℕ) (words : List ℕ) (w : Writing) (r : Reading) (told : ℕ) : Type 0 where
   -- every fragment sent and not told is in its slot, and the epochs say so
   pub holds : WayHolds b n words w.sent told
-  -- what was told was got, and what was got is a front of what was sent
+  -- what was told was got, and what was got is a prefix of what was sent
   pub told_got : told ≤ length r.got
-  pub got_sent : IsFront r.got w.sent
+  pub got_sent : IsPrefix r.got w.sent
   -- the writer knows no more than what was told, and goes no round beyond what it knows
   pub known_told : w.known ≤ told
   pub room : length w.sent ≤ w.known + n
@@ -47,6 +44,14 @@ pub record WayRuns (b n : ℕ) (words : List ℕ) (w : Writing) (r : Reading) (t
   -- where the reader has seen the epoch due, the next fragment is there, and so is one that it peeked
   pub due : IsDue n r → length r.part < 7 → IsLoaded w.sent r.got r.part r.last
   pub peeked : (frag : Frag) → r.peeked ≡ Some frag → IsNext w.sent r.got frag
+
+-- Both sides' knowledge in one hand, of a way of n slots: what was got is a prefix of what was sent, what the writer knows
+-- was told, what was told was got, and no more than n were sent beyond what the writer knows.
+pub record WayNear (n : ℕ) (w : Writing) (r : Reading) : Type 0 where
+  pub got_sent : IsPrefix r.got w.sent
+  pub known_told : w.known ≤ r.told
+  pub told_got : r.told ≤ length r.got
+  pub sent_near : length w.sent ≤ w.known + n
 
 -- ---- what the steps do to a side's knowledge
 

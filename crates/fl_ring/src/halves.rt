@@ -1,9 +1,9 @@
 //! One side of a ring of two directions: what it keeps beside the words.
 
-ghost use Rattle.std.specs.Prelude.{◌≡◌, ◌≢◌, ◌+◌, ◌*◌, ◌-◌, ◌^◌, ◌/◌, ◌%◌, ◌<◌, ◌≤◌, ℕ, true, false, nat_le, nat_lt, ◌&&◌, List, ◌∷◌, [], OnOk, Ok, Err, MatchOption};
+ghost use Rattle.std.specs.Prelude.{◌≡◌, ◌≢◌, ◌+◌, ◌*◌, ◌-◌, ◌^◌, ◌/◌, ◌%◌, ◌<◌, ◌≤◌, ℕ, true, false, nat_le, nat_lt, ◌&&◌, List, ◌∷◌, [], OnOk, Ok};
+ghost use Rattle.std.specs.Prelude.{Err, MatchOption};
 ghost use Rattle.fl_base.specs.declared.fragment.Frag.{Frag};
-ghost use Rattle.fl_base.specs.Control.{told_of, is_ack_only};
-ghost use Rattle.fl_link.specs.Stamp.{bare};
+ghost use Rattle.fl_base.specs.Control.{told_of, is_ack_only, bare};
 ghost use Rattle.fl_link.specs.Cursor.{TheCursor};
 ghost use Rattle.fl_link.specs.Looks.{Look, placed, no_room, spent, peeked, taken, tells};
 ghost use Rattle.fl_link.specs.Queue.{BeginsWith};
@@ -15,7 +15,7 @@ ghost use Rattle.fl_ring.specs.declared.halves.Half.{Half};
 use crate::counts::count_from;
 use crate::slots::{look, write_slot};
 use fl_base::Frag;
-use fl_link::{Cursor, PutFault, SPENT, Sight, Told, stamp};
+use fl_link::{Cursor, PutFault, SPENT, Sight, Told};
 
 /// A side: where its slots begin, where it stands in them and in the other side's, and what it
 /// knows and told.
@@ -36,7 +36,14 @@ impl Half {
     /// A side that writes the slots from word `base` on and reads those from `other` on, `size` each.
     pub(crate) fn new(base: usize, other: usize, size: usize) -> Half
         requires { 0 < size }
-        ensures start { result ≡ record { base = base; other = other; put = record { index = 0; size = size }; take = record { index = 0; size = size }; known = 0; told = 0 } }
+        ensures start { result ≡ record {
+          base = base;
+          other = other;
+          put = record { index = 0; size = size };
+          take = record { index = 0; size = size };
+          known = 0;
+          told = 0;
+        } }
     {
         Half {
             base,
@@ -100,15 +107,18 @@ fn has_free(words: &[u64], mine: &mut Half, need: u64) -> bool
 
 // Writes a fragment into the next slot. Its control word tells all that was taken.
 fn write(words: &mut Vec<u64>, mine: &mut Half, frag: &Frag)
-    requires { (n : ℕ) × (theirs : Half) × InStep n words.old.items mine.old theirs × (mine.old.put.index < 2 ^ 62) × (mine.old.put.index + 1 ≤ mine.old.known + n) }
-    ensures steps { (n : ℕ) (theirs : Half) → InStep n words.old.items mine.old theirs → mine.old.put.index < 2 ^ 62 → mine.old.put.index + 1 ≤ mine.old.known + n
+    requires { (n : ℕ) × (theirs : Half) × InStep n words.old.items mine.old theirs
+        × (mine.old.put.index < 2 ^ 62) × (mine.old.put.index + 1 ≤ mine.old.known + n) }
+    ensures steps { (n : ℕ) (theirs : Half) → InStep n words.old.items mine.old theirs
+        → mine.old.put.index < 2 ^ 62 → mine.old.put.index + 1 ≤ mine.old.known + n
         → InStep n words.new.items mine.new theirs
         × (half_of n words.new.items mine.new theirs ≡ with_written (half_of n words.old.items mine.old theirs))
-        × (half_of n words.new.items theirs mine.new ≡ with_arrived (half_of n words.old.items theirs mine.old) (written n (half_of n words.old.items mine.old theirs) frag.now)) }
+        × (half_of n words.new.items theirs mine.new
+        ≡ with_arrived (half_of n words.old.items theirs mine.old) (written n (half_of n words.old.items mine.old theirs) frag.now)) }
     ensures place { mine.new.base ≡ mine.old.base }
 {
     let taken = mine.take.index();
-    let stamped = stamp(frag, mine.put.epoch(), (taken % 65_536) as u16);
+    let stamped = frag.stamp(mine.put.epoch(), (taken % 65_536) as u16);
     let slot = mine.base + 8 * mine.put.place();
     write_slot(words, slot, &stamped);
     mine.put.advance();
@@ -123,7 +133,8 @@ const ACKNOWLEDGEMENT: Frag = Frag {
 
 /// Puts a fragment at this side.
 pub(crate) fn put_at(words: &mut Vec<u64>, mine: &mut Half, frag: &Frag) -> Result<(), PutFault>
-    requires { (n : ℕ) × (theirs : Half) × InStep n words.old.items mine.old theirs }
+    requires steps { (n : ℕ) × (theirs : Half) × InStep n words.old.items mine.old theirs }
+    requires data { is_ack_only frag.now ≡ false }
     ensures placed { OnOk result (Goes HalfPuts words.old.items mine.old (placed (bare frag.now)) words.new.items mine.new) }
     ensures full { result ≡ Err PutFault.Full → Goes HalfPuts words.old.items mine.old no_room words.new.items mine.new }
     ensures spent { result ≡ Err PutFault.Spent → Goes HalfPuts words.old.items mine.old spent words.new.items mine.new }

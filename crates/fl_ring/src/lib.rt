@@ -11,12 +11,14 @@
 //! - `shared.rt`: `ring` and `duo`, whose two sides may be in two threads
 //! - `slots.rt`: one slot of eight words
 //! - `fault.rt`: why no ring was made
+//! - `law.rt`: what holds of rings over looks in a row
 #![tactic(auto)]
 
 mod counts;
 mod duo_side;
 mod fault;
 mod halves;
+mod law;
 mod one_duo;
 mod one_ring;
 mod shared;
@@ -25,6 +27,10 @@ mod slots;
 pub use counts::count_from;
 pub use duo_side::DuoSide;
 pub use fault::RingFault;
+pub use law::{
+    duo_conserves, forgets_looks, receiver_conserves, ring_conserves, sender_conserves,
+    side_conserves,
+};
 pub use one_duo::{OneDuo, Which};
 pub use one_ring::OneRing;
 pub use shared::{RingRx, RingTx, SharedSide, duo, duo_from, ring, settle, settle_duo};

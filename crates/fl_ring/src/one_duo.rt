@@ -1,13 +1,14 @@
 //! A ring of two directions with one owner.
 
-ghost use Rattle.std.specs.Prelude.{◌≡◌, ◌≢◌, ◌+◌, ◌*◌, ◌-◌, ◌^◌, ◌/◌, ◌%◌, ◌<◌, ◌≤◌, ◌↔◌, ℕ, true, false, nat_le, nat_lt, ◌&&◌, [], List, length, IfOk, OnOk, Ok, Err};
+ghost use Rattle.std.specs.Prelude.{◌≡◌, ◌≢◌, ◌+◌, ◌*◌, ◌-◌, ◌^◌, ◌/◌, ◌%◌, ◌<◌, ◌≤◌, ◌↔◌, ℕ, true, false, nat_le, nat_lt, ◌&&◌, [], List, length};
+ghost use Rattle.std.specs.Prelude.{IfOk, OnOk, Ok, Err};
 ghost use Rattle.fl_base.specs.declared.fragment.Frag.{Frag};
-ghost use Rattle.fl_base.specs.Control.{is_ack_only};
-ghost use Rattle.fl_link.specs.Stamp.{bare};
+ghost use Rattle.fl_base.specs.Control.{is_ack_only, bare};
 ghost use Rattle.fl_link.specs.Cursor.{epoch_at};
-ghost use Rattle.fl_link.specs.Looks.{placed, no_room, spent, peeked, taken, tells};
-ghost use Rattle.fl_link.specs.Queue.{BeginsWith};
+ghost use Rattle.fl_link.specs.Looks.{placed, no_room, spent, saw, saw_ack, peeked, taken, tells};
+ghost use Rattle.fl_link.specs.Queue.{BeginsWith, front_of};
 ghost use Rattle.fl_ring.specs.Duo.{TheDuo, DuoPuts, DuoTakes, DuoStands, MayHaveSlots, CountsAreNear, side_of, across, got, half_has_room, new_half};
+ghost use Rattle.fl_ring.specs.Duo.{MayForget, knowing};
 
 use crate::fault::RingFault;
 use crate::halves::{Half, peek_at, put_at, room_at, take_at, tell_at};
@@ -86,6 +87,8 @@ impl OneDuo {
     /// What stands first for this side, which is left there. The side knows then what it tells.
     pub fn peek(&mut self, which: Which) -> Sight
         ensures look { DuoTakes which self.old (peeked result) self.new }
+        ensures again { (frag : Frag) → front_of (side_of which self.old).waiting ≡ saw frag → peeked result ≡ saw frag }
+        ensures again_acknowledged { front_of (side_of which self.old).waiting ≡ saw_ack → peeked result ≡ saw_ack }
         ensures whole { (frag : Frag) → result ≡ Sight.Data frag → BeginsWith (side_of which self.old).waiting frag }
         ensures of_call { (frag : Frag) → result ≡ Sight.Data frag → is_ack_only frag ≡ false }
     {
@@ -103,6 +106,18 @@ impl OneDuo {
         match which {
             Which::One => take_at(&self.words, &mut self.one),
             Which::Two => take_at(&self.words, &mut self.two),
+        }
+    }
+
+    /// Forgets what this side learned by looks: `known` is what it knew before them. So a caller that looked and then is
+    /// refused for want of memory leaves the ring as it was (`forgets_looks`).
+    pub fn forget(&mut self, which: Which, known: u64)
+        requires before { MayForget self.old.size (side_of which self.old) known }
+        ensures forgotten { self.new ≡ knowing which self.old known }
+    {
+        match which {
+            Which::One => self.one.known = known,
+            Which::Two => self.two.known = known,
         }
     }
 
@@ -139,6 +154,7 @@ impl OneDuo {
     /// The epoch bit of the fragment that this side puts next.
     pub fn next_epoch(&self, which: Which) -> u64
         ensures epoch { result ≡ epoch_at self.now.size (side_of which self.now).sent }
+        ensures bit { result < 2 }
     {
         match which {
             Which::One => self.one.put.epoch(),

@@ -1,17 +1,17 @@
 //! A ring with one owner.
 
-ghost use Rattle.std.specs.Prelude.{◌≡◌, ◌≢◌, ◌+◌, ◌*◌, ◌-◌, ◌^◌, ◌/◌, ◌%◌, ◌<◌, ◌≤◌, ◌↔◌, true, false, [], ◌∷◌, List, length, IfOk, OnOk, Ok, Err, vec_len, MatchOption, refl};
+ghost use Rattle.std.specs.Prelude.{◌≡◌, ◌≢◌, ◌+◌, ◌*◌, ◌-◌, ◌^◌, ◌/◌, ◌%◌, ◌<◌, ◌≤◌, ◌↔◌, true, false, [], ◌∷◌, List, length, IfOk, OnOk, Ok, Err};
+ghost use Rattle.std.specs.Prelude.{vec_len, MatchOption, refl};
 ghost use Rattle.fl_base.specs.declared.fragment.Frag.{Frag};
-ghost use Rattle.fl_base.specs.Control.{is_ack_only};
-ghost use Rattle.fl_link.specs.Stamp.{bare};
+ghost use Rattle.fl_base.specs.Control.{is_ack_only, bare};
 ghost use Rattle.fl_link.specs.Looks.{placed, no_room, spent, saw, saw_ack, found, found_ack, peeked, taken, tells};
 ghost use Rattle.fl_link.specs.Queue.{next_epoch_of, has_room, front_of, BeginsWith, MayHave};
-ghost use Rattle.fl_ring.specs.Ring.{TheRing, queue_of, RingPuts, RingTakes, RingStands};
+ghost use Rattle.fl_ring.specs.Ring.{TheRing, queue_of, RingGains, RingPuts, RingTakes, RingStands};
 
 use crate::fault::RingFault;
 use crate::slots::{look, write_slot};
 use fl_base::{Frag, MAX_QUEUE};
-use fl_link::{Cursor, PutFault, PutSide, SPENT, Sight, TakeSide, Told, stamp};
+use fl_link::{Cursor, PutFault, PutSide, SPENT, Sight, TakeSide, Told};
 use std::alloc::Global;
 use std::marker::Model;
 
@@ -66,7 +66,7 @@ impl OneRing {
     /// Puts the fragment into the next slot, with the epoch due and telling nothing. Where every
     /// slot is in use it is E30, and after 2^62 fragments E33.
     pub fn put(&mut self, frag: &Frag) -> Result<(), PutFault>
-        ensures placed { OnOk result (RingPuts self.old (placed (bare frag.now)) self.new) }
+        ensures placed { OnOk result (RingGains self.old (bare frag.now) self.new) }
         ensures full { result ≡ Err PutFault.Full → RingPuts self.old no_room self.new }
         ensures spent { result ≡ Err PutFault.Spent → RingPuts self.old spent self.new }
     {
@@ -78,7 +78,7 @@ impl OneRing {
         if sent - self.words[8 * size] == size as u64 {
             return Err(PutFault::Full);
         }
-        let stamped = stamp(frag, self.put.epoch(), 0);
+        let stamped = frag.stamp(self.put.epoch(), 0);
         write_slot(&mut self.words, 8 * self.put.place(), &stamped);
         self.put.advance();
         Ok(())
@@ -143,6 +143,7 @@ impl OneRing {
     /// The epoch bit of the fragment that is put next.
     pub fn next_epoch(&self) -> u64
         ensures epoch { result ≡ next_epoch_of (queue_of self.now) }
+        ensures bit { result < 2 }
     {
         self.put.epoch()
     }

@@ -3,7 +3,7 @@
 //! A ring is one table of words, and every step is one load or store of one word. The table has a
 //! rule, which holds at every moment (`specs/SharedRing.antt`): every fragment from the number told
 //! on is in its slot with the epoch of its round, the other slots have the other epoch, and what was
-//! got is a front of what was sent. Each side steps with a seat of the table. What a side knows is
+//! got is a prefix of what was sent. Each side steps with a seat of the table. What a side knows is
 //! its view: plain data, which exists in the proofs alone and moves by its own steps only.
 //!
 //! - `board.rt`: the views and the rule

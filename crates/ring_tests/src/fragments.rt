@@ -44,6 +44,7 @@ pub enum Step {
     TakeNothing,
     TakeAcknowledgement,
     Tell(Told),
+    TellFull,
     Room(bool),
     NextEpoch(u64),
     NextTold(u16),

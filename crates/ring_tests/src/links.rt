@@ -2,7 +2,10 @@
 
 use crate::fragments::{Step, arrived, fill, pass_on, ping};
 use fl_base::Frag;
-use fl_link::{Cursor, LinkFault, Passed, PutFault, PutSide, QueueLink, Sight, Told};
+use fl_link::{
+    Cursor, LinkFault, Passed, PutFault, PutSide, QueueLink, Sight, Told, calls_alone,
+    filters_join, looks_join, queue_conserves,
+};
 use std::process::Abort;
 use std::test::Fail;
 
@@ -51,6 +54,7 @@ fn answers(queue: &mut QueueLink, step: Step) -> bool {
         Step::TakeNothing => queue.take() == Sight::Empty,
         Step::TakeAcknowledgement => queue.take() == Sight::Acknowledgement,
         Step::Tell(told) => queue.tell() == told,
+        Step::TellFull => false,
         Step::Room(room) => queue.room() == room,
         Step::NextEpoch(epoch) => queue.next_epoch() == epoch,
         Step::NextTold(told) => queue.next_told() == told,
@@ -163,6 +167,10 @@ const ACKNOWLEDGEMENT: Frag = Frag {
 fn passes_on(rt: HostRuntime) -> Result<(), Fail> {
     let mut from = QueueLink::acked(rt.alloc(), 4)?;
     let mut to = QueueLink::local(rt.alloc(), 1)?;
+    looks_join::<QueueLink>();
+    filters_join();
+    calls_alone();
+    queue_conserves();
     assert_eq!(rt; pass_on(&mut from, &mut to), Passed::Nothing);
     assert_eq!(rt; fill(&mut from, 5), 4);
     assert_eq!(rt; pass_on(&mut from, &mut to), Passed::Moved);

@@ -1,15 +1,17 @@
 //! Worked examples: rings with one owner that fill and wrap, counts that ride in control words.
 
-ghost use Rattle.std.specs.Prelude.{◌≡◌, false, OnOk};
-ghost use Rattle.fl_base.specs.Control.{is_ack_only};
-ghost use Rattle.fl_link.specs.Stamp.{bare};
+ghost use Rattle.std.specs.Prelude.{◌≡◌, false, OnOk, OnErr};
+ghost use Rattle.fl_base.specs.Control.{is_ack_only, bare};
 ghost use Rattle.fl_link.specs.Looks.{placed, taken};
 ghost use Rattle.fl_ring.specs.Duo.{DuoPuts, DuoTakes};
 
 use crate::fragments::{Step, arrived, fill, pass_on, ping};
 use fl_base::Frag;
 use fl_link::{Link, Passed, PutFault, PutSide, QueueLink, Sight, TakeSide, Told};
-use fl_ring::{OneDuo, OneRing, RingFault, Which, count_from};
+use fl_ring::{
+    OneDuo, OneRing, RingFault, Which, count_from, duo_conserves, forgets_looks, ring_conserves,
+};
+use std::alloc::{AllocError, Global};
 use std::test::Fail;
 
 // What the putting side says of itself: room, epoch due, count told next, count known.
@@ -43,6 +45,37 @@ fn take_by_side(duo: &mut OneDuo, which: Which) -> Sight
 {
     let mut side = duo.side(which);
     side.take()
+}
+
+// Looks at a side, and forgets what the look told.
+fn look_and_forget(duo: &mut OneDuo, which: Which) -> Sight
+    ensures forgotten { duo.new ≡ duo.old }
+{
+    let known = duo.known(which);
+    let seen = duo.peek(which);
+    forgets_looks();
+    duo.forget(which, known);
+    seen
+}
+
+// Looks at a side and takes memory; where there is none the ring is as it was.
+fn look_and_take_memory(
+    alloc: Global,
+    duo: &mut OneDuo,
+    which: Which,
+) -> Result<Vec<u64>, AllocError>
+    ensures unchanged { OnErr result (duo.new ≡ duo.old) }
+{
+    let known = duo.known(which);
+    let _ = duo.peek(which);
+    match Vec::with_capacity(alloc, 8) {
+        Ok(room) => Ok(room),
+        Err(fault) => {
+            forgets_looks();
+            duo.forget(which, known);
+            Err(fault)
+        }
+    }
 }
 
 // A number of slots, and whether a ring and a duo may have it.
@@ -173,6 +206,56 @@ fn a_duo_of_four(rt: HostRuntime) -> Result<(), Fail> {
         assert_eq!(rt; (row, duo_answers(&mut duo, *which, *step)), (row, true));
         assert_eq!(rt; (row, stand(duo.words(), words)), (row, true));
     }
+    Ok(())
+}
+
+fn known_at(duo: &OneDuo, which: Which) -> u64 {
+    duo.known(which)
+}
+
+fn look_at(duo: &mut OneDuo, which: Which) -> Sight {
+    duo.peek(which)
+}
+
+fn look_again_at(duo: &mut OneDuo, which: Which) -> Sight {
+    look_and_forget(duo, which)
+}
+
+// Side one puts a fragment and side two takes it, and answers with one that tells so.
+fn ask_and_answer(duo: &mut OneDuo) -> bool {
+    put_at(duo, Which::One, 7) == Ok(())
+        && take_at(duo, Which::Two) == arrived(7, 3)
+        && put_at(duo, Which::Two, 8) == Ok(())
+}
+
+// A look tells side one that its fragment was taken; forgotten, it is told again by the next.
+#[test]
+fn forgets_what_a_look_told(rt: HostRuntime) -> Result<(), Fail> {
+    let mut duo = OneDuo::new(rt.alloc(), 4)?;
+    assert!(rt; ask_and_answer(&mut duo));
+    let answer = arrived(8, 0x0001_0000_0000_0003);
+    assert_eq!(rt; look_again_at(&mut duo, Which::One), answer);
+    assert_eq!(rt; known_at(&duo, Which::One), 0);
+    assert_eq!(rt; look_at(&mut duo, Which::One), answer);
+    assert_eq!(rt; known_at(&duo, Which::One), 1);
+    let room = look_and_take_memory(rt.alloc(), &mut duo, Which::One)?;
+    assert!(rt; room.is_empty());
+    ring_conserves();
+    duo_conserves();
+    Ok(())
+}
+
+// Whether all of these words are 0, and how many they are.
+fn zeros(words: &[u64]) -> (usize, bool) {
+    (words.len(), words.iter().all(|word| *word == 0))
+}
+
+#[test]
+fn begin_with_zeros(rt: HostRuntime) -> Result<(), Fail> {
+    let ring = OneRing::new(rt.alloc(), 4)?;
+    assert_eq!(rt; zeros(ring.words()), (33, true));
+    let duo = OneDuo::new(rt.alloc(), 4)?;
+    assert_eq!(rt; zeros(duo.words()), (64, true));
     Ok(())
 }
 

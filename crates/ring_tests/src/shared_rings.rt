@@ -5,7 +5,8 @@ ghost use Rattle.std.specs.Prelude.{◌≡◌, ◌≤◌, ◌^◌};
 use crate::fragments::{Step, arrived, pass_on, ping};
 use fl_link::{Passed, PutFault, Sight, Told};
 use fl_ring::{
-    RingFault, RingRx, RingTx, SharedSide, Which, duo, duo_from, ring, settle, settle_duo,
+    RingFault, RingRx, RingTx, SharedSide, Which, duo, duo_from, receiver_conserves, ring,
+    sender_conserves, settle, settle_duo, side_conserves,
 };
 use std::alloc::Global;
 use std::hint;
@@ -117,6 +118,7 @@ fn side_answers(side: &mut SharedSide, step: Step) -> bool {
         Step::TakeNothing => side.try_take() == Sight::Empty,
         Step::TakeAcknowledgement => side.try_take() == Sight::Acknowledgement,
         Step::Tell(told) => side.tell() == Ok(told),
+        Step::TellFull => side.tell() == Err(PutFault::Full),
         Step::Room(room) => side.room() == room,
         Step::NextEpoch(epoch) => side.next_epoch() == epoch,
         Step::NextTold(told) => side.next_told() == told,
@@ -232,6 +234,42 @@ fn a_duo_that_began_long_ago(rt: HostRuntime) -> Result<(), Fail> {
             Some(arrived(*word, *back))
         );
     }
+    Ok(())
+}
+
+// Whose step it is, and the step: through this ring 2^62 fragments less two have passed each way. A side puts two more, and
+// no more after them; nor can it tell what it took since.
+const DUO_AT_ITS_END: &[(Which, Step)] = &[
+    (Which::One, Step::NextEpoch(0)),
+    (Which::One, Step::Put(5, Ok(()))),
+    (Which::One, Step::Room(true)),
+    (Which::One, Step::Put(6, Ok(()))),
+    (Which::One, Step::Room(false)),
+    (Which::One, Step::Put(7, Err(PutFault::Spent))),
+    (Which::Two, Step::Put(8, Ok(()))),
+    (Which::Two, Step::Put(9, Ok(()))),
+    (Which::Two, Step::Put(9, Err(PutFault::Spent))),
+    (Which::One, Step::Take(8, 0xfffe_0000_0000_0002)),
+    (Which::One, Step::Tell(Told::Nothing)),
+    (Which::One, Step::Take(9, 0xfffe_0000_0000_0002)),
+    (Which::One, Step::TellFull),
+    (Which::One, Step::Put(7, Err(PutFault::Spent))),
+    (Which::Two, Step::Take(5, 0xfffe_0000_0000_0002)),
+];
+
+#[test]
+fn a_duo_at_its_end(rt: HostRuntime) -> Result<(), Fail> {
+    let (mut one, mut two) = began_long_ago(rt.alloc(), (1 << 62) - 2)?;
+    for (row, (which, step)) in DUO_AT_ITS_END.iter().enumerate() {
+        let answers = match which {
+            Which::One => side_answers(&mut one, *step),
+            Which::Two => side_answers(&mut two, *step),
+        };
+        assert_eq!(rt; (row, answers), (row, true));
+    }
+    sender_conserves();
+    receiver_conserves();
+    side_conserves();
     Ok(())
 }
 

@@ -60,7 +60,8 @@ fn mark(words: &mut Vec<u64>, size: usize, start: u64)
     requires start { start ≤ 2 ^ 62 }
     requires wide { vec_len words.old ≡ 16 * size }
     ensures wide { vec_len words.new ≡ 16 * size }
-    ensures free { (i : ℕ) → start ≤ i → i < start + size → (epoch_in 0 size words.new.items i ≢ epoch_at size i) × (epoch_in (8 * size) size words.new.items i ≢ epoch_at size i) }
+    ensures free { (i : ℕ) → start ≤ i → i < start + size
+        → (epoch_in 0 size words.new.items i ≢ epoch_at size i) × (epoch_in (8 * size) size words.new.items i ≢ epoch_at size i) }
 {
     let mut next = Cursor::at(size, start);
     for k in 0..size {
@@ -117,7 +118,7 @@ fn sides_of(
     Ok((one, two))
 }
 
-/// The two sides of one ring, in one hand again: what each took is a front of what the other put, and
+/// The two sides of one ring, in one hand again: what each took is a prefix of what the other put, and
 /// every count is near the one that is known.
 pub fn settle_duo(one: SharedSide, other: SharedSide)
     requires ring { one.ring ≡ other.ring }

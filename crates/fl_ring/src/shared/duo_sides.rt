@@ -2,8 +2,7 @@
 
 ghost use Rattle.std.specs.Prelude.{◌≡◌, ◌≢◌, ◌+◌, ◌-◌, ◌*◌, ◌/◌, ◌%◌, ◌^◌, ◌<◌, ◌≤◌, ◌∷◌, ◌++◌, [], nat_le, false, length, Some, Ok, Err, OnOk};
 ghost use Rattle.fl_base.specs.declared.fragment.Frag.{Frag};
-ghost use Rattle.fl_base.specs.Control.{is_ack_only};
-ghost use Rattle.fl_link.specs.Stamp.{bare};
+ghost use Rattle.fl_base.specs.Control.{is_ack_only, bare};
 ghost use Rattle.fl_link.specs.Cursor.{epoch_at};
 ghost use Rattle.fl_link.specs.Looks.{placed, no_room, spent, saw, saw_ack, found, found_ack, peeked, taken, tells};
 ghost use Rattle.fl_ring.specs.SharedSeats.{front_seen};
@@ -13,7 +12,7 @@ use crate::shared::duo_board::{DuoBoard, DuoPlace};
 use crate::shared::duo_steps::{load_control, peek_frag, put_frag, take_frag};
 use crate::shared::sight::sight;
 use fl_base::Frag;
-use fl_link::{Cursor, PutFault, PutSide, SPENT, Sight, TakeSide, Told, stamp};
+use fl_link::{Cursor, PutFault, PutSide, SPENT, Sight, TakeSide, Told};
 use std::alloc::Global;
 use std::marker::Model;
 use std::sync::Arc;
@@ -43,7 +42,8 @@ impl Model for SharedSide {
 
     ghost view = { λ s. side_of_seat s.seat };
 
-    ghost invariant = { λ s. IsDuoSeated (arc_value s.table).shared.table_id (arc_value s.table).shared.key s.seat × IsSide s.seat s.base s.other s.put s.take s.known s.told };
+    ghost invariant = { λ s. IsDuoSeated (arc_value s.table).shared.table_id (arc_value s.table).shared.key s.seat
+        × IsSide s.seat s.base s.other s.put s.take s.known s.told };
 }
 
 // A fragment that only acknowledges: bit 2 is set and nothing else.
@@ -89,7 +89,7 @@ impl SharedSide {
         ensures written { self.new ≡ side_written self.old frag.now }
     {
         let taken = self.take.index();
-        let stamped = stamp(frag, self.put.epoch(), (taken % 65_536) as u16);
+        let stamped = frag.stamp(self.put.epoch(), (taken % 65_536) as u16);
         let first = self.base + 8 * self.put.place();
         put_frag(&self.table.shared, &mut self.seat, first, &stamped);
         self.put.advance();
@@ -123,6 +123,8 @@ impl SharedSide {
     pub fn try_peek(&mut self) -> Sight
         ensures look { SharedTakes self.old (peeked result) self.new }
         ensures exact { (frag : Frag) → result ≡ Sight.Data frag → self.new.peeked ≡ Some frag }
+        ensures again { (frag : Frag) → front_seen self.old.peeked ≡ saw frag → peeked result ≡ saw frag }
+        ensures again_acknowledged { front_seen self.old.peeked ≡ saw_ack → peeked result ≡ saw_ack }
         ensures front { peeked result ≡ front_seen self.new.peeked }
         ensures of_call { (frag : Frag) → result ≡ Sight.Data frag → is_ack_only frag ≡ false }
         ensures ring { self.new.ring ≡ self.old.ring }
@@ -201,6 +203,7 @@ impl SharedSide {
     /// The epoch bit of the fragment that is put next.
     pub fn next_epoch(&self) -> u64
         ensures epoch { result ≡ epoch_at self.now.size (length self.now.sent) }
+        ensures bit { result < 2 }
     {
         self.put.epoch()
     }

@@ -63,8 +63,11 @@ pub(crate) fn load_control(
     ensures table { seat.new.table_id ≡ seat.old.table_id }
     ensures known { (seat.new.me.0.mine.put.known ≡ known.new) × (known.old ≤ known.new) × (known.new ≤ length seat.old.me.0.mine.put.sent) }
     ensures found { MatchOption result
-        ((c : ℕ) × (epoch_of c ≢ due) × (seat.old.me.0.mine.take.peeked ≡ None) × (seat.new.me ≡ (with_mine seat.old.me.0 (side_control seat.old.me.0.size seat.old.me.0.mine c), seat.old.me.1)))
-        (λ c. (epoch_of c ≡ due) × (seat.new.me ≡ (with_mine seat.old.me.0 (side_control seat.old.me.0.size seat.old.me.0.mine c), seat.old.me.1)) × IsPeekedControl seat.old.me.0.mine.take c) }
+        ((c : ℕ) × (epoch_of c ≢ due) × (seat.old.me.0.mine.take.peeked ≡ None)
+        × (seat.new.me ≡ (with_mine seat.old.me.0 (side_control seat.old.me.0.size seat.old.me.0.mine c), seat.old.me.1)))
+        (λ c. (epoch_of c ≡ due)
+        × (seat.new.me ≡ (with_mine seat.old.me.0 (side_control seat.old.me.0.size seat.old.me.0.mine c), seat.old.me.1))
+        × IsPeekedControl seat.old.me.0.mine.take c) }
 {
     let control = top.load::<LoadControl>(seat, first + 7);
     if control % 2 != due {
@@ -104,7 +107,8 @@ pub(crate) fn peek_frag(
     requires due { due ≡ epoch_at seat.old.me.0.size (length seat.old.me.0.mine.take.got) }
     ensures known { (seat.new.me.0.mine.put.known ≡ known.new) × (known.old ≤ known.new) × (known.new ≤ length seat.old.me.0.mine.put.sent) }
     ensures seat { (seat.new.me.0.mine.put.part ≡ seat.old.me.0.mine.put.part) × (seat.new.me.1 ≡ seat.old.me.1) }
-    ensures seen { MatchOption result (SideMisses (side_of_seat seat.old) (side_of_seat seat.new)) (λ frag. SideSees (side_of_seat seat.old) frag (side_of_seat seat.new)) }
+    ensures seen { MatchOption result (SideMisses (side_of_seat seat.old) (side_of_seat seat.new))
+        (λ frag. SideSees (side_of_seat seat.old) frag (side_of_seat seat.new)) }
 {
     let control = load_control(top, seat, first, due, known)?;
     let mut words = load_six(top, seat, first);
@@ -126,7 +130,8 @@ pub(crate) fn take_frag(
     requires due { due ≡ epoch_at seat.old.me.0.size (length seat.old.me.0.mine.take.got) }
     ensures known { (seat.new.me.0.mine.put.known ≡ known.new) × (known.old ≤ known.new) × (known.new ≤ length seat.old.me.0.mine.put.sent) }
     ensures seat { (seat.new.me.0.mine.put.part ≡ seat.old.me.0.mine.put.part) × (seat.new.me.1 ≡ seat.old.me.1) }
-    ensures taken { MatchOption result (SideMisses (side_of_seat seat.old) (side_of_seat seat.new)) (λ frag. SideGets (side_of_seat seat.old) frag (side_of_seat seat.new) × (length seat.old.me.0.mine.take.got < 2 ^ 62)) }
+    ensures taken { MatchOption result (SideMisses (side_of_seat seat.old) (side_of_seat seat.new))
+        (λ frag. SideGets (side_of_seat seat.old) frag (side_of_seat seat.new) × (length seat.old.me.0.mine.take.got < 2 ^ 62)) }
 {
     let control = load_control(top, seat, first, due, known)?;
     let mut words = load_six(top, seat, first);

@@ -3,8 +3,7 @@
 ghost use Rattle.std.specs.Prelude.{◌≡◌, ◌*◌, ◌+◌, ◌^◌, ◌<◌, ◌≤◌, ◌↔◌, ◌≢◌, true, [], IfOk, OnOk, Err};
 ghost use Rattle.fl_ring.specs.SharedRing.{opening_view};
 ghost use Rattle.fl_link.specs.Queue.{MayHave};
-ghost use Rattle.fl_ring.specs.SharedWay.{IsFront};
-ghost use Rattle.fl_ring.specs.SharedSeats.{new_sender, new_receiver};
+ghost use Rattle.fl_ring.specs.SharedSeats.{new_sender, new_receiver, RingNear};
 
 use crate::fault::RingFault;
 use crate::shared::board::{Board, Place};
@@ -71,10 +70,11 @@ fn sides_of(
     Ok((tx, rx))
 }
 
-/// The two sides of one ring, in one hand again: what was got is a front of what was sent.
+/// The two sides of one ring, in one hand again: what was got is a prefix of what was sent, and every count is near the one
+/// that is known.
 pub fn settle(tx: RingTx, rx: RingRx)
     requires ring { tx.ring ≡ rx.ring }
-    ensures front { IsFront rx.got tx.sent }
+    ensures near { RingNear tx rx }
 {
     let RingTx {
         table,

@@ -1,6 +1,7 @@
 //! The kinds of step on a ring's table, and what each tells the side that makes it.
 
-ghost use Rattle.fl_ring.specs.SharedRing.{stores_word, stores_control, loads_told, loads_control, loads_word, loads_peeked, loads_taken, stores_told, compares, writer_of, reader_of, both_of, nobody};
+ghost use Rattle.fl_ring.specs.SharedRing.{stores_word, stores_control, loads_told, loads_control, loads_word, loads_peeked, loads_taken};
+ghost use Rattle.fl_ring.specs.SharedRing.{stores_told, compares, writer_of, reader_of, both_of, nobody};
 
 use crate::shared::board::View;
 use atomic_table::{Join, Play, Split};

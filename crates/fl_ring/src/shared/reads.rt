@@ -20,7 +20,8 @@ fn load_control(top: &Top, seat: &mut Place, first: usize, due: u64) -> Option<u
     requires due { due ≡ epoch_at seat.old.me.0.size (length seat.old.me.0.take.got) }
     ensures table { seat.new.table_id ≡ seat.old.table_id }
     ensures found { MatchOption result
-        ((c : ℕ) × (epoch_of c ≢ due) × (seat.old.me.0.take.peeked ≡ None) × (seat.new.me ≡ (with_reading seat.old.me.0 (with_control seat.old.me.0.size seat.old.me.0.take c), seat.old.me.1)))
+        ((c : ℕ) × (epoch_of c ≢ due) × (seat.old.me.0.take.peeked ≡ None)
+        × (seat.new.me ≡ (with_reading seat.old.me.0 (with_control seat.old.me.0.size seat.old.me.0.take c), seat.old.me.1)))
         (λ c. (epoch_of c ≡ due) × (seat.new.me ≡ (with_reading seat.old.me.0 (with_control seat.old.me.0.size seat.old.me.0.take c), seat.old.me.1))) }
 {
     let control = top.load::<LoadControl>(seat, first + 7);
@@ -68,7 +69,8 @@ pub(crate) fn take_frag(top: &Top, seat: &mut Place, first: usize, due: u64) -> 
     requires first { first ≡ slot 0 seat.old.me.0.size (length seat.old.me.0.take.got) }
     requires due { due ≡ epoch_at seat.old.me.0.size (length seat.old.me.0.take.got) }
     ensures seat { (seat.new.me.0.reads ≡ true) × (seat.new.me.1 ≡ seat.old.me.1) }
-    ensures taken { MatchOption result (Misses (receiver_of seat.old) (receiver_of seat.new)) (λ frag. Gets (receiver_of seat.old) frag (receiver_of seat.new) × (length seat.old.me.0.take.got < 2 ^ 62)) }
+    ensures taken { MatchOption result (Misses (receiver_of seat.old) (receiver_of seat.new))
+        (λ frag. Gets (receiver_of seat.old) frag (receiver_of seat.new) × (length seat.old.me.0.take.got < 2 ^ 62)) }
 {
     let control = load_control(top, seat, first, due)?;
     let mut words = load_six(top, seat, first);

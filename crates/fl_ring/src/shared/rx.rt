@@ -43,6 +43,8 @@ impl RingRx {
     pub fn try_peek(&mut self) -> Sight
         ensures look { ReceiverTakes self.old (peeked result) self.new }
         ensures exact { (frag : Frag) → result ≡ Sight.Data frag → self.new.peeked ≡ Some frag }
+        ensures again { (frag : Frag) → front_seen self.old.peeked ≡ saw frag → peeked result ≡ saw frag }
+        ensures again_acknowledged { front_seen self.old.peeked ≡ saw_ack → peeked result ≡ saw_ack }
         ensures front { peeked result ≡ front_seen self.new.peeked }
         ensures of_call { (frag : Frag) → result ≡ Sight.Data frag → is_ack_only frag ≡ false }
         ensures ring { self.new.ring ≡ self.old.ring }

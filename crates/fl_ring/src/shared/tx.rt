@@ -1,15 +1,15 @@
 //! The side of a ring that puts.
 
-ghost use Rattle.std.specs.Prelude.{◌≡◌, length, Ok, Err, OnOk};
-ghost use Rattle.fl_link.specs.Stamp.{bare};
+ghost use Rattle.std.specs.Prelude.{◌≡◌, ◌<◌, length, Ok, Err, OnOk};
+ghost use Rattle.fl_base.specs.Control.{bare};
 ghost use Rattle.fl_link.specs.Cursor.{epoch_at};
 ghost use Rattle.fl_link.specs.Looks.{placed, no_room, spent};
-ghost use Rattle.fl_ring.specs.SharedSeats.{SenderPuts, sender_has_room};
+ghost use Rattle.fl_ring.specs.SharedSeats.{SenderGains, SenderPuts, sender_has_room};
 
 use crate::shared::board::{Board, Place};
 use crate::shared::writes::{has_room, put_frag};
 use fl_base::Frag;
-use fl_link::{Cursor, PutFault, PutSide, SPENT, stamp};
+use fl_link::{Cursor, PutFault, PutSide, SPENT};
 use std::alloc::Global;
 use std::marker::Model;
 use std::sync::Arc;
@@ -33,7 +33,8 @@ impl Model for RingTx {
 
     ghost view = { λ s. sender_of s.seat };
 
-    ghost invariant = { λ s. IsSeated (arc_value s.table).shared.table_id (arc_value s.table).shared.key s.seat × IsWriter s.seat s.put.size s.put.index s.known };
+    ghost invariant = { λ s. IsSeated (arc_value s.table).shared.table_id (arc_value s.table).shared.key s.seat
+        × IsWriter s.seat s.put.size s.put.index s.known };
 }
 
 impl RingTx {
@@ -41,7 +42,7 @@ impl RingTx {
     /// else E30 where a look at the number told has shown that no slot is free.
     #[inline]
     pub fn try_put(&mut self, frag: &Frag) -> Result<(), PutFault>
-        ensures placed { OnOk result (SenderPuts self.old (placed (bare frag.now)) self.new) }
+        ensures placed { OnOk result (SenderGains self.old (bare frag.now) self.new) }
         ensures full { result ≡ Err PutFault.Full → SenderPuts self.old no_room self.new }
         ensures spent { result ≡ Err PutFault.Spent → SenderPuts self.old spent self.new }
         ensures ring { self.new.ring ≡ self.old.ring }
@@ -54,7 +55,7 @@ impl RingTx {
         if !has_room(top, &mut self.seat, self.put.size(), index, &mut self.known) {
             return Err(PutFault::Full);
         }
-        let stamped = stamp(frag, self.put.epoch(), 0);
+        let stamped = frag.stamp(self.put.epoch(), 0);
         put_frag(top, &mut self.seat, 8 * self.put.place(), &stamped);
         self.put.advance();
         Ok(())
@@ -71,6 +72,7 @@ impl RingTx {
     /// The epoch bit of the fragment that is put next.
     pub fn next_epoch(&self) -> u64
         ensures epoch { result ≡ epoch_at self.now.size (length self.now.sent) }
+        ensures bit { result < 2 }
     {
         self.put.epoch()
     }

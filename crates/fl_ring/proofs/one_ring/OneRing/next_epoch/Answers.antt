@@ -7,4 +7,4 @@ use Rattle.fl_ring.proofs.one_ring.OneRing.next_epoch.Goals as goal
 pub returns : goal.returns
 returns c =
     let i = c.self.inside in
-    record { epoch = c.epoch.ensures.epoch ∙ epoch_is i.words.items i.put.size i.put.index i.take.index c.self.invariant.1 ∙ ap (λ (s : TheRing). next_epoch_of (queue_of s)) c.self.view_is }
+    record { bit = c.epoch.ensures.bit; epoch = c.epoch.ensures.epoch ∙ epoch_is i.words.items i.put.size i.put.index i.take.index c.self.invariant.1 ∙ ap (λ (s : TheRing). next_epoch_of (queue_of s)) c.self.view_is }

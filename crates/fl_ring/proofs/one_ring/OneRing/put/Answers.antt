@@ -2,10 +2,10 @@ use Rattle.std.proofs.Common.{ℕ, ◌≡◌, ◌≢◌, ◌+◌, ◌*◌, ◌-�
 use Rattle.std.proofs.lemmas.List.{get_or_read}
 use Rattle.fl_base.specs.declared.fragment.Frag.{Frag}
 use Rattle.fl_link.specs.Cursor.{TheCursor}
-use Rattle.fl_link.specs.Stamp.{bare, stamped}
-use Rattle.fl_link.specs.Looks.{placed, no_room, spent}
+use Rattle.fl_base.specs.Control.{bare, stamped}
+use Rattle.fl_link.specs.Looks.{no_room, spent}
 use Rattle.fl_ring.specs.Way.{slot, WritesSlot}
-use Rattle.fl_ring.specs.Ring.{TheRing, IsRing, ring_of, RingPuts}
+use Rattle.fl_ring.specs.Ring.{TheRing, IsRing, ring_of, RingGains, RingPuts}
 use Rattle.fl_link.proofs.Carried.{epoch-stamped}
 use Rattle.fl_ring.proofs.RingSteps.{puts_spent, puts_no_room, put_stands, puts_placed, slot_at_zero}
 use Rattle.fl_ring.proofs.one_ring.OneRing.put.Goals as goal
@@ -33,7 +33,7 @@ returns-then-sent-index-clause-full c = λ _.
 
 -- the ring with the fragment in its slot
 after : (c : goal.After-advance) → (let i = c.self.inside in IsRing c.write_slot.new.words.items i.put.size (i.put.index + 1) i.take.index
-    × RingPuts (ring_of i.words.items i.put.size i.put.index i.take.index) (placed (bare c.args.frag.now)) (ring_of c.write_slot.new.words.items i.put.size (i.put.index + 1) i.take.index))
+    × RingGains (ring_of i.words.items i.put.size i.put.index i.take.index) (bare c.args.frag.now) (ring_of c.write_slot.new.words.items i.put.size (i.put.index + 1) i.take.index))
 after c =
     let i = c.self.inside in
     let r = c.self.invariant.1 in
@@ -62,5 +62,5 @@ invariant_of-self c =
 pub returns-clause-placed : goal.returns-clause-placed
 returns-clause-placed c =
     let i = c.self.inside in
-    subst (λ (s : TheRing). RingPuts s (placed (bare c.args.frag.now)) (ring_of c.write_slot.new.words.items c.advance.new.self.size c.advance.new.self.index i.take.index)) c.self.view_is
-    (subst (λ (p : TheCursor). RingPuts (ring_of i.words.items i.put.size i.put.index i.take.index) (placed (bare c.args.frag.now)) (ring_of c.write_slot.new.words.items p.size p.index i.take.index)) (sym c.advance.ensures.next) (after c).1)
+    subst (λ (s : TheRing). RingGains s (bare c.args.frag.now) (ring_of c.write_slot.new.words.items c.advance.new.self.size c.advance.new.self.index i.take.index)) c.self.view_is
+    (subst (λ (p : TheCursor). RingGains (ring_of i.words.items i.put.size i.put.index i.take.index) (bare c.args.frag.now) (ring_of c.write_slot.new.words.items p.size p.index i.take.index)) (sym c.advance.ensures.next) (after c).1)

@@ -1,6 +1,6 @@
 use Rattle.std.proofs.Common.{◌+◌, ◌∙◌, subst, sym}
 use Rattle.fl_link.specs.Cursor.{TheCursor}
-use Rattle.fl_link.specs.Stamp.{bare}
+use Rattle.fl_base.specs.Control.{bare}
 use Rattle.fl_link.specs.Looks.{found, found_ack}
 use Rattle.fl_ring.specs.Ring.{ring_of, RingTakes}
 use Rattle.fl_ring.proofs.RingSteps.{takes_first, takes_found, takes_ack}
