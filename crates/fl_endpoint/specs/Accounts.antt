@@ -10,7 +10,6 @@ use Rattle.fl_wire.specs.Reading.{IsPart, AllFit}
 use Rattle.fl_wire.specs.Words.{interface_words_fit}
 use Rattle.fl_compile.specs.Programs.{TheProgram, program_of}
 use Rattle.fl_base.specs.Control.{bare}
-use Rattle.fl_link.specs.Looks.{Look, placed, found}
 use Rattle.fl_endpoint.specs.View.{TheEnd, TheOutgoing, interface_in, plan_in, frags_from, nothing_to_send, number_or_0, rule_at, reply_to}
 use Rattle.fl_endpoint.specs.Events.{IsMessage, SameTypes}
 
@@ -154,14 +153,3 @@ replies_by rules (c ∷ calls) = followed (reply_to rules c) (replies_by rules c
 pub record Replies (s : TheEnd) (handled due : List TheCall) (t : TheEnd) : Type 0 where
   pub rules : t.rules ≡ s.rules
   pub replies : due ≡ replies_by s.rules handled
-
--- the fragments that were put, and those that were taken, by the looks at a side
-abbrev pub puts_of : List Look → List Frag
-puts_of [] = []
-puts_of (placed f ∷ looks) = f ∷ puts_of looks
-puts_of (look ∷ looks) = puts_of looks
-
-abbrev pub takes_of : List Look → List Frag
-takes_of [] = []
-takes_of (found f ∷ looks) = f ∷ takes_of looks
-takes_of (look ∷ looks) = takes_of looks

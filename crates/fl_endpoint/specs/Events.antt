@@ -1,6 +1,6 @@
 -- What each event comes to at one end: by cases on the answer, exactly. A side that fragments are put to or taken from is
 -- seen by its own relation alone; it goes from p to q.
-use Rattle.std.specs.Prelude.{◌≡◌, ◌≢◌, ℕ, ◌+◌, ◌%◌, true, false, List, [], ◌∷◌, ◌++◌, length, slice_get, Option, Some, None, IsSome, Result, Ok, Err}
+use Rattle.std.specs.Prelude.{◌≡◌, ◌≢◌, ℕ, ◌+◌, true, false, List, [], ◌∷◌, ◌++◌, length, slice_get, Option, Some, None, IsSome, Result, Ok, Err}
 use Rattle.fl_base.specs.declared.fragment.Frag.{Frag}
 use Rattle.fl_base.specs.declared.identity.Circuit.{Circuit}
 use Rattle.fl_check.specs.Interface.{TheInterface}
@@ -87,7 +87,7 @@ Writes puts s p (Err fault) t q = ⊥
 -- the fragment that would be written next, by the side's epoch bit and the number that it would tell
 abbrev pub ShowsNext : ℕ → ℕ → TheEnd → Result (Option Frag) EndFault → Type 0
 ShowsNext epoch told s (Ok (Some frag)) =
-    IsReady s × ((f : Frag) × (rest : List Frag) × (s.outgoing.unwritten ≡ f ∷ rest) × (frag ≡ stamped f (epoch % 2) told))
+    IsReady s × ((f : Frag) × (rest : List Frag) × (s.outgoing.unwritten ≡ f ∷ rest) × (frag ≡ stamped f epoch told))
 ShowsNext epoch told s (Ok None) = IsReady s × (s.outgoing.unwritten ≡ [])
 ShowsNext epoch told s (Err NotBound) = IsUnbound s
 ShowsNext epoch told s (Err Failed) = HasFailed s

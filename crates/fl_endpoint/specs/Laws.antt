@@ -1,5 +1,5 @@
 -- What holds of ends over time, whatever their sides: laws.
-use Rattle.std.specs.Prelude.{◌≡◌, ℕ, ◌+◌, ◌*◌, ◌^◌, ◌<◌, true, List, [], ◌∷◌, ◌++◌, map, length, Option, Result, Ok, Err}
+use Rattle.std.specs.Prelude.{◌≡◌, ℕ, ◌^◌, ◌<◌, true, List, [], ◌∷◌, ◌++◌, map, length, Option, Result, Ok, Err}
 use Rattle.fl_base.specs.declared.fragment.Frag.{Frag}
 use Rattle.fl_check.specs.Checks.{is_within_limits}
 use Rattle.fl_value.specs.Value.{TheCall, call_of}
@@ -10,7 +10,7 @@ use Rattle.fl_machine.specs.Receiving.{IsRefused}
 use Rattle.fl_base.specs.Control.{bare, with_circuit}
 use Rattle.fl_compile.specs.declared.program.Program.{Program}
 use Rattle.fl_compile.specs.Programs.{TheProgram, program_of}
-use Rattle.fl_link.specs.Looks.{Look, Looks}
+use Rattle.fl_link.specs.Looks.{Look, Looks, puts_of, takes_of}
 use Rattle.fl_endpoint.specs.declared.fault.EndFault.{EndFault}
 use Rattle.fl_endpoint.specs.declared.answer.WriteAnswer.{WriteAnswer}
 use Rattle.fl_endpoint.specs.declared.answer.ReceiveAnswer.{ReceiveAnswer}
@@ -18,7 +18,7 @@ use Rattle.fl_endpoint.specs.declared.answer.ReceiveAnswer.TheVariants.{Handle}
 use Rattle.fl_endpoint.specs.View.{TheEnd, fresh, interface_in, plan_in, bound, reply_to}
 use Rattle.fl_endpoint.specs.Events.{AreCall, Calls, Writes, Receives, SetsRule}
 use Rattle.fl_endpoint.specs.Accounts.{Sound, Accepted, asked, calls_in, replies_in, followed, stream, stream_from, streams_from, Stretch, no_event, joined}
-use Rattle.fl_endpoint.specs.Accounts.{Account, Replies, puts_of, takes_of}
+use Rattle.fl_endpoint.specs.Accounts.{Account, Replies}
 
 -- accounts add up
 abbrev pub AddUp : Type 0

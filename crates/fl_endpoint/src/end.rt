@@ -248,7 +248,7 @@ impl End {
     }
 
     /// The fragment that [`End::write`] would put next, with the epoch and the number told that the side would give it;
-    /// none where no call is in transmission. An epoch is one bit.
+    /// none where no call is in transmission.
     ///
     /// # Errors
     /// The end isn't bound yet (E43), or failed earlier (E64).
@@ -260,7 +260,7 @@ impl End {
         }
         match self.next() {
             None => Ok(None),
-            Some(frag) => Ok(Some(frag.stamp(out.next_epoch() % 2, out.next_told()))),
+            Some(frag) => Ok(Some(frag.stamp(out.next_epoch(), out.next_told()))),
         }
     }
 
