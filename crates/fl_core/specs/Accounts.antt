@@ -4,10 +4,10 @@ use Rattle.std.specs.declared.alloc.AllocError.{AllocError}
 use Rattle.fl_lists.specs.ThreeLists.{ThreeLists}
 use Rattle.fl_value.specs.Value.{TheCall, call_of}
 use Rattle.fl_waitset.specs.declared.waitset.Pick.{Pick}
-use Rattle.fl_link.specs.Looks.{Look, Looks}
+use Rattle.fl_link.specs.Looks.{Look, Looks, takes_of}
 use Rattle.fl_endpoint.specs.View.{TheEnd, reply_to}
 use Rattle.fl_endpoint.specs.Events.{IsReady}
-use Rattle.fl_endpoint.specs.Accounts.{Sound, Accepted, followed, Stretch, Account, Replies, takes_of}
+use Rattle.fl_endpoint.specs.Accounts.{Sound, Accepted, followed, Stretch, Account, Replies}
 use Rattle.fl_core.specs.declared.kind.Kind.{Kind}
 use Rattle.fl_core.specs.declared.answer.TurnAnswer.{TurnAnswer}
 use Rattle.fl_core.specs.declared.answer.TurnAnswer.TheVariants.{Handle}
