@@ -7,7 +7,7 @@
 //! - `faults.rt`: the numbers and words of the faults
 //!
 //! `rt try --test --fail-alloc N` runs each with its Nth allocation refused: then the tests whose names end in
-//! `without_memory` have to pass, and others end with want of memory.
+//! `without_memory` have to pass, and others end with out of memory.
 #![tactic(auto)]
 
 #[cfg(test)]

@@ -1,4 +1,4 @@
-//! What is refused, limits, and want of memory.
+//! What is refused, limits, and no memory.
 
 use crate::rig::{Command, Line, Rig, program};
 use fl_base::{Circuit, Frag, MsgNo};

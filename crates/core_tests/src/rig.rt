@@ -54,7 +54,7 @@ fn interface(alloc: Global, text: &[u8]) -> Result<Interface, TextFault> {
     Ok(check(alloc, &tree)?)
 }
 
-/// The program of an interface; none for want of memory alone.
+/// The program of an interface; none only where memory runs out.
 pub fn program(alloc: Global, text: &[u8]) -> Result<Program, AllocError> {
     let Ok(interface) = interface(alloc, text) else {
         return Err(AllocError);

@@ -161,7 +161,7 @@ fn forged_fragments(rt: HostRuntime) -> Result<(), Fail> {
     Ok(())
 }
 
-// Whether an end takes a whole call, where one want of memory is met by asking again: the fragment is left then, and the
+// Whether an end takes a whole call, where memory that runs out once is met by asking again: the fragment is left then, and the
 // next receive gives the call.
 fn takes_again(taker: &mut Taker) -> bool {
     if taker.from.put(&FIRST).is_err() || taker.from.put(&LAST).is_err() {

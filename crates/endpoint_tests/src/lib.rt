@@ -1,5 +1,5 @@
 //! Tests alone, of ends of bindings over queues: worked examples between the two ends of a binding, forged fragments, reply
-//! rules, ends that aren't bound, and want of memory.
+//! rules, ends that aren't bound, and no memory.
 //!
 //! - `pair.rt`: the two ends of a binding, and what they answer
 //! - `rows.rt`: worked examples
@@ -8,7 +8,7 @@
 //! - `faults.rt`: the numbers and words of the faults
 //!
 //! `rt try --test --fail-alloc N` runs each with its Nth allocation refused: then the tests whose names end in
-//! `without_memory` have to pass, and others end with want of memory.
+//! `without_memory` have to pass, and others end with out of memory.
 #![tactic(auto)]
 
 #[cfg(test)]

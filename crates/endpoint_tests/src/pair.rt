@@ -58,7 +58,7 @@ fn interface_in(alloc: Global, text: &[u8]) -> Result<Interface, TextFault> {
     Ok(check(alloc, &tree)?)
 }
 
-/// The interface of a text; none for want of memory alone.
+/// The interface of a text; none only where memory runs out.
 pub fn interface(alloc: Global, text: &[u8]) -> Result<Interface, AllocError> {
     match interface_in(alloc, text) {
         Ok(interface) => Ok(interface),

@@ -8,8 +8,7 @@ use fl_check::Interface;
 use fl_compile::compile;
 use fl_endpoint::{
     End, accounts_add_up, bind_accounts, call_accounts, handles_in_order, on_another_circuit,
-    receive_accounts, replies_add_up, rule_accounts, since_made,
-    takes_in_order, write_accounts,
+    receive_accounts, replies_add_up, rule_accounts, since_made, takes_in_order, write_accounts,
 };
 use fl_link::{PutFault, PutSide, QueueLink};
 use fl_value::{Call, PlanNo, read_call};

@@ -1,5 +1,6 @@
 -- A turn adds to the account of the end that is due what its end's receive adds, or nothing.
-use Rattle.std.proofs.Common.{◌≡◌, inl, inr, refl, sym, ap, subst, ℕ, ◌<◌, ◌^◌, List, [], ◌∷◌, ◌++◌, Option, Some, None, IsSome, Result, Ok, Err, arith}
+use Rattle.std.proofs.Common.{◌≡◌, inl, inr, refl, sym, ap, subst, ◌∙◌, ℕ, ◌<◌, ◌^◌, List, [], ◌∷◌, ◌++◌, Option, Some, None, IsSome, Result, Ok, Err, arith}
+use Rattle.std.proofs.lemmas.List.{append-nil}
 use Rattle.std.specs.declared.alloc.AllocError.{AllocError}
 use Rattle.fl_base.specs.declared.fragment.Frag.{Frag}
 use Rattle.fl_lists.specs.declared.place.Place.{Place}
@@ -7,18 +8,20 @@ use Rattle.fl_lists.specs.declared.place.Place.TheVariants as place
 use Rattle.fl_lists.specs.ThreeLists.{ThreeLists}
 use Rattle.fl_waitset.specs.declared.waitset.Pick.{Pick}
 use Rattle.fl_waitset.specs.declared.waitset.Pick.TheVariants as pick
-use Rattle.fl_link.specs.Looks.{Look, Looks, saw, saw_ack, found, found_ack, missed, placed, no_room, spent, told, kept}
+use Rattle.fl_link.specs.Looks.{Look, Looks, saw, saw_ack, found_ack, missed, takes_of}
+use Rattle.fl_link.proofs.Conserved.{looks_join, takes_of-join}
 use Rattle.fl_endpoint.specs.declared.fault.EndFault.TheVariants.{Wire, Memory}
 use Rattle.fl_endpoint.specs.declared.answer.ReceiveAnswer.TheVariants as receive
 use Rattle.fl_endpoint.specs.View.{TheEnd, bound, bound_by}
 use Rattle.fl_endpoint.specs.Events.{IsReady}
-use Rattle.fl_endpoint.specs.Accounts.{Sound, Account, Replies, takes_of}
+use Rattle.fl_value.specs.Value.{TheCall}
+use Rattle.fl_endpoint.specs.Accounts.{Sound, Accepted, Stretch, Account, Replies}
 use Rattle.fl_endpoint.specs.Laws.{AddsNothing, BindAccounts, ReceiveAccounts}
 use Rattle.fl_core.specs.declared.kind.Kind.{Kind}
 use Rattle.fl_core.specs.declared.kind.Kind.TheVariants.{Queue, Ring}
 use Rattle.fl_core.specs.declared.answer.TurnAnswer.{TurnAnswer}
 use Rattle.fl_core.specs.declared.answer.TurnAnswer.TheVariants.{Handle, Part, Ready, Quiet, Full, Nothing, Refused}
-use Rattle.fl_core.specs.Turns.{WaitsIn, Gives, Examines, LooksAt}
+use Rattle.fl_core.specs.Turns.{WaitsIn, lent, moment, Gives, Examines, LooksAt}
 use Rattle.fl_core.specs.Accounts.{handled_in, due_in_turn, TurnAdds}
 
 -- an end that is bound stays as it is when it is bound
@@ -28,63 +31,9 @@ bound_stays s circuit ready = cases s.circuit refl where
   cases None e = let none : Option ℕ = None in let p : IsSome none = subst IsSome e ready in absurd (cc)
   cases (Some before) e = refl
 
--- the looks of two stretches, one after the other
-looks_join : {S : Type 0} (R : S → Look → S → Type 0) (s t u : S) (xs ys : List Look) → Looks R s xs t → Looks R t ys u → Looks R s (xs ++ ys) u
-looks_join R s t u [] ys h l = subst (λ x. Looks R x ys u) (sym h) l
-looks_join R s t u (x ∷ xs) ys (m, step, rest) l = (m, step, looks_join R m t u xs ys rest l)
-
--- looks that find nothing take nothing
-and_none : (xs : List Look) → takes_of (xs ++ []) ≡ takes_of xs
-and_none [] = refl
-and_none (placed f ∷ xs) = and_none xs
-and_none (no_room ∷ xs) = and_none xs
-and_none (spent ∷ xs) = and_none xs
-and_none (saw f ∷ xs) = and_none xs
-and_none (saw_ack ∷ xs) = and_none xs
-and_none (found f ∷ xs) = ap (λ (fs : List Frag). f ∷ fs) (and_none xs)
-and_none (found_ack ∷ xs) = and_none xs
-and_none (missed ∷ xs) = and_none xs
-and_none (told ∷ xs) = and_none xs
-and_none (kept ∷ xs) = and_none xs
-
-and_saw : (g : Frag) (xs : List Look) → takes_of (xs ++ saw g ∷ []) ≡ takes_of xs
-and_saw g [] = refl
-and_saw g (placed f ∷ xs) = and_saw g xs
-and_saw g (no_room ∷ xs) = and_saw g xs
-and_saw g (spent ∷ xs) = and_saw g xs
-and_saw g (saw f ∷ xs) = and_saw g xs
-and_saw g (saw_ack ∷ xs) = and_saw g xs
-and_saw g (found f ∷ xs) = ap (λ (fs : List Frag). f ∷ fs) (and_saw g xs)
-and_saw g (found_ack ∷ xs) = and_saw g xs
-and_saw g (missed ∷ xs) = and_saw g xs
-and_saw g (told ∷ xs) = and_saw g xs
-and_saw g (kept ∷ xs) = and_saw g xs
-
-and_saw_ack : (xs : List Look) → takes_of (xs ++ saw_ack ∷ []) ≡ takes_of xs
-and_saw_ack [] = refl
-and_saw_ack (placed f ∷ xs) = and_saw_ack xs
-and_saw_ack (no_room ∷ xs) = and_saw_ack xs
-and_saw_ack (spent ∷ xs) = and_saw_ack xs
-and_saw_ack (saw f ∷ xs) = and_saw_ack xs
-and_saw_ack (saw_ack ∷ xs) = and_saw_ack xs
-and_saw_ack (found f ∷ xs) = ap (λ (fs : List Frag). f ∷ fs) (and_saw_ack xs)
-and_saw_ack (found_ack ∷ xs) = and_saw_ack xs
-and_saw_ack (missed ∷ xs) = and_saw_ack xs
-and_saw_ack (told ∷ xs) = and_saw_ack xs
-and_saw_ack (kept ∷ xs) = and_saw_ack xs
-
-and_missed : (xs : List Look) → takes_of (xs ++ missed ∷ []) ≡ takes_of xs
-and_missed [] = refl
-and_missed (placed f ∷ xs) = and_missed xs
-and_missed (no_room ∷ xs) = and_missed xs
-and_missed (spent ∷ xs) = and_missed xs
-and_missed (saw f ∷ xs) = and_missed xs
-and_missed (saw_ack ∷ xs) = and_missed xs
-and_missed (found f ∷ xs) = ap (λ (fs : List Frag). f ∷ fs) (and_missed xs)
-and_missed (found_ack ∷ xs) = and_missed xs
-and_missed (missed ∷ xs) = and_missed xs
-and_missed (told ∷ xs) = and_missed xs
-and_missed (kept ∷ xs) = and_missed xs
+-- looks that take nothing add nothing
+and_more : (ys : List Look) → takes_of ys ≡ [] → (xs : List Look) → takes_of (xs ++ ys) ≡ takes_of xs
+and_more ys none xs = takes_of-join xs ys ∙ ap (λ (fs : List Frag). takes_of xs ++ fs) none ∙ append-nil (takes_of xs)
 
 -- more looks at the side, which take nothing
 record MoreLooks {T : Type 0} (takes : T → Look → T → Type 0) (m q : T) : Type 0 where
@@ -92,20 +41,23 @@ record MoreLooks {T : Type 0} (takes : T → Look → T → Type 0) (m q : T) : 
   side : Looks takes m looks q
   none : (xs : List Look) → takes_of (xs ++ looks) ≡ takes_of xs
 
+abbrev happened : List Accepted → List Frag → List Frag → List TheCall → List TheCall → Stretch
+happened accepted put took handled due = record { accepted = accepted; put = put; took = took; handled = handled; due = due }
+
 more_looks : {T : Type 0} (takes : T → Look → T → Type 0) (kind : Kind) (m q : T) (to : Place) → WaitsIn takes kind m to q → MoreLooks takes m q
-more_looks takes Ring m q place.Polled h = record { looks = []; side = sym h; none = and_none }
+more_looks takes Ring m q place.Polled h = record { looks = []; side = sym h; none = and_more [] refl }
 more_looks takes Ring m q place.Pending h = absurd h
 more_looks takes Ring m q place.Idle h = absurd h
-more_looks takes Queue m q place.Pending (inl (f, h)) = record { looks = saw f ∷ []; side = (q, h, refl); none = and_saw f }
-more_looks takes Queue m q place.Pending (inr h) = record { looks = saw_ack ∷ []; side = (q, h, refl); none = and_saw_ack }
-more_looks takes Queue m q place.Idle h = record { looks = missed ∷ []; side = (q, h, refl); none = and_missed }
+more_looks takes Queue m q place.Pending (inl (f, h)) = record { looks = saw f ∷ []; side = (q, h, refl); none = and_more (saw f ∷ []) refl }
+more_looks takes Queue m q place.Pending (inr h) = record { looks = saw_ack ∷ []; side = (q, h, refl); none = and_more (saw_ack ∷ []) refl }
+more_looks takes Queue m q place.Idle h = record { looks = missed ∷ []; side = (q, h, refl); none = and_more (missed ∷ []) refl }
 more_looks takes Queue m q place.Polled h = absurd h
 
 module _ {T : Type 0} (takes : T → Look → T → Type 0) (binds : BindAccounts) (receives : ReceiveAccounts takes) (s t : TheEnd) (p q : T) (sound : Sound s) (ready : IsReady s) where
   nothing : AddsNothing s s × Replies s [] [] s
   nothing = let zero_fits : 0 < 2 ^ 16 = omega arith in subst (λ (x : TheEnd). AddsNothing s x × Replies s [] [] x) (bound_stays s 0 ready.0) (binds s 0 zero_fits sound)
 
-  gave : (kind : Kind) (c : ℕ) (w v : ThreeLists) (answer : Result TurnAnswer AllocError) → Gives takes kind c w s p answer v t q → TurnAdds takes s p answer t q
+  gave : (kind : Kind) (c : ℕ) (w v : ThreeLists) (answer : Result TurnAnswer AllocError) → Gives takes kind c (moment w s p) answer (moment v t q) → TurnAdds takes s p answer t q
   gave kind c w v (Ok (Handle call)) (m, r, (to, waits, e)) =
       let a = receives s t p m (Ok (receive.Handle call)) sound r in let b = more_looks takes kind m q to waits in
       record {
@@ -113,7 +65,7 @@ module _ {T : Type 0} (takes : T → Look → T → Type 0) (binds : BindAccount
         side = looks_join takes p m q a.looks b.looks a.side b.side;
         accepted = a.accepted;
         sound = a.sound;
-        account = subst (λ (fs : List Frag). Account s a.accepted [] fs (handled_in (Ok (Handle call))) (due_in_turn s.rules (Ok (Handle call))) t) (sym (b.none a.looks)) a.account;
+        account = subst (λ (fs : List Frag). Account s (happened a.accepted [] fs (handled_in (Ok (Handle call))) (due_in_turn s.rules (Ok (Handle call)))) t) (sym (b.none a.looks)) a.account;
         replies = a.replies;
       }
   gave kind c w v (Ok Part) (m, r, (to, waits, e)) =
@@ -123,7 +75,7 @@ module _ {T : Type 0} (takes : T → Look → T → Type 0) (binds : BindAccount
         side = looks_join takes p m q a.looks b.looks a.side b.side;
         accepted = a.accepted;
         sound = a.sound;
-        account = subst (λ (fs : List Frag). Account s a.accepted [] fs [] [] t) (sym (b.none a.looks)) a.account;
+        account = subst (λ (fs : List Frag). Account s (happened a.accepted [] fs [] []) t) (sym (b.none a.looks)) a.account;
         replies = a.replies;
       }
   gave kind c w v (Ok Quiet) (m, r, (to, waits, e)) =
@@ -133,7 +85,7 @@ module _ {T : Type 0} (takes : T → Look → T → Type 0) (binds : BindAccount
         side = looks_join takes p m q a.looks b.looks a.side b.side;
         accepted = a.accepted;
         sound = a.sound;
-        account = subst (λ (fs : List Frag). Account s a.accepted [] fs [] [] t) (sym (b.none a.looks)) a.account;
+        account = subst (λ (fs : List Frag). Account s (happened a.accepted [] fs [] []) t) (sym (b.none a.looks)) a.account;
         replies = a.replies;
       }
   gave kind c w v (Ok Nothing) (m, r, (to, waits, e)) =
@@ -143,7 +95,7 @@ module _ {T : Type 0} (takes : T → Look → T → Type 0) (binds : BindAccount
         side = looks_join takes p m q a.looks b.looks a.side b.side;
         accepted = a.accepted;
         sound = a.sound;
-        account = subst (λ (fs : List Frag). Account s a.accepted [] fs [] [] t) (sym (b.none a.looks)) a.account;
+        account = subst (λ (fs : List Frag). Account s (happened a.accepted [] fs [] []) t) (sym (b.none a.looks)) a.account;
         replies = a.replies;
       }
   gave kind c w v (Ok Full) (r, e) =
@@ -160,7 +112,7 @@ module _ {T : Type 0} (takes : T → Look → T → Type 0) (binds : BindAccount
   still : (e : t ≡ s) → AddsNothing s t × Replies s [] [] t
   still e = subst (λ (x : TheEnd). AddsNothing s x × Replies s [] [] x) (sym e) nothing
 
-  examined : (c : ℕ) (w v : ThreeLists) (answer : Result TurnAnswer AllocError) → t ≡ s → Examines takes c w p answer v q → TurnAdds takes s p answer t q
+  examined : (c : ℕ) (w v : ThreeLists) (answer : Result TurnAnswer AllocError) → t ≡ s → Examines takes c (lent w p) answer (lent v q) → TurnAdds takes s p answer t q
   examined c w v (Ok Ready) e ((f, look), off) =
       let a = still e in
       record { looks = saw f ∷ []; side = (q, look, refl); accepted = []; sound = a.0.sound; account = a.0.account; replies = a.1 }
@@ -177,6 +129,6 @@ module _ {T : Type 0} (takes : T → Look → T → Type 0) (binds : BindAccount
   examined c w v (Ok (Refused fault)) e h = absurd h
   examined c w v (Err error) e h = absurd h
 
-  pub turn_adds : (picked : Pick) (kind : Kind) (w v : ThreeLists) (answer : Result TurnAnswer AllocError) → LooksAt takes picked kind w s p answer v t q → TurnAdds takes s p answer t q
+  pub turn_adds : (picked : Pick) (kind : Kind) (w v : ThreeLists) (answer : Result TurnAnswer AllocError) → LooksAt takes picked kind (moment w s p) answer (moment v t q) → TurnAdds takes s p answer t q
   turn_adds (pick.Pending c) kind w v answer h = gave kind c.0 w v answer h
   turn_adds (pick.Polled c) kind w v answer h = examined c.0 w v answer h.1 h.0

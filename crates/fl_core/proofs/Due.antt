@@ -10,7 +10,7 @@ use Rattle.fl_endpoint.specs.View.{TheEnd}
 use Rattle.fl_endpoint.specs.Events.{IsReady}
 use Rattle.fl_core.specs.declared.answer.TurnAnswer.{TurnAnswer}
 use Rattle.fl_core.specs.View.{TheDispatcher, TheSeat, TheBoard, channel_of, due, with_lists, with_end}
-use Rattle.fl_core.specs.Turns.{LooksAt, Turns}
+use Rattle.fl_core.specs.Turns.{moment, over, LooksAt, Turns}
 use Rattle.fl_core.specs.Sound.{MayTurn, IsBoard}
 use Rattle.fl_core.proofs.Places.{one_stands}
 use Rattle.fl_core.proofs.Dispatchers.{finds, finds_before, due_is, may_turn}
@@ -38,11 +38,11 @@ module _ (k base : TheBoard) (same : base ≡ k) (n : ℕ) (below : n < length k
     ready = ready_due base sound n d (finds k base same n below d read value view) pick picked e end_due s seat_due
 
     module _ {T : Type 0} (takes : T → Look → T → Type 0) (w : ThreeLists) (t : TheEnd) (p q : T) (answer : Result TurnAnswer AllocError)
-        (looks : LooksAt takes pick s.kind d.lists s.end p answer w t q) where
+        (looks : LooksAt takes pick s.kind (moment d.lists s.end p) answer (moment w t q)) where
       pub due_kept : IsApart w → IsBoard (with_end (with_lists base n d w) e s t)
       due_kept apart = turn_kept base sound n d (finds k base same n below d read value view) pick picked e end_due s seat_due takes w t p q answer looks apart
 
-      pub due_turns : Turns takes k n e p answer (with_end (with_lists base n d w) e s t) q
+      pub due_turns : Turns takes n e (over k p) answer (over (with_end (with_lists base n d w) e s t) q)
       due_turns = record {
         dispatcher = d;
         dispatcher_is = finds_before k base same n below d read value view;

@@ -12,6 +12,7 @@ use Rattle.fl_core.specs.View.{TheDispatcher, TheSeat, TheBoard, with_lists}
 use Rattle.fl_core.specs.Sound.{IsSeated, MayWaitIn, MayTurn, IsDispatcher, IsBoard}
 use Rattle.fl_core.specs.declared.fault.BoardFault.{BoardFault}
 use Rattle.fl_core.specs.declared.fault.BoardFault.TheVariants.{NotBound, Registered, NotRegistered, TooManyEnds, Failed, Memory}
+use Rattle.fl_core.specs.Turns.{lent}
 use Rattle.fl_core.specs.Events.{ChangesLists, Joins, Registers}
 use Rattle.fl_core.proofs.Places.{one_stands, set_same}
 use Rattle.fl_core.proofs.Registered.{Listed, pushed_each, unlinked_each, triggered_each, triggered_size}
@@ -93,7 +94,7 @@ module _ (k base : TheBoard) (same : base ≡ k) (e : ℕ) (below : e < length k
           record { place = m.place; place_is = m.place_is; seat = m.seat; seat_is = m.seat_is; ready = m.ready; waits = pending_fits m.seat.kind }
 
     -- it is registered, or was already
-    pub kept_joined : {T : Type 0} (takes : T → Look → T → Type 0) (p q : T) (v : ThreeLists) (r : Result (Unit {0}) BoardFault) → IsReady s.end → Joins takes s.kind s.channel d.lists p r v q → IsApart v → IsBoard (with_lists base s.dispatcher d v)
+    pub kept_joined : {T : Type 0} (takes : T → Look → T → Type 0) (p q : T) (v : ThreeLists) (r : Result (Unit {0}) BoardFault) → IsReady s.end → Joins takes s.kind s.channel (lent d.lists p) r (lent v q) → IsApart v → IsBoard (with_lists base s.dispatcher d v)
     kept_joined takes p q v (Ok done) ready (free, (to, waits, v_is)) apart = kept_pushed v to ready (waits_fits takes s.kind p q to waits) v_is apart
     kept_joined takes p q v (Err Registered) ready h apart = kept_same v h.2 apart
     kept_joined takes p q v (Err NotBound) ready h apart = absurd h
@@ -103,7 +104,7 @@ module _ (k base : TheBoard) (same : base ≡ k) (e : ℕ) (below : e < length k
     kept_joined takes p q v (Err Memory) ready h apart = absurd h
 
 -- an end that is ready registers as its channel joins
-pub joins_registers : {T : Type 0} (takes : T → Look → T → Type 0) (s : TheSeat) (w v : ThreeLists) (p q : T) (r : Result (Unit {0}) BoardFault) → IsReady s.end → Joins takes s.kind s.channel w p r v q → Registers takes s w p r v q
+pub joins_registers : {T : Type 0} (takes : T → Look → T → Type 0) (s : TheSeat) (w v : ThreeLists) (p q : T) (r : Result (Unit {0}) BoardFault) → IsReady s.end → Joins takes s.kind s.channel (lent w p) r (lent v q) → Registers takes s (lent w p) r (lent v q)
 joins_registers takes s w v p q (Ok done) ready h = (ready, h)
 joins_registers takes s w v p q (Err Registered) ready h = (ready, h)
 joins_registers takes s w v p q (Err NotBound) ready h = absurd h

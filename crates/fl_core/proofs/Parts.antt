@@ -11,12 +11,13 @@ use Rattle.fl_core.specs.declared.fault.BoardFault.TheVariants.{NotBound}
 use Rattle.fl_core.specs.declared.answer.AckAnswer.{AckAnswer}
 use Rattle.fl_core.specs.declared.answer.AckAnswer.TheVariants as ack
 use Rattle.fl_core.specs.declared.answer.TurnAnswer.{TurnAnswer}
-use Rattle.fl_core.specs.Inside.{Took, Tells}
+use Rattle.fl_core.specs.Inside.{Took, Tells, after}
+use Rattle.fl_core.specs.Turns.{lent}
 use Rattle.fl_core.specs.Events.{Acks}
 
 module _ {T : Type 0} (takes : T → Look → T → Type 0) (kind : Kind) (c : ℕ) (w v : ThreeLists) (m q : T) where
-  pub took_as : (a b : ReceiveAnswer) (x y : TurnAnswer) → a ≡ b → x ≡ y → Took takes kind c w m b y v q → Took takes kind c w m a x v q
-  took_as a b x y e f h = subst (λ (z : ReceiveAnswer). Took takes kind c w m z x v q) (sym e) (subst (λ (z : TurnAnswer). Took takes kind c w m b z v q) (sym f) h)
+  pub took_as : (a b : ReceiveAnswer) (x y : TurnAnswer) → a ≡ b → x ≡ y → Took takes kind c (lent w m) b (after y v q) → Took takes kind c (lent w m) a (after x v q)
+  took_as a b x y e f h = subst (λ (z : ReceiveAnswer). Took takes kind c (lent w m) z (after x v q)) (sym e) (subst (λ (z : TurnAnswer). Took takes kind c (lent w m) b (after z v q)) (sym f) h)
 
 -- ---- acknowledgements
 

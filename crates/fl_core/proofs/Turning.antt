@@ -19,7 +19,7 @@ use Rattle.fl_core.specs.declared.kind.Kind.TheVariants.{Queue, Ring}
 use Rattle.fl_core.specs.declared.answer.TurnAnswer.{TurnAnswer}
 use Rattle.fl_core.specs.declared.answer.TurnAnswer.TheVariants.{Handle, Part, Ready, Quiet, Full, Nothing, Refused}
 use Rattle.fl_core.specs.View.{TheDispatcher, TheSeat, TheBoard, channel_of, with_lists, with_end}
-use Rattle.fl_core.specs.Turns.{WaitsIn, put_off, TakesOne, Gives, Examines, LooksAt}
+use Rattle.fl_core.specs.Turns.{WaitsIn, put_off, lent, moment, TakesOne, Gives, Examines, LooksAt}
 use Rattle.fl_core.specs.Sound.{MayWaitIn, MayTurn, IsDispatcher, IsBoard}
 use Rattle.fl_core.proofs.Readiness.{receives_ready, memory_ready}
 use Rattle.fl_core.proofs.Registered.{Listed, pushed_each, unlinked_each, left_all}
@@ -51,10 +51,10 @@ off_is : (w v : ThreeLists) (from : Place) (c : ℕ) (to : Place) → IsApart w 
 off_is w v from c to apart first e = e ∙ ap (λ (x : ThreeLists). pushed x c to) (sym (pop_is w from c apart first))
 
 module _ {T : Type 0} (takes : T → Look → T → Type 0) (kind : Kind) (w v : ThreeLists) (s t : TheEnd) (p q : T) (apart : IsApart w) where
-  took_one : (c : ℕ) (answer : ReceiveAnswer) → slice_get (list_at w place.Pending) 0 ≡ Some c → TakesOne takes kind c w s p answer v t q → Outcome kind c w s v t
+  took_one : (c : ℕ) (answer : ReceiveAnswer) → slice_get (list_at w place.Pending) 0 ≡ Some c → TakesOne takes kind c (moment w s p) answer (moment v t q) → Outcome kind c w s v t
   took_one c answer first (m, received, (to, waits, e)) = moves to (waits_fits takes kind m q to waits) (off_is w v place.Pending c to apart first e) (receives_ready takes s t p m answer received)
 
-  gave : (c : ℕ) (answer : Result TurnAnswer AllocError) → slice_get (list_at w place.Pending) 0 ≡ Some c → Gives takes kind c w s p answer v t q → Outcome kind c w s v t
+  gave : (c : ℕ) (answer : Result TurnAnswer AllocError) → slice_get (list_at w place.Pending) 0 ≡ Some c → Gives takes kind c (moment w s p) answer (moment v t q) → Outcome kind c w s v t
   gave c (Ok (Handle call)) first h = took_one c (receive.Handle call) first h
   gave c (Ok Part) first h = took_one c receive.Part first h
   gave c (Ok Quiet) first h = took_one c receive.Quiet first h
@@ -67,7 +67,7 @@ module _ {T : Type 0} (takes : T → Look → T → Type 0) (kind : Kind) (w v :
   same_end : t ≡ s → IsReady s → IsReady t
   same_end e ready = subst IsReady (sym e) ready
 
-  examined : (c : ℕ) (answer : Result TurnAnswer AllocError) → slice_get (list_at w place.Polled) 0 ≡ Some c → MayWaitIn kind place.Polled → t ≡ s → Examines takes c w p answer v q → Outcome kind c w s v t
+  examined : (c : ℕ) (answer : Result TurnAnswer AllocError) → slice_get (list_at w place.Polled) 0 ≡ Some c → MayWaitIn kind place.Polled → t ≡ s → Examines takes c (lent w p) answer (lent v q) → Outcome kind c w s v t
   examined c (Ok Ready) first fits e h = moves place.Pending (pending_fits kind) (off_is w v place.Polled c place.Pending apart first h.1) (same_end e)
   examined c (Ok Quiet) first fits e h = moves place.Polled fits (off_is w v place.Polled c place.Polled apart first h.1) (same_end e)
   examined c (Ok (Handle call)) first fits e h = absurd h
@@ -77,7 +77,7 @@ module _ {T : Type 0} (takes : T → Look → T → Type 0) (kind : Kind) (w v :
   examined c (Ok (Refused fault)) first fits e h = absurd h
   examined c (Err error) first fits e h = absurd h
 
-  looked : (picked : Pick) (answer : Result TurnAnswer AllocError) → next_pick w ≡ Ok picked → MayWaitIn kind (list_of picked) → LooksAt takes picked kind w s p answer v t q → Outcome kind (channel_of picked) w s v t
+  looked : (picked : Pick) (answer : Result TurnAnswer AllocError) → next_pick w ≡ Ok picked → MayWaitIn kind (list_of picked) → LooksAt takes picked kind (moment w s p) answer (moment v t q) → Outcome kind (channel_of picked) w s v t
   looked (pick.Pending c) answer h fits l = gave c.0 answer (first_pending w c h) l
   looked (pick.Polled c) answer h fits l = examined c.0 answer (first_polled w c h) fits l.1 l.0
 
@@ -151,5 +151,5 @@ module _ (k : TheBoard) (sound : IsBoard k) (n : ℕ) (d : TheDispatcher) (dispa
     kept apart = end_kept (with_lists k n d w) (lists_kept k sound n d dispatcher_is w size apart listed) e s seat_is t ready_after
 
   pub turn_kept : {T : Type 0} (takes : T → Look → T → Type 0) (w : ThreeLists) (t : TheEnd) (p q : T) (answer : Result TurnAnswer AllocError)
-      → LooksAt takes picked s.kind d.lists s.end p answer w t q → IsApart w → IsBoard (with_end (with_lists k n d w) e s t)
+      → LooksAt takes picked s.kind (moment d.lists s.end p) answer (moment w t q) → IsApart w → IsBoard (with_end (with_lists k n d w) e s t)
   turn_kept takes w t p q answer looks apart = kept w t (looked takes s.kind d.lists w s.end t p q known.apart picked answer picked_is fits_due looks) apart

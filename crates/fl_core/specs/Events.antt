@@ -14,7 +14,7 @@ use Rattle.fl_core.specs.declared.fault.BoardFault.{BoardFault}
 use Rattle.fl_core.specs.declared.fault.BoardFault.TheVariants.{NotBound, Registered, NotRegistered, TooManyEnds, Failed, Memory}
 use Rattle.fl_core.specs.View.{TheDispatcher, TheSeat, TheBoard, with_lists, with_end, with_new_end}
 use Rattle.fl_core.specs.Sound.{IsBoard}
-use Rattle.fl_core.specs.Turns.{WaitsIn}
+use Rattle.fl_core.specs.Turns.{WaitsIn, Lent}
 
 -- ---- where an event happens
 
@@ -43,7 +43,8 @@ Holds b e Fact = (s : TheSeat) × (slice_get b.seats e ≡ Some s) × Fact s
 -- ---- an end is added
 
 abbrev pub Adds : TheBoard → ℕ → TheEnd → Kind → Result ℕ BoardFault → TheBoard → Type 0
-Adds b n s kind (Ok e) b2 = (e ≡ length b.seats) × ((d : TheDispatcher) × (slice_get b.dispatchers n ≡ Some d) × (length d.ends < 1024) × (b2 ≡ with_new_end b n d s kind))
+Adds b n s kind (Ok e) b2 =
+    (e ≡ length b.seats) × ((d : TheDispatcher) × (slice_get b.dispatchers n ≡ Some d) × (length d.ends < 1024) × (b2 ≡ with_new_end b n d s kind))
 Adds b n s kind (Err TooManyEnds) b2 = ((d : TheDispatcher) × (slice_get b.dispatchers n ≡ Some d) × (length d.ends ≡ 1024)) × (b2 ≡ b)
 Adds b n s kind (Err Memory) b2 = ((d : TheDispatcher) × (slice_get b.dispatchers n ≡ Some d) × (length d.ends < 1024)) × (b2 ≡ b)
 Adds b n s kind (Err fault) b2 = ⊥
@@ -62,17 +63,18 @@ pub record IsGrown (b : TheBoard) : Type 0 where
 -- ---- a channel is registered, deregistered, acknowledged
 
 -- a channel c of this kind, unless it is registered, goes to the back of the list in which it waits
-abbrev pub Joins : {T : Type 0} → (T → Look → T → Type 0) → Kind → ℕ → ThreeLists → T → Result (Unit {0}) BoardFault → ThreeLists → T → Type 0
-Joins takes kind c w p (Ok done) v q = (is_registered w c ≡ false) × ((to : Place) × WaitsIn takes kind p to q × (v ≡ pushed w c to))
-Joins takes kind c w p (Err Registered) v q = (is_registered w c ≡ true) × (q ≡ p) × (v ≡ w)
-Joins takes kind c w p (Err fault) v q = ⊥
+abbrev pub Joins : {T : Type 0} → (T → Look → T → Type 0) → Kind → ℕ → Lent T → Result (Unit {0}) BoardFault → Lent T → Type 0
+Joins takes kind c a (Ok done) b =
+    (is_registered a.lists c ≡ false) × ((to : Place) × WaitsIn takes kind a.side to b.side × (b.lists ≡ pushed a.lists c to))
+Joins takes kind c a (Err Registered) b = (is_registered a.lists c ≡ true) × (b.side ≡ a.side) × (b.lists ≡ a.lists)
+Joins takes kind c a (Err fault) b = ⊥
 
-abbrev pub Registers : {T : Type 0} → (T → Look → T → Type 0) → TheSeat → ThreeLists → T → Result (Unit {0}) BoardFault → ThreeLists → T → Type 0
-Registers takes s w p (Ok done) v q = IsReady s.end × Joins takes s.kind s.channel w p (Ok done) v q
-Registers takes s w p (Err Registered) v q = IsReady s.end × Joins takes s.kind s.channel w p (Err Registered) v q
-Registers takes s w p (Err NotBound) v q = IsUnbound s.end × (q ≡ p) × (v ≡ w)
-Registers takes s w p (Err Failed) v q = HasFailed s.end × (q ≡ p) × (v ≡ w)
-Registers takes s w p (Err fault) v q = ⊥
+abbrev pub Registers : {T : Type 0} → (T → Look → T → Type 0) → TheSeat → Lent T → Result (Unit {0}) BoardFault → Lent T → Type 0
+Registers takes s a (Ok done) b = IsReady s.end × Joins takes s.kind s.channel a (Ok done) b
+Registers takes s a (Err Registered) b = IsReady s.end × Joins takes s.kind s.channel a (Err Registered) b
+Registers takes s a (Err NotBound) b = IsUnbound s.end × (b.side ≡ a.side) × (b.lists ≡ a.lists)
+Registers takes s a (Err Failed) b = HasFailed s.end × (b.side ≡ a.side) × (b.lists ≡ a.lists)
+Registers takes s a (Err fault) b = ⊥
 
 abbrev pub Deregisters : TheSeat → ThreeLists → Result (Unit {0}) BoardFault → ThreeLists → Type 0
 Deregisters s w (Ok done) v = IsSome s.end.circuit × (is_registered w s.channel ≡ true) × (v ≡ unlinked w s.channel)

@@ -1,4 +1,4 @@
--- The parts of a turn, by what the end answered.
+-- A working file, on which no public promise rests by itself: the parts of a turn, by what the end answered.
 use Rattle.std.specs.Prelude.{◌≡◌, ◌<◌, ◌≤◌, ℕ, Result, Ok, Err}
 use Rattle.std.specs.Allocator.{alloc_error}
 use Rattle.std.specs.declared.alloc.AllocError.{AllocError}
@@ -16,15 +16,24 @@ use Rattle.fl_core.specs.declared.answer.AckAnswer.{AckAnswer}
 use Rattle.fl_core.specs.declared.answer.AckAnswer.TheVariants as ack
 use Rattle.fl_core.specs.declared.fault.BoardFault.{BoardFault}
 use Rattle.fl_core.specs.declared.fault.BoardFault.TheVariants as board
-use Rattle.fl_core.specs.Turns.{GoesOn, put_off}
+use Rattle.fl_core.specs.Turns.{GoesOn, put_off, Lent, lent}
+
+-- what a turn answers, the lists then, and the side
+pub record After (T : Type 0) : Type 0 where
+  pub answer : TurnAnswer
+  pub lists : ThreeLists
+  pub side : T
+
+abbrev pub after : {T : Type 0} → TurnAnswer → ThreeLists → T → After T
+after answer w p = record { answer = answer; lists = w; side = p }
 
 -- what an end answered says what the turn answers, and where its channel goes
-abbrev pub Took : {T : Type 0} → (T → Look → T → Type 0) → Kind → ℕ → ThreeLists → T → ReceiveAnswer → TurnAnswer → ThreeLists → T → Type 0
-Took takes kind c w m (receive.Handle call) answer v q = (answer ≡ Handle call) × GoesOn takes kind c w m v q
-Took takes kind c w m receive.Part answer v q = (answer ≡ Part) × GoesOn takes kind c w m v q
-Took takes kind c w m receive.Quiet answer v q = (answer ≡ Quiet) × GoesOn takes kind c w m v q
-Took takes kind c w m receive.Empty answer v q = (answer ≡ Nothing) × GoesOn takes kind c w m v q
-Took takes kind c w m receive.HeldBack answer v q = (answer ≡ Full) × (v ≡ put_off w place.Pending c place.Pending) × (q ≡ m)
+abbrev pub Took : {T : Type 0} → (T → Look → T → Type 0) → Kind → ℕ → Lent T → ReceiveAnswer → After T → Type 0
+Took takes kind c a (receive.Handle call) b = (b.answer ≡ Handle call) × GoesOn takes kind c a (lent b.lists b.side)
+Took takes kind c a receive.Part b = (b.answer ≡ Part) × GoesOn takes kind c a (lent b.lists b.side)
+Took takes kind c a receive.Quiet b = (b.answer ≡ Quiet) × GoesOn takes kind c a (lent b.lists b.side)
+Took takes kind c a receive.Empty b = (b.answer ≡ Nothing) × GoesOn takes kind c a (lent b.lists b.side)
+Took takes kind c a receive.HeldBack b = (b.answer ≡ Full) × (b.lists ≡ put_off a.lists place.Pending c place.Pending) × (b.side ≡ a.side)
 
 -- the faults that an end answers that is bound and never failed
 abbrev pub MayCome : EndFault → Type 0

@@ -10,7 +10,8 @@ OtherEndsStay = (b : TheBoard) (e f : ℕ) (s : TheSeat) (t : TheEnd) → f ≢ 
 
 -- the end is where it was, at the same channel
 abbrev pub EndIsThere : Type 0
-EndIsThere = (b : TheBoard) (e : ℕ) (s : TheSeat) (t : TheEnd) → slice_get b.seats e ≡ Some s → slice_get (with_end b e s t).seats e ≡ Some (record s { end = t })
+EndIsThere = (b : TheBoard) (e : ℕ) (s : TheSeat) (t : TheEnd) → slice_get b.seats e ≡ Some s
+    → slice_get (with_end b e s t).seats e ≡ Some (record s { end = t })
 
 -- an end that stays as it was changes nothing
 abbrev pub SameEnd : Type 0
@@ -18,11 +19,13 @@ SameEnd = (b : TheBoard) (e : ℕ) (s : TheSeat) → slice_get b.seats e ≡ Som
 
 -- all other dispatchers stay
 abbrev pub OtherDispatchersStay : Type 0
-OtherDispatchersStay = (b : TheBoard) (n m : ℕ) (d : TheDispatcher) (w : ThreeLists) → m ≢ n → slice_get (with_lists b n d w).dispatchers m ≡ slice_get b.dispatchers m
+OtherDispatchersStay = (b : TheBoard) (n m : ℕ) (d : TheDispatcher) (w : ThreeLists) → m ≢ n
+    → slice_get (with_lists b n d w).dispatchers m ≡ slice_get b.dispatchers m
 
 -- the dispatcher is where it was, with the same ends
 abbrev pub DispatcherIsThere : Type 0
-DispatcherIsThere = (b : TheBoard) (n : ℕ) (d : TheDispatcher) (w : ThreeLists) → slice_get b.dispatchers n ≡ Some d → slice_get (with_lists b n d w).dispatchers n ≡ Some (record d { lists = w })
+DispatcherIsThere = (b : TheBoard) (n : ℕ) (d : TheDispatcher) (w : ThreeLists) → slice_get b.dispatchers n ≡ Some d
+    → slice_get (with_lists b n d w).dispatchers n ≡ Some (record d { lists = w })
 
 -- lists that stay as they were change nothing
 abbrev pub SameLists : Type 0

@@ -1,5 +1,5 @@
 -- One turn of a dispatcher: what it comes to, by cases on the answer, exactly. The side of the end that is due is seen by its
--- own relation alone; it goes from p to q.
+-- own relation alone.
 use Rattle.std.specs.Prelude.{◌≡◌, ◌⊎◌, ℕ, slice_get, Some, Result, Ok, Err}
 use Rattle.std.specs.declared.alloc.AllocError.{AllocError}
 use Rattle.fl_base.specs.declared.fragment.Frag.{Frag}
@@ -33,56 +33,88 @@ WaitsIn takes kind p place q = ⊥
 abbrev pub put_off : ThreeLists → Place → ℕ → Place → ThreeLists
 put_off w from c to = pushed (popped w from) c to
 
+-- a dispatcher's lists, and the side that is lent
+pub record Lent (T : Type 0) : Type 0 where
+  pub lists : ThreeLists
+  pub side : T
+
+abbrev pub lent : {T : Type 0} → ThreeLists → T → Lent T
+lent w p = record { lists = w; side = p }
+
+-- these, with the end that is due
+pub record Moment (T : Type 0) : Type 0 where
+  pub lists : ThreeLists
+  pub end : TheEnd
+  pub side : T
+
+abbrev pub moment : {T : Type 0} → ThreeLists → TheEnd → T → Moment T
+moment w s p = record { lists = w; end = s; side = p }
+
+-- a board, and the side that is lent
+pub record Over (T : Type 0) : Type 0 where
+  pub board : TheBoard
+  pub side : T
+
+abbrev pub over : {T : Type 0} → TheBoard → T → Over T
+over b p = record { board = b; side = p }
+
 -- ---- the first pending channel is given a fragment
 
 -- the channel goes to the back of the list in which it waits for the next fragment
-abbrev pub GoesOn : {T : Type 0} → (T → Look → T → Type 0) → Kind → ℕ → ThreeLists → T → ThreeLists → T → Type 0
-GoesOn takes kind c w p v q = (to : Place) × WaitsIn takes kind p to q × (v ≡ put_off w place.Pending c to)
+abbrev pub GoesOn : {T : Type 0} → (T → Look → T → Type 0) → Kind → ℕ → Lent T → Lent T → Type 0
+GoesOn takes kind c a b = (to : Place) × WaitsIn takes kind a.side to b.side × (b.lists ≡ put_off a.lists place.Pending c to)
 
 -- its end took what stood first, or found nothing, with this answer, and then the channel goes on
-abbrev pub TakesOne : {T : Type 0} → (T → Look → T → Type 0) → Kind → ℕ → ThreeLists → TheEnd → T → ReceiveAnswer → ThreeLists → TheEnd → T → Type 0
-TakesOne {T} takes kind c w s p answer v t q = (m : T) × Receives takes s p (Ok answer) t m × GoesOn takes kind c w m v q
+abbrev pub TakesOne : {T : Type 0} → (T → Look → T → Type 0) → Kind → ℕ → Moment T → ReceiveAnswer → Moment T → Type 0
+TakesOne {T} takes kind c a answer b =
+    (m : T) × Receives takes a.end a.side (Ok answer) b.end m × GoesOn takes kind c (lent a.lists m) (lent b.lists b.side)
 
-abbrev pub Gives : {T : Type 0} → (T → Look → T → Type 0) → Kind → ℕ → ThreeLists → TheEnd → T → Result TurnAnswer AllocError → ThreeLists → TheEnd → T → Type 0
-Gives takes kind c w s p (Ok (Handle call)) v t q = TakesOne takes kind c w s p (receive.Handle call) v t q
-Gives takes kind c w s p (Ok Part) v t q = TakesOne takes kind c w s p receive.Part v t q
-Gives takes kind c w s p (Ok Quiet) v t q = TakesOne takes kind c w s p receive.Quiet v t q
+abbrev pub Gives : {T : Type 0} → (T → Look → T → Type 0) → Kind → ℕ → Moment T → Result TurnAnswer AllocError → Moment T → Type 0
+Gives takes kind c a (Ok (Handle call)) b = TakesOne takes kind c a (receive.Handle call) b
+Gives takes kind c a (Ok Part) b = TakesOne takes kind c a receive.Part b
+Gives takes kind c a (Ok Quiet) b = TakesOne takes kind c a receive.Quiet b
 -- 16 replies wait at the end: no fragment is looked at
-Gives takes kind c w s p (Ok Full) v t q = Receives takes s p (Ok receive.HeldBack) t q × (v ≡ put_off w place.Pending c place.Pending)
-Gives takes kind c w s p (Ok Nothing) v t q = TakesOne takes kind c w s p receive.Empty v t q
+Gives takes kind c a (Ok Full) b =
+    Receives takes a.end a.side (Ok receive.HeldBack) b.end b.side × (b.lists ≡ put_off a.lists place.Pending c place.Pending)
+Gives takes kind c a (Ok Nothing) b = TakesOne takes kind c a receive.Empty b
 -- the end has failed, and its channel is deregistered
-Gives takes kind c w s p (Ok (Refused fault)) v t q = Receives takes s p (Err (Wire fault)) t q × (v ≡ unlinked w c)
-Gives takes kind c w s p (Ok Ready) v t q = ⊥
-Gives takes kind c w s p (Err error) v t q = Receives takes s p (Err Memory) t q × (v ≡ w)
+Gives takes kind c a (Ok (Refused fault)) b = Receives takes a.end a.side (Err (Wire fault)) b.end b.side × (b.lists ≡ unlinked a.lists c)
+Gives takes kind c a (Ok Ready) b = ⊥
+Gives takes kind c a (Err error) b = Receives takes a.end a.side (Err Memory) b.end b.side × (b.lists ≡ a.lists)
 
 -- ---- the first polled channel is examined
 
-abbrev pub Examines : {T : Type 0} → (T → Look → T → Type 0) → ℕ → ThreeLists → T → Result TurnAnswer AllocError → ThreeLists → T → Type 0
+-- nothing stands at the side, or a fragment that only acknowledges, which is taken
+abbrev pub IsQuiet : {T : Type 0} → (T → Look → T → Type 0) → T → T → Type 0
+IsQuiet {T} takes p q = takes p missed q ⊎ ((m : T) × takes p saw_ack m × takes m found_ack q)
+
+abbrev pub Examines : {T : Type 0} → (T → Look → T → Type 0) → ℕ → Lent T → Result TurnAnswer AllocError → Lent T → Type 0
 -- a fragment of a call stands there
-Examines takes c w p (Ok Ready) v q = ((f : Frag) × takes p (saw f) q) × (v ≡ put_off w place.Polled c place.Pending)
--- nothing does, or one that only acknowledges, which is taken
-Examines {T} takes c w p (Ok Quiet) v q = (takes p missed q ⊎ ((m : T) × takes p saw_ack m × takes m found_ack q)) × (v ≡ put_off w place.Polled c place.Polled)
-Examines takes c w p answer v q = ⊥
+Examines takes c a (Ok Ready) b = ((f : Frag) × takes a.side (saw f) b.side) × (b.lists ≡ put_off a.lists place.Polled c place.Pending)
+Examines takes c a (Ok Quiet) b = IsQuiet takes a.side b.side × (b.lists ≡ put_off a.lists place.Polled c place.Polled)
+Examines takes c a answer b = ⊥
 
 -- ---- the turn
 
--- by what is picked: the end s keeps its place, and becomes t
-abbrev pub LooksAt : {T : Type 0} → (T → Look → T → Type 0) → Pick → Kind → ThreeLists → TheEnd → T → Result TurnAnswer AllocError → ThreeLists → TheEnd → T → Type 0
-LooksAt takes (pick.Pending c) kind w s p answer v t q = Gives takes kind c.0 w s p answer v t q
-LooksAt takes (pick.Polled c) kind w s p answer v t q = Examines takes c.0 w p answer v q × (t ≡ s)
+-- by what is picked
+abbrev pub LooksAt : {T : Type 0} → (T → Look → T → Type 0) → Pick → Kind → Moment T → Result TurnAnswer AllocError → Moment T → Type 0
+LooksAt takes (pick.Pending c) kind a answer b = Gives takes kind c.0 a answer b
+LooksAt takes (pick.Polled c) kind a answer b =
+    Examines takes c.0 (lent a.lists a.side) answer (lent b.lists b.side) × (b.end ≡ a.end)
 
 -- dispatcher n has a turn, over the side of the end at place e, which is due: the waitset's pick is the end's channel, and of the
 -- board this end and the dispatcher's lists alone change
-pub record Turns {T : Type 0} (takes : T → Look → T → Type 0) (b : TheBoard) (n e : ℕ) (p : T) (answer : Result TurnAnswer AllocError) (b2 : TheBoard) (q : T) : Type 0 where
+pub record Turns {T : Type 0} (takes : T → Look → T → Type 0)
+    (n e : ℕ) (before : Over T) (answer : Result TurnAnswer AllocError) (after : Over T) : Type 0 where
   pub dispatcher : TheDispatcher
-  pub dispatcher_is : slice_get b.dispatchers n ≡ Some dispatcher
+  pub dispatcher_is : slice_get before.board.dispatchers n ≡ Some dispatcher
   pub picked : Pick
   pub picked_is : next_pick dispatcher.lists ≡ Ok picked
   pub end_is : slice_get dispatcher.ends (channel_of picked) ≡ Some e
   pub seat : TheSeat
-  pub seat_is : slice_get b.seats e ≡ Some seat
+  pub seat_is : slice_get before.board.seats e ≡ Some seat
   -- afterwards
   pub lists : ThreeLists
   pub end : TheEnd
-  pub looks : LooksAt takes picked seat.kind dispatcher.lists seat.end p answer lists end q
-  pub board : b2 ≡ with_end (with_lists b n dispatcher lists) e seat end
+  pub looks : LooksAt takes picked seat.kind (moment dispatcher.lists seat.end before.side) answer (moment lists end after.side)
+  pub board : after.board ≡ with_end (with_lists before.board n dispatcher lists) e seat end

@@ -23,7 +23,7 @@ pub enum BoardFault {
     /// The end failed earlier: it was given a fragment that can't follow those before it (E64).
     #[error("the end failed earlier")]
     Failed,
-    /// Want of memory (E99).
+    /// Out of memory (E99).
     #[error("out of memory")]
     Memory,
 }

@@ -115,7 +115,7 @@ impl Board {
     /// One dispatcher more, without ends: its place.
     ///
     /// # Errors
-    /// Want of memory (E99). The board is as it was then.
+    /// Out of memory (E99). The board is as it was then.
     pub fn add_dispatcher(&mut self) -> Result<usize, AllocError>
         ensures place { IfOk result (λ n. n ≡ length self.old.dispatchers) }
         ensures added { OnOk result (self.new ≡ with_dispatcher self.old) }
@@ -133,7 +133,7 @@ impl Board {
     /// is dropped. The kind is that of the sides that the end will be lent: it is for the caller to keep the two alike.
     ///
     /// # Errors
-    /// The dispatcher has 1,024 ends (E54, see [`Board::ends_at`]); want of memory (E99). The board is as it was then.
+    /// The dispatcher has 1,024 ends (E54, see [`Board::ends_at`]); out of memory (E99). The board is as it was then.
     pub fn add_end(&mut self, dispatcher: usize, end: End, kind: Kind) -> Result<usize, BoardFault>
         requires { dispatcher < length self.old.dispatchers }
         ensures adds { Adds self.old dispatcher end kind result self.new }
@@ -160,7 +160,8 @@ impl Board {
     /// caller that adds two ends leaves the board as it was where there is no memory for the second.
     pub fn take_back(&mut self)
         requires { IsGrown self.old }
-        ensures before { (k : TheBoard) (n : ℕ) (d : TheDispatcher) (s : TheEnd) (kind : Kind) → slice_get k.dispatchers n ≡ Some d → self.old ≡ with_new_end k n d s kind → self.new ≡ k }
+        ensures before { (b : TheBoard) (n : ℕ) (d : TheDispatcher) (s : TheEnd) (kind : Kind) → slice_get b.dispatchers n ≡ Some d
+            → self.old ≡ with_new_end b n d s kind → self.new ≡ b }
     {
         let Some(seat) = self.seats.pop() else {
             unreachable!();

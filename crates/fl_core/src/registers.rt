@@ -4,6 +4,7 @@ ghost use Rattle.std.specs.Prelude.{◌≡◌, ◌<◌, length, OnErr};
 ghost use Rattle.fl_waitset.specs.Waiting.{triggered};
 ghost use Rattle.fl_core.specs.Events.{ChangesLists, Holds, Registers, Deregisters, Acks};
 ghost use Rattle.fl_core.specs.Inside.{Tells};
+ghost use Rattle.fl_core.specs.Turns.{lent};
 
 use crate::answer::AckAnswer;
 use crate::fault::BoardFault;
@@ -21,7 +22,7 @@ impl Board {
     /// and side are as they were then.
     pub fn register<T: TakeSide>(&mut self, e: usize, from: &mut T) -> Result<(), BoardFault>
         requires { e < length self.old.seats }
-        ensures registers { ChangesLists self.old e (λ s w v. Registers T.takes s w from.old result v from.new) self.new }
+        ensures registers { ChangesLists self.old e (λ s w v. Registers T.takes s (lent w from.old) result (lent v from.new)) self.new }
         ensures kept { OnErr result (self.new ≡ self.old) }
     {
         let seat = &self.seats[e];

@@ -2,7 +2,7 @@
 
 ghost use Rattle.std.specs.Prelude.{◌≡◌, ◌<◌, length, Some, IfSome, OnErr};
 ghost use Rattle.fl_core.specs.View.{due, channel_of};
-ghost use Rattle.fl_core.specs.Turns.{Turns};
+ghost use Rattle.fl_core.specs.Turns.{Turns, over};
 
 use crate::answer::TurnAnswer;
 use crate::one_board::Board;
@@ -49,7 +49,7 @@ impl Board {
     /// back of polled; a fragment that only acknowledges is taken.
     ///
     /// # Errors
-    /// Want of memory (E99), only where the fragment would make a call whole. The board is as it was then, and the fragment,
+    /// Out of memory (E99), only where the fragment would make a call whole. The board is as it was then, and the fragment,
     /// which was looked at, is left.
     pub fn turn<T: TakeSide>(
         &mut self,
@@ -59,7 +59,7 @@ impl Board {
     ) -> Result<TurnAnswer, AllocError>
         requires there { dispatcher < length self.old.dispatchers }
         requires due { due self.old dispatcher ≡ Some e }
-        ensures turns { Turns T.takes self.old dispatcher e from.old result self.new from.new }
+        ensures turns { Turns T.takes dispatcher e (over self.old from.old) result (over self.new from.new) }
         ensures kept { OnErr result (self.new ≡ self.old) }
     {
         let at = &mut self.dispatchers[dispatcher];

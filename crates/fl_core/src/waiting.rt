@@ -5,9 +5,9 @@ ghost use Rattle.fl_waitset.specs.Waiting.{IsWaitset, registered_answer, next_pi
 ghost use Rattle.fl_endpoint.specs.Events.{IsReady};
 ghost use Rattle.fl_lists.specs.declared.place.Place.{Place};
 ghost use Rattle.fl_lists.specs.ThreeLists.{list_at};
-ghost use Rattle.fl_core.specs.Turns.{WaitsIn, put_off, Gives, Examines, LooksAt};
+ghost use Rattle.fl_core.specs.Turns.{WaitsIn, put_off, lent, moment, Gives, Examines, LooksAt};
 ghost use Rattle.fl_core.specs.Events.{Joins};
-ghost use Rattle.fl_core.specs.Inside.{Took, MayCome, Refuses};
+ghost use Rattle.fl_core.specs.Inside.{Took, MayCome, Refuses, after};
 
 use crate::answer::TurnAnswer;
 use crate::fault::BoardFault;
@@ -41,7 +41,7 @@ pub(crate) fn join<T: TakeSide>(
 ) -> Result<(), BoardFault>
     requires { c.0 < waitset.old.size }
     ensures waitset { IsWaitset waitset.new }
-    ensures joins { Joins T.takes kind c.0 waitset.old from.old result waitset.new from.new }
+    ensures joins { Joins T.takes kind c.0 (lent waitset.old from.old) result (lent waitset.new from.new) }
 {
     let Ok(()) = waitset.register(c) else {
         return Err(BoardFault::Registered);
@@ -61,7 +61,7 @@ fn put_off(waitset: &mut Waitset, c: ChanId, to: Place)
 }
 
 // What the end answered: where it looked at its side, its channel goes where it waits for the next fragment.
-fn took<T: TakeSide>(
+fn go_on<T: TakeSide>(
     waitset: &mut Waitset,
     c: ChanId,
     kind: Kind,
@@ -71,7 +71,7 @@ fn took<T: TakeSide>(
     requires first { next_pick waitset.old ≡ Ok (Pick.Pending c) }
     requires registered { registered_answer waitset.old c.0 ≡ Ok tt }
     ensures waitset { IsWaitset waitset.new }
-    ensures took { Took T.takes kind c.0 waitset.old from.old answer result waitset.new from.new }
+    ensures took { Took T.takes kind c.0 (lent waitset.old from.old) answer (after result waitset.new from.new) }
 {
     let answer = match answer {
         ReceiveAnswer::Handle(call) => TurnAnswer::Handle(call),
@@ -89,7 +89,7 @@ fn took<T: TakeSide>(
 }
 
 // The end took nothing: where it has failed, its channel is deregistered.
-fn refused(waitset: &mut Waitset, c: ChanId, fault: EndFault) -> Result<TurnAnswer, AllocError>
+fn refuse(waitset: &mut Waitset, c: ChanId, fault: EndFault) -> Result<TurnAnswer, AllocError>
     requires waitset { IsWaitset waitset.old }
     requires registered { registered_answer waitset.old c.0 ≡ Ok tt }
     requires fault { MayCome fault }
@@ -123,11 +123,11 @@ fn give<T: TakeSide>(
     requires first { next_pick waitset.old ≡ Ok (Pick.Pending c) }
     requires ready { IsReady end.old }
     ensures waitset { IsWaitset waitset.new }
-    ensures gives { Gives T.takes kind c.0 waitset.old end.old from.old result waitset.new end.new from.new }
+    ensures gives { Gives T.takes kind c.0 (moment waitset.old end.old from.old) result (moment waitset.new end.new from.new) }
 {
     match end.receive(from) {
-        Ok(answer) => Ok(took(waitset, c, kind, answer, from)),
-        Err(fault) => refused(waitset, c, fault),
+        Ok(answer) => Ok(go_on(waitset, c, kind, answer, from)),
+        Err(fault) => refuse(waitset, c, fault),
     }
 }
 
@@ -136,7 +136,7 @@ fn examine<T: TakeSide>(waitset: &mut Waitset, c: ChanId, from: &mut T) -> TurnA
     requires waitset { IsWaitset waitset.old }
     requires first { next_pick waitset.old ≡ Ok (Pick.Polled c) }
     ensures waitset { IsWaitset waitset.new }
-    ensures examines { Examines T.takes c.0 waitset.old from.old (Ok result) waitset.new from.new }
+    ensures examines { Examines T.takes c.0 (lent waitset.old from.old) (Ok result) (lent waitset.new from.new) }
 {
     match from.peek() {
         Sight::Data(_) => {
@@ -167,7 +167,7 @@ pub(crate) fn look_at<T: TakeSide>(
     requires picked { next_pick waitset.old ≡ Ok pick }
     requires ready { IsReady end.old }
     ensures waitset { IsWaitset waitset.new }
-    ensures looks { LooksAt T.takes pick kind waitset.old end.old from.old result waitset.new end.new from.new }
+    ensures looks { LooksAt T.takes pick kind (moment waitset.old end.old from.old) result (moment waitset.new end.new from.new) }
 {
     match pick {
         Pick::Pending(c) => give(waitset, c, end, kind, from),

@@ -12,7 +12,7 @@ use Rattle.fl_wire.specs.Reading.{AllFit}
 use Rattle.fl_compile.specs.declared.program.Program.{Program}
 use Rattle.fl_compile.specs.Programs.{TheProgram, program_of}
 use Rattle.fl_endpoint.specs.View.{TheEnd, TheOutgoing, number_or_0, interface_in, plan_in, frags_from, bound_by, bound, reply_to, queued, with_call, with_written, with_part}
-use Rattle.fl_endpoint.specs.Accounts.{Accepted, asked, by_rule, calls_in, replies_in, stream, streams, Account, Replies, followed, replies_by, Sound}
+use Rattle.fl_endpoint.specs.Accounts.{Accepted, asked, by_rule, calls_in, replies_in, stream, streams, Stretch, no_event, joined, Account, Replies, followed, replies_by, Sound}
 use Rattle.fl_endpoint.proofs.Sendings.{QueuedOne, WroteOne}
 use Rattle.fl_endpoint.proofs.Sounds.{Fits, queued_call, idle_end, emptied}
 
@@ -22,8 +22,8 @@ append_nil (x ∷ xs) = ap (λ (ys : List _). x ∷ ys) (append_nil xs)
 
 -- ---- accounts add up
 
-joined : {A : Type 0} (x p q y p2 q2 z : List A) → x ++ p ≡ q ++ y → y ++ p2 ≡ q2 ++ z → x ++ (p ++ p2) ≡ (q ++ q2) ++ z
-joined x p q y p2 q2 z a b =
+joins : {A : Type 0} (x p q y p2 q2 z : List A) → x ++ p ≡ q ++ y → y ++ p2 ≡ q2 ++ z → x ++ (p ++ p2) ≡ (q ++ q2) ++ z
+joins x p q y p2 q2 z a b =
     sym (append_assoc x p p2) ∙ ap (λ (l : List _). l ++ p2) a ∙ append_assoc q y p2 ∙ ap (λ (l : List _). q ++ l) b ∙ sym (append_assoc q q2 z)
 
 pub replies_more : (xs ys : List Accepted) → replies_in (xs ++ ys) ≡ replies_in xs ++ replies_in ys
@@ -45,43 +45,41 @@ none_before (Some c) u keeps e = let k : u ≡ Some c = keeps c refl in absurd c
 no_more : {A : Type 0} (xs ys : List A) → xs ≡ [] → ys ≡ [] → xs ++ ys ≡ []
 no_more xs ys a b = ap (λ (l : List _). l ++ ys) a ∙ b
 
-pub chain : (s t u : TheEnd) (accepted accepted2 : List Accepted) (put put2 took took2 : List Frag) (handled handled2 due due2 : List TheCall)
-    → Account s accepted put took handled due t → Account t accepted2 put2 took2 handled2 due2 u
-    → Account s (accepted ++ accepted2) (put ++ put2) (took ++ took2) (handled ++ handled2) (due ++ due2) u
-chain s t u accepted accepted2 put put2 took took2 handled handled2 due due2 a b =
+pub chain : (s t u : TheEnd) (h g : Stretch) → Account s h t → Account t g u → Account s (joined h g) u
+chain s t u h g a b =
     let k = number_or_0 u.circuit in
     let p = program_of u.program in
     let same : program_of t.program ≡ p = ap (λ (x : Program). program_of x) (sym b.program) in
-    let calls : calls_in (accepted ++ accepted2) ≡ calls_in accepted ++ calls_in accepted2 = map-append _ accepted accepted2 in
-    let fit : AllFit p.interface (calls_in accepted) = subst (λ (q : TheProgram). AllFit q.interface (calls_in accepted)) same a.accepted_fit in
-    let sent : stream (program_of t.program) (number_or_0 t.circuit) (calls_in accepted) ≡ stream p k (calls_in accepted)
-    = same_stream (stream (program_of t.program)) t.circuit u.circuit (calls_in accepted) b.circuit (λ e. ap calls_in (a.unbound e).0) (λ m n. refl)
-    ∙ ap (λ (q : TheProgram). stream q k (calls_in accepted)) same in
+    let calls : calls_in (h.accepted ++ g.accepted) ≡ calls_in h.accepted ++ calls_in g.accepted = map-append _ h.accepted g.accepted in
+    let fit : AllFit p.interface (calls_in h.accepted) = subst (λ (q : TheProgram). AllFit q.interface (calls_in h.accepted)) same a.accepted_fit in
+    let sent : stream (program_of t.program) (number_or_0 t.circuit) (calls_in h.accepted) ≡ stream p k (calls_in h.accepted)
+    = same_stream (stream (program_of t.program)) t.circuit u.circuit (calls_in h.accepted) b.circuit (λ e. ap calls_in (a.unbound e).0) (λ m n. refl)
+    ∙ ap (λ (q : TheProgram). stream q k (calls_in h.accepted)) same in
     let wait : (cs : List TheCall) → (t.circuit ≡ None → cs ≡ []) → streams (program_of t.program) (number_or_0 t.circuit) cs ≡ streams p k cs
     = λ cs none. same_stream (streams (program_of t.program)) t.circuit u.circuit cs b.circuit none (λ m n. refl) ∙ ap (λ (q : TheProgram). streams q k cs) same in
-    let due_is = wait due (λ e. (a.unbound e).1) in
-    let replies_are = wait (replies_in accepted) (λ e. ap replies_in (a.unbound e).0) in
-    let read : stream (program_of t.program) 0 handled ≡ stream p 0 handled = ap (λ (q : TheProgram). stream q 0 handled) same in
+    let due_is = wait h.due (λ e. (a.unbound e).1) in
+    let replies_are = wait (replies_in h.accepted) (λ e. ap replies_in (a.unbound e).0) in
+    let read : stream (program_of t.program) 0 h.handled ≡ stream p 0 h.handled = ap (λ (q : TheProgram). stream q 0 h.handled) same in
     record {
       program = b.program ∙ a.program;
       failed = λ e. b.failed (a.failed e);
       circuit = λ c e. b.circuit c (a.circuit c e);
       unbound = λ e.
           let before = none_before t.circuit u.circuit b.circuit e in
-          (no_more accepted accepted2 (a.unbound before).0 (b.unbound e).0, no_more due due2 (a.unbound before).1 (b.unbound e).1);
-      accepted_fit = subst (λ (cs : List TheCall). AllFit p.interface cs) (sym calls) (All-append (Fits u) (calls_in accepted) (calls_in accepted2) fit b.accepted_fit);
+          (no_more h.accepted g.accepted (a.unbound before).0 (b.unbound e).0, no_more h.due g.due (a.unbound before).1 (b.unbound e).1);
+      accepted_fit = subst (λ (cs : List TheCall). AllFit p.interface cs) (sym calls) (All-append (Fits u) (calls_in h.accepted) (calls_in g.accepted) fit b.accepted_fit);
       sends = ap (λ (cs : List TheCall). s.outgoing.unwritten ++ stream p k cs) calls
-          ∙ ap (λ (xs : List Frag). s.outgoing.unwritten ++ xs) (flat_map-append (frags_on k p.plan p.interface) (calls_in accepted) (calls_in accepted2))
-          ∙ joined s.outgoing.unwritten (stream p k (calls_in accepted)) put t.outgoing.unwritten (stream p k (calls_in accepted2)) put2 u.outgoing.unwritten
+          ∙ ap (λ (xs : List Frag). s.outgoing.unwritten ++ xs) (flat_map-append (frags_on k p.plan p.interface) (calls_in h.accepted) (calls_in g.accepted))
+          ∙ joins s.outgoing.unwritten (stream p k (calls_in h.accepted)) h.put t.outgoing.unwritten (stream p k (calls_in g.accepted)) g.put u.outgoing.unwritten
           (ap (λ (xs : List Frag). s.outgoing.unwritten ++ xs) (sym sent) ∙ a.sends) b.sends;
-      waits = ap (λ (xs : List (List Frag)). s.outgoing.waiting ++ xs) (map-append (frags_on k p.plan p.interface) due due2)
-          ∙ joined s.outgoing.waiting (streams p k due) (streams p k (replies_in accepted)) t.outgoing.waiting (streams p k due2) (streams p k (replies_in accepted2)) u.outgoing.waiting
+      waits = ap (λ (xs : List (List Frag)). s.outgoing.waiting ++ xs) (map-append (frags_on k p.plan p.interface) h.due g.due)
+          ∙ joins s.outgoing.waiting (streams p k h.due) (streams p k (replies_in h.accepted)) t.outgoing.waiting (streams p k g.due) (streams p k (replies_in g.accepted)) u.outgoing.waiting
           (ap (λ (xs : List (List Frag)). s.outgoing.waiting ++ xs) (sym due_is) ∙ a.waits ∙ ap (λ (xs : List (List Frag)). xs ++ t.outgoing.waiting) replies_are) b.waits
           ∙ ap (λ (xs : List (List Frag)). xs ++ u.outgoing.waiting)
-          (sym (map-append (frags_on k p.plan p.interface) (replies_in accepted) (replies_in accepted2)) ∙ ap (streams p k) (sym (replies_more accepted accepted2)));
-      handled_fit = All-append (Fits u) handled handled2 (subst (λ (q : TheProgram). AllFit q.interface handled) same a.handled_fit) b.handled_fit;
-      gives = joined s.parts took (stream p 0 handled) t.parts took2 (stream p 0 handled2) u.parts (a.gives ∙ ap (λ (xs : List Frag). xs ++ t.parts) read) b.gives
-          ∙ ap (λ (xs : List Frag). xs ++ u.parts) (sym (flat_map-append (frags_on 0 p.plan p.interface) handled handled2));
+          (sym (map-append (frags_on k p.plan p.interface) (replies_in h.accepted) (replies_in g.accepted)) ∙ ap (streams p k) (sym (replies_more h.accepted g.accepted)));
+      handled_fit = All-append (Fits u) h.handled g.handled (subst (λ (q : TheProgram). AllFit q.interface h.handled) same a.handled_fit) b.handled_fit;
+      gives = joins s.parts h.took (stream p 0 h.handled) t.parts g.took (stream p 0 g.handled) u.parts (a.gives ∙ ap (λ (xs : List Frag). xs ++ t.parts) read) b.gives
+          ∙ ap (λ (xs : List Frag). xs ++ u.parts) (sym (flat_map-append (frags_on 0 p.plan p.interface) h.handled g.handled));
     }
 
 followed_more : (o : Option TheCall) (xs ys zs : List TheCall) → xs ≡ ys ++ zs → followed o xs ≡ followed o ys ++ zs
@@ -101,10 +99,13 @@ chain_replies s t u handled handled2 due due2 a b = record {
       ∙ sym (replies_by_more s.rules handled handled2);
 }
 
+abbrev pub happened : List Accepted → List Frag → List Frag → List TheCall → List TheCall → Stretch
+happened accepted put took handled due = record { accepted = accepted; put = put; took = took; handled = handled; due = due }
+
 -- ---- an event that adds nothing
 
 pub adds_nothing : (s t : TheEnd) → t.program ≡ s.program → (s.failed ≡ true → t.failed ≡ true) → ((c : ℕ) → s.circuit ≡ Some c → t.circuit ≡ Some c)
-    → t.outgoing ≡ s.outgoing → t.parts ≡ s.parts → Account s [] [] [] [] [] t
+    → t.outgoing ≡ s.outgoing → t.parts ≡ s.parts → Account s no_event t
 adds_nothing s t program failed circuit outgoing parts = record {
   program = program;
   failed = failed;
@@ -117,8 +118,8 @@ adds_nothing s t program failed circuit outgoing parts = record {
   gives = append_nil s.parts ∙ sym parts;
 }
 
-pub same_end : (s t : TheEnd) → t ≡ s → Account s [] [] [] [] [] t
-same_end s t e = subst (λ (x : TheEnd). Account s [] [] [] [] [] x) (sym e) (adds_nothing s s refl (λ h. h) (λ c h. h) refl refl)
+pub same_end : (s t : TheEnd) → t ≡ s → Account s no_event t
+same_end s t e = subst (λ (x : TheEnd). Account s no_event x) (sym e) (adds_nothing s s refl (λ h. h) (λ c h. h) refl refl)
 
 pub same_replies : (s t : TheEnd) → t ≡ s → Replies s [] [] t
 same_replies s t e = record { rules = ap (λ (x : TheEnd). x.rules) e; replies = refl }
@@ -129,7 +130,7 @@ not_unbound : {A : Type 0} (o : Option ℕ) → IsSome o → o ≡ None → A
 not_unbound None some e = absurd cc
 not_unbound (Some x) some e = absurd cc
 
-pub call_account : (s : TheEnd) (c : TheCall) → Sound s → IsSome s.circuit → Fits s c → s.outgoing.unwritten ≡ [] → Account s (asked c ∷ []) [] [] [] [] (with_call s c)
+pub call_account : (s : TheEnd) (c : TheCall) → Sound s → IsSome s.circuit → Fits s c → s.outgoing.unwritten ≡ [] → Account s (happened (asked c ∷ []) [] [] [] []) (with_call s c)
 call_account s c sound some fits idle =
     let q = queued_call s c sound fits in
     let nothing = idle_end s sound idle in
@@ -158,7 +159,7 @@ replies_all [] = refl
 replies_all (c ∷ calls) = ap (λ (l : List TheCall). c ∷ l) (replies_all calls)
 
 pub write_account : (s : TheEnd) (f : Frag) (rest : List Frag) (w : WroteOne (frags_from s) (Fits s) f rest s.outgoing) → IsSome s.circuit
-    → Account s (all_replies w.accepted) (f ∷ []) [] [] [] (with_written s rest)
+    → Account s (happened (all_replies w.accepted) (f ∷ []) [] [] []) (with_written s rest)
 write_account s f rest w some = record {
   program = refl;
   failed = λ e. e;
@@ -173,7 +174,7 @@ write_account s f rest w some = record {
 
 -- ---- a fragment taken
 
-pub part_account : (s : TheEnd) (f : Frag) → Account s [] [] (f ∷ []) [] [] (with_part s f)
+pub part_account : (s : TheEnd) (f : Frag) → Account s (happened [] [] (f ∷ []) [] []) (with_part s f)
 part_account s f = record {
   program = refl;
   failed = λ e. e;
@@ -187,7 +188,7 @@ part_account s f = record {
 }
 
 -- a call handled, to which no reply is due
-pub handled_account : (s : TheEnd) (f : Frag) (c : TheCall) → Fits s c → s.parts ++ f ∷ [] ≡ frags_on 0 (plan_in s) (interface_in s) c → Account s [] [] (f ∷ []) (c ∷ []) [] (emptied s)
+pub handled_account : (s : TheEnd) (f : Frag) (c : TheCall) → Fits s c → s.parts ++ f ∷ [] ≡ frags_on 0 (plan_in s) (interface_in s) c → Account s (happened [] [] (f ∷ []) (c ∷ []) []) (emptied s)
 handled_account s f c fits mean = record {
   program = refl;
   failed = λ e. e;
@@ -202,7 +203,7 @@ handled_account s f c fits mean = record {
 
 -- a call handled, to which a reply is due
 pub replied_account : (s : TheEnd) (f : Frag) (c d : TheCall) (q : QueuedOne (frags_from s) (Fits s) d s.outgoing) → IsSome s.circuit → Fits s c
-    → s.parts ++ f ∷ [] ≡ frags_on 0 (plan_in s) (interface_in s) c → Account s (all_replies q.accepted) [] (f ∷ []) (c ∷ []) (d ∷ []) (with_call (emptied s) d)
+    → s.parts ++ f ∷ [] ≡ frags_on 0 (plan_in s) (interface_in s) c → Account s (happened (all_replies q.accepted) [] (f ∷ []) (c ∷ []) (d ∷ [])) (with_call (emptied s) d)
 replied_account s f c d q some fits mean = record {
   program = refl;
   failed = λ e. e;
@@ -217,10 +218,10 @@ replied_account s f c d q some fits mean = record {
 
 -- ---- an end that failed, one that is bound, and one with a rule more
 
-pub bound_account : (s : TheEnd) (circuit : ℕ) → Account s [] [] [] [] [] (bound s circuit)
+pub bound_account : (s : TheEnd) (circuit : ℕ) → Account s no_event (bound s circuit)
 bound_account s circuit = by_circuit s.circuit s circuit refl
   where
-    by_circuit : (o : Option ℕ) (s : TheEnd) (circuit : ℕ) → s.circuit ≡ o → Account s [] [] [] [] [] (bound_by o circuit s)
+    by_circuit : (o : Option ℕ) (s : TheEnd) (circuit : ℕ) → s.circuit ≡ o → Account s no_event (bound_by o circuit s)
     by_circuit None s circuit is = adds_nothing s (record s { circuit = Some circuit }) refl (λ h. h) (λ c h. let k : s.circuit ≡ None = is in absurd cc) refl refl
     by_circuit (Some before) s circuit is = same_end s s refl
 

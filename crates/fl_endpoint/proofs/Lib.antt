@@ -1,4 +1,3 @@
-mod Sames
 mod Outgoings
 mod Sendings
 mod Sounds

@@ -10,7 +10,6 @@ use Rattle.fl_wire.specs.Reading.{IsPart, AllFit}
 use Rattle.fl_wire.specs.Words.{interface_words_fit}
 use Rattle.fl_compile.specs.Programs.{TheProgram, program_of}
 use Rattle.fl_base.specs.Control.{bare}
-use Rattle.fl_link.specs.Looks.{Look, placed, found}
 use Rattle.fl_endpoint.specs.View.{TheEnd, TheOutgoing, interface_in, plan_in, frags_from, nothing_to_send, number_or_0, rule_at, reply_to}
 use Rattle.fl_endpoint.specs.Events.{IsMessage, SameTypes}
 
@@ -92,22 +91,53 @@ stream program circuit calls = flat_map (frags_on circuit program.plan program.i
 abbrev pub streams : TheProgram → ℕ → List TheCall → List (List Frag)
 streams program circuit calls = map (frags_on circuit program.plan program.interface) calls
 
--- from s to t the end accepted these calls, put and took these fragments, handled these calls, and these replies to them
--- were due
-pub record Account (s : TheEnd) (accepted : List Accepted) (put took : List Frag) (handled due : List TheCall) (t : TheEnd) : Type 0 where
+-- the accepted calls as the end puts them, one after another, and call by call
+abbrev pub stream_from : TheEnd → List TheCall → List Frag
+stream_from s calls = stream (program_of s.program) (number_or_0 s.circuit) calls
+
+abbrev pub streams_from : TheEnd → List TheCall → List (List Frag)
+streams_from s calls = streams (program_of s.program) (number_or_0 s.circuit) calls
+
+-- what happened at an end over a stretch of time, each in order
+pub record Stretch : Type 0 where
+  -- the calls that it accepted
+  pub accepted : List Accepted
+  -- the fragments that it put, and those that it took
+  pub put : List Frag
+  pub took : List Frag
+  -- the calls that it handled, and the replies to them that were due
+  pub handled : List TheCall
+  pub due : List TheCall
+
+-- nothing happened
+abbrev pub no_event : Stretch
+no_event = record { accepted = []; put = []; took = []; handled = []; due = [] }
+
+-- one stretch, and then another
+abbrev pub joined : Stretch → Stretch → Stretch
+joined h g = record {
+  accepted = h.accepted ++ g.accepted;
+  put = h.put ++ g.put;
+  took = h.took ++ g.took;
+  handled = h.handled ++ g.handled;
+  due = h.due ++ g.due;
+}
+
+-- by what happened the end went from s to t
+pub record Account (s : TheEnd) (h : Stretch) (t : TheEnd) : Type 0 where
   pub program : t.program ≡ s.program
   pub failed : s.failed ≡ true → t.failed ≡ true
   -- it was bound once at most, and before that nothing was accepted or due
   pub circuit : (c : ℕ) → s.circuit ≡ Some c → t.circuit ≡ Some c
-  pub unbound : t.circuit ≡ None → (accepted ≡ []) × (due ≡ [])
+  pub unbound : t.circuit ≡ None → (h.accepted ≡ []) × (h.due ≡ [])
   -- what it put is what it accepted, in order, up to what is still to be written
-  pub accepted_fit : AllFit (interface_in t) (calls_in accepted)
-  pub sends : s.outgoing.unwritten ++ stream (program_of t.program) (number_or_0 t.circuit) (calls_in accepted) ≡ put ++ t.outgoing.unwritten
+  pub accepted_fit : AllFit (interface_in t) (calls_in h.accepted)
+  pub sends : s.outgoing.unwritten ++ stream_from t (calls_in h.accepted) ≡ h.put ++ t.outgoing.unwritten
   -- the replies that it accepted are those due, in order, up to those that wait
-  pub waits : s.outgoing.waiting ++ streams (program_of t.program) (number_or_0 t.circuit) due ≡ streams (program_of t.program) (number_or_0 t.circuit) (replies_in accepted) ++ t.outgoing.waiting
+  pub waits : s.outgoing.waiting ++ streams_from t h.due ≡ streams_from t (replies_in h.accepted) ++ t.outgoing.waiting
   -- what it took is what it handled, in order, and a rest
-  pub handled_fit : AllFit (interface_in t) handled
-  pub gives : s.parts ++ took ≡ stream (program_of t.program) 0 handled ++ t.parts
+  pub handled_fit : AllFit (interface_in t) h.handled
+  pub gives : s.parts ++ h.took ≡ stream (program_of t.program) 0 h.handled ++ t.parts
 
 -- a call, where there is one, and then others
 abbrev pub followed : Option TheCall → List TheCall → List TheCall
@@ -123,14 +153,3 @@ replies_by rules (c ∷ calls) = followed (reply_to rules c) (replies_by rules c
 pub record Replies (s : TheEnd) (handled due : List TheCall) (t : TheEnd) : Type 0 where
   pub rules : t.rules ≡ s.rules
   pub replies : due ≡ replies_by s.rules handled
-
--- the fragments that were put, and those that were taken, by the looks at a side
-abbrev pub puts_of : List Look → List Frag
-puts_of [] = []
-puts_of (placed f ∷ looks) = f ∷ puts_of looks
-puts_of (look ∷ looks) = puts_of looks
-
-abbrev pub takes_of : List Look → List Frag
-takes_of [] = []
-takes_of (found f ∷ looks) = f ∷ takes_of looks
-takes_of (look ∷ looks) = takes_of looks

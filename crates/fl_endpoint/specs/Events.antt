@@ -1,6 +1,6 @@
 -- What each event comes to at one end: by cases on the answer, exactly. A side that fragments are put to or taken from is
 -- seen by its own relation alone; it goes from p to q.
-use Rattle.std.specs.Prelude.{◌≡◌, ◌≢◌, ℕ, ◌+◌, ◌%◌, true, false, List, [], ◌∷◌, ◌++◌, length, slice_get, slice_set, Option, Some, None, IsSome, Result, Ok, Err}
+use Rattle.std.specs.Prelude.{◌≡◌, ◌≢◌, ℕ, ◌+◌, true, false, List, [], ◌∷◌, ◌++◌, length, slice_get, Option, Some, None, IsSome, Result, Ok, Err}
 use Rattle.fl_base.specs.declared.fragment.Frag.{Frag}
 use Rattle.fl_base.specs.declared.identity.Circuit.{Circuit}
 use Rattle.fl_check.specs.Interface.{TheInterface}
@@ -18,7 +18,7 @@ use Rattle.fl_endpoint.specs.declared.answer.WriteAnswer.{WriteAnswer}
 use Rattle.fl_endpoint.specs.declared.answer.WriteAnswer.TheVariants.{Written, Full, Nothing}
 use Rattle.fl_endpoint.specs.declared.answer.ReceiveAnswer.{ReceiveAnswer}
 use Rattle.fl_endpoint.specs.declared.answer.ReceiveAnswer.TheVariants.{Handle, Part, Quiet, Empty, HeldBack}
-use Rattle.fl_endpoint.specs.View.{TheEnd, interface_in, plan_in, holds_back, with_call, with_written, with_part, with_handled, with_failed}
+use Rattle.fl_endpoint.specs.View.{TheEnd, interface_in, plan_in, holds_back, with_call, with_written, with_part, with_handled, with_failed, with_rule}
 
 -- ---- what refuses before anything is looked at
 
@@ -74,7 +74,9 @@ Calls s c (Err fault) t = ⊥
 -- ---- a fragment is written
 
 abbrev pub Writes : {P : Type 0} → (P → Look → P → Type 0) → TheEnd → P → Result WriteAnswer EndFault → TheEnd → P → Type 0
-Writes puts s p (Ok (Written number count)) t q = IsReady s × ((f : Frag) × (rest : List Frag) × (s.outgoing.unwritten ≡ f ∷ rest) × (count ≡ s.outgoing.count) × (number + length rest ≡ count) × puts p (placed f) q × (t ≡ with_written s rest))
+Writes puts s p (Ok (Written number count)) t q =
+    IsReady s × ((f : Frag) × (rest : List Frag) × (s.outgoing.unwritten ≡ f ∷ rest) × (count ≡ s.outgoing.count)
+    × (number + length rest ≡ count) × puts p (placed f) q × (t ≡ with_written s rest))
 Writes puts s p (Ok Full) t q = IsReady s × (s.outgoing.unwritten ≢ []) × puts p no_room q × (t ≡ s)
 Writes puts s p (Ok Nothing) t q = IsReady s × (s.outgoing.unwritten ≡ []) × (q ≡ p) × (t ≡ s)
 Writes puts s p (Err Spent) t q = IsReady s × (s.outgoing.unwritten ≢ []) × puts p spent q × (t ≡ s)
@@ -84,7 +86,8 @@ Writes puts s p (Err fault) t q = ⊥
 
 -- the fragment that would be written next, by the side's epoch bit and the number that it would tell
 abbrev pub ShowsNext : ℕ → ℕ → TheEnd → Result (Option Frag) EndFault → Type 0
-ShowsNext epoch told s (Ok (Some frag)) = IsReady s × ((f : Frag) × (rest : List Frag) × (s.outgoing.unwritten ≡ f ∷ rest) × (frag ≡ stamped f (epoch % 2) told))
+ShowsNext epoch told s (Ok (Some frag)) =
+    IsReady s × ((f : Frag) × (rest : List Frag) × (s.outgoing.unwritten ≡ f ∷ rest) × (frag ≡ stamped f epoch told))
 ShowsNext epoch told s (Ok None) = IsReady s × (s.outgoing.unwritten ≡ [])
 ShowsNext epoch told s (Err NotBound) = IsUnbound s
 ShowsNext epoch told s (Err Failed) = HasFailed s
@@ -109,7 +112,8 @@ TakesIn s f (Err fault) t = ⊥
 
 -- the fragment that stands first is taken, and with it this is answered
 abbrev pub Takes : {T : Type 0} → (T → Look → T → Type 0) → TheEnd → T → ReceiveAnswer → TheEnd → T → Type 0
-Takes {T} takes s p answer t q = IsOpen s × ((f : Frag) × (m : T) × (bare f ≡ f) × takes p (saw f) m × takes m (found f) q × TakesIn s f (Ok answer) t)
+Takes {T} takes s p answer t q =
+    IsOpen s × ((f : Frag) × (m : T) × (bare f ≡ f) × takes p (saw f) m × takes m (found f) q × TakesIn s f (Ok answer) t)
 
 -- it is looked at and left, and with it this is answered
 abbrev pub Leaves : {T : Type 0} → (T → Look → T → Type 0) → TheEnd → T → EndFault → TheEnd → T → Type 0
@@ -134,7 +138,9 @@ abbrev pub SameTypes : TheInterface → ℕ → ℕ → Type 0
 SameTypes i msg reply = types_of (slice_get i.messages msg) ≡ types_of (slice_get i.messages reply)
 
 abbrev pub SetsRule : TheEnd → ℕ → ℕ → Result (Unit {0}) EndFault → TheEnd → Type 0
-SetsRule s msg reply (Ok done) t = IsMessage (interface_in s) msg × IsMessage (interface_in s) reply × SameTypes (interface_in s) msg reply × (t ≡ record s { rules = slice_set s.rules msg (Some reply) })
+SetsRule s msg reply (Ok done) t =
+    IsMessage (interface_in s) msg × IsMessage (interface_in s) reply × SameTypes (interface_in s) msg reply × (t ≡ with_rule s msg reply)
 SetsRule s msg reply (Err UnknownMessage) t = ((IsMessage (interface_in s) msg × IsMessage (interface_in s) reply) → ⊥) × (t ≡ s)
-SetsRule s msg reply (Err Misfit) t = IsMessage (interface_in s) msg × IsMessage (interface_in s) reply × (SameTypes (interface_in s) msg reply → ⊥) × (t ≡ s)
+SetsRule s msg reply (Err Misfit) t =
+    IsMessage (interface_in s) msg × IsMessage (interface_in s) reply × (SameTypes (interface_in s) msg reply → ⊥) × (t ≡ s)
 SetsRule s msg reply (Err fault) t = ⊥

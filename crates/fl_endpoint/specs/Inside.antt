@@ -1,4 +1,4 @@
--- Ends by their fields.
+-- A working file, on which no public promise rests by itself: ends by their fields.
 use Rattle.std.specs.Prelude.{◌≡◌, ℕ, Option}
 use Rattle.std.specs.Option.{option_map}
 use Rattle.fl_base.specs.declared.identity.Circuit.{Circuit}

@@ -1,5 +1,5 @@
 -- What holds of ends over time, whatever their sides: laws.
-use Rattle.std.specs.Prelude.{◌≡◌, ℕ, ◌+◌, ◌*◌, ◌^◌, ◌<◌, true, List, [], ◌∷◌, ◌++◌, map, length, Option, Result, Ok, Err}
+use Rattle.std.specs.Prelude.{◌≡◌, ℕ, ◌^◌, ◌<◌, true, List, [], ◌∷◌, ◌++◌, map, length, Option, Result, Ok, Err}
 use Rattle.fl_base.specs.declared.fragment.Frag.{Frag}
 use Rattle.fl_check.specs.Checks.{is_within_limits}
 use Rattle.fl_value.specs.Value.{TheCall, call_of}
@@ -10,20 +10,19 @@ use Rattle.fl_machine.specs.Receiving.{IsRefused}
 use Rattle.fl_base.specs.Control.{bare, with_circuit}
 use Rattle.fl_compile.specs.declared.program.Program.{Program}
 use Rattle.fl_compile.specs.Programs.{TheProgram, program_of}
-use Rattle.fl_link.specs.Looks.{Look, Looks}
+use Rattle.fl_link.specs.Looks.{Look, Looks, puts_of, takes_of}
 use Rattle.fl_endpoint.specs.declared.fault.EndFault.{EndFault}
 use Rattle.fl_endpoint.specs.declared.answer.WriteAnswer.{WriteAnswer}
 use Rattle.fl_endpoint.specs.declared.answer.ReceiveAnswer.{ReceiveAnswer}
 use Rattle.fl_endpoint.specs.declared.answer.ReceiveAnswer.TheVariants.{Handle}
-use Rattle.fl_endpoint.specs.View.{TheEnd, fresh, number_or_0, interface_in, plan_in, bound, reply_to}
+use Rattle.fl_endpoint.specs.View.{TheEnd, fresh, interface_in, plan_in, bound, reply_to}
 use Rattle.fl_endpoint.specs.Events.{AreCall, Calls, Writes, Receives, SetsRule}
-use Rattle.fl_endpoint.specs.Accounts.{Sound, Accepted, asked, calls_in, replies_in, followed, stream, streams, Account, Replies, puts_of, takes_of}
+use Rattle.fl_endpoint.specs.Accounts.{Sound, Accepted, asked, calls_in, replies_in, followed, stream, stream_from, streams_from, Stretch, no_event, joined}
+use Rattle.fl_endpoint.specs.Accounts.{Account, Replies}
 
 -- accounts add up
 abbrev pub AddUp : Type 0
-AddUp = (s t u : TheEnd) (accepted accepted2 : List Accepted) (put put2 took took2 : List Frag) (handled handled2 due due2 : List TheCall)
-    → Account s accepted put took handled due t → Account t accepted2 put2 took2 handled2 due2 u
-    → Account s (accepted ++ accepted2) (put ++ put2) (took ++ took2) (handled ++ handled2) (due ++ due2) u
+AddUp = (s t u : TheEnd) (h g : Stretch) → Account s h t → Account t g u → Account s (joined h g) u
 
 abbrev pub RepliesAddUp : Type 0
 RepliesAddUp = (s t u : TheEnd) (handled handled2 due due2 : List TheCall)
@@ -48,7 +47,7 @@ due_by rules answer = []
 
 pub record CallAdds (s : TheEnd) (c : TheCall) (answer : Result (Unit {0}) EndFault) (t : TheEnd) : Type 0 where
   pub sound : Sound t
-  pub account : Account s (accepted_by c answer) [] [] [] [] t
+  pub account : Account s (record no_event { accepted = accepted_by c answer }) t
   pub replies : Replies s [] [] t
 
 abbrev pub CallAccounts : Type 0
@@ -60,20 +59,26 @@ pub record WriteAdds {P : Type 0} (puts : P → Look → P → Type 0) (s : TheE
   pub side : Looks puts p looks q
   pub accepted : List Accepted
   pub sound : Sound t
-  pub account : Account s accepted (puts_of looks) [] [] [] t
+  pub account : Account s (record no_event { accepted = accepted; put = puts_of looks }) t
   pub replies : Replies s [] [] t
 
 abbrev pub WriteAccounts : {P : Type 0} → (P → Look → P → Type 0) → Type 0
 WriteAccounts {P} puts = (s t : TheEnd) (p q : P) (answer : Result WriteAnswer EndFault)
     → Sound s → Writes puts s p answer t q → WriteAdds puts s p t q
 
+-- what happens in a receive that is answered so: the fragments taken, the call handled and the reply due, and what is accepted
+abbrev pub happens_in_receive : List (Option ℕ) → Result ReceiveAnswer EndFault → List Look → List Accepted → Stretch
+happens_in_receive rules answer looks accepted =
+    record { accepted = accepted; put = []; took = takes_of looks; handled = handled_by answer; due = due_by rules answer }
+
 -- accepted is the reply that is due, where the end wasn't busy
-pub record ReceiveAdds {T : Type 0} (takes : T → Look → T → Type 0) (s : TheEnd) (p : T) (answer : Result ReceiveAnswer EndFault) (t : TheEnd) (q : T) : Type 0 where
+pub record ReceiveAdds {T : Type 0} (takes : T → Look → T → Type 0)
+    (s : TheEnd) (p : T) (answer : Result ReceiveAnswer EndFault) (t : TheEnd) (q : T) : Type 0 where
   pub looks : List Look
   pub side : Looks takes p looks q
   pub accepted : List Accepted
   pub sound : Sound t
-  pub account : Account s accepted [] (takes_of looks) (handled_by answer) (due_by s.rules answer) t
+  pub account : Account s (happens_in_receive s.rules answer looks accepted) t
   pub replies : Replies s (handled_by answer) (due_by s.rules answer) t
 
 abbrev pub ReceiveAccounts : {T : Type 0} → (T → Look → T → Type 0) → Type 0
@@ -83,7 +88,7 @@ ReceiveAccounts {T} takes = (s t : TheEnd) (p q : T) (answer : Result ReceiveAns
 -- an event by which nothing is accepted, put, taken or handled
 pub record AddsNothing (s t : TheEnd) : Type 0 where
   pub sound : Sound t
-  pub account : Account s [] [] [] [] [] t
+  pub account : Account s no_event t
 
 abbrev pub BindAccounts : Type 0
 BindAccounts = (s : TheEnd) (circuit : ℕ) → circuit < 2 ^ 16 → Sound s → AddsNothing s (bound s circuit) × Replies s [] [] (bound s circuit)
@@ -93,16 +98,16 @@ RuleAccounts = (s t : TheEnd) (msg reply : ℕ) (answer : Result (Unit {0}) EndF
 
 -- ---- what an end did since it was made
 
--- what it put is a front of its accepted calls' fragments, and the rest is what is still to be written; the replies accepted are a
--- front of those due, and the others wait; what it took reads as its handled calls and a rest
-pub record Since (accepted : List Accepted) (put took : List Frag) (handled due : List TheCall) (t : TheEnd) : Type 0 where
-  pub sent : put ++ t.outgoing.unwritten ≡ stream (program_of t.program) (number_or_0 t.circuit) (calls_in accepted)
-  pub wait : streams (program_of t.program) (number_or_0 t.circuit) (replies_in accepted) ++ t.outgoing.waiting ≡ streams (program_of t.program) (number_or_0 t.circuit) due
-  pub read : Reads (plan_in t) (interface_in t) took handled t.parts
+-- what it put is a prefix of its accepted calls' fragments, and the rest is what is still to be written; the replies accepted are a
+-- prefix of those due, and the others wait; what it took reads as its handled calls and a rest
+pub record Since (h : Stretch) (t : TheEnd) : Type 0 where
+  pub sent : h.put ++ t.outgoing.unwritten ≡ stream_from t (calls_in h.accepted)
+  pub wait : streams_from t (replies_in h.accepted) ++ t.outgoing.waiting ≡ streams_from t h.due
+  pub read : Reads (plan_in t) (interface_in t) h.took h.handled t.parts
 
 abbrev pub SinceMade : Type 0
-SinceMade = (program : Program) (circuit : Option ℕ) (t : TheEnd) (accepted : List Accepted) (put took : List Frag) (handled due : List TheCall)
-    → Sound t → Account (fresh program circuit) accepted put took handled due t → Since accepted put took handled due t
+SinceMade = (program : Program) (circuit : Option ℕ) (t : TheEnd) (h : Stretch)
+    → Sound t → Account (fresh program circuit) h t → Since h t
 
 -- ---- circuits
 
@@ -124,15 +129,16 @@ pub record TakenOf (program : TheProgram) (calls handled : List TheCall) (parts 
   pub short : (c : TheCall) (rest : List TheCall) → left ≡ c ∷ rest → length parts < count program.plan program.interface c
 
 abbrev pub HandlesInOrder : Type 0
-HandlesInOrder = (program : Program) (circuit : Option ℕ) (t : TheEnd) (accepted : List Accepted) (put took more : List Frag) (handled due calls : List TheCall)
-    → Sound t → Account (fresh program circuit) accepted put took handled due t
-    → AllFit (interface_in t) calls → took ++ more ≡ stream (program_of t.program) 0 calls
-    → TakenOf (program_of t.program) calls handled t.parts more
+HandlesInOrder = (program : Program) (circuit : Option ℕ) (t : TheEnd) (h : Stretch) (calls : List TheCall) (more : List Frag)
+    → Sound t → Account (fresh program circuit) h t
+    → AllFit (interface_in t) calls → h.took ++ more ≡ stream (program_of t.program) 0 calls
+    → TakenOf (program_of t.program) calls h.handled t.parts more
 
 -- the next fragment is never refused; where it is the last of its call that call is handled, and no other
 pub record TakesNext (s : TheEnd) (f : Frag) (left : List TheCall) (more : List Frag) : Type 0 where
   pub no_fault : (fault : WireFault) → IsRefused (plan_in s) (interface_in s) s.parts f fault → ⊥
-  pub handled_is : (c : TheCall) → AreCall s (s.parts ++ f ∷ []) c → (rest : List TheCall) × (left ≡ c ∷ rest) × (more ≡ stream (program_of s.program) 0 rest)
+  pub handled_is : (c : TheCall) → AreCall s (s.parts ++ f ∷ []) c
+      → (rest : List TheCall) × (left ≡ c ∷ rest) × (more ≡ stream (program_of s.program) 0 rest)
   pub part_is : (c : TheCall) (rest : List TheCall) → IsPart (plan_in s) (interface_in s) (s.parts ++ f ∷ []) → left ≡ c ∷ rest
       → length (s.parts ++ f ∷ []) < count (plan_in s) (interface_in s) c
 

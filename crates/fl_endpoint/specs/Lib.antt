@@ -1,8 +1,9 @@
+-- The public promises rest on View, Rules, Events, Accounts, Laws and Faults; Stored and Inside are working files.
 pub mod View
-pub mod Faults
+pub mod Rules
 pub mod Events
 pub mod Accounts
 pub mod Laws
-pub mod Rules
+pub mod Faults
 pub mod Stored
 pub mod Inside

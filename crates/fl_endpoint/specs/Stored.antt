@@ -1,4 +1,5 @@
--- What an end stores of the calls that it sends, and the fragments that this stands for.
+-- A working file, on which no public promise rests by itself: what an end stores of the calls that it sends, and the fragments
+-- that this stands for.
 use Rattle.std.specs.Prelude.{◌≡◌, ℕ, ◌+◌, ◌≤◌, true, false, IsSome, List, [], ◌∷◌, map, length, slice_get, Option, Some, None}
 use Rattle.std.specs.VecDeque.{deque_capacity}
 use Rattle.fl_base.specs.declared.fragment.Frag.{Frag}
@@ -35,10 +36,14 @@ tape_frags program circuit msg tape = frags_holding true msg circuit (bytes_give
 abbrev pub queued_frags : TheProgram → ℕ → Queued → List Frag
 queued_frags program circuit call = tape_frags program circuit call.msg.0 call.tape.items
 
+-- those behind the next of the call in transmission
+abbrev pub frags_behind : TheProgram → Sending → List Frag
+frags_behind program s = frags_left (code_of program s.msg.0) s.run
+
 -- those of the call in transmission that are to be written
 abbrev pub sending_frags : TheProgram → Option Sending → List Frag
 sending_frags program None = []
-sending_frags program (Some s) = s.next ∷ frags_left (code_of program s.msg.0) s.run
+sending_frags program (Some s) = s.next ∷ frags_behind program s
 
 abbrev pub count_in : Option Sending → ℕ
 count_in None = 0

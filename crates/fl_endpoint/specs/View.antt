@@ -1,5 +1,5 @@
 -- An end of a binding, as contracts see it.
-use Rattle.std.specs.Prelude.{ℕ, ◌==◌, ◌&&◌, Bool, true, false, List, [], ◌∷◌, ◌++◌, length, replicate, slice_get, Option, Some, None}
+use Rattle.std.specs.Prelude.{ℕ, ◌==◌, ◌&&◌, Bool, true, false, List, [], ◌∷◌, ◌++◌, length, replicate, slice_get, slice_set, Option, Some, None}
 use Rattle.std.specs.List.{list_any}
 use Rattle.std.specs.Option.{option_map}
 use Rattle.fl_base.specs.declared.fragment.Frag.{Frag}
@@ -165,3 +165,7 @@ with_handled s c = record s { parts = []; outgoing = queued_if s.outgoing (optio
 -- failed for good
 abbrev pub with_failed : TheEnd → TheEnd
 with_failed s = record s { failed = true }
+
+-- with a rule for a message, in place of an earlier one
+abbrev pub with_rule : TheEnd → ℕ → ℕ → TheEnd
+with_rule s msg reply = record s { rules = slice_set s.rules msg (Some reply) }

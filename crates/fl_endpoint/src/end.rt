@@ -14,9 +14,9 @@ use crate::answer::{ReceiveAnswer, WriteAnswer};
 use crate::fault::EndFault;
 use crate::incoming::{Incoming, without_stamp};
 use crate::outgoing::{MOST_WAITING, Outgoing, Queued};
-use crate::rules::Rules;
-use crate::types::{message, same_args};
+use crate::rules::{Rules, message};
 use fl_base::{Circuit, Frag, MsgNo};
+use fl_check::same_args;
 use fl_compile::Program;
 use fl_link::{PutFault, PutSide, Sight, TakeSide};
 use fl_machine::Fed;
@@ -58,7 +58,7 @@ impl End {
     /// taken here.
     ///
     /// # Errors
-    /// Want of memory (E99).
+    /// Out of memory (E99).
     pub fn new(alloc: Global, program: Program, circuit: Circuit) -> Result<End, AllocError>
         ensures made { IfOk result (λ e. e ≡ fresh program (Some circuit.0)) }
         ensures sound { IfOk result (λ e. Sound e) }
@@ -74,7 +74,7 @@ impl End {
     /// set.
     ///
     /// # Errors
-    /// Want of memory (E99).
+    /// Out of memory (E99).
     pub fn unbound(alloc: Global, program: Program) -> Result<End, AllocError>
         ensures made { IfOk result (λ e. e ≡ fresh program None) }
         ensures sound { IfOk result (λ e. Sound e) }
@@ -229,7 +229,7 @@ impl End {
     ///
     /// # Errors
     /// In this order: the interface has no such message (E41), the arguments don't fit (E42), the end isn't bound yet
-    /// (E43), it failed earlier (E64), a call is in transmission (E40); then want of memory (E99). The end is as it was
+    /// (E43), it failed earlier (E64), a call is in transmission (E40); then out of memory (E99). The end is as it was
     /// then.
     pub fn call(&mut self, call: &Call) -> Result<(), EndFault>
         ensures calls { Calls self.old (call_of call.now) result self.new }
@@ -248,7 +248,7 @@ impl End {
     }
 
     /// The fragment that [`End::write`] would put next, with the epoch and the number told that the side would give it;
-    /// none where no call is in transmission. An epoch is one bit.
+    /// none where no call is in transmission.
     ///
     /// # Errors
     /// The end isn't bound yet (E43), or failed earlier (E64).
@@ -260,7 +260,7 @@ impl End {
         }
         match self.next() {
             None => Ok(None),
-            Some(frag) => Ok(Some(frag.stamp(out.next_epoch() % 2, out.next_told()))),
+            Some(frag) => Ok(Some(frag.stamp(out.next_epoch(), out.next_told()))),
         }
     }
 
@@ -284,7 +284,9 @@ impl End {
             Err(PutFault::Full) => Ok(WriteAnswer::Full),
             Err(PutFault::Spent) => Err(EndFault::Spent),
             Ok(()) => {
-                let (number, count) = self.outgoing.wrote(self.incoming.recv.program(), circuit);
+                let (number, count) = self
+                    .outgoing
+                    .mark_written(self.incoming.recv.program(), circuit);
                 Ok(WriteAnswer::Written { number, count })
             }
         }
@@ -324,7 +326,7 @@ impl End {
     ///
     /// # Errors
     /// The end isn't bound yet (E43), or failed earlier (E64). The fragment can't follow those before it (E60 to E63,
-    /// E65, E66): it is left, and the end has failed for good. Want of memory (E99): the fragment is left, and the end
+    /// E65, E66): it is left, and the end has failed for good. Out of memory (E99): the fragment is left, and the end
     /// is as it was.
     pub fn receive<T: TakeSide>(&mut self, from: &mut T) -> Result<ReceiveAnswer, EndFault>
         ensures receives { Receives T.takes self.old from.old result self.new from.new }

@@ -27,10 +27,10 @@ pub enum EndFault {
     /// A fragment that can't follow those before it came earlier (E64).
     #[error("the end failed earlier")]
     Failed,
-    /// A fragment can't follow those before it (E60 to E63, E65, E66; never the wire's want of memory).
+    /// A fragment can't follow those before it (E60 to E63, E65, E66; never the wire's out of memory).
     #[error("a fragment that can't follow those before it")]
     Wire(WireFault),
-    /// Want of memory (E99).
+    /// Out of memory (E99).
     #[error("out of memory")]
     Memory,
 }

@@ -6,7 +6,7 @@ ghost use Rattle.fl_value.specs.Value.{call_of};
 ghost use Rattle.fl_value.specs.Fits.{fits_of};
 ghost use Rattle.fl_wire.specs.Reading.{Means};
 ghost use Rattle.fl_compile.specs.Programs.{program_of};
-ghost use Rattle.fl_machine.specs.Receiving.{HoldsTapes};
+ghost use Rattle.fl_machine.specs.Receiving.{HoldsTapes, plan_in, interface_in};
 ghost use Rattle.fl_base.specs.Control.{bare};
 ghost use Rattle.fl_endpoint.specs.View.{reply_to};
 ghost use Rattle.fl_endpoint.specs.Rules.{rules_of};
@@ -74,8 +74,9 @@ impl Incoming {
         requires rules { AreRules (program_of self.now.recv.program).interface (rules_of rules.now.replies.items) }
         requires whole { self.now.recv.whole ≢ [] }
         ensures fits { IfOk result (λ both. fits_of (program_of self.now.recv.program).interface (call_of both.0) ≡ true) }
-        ensures means { IfOk result (λ both. Means (program_of self.now.recv.program).plan (program_of self.now.recv.program).interface self.now.recv.whole (call_of both.0) 0) }
-        ensures reply { IfOk result (λ both. QueuesReply (program_of self.now.recv.program) (reply_to (rules_of rules.now.replies.items) (call_of both.0)) both.1) }
+        ensures means { IfOk result (λ both. Means (plan_in self.now.recv) (interface_in self.now.recv) self.now.recv.whole (call_of both.0) 0) }
+        ensures reply { IfOk result (λ both.
+            QueuesReply (program_of self.now.recv.program) (reply_to (rules_of rules.now.replies.items) (call_of both.0)) both.1) }
     {
         let mut call = self.recv.whole_call(self.alloc)?;
         let msg = call.msg;

@@ -53,7 +53,7 @@ pub fn rule_accounts()
     ensures account { RuleAccounts }
 {}
 
-/// Since an end was made: what it put is a front of its accepted calls' fragments, and what it took reads as
+/// Since an end was made: what it put is a prefix of its accepted calls' fragments, and what it took reads as
 /// its handled calls and a rest.
 pub fn since_made()
     ensures since { SinceMade }

@@ -12,7 +12,6 @@
 //! - `outgoing.rt`: the call in transmission, and the replies that wait
 //! - `incoming.rt`: the receive run of an end
 //! - `rules.rt`: reply rules
-//! - `types.rt`: whether two messages have the same argument types
 //! - `answer.rt`: what a write and a receive come to
 //! - `law.rt`: what holds of ends over time
 //! - `fault.rt`: why a call of an end is refused
@@ -25,13 +24,11 @@ mod incoming;
 mod law;
 mod outgoing;
 mod rules;
-mod types;
 
 pub use answer::{ReceiveAnswer, WriteAnswer};
 pub use end::End;
 pub use fault::EndFault;
 pub use law::{
     accounts_add_up, bind_accounts, call_accounts, handles_in_order, on_another_circuit,
-    receive_accounts, replies_add_up, rule_accounts, since_made,
-    takes_in_order, write_accounts,
+    receive_accounts, replies_add_up, rule_accounts, since_made, takes_in_order, write_accounts,
 };

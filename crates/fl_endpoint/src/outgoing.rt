@@ -8,9 +8,8 @@ ghost use Rattle.fl_check.specs.Interface.{interface_of};
 ghost use Rattle.fl_value.specs.Value.{call_of};
 ghost use Rattle.fl_value.specs.Fits.{fits_of};
 ghost use Rattle.fl_compile.specs.Programs.{TheProgram, program_of};
-ghost use Rattle.fl_machine.specs.Sending.{frags_left};
 ghost use Rattle.fl_endpoint.specs.View.{nothing_to_send, is_busy, queued, queued_if, goes_on, wrote};
-ghost use Rattle.fl_endpoint.specs.Stored.{code_of, queued_frags, sending_frags, outgoing_of, IsQueued, AreQueued, Queues, IsSending, IsOutgoing};
+ghost use Rattle.fl_endpoint.specs.Stored.{queued_frags, sending_frags, frags_behind, outgoing_of, IsQueued, AreQueued, Queues, IsSending, IsOutgoing};
 
 use fl_base::{Circuit, Frag, MsgNo};
 use fl_compile::Program;
@@ -102,8 +101,8 @@ impl Sending {
     fn advance(&mut self, program: &Program) -> bool
         requires { IsSending (program_of program.now) self.old }
         ensures more { result ≡ true → IsSending (program_of program.now) self.new }
-        ensures frags { result ≡ true → sending_frags (program_of program.now) (Some self.new) ≡ frags_left (code_of (program_of program.now) self.old.msg.0) self.old.run }
-        ensures last { result ≡ false → frags_left (code_of (program_of program.now) self.old.msg.0) self.old.run ≡ [] }
+        ensures frags { result ≡ true → sending_frags (program_of program.now) (Some self.new) ≡ frags_behind (program_of program.now) self.old }
+        ensures last { result ≡ false → frags_behind (program_of program.now) self.old ≡ [] }
         ensures written { self.new.written ≡ self.old.written + 1 }
         ensures count { self.new.count ≡ self.old.count }
     {
@@ -164,7 +163,8 @@ impl Outgoing {
         requires call { IsQueued (program_of program.now) call }
         requires room { length self.old.waiting.items < 16 }
         ensures outgoing { IsOutgoing (program_of program.now) self.new }
-        ensures queued { outgoing_of (program_of program.now) circuit.0 self.new ≡ queued (outgoing_of (program_of program.now) circuit.0 self.old) (queued_frags (program_of program.now) circuit.0 call) }
+        ensures queued { outgoing_of (program_of program.now) circuit.0 self.new
+            ≡ queued (outgoing_of (program_of program.now) circuit.0 self.old) (queued_frags (program_of program.now) circuit.0 call) }
     {
         if self.sending.is_some() {
             self.waiting.push_back(call).unwrap();
@@ -179,7 +179,8 @@ impl Outgoing {
         requires call { IfSome reply (λ call. IsQueued (program_of program.now) call) }
         requires room { IfSome reply (λ call. length self.old.waiting.items < 16) }
         ensures outgoing { IsOutgoing (program_of program.now) self.new }
-        ensures accepted { outgoing_of (program_of program.now) circuit.0 self.new ≡ queued_if (outgoing_of (program_of program.now) circuit.0 self.old) (option_map (queued_frags (program_of program.now) circuit.0) reply) }
+        ensures accepted { outgoing_of (program_of program.now) circuit.0 self.new
+            ≡ queued_if (outgoing_of (program_of program.now) circuit.0 self.old) (option_map (queued_frags (program_of program.now) circuit.0) reply) }
     {
         if let Some(call) = reply {
             self.queue(program, circuit, call);
@@ -192,7 +193,8 @@ impl Outgoing {
         requires few { length self.old.waiting.items ≤ 16 }
         requires room { 16 ≤ deque_capacity self.old.waiting }
         ensures outgoing { IsOutgoing (program_of program.now) self.new }
-        ensures goes_on { outgoing_of (program_of program.now) circuit.0 self.new ≡ goes_on (map (queued_frags (program_of program.now) circuit.0) self.old.waiting.items) }
+        ensures goes_on { outgoing_of (program_of program.now) circuit.0 self.new
+            ≡ goes_on (map (queued_frags (program_of program.now) circuit.0) self.old.waiting.items) }
     {
         self.sending = match self.waiting.pop_front() {
             Some(call) => Some(start(program, circuit, call)),
@@ -201,13 +203,15 @@ impl Outgoing {
     }
 
     // The next fragment is written: which it was of its call's, and how many these are. Takes no memory.
-    pub(crate) fn wrote(&mut self, program: &Program, circuit: Circuit) -> (usize, usize)
+    pub(crate) fn mark_written(&mut self, program: &Program, circuit: Circuit) -> (usize, usize)
         requires outgoing { IsOutgoing (program_of program.now) self.old }
         requires busy { IsSome self.old.sending }
         ensures outgoing { IsOutgoing (program_of program.now) self.new }
-        ensures wrote { (f : Frag) (rest : List Frag) → (outgoing_of (program_of program.now) circuit.0 self.old).unwritten ≡ f ∷ rest → outgoing_of (program_of program.now) circuit.0 self.new ≡ wrote rest (outgoing_of (program_of program.now) circuit.0 self.old) }
+        ensures wrote { (f : Frag) (rest : List Frag) → (outgoing_of (program_of program.now) circuit.0 self.old).unwritten ≡ f ∷ rest
+            → outgoing_of (program_of program.now) circuit.0 self.new ≡ wrote rest (outgoing_of (program_of program.now) circuit.0 self.old) }
         ensures count { result.1 ≡ (outgoing_of (program_of program.now) circuit.0 self.old).count }
-        ensures number { (f : Frag) (rest : List Frag) → (outgoing_of (program_of program.now) circuit.0 self.old).unwritten ≡ f ∷ rest → result.0 + length rest ≡ result.1 }
+        ensures number { (f : Frag) (rest : List Frag) → (outgoing_of (program_of program.now) circuit.0 self.old).unwritten ≡ f ∷ rest
+            → result.0 + length rest ≡ result.1 }
     {
         let Some(sending) = &mut self.sending else {
             unreachable!();

@@ -1,11 +1,21 @@
 //! Reply rules: to which message of an interface a call of which other is the reply.
 
-ghost use Rattle.std.specs.Prelude.{◌≡◌, ◌<◌, length, slice_set, replicate, None, Some, IfOk};
+ghost use Rattle.std.specs.Prelude.{◌≡◌, ◌<◌, length, slice_get, slice_set, replicate, None, Some, IfOk};
+ghost use Rattle.std.specs.Option.{option_map};
+ghost use Rattle.fl_check.specs.Interface.{message_of, interface_of};
 ghost use Rattle.fl_endpoint.specs.Rules.{rules_of, rule_of};
 ghost use Rattle.fl_endpoint.specs.View.{rule_at, has_rules};
 
 use fl_base::MsgNo;
+use fl_check::{Interface, Message};
 use std::alloc::{AllocError, Global};
+
+// A message of an interface; none where it has no such message.
+pub(crate) fn message(interface: &Interface, msg: MsgNo) -> Option<&Message>
+    ensures found { option_map (λ m. message_of m.now) result ≡ slice_get (interface_of interface.now).messages msg.0 }
+{
+    interface.messages.get(usize::from(msg.0))
+}
 
 /// For each message the message of the reply to it, where there is a rule.
 #[derive(Drop)]

@@ -1,2 +1,3 @@
+-- The public promises rest on both.
 pub mod ThreeLists
 pub mod Table

@@ -47,7 +47,7 @@ fn head_index(len: usize, place: Place) -> usize
 impl Lists {
     /// Empty lists of the numbers below `size`.
     ///
-    /// Errors: want of memory. No other call of `Lists` takes memory.
+    /// Errors: out of memory. No other call of `Lists` takes memory.
     pub fn new(alloc: Global, size: usize) -> Result<Lists, AllocError>
         ensures made { IfOk result (λ made. made.lists ≡ empty size) }
         ensures apart { IfOk result (λ made. IsApart made.lists) }

@@ -6,3 +6,4 @@ pub mod Tapes
 pub mod Written
 pub mod Places
 pub mod Taken
+pub mod Boxes

@@ -4,7 +4,7 @@ use Rattle.std.specs.List.{range_with_len}
 use Rattle.std.proofs.lemmas.Bool.{ne_eqb, eq-eqb}
 use Rattle.fl_base.specs.declared.identity.CoreId.{CoreId}
 use Rattle.fl_base.specs.declared.fragment.Frag.{Frag}
-use Rattle.fl_base.specs.Control.{is_ack_only}
+use Rattle.fl_base.specs.Control.{is_ack_only, bare}
 use Rattle.fl_check.specs.declared.interface.Scalar.TheVariants.{Uint8}
 use Rattle.fl_check.specs.Interface.{scalar}
 use Rattle.fl_value.specs.Value.{data_from, TheCall}
@@ -13,7 +13,6 @@ use Rattle.fl_value.specs.declared.value.PlanNo.TheVariants.{One}
 use Rattle.fl_layout.specs.Leaves.{Leaf, whole, elements_onto, leaves}
 use Rattle.fl_layout.specs.Places.{size, count, count_for}
 use Rattle.fl_wire.specs.Payload.{payload_of, frag_on, frags_of}
-use Rattle.fl_wire.specs.Reading.{plain}
 use Rattle.fl_wire.proofs.Readings.{two_begin}
 use Rattle.fl_monitor.specs.declared.message.Message.{Message}
 use Rattle.fl_monitor.specs.declared.message.Message.TheVariants.{OpenCircuit, CircuitOpened, CircuitRefused}
@@ -58,8 +57,8 @@ first_in : (x y : Frag) (xs ys : List Frag) → x ∷ xs ≡ y ∷ ys → x ≡ 
 first_in x y xs ys e = cc
 
 -- what a saying fragment is, epoch and count told aside
-pub says_plain : (f : Frag) (m : Message) → Says f m → plain f ≡ frag_for m
-says_plain f m s = first_in (plain f) (frag_for m) [] [] (s.means ∙ frags_are m s.widths)
+pub says_bare : (f : Frag) (m : Message) → Says f m → bare f ≡ frag_for m
+says_bare f m s = first_in (bare f) (frag_for m) [] [] (s.means ∙ frags_are m s.widths)
 
 same_call : (m n : Message) → HasWidths m → HasWidths n → frag_for m ≡ frag_for n → call_for m ≡ call_for n
 same_call m n v w e =
@@ -67,7 +66,7 @@ same_call m n v w e =
     (ap (λ (fs : List Frag). fs ++ []) (frags_are m v ∙ ap (λ (f : Frag). f ∷ []) e ∙ sym (frags_are n w)))
 
 pub says_no_other : SaysNoOther
-says_no_other f m n s t = one_message m n (same_call m n s.widths t.widths (sym (says_plain f m s) ∙ says_plain f n t))
+says_no_other f m n s t = one_message m n (same_call m n s.widths t.widths (sym (says_bare f m s) ∙ says_bare f n t))
 
 pub says_the_same : SaysTheSame
 says_the_same f g m same s = record { widths = s.widths; means = ap (λ (h : Frag). h ∷ []) same ∙ s.means }
@@ -77,9 +76,9 @@ msg_small (OpenCircuit circuit binding service path) = omega arith
 msg_small (CircuitOpened circuit) = omega arith
 msg_small (CircuitRefused circuit reason) = omega arith
 
-plain_frag : (m : Message) → plain (frag_for m) ≡ frag_for m
+pub bare_frag : (m : Message) → bare (frag_for m) ≡ frag_for m
 unfolding frag_for
-plain_frag m =
+bare_frag m =
     let small = msg_small m in
     let same : 2 * ((2 + 65536 * (call_for m).msg + 2 ^ 32 * 0) / 2 % 2 ^ 47) ≡ 2 + 65536 * (call_for m).msg + 2 ^ 32 * 0 = omega (arith, small) in
     λ i. record { words = (frag_for m).words; control = same i }
@@ -87,10 +86,10 @@ plain_frag m =
 pub says_what_is_written : SaysWhatIsWritten
 says_what_is_written f m w e =
     let is : f ≡ frag_for m = first_in f (frag_for m) [] [] (e ∙ frags_are m w) in
-    record { widths = w; means = ap (λ (h : Frag). h ∷ []) (ap plain is ∙ plain_frag m) ∙ sym (frags_are m w) }
+    record { widths = w; means = ap (λ (h : Frag). h ∷ []) (ap bare is ∙ bare_frag m) ∙ sym (frags_are m w) }
 
 -- a control word with the bits of a message's
-control_bits : (m : Message) (f : Frag) → plain f ≡ frag_for m → f.control / 2 % 2 ^ 47 ≡ 1 + 32768 * (call_for m).msg
+control_bits : (m : Message) (f : Frag) → bare f ≡ frag_for m → f.control / 2 % 2 ^ 47 ≡ 1 + 32768 * (call_for m).msg
 unfolding frag_for
 control_bits m f is =
     let control : 2 * (f.control / 2 % 2 ^ 47) ≡ 2 + 65536 * (call_for m).msg + 2 ^ 32 * 0 = ap (λ (h : Frag). h.control) is in
@@ -102,7 +101,7 @@ no_ack f other = rw (ne_eqb (f.control / 2 % 2 ^ 47) 2 other) refl
 pub says_alone : SaysAlone
 says_alone f m s =
     let small = msg_small m in
-    let bits = control_bits m f (says_plain f m s) in
+    let bits = control_bits m f (says_bare f m s) in
     record {
       first = eq-eqb (f.control / 2 % 2) 1 (omega (arith, bits));
       number = omega (arith, small, bits);

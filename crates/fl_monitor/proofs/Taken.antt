@@ -1,13 +1,14 @@
 -- What feeding a fragment of the monitors' interface comes to.
 use Rattle.std.proofs.Common.{◌≡◌, ◌⊎◌, ◌^◌, ◌*◌, ◌/◌, ◌%◌, inl, inr, Bool, true, false, not, if◌then◌else◌, List, [], ◌∷◌, ◌++◌, refl, sym, ◌∙◌, ap, subst, arith, Some, None, map}
 use Rattle.fl_base.specs.declared.fragment.Frag.{Frag}
+use Rattle.fl_base.specs.Control.{bare}
 use Rattle.fl_check.specs.Interface.{TheInterface}
 use Rattle.fl_value.specs.Value.{TheCall}
 use Rattle.fl_value.specs.Fits.{fits_of}
 use Rattle.fl_value.specs.declared.value.PlanNo.{PlanNo}
 use Rattle.fl_value.specs.declared.value.PlanNo.TheVariants.{One}
 use Rattle.fl_wire.specs.Payload.{frags_on}
-use Rattle.fl_wire.specs.Reading.{plain, Means, IsWrong}
+use Rattle.fl_wire.specs.Reading.{Means, IsWrong}
 use Rattle.fl_wire.specs.Wrong.{HasFault, WrongByte}
 use Rattle.fl_wire.specs.declared.fault.WireFault.{WireFault}
 use Rattle.fl_wire.specs.declared.fault.WireFault.TheVariants.{NotFirst, FirstInside, UnknownMessage, NotZero, OutOfType, TooLong, Memory}
@@ -42,11 +43,11 @@ some_message f t last =
 
 pub not_empty : (f : Frag) (t : TheHeld) → AddsLast One intermon [] f t → t.whole ≡ [] → ⊥
 not_empty f t last e =
-    let whole : plain f ∷ [] ≡ [] = sym last.whole_is ∙ e in
+    let whole : bare f ∷ [] ≡ [] = sym last.whole_is ∙ e in
     absurd (cc)
 
-plain_twice : (f : Frag) → plain (plain f) ≡ plain f
-plain_twice f =
+bare_twice : (f : Frag) → bare (bare f) ≡ bare f
+bare_twice f =
     let same : 2 * (2 * (f.control / 2 % 2 ^ 47) / 2 % 2 ^ 47) ≡ 2 * (f.control / 2 % 2 ^ 47) = omega arith in
     λ k. record { words = f.words; control = same k }
 
@@ -55,7 +56,7 @@ pub says_call : (f : Frag) (t : TheHeld) (plan : PlanNo) (i : TheInterface) (c :
     → AddsLast One intermon [] f t → fits_of i c ≡ true → Means plan i t.whole c 0 → call_for m ≡ c → Says f m
 says_call f t plan i c m plan_is i_is last fits means is =
     let fits_it : fits_of intermon (call_for m) ≡ true = ap (fits_of intermon) is ∙ subst (λ (j : TheInterface). fits_of j c ≡ true) i_is fits in
-    let whole : map plain t.whole ≡ plain f ∷ [] = ap (map plain) last.whole_is ∙ (λ k. plain_twice f k ∷ []) in
+    let whole : map bare t.whole ≡ bare f ∷ [] = ap (map bare) last.whole_is ∙ (λ k. bare_twice f k ∷ []) in
     let at : Means One intermon t.whole c 0 = subst (λ (j : TheInterface). Means One j t.whole c 0) i_is (subst (λ (q : PlanNo). Means q i t.whole c 0) plan_is means) in
     record {
       widths = fit_widths m fits_it;

@@ -45,7 +45,7 @@ HasWidths (OpenCircuit circuit binding service path) =
 HasWidths (CircuitOpened circuit) = circuit.0 < 2 ^ 16
 HasWidths (CircuitRefused circuit reason) = (circuit.0 < 2 ^ 16) × (reason < 2 ^ 32)
 
--- a message's tape: its numbers, a route with its length in front
+-- a message's tape: its numbers, a route after its length
 abbrev pub tape_for : Message → List ℕ
 tape_for (OpenCircuit circuit binding service path) =
     circuit.0 ∷ binding ∷ service.0 ∷ length path ∷ map (λ (core : CoreId). core.0) path

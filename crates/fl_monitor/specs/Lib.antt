@@ -1,6 +1,9 @@
+-- The public promises rest on Routes, Intermon, Saying, Outboxes and Faults; Paths, Parts and Messengers are working files.
 pub mod Routes
-pub mod Paths
 pub mod Intermon
-pub mod Parts
 pub mod Saying
+pub mod Outboxes
+pub mod Faults
+pub mod Paths
+pub mod Parts
 pub mod Messengers

@@ -1,4 +1,4 @@
--- What a messenger keeps.
+-- A working file, on which no public promise rests by itself: what a messenger keeps.
 use Rattle.std.specs.Prelude.{◌≡◌, []}
 use Rattle.fl_value.specs.declared.value.PlanNo.TheVariants.{One}
 use Rattle.fl_machine.specs.Receiving.{interface_in, plan_in}

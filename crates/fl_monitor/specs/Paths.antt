@@ -1,4 +1,4 @@
--- How a route is kept: as 16 cores, of which so many are its own.
+-- A working file, on which no public promise rests by itself: how a route is kept: as 16 cores, of which so many are its own.
 use Rattle.std.specs.Prelude.{◌≡◌, ◌≤◌, List, ◌++◌, take, drop, length, replicate}
 use Rattle.fl_base.specs.declared.identity.CoreId.{CoreId}
 use Rattle.fl_monitor.specs.declared.path.Path.TheInside.{Inside}

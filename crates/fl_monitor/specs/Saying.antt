@@ -1,13 +1,13 @@
 -- What fragments say between monitors, and why one is refused.
 use Rattle.std.specs.Prelude.{◌≡◌, ◌↔◌, true, false, List, [], ◌∷◌, Result, Ok, Err}
 use Rattle.fl_base.specs.declared.fragment.Frag.{Frag}
-use Rattle.fl_base.specs.Control.{first_of, message_of, circuit_of, is_ack_only}
+use Rattle.fl_base.specs.Control.{first_of, message_of, circuit_of, is_ack_only, bare}
 use Rattle.fl_value.specs.Value.{TheCall}
 use Rattle.fl_value.specs.Fits.{fits_of}
 use Rattle.fl_value.specs.declared.value.PlanNo.TheVariants.{One}
 use Rattle.fl_layout.specs.Places.{count}
 use Rattle.fl_wire.specs.Payload.{frags_of}
-use Rattle.fl_wire.specs.Reading.{plain, Means, IsPart, IsWrong}
+use Rattle.fl_wire.specs.Reading.{Means, IsPart, IsWrong}
 use Rattle.fl_wire.specs.Wrong.{HasFault}
 use Rattle.fl_wire.specs.declared.fault.WireFault.{WireFault}
 use Rattle.fl_wire.specs.declared.fault.WireFault.TheVariants.{Memory}
@@ -65,10 +65,10 @@ SaysWhatIsWritten = (f : Frag) (m : Message) → HasWidths m → f ∷ [] ≡ fr
 
 -- another epoch and another count told change neither what a fragment says nor why it is refused
 abbrev pub SaysTheSame : Type 0
-SaysTheSame = (f g : Frag) (m : Message) → plain g ≡ plain f → Says f m → Says g m
+SaysTheSame = (f g : Frag) (m : Message) → bare g ≡ bare f → Says f m → Says g m
 
 abbrev pub RefusedTheSame : Type 0
-RefusedTheSame = (f g : Frag) (fault : WireFault) → plain g ≡ plain f → Refuses f fault → Refuses g fault
+RefusedTheSame = (f g : Frag) (fault : WireFault) → bare g ≡ bare f → Refuses f fault → Refuses g fault
 
 -- a fragment that isn't read is refused for one reason
 abbrev pub RefusedForOne : Type 0

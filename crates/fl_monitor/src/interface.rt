@@ -59,7 +59,7 @@ fn messages(alloc: Global) -> Result<Vec<Message>, AllocError>
 /// The monitors' interface.
 ///
 /// # Errors
-/// Want of memory (E99).
+/// Out of memory (E99).
 pub(crate) fn interface(alloc: Global) -> Result<Interface, AllocError>
     ensures interface { IfOk result (λ i. interface_of i ≡ intermon) }
 {

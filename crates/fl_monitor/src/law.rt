@@ -1,6 +1,19 @@
 //! What the monitors' messages come to as fragments: laws, as the contracts of functions that do nothing.
 
-ghost use Rattle.fl_monitor.specs.Saying.{FitsByWidths, EachCallIsAMessage, OneMessageACall, EachTakesOneFragment, NoneIsPart, SaysNoOther, SaysWhatIsWritten, SaysTheSame, RefusedTheSame, RefusedForOne, SaysAlone};
+ghost use Rattle.fl_monitor.specs.Outboxes.{OneListOfMessages, PutIsOneMore, SentIsOneLess};
+ghost use Rattle.fl_monitor.specs.Saying.{
+  FitsByWidths,
+  EachCallIsAMessage,
+  OneMessageACall,
+  EachTakesOneFragment,
+  NoneIsPart,
+  SaysNoOther,
+  SaysWhatIsWritten,
+  SaysTheSame,
+  RefusedTheSame,
+  RefusedForOne,
+  SaysAlone,
+};
 
 /// A message whose numbers have their widths fits the monitors' interface, and each call that fits is that of one message.
 pub fn messages_are_calls()
@@ -32,7 +45,7 @@ pub fn epochs_say_nothing()
     ensures refused { RefusedTheSame }
 {}
 
-/// A fragment that isn't read is refused for one reason, which it tells alone: want of memory where it says a message, else its
+/// A fragment that isn't read is refused for one reason, which it tells alone: out of memory where it says a message, else its
 /// first fault.
 pub fn one_reason()
     ensures one { RefusedForOne }
@@ -42,4 +55,12 @@ pub fn one_reason()
 /// it, and a monitor knows it as its own.
 pub fn stands_alone()
     ensures alone { SaysAlone }
+{}
+
+/// The fragments in an outbox are those of one list of messages. A fragment that is put is that of one message more, the last, and
+/// with the first fragment that is sent the first message goes.
+pub fn outboxes_say_messages()
+    ensures one { OneListOfMessages }
+    ensures put { PutIsOneMore }
+    ensures sent { SentIsOneLess }
 {}

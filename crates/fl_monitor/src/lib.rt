@@ -12,19 +12,26 @@
 //! - `interface.rt`: the monitors' interface
 //! - `call.rt`: the message whose call it is
 //! - `messenger.rt`: writing and reading, by compiled stubs
+//! - `outbox.rt`: what a monitor is to send over one link
+//! - `fault.rt`: why a call is refused
 //! - `law.rt`: messages, calls and fragments stand for one another
 #![tactic(auto)]
 
 mod call;
+mod fault;
 mod interface;
 mod law;
 mod message;
 mod messenger;
+mod outbox;
 mod path;
 
+pub use fault::MonitorFault;
 pub use law::{
-    epochs_say_nothing, messages_are_calls, one_fragment, one_message, one_reason, stands_alone,
+    epochs_say_nothing, messages_are_calls, one_fragment, one_message, one_reason,
+    outboxes_say_messages, stands_alone,
 };
 pub use message::Message;
 pub use messenger::Messenger;
+pub use outbox::{MAX_WAITING, Outbox};
 pub use path::{MAX_ROUTE, Path};

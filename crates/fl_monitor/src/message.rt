@@ -80,7 +80,7 @@ impl Message {
     /// The message's tape, by which the compiled stubs write it.
     ///
     /// # Errors
-    /// Want of memory (E99).
+    /// Out of memory (E99).
     pub(crate) fn tape(&self, alloc: Global) -> Result<Vec<u64>, AllocError>
         ensures tape { IfOk result (λ v. v.items ≡ tape_for self.now) }
         ensures widths { OnOk result (HasWidths self.now) }

@@ -1,12 +1,11 @@
 //! Writing and reading the monitors' messages.
 
-ghost use Rattle.std.specs.Prelude.{◌≡◌, ◌∷◌, [], false, IfOk, IfErr};
+ghost use Rattle.std.specs.Prelude.{◌≡◌, false, IfOk, IfErr};
 ghost use Rattle.fl_base.specs.Control.{is_ack_only};
 ghost use Rattle.fl_check.specs.Interface.{interface_of};
-ghost use Rattle.fl_value.specs.declared.value.PlanNo.TheVariants.{One};
-ghost use Rattle.fl_wire.specs.Payload.{frags_of};
 ghost use Rattle.fl_monitor.specs.declared.message.Message.{Message as MonitorsMessage};
-ghost use Rattle.fl_monitor.specs.Intermon.{intermon, call_for};
+ghost use Rattle.fl_monitor.specs.Intermon.{intermon};
+ghost use Rattle.fl_monitor.specs.Outboxes.{IsFragOf};
 ghost use Rattle.fl_monitor.specs.Saying.{Says, Refuses, GivesUnlessMemory};
 
 use crate::call::message_for;
@@ -49,7 +48,7 @@ impl Messenger {
     /// Compiles the monitors' interface.
     ///
     /// # Errors
-    /// Want of memory (E99).
+    /// Out of memory (E99).
     pub fn new(alloc: Global) -> Result<Messenger, AllocError> {
         let interface = interface(alloc)?;
         let program = compile(alloc, &interface, PlanNo::One)?;
@@ -67,9 +66,9 @@ impl Messenger {
     /// The one fragment of a message, on circuit 0, with epoch 0 and nothing told.
     ///
     /// # Errors
-    /// Want of memory (E99), for the message's tape.
+    /// Out of memory (E99), for the message's tape.
     pub fn frag(&self, message: &Message) -> Result<Frag, AllocError>
-        ensures frag { IfOk result (λ f. f ∷ [] ≡ frags_of One intermon (call_for message.now)) }
+        ensures frag { IfOk result (λ f. IsFragOf f message.now) }
         ensures says { IfOk result (λ f. Says f message.now) }
         ensures data { IfOk result (λ f. is_ack_only f ≡ false) }
     {
@@ -91,7 +90,7 @@ impl Messenger {
     /// # Errors
     /// The first fault of a fragment that says none: in its control word a reserved bit or a circuit that isn't 0 (E63), no
     /// first fragment (E60), a number that no message has (E62); else of its first byte at fault, in the length of a route
-    /// over 16 (E66), or one that isn't 0 where nothing stands (E63). Want of memory (E99), which is met only over a
+    /// over 16 (E66), or one that isn't 0 where nothing stands (E63). Out of memory (E99), which is met only over a
     /// fragment that says a message. The fragment can be read again then.
     pub fn read(&mut self, frag: &Frag) -> Result<Message, WireFault>
         ensures says { IfOk result (λ m. Says frag.now m) }

@@ -1,3 +1,4 @@
+-- The public promises rest on all three.
 pub use Rattle.fl_lists.specs.ThreeLists
-pub mod Faults
 pub mod Waiting
+pub mod Faults

@@ -49,7 +49,7 @@ impl Model for Waitset {
 impl Waitset {
     /// A waitset of the channels below `n`, none of them registered.
     ///
-    /// Errors: over 1,024 channels (E54); want of memory (E99). No other call takes memory.
+    /// Errors: over 1,024 channels (E54); out of memory (E99). No other call takes memory.
     pub fn new(alloc: Global, n: usize) -> Result<Waitset, WaitFault>
         ensures made { IfOk result (λ made. made ≡ empty n) }
         ensures fault { IfErr result (MakingFault n) }

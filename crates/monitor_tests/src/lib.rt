@@ -1,12 +1,14 @@
-//! Tests alone: which fragments the monitors' messages are, and which fragments say none.
+//! Tests alone: which fragments the monitors' messages are, which fragments say none, and what waits in an outbox.
 //!
 //! With a request for memory refused (`rt try --test --fail-alloc N`) the test whose name ends in `without_memory` has to
-//! pass, and the others end with want of memory or pass.
+//! pass, and the others end with out of memory or pass.
 #![tactic(auto)]
 
 #[cfg(test)]
 mod fault_tests;
 #[cfg(test)]
 mod message_tests;
+#[cfg(test)]
+mod outbox_tests;
 #[cfg(test)]
 mod path_tests;

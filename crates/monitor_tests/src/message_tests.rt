@@ -150,7 +150,7 @@ fn the_interface_is_that_of_its_text(rt: HostRuntime) -> Result<(), Fail> {
     Ok(())
 }
 
-// A fragment that says a message is refused for want of memory alone, and can be read again.
+// A fragment that says a message is refused only where memory runs out, and can be read again.
 #[test]
 fn messages_without_memory(rt: HostRuntime) {
     let Ok(mut messenger) = Messenger::new(rt.alloc()) else {

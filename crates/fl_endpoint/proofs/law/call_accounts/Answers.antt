@@ -6,7 +6,7 @@ use Rattle.fl_endpoint.specs.View.{TheEnd, TheOutgoing}
 use Rattle.fl_endpoint.specs.Accounts.{Sound, Account, asked}
 use Rattle.fl_endpoint.specs.Laws.{CallAdds, CallAccounts}
 use Rattle.fl_endpoint.proofs.Sounds.{sound_call, idle_end}
-use Rattle.fl_endpoint.proofs.Accountings.{same_end, same_replies, call_account}
+use Rattle.fl_endpoint.proofs.Accountings.{same_end, same_replies, call_account, happened}
 use Rattle.fl_endpoint.proofs.law.call_accounts.Goals as goal
 
 kept : (s t : TheEnd) (c : TheCall) (fault : EndFault) → Sound s → t ≡ s → CallAdds s c (Err fault) t
@@ -17,7 +17,7 @@ adds s t c (Ok done) sound (fits, ready, idle, is) =
     let none : length s.outgoing.waiting ≡ 0 = ap (λ (o : TheOutgoing). length o.waiting) (idle_end s sound idle) in
     record {
       sound = subst (λ (x : TheEnd). Sound x) (sym is) (sound_call s c sound ready.0 fits (omega (arith, none)));
-      account = subst (λ (x : TheEnd). Account s (asked c ∷ []) [] [] [] [] x) (sym is) (call_account s c sound ready.0 fits idle);
+      account = subst (λ (x : TheEnd). Account s (happened (asked c ∷ []) [] [] [] []) x) (sym is) (call_account s c sound ready.0 fits idle);
       replies = record { rules = ap (λ (x : TheEnd). x.rules) is; replies = refl };
     }
 adds s t c (Err UnknownMessage) sound (h, is) = kept s t c UnknownMessage sound is

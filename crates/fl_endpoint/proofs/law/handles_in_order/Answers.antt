@@ -8,11 +8,11 @@ use Rattle.fl_endpoint.proofs.Readings.{split, rest_short}
 use Rattle.fl_endpoint.proofs.law.handles_in_order.Goals as goal
 
 in_order : NoneBeginsWithAnother → HandlesInOrder
-in_order law program circuit t accepted put took more handled due calls sound a fit e =
+in_order law program circuit t h calls more sound a fit e =
     let p = program_of t.program in
-    let apart : stream p 0 handled ++ (t.parts ++ more) ≡ stream p 0 calls
-    = sym (append_assoc (stream p 0 handled) t.parts more) ∙ ap (λ (xs : List Frag). xs ++ more) (sym a.gives) ∙ e in
-    let s = split p handled calls (t.parts ++ more) law sound.words a.handled_fit fit apart in
+    let apart : stream p 0 h.handled ++ (t.parts ++ more) ≡ stream p 0 calls
+    = sym (append_assoc (stream p 0 h.handled) t.parts more) ∙ ap (λ (xs : List Frag). xs ++ more) (sym a.gives) ∙ e in
+    let s = split p h.handled calls (t.parts ++ more) law sound.words a.handled_fit fit apart in
     record {
       left = s.left;
       calls_are = s.calls_are;

@@ -8,17 +8,17 @@ use Rattle.fl_endpoint.specs.declared.fault.EndFault.TheVariants.{Spent, Busy, U
 use Rattle.fl_endpoint.specs.declared.answer.ReceiveAnswer.TheVariants.{Handle, Part, Quiet, Empty, HeldBack}
 use Rattle.fl_endpoint.specs.View.{TheEnd, interface_in, reply_to, rule_at, frags_from, queued_if, with_failed}
 use Rattle.std.specs.Option.{option_map}
-use Rattle.fl_endpoint.specs.Accounts.{Sound, Accepted, Account, followed}
+use Rattle.fl_endpoint.specs.Accounts.{Sound, Accepted, no_event, Account, followed}
 use Rattle.fl_endpoint.specs.Events.{AreCall}
 use Rattle.fl_endpoint.specs.Laws.{ReceiveAdds, ReceiveAccounts}
 use Rattle.fl_endpoint.proofs.Sounds.{sound_failed, sound_part, sound_handled, reply_fits, queued_call}
-use Rattle.fl_endpoint.proofs.Accountings.{same_end, same_replies, adds_nothing, part_account, handled_account, replied_account, all_replies}
+use Rattle.fl_endpoint.proofs.Accountings.{same_end, same_replies, adds_nothing, part_account, handled_account, replied_account, all_replies, happened}
 use Rattle.fl_endpoint.proofs.law.receive_accounts.Goals as goal
 
 -- the account of a call that is handled, with what is accepted
 record HandledAccount (s : TheEnd) (f : Frag) (c : TheCall) (due : List TheCall) (t : TheEnd) : Type 0 where
   accepted : List Accepted
-  account : Account s accepted [] (f ∷ []) (c ∷ []) due t
+  account : Account s (happened accepted [] (f ∷ []) (c ∷ []) due) t
 
 handled_by_rule : (s : TheEnd) (f : Frag) (c : TheCall) (rule : Option ℕ) → rule_at s.rules c.msg ≡ rule → Sound s → IsSome s.circuit → AreCall s (s.parts ++ f ∷ []) c
     → HandledAccount s f c (followed (option_map (λ (reply : ℕ). record { msg = reply; args = c.args }) rule) [])
@@ -48,7 +48,7 @@ adds takes s t p q (Ok (Handle call)) sound (taking, (f, m, bare, sees, takes_it
       side = (m, sees, (q, takes_it, refl));
       accepted = h.accepted;
       sound = subst (λ (x : TheEnd). Sound x) (sym is) (sound_handled s c taking.0.0 are.fits taking.1 sound);
-      account = subst (λ (x : TheEnd). Account s h.accepted [] (f ∷ []) (c ∷ []) (followed (reply_to s.rules c) []) x) (sym is) h.account;
+      account = subst (λ (x : TheEnd). Account s (happened h.accepted [] (f ∷ []) (c ∷ []) (followed (reply_to s.rules c) [])) x) (sym is) h.account;
       replies = record { rules = ap (λ (x : TheEnd). x.rules) is; replies = refl };
     }
 adds takes s t p q (Ok Part) sound (taking, (f, m, bare, sees, takes_it, (part, is))) = record {
@@ -56,7 +56,7 @@ adds takes s t p q (Ok Part) sound (taking, (f, m, bare, sees, takes_it, (part, 
   side = (m, sees, (q, takes_it, refl));
   accepted = [];
   sound = subst (λ (x : TheEnd). Sound x) (sym is) (sound_part s f taking.0.0 bare part sound);
-  account = subst (λ (x : TheEnd). Account s [] [] (f ∷ []) [] [] x) (sym is) (part_account s f);
+  account = subst (λ (x : TheEnd). Account s (happened [] [] (f ∷ []) [] []) x) (sym is) (part_account s f);
   replies = record { rules = ap (λ (x : TheEnd). x.rules) is; replies = refl };
 }
 adds takes s t p q (Ok Quiet) sound (taking, (m, sees, takes_it), is) = record {
@@ -88,7 +88,7 @@ adds takes s t p q (Err (Wire fault)) sound (taking, (f, bare, sees, (refused, i
   side = (q, sees, refl);
   accepted = [];
   sound = subst (λ (x : TheEnd). Sound x) (sym is) (sound_failed s taking.0.0 sound);
-  account = subst (λ (x : TheEnd). Account s [] [] [] [] [] x) (sym is) (adds_nothing s (with_failed s) refl (λ h. refl) (λ c h. h) refl refl);
+  account = subst (λ (x : TheEnd). Account s no_event x) (sym is) (adds_nothing s (with_failed s) refl (λ h. refl) (λ c h. h) refl refl);
   replies = record { rules = ap (λ (x : TheEnd). x.rules) is; replies = refl };
 }
 adds takes s t p q (Err Memory) sound (taking, (f, bare, sees, (whole, is))) = record {

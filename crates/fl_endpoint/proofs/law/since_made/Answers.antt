@@ -6,14 +6,14 @@ use Rattle.fl_endpoint.proofs.Streams.{bare_stream}
 use Rattle.fl_endpoint.proofs.law.since_made.Goals as goal
 
 since : SinceMade
-since program circuit t accepted put took handled due sound a = record {
+since program circuit t h sound a = record {
   sent = sym a.sends;
   wait = sym a.waits;
   read = record {
-    whole = stream (program_of t.program) 0 handled;
+    whole = stream (program_of t.program) 0 h.handled;
     joined = a.gives;
     fit = a.handled_fit;
-    mean = bare_stream (program_of t.program) 0 handled (omega arith) sound.within a.handled_fit;
+    mean = bare_stream (program_of t.program) 0 h.handled (omega arith) sound.within a.handled_fit;
     part = sound.part;
   };
 }

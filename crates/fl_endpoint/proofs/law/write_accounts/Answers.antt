@@ -6,7 +6,7 @@ use Rattle.fl_endpoint.specs.View.{TheEnd}
 use Rattle.fl_endpoint.specs.Accounts.{Sound, Account}
 use Rattle.fl_endpoint.specs.Laws.{WriteAdds, WriteAccounts}
 use Rattle.fl_endpoint.proofs.Sounds.{sound_written, wrote_frag}
-use Rattle.fl_endpoint.proofs.Accountings.{same_end, same_replies, write_account, all_replies}
+use Rattle.fl_endpoint.proofs.Accountings.{same_end, same_replies, write_account, all_replies, happened}
 use Rattle.fl_endpoint.proofs.law.write_accounts.Goals as goal
 
 -- the end is as it was, and the side was looked at, or not
@@ -48,7 +48,7 @@ adds puts s t p q (Ok (Written number count)) sound (ready, (f, rest, now, count
       side = (q, step, refl);
       accepted = all_replies w.accepted;
       sound = subst (λ (x : TheEnd). Sound x) (sym is) (sound_written s f rest sound ready.0 now);
-      account = subst (λ (x : TheEnd). Account s (all_replies w.accepted) (f ∷ []) [] [] [] x) (sym is) (write_account s f rest w ready.0);
+      account = subst (λ (x : TheEnd). Account s (happened (all_replies w.accepted) (f ∷ []) [] [] []) x) (sym is) (write_account s f rest w ready.0);
       replies = record { rules = ap (λ (x : TheEnd). x.rules) is; replies = refl };
     }
 adds puts s t p q (Ok Full) sound (ready, some, step, is) = looked puts s t p q sound step is

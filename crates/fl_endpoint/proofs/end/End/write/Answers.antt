@@ -19,8 +19,8 @@ returns-in_default g c = record { writes = ((search rules, search rules), none_f
 pub put-requires : goal.put-requires
 put-requires g c = record { «data» = c.in-Some.ensures.own.data_is }
 
-pub wrote-number-requires-clause-busy : goal.wrote-number-requires-clause-busy
-wrote-number-requires-clause-busy g c =
+pub mark_written-number-requires-clause-busy : goal.mark_written-number-requires-clause-busy
+mark_written-number-requires-clause-busy g c =
     let e = c.self.inside in
     let now = first_and_rest c.args.self.now.outgoing.unwritten c.in-Some.frag (sym c.in-Some.ensures.next) in
     let is : (end_of e).outgoing.unwritten ≡ c.in-Some.frag ∷ drop 1 c.args.self.now.outgoing.unwritten = ap (λ (s : TheEnd). s.outgoing.unwritten) c.self.view_is ∙ now in
@@ -43,14 +43,14 @@ invariant_of-self g c =
     let bound : (end_of e).circuit ≡ Some k = ap (λ (s : TheEnd). s.circuit) view ∙ c.in-Ok.ensures.ready.0 in
     let is : (end_of e).outgoing.unwritten ≡ f ∷ rest = ap (λ (s : TheEnd). s.outgoing.unwritten) view ∙ first_and_rest c.args.self.now.outgoing.unwritten f (sym c.in-Some.ensures.next) in
     let here : (outgoing_of (program_in e) k e.outgoing).unwritten ≡ f ∷ rest = is in
-    let wrote_is = subst (λ (p : Program). (x : Frag) (xs : List Frag) → (outgoing_of (program_of p) k e.outgoing).unwritten ≡ x ∷ xs → outgoing_of (program_of p) k c.wrote-number.new.self ≡ wrote xs (outgoing_of (program_of p) k e.outgoing)) program c.wrote-number.ensures.wrote in
-    let out : outgoing_of (program_in e) k c.wrote-number.new.self ≡ wrote rest (outgoing_of (program_in e) k e.outgoing) = wrote_is f rest here in
+    let wrote_is = subst (λ (p : Program). (x : Frag) (xs : List Frag) → (outgoing_of (program_of p) k e.outgoing).unwritten ≡ x ∷ xs → outgoing_of (program_of p) k c.mark_written-number.new.self ≡ wrote xs (outgoing_of (program_of p) k e.outgoing)) program c.mark_written-number.ensures.wrote in
+    let out : outgoing_of (program_in e) k c.mark_written-number.new.self ≡ wrote rest (outgoing_of (program_in e) k e.outgoing) = wrote_is f rest here in
     let some : IsSome (end_of e).circuit = subst (λ (o : Option ℕ). IsSome o) (sym bound) refl in
     record {
       interface = c.self.invariant.interface;
       plan = c.self.invariant.plan;
-      outgoing = subst (λ (p : Program). IsOutgoing (program_of p) c.wrote-number.new.self) program c.wrote-number.ensures.outgoing;
-      sound = subst (λ (s : TheEnd). Sound s) (sym (written_end e c.wrote-number.new.self rest k bound out)) (sound_written (end_of e) f rest c.self.invariant.sound some is);
+      outgoing = subst (λ (p : Program). IsOutgoing (program_of p) c.mark_written-number.new.self) program c.mark_written-number.ensures.outgoing;
+      sound = subst (λ (s : TheEnd). Sound s) (sym (written_end e c.mark_written-number.new.self rest k bound out)) (sound_written (end_of e) f rest c.self.invariant.sound some is);
     }
 
 pub returns-in-Ok-put : goal.returns-in-Ok-put
@@ -65,14 +65,14 @@ returns-in-Ok-put g c =
     let now : c.args.self.now.outgoing.unwritten ≡ f ∷ rest = first_and_rest c.args.self.now.outgoing.unwritten f (sym c.in-Some.ensures.next) in
     let is : (end_of e).outgoing.unwritten ≡ f ∷ rest = ap (λ (s : TheEnd). s.outgoing.unwritten) view ∙ now in
     let here : (outgoing_of (program_in e) k e.outgoing).unwritten ≡ f ∷ rest = is in
-    let wrote_is = subst (λ (p : Program). (x : Frag) (xs : List Frag) → (outgoing_of (program_of p) k e.outgoing).unwritten ≡ x ∷ xs → outgoing_of (program_of p) k c.wrote-number.new.self ≡ wrote xs (outgoing_of (program_of p) k e.outgoing)) program c.wrote-number.ensures.wrote in
-    let out : outgoing_of (program_in e) k c.wrote-number.new.self ≡ wrote rest (outgoing_of (program_in e) k e.outgoing) = wrote_is f rest here in
-    let number_is = subst (λ (p : Program). (x : Frag) (xs : List Frag) → (outgoing_of (program_of p) k e.outgoing).unwritten ≡ x ∷ xs → c.wrote-number.result.0 + length xs ≡ c.wrote-number.result.1) program c.wrote-number.ensures.number in
-    let count : c.wrote-number.result.1 ≡ c.args.self.now.outgoing.count = c.wrote-number.ensures.count ∙ ap (λ (s : TheEnd). s.outgoing.count) view in
+    let wrote_is = subst (λ (p : Program). (x : Frag) (xs : List Frag) → (outgoing_of (program_of p) k e.outgoing).unwritten ≡ x ∷ xs → outgoing_of (program_of p) k c.mark_written-number.new.self ≡ wrote xs (outgoing_of (program_of p) k e.outgoing)) program c.mark_written-number.ensures.wrote in
+    let out : outgoing_of (program_in e) k c.mark_written-number.new.self ≡ wrote rest (outgoing_of (program_in e) k e.outgoing) = wrote_is f rest here in
+    let number_is = subst (λ (p : Program). (x : Frag) (xs : List Frag) → (outgoing_of (program_of p) k e.outgoing).unwritten ≡ x ∷ xs → c.mark_written-number.result.0 + length xs ≡ c.mark_written-number.result.1) program c.mark_written-number.ensures.number in
+    let count : c.mark_written-number.result.1 ≡ c.args.self.now.outgoing.count = c.mark_written-number.ensures.count ∙ ap (λ (s : TheEnd). s.outgoing.count) view in
     let placed_is : g.P.PutSide.puts c.args.out.now (placed f) c.put.new.self = subst (λ (x : Frag). g.P.PutSide.puts c.args.out.now (placed x) c.put.new.self) c.in-Some.ensures.own.bare_is (search rules) in
     record {
       writes = (
         (search rules, search rules),
-        (f, rest, now, count, number_is f rest here, placed_is, written_end e c.wrote-number.new.self rest k bound out ∙ ap (λ (s : TheEnd). with_written s rest) view),
+        (f, rest, now, count, number_is f rest here, placed_is, written_end e c.mark_written-number.new.self rest k bound out ∙ ap (λ (s : TheEnd). with_written s rest) view),
       );
     }

@@ -29,7 +29,8 @@ returns-clause-frag c =
     (ap (λ (q : Program). (program_of q).interface) c.program.ensures.program ∙ c.self.invariant.interface)
     (ap (λ (q : Program). (program_of q).plan) c.program.ensures.program ∙ c.self.invariant.plan)
     c.number-number.ensures.number c.in-Some.ensures.exact c.in_ok-tape.ensures.tape c.start-run.ensures.given in
-    ap (λ (f : Frag). f ∷ []) (same_frag c.in-Some-peek_frag.frag (frag_for m) some) ∙ sym (frags_are m c.in_ok-tape.ensures.widths)
+    let w = c.in_ok-tape.ensures.widths in
+    record { widths = w; written = ap (λ (f : Frag). f ∷ []) (same_frag c.in-Some-peek_frag.frag (frag_for m) some) ∙ sym (frags_are m w) }
 
 pub returns-clause-says : goal.returns-clause-says
-returns-clause-says c = says_what_is_written c.in-Some-peek_frag.frag c.args.message.now c.in_ok-tape.ensures.widths (returns-clause-frag c)
+returns-clause-says c = says_what_is_written c.in-Some-peek_frag.frag c.args.message.now c.in_ok-tape.ensures.widths (returns-clause-frag c).written

@@ -1,0 +1,63 @@
+-- Sound states: what holds of every state that a run reaches. All parts together are kept by each step, and
+-- with them the machine has a case for whatever stands first on a link or at a channel. Most parts need most
+-- others: from a state of which all hold but one, a run may reach a message or a fragment that nothing is
+-- said of.
+use Rattle.fl_queues.specs.State.{State}
+use Rattle.fl_queues.specs.SoundPlaces.{CoresStand, LinksArePaired, RingsHaveOneOwner, ServicesStand}
+use Rattle.fl_queues.specs.SoundPlaces.{EndsStand, SeatsAgree}
+use Rattle.fl_queues.specs.SoundRoutes.{RoutesLead, NumbersGoAlongRoutes, VerdictsFit, EndsAreBound}
+use Rattle.fl_queues.specs.SoundRoutes.{NumbersWereOpened, NumbersAreOnce}
+use Rattle.fl_queues.specs.SoundOpenings.{OpeningsGoInOrder, MessagesAreDue, AnswersComeOnce}
+use Rattle.fl_queues.specs.SoundEntries.{EntriesStand, EntriesAreDue, AnswersAreAwaited}
+use Rattle.fl_queues.specs.SoundLabels.{LabelsFollow, LabelsKeepToTheirWays, NothingBeforeTheOpening}
+use Rattle.fl_queues.specs.SoundLabels.{WritesAreCounted}
+use Rattle.fl_queues.specs.SoundRings.{RingsCount, RingsFit}
+use Rattle.fl_queues.specs.SoundLists.{WaitsetsStand, ListedAreBound, PendingRingsWereLookedAt}
+use Rattle.fl_queues.specs.SoundLists.{PendingQueuesHold, FewRepliesWait, RepliesWaitWhereBusy}
+use Rattle.fl_queues.specs.SoundLists.{QueuesHaveRoom, OutboxesHaveRoom}
+use Rattle.fl_queues.specs.SoundLists.{BareUntilCoresAreSet}
+
+pub record Sound (s : State) : Type 0 where
+  -- places
+  pub cores : CoresStand s
+  pub links : LinksArePaired s
+  pub owners : RingsHaveOneOwner s
+  pub services : ServicesStand s
+  pub ends : EndsStand s
+  pub seats : SeatsAgree s
+  -- routes and numbers
+  pub routes : RoutesLead s
+  pub numbers : NumbersGoAlongRoutes s
+  pub verdicts : VerdictsFit s
+  pub bound : EndsAreBound s
+  -- these two, only for the law that a number is given once
+  pub opened_numbers : NumbersWereOpened s
+  pub numbers_once : NumbersAreOnce s
+  -- openings and answers
+  pub openings : OpeningsGoInOrder s
+  pub messages : MessagesAreDue s
+  pub answers : AnswersComeOnce s
+  -- entries
+  pub entries : EntriesStand s
+  pub only_entries : EntriesAreDue s
+  pub awaited : AnswersAreAwaited s
+  -- labels
+  pub labels : LabelsFollow s
+  pub ways : LabelsKeepToTheirWays s
+  pub begun : NothingBeforeTheOpening s
+  pub counted : WritesAreCounted s
+  -- rings
+  pub counts : RingsCount s
+  pub sizes : RingsFit s
+  -- waitsets
+  pub waitsets : WaitsetsStand s
+  pub listed : ListedAreBound s
+  pub looked : PendingRingsWereLookedAt s
+  pub held : PendingQueuesHold s
+  -- limits, which only sizes in memory need
+  pub waiting : FewRepliesWait s
+  pub busy : RepliesWaitWhereBusy s
+  pub queues : QueuesHaveRoom s
+  pub outboxes : OutboxesHaveRoom s
+  -- before the number of cores stands
+  pub bare : BareUntilCoresAreSet s
