@@ -14,3 +14,12 @@ pub mod Taking
 pub mod Forwarding
 pub mod Step
 pub mod Runs
+pub mod Standing
+pub mod SoundPlaces
+pub mod SoundRoutes
+pub mod SoundOpenings
+pub mod SoundEntries
+pub mod SoundLabels
+pub mod SoundRings
+pub mod SoundLists
+pub mod Sound

@@ -1,0 +1,52 @@
+-- Sound states: what holds of every state that a run reaches. All parts together are kept by each step; none of those
+-- that a comment doesn't say so of can be left out, or a run from such a state would meet a fault.
+use Rattle.fl_queues.specs.State.{State}
+use Rattle.fl_queues.specs.SoundPlaces.{CoresStand, LinksArePaired, RingsHaveOneOwner, ServicesStand, EndsStand, SeatsAgree}
+use Rattle.fl_queues.specs.SoundRoutes.{RoutesLead, NumbersGoAlongRoutes, VerdictsFit, EndsAreBound}
+use Rattle.fl_queues.specs.SoundOpenings.{OpeningsGoInOrder, MessagesAreDue, AnswersComeOnce}
+use Rattle.fl_queues.specs.SoundEntries.{EntriesStand, EntriesAreDue, AnswersAreAwaited, NumbersWereGiven}
+use Rattle.fl_queues.specs.SoundLabels.{LabelsFollow, LabelsKeepToTheirWays, NothingBeforeTheOpening, WritesAreCounted}
+use Rattle.fl_queues.specs.SoundRings.{RingsCount, RingsFit}
+use Rattle.fl_queues.specs.SoundLists.{WaitsetsStand, ListedAreBound, PendingRingsWereLookedAt, PendingQueuesHold, FewRepliesWait, QueuesHaveRoom, OutboxesHaveRoom, BareUntilCoresAreSet}
+
+pub record Sound (s : State) : Type 0 where
+  -- places
+  pub cores : CoresStand s
+  pub links : LinksArePaired s
+  pub owners : RingsHaveOneOwner s
+  pub services : ServicesStand s
+  pub ends : EndsStand s
+  pub seats : SeatsAgree s
+  -- routes and numbers
+  pub routes : RoutesLead s
+  pub numbers : NumbersGoAlongRoutes s
+  pub verdicts : VerdictsFit s
+  pub bound : EndsAreBound s
+  -- openings and answers
+  pub openings : OpeningsGoInOrder s
+  pub messages : MessagesAreDue s
+  pub answers : AnswersComeOnce s
+  -- entries
+  pub entries : EntriesStand s
+  pub only_entries : EntriesAreDue s
+  pub awaited : AnswersAreAwaited s
+  pub given_numbers : NumbersWereGiven s
+  -- labels
+  pub labels : LabelsFollow s
+  pub ways : LabelsKeepToTheirWays s
+  pub begun : NothingBeforeTheOpening s
+  pub counted : WritesAreCounted s
+  -- rings
+  pub counts : RingsCount s
+  pub sizes : RingsFit s
+  -- waitsets
+  pub waitsets : WaitsetsStand s
+  pub listed : ListedAreBound s
+  pub looked : PendingRingsWereLookedAt s
+  pub held : PendingQueuesHold s
+  -- limits, which only sizes in memory need
+  pub waiting : FewRepliesWait s
+  pub queues : QueuesHaveRoom s
+  pub outboxes : OutboxesHaveRoom s
+  -- before the number of cores stands
+  pub bare : BareUntilCoresAreSet s

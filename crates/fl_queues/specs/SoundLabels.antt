@@ -1,0 +1,67 @@
+-- Sound states: the labels that stand on links and in queues are the next fragments of the directions that pass there.
+use Rattle.std.specs.Prelude.{ℕ, suc, ◌≡◌, ◌⊎◌, ◌≤◌, ◌<◌, ◌+◌, ◌-◌, List, length, slice_get, slice_index, Option, Some, None, Contains, IsSome}
+use Rattle.std.specs.List.{range_with_len}
+use Rattle.fl_base.specs.declared.identity.EndId.{EndId}
+use Rattle.fl_base.specs.Ends.{peer}
+use Rattle.fl_queues.specs.Calls.{Planned, total, last_count}
+use Rattle.fl_queues.specs.Rings.{Label, next_of, says, acknowledges}
+use Rattle.fl_queues.specs.Ends.{Direction, End, written_of}
+use Rattle.fl_queues.specs.State.{Verdict, undecided, granted, denied, Route, Back, local, over_ring, over_route, Binding, State, way_of, place_in, interface_of, end_in, end_of}
+use Rattle.fl_queues.specs.Standing.{Routed, on_link, queue_of, ring_from, before_by, picked}
+
+-- of an end's direction, no more has passed a station than the one before it, and what has passed that alone stands
+-- between the two, in order
+pub record StandsBefore (s : State) (e : EndId) (b : Binding) (j : ℕ) : Type 0 where
+  pub falls : slice_index (end_in e.side b).out.passed (suc j) ≤ slice_index (end_in e.side b).out.passed j
+  pub labels : picked e (before_by s e b.back (suc j))
+      ≡ range_with_len (slice_index (end_in e.side b).out.passed (suc j))
+        (slice_index (end_in e.side b).out.passed j - slice_index (end_in e.side b).out.passed (suc j))
+
+abbrev pub LabelsFollow : State → Type 0
+LabelsFollow s = (e : EndId) (b : Binding) (j : ℕ) → slice_get s.bindings e.binding ≡ Some b
+    → suc j < length (end_in e.side b).out.passed → StandsBefore s e b j
+
+-- on a link between two cores stand monitors' messages, acknowledgements, and fragments of ends whose way goes over it
+pub record GoesOver (s : State) (a b : ℕ) (e : EndId) : Type 0 where
+  pub route : Route
+  pub routed : Routed s e.binding route
+  pub place : ℕ
+  pub near : slice_get (way_of e.side route) place ≡ Some a
+  pub far : slice_get (way_of e.side route) (suc place) ≡ Some b
+
+abbrev pub MayStandOn : State → ℕ → ℕ → Label → Type 0
+MayStandOn s a b (next_of e k) = GoesOver s a b e
+MayStandOn s a b label = Unit {0}
+
+-- on the ring of a binding, acknowledgements and the end's own fragments; in a queue, the other end's alone
+abbrev pub MayStandFrom : EndId → Label → Type 0
+MayStandFrom e (next_of f k) = f ≡ e
+MayStandFrom e (says m) = ⊥
+MayStandFrom e acknowledges = Unit {0}
+
+abbrev pub IsOf : EndId → Label → Type 0
+IsOf e label = (k : ℕ) × (label ≡ next_of e k)
+
+pub record LabelsKeepToTheirWays (s : State) : Type 0 where
+  pub links : (a b : ℕ) (label : Label) → Contains (on_link s a b) label → MayStandOn s a b label
+  pub rings : (e : EndId) (b : Binding) (n : ℕ) (label : Label) → slice_get s.bindings e.binding ≡ Some b → b.back ≡ over_ring n
+      → Contains (ring_from s e n) label → MayStandFrom e label
+  pub queues : (e : EndId) (label : Label) → Contains (queue_of s e) label → IsOf (peer e) label
+
+-- of a circuit that isn't open, nothing was ever written
+abbrev pub OpensBefore : Verdict → Direction → Type 0
+OpensBefore (granted i) d = Unit {0}
+OpensBefore verdict d = written_of d ≡ 0
+
+abbrev pub NothingBeforeTheOpening : State → Type 0
+NothingBeforeTheOpening s = (n : ℕ) (route : Route) (r : Routed s n route)
+    → OpensBefore route.verdict r.binding.client.out × OpensBefore route.verdict r.binding.server.out
+
+-- all calls but the last are written, and no more than the calls have
+pub record IsCounted (i : Planned) (d : Direction) : Type 0 where
+  pub before : total i d.accepted ≤ written_of d + last_count i d.accepted
+  pub most : written_of d ≤ total i d.accepted
+
+abbrev pub WritesAreCounted : State → Type 0
+WritesAreCounted s = (e : EndId) (b : Binding) (i : Planned) → slice_get s.bindings e.binding ≡ Some b → interface_of s b ≡ Some i
+    → IsCounted i (end_in e.side b).out

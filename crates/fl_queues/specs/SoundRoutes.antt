@@ -1,0 +1,64 @@
+-- Sound states: routes, the circuits' numbers on them, and how far the answer has come.
+use Rattle.std.specs.Prelude.{ℕ, zero, suc, ◌≡◌, ◌≤◌, ◌<◌, ◌+◌, ◌-◌, true, length, slice_get, Option, Some, None, IsSome}
+use Rattle.fl_queues.specs.Rings.{Opening}
+use Rattle.fl_queues.specs.Ends.{Seat, End}
+use Rattle.fl_queues.specs.Monitors.{Service, service_of}
+use Rattle.fl_queues.specs.State.{Verdict, undecided, granted, denied, Route, Back, local, over_ring, over_route, Binding, State, link_between}
+use Rattle.fl_queues.specs.Binding.{all_differ}
+use Rattle.fl_queues.specs.Standing.{Routed, core_at, number_at}
+
+-- a route has 2 to 16 different cores, the first that of the client's dispatcher, the last that of the service's, where
+-- the server's end is once it is made
+pub record RouteLeads (s : State) (route : Route) (b : Binding) : Type 0 where
+  pub some : 2 ≤ length route.cores
+  pub few : length route.cores ≤ 16
+  pub differ : all_differ route.cores ≡ true
+  pub client : Seat
+  pub client_is : b.client.seat ≡ Some client
+  pub first : client.dispatcher.core ≡ core_at route 0
+  pub service : Service
+  pub service_is : service_of s.services route.service ≡ Some service
+  pub last : service.dispatcher.core ≡ core_at route (length route.cores - 1)
+  pub server : (seat : Seat) → b.server.seat ≡ Some seat → seat.dispatcher ≡ service.dispatcher
+
+abbrev pub RoutesLead : State → Type 0
+RoutesLead s = (n : ℕ) (route : Route) (r : Routed s n route) → RouteLeads s route r.binding
+
+-- the circuit has a number on the first link, at most on each, and these links are there
+pub record NumbersGo (s : State) (route : Route) : Type 0 where
+  pub some : 1 ≤ length route.numbers
+  pub few : length route.numbers + 1 ≤ length route.cores
+  pub linked : (j : ℕ) → j < length route.numbers → IsSome (link_between s (core_at route j) (core_at route (j + 1)))
+
+abbrev pub NumbersGoAlongRoutes : State → Type 0
+NumbersGoAlongRoutes s = (n : ℕ) (route : Route) → Routed s n route → NumbersGo s route
+
+-- an opening that was granted had come to the last core; no more cores wait for the answer than have a number
+abbrev pub VerdictFits : Route → Verdict → Type 0
+VerdictFits route undecided = Unit {0}
+VerdictFits route (granted i) = (length route.numbers + 1 ≡ length route.cores) × (i ≤ length route.numbers)
+VerdictFits route (denied i fault) = i ≤ length route.numbers
+
+abbrev pub VerdictsFit : State → Type 0
+VerdictsFit s = (n : ℕ) (route : Route) → Routed s n route → VerdictFits route route.verdict
+
+-- the client's end is bound once no core waits for the word any more
+abbrev pub ClientBoundAfter : Route → ℕ → Binding → Type 0
+ClientBoundAfter route zero b = b.client.circuit ≡ Some (number_at route 0)
+ClientBoundAfter route (suc i) b = b.client.circuit ≡ None
+
+-- which ends are bound, by the answer: the server's, which is made then, once the opening was granted, on the last
+-- number; the client's once nobody waits for that any more, on the first
+abbrev pub BoundBy : Route → Verdict → Binding → Type 0
+BoundBy route undecided b = (b.client.circuit ≡ None) × (b.server.circuit ≡ None) × (b.server.seat ≡ None)
+BoundBy route (denied i fault) b = (b.client.circuit ≡ None) × (b.server.circuit ≡ None) × (b.server.seat ≡ None)
+BoundBy route (granted i) b =
+    ClientBoundAfter route i b × (b.server.circuit ≡ Some (number_at route (length route.numbers - 1))) × IsSome b.server.seat
+
+abbrev pub BoundWhere : Back → Binding → Type 0
+BoundWhere local b = (b.client.circuit ≡ Some 0) × (b.server.circuit ≡ Some 0) × IsSome b.client.seat × IsSome b.server.seat
+BoundWhere (over_ring n) b = (b.client.circuit ≡ Some 0) × (b.server.circuit ≡ Some 0) × IsSome b.client.seat × IsSome b.server.seat
+BoundWhere (over_route route) b = BoundBy route route.verdict b
+
+abbrev pub EndsAreBound : State → Type 0
+EndsAreBound s = (n : ℕ) (b : Binding) → slice_get s.bindings n ≡ Some b → BoundWhere b.back b

@@ -1,0 +1,127 @@
+-- What the predicates of sound states speak of: how far a circuit has come, what stands between two cores, and what
+-- stands of a direction at each of its stations.
+use Rattle.std.specs.Prelude.{ℕ, zero, suc, ◌≡◌, ◌+◌, ◌-◌, ◌==◌, if◌then◌else◌, List, [], ◌∷◌, ◌++◌, length, map, filter_map, slice_get, slice_index, Option, Some, None}
+use Rattle.fl_base.specs.declared.identity.EndId.{EndId}
+use Rattle.fl_base.specs.Ends.{peer}
+use Rattle.fl_queues.specs.Given.{given}
+use Rattle.fl_queues.specs.Rings.{Opening, Said, open_circuit, circuit_opened, circuit_refused, Label, next_of, says, acknowledges, RingLabel, read_by, written_by, RingEnd}
+use Rattle.fl_queues.specs.Ends.{End}
+use Rattle.fl_queues.specs.State.{Verdict, undecided, granted, denied, Route, Back, local, over_ring, over_route, Binding, State, way_of, side_of, end_of, link_between}
+use Rattle.fl_queues.specs.Runs.{same_end}
+
+-- ---- circuits
+
+-- binding n is joined by a circuit over this route
+pub record Routed (s : State) (n : ℕ) (route : Route) : Type 0 where
+  pub binding : Binding
+  pub there : slice_get s.bindings n ≡ Some binding
+  pub back : binding.back ≡ over_route route
+
+-- the route's core j, and the circuit's number on the link from there to the next
+abbrev pub core_at : Route → ℕ → ℕ
+core_at route j = slice_index route.cores j
+
+abbrev pub number_at : Route → ℕ → ℕ
+number_at route j = slice_index route.numbers j
+
+abbrev pub standing_by : Route → Verdict → ℕ
+standing_by route undecided = length route.numbers
+standing_by route (granted i) = length route.cores
+standing_by route (denied i fault) = i
+
+-- at how many cores of the route, from the client's on, the circuit's entry stands
+abbrev pub standing : Route → ℕ
+standing route = standing_by route route.verdict
+
+abbrev pub asking_by : Route → Verdict → ℕ
+asking_by route undecided = length route.numbers
+asking_by route (granted i) = i
+asking_by route (denied i fault) = i
+
+-- how many cores of the route, from the client's on, wait for the answer
+abbrev pub asking : Route → ℕ
+asking route = asking_by route route.verdict
+
+-- a monitors' message, from a core to its neighbour
+pub record Message : Type 0 where
+  pub from : ℕ
+  pub to : ℕ
+  pub said : Said
+
+-- the one message that is under way for binding n: its opening, to the core behind those that have numbers; or the
+-- answer, to the last of those that wait for it
+abbrev pub due_by : ℕ → Route → Verdict → Option Message
+due_by n route undecided =
+    let t = length route.numbers in
+    Some (record {
+      from = core_at route (t - 1);
+      to = core_at route t;
+      said = open_circuit (record { circuit = number_at route (t - 1); binding = n; service = route.service; path = route.cores });
+    })
+due_by n route (granted zero) = None
+due_by n route (granted (suc i)) =
+    Some (record { from = core_at route (suc i); to = core_at route i; said = circuit_opened (number_at route i) })
+due_by n route (denied zero fault) = None
+due_by n route (denied (suc i) fault) =
+    Some (record { from = core_at route (suc i); to = core_at route i; said = circuit_refused (number_at route i) fault })
+
+abbrev pub due_message : ℕ → Route → Option Message
+due_message n route = due_by n route route.verdict
+
+-- ---- between two cores
+
+-- what a side of a ring has yet to read
+abbrev pub unread : State → RingEnd → List RingLabel
+unread s at = given (slice_get s.rings at.ring) [] λ r. (read_by at.side r).waiting
+
+abbrev pub labels_of : List RingLabel → List Label
+labels_of ls = map (λ (l : RingLabel). l.label) ls
+
+-- what stands on the link from one core to another
+abbrev pub on_link : State → ℕ → ℕ → List Label
+on_link s from to = given (link_between s to from) [] λ link. labels_of (unread s link.ring)
+
+abbrev pub said_by : Label → Option Said
+said_by (says m) = Some m
+said_by label = None
+
+-- the monitors' messages from one core to another: those on the link, then those in the outbox
+abbrev pub under_way : State → ℕ → ℕ → List Said
+under_way s from to =
+    filter_map said_by (on_link s from to) ++ given (link_between s from to) [] λ link. link.outbox
+
+abbrev pub opening_number : Said → Option ℕ
+opening_number (open_circuit o) = Some o.circuit
+opening_number m = None
+
+abbrev pub answer_number : Said → Option ℕ
+answer_number (open_circuit o) = None
+answer_number (circuit_opened c) = Some c
+answer_number (circuit_refused c fault) = Some c
+
+-- ---- at the stations of a direction
+
+abbrev pub queue_of : State → EndId → List Label
+queue_of s e = given (end_of s e) [] λ x. given x.queue [] λ q. q.labels
+
+abbrev pub ring_from : State → EndId → ℕ → List Label
+ring_from s e n = given (slice_get s.rings n) [] λ r. labels_of (written_by (side_of e.side) r).waiting
+
+-- what stands before station j of an end's direction, on a way over these cores: on the link that ends at core j of the
+-- way, or, before the last station, in the other end's queue
+abbrev pub before_on : State → EndId → List ℕ → ℕ → List Label
+before_on s e way j =
+    if j == length way then queue_of s (peer e) else on_link s (slice_index way (j - 1)) (slice_index way j)
+
+abbrev pub before_by : State → EndId → Back → ℕ → List Label
+before_by s e local j = queue_of s (peer e)
+before_by s e (over_ring n) j = ring_from s e n
+before_by s e (over_route route) j = before_on s e (way_of e.side route) j
+
+abbrev pub number_of : EndId → Label → Option ℕ
+number_of e (next_of f k) = if same_end e f then Some k else None
+number_of e label = None
+
+-- the numbers of the end's own fragments among some labels
+abbrev pub picked : EndId → List Label → List ℕ
+picked e labels = filter_map (number_of e) labels
