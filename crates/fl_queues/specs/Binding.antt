@@ -1,6 +1,8 @@
--- Bindings: two ends of an interface, joined by queues, by a ring or by a circuit. The refusals stand in the order in
--- which they are answered, and change nothing.
-use Rattle.std.specs.Prelude.{ℕ, ◌+◌, ◌-◌, ◌==◌, ◌||◌, ◌&&◌, nat_le, nat_lt, not, Bool, true, false, if◌then◌else◌, List, [], ◌∷◌, ◌++◌, length, position, slice_get, slice_index, Option, Some, None, bytes_eq}
+-- Bindings: two ends of an interface, joined by queues, by a ring or by a circuit. The refusals stand in the
+-- order in which they are answered, and change nothing.
+use Rattle.std.specs.Prelude.{ℕ, ◌+◌, ◌-◌, ◌==◌, ◌||◌, ◌&&◌, nat_le, nat_lt, not, Bool, true, false}
+use Rattle.std.specs.Prelude.{if◌then◌else◌, List, [], ◌∷◌, ◌++◌, length, position, slice_get, slice_index}
+use Rattle.std.specs.Prelude.{Option, Some, None, bytes_eq}
 use Rattle.std.specs.List.{list_all}
 use Rattle.fl_base.specs.declared.identity.EndId.{EndId}
 use Rattle.fl_base.specs.declared.identity.Side.{Side}
@@ -13,7 +15,8 @@ use Rattle.fl_queues.specs.Rings.{Opening, fresh_ring}
 use Rattle.fl_queues.specs.Ends.{Queue, fresh_queue, unbound_end}
 use Rattle.fl_queues.specs.Waits.{has_places}
 use Rattle.fl_queues.specs.Monitors.{Core, Service, link_to, can_say, opens}
-use Rattle.fl_queues.specs.State.{Back, local, over_ring, over_route, undecided, Route, State, Outcome, answers, core_of, dispatcher_of, change_core, seats, binds_end}
+use Rattle.fl_queues.specs.State.{Back, local, over_ring, over_route, undecided, Route, State, Outcome}
+use Rattle.fl_queues.specs.State.{answers, core_of, dispatcher_of, change_core, seats, binds_end}
 use Rattle.fl_queues.specs.Making.{is_core, is_ring_size}
 
 -- ---- a new binding
@@ -21,8 +24,8 @@ use Rattle.fl_queues.specs.Making.{is_core, is_ring_size}
 abbrev pub most_bindings : ℕ
 most_bindings = 1024
 
--- what a bind is asked for, once its names are known: the client's dispatcher, the interface by its place, the service
--- and its interface reference
+-- what a bind is asked for, once its names are known: the client's dispatcher, the interface by its place,
+-- the service and its interface reference
 pub record Wanted : Type 0 where
   pub client : DispatcherId
   pub interface : ℕ
@@ -69,7 +72,9 @@ binds_by_queues w slots s =
     if not (w.client.core == w.service.dispatcher.core) then answers s (refused 73)
     else if nat_lt slots 1 || nat_lt 1024 slots then answers s (refused 32)
     else if not (has_both_places w s) then answers s (refused 54)
-    else record { state = binds_both (length s.bindings) w (with_new_binding w local 2 (Some (fresh_queue slots)) s); answer = done }
+    else
+    let fresh = with_new_binding w local 2 (Some (fresh_queue slots)) s in
+    answers (binds_both (length s.bindings) w fresh) done
 
 -- ---- by a ring, on two cores
 
@@ -78,11 +83,10 @@ binds_by_ring w size s =
     if w.client.core == w.service.dispatcher.core then answers s (refused 73)
     else if not (is_ring_size size) then answers s (refused 32)
     else if not (has_both_places w s) then answers s (refused 54)
-    else record {
-      state = binds_both (length s.bindings) w
-          (with_new_binding w (over_ring (length s.rings)) 2 None (record s { rings = s.rings ++ fresh_ring size ∷ [] }));
-      answer = done;
-    }
+    else
+    let with_ring = record s { rings = s.rings ++ fresh_ring size ∷ [] } in
+    let fresh = with_new_binding w (over_ring (length s.rings)) 2 None with_ring in
+    answers (binds_both (length s.bindings) w fresh) done
 
 -- ---- by a circuit: the client's end is seated, its entry made, and the opening put into the outbox
 
@@ -94,7 +98,8 @@ all_differ (x ∷ xs) = not (is_in x xs) && all_differ xs
 abbrev pub is_route : List ℕ → ℕ → ℕ → State → Bool
 is_route cores client service s =
     nat_le 2 (length cores) && nat_le (length cores) 16 && list_all (λ c. is_core c s) cores
-    && (slice_index cores 0 == client) && (slice_index cores (length cores - 1) == service) && all_differ cores
+    && (slice_index cores 0 == client) && (slice_index cores (length cores - 1) == service)
+    && all_differ cores
 
 -- an arrival queue has 16 slots
 abbrev pub arrival_queue : Queue
@@ -105,17 +110,18 @@ abbrev pub with_circuit_begun : Wanted → List ℕ → ℕ → ℕ → ℕ → 
 with_circuit_begun w cores n l c s =
     let route : Route = record { service = w.iref; cores = cores; numbers = c ∷ []; verdict = undecided } in
     let opening : Opening = record { circuit = c; binding = n; service = w.iref; path = cores } in
-    change_core w.client.core (opens l c opening)
-    (seats w.client (end_id n Client) (with_new_binding w (over_route route) (length cores + 1) (Some arrival_queue) s))
+    let fresh = with_new_binding w (over_route route) (length cores + 1) (Some arrival_queue) s in
+    change_core w.client.core (opens l c opening) (seats w.client (end_id n Client) fresh)
 
--- the first core has a link to the second; the dispatcher has a place; the link has a number left, and its outbox room
+-- the first core has a link to the second; the dispatcher has a place; the link has a number left, and its
+-- outbox room
 abbrev pub opens_on : Wanted → List ℕ → Core → State → Outcome
 opens_on w cores k s =
     given (link_to (slice_index cores 1) k) (answers s (refused 73)) λ l.
     if not (has_places_for w.client 1 s) then answers s (refused 54)
     else given (next_own k.circuits l) (answers s (refused 74)) λ c.
     if not (can_say l k) then answers s (refused 75)
-    else record { state = with_circuit_begun w cores (length s.bindings) l c s; answer = done }
+    else answers (with_circuit_begun w cores (length s.bindings) l c s) done
 
 abbrev pub binds_by_route : Wanted → List ℕ → State → Outcome
 binds_by_route w cores s =
@@ -133,8 +139,8 @@ binds_by w (by_route cores) s = binds_by_route w cores s
 abbrev pub place_of_service : List ℕ → List Service → Option ℕ
 place_of_service name services = position (λ (x : Service). bytes_eq name x.name) services
 
--- Interfaces are told apart by their places, since no two of a world have one name; so none differs from itself in its
--- plan, and the fault for that (76) doesn't come here.
+-- Interfaces are told apart by their places, since no two of a world have one name; so none differs from
+-- itself in its plan, and the fault for that (76) doesn't come here.
 abbrev pub binds : DispatcherId → ℕ → List ℕ → Kind → State → Outcome
 binds client i name kind s =
     given (dispatcher_of s client) (answers s (refused 92)) λ d.
@@ -145,4 +151,6 @@ binds client i name kind s =
     if not (service.interface == i) then answers s (refused 72)
     else
     let messages = length planned.interface.messages in
-    binds_by (record { client = client; interface = i; messages = messages; service = service; iref = place + 1 }) kind s
+    let w : Wanted =
+    record { client = client; interface = i; messages = messages; service = service; iref = place + 1 } in
+    binds_by w kind s

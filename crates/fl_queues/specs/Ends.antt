@@ -1,5 +1,7 @@
 -- One end of a binding: the calls that it makes, its reply rules, and the queue that it takes from.
-use Rattle.std.specs.Prelude.{ℕ, ◌+◌, ◌-◌, ◌&&◌, nat_le, nat_lt, Bool, if◌then◌else◌, List, [], ◌∷◌, ◌++◌, drop, length, replicate, slice_get, slice_index, slice_set, Option, Some, None, is_some}
+use Rattle.std.specs.Prelude.{ℕ, ◌+◌, ◌-◌, ◌&&◌, nat_le, nat_lt, Bool, if◌then◌else◌, List, [], ◌∷◌, ◌++◌}
+use Rattle.std.specs.Prelude.{drop, length, replicate, slice_get, slice_index, slice_set, Option, Some, None}
+use Rattle.std.specs.Prelude.{is_some}
 use Rattle.std.specs.List.{list_any}
 use Rattle.fl_value.specs.Value.{TheCall}
 use Rattle.fl_queues.specs.Given.{given, changed_at}
@@ -38,7 +40,8 @@ pub record Direction : Type 0 where
   -- the calls that were accepted, and the replies that wait to be
   pub accepted : List TheCall
   pub waiting : List TheCall
-  -- how many of their fragments have passed each station: the write, then each link's exit, then the other end's take
+  -- how many of their fragments have passed each station: the write, then each link's exit, then the other
+  -- end's take
   pub passed : List ℕ
 
 abbrev pub fresh_direction : ℕ → Direction
@@ -129,7 +132,13 @@ is_bound x = is_some x.circuit
 -- an end that isn't bound, of an interface with so many messages, whose calls pass so many stations
 abbrev pub unbound_end : ℕ → ℕ → Option Queue → End
 unbound_end messages stations queue =
-    record { seat = None; circuit = None; rules = replicate messages None; out = fresh_direction stations; queue = queue }
+    record {
+      seat = None;
+      circuit = None;
+      rules = replicate messages None;
+      out = fresh_direction stations;
+      queue = queue;
+    }
 
 -- ---- reply rules
 
@@ -161,7 +170,8 @@ takes_one d = passes (last_station d) d
 abbrev pub comes_to : Planned → Direction → Taken
 comes_to i d = given (slice_get (handled i (takes_one d)) (length (handled i d))) a_part λ c. whole c
 
--- an end that took a fragment: where it handled a call for whose message it has a rule, it replies with the same arguments
+-- an end that took a fragment: where it handled a call for whose message it has a rule, it replies with the
+-- same arguments
 abbrev pub replies : Planned → Taken → End → End
 replies i a_part x = x
 replies i (whole c) x =

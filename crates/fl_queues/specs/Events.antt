@@ -1,6 +1,6 @@
--- What may be asked of the machine, and what it answers. Everything is named by its place in a list, from 0: the names
--- of dispatchers and bindings are the script's alone. The two names that the world itself looks things up by are here:
--- a service's stands in the table of names, and an interface has its own.
+-- What may be asked of the machine, and what it answers. Everything is named by its place in a list, from 0:
+-- the names of dispatchers and bindings are the script's alone. The two names that the world itself looks
+-- things up by are here: a service's stands in the table of names, and an interface has its own.
 use Rattle.std.specs.Prelude.{ℕ, List}
 use Rattle.fl_base.specs.declared.fragment.Frag.{Frag}
 use Rattle.fl_base.specs.declared.identity.EndId.{EndId}
@@ -63,8 +63,8 @@ pub data Answer : Type 0 where
   full : Answer
   -- fragment k of n was written
   written : ℕ → ℕ → Answer
-  -- what a turn came to: a call handled at an end; a fragment that makes no call whole; a polled channel at which a
-  -- fragment stands; one at which none does
+  -- what a turn came to: a call handled at an end; a fragment that makes no call whole; a polled channel at
+  -- which a fragment stands; one at which none does
   handle : EndId → TheCall → Answer
   part : EndId → Answer
   ready : EndId → Answer

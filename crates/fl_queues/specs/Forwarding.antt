@@ -1,5 +1,5 @@
--- Events on links: a core's monitor writes its next message, a core forwards what stands first for it, and acknowledges.
--- The one refusal, for a link that isn't there, changes nothing.
+-- Events on links: a core's monitor writes its next message, a core forwards what stands first for it, and
+-- acknowledges. The one refusal, for a link that isn't there, changes nothing.
 use Rattle.std.specs.Prelude.{ℕ, ◌-◌, drop, length, slice_get, Option, Some, None}
 use Rattle.fl_base.specs.declared.identity.EndId.{EndId}
 use Rattle.fl_base.specs.declared.identity.Side.TheVariants.{Server}
@@ -9,10 +9,16 @@ use Rattle.fl_hop.specs.declared.entry.Way.TheVariants.{Link as to_link, End as 
 use Rattle.fl_hop.specs.Table.{hop_at}
 use Rattle.fl_queues.specs.Given.{given, changed_at}
 use Rattle.fl_queues.specs.Events.{done, nothing, full, written, forwarded, opened, opening_refused, refused}
-use Rattle.fl_queues.specs.Rings.{Said, Label, next_of, says, acknowledges, RingEnd, first_for, looks, Room, there_is_room, room, makes_sure, puts, takes, for_data}
+use Rattle.fl_queues.specs.Rings.{Said, Label, next_of, says, acknowledges, RingEnd, first_for, looks, Room}
+use Rattle.fl_queues.specs.Rings.{there_is_room, room, makes_sure, puts, takes, for_data}
 use Rattle.fl_queues.specs.Ends.{queue_room, passes}
-use Rattle.fl_queues.specs.Monitors.{Link, Core, Heard, no_outbox, astray, opening_went_on, server_made, opening_failed, answer_went_on, end_opened, end_refused, Hearing, link_to, hears}
-use Rattle.fl_queues.specs.State.{Verdict, undecided, granted, denied, Route, Back, over_route, State, Outcome, answers, core_of, binding_of, end_of, link_between, station_at, number_between, change_core, change_ring, change_out, change_route, seats, binds_end, delivers}
+use Rattle.fl_queues.specs.Monitors.{Link, Core, Heard, no_outbox, astray, opening_went_on, server_made}
+use Rattle.fl_queues.specs.Monitors.{opening_failed, answer_went_on, end_opened, end_refused, Hearing}
+use Rattle.fl_queues.specs.Monitors.{link_to, hears}
+use Rattle.fl_queues.specs.State.{Verdict, undecided, granted, denied, Route, Back, over_route, State}
+use Rattle.fl_queues.specs.State.{Outcome, answers, core_of, binding_of, end_of, link_between, station_at}
+use Rattle.fl_queues.specs.State.{number_between, change_core, change_ring, change_out, change_route, seats}
+use Rattle.fl_queues.specs.State.{binds_end, delivers}
 use Rattle.fl_queues.specs.Binding.{end_id}
 use Rattle.fl_queues.specs.Taking.{acknowledges_on}
 
@@ -20,12 +26,14 @@ use Rattle.fl_queues.specs.Taking.{acknowledges_on}
 
 -- the first message of the outbox of the core's link l is gone
 abbrev pub without_first_said : ℕ → Core → Core
-without_first_said l k = record k { links = changed_at l (λ (x : Link). record x { outbox = drop 1 x.outbox }) k.links }
+without_first_said l k =
+    record k { links = changed_at l (λ (x : Link). record x { outbox = drop 1 x.outbox }) k.links }
 
 -- by the room that there is on the link
 abbrev pub monitor_writes_by : ℕ → ℕ → RingEnd → Said → Room → State → Outcome
 monitor_writes_by core l at m there_is_room s =
-    record { state = change_core core (without_first_said l) (change_ring at.ring (puts at.side (says m)) s); answer = written 1 1 }
+    let put = change_ring at.ring (puts at.side (says m)) s in
+    answers (change_core core (without_first_said l) put) (written 1 1)
 monitor_writes_by core l at m r s = answers s full
 
 abbrev pub monitor_writes_on : ℕ → ℕ → Link → State → Outcome
@@ -33,7 +41,8 @@ monitor_writes_on core l link s =
     given (slice_get link.outbox 0) (answers s nothing) λ m.
     given (slice_get s.rings link.ring.ring) (answers s nothing) λ r.
     let sure = makes_sure for_data link.ring.side r in
-    monitor_writes_by core l link.ring m (room for_data link.ring.side sure) (change_ring link.ring.ring (makes_sure for_data link.ring.side) s)
+    let looked = change_ring link.ring.ring (makes_sure for_data link.ring.side) s in
+    monitor_writes_by core l link.ring m (room for_data link.ring.side sure) looked
 
 abbrev pub monitor_writes : ℕ → ℕ → State → Outcome
 monitor_writes core neighbour s =
@@ -74,13 +83,14 @@ word_passed route = record route { verdict = word_passes route.verdict }
 abbrev pub follows : Heard → State → Outcome
 follows no_outbox s = answers s full
 follows astray s = answers s nothing
-follows (opening_went_on n c) s = record { state = change_route n (with_number c) s; answer = done }
+follows (opening_went_on n c) s = answers (change_route n (with_number c) s) done
 follows (server_made n d c) s =
-    record { state = binds_end (end_id n Server) c (seats d (end_id n Server) (change_route n is_granted s)); answer = opened (end_id n Server) }
-follows (opening_failed n fault) s = record { state = change_route n (is_denied fault) s; answer = done }
-follows (answer_went_on n) s = record { state = change_route n word_passed s; answer = done }
-follows (end_opened e c) s = record { state = binds_end e c (change_route e.binding word_passed s); answer = opened e }
-follows (end_refused e fault) s = record { state = change_route e.binding word_passed s; answer = opening_refused fault e }
+    let e = end_id n Server in
+    answers (binds_end e c (seats d e (change_route n is_granted s))) (opened e)
+follows (opening_failed n fault) s = answers (change_route n (is_denied fault) s) done
+follows (answer_went_on n) s = answers (change_route n word_passed s) done
+follows (end_opened e c) s = answers (binds_end e c (change_route e.binding word_passed s)) (opened e)
+follows (end_refused e fault) s = answers (change_route e.binding word_passed s) (opening_refused fault e)
 
 -- the message is taken from the link, but where it's left or astray
 abbrev pub takes_said : RingEnd → Heard → State → State
@@ -105,19 +115,20 @@ leaves_link station e at s = change_out e (passes station) (change_ring at.ring 
 -- on, over a side of a ring, by the room that there is
 abbrev pub goes_on_by : ℕ → EndId → RingEnd → RingEnd → Label → Room → State → Outcome
 goes_on_by station e at on label there_is_room s =
-    record { state = leaves_link station e at (change_ring on.ring (puts on.side label) s); answer = forwarded }
+    answers (leaves_link station e at (change_ring on.ring (puts on.side label) s)) forwarded
 goes_on_by station e at on label r s = answers s full
 
 abbrev pub goes_on_over : ℕ → EndId → RingEnd → Label → RingEnd → State → Outcome
 goes_on_over station e at label on s =
     given (slice_get s.rings on.ring) (answers s nothing) λ r.
     let sure = makes_sure for_data on.side r in
-    goes_on_by station e at on label (room for_data on.side sure) (change_ring on.ring (makes_sure for_data on.side) s)
+    let looked = change_ring on.ring (makes_sure for_data on.side) s in
+    goes_on_by station e at on label (room for_data on.side sure) looked
 
 -- to the arrival queue of an end, by the room that there is
 abbrev pub arrives_by : ℕ → EndId → RingEnd → EndId → Label → Room → State → Outcome
 arrives_by station e at to label there_is_room s =
-    record { state = leaves_link station e at (delivers label to s); answer = forwarded }
+    answers (leaves_link station e at (delivers label to s)) forwarded
 arrives_by station e at to label r s = answers s full
 
 -- where the entry leads
@@ -150,7 +161,7 @@ forwards_label core neighbour l at (next_of e k) s =
     given (route_of b.back) (answers s nothing) λ route.
     forwards_on_route core neighbour l e at (next_of e k) route s
 forwards_label core neighbour l at (says m) s = forwards_said core l at m s
-forwards_label core neighbour l at acknowledges s = record { state = change_ring at.ring (takes at.side) s; answer = done }
+forwards_label core neighbour l at acknowledges s = answers (change_ring at.ring (takes at.side) s) done
 
 abbrev pub forwards_on : ℕ → ℕ → ℕ → RingEnd → State → Outcome
 forwards_on core neighbour l at s =

@@ -1,6 +1,7 @@
--- Events that make things: interfaces, cores, links, dispatchers and services. In each the refusals stand in the order
--- in which they are answered, and change nothing.
-use Rattle.std.specs.Prelude.{ℕ, ◌^◌, ◌==◌, ◌||◌, ◌&&◌, nat_le, nat_lt, not, Bool, if◌then◌else◌, List, [], ◌∷◌, ◌++◌, length, map, sum, slice_get, is_some, bytes_eq}
+-- Events that make things: interfaces, cores, links, dispatchers and services. In each the refusals stand in
+-- the order in which they are answered, and change nothing.
+use Rattle.std.specs.Prelude.{ℕ, ◌^◌, ◌==◌, ◌||◌, ◌&&◌, nat_le, nat_lt, not, Bool, if◌then◌else◌, List, []}
+use Rattle.std.specs.Prelude.{◌∷◌, ◌++◌, length, map, sum, slice_get, is_some, bytes_eq}
 use Rattle.std.specs.List.{list_any, range_with_len}
 use Rattle.fl_check.specs.Interface.{TheInterface}
 use Rattle.fl_value.specs.declared.value.PlanNo.{PlanNo}
@@ -38,11 +39,14 @@ is_ring_size n = list_any (λ k. n == 2 ^ k) (range_with_len 2 9)
 abbrev pub has_interface : List ℕ → State → Bool
 has_interface name s = list_any (λ (i : Planned). bytes_eq name i.interface.name) s.interfaces
 
+abbrev pub with_interface : Planned → State → State
+with_interface i s = record s { interfaces = s.interfaces ++ i ∷ [] }
+
 abbrev pub adds_interface : TheInterface → PlanNo → State → Outcome
 adds_interface i plan s =
     if has_interface i.name s then answers s (refused 92)
     else if nat_le most_interfaces (length s.interfaces) then answers s (refused 94)
-    else record { state = record s { interfaces = s.interfaces ++ record { interface = i; plan = plan } ∷ [] }; answer = done }
+    else answers (with_interface (record { interface = i; plan = plan }) s) done
 
 -- ---- the number of cores
 
@@ -50,7 +54,7 @@ abbrev pub sets_cores : ℕ → State → Outcome
 sets_cores n s =
     if not s.may_set_cores then answers s (refused 93)
     else if nat_lt n 1 || nat_lt most_cores n then answers s (refused 94)
-    else record { state = record s { cores = map fresh_core (range_with_len 0 n) }; answer = done }
+    else answers (record s { cores = map fresh_core (range_with_len 0 n) }) done
 
 -- ---- a link: one ring, the first core on its first side
 
@@ -77,23 +81,29 @@ abbrev pub adds_link : ℕ → ℕ → ℕ → State → Outcome
 adds_link a b size s =
     if not (is_core a s && is_core b s) || (a == b) || has_link a b s then answers s (refused 73)
     else if not (is_ring_size size) then answers s (refused 32)
-    else record { state = with_new_link a b size s; answer = done }
+    else answers (with_new_link a b size s) done
 
 -- ---- a dispatcher on a core
 
 abbrev pub count_dispatchers : State → ℕ
 count_dispatchers s = sum (map (λ (k : Core). length k.dispatchers) s.cores)
 
+abbrev pub with_dispatcher : Core → Core
+with_dispatcher k = record k { dispatchers = k.dispatchers ++ fresh_dispatcher ∷ [] }
+
 abbrev pub adds_dispatcher : ℕ → State → Outcome
 adds_dispatcher core s =
     if nat_le most_dispatchers (count_dispatchers s) then answers s (refused 94)
     else if not (is_core core s) then answers s (refused 73)
-    else record { state = change_core core (λ k. record k { dispatchers = k.dispatchers ++ fresh_dispatcher ∷ [] }) s; answer = done }
+    else answers (change_core core with_dispatcher s) done
 
 -- ---- a service
 
 abbrev pub has_service : List ℕ → State → Bool
 has_service name s = list_any (λ (x : Service). bytes_eq name x.name) s.services
+
+abbrev pub with_service : Service → State → State
+with_service x s = record s { services = s.services ++ x ∷ [] }
 
 abbrev pub exports : List ℕ → DispatcherId → ℕ → State → Outcome
 exports name d i s =
@@ -101,4 +111,4 @@ exports name d i s =
     given (slice_get s.interfaces i) (answers s (refused 92)) λ y.
     if has_service name s then answers s (refused 71)
     else if nat_le most_services (length s.services) then answers s (refused 94)
-    else record { state = record s { services = s.services ++ record { name = name; dispatcher = d; interface = i } ∷ [] }; answer = done }
+    else answers (with_service (record { name = name; dispatcher = d; interface = i }) s) done

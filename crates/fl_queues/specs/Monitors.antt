@@ -1,6 +1,7 @@
--- One core, and what its monitor makes of a message that a neighbour's monitor said: a circuit's opening, which is
--- passed on, arrives or is refused, and the answer, which goes back by the entries.
-use Rattle.std.specs.Prelude.{ℕ, ◌+◌, ◌-◌, ◌==◌, nat_lt, Bool, false, if◌then◌else◌, List, [], ◌∷◌, ◌++◌, length, position, slice_get, Option, None}
+-- One core, and what its monitor makes of a message that a neighbour's monitor said: a circuit's opening,
+-- which is passed on, arrives or is refused, and the answer, which goes back by the entries.
+use Rattle.std.specs.Prelude.{ℕ, ◌+◌, ◌-◌, ◌==◌, nat_lt, Bool, false, if◌then◌else◌, List, [], ◌∷◌, ◌++◌}
+use Rattle.std.specs.Prelude.{length, position, slice_get, Option, None}
 use Rattle.fl_base.specs.declared.identity.EndId.{EndId}
 use Rattle.fl_base.specs.declared.identity.LinkId.{LinkId}
 use Rattle.fl_base.specs.declared.identity.Circuit.{Circuit}
@@ -17,7 +18,8 @@ use Rattle.fl_queues.specs.Waits.{Dispatcher, has_places}
 
 -- ---- a core
 
--- a link to another core: this core's side of its ring, and what the monitor has still to say there, first to last
+-- a link to another core: this core's side of its ring, and what the monitor has still to say there, first to
+-- last
 pub record Link : Type 0 where
   pub ring : RingEnd
   pub outbox : List Said
@@ -30,7 +32,8 @@ pub record Core : Type 0 where
   pub links : List Link
 
 abbrev pub fresh_core : ℕ → Core
-fresh_core core = record { dispatchers = []; circuits = record { core = core; links = []; hops = [] }; links = [] }
+fresh_core core =
+    record { dispatchers = []; circuits = record { core = core; links = []; hops = [] }; links = [] }
 
 -- a service that was exported; its interface reference is its place in the table of names, from 1
 pub record Service : Type 0 where
@@ -104,13 +107,13 @@ pub data Heard : Type 0 where
   no_outbox : Heard
   -- an answer for which no entry stands: no run meets one
   astray : Heard
-  -- the binding's opening has gone on, under this number; has made the server's end, at this dispatcher and on this
-  -- circuit; or was refused, for this fault
+  -- the binding's opening has gone on, under this number; has made the server's end, at this dispatcher and
+  -- on this circuit; or was refused, for this fault
   opening_went_on : ℕ → ℕ → Heard
   server_made : ℕ → DispatcherId → ℕ → Heard
   opening_failed : ℕ → ℕ → Heard
-  -- the answer to the binding's opening has gone back one link further; has come to the end, which is on this circuit
-  -- now; or has come to the end as a refusal, for this fault
+  -- the answer to the binding's opening has gone back one link further; has come to the end, which is on this
+  -- circuit now; or has come to the end as a refusal, for this fault
   answer_went_on : ℕ → Heard
   end_opened : EndId → ℕ → Heard
   end_refused : EndId → ℕ → Heard
@@ -126,7 +129,8 @@ link_id l = record { 0 = l }
 abbrev pub circuit_id : ℕ → Circuit
 circuit_id c = record { 0 = c }
 
--- where the outbox of a link has room: the core with this message there and these circuits, and else as it was
+-- where the outbox of a link has room: the core with this message there and these circuits, and else as it
+-- was
 abbrev pub saying : ℕ → Said → TheCircuits → Heard → Core → Hearing
 saying l m t heard k =
     if can_say l k
@@ -136,39 +140,48 @@ saying l m t heard k =
 -- an opening that came on link l
 abbrev pub hears_opening : ℕ → Opening → Fate → Core → Hearing
 hears_opening l o (goes_on m n) k =
-    saying m (open_circuit (record o { circuit = n }))
-    (passed_on k.circuits (link_id l) (circuit_id o.circuit) (link_id m) (circuit_id n) o.binding) (opening_went_on o.binding n) k
+    let t = passed_on k.circuits (link_id l) (circuit_id o.circuit) (link_id m) (circuit_id n) o.binding in
+    saying m (open_circuit (record o { circuit = n })) t (opening_went_on o.binding n) k
 hears_opening l o (ends_at d) k =
-    saying l (circuit_opened o.circuit)
-    (arrived k.circuits (link_id l) (circuit_id o.circuit) o.binding) (server_made o.binding d o.circuit) k
+    let t = arrived k.circuits (link_id l) (circuit_id o.circuit) o.binding in
+    saying l (circuit_opened o.circuit) t (server_made o.binding d o.circuit) k
 hears_opening l o (fails fault) k =
-    saying l (circuit_refused o.circuit fault) (after_taking k.circuits l) (opening_failed o.binding fault) k
+    let t = after_taking k.circuits l in
+    saying l (circuit_refused o.circuit fault) t (opening_failed o.binding fault) k
 
 -- the answer that the circuit with number c on link l is open; the entry that stands there leads back
 abbrev pub hears_opened : ℕ → ℕ → Hop → Way → Core → Hearing
 hears_opened l c hop (to_link m d) k =
-    saying m.0 (circuit_opened d.0) (answered k.circuits (link_id l) (circuit_id c) hop) (answer_went_on hop.binding) k
+    let t = answered k.circuits (link_id l) (circuit_id c) hop in
+    saying m.0 (circuit_opened d.0) t (answer_went_on hop.binding) k
 hears_opened l c hop (to_end e) k =
-    record { core = with_circuits (answered k.circuits (link_id l) (circuit_id c) hop) k; heard = end_opened e c }
+    let t = answered k.circuits (link_id l) (circuit_id c) hop in
+    record { core = with_circuits t k; heard = end_opened e c }
 
 -- the answer that it is refused: the entry is removed
 abbrev pub hears_refused : ℕ → ℕ → ℕ → Hop → Way → Core → Hearing
 hears_refused l c fault hop (to_link m d) k =
-    saying m.0 (circuit_refused d.0 fault) (without_entry k.circuits (to_link (link_id l) (circuit_id c)) hop.way)
-    (answer_went_on hop.binding) k
+    let t = without_entry k.circuits (to_link (link_id l) (circuit_id c)) hop.way in
+    saying m.0 (circuit_refused d.0 fault) t (answer_went_on hop.binding) k
 hears_refused l c fault hop (to_end e) k =
-    record { core = with_circuits (without_entry k.circuits (to_link (link_id l) (circuit_id c)) hop.way) k; heard = end_refused e fault }
+    let t = without_entry k.circuits (to_link (link_id l) (circuit_id c)) hop.way in
+    record { core = with_circuits t k; heard = end_refused e fault }
+
+abbrev pub goes_astray : Core → Hearing
+goes_astray k = record { core = k; heard = astray }
 
 -- a core hears a message that came on its link l
 abbrev pub hears : List Service → ℕ → Said → Core → Hearing
 hears services l (open_circuit o) k = hears_opening l o (fate services o k) k
 hears services l (circuit_opened c) k =
-    given (hop_at k.circuits l c) (record { core = k; heard = astray }) λ hop. hears_opened l c hop hop.way k
+    given (hop_at k.circuits l c) (goes_astray k) λ hop. hears_opened l c hop hop.way k
 hears services l (circuit_refused c fault) k =
-    given (hop_at k.circuits l c) (record { core = k; heard = astray }) λ hop. hears_refused l c fault hop hop.way k
+    given (hop_at k.circuits l c) (goes_astray k) λ hop. hears_refused l c fault hop hop.way k
 
 -- ---- a circuit is opened by the core of its client
 
 -- link l's next number is n: the client's entry is made, and the opening goes into the outbox
 abbrev pub opens : ℕ → ℕ → Opening → Core → Core
-opens l n o k = with_said l (open_circuit o) (with_circuits (opened k.circuits (link_id l) (circuit_id n) o.binding) k)
+opens l n o k =
+    let t = opened k.circuits (link_id l) (circuit_id n) o.binding in
+    with_said l (open_circuit o) (with_circuits t k)

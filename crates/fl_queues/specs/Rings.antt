@@ -1,13 +1,15 @@
--- Rings of labels. A ring has so many slots each way between two sides. What stands in a slot is a label: which
--- fragment it is, and the number of fragments of the other direction that its writer had read when it wrote.
-use Rattle.std.specs.Prelude.{ℕ, ◌+◌, ◌-◌, ◌/◌, ◌^◌, ◌||◌, nat_le, Bool, if◌then◌else◌, List, [], ◌∷◌, ◌++◌, drop, slice_get, Option}
+-- Rings of labels. A ring has so many slots each way between two sides. What stands in a slot is a label:
+-- which fragment it is, and the number of fragments of the other direction that its writer had read when it
+-- wrote.
+use Rattle.std.specs.Prelude.{ℕ, ◌+◌, ◌-◌, ◌/◌, ◌^◌, ◌||◌, nat_le, Bool, if◌then◌else◌, List, [], ◌∷◌, ◌++◌}
+use Rattle.std.specs.Prelude.{drop, slice_get, Option}
 use Rattle.fl_base.specs.declared.identity.EndId.{EndId}
 use Rattle.fl_queues.specs.Given.{given}
 
 -- ---- what stands in slots and queues
 
--- a monitor's request to open a circuit: the circuit's number on the link, the binding, the service by its interface
--- reference, and the whole route
+-- a monitor's request to open a circuit: the circuit's number on the link, the binding, the service by its
+-- interface reference, and the whole route
 pub record Opening : Type 0 where
   pub circuit : ℕ
   pub binding : ℕ
@@ -99,7 +101,8 @@ knows count h = record h { known = count }
 
 -- a side looks at what stands first for it, and knows what that tells
 abbrev pub looks : RingSide → Ring → Ring
-looks side r = given (first_for side r) r λ l. with_halves side (knows l.told (written_by side r)) (read_by side r) r
+looks side r =
+    given (first_for side r) r λ l. with_halves side (knows l.told (written_by side r)) (read_by side r) r
 
 -- the free slots that a side knows of
 abbrev pub free : RingSide → Ring → ℕ
@@ -116,9 +119,11 @@ pub data Room : Type 0 where
   spent : Room
 
 abbrev pub room : ℕ → RingSide → Ring → Room
-room need side r = if is_spent side r then spent else if nat_le need (free side r) then there_is_room else no_room
+room need side r =
+    if is_spent side r then spent else if nat_le need (free side r) then there_is_room else no_room
 
--- before a side puts something that needs so many free slots: where it knows of fewer, it looks; on a spent ring it doesn't
+-- before a side puts something that needs so many free slots: where it knows of fewer, it looks; on a spent
+-- ring it doesn't
 abbrev pub makes_sure : ℕ → RingSide → Ring → Ring
 makes_sure need side r = if is_spent side r || nat_le need (free side r) then r else looks side r
 
@@ -133,7 +138,8 @@ for_acknowledgement = 1
 
 -- a label is put behind the others
 abbrev pub adds : Label → ℕ → Half → Half
-adds label told h = record h { sent = h.sent + 1; waiting = h.waiting ++ record { label = label; told = told } ∷ [] }
+adds label told h =
+    record h { sent = h.sent + 1; waiting = h.waiting ++ record { label = label; told = told } ∷ [] }
 
 -- all that was read is told
 abbrev pub tells_all : Half → Half
@@ -141,7 +147,8 @@ tells_all h = record h { told = h.read }
 
 -- a side puts a label, which tells all that it has read
 abbrev pub puts : RingSide → Label → Ring → Ring
-puts side label r = with_halves side (adds label (read_by side r).read (written_by side r)) (tells_all (read_by side r)) r
+puts side label r =
+    with_halves side (adds label (read_by side r).read (written_by side r)) (tells_all (read_by side r)) r
 
 -- what stood first is read
 abbrev pub reads : Half → Half

@@ -1,5 +1,5 @@
--- Runs of the machine: what was asked and what was answered, event after event; of these the calls that an end got
--- accepted, and those that it handled.
+-- Runs of the machine: what was asked and what was answered, event after event; of these the calls that an
+-- end got accepted, and those that it handled.
 use Rattle.std.specs.Prelude.{◌==◌, ◌&&◌, Bool, true, false, if◌then◌else◌, List, [], ◌∷◌, map}
 use Rattle.std.specs.List.{flat_map}
 use Rattle.fl_base.specs.declared.identity.Side.{Side}

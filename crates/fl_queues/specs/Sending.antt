@@ -1,6 +1,7 @@
--- Events by which an end sends: a call is made, the next fragment is shown, and written. The refusals stand in the order
--- in which they are answered, and change nothing.
-use Rattle.std.specs.Prelude.{ℕ, ◌-◌, ◌/◌, ◌%◌, nat_le, not, if◌then◌else◌, length, slice_get, Option, unwrap_or}
+-- Events by which an end sends: a call is made, the next fragment is shown, and written. The refusals stand
+-- in the order in which they are answered, and change nothing.
+use Rattle.std.specs.Prelude.{ℕ, ◌-◌, ◌/◌, ◌%◌, nat_le, not, if◌then◌else◌, length, slice_get, Option}
+use Rattle.std.specs.Prelude.{unwrap_or}
 use Rattle.fl_base.specs.declared.fragment.Frag.{Frag}
 use Rattle.fl_base.specs.declared.identity.EndId.{EndId}
 use Rattle.fl_base.specs.Ends.{peer}
@@ -10,9 +11,11 @@ use Rattle.fl_value.specs.Fits.{fits_of}
 use Rattle.fl_queues.specs.Given.{given}
 use Rattle.fl_queues.specs.Events.{accepted, nothing, words, refused}
 use Rattle.fl_queues.specs.Calls.{Planned, stream}
-use Rattle.fl_queues.specs.Rings.{Label, next_of, Ring, RingSide, written_by, read_by, makes_sure, Room, there_is_room, no_room, room, puts, for_data}
+use Rattle.fl_queues.specs.Rings.{Label, next_of, Ring, RingSide, written_by, read_by, makes_sure, Room}
+use Rattle.fl_queues.specs.Rings.{there_is_room, no_room, room, puts, for_data}
 use Rattle.fl_queues.specs.Ends.{queue_room, Direction, written_of, is_busy, accepts, writes, End, is_bound}
-use Rattle.fl_queues.specs.State.{Binding, State, Outcome, answers, binding_of, interface_of, end_in, end_of, change_ring, change_out, Outlet, peer_queue, ring_side, outlet_by, delivers}
+use Rattle.fl_queues.specs.State.{Binding, State, Outcome, answers, binding_of, interface_of, end_in, end_of}
+use Rattle.fl_queues.specs.State.{change_ring, change_out, Outlet, peer_queue, ring_side, outlet_by, delivers}
 
 -- ---- a call
 
@@ -22,7 +25,7 @@ makes_call e c i x s =
     else if not (fits_of i.interface c) then answers s (refused 42)
     else if not (is_bound x) then answers s (refused 43)
     else if is_busy i x.out then answers s (refused 40)
-    else record { state = change_out e (accepts c) s; answer = accepted }
+    else answers (change_out e (accepts c) s) accepted
 
 abbrev pub calls : EndId → TheCall → State → Outcome
 calls e c s =
@@ -49,7 +52,8 @@ puts_to e (ring_side at) label s = change_ring at.ring (puts at.side label) s
 
 -- ---- what would be written next
 
--- the epoch of the fragment that is put next: 1 in the first round of a ring, 0 in the second, and so on; 1 in a queue
+-- the epoch of the fragment that is put next: 1 in the first round of a ring, 0 in the second, and so on; 1
+-- in a queue
 abbrev pub epoch_next : RingSide → Ring → ℕ
 epoch_next side r = 1 - (written_by side r).sent / r.size % 2
 
@@ -57,7 +61,8 @@ epoch_next side r = 1 - (written_by side r).sent / r.size % 2
 abbrev pub stamped_for : Outlet → State → Frag → Frag
 stamped_for peer_queue s f = stamped f 1 0
 stamped_for (ring_side at) s f =
-    given (slice_get s.rings at.ring) f λ r. stamped f (epoch_next at.side r) ((read_by at.side r).read % 65536)
+    given (slice_get s.rings at.ring) f λ r.
+    stamped f (epoch_next at.side r) ((read_by at.side r).read % 65536)
 
 -- the next of the fragments of all the end's calls, on its circuit
 abbrev pub next_fragment : Planned → End → Option Frag

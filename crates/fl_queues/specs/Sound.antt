@@ -1,13 +1,17 @@
--- Sound states: what holds of every state that a run reaches. All parts together are kept by each step; none of those
--- that a comment doesn't say so of can be left out, or a run from such a state would meet a fault.
+-- Sound states: what holds of every state that a run reaches. All parts together are kept by each step; none
+-- of those that a comment doesn't say so of can be left out, or a run from such a state would meet a fault.
 use Rattle.fl_queues.specs.State.{State}
-use Rattle.fl_queues.specs.SoundPlaces.{CoresStand, LinksArePaired, RingsHaveOneOwner, ServicesStand, EndsStand, SeatsAgree}
+use Rattle.fl_queues.specs.SoundPlaces.{CoresStand, LinksArePaired, RingsHaveOneOwner, ServicesStand}
+use Rattle.fl_queues.specs.SoundPlaces.{EndsStand, SeatsAgree}
 use Rattle.fl_queues.specs.SoundRoutes.{RoutesLead, NumbersGoAlongRoutes, VerdictsFit, EndsAreBound}
 use Rattle.fl_queues.specs.SoundOpenings.{OpeningsGoInOrder, MessagesAreDue, AnswersComeOnce}
 use Rattle.fl_queues.specs.SoundEntries.{EntriesStand, EntriesAreDue, AnswersAreAwaited, NumbersWereGiven}
-use Rattle.fl_queues.specs.SoundLabels.{LabelsFollow, LabelsKeepToTheirWays, NothingBeforeTheOpening, WritesAreCounted}
+use Rattle.fl_queues.specs.SoundLabels.{LabelsFollow, LabelsKeepToTheirWays, NothingBeforeTheOpening}
+use Rattle.fl_queues.specs.SoundLabels.{WritesAreCounted}
 use Rattle.fl_queues.specs.SoundRings.{RingsCount, RingsFit}
-use Rattle.fl_queues.specs.SoundLists.{WaitsetsStand, ListedAreBound, PendingRingsWereLookedAt, PendingQueuesHold, FewRepliesWait, QueuesHaveRoom, OutboxesHaveRoom, BareUntilCoresAreSet}
+use Rattle.fl_queues.specs.SoundLists.{WaitsetsStand, ListedAreBound, PendingRingsWereLookedAt}
+use Rattle.fl_queues.specs.SoundLists.{PendingQueuesHold, FewRepliesWait, QueuesHaveRoom, OutboxesHaveRoom}
+use Rattle.fl_queues.specs.SoundLists.{BareUntilCoresAreSet}
 
 pub record Sound (s : State) : Type 0 where
   -- places

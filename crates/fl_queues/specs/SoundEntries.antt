@@ -1,12 +1,13 @@
 -- Sound states: the entries of circuits are those of the bindings' routes, as far as each has come.
-use Rattle.std.specs.Prelude.{ℕ, zero, suc, ◌≡◌, ◌⊎◌, ◌<◌, ◌≤◌, ◌+◌, ◌==◌, Bool, false, if◌then◌else◌, length, slice_get, Option, Some, None}
+use Rattle.std.specs.Prelude.{ℕ, zero, suc, ◌≡◌, ◌⊎◌, ◌<◌, ◌+◌, ◌==◌, false, if◌then◌else◌, length}
+use Rattle.std.specs.Prelude.{Some}
 use Rattle.fl_base.specs.declared.identity.Side.TheVariants.{Client, Server}
 use Rattle.fl_base.specs.declared.identity.EndId.{EndId}
 use Rattle.fl_hop.specs.declared.entry.Way.{Way}
 use Rattle.fl_hop.specs.declared.entry.Way.TheVariants.{Link as to_link, End as to_end}
 use Rattle.fl_hop.specs.declared.entry.Hop.{Hop}
 use Rattle.fl_hop.specs.Table.{hop_at}
-use Rattle.fl_hop.specs.Numbers.{Given, OpenedHere}
+use Rattle.fl_hop.specs.Numbers.{Given}
 use Rattle.fl_queues.specs.Monitors.{Core, link_to}
 use Rattle.fl_queues.specs.State.{Route, State, core_of}
 use Rattle.fl_queues.specs.Binding.{end_id}
@@ -24,7 +25,9 @@ behind n route (suc j) = on_to (core_at route j) (number_at route j)
 
 abbrev pub ahead : ℕ → Route → ℕ → Leads
 ahead n route j =
-    if j + 1 == length route.cores then to_this (end_id n Server) else on_to (core_at route (j + 1)) (number_at route j)
+    if j + 1 == length route.cores
+    then to_this (end_id n Server)
+    else on_to (core_at route (j + 1)) (number_at route j)
 
 -- a way of a core's table says that
 abbrev pub SaysWay : Core → Way → Leads → Type 0
@@ -48,10 +51,12 @@ pub record EntryAt (s : State) (key : Key) (hop : Hop) : Type 0 where
 
 -- the two keys of the circuit on link j of the route: at the near core, and at the far one
 abbrev pub near_key : Route → ℕ → Key
-near_key route j = record { core = core_at route j; neighbour = core_at route (j + 1); number = number_at route j }
+near_key route j =
+    record { core = core_at route j; neighbour = core_at route (j + 1); number = number_at route j }
 
 abbrev pub far_key : Route → ℕ → Key
-far_key route j = record { core = core_at route (j + 1); neighbour = core_at route j; number = number_at route j }
+far_key route j =
+    record { core = core_at route (j + 1); neighbour = core_at route j; number = number_at route j }
 
 -- an entry of this binding stands there and leads so
 pub record EntryIs (s : State) (key : Key) (binding : ℕ) (leads : Leads) : Type 0 where
@@ -62,7 +67,8 @@ pub record EntryIs (s : State) (key : Key) (binding : ℕ) (leads : Leads) : Typ
 
 -- each entry of a route that should stand does
 pub record EntriesStandOn (s : State) (n : ℕ) (route : Route) : Type 0 where
-  pub near : (j : ℕ) → j < standing route → j < length route.numbers → EntryIs s (near_key route j) n (behind n route j)
+  pub near : (j : ℕ) → j < standing route → j < length route.numbers
+      → EntryIs s (near_key route j) n (behind n route j)
   pub far : (j : ℕ) → j + 1 < standing route → j < length route.numbers
       → EntryIs s (far_key route j) n (ahead n route (j + 1))
 
@@ -95,5 +101,5 @@ AnswersAreAwaited s = (n : ℕ) (route : Route) (j : ℕ) → Routed s n route �
 
 -- an entry stands only at a number that was given
 abbrev pub NumbersWereGiven : State → Type 0
-NumbersWereGiven s = (n : ℕ) (k : Core) (l c : ℕ) (hop : Hop) → core_of s n ≡ Some k → hop_at k.circuits l c ≡ Some hop
-    → Given k.circuits l c
+NumbersWereGiven s = (n : ℕ) (k : Core) (l c : ℕ) (hop : Hop) → core_of s n ≡ Some k
+    → hop_at k.circuits l c ≡ Some hop → Given k.circuits l c

@@ -1,27 +1,31 @@
--- Sound states: the labels that stand on links and in queues are the next fragments of the directions that pass there.
-use Rattle.std.specs.Prelude.{ℕ, suc, ◌≡◌, ◌⊎◌, ◌≤◌, ◌<◌, ◌+◌, ◌-◌, List, length, slice_get, slice_index, Option, Some, None, Contains, IsSome}
+-- Sound states: the labels that stand on links and in queues are the next fragments of the directions that
+-- pass there.
+use Rattle.std.specs.Prelude.{ℕ, suc, ◌≡◌, ◌≤◌, ◌<◌, ◌+◌, ◌-◌, length, slice_get, slice_index}
+use Rattle.std.specs.Prelude.{Some, Contains}
 use Rattle.std.specs.List.{range_with_len}
 use Rattle.fl_base.specs.declared.identity.EndId.{EndId}
 use Rattle.fl_base.specs.Ends.{peer}
 use Rattle.fl_queues.specs.Calls.{Planned, total, last_count}
 use Rattle.fl_queues.specs.Rings.{Label, next_of, says, acknowledges}
-use Rattle.fl_queues.specs.Ends.{Direction, End, written_of}
-use Rattle.fl_queues.specs.State.{Verdict, undecided, granted, denied, Route, Back, local, over_ring, over_route, Binding, State, way_of, place_in, interface_of, end_in, end_of}
+use Rattle.fl_queues.specs.Ends.{Direction, written_of}
+use Rattle.fl_queues.specs.State.{Verdict, granted, Route, over_ring}
+use Rattle.fl_queues.specs.State.{Binding, State, way_of, interface_of, end_in}
 use Rattle.fl_queues.specs.Standing.{Routed, on_link, queue_of, ring_from, before_by, picked}
 
--- of an end's direction, no more has passed a station than the one before it, and what has passed that alone stands
--- between the two, in order
+-- of an end's direction, no more has passed a station than the one before it, and what has passed that alone
+-- stands between the two, in order
 pub record StandsBefore (s : State) (e : EndId) (b : Binding) (j : ℕ) : Type 0 where
   pub falls : slice_index (end_in e.side b).out.passed (suc j) ≤ slice_index (end_in e.side b).out.passed j
   pub labels : picked e (before_by s e b.back (suc j))
       ≡ range_with_len (slice_index (end_in e.side b).out.passed (suc j))
-        (slice_index (end_in e.side b).out.passed j - slice_index (end_in e.side b).out.passed (suc j))
+      (slice_index (end_in e.side b).out.passed j - slice_index (end_in e.side b).out.passed (suc j))
 
 abbrev pub LabelsFollow : State → Type 0
 LabelsFollow s = (e : EndId) (b : Binding) (j : ℕ) → slice_get s.bindings e.binding ≡ Some b
     → suc j < length (end_in e.side b).out.passed → StandsBefore s e b j
 
--- on a link between two cores stand monitors' messages, acknowledgements, and fragments of ends whose way goes over it
+-- on a link between two cores stand monitors' messages, acknowledgements, and fragments of ends whose way
+-- goes over it
 pub record GoesOver (s : State) (a b : ℕ) (e : EndId) : Type 0 where
   pub route : Route
   pub routed : Routed s e.binding route
@@ -44,8 +48,8 @@ IsOf e label = (k : ℕ) × (label ≡ next_of e k)
 
 pub record LabelsKeepToTheirWays (s : State) : Type 0 where
   pub links : (a b : ℕ) (label : Label) → Contains (on_link s a b) label → MayStandOn s a b label
-  pub rings : (e : EndId) (b : Binding) (n : ℕ) (label : Label) → slice_get s.bindings e.binding ≡ Some b → b.back ≡ over_ring n
-      → Contains (ring_from s e n) label → MayStandFrom e label
+  pub rings : (e : EndId) (b : Binding) (n : ℕ) (label : Label) → slice_get s.bindings e.binding ≡ Some b
+      → b.back ≡ over_ring n → Contains (ring_from s e n) label → MayStandFrom e label
   pub queues : (e : EndId) (label : Label) → Contains (queue_of s e) label → IsOf (peer e) label
 
 -- of a circuit that isn't open, nothing was ever written
@@ -63,5 +67,5 @@ pub record IsCounted (i : Planned) (d : Direction) : Type 0 where
   pub most : written_of d ≤ total i d.accepted
 
 abbrev pub WritesAreCounted : State → Type 0
-WritesAreCounted s = (e : EndId) (b : Binding) (i : Planned) → slice_get s.bindings e.binding ≡ Some b → interface_of s b ≡ Some i
-    → IsCounted i (end_in e.side b).out
+WritesAreCounted s = (e : EndId) (b : Binding) (i : Planned) → slice_get s.bindings e.binding ≡ Some b
+    → interface_of s b ≡ Some i → IsCounted i (end_in e.side b).out

@@ -1,5 +1,6 @@
 -- Sound states: the waitsets' lists, and what is limited.
-use Rattle.std.specs.Prelude.{ℕ, ◌≡◌, ◌≢◌, ◌≤◌, Bool, true, List, [], length, slice_get, Option, Some, None, IsSome, IsNone}
+use Rattle.std.specs.Prelude.{ℕ, ◌≡◌, ◌≢◌, ◌≤◌, true, [], length, slice_get, Some}
+use Rattle.std.specs.Prelude.{IsSome, IsNone}
 use Rattle.fl_base.specs.declared.identity.EndId.{EndId}
 use Rattle.fl_lists.specs.declared.place.Place.{Place}
 use Rattle.fl_lists.specs.declared.place.Place.TheVariants.{Idle, Polled, Pending}
@@ -57,12 +58,12 @@ pub record RingWasLooked (s : State) (at : RingEnd) : Type 0 where
   pub known : (written_by at.side ring).known ≡ first.told
 
 abbrev pub PendingRingsWereLookedAt : State → Type 0
-PendingRingsWereLookedAt s = (e : EndId) (b : Binding) (at : RingEnd) → Listed s Pending e b → own_ring e.side b.back ≡ Some at
-    → RingWasLooked s at
+PendingRingsWereLookedAt s = (e : EndId) (b : Binding) (at : RingEnd) → Listed s Pending e b
+    → own_ring e.side b.back ≡ Some at → RingWasLooked s at
 
 abbrev pub PendingQueuesHold : State → Type 0
-PendingQueuesHold s = (e : EndId) (b : Binding) (q : Queue) → Listed s Pending e b → (end_in e.side b).queue ≡ Some q
-    → q.labels ≢ []
+PendingQueuesHold s = (e : EndId) (b : Binding) (q : Queue) → Listed s Pending e b
+    → (end_in e.side b).queue ≡ Some q → q.labels ≢ []
 
 -- ---- limits
 
@@ -70,11 +71,12 @@ abbrev pub FewRepliesWait : State → Type 0
 FewRepliesWait s = (e : EndId) (x : End) → end_of s e ≡ Some x → length x.out.waiting ≤ 16
 
 abbrev pub QueuesHaveRoom : State → Type 0
-QueuesHaveRoom s = (e : EndId) (x : End) (q : Queue) → end_of s e ≡ Some x → x.queue ≡ Some q → length q.labels ≤ q.capacity
+QueuesHaveRoom s = (e : EndId) (x : End) (q : Queue) → end_of s e ≡ Some x → x.queue ≡ Some q
+    → length q.labels ≤ q.capacity
 
 abbrev pub OutboxesHaveRoom : State → Type 0
-OutboxesHaveRoom s = (n l : ℕ) (k : Core) (link : Link) → core_of s n ≡ Some k → slice_get k.links l ≡ Some link
-    → length link.outbox ≤ 64
+OutboxesHaveRoom s = (n l : ℕ) (k : Core) (link : Link) → core_of s n ≡ Some k
+    → slice_get k.links l ≡ Some link → length link.outbox ≤ 64
 
 -- while the number of cores may be set, there is nothing but cores and interfaces
 pub record IsBare (s : State) : Type 0 where

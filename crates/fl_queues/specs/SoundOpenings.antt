@@ -1,12 +1,13 @@
 -- Sound states: the monitors' messages that are under way.
-use Rattle.std.specs.Prelude.{ℕ, ◌≡◌, ◌≤◌, ◌-◌, List, map, filter_map, slice_get, Option, Some, None, Contains}
+use Rattle.std.specs.Prelude.{ℕ, ◌≡◌, ◌≤◌, ◌-◌, map, filter_map, slice_get, Option, Some, None}
+use Rattle.std.specs.Prelude.{Contains}
 use Rattle.std.specs.List.{range_with_len}
 use Rattle.fl_lists.specs.Threads.{NoRepeat}
 use Rattle.fl_hop.specs.declared.links.LinkState.{LinkState}
 use Rattle.fl_hop.specs.Numbers.{number}
 use Rattle.fl_queues.specs.Given.{given}
 use Rattle.fl_queues.specs.Rings.{Said}
-use Rattle.fl_queues.specs.Monitors.{Core, link_to}
+use Rattle.fl_queues.specs.Monitors.{link_to}
 use Rattle.fl_queues.specs.State.{Route, State, core_of}
 use Rattle.fl_queues.specs.Standing.{Routed, Message, due_message, under_way, opening_number, answer_number}
 
@@ -22,8 +23,8 @@ pub record OpeningsGo (s : State) (a b : ℕ) (here there : LinkState) : Type 0 
       ≡ map (number a b) (range_with_len there.taken (here.opened - there.taken))
 
 abbrev pub OpeningsGoInOrder : State → Type 0
-OpeningsGoInOrder s = (a b : ℕ) (here there : LinkState) → link_state s a b ≡ Some here → link_state s b a ≡ Some there
-    → OpeningsGo s a b here there
+OpeningsGoInOrder s = (a b : ℕ) (here there : LinkState) → link_state s a b ≡ Some here
+    → link_state s b a ≡ Some there → OpeningsGo s a b here there
 
 -- the message is the one that is due for a binding
 pub record IsDue (s : State) (m : Message) : Type 0 where
@@ -33,7 +34,8 @@ pub record IsDue (s : State) (m : Message) : Type 0 where
   pub due : due_message binding route ≡ Some m
 
 abbrev pub MessagesAreDue : State → Type 0
-MessagesAreDue s = (a b : ℕ) (m : Said) → Contains (under_way s a b) m → IsDue s (record { from = a; to = b; said = m })
+MessagesAreDue s = (a b : ℕ) (m : Said) → Contains (under_way s a b) m
+    → IsDue s (record { from = a; to = b; said = m })
 
 -- no two answers under way on a link are for one circuit
 abbrev pub AnswersComeOnce : State → Type 0

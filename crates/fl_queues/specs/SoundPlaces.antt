@@ -1,15 +1,15 @@
 -- Sound states: cores, links, rings, services and ends stand where they are looked for.
-use Rattle.std.specs.Prelude.{ℕ, ◌≡◌, ◌<◌, ◌+◌, true, length, slice_get, Option, Some, None, IsSome, IsNone}
+use Rattle.std.specs.Prelude.{ℕ, ◌≡◌, ◌+◌, length, slice_get, Some, IsSome, IsNone}
 use Rattle.fl_base.specs.declared.identity.EndId.{EndId}
-use Rattle.fl_hop.specs.Table.{TheCircuits}
 use Rattle.fl_hop.specs.Joined.{Sound as IsTable}
 use Rattle.fl_queues.specs.Events.{DispatcherId}
 use Rattle.fl_queues.specs.Calls.{Planned}
 use Rattle.fl_queues.specs.Rings.{RingSide, first_side, second_side, RingEnd, Ring}
-use Rattle.fl_queues.specs.Ends.{Queue, Seat, End, Direction}
+use Rattle.fl_queues.specs.Ends.{End}
 use Rattle.fl_queues.specs.Waits.{Dispatcher}
 use Rattle.fl_queues.specs.Monitors.{Core, Link, Service}
-use Rattle.fl_queues.specs.State.{Back, local, over_ring, over_route, Binding, State, core_of, dispatcher_of, interface_of, end_of, link_between, own_ring}
+use Rattle.fl_queues.specs.State.{Back, local, over_ring, over_route, Binding, State, core_of, dispatcher_of}
+use Rattle.fl_queues.specs.State.{interface_of, end_of, link_between, own_ring}
 
 -- each core's table is its own, with a link of the monitor for each of its links
 pub record CoreStands (n : ℕ) (k : Core) : Type 0 where
@@ -42,7 +42,8 @@ pub data Owner : Type 0 where
 
 abbrev pub owns : State → Owner → RingEnd → Type 0
 owns s (core_to a b) at = (link : Link) × (link_between s a b ≡ Some link) × (link.ring ≡ at)
-owns s (this_end e) at = (b : Binding) × (slice_get s.bindings e.binding ≡ Some b) × (own_ring e.side b.back ≡ Some at)
+owns s (this_end e) at =
+    (b : Binding) × (slice_get s.bindings e.binding ≡ Some b) × (own_ring e.side b.back ≡ Some at)
 
 -- each side of a ring has one owner
 abbrev pub RingsHaveOneOwner : State → Type 0
@@ -84,5 +85,5 @@ HasSeat s e d c = (x : End) × (end_of s e ≡ Some x) × (x.seat ≡ Some (reco
 pub record SeatsAgree (s : State) : Type 0 where
   pub seated : (e : EndId) (d : DispatcherId) (c : ℕ) → HasSeat s e d c
       → (y : Dispatcher) × (dispatcher_of s d ≡ Some y) × (slice_get y.ends c ≡ Some e)
-  pub listed : (d : DispatcherId) (y : Dispatcher) (c : ℕ) (e : EndId) → dispatcher_of s d ≡ Some y → slice_get y.ends c ≡ Some e
-      → HasSeat s e d c
+  pub listed : (d : DispatcherId) (y : Dispatcher) (c : ℕ) (e : EndId) → dispatcher_of s d ≡ Some y
+      → slice_get y.ends c ≡ Some e → HasSeat s e d c

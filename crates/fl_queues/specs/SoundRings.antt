@@ -9,7 +9,8 @@ abbrev pub Rises : ℕ → List ℕ → ℕ → Type 0
 Rises low [] high = low ≤ high
 Rises low (x ∷ xs) high = (low ≤ x) × Rises x xs high
 
--- what a direction's writer knows, then what the labels of the other direction tell of it, then what its reader has told
+-- what a direction's writer knows, then what the labels of the other direction tell of it, then what its
+-- reader has told
 pub record HalfCounts (size : ℕ) (h : Half) (others : List RingLabel) : Type 0 where
   pub standing : h.sent ≡ h.read + length h.waiting
   pub telling : Rises h.known (map (λ (l : RingLabel). l.told) others) h.told

@@ -1,14 +1,15 @@
 -- Sound states: routes, the circuits' numbers on them, and how far the answer has come.
-use Rattle.std.specs.Prelude.{ℕ, zero, suc, ◌≡◌, ◌≤◌, ◌<◌, ◌+◌, ◌-◌, true, length, slice_get, Option, Some, None, IsSome}
-use Rattle.fl_queues.specs.Rings.{Opening}
-use Rattle.fl_queues.specs.Ends.{Seat, End}
+use Rattle.std.specs.Prelude.{ℕ, zero, suc, ◌≡◌, ◌≤◌, ◌<◌, ◌+◌, ◌-◌, true, length, slice_get, Some}
+use Rattle.std.specs.Prelude.{None, IsSome}
+use Rattle.fl_queues.specs.Ends.{Seat}
 use Rattle.fl_queues.specs.Monitors.{Service, service_of}
-use Rattle.fl_queues.specs.State.{Verdict, undecided, granted, denied, Route, Back, local, over_ring, over_route, Binding, State, link_between}
+use Rattle.fl_queues.specs.State.{Verdict, undecided, granted, denied, Route, Back, local, over_ring}
+use Rattle.fl_queues.specs.State.{over_route, Binding, State, link_between}
 use Rattle.fl_queues.specs.Binding.{all_differ}
 use Rattle.fl_queues.specs.Standing.{Routed, core_at, number_at}
 
--- a route has 2 to 16 different cores, the first that of the client's dispatcher, the last that of the service's, where
--- the server's end is once it is made
+-- a route has 2 to 16 different cores, the first that of the client's dispatcher, the last that of the
+-- service's, where the server's end is once it is made
 pub record RouteLeads (s : State) (route : Route) (b : Binding) : Type 0 where
   pub some : 2 ≤ length route.cores
   pub few : length route.cores ≤ 16
@@ -28,7 +29,8 @@ RoutesLead s = (n : ℕ) (route : Route) (r : Routed s n route) → RouteLeads s
 pub record NumbersGo (s : State) (route : Route) : Type 0 where
   pub some : 1 ≤ length route.numbers
   pub few : length route.numbers + 1 ≤ length route.cores
-  pub linked : (j : ℕ) → j < length route.numbers → IsSome (link_between s (core_at route j) (core_at route (j + 1)))
+  pub linked : (j : ℕ) → j < length route.numbers
+      → IsSome (link_between s (core_at route j) (core_at route (j + 1)))
 
 abbrev pub NumbersGoAlongRoutes : State → Type 0
 NumbersGoAlongRoutes s = (n : ℕ) (route : Route) → Routed s n route → NumbersGo s route
@@ -47,17 +49,25 @@ abbrev pub ClientBoundAfter : Route → ℕ → Binding → Type 0
 ClientBoundAfter route zero b = b.client.circuit ≡ Some (number_at route 0)
 ClientBoundAfter route (suc i) b = b.client.circuit ≡ None
 
--- which ends are bound, by the answer: the server's, which is made then, once the opening was granted, on the last
--- number; the client's once nobody waits for that any more, on the first
+abbrev pub NoneBound : Binding → Type 0
+NoneBound b = (b.client.circuit ≡ None) × (b.server.circuit ≡ None) × (b.server.seat ≡ None)
+
+-- which ends are bound, by the answer: the server's, which is made then, once the opening was granted, on the
+-- last number; the client's once nobody waits for that any more, on the first
 abbrev pub BoundBy : Route → Verdict → Binding → Type 0
-BoundBy route undecided b = (b.client.circuit ≡ None) × (b.server.circuit ≡ None) × (b.server.seat ≡ None)
-BoundBy route (denied i fault) b = (b.client.circuit ≡ None) × (b.server.circuit ≡ None) × (b.server.seat ≡ None)
+BoundBy route undecided b = NoneBound b
+BoundBy route (denied i fault) b = NoneBound b
 BoundBy route (granted i) b =
-    ClientBoundAfter route i b × (b.server.circuit ≡ Some (number_at route (length route.numbers - 1))) × IsSome b.server.seat
+    ClientBoundAfter route i b × (b.server.circuit ≡ Some (number_at route (length route.numbers - 1)))
+    × IsSome b.server.seat
+
+abbrev pub BothBound : Binding → Type 0
+BothBound b =
+    (b.client.circuit ≡ Some 0) × (b.server.circuit ≡ Some 0) × IsSome b.client.seat × IsSome b.server.seat
 
 abbrev pub BoundWhere : Back → Binding → Type 0
-BoundWhere local b = (b.client.circuit ≡ Some 0) × (b.server.circuit ≡ Some 0) × IsSome b.client.seat × IsSome b.server.seat
-BoundWhere (over_ring n) b = (b.client.circuit ≡ Some 0) × (b.server.circuit ≡ Some 0) × IsSome b.client.seat × IsSome b.server.seat
+BoundWhere local b = BothBound b
+BoundWhere (over_ring n) b = BothBound b
 BoundWhere (over_route route) b = BoundBy route route.verdict b
 
 abbrev pub EndsAreBound : State → Type 0

@@ -1,12 +1,14 @@
--- What the predicates of sound states speak of: how far a circuit has come, what stands between two cores, and what
--- stands of a direction at each of its stations.
-use Rattle.std.specs.Prelude.{ℕ, zero, suc, ◌≡◌, ◌+◌, ◌-◌, ◌==◌, if◌then◌else◌, List, [], ◌∷◌, ◌++◌, length, map, filter_map, slice_get, slice_index, Option, Some, None}
+-- What the predicates of sound states speak of: how far a circuit has come, what stands between two cores,
+-- and what stands of a direction at each of its stations.
+use Rattle.std.specs.Prelude.{ℕ, zero, suc, ◌≡◌, ◌-◌, ◌==◌, if◌then◌else◌, List, [], ◌++◌, length}
+use Rattle.std.specs.Prelude.{map, filter_map, slice_get, slice_index, Option, Some, None}
 use Rattle.fl_base.specs.declared.identity.EndId.{EndId}
 use Rattle.fl_base.specs.Ends.{peer}
 use Rattle.fl_queues.specs.Given.{given}
-use Rattle.fl_queues.specs.Rings.{Opening, Said, open_circuit, circuit_opened, circuit_refused, Label, next_of, says, acknowledges, RingLabel, read_by, written_by, RingEnd}
-use Rattle.fl_queues.specs.Ends.{End}
-use Rattle.fl_queues.specs.State.{Verdict, undecided, granted, denied, Route, Back, local, over_ring, over_route, Binding, State, way_of, side_of, end_of, link_between}
+use Rattle.fl_queues.specs.Rings.{Said, open_circuit, circuit_opened, circuit_refused, Label}
+use Rattle.fl_queues.specs.Rings.{next_of, says, RingLabel, read_by, written_by, RingEnd}
+use Rattle.fl_queues.specs.State.{Verdict, undecided, granted, denied, Route, Back, local, over_ring}
+use Rattle.fl_queues.specs.State.{over_route, Binding, State, way_of, side_of, end_of, link_between}
 use Rattle.fl_queues.specs.Runs.{same_end}
 
 -- ---- circuits
@@ -48,22 +50,31 @@ pub record Message : Type 0 where
   pub to : ℕ
   pub said : Said
 
--- the one message that is under way for binding n: its opening, to the core behind those that have numbers; or the
--- answer, to the last of those that wait for it
+-- the message goes back to core i of the route
+abbrev pub back_to : Route → ℕ → Said → Message
+back_to route i m = record { from = core_at route (suc i); to = core_at route i; said = m }
+
+-- the one message that is under way for binding n: its opening, to the core behind those that have numbers;
+-- or the answer, to the last of those that wait for it
 abbrev pub due_by : ℕ → Route → Verdict → Option Message
 due_by n route undecided =
     let t = length route.numbers in
     Some (record {
       from = core_at route (t - 1);
       to = core_at route t;
-      said = open_circuit (record { circuit = number_at route (t - 1); binding = n; service = route.service; path = route.cores });
+      said = open_circuit (record {
+        circuit = number_at route (t - 1);
+        binding = n;
+        service = route.service;
+        path = route.cores;
+      });
     })
 due_by n route (granted zero) = None
 due_by n route (granted (suc i)) =
-    Some (record { from = core_at route (suc i); to = core_at route i; said = circuit_opened (number_at route i) })
+    Some (back_to route i (circuit_opened (number_at route i)))
 due_by n route (denied zero fault) = None
 due_by n route (denied (suc i) fault) =
-    Some (record { from = core_at route (suc i); to = core_at route i; said = circuit_refused (number_at route i) fault })
+    Some (back_to route i (circuit_refused (number_at route i) fault))
 
 abbrev pub due_message : ℕ → Route → Option Message
 due_message n route = due_by n route route.verdict
@@ -107,8 +118,8 @@ queue_of s e = given (end_of s e) [] λ x. given x.queue [] λ q. q.labels
 abbrev pub ring_from : State → EndId → ℕ → List Label
 ring_from s e n = given (slice_get s.rings n) [] λ r. labels_of (written_by (side_of e.side) r).waiting
 
--- what stands before station j of an end's direction, on a way over these cores: on the link that ends at core j of the
--- way, or, before the last station, in the other end's queue
+-- what stands before station j of an end's direction, on a way over these cores: on the link that ends at
+-- core j of the way, or, before the last station, in the other end's queue
 abbrev pub before_on : State → EndId → List ℕ → ℕ → List Label
 before_on s e way j =
     if j == length way then queue_of s (peer e) else on_link s (slice_index way (j - 1)) (slice_index way j)

@@ -1,5 +1,6 @@
 -- The state of the whole machine, where things are found in it, and what changes it by one thing.
-use Rattle.std.specs.Prelude.{ℕ, ◌==◌, min, Bool, true, List, [], ◌∷◌, length, reverse, position, slice_get, Option, Some, None}
+use Rattle.std.specs.Prelude.{ℕ, ◌==◌, min, Bool, true, List, [], ◌∷◌, length, reverse, position, slice_get}
+use Rattle.std.specs.Prelude.{Option, Some, None}
 use Rattle.fl_base.specs.declared.identity.Side.{Side}
 use Rattle.fl_base.specs.declared.identity.Side.TheVariants.{Client, Server}
 use Rattle.fl_base.specs.declared.identity.EndId.{EndId}
@@ -7,7 +8,7 @@ use Rattle.fl_queues.specs.Given.{given, changed_at}
 use Rattle.fl_queues.specs.Events.{DispatcherId, Answer}
 use Rattle.fl_queues.specs.Calls.{Planned}
 use Rattle.fl_queues.specs.Rings.{Label, Ring, RingSide, first_side, second_side, RingEnd}
-use Rattle.fl_queues.specs.Ends.{Queue, joined_by, Direction, End}
+use Rattle.fl_queues.specs.Ends.{Queue, joined_by, Direction, Seat, End}
 use Rattle.fl_queues.specs.Waits.{Dispatcher, waits_in, registers, is_triggered, with_end}
 use Rattle.fl_queues.specs.Monitors.{Link, Core, fresh_core, Service, link_to}
 
@@ -26,8 +27,8 @@ pub record Route : Type 0 where
   pub service : ℕ
   -- the cores, the client's first
   pub cores : List ℕ
-  -- the circuit's number on each link of the route so far, and the answer: history, which no step looks at but to find
-  -- the number that a label's fragment carries
+  -- the circuit's number on each link of the route so far, and the answer: history, which no step looks at
+  -- but to find the number that a label's fragment carries
   pub numbers : List ℕ
   pub verdict : Verdict
 
@@ -58,14 +59,21 @@ pub record State : Type 0 where
 
 -- at the start there is one core
 abbrev pub start : State
-start = record { may_set_cores = true; cores = fresh_core 0 ∷ []; rings = []; interfaces = []; services = []; bindings = [] }
+start = record {
+  may_set_cores = true;
+  cores = fresh_core 0 ∷ [];
+  rings = [];
+  interfaces = [];
+  services = [];
+  bindings = [];
+}
 
 -- what an event makes of the state, and its answer
 pub record Outcome : Type 0 where
   pub state : State
   pub answer : Answer
 
--- nothing changes
+-- this state, and this answer
 abbrev pub answers : State → Answer → Outcome
 answers s a = record { state = s; answer = a }
 
@@ -141,7 +149,8 @@ first_link s way =
 abbrev pub outlet_by : State → Side → Back → Option Outlet
 outlet_by s side local = Some peer_queue
 outlet_by s side (over_ring n) = Some (ring_side (record { ring = n; side = side_of side }))
-outlet_by s side (over_route route) = given (first_link s (way_of side route)) None λ link. Some (ring_side link.ring)
+outlet_by s side (over_route route) =
+    given (first_link s (way_of side route)) None λ link. Some (ring_side link.ring)
 
 -- the side of the binding's own ring that an end writes and reads
 abbrev pub own_ring : Side → Back → Option RingEnd
@@ -154,7 +163,8 @@ abbrev pub change_core : ℕ → (Core → Core) → State → State
 change_core core f s = record s { cores = changed_at core f s.cores }
 
 abbrev pub change_dispatcher : DispatcherId → (Dispatcher → Dispatcher) → State → State
-change_dispatcher d f s = change_core d.core (λ k. record k { dispatchers = changed_at d.place f k.dispatchers }) s
+change_dispatcher d f s =
+    change_core d.core (λ k. record k { dispatchers = changed_at d.place f k.dispatchers }) s
 
 abbrev pub change_ring : ℕ → (Ring → Ring) → State → State
 change_ring n f s = record s { rings = changed_at n f s.rings }
@@ -195,7 +205,8 @@ change_channel e f s =
 abbrev pub seats : DispatcherId → EndId → State → State
 seats d e s =
     given (dispatcher_of s d) s λ x.
-    change_dispatcher d (with_end e) (change_end e (λ y. record y { seat = Some (record { dispatcher = d; channel = length x.ends }) }) s)
+    let seat : Seat = record { dispatcher = d; channel = length x.ends } in
+    change_dispatcher d (with_end e) (change_end e (λ y. record y { seat = Some seat }) s)
 
 -- an end's channel is registered, where it waits
 abbrev pub registers_end : EndId → State → State

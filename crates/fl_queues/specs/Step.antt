@@ -1,6 +1,8 @@
 -- One event of the machine: the state after it, and the answer.
 use Rattle.std.specs.Prelude.{false}
-use Rattle.fl_queues.specs.Events.{Event, add_interface, set_cores, add_link, add_dispatcher, export, bind, call, show, write, turn, acknowledge, register, deregister, reply, monitor_write, forward, monitor_acknowledge, Answer, refused}
+use Rattle.fl_queues.specs.Events.{Event, add_interface, set_cores, add_link, add_dispatcher, export, bind}
+use Rattle.fl_queues.specs.Events.{call, show, write, turn, acknowledge, register, deregister, reply}
+use Rattle.fl_queues.specs.Events.{monitor_write, forward, monitor_acknowledge, Answer, refused}
 use Rattle.fl_queues.specs.State.{State, Outcome}
 use Rattle.fl_queues.specs.Making.{adds_interface, sets_cores, adds_link, adds_dispatcher, exports}
 use Rattle.fl_queues.specs.Binding.{binds}

@@ -1,20 +1,28 @@
--- Events by which a dispatcher takes: a turn of its waitset, and what an end says of itself: it acknowledges, registers
--- its channel or deregisters it, sets a reply rule. The refusals stand in the order in which they are answered, and
--- change nothing.
-use Rattle.std.specs.Prelude.{ℕ, ◌||◌, nat_le, not, Bool, if◌then◌else◌, length, slice_get, Option, Some, None}
+-- Events by which a dispatcher takes: a turn of its waitset, and what an end says of itself: it acknowledges,
+-- registers its channel or deregisters it, sets a reply rule. The refusals stand in the order in which they
+-- are answered, and change nothing.
+use Rattle.std.specs.Prelude.{ℕ, ◌&&◌, nat_le, nat_lt, not, Bool, if◌then◌else◌, List, length, slice_get}
+use Rattle.std.specs.Prelude.{Option, Some, None}
 use Rattle.fl_base.specs.declared.identity.EndId.{EndId}
 use Rattle.fl_lists.specs.declared.place.Place.{Place}
 use Rattle.fl_lists.specs.declared.place.Place.TheVariants.{Polled, Pending}
 use Rattle.fl_waitset.specs.Waiting.{is_registered}
+use Rattle.fl_check.specs.Interface.{TheArgType}
 use Rattle.fl_value.specs.Tape.{types_of}
 use Rattle.fl_queues.specs.Given.{given}
-use Rattle.fl_queues.specs.Events.{DispatcherId, Answer, done, nothing, full, handle, part, ready, quiet, refused}
+use Rattle.fl_queues.specs.Events.{DispatcherId, Answer, done, nothing, full, handle, part, ready, quiet}
+use Rattle.fl_queues.specs.Events.{refused}
 use Rattle.fl_queues.specs.Calls.{Planned}
 use Rattle.fl_queues.specs.SameTypes.{same_arguments}
-use Rattle.fl_queues.specs.Rings.{Label, next_of, acknowledges, Ring, RingEnd, first_for, looks, Room, there_is_room, room, makes_sure, puts, takes, for_acknowledgement, owes}
-use Rattle.fl_queues.specs.Ends.{Queue, without_first, End, is_bound, with_rule, holds_back, Taken, whole, a_part, takes_one, comes_to, replies}
-use Rattle.fl_queues.specs.Waits.{Dispatcher, waits_in, deregisters, puts_off, pending, polled, no_one, Due, due}
-use Rattle.fl_queues.specs.State.{State, Outcome, answers, dispatcher_of, binding_of, interface_of, end_in, end_of, change_dispatcher, change_ring, change_end, change_out, in_queue, change_channel, registers_end, own_ring}
+use Rattle.fl_queues.specs.Rings.{Label, next_of, acknowledges, Ring, RingEnd, first_for, looks, Room}
+use Rattle.fl_queues.specs.Rings.{there_is_room, room, makes_sure, puts, takes, for_acknowledgement, owes}
+use Rattle.fl_queues.specs.Ends.{Queue, without_first, End, is_bound, with_rule, holds_back, Taken, whole}
+use Rattle.fl_queues.specs.Ends.{a_part, takes_one, comes_to, replies}
+use Rattle.fl_queues.specs.Waits.{Dispatcher, waits_in, deregisters, puts_off, pending, polled, no_one, Due}
+use Rattle.fl_queues.specs.Waits.{due}
+use Rattle.fl_queues.specs.State.{State, Outcome, answers, dispatcher_of, binding_of, interface_of, end_in}
+use Rattle.fl_queues.specs.State.{end_of, change_dispatcher, change_ring, change_end, change_out, in_queue}
+use Rattle.fl_queues.specs.State.{change_channel, registers_end, own_ring}
 
 -- ---- a turn: a pending channel is given a fragment
 
@@ -31,15 +39,15 @@ abbrev pub takes_label : EndId → Planned → Label → State → Outcome
 takes_label e i (next_of sender k) s =
     given (end_of s sender) (answers s (quiet e)) λ y.
     let taken = comes_to i y.out in
-    record { state = takes_next e sender taken i s; answer = taken_answer e taken }
+    answers (takes_next e sender taken i s) (taken_answer e taken)
 takes_label e i label s = answers s (quiet e)
 
 -- channel c of dispatcher d was first pending, and goes to the back of a list
 abbrev pub goes_back : DispatcherId → ℕ → Place → State → State
 goes_back d c to s = change_dispatcher d (puts_off Pending c to) s
 
--- from a queue: the channel goes back to pending where the queue still holds a fragment, and else to idle. A pending
--- channel without a fragment, which no run meets, does so too, and nothing is answered
+-- from a queue: the channel goes back to pending where the queue still holds a fragment, and else to idle. A
+-- pending channel without a fragment, which no run meets, does so too, and nothing is answered
 abbrev pub gives_from_queue : DispatcherId → ℕ → EndId → Planned → Queue → State → Outcome
 gives_from_queue d c e i q s =
     given (slice_get q.labels 0) (answers (goes_back d c (waits_in (Some q)) s) nothing) λ label.
@@ -65,7 +73,7 @@ gives d c e s =
     given (binding_of s e) (answers s nothing) λ b.
     given (interface_of s b) (answers s nothing) λ i.
     let x = end_in e.side b in
-    if holds_back x then record { state = goes_back d c Pending s; answer = full }
+    if holds_back x then answers (goes_back d c Pending s) full
     else gives_by d c e i x.queue (own_ring e.side b.back) s
 
 -- ---- a turn: a polled channel is examined
@@ -77,12 +85,13 @@ comes_off d c to s = change_dispatcher d (puts_off Polled c to) s
 -- by what stands first, which was looked at: a fragment of a call leaves the channel pending; one that only
 -- acknowledges is taken
 abbrev pub finds : DispatcherId → ℕ → EndId → RingEnd → Label → State → Outcome
-finds d c e at acknowledges s = record { state = comes_off d c Polled (change_ring at.ring (takes at.side) s); answer = quiet e }
-finds d c e at label s = record { state = comes_off d c Pending s; answer = ready e }
+finds d c e at acknowledges s =
+    answers (comes_off d c Polled (change_ring at.ring (takes at.side) s)) (quiet e)
+finds d c e at label s = answers (comes_off d c Pending s) (ready e)
 
 abbrev pub examines_ring : DispatcherId → ℕ → EndId → RingEnd → Ring → State → Outcome
 examines_ring d c e at r s =
-    given (first_for at.side r) (record { state = comes_off d c Polled s; answer = quiet e }) λ first.
+    given (first_for at.side r) (answers (comes_off d c Polled s) (quiet e)) λ first.
     finds d c e at first.label (change_ring at.ring (looks at.side) s)
 
 abbrev pub examines : DispatcherId → ℕ → EndId → State → Outcome
@@ -106,7 +115,7 @@ turns d s = given (dispatcher_of s d) (answers s (refused 92)) λ x. turns_by d 
 
 -- by the room that there is for one more fragment
 abbrev pub acknowledges_by : RingEnd → Room → State → Outcome
-acknowledges_by at there_is_room s = record { state = change_ring at.ring (puts at.side acknowledges) s; answer = done }
+acknowledges_by at there_is_room s = answers (change_ring at.ring (puts at.side acknowledges) s) done
 acknowledges_by at r s = answers s full
 
 -- where half a ring was read and isn't told
@@ -116,7 +125,8 @@ acknowledges_on at s =
     if not (owes at.side r) then answers s nothing
     else
     let sure = makes_sure for_acknowledgement at.side r in
-    acknowledges_by at (room for_acknowledgement at.side sure) (change_ring at.ring (makes_sure for_acknowledgement at.side) s)
+    let looked = change_ring at.ring (makes_sure for_acknowledgement at.side) s in
+    acknowledges_by at (room for_acknowledgement at.side sure) looked
 
 abbrev pub acknowledges_end : EndId → State → Outcome
 acknowledges_end e s =
@@ -138,22 +148,27 @@ registers_by e s =
     given (end_of s e) (answers s (refused 92)) λ x.
     if not (is_bound x) then answers s (refused 43)
     else if has_channel_listed x s then answers s (refused 50)
-    else record { state = registers_end e s; answer = done }
+    else answers (registers_end e s) done
 
 abbrev pub deregisters_by : EndId → State → Outcome
 deregisters_by e s =
     given (end_of s e) (answers s (refused 92)) λ x.
     if not (is_bound x) then answers s (refused 43)
     else if not (has_channel_listed x s) then answers s (refused 51)
-    else record { state = change_channel e (λ c y. deregisters c) s; answer = done }
+    else answers (change_channel e (λ c y. deregisters c) s) done
 
 -- ---- a reply rule, which may be set before the end is bound
+
+abbrev pub has_message : ℕ → Planned → Bool
+has_message msg i = nat_lt msg (length i.interface.messages)
+
+abbrev pub arguments_of : ℕ → Planned → List TheArgType
+arguments_of msg i = types_of (slice_get i.interface.messages msg)
 
 abbrev pub sets_rule : EndId → ℕ → ℕ → State → Outcome
 sets_rule e msg answer s =
     given (binding_of s e) (answers s (refused 92)) λ b.
     given (interface_of s b) (answers s (refused 92)) λ i.
-    let messages = i.interface.messages in
-    if nat_le (length messages) msg || nat_le (length messages) answer then answers s (refused 41)
-    else if not (same_arguments (types_of (slice_get messages msg)) (types_of (slice_get messages answer))) then answers s (refused 42)
-    else record { state = change_end e (with_rule msg answer) s; answer = done }
+    if not (has_message msg i && has_message answer i) then answers s (refused 41)
+    else if not (same_arguments (arguments_of msg i) (arguments_of answer i)) then answers s (refused 42)
+    else answers (change_end e (with_rule msg answer) s) done

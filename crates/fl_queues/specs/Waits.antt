@@ -1,5 +1,7 @@
--- A dispatcher's waitset: its channels, one an end, in three lists. A channel that is in none isn't registered.
-use Rattle.std.specs.Prelude.{ℕ, ◌+◌, nat_le, nat_lt, Bool, if◌then◌else◌, List, [], ◌∷◌, ◌++◌, length, Option, Some, None}
+-- A dispatcher's waitset: its channels, one an end, in three lists. A channel that is in none isn't
+-- registered.
+use Rattle.std.specs.Prelude.{ℕ, ◌+◌, nat_le, nat_lt, Bool, if◌then◌else◌, List, [], ◌∷◌, ◌++◌, length}
+use Rattle.std.specs.Prelude.{Option, Some, None}
 use Rattle.fl_base.specs.declared.identity.EndId.{EndId}
 use Rattle.fl_lists.specs.declared.place.Place.{Place}
 use Rattle.fl_lists.specs.declared.place.Place.TheVariants.{Idle, Polled, Pending}
@@ -28,8 +30,8 @@ has_places n d = nat_le (length d.ends + n) most_ends
 abbrev pub with_end : EndId → Dispatcher → Dispatcher
 with_end e d = record d { ends = d.ends ++ e ∷ [] }
 
--- where a channel waits, by the queue of its end: a ring is polled; a queue's channel is pending where a fragment
--- stands, and else idle
+-- where a channel waits, by the queue of its end: a ring is polled; a queue's channel is pending where a
+-- fragment stands, and else idle
 abbrev pub waits_in : Option Queue → Place
 waits_in None = Polled
 waits_in (Some q) = if nat_lt 0 (length q.labels) then Pending else Idle

@@ -8,9 +8,12 @@ use Rattle.fl_check.specs.Interface.{TheInterface, scalar, fixed, text}
 use Rattle.fl_value.specs.Value.{number, string, TheCall}
 use Rattle.fl_value.specs.declared.value.PlanNo.TheVariants.{One, Two}
 use Rattle.fl_queues.specs.Events.{DispatcherId, by_queues, by_ring, by_route, Event, Answer}
-use Rattle.fl_queues.specs.Events.{add_interface, set_cores, add_link, add_dispatcher, export, bind, call, show, write, turn}
-use Rattle.fl_queues.specs.Events.{acknowledge, register, deregister, reply, monitor_write, forward, monitor_acknowledge}
-use Rattle.fl_queues.specs.Events.{done, accepted, nothing, full, written, handle, part, ready, quiet, forwarded, opened}
+use Rattle.fl_queues.specs.Events.{add_interface, set_cores, add_link, add_dispatcher, export, bind, call}
+use Rattle.fl_queues.specs.Events.{show, write, turn}
+use Rattle.fl_queues.specs.Events.{acknowledge, register, deregister, reply, monitor_write, forward}
+use Rattle.fl_queues.specs.Events.{monitor_acknowledge}
+use Rattle.fl_queues.specs.Events.{done, accepted, nothing, full, written, handle, part, ready, quiet}
+use Rattle.fl_queues.specs.Events.{forwarded, opened}
 use Rattle.fl_queues.specs.Events.{opening_refused, words, refused}
 use Rattle.fl_queues.specs.State.{start}
 use Rattle.fl_queues.specs.Runs.{Exchange, run}
@@ -28,7 +31,10 @@ IsRow row = run start (map (λ (x : Exchange). x.event) row) ≡ row
 
 -- interface i { message ping(uint32 v); }
 abbrev pub pings : TheInterface
-pings = record { name = codes "i"; messages = record { name = codes "ping"; args = fixed (scalar Uint32) ∷ [] } ∷ [] }
+pings = record {
+  name = codes "i";
+  messages = record { name = codes "ping"; args = fixed (scalar Uint32) ∷ [] } ∷ [];
+}
 
 -- interface i { message blob(string s); }
 abbrev pub blobs : TheInterface
@@ -131,14 +137,16 @@ one_reply = local_frame echoes 4 ++
 -- so many calls, from number v on, each written
 abbrev pub calls_from : ℕ → ℕ → List Exchange
 calls_from v zero = []
-calls_from v (suc n) = (call (client 0) (ping v) ⇒ accepted) ∷ (write (client 0) ⇒ written 1 1) ∷ calls_from (v + 1) n
+calls_from v (suc n) =
+    (call (client 0) (ping v) ⇒ accepted) ∷ (write (client 0) ⇒ written 1 1) ∷ calls_from (v + 1) n
 
 -- so many turns of the server's dispatcher, each of which handles a call, from number v on
 abbrev pub handles_from : ℕ → ℕ → List Exchange
 handles_from v zero = []
 handles_from v (suc n) = (turn (on 0 1) ⇒ handle (server 0) (ping v)) ∷ handles_from (v + 1) n
 
--- 18 calls to an end with a rule: the first reply is accepted, 16 wait, and the last call is left until one is written
+-- 18 calls to an end with a rule: the first reply is accepted, 16 wait, and the last call is left until one
+-- is written
 abbrev pub sixteen_wait : List Exchange
 sixteen_wait = local_frame echoes 32 ++
     ((reply (server 0) 0 1 ⇒ done) ∷ calls_from 1 18 ++ handles_from 1 17 ++
@@ -194,7 +202,8 @@ ring_call v control acknowledged =
 
 -- epochs go round; a polled turn that finds an acknowledgement makes room
 abbrev pub ring_goes_round : List Exchange
-ring_goes_round = ring_frame 4 ++ ring_call 1 3 nothing ++ ring_call 2 3 done ++ ring_call 3 3 nothing ++ ring_call 4 3 done
+ring_goes_round = ring_frame 4 ++ ring_call 1 3 nothing ++ ring_call 2 3 done ++ ring_call 3 3 nothing
+    ++ ring_call 4 3 done
     ++ ring_call 5 2 nothing ++
     (call (client 0) (ping 6) ⇒ accepted)
     ∷ (write (client 0) ⇒ full)
@@ -204,7 +213,8 @@ ring_goes_round = ring_frame 4 ++ ring_call 1 3 nothing ++ ring_call 2 3 done ++
 
 -- ---- waitsets
 
--- two rings and a queue at one dispatcher: pending comes before polled, and a channel that left hears of nothing
+-- two rings and a queue at one dispatcher: pending comes before polled, and a channel that left hears of
+-- nothing
 abbrev pub waitset : List Exchange
 waitset =
     (add_interface pings Two ⇒ done)
