@@ -23,3 +23,4 @@ pub mod SoundLabels
 pub mod SoundRings
 pub mod SoundLists
 pub mod Sound
+pub mod Laws

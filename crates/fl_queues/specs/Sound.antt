@@ -4,13 +4,15 @@ use Rattle.fl_queues.specs.State.{State}
 use Rattle.fl_queues.specs.SoundPlaces.{CoresStand, LinksArePaired, RingsHaveOneOwner, ServicesStand}
 use Rattle.fl_queues.specs.SoundPlaces.{EndsStand, SeatsAgree}
 use Rattle.fl_queues.specs.SoundRoutes.{RoutesLead, NumbersGoAlongRoutes, VerdictsFit, EndsAreBound}
+use Rattle.fl_queues.specs.SoundRoutes.{NumbersWereOpened, NumbersAreOnce}
 use Rattle.fl_queues.specs.SoundOpenings.{OpeningsGoInOrder, MessagesAreDue, AnswersComeOnce}
-use Rattle.fl_queues.specs.SoundEntries.{EntriesStand, EntriesAreDue, AnswersAreAwaited, NumbersWereGiven}
+use Rattle.fl_queues.specs.SoundEntries.{EntriesStand, EntriesAreDue, AnswersAreAwaited}
 use Rattle.fl_queues.specs.SoundLabels.{LabelsFollow, LabelsKeepToTheirWays, NothingBeforeTheOpening}
 use Rattle.fl_queues.specs.SoundLabels.{WritesAreCounted}
 use Rattle.fl_queues.specs.SoundRings.{RingsCount, RingsFit}
 use Rattle.fl_queues.specs.SoundLists.{WaitsetsStand, ListedAreBound, PendingRingsWereLookedAt}
-use Rattle.fl_queues.specs.SoundLists.{PendingQueuesHold, FewRepliesWait, QueuesHaveRoom, OutboxesHaveRoom}
+use Rattle.fl_queues.specs.SoundLists.{PendingQueuesHold, FewRepliesWait, RepliesWaitWhereBusy}
+use Rattle.fl_queues.specs.SoundLists.{QueuesHaveRoom, OutboxesHaveRoom}
 use Rattle.fl_queues.specs.SoundLists.{BareUntilCoresAreSet}
 
 pub record Sound (s : State) : Type 0 where
@@ -26,6 +28,9 @@ pub record Sound (s : State) : Type 0 where
   pub numbers : NumbersGoAlongRoutes s
   pub verdicts : VerdictsFit s
   pub bound : EndsAreBound s
+  -- these two, only for the law that a number is given once
+  pub opened_numbers : NumbersWereOpened s
+  pub numbers_once : NumbersAreOnce s
   -- openings and answers
   pub openings : OpeningsGoInOrder s
   pub messages : MessagesAreDue s
@@ -34,7 +39,6 @@ pub record Sound (s : State) : Type 0 where
   pub entries : EntriesStand s
   pub only_entries : EntriesAreDue s
   pub awaited : AnswersAreAwaited s
-  pub given_numbers : NumbersWereGiven s
   -- labels
   pub labels : LabelsFollow s
   pub ways : LabelsKeepToTheirWays s
@@ -50,6 +54,7 @@ pub record Sound (s : State) : Type 0 where
   pub held : PendingQueuesHold s
   -- limits, which only sizes in memory need
   pub waiting : FewRepliesWait s
+  pub busy : RepliesWaitWhereBusy s
   pub queues : QueuesHaveRoom s
   pub outboxes : OutboxesHaveRoom s
   -- before the number of cores stands

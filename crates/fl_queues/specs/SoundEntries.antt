@@ -7,7 +7,6 @@ use Rattle.fl_hop.specs.declared.entry.Way.{Way}
 use Rattle.fl_hop.specs.declared.entry.Way.TheVariants.{Link as to_link, End as to_end}
 use Rattle.fl_hop.specs.declared.entry.Hop.{Hop}
 use Rattle.fl_hop.specs.Table.{hop_at}
-use Rattle.fl_hop.specs.Numbers.{Given}
 use Rattle.fl_queues.specs.Monitors.{Core, link_to}
 use Rattle.fl_queues.specs.State.{Route, State, core_of}
 use Rattle.fl_queues.specs.Binding.{end_id}
@@ -98,8 +97,3 @@ EntriesAreDue s = (key : Key) (hop : Hop) (at : EntryAt s key hop)
 abbrev pub AnswersAreAwaited : State → Type 0
 AnswersAreAwaited s = (n : ℕ) (route : Route) (j : ℕ) → Routed s n route → j < asking route
     → (hop : Hop) × EntryAt s (near_key route j) hop × (hop.answered ≡ false)
-
--- an entry stands only at a number that was given
-abbrev pub NumbersWereGiven : State → Type 0
-NumbersWereGiven s = (n : ℕ) (k : Core) (l c : ℕ) (hop : Hop) → core_of s n ≡ Some k
-    → hop_at k.circuits l c ≡ Some hop → Given k.circuits l c

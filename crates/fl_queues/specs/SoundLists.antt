@@ -7,10 +7,12 @@ use Rattle.fl_lists.specs.declared.place.Place.TheVariants.{Idle, Polled, Pendin
 use Rattle.fl_lists.specs.Threads.{list_at, is_in, IsApart}
 use Rattle.fl_queues.specs.Events.{DispatcherId}
 use Rattle.fl_queues.specs.Rings.{Label, next_of, RingLabel, RingEnd, Ring, first_for, written_by}
-use Rattle.fl_queues.specs.Ends.{Queue, End}
+use Rattle.fl_queues.specs.Calls.{Planned}
+use Rattle.fl_queues.specs.Ends.{Queue, End, is_busy}
 use Rattle.fl_queues.specs.Waits.{Dispatcher, most_ends}
 use Rattle.fl_queues.specs.Monitors.{Core, Link}
-use Rattle.fl_queues.specs.State.{Binding, State, core_of, dispatcher_of, end_in, end_of, own_ring}
+use Rattle.fl_queues.specs.State.{Binding, State, core_of, dispatcher_of, interface_of, end_in, end_of}
+use Rattle.fl_queues.specs.State.{own_ring}
 
 -- no channel twice in a waitset's lists, and each of them an end's
 pub record ListsStand (d : Dispatcher) : Type 0 where
@@ -69,6 +71,11 @@ PendingQueuesHold s = (e : EndId) (b : Binding) (q : Queue) → Listed s Pending
 
 abbrev pub FewRepliesWait : State → Type 0
 FewRepliesWait s = (e : EndId) (x : End) → end_of s e ≡ Some x → length x.out.waiting ≤ 16
+
+-- replies wait only while the end is busy
+abbrev pub RepliesWaitWhereBusy : State → Type 0
+RepliesWaitWhereBusy s = (e : EndId) (b : Binding) (i : Planned) → slice_get s.bindings e.binding ≡ Some b
+    → interface_of s b ≡ Some i → (end_in e.side b).out.waiting ≢ [] → is_busy i (end_in e.side b).out ≡ true
 
 abbrev pub QueuesHaveRoom : State → Type 0
 QueuesHaveRoom s = (e : EndId) (x : End) (q : Queue) → end_of s e ≡ Some x → x.queue ≡ Some q

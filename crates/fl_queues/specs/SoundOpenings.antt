@@ -1,20 +1,14 @@
 -- Sound states: the monitors' messages that are under way.
-use Rattle.std.specs.Prelude.{ℕ, ◌≡◌, ◌≤◌, ◌-◌, map, filter_map, slice_get, Option, Some, None}
+use Rattle.std.specs.Prelude.{ℕ, ◌≡◌, ◌≤◌, ◌-◌, map, filter_map, Some}
 use Rattle.std.specs.Prelude.{Contains}
 use Rattle.std.specs.List.{range_with_len}
 use Rattle.fl_lists.specs.Threads.{NoRepeat}
 use Rattle.fl_hop.specs.declared.links.LinkState.{LinkState}
 use Rattle.fl_hop.specs.Numbers.{number}
-use Rattle.fl_queues.specs.Given.{given}
 use Rattle.fl_queues.specs.Rings.{Said}
-use Rattle.fl_queues.specs.Monitors.{link_to}
-use Rattle.fl_queues.specs.State.{Route, State, core_of}
+use Rattle.fl_queues.specs.State.{Route, State}
 use Rattle.fl_queues.specs.Standing.{Routed, Message, due_message, under_way, opening_number, answer_number}
-
--- the counts of a core's link to another
-abbrev pub link_state : State → ℕ → ℕ → Option LinkState
-link_state s core neighbour =
-    given (core_of s core) None λ k. given (link_to neighbour k) None λ l. slice_get k.circuits.links l
+use Rattle.fl_queues.specs.Standing.{link_state}
 
 -- the openings under way from a to b are those that a has counted and b hasn't, in order
 pub record OpeningsGo (s : State) (a b : ℕ) (here there : LinkState) : Type 0 where

@@ -5,8 +5,10 @@ use Rattle.fl_queues.specs.Ends.{Seat}
 use Rattle.fl_queues.specs.Monitors.{Service, service_of}
 use Rattle.fl_queues.specs.State.{Verdict, undecided, granted, denied, Route, Back, local, over_ring}
 use Rattle.fl_queues.specs.State.{over_route, Binding, State, link_between}
+use Rattle.fl_hop.specs.declared.links.LinkState.{LinkState}
+use Rattle.fl_hop.specs.Numbers.{IsAmong}
 use Rattle.fl_queues.specs.Binding.{all_differ}
-use Rattle.fl_queues.specs.Standing.{Routed, core_at, number_at}
+use Rattle.fl_queues.specs.Standing.{Routed, core_at, number_at, link_state}
 
 -- a route has 2 to 16 different cores, the first that of the client's dispatcher, the last that of the
 -- service's, where the server's end is once it is made
@@ -72,3 +74,22 @@ BoundWhere (over_route route) b = BoundBy route route.verdict b
 
 abbrev pub EndsAreBound : State → Type 0
 EndsAreBound s = (n : ℕ) (b : Binding) → slice_get s.bindings n ≡ Some b → BoundWhere b.back b
+
+-- ---- what the law of numbers given once needs, and no other
+
+-- each number was opened by the core whose it is
+abbrev pub NumbersWereOpened : State → Type 0
+NumbersWereOpened s = (n : ℕ) (route : Route) (j : ℕ) (here : LinkState) → Routed s n route → j < length route.numbers
+    → link_state s (core_at route j) (core_at route (j + 1)) ≡ Some here
+    → IsAmong (core_at route j) (core_at route (j + 1)) here.opened (number_at route j)
+
+-- where two routes have one number on the link from one core to the next, they are one binding's
+pub record OneNumber (p q : Route) (i j : ℕ) : Type 0 where
+  pub first : i < length p.numbers
+  pub second : j < length q.numbers
+  pub from : core_at p i ≡ core_at q j
+  pub to : core_at p (i + 1) ≡ core_at q (j + 1)
+  pub number : number_at p i ≡ number_at q j
+
+abbrev pub NumbersAreOnce : State → Type 0
+NumbersAreOnce s = (m n : ℕ) (p q : Route) (i j : ℕ) → Routed s m p → Routed s n q → OneNumber p q i j → m ≡ n

@@ -4,11 +4,13 @@ use Rattle.std.specs.Prelude.{ℕ, zero, suc, ◌≡◌, ◌-◌, ◌==◌, if�
 use Rattle.std.specs.Prelude.{map, filter_map, slice_get, slice_index, Option, Some, None}
 use Rattle.fl_base.specs.declared.identity.EndId.{EndId}
 use Rattle.fl_base.specs.Ends.{peer}
+use Rattle.fl_hop.specs.declared.links.LinkState.{LinkState}
 use Rattle.fl_queues.specs.Given.{given}
+use Rattle.fl_queues.specs.Monitors.{link_to}
 use Rattle.fl_queues.specs.Rings.{Said, open_circuit, circuit_opened, circuit_refused, Label}
 use Rattle.fl_queues.specs.Rings.{next_of, says, RingLabel, read_by, written_by, RingEnd}
 use Rattle.fl_queues.specs.State.{Verdict, undecided, granted, denied, Route, Back, local, over_ring}
-use Rattle.fl_queues.specs.State.{over_route, Binding, State, way_of, side_of, end_of, link_between}
+use Rattle.fl_queues.specs.State.{over_route, Binding, State, way_of, side_of, core_of, end_of, link_between}
 use Rattle.fl_queues.specs.Runs.{same_end}
 
 -- ---- circuits
@@ -80,6 +82,12 @@ abbrev pub due_message : ℕ → Route → Option Message
 due_message n route = due_by n route route.verdict
 
 -- ---- between two cores
+
+-- the counts of a core's link to another: how many circuits it opened there, and how many of the other's it
+-- took
+abbrev pub link_state : State → ℕ → ℕ → Option LinkState
+link_state s core neighbour =
+    given (core_of s core) None λ k. given (link_to neighbour k) None λ l. slice_get k.circuits.links l
 
 -- what a side of a ring has yet to read
 abbrev pub unread : State → RingEnd → List RingLabel
