@@ -9,8 +9,8 @@ use Rattle.fl_hop.specs.declared.entry.Way.TheVariants.{Link as to_link, End as 
 use Rattle.fl_hop.specs.Table.{hop_at}
 use Rattle.fl_queues.specs.Given.{given, changed_at}
 use Rattle.fl_queues.specs.Events.{done, nothing, full, written, forwarded, opened, opening_refused, refused}
-use Rattle.fl_queues.specs.Rings.{Said, Label, next_of, says, acknowledges, RingEnd, first_for, looks, Room}
-use Rattle.fl_queues.specs.Rings.{there_is_room, room, makes_sure, puts, takes, for_data}
+use Rattle.fl_queues.specs.Rings.{Said, Label, next_of, says, acknowledges, RingEnd, looks, Room}
+use Rattle.fl_queues.specs.Rings.{there_is_room, puts, takes, for_data}
 use Rattle.fl_queues.specs.Ends.{queue_room, passes}
 use Rattle.fl_queues.specs.Monitors.{Link, Core, Heard, no_outbox, astray, opening_went_on, server_made}
 use Rattle.fl_queues.specs.Monitors.{opening_failed, answer_went_on, end_opened, end_refused, Hearing}
@@ -18,9 +18,23 @@ use Rattle.fl_queues.specs.Monitors.{link_to, hears}
 use Rattle.fl_queues.specs.State.{Verdict, undecided, granted, denied, Route, Back, over_route, State}
 use Rattle.fl_queues.specs.State.{Outcome, answers, core_of, binding_of, end_of, link_between, station_at}
 use Rattle.fl_queues.specs.State.{number_between, change_core, change_ring, change_out, change_route, seats}
-use Rattle.fl_queues.specs.State.{binds_end, delivers}
+use Rattle.fl_queues.specs.State.{binds_end, delivers, first_on, ring_makes_sure, ring_room}
 use Rattle.fl_queues.specs.Binding.{end_id}
 use Rattle.fl_queues.specs.Taking.{acknowledges_on}
+
+-- one core's end of a link: its place among the core's links, and the core's side of the ring
+pub record LinkEnd : Type 0 where
+  pub core : ℕ
+  pub neighbour : ℕ
+  pub link : ℕ
+  pub ring : RingEnd
+
+abbrev pub link_end : ℕ → ℕ → State → Option LinkEnd
+link_end core neighbour s =
+    given (core_of s core) None λ k.
+    given (link_to neighbour k) None λ l.
+    given (slice_get k.links l) None λ link.
+    Some (record { core = core; neighbour = neighbour; link = l; ring = link.ring })
 
 -- ---- a monitor writes
 
@@ -30,26 +44,23 @@ without_first_said l k =
     record k { links = changed_at l (λ (x : Link). record x { outbox = drop 1 x.outbox }) k.links }
 
 -- by the room that there is on the link
-abbrev pub monitor_writes_by : ℕ → ℕ → RingEnd → Said → Room → State → Outcome
-monitor_writes_by core l at m there_is_room s =
-    let put = change_ring at.ring (puts at.side (says m)) s in
-    answers (change_core core (without_first_said l) put) (written 1 1)
-monitor_writes_by core l at m r s = answers s full
+abbrev pub monitor_writes_by : LinkEnd → Said → Room → State → Outcome
+monitor_writes_by here m there_is_room s =
+    let put = change_ring here.ring.ring (puts here.ring.side (says m)) s in
+    answers (change_core here.core (without_first_said here.link) put) (written 1 1)
+monitor_writes_by here m r s = answers s full
 
-abbrev pub monitor_writes_on : ℕ → ℕ → Link → State → Outcome
-monitor_writes_on core l link s =
+abbrev pub monitor_writes_on : LinkEnd → Link → State → Outcome
+monitor_writes_on here link s =
     given (slice_get link.outbox 0) (answers s nothing) λ m.
-    given (slice_get s.rings link.ring.ring) (answers s nothing) λ r.
-    let sure = makes_sure for_data link.ring.side r in
-    let looked = change_ring link.ring.ring (makes_sure for_data link.ring.side) s in
-    monitor_writes_by core l link.ring m (room for_data link.ring.side sure) looked
+    let looked = ring_makes_sure for_data here.ring s in
+    monitor_writes_by here m (ring_room for_data here.ring looked) looked
 
 abbrev pub monitor_writes : ℕ → ℕ → State → Outcome
 monitor_writes core neighbour s =
-    given (core_of s core) (answers s (refused 73)) λ k.
-    given (link_to neighbour k) (answers s (refused 73)) λ l.
-    given (slice_get k.links l) (answers s (refused 73)) λ link.
-    monitor_writes_on core l link s
+    given (link_end core neighbour s) (answers s (refused 73)) λ here.
+    given (link_between s core neighbour) (answers s (refused 73)) λ link.
+    monitor_writes_on here link s
 
 -- ---- a core acknowledges
 
@@ -69,15 +80,15 @@ abbrev pub with_number : ℕ → Route → Route
 with_number c route = record route { numbers = push route.numbers c }
 
 -- the opening has arrived: all cores of the route but the last wait for the word
-abbrev pub is_granted : Route → Route
-is_granted route = record route { verdict = granted (length route.cores - 1) }
+abbrev pub grants : Route → Route
+grants route = record route { verdict = granted (length route.cores - 1) }
 
 -- it was refused: the cores with a number wait for the word
-abbrev pub is_denied : ℕ → Route → Route
-is_denied fault route = record route { verdict = denied (length route.numbers) fault }
+abbrev pub denies : ℕ → Route → Route
+denies fault route = record route { verdict = denied (length route.numbers) fault }
 
-abbrev pub word_passed : Route → Route
-word_passed route = record route { verdict = word_passes route.verdict }
+abbrev pub passes_word : Route → Route
+passes_word route = record route { verdict = word_passes route.verdict }
 
 -- what a message came to, beside what it made of the core that heard it
 abbrev pub follows : Heard → State → Outcome
@@ -86,11 +97,11 @@ follows astray s = answers s nothing
 follows (opening_went_on n c) s = answers (change_route n (with_number c) s) done
 follows (server_made n d c) s =
     let e = end_id n Server in
-    answers (binds_end e c (seats d e (change_route n is_granted s))) (opened e)
-follows (opening_failed n fault) s = answers (change_route n (is_denied fault) s) done
-follows (answer_went_on n) s = answers (change_route n word_passed s) done
-follows (end_opened e c) s = answers (binds_end e c (change_route e.binding word_passed s)) (opened e)
-follows (end_refused e fault) s = answers (change_route e.binding word_passed s) (opening_refused fault e)
+    answers (binds_end e c (seats d e (change_route n grants s))) (opened e)
+follows (opening_failed n fault) s = answers (change_route n (denies fault) s) done
+follows (answer_went_on n) s = answers (change_route n passes_word s) done
+follows (end_opened e c) s = answers (binds_end e c (change_route e.binding passes_word s)) (opened e)
+follows (end_refused e fault) s = answers (change_route e.binding passes_word s) (opening_refused fault e)
 
 -- the message is taken from the link, but where it's left or astray
 abbrev pub takes_said : RingEnd → Heard → State → State
@@ -98,80 +109,84 @@ takes_said at no_outbox s = s
 takes_said at astray s = s
 takes_said at heard s = change_ring at.ring (takes at.side) s
 
-abbrev pub after_hearing : ℕ → RingEnd → Hearing → State → Outcome
-after_hearing core at h s = follows h.heard (takes_said at h.heard (change_core core (λ k. h.core) s))
+abbrev pub after_hearing : LinkEnd → Hearing → State → Outcome
+after_hearing here h s = follows h.heard (takes_said here.ring h.heard (change_core here.core (λ k. h.core) s))
 
-abbrev pub forwards_said : ℕ → ℕ → RingEnd → Said → State → Outcome
-forwards_said core l at m s =
-    given (core_of s core) (answers s nothing) λ k.
-    after_hearing core at (hears s.services l m k) s
+abbrev pub forwards_said : LinkEnd → Said → State → Outcome
+forwards_said here m s =
+    given (core_of s here.core) (answers s nothing) λ k.
+    after_hearing here (hears s.services here.link m k) s
 
 -- ---- a call's fragment is forwarded, by the entry of its circuit's number
 
--- the fragment has left the link that leads to this core
-abbrev pub leaves_link : ℕ → EndId → RingEnd → State → State
-leaves_link station e at s = change_out e (passes station) (change_ring at.ring (takes at.side) s)
+-- fragment k of an end's calls, on the link that leads to this station of its way
+pub record Passing : Type 0 where
+  pub end : EndId
+  pub number : ℕ
+  pub station : ℕ
 
--- on, over a side of a ring, by the room that there is
-abbrev pub goes_on_by : ℕ → EndId → RingEnd → RingEnd → Label → Room → State → Outcome
-goes_on_by station e at on label there_is_room s =
-    answers (leaves_link station e at (change_ring on.ring (puts on.side label) s)) forwarded
-goes_on_by station e at on label r s = answers s full
+abbrev pub label_of : Passing → Label
+label_of p = next_of p.end p.number
 
-abbrev pub goes_on_over : ℕ → EndId → RingEnd → Label → RingEnd → State → Outcome
-goes_on_over station e at label on s =
-    given (slice_get s.rings on.ring) (answers s nothing) λ r.
-    let sure = makes_sure for_data on.side r in
-    let looked = change_ring on.ring (makes_sure for_data on.side) s in
-    goes_on_by station e at on label (room for_data on.side sure) looked
+-- it leaves the link
+abbrev pub leaves_link : LinkEnd → Passing → State → State
+leaves_link here p s = change_out p.end (passes p.station) (change_ring here.ring.ring (takes here.ring.side) s)
 
--- to the arrival queue of an end, by the room that there is
-abbrev pub arrives_by : ℕ → EndId → RingEnd → EndId → Label → Room → State → Outcome
-arrives_by station e at to label there_is_room s =
-    answers (leaves_link station e at (delivers label to s)) forwarded
-arrives_by station e at to label r s = answers s full
+-- it goes on, over a side of a ring, by the room that there is
+abbrev pub goes_on_by : LinkEnd → Passing → RingEnd → Room → State → Outcome
+goes_on_by here p on there_is_room s =
+    answers (leaves_link here p (change_ring on.ring (puts on.side (label_of p)) s)) forwarded
+goes_on_by here p on r s = answers s full
 
--- where the entry leads
-abbrev pub follows_entry : Core → ℕ → EndId → RingEnd → Label → Way → State → Outcome
-follows_entry k station e at label (to_link l c) s =
-    given (slice_get k.links l.0) (answers s nothing) λ link. goes_on_over station e at label link.ring s
-follows_entry k station e at label (to_end to) s =
+abbrev pub goes_on_over : LinkEnd → Passing → RingEnd → State → Outcome
+goes_on_over here p on s =
+    let looked = ring_makes_sure for_data on s in
+    goes_on_by here p on (ring_room for_data on looked) looked
+
+-- it comes into the arrival queue of an end, by the room that there is
+abbrev pub arrives_by : LinkEnd → Passing → EndId → Room → State → Outcome
+arrives_by here p to there_is_room s = answers (leaves_link here p (delivers (label_of p) to s)) forwarded
+arrives_by here p to r s = answers s full
+
+-- by where the entry leads
+abbrev pub follows_entry : LinkEnd → Passing → Core → Way → State → Outcome
+follows_entry here p k (to_link l c) s =
+    given (slice_get k.links l.0) (answers s nothing) λ link.
+    goes_on_over here p link.ring s
+follows_entry here p k (to_end to) s =
     given (end_of s to) (answers s nothing) λ x.
     given x.queue (answers s nothing) λ q.
-    arrives_by station e at to label (queue_room q) s
+    arrives_by here p to (queue_room q) s
 
-abbrev pub forwards_on_route : ℕ → ℕ → ℕ → EndId → RingEnd → Label → Route → State → Outcome
-forwards_on_route core neighbour l e at label route s =
-    given (core_of s core) (answers s nothing) λ k.
-    given (number_between neighbour core route) (answers s nothing) λ c.
-    given (hop_at k.circuits l c) (answers s nothing) λ hop.
-    given (station_at e.side core route) (answers s nothing) λ station.
-    follows_entry k station e at label hop.way s
+-- the entry is that of the circuit's number on the link
+abbrev pub forwards_passing : LinkEnd → Passing → Route → State → Outcome
+forwards_passing here p route s =
+    given (core_of s here.core) (answers s nothing) λ k.
+    given (number_between here.neighbour here.core route) (answers s nothing) λ c.
+    given (hop_at k.circuits here.link c) (answers s nothing) λ hop.
+    follows_entry here p k hop.way s
 
 abbrev pub route_of : Back → Option Route
 route_of (over_route route) = Some route
 route_of back = None
 
+abbrev pub forwards_call : LinkEnd → EndId → ℕ → State → Outcome
+forwards_call here e number s =
+    given (binding_of s e) (answers s nothing) λ b.
+    given (route_of b.back) (answers s nothing) λ route.
+    given (station_at e.side here.core route) (answers s nothing) λ station.
+    forwards_passing here (record { end = e; number = number; station = station }) route s
+
 -- ---- a core forwards
 
 -- by what stands first on the link, which was looked at
-abbrev pub forwards_label : ℕ → ℕ → ℕ → RingEnd → Label → State → Outcome
-forwards_label core neighbour l at (next_of e k) s =
-    given (binding_of s e) (answers s nothing) λ b.
-    given (route_of b.back) (answers s nothing) λ route.
-    forwards_on_route core neighbour l e at (next_of e k) route s
-forwards_label core neighbour l at (says m) s = forwards_said core l at m s
-forwards_label core neighbour l at acknowledges s = answers (change_ring at.ring (takes at.side) s) done
-
-abbrev pub forwards_on : ℕ → ℕ → ℕ → RingEnd → State → Outcome
-forwards_on core neighbour l at s =
-    given (slice_get s.rings at.ring) (answers s nothing) λ r.
-    given (first_for at.side r) (answers s nothing) λ first.
-    forwards_label core neighbour l at first.label (change_ring at.ring (looks at.side) s)
+abbrev pub forwards_label : LinkEnd → Label → State → Outcome
+forwards_label here (next_of e number) s = forwards_call here e number s
+forwards_label here (says m) s = forwards_said here m s
+forwards_label here acknowledges s = answers (change_ring here.ring.ring (takes here.ring.side) s) done
 
 abbrev pub forwards : ℕ → ℕ → State → Outcome
 forwards core neighbour s =
-    given (core_of s core) (answers s (refused 73)) λ k.
-    given (link_to neighbour k) (answers s (refused 73)) λ l.
-    given (slice_get k.links l) (answers s (refused 73)) λ link.
-    forwards_on core neighbour l link.ring s
+    given (link_end core neighbour s) (answers s (refused 73)) λ here.
+    given (first_on here.ring s) (answers s nothing) λ first.
+    forwards_label here first.label (change_ring here.ring.ring (looks here.ring.side) s)

@@ -11,11 +11,12 @@ use Rattle.fl_value.specs.Fits.{fits_of}
 use Rattle.fl_queues.specs.Given.{given}
 use Rattle.fl_queues.specs.Events.{accepted, nothing, words, refused}
 use Rattle.fl_queues.specs.Calls.{Planned, stream}
-use Rattle.fl_queues.specs.Rings.{Label, next_of, Ring, RingSide, written_by, read_by, makes_sure, Room}
-use Rattle.fl_queues.specs.Rings.{there_is_room, no_room, room, puts, for_data}
+use Rattle.fl_queues.specs.Rings.{Label, next_of, Ring, RingSide, written_by, read_by, Room}
+use Rattle.fl_queues.specs.Rings.{there_is_room, no_room, puts, for_data}
 use Rattle.fl_queues.specs.Ends.{queue_room, Direction, written_of, is_busy, accepts, writes, End, is_bound}
 use Rattle.fl_queues.specs.State.{Binding, State, Outcome, answers, binding_of, interface_of, end_in, end_of}
-use Rattle.fl_queues.specs.State.{change_ring, change_out, Outlet, peer_queue, ring_side, outlet_by, delivers}
+use Rattle.fl_queues.specs.State.{change_ring, ring_makes_sure, ring_room, change_out, Outlet, peer_queue}
+use Rattle.fl_queues.specs.State.{ring_side, outlet_by, delivers}
 
 -- ---- a call
 
@@ -38,12 +39,12 @@ calls e c s =
 -- whether an end's outlet has room for data
 abbrev pub outlet_room : EndId → Outlet → State → Room
 outlet_room e peer_queue s = given (end_of s (peer e)) no_room λ x. given x.queue no_room queue_room
-outlet_room e (ring_side at) s = given (slice_get s.rings at.ring) no_room (room for_data at.side)
+outlet_room e (ring_side at) s = ring_room for_data at s
 
 -- a ring is looked at where too few slots are known to be free
 abbrev pub makes_sure_of : Outlet → State → State
 makes_sure_of peer_queue s = s
-makes_sure_of (ring_side at) s = change_ring at.ring (makes_sure for_data at.side) s
+makes_sure_of (ring_side at) s = ring_makes_sure for_data at s
 
 -- the label goes there
 abbrev pub puts_to : EndId → Outlet → Label → State → State
@@ -100,8 +101,8 @@ writes_next e i b x s =
     let looked = makes_sure_of o s in
     writes_to e i x.out o (outlet_room e o looked) looked
 
-abbrev pub write_by : EndId → State → Outcome
-write_by e s =
+abbrev pub writes_fragment : EndId → State → Outcome
+writes_fragment e s =
     given (binding_of s e) (answers s (refused 92)) λ b.
     given (interface_of s b) (answers s (refused 92)) λ i.
     writes_next e i b (end_in e.side b) s

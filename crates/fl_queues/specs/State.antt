@@ -7,9 +7,11 @@ use Rattle.fl_base.specs.declared.identity.EndId.{EndId}
 use Rattle.fl_queues.specs.Given.{given, changed_at}
 use Rattle.fl_queues.specs.Events.{DispatcherId, Answer}
 use Rattle.fl_queues.specs.Calls.{Planned}
-use Rattle.fl_queues.specs.Rings.{Label, Ring, RingSide, first_side, second_side, RingEnd}
+use Rattle.fl_queues.specs.Rings.{Label, Ring, RingSide, first_side, second_side, RingEnd, Room, no_room}
+use Rattle.fl_queues.specs.Rings.{room}
+use Rattle.fl_queues.specs.Rings.{makes_sure, RingLabel, first_for}
 use Rattle.fl_queues.specs.Ends.{Queue, joined_by, Direction, Seat, End}
-use Rattle.fl_queues.specs.Waits.{Dispatcher, waits_in, registers, is_triggered, with_end}
+use Rattle.fl_queues.specs.Waits.{Dispatcher, waits_in, registers, triggers, with_end}
 use Rattle.fl_queues.specs.Monitors.{Link, Core, fresh_core, Service, link_to}
 
 -- ---- bindings
@@ -157,6 +159,10 @@ abbrev pub own_ring : Side → Back → Option RingEnd
 own_ring side (over_ring n) = Some (record { ring = n; side = side_of side })
 own_ring side back = None
 
+-- what stands first for a side of a ring
+abbrev pub first_on : RingEnd → State → Option RingLabel
+first_on at s = given (slice_get s.rings at.ring) None (first_for at.side)
+
 -- ---- one thing changed
 
 abbrev pub change_core : ℕ → (Core → Core) → State → State
@@ -192,6 +198,16 @@ change_route n f s = change_binding n (λ b. record b { back = in_route f b.back
 abbrev pub in_queue : (Queue → Queue) → End → End
 in_queue f x = given x.queue x λ q. record x { queue = Some (f q) }
 
+-- ---- a side of a ring, before it puts something that needs so many free slots
+
+-- where too few are known to be free, it looks
+abbrev pub ring_makes_sure : ℕ → RingEnd → State → State
+ring_makes_sure need at s = change_ring at.ring (makes_sure need at.side) s
+
+-- whether there is room then
+abbrev pub ring_room : ℕ → RingEnd → State → Room
+ring_room need at s = given (slice_get s.rings at.ring) no_room (room need at.side)
+
 -- ---- ends and their channels
 
 -- a change of an end's channel at its dispatcher, if the end has one
@@ -218,4 +234,4 @@ binds_end e circuit s = registers_end e (change_end e (λ x. record x { circuit 
 
 -- a label comes to the back of an end's queue, and the end's channel is triggered
 abbrev pub delivers : Label → EndId → State → State
-delivers label e s = change_channel e (λ c x. is_triggered c) (change_end e (in_queue (joined_by label)) s)
+delivers label e s = change_channel e (λ c x. triggers c) (change_end e (in_queue (joined_by label)) s)

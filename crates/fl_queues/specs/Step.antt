@@ -1,4 +1,9 @@
 -- One event of the machine: the state after it, and the answer.
+--
+-- Labels have no contents, so no fragment can be a wrong one: no event has a case for the faults of received
+-- fragments (60 to 66), of circuits without an entry or messages out of place (67), or of what failed earlier
+-- (64). Where a state that no run reaches would leave nothing to do, nothing is done, and `nothing` is
+-- answered.
 use Rattle.std.specs.Prelude.{false}
 use Rattle.fl_queues.specs.Events.{Event, add_interface, set_cores, add_link, add_dispatcher, export, bind}
 use Rattle.fl_queues.specs.Events.{call, show, write, turn, acknowledge, register, deregister, reply}
@@ -6,8 +11,8 @@ use Rattle.fl_queues.specs.Events.{monitor_write, forward, monitor_acknowledge, 
 use Rattle.fl_queues.specs.State.{State, Outcome}
 use Rattle.fl_queues.specs.Making.{adds_interface, sets_cores, adds_link, adds_dispatcher, exports}
 use Rattle.fl_queues.specs.Binding.{binds}
-use Rattle.fl_queues.specs.Sending.{calls, shows, write_by}
-use Rattle.fl_queues.specs.Taking.{turns, acknowledges_end, registers_by, deregisters_by, sets_rule}
+use Rattle.fl_queues.specs.Sending.{calls, shows, writes_fragment}
+use Rattle.fl_queues.specs.Taking.{turns, acknowledges_end, registers_channel, deregisters_channel, sets_rule}
 use Rattle.fl_queues.specs.Forwarding.{monitor_writes, monitor_acknowledges, forwards}
 
 -- what the event does
@@ -20,11 +25,11 @@ does (export name d i) s = exports name d i s
 does (bind client i name kind) s = binds client i name kind s
 does (call e c) s = calls e c s
 does (show e) s = shows e s
-does (write e) s = write_by e s
+does (write e) s = writes_fragment e s
 does (turn d) s = turns d s
 does (acknowledge e) s = acknowledges_end e s
-does (register e) s = registers_by e s
-does (deregister e) s = deregisters_by e s
+does (register e) s = registers_channel e s
+does (deregister e) s = deregisters_channel e s
 does (reply e msg answer) s = sets_rule e msg answer s
 does (monitor_write core neighbour) s = monitor_writes core neighbour s
 does (forward core neighbour) s = forwards core neighbour s

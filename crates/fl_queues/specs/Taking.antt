@@ -14,17 +14,24 @@ use Rattle.fl_queues.specs.Events.{DispatcherId, Answer, done, nothing, full, ha
 use Rattle.fl_queues.specs.Events.{refused}
 use Rattle.fl_queues.specs.Calls.{Planned}
 use Rattle.fl_queues.specs.SameTypes.{same_arguments}
-use Rattle.fl_queues.specs.Rings.{Label, next_of, acknowledges, Ring, RingEnd, first_for, looks, Room}
-use Rattle.fl_queues.specs.Rings.{there_is_room, room, makes_sure, puts, takes, for_acknowledgement, owes}
+use Rattle.fl_queues.specs.Rings.{Label, next_of, acknowledges, RingEnd, looks, Room}
+use Rattle.fl_queues.specs.Rings.{there_is_room, puts, takes, for_acknowledgement, owes}
 use Rattle.fl_queues.specs.Ends.{Queue, without_first, End, is_bound, with_rule, holds_back, Taken, whole}
 use Rattle.fl_queues.specs.Ends.{a_part, takes_one, comes_to, replies}
 use Rattle.fl_queues.specs.Waits.{Dispatcher, waits_in, deregisters, puts_off, pending, polled, no_one, Due}
 use Rattle.fl_queues.specs.Waits.{due}
-use Rattle.fl_queues.specs.State.{State, Outcome, answers, dispatcher_of, binding_of, interface_of, end_in}
+use Rattle.fl_queues.specs.State.{Back, first_on, ring_makes_sure, ring_room, State, Outcome, answers}
+use Rattle.fl_queues.specs.State.{dispatcher_of, binding_of, interface_of, end_in}
 use Rattle.fl_queues.specs.State.{end_of, change_dispatcher, change_ring, change_end, change_out, in_queue}
 use Rattle.fl_queues.specs.State.{change_channel, registers_end, own_ring}
 
 -- ---- a turn: a pending channel is given a fragment
+
+-- the channel whose turn it is, and its end
+pub record Chosen : Type 0 where
+  pub dispatcher : DispatcherId
+  pub channel : ℕ
+  pub end : EndId
 
 -- the end takes the next fragment of the calls that another makes, and handles the call that becomes whole
 abbrev pub takes_next : EndId → EndId → Taken → Planned → State → State
@@ -42,70 +49,65 @@ takes_label e i (next_of sender k) s =
     answers (takes_next e sender taken i s) (taken_answer e taken)
 takes_label e i label s = answers s (quiet e)
 
--- channel c of dispatcher d was first pending, and goes to the back of a list
-abbrev pub goes_back : DispatcherId → ℕ → Place → State → State
-goes_back d c to s = change_dispatcher d (puts_off Pending c to) s
+-- the channel was first pending, and goes to the back of a list
+abbrev pub goes_back : Chosen → Place → State → State
+goes_back t to s = change_dispatcher t.dispatcher (puts_off Pending t.channel to) s
 
 -- from a queue: the channel goes back to pending where the queue still holds a fragment, and else to idle. A
 -- pending channel without a fragment, which no run meets, does so too, and nothing is answered
-abbrev pub gives_from_queue : DispatcherId → ℕ → EndId → Planned → Queue → State → Outcome
-gives_from_queue d c e i q s =
-    given (slice_get q.labels 0) (answers (goes_back d c (waits_in (Some q)) s) nothing) λ label.
-    let rest = without_first q in
-    takes_label e i label (goes_back d c (waits_in (Some rest)) (change_end e (in_queue without_first) s))
+abbrev pub gives_from_queue : Chosen → Planned → Queue → State → Outcome
+gives_from_queue t i q s =
+    given (slice_get q.labels 0) (answers (goes_back t (waits_in (Some q)) s) nothing) λ label.
+    let taken = change_end t.end (in_queue without_first) s in
+    takes_label t.end i label (goes_back t (waits_in (Some (without_first q))) taken)
 
 -- from a ring: the channel goes to the back of polled
-abbrev pub gives_from_ring : DispatcherId → ℕ → EndId → Planned → RingEnd → Ring → State → Outcome
-gives_from_ring d c e i at r s =
-    given (first_for at.side r) (answers (goes_back d c Polled s) nothing) λ first.
-    takes_label e i first.label (goes_back d c Polled (change_ring at.ring (takes at.side) s))
+abbrev pub gives_from_ring : Chosen → Planned → RingEnd → State → Outcome
+gives_from_ring t i at s =
+    given (first_on at s) (answers (goes_back t Polled s) nothing) λ first.
+    takes_label t.end i first.label (goes_back t Polled (change_ring at.ring (takes at.side) s))
 
-abbrev pub gives_by : DispatcherId → ℕ → EndId → Planned → Option Queue → Option RingEnd → State → Outcome
-gives_by d c e i (Some q) own s = gives_from_queue d c e i q s
-gives_by d c e i None own s =
-    given own (answers s nothing) λ at.
-    given (slice_get s.rings at.ring) (answers s nothing) λ r.
-    gives_from_ring d c e i at r s
+abbrev pub gives_by : Chosen → Planned → Option Queue → Back → State → Outcome
+gives_by t i (Some q) back s = gives_from_queue t i q s
+gives_by t i None back s =
+    given (own_ring t.end.side back) (answers s nothing) λ at.
+    gives_from_ring t i at s
 
 -- an end with a rule at which 16 replies wait takes nothing, and its channel goes to the back of pending
-abbrev pub gives : DispatcherId → ℕ → EndId → State → Outcome
-gives d c e s =
-    given (binding_of s e) (answers s nothing) λ b.
+abbrev pub gives : Chosen → State → Outcome
+gives t s =
+    given (binding_of s t.end) (answers s nothing) λ b.
     given (interface_of s b) (answers s nothing) λ i.
-    let x = end_in e.side b in
-    if holds_back x then answers (goes_back d c Pending s) full
-    else gives_by d c e i x.queue (own_ring e.side b.back) s
+    let x = end_in t.end.side b in
+    if holds_back x then answers (goes_back t Pending s) full else gives_by t i x.queue b.back s
 
 -- ---- a turn: a polled channel is examined
 
--- channel c of dispatcher d was first polled, and goes to the back of a list
-abbrev pub comes_off : DispatcherId → ℕ → Place → State → State
-comes_off d c to s = change_dispatcher d (puts_off Polled c to) s
+-- the channel was first polled, and goes to the back of a list
+abbrev pub comes_off : Chosen → Place → State → State
+comes_off t to s = change_dispatcher t.dispatcher (puts_off Polled t.channel to) s
 
 -- by what stands first, which was looked at: a fragment of a call leaves the channel pending; one that only
 -- acknowledges is taken
-abbrev pub finds : DispatcherId → ℕ → EndId → RingEnd → Label → State → Outcome
-finds d c e at acknowledges s =
-    answers (comes_off d c Polled (change_ring at.ring (takes at.side) s)) (quiet e)
-finds d c e at label s = answers (comes_off d c Pending s) (ready e)
+abbrev pub finds : Chosen → RingEnd → Label → State → Outcome
+finds t at acknowledges s = answers (comes_off t Polled (change_ring at.ring (takes at.side) s)) (quiet t.end)
+finds t at label s = answers (comes_off t Pending s) (ready t.end)
 
-abbrev pub examines_ring : DispatcherId → ℕ → EndId → RingEnd → Ring → State → Outcome
-examines_ring d c e at r s =
-    given (first_for at.side r) (answers (comes_off d c Polled s) (quiet e)) λ first.
-    finds d c e at first.label (change_ring at.ring (looks at.side) s)
-
-abbrev pub examines : DispatcherId → ℕ → EndId → State → Outcome
-examines d c e s =
-    given (binding_of s e) (answers s nothing) λ b.
-    given (own_ring e.side b.back) (answers s nothing) λ at.
-    given (slice_get s.rings at.ring) (answers s nothing) λ r.
-    examines_ring d c e at r s
+abbrev pub examines : Chosen → State → Outcome
+examines t s =
+    given (binding_of s t.end) (answers s nothing) λ b.
+    given (own_ring t.end.side b.back) (answers s nothing) λ at.
+    given (first_on at s) (answers (comes_off t Polled s) (quiet t.end)) λ first.
+    finds t at first.label (change_ring at.ring (looks at.side) s)
 
 -- ---- a turn
 
+abbrev pub chosen : DispatcherId → ℕ → EndId → Chosen
+chosen d c e = record { dispatcher = d; channel = c; end = e }
+
 abbrev pub turns_by : DispatcherId → Dispatcher → Due → State → Outcome
-turns_by d x (pending c) s = given (slice_get x.ends c) (answers s nothing) λ e. gives d c e s
-turns_by d x (polled c) s = given (slice_get x.ends c) (answers s nothing) λ e. examines d c e s
+turns_by d x (pending c) s = given (slice_get x.ends c) (answers s nothing) λ e. gives (chosen d c e) s
+turns_by d x (polled c) s = given (slice_get x.ends c) (answers s nothing) λ e. examines (chosen d c e) s
 turns_by d x no_one s = answers s nothing
 
 abbrev pub turns : DispatcherId → State → Outcome
@@ -124,9 +126,8 @@ acknowledges_on at s =
     given (slice_get s.rings at.ring) (answers s nothing) λ r.
     if not (owes at.side r) then answers s nothing
     else
-    let sure = makes_sure for_acknowledgement at.side r in
-    let looked = change_ring at.ring (makes_sure for_acknowledgement at.side) s in
-    acknowledges_by at (room for_acknowledgement at.side sure) looked
+    let looked = ring_makes_sure for_acknowledgement at s in
+    acknowledges_by at (ring_room for_acknowledgement at looked) looked
 
 abbrev pub acknowledges_end : EndId → State → Outcome
 acknowledges_end e s =
@@ -143,15 +144,15 @@ has_channel_listed x s =
     given (dispatcher_of s seat.dispatcher) (nat_le 1 0) λ d.
     is_registered d.lists seat.channel
 
-abbrev pub registers_by : EndId → State → Outcome
-registers_by e s =
+abbrev pub registers_channel : EndId → State → Outcome
+registers_channel e s =
     given (end_of s e) (answers s (refused 92)) λ x.
     if not (is_bound x) then answers s (refused 43)
     else if has_channel_listed x s then answers s (refused 50)
     else answers (registers_end e s) done
 
-abbrev pub deregisters_by : EndId → State → Outcome
-deregisters_by e s =
+abbrev pub deregisters_channel : EndId → State → Outcome
+deregisters_channel e s =
     given (end_of s e) (answers s (refused 92)) λ x.
     if not (is_bound x) then answers s (refused 43)
     else if not (has_channel_listed x s) then answers s (refused 51)

@@ -44,8 +44,8 @@ abbrev pub deregisters : ℕ → Dispatcher → Dispatcher
 deregisters c d = record d { lists = unlinked d.lists c }
 
 -- a fragment came for a channel: from idle it goes to the back of pending; elsewhere it stays
-abbrev pub is_triggered : ℕ → Dispatcher → Dispatcher
-is_triggered c d = record d { lists = triggered d.lists c }
+abbrev pub triggers : ℕ → Dispatcher → Dispatcher
+triggers c d = record d { lists = triggered d.lists c }
 
 -- the first channel of a list, c, goes to the back of one
 abbrev pub puts_off : Place → ℕ → Place → Dispatcher → Dispatcher
