@@ -4,7 +4,9 @@ use Rattle.std.specs.Prelude.{length}
 use Rattle.std.specs.Prelude.{slice_get, slice_index, Option, Some, None}
 use Rattle.std.specs.List.{cons_option}
 use Rattle.fl_base.specs.declared.identity.EndId.{EndId}
-use Rattle.fl_base.specs.Ends.{peer}
+use Rattle.fl_base.specs.Ends.{other, peer}
+use Rattle.fl_hop.specs.Later.{Later}
+use Rattle.fl_queues.specs.Monitors.{Core}
 use Rattle.fl_base.specs.Prefix.{IsPrefix}
 use Rattle.fl_lists.specs.declared.place.Place.TheVariants.{Pending}
 use Rattle.fl_lists.specs.Threads.{IsApart}
@@ -13,9 +15,10 @@ use Rattle.fl_queues.specs.Given.{given}
 use Rattle.fl_queues.specs.Events.{DispatcherId, Event, turn, forward, Answer, nothing, handle}
 use Rattle.fl_queues.specs.Calls.{Planned}
 use Rattle.fl_queues.specs.Rings.{RingSide, RingEnd, Ring, Half, written_by}
-use Rattle.fl_queues.specs.Ends.{End, Queue, is_busy, rule_at}
+use Rattle.fl_queues.specs.Ends.{End, Queue, is_busy, rule_at, handled}
 use Rattle.fl_queues.specs.Waits.{Dispatcher, no_one, due}
-use Rattle.fl_queues.specs.State.{Route, Binding, State, start, dispatcher_of, interface_of, end_in, end_of}
+use Rattle.fl_queues.specs.State.{Route, Binding, State, start, core_of, dispatcher_of, interface_of, end_in}
+use Rattle.fl_queues.specs.State.{end_of}
 use Rattle.fl_queues.specs.State.{own_ring}
 use Rattle.fl_queues.specs.Step.{step}
 use Rattle.fl_queues.specs.Runs.{run, reached, same_end, calls_accepted, calls_handled}
@@ -56,6 +59,12 @@ waiting_at s e = given (end_of s e) [] λ x. x.out.waiting
 abbrev pub HandledIsAPrefix : Type 0
 HandledIsAPrefix = (vs : List Event) (e : EndId)
     → IsPrefix (calls_handled e (run start vs)) (accepted_by (reached start vs) (peer e))
+
+-- and they are those that the fragments taken make whole
+abbrev pub HandledIsCounted : Type 0
+HandledIsCounted = (vs : List Event) (e : EndId) (b : Binding) (i : Planned)
+    → slice_get (reached start vs).bindings e.binding ≡ Some b → interface_of (reached start vs) b ≡ Some i
+    → calls_handled e (run start vs) ≡ handled i (end_in (other e.side) b).out
 
 -- zs is xs and ys merged, each in its order
 pub data Merged : List TheCall → List TheCall → List TheCall → Type 0 where
@@ -140,3 +149,9 @@ abbrev pub NumbersAreGivenOnce : Type 0
 NumbersAreGivenOnce = (vs : List Event) (m n : ℕ) (p q : Route) (i j : ℕ)
     → Routed (reached start vs) m p → Routed (reached start vs) n q → i < length p.numbers → j < length q.numbers
     → core_at p i ≡ core_at q j → core_at p (suc i) ≡ core_at q (suc j) → number_at p i ≡ number_at q j → m ≡ n
+
+-- a core's table keeps what it was given: numbers stay given, and at a number that was given no other entry
+-- ever comes
+abbrev pub TablesGoOn : Type 0
+TablesGoOn = (s : State) (v : Event) (n : ℕ) (k m : Core) → Sound s → core_of s n ≡ Some k
+    → core_of (step s v).state n ≡ Some m → Later k.circuits m.circuits

@@ -1,6 +1,7 @@
 -- Events that make things: interfaces, cores, links, dispatchers and services. In each the refusals stand in
 -- the order in which they are answered, and change nothing.
-use Rattle.std.specs.Prelude.{ℕ, ◌^◌, ◌==◌, ◌||◌, ◌&&◌, nat_le, nat_lt, not, Bool, if◌then◌else◌, List, []}
+use Rattle.std.specs.Prelude.{ℕ, ◌^◌, ◌==◌, ◌||◌, ◌&&◌, nat_le, nat_lt, not, Bool, false, if◌then◌else◌, List}
+use Rattle.std.specs.Prelude.{[]}
 use Rattle.std.specs.Prelude.{◌∷◌, ◌++◌, length, map, sum, slice_get, is_some, bytes_eq}
 use Rattle.std.specs.List.{list_any, range_with_len}
 use Rattle.fl_check.specs.Interface.{TheInterface}
@@ -62,7 +63,7 @@ abbrev pub is_core : ℕ → State → Bool
 is_core core s = nat_lt core (length s.cores)
 
 abbrev pub has_link : ℕ → ℕ → State → Bool
-has_link core neighbour s = given (core_of s core) (nat_lt core 0) λ k. is_some (link_to neighbour k)
+has_link core neighbour s = given (core_of s core) false λ k. is_some (link_to neighbour k)
 
 -- the core with one more link, to this neighbour, over a side of a ring
 abbrev pub linked : ℕ → ℕ → RingSide → Core → Core

@@ -1,5 +1,7 @@
--- Sound states: what holds of every state that a run reaches. All parts together are kept by each step; none
--- of those that a comment doesn't say so of can be left out, or a run from such a state would meet a fault.
+-- Sound states: what holds of every state that a run reaches. All parts together are kept by each step, and
+-- with them the machine has a case for whatever stands first on a link or at a channel. Most parts need most
+-- others: from a state of which all hold but one, a run may reach a message or a fragment that nothing is
+-- said of.
 use Rattle.fl_queues.specs.State.{State}
 use Rattle.fl_queues.specs.SoundPlaces.{CoresStand, LinksArePaired, RingsHaveOneOwner, ServicesStand}
 use Rattle.fl_queues.specs.SoundPlaces.{EndsStand, SeatsAgree}

@@ -79,8 +79,8 @@ EndsAreBound s = (n : ℕ) (b : Binding) → slice_get s.bindings n ≡ Some b �
 
 -- each number was opened by the core whose it is
 abbrev pub NumbersWereOpened : State → Type 0
-NumbersWereOpened s = (n : ℕ) (route : Route) (j : ℕ) (here : LinkState) → Routed s n route → j < length route.numbers
-    → link_state s (core_at route j) (core_at route (j + 1)) ≡ Some here
+NumbersWereOpened s = (n : ℕ) (route : Route) (j : ℕ) (here : LinkState) → Routed s n route
+    → j < length route.numbers → link_state s (core_at route j) (core_at route (j + 1)) ≡ Some here
     → IsAmong (core_at route j) (core_at route (j + 1)) here.opened (number_at route j)
 
 -- where two routes have one number on the link from one core to the next, they are one binding's

@@ -1,7 +1,7 @@
 -- Events by which a dispatcher takes: a turn of its waitset, and what an end says of itself: it acknowledges,
 -- registers its channel or deregisters it, sets a reply rule. The refusals stand in the order in which they
 -- are answered, and change nothing.
-use Rattle.std.specs.Prelude.{ℕ, ◌&&◌, nat_le, nat_lt, not, Bool, if◌then◌else◌, List, length, slice_get}
+use Rattle.std.specs.Prelude.{ℕ, ◌&&◌, nat_lt, not, Bool, false, if◌then◌else◌, List, length, slice_get}
 use Rattle.std.specs.Prelude.{Option, Some, None}
 use Rattle.fl_base.specs.declared.identity.EndId.{EndId}
 use Rattle.fl_lists.specs.declared.place.Place.{Place}
@@ -140,8 +140,8 @@ acknowledges_end e s =
 
 abbrev pub has_channel_listed : End → State → Bool
 has_channel_listed x s =
-    given x.seat (nat_le 1 0) λ seat.
-    given (dispatcher_of s seat.dispatcher) (nat_le 1 0) λ d.
+    given x.seat false λ seat.
+    given (dispatcher_of s seat.dispatcher) false λ d.
     is_registered d.lists seat.channel
 
 abbrev pub registers_channel : EndId → State → Outcome
