@@ -110,7 +110,8 @@ takes_said at astray s = s
 takes_said at heard s = change_ring at.ring (takes at.side) s
 
 abbrev pub after_hearing : LinkEnd → Hearing → State → Outcome
-after_hearing here h s = follows h.heard (takes_said here.ring h.heard (change_core here.core (λ k. h.core) s))
+after_hearing here h s =
+    follows h.heard (takes_said here.ring h.heard (change_core here.core (λ k. h.core) s))
 
 abbrev pub forwards_said : LinkEnd → Said → State → Outcome
 forwards_said here m s =
@@ -130,7 +131,8 @@ label_of p = next_of p.end p.number
 
 -- it leaves the link
 abbrev pub leaves_link : LinkEnd → Passing → State → State
-leaves_link here p s = change_out p.end (passes p.station) (change_ring here.ring.ring (takes here.ring.side) s)
+leaves_link here p s =
+    change_out p.end (passes p.station) (change_ring here.ring.ring (takes here.ring.side) s)
 
 -- it goes on, over a side of a ring, by the room that there is
 abbrev pub goes_on_by : LinkEnd → Passing → RingEnd → Room → State → Outcome

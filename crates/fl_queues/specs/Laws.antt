@@ -17,13 +17,14 @@ use Rattle.fl_queues.specs.Calls.{Planned}
 use Rattle.fl_queues.specs.Rings.{RingSide, RingEnd, Ring, Half, written_by}
 use Rattle.fl_queues.specs.Ends.{End, Queue, is_busy, rule_at, handled}
 use Rattle.fl_queues.specs.Waits.{Dispatcher, no_one, due}
-use Rattle.fl_queues.specs.State.{Route, Binding, State, start, core_of, dispatcher_of, interface_of, end_in}
+use Rattle.fl_queues.specs.State.{Binding, State, start, core_of, dispatcher_of, interface_of, end_in}
 use Rattle.fl_queues.specs.State.{end_of}
 use Rattle.fl_queues.specs.State.{own_ring}
 use Rattle.fl_queues.specs.Step.{step}
 use Rattle.fl_queues.specs.Runs.{run, reached, same_end, calls_accepted, calls_handled}
-use Rattle.fl_queues.specs.Standing.{Routed, core_at, number_at, on_link}
+use Rattle.fl_queues.specs.Standing.{on_link}
 use Rattle.fl_queues.specs.SoundLists.{Listed, RingWasLooked}
+use Rattle.fl_queues.specs.SoundRoutes.{NumbersAreOnce}
 use Rattle.fl_queues.specs.Sound.{Sound}
 
 -- ---- states
@@ -39,7 +40,8 @@ RunsAreSound = (vs : List Event) → Sound (reached start vs)
 
 -- a forward answers `nothing` only where nothing stands on the link
 abbrev pub ForwardsUnderstand : Type 0
-ForwardsUnderstand = (s : State) (a b : ℕ) → Sound s → (step s (forward b a)).answer ≡ nothing → on_link s a b ≡ []
+ForwardsUnderstand = (s : State) (a b : ℕ) → Sound s → (step s (forward b a)).answer ≡ nothing
+    → on_link s a b ≡ []
 
 -- a turn answers `nothing` only where no channel is pending or polled
 abbrev pub TurnsUnderstand : Type 0
@@ -114,8 +116,8 @@ PassedFalls = (vs : List Event) (e : EndId) (x : End) (j : ℕ) → end_of (reac
 
 -- no channel is twice in a waitset's lists
 abbrev pub ChannelsAreOnce : Type 0
-ChannelsAreOnce = (vs : List Event) (d : DispatcherId) (x : Dispatcher) → dispatcher_of (reached start vs) d ≡ Some x
-    → IsApart x.lists
+ChannelsAreOnce = (vs : List Event) (d : DispatcherId) (x : Dispatcher)
+    → dispatcher_of (reached start vs) d ≡ Some x → IsApart x.lists
 
 -- a pending channel has a fragment; where that is a ring's, it was looked at
 pub record PendingHas (s : State) (e : EndId) (b : Binding) : Type 0 where
@@ -138,17 +140,15 @@ pub record CountsInOrder (size : ℕ) (h : Half) : Type 0 where
   pub one : (m n : ℕ) → h.known ≤ m → m ≤ h.sent → h.known ≤ n → n ≤ h.sent → m % 65536 ≡ n % 65536 → m ≡ n
 
 abbrev pub RingsCountInOrder : Type 0
-RingsCountInOrder = (vs : List Event) (n : ℕ) (r : Ring) (side : RingSide) → slice_get (reached start vs).rings n ≡ Some r
-    → CountsInOrder r.size (written_by side r)
+RingsCountInOrder = (vs : List Event) (n : ℕ) (r : Ring) (side : RingSide)
+    → slice_get (reached start vs).rings n ≡ Some r → CountsInOrder r.size (written_by side r)
 
 -- ---- circuits
 
 -- a circuit's number on a link is given once: where two routes have one number on the link from one core to
 -- the next, they are one binding's
 abbrev pub NumbersAreGivenOnce : Type 0
-NumbersAreGivenOnce = (vs : List Event) (m n : ℕ) (p q : Route) (i j : ℕ)
-    → Routed (reached start vs) m p → Routed (reached start vs) n q → i < length p.numbers → j < length q.numbers
-    → core_at p i ≡ core_at q j → core_at p (suc i) ≡ core_at q (suc j) → number_at p i ≡ number_at q j → m ≡ n
+NumbersAreGivenOnce = (vs : List Event) → NumbersAreOnce (reached start vs)
 
 -- a core's table keeps what it was given: numbers stay given, and at a number that was given no other entry
 -- ever comes
