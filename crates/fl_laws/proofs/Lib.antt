@@ -1,0 +1,4 @@
+pub mod Cases
+pub mod Rings
+pub mod RingsKept
+pub mod RingsStep

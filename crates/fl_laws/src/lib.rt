@@ -1,0 +1,22 @@
+//! The laws of the queue machine: what holds of every run, each the contract of a function that does nothing.
+#![tactic(auto)]
+
+ghost use Rattle.std.specs.Prelude.{◌≡◌};
+ghost use Rattle.fl_queues.specs.Events.{Event};
+ghost use Rattle.fl_queues.specs.State.{State};
+ghost use Rattle.fl_queues.specs.Step.{step};
+ghost use Rattle.fl_queues.specs.SoundRings.{RingsCount, RingsFit};
+ghost use Rattle.fl_queues.specs.Laws.{RingsCountInOrder};
+
+/// Each step keeps the counts of all rings, whatever else the state holds: what a writer knows, what waiting labels tell,
+/// what was told and what was read never fall from one to the next, and no more is sent than is known to be read and a
+/// ring holds.
+pub fn steps_keep_counts()
+    ensures kept { (s : State) (v : Event) → RingsCount s → RingsFit s → RingsCount (step s v).state × RingsFit (step s v).state }
+{}
+
+/// In every state that a run reaches, on each direction of each ring: known, told and sent don't fall, no more is sent
+/// than what is known and the ring's size; so a number of 16 bits names one count from known to sent.
+pub fn rings_count_in_order()
+    ensures counts { RingsCountInOrder }
+{}
