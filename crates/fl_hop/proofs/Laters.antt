@@ -24,7 +24,7 @@ use Rattle.fl_hop.proofs.Numbering.{small}
 use Rattle.fl_base.specs.declared.identity.LinkId.{LinkId}
 use Rattle.fl_base.specs.declared.identity.Circuit.{Circuit}
 
-next_test : (o : Option ℕ) (n : ℕ) → is_next o n ≡ true → o ≡ Some n
+pub next_test : (o : Option ℕ) (n : ℕ) → is_next o n ≡ true → o ≡ Some n
 next_test None n e = cc
 next_test (Some m) n e = let same : m ≡ n = grind (arith, nat_tests, e) in let f : ℕ → Option ℕ = λ x. Some x in ap f same
 

@@ -5,6 +5,7 @@ pub mod Entering
 pub mod Leaving
 pub mod Counting
 pub mod Laters
+pub mod Entries
 pub mod Laws
 pub mod Crossing
 pub mod Numbering

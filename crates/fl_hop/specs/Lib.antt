@@ -5,6 +5,7 @@ pub mod Numbers
 pub mod Joined
 pub mod Limits
 pub mod Openings
+pub mod Entries
 pub mod Later
 pub mod OfCircuit
 pub mod Forward

@@ -6,6 +6,7 @@ ghost use Rattle.fl_base.specs.Prefix.{IsPrefix};
 ghost use Rattle.fl_hop.specs.Table.{TheCircuits, hop_at};
 ghost use Rattle.fl_hop.specs.Numbers.{OpenedHere, OpenedThere, Given, next_own, next_due};
 ghost use Rattle.fl_hop.specs.Joined.{Sound};
+ghost use Rattle.fl_hop.specs.Entries.{OpenedLeads, PassedLeads, ArrivedLeads};
 ghost use Rattle.fl_hop.specs.Limits.{LinksSuffice};
 ghost use Rattle.fl_hop.specs.Later.{Later};
 ghost use Rattle.fl_hop.specs.Carried.{OneEntry, OneStep, Joins, StoodThere, StoodToo};
@@ -32,6 +33,14 @@ pub fn numbers_apart()
     ensures zero { (t : TheCircuits) → Sound t → (l : ℕ) → hop_at t l 0 ≡ None }
     ensures own { (t : TheCircuits) → Sound t → (l n : ℕ) → next_own t l ≡ Some n → Given t l n → ⊥ }
     ensures due { (t : TheCircuits) → Sound t → (l n : ℕ) → next_due t l ≡ Some n → Given t l n → ⊥ }
+{}
+
+/// After each kind of opening its entry stands, of its binding: at the number that was given, at the one that was taken, or at
+/// both, leading from each to the other.
+pub fn openings_lead()
+    ensures opened { OpenedLeads }
+    ensures passed_on { PassedLeads }
+    ensures arrived { ArrivedLeads }
 {}
 
 /// Among the cores of a world, 0 to 15, no link is refused for there being too many: whoever has 15 has one to each other

@@ -38,7 +38,7 @@ pub use fault::HopFault;
 pub use forward::{First, Forwarded, Outcome, deliver, move_on};
 pub use law::{
     along, carried_in, carried_on, circuits_join, forward_adds, later_on, links_suffice,
-    never_shared, numbers_apart, own_alone, passage_adds, stretches_join,
+    never_shared, numbers_apart, openings_lead, own_alone, passage_adds, stretches_join,
 };
 pub use links::LinkState;
 pub use numbers::{MAX_LINKS, MAX_OPENINGS};
