@@ -2,3 +2,4 @@ pub mod Cases
 pub mod Rings
 pub mod RingsKept
 pub mod RingsStep
+pub mod Walk
