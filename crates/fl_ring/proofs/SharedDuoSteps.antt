@@ -10,7 +10,7 @@ use Rattle.fl_ring.specs.declared.shared.duo_board.Holder.TheVariants.{One, Two,
 use Rattle.fl_ring.specs.declared.shared.duo_board.DuoView.{DuoView}
 use Rattle.fl_ring.specs.Way.{slot}
 use Rattle.fl_ring.specs.SharedWay.{IsDue}
-use Rattle.fl_ring.specs.SharedDuo.{Pairing, DuoFits, DuoHolds, BothRun, CountsNear, IsOneSide, base_of, other_of, with_mine, side_stored, side_put, side_control, side_loaded, side_peeked, side_got, duo_stores_word, duo_stores_control, duo_loads_control, duo_loads_word, duo_loads_peeked, duo_loads_taken, duo_compares}
+use Rattle.fl_ring.specs.SharedDuo.{Pairing, DuoFits, DuoHolds, BothRun, ways, CountsNear, IsOneSide, base_of, other_of, with_mine, side_stored, side_put, side_control, side_loaded, side_peeked, side_got, duo_stores_word, duo_stores_control, duo_loads_control, duo_loads_word, duo_loads_peeked, duo_loads_taken, duo_compares}
 use Rattle.fl_ring.proofs.Places.{slot_within}
 use Rattle.fl_ring.proofs.SharedTables.{Moves, allows_by, allows_load}
 use Rattle.fl_ring.proofs.SharedDuos.{turned, both_stored, both_put, both_control, both_peeked_there, known_sent, both_loaded, both_peeked, both_got, both_again, both_few, both_near}
@@ -19,7 +19,7 @@ abbrev Seated : Type 0
 Seated = Me (Unit {0}) DuoView
 
 abbrev Held : ℕ → ℕ → List ℕ → Pairing → Type 0
-Held n start ws p = BothRun 0 (8 * n) n start ws p.one p.two
+Held n start ws p = BothRun (ways 0 (8 * n) n start) ws p.one p.two
 
 one_not_two : (h : Holder) → h ≡ One → h ≡ Two → ⊥
 one_not_two h e d = cc
@@ -44,13 +44,13 @@ duo_other_in h n i k words (inr e) some small wide = let b : other_of h n ≡ 0 
 -- what a side's step has to show: what the side knows after it, both ways, and what it tells
 pub record Goes (b c n start : ℕ) (words : List ℕ) (v : DuoView) (y : Side) (Then : DuoView → Type 0) : Type 0 where
   pub side : Side
-  pub both : BothRun b c n start words side y
+  pub both : BothRun (ways b c n start) words side y
   pub tells : Then (with_mine v side)
 
 abbrev Handler : ℕ → DuoView → List ℕ → List ℕ → (DuoView → Type 0) → Type 0
 Handler start v ws ws' Then =
     let b : ℕ = base_of v.holder v.size in let c : ℕ = other_of v.holder v.size in
-    (y : Side) → BothRun b c v.size start ws v.mine y → Goes b c v.size start ws' v y Then
+    (y : Side) → BothRun (ways b c v.size start) ws v.mine y → Goes b c v.size start ws' v y Then
 
 one_moves : (start id : ℕ) (ws ws' : List ℕ) (p : Pairing) (v : DuoView) (Then : DuoView → Type 0) → v.holder ≡ One → DuoFits v.size p id v → Held v.size start ws p → Handler start v ws ws' Then
     → Moves (DuoFits v.size) (Held v.size start) p id ws' Then
@@ -59,16 +59,16 @@ one_moves start id ws ws' p v Then e fits held go =
     let b : base_of v.holder n ≡ 0 = ap (λ (h : Holder). base_of h n) e in
     let c : other_of v.holder n ≡ 8 * n = ap (λ (h : Holder). other_of h n) e in
     let mine : (id ≡ p.first) × (v.mine ≡ p.one) × (v.size ≡ n) = fits.0 e in
-    let before : BothRun (base_of v.holder n) (other_of v.holder n) n start ws v.mine p.two =
-    subst (λ (s : Side). BothRun (base_of v.holder n) (other_of v.holder n) n start ws s p.two) (sym mine.1)
-    (subst (λ (x : ℕ). BothRun x (other_of v.holder n) n start ws p.one p.two) (sym b) (subst (λ (x : ℕ). BothRun 0 x n start ws p.one p.two) (sym c) held)) in
+    let before : BothRun (ways (base_of v.holder n) (other_of v.holder n) n start) ws v.mine p.two =
+    subst (λ (s : Side). BothRun (ways (base_of v.holder n) (other_of v.holder n) n start) ws s p.two) (sym mine.1)
+    (subst (λ (x : ℕ). BothRun (ways x (other_of v.holder n) n start) ws p.one p.two) (sym b) (subst (λ (x : ℕ). BothRun (ways 0 x n start) ws p.one p.two) (sym c) held)) in
     let g = go p.two before in
     record {
       account = record { first = p.first; second = p.second; one = g.side; two = p.two };
       view = with_mine v g.side;
       mine = ((λ _. (mine.0, refl, refl)), (λ d. absurd (one_not_two v.holder e d)), (λ d. absurd (one_not_both v.holder e d)));
       others = λ j u ne f. ((λ d. absurd (ne ((f.0 d).0 ∙ sym mine.0))), (λ d. f.1 d), (λ d. absurd (ne ((f.2 d).0 ∙ sym mine.0))));
-      holds = subst (λ (x : ℕ). BothRun 0 x n start ws' g.side p.two) c (subst (λ (x : ℕ). BothRun x (other_of v.holder n) n start ws' g.side p.two) b g.both);
+      holds = subst (λ (x : ℕ). BothRun (ways 0 x n start) ws' g.side p.two) c (subst (λ (x : ℕ). BothRun (ways x (other_of v.holder n) n start) ws' g.side p.two) b g.both);
       tells = g.tells;
     }
 
@@ -79,13 +79,13 @@ two_moves start id ws ws' p v Then e fits held go =
     let b : base_of v.holder n ≡ 8 * n = ap (λ (h : Holder). base_of h n) e in
     let c : other_of v.holder n ≡ 0 = ap (λ (h : Holder). other_of h n) e in
     let mine : (id ≡ p.second) × (v.mine ≡ p.two) × (v.size ≡ n) = fits.1 e in
-    let across : BothRun (8 * n) 0 n start ws p.two p.one = turned 0 (8 * n) n start ws p.one p.two held in
-    let before : BothRun (base_of v.holder n) (other_of v.holder n) n start ws v.mine p.one =
-    subst (λ (s : Side). BothRun (base_of v.holder n) (other_of v.holder n) n start ws s p.one) (sym mine.1)
-    (subst (λ (x : ℕ). BothRun x (other_of v.holder n) n start ws p.two p.one) (sym b) (subst (λ (x : ℕ). BothRun (8 * n) x n start ws p.two p.one) (sym c) across)) in
+    let across : BothRun (ways (8 * n) 0 n start) ws p.two p.one = turned 0 (8 * n) n start ws p.one p.two held in
+    let before : BothRun (ways (base_of v.holder n) (other_of v.holder n) n start) ws v.mine p.one =
+    subst (λ (s : Side). BothRun (ways (base_of v.holder n) (other_of v.holder n) n start) ws s p.one) (sym mine.1)
+    (subst (λ (x : ℕ). BothRun (ways x (other_of v.holder n) n start) ws p.two p.one) (sym b) (subst (λ (x : ℕ). BothRun (ways (8 * n) x n start) ws p.two p.one) (sym c) across)) in
     let g = go p.one before in
-    let after : BothRun (8 * n) 0 n start ws' g.side p.one =
-    subst (λ (x : ℕ). BothRun (8 * n) x n start ws' g.side p.one) c (subst (λ (x : ℕ). BothRun x (other_of v.holder n) n start ws' g.side p.one) b g.both) in
+    let after : BothRun (ways (8 * n) 0 n start) ws' g.side p.one =
+    subst (λ (x : ℕ). BothRun (ways (8 * n) x n start) ws' g.side p.one) c (subst (λ (x : ℕ). BothRun (ways x (other_of v.holder n) n start) ws' g.side p.one) b g.both) in
     record {
       account = record { first = p.first; second = p.second; one = p.one; two = g.side };
       view = with_mine v g.side;
@@ -122,7 +122,7 @@ duo_allows_stored n start slots id i x me key side at small room =
     side_stores n start slots id i x me (λ _. duo_stores_word (step slots i x 0 none) me x) key side
     (λ ws y h. record {
       side = side_stored me.0.mine x;
-      both = subst (λ (k : ℕ). BothRun b c m start (set ws k x) (side_stored me.0.mine x) y) (sym at) (both_stored b c m start ws me.0.mine y x h room small);
+      both = subst (λ (k : ℕ). BothRun (ways b c m start) (set ws k x) (side_stored me.0.mine x) y) (sym at) (both_stored b c m start ws me.0.mine y x h room small);
       tells = (refl, at, small, room);
     })
 
@@ -135,7 +135,7 @@ duo_allows_put n start slots id i w me key side at seven room unspent turn numbe
     side_stores n start slots id i w me (λ _. duo_stores_control (step slots i w 0 none) me w) key side
     (λ ws y h. record {
       side = side_put me.0.mine w;
-      both = subst (λ (k : ℕ). BothRun b c m start (set ws k w) (side_put me.0.mine w) y) (sym at) (both_put b c m start ws me.0.mine y w h room seven unspent turn number);
+      both = subst (λ (k : ℕ). BothRun (ways b c m start) (set ws k w) (side_put me.0.mine w) y) (sym at) (both_put b c m start ws me.0.mine y w h room seven unspent turn number);
       tells = (refl, at, seven, room, unspent, turn, number);
     })
 

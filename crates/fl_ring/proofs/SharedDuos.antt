@@ -9,7 +9,7 @@ use Rattle.fl_ring.specs.Counts.{count_from, last_count}
 use Rattle.fl_ring.specs.declared.shared.duo_board.Side.{Side}
 use Rattle.fl_ring.specs.Way.{slot}
 use Rattle.fl_ring.specs.SharedWay.{IsNext, IsDue, IsLoaded, WayRuns, frag_from, loaded_frag}
-use Rattle.fl_ring.specs.SharedDuo.{NumbersRide, BothRun, CountsNear, side_stored, side_put, side_control, side_loaded, side_peeked, side_got, known_by}
+use Rattle.fl_ring.specs.SharedDuo.{NumbersRide, BothRun, ways, CountsNear, side_stored, side_put, side_control, side_loaded, side_peeked, side_got, known_by}
 use Rattle.fl_ring.proofs.Places.{slot_within}
 use Rattle.fl_ring.proofs.Numbers.{count_named, count_again, count_rises, last_rises, last_push}
 use Rattle.fl_ring.proofs.Tells.{tells_kept, tells_stored, tells_put}
@@ -21,7 +21,7 @@ swapped : (x y z : ℕ) → ((x ≡ 0) × (y ≡ z)) ⊎ ((x ≡ z) × (y ≡ 0)
 swapped x y z (inl (e, d)) = inr (d, e)
 swapped x y z (inr (e, d)) = inl (d, e)
 
-pub turned : (b c n start : ℕ) (ws : List ℕ) (x y : Side) → BothRun b c n start ws x y → BothRun c b n start ws y x
+pub turned : (b c n start : ℕ) (ws : List ℕ) (x y : Side) → BothRun (ways b c n start) ws x y → BothRun (ways c b n start) ws y x
 turned b c n start ws x y h = record {
   few = h.few;
   wide = h.wide;
@@ -88,14 +88,14 @@ rides_taken sent got known told f h (rest, e) knows =
 module _ (b c n start : ℕ) (ws : List ℕ) (x y : Side) where
   -- ---- stores
 
-  away : (i k v : ℕ) → k < 8 → BothRun b c n start ws x y → (j : ℕ) → c ≤ j → j < c + 8 * n → get_or (set ws (slot b n i + k) v) j 0 ≡ get_or ws j 0
+  away : (i k v : ℕ) → k < 8 → BothRun (ways b c n start) ws x y → (j : ℕ) → c ≤ j → j < c + 8 * n → get_or (set ws (slot b n i + k) v) j 0 ≡ get_or ws j 0
   away i k v small h j from below = get_or-set_other ws (slot b n i + k) j v 0 (ways_apart b c n i k j h.there.holds.marked.some small h.apart from below)
 
-  away_control : (i k v : ℕ) → k < 8 → BothRun b c n start ws x y → (j : ℕ) → get_or (set ws (slot b n i + k) v) (slot c n j + 7) 0 ≡ get_or ws (slot c n j + 7) 0
+  away_control : (i k v : ℕ) → k < 8 → BothRun (ways b c n start) ws x y → (j : ℕ) → get_or (set ws (slot b n i + k) v) (slot c n j + 7) 0 ≡ get_or ws (slot c n j + 7) 0
   away_control i k v small h j = let within = slot_within c n j h.back.holds.marked.some in let p : ℕ = j % n in away i k v small h (slot c n j + 7) (omega arith) (omega arith)
 
-  pub both_stored : (v : ℕ) → BothRun b c n start ws x y → length x.put.sent < x.put.known + n → length x.put.part < 7
-      → BothRun b c n start (set ws (slot b n (length x.put.sent) + length x.put.part) v) (side_stored x v) y
+  pub both_stored : (v : ℕ) → BothRun (ways b c n start) ws x y → length x.put.sent < x.put.known + n → length x.put.part < 7
+      → BothRun (ways b c n start) (set ws (slot b n (length x.put.sent) + length x.put.part) v) (side_stored x v) y
   both_stored v h room small =
       let place : ℕ = slot b n (length x.put.sent) + length x.put.part in
       let ws' : List ℕ = set ws place v in
@@ -113,8 +113,8 @@ module _ (b c n start : ℕ) (ws : List ℕ) (x y : Side) where
         word_back = tells_kept c n start ws ws' (length y.put.sent) y.take.told h.word_back (away_control (length x.put.sent) (length x.put.part) v (omega arith) h);
       }
 
-  pub both_put : (w : ℕ) → BothRun b c n start ws x y → length x.put.sent < x.put.known + n → length x.put.part ≡ 7 → length x.put.sent < 2 ^ 62 → epoch_of w ≡ epoch_at n (length x.put.sent)
-      → told_of w ≡ length x.take.got % 65536 → BothRun b c n start (set ws (slot b n (length x.put.sent) + 7) w) (side_put x w) y
+  pub both_put : (w : ℕ) → BothRun (ways b c n start) ws x y → length x.put.sent < x.put.known + n → length x.put.part ≡ 7 → length x.put.sent < 2 ^ 62 → epoch_of w ≡ epoch_at n (length x.put.sent)
+      → told_of w ≡ length x.take.got % 65536 → BothRun (ways b c n start) (set ws (slot b n (length x.put.sent) + 7) w) (side_put x w) y
   both_put w h room seven unspent turn number =
       let place : ℕ = slot b n (length x.put.sent) + 7 in
       let ws' : List ℕ = set ws place w in
@@ -140,12 +140,12 @@ module _ (b c n start : ℕ) (ws : List ℕ) (x y : Side) where
   -- ---- loads
 
   -- what a look knows is told
-  known_told : (w : ℕ) → BothRun b c n start ws x y → w ≡ get_or ws (slot c n (length x.take.got) + 7) 0 → (epoch_of w ≡ epoch_at n (length x.take.got)) → NumbersRide y.put.sent x.take.got (count_from x.put.known (told_of w)) y.take.told
+  known_told : (w : ℕ) → BothRun (ways b c n start) ws x y → w ≡ get_or ws (slot c n (length x.take.got) + 7) 0 → (epoch_of w ≡ epoch_at n (length x.take.got)) → NumbersRide y.put.sent x.take.got (count_from x.put.known (told_of w)) y.take.told
   known_told w h is due =
       let l : IsLoaded y.put.sent x.take.got [] w = seen_due c n ws y.put x.take x.take.told w h.back is due in
       rides_known y.put.sent x.take.got x.put.known y.take.told (told_of w) l.frag h.told_back l.next (ap told_of l.control)
 
-  known_cases : (w : ℕ) → BothRun b c n start ws x y → w ≡ get_or ws (slot c n (length x.take.got) + 7) 0 → Dec (epoch_of w ≡ epoch_at n (length x.take.got))
+  known_cases : (w : ℕ) → BothRun (ways b c n start) ws x y → w ≡ get_or ws (slot c n (length x.take.got) + 7) 0 → Dec (epoch_of w ≡ epoch_at n (length x.take.got))
       → NumbersRide y.put.sent x.take.got (known_by n x w) y.take.told × (x.put.known ≤ known_by n x w)
   known_cases w h is (yes due) =
       let same : count_from x.put.known (told_of w) ≡ known_by n x w = sym (ap (λ (t : Bool). cond t (count_from x.put.known (told_of w)) x.put.known) (eq-eqb (epoch_of w) (epoch_at n (length x.take.got)) due)) in
@@ -154,11 +154,11 @@ module _ (b c n start : ℕ) (ws : List ℕ) (x y : Side) where
       let same : x.put.known ≡ known_by n x w = sym (ap (λ (t : Bool). cond t (count_from x.put.known (told_of w)) x.put.known) (ne_eqb (epoch_of w) (epoch_at n (length x.take.got)) other)) in
       (subst (λ (k : ℕ). NumbersRide y.put.sent x.take.got k y.take.told) same h.told_back, omega (arith, same))
 
-  pub known_after_look : (w : ℕ) → BothRun b c n start ws x y → w ≡ get_or ws (slot c n (length x.take.got) + 7) 0
+  pub known_after_look : (w : ℕ) → BothRun (ways b c n start) ws x y → w ≡ get_or ws (slot c n (length x.take.got) + 7) 0
       → NumbersRide y.put.sent x.take.got (known_by n x w) y.take.told × (x.put.known ≤ known_by n x w)
   known_after_look w h is = known_cases w h is (ℕ_discrete (epoch_of w) (epoch_at n (length x.take.got)))
 
-  pub both_control : (w : ℕ) → BothRun b c n start ws x y → w ≡ get_or ws (slot c n (length x.take.got) + 7) 0 → BothRun b c n start ws (side_control n x w) y
+  pub both_control : (w : ℕ) → BothRun (ways b c n start) ws x y → w ≡ get_or ws (slot c n (length x.take.got) + 7) 0 → BothRun (ways b c n start) ws (side_control n x w) y
   both_control w h is =
       let after = known_after_look w h is in
       record {
@@ -178,16 +178,16 @@ module _ (b c n start : ℕ) (ws : List ℕ) (x y : Side) where
       }
 
   -- what is known after a look was sent
-  pub known_sent : (w : ℕ) → BothRun b c n start ws x y → w ≡ get_or ws (slot c n (length x.take.got) + 7) 0 → known_by n x w ≤ length x.put.sent
+  pub known_sent : (w : ℕ) → BothRun (ways b c n start) ws x y → w ≡ get_or ws (slot c n (length x.take.got) + 7) 0 → known_by n x w ≤ length x.put.sent
   known_sent w h is =
       let after = known_after_look w h is in
       omega (arith, rides_rise y.put.sent x.take.got (known_by n x w) y.take.told after.0, h.there.told_got, front_within y.take.got x.put.sent h.there.got_sent)
 
-  pub both_peeked_there : (w : ℕ) → BothRun b c n start ws x y → w ≡ get_or ws (slot c n (length x.take.got) + 7) 0 → (f : Frag) → x.take.peeked ≡ Some f
+  pub both_peeked_there : (w : ℕ) → BothRun (ways b c n start) ws x y → w ≡ get_or ws (slot c n (length x.take.got) + 7) 0 → (f : Frag) → x.take.peeked ≡ Some f
       → (epoch_of w ≡ epoch_at n (length x.take.got)) × (f.control ≡ w)
   both_peeked_there w h is f e = peeked_there c n ws y.put x.take x.take.told w h.back is f e
 
-  pub both_loaded : (v : ℕ) → BothRun b c n start ws x y → IsDue n x.take → length x.take.part < 6 → v ≡ get_or ws (slot c n (length x.take.got) + length x.take.part) 0 → BothRun b c n start ws (side_loaded x v) y
+  pub both_loaded : (v : ℕ) → BothRun (ways b c n start) ws x y → IsDue n x.take → length x.take.part < 6 → v ≡ get_or ws (slot c n (length x.take.got) + length x.take.part) 0 → BothRun (ways b c n start) ws (side_loaded x v) y
   both_loaded v h due small is = record {
     few = h.few;
     wide = h.wide;
@@ -202,7 +202,7 @@ module _ (b c n start : ℕ) (ws : List ℕ) (x y : Side) where
     word_back = h.word_back;
   }
 
-  pub both_peeked : (v : ℕ) → BothRun b c n start ws x y → IsDue n x.take → length x.take.part ≡ 6 → v ≡ get_or ws (slot c n (length x.take.got) + 6) 0 → BothRun b c n start ws (side_peeked x v) y
+  pub both_peeked : (v : ℕ) → BothRun (ways b c n start) ws x y → IsDue n x.take → length x.take.part ≡ 6 → v ≡ get_or ws (slot c n (length x.take.got) + 6) 0 → BothRun (ways b c n start) ws (side_peeked x v) y
   both_peeked v h due six is = record {
     few = h.few;
     wide = h.wide;
@@ -217,7 +217,7 @@ module _ (b c n start : ℕ) (ws : List ℕ) (x y : Side) where
     word_back = h.word_back;
   }
 
-  pub both_got : (v : ℕ) → BothRun b c n start ws x y → IsDue n x.take → length x.take.part ≡ 6 → v ≡ get_or ws (slot c n (length x.take.got) + 6) 0 → BothRun b c n start ws (side_got x v) y
+  pub both_got : (v : ℕ) → BothRun (ways b c n start) ws x y → IsDue n x.take → length x.take.part ≡ 6 → v ≡ get_or ws (slot c n (length x.take.got) + 6) 0 → BothRun (ways b c n start) ws (side_got x v) y
   both_got v h due six is =
       let f : Frag = loaded_frag x.take v in
       let next : IsNext y.put.sent x.take.got f = loaded_whole c n ws y.put x.take x.take.told v h.back due six is in
@@ -235,13 +235,13 @@ module _ (b c n start : ℕ) (ws : List ℕ) (x y : Side) where
         word_back = h.word_back;
       }
 
-  pub both_again : (v : ℕ) → BothRun b c n start ws x y → IsDue n x.take → length x.take.part ≡ 6 → v ≡ get_or ws (slot c n (length x.take.got) + 6) 0 → (f : Frag) → x.take.peeked ≡ Some f → loaded_frag x.take v ≡ f
+  pub both_again : (v : ℕ) → BothRun (ways b c n start) ws x y → IsDue n x.take → length x.take.part ≡ 6 → v ≡ get_or ws (slot c n (length x.take.got) + 6) 0 → (f : Frag) → x.take.peeked ≡ Some f → loaded_frag x.take v ≡ f
   both_again v h due six is f e = loaded_again c n ws y.put x.take x.take.told v h.back due six is f e
 
-  pub both_few : (v : ℕ) → BothRun b c n start ws x y → IsDue n x.take → length x.take.part ≡ 6 → v ≡ get_or ws (slot c n (length x.take.got) + 6) 0 → length x.take.got < 2 ^ 62
+  pub both_few : (v : ℕ) → BothRun (ways b c n start) ws x y → IsDue n x.take → length x.take.part ≡ 6 → v ≡ get_or ws (slot c n (length x.take.got) + 6) 0 → length x.take.got < 2 ^ 62
   both_few v h due six is = got_unspent c n ws y.put x.take x.take.told v h.back due six is
 
-  pub both_near : BothRun b c n start ws x y → CountsNear n x y
+  pub both_near : BothRun (ways b c n start) ws x y → CountsNear n x y
   both_near h = record {
     few = h.few;
     got_sent = h.there.got_sent;

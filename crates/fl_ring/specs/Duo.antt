@@ -155,8 +155,8 @@ abbrev pub knowing : Which → TheDuo → ℕ → TheDuo
 knowing One d count = record { size = d.size; one = with_known d.one count; two = d.two }
 knowing Two d count = record { size = d.size; one = d.one; two = with_known d.two count }
 
--- a side of a ring of n slots each way may go back to this count: it knew it before, what it put since is within its slots
--- beyond it, and the first fragment that waits tells what it knows now
+-- a side of a ring of n slots each way may go back to this count: it knew it before, what it has put is within its slots
+-- beyond it, and where it knows more now, a fragment waits that acknowledges as much
 pub record MayForget (n : ℕ) (s : TheHalf) (count : ℕ) : Type 0 where
   pub before : count ≤ s.known
   pub sent_near : s.sent ≤ count + n

@@ -20,7 +20,7 @@ RingLaw = (s t : TheRing) (looks : List Look) → Looks (LinkStep RingPuts RingT
 
 -- ---- what a side of a ring of two directions writes and reads
 
--- the fragment that a step wrote, if it did: a tell that wrote has written one that acknowledges
+-- the fragment that a step wrote, if it did: a `tell` that wrote has written one that only acknowledges
 abbrev pub wrote_in : Look → List Frag
 wrote_in (placed frag) = frag ∷ []
 wrote_in told = acknowledgement ∷ []
@@ -84,7 +84,8 @@ pub record ReceiverConserves (s : Receiver) (looks : List Look) (t : Receiver) :
 abbrev pub ReceiverLaw : Type 0
 ReceiverLaw = (s t : Receiver) (looks : List Look) → Looks ReceiverTakes s looks t → ReceiverConserves s looks t
 
--- of a side of a ring of two directions: what it sent grew by what was placed and told, what it got by what was found
+-- of a side of a ring of two directions: what it sent grew by what was placed and by its acknowledgements, what it got by
+-- what was found
 pub record SideConserves (s : TheSide) (looks : List Look) (t : TheSide) : Type 0 where
   pub same_ring : t.ring ≡ s.ring
   pub same_holder : t.holder ≡ s.holder

@@ -42,22 +42,34 @@ pub record NumbersRide (sent got : List Frag) (known told : ℕ) : Type 0 where
 abbrev pub KnowsLast : ℕ → Side → Type 0
 KnowsLast n s = IsDue n s.take → length s.take.part < 7 → count_from s.put.known (told_of s.take.last) ≡ s.put.known
 
--- The way at word b is written by side x and read by side y, and the way at word c is the way back. So
--- many fragments had passed each way at the start.
-pub record BothRun (b c n start : ℕ) (words : List ℕ) (x y : Side) : Type 0 where
-  pub few : n ≤ 1024
-  pub wide : length words ≡ 16 * n
-  pub apart : ((b ≡ 0) × (c ≡ 8 * n)) ⊎ ((b ≡ 8 * n) × (c ≡ 0))
-  pub there : WayRuns b n words x.put y.take y.take.told
-  pub back : WayRuns c n words y.put x.take x.take.told
+-- the ways of a ring of two directions
+pub record Ways : Type 0 where
+  -- the first word of the way there, and of the way back
+  pub there : ℕ
+  pub back : ℕ
+  -- slots of each
+  pub size : ℕ
+  -- how many fragments had passed each way at the start
+  pub start : ℕ
+
+abbrev pub ways : ℕ → ℕ → ℕ → ℕ → Ways
+ways there back size start = record { there = there; back = back; size = size; start = start }
+
+-- Side x writes the way there and reads the way back, and side y the other way round.
+pub record BothRun (w : Ways) (words : List ℕ) (x y : Side) : Type 0 where
+  pub few : w.size ≤ 1024
+  pub wide : length words ≡ 16 * w.size
+  pub apart : ((w.there ≡ 0) × (w.back ≡ 8 * w.size)) ⊎ ((w.there ≡ 8 * w.size) × (w.back ≡ 0))
+  pub there : WayRuns w.there w.size words x.put y.take y.take.told
+  pub back : WayRuns w.back w.size words y.put x.take x.take.told
   -- what x has told rides in its fragments that y has not got, and the other way round
   pub told_there : NumbersRide x.put.sent y.take.got y.put.known x.take.told
   pub told_back : NumbersRide y.put.sent x.take.got x.put.known y.take.told
-  pub last_there : KnowsLast n x
-  pub last_back : KnowsLast n y
+  pub last_there : KnowsLast w.size x
+  pub last_back : KnowsLast w.size y
   -- and stands in its last control word
-  pub word_there : LastTells b n start words (length x.put.sent) x.take.told
-  pub word_back : LastTells c n start words (length y.put.sent) y.take.told
+  pub word_there : LastTells w.there w.size w.start words (length x.put.sent) x.take.told
+  pub word_back : LastTells w.back w.size w.start words (length y.put.sent) y.take.told
 
 -- who sits where, and what the two sides know
 pub record Pairing : Type 0 where
@@ -74,7 +86,7 @@ DuoFits n p seat v = (v.holder ≡ One → (seat ≡ p.first) × (v.mine ≡ p.o
 
 -- what holds of a ring of two directions, of n slots each, at every moment since the start
 abbrev pub DuoHolds : ℕ → ℕ → State (Unit {0}) DuoView → Type 0
-DuoHolds n start = Accounted (DuoFits n) (λ words p. BothRun 0 (8 * n) n start words p.one p.two)
+DuoHolds n start = Accounted (DuoFits n) (λ words p. BothRun (ways 0 (8 * n) n start) words p.one p.two)
 
 -- ---- the views
 

@@ -178,8 +178,8 @@ new_receiver ring n = record { ring = ring; size = n; got = []; peeked = None; m
 
 -- ---- both sides in one hand again
 
--- Of one ring: what was got is a prefix of what was sent, what the sender knows was told, what was told was got, and no
--- more were sent than there are slots beyond what the sender knows.
+-- Of one ring: what was got is a prefix of what was sent, what the sender knows was acknowledged, what was acknowledged was
+-- got, and no more were sent than there are slots beyond what the sender knows.
 pub record RingNear (w : Sender) (r : Receiver) : Type 0 where
   pub few : w.size ≤ 1024
   pub same_size : r.size ≡ w.size

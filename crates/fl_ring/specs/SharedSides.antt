@@ -31,22 +31,34 @@ pub record IsDuoSeated (table : TableId) (key : Opening) (seat : DuoSeat) : Type
   pub few : seat.me.0.size ≤ 1024
   pub side : IsOneSide seat.me.0.holder
 
+-- the numbers that a side's code keeps
+pub record Kept : Type 0 where
+  -- the first word of the slots that it writes, and of those that it reads
+  pub base : ℕ
+  pub other : ℕ
+  -- where it puts next, and takes next
+  pub put : TheCursor
+  pub take : TheCursor
+  -- how many of its fragments it knows to be taken, and how many of the other side's it told
+  pub known : ℕ
+  pub told : ℕ
+
 -- a side's seat between two calls, with the numbers that its code keeps
-pub record IsSide (seat : DuoSeat) (base other : ℕ) (put take : TheCursor) (known told : ℕ) : Type 0 where
-  pub base_is : base ≡ base_of seat.me.0.holder seat.me.0.size
-  pub other_is : other ≡ other_of seat.me.0.holder seat.me.0.size
+pub record IsSide (seat : DuoSeat) (kept : Kept) : Type 0 where
+  pub base_is : kept.base ≡ base_of seat.me.0.holder seat.me.0.size
+  pub other_is : kept.other ≡ other_of seat.me.0.holder seat.me.0.size
   pub none_held : seat.me.1 ≡ []
   pub part : seat.me.0.mine.put.part ≡ []
-  pub put_size : put.size ≡ seat.me.0.size
-  pub take_size : take.size ≡ seat.me.0.size
-  pub put_index : length seat.me.0.mine.put.sent ≡ put.index
-  pub take_index : length seat.me.0.mine.take.got ≡ take.index
-  pub known_is : seat.me.0.mine.put.known ≡ known
-  pub told_is : seat.me.0.mine.take.told ≡ told
-  pub told_got : told ≤ take.index
-  pub known_sent : known ≤ put.index
-  pub room : put.index ≤ known + seat.me.0.size
-  pub most : put.index ≤ 2 ^ 62
+  pub put_size : kept.put.size ≡ seat.me.0.size
+  pub take_size : kept.take.size ≡ seat.me.0.size
+  pub put_index : length seat.me.0.mine.put.sent ≡ kept.put.index
+  pub take_index : length seat.me.0.mine.take.got ≡ kept.take.index
+  pub known_is : seat.me.0.mine.put.known ≡ kept.known
+  pub told_is : seat.me.0.mine.take.told ≡ kept.told
+  pub told_got : kept.told ≤ kept.take.index
+  pub known_sent : kept.known ≤ kept.put.index
+  pub room : kept.put.index ≤ kept.known + seat.me.0.size
+  pub most : kept.put.index ≤ 2 ^ 62
 
 -- ---- what callers see
 
@@ -257,8 +269,8 @@ side_with_words s words = record { put = s.put; take = with_words s.take words }
 -- ---- both sides in one hand again
 
 -- Of the fragments that w put and r took: those taken are a prefix of those put, and what w knows was
--- told, what was told was taken, and no more than its slots were put beyond what w knows. So a
--- number of 16 bits names one count.
+-- acknowledged, what was acknowledged was taken, and no more than its slots were put beyond what w knows.
+-- So a number of 16 bits names one count.
 pub record SidesNear (w r : TheSide) : Type 0 where
   pub few : w.size ≤ 1024
   pub same_size : r.size ≡ w.size

@@ -46,7 +46,7 @@ pub record WayRuns (b n : ℕ) (words : List ℕ) (w : Writing) (r : Reading) (t
   pub peeked : (frag : Frag) → r.peeked ≡ Some frag → IsNext w.sent r.got frag
 
 -- Both sides' knowledge in one hand, of a way of n slots: what was got is a prefix of what was sent, what the writer knows
--- was told, what was told was got, and no more than n were sent beyond what the writer knows.
+-- was acknowledged, what was acknowledged was got, and no more than n were sent beyond what the writer knows.
 pub record WayNear (n : ℕ) (w : Writing) (r : Reading) : Type 0 where
   pub got_sent : IsPrefix r.got w.sent
   pub known_told : w.known ≤ r.told

@@ -27,7 +27,7 @@ pub fn receiver_conserves()
     ensures conserves { ReceiverLaw }
 {}
 
-/// What a side of a shared duo sent grew by what was placed and told, and what it got by what was found.
+/// What a side of a shared duo sent grew by what was placed and by its acknowledgements, and what it got by what was found.
 pub fn side_conserves()
     ensures conserves { SideLaw }
 {}

@@ -43,7 +43,7 @@ impl Model for SharedSide {
     ghost view = { λ s. side_of_seat s.seat };
 
     ghost invariant = { λ s. IsDuoSeated (arc_value s.table).shared.table_id (arc_value s.table).shared.key s.seat
-        × IsSide s.seat s.base s.other s.put s.take s.known s.told };
+        × IsSide s.seat (record { base = s.base; other = s.other; put = s.put; take = s.take; known = s.known; told = s.told }) };
 }
 
 // A fragment that only acknowledges: bit 2 is set and nothing else.
