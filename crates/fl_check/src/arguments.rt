@@ -13,9 +13,9 @@ ghost use Rattle.fl_parse.specs.Tree.{name_of, number_of, argument_of, directed_
 
 use crate::declared::Declared;
 use crate::fault::CheckFault;
-use crate::parts::{listed_name, other_name};
+use crate::parts::{add_listed_name, add_name};
 use crate::payload::{Checked, Payload};
-use crate::types::{check_bound, string_type};
+use crate::types::{check_bound, check_string_type};
 use crate::words::Names;
 use fl_parse::{Argument, DirectedArgument, Direction, Name, Number, Shape};
 use std::alloc::{AllocError, Global};
@@ -68,7 +68,7 @@ fn bound_of(bound: Option<Number>) -> u32
 
 impl<'a> Declared<'a> {
     #[tactic(auto, using(crate::proofs::FirstFaults::places))]
-    fn plain_argument(
+    fn check_plain_argument(
         &self,
         alloc: Global,
         names: &mut Names<'a>,
@@ -86,13 +86,13 @@ impl<'a> Declared<'a> {
         ensures fault { IfErr result (λ e. Tells e (first_fault
             (plain_argument_places (before_of self.now) (list_of names.old) counted_before (name_of kind.now) (name_of name.now)))) }
     {
-        let checked = self.plain_type(alloc, kind)?;
-        listed_name(names, counted_before, name)?;
+        let checked = self.check_plain_type(alloc, kind)?;
+        add_listed_name(names, counted_before, name)?;
         Ok(checked)
     }
 
     #[tactic(auto, using(crate::proofs::FirstFaults::places))]
-    fn sized_argument(
+    fn check_sized_argument(
         &self,
         alloc: Global,
         names: &mut Names<'a>,
@@ -111,9 +111,9 @@ impl<'a> Declared<'a> {
         ensures fault { IfErr result (λ e. Tells e (first_fault (sized_argument_places (before_of self.now) (list_of names.old) counted_before
             (argument_of argument.now) (name_of length.now) (option_map number_of bound)))) }
     {
-        let element = self.fixed_type(alloc, &argument.type_name)?;
-        listed_name(names, counted_before, &argument.name)?;
-        other_name(names, length)?;
+        let element = self.check_fixed_type(alloc, &argument.type_name)?;
+        add_listed_name(names, counted_before, &argument.name)?;
+        add_name(names, length)?;
         check_bound(bound)?;
         Ok(Checked::Sized {
             bound: bound_of(bound),
@@ -122,7 +122,7 @@ impl<'a> Declared<'a> {
     }
 
     /// An argument after those whose names these are, so many of them arguments'.
-    pub fn argument(
+    pub fn check_argument(
         &self,
         alloc: Global,
         names: &mut Names<'a>,
@@ -139,7 +139,7 @@ impl<'a> Declared<'a> {
     {
         match argument.shape {
             Shape::Plain => {
-                self.plain_argument(
+                self.check_plain_argument(
                     alloc,
                     names,
                     counted_before,
@@ -147,16 +147,22 @@ impl<'a> Declared<'a> {
                     &argument.name,
                 )
             }
-            Shape::Bounded(number) => { string_argument(names, counted_before, argument, number) }
+            Shape::Bounded(number) => {
+                check_string_argument(names, counted_before, argument, number)
+            }
             Shape::Sized { length, bound } => {
-                self.sized_argument(alloc, names, counted_before, argument, &length, bound)
+                self.check_sized_argument(alloc, names, counted_before, argument, &length, bound)
             }
         }
     }
 
     /// The arguments of a message.
     #[tactic(auto, using(crate::proofs::FirstFaults::places))]
-    pub fn arguments(&self, alloc: Global, args: &[Argument<'a>]) -> Result<Payload, CheckFault>
+    pub fn check_arguments(
+        &self,
+        alloc: Global,
+        args: &[Argument<'a>],
+    ) -> Result<Payload, CheckFault>
         ensures sound { OnOk result (first_fault (argument_places (before_of self.now) [] 0 (map argument_of args.now)) ≡ None) }
         ensures stands { IfOk result (λ p. map arg_type_of p.args.items ≡ map (argument_type (before_of self.now)) (map argument_of args.now)) }
         ensures fault { IfErr result (λ e. Tells e (first_fault (argument_places (before_of self.now) [] 0 (map argument_of args.now)))) }
@@ -164,7 +170,7 @@ impl<'a> Declared<'a> {
         let mut names = Names::new(alloc);
         let mut payload = Payload::new(alloc);
         for argument in args {
-            let checked = self.argument(alloc, &mut names, payload.args.len(), argument)?;
+            let checked = self.check_argument(alloc, &mut names, payload.args.len(), argument)?;
             payload.push(checked)?;
         }
         Ok(payload)
@@ -172,7 +178,7 @@ impl<'a> Declared<'a> {
 
     /// The arguments of an rpc, in one list of names.
     #[tactic(auto, using(crate::proofs::FirstFaults::places))]
-    pub fn directed(
+    pub fn check_directed(
         &self,
         alloc: Global,
         args: &[DirectedArgument<'a>],
@@ -186,7 +192,12 @@ impl<'a> Declared<'a> {
         let mut halves = Halves::new(alloc);
         for directed in args {
             let counted_before = halves.ins.args.len() + halves.outs.args.len();
-            let checked = self.argument(alloc, &mut names, counted_before, &directed.argument)?;
+            let checked = self.check_argument(
+                alloc,
+                &mut names,
+                counted_before,
+                &directed.argument,
+            )?;
             halves.push(directed.direction, checked)?;
         }
         Ok(halves)
@@ -194,7 +205,7 @@ impl<'a> Declared<'a> {
 }
 
 #[tactic(auto, using(crate::proofs::FirstFaults::places))]
-fn string_argument<'a>(
+fn check_string_argument<'a>(
     names: &mut Names<'a>,
     counted_before: usize,
     argument: &Argument<'a>,
@@ -209,8 +220,8 @@ fn string_argument<'a>(
     ensures fault { IfErr result (λ e. Tells e (first_fault (string_argument_places (list_of names.old) counted_before
         (argument_of argument.now) (number_of bound)))) }
 {
-    string_type(&argument.type_name)?;
-    listed_name(names, counted_before, &argument.name)?;
+    check_string_type(&argument.type_name)?;
+    add_listed_name(names, counted_before, &argument.name)?;
     check_bound(Some(bound))?;
     Ok(Checked::Text { bound: bound.value })
 }

@@ -1,4 +1,4 @@
--- What the parser reads single tokens as, as contracts see it.
+-- A working file: what the parser reads single tokens as, as contracts see it.
 use Rattle.fl_parse.specs.declared.parts.Inside as insides
 use Rattle.fl_parse.specs.declared.parts.Inside.TheVariants as inside_variants
 use Rattle.fl_parse.specs.declared.parser.Opening as openings

@@ -1,5 +1,5 @@
--- Reading from left to right: the value of the tokens at the front with the tokens behind them, or
--- the tokens from the first that cannot stand where it does.
+-- A working file: reading from left to right, by the code's own steps. What is read is the value of the first tokens with the
+-- tokens behind them, or the tokens from the first that cannot stand where it does.
 use Rattle.std.specs.Prelude.{◌≡◌, ℕ, zero, suc, Bool, false, List, [], ◌∷◌, length, Option, Some, None, Result, Ok, Err, codes, map, is_some, if◌then◌else◌}
 use Rattle.fl_lex.specs.declared.token.Mark.{Mark}
 use Rattle.fl_lex.specs.declared.token.Mark.TheVariants.{OpenBrace, CloseBrace, OpenParen, CloseParen, OpenBracket, CloseBracket, Comma, Semicolon}

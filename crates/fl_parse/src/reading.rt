@@ -1,4 +1,4 @@
-//! Reading single tokens off the front.
+//! Reading single tokens, the first of those that are left.
 
 ghost use Rattle.std.specs.Prelude.{◌≡◌, map, codes, IfErr};
 ghost use Rattle.fl_lex.specs.Token.{token_of};
