@@ -634,8 +634,10 @@ impl Intake {
         requires fed { (all : List ℕ) × IsFedBy ops.now tape.old self.old all buffer.now used }
         requires tape { (t full : List ℕ) → Turns (block_of ops.now) t full → length t ≤ length tape.old }
         requires count { self.old.count ≤ length tape.old }
-        ensures fed { IfOk result (λ end. (all : List ℕ) → IsFedBy ops.now tape.old self.old all buffer.now used → IsFedBy ops.now tape.new self.new all buffer.now end) }
-        ensures wrong { IfErr result (λ mark. (all : List ℕ) → IsFedBy ops.now tape.old self.old all buffer.now used → LeavesPayloads (block_of ops.now) all mark) }
+        ensures fed { IfOk result (λ end. (all : List ℕ) → IsFedBy ops.now tape.old self.old all buffer.now used
+            → IsFedBy ops.now tape.new self.new all buffer.now end) }
+        ensures wrong { IfErr result (λ mark. (all : List ℕ) → IsFedBy ops.now tape.old self.old all buffer.now used
+            → LeavesPayloads (block_of ops.now) all mark) }
         ensures end { IfOk result (λ end. (used < end) × (end ≤ 56)) }
         ensures settled { IfOk result (λ end. IsAtField ops.now self.new) }
         ensures kept { take self.old.count tape.new ≡ take self.old.count tape.old }
@@ -676,8 +678,10 @@ impl Intake {
         requires fed { (all : List ℕ) × IsFedBy ops.now tape.old self.old all buffer.now used }
         requires tape { (t full : List ℕ) → Turns (block_of ops.now) t full → length t ≤ length tape.old }
         requires count { self.old.count ≤ length tape.old }
-        ensures fed { IfOk result (λ end. (all : List ℕ) → IsFedBy ops.now tape.old self.old all buffer.now used → IsFedBy ops.now tape.new self.new all buffer.now end) }
-        ensures wrong { IfErr result (λ mark. (all : List ℕ) → IsFedBy ops.now tape.old self.old all buffer.now used → LeavesPayloads (block_of ops.now) all mark) }
+        ensures fed { IfOk result (λ end. (all : List ℕ) → IsFedBy ops.now tape.old self.old all buffer.now used
+            → IsFedBy ops.now tape.new self.new all buffer.now end) }
+        ensures wrong { IfErr result (λ mark. (all : List ℕ) → IsFedBy ops.now tape.old self.old all buffer.now used
+            → LeavesPayloads (block_of ops.now) all mark) }
         ensures end { IfOk result (λ end. (used < end) × (end ≤ 56)) }
         ensures settled { IfOk result (λ end. IsAtField ops.now self.new) }
         ensures kept { take self.old.count tape.new ≡ take self.old.count tape.old }

@@ -180,7 +180,7 @@ pub record GoesFrom (r : Rest) (taken done tape full : List ℕ) (n : Moment) : 
 pub record Reaches (whole r : Rest) (taken done : List ℕ) : Type 0 where
   pub to : (m n : Moment) → m.at ≡ length done → RestTurns r m n → RestTurns whole (moment_first (taken ++ m.tape) (done ++ m.bytes)) n
   pub from : (tape full : List ℕ) (n : Moment) → RestTurns whole (moment_first tape full) n → Follows (length done) done full
-    → GoesFrom r taken done tape full n
+      → GoesFrom r taken done tape full n
   pub gives : (tape : List ℕ) → rest_bytes whole (taken ++ tape) ≡ done ++ rest_bytes r tape
   pub marks : (tape : List ℕ) → drop (length done) (rest_marks whole (taken ++ tape)) ≡ rest_marks r tape
   pub sound : AllSound r
