@@ -1,4 +1,4 @@
--- Alignments, the widths of numbers, and which numbers fit them.
+-- Working definitions of the code: alignments, the widths of numbers, and which numbers fit them.
 use Rattle.std.specs.Prelude.{◌≡◌, ◌⊎◌, ◌≤◌, ℕ, ℤ, pos, negsuc, ◌*◌, ◌^◌, nat_lt, Bool}
 use Rattle.fl_check.specs.Interface.{scalar, enumeration, TheArgType, fixed}
 use Rattle.fl_check.specs.Sizes.{scalar_size}

@@ -70,7 +70,8 @@ fn put_low_bytes(out: &mut Vec<u8>, width: usize, number: u64) -> Result<(), All
 // A number's low bytes, at the next multiple of their number.
 fn put_number(out: &mut Vec<u8>, width: usize, number: u64) -> Result<(), AllocError>
     requires width { IsAlign width }
-    ensures ok { OnOk result ((before : List Leaf) → out.old.items ≡ payload_bytes before → out.new.items ≡ payload_bytes (whole width number ∷ before)) }
+    ensures ok { OnOk result ((before : List Leaf) → out.old.items ≡ payload_bytes before
+        → out.new.items ≡ payload_bytes (whole width number ∷ before)) }
 {
     align_to(out, width)?;
     put_low_bytes(out, width, number)
@@ -113,7 +114,8 @@ fn put_value(
 ) -> Result<(), AllocError>
     requires aligned { align ≡ align_of (type_of ty.now) }
     requires fits { has_type (type_of ty.now) (datum_of value.now) ≡ true }
-    ensures ok { OnOk result ((before : List Leaf) → out.old.items ≡ payload_bytes before → out.new.items ≡ payload_bytes (value_onto (type_of ty.now) (datum_of value.now) before)) }
+    ensures ok { OnOk result ((before : List Leaf) → out.old.items ≡ payload_bytes before
+        → out.new.items ≡ payload_bytes (value_onto (type_of ty.now) (datum_of value.now) before)) }
 {
     match ty {
         FixedType::Scalar(_) => match value {
@@ -148,7 +150,9 @@ fn put_struct(
 ) -> Result<(), AllocError>
     requires aligned { align ≡ greatest_align (fields_from (map type_of fields.now)) }
     requires fit { have_types (fields_from (map type_of fields.now)) (data_from (map datum_of values.now)) ≡ true }
-    ensures ok { OnOk result ((before : List Leaf) → out.old.items ≡ payload_bytes before → out.new.items ≡ payload_bytes (gap align ∷ fields_onto (fields_from (map type_of fields.now)) (data_from (map datum_of values.now)) (gap align ∷ before))) }
+    ensures ok { OnOk result ((before : List Leaf) → out.old.items ≡ payload_bytes before
+        → out.new.items ≡ payload_bytes (gap align ∷ fields_onto (fields_from (map type_of fields.now)) (data_from (map datum_of values.now))
+            (gap align ∷ before))) }
 {
     put_gap(out, align)?;
     put_fields(out, fields, values)?;
@@ -159,7 +163,8 @@ fn put_struct(
 #[cycle(values)]
 fn put_fields(out: &mut Vec<u8>, fields: &[FixedType], values: &[Value]) -> Result<(), AllocError>
     requires fit { have_types (fields_from (map type_of fields.now)) (data_from (map datum_of values.now)) ≡ true }
-    ensures ok { OnOk result ((before : List Leaf) → out.old.items ≡ payload_bytes before → out.new.items ≡ payload_bytes (fields_onto (fields_from (map type_of fields.now)) (data_from (map datum_of values.now)) before)) }
+    ensures ok { OnOk result ((before : List Leaf) → out.old.items ≡ payload_bytes before
+        → out.new.items ≡ payload_bytes (fields_onto (fields_from (map type_of fields.now)) (data_from (map datum_of values.now)) before)) }
 {
     for (field, value) in fields.iter().zip(values) {
         put_value(out, field, field.alignment() as usize, value)?;
@@ -177,7 +182,8 @@ fn put_elements(
 ) -> Result<(), AllocError>
     requires aligned { align ≡ align_of (type_of element.now) }
     requires fit { all_have_type (type_of element.now) (data_from (map datum_of values.now)) ≡ true }
-    ensures ok { OnOk result ((before : List Leaf) → out.old.items ≡ payload_bytes before → out.new.items ≡ payload_bytes (elements_onto (type_of element.now) (data_from (map datum_of values.now)) before)) }
+    ensures ok { OnOk result ((before : List Leaf) → out.old.items ≡ payload_bytes before
+        → out.new.items ≡ payload_bytes (elements_onto (type_of element.now) (data_from (map datum_of values.now)) before)) }
 {
     for value in values {
         put_value(out, element, align, value)?;
@@ -188,7 +194,8 @@ fn put_elements(
 // A string: its length in 8 bytes, then its bytes.
 fn put_text(out: &mut Vec<u8>, bytes: &[u8]) -> Result<(), AllocError>
     requires text { list_all is_text_byte bytes.now ≡ true }
-    ensures ok { OnOk result ((before : List Leaf) → out.old.items ≡ payload_bytes before → out.new.items ≡ payload_bytes (bytes_onto bytes.now (whole 8 (length bytes.now) ∷ before))) }
+    ensures ok { OnOk result ((before : List Leaf) → out.old.items ≡ payload_bytes before
+        → out.new.items ≡ payload_bytes (bytes_onto bytes.now (whole 8 (length bytes.now) ∷ before))) }
 {
     put_number(out, 8, bytes.len() as u64)?;
     out.extend_from_slice(bytes)?;
@@ -199,7 +206,9 @@ fn put_text(out: &mut Vec<u8>, bytes: &[u8]) -> Result<(), AllocError>
 #[tactic(auto, using(crate::proofs::Encoding::count_from))]
 fn put_sized(out: &mut Vec<u8>, element: &FixedType, values: &[Value]) -> Result<(), AllocError>
     requires fit { all_have_type (type_of element.now) (data_from (map datum_of values.now)) ≡ true }
-    ensures ok { OnOk result ((before : List Leaf) → out.old.items ≡ payload_bytes before → out.new.items ≡ payload_bytes (elements_onto (type_of element.now) (data_from (map datum_of values.now)) (whole 8 (count_of (data_from (map datum_of values.now))) ∷ before))) }
+    ensures ok { OnOk result ((before : List Leaf) → out.old.items ≡ payload_bytes before
+        → out.new.items ≡ payload_bytes (elements_onto (type_of element.now) (data_from (map datum_of values.now))
+            (whole 8 (count_of (data_from (map datum_of values.now))) ∷ before))) }
 {
     put_number(out, 8, values.len() as u64)?;
     put_elements(out, element, element.alignment() as usize, values)
@@ -208,7 +217,8 @@ fn put_sized(out: &mut Vec<u8>, element: &FixedType, values: &[Value]) -> Result
 // An argument's leaves, at their places.
 fn put_argument(out: &mut Vec<u8>, ty: &ArgType, value: &Value) -> Result<(), AllocError>
     requires fits { is_argument (arg_type_of ty.now) (datum_of value.now) ≡ true }
-    ensures ok { OnOk result ((before : List Leaf) → out.old.items ≡ payload_bytes before → out.new.items ≡ payload_bytes (argument_onto (arg_type_of ty.now) (datum_of value.now) before)) }
+    ensures ok { OnOk result ((before : List Leaf) → out.old.items ≡ payload_bytes before
+        → out.new.items ≡ payload_bytes (argument_onto (arg_type_of ty.now) (datum_of value.now) before)) }
 {
     match ty {
         ArgType::Fixed(fixed) => put_value(out, fixed, fixed.alignment() as usize, value),
@@ -233,7 +243,9 @@ fn put_rank(
     values: &[Value],
 ) -> Result<(), AllocError>
     requires fit { are_arguments (map arg_type_of types.now) (map datum_of values.now) ≡ true }
-    ensures ok { OnOk result ((before : List Leaf) → out.old.items ≡ payload_bytes before → out.new.items ≡ payload_bytes (arguments_onto false (of_rank kind plan rank (zip (map arg_type_of types.now) (map datum_of values.now))) before)) }
+    ensures ok { OnOk result ((before : List Leaf) → out.old.items ≡ payload_bytes before
+        → out.new.items ≡ payload_bytes (arguments_onto false (of_rank kind plan rank
+            (zip (map arg_type_of types.now) (map datum_of values.now))) before)) }
 {
     let mut after_dynamic = false;
     for (ty, value) in types.iter().zip(values) {
@@ -252,7 +264,9 @@ fn put_rank(
 // The arguments of plan 2's ranks, one rank after another.
 fn put_ranks(out: &mut Vec<u8>, types: &[ArgType], values: &[Value]) -> Result<(), AllocError>
     requires fit { are_arguments (map arg_type_of types.now) (map datum_of values.now) ≡ true }
-    ensures ok { OnOk result ((before : List Leaf) → out.old.items ≡ payload_bytes before → out.new.items ≡ payload_bytes (arguments_onto false (of_ranks kind PlanNo.Two 5 0 (zip (map arg_type_of types.now) (map datum_of values.now))) before)) }
+    ensures ok { OnOk result ((before : List Leaf) → out.old.items ≡ payload_bytes before
+        → out.new.items ≡ payload_bytes (arguments_onto false (of_ranks kind PlanNo.Two 5 0
+            (zip (map arg_type_of types.now) (map datum_of values.now))) before)) }
 {
     for rank in 0..RANKS {
         put_rank(out, PlanNo::Two, rank, types, values)?;
@@ -268,7 +282,9 @@ fn put_arguments(
     values: &[Value],
 ) -> Result<(), AllocError>
     requires fit { are_arguments (map arg_type_of types.now) (map datum_of values.now) ≡ true }
-    ensures ok { OnOk result ((before : List Leaf) → out.old.items ≡ payload_bytes before → out.new.items ≡ payload_bytes (arguments_onto false (arranged kind plan (zip (map arg_type_of types.now) (map datum_of values.now))) before)) }
+    ensures ok { OnOk result ((before : List Leaf) → out.old.items ≡ payload_bytes before
+        → out.new.items ≡ payload_bytes (arguments_onto false (arranged kind plan
+            (zip (map arg_type_of types.now) (map datum_of values.now))) before)) }
 {
     match plan {
         PlanNo::One => put_rank(out, plan, 0, types, values),
