@@ -152,7 +152,7 @@ fn put_struct(
     requires fit { have_types (fields_from (map type_of fields.now)) (data_from (map datum_of values.now)) ≡ true }
     ensures ok { OnOk result ((before : List Leaf) → out.old.items ≡ payload_bytes before
         → out.new.items ≡ payload_bytes (gap align ∷ fields_onto (fields_from (map type_of fields.now)) (data_from (map datum_of values.now))
-            (gap align ∷ before))) }
+        (gap align ∷ before))) }
 {
     put_gap(out, align)?;
     put_fields(out, fields, values)?;
@@ -208,7 +208,7 @@ fn put_sized(out: &mut Vec<u8>, element: &FixedType, values: &[Value]) -> Result
     requires fit { all_have_type (type_of element.now) (data_from (map datum_of values.now)) ≡ true }
     ensures ok { OnOk result ((before : List Leaf) → out.old.items ≡ payload_bytes before
         → out.new.items ≡ payload_bytes (elements_onto (type_of element.now) (data_from (map datum_of values.now))
-            (whole 8 (count_of (data_from (map datum_of values.now))) ∷ before))) }
+        (whole 8 (count_of (data_from (map datum_of values.now))) ∷ before))) }
 {
     put_number(out, 8, values.len() as u64)?;
     put_elements(out, element, element.alignment() as usize, values)
@@ -245,7 +245,7 @@ fn put_rank(
     requires fit { are_arguments (map arg_type_of types.now) (map datum_of values.now) ≡ true }
     ensures ok { OnOk result ((before : List Leaf) → out.old.items ≡ payload_bytes before
         → out.new.items ≡ payload_bytes (arguments_onto false (of_rank kind plan rank
-            (zip (map arg_type_of types.now) (map datum_of values.now))) before)) }
+        (zip (map arg_type_of types.now) (map datum_of values.now))) before)) }
 {
     let mut after_dynamic = false;
     for (ty, value) in types.iter().zip(values) {
@@ -266,7 +266,7 @@ fn put_ranks(out: &mut Vec<u8>, types: &[ArgType], values: &[Value]) -> Result<(
     requires fit { are_arguments (map arg_type_of types.now) (map datum_of values.now) ≡ true }
     ensures ok { OnOk result ((before : List Leaf) → out.old.items ≡ payload_bytes before
         → out.new.items ≡ payload_bytes (arguments_onto false (of_ranks kind PlanNo.Two 5 0
-            (zip (map arg_type_of types.now) (map datum_of values.now))) before)) }
+        (zip (map arg_type_of types.now) (map datum_of values.now))) before)) }
 {
     for rank in 0..RANKS {
         put_rank(out, PlanNo::Two, rank, types, values)?;
@@ -284,7 +284,7 @@ fn put_arguments(
     requires fit { are_arguments (map arg_type_of types.now) (map datum_of values.now) ≡ true }
     ensures ok { OnOk result ((before : List Leaf) → out.old.items ≡ payload_bytes before
         → out.new.items ≡ payload_bytes (arguments_onto false (arranged kind plan
-            (zip (map arg_type_of types.now) (map datum_of values.now))) before)) }
+        (zip (map arg_type_of types.now) (map datum_of values.now))) before)) }
 {
     match plan {
         PlanNo::One => put_rank(out, plan, 0, types, values),
