@@ -3,8 +3,9 @@
 //!
 //! Contract for the layers above: [`read_call`] gives the one call that a text spells
 //! (`specs/CallText.antt`), or the first of faults 90, 41 and 42; what [`print_call`] writes of a
-//! fitting call reads as that call. [`unflatten`] gives a call exactly where a fitting call of that
-//! message has the tape (`specs/Taken.antt`).
+//! fitting call reads as that call ([`printed_call_read`]). [`unflatten`] gives a call exactly where a fitting call of that
+//! message has the tape (`specs/Taken.antt`). A plan's order of arguments is said and gone through here alone
+//! (`specs/Plan.antt`, [`PlanNo::rank_of`]).
 //!
 //! - `value.rt`: `Value`, `Call`, `PlanNo`
 //! - `fitting.rt`: which values a type has, and which calls fit
