@@ -1,4 +1,4 @@
--- What a plan keeps of an argument, and where arguments end one after another.
+-- Working definitions of the code: what a plan keeps of an argument, and where arguments end one after another.
 use Rattle.std.specs.Prelude.{ℕ, pos, ◌+◌, ◌*◌, ◌==◌, ◌&&◌, nat_le, max, Bool, true, false}
 use Rattle.std.specs.Prelude.{if◌then◌else◌, Option, Some, None, List, [], ◌∷◌, map, length, get_or}
 use Rattle.std.specs.List.{zip, range_with_len, list_all}

@@ -6,20 +6,20 @@
 //! begins. The definitions stand in `specs/`: leaves in `Leaves.antt`, their places as sums in `Places.antt`, and what
 //! the calls answer in `Layouts.antt`. What the limit on payloads is looked at for is a law (`Limit.antt`).
 //!
-//! - `measure.rt`: sizes and alignments of types
+//! - `measure.rt`: an argument's extent
 //! - `extent.rt`: what a plan keeps of an argument
 //! - `arrange.rt`: a message's arguments in the plan's order
 //! - `filling.rt`: where arguments begin and end one after another
 //! - `plans.rt`: the plan of an interface
-//! - `limit.rt`: the limit on payloads
+//! - `law.rt`: what the limit on payloads is looked at for
 #![tactic(auto)]
 
 mod arrange;
 mod extent;
 mod filling;
-mod limit;
+mod law;
 mod measure;
 mod plans;
 
-pub use limit::limit_is_of_plan_one;
+pub use law::limit_is_of_plan_one;
 pub use plans::{Plans, fragment_count, plan};

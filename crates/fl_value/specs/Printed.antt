@@ -47,7 +47,7 @@ printed_call name values = name ++ 40 ∷ (printed_values (data_from values) ++ 
 abbrev pub separator : ℕ → List ℕ
 separator index = if index == 0 then [] else 44 ∷ 32 ∷ []
 
--- what stood there still stands in front, and behind it a front of the text
+-- what stood there still stands, and behind it a prefix of the text
 abbrev pub BeginsToAppend : (old new whole : List ℕ) → Type 0
 BeginsToAppend old new whole = (front : List ℕ) × (rest : List ℕ) × (whole ≡ front ++ rest) × (new ≡ old ++ front)
 

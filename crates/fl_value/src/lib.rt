@@ -3,8 +3,9 @@
 //!
 //! Contract for the layers above: [`read_call`] gives the one call that a text spells
 //! (`specs/CallText.antt`), or the first of faults 90, 41 and 42; what [`print_call`] writes of a
-//! fitting call reads as that call. [`unflatten`] gives a call exactly where a fitting call of that
-//! message has the tape (`specs/Taken.antt`).
+//! fitting call reads as that call ([`printed_call_read`]). [`unflatten`] gives a call exactly where a fitting call of that
+//! message has the tape (`specs/Taken.antt`). A plan's order of arguments is said and gone through here alone
+//! (`specs/Plan.antt`, [`PlanNo::rank_of`]).
 //!
 //! - `value.rt`: `Value`, `Call`, `PlanNo`
 //! - `fitting.rt`: which values a type has, and which calls fit
@@ -31,9 +32,7 @@ mod value;
 pub use calls::{CallText, read_call, read_call_text, resolve};
 pub use fault::ValueFault;
 pub use fitting::{fits, has_type};
-pub use law::{
-    one_call_of_a_tape, one_reading, printed_call_read, printed_reads, rank_by_rank,
-};
+pub use law::{one_call_of_a_tape, one_reading, printed_call_read, printed_reads, rank_by_rank};
 pub use order::RANKS;
 pub use printing::print_call;
 pub use tape::flatten;

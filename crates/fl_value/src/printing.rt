@@ -108,7 +108,7 @@ fn print_values(alloc: Global, out: &mut Vec<u8>, values: &[Value]) -> Result<()
 ///
 /// # Errors
 ///
-/// Where memory runs out; `out` may then have a front of the text at its end, behind what stood there.
+/// Where memory runs out; `out` may then have a prefix of the text at its end, behind what stood there.
 pub fn print_call(
     alloc: Global,
     out: &mut Vec<u8>,

@@ -313,7 +313,8 @@ fn read_ranks<'a>(
     let mut values = Vec::with_capacity(alloc, arguments.len())?;
     let mut rest = tape;
     for rank in 0..RANKS {
-        let Some((more, after)) = read_rank(alloc, rest, PlanNo::Two, rank, arguments, values)? else {
+        let Some((more, after)) = read_rank(alloc, rest, PlanNo::Two, rank, arguments, values)?
+        else {
             return Ok(None);
         };
         values = more;

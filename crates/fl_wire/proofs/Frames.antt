@@ -85,9 +85,10 @@ clean_told : (f : Frag) → is_clean f ≡ true → (f.control / 4 % 2 ^ 14 ≡ 
 clean_told f h =
     let bits = first_so (not (acknowledges_of f.control) && eqb (reserved_of f.control) 0) (eqb (circuit_of f.control) 0) h in
     let bit = first_so (not (acknowledges_of f.control)) (eqb (reserved_of f.control) 0) bits in
-    let rest = second_so (not (acknowledges_of f.control)) (eqb (reserved_of f.control) 0) bits in
-    (no_bits f.control (not_true (acknowledges_of f.control) bit) (eqb-true (reserved_of f.control) 0 rest),
-    eqb-true (circuit_of f.control) 0 (second_so (not (acknowledges_of f.control) && eqb (reserved_of f.control) 0) (eqb (circuit_of f.control) 0) h))
+    let rest = second_so (not (acknowledges_of f.control)) (eqb (reserved_of f.control) 0) bits in (
+      no_bits f.control (not_true (acknowledges_of f.control) bit) (eqb-true (reserved_of f.control) 0 rest),
+      eqb-true (circuit_of f.control) 0 (second_so (not (acknowledges_of f.control) && eqb (reserved_of f.control) 0) (eqb (circuit_of f.control) 0) h),
+    )
 
 clean_from : (f : Frag) → f.control / 4 % 2 ^ 14 ≡ 0 → f.control / 2 ^ 32 % 65536 ≡ 0 → is_clean f ≡ true
 clean_from f a b =
@@ -129,6 +130,7 @@ pub follows_well : (f : Frag) (msg : ℕ) → msg < 2 ^ 16 → 2 * (f.control / 
 follows_well f msg small e =
     let (reserved, (circuit, (first, is))) = later_told f.control msg small e in
     (rw (clean_from f reserved circuit, zero_one (f.control / 2 % 2) first, eq-eqb (message_of f.control) msg is) refl, is)
+
 -- ---- words from their bytes
 
 line_word : (f : Frag) → Line f → (xs : List ℕ) (m j : ℕ) → j < 7 → ((r : ℕ) → r < 8 → byte_at r (get_or f.words j 0) ≡ slice_index xs (8 * m + r)) → get_or f.words j 0 ≡ word xs m

@@ -1,4 +1,4 @@
--- Types that have a value: every enum has an enumerator. Those of every accepted interface do.
+-- Working definitions of the reader: types that have a value: every enum has an enumerator. Those of every accepted interface do.
 use Rattle.std.specs.Prelude.{◌&&◌, nat_lt, Bool, true}
 use Rattle.std.specs.List.{list_all}
 use Rattle.fl_check.specs.Interface.{TheType, scalar, enumeration, structure, array, TheTypes, no_more}

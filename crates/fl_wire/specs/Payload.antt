@@ -1,14 +1,13 @@
 -- The payload of a call, by the places of its leaves, and its fragments.
-use Rattle.std.specs.Prelude.{◌≡◌, ℕ, ◌+◌, ◌-◌, ◌*◌, ◌==◌, ◌&&◌, nat_lt, nat_le, if◌then◌else◌, List, [], ◌∷◌, map, slice_index}
+use Rattle.std.specs.Prelude.{ℕ, ◌+◌, ◌-◌, ◌*◌, ◌==◌, ◌&&◌, nat_lt, nat_le, if◌then◌else◌, List, [], ◌∷◌, map, slice_index}
 use Rattle.std.specs.List.{range_with_len}
 use Rattle.std.specs.Int.{byte_at, from_le_bytes, w64}
 use Rattle.fl_base.specs.declared.fragment.Frag.{Frag}
 use Rattle.fl_base.specs.Control.{control_word}
-use Rattle.fl_check.specs.Interface.{TheType, TheTypes, TheInterface}
-use Rattle.fl_value.specs.Value.{Data, TheCall}
-use Rattle.fl_value.specs.Fits.{count_of}
+use Rattle.fl_check.specs.Interface.{TheInterface}
+use Rattle.fl_value.specs.Value.{TheCall}
 use Rattle.fl_value.specs.declared.value.PlanNo.{PlanNo}
-use Rattle.fl_layout.specs.Leaves.{Leaf, gap, whole, fields_onto, elements_onto, leaves}
+use Rattle.fl_layout.specs.Leaves.{Leaf, leaves}
 use Rattle.fl_layout.specs.Places.{size, place, count}
 
 -- each leaf's bytes stand at its place, little-endian, and every other byte is 0
@@ -21,18 +20,6 @@ payload_at (leaf ∷ before) p =
 
 abbrev pub payload_bytes : List Leaf → List ℕ
 payload_bytes ls = map (payload_at ls) (range_with_len 0 (size ls))
-
--- bytes that were the payload of some leaves, and are that of these with others put onto them
-abbrev pub PutsOnto : (List Leaf → List Leaf) → List ℕ → List ℕ → Type 0
-PutsOnto onto old new = (before : List Leaf) → old ≡ payload_bytes before → new ≡ payload_bytes (onto before)
-
--- the fields of a struct of that alignment, between gaps
-abbrev pub struct_onto : ℕ → TheTypes → Data → List Leaf → List Leaf
-struct_onto align ts ds before = gap align ∷ fields_onto ts ds (gap align ∷ before)
-
--- a sized array: its length, and its elements
-abbrev pub sized_onto : TheType → Data → List Leaf → List Leaf
-sized_onto t ds before = elements_onto t ds (whole 8 (count_of ds) ∷ before)
 
 -- the payload of a call
 abbrev pub payload_of : PlanNo → TheInterface → TheCall → List ℕ

@@ -1,4 +1,4 @@
--- What may stand at a place of a payload, and what reading it there tells.
+-- Working definitions of the reader, but `Agrees`: what may stand at a place of a payload, and what reading it there tells.
 use Rattle.std.specs.Prelude.{◌≡◌, ℕ, ◌+◌, ◌*◌, ◌^◌, ◌<◌, ◌≤◌, ◌&&◌, Bool, true, false, List, ◌∷◌, length}
 use Rattle.std.specs.List.{list_all, zip}
 use Rattle.fl_base.specs.declared.fragment.Frag.{Frag}

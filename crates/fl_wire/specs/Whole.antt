@@ -1,4 +1,4 @@
--- What reading a message's whole call tells: its arguments, and the zeros up to its last fragment's end.
+-- Working definitions of the reader: what reading a message's whole call tells: its arguments, and the zeros up to its last fragment's end.
 use Rattle.std.specs.Prelude.{◌≡◌, ℕ, ◌+◌, ◌*◌, ◌<◌, ◌≤◌, true, List, [], length}
 use Rattle.std.specs.List.{list_all}
 use Rattle.fl_base.specs.declared.fragment.Frag.{Frag}

@@ -1,7 +1,6 @@
--- Alignments, the widths of numbers, and which numbers fit them.
-use Rattle.std.specs.Prelude.{◌≡◌, ◌⊎◌, ◌≤◌, ℕ, ℤ, pos, negsuc, ◌*◌, ◌^◌, nat_lt, Bool, List, map}
-use Rattle.fl_check.specs.declared.interface.FixedType.{FixedType}
-use Rattle.fl_check.specs.Interface.{scalar, enumeration, TheTypes, TheArgType, fixed, fields_from, type_of}
+-- Working definitions of the code: alignments, the widths of numbers, and which numbers fit them.
+use Rattle.std.specs.Prelude.{◌≡◌, ◌⊎◌, ◌≤◌, ℕ, ℤ, pos, negsuc, ◌*◌, ◌^◌, nat_lt, Bool}
+use Rattle.fl_check.specs.Interface.{scalar, enumeration, TheArgType, fixed}
 use Rattle.fl_check.specs.Sizes.{scalar_size}
 use Rattle.fl_value.specs.Value.{Datum, number, string, elements, fields}
 
@@ -31,7 +30,3 @@ fits_width width (negsuc n) = nat_lt n (2 ^ (8 * width))
 abbrev pub IsWordSized : TheArgType → Type 0
 IsWordSized (fixed (enumeration n)) = n ≤ 2 ^ 32
 IsWordSized t = Unit {0}
-
--- the types of a struct's fields, as the code has them
-abbrev pub types_from : List FixedType → TheTypes
-types_from fields = fields_from (map type_of fields)

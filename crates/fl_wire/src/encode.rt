@@ -3,16 +3,14 @@
 ghost use Rattle.std.specs.Prelude.{◌≡◌, pos, ◌+◌, ◌-◌, ◌*◌, ◌%◌, ◌^◌, ◌<◌, true, false, List, ◌∷◌, ◌++◌, map, length, take, replicate, OnOk, IfOk};
 ghost use Rattle.std.specs.List.{zip, list_all};
 ghost use Rattle.std.specs.Int.{to_le_bytes, w64};
-ghost use Rattle.fl_check.specs.Interface.{type_of, arg_type_of, interface_of};
+ghost use Rattle.fl_check.specs.Interface.{type_of, fields_from, arg_type_of, interface_of};
 ghost use Rattle.fl_check.specs.Sizes.{round_up, align_of, greatest_align};
-ghost use Rattle.fl_value.specs.Value.{datum_of, data_of, call_of};
-ghost use Rattle.fl_value.specs.Fits.{fits_of, has_type, have_types, all_have_type, are_arguments, is_argument, is_text_byte};
+ghost use Rattle.fl_value.specs.Value.{datum_of, data_from, call_of};
+ghost use Rattle.fl_value.specs.Fits.{count_of, fits_of, has_type, have_types, all_have_type, are_arguments, is_argument, is_text_byte};
 ghost use Rattle.fl_value.specs.Plan.{arranged, is_dynamic, of_rank, of_ranks};
-ghost use Rattle.fl_layout.specs.Leaves.{gap, whole, bits_of, kind, value_onto};
+ghost use Rattle.fl_layout.specs.Leaves.{Leaf, gap, whole, bits_of, kind, value_onto};
 ghost use Rattle.fl_layout.specs.Leaves.{fields_onto, elements_onto, bytes_onto, argument_onto, arguments_onto};
-ghost use Rattle.fl_value.specs.Tape.{beside};
-ghost use Rattle.fl_wire.specs.Payload.{PutsOnto, struct_onto, sized_onto, payload_of};
-ghost use Rattle.fl_wire.specs.Widths.{types_from};
+ghost use Rattle.fl_wire.specs.Payload.{payload_bytes, payload_of};
 ghost use Rattle.fl_wire.specs.Widths.{IsAlign, fits_width};
 
 use crate::types::{arguments_of, is_dynamic};
@@ -50,7 +48,7 @@ fn align_to(out: &mut Vec<u8>, align: usize) -> Result<(), AllocError>
 // A leaf without a byte: what follows starts at a multiple of the alignment.
 fn put_gap(out: &mut Vec<u8>, align: usize) -> Result<(), AllocError>
     requires align { IsAlign align }
-    ensures ok { OnOk result (PutsOnto (λ before. gap align ∷ before) out.old.items out.new.items) }
+    ensures ok { OnOk result ((before : List Leaf) → out.old.items ≡ payload_bytes before → out.new.items ≡ payload_bytes (gap align ∷ before)) }
 {
     align_to(out, align)
 }
@@ -72,7 +70,8 @@ fn put_low_bytes(out: &mut Vec<u8>, width: usize, number: u64) -> Result<(), All
 // A number's low bytes, at the next multiple of their number.
 fn put_number(out: &mut Vec<u8>, width: usize, number: u64) -> Result<(), AllocError>
     requires width { IsAlign width }
-    ensures ok { OnOk result (PutsOnto (λ before. whole width number ∷ before) out.old.items out.new.items) }
+    ensures ok { OnOk result ((before : List Leaf) → out.old.items ≡ payload_bytes before
+        → out.new.items ≡ payload_bytes (whole width number ∷ before)) }
 {
     align_to(out, width)?;
     put_low_bytes(out, width, number)
@@ -115,7 +114,8 @@ fn put_value(
 ) -> Result<(), AllocError>
     requires aligned { align ≡ align_of (type_of ty.now) }
     requires fits { has_type (type_of ty.now) (datum_of value.now) ≡ true }
-    ensures ok { OnOk result (PutsOnto (value_onto (type_of ty.now) (datum_of value.now)) out.old.items out.new.items) }
+    ensures ok { OnOk result ((before : List Leaf) → out.old.items ≡ payload_bytes before
+        → out.new.items ≡ payload_bytes (value_onto (type_of ty.now) (datum_of value.now) before)) }
 {
     match ty {
         FixedType::Scalar(_) => match value {
@@ -148,9 +148,11 @@ fn put_struct(
     align: usize,
     values: &[Value],
 ) -> Result<(), AllocError>
-    requires aligned { align ≡ greatest_align (types_from fields.now) }
-    requires fit { have_types (types_from fields.now) (data_of values.now) ≡ true }
-    ensures ok { OnOk result (PutsOnto (struct_onto align (types_from fields.now) (data_of values.now)) out.old.items out.new.items) }
+    requires aligned { align ≡ greatest_align (fields_from (map type_of fields.now)) }
+    requires fit { have_types (fields_from (map type_of fields.now)) (data_from (map datum_of values.now)) ≡ true }
+    ensures ok { OnOk result ((before : List Leaf) → out.old.items ≡ payload_bytes before
+        → out.new.items ≡ payload_bytes (gap align ∷ fields_onto (fields_from (map type_of fields.now)) (data_from (map datum_of values.now))
+        (gap align ∷ before))) }
 {
     put_gap(out, align)?;
     put_fields(out, fields, values)?;
@@ -160,8 +162,9 @@ fn put_struct(
 // The fields of a struct, in order.
 #[cycle(values)]
 fn put_fields(out: &mut Vec<u8>, fields: &[FixedType], values: &[Value]) -> Result<(), AllocError>
-    requires fit { have_types (types_from fields.now) (data_of values.now) ≡ true }
-    ensures ok { OnOk result (PutsOnto (fields_onto (types_from fields.now) (data_of values.now)) out.old.items out.new.items) }
+    requires fit { have_types (fields_from (map type_of fields.now)) (data_from (map datum_of values.now)) ≡ true }
+    ensures ok { OnOk result ((before : List Leaf) → out.old.items ≡ payload_bytes before
+        → out.new.items ≡ payload_bytes (fields_onto (fields_from (map type_of fields.now)) (data_from (map datum_of values.now)) before)) }
 {
     for (field, value) in fields.iter().zip(values) {
         put_value(out, field, field.alignment() as usize, value)?;
@@ -178,8 +181,9 @@ fn put_elements(
     values: &[Value],
 ) -> Result<(), AllocError>
     requires aligned { align ≡ align_of (type_of element.now) }
-    requires fit { all_have_type (type_of element.now) (data_of values.now) ≡ true }
-    ensures ok { OnOk result (PutsOnto (elements_onto (type_of element.now) (data_of values.now)) out.old.items out.new.items) }
+    requires fit { all_have_type (type_of element.now) (data_from (map datum_of values.now)) ≡ true }
+    ensures ok { OnOk result ((before : List Leaf) → out.old.items ≡ payload_bytes before
+        → out.new.items ≡ payload_bytes (elements_onto (type_of element.now) (data_from (map datum_of values.now)) before)) }
 {
     for value in values {
         put_value(out, element, align, value)?;
@@ -190,7 +194,8 @@ fn put_elements(
 // A string: its length in 8 bytes, then its bytes.
 fn put_text(out: &mut Vec<u8>, bytes: &[u8]) -> Result<(), AllocError>
     requires text { list_all is_text_byte bytes.now ≡ true }
-    ensures ok { OnOk result (PutsOnto (λ before. bytes_onto bytes.now (whole 8 (length bytes.now) ∷ before)) out.old.items out.new.items) }
+    ensures ok { OnOk result ((before : List Leaf) → out.old.items ≡ payload_bytes before
+        → out.new.items ≡ payload_bytes (bytes_onto bytes.now (whole 8 (length bytes.now) ∷ before))) }
 {
     put_number(out, 8, bytes.len() as u64)?;
     out.extend_from_slice(bytes)?;
@@ -200,8 +205,10 @@ fn put_text(out: &mut Vec<u8>, bytes: &[u8]) -> Result<(), AllocError>
 // A sized array: its length in 8 bytes, then its elements.
 #[tactic(auto, using(crate::proofs::Encoding::count_from))]
 fn put_sized(out: &mut Vec<u8>, element: &FixedType, values: &[Value]) -> Result<(), AllocError>
-    requires fit { all_have_type (type_of element.now) (data_of values.now) ≡ true }
-    ensures ok { OnOk result (PutsOnto (sized_onto (type_of element.now) (data_of values.now)) out.old.items out.new.items) }
+    requires fit { all_have_type (type_of element.now) (data_from (map datum_of values.now)) ≡ true }
+    ensures ok { OnOk result ((before : List Leaf) → out.old.items ≡ payload_bytes before
+        → out.new.items ≡ payload_bytes (elements_onto (type_of element.now) (data_from (map datum_of values.now))
+        (whole 8 (count_of (data_from (map datum_of values.now))) ∷ before))) }
 {
     put_number(out, 8, values.len() as u64)?;
     put_elements(out, element, element.alignment() as usize, values)
@@ -210,7 +217,8 @@ fn put_sized(out: &mut Vec<u8>, element: &FixedType, values: &[Value]) -> Result
 // An argument's leaves, at their places.
 fn put_argument(out: &mut Vec<u8>, ty: &ArgType, value: &Value) -> Result<(), AllocError>
     requires fits { is_argument (arg_type_of ty.now) (datum_of value.now) ≡ true }
-    ensures ok { OnOk result (PutsOnto (argument_onto (arg_type_of ty.now) (datum_of value.now)) out.old.items out.new.items) }
+    ensures ok { OnOk result ((before : List Leaf) → out.old.items ≡ payload_bytes before
+        → out.new.items ≡ payload_bytes (argument_onto (arg_type_of ty.now) (datum_of value.now) before)) }
 {
     match ty {
         ArgType::Fixed(fixed) => put_value(out, fixed, fixed.alignment() as usize, value),
@@ -235,7 +243,9 @@ fn put_rank(
     values: &[Value],
 ) -> Result<(), AllocError>
     requires fit { are_arguments (map arg_type_of types.now) (map datum_of values.now) ≡ true }
-    ensures ok { OnOk result (PutsOnto (arguments_onto false (of_rank kind plan rank (beside types.now values.now))) out.old.items out.new.items) }
+    ensures ok { OnOk result ((before : List Leaf) → out.old.items ≡ payload_bytes before
+        → out.new.items ≡ payload_bytes (arguments_onto false (of_rank kind plan rank
+        (zip (map arg_type_of types.now) (map datum_of values.now))) before)) }
 {
     let mut after_dynamic = false;
     for (ty, value) in types.iter().zip(values) {
@@ -254,7 +264,9 @@ fn put_rank(
 // The arguments of plan 2's ranks, one rank after another.
 fn put_ranks(out: &mut Vec<u8>, types: &[ArgType], values: &[Value]) -> Result<(), AllocError>
     requires fit { are_arguments (map arg_type_of types.now) (map datum_of values.now) ≡ true }
-    ensures ok { OnOk result (PutsOnto (arguments_onto false (of_ranks kind PlanNo.Two 5 0 (beside types.now values.now))) out.old.items out.new.items) }
+    ensures ok { OnOk result ((before : List Leaf) → out.old.items ≡ payload_bytes before
+        → out.new.items ≡ payload_bytes (arguments_onto false (of_ranks kind PlanNo.Two 5 0
+        (zip (map arg_type_of types.now) (map datum_of values.now))) before)) }
 {
     for rank in 0..RANKS {
         put_rank(out, PlanNo::Two, rank, types, values)?;
@@ -270,7 +282,9 @@ fn put_arguments(
     values: &[Value],
 ) -> Result<(), AllocError>
     requires fit { are_arguments (map arg_type_of types.now) (map datum_of values.now) ≡ true }
-    ensures ok { OnOk result (PutsOnto (arguments_onto false (arranged kind plan (beside types.now values.now))) out.old.items out.new.items) }
+    ensures ok { OnOk result ((before : List Leaf) → out.old.items ≡ payload_bytes before
+        → out.new.items ≡ payload_bytes (arguments_onto false (arranged kind plan
+        (zip (map arg_type_of types.now) (map datum_of values.now))) before)) }
 {
     match plan {
         PlanNo::One => put_rank(out, plan, 0, types, values),

@@ -8,7 +8,7 @@
 //! `specs/Reading.antt` and `specs/Wrong.antt`, those of leaves and places in `fl_layout`; what reading a
 //! thing at a place tells, in `specs/Shapes.antt`.
 //!
-//! - `types.rt`: sizes and alignments of types, and the plan's order by ranks
+//! - `types.rt`: the types of a message's arguments
 //! - `encode.rt`: the payload of a call
 //! - `fragments.rt`: fragments of a payload
 //! - `leaf.rt`: one leaf of a payload from the bytes of fragments, and why a reading stops

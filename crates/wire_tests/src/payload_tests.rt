@@ -299,7 +299,7 @@ fn read_text(
     Ok(out)
 }
 
-// Whether no front of the fragments means a call, and all of them mean that one.
+// Whether no proper prefix of the fragments means a call, and all of them mean that one.
 fn is_read(
     alloc: Global,
     plan: PlanNo,

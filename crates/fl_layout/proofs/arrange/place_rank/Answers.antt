@@ -47,7 +47,7 @@ loop-index-preserved c =
     let pushed : c.push.new.self.items ≡ c.loop-index.order.items ++ here ∷ []
     = c.in_ok-push.ensures.items ∙ ap (λ (e : Extent). c.loop-index.order.items ++ record { argument = k; extent = e } ∷ []) c.extent.ensures.exact in (
       ap (λ (ps : List Placed). ps ++ rest) pushed ∙ append_assoc c.loop-index.order.items (here ∷ []) rest
-      ∙ ap (λ (ps : List Placed). c.loop-index.order.items ++ ps) (sym split) ∙ c.loop-index.invariant.0,
+          ∙ ap (λ (ps : List Placed). c.loop-index.order.items ++ ps) (sym split) ∙ c.loop-index.invariant.0,
       (parts_within types k type c.loop-index-test.true c.index-arguments-index.is c.loop-index.invariant.1).1,
     )
 

@@ -20,7 +20,7 @@ loop-rank-preserved c =
     let found = rw c.in-Some.is at c.in_ok-more.ensures.found in (
       done ++ here,
       append_assoc done here (of_ranks (λ (t : TheArgType). t) Two (5 - (rank + 1)) (rank + 1) types)
-      ∙ ap (λ (ts : List TheArgType). done ++ ts) (sym (next_rank (λ (t : TheArgType). t) Two rank types (omega (arith, c.loop-rank-test.true)))) ∙ split,
+          ∙ ap (λ (ts : List TheArgType). done ++ ts) (sym (next_rank (λ (t : TheArgType). t) Two rank types (omega (arith, c.loop-rank-test.true)))) ∙ split,
       found done c.args.tape.now one,
     )
 
