@@ -18,13 +18,13 @@ use Rattle.fl_monitor.proofs.Single.{says_the_same}
 
 -- ---- the control word
 
-start_with : ℕ → ℕ → ℕ → ℕ → Option WireFault
-start_with bits circuit first msg =
-    if not ((bits == 0) && (circuit == 0)) then Some NotZero
+start_with : ℕ → ℕ → ℕ → ℕ → ℕ → Option WireFault
+start_with mark bits circuit first msg =
+    if not (not (mark == 1) && (bits == 0) && (circuit == 0)) then Some NotZero
     else (if not (first == 1) then Some NotFirst
     else (if nat_lt msg (length intermon.messages) then None else Some UnknownMessage))
 
-start_is : (f : Frag) → start_fault intermon f ≡ start_with (f.control / 4 % 2 ^ 14) (circuit_of f.control) (f.control / 2 % 2) (message_of f.control)
+start_is : (f : Frag) → start_fault intermon f ≡ start_with (f.control / 4 % 2) (f.control / 8 % 8192) (circuit_of f.control) (f.control / 2 % 2) (message_of f.control)
 unfolding start_with
 start_is f = refl
 
@@ -39,11 +39,12 @@ same_message f g same = let bits = same_bits f g same in omega (arith, bits)
 same_start : (f g : Frag) → bare g ≡ bare f → start_fault intermon g ≡ start_fault intermon f
 same_start f g same =
     let bits = same_bits f g same in
-    let reserved : g.control / 4 % 2 ^ 14 ≡ f.control / 4 % 2 ^ 14 = omega (arith, bits) in
+    let mark : g.control / 4 % 2 ≡ f.control / 4 % 2 = omega (arith, bits) in
+    let reserved : g.control / 8 % 8192 ≡ f.control / 8 % 8192 = omega (arith, bits) in
     let circuit : circuit_of g.control ≡ circuit_of f.control = omega (arith, bits) in
     let first : g.control / 2 % 2 ≡ f.control / 2 % 2 = omega (arith, bits) in
     let message = same_message f g same in
-    start_is g ∙ (λ i. start_with (reserved i) (circuit i) (first i) (message i)) ∙ sym (start_is f)
+    start_is g ∙ (λ i. start_with (mark i) (reserved i) (circuit i) (first i) (message i)) ∙ sym (start_is f)
 
 -- ---- the payload
 
