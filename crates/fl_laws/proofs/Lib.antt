@@ -5,3 +5,4 @@ pub mod RingsStep
 pub mod Walk
 pub mod Replies
 pub mod RepliesStep
+pub mod Start

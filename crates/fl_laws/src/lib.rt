@@ -3,10 +3,16 @@
 
 ghost use Rattle.std.specs.Prelude.{◌≡◌};
 ghost use Rattle.fl_queues.specs.Events.{Event};
-ghost use Rattle.fl_queues.specs.State.{State};
+ghost use Rattle.fl_queues.specs.State.{State, start};
 ghost use Rattle.fl_queues.specs.Step.{step};
+ghost use Rattle.fl_queues.specs.Sound.{Sound};
 ghost use Rattle.fl_queues.specs.SoundRings.{RingsCount, RingsFit};
 ghost use Rattle.fl_queues.specs.Laws.{RingsCountInOrder, FewWaitAndOnlyWhereBusy};
+
+/// The start is a sound state.
+pub fn start_is_sound()
+    ensures sound { Sound start }
+{}
 
 /// Each step keeps the counts of all rings, whatever else the state holds: what a writer knows, what waiting labels tell,
 /// what was told and what was read never fall from one to the next, and no more is sent than is known to be read and a
