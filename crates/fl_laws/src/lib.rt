@@ -3,10 +3,16 @@
 
 ghost use Rattle.std.specs.Prelude.{◌≡◌};
 ghost use Rattle.fl_queues.specs.Events.{Event};
-ghost use Rattle.fl_queues.specs.State.{State};
+ghost use Rattle.fl_queues.specs.State.{State, start};
 ghost use Rattle.fl_queues.specs.Step.{step};
+ghost use Rattle.fl_queues.specs.Sound.{Sound};
 ghost use Rattle.fl_queues.specs.SoundRings.{RingsCount, RingsFit};
-ghost use Rattle.fl_queues.specs.Laws.{RingsCountInOrder};
+ghost use Rattle.fl_queues.specs.Laws.{RingsCountInOrder, FewWaitAndOnlyWhereBusy};
+
+/// The start is a sound state.
+pub fn start_is_sound()
+    ensures sound { Sound start }
+{}
 
 /// Each step keeps the counts of all rings, whatever else the state holds: what a writer knows, what waiting labels tell,
 /// what was told and what was read never fall from one to the next, and no more is sent than is known to be read and a
@@ -19,4 +25,9 @@ pub fn steps_keep_counts()
 /// than what is known and the ring's size; so a number of 16 bits names one count from known to sent.
 pub fn rings_count_in_order()
     ensures counts { RingsCountInOrder }
+{}
+
+/// In every state that a run reaches, at most 16 replies wait at an end, and they wait only while the end is busy.
+pub fn few_replies_wait()
+    ensures few { FewWaitAndOnlyWhereBusy }
 {}

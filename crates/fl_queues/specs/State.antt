@@ -1,5 +1,6 @@
 -- The state of the whole machine, where things are found in it, and what changes it by one thing.
-use Rattle.std.specs.Prelude.{ℕ, ◌==◌, min, Bool, true, List, [], ◌∷◌, length, reverse, position, slice_get}
+use Rattle.std.specs.Prelude.{ℕ, ◌+◌, drop, ◌==◌, min, Bool, true, List, [], ◌∷◌, length, reverse, position}
+use Rattle.std.specs.Prelude.{slice_get}
 use Rattle.std.specs.Prelude.{Option, Some, None}
 use Rattle.fl_base.specs.declared.identity.Side.{Side}
 use Rattle.fl_base.specs.declared.identity.Side.TheVariants.{Client, Server}
@@ -117,9 +118,10 @@ way_of Server route = reverse route.cores
 abbrev pub place_in : List ℕ → ℕ → Option ℕ
 place_in cores core = position (λ c. c == core) cores
 
--- the station that fragments of one side's end pass when they leave the link that leads to this core
+-- the station that fragments of one side's end pass when they leave the link that leads to this core: its
+-- place on the way, of which a link leads to each core but the first
 abbrev pub station_at : Side → ℕ → Route → Option ℕ
-station_at side core route = place_in (way_of side route) core
+station_at side core route = given (place_in (drop 1 (way_of side route)) core) None λ j. Some (j + 1)
 
 -- the circuit's number on the link between two neighbouring cores of the route
 abbrev pub number_between : ℕ → ℕ → Route → Option ℕ
