@@ -8,7 +8,7 @@ use Rattle.fl_hop.specs.declared.entry.Way.{Way}
 use Rattle.fl_hop.specs.declared.entry.Way.TheVariants.{Link as to_link}
 use Rattle.std.proofs.Common.{nat_lt}
 use Rattle.std.specs.Prelude.{Contains, filter_map}
-use Rattle.fl_lists.specs.Threads.{NoRepeat}
+use Rattle.fl_lists.specs.ThreeLists.{NoRepeat}
 use Rattle.fl_laws.proofs.Cases.{either}
 use Rattle.fl_queues.specs.Rings.{RingEnd, Said}
 use Rattle.fl_hop.specs.Joined.{Sound as IsTable, Leads}

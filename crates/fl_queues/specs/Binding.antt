@@ -7,7 +7,7 @@ use Rattle.std.specs.List.{list_all}
 use Rattle.fl_base.specs.declared.identity.EndId.{EndId}
 use Rattle.fl_base.specs.declared.identity.Side.{Side}
 use Rattle.fl_base.specs.declared.identity.Side.TheVariants.{Client, Server}
-use Rattle.fl_lists.specs.Threads.{is_in}
+use Rattle.fl_lists.specs.ThreeLists.{is_in}
 use Rattle.fl_hop.specs.Numbers.{next_own}
 use Rattle.fl_queues.specs.Given.{given}
 use Rattle.fl_queues.specs.Events.{DispatcherId, Kind, by_queues, by_ring, by_route, done, refused}

@@ -4,7 +4,7 @@ use Rattle.std.specs.Prelude.{IsSome, IsNone}
 use Rattle.fl_base.specs.declared.identity.EndId.{EndId}
 use Rattle.fl_lists.specs.declared.place.Place.{Place}
 use Rattle.fl_lists.specs.declared.place.Place.TheVariants.{Idle, Polled, Pending}
-use Rattle.fl_lists.specs.Threads.{list_at, is_in, IsApart}
+use Rattle.fl_lists.specs.ThreeLists.{list_at, is_in, IsApart}
 use Rattle.fl_queues.specs.Events.{DispatcherId}
 use Rattle.fl_queues.specs.Rings.{Label, next_of, RingLabel, RingEnd, Ring, first_for, written_by}
 use Rattle.fl_queues.specs.Calls.{Planned}

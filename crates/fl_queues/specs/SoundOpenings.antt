@@ -2,7 +2,7 @@
 use Rattle.std.specs.Prelude.{ℕ, ◌≡◌, ◌≤◌, ◌-◌, map, filter_map, Some}
 use Rattle.std.specs.Prelude.{Contains}
 use Rattle.std.specs.List.{range_with_len}
-use Rattle.fl_lists.specs.Threads.{NoRepeat}
+use Rattle.fl_lists.specs.ThreeLists.{NoRepeat}
 use Rattle.fl_hop.specs.declared.links.LinkState.{LinkState}
 use Rattle.fl_hop.specs.Numbers.{number}
 use Rattle.fl_queues.specs.Rings.{Said}

@@ -5,13 +5,13 @@ use Rattle.std.specs.Prelude.{Option, Some, None}
 use Rattle.fl_base.specs.declared.identity.EndId.{EndId}
 use Rattle.fl_lists.specs.declared.place.Place.{Place}
 use Rattle.fl_lists.specs.declared.place.Place.TheVariants.{Idle, Polled, Pending}
-use Rattle.fl_lists.specs.Threads.{Threads, empty, pushed, popped, unlinked}
+use Rattle.fl_lists.specs.ThreeLists.{ThreeLists, empty, pushed, popped, unlinked}
 use Rattle.fl_waitset.specs.Waiting.{triggered}
 use Rattle.fl_queues.specs.Ends.{Queue}
 
 pub record Dispatcher : Type 0 where
   -- its channels: idle, polled, pending
-  pub lists : Threads
+  pub lists : ThreeLists
   -- the end of each channel
   pub ends : List EndId
 
