@@ -18,7 +18,7 @@ struct Entry {
     failed: Option<io::ErrorKind>,
 }
 
-fn entry(
+fn new_entry(
     alloc: Global,
     is_read: bool,
     path: &[u8],
@@ -120,7 +120,7 @@ fn note(
         (deed_of is_read path.now bytes.now failed) }
 {
     let deeds = deeds?;
-    match entry(alloc, is_read, path, bytes, failed) {
+    match new_entry(alloc, is_read, path, bytes, failed) {
         Ok(entry) => with_entry(deeds, entry),
         Err(_) => None,
     }
