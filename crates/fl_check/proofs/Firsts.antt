@@ -10,8 +10,8 @@ use Rattle.fl_check.specs.declared.fault.CheckFault.{CheckFault}
 use Rattle.fl_check.specs.declared.fault.CheckFault.TheVariants.{Broken, Memory}
 use Rattle.std.specs.Result.{IsErrAnd}
 use Rattle.fl_check.specs.Faults.{Tells, rule_number}
-use Rattle.fl_check.specs.Outcome.{outcome_of}
-use Rattle.fl_check.specs.Checks.{Fault, IsSound, FirstFault, least_of, fault_at, first_fault, Checks, CheckOutcome, checked, check_fault, places}
+use Rattle.fl_check.specs.Outcome.{outcome_of, SomeOutcome, OneOutcome}
+use Rattle.fl_check.specs.Checks.{Fault, IsSound, FirstFault, least_of, fault_at, first_fault, Checks, CheckOutcome, checked, check_fault, places, interface_from}
 use Rattle.fl_parse.specs.Tree.{TheTree}
 use Rattle.fl_check.proofs.FirstFaults.{none_after}
 
@@ -156,8 +156,16 @@ fault_from ps n at f =
     let h : fault_at f.here ≡ Some (told n at) = ap (option_map (told_at f.here)) l ∙ ap (λ a. Some (told n a)) f.place in
     ap first_fault f.stands ∙ none_after f.front (f.here ∷ f.rest) (no_fault f.front f.sound) ∙ here_first f.here f.rest (told n at) h
 
+-- each tree has an outcome
+some_by : (tree : TheTree) (o : Option Fault) → first_fault (places tree) ≡ o → (outcome : CheckOutcome) × Checks tree outcome
+some_by tree None e = (checked (interface_from tree), (all_sound (places tree) e, refl))
+some_by tree (Some f) e = (check_fault f.number f.at, first_is (places tree) f.number f.at e)
+
+pub some_outcome : SomeOutcome
+some_outcome tree = some_by tree (first_fault (places tree)) refl
+
 -- a tree has one outcome
-pub one_outcome : (tree : TheTree) (a b : CheckOutcome) → Checks tree a → Checks tree b → a ≡ b
+pub one_outcome : OneOutcome
 one_outcome tree (checked i) (checked j) h g = ap checked (h.1 ∙ sym g.1)
 one_outcome tree (checked i) (check_fault n at) h g =
     let s = no_fault (places tree) h.0 in let f = fault_from (places tree) n at g in cc

@@ -4,8 +4,11 @@ pub mod FirstFaults
 pub mod Walks
 pub mod Lists
 pub mod Halves
+pub mod FieldSizes
 pub mod Firsts
 pub mod Limits
 pub mod Longs
 pub mod NameSets
 pub mod NameMaps
+pub mod TextInterfaces
+pub mod TextTrees

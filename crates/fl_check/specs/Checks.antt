@@ -1,6 +1,8 @@
 -- What a tree stands for, and which fault is answered where it stands for nothing.
-use Rattle.std.specs.Prelude.{◌≡◌, ◌≤◌, ℕ, ◌+◌, Bool, ◌&&◌, true, not, List, [], ◌∷◌, ◌++◌, All, Contains, map, length, nat_le, Option, Some, None, option_map, min}
-use Rattle.fl_check.specs.Types.{TheType, scalar, enumeration, structure, array, TheTypes, no_more, field, TheArgType, fixed, text, sized, TheMessage, TheInterface}
+use Rattle.std.specs.Prelude.{◌≡◌, ◌≤◌, ℕ, ◌+◌, Bool, ◌&&◌, true, not, List, [], ◌∷◌, ◌++◌, All, Contains, map, length, nat_le, Option, Some, None}
+use Rattle.std.specs.Prelude.{option_map, min}
+use Rattle.fl_check.specs.Types.{TheType, scalar, enumeration, structure, array, TheTypes, no_more, field, TheArgType, fixed, text, sized, TheMessage}
+use Rattle.fl_check.specs.Types.{TheInterface}
 use Rattle.fl_check.specs.Depth.{is_too_big}
 use Rattle.fl_check.specs.Known.{is_among, nothing_declared, after_all}
 use Rattle.fl_check.specs.Places.{Place, places_from, is_too_long}

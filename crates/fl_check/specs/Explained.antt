@@ -19,12 +19,12 @@ text_fault_offset (Parse f) = parse.fault_offset f
 text_fault_offset (Check f) = check.fault_offset f
 
 -- a line and a column
-abbrev pub Place : Type 0
-Place = ℕ × ℕ
+abbrev pub LineAndColumn : Type 0
+LineAndColumn = ℕ × ℕ
 
-abbrev pub place_of : Position → Place
+abbrev pub place_of : Position → LineAndColumn
 place_of p = (p.line, p.column)
 
 -- the place of an offset in a text
-abbrev pub place_in : List ℕ → ℕ → Place
+abbrev pub place_in : List ℕ → ℕ → LineAndColumn
 place_in text offset = (line_at text offset, column_at text offset)

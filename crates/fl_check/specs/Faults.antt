@@ -1,7 +1,8 @@
 -- The faults of checking, by number and offset.
 use Rattle.std.specs.Prelude.{◌≡◌, ℕ, Option, Some, None}
 use Rattle.fl_check.specs.declared.fault.Rule.{Rule}
-use Rattle.fl_check.specs.declared.fault.Rule.TheVariants.{TypeNameTaken, UnknownType, MessageNameTaken, NameTwice, Capability, NothingInIt, BadCount, TooBig, NotFixed, TooMany, BadBound, TooLong}
+use Rattle.fl_check.specs.declared.fault.Rule.TheVariants.{TypeNameTaken, UnknownType, MessageNameTaken, NameTwice, Capability, NothingInIt, BadCount}
+use Rattle.fl_check.specs.declared.fault.Rule.TheVariants.{TooBig, NotFixed, TooMany, BadBound, TooLong}
 use Rattle.fl_check.specs.declared.fault.CheckFault.{CheckFault}
 use Rattle.fl_check.specs.declared.fault.CheckFault.TheVariants.{Broken, Memory}
 use Rattle.fl_check.specs.Checks.{Fault}

@@ -2,9 +2,11 @@
 use Rattle.std.specs.Prelude.{ℕ, Bool, false, ◌||◌, List, [], ◌∷◌, ◌++◌, map, Option, Some, None, is_some, unwrap_or, option_map, length, if◌then◌else◌, codes}
 use Rattle.std.specs.Str.{bytes_eq}
 use Rattle.fl_check.specs.declared.interface.Scalar.{Scalar as RustScalar}
-use Rattle.fl_check.specs.declared.interface.Scalar.TheVariants.{Uint8, Int8, Bool as BoolScalar, Char, Uint16, Int16, Uint32, Int32, Iref, Uint64, Int64, Uintptr, Intptr, Size, Errval}
+use Rattle.fl_check.specs.declared.interface.Scalar.TheVariants.{Uint8, Int8, Bool as BoolScalar, Char, Uint16, Int16, Uint32, Int32, Iref, Uint64}
+use Rattle.fl_check.specs.declared.interface.Scalar.TheVariants.{Int64, Uintptr, Intptr, Size, Errval}
 use Rattle.fl_check.specs.Types.{TheType, scalar, enumeration, structure, array, fields_from, TheArgType, fixed, text, sized, TheMessage}
-use Rattle.fl_parse.specs.Tree.{TheName, TheNumber, TheField, plain, bounded, sized as sized_shape, TheArgument, TheDirected, TheDeclaration, alias_of, typedef_of, enum_of, struct_of, message_of, rpc_of}
+use Rattle.fl_parse.specs.Tree.{TheName, TheNumber, TheField, plain, bounded, sized as sized_shape, TheArgument, TheDirected, TheDeclaration}
+use Rattle.fl_parse.specs.Tree.{alias_of, typedef_of, enum_of, struct_of, message_of, rpc_of}
 use Rattle.fl_parse.specs.declared.tree.Direction.{Direction}
 use Rattle.fl_parse.specs.declared.tree.Direction.TheVariants.{In, Out}
 

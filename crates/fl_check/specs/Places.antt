@@ -3,8 +3,10 @@ use Rattle.std.specs.Prelude.{ℕ, ◌+◌, Bool, true, false, ◌||◌, not, Li
 use Rattle.fl_check.specs.Types.{TheType, enumeration, structure, fields_from, TheMessage}
 use Rattle.fl_check.specs.Depth.{is_too_big}
 use Rattle.fl_check.specs.Payload.{greatest_payload}
-use Rattle.fl_check.specs.Known.{is_string, is_capability, is_built_in, is_among, Named, Before, type_named, stands_for, counted, field_type, messages_of, after, call_name, response_name}
-use Rattle.fl_parse.specs.Tree.{TheName, TheNumber, TheField, TheShape, plain, bounded, sized, TheArgument, TheDirected, TheDeclaration, alias_of, typedef_of, enum_of, struct_of, message_of, rpc_of}
+use Rattle.fl_check.specs.Known.{is_string, is_capability, is_built_in, is_among, Named, Before, type_named, stands_for, counted, field_type}
+use Rattle.fl_check.specs.Known.{messages_of, after, call_name, response_name}
+use Rattle.fl_parse.specs.Tree.{TheName, TheNumber, TheField, TheShape, plain, bounded, sized, TheArgument, TheDirected, TheDeclaration, alias_of}
+use Rattle.fl_parse.specs.Tree.{typedef_of, enum_of, struct_of, message_of, rpc_of}
 
 -- a place of the text, and the numbers of the rules that are broken there
 pub record Place : Type 0 where
@@ -121,6 +123,22 @@ shape_names (sized len bound) = len.text ∷ []
 
 abbrev pub argument_names : TheArgument → List (List ℕ)
 argument_names a = a.name.text ∷ shape_names a.shape
+
+-- an argument of a fixed type or a string, after these names, so many of them arguments': type, name
+abbrev pub plain_argument_places : Before → List (List ℕ) → ℕ → TheName → TheName → List Place
+plain_argument_places b others arguments_before kind name =
+    plain_type_place b kind ∷ (listed_place others arguments_before name ∷ [])
+
+-- a sized array: type, name, the length's name, bound
+abbrev pub sized_argument_places : Before → List (List ℕ) → ℕ → TheArgument → TheName → Option TheNumber → List Place
+sized_argument_places b others arguments_before a len bound =
+    fixed_type_place b a.type_name ∷ (listed_place others arguments_before a.name
+    ∷ (other_place (others ++ a.name.text ∷ []) len ∷ bound_places bound))
+
+-- a string with a bound: type, name, bound
+abbrev pub string_argument_places : List (List ℕ) → ℕ → TheArgument → TheNumber → List Place
+string_argument_places others arguments_before a bound =
+    string_place a.type_name ∷ (listed_place others arguments_before a.name ∷ (bound_place bound ∷ []))
 
 -- an argument after these names, so many of them arguments': type, name, what stands in brackets
 abbrev pub argument_place : Before → List (List ℕ) → ℕ → TheArgument → List Place

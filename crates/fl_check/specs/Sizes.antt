@@ -3,10 +3,11 @@
 -- alignment; an array has its element's alignment and stride.
 use Rattle.std.specs.Prelude.{ℕ, ◌+◌, ◌-◌, ◌*◌, ◌%◌, max}
 use Rattle.fl_check.specs.declared.interface.Scalar.{Scalar}
-use Rattle.fl_check.specs.declared.interface.Scalar.TheVariants.{Uint8, Int8, Bool, Char, Uint16, Int16, Uint32, Int32, Iref, Uint64, Int64, Uintptr, Intptr, Size, Errval}
+use Rattle.fl_check.specs.declared.interface.Scalar.TheVariants.{Uint8, Int8, Bool, Char, Uint16, Int16, Uint32, Int32, Iref, Uint64, Int64, Uintptr}
+use Rattle.fl_check.specs.declared.interface.Scalar.TheVariants.{Intptr, Size, Errval}
 use Rattle.fl_check.specs.Types.{TheType, scalar, enumeration, structure, array, TheTypes, no_more, field}
 
--- the next multiple of an alignment
+-- the next multiple of an alignment; std's `next_multiple_of` gives the same
 abbrev pub round_up : ℕ → ℕ → ℕ
 round_up n align = n + (align - n % align) % align
 

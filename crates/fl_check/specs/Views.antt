@@ -1,4 +1,4 @@
--- What the checker keeps, as definitions see it.
+-- A working file: what the checker keeps, as definitions see it.
 use Rattle.std.specs.Prelude.{ℕ, ◌≤◌, List, map}
 use Rattle.fl_check.specs.Sizes.{size_of}
 use Rattle.fl_check.specs.declared.words.Names.{Names}

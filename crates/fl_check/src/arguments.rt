@@ -3,7 +3,9 @@
 ghost use Rattle.std.specs.Prelude.{◌≡◌, ◌≤◌, ◌<◌, ◌+◌, ◌∷◌, [], ◌++◌, OnOk, IfOk, IfErr, option_map, None, map, vec_len, if◌then◌else◌};
 ghost use Rattle.fl_check.specs.Interface.{fixed, text, sized, arg_type_of};
 ghost use Rattle.fl_check.specs.Known.{is_string, stands_for, bound_or, argument_type, ins, outs, if_in, if_out};
-ghost use Rattle.fl_check.specs.Places.{fixed_type_place, plain_type_place, string_place, listed_place, other_place, bound_place, bound_places, argument_names, argument_place, argument_places, arguments_of};
+ghost use Rattle.fl_check.specs.Places.{plain_argument_places, sized_argument_places, string_argument_places, fixed_type_place, plain_type_place};
+ghost use Rattle.fl_check.specs.Places.{string_place, listed_place, other_place, bound_place, bound_places, argument_names, argument_place};
+ghost use Rattle.fl_check.specs.Places.{argument_places, arguments_of};
 ghost use Rattle.fl_check.specs.Checks.{first_fault};
 ghost use Rattle.fl_check.specs.Faults.{Tells};
 ghost use Rattle.fl_check.specs.Views.{before_of, list_of, checked_of, IsBounded};
@@ -11,9 +13,9 @@ ghost use Rattle.fl_parse.specs.Tree.{name_of, number_of, argument_of, directed_
 
 use crate::declared::Declared;
 use crate::fault::CheckFault;
-use crate::parts::{listed_name, other_name};
+use crate::parts::{add_listed_name, add_name};
 use crate::payload::{Checked, Payload};
-use crate::types::{check_bound, string_type};
+use crate::types::{check_bound, check_string_type};
 use crate::words::Names;
 use fl_parse::{Argument, DirectedArgument, Direction, Name, Number, Shape};
 use std::alloc::{AllocError, Global};
@@ -44,7 +46,8 @@ impl Halves {
         requires few { vec_len self.old.ins.args + vec_len self.old.outs.args < 32 }
         requires bounded { IsBounded (checked_of checked) }
         ensures ins { OnOk result (map arg_type_of self.new.ins.args.items ≡ map arg_type_of self.old.ins.args.items ++ if_in direction (checked_of checked)) }
-        ensures outs { OnOk result (map arg_type_of self.new.outs.args.items ≡ map arg_type_of self.old.outs.args.items ++ if_out direction (checked_of checked)) }
+        ensures outs { OnOk result (map arg_type_of self.new.outs.args.items ≡ map arg_type_of self.old.outs.args.items ++ if_out direction
+            (checked_of checked)) }
         ensures len { OnOk result (vec_len self.new.ins.args + vec_len self.new.outs.args ≡ vec_len self.old.ins.args + vec_len self.old.outs.args + 1) }
     {
         match direction {
@@ -65,7 +68,7 @@ fn bound_of(bound: Option<Number>) -> u32
 
 impl<'a> Declared<'a> {
     #[tactic(auto, using(crate::proofs::FirstFaults::places))]
-    fn plain_argument(
+    fn check_plain_argument(
         &self,
         alloc: Global,
         names: &mut Names<'a>,
@@ -73,20 +76,23 @@ impl<'a> Declared<'a> {
         kind: &Name,
         name: &Name<'a>,
     ) -> Result<Checked, CheckFault>
-        ensures sound { OnOk result (first_fault (plain_type_place (before_of self.now) (name_of kind.now) ∷ (listed_place (list_of names.old) counted_before (name_of name.now) ∷ [])) ≡ None) }
+        ensures sound { OnOk result (first_fault
+            (plain_argument_places (before_of self.now) (list_of names.old) counted_before (name_of kind.now) (name_of name.now)) ≡ None) }
         ensures names { OnOk result (list_of names.new ≡ list_of names.old ++ name.now.text.now ∷ []) }
         ensures few { OnOk result (counted_before < 32) }
-        ensures stands { IfOk result (λ a. checked_of a ≡ (if is_string kind.now.text.now then text 2047 else fixed (stands_for (before_of self.now) (name_of kind.now)))) }
+        ensures stands { IfOk result (λ a. checked_of a ≡ (if is_string kind.now.text.now then text 2047 else fixed
+            (stands_for (before_of self.now) (name_of kind.now)))) }
         ensures bounded { IfOk result (λ a. IsBounded (checked_of a)) }
-        ensures fault { IfErr result (λ e. Tells e (first_fault (plain_type_place (before_of self.now) (name_of kind.now) ∷ (listed_place (list_of names.old) counted_before (name_of name.now) ∷ [])))) }
+        ensures fault { IfErr result (λ e. Tells e (first_fault
+            (plain_argument_places (before_of self.now) (list_of names.old) counted_before (name_of kind.now) (name_of name.now)))) }
     {
-        let checked = self.plain_type(alloc, kind)?;
-        listed_name(names, counted_before, name)?;
+        let checked = self.check_plain_type(alloc, kind)?;
+        add_listed_name(names, counted_before, name)?;
         Ok(checked)
     }
 
     #[tactic(auto, using(crate::proofs::FirstFaults::places))]
-    fn sized_argument(
+    fn check_sized_argument(
         &self,
         alloc: Global,
         names: &mut Names<'a>,
@@ -95,16 +101,19 @@ impl<'a> Declared<'a> {
         length: &Name<'a>,
         bound: Option<Number>,
     ) -> Result<Checked, CheckFault>
-        ensures sound { OnOk result (first_fault (fixed_type_place (before_of self.now) (name_of argument.now.type_name) ∷ (listed_place (list_of names.old) counted_before (name_of argument.now.name) ∷ (other_place (list_of names.old ++ argument.now.name.text.now ∷ []) (name_of length.now) ∷ bound_places (option_map number_of bound)))) ≡ None) }
+        ensures sound { OnOk result (first_fault (sized_argument_places (before_of self.now) (list_of names.old) counted_before
+            (argument_of argument.now) (name_of length.now) (option_map number_of bound)) ≡ None) }
         ensures names { OnOk result (list_of names.new ≡ list_of names.old ++ argument.now.name.text.now ∷ (length.now.text.now ∷ [])) }
         ensures few { OnOk result (counted_before < 32) }
-        ensures stands { IfOk result (λ a. checked_of a ≡ sized (bound_or 1024 (option_map number_of bound)) (stands_for (before_of self.now) (name_of argument.now.type_name))) }
+        ensures stands { IfOk result (λ a. checked_of a ≡ sized (bound_or 1024 (option_map number_of bound))
+            (stands_for (before_of self.now) (name_of argument.now.type_name))) }
         ensures bounded { IfOk result (λ a. IsBounded (checked_of a)) }
-        ensures fault { IfErr result (λ e. Tells e (first_fault (fixed_type_place (before_of self.now) (name_of argument.now.type_name) ∷ (listed_place (list_of names.old) counted_before (name_of argument.now.name) ∷ (other_place (list_of names.old ++ argument.now.name.text.now ∷ []) (name_of length.now) ∷ bound_places (option_map number_of bound)))))) }
+        ensures fault { IfErr result (λ e. Tells e (first_fault (sized_argument_places (before_of self.now) (list_of names.old) counted_before
+            (argument_of argument.now) (name_of length.now) (option_map number_of bound)))) }
     {
-        let element = self.fixed_type(alloc, &argument.type_name)?;
-        listed_name(names, counted_before, &argument.name)?;
-        other_name(names, length)?;
+        let element = self.check_fixed_type(alloc, &argument.type_name)?;
+        add_listed_name(names, counted_before, &argument.name)?;
+        add_name(names, length)?;
         check_bound(bound)?;
         Ok(Checked::Sized {
             bound: bound_of(bound),
@@ -113,7 +122,7 @@ impl<'a> Declared<'a> {
     }
 
     /// An argument after those whose names these are, so many of them arguments'.
-    pub fn argument(
+    pub fn check_argument(
         &self,
         alloc: Global,
         names: &mut Names<'a>,
@@ -125,11 +134,12 @@ impl<'a> Declared<'a> {
         ensures few { OnOk result (counted_before < 32) }
         ensures stands { IfOk result (λ a. checked_of a ≡ argument_type (before_of self.now) (argument_of argument.now)) }
         ensures bounded { IfOk result (λ a. IsBounded (checked_of a)) }
-        ensures fault { IfErr result (λ e. Tells e (first_fault (argument_place (before_of self.now) (list_of names.old) counted_before (argument_of argument.now)))) }
+        ensures fault { IfErr result (λ e. Tells e (first_fault
+            (argument_place (before_of self.now) (list_of names.old) counted_before (argument_of argument.now)))) }
     {
         match argument.shape {
             Shape::Plain => {
-                self.plain_argument(
+                self.check_plain_argument(
                     alloc,
                     names,
                     counted_before,
@@ -137,16 +147,22 @@ impl<'a> Declared<'a> {
                     &argument.name,
                 )
             }
-            Shape::Bounded(number) => { string_argument(names, counted_before, argument, number) }
+            Shape::Bounded(number) => {
+                check_string_argument(names, counted_before, argument, number)
+            }
             Shape::Sized { length, bound } => {
-                self.sized_argument(alloc, names, counted_before, argument, &length, bound)
+                self.check_sized_argument(alloc, names, counted_before, argument, &length, bound)
             }
         }
     }
 
     /// The arguments of a message.
     #[tactic(auto, using(crate::proofs::FirstFaults::places))]
-    pub fn arguments(&self, alloc: Global, args: &[Argument<'a>]) -> Result<Payload, CheckFault>
+    pub fn check_arguments(
+        &self,
+        alloc: Global,
+        args: &[Argument<'a>],
+    ) -> Result<Payload, CheckFault>
         ensures sound { OnOk result (first_fault (argument_places (before_of self.now) [] 0 (map argument_of args.now)) ≡ None) }
         ensures stands { IfOk result (λ p. map arg_type_of p.args.items ≡ map (argument_type (before_of self.now)) (map argument_of args.now)) }
         ensures fault { IfErr result (λ e. Tells e (first_fault (argument_places (before_of self.now) [] 0 (map argument_of args.now)))) }
@@ -154,7 +170,7 @@ impl<'a> Declared<'a> {
         let mut names = Names::new(alloc);
         let mut payload = Payload::new(alloc);
         for argument in args {
-            let checked = self.argument(alloc, &mut names, payload.args.len(), argument)?;
+            let checked = self.check_argument(alloc, &mut names, payload.args.len(), argument)?;
             payload.push(checked)?;
         }
         Ok(payload)
@@ -162,7 +178,7 @@ impl<'a> Declared<'a> {
 
     /// The arguments of an rpc, in one list of names.
     #[tactic(auto, using(crate::proofs::FirstFaults::places))]
-    pub fn directed(
+    pub fn check_directed(
         &self,
         alloc: Global,
         args: &[DirectedArgument<'a>],
@@ -176,7 +192,12 @@ impl<'a> Declared<'a> {
         let mut halves = Halves::new(alloc);
         for directed in args {
             let counted_before = halves.ins.args.len() + halves.outs.args.len();
-            let checked = self.argument(alloc, &mut names, counted_before, &directed.argument)?;
+            let checked = self.check_argument(
+                alloc,
+                &mut names,
+                counted_before,
+                &directed.argument,
+            )?;
             halves.push(directed.direction, checked)?;
         }
         Ok(halves)
@@ -184,21 +205,23 @@ impl<'a> Declared<'a> {
 }
 
 #[tactic(auto, using(crate::proofs::FirstFaults::places))]
-fn string_argument<'a>(
+fn check_string_argument<'a>(
     names: &mut Names<'a>,
     counted_before: usize,
     argument: &Argument<'a>,
     bound: Number,
 ) -> Result<Checked, CheckFault>
-    ensures sound { OnOk result (first_fault (string_place (name_of argument.now.type_name) ∷ (listed_place (list_of names.old) counted_before (name_of argument.now.name) ∷ (bound_place (number_of bound) ∷ []))) ≡ None) }
+    ensures sound { OnOk result (first_fault (string_argument_places (list_of names.old) counted_before
+        (argument_of argument.now) (number_of bound)) ≡ None) }
     ensures names { OnOk result (list_of names.new ≡ list_of names.old ++ argument.now.name.text.now ∷ []) }
     ensures few { OnOk result (counted_before < 32) }
     ensures stands { IfOk result (λ a. checked_of a ≡ text bound.value) }
     ensures bounded { IfOk result (λ a. IsBounded (checked_of a)) }
-    ensures fault { IfErr result (λ e. Tells e (first_fault (string_place (name_of argument.now.type_name) ∷ (listed_place (list_of names.old) counted_before (name_of argument.now.name) ∷ (bound_place (number_of bound) ∷ []))))) }
+    ensures fault { IfErr result (λ e. Tells e (first_fault (string_argument_places (list_of names.old) counted_before
+        (argument_of argument.now) (number_of bound)))) }
 {
-    string_type(&argument.type_name)?;
-    listed_name(names, counted_before, &argument.name)?;
+    check_string_type(&argument.type_name)?;
+    add_listed_name(names, counted_before, &argument.name)?;
     check_bound(Some(bound))?;
     Ok(Checked::Text { bound: bound.value })
 }

@@ -3,13 +3,13 @@
 ghost use Rattle.std.specs.Prelude.{◌≡◌, OnOk, IfOk, IfErr, IfSome, None, map};
 ghost use Rattle.fl_check.specs.Known.{nothing_declared, after_all};
 ghost use Rattle.fl_check.specs.Places.{places_from};
-ghost use Rattle.fl_check.specs.Checks.{first_fault, Checks, CheckOutcome};
-ghost use Rattle.fl_check.specs.TooLong.{RefusesTooLong, AcceptsNoneTooLong};
+ghost use Rattle.fl_check.specs.Checks.{first_fault, Checks};
 ghost use Rattle.fl_check.specs.Faults.{Tells};
 ghost use Rattle.fl_check.specs.Outcome.{outcome_of};
 ghost use Rattle.fl_check.specs.Views.{before_of};
-ghost use Rattle.fl_parse.specs.Tree.{TheTree, tree_of, declaration_of};
+ghost use Rattle.fl_parse.specs.Tree.{tree_of, declaration_of};
 
+use crate::bounds::counts_fit;
 use crate::declared::Declared;
 use crate::fault::CheckFault;
 use crate::interface::Interface;
@@ -30,20 +30,9 @@ pub fn check(alloc: Global, tree: &Tree) -> Result<Interface, CheckFault>
     let declared = declare_all(alloc, &tree.declarations)?;
     let name = word_of(alloc, tree.name.text)?;
     let messages = declared.into_messages(alloc)?;
+    counts_fit(&messages);
     Ok(Interface { name, messages })
 }
-
-/// A law: a tree has one outcome, an interface or a fault.
-pub fn one_outcome()
-    ensures unique { (tree : TheTree) (a b : CheckOutcome) → Checks tree a → Checks tree b → a ≡ b }
-{}
-
-/// Two laws on payloads that are too long (E21). Where that is the outcome, a message at whose declaration's name it is
-/// told is too long, and the types of its arguments keep the rules. A tree with such a message has no interface.
-pub fn none_too_long()
-    ensures refused { RefusesTooLong }
-    ensures accepted { AcceptsNoneTooLong }
-{}
 
 fn declare_all<'a>(
     alloc: Global,

@@ -75,7 +75,8 @@ impl<'a> Declared<'a> {
     /// Adds a type of a name that no declared type has.
     pub fn push_type(&mut self, name: &'a [u8], known: KnownType) -> Result<(), AllocError>
         requires new { is_among (type_names (before_of self.old)) name.now ≡ false }
-        ensures types { OnOk result ((before_of self.new).types ≡ (before_of self.old).types ++ record { name = name.now; type = type_of known.measured.fixed } ∷ []) }
+        ensures types { OnOk result ((before_of self.new).types ≡ (before_of self.old).types
+            ++ record { name = name.now; type = type_of known.measured.fixed } ∷ []) }
         ensures messages { OnOk result ((before_of self.new).messages ≡ (before_of self.old).messages) }
     {
         self.types.insert(name, known)?;
@@ -86,7 +87,8 @@ impl<'a> Declared<'a> {
     pub fn push_message(&mut self, name: Vec<u8>, args: Vec<ArgType>) -> Result<(), AllocError>
         requires new { is_among (message_names (before_of self.old)) name.items ≡ false }
         ensures types { OnOk result ((before_of self.new).types ≡ (before_of self.old).types) }
-        ensures messages { OnOk result ((before_of self.new).messages ≡ (before_of self.old).messages ++ record { name = name.items; args = map arg_type_of args.items } ∷ []) }
+        ensures messages { OnOk result ((before_of self.new).messages ≡ (before_of self.old).messages
+            ++ record { name = name.items; args = map arg_type_of args.items } ∷ []) }
     {
         self.messages.insert(name, args)?;
         Ok(())

@@ -4,6 +4,7 @@
 ghost use Rattle.std.specs.Prelude.{◌≡◌, true, map};
 ghost use Rattle.fl_check.specs.Types.{message_of};
 ghost use Rattle.fl_check.specs.Checks.{is_within_limits};
+ghost use Rattle.fl_check.specs.Counts.{messages_words_fit};
 
 /// A scalar type, by its name in the language.
 #[derive(Clone, Copy, Debug, PartialEq, Eq)]
@@ -61,10 +62,12 @@ pub struct Message {
 }
 
 /// An interface: its name and its messages, by number. Each one is within the limits: at most 256 messages, no name of
-/// two of them, at most 32 arguments a message, no payload over 32,768 bytes, and each type as it may be declared.
+/// two of them, at most 32 arguments a message, no payload over 32,768 bytes, and each type as it may be declared. Each
+/// count of enumerators fits a word of 32 bits.
 #[derive(Debug, Drop)]
 pub struct Interface {
     pub name: Word,
     pub messages: Vec<Message>,
     pub ghost within: { is_within_limits (record { name = name.bytes.items; messages = map message_of messages.items }) ≡ true },
+    pub ghost counted: { messages_words_fit (map message_of messages.items) ≡ true },
 }

@@ -1,9 +1,9 @@
 //! Types of fixed size with their measures, so that no type is gone through twice.
 
-ghost use Rattle.std.specs.Prelude.{◌≡◌, ◌<◌, ◌≤◌, ◌+◌, ◌*◌, ◌^◌, ◌++◌, ℕ, List, map, IfOk, OnOk, vec_len, [], ◌∷◌};
+ghost use Rattle.std.specs.Prelude.{◌≡◌, ◌<◌, ◌≤◌, ◌+◌, ◌*◌, ◌++◌, ℕ, List, map, IfOk, OnOk, vec_len, [], ◌∷◌};
 ghost use Rattle.std.specs.Bool.{OnFalse};
 ghost use Rattle.fl_check.specs.Interface.{TheType, scalar, enumeration, structure, array, fields_from, type_of};
-ghost use Rattle.fl_check.specs.Sizes.{round_up, scalar_size, size_of, align_of, end_after, greatest_align};
+ghost use Rattle.fl_check.specs.Sizes.{size_of, align_of, end_after, greatest_align};
 ghost use Rattle.fl_check.specs.Depth.{depth_of, array_depth_of, deepest, deepest_array, is_too_big};
 
 use crate::duplicate::duplicate_type;
@@ -34,7 +34,7 @@ impl Measured {
         ensures depth { result.depth ≤ 16 }
         ensures arrays { result.arrays ≤ 7 }
     {
-        let bytes = scalar_bytes(kind);
+        let bytes = kind.size();
         Measured {
             fixed: FixedType::Scalar(kind),
             size: bytes,
@@ -108,35 +108,6 @@ impl Measured {
     }
 }
 
-fn scalar_bytes(kind: Scalar) -> u32
-    ensures exact { result ≡ scalar_size kind }
-    ensures some { 0 < result }
-    ensures few { result ≤ 8 }
-{
-    match kind {
-        Scalar::Uint8 | Scalar::Int8 | Scalar::Bool | Scalar::Char => 1,
-        Scalar::Uint16 | Scalar::Int16 => 2,
-        Scalar::Uint32 | Scalar::Int32 | Scalar::Iref => 4,
-        Scalar::Uint64
-        | Scalar::Int64
-        | Scalar::Uintptr
-        | Scalar::Intptr
-        | Scalar::Size
-        | Scalar::Errval => 8,
-    }
-}
-
-/// The next multiple of an alignment.
-pub fn next_multiple(n: u64, align: u64) -> u64
-    requires some { 0 < align }
-    requires few { align ≤ 8 }
-    requires fits { n < 2 ^ 60 }
-    ensures exact { result ≡ round_up n align }
-    ensures near { result ≤ n + 8 }
-{
-    n + (align - n % align) % align
-}
-
 /// The fields of a struct so far: their types, where the last one ends, and their greatest measures.
 #[derive(Drop)]
 pub struct Fields {
@@ -179,7 +150,7 @@ impl Fields {
         ensures more { OnOk result (map type_of self.new.types.items ≡ map type_of self.old.types.items ++ type_of field.fixed ∷ []) }
         ensures len { OnOk result (vec_len self.new.types ≡ vec_len self.old.types + 1) }
     {
-        let end = next_multiple(u64::from(self.end), u64::from(field.align)) as u32 + field.size;
+        let end = self.end.next_multiple_of(field.align) + field.size;
         self.types.push(field.fixed)?;
         self.end = end;
         self.align = self.align.max(field.align);
@@ -193,7 +164,7 @@ impl Fields {
         requires few { vec_len self.types ≤ 32 }
         ensures stands { type_of result.fixed ≡ structure (fields_from (map type_of self.types.items)) }
     {
-        let size = next_multiple(u64::from(self.end), u64::from(self.align)) as u32;
+        let size = self.end.next_multiple_of(self.align);
         Measured {
             size,
             align: self.align,

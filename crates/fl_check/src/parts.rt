@@ -12,27 +12,27 @@ ghost use Rattle.fl_parse.specs.Tree.{name_of, number_of, field_of};
 use crate::declared::Declared;
 use crate::fault::{CheckFault, Rule};
 use crate::measured::{Fields, Measured};
-use crate::types::{broken, check_count};
+use crate::types::{check_count, refuse};
 use crate::words::Names;
 use fl_parse::{Field, Name, Number};
 use std::alloc::{AllocError, Global};
 
 /// Adds a name that isn't counted: it stands once among these.
 #[tactic(auto, unfolding(crate::specs::Checks::first_fault, crate::specs::Places::other_place))]
-pub fn other_name<'a>(names: &mut Names<'a>, name: &Name<'a>) -> Result<(), CheckFault>
+pub fn add_name<'a>(names: &mut Names<'a>, name: &Name<'a>) -> Result<(), CheckFault>
     ensures sound { OnOk result (first_fault (other_place (list_of names.old) (name_of name.now) ∷ []) ≡ None) }
     ensures names { OnOk result (list_of names.new ≡ list_of names.old ++ name.now.text.now ∷ []) }
     ensures fault { IfErr result (λ e. Tells e (first_fault (other_place (list_of names.old) (name_of name.now) ∷ []))) }
 {
     if !names.add(name.text)? {
-        return Err(broken(Rule::NameTwice, name.at));
+        return Err(refuse(Rule::NameTwice, name.at));
     }
     Ok(())
 }
 
 /// Adds a name of a list that has at most 32, after so many that count: it stands once among these.
 #[tactic(auto, unfolding(crate::specs::Checks::first_fault, crate::specs::Places::listed_place))]
-pub fn listed_name<'a>(
+pub fn add_listed_name<'a>(
     names: &mut Names<'a>,
     counted_before: usize,
     name: &Name<'a>,
@@ -43,28 +43,28 @@ pub fn listed_name<'a>(
     ensures fault { IfErr result (λ e. Tells e (first_fault (listed_place (list_of names.old) counted_before (name_of name.now) ∷ []))) }
 {
     if !names.add(name.text)? {
-        return Err(broken(Rule::NameTwice, name.at));
+        return Err(refuse(Rule::NameTwice, name.at));
     }
     if counted_before >= 32 {
-        return Err(broken(Rule::TooMany, name.at));
+        return Err(refuse(Rule::TooMany, name.at));
     }
     Ok(())
 }
 
 /// The names of an enum: none stands twice.
-pub fn members(alloc: Global, members: &[Name]) -> Result<(), CheckFault>
+pub fn check_members(alloc: Global, members: &[Name]) -> Result<(), CheckFault>
     ensures sound { OnOk result (first_fault (member_places [] (map name_of members.now)) ≡ None) }
     ensures fault { IfErr result (λ e. Tells e (first_fault (member_places [] (map name_of members.now)))) }
 {
     let mut names = Names::new(alloc);
     for member in members {
-        other_name(&mut names, member)?;
+        add_name(&mut names, member)?;
     }
     Ok(())
 }
 
 /// A type, or the fixed array that a count makes of it.
-pub fn counted(
+pub fn apply_count(
     alloc: Global,
     measured: Measured,
     count: Option<Number>,
@@ -90,7 +90,7 @@ pub fn counted(
 impl<'a> Declared<'a> {
     /// A field after those whose names these are.
     #[tactic(auto, using(crate::proofs::FirstFaults::places))]
-    pub fn field(
+    pub fn check_field(
         &self,
         alloc: Global,
         names: &mut Names<'a>,
@@ -106,15 +106,19 @@ impl<'a> Declared<'a> {
         ensures arrays { IfOk result (λ m. m.arrays ≤ 8) }
         ensures fault { IfErr result (λ e. Tells e (first_fault (field_place (before_of self.now) (list_of names.old) (field_of field.now)))) }
     {
-        let measured = self.fixed_type(alloc, &field.type_name)?;
+        let measured = self.check_fixed_type(alloc, &field.type_name)?;
         let counted_before = names.len();
-        listed_name(names, counted_before, &field.name)?;
-        counted(alloc, measured, field.count)
+        add_listed_name(names, counted_before, &field.name)?;
+        apply_count(alloc, measured, field.count)
     }
 
     /// The struct of these fields.
     #[tactic(auto, using(crate::proofs::FirstFaults::places))]
-    pub fn structure(&self, alloc: Global, fields: &[Field<'a>]) -> Result<Measured, CheckFault>
+    pub fn check_structure(
+        &self,
+        alloc: Global,
+        fields: &[Field<'a>],
+    ) -> Result<Measured, CheckFault>
         ensures sound { OnOk result (first_fault (field_places (before_of self.now) [] (map field_of fields.now)) ≡ None) }
         ensures stands { IfOk result (λ m. type_of m.fixed ≡ structure (fields_from (map (field_type (before_of self.now)) (map field_of fields.now)))) }
         ensures fault { IfErr result (λ e. Tells e (first_fault (field_places (before_of self.now) [] (map field_of fields.now)))) }
@@ -122,7 +126,7 @@ impl<'a> Declared<'a> {
         let mut names = Names::new(alloc);
         let mut laid = Fields::new(alloc);
         for field in fields {
-            let measured = self.field(alloc, &mut names, field)?;
+            let measured = self.check_field(alloc, &mut names, field)?;
             laid.push(measured)?;
         }
         Ok(laid.into_struct())

@@ -6,7 +6,7 @@ ghost use Rattle.fl_check.specs.Sizes.{size_of, align_of};
 ghost use Rattle.fl_check.specs.Payload.{greatest_end, greatest_payload};
 
 use crate::interface::ArgType;
-use crate::measured::{Measured, next_multiple};
+use crate::measured::Measured;
 use std::alloc::{AllocError, Global};
 
 /// An argument's type that keeps the rules, with its measures.
@@ -51,7 +51,7 @@ impl Payload {
         ensures len { OnOk result (vec_len self.new.args ≡ vec_len self.old.args + 1) }
     {
         let align = self.due.max(u64::from(measured.align));
-        let end = next_multiple(self.end, align) + u64::from(measured.size);
+        let end = self.end.next_multiple_of(align) + u64::from(measured.size);
         self.args.push(ArgType::Fixed(measured.fixed))?;
         self.end = end;
         self.due = 1;
@@ -64,7 +64,7 @@ impl Payload {
         ensures more { OnOk result (map arg_type_of self.new.args.items ≡ map arg_type_of self.old.args.items ++ text bound ∷ []) }
         ensures len { OnOk result (vec_len self.new.args ≡ vec_len self.old.args + 1) }
     {
-        let end = next_multiple(self.end, 8) + (8 + u64::from(bound));
+        let end = self.end.next_multiple_of(8) + (8 + u64::from(bound));
         self.args.push(ArgType::Text(bound))?;
         self.end = end;
         self.due = 8;
@@ -78,7 +78,7 @@ impl Payload {
         ensures more { OnOk result (map arg_type_of self.new.args.items ≡ map arg_type_of self.old.args.items ++ sized bound (type_of element.fixed) ∷ []) }
         ensures len { OnOk result (vec_len self.new.args ≡ vec_len self.old.args + 1) }
     {
-        let end = next_multiple(self.end, 8) + (8 + u64::from(bound) * u64::from(element.size));
+        let end = self.end.next_multiple_of(8) + (8 + u64::from(bound) * u64::from(element.size));
         self.args.push(ArgType::Sized(bound, element.fixed))?;
         self.end = end;
         self.due = 8;

@@ -42,7 +42,8 @@ fn same_message(one: &Message, other: &Message) -> bool
     same_bytes(&one.name.bytes, &other.name.bytes) && same_args(&one.args, &other.args)
 }
 
-fn same_args(ones: &[ArgType], others: &[ArgType]) -> bool
+/// Whether two messages' arguments have the same types, in the same order.
+pub fn same_args(ones: &[ArgType], others: &[ArgType]) -> bool
     ensures exact { IsTrue result ↔ map arg_type_of ones.now ≡ map arg_type_of others.now }
 {
     if ones.len() != others.len() {

@@ -3,7 +3,8 @@
 ghost use Rattle.std.specs.Prelude.{◌≡◌, ◌≤◌, ◌∷◌, [], ◌++◌, OnOk, OnErr, IfOk, IfErr, IfSome, option_map, None, false, if◌then◌else◌};
 ghost use Rattle.fl_check.specs.Interface.{type_of, fixed, text};
 ghost use Rattle.fl_check.specs.Known.{is_among, is_string, type_named, stands_for};
-ghost use Rattle.fl_check.specs.Places.{fixed_type_place, plain_type_place, string_place, new_type_place, whole_type_place, count_places, bound_places, type_names};
+ghost use Rattle.fl_check.specs.Places.{fixed_type_place, plain_type_place, string_place, new_type_place, whole_type_place, count_places};
+ghost use Rattle.fl_check.specs.Places.{bound_places, type_names};
 ghost use Rattle.fl_check.specs.Checks.{first_fault};
 ghost use Rattle.fl_check.specs.Faults.{Tells};
 ghost use Rattle.fl_check.specs.Views.{before_of, checked_of, IsBounded};
@@ -20,7 +21,7 @@ use std::alloc::{AllocError, Global};
 const USUAL_TEXT: u32 = 2_047;
 
 /// The fault of a rule that is broken at a place.
-pub fn broken(rule: Rule, at: usize) -> CheckFault
+pub fn refuse(rule: Rule, at: usize) -> CheckFault
     ensures exact { result ≡ CheckFault.Broken rule at }
 {
     CheckFault::Broken { rule, at }
@@ -46,7 +47,7 @@ impl<'a> Declared<'a> {
 
     /// The type of a name that stands where a fixed type must be.
     #[tactic(auto, unfolding(crate::specs::Checks::first_fault, crate::specs::Places::fixed_type_place))]
-    pub fn fixed_type(&self, alloc: Global, name: &Name) -> Result<Measured, CheckFault>
+    pub fn check_fixed_type(&self, alloc: Global, name: &Name) -> Result<Measured, CheckFault>
         ensures sound { OnOk result (first_fault (fixed_type_place (before_of self.now) (name_of name.now) ∷ []) ≡ None) }
         ensures stands { IfOk result (λ m. type_of m.fixed ≡ stands_for (before_of self.now) (name_of name.now)) }
         ensures size { IfOk result (λ m. m.size ≤ 4096) }
@@ -55,52 +56,53 @@ impl<'a> Declared<'a> {
         ensures fault { IfErr result (λ e. Tells e (first_fault (fixed_type_place (before_of self.now) (name_of name.now) ∷ []))) }
     {
         if is_capability(name.text) {
-            return Err(broken(Rule::Capability, name.at));
+            return Err(refuse(Rule::Capability, name.at));
         }
         if is_string(name.text) {
-            return Err(broken(Rule::NotFixed, name.at));
+            return Err(refuse(Rule::NotFixed, name.at));
         }
         let Some(measured) = self.resolve(alloc, name.text)? else {
-            return Err(broken(Rule::UnknownType, name.at));
+            return Err(refuse(Rule::UnknownType, name.at));
         };
         Ok(measured)
     }
 
     /// The type of a name that stands alone before an argument's name.
     #[tactic(auto, unfolding(crate::specs::Checks::first_fault, crate::specs::Places::plain_type_place))]
-    pub fn plain_type(&self, alloc: Global, name: &Name) -> Result<Checked, CheckFault>
+    pub fn check_plain_type(&self, alloc: Global, name: &Name) -> Result<Checked, CheckFault>
         ensures sound { OnOk result (first_fault (plain_type_place (before_of self.now) (name_of name.now) ∷ []) ≡ None) }
-        ensures stands { IfOk result (λ a. checked_of a ≡ (if is_string name.now.text.now then text 2047 else fixed (stands_for (before_of self.now) (name_of name.now)))) }
+        ensures stands { IfOk result (λ a. checked_of a ≡ (if is_string name.now.text.now then text 2047 else fixed
+            (stands_for (before_of self.now) (name_of name.now)))) }
         ensures bounded { IfOk result (λ a. IsBounded (checked_of a)) }
         ensures fault { IfErr result (λ e. Tells e (first_fault (plain_type_place (before_of self.now) (name_of name.now) ∷ []))) }
     {
         if is_capability(name.text) {
-            return Err(broken(Rule::Capability, name.at));
+            return Err(refuse(Rule::Capability, name.at));
         }
         if is_string(name.text) {
             return Ok(Checked::Text { bound: USUAL_TEXT });
         }
         let Some(measured) = self.resolve(alloc, name.text)? else {
-            return Err(broken(Rule::UnknownType, name.at));
+            return Err(refuse(Rule::UnknownType, name.at));
         };
         Ok(Checked::Fixed { measured })
     }
 
     /// The name of a new type, which is empty where it is of an enum or struct with nothing in it.
     #[tactic(auto, unfolding(crate::specs::Checks::first_fault, crate::specs::Places::new_type_place))]
-    pub fn new_type(&self, name: &Name, empty: bool) -> Result<(), CheckFault>
+    pub fn check_new_type(&self, name: &Name, empty: bool) -> Result<(), CheckFault>
         ensures absent { OnOk result (is_among (type_names (before_of self.now)) name.now.text.now ≡ false) }
         ensures sound { OnOk result (first_fault (new_type_place (before_of self.now) (name_of name.now) empty ∷ []) ≡ None) }
         ensures fault { IfErr result (λ e. Tells e (first_fault (new_type_place (before_of self.now) (name_of name.now) empty ∷ []))) }
     {
         if is_built_in(name.text) || self.has_type(name.text) {
-            return Err(broken(Rule::TypeNameTaken, name.at));
+            return Err(refuse(Rule::TypeNameTaken, name.at));
         }
         if empty {
-            return Err(broken(Rule::NothingInIt, name.at));
+            return Err(refuse(Rule::NothingInIt, name.at));
         }
         if self.count_types() >= 256 {
-            return Err(broken(Rule::TooMany, name.at));
+            return Err(refuse(Rule::TooMany, name.at));
         }
         Ok(())
     }
@@ -110,12 +112,13 @@ impl<'a> Declared<'a> {
     pub fn add_type(&mut self, name: &Name<'a>, measured: Measured) -> Result<(), CheckFault>
         requires new { is_among (type_names (before_of self.old)) name.now.text.now ≡ false }
         ensures sound { OnOk result (first_fault (whole_type_place (name_of name.now) (type_of measured.fixed) ∷ []) ≡ None) }
-        ensures types { OnOk result ((before_of self.new).types ≡ (before_of self.old).types ++ record { name = name.now.text.now; type = type_of measured.fixed } ∷ []) }
+        ensures types { OnOk result ((before_of self.new).types ≡ (before_of self.old).types
+            ++ record { name = name.now.text.now; type = type_of measured.fixed } ∷ []) }
         ensures messages { OnOk result ((before_of self.new).messages ≡ (before_of self.old).messages) }
         ensures fault { IfErr result (λ e. Tells e (first_fault (whole_type_place (name_of name.now) (type_of measured.fixed) ∷ []))) }
     {
         if measured.is_too_big() {
-            return Err(broken(Rule::TooBig, name.at));
+            return Err(refuse(Rule::TooBig, name.at));
         }
         self.push_type(name.text, KnownType { measured })?;
         Ok(())
@@ -124,15 +127,15 @@ impl<'a> Declared<'a> {
 
 /// A type that takes a bound in brackets: a string alone.
 #[tactic(auto, unfolding(crate::specs::Checks::first_fault, crate::specs::Places::string_place))]
-pub fn string_type(name: &Name) -> Result<(), CheckFault>
+pub fn check_string_type(name: &Name) -> Result<(), CheckFault>
     ensures sound { OnOk result (first_fault (string_place (name_of name.now) ∷ []) ≡ None) }
     ensures fault { IfErr result (λ e. Tells e (first_fault (string_place (name_of name.now) ∷ []))) }
 {
     if is_capability(name.text) {
-        return Err(broken(Rule::Capability, name.at));
+        return Err(refuse(Rule::Capability, name.at));
     }
     if !is_string(name.text) {
-        return Err(broken(Rule::UnknownType, name.at));
+        return Err(refuse(Rule::UnknownType, name.at));
     }
     Ok(())
 }
@@ -148,7 +151,7 @@ pub fn check_bound(bound: Option<Number>) -> Result<(), CheckFault>
         return Ok(());
     };
     if number.value < 1 || number.value > 4096 {
-        return Err(broken(Rule::BadBound, number.at));
+        return Err(refuse(Rule::BadBound, number.at));
     }
     Ok(())
 }
@@ -164,7 +167,7 @@ pub fn check_count(count: Option<Number>) -> Result<(), CheckFault>
         return Ok(());
     };
     if number.value < 1 || number.value > 1024 {
-        return Err(broken(Rule::BadCount, number.at));
+        return Err(refuse(Rule::BadCount, number.at));
     }
     Ok(())
 }

@@ -98,7 +98,7 @@ pub fn word_of(alloc: Global, text: &[u8]) -> Result<Word, AllocError>
 }
 
 /// The bytes of a name and an ending behind it.
-pub fn joined(alloc: Global, text: &[u8], ending: &[u8]) -> Result<Vec<u8>, AllocError>
+pub fn join(alloc: Global, text: &[u8], ending: &[u8]) -> Result<Vec<u8>, AllocError>
     ensures joined { IfOk result (λ bytes. bytes.items ≡ text.now ++ ending.now) }
 {
     let mut bytes = text.to_vec(alloc)?;

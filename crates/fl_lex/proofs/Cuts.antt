@@ -1,22 +1,23 @@
--- How many bytes the item at the front of a text has.
+-- How many bytes the item at the beginning of a text has.
 use Rattle.std.proofs.Common.{◌≡◌, ℕ, zero, suc, ◌+◌, ◌-◌, ◌*◌, ◌^◌, ◌<◌, ◌≤◌, ◌==◌, ◌&&◌, ◌||◌, nat_le, eqb-true, inr, Bool, true, false, cond, List, [], ◌∷◌, ◌++◌, length, get_or, take, drop, sym, refl, ap, ◌∙◌, subst, arith, add-one, add-zero, drop-cons, take-append-drop}
 use Rattle.std.specs.List.{prefix_len}
-use Rattle.std.specs.Char.{is_ascii_alphabetic, is_ascii_digit}
 use Rattle.std.proofs.lemmas.List.Sums.{AllPass-from_list_all}
 use Rattle.std.proofs.Math.Nat.{pow-succ', le-mul_of_pos_right}
 use Rattle.std.proofs.Math.Seq.{drop-append_seam, take-append_seam}
 use Rattle.std.proofs.lemmas.List.{length-append, length-take-le, length-drop, get_or-drop, get_or-take}
 use Rattle.std.proofs.lemmas.Bool.Decides.{nat_tests}
 use Rattle.std.proofs.lemmas.List.Folds.{length-prefix_len}
-use Rattle.fl_lex.specs.Spelling.{class_of, mark_class, is_word_byte, is_digit, is_on_line, is_described, in_word, in_number, decimal_value, AllBytes, Has, Item, gap, token, Begins}
+use Rattle.fl_lex.specs.Spelling.{class_of, mark_class, is_on_line, is_described, decimal_value, AllBytes, Has, Item, gap, token, Begins}
+use Rattle.fl_lex.specs.Words.{is_letter, is_word_byte, is_digit}
+use Rattle.fl_lex.proofs.Classes.{in_number, letter_of, letter_in_word, digit_is}
 use Rattle.fl_lex.specs.Outcome.{Stands, no_token, open_comment, open_description, long_word, large_number, EndsLine, BeginsWith}
-use Rattle.fl_lex.specs.Front.{FirstIs, Cuts, ItemFits}
+use Rattle.fl_lex.specs.Item.{FirstIs, Cuts, ItemFits}
 use Rattle.fl_lex.specs.declared.token.TokenKind.TheVariants as kinds
 use Rattle.fl_lex.specs.declared.token.Mark.{Mark}
 use Rattle.fl_lex.specs.declared.class.ByteClass.{ByteClass}
 use Rattle.fl_lex.specs.declared.class.ByteClass.TheVariants as classes
 use Rattle.fl_lex.proofs.Runs.{Stops, run_all, run_stops}
-use Rattle.fl_lex.proofs.Items.{digit_is_digit, word_begins, number_begins, mark_begins, blank_begins, description_begins, line_comment_begins, block_comment_begins, nonempty}
+use Rattle.fl_lex.proofs.Items.{word_begins, number_begins, mark_begins, blank_begins, description_begins, line_comment_begins, block_comment_begins, nonempty}
 
 pub cuts : (text : List ℕ) (item : Item) (bytes rest : List ℕ) (n : ℕ) → Begins text item bytes rest → ItemFits item bytes → n ≡ length bytes → Cuts text item n
 cuts text item bytes rest n begins fits e =
@@ -39,10 +40,6 @@ mark_is_no_slash : (byte : ℕ) → mark_class byte ≡ classes.Slash → ⊥
 unfolding mark_class
 mark_is_no_slash byte e = grind arith
 
-mark_is_no_digit : (byte : ℕ) → mark_class byte ≡ classes.Digit → ⊥
-unfolding mark_class
-mark_is_no_digit byte e = grind arith
-
 quote_by : (letter digit blank quote slash : Bool) (mark : ByteClass) → cond letter classes.Letter (cond digit classes.Digit (cond blank classes.Blank (cond quote classes.Quote (cond slash classes.Slash mark)))) ≡ classes.Quote → (mark ≡ classes.Quote → ⊥) → quote ≡ true
 quote_by true digit blank quote slash mark e none = cc
 quote_by false true blank quote slash mark e none = cc
@@ -59,31 +56,19 @@ slash_by false false false true slash mark e none = cc
 slash_by false false false false true mark e none = refl
 slash_by false false false false false mark e none = absurd (none e)
 
-digit_by : (letter digit blank quote slash : Bool) (mark : ByteClass) → cond letter classes.Letter (cond digit classes.Digit (cond blank classes.Blank (cond quote classes.Quote (cond slash classes.Slash mark)))) ≡ classes.Digit → (mark ≡ classes.Digit → ⊥) → digit ≡ true
-digit_by true digit blank quote slash mark e none = cc
-digit_by false true blank quote slash mark e none = refl
-digit_by false false true quote slash mark e none = cc
-digit_by false false false true slash mark e none = cc
-digit_by false false false false true mark e none = cc
-digit_by false false false false false mark e none = absurd (none e)
-
 pub quote_is : (byte : ℕ) → class_of byte ≡ classes.Quote → byte ≡ 34
 unfolding class_of
-quote_is byte e = eqb-true byte 34 (quote_by (is_ascii_alphabetic byte || (byte == 95)) (is_ascii_digit byte) ((nat_le 9 byte && nat_le byte 13) || (byte == 32)) (byte == 34) (byte == 47) (mark_class byte) e (mark_is_no_quote byte))
+quote_is byte e = eqb-true byte 34 (quote_by (is_letter byte) (is_digit byte) ((nat_le 9 byte && nat_le byte 13) || (byte == 32)) (byte == 34) (byte == 47) (mark_class byte) e (mark_is_no_quote byte))
 
 pub slash_is : (byte : ℕ) → class_of byte ≡ classes.Slash → byte ≡ 47
 unfolding class_of
-slash_is byte e = eqb-true byte 47 (slash_by (is_ascii_alphabetic byte || (byte == 95)) (is_ascii_digit byte) ((nat_le 9 byte && nat_le byte 13) || (byte == 32)) (byte == 34) (byte == 47) (mark_class byte) e (mark_is_no_slash byte))
+slash_is byte e = eqb-true byte 47 (slash_by (is_letter byte) (is_digit byte) ((nat_le 9 byte && nat_le byte 13) || (byte == 32)) (byte == 34) (byte == 47) (mark_class byte) e (mark_is_no_slash byte))
 
-in_digits : (byte : ℕ) → is_ascii_digit byte ≡ true → (48 ≤ byte) × (byte ≤ 57)
+in_digits : (byte : ℕ) → is_digit byte ≡ true → (48 ≤ byte) × (byte ≤ 57)
 in_digits byte e = grind (arith, nat_tests)
 
-digit_is_ascii : (byte : ℕ) → class_of byte ≡ classes.Digit → is_ascii_digit byte ≡ true
-unfolding class_of
-digit_is_ascii byte e = digit_by (is_ascii_alphabetic byte || (byte == 95)) (is_ascii_digit byte) ((nat_le 9 byte && nat_le byte 13) || (byte == 32)) (byte == 34) (byte == 47) (mark_class byte) e (mark_is_no_digit byte)
-
 pub digit_bounds : (byte : ℕ) → is_digit byte ≡ true → (48 ≤ byte) × (byte ≤ 57)
-digit_bounds byte e = in_digits byte (digit_is_ascii byte (digit_is_digit byte e))
+digit_bounds byte e = in_digits byte e
 
 yes_one : (b : Bool) (n : ℕ) → b ≡ true → cond b (1 + n) 0 ≡ suc n
 yes_one b n passes = rw passes (omega arith)
@@ -98,7 +83,7 @@ word_run byte tail first =
 
 word_length : (byte : ℕ) (tail : List ℕ) → class_of byte ≡ classes.Letter → prefix_len is_word_byte (byte ∷ tail) ≡ length (byte ∷ take (prefix_len is_word_byte tail) tail)
 word_length byte tail first =
-    let passes : is_word_byte byte ≡ true = ap in_word first in
+    let passes = letter_in_word byte (letter_of byte first) in
     yes_one (is_word_byte byte) (prefix_len is_word_byte tail) passes ∙ ap suc (sym (length-prefix_len is_word_byte tail))
 
 pub word_cuts : (text : List ℕ) (n : ℕ) → FirstIs classes.Letter text → n ≡ prefix_len is_word_byte text → n ≤ 64 → Cuts text (token kinds.Word) n
@@ -118,7 +103,7 @@ word_too_long (byte ∷ tail) n first e many =
 digits_some : (text : List ℕ) → FirstIs classes.Digit text → 0 < length (take (prefix_len is_digit text) text)
 digits_some [] first = absurd first
 digits_some (byte ∷ tail) first =
-    let passes : is_digit byte ≡ true = ap in_number first in
+    let passes = digit_is byte ∙ ap in_number first in
     omega (arith, length-prefix_len is_digit (byte ∷ tail), yes_one (is_digit byte) (prefix_len is_digit tail) passes)
 
 number_run : (text : List ℕ) → FirstIs classes.Digit text → Begins text (token (kinds.Number (decimal_value (take (prefix_len is_digit text) text)))) (take (prefix_len is_digit text) text) (drop (prefix_len is_digit text) text)

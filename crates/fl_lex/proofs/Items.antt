@@ -1,8 +1,11 @@
--- Which item stands at the front of a text: the lemmas by which one is known to be the longest.
+-- Which item stands at the beginning of a text: the lemmas by which one is known to be the longest.
 use Rattle.std.proofs.Common.{◌≡◌, ℕ, ◌<◌, ◌≤◌, ◌⊎◌, inl, inr, true, List, [], ◌∷◌, ◌++◌, length, sym, refl, ap, ◌∙◌, subst, arith, append_assoc}
 use Rattle.std.specs.Cmp.{first_so}
 use Rattle.std.proofs.lemmas.List.{length-append}
-use Rattle.fl_lex.specs.Spelling.{class_of, is_word_byte, is_digit, is_on_line, is_described, in_number, decimal_value, AllBytes, Has, IsDescription, IsLineComment, IsBlockComment, Item, gap, token, IsItem, Begins}
+use Rattle.fl_lex.specs.Spelling.{class_of, is_on_line, is_described, decimal_value, AllBytes, Has, IsDescription, IsLineComment, IsBlockComment, Item, gap, token, IsItem, Begins}
+use Rattle.std.specs.List.{list_all}
+use Rattle.fl_lex.specs.Words.{is_letter, is_word_byte, is_digit}
+use Rattle.fl_lex.proofs.Classes.{letter_of, letter_class, letter_in_word, digit_is_digit, both}
 use Rattle.fl_lex.specs.declared.token.TokenKind.TheVariants as kinds
 use Rattle.fl_lex.specs.declared.token.Mark.{Mark}
 use Rattle.fl_lex.specs.declared.class.ByteClass.{ByteClass}
@@ -30,18 +33,11 @@ slash_class = refl
 shaped : (class : ByteClass) (byte : ℕ) (bytes : List ℕ) → class_of byte ≡ class → Shape class bytes → Shape (class_of byte) bytes
 shaped class byte bytes e shape = subst (λ k. Shape k bytes) (sym e) shape
 
-pub digit_is_digit : (byte : ℕ) → in_number (class_of byte) ≡ true → class_of byte ≡ classes.Digit
-digit_is_digit byte e = by_class (class_of byte) e
-  where
-    by_class : (k : ByteClass) → in_number k ≡ true → k ≡ classes.Digit
-    by_class classes.Digit e = refl
-    by_class _ e = cc
-
 one_byte : (byte other : ℕ) (more : List ℕ) → (byte ∷ more) ≡ (other ∷ []) → length (byte ∷ more) ≡ 1
 one_byte byte other more e = ap length e
 
-word_shape : (byte : ℕ) (more : List ℕ) → class_of byte ≡ classes.Letter → AllBytes is_word_byte more → AllBytes is_word_byte (byte ∷ more)
-word_shape byte more first all = rw first all
+word_shape : (byte : ℕ) (more : List ℕ) → is_letter byte ≡ true → AllBytes is_word_byte more → AllBytes is_word_byte (byte ∷ more)
+word_shape byte more first all = both (is_word_byte byte) (list_all is_word_byte more) (letter_in_word byte first) all
 
 pub shape : (item : Item) (byte : ℕ) (more : List ℕ) → IsItem item (byte ∷ more) → Shape (class_of byte) (byte ∷ more)
 shape gap byte more (inl (b, e, class)) =
@@ -53,7 +49,7 @@ shape gap byte more (inr (inl (inside, e, all))) =
 shape gap byte more (inr (inr (inside, e, none))) =
     let same : byte ≡ 47 = cc in
     shaped classes.Slash byte _ (ap class_of same ∙ slash_class) (inr (inside, e, none))
-shape (token kinds.Word) byte more is = shaped classes.Letter byte _ is.0 (word_shape byte more is.0 is.1)
+shape (token kinds.Word) byte more is = shaped classes.Letter byte _ (letter_class byte is.0) (word_shape byte more is.0 is.1)
 shape (token (kinds.Number value)) byte more is = shaped classes.Digit byte _ (digit_is_digit byte (first_so (is_digit byte) _ is.1)) is.1
 shape (token kinds.Description) byte more (inside, e, all) =
     let same : byte ≡ 34 = cc in
@@ -79,13 +75,13 @@ shape_at class byte tail item (b ∷ more) less first e is =
     let same : class_of b ≡ class = ap class_of (let h : b ≡ byte = cc in h) ∙ first in
     subst (λ k. Shape k (b ∷ more)) same (shape item b more is)
 
--- the lemmas by which an item is known to stand at the front of a text: the byte behind it, or its own
+-- the lemmas by which an item is known to stand at the beginning of a text: the byte behind it, or its own
 -- last byte, ends it
 
 pub word_begins : (byte : ℕ) (more rest : List ℕ) → class_of byte ≡ classes.Letter → AllBytes is_word_byte more → Stops is_word_byte rest → Begins (byte ∷ more ++ rest) (token kinds.Word) (byte ∷ more) rest
 word_begins byte more rest first all stops = record {
   joined = refl;
-  is_item = (first, all);
+  is_item = (letter_of byte first, all);
   longest = λ other longer less e is. run_longest is_word_byte longer less (byte ∷ more) rest e (shape_at classes.Letter byte (more ++ rest) other longer less first e is) stops;
 }
 

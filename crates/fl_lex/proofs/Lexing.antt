@@ -5,7 +5,7 @@ use Rattle.std.specs.Option.{IfSome}
 use Rattle.fl_lex.specs.Token.{TheToken}
 use Rattle.fl_lex.specs.Spelling.{Item, gap, token, Begins, token_in, Spells}
 use Rattle.fl_lex.specs.Outcome.{Fits, Flaw, no_token, open_comment, open_description, long_word, large_number, number_of, Stands, IsFaulty, Lexes, outcome_of}
-use Rattle.fl_lex.specs.Front.{ItemFits, Cuts, FlawAt}
+use Rattle.fl_lex.specs.Item.{ItemFits, Cuts, FlawAt}
 use Rattle.fl_lex.specs.declared.fault.LexFault.{LexFault}
 use Rattle.fl_lex.specs.declared.fault.LexFault.TheVariants as faults
 use Rattle.fl_lex.proofs.Turns.{spells_more}
@@ -30,7 +30,7 @@ module _ (text rest : List ℕ) (tokens more : List TheToken) (item : Item) (n a
 
 -- a flaw ends the reading
 module _ (text rest : List ℕ) (tokens : List TheToken) (short : length text ≤ 65536) (within : length rest ≤ length text) (spelled : Spells text tokens rest) (fits : AllByRecursion Fits tokens) where
-  ends_at : (flaw : Flaw) (at place : ℕ) → at ≡ length text - length rest → place ≡ at → Stands flaw rest → IsFaulty text (number_of flaw) place
+  pub ends_at : (flaw : Flaw) (at place : ℕ) → at ≡ length text - length rest → place ≡ at → Stands flaw rest → IsFaulty text (number_of flaw) place
   ends_at flaw at place e same stands = record {
     short = short;
     tokens = tokens;

@@ -1,3 +1,4 @@
+pub mod Classes
 pub mod Cuts
 pub mod Items
 pub mod Lexing
@@ -6,4 +7,5 @@ pub mod Outcomes
 pub mod Runs
 pub mod Shortest
 pub mod Signs
+pub mod Totals
 pub mod Turns

@@ -4,12 +4,12 @@ use Rattle.std.specs.Cmp.{first_so, second_so}
 use Rattle.std.proofs.lemmas.Bool.Decides.{nat_tests}
 use Rattle.std.proofs.lemmas.Str.Parse.{IsDigitsTest, IsNumeralModel, numerals_by_weight, digits_value_short}
 use Rattle.std.proofs.lemmas.Fmt.{decimal_nonempty, digits_decimal, digits_value-decimal, length-decimal-le}
-use Rattle.fl_lex.specs.Spelling.{class_of, is_digit, decimal_value, AllBytes}
+use Rattle.fl_lex.specs.Spelling.{decimal_value, AllBytes}
+use Rattle.fl_lex.specs.Words.{is_digit}
 use Rattle.fl_lex.specs.Joined.{NumberIsShortest}
 use Rattle.fl_lex.proofs.Cuts.{digit_bounds}
 
 in_digits : (byte : ℕ) → 48 ≤ byte → byte ≤ 57 → is_digit byte ≡ true
-unfolding class_of
 in_digits byte low high = grind (arith, nat_tests)
 
 digits_test : IsDigitsTest (λ digits. AllBytes is_digit digits)

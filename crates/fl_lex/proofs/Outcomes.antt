@@ -6,13 +6,14 @@ use Rattle.std.proofs.lemmas.List.{length-append}
 use Rattle.fl_lex.specs.Token.{TheToken}
 use Rattle.fl_lex.specs.Spelling.{class_of, is_described, decimal_value, AllBytes, Has, IsLineComment, IsBlockComment, IsDescription, Item, gap, token, IsItem, Begins, Piece, InTurn, token_in, tokens_from, Spells}
 use Rattle.fl_lex.specs.Outcome.{Fits, Stands, Flaw, no_token, open_comment, open_description, long_word, large_number, number_of, EndsLine, BeginsWith, lexed, lex_fault, OneOutcome}
-use Rattle.fl_lex.specs.Front.{ItemFits}
+use Rattle.fl_lex.specs.Item.{ItemFits}
 use Rattle.fl_lex.specs.declared.token.TokenKind.TheVariants as kinds
 use Rattle.fl_lex.specs.declared.class.ByteClass.{ByteClass}
 use Rattle.fl_lex.specs.declared.class.ByteClass.TheVariants as classes
 use Rattle.fl_lex.proofs.Cuts.{slash_is}
 use Rattle.fl_lex.proofs.Runs.{Stops, run_longest}
-use Rattle.fl_lex.proofs.Items.{shape_at, nonempty, quote_class, slash_class, digit_is_digit}
+use Rattle.fl_lex.proofs.Items.{shape_at, nonempty, quote_class, slash_class}
+use Rattle.fl_lex.proofs.Classes.{letter_class, digit_is_digit}
 
 -- the item that these bytes are, by the class of the first
 abbrev item_for : ByteClass → List ℕ → Item
@@ -34,7 +35,7 @@ named gap byte more (inr (inl (inside, e, all))) =
 named gap byte more (inr (inr (inside, e, none))) =
     let same : byte ≡ 47 = cc in
     ap (λ k. item_for k (byte ∷ more)) (sym (ap class_of same ∙ slash_class))
-named (token kinds.Word) byte more is = ap (λ k. item_for k (byte ∷ more)) (sym is.0)
+named (token kinds.Word) byte more is = ap (λ k. item_for k (byte ∷ more)) (sym (letter_class byte is.0))
 named (token (kinds.Number value)) byte more is =
     let same : class_of byte ≡ classes.Digit = digit_is_digit byte (first_so _ _ is.1) in
     ap (λ v. token (kinds.Number v)) is.2 ∙ ap (λ k. item_for k (byte ∷ more)) (sym same)
@@ -118,7 +119,7 @@ flaw_blocks large_number text item bytes rest (digits, left, value, begun, large
     let small : ItemFits (token (kinds.Number value)) digits = subst (λ k. ItemFits k digits) same.0 (subst (λ (b : List ℕ). ItemFits item b) same.1 fits) in
     omega (arith, small, large)
 
--- the flaw that stands at the front of a text, by its first two bytes
+-- the flaw that stands at the beginning of a text, by its first two bytes
 abbrev at_slash : List ℕ → Flaw
 at_slash [] = no_token
 at_slash (byte ∷ more) = cond (byte == 42) open_comment no_token
@@ -159,7 +160,7 @@ flaw_named long_word byte more ([], rest, begun, long) = absurd begun.is_item
 flaw_named long_word byte more (w ∷ word, rest, begun, long) =
     let joined : (w ∷ word) ++ rest ≡ byte ∷ more = begun.joined in
     let same : byte ≡ w = cc in
-    ap (λ k. flaw_for k more) (sym (ap class_of same ∙ begun.is_item.0))
+    ap (λ k. flaw_for k more) (sym (ap class_of same ∙ letter_class w begun.is_item.0))
 flaw_named large_number byte more ([], rest, value, begun, large) = absurd (omega (arith, begun.is_item.0))
 flaw_named large_number byte more (d ∷ digits, rest, value, begun, large) =
     let joined : (d ∷ digits) ++ rest ≡ byte ∷ more = begun.joined in

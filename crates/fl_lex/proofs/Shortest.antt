@@ -4,13 +4,15 @@ use Rattle.std.specs.List.{AllByRecursion, list_all}
 use Rattle.std.specs.Cmp.{first_so, second_so}
 use Rattle.std.proofs.lemmas.List.{length-append}
 use Rattle.fl_lex.specs.Token.{TheToken}
-use Rattle.fl_lex.specs.Spelling.{is_word_byte, is_digit, in_word, decimal_value, AllBytes, IsWord, Item, gap, token, IsItem, Begins, Piece, InTurn, token_in, tokens_from}
+use Rattle.fl_lex.specs.Spelling.{decimal_value, AllBytes, IsWord, Item, gap, token, IsItem, Begins, Piece, InTurn, token_in, tokens_from}
+use Rattle.fl_lex.specs.Words.{is_word_byte, is_digit}
+use Rattle.fl_lex.proofs.Classes.{in_word, letter_in_word, word_byte_is, digit_is_digit}
 use Rattle.fl_lex.specs.Outcome.{Fits, IsTokenIn, AreTokensIn}
 use Rattle.fl_lex.specs.Joined.{Sign, sign_of, Edge, closed, to_digits, to_letters, edge_of, runs_into, joined_after, joined, IsSign, JoinedIsShortest}
 use Rattle.fl_lex.specs.declared.token.TokenKind.{TokenKind}
 use Rattle.fl_lex.specs.declared.token.TokenKind.TheVariants as kinds
 use Rattle.fl_lex.proofs.Runs.{Stops}
-use Rattle.fl_lex.proofs.Items.{nonempty, digit_is_digit}
+use Rattle.fl_lex.proofs.Items.{nonempty}
 use Rattle.fl_lex.proofs.Turns.{tokens_in}
 use Rattle.fl_lex.proofs.Signs.{Stopped}
 
@@ -72,10 +74,10 @@ needs_none to_digits (kinds.Number value) (byte ∷ bytes) rest is stopped = let
 needs_none to_digits kinds.Description bytes rest is stopped = refl
 needs_none to_digits (kinds.Mark mark) bytes rest is stopped = refl
 needs_none to_letters kinds.Word [] rest is stopped = absurd is
-needs_none to_letters kinds.Word (byte ∷ bytes) rest is stopped = let yes : is_word_byte byte ≡ true = ap in_word is.0 in cc
+needs_none to_letters kinds.Word (byte ∷ bytes) rest is stopped = let yes = letter_in_word byte is.0 in cc
 needs_none to_letters (kinds.Number value) [] rest is stopped = absurd (omega (arith, is.0))
 needs_none to_letters (kinds.Number value) (byte ∷ bytes) rest is stopped =
-    let yes : is_word_byte byte ≡ true = ap in_word (digit_is_digit byte (first_so (is_digit byte) _ is.1)) in cc
+    let yes = word_byte_is byte ∙ ap in_word (digit_is_digit byte (first_so (is_digit byte) _ is.1)) in cc
 needs_none to_letters kinds.Description bytes rest is stopped = refl
 needs_none to_letters (kinds.Mark mark) bytes rest is stopped = refl
 

@@ -1,15 +1,17 @@
 -- Joined tokens are lexed as the same tokens.
-use Rattle.std.proofs.Common.{◌≡◌, ℕ, Bool, true, false, if◌then◌else◌, List, [], ◌∷◌, ◌++◌, length, map, sym, refl, ap, subst}
+use Rattle.std.proofs.Common.{◌∙◌, ◌≡◌, ℕ, Bool, true, false, if◌then◌else◌, List, [], ◌∷◌, ◌++◌, length, map, sym, refl, ap, subst}
 use Rattle.std.specs.List.{AllByRecursion}
 use Rattle.fl_lex.specs.Token.{TheTokens}
-use Rattle.fl_lex.specs.Spelling.{class_of, is_word_byte, is_digit, in_word, in_number, IsItem, gap, token, Begins, Piece, InTurn, tokens_from, Spells}
+use Rattle.fl_lex.specs.Spelling.{class_of, IsItem, gap, token, Begins, Piece, InTurn, tokens_from, Spells}
+use Rattle.fl_lex.specs.Words.{is_word_byte, is_digit}
+use Rattle.fl_lex.proofs.Classes.{in_word, in_number, letter_class, word_byte_is, digit_is}
 use Rattle.fl_lex.specs.Outcome.{Fits, IsLexed}
 use Rattle.fl_lex.specs.Joined.{Sign, sign_of, Edge, closed, to_digits, to_letters, edge_of, runs_into, joined_after, joined, IsSign, JoinedLexes}
 use Rattle.fl_lex.specs.declared.token.TokenKind.{TokenKind}
 use Rattle.fl_lex.specs.declared.token.TokenKind.TheVariants as kinds
 use Rattle.fl_lex.specs.declared.class.ByteClass.TheVariants as classes
 use Rattle.fl_lex.proofs.Runs.{Stops}
-use Rattle.fl_lex.proofs.Items.{quote_class, word_begins, number_begins, mark_begins, blank_begins, description_begins}
+use Rattle.fl_lex.proofs.Items.{word_begins, number_begins, mark_begins, blank_begins, description_begins}
 
 blank_class : class_of 32 ≡ classes.Blank
 unfolding class_of
@@ -26,18 +28,18 @@ one_stops : (edge : Edge) (kind : TokenKind) (text more : List ℕ) → IsItem (
     → Stopped edge ((if runs_into edge kind then (32 ∷ []) else []) ++ (text ++ more))
 one_stops closed kind text more is = tt
 one_stops to_digits kinds.Word [] more is = absurd is
-one_stops to_digits kinds.Word (byte ∷ text) more is = ap in_number is.0
-one_stops to_digits (kinds.Number value) text more is = ap in_number blank_class
+one_stops to_digits kinds.Word (byte ∷ text) more is = digit_is byte ∙ ap in_number (letter_class byte is.0)
+one_stops to_digits (kinds.Number value) text more is = refl
 one_stops to_digits kinds.Description text more (inside, is, all) =
-    subst (λ (t : List ℕ). Stops is_digit (t ++ more)) (sym is) (ap in_number quote_class)
+    subst (λ (t : List ℕ). Stops is_digit (t ++ more)) (sym is) refl
 one_stops to_digits (kinds.Mark mark) text more (byte, is, class) =
-    subst (λ (t : List ℕ). Stops is_digit (t ++ more)) (sym is) (ap in_number class)
-one_stops to_letters kinds.Word text more is = ap in_word blank_class
-one_stops to_letters (kinds.Number value) text more is = ap in_word blank_class
+    subst (λ (t : List ℕ). Stops is_digit (t ++ more)) (sym is) (digit_is byte ∙ ap in_number class)
+one_stops to_letters kinds.Word text more is = refl
+one_stops to_letters (kinds.Number value) text more is = refl
 one_stops to_letters kinds.Description text more (inside, is, all) =
-    subst (λ (t : List ℕ). Stops is_word_byte (t ++ more)) (sym is) (ap in_word quote_class)
+    subst (λ (t : List ℕ). Stops is_word_byte (t ++ more)) (sym is) refl
 one_stops to_letters (kinds.Mark mark) text more (byte, is, class) =
-    subst (λ (t : List ℕ). Stops is_word_byte (t ++ more)) (sym is) (ap in_word class)
+    subst (λ (t : List ℕ). Stops is_word_byte (t ++ more)) (sym is) (word_byte_is byte ∙ ap in_word class)
 
 nothing_stops : (edge : Edge) → Stopped edge []
 nothing_stops closed = tt
@@ -48,10 +50,10 @@ after_stops : (edge : Edge) (signs : List Sign) → AllByRecursion IsSign signs 
 after_stops edge [] all = nothing_stops edge
 after_stops edge (sign ∷ signs) all = one_stops edge sign.kind sign.text (joined_after (edge_of sign.kind) signs) all.0.of_kind
 
--- a token stands at the front, where what follows doesn't go on with it
+-- a token stands first, where what follows doesn't go on with it
 sign_begins : (kind : TokenKind) (text rest : List ℕ) → IsItem (token kind) text → Stopped (edge_of kind) rest → Begins (text ++ rest) (token kind) text rest
 sign_begins kinds.Word [] rest is stops = absurd is
-sign_begins kinds.Word (byte ∷ more) rest is stops = word_begins byte more rest is.0 is.1 stops
+sign_begins kinds.Word (byte ∷ more) rest is stops = word_begins byte more rest (letter_class byte is.0) is.1 stops
 sign_begins (kinds.Number value) text rest is stops =
     subst (λ v. Begins (text ++ rest) (token (kinds.Number v)) text rest) (sym is.2) (number_begins text rest is.0 is.1 stops)
 sign_begins kinds.Description text rest (inside, is, all) stops =

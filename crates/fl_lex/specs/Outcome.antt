@@ -21,7 +21,7 @@ KindFits (kinds.Mark mark) bytes = Unit {0}
 abbrev pub Fits : TheToken → Type 0
 Fits t = KindFits t.kind t.text
 
--- what can stand wrong at the front of a text
+-- what can stand wrong at the beginning of a text
 pub data Flaw : Type 0 where
   no_token : Flaw
   open_comment : Flaw
@@ -37,16 +37,16 @@ number_of open_description = 3
 number_of long_word = 4
 number_of large_number = 5
 
--- these bytes stand at the text's front
+-- these bytes stand at the text's beginning
 abbrev pub BeginsWith : List ℕ → List ℕ → Type 0
-BeginsWith front text = (more : List ℕ) × (text ≡ front ++ more)
+BeginsWith prefix text = (more : List ℕ) × (text ≡ prefix ++ more)
 
 -- a line or the text ends here
 abbrev pub EndsLine : List ℕ → Type 0
 EndsLine [] = Unit {0}
 EndsLine (byte ∷ more) = byte ≡ 10
 
--- the flaw stands at the front of the text: a byte that begins no token and no gap (a slash that
+-- the flaw stands at the beginning of the text: a byte that begins no token and no gap (a slash that
 -- begins no comment is one), a comment or a description left open, a word or a number past its limit
 abbrev pub Stands : Flaw → List ℕ → Type 0
 Stands no_token text = (byte : ℕ) × (more : List ℕ) × (text ≡ byte ∷ more)
@@ -137,6 +137,10 @@ pub record AreTokensIn (text : List ℕ) (found : TheTokens) : Type 0 where
   pub in_order : InOrder 0 found.tokens found.end
   pub each : AllByRecursion (IsTokenIn text) found.tokens
   pub fits : AllByRecursion Fits found.tokens
+
+-- each text has an outcome
+abbrev pub SomeOutcome : Type 0
+SomeOutcome = (text : List ℕ) → (outcome : LexOutcome) × Lexes text outcome
 
 -- at most one outcome stands for a text
 abbrev pub OneOutcome : Type 0

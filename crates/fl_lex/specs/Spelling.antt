@@ -1,8 +1,9 @@
 -- What the bytes of an interface's text spell: tokens and gaps in turn, each the longest that
 -- stands at its place.
-use Rattle.std.specs.Prelude.{◌≡◌, ℕ, ◌+◌, ◌-◌, ◌*◌, ◌^◌, ◌<◌, ◌≤◌, ◌==◌, ◌||◌, ◌&&◌, ◌⊎◌, Bool, true, false, not, nat_le, if◌then◌else◌, List, [], ◌∷◌, ◌++◌, length, codes}
+use Rattle.std.specs.Prelude.{◌≡◌, ℕ, ◌+◌, ◌-◌, ◌*◌, ◌^◌, ◌<◌, ◌≤◌, ◌==◌, ◌||◌, ◌&&◌, ◌⊎◌, Bool, true, not, nat_le, if◌then◌else◌, List, [], ◌∷◌}
+use Rattle.std.specs.Prelude.{◌++◌, length, codes}
 use Rattle.std.specs.List.{list_all}
-use Rattle.std.specs.Char.{is_ascii_alphabetic, is_ascii_digit}
+use Rattle.fl_lex.specs.Words.{is_letter, is_digit, is_word_byte}
 use Rattle.fl_lex.specs.Token.{TheToken}
 use Rattle.fl_lex.specs.declared.token.Mark.{Mark}
 use Rattle.fl_lex.specs.declared.token.Mark.TheVariants as marks
@@ -27,31 +28,12 @@ mark_class b =
 -- what a byte may begin: blanks are 9 to 13 and 32
 unfoldable pub class_of : ℕ → ByteClass
 class_of b =
-    if is_ascii_alphabetic b || (b == 95) then classes.Letter
-    else (if is_ascii_digit b then classes.Digit
+    if is_letter b then classes.Letter
+    else (if is_digit b then classes.Digit
     else (if (nat_le 9 b && nat_le b 13) || (b == 32) then classes.Blank
     else (if b == 34 then classes.Quote
     else (if b == 47 then classes.Slash
     else mark_class b))))
-
--- bytes of these classes make up a word
-abbrev pub in_word : ByteClass → Bool
-in_word classes.Letter = true
-in_word classes.Digit = true
-in_word _ = false
-
--- a letter, a digit or _
-abbrev pub is_word_byte : ℕ → Bool
-is_word_byte b = in_word (class_of b)
-
--- bytes of this class make up a number
-abbrev pub in_number : ByteClass → Bool
-in_number classes.Digit = true
-in_number _ = false
-
--- a decimal digit
-abbrev pub is_digit : ℕ → Bool
-is_digit b = in_number (class_of b)
 
 -- any byte but a line feed
 abbrev pub is_on_line : ℕ → Bool
@@ -67,12 +49,12 @@ AllBytes test bytes = list_all test bytes ≡ true
 
 -- the inner bytes stand somewhere in the whole, one after another
 abbrev pub Has : List ℕ → List ℕ → Type 0
-Has inner whole = (front : List ℕ) × (back : List ℕ) × (whole ≡ front ++ inner ++ back)
+Has inner whole = (before : List ℕ) × (behind : List ℕ) × (whole ≡ before ++ inner ++ behind)
 
 -- a letter or _, then letters, digits and _
 abbrev pub IsWord : List ℕ → Type 0
 IsWord [] = ⊥
-IsWord (first ∷ more) = (class_of first ≡ classes.Letter) × AllBytes is_word_byte more
+IsWord (first ∷ more) = (is_letter first ≡ true) × AllBytes is_word_byte more
 
 -- the value of decimal digits
 abbrev pub decimal_value : List ℕ → ℕ

@@ -1,7 +1,7 @@
 //! What a byte of a text may begin, and what may follow.
 
 ghost use Rattle.std.specs.Prelude.{◌≡◌};
-ghost use Rattle.fl_lex.specs.Spelling.{class_of, is_word_byte, is_digit, is_on_line, is_described};
+ghost use Rattle.fl_lex.specs.Spelling.{class_of, is_on_line, is_described};
 
 use crate::token::Mark;
 
@@ -46,22 +46,6 @@ pub(crate) fn class_of(byte: u8) -> ByteClass
         b';' => ByteClass::Mark(Mark::Semicolon),
         _ => ByteClass::Other,
     }
-}
-
-/// A letter, a digit or `_`.
-#[inline(always)]
-pub(crate) fn is_word_byte(byte: u8) -> bool
-    ensures class { result ≡ is_word_byte byte }
-{
-    matches!(class_of(byte), ByteClass::Letter | ByteClass::Digit)
-}
-
-/// A decimal digit.
-#[inline(always)]
-pub(crate) fn is_digit(byte: u8) -> bool
-    ensures class { result ≡ is_digit byte }
-{
-    matches!(class_of(byte), ByteClass::Digit)
 }
 
 /// Any byte but a line feed.

@@ -1,15 +1,14 @@
 //! A whole text.
 
 ghost use Rattle.std.specs.Prelude.{◌≡◌, ◌≤◌, ◌++◌, IfSome, IfOk, IfErr, OnOk, length, map, Some};
-ghost use Rattle.fl_lex.specs.Outcome.{Lexes, outcome_of, AreTokensIn, OneOutcome};
-ghost use Rattle.fl_lex.specs.Joined.{JoinedLexes, JoinedIsShortest, NumberIsShortest};
+ghost use Rattle.fl_lex.specs.Outcome.{Lexes, outcome_of, AreTokensIn};
 ghost use Rattle.fl_lex.specs.Spelling.{token_in};
-ghost use Rattle.fl_lex.specs.Front.{item_of};
+ghost use Rattle.fl_lex.specs.Item.{item_of};
 ghost use Rattle.fl_lex.specs.declared.fault.LexFault.TheVariants.{Memory};
 ghost use Rattle.fl_lex.specs.Token.{tokens_of, token_of};
 
 use crate::fault::LexFault;
-use crate::front::front;
+use crate::item::read_item;
 use crate::token::{Token, TokenKind, Tokens};
 use std::alloc::Global;
 
@@ -25,6 +24,7 @@ pub const MAX_TEXT: usize = 65_536;
 pub fn lex(alloc: Global, text: &[u8]) -> Result<Tokens<'_>, LexFault>
     ensures outcome { IfSome (outcome_of result) (λ found. Lexes text.now found) }
     ensures tokens { IfOk result (λ tokens. AreTokensIn text.now (tokens_of tokens)) }
+    ensures memory { IfErr result (λ fault. fault ≡ Memory → length text.now ≤ 65536) }
 {
     if text.len() > MAX_TEXT {
         return Err(LexFault::LongText);
@@ -33,7 +33,7 @@ pub fn lex(alloc: Global, text: &[u8]) -> Result<Tokens<'_>, LexFault>
     let mut rest = text;
     while !rest.is_empty() {
         let at = text.len() - rest.len();
-        let piece = front(rest, at)?;
+        let piece = read_item(rest, at)?;
         let (bytes, after) = rest.split_at(piece.length);
         keep(&mut items, piece.kind, bytes, at)?;
         rest = after;
@@ -64,17 +64,3 @@ fn keep<'a>(
     }
     Ok(())
 }
-
-/// At most one outcome stands for a text: what [`lex`] answers is the only answer.
-pub fn one_outcome()
-    ensures one { OneOutcome }
-{}
-
-/// Tokens written one behind another, with one blank where two would run into one and no other, are
-/// lexed as the same tokens, where the text isn't too long. No text of these tokens is shorter, and no
-/// digits of a number are fewer than those without zeros before them.
-pub fn joined_tokens()
-    ensures lexed { JoinedLexes }
-    ensures shortest { JoinedIsShortest }
-    ensures number { NumberIsShortest }
-{}

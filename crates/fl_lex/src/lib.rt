@@ -4,20 +4,26 @@
 //! that stands at its place, or the first fault of the text. What that means stands in
 //! `specs/Spelling.antt` and `specs/Outcome.antt`.
 //!
+//! - `word.rt`: letters, digits and words
 //! - `token.rt`: tokens
 //! - `fault.rt`: what can be wrong with a text
 //! - `class.rt`: what a byte may begin
-//! - `front.rt`: the token or gap at the front of a text
+//! - `item.rt`: the token or gap that a text begins with
 //! - `lexer.rt`: a whole text
+//! - `law.rt`: laws
 #![tactic(auto)]
 
 mod class;
 mod fault;
-mod front;
+mod item;
+mod law;
 mod lexer;
 mod token;
+mod word;
 
 pub use class::ByteClass;
 pub use fault::LexFault;
-pub use lexer::{MAX_TEXT, joined_tokens, lex, one_outcome};
+pub use law::{joined_tokens, one_outcome, some_outcome};
+pub use lexer::{MAX_TEXT, lex};
 pub use token::{Mark, Token, TokenKind, Tokens};
+pub use word::{MAX_WORD, is_digit, is_letter, is_name, is_word, is_word_byte};

@@ -8,7 +8,7 @@ use Rattle.fl_parse.specs.declared.stop.Stop.{Stop}
 use Rattle.fl_parse.specs.declared.stop.Stop.TheVariants as stops
 use Rattle.fl_parse.specs.Tree.{TheTree}
 use Rattle.fl_parse.specs.Grammar.{Optional, TheMark, Body, Derives, Begins, NumberAfter, FaultAtToken, ParseOutcome, parsed, parse_fault, Parses, is_mark, if_so}
-use Rattle.fl_parse.specs.Outcome.{fault_outcome}
+use Rattle.fl_parse.specs.Outcome.{fault_outcome, SomeOutcome}
 use Rattle.fl_parse.specs.Parts.{stop_fault}
 use Rattle.fl_parse.specs.Reading.{Read, Fails, body_at, behind_semicolon, place_of}
 use Rattle.fl_parse.proofs.Laws.{SameFirst, WasRead, WasRefused, Answers, Any, left_over}
@@ -178,6 +178,20 @@ body_read tokens rest tree e = subst (λ o. Answers Body Any tokens o) e (body_r
 
 pub body_stopped : (tokens rest : List TheToken) → body_at tokens ≡ Err rest → WasRefused Body Any tokens rest
 body_stopped tokens rest e = subst (λ o. Answers Body Any tokens o) e (body_reads.answers tokens)
+
+-- Some outcome.
+
+module _ (tokens : TheTokens) (tree : TheTree) (rest : List TheToken) (read : WasRead Body Any tokens.tokens tree rest) where
+  some_behind : (left : List TheToken) → behind_semicolon rest ≡ left → (outcome : ParseOutcome) × Parses tokens outcome
+  some_behind [] e = (parsed tree, is_parsed tokens.tokens tree rest read e)
+  some_behind (t ∷ later) e = (parse_fault 8 t.at, inl (is_after tokens.tokens tree rest t later read e))
+
+some_by : (tokens : TheTokens) (o : Read TheTree) → body_at tokens.tokens ≡ o → (outcome : ParseOutcome) × Parses tokens outcome
+some_by tokens (Ok p) e = some_behind tokens p.0 p.1 (body_read tokens.tokens p.1 p.0 e) (behind_semicolon p.1) refl
+some_by tokens (Err rest) e = (parse_fault 7 (place_of rest tokens.end), is_stopped tokens rest (body_stopped tokens.tokens rest e))
+
+pub some_outcome : SomeOutcome
+some_outcome tokens = some_by tokens (body_at tokens.tokens) refl
 
 -- One outcome at most.
 

@@ -244,7 +244,7 @@ declarations_reads = many_reads (λ token. is_mark token CloseBrace) declaration
 abbrev is_description : TheToken → Bool
 is_description token = is_some (description_in token)
 
-description_reads : Reads (Optional ADescription) (λ b. begins is_description b ≡ false) description_at
+pub description_reads : Reads (Optional ADescription) (λ b. begins is_description b ≡ false) description_at
 unfolding description_at
 description_reads =
     optional_reads is_description (one_reads description_in (record { kind = kinds.Description; text = []; at = 0 }) [] refl)

@@ -10,7 +10,8 @@ use Rattle.fl_parse.specs.declared.tree.MessageKind.{MessageKind}
 use Rattle.fl_parse.specs.declared.tree.MessageKind.TheVariants as messages
 use Rattle.fl_parse.specs.declared.tree.Direction.{Direction}
 use Rattle.fl_parse.specs.declared.tree.Direction.TheVariants as directions
-use Rattle.fl_parse.specs.Tree.{TheName, TheNumber, TheField, TheShape, plain, bounded, sized, TheArgument, TheDirected, TheDeclaration, alias_of, typedef_of, enum_of, struct_of, message_of, rpc_of, TheTree}
+use Rattle.fl_parse.specs.Tree.{TheName, TheNumber, TheField, TheShape, plain, bounded, sized, TheArgument, TheDirected, TheDeclaration, alias_of}
+use Rattle.fl_parse.specs.Tree.{typedef_of, enum_of, struct_of, message_of, rpc_of, TheTree}
 
 -- a phrase: which lists of tokens are written for which values
 abbrev pub Phrase : Type 0 → Type 1
@@ -308,6 +309,21 @@ abbrev pub ADeclaration : List TheToken → TheDeclaration → Type 0
 ADeclaration = do
   opening ← One opening_in
   Production opening
+
+-- "interface" NAME [STRING] "{"
+abbrev pub Head : List TheToken → Unit {0} → Type 0
+Head = do
+  Word (codes "interface")
+  name ← AName
+  description ← Optional ADescription
+  TheMark OpenBrace
+
+-- the head of an interface stands first
+pub record HasHead (tokens : List TheToken) : Type 0 where
+  pub head : List TheToken
+  pub rest : List TheToken
+  pub tokens_are : tokens ≡ head ++ rest
+  pub is : Head head tt
 
 -- "interface" NAME [STRING] "{" decl* "}"
 abbrev pub Body : List TheToken → TheTree → Type 0

@@ -30,6 +30,10 @@ abbrev pub outcome_of : Result Tree ParseFault → Option ParseOutcome
 outcome_of (Ok tree) = Some (parsed (tree_of tree))
 outcome_of (Err fault) = fault_outcome fault
 
+-- The tokens of a text have an outcome.
+abbrev pub SomeOutcome : Type 0
+SomeOutcome = (tokens : TheTokens) → (outcome : ParseOutcome) × Parses tokens outcome
+
 -- The tokens of a text have one outcome at most.
 abbrev pub OneOutcome : Type 0
 OneOutcome = (tokens : TheTokens) (x y : ParseOutcome) → Parses tokens x → Parses tokens y → x ≡ y

@@ -1,4 +1,4 @@
--- What the parser reads single tokens as, as contracts see it.
+-- A working file: what the parser reads single tokens as, as contracts see it.
 use Rattle.fl_parse.specs.declared.parts.Inside as insides
 use Rattle.fl_parse.specs.declared.parts.Inside.TheVariants as inside_variants
 use Rattle.fl_parse.specs.declared.parser.Opening as openings
@@ -13,7 +13,8 @@ use Rattle.fl_parse.specs.declared.fault.ParseFault.{ParseFault}
 use Rattle.fl_parse.specs.declared.fault.ParseFault.TheVariants as faults
 use Rattle.fl_parse.specs.Reading.{place_of}
 use Rattle.fl_parse.specs.Tree.{name_of, number_of}
-use Rattle.fl_parse.specs.Grammar.{Inside, bound_word, length_word, Opening, alias_word, typedef_word, message_word, rpc_word, Defined, enum_word, struct_word, type_word}
+use Rattle.fl_parse.specs.Grammar.{Inside, bound_word, length_word, Opening, alias_word, typedef_word, message_word, rpc_word, Defined, enum_word}
+use Rattle.fl_parse.specs.Grammar.{struct_word, type_word}
 
 abbrev pub inside_of : insides.Inside → Inside
 inside_of (inside_variants.Bound value) = bound_word (number_of value)

@@ -6,7 +6,8 @@ use Rattle.fl_parse.specs.declared.tree.MessageKind.{MessageKind}
 use Rattle.fl_parse.specs.declared.tree.MessageKind.TheVariants as messages
 use Rattle.fl_parse.specs.declared.tree.Direction.{Direction}
 use Rattle.fl_parse.specs.declared.tree.Direction.TheVariants as directions
-use Rattle.fl_parse.specs.Tree.{TheName, TheNumber, TheField, TheShape, plain, bounded, sized, TheArgument, TheDirected, TheDeclaration, alias_of, typedef_of, enum_of, struct_of, message_of, rpc_of, TheTree}
+use Rattle.fl_parse.specs.Tree.{TheName, TheNumber, TheField, TheShape, plain, bounded, sized, TheArgument, TheDirected, TheDeclaration, alias_of}
+use Rattle.fl_parse.specs.Tree.{typedef_of, enum_of, struct_of, message_of, rpc_of, TheTree}
 
 -- texts with commas between them
 abbrev pub with_commas : {A : Type 0} → (A → List ℕ) → List A → List ℕ

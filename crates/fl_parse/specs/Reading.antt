@@ -1,5 +1,5 @@
--- Reading from left to right: the value of the tokens at the front with the tokens behind them, or
--- the tokens from the first that cannot stand where it does.
+-- A working file: reading from left to right, by the code's own steps. What is read is the value of the first tokens with the
+-- tokens behind them, or the tokens from the first that cannot stand where it does.
 use Rattle.std.specs.Prelude.{◌≡◌, ℕ, zero, suc, Bool, false, List, [], ◌∷◌, length, Option, Some, None, Result, Ok, Err, codes, map, is_some, if◌then◌else◌}
 use Rattle.fl_lex.specs.declared.token.Mark.{Mark}
 use Rattle.fl_lex.specs.declared.token.Mark.TheVariants.{OpenBrace, CloseBrace, OpenParen, CloseParen, OpenBracket, CloseBracket, Comma, Semicolon}
@@ -7,8 +7,11 @@ use Rattle.fl_lex.specs.Token.{TheToken, token_of}
 use Rattle.fl_parse.specs.declared.tree.MessageKind.{MessageKind}
 use Rattle.fl_parse.specs.declared.stop.Stop.{Stop}
 use Rattle.fl_parse.specs.declared.stop.Stop.TheVariants as stops
-use Rattle.fl_parse.specs.Tree.{TheName, TheNumber, TheField, TheShape, plain, bounded, sized, TheArgument, TheDirected, TheDeclaration, alias_of, typedef_of, enum_of, struct_of, message_of, rpc_of, TheTree}
-use Rattle.fl_parse.specs.Grammar.{is_word, is_mark, if_so, name_in, number_in, description_in, Opening, opening_in, alias_word, typedef_word, message_word, rpc_word, Defined, defined_in, enum_word, struct_word, type_word, direction_in, Inside, inside_in, bound_word, length_word}
+use Rattle.fl_parse.specs.Tree.{TheName, TheNumber, TheField, TheShape, plain, bounded, sized, TheArgument, TheDirected, TheDeclaration, alias_of}
+use Rattle.fl_parse.specs.Tree.{typedef_of, enum_of, struct_of, message_of, rpc_of, TheTree}
+use Rattle.fl_parse.specs.Grammar.{is_word, is_mark, if_so, name_in, number_in, description_in, Opening, opening_in, alias_word, typedef_word}
+use Rattle.fl_parse.specs.Grammar.{message_word, rpc_word, Defined, defined_in, enum_word, struct_word, type_word, direction_in, Inside, inside_in}
+use Rattle.fl_parse.specs.Grammar.{bound_word, length_word}
 
 -- what reading some tokens gives
 abbrev pub Read : Type 0 → Type 0
@@ -23,6 +26,11 @@ abbrev pub ◌>>=◌ : {A B : Type 0} → Read A → (A × List TheToken → Rea
 abbrev pub Fails : {Y : Type 0} → Stop → Read Y → Type 0
 Fails stops.Memory read = Unit {0}
 Fails (stops.Unexpected rest) read = read ≡ Err (map token_of rest.now)
+
+-- a token stands where it cannot, or the text ends early
+abbrev pub IsUnexpected : Stop → Type 0
+IsUnexpected stops.Memory = ⊥
+IsUnexpected (stops.Unexpected rest) = Unit {0}
 
 abbrev pub Gives : {X Y : Type 0} → (X → Y × List TheToken) → Result X Stop → Read Y → Type 0
 Gives view (Ok x) read = read ≡ Ok (view x)

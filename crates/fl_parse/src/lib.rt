@@ -2,6 +2,7 @@
 #![tactic(auto)]
 
 mod fault;
+mod law;
 mod parser;
 mod parts;
 mod printer;
@@ -10,8 +11,9 @@ mod stop;
 mod tree;
 
 pub use fault::ParseFault;
-pub use parser::{one_outcome, parse};
-pub use printer::{print, printed_tokens, round_trip};
+pub use law::{one_outcome, printed_tokens, round_trip, some_outcome};
+pub use parser::parse;
+pub use printer::print;
 pub use tree::{
     Argument, Declaration, DirectedArgument, Direction, Field, MessageKind, Name, Number, Shape,
     Tree,

@@ -1,12 +1,16 @@
 //! The parser: it looks one token ahead and never goes back.
 
-ghost use Rattle.std.specs.Prelude.{◌≡◌, map, option_map, codes, IfSome};
+ghost use Rattle.std.specs.Prelude.{◌≡◌, map, option_map, codes, IfSome, IfErr};
 ghost use Rattle.fl_lex.specs.Token.{token_of, tokens_of};
 ghost use Rattle.fl_parse.specs.Tree.{name_of, declaration_of, tree_of};
-ghost use Rattle.fl_parse.specs.Grammar.{opening_in, defined_in, Parses};
-ghost use Rattle.fl_parse.specs.Outcome.{outcome_of, OneOutcome, OneTree};
+ghost use Rattle.fl_parse.specs.Grammar.{opening_in, defined_in, HasHead, Parses};
+ghost use Rattle.fl_parse.specs.Outcome.{outcome_of};
+ghost use Rattle.fl_parse.specs.declared.stop.Stop.TheVariants.{Memory};
+ghost use Rattle.fl_parse.specs.declared.fault.ParseFault.TheVariants.{Memory as NoMemory};
 ghost use Rattle.fl_parse.specs.Parts.{opening_of, defined_of, stop_fault};
-ghost use Rattle.fl_parse.specs.Reading.{Gives, one_at, word_at, alias_at, enumeration_at, structure_at, renaming_at, definition_at, typedef_at, message_at, rpc_at, production_at, declaration_at, declarations_at, description_at, body_at, behind_semicolon};
+ghost use Rattle.fl_parse.specs.Reading.{Gives, IsUnexpected, one_at, word_at, alias_at, enumeration_at, structure_at, renaming_at, definition_at, typedef_at};
+ghost use Rattle.fl_parse.specs.Reading.{message_at, rpc_at, production_at, declaration_at, declarations_at, description_at, body_at};
+ghost use Rattle.fl_parse.specs.Reading.{behind_semicolon};
 
 use crate::fault::ParseFault;
 use crate::parts::{arguments, count, directed_arguments, fields, members};
@@ -262,6 +266,7 @@ fn declarations<'t, 'a>(
 /// Takes this word.
 fn word<'t, 'a>(tokens: &'t [Token<'a>], wanted: &[u8]) -> Result<&'t [Token<'a>], Stop<'t, 'a>>
     ensures reads { Gives (λ x. (tt, map token_of x.now)) result (word_at wanted.now (map token_of tokens.now)) }
+    ensures refusal { IfErr result IsUnexpected }
 {
     match tokens {
         [first, rest @ ..] if spells(first, wanted) => Ok(rest),
@@ -290,6 +295,7 @@ fn body<'t, 'a>(
     tokens: &'t [Token<'a>],
 ) -> Result<(Tree<'a>, &'t [Token<'a>]), Stop<'t, 'a>>
     ensures reads { Gives (λ x. (tree_of x.0, map token_of x.1.now)) result (body_at (map token_of tokens.now)) }
+    ensures memory { IfErr result (λ stop. stop ≡ Memory → HasHead (map token_of tokens.now)) }
 {
     let rest = word(tokens, b"interface")?;
     let (interface_name, rest) = name(rest)?;
@@ -333,9 +339,11 @@ fn fault_of(stop: Stop, end: usize) -> ParseFault
 /// # Errors
 ///
 /// E7 at the first token with which the tokens so far begin no interface, or at the text's end where
-/// they only begin one; E8 at a token after a whole interface; E99 for want of memory.
+/// they only begin one; E8 at a token after a whole interface; E99 for want of memory, which is met only behind the
+/// interface's opening brace.
 pub fn parse<'a>(alloc: Global, tokens: &Tokens<'a>) -> Result<Tree<'a>, ParseFault>
     ensures outcome { IfSome (outcome_of result) (λ found. Parses (tokens_of tokens.now) found) }
+    ensures memory { IfErr result (λ fault. fault ≡ NoMemory → HasHead (tokens_of tokens.now).tokens) }
 {
     let (tree, rest) = match body(alloc, tokens.items.as_slice()) {
         Ok(found) => found,
@@ -346,9 +354,3 @@ pub fn parse<'a>(alloc: Global, tokens: &Tokens<'a>) -> Result<Tree<'a>, ParseFa
         [first, ..] => Err(ParseFault::AfterInterface(first.at)),
     }
 }
-
-/// The tokens of a text have one outcome at most, and one tree at most.
-pub fn one_outcome()
-    ensures outcome { OneOutcome }
-    ensures tree { OneTree }
-{}

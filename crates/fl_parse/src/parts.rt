@@ -5,7 +5,8 @@ ghost use Rattle.fl_lex.specs.Token.{token_of};
 ghost use Rattle.fl_parse.specs.Tree.{name_of, number_of, field_of, shape_of, argument_of, directed_of};
 ghost use Rattle.fl_parse.specs.Grammar.{is_mark, direction_in, inside_in};
 ghost use Rattle.fl_parse.specs.Parts.{inside_of};
-ghost use Rattle.fl_parse.specs.Reading.{Gives, one_at, optional_at, count_at, field_at, fields_at, all_members_at, bound_at, shape_at, argument_at, directed_at, arguments_at, all_directed_at};
+ghost use Rattle.fl_parse.specs.Reading.{Gives, one_at, optional_at, count_at, field_at, fields_at, all_members_at, bound_at, shape_at, argument_at};
+ghost use Rattle.fl_parse.specs.Reading.{directed_at, arguments_at, all_directed_at};
 
 use crate::reading::{begins_with, mark, name, number, spells};
 use crate::stop::Stop;

@@ -2,10 +2,11 @@
 
 ghost use Rattle.std.specs.Prelude.{◌≡◌, ◌++◌, map, option_map, OnOk, IfOk};
 ghost use Rattle.std.specs.List.{flat_map};
-ghost use Rattle.fl_parse.specs.Tree.{name_of, number_of, field_of, shape_of, argument_of, directed_of, declaration_of, tree_of, alias_of, typedef_of, enum_of, struct_of, message_of, rpc_of};
-ghost use Rattle.fl_parse.specs.RoundTrip.{IsShortestText, RoundTrip};
-ghost use Rattle.fl_parse.specs.Written.{PrintedDerives, PrintedIsText};
-ghost use Rattle.fl_parse.specs.Printed.{name_text, number_text, count_text, field_text, bound_text, shape_text, argument_text, directed_text, direction_text, kind_text, declaration_text, with_commas, printed};
+ghost use Rattle.fl_parse.specs.Tree.{name_of, number_of, field_of, shape_of, argument_of, directed_of, declaration_of, tree_of, alias_of};
+ghost use Rattle.fl_parse.specs.Tree.{typedef_of, enum_of, struct_of, message_of, rpc_of};
+ghost use Rattle.fl_parse.specs.RoundTrip.{IsShortestText};
+ghost use Rattle.fl_parse.specs.Printed.{name_text, number_text, count_text, field_text, bound_text, shape_text, argument_text, directed_text};
+ghost use Rattle.fl_parse.specs.Printed.{direction_text, kind_text, declaration_text, with_commas, printed};
 
 use crate::tree::{
     Argument, Declaration, DirectedArgument, Direction, Field, MessageKind, Name, Number, Shape,
@@ -336,15 +337,3 @@ pub fn print(alloc: Global, tree: &Tree) -> Result<Vec<u8>, AllocError>
     print_tree(alloc, &mut out, tree)?;
     Ok(out)
 }
-
-/// What a tree is printed as is the text of tokens from which the same tree comes, places aside.
-pub fn printed_tokens()
-    ensures derives { PrintedDerives }
-    ensures text { PrintedIsText }
-{}
-
-/// What the tree of a text is printed as is lexed and parsed to the same tree, places aside, and is no
-/// longer than any text of that tree.
-pub fn round_trip()
-    ensures round_trip { RoundTrip }
-{}

@@ -1,10 +1,10 @@
-//! Reading single tokens off the front.
+//! Reading single tokens, the first of those that are left.
 
-ghost use Rattle.std.specs.Prelude.{◌≡◌, map, codes};
+ghost use Rattle.std.specs.Prelude.{◌≡◌, map, codes, IfErr};
 ghost use Rattle.fl_lex.specs.Token.{token_of};
 ghost use Rattle.fl_parse.specs.Tree.{name_of, number_of};
 ghost use Rattle.fl_parse.specs.Grammar.{is_word, is_mark, name_in, number_in};
-ghost use Rattle.fl_parse.specs.Reading.{Gives, begins, mark_at, one_at};
+ghost use Rattle.fl_parse.specs.Reading.{Gives, IsUnexpected, begins, mark_at, one_at};
 
 use crate::stop::Stop;
 use crate::tree::{Name, Number};
@@ -37,6 +37,7 @@ pub fn begins_with(tokens: &[Token], mark: Mark) -> bool
 /// Takes this mark.
 pub fn mark<'t, 'a>(tokens: &'t [Token<'a>], mark: Mark) -> Result<&'t [Token<'a>], Stop<'t, 'a>>
     ensures reads { Gives (λ x. (tt, map token_of x.now)) result (mark_at mark (map token_of tokens.now)) }
+    ensures refusal { IfErr result IsUnexpected }
 {
     match tokens {
         [first, rest @ ..] if is(first, mark) => Ok(rest),
@@ -47,6 +48,7 @@ pub fn mark<'t, 'a>(tokens: &'t [Token<'a>], mark: Mark) -> Result<&'t [Token<'a
 /// Takes a word as a name.
 pub fn name<'t, 'a>(tokens: &'t [Token<'a>]) -> Result<(Name<'a>, &'t [Token<'a>]), Stop<'t, 'a>>
     ensures reads { Gives (λ x. (name_of x.0, map token_of x.1.now)) result (one_at name_in (map token_of tokens.now)) }
+    ensures refusal { IfErr result IsUnexpected }
 {
     let [first, rest @ ..] = tokens else {
         return Err(Stop::Unexpected(tokens));

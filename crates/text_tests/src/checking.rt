@@ -1,6 +1,6 @@
 //! What each text is refused for and where, or that it is accepted.
 
-use fl_check::{Interface, TextFault, check};
+use fl_check::{ArgType, Interface, Scalar, TextFault, check, same_args};
 use fl_lex::lex;
 use fl_parse::parse;
 use std::alloc::{AllocError, Global};
@@ -312,6 +312,42 @@ fn explained(rt: HostRuntime) -> Result<(), Fail> {
             Err(fault) => format!(in alloc; "{}", fault.explain(text.as_bytes()))?,
         };
         assert_eq!(rt; words.as_str(), wanted);
+    }
+    Ok(())
+}
+
+const SIZES: [(Scalar, u32); 4] = [
+    (Scalar::Char, 1),
+    (Scalar::Int16, 2),
+    (Scalar::Iref, 4),
+    (Scalar::Errval, 8),
+];
+
+#[test]
+fn sizes(rt: HostRuntime) {
+    for (scalar, bytes) in SIZES {
+        assert_eq!(rt; scalar.size(), bytes);
+    }
+}
+
+const ALIGNED: &[u8] = b"interface i { typedef struct { uint8 a; uint16 b[3]; } t; \
+    message m(t x, string s); message n(t y, string z[9]); }";
+
+#[test]
+fn alignments_and_types_of_arguments(rt: HostRuntime) -> Result<(), Fail> {
+    let interface = read(rt.alloc(), ALIGNED)?;
+    match interface.messages.as_slice() {
+        [m, n] => {
+            assert_eq!(rt;
+                (same_args(&m.args, &m.args), same_args(&m.args, &n.args)),
+                (true, false)
+            );
+            match m.args.first() {
+                Some(ArgType::Fixed(fixed)) => assert_eq!(rt; fixed.alignment(), 2),
+                _ => assert!(rt; false),
+            }
+        }
+        _ => assert!(rt; false),
     }
     Ok(())
 }

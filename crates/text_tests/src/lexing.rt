@@ -1,6 +1,6 @@
 //! What is a token, which fault of the bytes stands where, and the limits.
 
-use fl_lex::{MAX_TEXT, Mark, TokenKind, lex};
+use fl_lex::{MAX_TEXT, Mark, TokenKind, is_name, is_word, lex};
 use std::test::Fail;
 
 // The number and the place of the text's fault; 0 where it has tokens.
@@ -73,6 +73,31 @@ fn tokens(rt: HostRuntime) -> Result<(), Fail> {
         assert_eq!(rt; (token.kind, token.at, token.text.len()), *wanted);
     }
     Ok(())
+}
+
+const WORDS: [(&[u8], bool); 7] = [
+    (b"_", true),
+    (b"a9_Z", true),
+    (b"", false),
+    (b"9a", false),
+    (b"a b", false),
+    (b"a-", false),
+    (b"\xc3\xbc", false),
+];
+
+#[test]
+fn words(rt: HostRuntime) {
+    for (bytes, wanted) in WORDS {
+        assert_eq!(rt; (is_word(bytes), is_name(bytes)), (wanted, wanted));
+    }
+    assert_eq!(rt;
+        (
+            is_name(&[b'w'; 64]),
+            is_word(&[b'w'; 65]),
+            is_name(&[b'w'; 65])
+        ),
+        (true, true, false)
+    );
 }
 
 #[test]

@@ -10,12 +10,12 @@ returns-in_err-declared c = record {
   outcome = err_outcome (tree_of c.args.tree.now) c.from_residual.result c.in_err-declared.field-0.0 c.from_residual.ensures.1 (rw c.deref.ensures.value at c.in_err-declared.ensures.fault);
 }
 
-pub invariant_of-result : goal.invariant_of-result
-invariant_of-result c =
+pub invariant_of-result-clause-within : goal.invariant_of-result-clause-within
+invariant_of-result-clause-within c =
     let s = rw c.deref.ensures.value at c.in_ok-declared.ensures.sound in
     let a = rw c.deref.ensures.value at c.in_ok-declared.ensures.after in
     let m = c.in_ok-messages.ensures.same ∙ ap (λ (b : Before). b.messages) a in
-    record { within = kept (tree_of c.args.tree.now) _ s (same_interface _ _ _ _ c.in_ok-name.ensures.equal m) }
+    kept (tree_of c.args.tree.now) _ s (same_interface _ _ _ _ c.in_ok-name.ensures.equal m)
 
 pub returns : goal.returns
 returns c =
@@ -23,3 +23,6 @@ returns c =
     let a = rw c.deref.ensures.value at c.in_ok-declared.ensures.after in
     let m = c.in_ok-messages.ensures.same ∙ ap (λ (b : Before). b.messages) a in
     record { outcome = accepted (tree_of c.args.tree.now) _ s (same_interface _ _ _ _ c.in_ok-name.ensures.equal m) }
+
+pub invariant_of-result-clause-counted : goal.invariant_of-result-clause-counted
+invariant_of-result-clause-counted c = rw c.deref-2.ensures.value at c.counts_fit.ensures.fit

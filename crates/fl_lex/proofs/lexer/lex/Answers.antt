@@ -7,7 +7,7 @@ use Rattle.fl_lex.proofs.Lexing.{goes_on, still_fits, fault_ends}
 use Rattle.fl_lex.proofs.Turns.{tokens_in}
 use Rattle.fl_lex.proofs.lexer.lex.Goals as goal
 
--- a flaw at the front of what is left
+-- a flaw at the beginning of what is left
 pub returns-in_err-piece-clause-outcome : goal.returns-in_err-piece-clause-outcome
 returns-in_err-piece-clause-outcome c =
     let passed = err_from_is_err_and c.from_residual.result c.from_residual.ensures.1 in

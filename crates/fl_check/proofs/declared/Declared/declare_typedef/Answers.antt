@@ -1,0 +1,30 @@
+use Rattle.std.proofs.Common.{◌∙◌, ap, option_map}
+use Rattle.fl_check.specs.Known.{counted}
+use Rattle.fl_parse.specs.Tree.{number_of}
+use Rattle.fl_check.proofs.FirstFaults.{tells_here, tells_past, tells_front, none_past, none_after, err_of, sound_at_end, fault_at_end}
+use Rattle.fl_check.proofs.declared.Declared.declare_typedef.Goals as goal
+
+pub returns-in_err-element-clause-fault : goal.returns-in_err-element-clause-fault
+returns-in_err-element-clause-fault c =
+    let e = c.in_err-element.field-0.0 in
+    err_of c.from_residual.result e _ c.from_residual.ensures.1 (tells_here e _ _ c.in_err-element.ensures.fault)
+
+pub returns-in_err-check_new_type-clause-fault : goal.returns-in_err-check_new_type-clause-fault
+returns-in_err-check_new_type-clause-fault c =
+    let e = c.in_err-check_new_type.field-0.0 in
+    err_of c.from_residual-in_err-check_new_type.result e _ c.from_residual-in_err-check_new_type.ensures.1 (tells_past e _ _ c.in_ok-element.ensures.sound (tells_here e _ _ c.in_err-check_new_type.ensures.fault))
+
+pub returns-in_err-measured-clause-fault : goal.returns-in_err-measured-clause-fault
+returns-in_err-measured-clause-fault c =
+    let e = c.in_err-measured.field-0.0 in
+    err_of c.from_residual-in_err-measured.result e _ c.from_residual-in_err-measured.ensures.1 (tells_past e _ _ c.in_ok-element.ensures.sound (tells_past e _ _ c.in_ok-check_new_type.ensures.sound (tells_front e _ _ c.in_err-measured.ensures.fault)))
+
+pub returns-clause-sound : goal.returns-clause-sound
+returns-clause-sound c =
+    let k = c.in_ok-measured.ensures.stands ∙ ap (counted (option_map number_of c.args.count)) c.in_ok-element.ensures.stands in
+    sound_at_end c.add_type.result _ _ (none_past _ _ c.in_ok-element.ensures.sound ∙ none_past _ _ c.in_ok-check_new_type.ensures.sound ∙ none_after _ _ c.in_ok-measured.ensures.sound) (rw k at c.add_type.ensures.sound)
+
+pub returns-clause-fault : goal.returns-clause-fault
+returns-clause-fault c =
+    let k = c.in_ok-measured.ensures.stands ∙ ap (counted (option_map number_of c.args.count)) c.in_ok-element.ensures.stands in
+    fault_at_end c.add_type.result _ _ (none_past _ _ c.in_ok-element.ensures.sound ∙ none_past _ _ c.in_ok-check_new_type.ensures.sound ∙ none_after _ _ c.in_ok-measured.ensures.sound) (rw k at c.add_type.ensures.fault)
