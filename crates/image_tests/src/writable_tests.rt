@@ -2,7 +2,7 @@
 
 ghost use Rattle.std.specs.Prelude.{◌≤◌};
 
-use fl_check::{ArgType, FixedType, Interface, Message, Word};
+use fl_check::{ArgType, FixedType, Interface, Message, Word, counts_fit};
 use fl_image::is_writable;
 use std::alloc::{AllocError, Global};
 use std::test::Fail;
@@ -47,6 +47,7 @@ fn of_enum(alloc: Global, count: u32) -> Result<Interface, AllocError>
     let mut messages = Vec::new(alloc);
     messages.push(Message { name, args })?;
     let name = word(alloc, b"i")?;
+    counts_fit(&messages);
     Ok(Interface { name, messages })
 }
 
