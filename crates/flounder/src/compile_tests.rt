@@ -132,13 +132,22 @@ impl FileStore for Desk {
     fn read(&mut self, alloc: Global, path: &str) -> io::Result<Vec<u8>> {
         let found = match self.unread {
             Some(kind) => Err(io::Error::from(kind)),
-            None if path == "in.if" => Vec::from_slice(alloc, self.content).map_err(io::Error::from),
+            None if path == "in.if" => Vec::from_slice(alloc, self.content).map_err(
+                io::Error::from,
+            ),
             None => Err(io::Error::from(io::ErrorKind::NotFound)),
         };
         let deeds = self.deeds.take();
         self.deeds = match &found {
             Ok(bytes) => note(self.alloc, deeds, true, path.as_bytes(), bytes, None),
-            Err(error) => note(self.alloc, deeds, true, path.as_bytes(), &[], Some(error.kind())),
+            Err(error) => note(
+                self.alloc,
+                deeds,
+                true,
+                path.as_bytes(),
+                &[],
+                Some(error.kind()),
+            ),
         };
         found
     }
@@ -148,7 +157,14 @@ impl FileStore for Desk {
         let deeds = self.deeds.take();
         self.deeds = match &done {
             Ok(()) => note(self.alloc, deeds, false, path.as_bytes(), bytes, None),
-            Err(error) => note(self.alloc, deeds, false, path.as_bytes(), bytes, Some(error.kind())),
+            Err(error) => note(
+                self.alloc,
+                deeds,
+                false,
+                path.as_bytes(),
+                bytes,
+                Some(error.kind()),
+            ),
         };
         done
     }

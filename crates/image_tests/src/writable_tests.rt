@@ -27,8 +27,14 @@ fn names_are_words(rt: HostRuntime) -> Result<(), Fail> {
         (b"", false),
         (b"4x", false),
         (b"a b", false),
-        (b"a_name_of_64_bytes_which_is_as_long_as_a_name_in_an_image_may_be", true),
-        (b"a_name_of_65_bytes_which_is_longer_than_a_name_in_an_image_may_be", false),
+        (
+            b"a_name_of_64_bytes_which_is_as_long_as_a_name_in_an_image_may_be",
+            true,
+        ),
+        (
+            b"a_name_of_65_bytes_which_is_longer_than_a_name_in_an_image_may_be",
+            false,
+        ),
     ];
     for (name, wanted) in rows {
         let interface = empty(rt.alloc(), name)?;
