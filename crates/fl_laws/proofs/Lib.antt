@@ -6,3 +6,4 @@ pub mod Walk
 pub mod Replies
 pub mod RepliesStep
 pub mod Start
+pub mod Refusals

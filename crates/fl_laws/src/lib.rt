@@ -7,7 +7,7 @@ ghost use Rattle.fl_queues.specs.State.{State, start};
 ghost use Rattle.fl_queues.specs.Step.{step};
 ghost use Rattle.fl_queues.specs.Sound.{Sound};
 ghost use Rattle.fl_queues.specs.SoundRings.{RingsCount, RingsFit};
-ghost use Rattle.fl_queues.specs.Laws.{RingsCountInOrder, FewWaitAndOnlyWhereBusy};
+ghost use Rattle.fl_queues.specs.Laws.{RingsCountInOrder, FewWaitAndOnlyWhereBusy, RefusalsChangeNothing};
 
 /// The start is a sound state.
 pub fn start_is_sound()
@@ -30,4 +30,9 @@ pub fn rings_count_in_order()
 /// In every state that a run reaches, at most 16 replies wait at an end, and they wait only while the end is busy.
 pub fn few_replies_wait()
     ensures few { FewWaitAndOnlyWhereBusy }
+{}
+
+/// An event that is refused changes nothing, in any state at all.
+pub fn refusals_change_nothing()
+    ensures same { RefusalsChangeNothing }
 {}

@@ -12,7 +12,7 @@ use Rattle.fl_lists.specs.declared.place.Place.TheVariants.{Pending}
 use Rattle.fl_lists.specs.ThreeLists.{IsApart}
 use Rattle.fl_value.specs.Value.{TheCall}
 use Rattle.fl_queues.specs.Given.{given}
-use Rattle.fl_queues.specs.Events.{DispatcherId, Event, turn, forward, Answer, nothing, handle}
+use Rattle.fl_queues.specs.Events.{DispatcherId, Event, turn, forward, Answer, nothing, handle, refused}
 use Rattle.fl_queues.specs.Calls.{Planned}
 use Rattle.fl_queues.specs.Rings.{RingSide, RingEnd, Ring, Half, written_by}
 use Rattle.fl_queues.specs.Ends.{End, Queue, is_busy, rule_at, handled}
@@ -155,3 +155,10 @@ NumbersAreGivenOnce = (vs : List Event) → NumbersAreOnce (reached start vs)
 abbrev pub TablesGoOn : Type 0
 TablesGoOn = (s : State) (v : Event) (n : ℕ) (k m : Core) → Sound s → core_of s n ≡ Some k
     → core_of (step s v).state n ≡ Some m → Later k.circuits m.circuits
+
+-- ---- refusals
+
+-- an event that is refused changes nothing, in any state
+abbrev pub RefusalsChangeNothing : Type 0
+RefusalsChangeNothing = (s : State) (v : Event) (fault : ℕ) → (step s v).answer ≡ refused fault
+    → (step s v).state ≡ s
