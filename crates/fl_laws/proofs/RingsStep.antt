@@ -43,6 +43,7 @@ use Rattle.fl_queues.specs.Laws.{CountsInOrder, RingsCountInOrder}
 use Rattle.fl_laws.proofs.Cases.{by_given, none_at_end, each_push}
 use Rattle.fl_laws.proofs.Rings.{rises_over, tells}
 use Rattle.fl_laws.proofs.RingsKept.{AllCounted, same_rings, channel_rings, seats_rings, ring_looked, ring_sure, ring_put, ring_taken, first_looked, first_put}
+use Rattle.fl_queues.specs.Worlds.{start_with, EverInOrder}
 use Rattle.fl_laws.proofs.Walk.{with_ring, Keeps, step_keeps, run_keeps}
 
 abbrev pub RingsOk : State → Type 0
@@ -192,3 +193,7 @@ ring_in_order second_side r h = half_in_order r.size r.by_second r.by_first.wait
 
 pub rings_count_in_order : RingsCountInOrder
 rings_count_in_order vs n r side q = ring_in_order side r (run_keeps RingsOk rings_keep vs start start_counts n r q)
+
+pub ever_in_order : EverInOrder
+ever_in_order cores vs some few n r side q =
+    ring_in_order side r (run_keeps RingsOk rings_keep vs (start_with cores) (none_at_end Counted) n r q)

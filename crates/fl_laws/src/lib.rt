@@ -7,6 +7,7 @@ ghost use Rattle.fl_queues.specs.State.{State, start};
 ghost use Rattle.fl_queues.specs.Step.{step};
 ghost use Rattle.fl_queues.specs.Sound.{Sound};
 ghost use Rattle.fl_queues.specs.SoundRings.{RingsCount, RingsFit};
+ghost use Rattle.fl_queues.specs.Worlds.{WorldsAreSound, EverInOrder, EverFewWait};
 ghost use Rattle.fl_queues.specs.Laws.{RingsCountInOrder, FewWaitAndOnlyWhereBusy, RefusalsChangeNothing};
 
 /// The start is a sound state.
@@ -35,4 +36,19 @@ pub fn few_replies_wait()
 /// An event that is refused changes nothing, in any state at all.
 pub fn refusals_change_nothing()
     ensures same { RefusalsChangeNothing }
+{}
+
+/// A world that is booted with 1 to 16 cores is a sound state.
+pub fn worlds_are_sound()
+    ensures sound { WorldsAreSound }
+{}
+
+/// The counts of rings, as in `rings_count_in_order`, in every run from a world of 1 to 16 cores.
+pub fn rings_ever_count_in_order()
+    ensures counts { EverInOrder }
+{}
+
+/// Replies that wait, as in `few_replies_wait`, in every run from a world of 1 to 16 cores.
+pub fn few_replies_ever_wait()
+    ensures few { EverFewWait }
 {}

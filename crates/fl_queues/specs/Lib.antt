@@ -24,3 +24,6 @@ pub mod SoundRings
 pub mod SoundLists
 pub mod Sound
 pub mod Laws
+pub mod SoundCalls
+pub mod SoundLimits
+pub mod Worlds

@@ -16,6 +16,9 @@ use Rattle.fl_queues.specs.SoundLists.{WaitsetsStand, ListedAreBound, PendingRin
 use Rattle.fl_queues.specs.SoundLists.{PendingQueuesHold, FewRepliesWait, RepliesWaitWhereBusy}
 use Rattle.fl_queues.specs.SoundLists.{QueuesHaveRoom, OutboxesHaveRoom}
 use Rattle.fl_queues.specs.SoundLists.{BareUntilCoresAreSet}
+use Rattle.fl_queues.specs.SoundCalls.{CallsFit, RulesSuit}
+use Rattle.fl_queues.specs.SoundLimits.{CoresAreFew, InterfacesAreFew, ServicesAreFew, BindingsAreFew}
+use Rattle.fl_queues.specs.SoundLimits.{RoutesKeepToCores, NumbersAreOnceBothWays}
 
 pub record Sound (s : State) : Type 0 where
   -- places
@@ -54,10 +57,21 @@ pub record Sound (s : State) : Type 0 where
   pub listed : ListedAreBound s
   pub looked : PendingRingsWereLookedAt s
   pub held : PendingQueuesHold s
-  -- limits, which only sizes in memory need
+  -- limits; sizes in memory need these, and what an end may still accept
   pub waiting : FewRepliesWait s
   pub busy : RepliesWaitWhereBusy s
   pub queues : QueuesHaveRoom s
   pub outboxes : OutboxesHaveRoom s
   -- before the number of cores stands
   pub bare : BareUntilCoresAreSet s
+  -- calls and reply rules
+  pub calls : CallsFit s
+  pub rules : RulesSuit s
+  -- how many there are: no table of a core has more links than it has room for
+  pub few_cores : CoresAreFew s
+  pub few_interfaces : InterfacesAreFew s
+  pub few_services : ServicesAreFew s
+  pub few_bindings : BindingsAreFew s
+  -- routes keep to the world's cores, and a number means the same in both directions of its link
+  pub within : RoutesKeepToCores s
+  pub numbers_once_back : NumbersAreOnceBothWays s

@@ -1,0 +1,5 @@
+use Rattle.fl_laws.proofs.RepliesStep.{ever_few_wait}
+use Rattle.fl_laws.proofs.few_replies_ever_wait.Goals as goal
+
+pub returns : goal.returns
+returns c = record { few = ever_few_wait }
