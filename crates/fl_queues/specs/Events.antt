@@ -64,7 +64,7 @@ pub data Answer : Type 0 where
   -- fragment k of n was written
   written : ℕ → ℕ → Answer
   -- what a turn came to: a call handled at an end; a fragment that makes no call whole; a polled channel at
-  -- which a fragment stands; one at which none does
+  -- which a call's fragment stands; one at which none stands, or one that only acknowledges and was taken
   handle : EndId → TheCall → Answer
   part : EndId → Answer
   ready : EndId → Answer

@@ -43,7 +43,8 @@ abbrev pub ForwardsUnderstand : Type 0
 ForwardsUnderstand = (s : State) (a b : ℕ) → Sound s → (step s (forward b a)).answer ≡ nothing
     → on_link s a b ≡ []
 
--- a turn answers `nothing` only where no channel is pending or polled
+-- a turn answers `nothing` only where no channel is pending or polled; what it gives to a pending one's end,
+-- TurnsGiveTheNext of `Worlds` says
 abbrev pub TurnsUnderstand : Type 0
 TurnsUnderstand = (s : State) (d : DispatcherId) (x : Dispatcher) → Sound s → dispatcher_of s d ≡ Some x
     → (step s (turn d)).answer ≡ nothing → due x ≡ no_one

@@ -107,15 +107,17 @@ pub data Heard : Type 0 where
   no_outbox : Heard
   -- an answer for which no entry stands: no run meets one
   astray : Heard
-  -- the binding's opening has gone on, under this number; has made the server's end, at this dispatcher and
-  -- on this circuit; or was refused, for this fault
+  -- the opening of this binding has gone on, under this number
   opening_went_on : ℕ → ℕ → Heard
+  -- the opening of this binding has made the server's end, at this dispatcher and on this circuit
   server_made : ℕ → DispatcherId → ℕ → Heard
+  -- the opening of this binding was refused, for this fault
   opening_failed : ℕ → ℕ → Heard
-  -- the answer to the binding's opening has gone back one link further; has come to the end, which is on this
-  -- circuit now; or has come to the end as a refusal, for this fault
+  -- the answer to the opening of this binding has gone back one link further
   answer_went_on : ℕ → Heard
+  -- the answer has come to this end, which is on this circuit now
   end_opened : EndId → ℕ → Heard
+  -- the answer has come to this end as a refusal, for this fault
   end_refused : EndId → ℕ → Heard
 
 -- the core after it, and what it came to

@@ -46,7 +46,7 @@ pub record Half : Type 0 where
   pub sent : ℕ
   -- how many of them the writer knows to be read
   pub known : ℕ
-  -- how many were read, and of how many of these the reader has told
+  -- of how many its reader has told that they were read, and how many it has read
   pub told : ℕ
   pub read : ℕ
   -- those that weren't read yet, in order

@@ -1,9 +1,10 @@
 -- One event of the machine: the state after it, and the answer.
 --
 -- Labels have no contents, so no fragment can be a wrong one: no event has a case for the faults of received
--- fragments (60 to 66), of circuits without an entry or messages out of place (67), or of what failed earlier
--- (64). Where a state that no run reaches would leave nothing to do, nothing is done, and `nothing` is
--- answered.
+-- fragments (60 to 66, of which 64 is what failed earlier), or of circuits without an entry and messages out
+-- of place (67). In a state that no run reaches something may be missing that an event needs: each event then
+-- has some answer (`nothing`, `quiet`, `full`, `done`, or the refusal nearest to it), and at most moves a
+-- channel, or looks.
 use Rattle.std.specs.Prelude.{false}
 use Rattle.fl_queues.specs.Events.{Event, add_interface, set_cores, add_link, add_dispatcher, export, bind}
 use Rattle.fl_queues.specs.Events.{call, show, write, turn, acknowledge, register, deregister, reply}
