@@ -124,8 +124,29 @@ pub record IsArriving (hop : Hop) (to : EndId) (s : State) : Type 0 where
 
 -- ---- what is to be shown of a predicate
 
--- from a state of which P holds, each update leads to one of which Q holds; what only looks keeps P
-pub record KeepsFrom (P Q : State → Type 0) : Type 0 where
+-- a call that passes all tests but the last; and a rule that passes all
+pub record Fitting (e : EndId) (c : TheCall) (b : Binding) (i : Planned) (s : State) : Type 0 where
+  pub at : At s e b i
+  pub message : nat_le (length i.interface.messages) c.msg ≡ false
+  pub fits : not (fits_of i.interface c) ≡ false
+  pub bound : not (is_bound (end_in e.side b)) ≡ false
+
+pub record Suiting (e : EndId) (msg answer : ℕ) (b : Binding) (i : Planned) (s : State) : Type 0 where
+  pub at : At s e b i
+  pub messages : not (has_message msg i && has_message answer i) ≡ false
+  pub same : not (same_arguments (arguments_of msg i) (arguments_of answer i)) ≡ false
+
+-- or of either no more than where it is asked for
+abbrev pub CalledAt : EndId → TheCall → Binding → Planned → State → Type 0
+CalledAt e c b i s = At s e b i
+
+abbrev pub RuledAt : EndId → ℕ → ℕ → Binding → Planned → State → Type 0
+RuledAt e msg answer b i s = At s e b i
+
+-- from a state of which P holds, each update leads to one of which Q holds; what only looks keeps P. What is known
+-- of a call and of a rule is given
+pub record KeepsUnder (Called : EndId → TheCall → Binding → Planned → State → Type 0)
+    (Ruled : EndId → ℕ → ℕ → Binding → Planned → State → Type 0) (P Q : State → Type 0) : Type 0 where
   -- making
   pub settled : (s : State) → Q s → Q (record s { may_set_cores = false })
   pub interface : (i : Planned) (s : State) → has_interface i.interface.name s ≡ false → P s → Q (with_interface i s)
@@ -144,7 +165,7 @@ pub record KeepsFrom (P Q : State → Type 0) : Type 0 where
   pub route : (w : Wanted) (i : Planned) (cores : List ℕ) (k : Core) (l c : ℕ) (s : State) → IsWanted w i s
       → BeginsRoute w cores k l c s → P s → Q (with_circuit_begun w cores (length s.bindings) l c s)
   -- sending
-  pub called : (e : EndId) (c : TheCall) (b : Binding) (i : Planned) (s : State) → At s e b i
+  pub called : (e : EndId) (c : TheCall) (b : Binding) (i : Planned) (s : State) → Called e c b i s
       → is_busy i (end_in e.side b).out ≡ false → P s → Q (change_out e (accepts c) s)
   pub sure : (need : ℕ) (at : RingEnd) (s : State) → P s → P (ring_makes_sure need at s)
   pub looked : (at : RingEnd) (s : State) → P s → P (change_ring at.ring (looks at.side) s)
@@ -174,7 +195,7 @@ pub record KeepsFrom (P Q : State → Type 0) : Type 0 where
       → P s → Q (registers_end e s)
   pub deregistered : (e : EndId) (x : End) (s : State) → end_of s e ≡ Some x → not (is_bound x) ≡ false → P s
       → Q (change_channel e (λ c y. deregisters c) s)
-  pub ruled : (e : EndId) (msg answer : ℕ) (b : Binding) (i : Planned) (s : State) → At s e b i → P s
+  pub ruled : (e : EndId) (msg answer : ℕ) (b : Binding) (i : Planned) (s : State) → Ruled e msg answer b i s → P s
       → Q (change_end e (with_rule msg answer) s)
   -- links
   pub monitor_written : (here : LinkEnd) (link : Link) (m : Said) (s : State) (k : IsHere here s)
@@ -189,6 +210,9 @@ pub record KeepsFrom (P Q : State → Type 0) : Type 0 where
   pub taken : (here : LinkEnd) (first : RingLabel) (s : State) → IsHere here s → first_on here.ring s ≡ Some first
       → first.label ≡ acknowledges → P s → Q (change_ring here.ring.ring (takes here.ring.side) s)
 
+abbrev pub KeepsFrom : (P Q : State → Type 0) → Type 0
+KeepsFrom P Q = KeepsUnder CalledAt RuledAt P Q
+
 -- each update keeps P
 abbrev pub Keeps : (State → Type 0) → Type 0
 Keeps P = KeepsFrom P P
@@ -198,7 +222,10 @@ Keeps P = KeepsFrom P P
 abbrev pub After : (State → Type 0) → Outcome → Type 0
 After P o = P o.state
 
-module _ (P Q : State → Type 0) (weaker : (s : State) → P s → Q s) (K : KeepsFrom P Q) where
+module _ (Called : EndId → TheCall → Binding → Planned → State → Type 0) (Ruled : EndId → ℕ → ℕ → Binding → Planned → State → Type 0)
+    (fitting : (e : EndId) (c : TheCall) (b : Binding) (i : Planned) (s : State) → Fitting e c b i s → Called e c b i s)
+    (suiting : (e : EndId) (msg answer : ℕ) (b : Binding) (i : Planned) (s : State) → Suiting e msg answer b i s → Ruled e msg answer b i s)
+    (P Q : State → Type 0) (weaker : (s : State) → P s → Q s) (K : KeepsUnder Called Ruled P Q) where
   interface_after : (i : TheInterface) (plan : PlanNo) (s : State) → P s → After Q (adds_interface i plan s)
   interface_after i plan s h =
       either (After Q) (has_interface i.name s) _ _ (λ q. weaker s h)
@@ -285,7 +312,7 @@ module _ (P Q : State → Type 0) (weaker : (s : State) → P s → Q s) (K : Ke
       (λ t. either (After Q) (not (fits_of i.interface c)) _ _ (λ u. weaker s h)
       (λ u. either (After Q) (not (is_bound (end_in e.side b))) _ _ (λ v. weaker s h)
       (λ v. either (After Q) (is_busy i (end_in e.side b).out) _ _ (λ x. weaker s h)
-      (λ x. K.called e c b i s (record { binding = q; interface = r }) x h))))))
+      (λ x. K.called e c b i s (fitting e c b i s (record { at = record { binding = q; interface = r }; message = t; fits = u; bound = v })) x h))))))
 
   show_after : (e : EndId) (s : State) → P s → After Q (shows e s)
   show_after e s h =
@@ -404,7 +431,7 @@ module _ (P Q : State → Type 0) (weaker : (s : State) → P s → Q s) (K : Ke
       (λ b q. by_given (After Q) (interface_of s b) _ _ (weaker s h)
       (λ i r. either (After Q) (not (has_message msg i && has_message answer i)) _ _ (λ t. weaker s h)
       (λ t. either (After Q) (not (same_arguments (arguments_of msg i) (arguments_of answer i))) _ _ (λ u. weaker s h)
-      (λ u. K.ruled e msg answer b i s (record { binding = q; interface = r }) h))))
+      (λ u. K.ruled e msg answer b i s (suiting e msg answer b i s (record { at = record { binding = q; interface = r }; messages = t; same = u })) h))))
 
   -- links
 
@@ -539,8 +566,11 @@ module _ (P Q : State → Type 0) (weaker : (s : State) → P s → Q s) (K : Ke
   settled (add_interface i plan) o h = h
   settled v o h = settled_by o.answer o.state h
 
-  pub step_leads : (s : State) (v : Event) → P s → Q (step s v).state
-  step_leads s v h = settled v (does v s) (does_after v s h)
+  pub step_leads_under : (s : State) (v : Event) → P s → Q (step s v).state
+  step_leads_under s v h = settled v (does v s) (does_after v s h)
+
+pub step_leads : (P Q : State → Type 0) → ((s : State) → P s → Q s) → KeepsFrom P Q → (s : State) (v : Event) → P s → Q (step s v).state
+step_leads P Q weaker K s v h = step_leads_under CalledAt RuledAt (λ e c b i t k. k.at) (λ e m n b i t k. k.at) P Q weaker K s v h
 
 pub step_keeps : (P : State → Type 0) → Keeps P → (s : State) (v : Event) → P s → P (step s v).state
 step_keeps P K s v h = step_leads P P (λ t x. x) K s v h
