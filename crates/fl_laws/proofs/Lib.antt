@@ -7,3 +7,5 @@ pub mod Replies
 pub mod RepliesStep
 pub mod Start
 pub mod Refusals
+pub mod SameTypes
+pub mod FitsStep

@@ -8,6 +8,9 @@ ghost use Rattle.fl_queues.specs.Step.{step};
 ghost use Rattle.fl_queues.specs.Sound.{Sound};
 ghost use Rattle.fl_queues.specs.SoundRings.{RingsCount, RingsFit};
 ghost use Rattle.fl_queues.specs.Worlds.{WorldsAreSound, EverInOrder, EverFewWait};
+ghost use Rattle.fl_queues.specs.SoundPlaces.{EndsStand};
+ghost use Rattle.fl_queues.specs.SoundLabels.{LabelsKeepToTheirWays};
+ghost use Rattle.fl_queues.specs.SoundCalls.{CallsFit, RulesSuit};
 ghost use Rattle.fl_queues.specs.Laws.{RingsCountInOrder, FewWaitAndOnlyWhereBusy, RefusalsChangeNothing};
 
 /// The start is a sound state.
@@ -51,4 +54,14 @@ pub fn rings_ever_count_in_order()
 /// Replies that wait, as in `few_replies_wait`, in every run from a world of 1 to 16 cores.
 pub fn few_replies_ever_wait()
     ensures few { EverFewWait }
+{}
+
+/// Each step keeps that every call that an end accepted, and every reply that waits there, fits the interface, and
+/// that reply rules lead from a message to one with the same argument types: where each end has its binding and its
+/// interface, and labels keep to their ways (both are parts of a sound state).
+pub fn steps_keep_fitting()
+    ensures kept {
+        (s : State) (v : Event) → EndsStand s → LabelsKeepToTheirWays s → CallsFit s → RulesSuit s
+        → CallsFit (step s v).state × RulesSuit (step s v).state
+    }
 {}
