@@ -9,3 +9,4 @@ pub mod Start
 pub mod Refusals
 pub mod SameTypes
 pub mod FitsStep
+pub mod WorldReplies

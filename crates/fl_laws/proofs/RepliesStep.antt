@@ -31,7 +31,6 @@ use Rattle.fl_base.specs.declared.identity.Side.{Side}
 use Rattle.fl_queues.specs.Given.{given, changed_at}
 use Rattle.fl_queues.specs.Monitors.{Hearing}
 use Rattle.fl_queues.specs.Laws.{FewWaitAndOnlyWhereBusy}
-use Rattle.fl_queues.specs.Worlds.{start_with, FewWaitWhereBusy, EverFewWait}
 use Rattle.fl_queues.specs.Runs.{reached}
 use Rattle.fl_queues.specs.Binding.{arrival_queue}
 use Rattle.std.proofs.Common.{suc}
@@ -347,15 +346,8 @@ side_ok : (interfaces : List Planned) (side : Side) (b : Binding) (i : Planned) 
 side_ok interfaces Client b i q h = subst (λ (p : Planned). EndOk p b.client) (same_interface interfaces b.interface h.interface i h.there q) h.client
 side_ok interfaces Server b i q h = subst (λ (p : Planned). EndOk p b.server) (same_interface interfaces b.interface h.interface i h.there q) h.server
 
-few_wait_in : (s : State) → AllOk s → FewWaitWhereBusy s
-few_wait_in s h e b i q r =
-    let ok : EndOk i (end_in e.side b) = side_ok s.interfaces e.side b i r (h e.binding b q) in
-    (ok.few, ok.busy)
-
 pub few_wait : FewWaitAndOnlyWhereBusy
-few_wait vs = few_wait_in (reached start vs) (run_keeps AllOk all_keep vs start start_ok)
-
-pub ever_few_wait : EverFewWait
-ever_few_wait cores vs some few =
-    few_wait_in (reached (start_with cores) vs)
-    (run_keeps AllOk all_keep vs (start_with cores) (none_at_end (BindingOk (start_with cores).interfaces)))
+few_wait vs e b i q r =
+    let s : State = reached start vs in
+    let ok : EndOk i (end_in e.side b) = side_ok s.interfaces e.side b i r (run_keeps AllOk all_keep vs start start_ok e.binding b q) in
+    (ok.few, ok.busy)

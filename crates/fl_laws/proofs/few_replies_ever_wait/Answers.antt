@@ -1,4 +1,4 @@
-use Rattle.fl_laws.proofs.RepliesStep.{ever_few_wait}
+use Rattle.fl_laws.proofs.WorldReplies.{ever_few_wait}
 use Rattle.fl_laws.proofs.few_replies_ever_wait.Goals as goal
 
 pub returns : goal.returns
