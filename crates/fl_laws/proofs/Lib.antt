@@ -1,8 +1,12 @@
 pub mod Cases
+pub mod Views
 pub mod Rings
 pub mod RingsKept
 pub mod RingsStep
 pub mod Walk
+pub mod Quiet
+pub mod Places
+pub mod PlacesStep
 pub mod Replies
 pub mod RepliesStep
 pub mod Start
