@@ -7,6 +7,12 @@ pub mod Walk
 pub mod Quiet
 pub mod Places
 pub mod PlacesStep
+pub mod Lanes
+pub mod OpeningsStep
+pub mod OpeningsMoves
+pub mod OpeningsKept
+pub mod OpeningsHeard
+pub mod OpeningsLaw
 pub mod Replies
 pub mod RepliesStep
 pub mod Start

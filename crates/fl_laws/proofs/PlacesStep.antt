@@ -1,6 +1,6 @@
 -- Each event keeps that links are paired and that each side of a ring has one owner.
-use Rattle.std.proofs.Common.{◌≡◌, ◌≢◌, refl, sym, ◌∙◌, ap, subst, ℕ, zero, suc, ◌+◌, ◌<◌, ◌≤◌, ◌==◌, ◌||◌, ◌&&◌, nat_lt, not, Bool, true, false, if◌then◌else◌, List, [], ◌∷◌, ◌++◌, length, map, slice_get, slice_set, Option, Some, None, is_some, option_map, arith, ◌⊎◌, inl, inr, position}
-use Rattle.std.proofs.lemmas.Bool.{eqb-true, eq-eqb, eqb-false}
+use Rattle.std.proofs.Common.{◌≡◌, refl, sym, ◌∙◌, ap, subst, ℕ, zero, suc, ◌+◌, ◌<◌, ◌==◌, ◌||◌, ◌&&◌, nat_lt, not, Bool, true, false, if◌then◌else◌, List, [], ◌∷◌, ◌++◌, length, map, slice_get, slice_set, Option, Some, None, is_some, arith}
+use Rattle.std.proofs.lemmas.Bool.{eqb-false}
 use Rattle.std.proofs.lemmas.Bool.Decides.{nat_tests}
 use Rattle.std.proofs.lemmas.List.{length-append, length-map, map-append}
 use Rattle.std.specs.List.{range_with_len}
@@ -16,17 +16,16 @@ use Rattle.fl_hop.specs.Numbers.{with_opening, with_taking, changed, count_openi
 use Rattle.fl_queues.specs.Given.{given, changed_at}
 use Rattle.fl_queues.specs.Events.{Event}
 use Rattle.fl_queues.specs.Rings.{Said, open_circuit, circuit_opened, circuit_refused, Opening, says, RingSide, first_side, second_side, RingEnd, Ring, fresh_ring, puts, takes}
-use Rattle.fl_queues.specs.Ends.{Queue, unbound_end}
-use Rattle.fl_queues.specs.Monitors.{Core, Link, fresh_core, link_to, Fate, goes_on, ends_at, fails, fate, Heard, no_outbox, astray, opening_went_on, server_made, opening_failed, answer_went_on, end_opened, end_refused, Hearing, hears, hears_opening, hears_opened, hears_refused, saying, with_said, says_more, can_say, Service, opens}
-use Rattle.fl_queues.specs.State.{Back, local, over_ring, over_route, State, Binding, Route, side_of, own_ring, change_core, change_ring, change_binding, change_route, in_route, link_between, core_of, seats, binds_end}
+use Rattle.fl_queues.specs.Monitors.{Core, Link, fresh_core, link_to, Fate, goes_on, ends_at, fails, fate, Heard, no_outbox, astray, opening_went_on, server_made, opening_failed, answer_went_on, end_opened, end_refused, Hearing, hears, hears_opening, hears_opened, hears_refused, saying, says_more, can_say, Service, opens}
+use Rattle.fl_queues.specs.State.{Back, local, over_ring, over_route, State, Binding, Route, own_ring, change_core, change_ring, change_route, in_route, link_between, core_of, seats, binds_end}
 use Rattle.fl_queues.specs.Making.{with_new_link, linked, is_core, has_link}
 use Rattle.fl_queues.specs.Binding.{Wanted, with_new_binding, with_circuit_begun, end_id}
-use Rattle.fl_queues.specs.Forwarding.{LinkEnd, follows, takes_said, after_hearing, without_first_said, grants, with_number, denies, passes_word}
-use Rattle.fl_queues.specs.SoundPlaces.{Owner, core_to, this_end, opposite}
+use Rattle.fl_queues.specs.Forwarding.{LinkEnd, follows, takes_said, after_hearing, without_first_said, grants, passes_word}
+use Rattle.fl_queues.specs.SoundPlaces.{Owner, core_to, this_end}
 use Rattle.fl_laws.proofs.Cases.{by_given, either}
 use Rattle.fl_laws.proofs.Replies.{length_changed}
-use Rattle.fl_laws.proofs.Views.{View, Part, made, view, part_of, back_of, sides_of, found, map_changed, map_kept}
-use Rattle.fl_laws.proofs.Places.{Plan, Outline, Linked, ring_of, ring_in, joins, with_link_between, link_linked, joined_linked, none_linked, with_joined}
+use Rattle.fl_laws.proofs.Views.{View, Part, view, part_of, back_of, sides_of, found, map_changed, map_kept}
+use Rattle.fl_laws.proofs.Places.{Plan, Outline, Linked, ring_of, ring_in, joins, with_link_between, link_linked, joined_linked, none_linked}
 use Rattle.fl_laws.proofs.Quiet.{Moves, view_keeps, quiet_seats, quiet_binds}
 use Rattle.fl_laws.proofs.Walk.{Keeps, with_ring, step_keeps, run_keeps}
 use Rattle.fl_laws.proofs.Places.{end_ring, ring_side_of, turned, IsEven}
@@ -120,10 +119,10 @@ counted f h ls l = by (slice_get ls l) refl ∙ map_kept (λ (a : LinkState). a.
     by None q = refl
     by (Some a) q = refl
 
-opening_counted : (ls : List LinkState) (l : ℕ) → neighbours_of (count_opening ls l) ≡ neighbours_of ls
+pub opening_counted : (ls : List LinkState) (l : ℕ) → neighbours_of (count_opening ls l) ≡ neighbours_of ls
 opening_counted ls l = counted with_opening (λ a. refl) ls l
 
-taking_counted : (ls : List LinkState) (l : ℕ) → neighbours_of (count_taking ls l) ≡ neighbours_of ls
+pub taking_counted : (ls : List LinkState) (l : ℕ) → neighbours_of (count_taking ls l) ≡ neighbours_of ls
 taking_counted ls l = counted with_taking (λ a. refl) ls l
 
 said_rings : (m : Said) (ls : List Link) (l : ℕ) → link_rings (changed_at l (says_more m) ls) ≡ link_rings ls
@@ -181,7 +180,7 @@ follows_plan (end_opened e c) s =
     plan_quiet t (binds_end e c t) (quiet_binds e c t) ∙ plan_route e.binding _ s
 follows_plan (end_refused e fault) s = plan_route e.binding _ s
 
-same_some : {X : Type 0} (o : Option X) (x y : X) → o ≡ Some x → o ≡ Some y → x ≡ y
+pub same_some : {X : Type 0} (o : Option X) (x y : X) → o ≡ Some x → o ≡ Some y → x ≡ y
 same_some o x y p q = let e : Some x ≡ Some y = sym p ∙ q in cc
 
 heard_plan : (here : LinkEnd) (m : Said) (k : Core) (s : State) → core_of s here.core ≡ Some k → plan_of (after_hearing here (hears s.services here.link m k) s).state ≡ plan_of s
@@ -343,7 +342,7 @@ linked_outline : (b n : ℕ) (side : RingSide) (k : Core) → core_outline (link
 linked_outline b n side k =
     two_lists _ _ _ _ (map-append (λ (a : LinkState). a.neighbour.0) k.circuits.links _) (map-append (λ (l : Link). l.ring) k.links _)
 
-length_push : {X : Type 0} (xs : List X) (x : X) → length (xs ++ x ∷ []) ≡ length xs + 1
+pub length_push : {X : Type 0} (xs : List X) (x : X) → length (xs ++ x ∷ []) ≡ length xs + 1
 length_push xs x = length-append xs (x ∷ [])
 
 link_plan : (a b size : ℕ) (s : State) → plan_of (with_new_link a b size s) ≡ with_link_between a b (plan_of s)
@@ -394,7 +393,7 @@ route_plan w cores n l c s =
     ∙ plan_quiet fresh sat (quiet_seats w.client (end_id n Client) fresh)
     ∙ three _ _ _ _ _ _ refl refl (joined_push _ s)
 
-places_move : Moves LinkedView
+pub places_move : Moves LinkedView
 places_move = record {
   cores = λ n s h. moved s (record s { cores = map fresh_core (range_with_len 0 n) }) (fresh_linked n s) h;
   link = λ a b size s q h. moved s (with_new_link a b size s) (new_link a b size s q) h;

@@ -1,5 +1,5 @@
 -- Events that leave what circuits stand on as it is, and so every predicate of that.
-use Rattle.std.proofs.Common.{◌≡◌, ◌≢◌, refl, sym, ◌∙◌, ap, subst, ℕ, zero, suc, ◌+◌, ◌<◌, ◌≤◌, ◌==◌, ◌||◌, ◌&&◌, nat_le, nat_lt, not, Bool, true, false, if◌then◌else◌, List, [], ◌∷◌, ◌++◌, length, map, drop, slice_get, slice_set, Option, Some, None, arith}
+use Rattle.std.proofs.Common.{◌≡◌, refl, sym, ◌∙◌, ap, subst, ℕ, ◌==◌, ◌||◌, ◌&&◌, nat_le, not, false, List, [], ◌∷◌, ◌++◌, length, map, drop, slice_get, Option, Some, None}
 use Rattle.std.specs.Prelude.{filter_map}
 use Rattle.std.specs.List.{cons_option, range_with_len}
 use Rattle.std.proofs.lemmas.List.Elements.{filter_map-append}
@@ -8,27 +8,25 @@ use Rattle.fl_base.specs.declared.identity.EndId.{EndId}
 use Rattle.fl_base.specs.declared.identity.Side.{Side}
 use Rattle.fl_base.specs.declared.identity.Side.TheVariants.{Client, Server}
 use Rattle.fl_base.specs.Ends.{peer}
-use Rattle.fl_lists.specs.declared.place.Place.{Place}
-use Rattle.fl_lists.specs.declared.place.Place.TheVariants.{Polled, Pending}
+use Rattle.fl_lists.specs.declared.place.Place.TheVariants.{Polled}
 use Rattle.fl_queues.specs.Given.{given, changed_at}
 use Rattle.fl_queues.specs.Events.{DispatcherId}
 use Rattle.fl_queues.specs.Calls.{Planned}
-use Rattle.fl_queues.specs.Rings.{Said, Label, next_of, says, acknowledges, RingLabel, Ring, RingSide, first_side, second_side, RingEnd, Half, puts, takes, looks, makes_sure, read_by, first_for, is_spent, free, fresh_ring, there_is_room, for_data}
-use Rattle.fl_queues.specs.Ends.{takes_one, written_of, Queue, fresh_queue, without_first, End, Direction, is_bound, is_busy, holds_back, writes, accepts, with_rule}
-use Rattle.fl_queues.specs.Waits.{with_end, Dispatcher, waits_in, pending, polled, deregisters}
-use Rattle.fl_queues.specs.Monitors.{Core, Link, link_to, fresh_core, hears, can_say}
-use Rattle.fl_queues.specs.State.{Back, local, over_ring, State, Binding, Outcome, link_between, change_core, change_ring, change_binding, change_end, change_out, change_channel, with_end_in, seats, binds_end, delivers, registers_end, dispatcher_of, end_of, end_in, binding_of, core_of, in_queue, own_ring, first_on, ring_room, Outlet, peer_queue, ring_side, Route}
+use Rattle.fl_queues.specs.Rings.{Said, Label, next_of, says, acknowledges, RingLabel, Ring, RingSide, first_side, second_side, RingEnd, puts, takes, looks, makes_sure, first_for, is_spent, free, there_is_room}
+use Rattle.fl_queues.specs.Ends.{takes_one, written_of, Queue, fresh_queue, without_first, End, Direction, writes}
+use Rattle.fl_queues.specs.Waits.{with_end, Dispatcher, waits_in}
+use Rattle.fl_queues.specs.Monitors.{Core, Link, fresh_core, hears}
+use Rattle.fl_queues.specs.State.{local, over_ring, State, Binding, Outcome, link_between, change_core, change_ring, change_binding, change_end, change_out, change_channel, with_end_in, seats, binds_end, delivers, dispatcher_of, end_of, end_in, binding_of, core_of, in_queue, own_ring, first_on, Outlet, peer_queue, ring_side}
 use Rattle.fl_queues.specs.Standing.{labels_of, said_by}
-use Rattle.fl_queues.specs.Making.{with_new_link, is_core, has_link, is_ring_size}
-use Rattle.fl_queues.specs.Binding.{Wanted, end_id, with_new_binding, binds_both, has_both_places, with_circuit_begun}
+use Rattle.fl_queues.specs.Making.{with_new_link, is_core, has_link}
+use Rattle.fl_queues.specs.Binding.{Wanted, end_id, with_new_binding, binds_both, with_circuit_begun}
 use Rattle.fl_queues.specs.Sending.{writes_to}
 use Rattle.fl_queues.specs.Taking.{Chosen, takes_label, goes_back, finds}
-use Rattle.fl_queues.specs.Forwarding.{LinkEnd, Passing, label_of, monitor_writes_by, after_hearing, arrives_by}
+use Rattle.fl_queues.specs.Forwarding.{LinkEnd, Passing, label_of, monitor_writes_by, after_hearing}
 use Rattle.fl_laws.proofs.Cases.{by_given, either}
 use Rattle.fl_laws.proofs.RingsKept.{first_put, first_looked, channel_rings}
-use Rattle.fl_laws.proofs.Views.{View, Part, Sides, made, two, view, part_of, sides_of, back_of, messages, map_kept}
-use Rattle.fl_laws.proofs.Walk.{At, IsWanted, BeginsRoute, IsTurn, IsHere, IsPassing, with_ring, Keeps}
-use Rattle.fl_hop.specs.declared.entry.Hop.{Hop}
+use Rattle.fl_laws.proofs.Views.{View, made, two, view, part_of, sides_of, back_of, messages, map_kept}
+use Rattle.fl_laws.proofs.Walk.{IsWanted, BeginsRoute, IsHere, with_ring, Keeps}
 
 -- ---- messages on rings
 

@@ -1,19 +1,17 @@
 -- What circuits stand on, apart from all else: each core's table and links, the monitors' messages on each ring, and how
 -- each binding is joined. Most events leave it as it is.
-use Rattle.std.proofs.Common.{◌≡◌, ◌≢◌, refl, sym, ◌∙◌, ap, subst, ℕ, zero, suc, ◌+◌, ◌<◌, ◌≤◌, ◌==◌, nat_lt, not, Bool, true, false, if◌then◌else◌, List, [], ◌∷◌, ◌++◌, length, map, drop, slice_get, slice_set, position, Option, Some, None, option_map, arith, ◌⊎◌, inl, inr}
+use Rattle.std.proofs.Common.{◌≡◌, refl, sym, ◌∙◌, ap, ℕ, zero, suc, ◌+◌, ◌==◌, nat_lt, not, Bool, true, false, if◌then◌else◌, List, [], ◌∷◌, length, map, slice_get, slice_set, position, Option, Some, None, arith}
 use Rattle.std.specs.Prelude.{filter_map}
 use Rattle.std.specs.List.{position_or_len}
 use Rattle.std.proofs.lemmas.Bool.Decides.{nat_tests}
-use Rattle.std.proofs.lemmas.List.Elements.{filter_map-append}
-use Rattle.std.proofs.lemmas.List.{map-append}
 use Rattle.fl_hop.specs.declared.links.LinkState.{LinkState}
-use Rattle.fl_hop.specs.Table.{TheCircuits, link_of}
+use Rattle.fl_hop.specs.Table.{TheCircuits}
 use Rattle.fl_queues.specs.Given.{given, changed_at}
-use Rattle.fl_queues.specs.Rings.{Said, Label, RingLabel, Ring, RingSide, first_side, second_side, RingEnd, Half, puts, takes, looks, makes_sure, read_by, first_for, is_spent, free}
+use Rattle.fl_queues.specs.Rings.{Said, RingLabel, Ring}
 use Rattle.fl_queues.specs.Monitors.{Core, Link, link_to}
 use Rattle.fl_queues.specs.State.{Back, State, Binding, link_between}
 use Rattle.fl_queues.specs.Standing.{labels_of, said_by}
-use Rattle.fl_laws.proofs.Cases.{by_given, either}
+use Rattle.fl_laws.proofs.Cases.{by_given}
 
 -- ---- lists
 
