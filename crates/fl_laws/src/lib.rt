@@ -1,11 +1,14 @@
 //! The laws of the queue machine: what holds of every run, each the contract of a function that does nothing.
 #![tactic(auto)]
 
-ghost use Rattle.std.specs.Prelude.{◌≡◌};
+ghost use Rattle.std.specs.Prelude.{◌≡◌, List};
 ghost use Rattle.fl_queues.specs.Events.{Event};
 ghost use Rattle.fl_queues.specs.State.{State, start};
 ghost use Rattle.fl_queues.specs.Step.{step};
+ghost use Rattle.fl_queues.specs.Runs.{reached};
 ghost use Rattle.fl_queues.specs.Sound.{Sound};
+ghost use Rattle.fl_queues.specs.SoundOpenings.{OpeningsGoInOrder};
+ghost use Rattle.fl_queues.specs.SoundPlaces.{CoresStand, EndsStand, LinksArePaired, RingsHaveOneOwner};
 ghost use Rattle.fl_queues.specs.SoundRings.{RingsCount, RingsFit};
 ghost use Rattle.fl_queues.specs.Laws.{RingsCountInOrder, FewWaitAndOnlyWhereBusy};
 
@@ -30,4 +33,27 @@ pub fn rings_count_in_order()
 /// In every state that a run reaches, at most 16 replies wait at an end, and they wait only while the end is busy.
 pub fn few_replies_wait()
     ensures few { FewWaitAndOnlyWhereBusy }
+{}
+
+/// Each step keeps every link there both ways, over the two sides of one ring, and one owner for each side of a ring.
+pub fn steps_keep_links()
+    ensures kept { (s : State) (v : Event) → CoresStand s → EndsStand s → LinksArePaired s → RingsHaveOneOwner s
+        → LinksArePaired (step s v).state × RingsHaveOneOwner (step s v).state }
+{}
+
+/// In every state that a run reaches, each link is there both ways, and each side of a ring has one owner.
+pub fn links_are_paired()
+    ensures paired { (vs : List Event) → LinksArePaired (reached start vs) × RingsHaveOneOwner (reached start vs) }
+{}
+
+/// Each step keeps the openings of circuits that are under way on each link in order: those that one core has counted and
+/// the other hasn't.
+pub fn steps_keep_openings()
+    ensures kept { (s : State) (v : Event) → CoresStand s → EndsStand s → LinksArePaired s → RingsHaveOneOwner s → OpeningsGoInOrder s
+        → OpeningsGoInOrder (step s v).state }
+{}
+
+/// In every state that a run reaches, the openings under way on each link are in order.
+pub fn openings_go_in_order()
+    ensures order { (vs : List Event) → OpeningsGoInOrder (reached start vs) }
 {}
