@@ -4,5 +4,6 @@ pub mod RingsKept
 pub mod RingsStep
 pub mod Walk
 pub mod Replies
+pub mod EndsStep
 pub mod RepliesStep
 pub mod Start
