@@ -6,4 +6,5 @@ pub mod Walk
 pub mod Replies
 pub mod EndsStep
 pub mod RepliesStep
+pub mod Counted
 pub mod Start

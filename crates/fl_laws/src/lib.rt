@@ -1,11 +1,13 @@
 //! The laws of the queue machine: what holds of every run, each the contract of a function that does nothing.
 #![tactic(auto)]
 
-ghost use Rattle.std.specs.Prelude.{◌≡◌};
+ghost use Rattle.std.specs.Prelude.{◌≡◌, List};
 ghost use Rattle.fl_queues.specs.Events.{Event};
 ghost use Rattle.fl_queues.specs.State.{State, start};
 ghost use Rattle.fl_queues.specs.Step.{step};
+ghost use Rattle.fl_queues.specs.Runs.{reached};
 ghost use Rattle.fl_queues.specs.Sound.{Sound};
+ghost use Rattle.fl_queues.specs.SoundLabels.{WritesAreCounted};
 ghost use Rattle.fl_queues.specs.SoundRings.{RingsCount, RingsFit};
 ghost use Rattle.fl_queues.specs.Laws.{RingsCountInOrder, FewWaitAndOnlyWhereBusy};
 
@@ -30,4 +32,9 @@ pub fn rings_count_in_order()
 /// In every state that a run reaches, at most 16 replies wait at an end, and they wait only while the end is busy.
 pub fn few_replies_wait()
     ensures few { FewWaitAndOnlyWhereBusy }
+{}
+
+/// In every state that a run reaches, all calls of an end but the last are written, and no more fragments than its calls have.
+pub fn writes_are_counted()
+    ensures counted { (vs : List Event) → WritesAreCounted (reached start vs) }
 {}
