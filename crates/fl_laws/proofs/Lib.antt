@@ -8,3 +8,4 @@ pub mod EndsStep
 pub mod RepliesStep
 pub mod Counted
 pub mod Start
+pub mod Told
