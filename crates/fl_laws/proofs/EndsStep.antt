@@ -66,7 +66,7 @@ AllOk Q s = Each (BindingOk Q s.interfaces) s.bindings
 same_interface : (interfaces : List Planned) (n : ℕ) (i j : Planned) → slice_get interfaces n ≡ Some i → slice_get interfaces n ≡ Some j → i ≡ j
 same_interface interfaces n i j p q = let e : Some i ≡ Some j = sym p ∙ q in cc
 
-queue_out : (x : End) (f : Queue → Queue) → (in_queue f x).out ≡ x.out
+pub queue_out : (x : End) (f : Queue → Queue) → (in_queue f x).out ≡ x.out
 queue_out x f = by_given (λ (y : End). y.out ≡ x.out) x.queue x _ refl (λ q r. refl)
 
 get_push : {X : Type 0} (xs : List X) (n : ℕ) (x y : X) → slice_get xs n ≡ Some x → slice_get (xs ++ y ∷ []) n ≡ Some x

@@ -9,3 +9,5 @@ pub mod RepliesStep
 pub mod Counted
 pub mod Start
 pub mod Told
+pub mod Ends
+pub mod Alike
