@@ -1,15 +1,14 @@
 -- What the events that tell of no call leave of an end: whatever is read off its calls stays alike.
-use Rattle.std.proofs.Common.{◌≡◌, refl, sym, ◌∙◌, ap, ℕ, List, Option, Some, None, slice_get, drop}
+use Rattle.std.proofs.Common.{◌≡◌, refl, ◌∙◌, ℕ, Option, Some, None}
 use Rattle.fl_base.specs.declared.identity.EndId.{EndId}
 use Rattle.fl_base.specs.declared.identity.Side.{Side}
 use Rattle.fl_base.specs.declared.identity.Side.TheVariants.{Client, Server}
-use Rattle.fl_queues.specs.Given.{given}
 use Rattle.fl_queues.specs.Events.{DispatcherId}
-use Rattle.fl_queues.specs.Rings.{Label, next_of, says, acknowledges, RingEnd, takes}
-use Rattle.fl_queues.specs.Ends.{Queue, End, unbound_end, joined_by, Direction, passes}
+use Rattle.fl_queues.specs.Rings.{Label, next_of, says, acknowledges, RingEnd}
+use Rattle.fl_queues.specs.Ends.{Queue, End, unbound_end, joined_by}
 use Rattle.fl_queues.specs.Waits.{Dispatcher}
 use Rattle.fl_queues.specs.Monitors.{Heard, no_outbox, astray, opening_went_on, server_made, opening_failed, answer_went_on, end_opened, end_refused}
-use Rattle.fl_queues.specs.State.{Back, Binding, Route, State, end_of, end_in, dispatcher_of, change_end, change_out, change_channel, change_route, seats, binds_end, delivers, in_queue, change_ring}
+use Rattle.fl_queues.specs.State.{Back, Binding, Route, State, end_of, end_in, dispatcher_of, change_end, change_channel, change_route, seats, binds_end, delivers}
 use Rattle.fl_queues.specs.Binding.{Wanted, end_id, with_new_binding, binds_both}
 use Rattle.fl_queues.specs.Taking.{Chosen, finds}
 use Rattle.fl_queues.specs.Forwarding.{follows, takes_said}

@@ -11,3 +11,4 @@ pub mod Start
 pub mod Told
 pub mod Ends
 pub mod Alike
+pub mod Telling
