@@ -332,7 +332,7 @@ module _ (Q : Planned → End → Type 0) (K : EndKeeps Q) where
 
 -- ---- both ends
 
-end_ok : (Q : Planned → End → Type 0) (interfaces : List Planned) (side : Side) (b : Binding) (i : Planned) → slice_get interfaces b.interface ≡ Some i
+pub end_ok : (Q : Planned → End → Type 0) (interfaces : List Planned) (side : Side) (b : Binding) (i : Planned) → slice_get interfaces b.interface ≡ Some i
     → BindingOk Q interfaces b → Q i (end_in side b)
 end_ok Q interfaces Client b i q h = subst (λ (p : Planned). Q p b.client) (same_interface interfaces b.interface h.interface i h.there q) h.client
 end_ok Q interfaces Server b i q h = subst (λ (p : Planned). Q p b.server) (same_interface interfaces b.interface h.interface i h.there q) h.server

@@ -12,3 +12,4 @@ pub mod Told
 pub mod Ends
 pub mod Alike
 pub mod Telling
+pub mod Accepted

@@ -7,7 +7,7 @@ use Rattle.fl_queues.specs.State.{end_in}
 use Rattle.fl_laws.proofs.Replies.{EndOk, station_ok, taken_ok, written_ok, called_ok, replied_ok}
 use Rattle.fl_laws.proofs.EndsStep.{EndKeeps, ends_reached}
 
-same_out : (i : Planned) (x y : End) → y.out ≡ x.out → EndOk i x → EndOk i y
+pub same_out : (i : Planned) (x y : End) → y.out ≡ x.out → EndOk i x → EndOk i y
 same_out i x y e ok = record {
   stations = subst (λ (d : Direction). 2 ≤ length d.passed) (sym e) ok.stations;
   busy = subst (λ (d : Direction). (d.waiting ≡ [] → ⊥) → is_busy i d ≡ true) (sym e) ok.busy;
@@ -23,7 +23,7 @@ fresh_ok i messages stations q a =
     let long = length_replicate stations 0 in
     record { stations = omega arith; busy = λ w. absurd (w refl); few = omega arith }
 
-replies_keep : EndKeeps EndOk
+pub replies_keep : EndKeeps EndOk
 replies_keep = record {
   by_out = same_out;
   fresh = fresh_ok;

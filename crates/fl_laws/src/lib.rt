@@ -9,7 +9,7 @@ ghost use Rattle.fl_queues.specs.Runs.{reached};
 ghost use Rattle.fl_queues.specs.Sound.{Sound};
 ghost use Rattle.fl_queues.specs.SoundLabels.{WritesAreCounted};
 ghost use Rattle.fl_queues.specs.SoundRings.{RingsCount, RingsFit};
-ghost use Rattle.fl_queues.specs.Laws.{RingsCountInOrder, FewWaitAndOnlyWhereBusy};
+ghost use Rattle.fl_queues.specs.Laws.{RingsCountInOrder, FewWaitAndOnlyWhereBusy, AllAccepted};
 
 /// The start is a sound state.
 pub fn start_is_sound()
@@ -37,4 +37,10 @@ pub fn few_replies_wait()
 /// In every state that a run reaches, all calls of an end but the last are written, and no more fragments than its calls have.
 pub fn writes_are_counted()
     ensures counted { (vs : List Event) → WritesAreCounted (reached start vs) }
+{}
+
+/// What an end accepted over a run is the calls that it was asked for and that were accepted, and its replies by rule, merged
+/// in order; these replies, and then those that still wait, are all that fell due.
+pub fn all_accepted()
+    ensures accepted { AllAccepted }
 {}
