@@ -69,7 +69,7 @@ same_interface interfaces n i j p q = let e : Some i ≡ Some j = sym p ∙ q in
 pub queue_out : (x : End) (f : Queue → Queue) → (in_queue f x).out ≡ x.out
 queue_out x f = by_given (λ (y : End). y.out ≡ x.out) x.queue x _ refl (λ q r. refl)
 
-get_push : {X : Type 0} (xs : List X) (n : ℕ) (x y : X) → slice_get xs n ≡ Some x → slice_get (xs ++ y ∷ []) n ≡ Some x
+pub get_push : {X : Type 0} (xs : List X) (n : ℕ) (x y : X) → slice_get xs n ≡ Some x → slice_get (xs ++ y ∷ []) n ≡ Some x
 get_push [] n x y q = absurd (cc)
 get_push (z ∷ xs) zero x y q = q
 get_push (z ∷ xs) (suc n) x y q = get_push xs n x y q
@@ -83,7 +83,7 @@ and_left false b h = absurd (cc)
 at_least : (n : ℕ) → nat_le 2 n ≡ true → 2 ≤ n + 1
 at_least n h = grind (arith, nat_tests, h)
 
-long_route : (cores : List ℕ) (client service : ℕ) (s : State) → is_route cores client service s ≡ true → 2 ≤ length cores + 1
+pub long_route : (cores : List ℕ) (client service : ℕ) (s : State) → is_route cores client service s ≡ true → 2 ≤ length cores + 1
 long_route cores client service s h =
     at_least (length cores) (and_left _ _ (and_left _ _ (and_left _ _ (and_left _ _ (and_left _ _ h)))))
 
@@ -126,7 +126,7 @@ open_side Client Server b h = h
 open_side Server Client b h = h
 open_side Server Server b h = h
 
-interface_side : (by : Side) (f : End → End) (b : Binding) → (with_end_in by f b).interface ≡ b.interface
+pub interface_side : (by : Side) (f : End → End) (b : Binding) → (with_end_in by f b).interface ≡ b.interface
 interface_side Client f b = refl
 interface_side Server f b = refl
 
@@ -151,7 +151,7 @@ station_some : (o : Option ℕ) (n : ℕ) → given o None (λ j. Some (j + 1)) 
 station_some None n h = absurd (cc)
 station_some (Some j) n h = let e : j + 1 ≡ n = cc in omega arith
 
-is_not : (b : Bool) → not b ≡ false → b ≡ true
+pub is_not : (b : Bool) → not b ≡ false → b ≡ true
 is_not true h = refl
 is_not false h = absurd (cc)
 

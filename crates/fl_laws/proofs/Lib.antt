@@ -13,3 +13,4 @@ pub mod Ends
 pub mod Alike
 pub mod Telling
 pub mod Accepted
+pub mod BindingsStep
