@@ -14,3 +14,4 @@ pub mod Alike
 pub mod Telling
 pub mod Accepted
 pub mod BindingsStep
+pub mod Whole

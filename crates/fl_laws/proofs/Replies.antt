@@ -77,7 +77,7 @@ total_push i (d ∷ cs) c =
 at_least_one : (k : ℕ) → 1 ≤ max 1 k
 at_least_one k = omega arith
 
-some_fragments : (i : Planned) (c : TheCall) → 1 ≤ fragments i c
+pub some_fragments : (i : Planned) (c : TheCall) → 1 ≤ fragments i c
 some_fragments i c = at_least_one _
 
 busy_true : (a b : ℕ) → a < b → nat_lt a b ≡ true
