@@ -1,5 +1,5 @@
 -- One end among all: what a change of some end makes of it.
-use Rattle.std.proofs.Common.{◌≡◌, ◌≢◌, refl, sym, ◌∙◌, ap, subst, ℕ, zero, suc, ◌==◌, ◌&&◌, Bool, true, false, List, [], ◌∷◌, ◌++◌, slice_get, slice_set, Option, Some, None}
+use Rattle.std.proofs.Common.{◌≡◌, ◌≢◌, refl, sym, ◌∙◌, ap, subst, ℕ, zero, suc, ◌==◌, ◌&&◌, Bool, true, false, List, [], ◌∷◌, ◌++◌, slice_get, slice_set, Option, Some, None, is_some}
 use Rattle.std.proofs.lemmas.Bool.{eqb-true, eqb-false}
 use Rattle.fl_base.specs.declared.identity.Side.{Side}
 use Rattle.fl_base.specs.declared.identity.Side.TheVariants.{Client, Server}
@@ -141,3 +141,26 @@ has_by false R e f g s q k h = record { end = h.end; there = elsewhere e f g s q
 
 pub has_kept : (R : End → Type 0) (e f : EndId) (g : End → End) (s : State) → ((x : End) → R x → R (g x)) → Has R s e → Has R (change_end f g s) e
 has_kept R e f g s k h = has_by (same_end e f) R e f g s refl k h
+
+none_some : (o : Option End) → is_some o ≡ false → o ≡ None
+none_some None h = refl
+none_some (Some x) h = absurd (cc)
+
+related_by : (o : Option End) (D : Option End → Option End → Type 0) → ((p : Option End) → D p p) → (e : EndId) (g : End → End) (s : State) → end_of s e ≡ o
+    → ((x : End) → end_of s e ≡ Some x → D (Some x) (Some (g x))) → D (end_of s e) (end_of (change_end e g s) e)
+related_by None D r e g s q k =
+    let none : end_of (change_end e g s) e ≡ None = none_some _ (end_alike is_some e e g s (λ x. refl) ∙ ap is_some q) in
+    subst (λ (p : Option End). D (end_of s e) p) (q ∙ sym none) (r (end_of s e))
+related_by (Some x) D r e g s q k =
+    subst (λ (p : Option End). D (end_of s e) p) (sym (here e g s x q)) (subst (λ (p : Option End). D p (Some (g x))) (sym q) (k x q))
+
+related_at : (t : Bool) (D : Option End → Option End → Type 0) → ((p : Option End) → D p p) → (e f : EndId) (g : End → End) (s : State) → same_end e f ≡ t
+    → ((x : End) → end_of s f ≡ Some x → D (Some x) (Some (g x))) → D (end_of s e) (end_of (change_end f g s) e)
+related_at true D r e f g s q k =
+    subst (λ (w : EndId). D (end_of s w) (end_of (change_end f g s) w)) (sym (same_end_true e f q)) (related_by (end_of s f) D r f g s refl k)
+related_at false D r e f g s q k = subst (λ (p : Option End). D (end_of s e) p) (sym (elsewhere e f g s q)) (r (end_of s e))
+
+-- what a change makes of an end is related to it, and it may be another's
+pub end_related : (D : Option End → Option End → Type 0) → ((p : Option End) → D p p) → (e f : EndId) (g : End → End) (s : State)
+    → ((x : End) → end_of s f ≡ Some x → D (Some x) (Some (g x))) → D (end_of s e) (end_of (change_end f g s) e)
+end_related D r e f g s k = related_at (same_end e f) D r e f g s refl k

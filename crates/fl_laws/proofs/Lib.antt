@@ -15,3 +15,4 @@ pub mod Telling
 pub mod Accepted
 pub mod BindingsStep
 pub mod Whole
+pub mod Handled
