@@ -1,5 +1,5 @@
 -- What an end handled: each fragment that is taken is the next of the other end's calls.
-use Rattle.std.proofs.Common.{◌≡◌, ◌≢◌, refl, sym, ◌∙◌, ap, subst, ℕ, zero, suc, ◌+◌, ◌-◌, ◌≤◌, ◌<◌, ◌==◌, ◌&&◌, not, Bool, true, false, if◌then◌else◌, List, [], ◌∷◌, ◌++◌, length, drop, reverse, position, slice_get, slice_index, Option, Some, None, append_assoc, arith}
+use Rattle.std.proofs.Common.{◌≡◌, refl, sym, ◌∙◌, ap, subst, ℕ, zero, suc, ◌+◌, ◌-◌, ◌≤◌, ◌<◌, ◌==◌, ◌&&◌, Bool, true, false, if◌then◌else◌, List, [], ◌∷◌, ◌++◌, length, drop, slice_get, slice_index, Option, Some, None, append_assoc, arith}
 use Rattle.std.specs.Prelude.{Contains}
 use Rattle.std.proofs.lemmas.List.{append-nil, length-reverse, length-drop}
 use Rattle.std.proofs.lemmas.List.Quantifiers.{position-Some}
@@ -12,10 +12,10 @@ use Rattle.fl_value.specs.Value.{TheCall}
 use Rattle.fl_lists.specs.declared.place.Place.TheVariants.{Polled}
 use Rattle.fl_hop.specs.declared.entry.Hop.{Hop}
 use Rattle.fl_queues.specs.Given.{given}
-use Rattle.fl_queues.specs.Events.{Event, call, Answer, accepted, handle, part, quiet}
+use Rattle.fl_queues.specs.Events.{Event, Answer, accepted, handle, quiet}
 use Rattle.fl_queues.specs.Calls.{Planned, total, whole_in}
-use Rattle.fl_queues.specs.Rings.{Label, next_of, says, acknowledges, Ring, RingEnd, RingLabel, there_is_room, takes, first_side, second_side, RingSide, read_by, written_by}
-use Rattle.fl_queues.specs.Ends.{Queue, End, Direction, is_busy, accepts, accepts_or_waits, accepts_waiting, goes_on, passes, taken_of, written_of, last_station, handled, Wrote, writes, writes_by, Taken, whole, a_part, takes_one, comes_to, rule_at, replies, without_first, unbound_end}
+use Rattle.fl_queues.specs.Rings.{Label, next_of, says, acknowledges, Ring, RingEnd, RingLabel, there_is_room, takes, read_by, written_by}
+use Rattle.fl_queues.specs.Ends.{Queue, End, Direction, is_busy, accepts, accepts_or_waits, accepts_waiting, passes, taken_of, written_of, last_station, handled, Wrote, writes, writes_by, Taken, whole, a_part, takes_one, comes_to, rule_at, replies, without_first, unbound_end}
 use Rattle.fl_queues.specs.Waits.{waits_in}
 use Rattle.fl_queues.specs.State.{Back, local, over_ring, over_route, Binding, Route, State, start, Outcome, answers, Outlet, peer_queue, ring_side, end_in, end_of, binding_of, interface_of, change_end, change_out, change_ring, in_queue, place_in, way_of, station_at, own_ring, side_of, first_on}
 use Rattle.fl_queues.specs.Sending.{puts_to, writes_to}
@@ -25,17 +25,18 @@ use Rattle.fl_queues.specs.Step.{step}
 use Rattle.fl_queues.specs.Runs.{same_side, same_end, handled_in, run, reached, calls_handled}
 use Rattle.fl_queues.specs.SoundPlaces.{stations}
 use Rattle.fl_queues.specs.SoundLabels.{LabelsKeepToTheirWays, MayStandFrom, IsOf}
-use Rattle.fl_queues.specs.Standing.{queue_of, ring_from, labels_of}
-use Rattle.fl_queues.specs.Laws.{accepted_by, PassedFalls, HandledIsCounted, HandledIsAPrefix}
-use Rattle.fl_laws.proofs.Cases.{either, by_given, none_at_end, Each}
+use Rattle.fl_queues.specs.Standing.{queue_of, labels_of}
+use Rattle.fl_queues.specs.Laws.{PassedFalls, HandledIsCounted, HandledIsAPrefix}
+use Rattle.fl_value.specs.declared.value.PlanNo.TheVariants.{One}
+use Rattle.fl_laws.proofs.Cases.{either, by_given, none_at_end}
 use Rattle.fl_laws.proofs.EndsStep.{AllOk, BindingOk, all_keep, end_ok, queue_out}
 use Rattle.fl_laws.proofs.Counted.{CountedOk, counts_keep}
 use Rattle.fl_laws.proofs.Walk.{At, IsPassing, step_keeps, run_keeps}
 use Rattle.fl_laws.proofs.Told.{IsPlain, writes_plain}
 use Rattle.fl_laws.proofs.Ends.{end_at, end_alike, end_related, elsewhere, here, same_end_true}
 use Rattle.fl_laws.proofs.Alike.{ReadsCalls, delivered_alike}
-use Rattle.fl_laws.proofs.Telling.{Still, TellsCalls, tells_of, passed_at}
-use Rattle.fl_laws.proofs.BindingsStep.{BindingsKeep, AllShaped, Shaped, StationsOf, all_shaped, bindings_keep, IsBoundTo, bound_keep}
+use Rattle.fl_laws.proofs.Telling.{TellsCalls, tells_of, passed_at}
+use Rattle.fl_laws.proofs.BindingsStep.{AllShaped, Shaped, StationsOf, all_shaped, bindings_keep, IsBoundTo, bound_keep}
 use Rattle.fl_laws.proofs.Whole.{added, whole_prefix, whole_more, whole_grows, taken_stays, taken_grows, none_taken}
 
 -- ---- what is read off an end
@@ -455,3 +456,24 @@ handled_is_counted ways falls vs e b i q r =
     let is : c ≡ b = cc in
     let both : Some k ≡ Some i = sym v ∙ ap (λ (w : Binding). interface_of s w) is ∙ r in cc in
     sym (since e i vs start (ready_start ways falls) same) ∙ ap (λ (o : Option Binding). whole_by i (hands_in (end_at (other e.side) o))) q
+
+no_interface : Planned
+no_interface = record { interface = record { name = []; messages = [] }; plan = One }
+
+prefix_by : (o : Option Binding) (vs : List Event) (e : EndId) → LabelsKeepToTheirWaysAlways → PassedFalls → slice_get (reached start vs).bindings e.binding ≡ o
+    → IsPrefix (calls_handled e (run start vs)) (given (end_at (other e.side) o) [] λ x. x.out.accepted)
+prefix_by None vs e ways falls q =
+    let none : [] ≡ calls_handled e (run start vs) =
+    ap (λ (o : Option Binding). whole_by no_interface (hands_in (end_at (other e.side) o))) (sym q)
+    ∙ since e no_interface vs start (ready_start ways falls) (λ b i u v. absurd (let w : Some b ≡ None = sym u ∙ q in cc)) in
+    ([], none ∙ sym (append-nil (calls_handled e (run start vs))))
+prefix_by (Some b) vs e ways falls q =
+    let s : State = reached start vs in
+    let counted : AllOk CountedOk s = run_keeps (AllOk CountedOk) (all_keep CountedOk counts_keep) vs start (none_at_end (BindingOk CountedOk start.interfaces)) in
+    let at : BindingOk CountedOk s.interfaces b = counted e.binding b q in
+    let d : Direction = (end_in (other e.side) b).out in
+    subst (λ (cs : List TheCall). IsPrefix cs d.accepted) (sym (handled_is_counted ways falls vs e b at.interface q at.there))
+    (whole_prefix at.interface d.accepted (taken_of d))
+
+pub handled_is_a_prefix : LabelsKeepToTheirWaysAlways → PassedFalls → HandledIsAPrefix
+handled_is_a_prefix ways falls vs e = prefix_by (slice_get (reached start vs).bindings e.binding) vs e ways falls refl
