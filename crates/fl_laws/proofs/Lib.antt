@@ -16,3 +16,4 @@ pub mod Accepted
 pub mod BindingsStep
 pub mod Whole
 pub mod Handled
+pub mod SoundCalls
