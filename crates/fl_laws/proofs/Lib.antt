@@ -5,3 +5,5 @@ pub mod RingsStep
 pub mod Walk
 pub mod Replies
 pub mod RepliesStep
+pub mod CoreWalk
+pub mod Outboxes

@@ -6,6 +6,7 @@ ghost use Rattle.fl_queues.specs.Events.{Event};
 ghost use Rattle.fl_queues.specs.State.{State};
 ghost use Rattle.fl_queues.specs.Step.{step};
 ghost use Rattle.fl_queues.specs.SoundRings.{RingsCount, RingsFit};
+ghost use Rattle.fl_queues.specs.SoundLists.{OutboxesHaveRoom};
 ghost use Rattle.fl_queues.specs.Laws.{RingsCountInOrder, FewWaitAndOnlyWhereBusy};
 
 /// Each step keeps the counts of all rings, whatever else the state holds: what a writer knows, what waiting labels tell,
@@ -24,4 +25,10 @@ pub fn rings_count_in_order()
 /// In every state that a run reaches, at most 16 replies wait at an end, and they wait only while the end is busy.
 pub fn few_replies_wait()
     ensures few { FewWaitAndOnlyWhereBusy }
+{}
+
+/// Each step keeps the limit of all outboxes, whatever else the state holds: a monitor has at most 64 messages still to
+/// say on a link.
+pub fn steps_keep_outboxes()
+    ensures kept { (s : State) (v : Event) → OutboxesHaveRoom s → OutboxesHaveRoom (step s v).state }
 {}
