@@ -7,3 +7,5 @@ pub mod Replies
 pub mod RepliesStep
 pub mod CoreWalk
 pub mod Outboxes
+pub mod BindingWalk
+pub mod Queues

@@ -26,7 +26,7 @@ HasRoom link = length link.outbox ≤ 64
 abbrev HaveRoom : Core → Type 0
 HaveRoom k = Each HasRoom k.links
 
-drop_shorter : {X : Type 0} (xs : List X) → length (drop 1 xs) ≤ length xs
+pub drop_shorter : {X : Type 0} (xs : List X) → length (drop 1 xs) ≤ length xs
 drop_shorter [] = omega arith
 drop_shorter (x ∷ xs) = omega arith
 

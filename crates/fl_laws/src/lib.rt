@@ -6,7 +6,7 @@ ghost use Rattle.fl_queues.specs.Events.{Event};
 ghost use Rattle.fl_queues.specs.State.{State};
 ghost use Rattle.fl_queues.specs.Step.{step};
 ghost use Rattle.fl_queues.specs.SoundRings.{RingsCount, RingsFit};
-ghost use Rattle.fl_queues.specs.SoundLists.{OutboxesHaveRoom};
+ghost use Rattle.fl_queues.specs.SoundLists.{QueuesHaveRoom, OutboxesHaveRoom};
 ghost use Rattle.fl_queues.specs.Laws.{RingsCountInOrder, FewWaitAndOnlyWhereBusy};
 
 /// Each step keeps the counts of all rings, whatever else the state holds: what a writer knows, what waiting labels tell,
@@ -31,4 +31,9 @@ pub fn few_replies_wait()
 /// say on a link.
 pub fn steps_keep_outboxes()
     ensures kept { (s : State) (v : Event) → OutboxesHaveRoom s → OutboxesHaveRoom (step s v).state }
+{}
+
+/// Each step keeps the limit of all queues, whatever else the state holds: a queue holds no more labels than it has slots.
+pub fn steps_keep_queues()
+    ensures kept { (s : State) (v : Event) → QueuesHaveRoom s → QueuesHaveRoom (step s v).state }
 {}
