@@ -9,3 +9,4 @@ pub mod CoreWalk
 pub mod Outboxes
 pub mod BindingWalk
 pub mod Queues
+pub mod EndsStanding

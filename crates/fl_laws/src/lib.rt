@@ -5,6 +5,7 @@ ghost use Rattle.std.specs.Prelude.{◌≡◌};
 ghost use Rattle.fl_queues.specs.Events.{Event};
 ghost use Rattle.fl_queues.specs.State.{State};
 ghost use Rattle.fl_queues.specs.Step.{step};
+ghost use Rattle.fl_queues.specs.SoundPlaces.{EndsStand};
 ghost use Rattle.fl_queues.specs.SoundRings.{RingsCount, RingsFit};
 ghost use Rattle.fl_queues.specs.SoundLists.{QueuesHaveRoom, OutboxesHaveRoom};
 ghost use Rattle.fl_queues.specs.Laws.{RingsCountInOrder, FewWaitAndOnlyWhereBusy};
@@ -36,4 +37,10 @@ pub fn steps_keep_outboxes()
 /// Each step keeps the limit of all queues, whatever else the state holds: a queue holds no more labels than it has slots.
 pub fn steps_keep_queues()
     ensures kept { (s : State) (v : Event) → QueuesHaveRoom s → QueuesHaveRoom (step s v).state }
+{}
+
+/// Each step keeps how ends stand, whatever else the state holds: an end's binding has its interface, its direction all
+/// its stations, its rules one for each message, and it has a queue or its binding's ring.
+pub fn steps_keep_ends()
+    ensures kept { (s : State) (v : Event) → EndsStand s → EndsStand (step s v).state }
 {}
