@@ -10,3 +10,4 @@ pub mod Outboxes
 pub mod BindingWalk
 pub mod Queues
 pub mod EndsStanding
+pub mod Bare

@@ -7,7 +7,7 @@ ghost use Rattle.fl_queues.specs.State.{State};
 ghost use Rattle.fl_queues.specs.Step.{step};
 ghost use Rattle.fl_queues.specs.SoundPlaces.{EndsStand};
 ghost use Rattle.fl_queues.specs.SoundRings.{RingsCount, RingsFit};
-ghost use Rattle.fl_queues.specs.SoundLists.{QueuesHaveRoom, OutboxesHaveRoom};
+ghost use Rattle.fl_queues.specs.SoundLists.{QueuesHaveRoom, OutboxesHaveRoom, BareUntilCoresAreSet};
 ghost use Rattle.fl_queues.specs.Laws.{RingsCountInOrder, FewWaitAndOnlyWhereBusy};
 
 /// Each step keeps the counts of all rings, whatever else the state holds: what a writer knows, what waiting labels tell,
@@ -43,4 +43,9 @@ pub fn steps_keep_queues()
 /// its stations, its rules one for each message, and it has a queue or its binding's ring.
 pub fn steps_keep_ends()
     ensures kept { (s : State) (v : Event) → EndsStand s → EndsStand (step s v).state }
+{}
+
+/// Each step keeps what is there while the number of cores may be set: nothing but cores and interfaces.
+pub fn steps_keep_bare()
+    ensures kept { (s : State) (v : Event) → BareUntilCoresAreSet s → BareUntilCoresAreSet (step s v).state }
 {}
