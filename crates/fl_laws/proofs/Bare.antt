@@ -128,7 +128,7 @@ stays_settled s v h = step_keeps IsSettled settled_keep s v h
 
 -- ---- before that
 
-none_of : {X : Type 0} (xs : List X) (n : ℕ) (x : X) → xs ≡ [] → slice_get xs n ≡ Some x → ⊥
+pub none_of : {X : Type 0} (xs : List X) (n : ℕ) (x : X) → xs ≡ [] → slice_get xs n ≡ Some x → ⊥
 none_of xs n x e h =
     let q : None ≡ Some x = sym (ap (λ ys. slice_get ys n) e) ∙ h in
     absurd (cc)

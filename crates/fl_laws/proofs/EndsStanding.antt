@@ -108,12 +108,12 @@ ends_keep = record {
 
 -- ---- as the sound states say it
 
-in_range : {X : Type 0} (xs : List X) (n : ℕ) → IsSome (slice_get xs n) → suc n ≤ length xs
+pub in_range : {X : Type 0} (xs : List X) (n : ℕ) → IsSome (slice_get xs n) → suc n ≤ length xs
 in_range [] n h = absurd (let e : false ≡ true = h in cc)
 in_range (x ∷ xs) zero h = omega arith
 in_range (x ∷ xs) (suc n) h = let ih : suc n ≤ length xs = in_range xs n h in omega arith
 
-there_is : {X : Type 0} (xs : List X) (n : ℕ) → suc n ≤ length xs → IsSome (slice_get xs n)
+pub there_is : {X : Type 0} (xs : List X) (n : ℕ) → suc n ≤ length xs → IsSome (slice_get xs n)
 there_is [] n h = absurd (omega arith)
 there_is (x ∷ xs) zero h = refl
 there_is (x ∷ xs) (suc n) h = there_is xs n (omega arith)

@@ -11,3 +11,4 @@ pub mod BindingWalk
 pub mod Queues
 pub mod EndsStanding
 pub mod Bare
+pub mod Services

@@ -5,7 +5,7 @@ ghost use Rattle.std.specs.Prelude.{◌≡◌};
 ghost use Rattle.fl_queues.specs.Events.{Event};
 ghost use Rattle.fl_queues.specs.State.{State};
 ghost use Rattle.fl_queues.specs.Step.{step};
-ghost use Rattle.fl_queues.specs.SoundPlaces.{EndsStand};
+ghost use Rattle.fl_queues.specs.SoundPlaces.{EndsStand, ServicesStand};
 ghost use Rattle.fl_queues.specs.SoundRings.{RingsCount, RingsFit};
 ghost use Rattle.fl_queues.specs.SoundLists.{QueuesHaveRoom, OutboxesHaveRoom, BareUntilCoresAreSet};
 ghost use Rattle.fl_queues.specs.Laws.{RingsCountInOrder, FewWaitAndOnlyWhereBusy};
@@ -48,4 +48,10 @@ pub fn steps_keep_ends()
 /// Each step keeps what is there while the number of cores may be set: nothing but cores and interfaces.
 pub fn steps_keep_bare()
     ensures kept { (s : State) (v : Event) → BareUntilCoresAreSet s → BareUntilCoresAreSet (step s v).state }
+{}
+
+/// Each step keeps the dispatcher and the interface of each service there, where nothing but cores and interfaces is
+/// there while the number of cores may be set.
+pub fn steps_keep_services()
+    ensures kept { (s : State) (v : Event) → BareUntilCoresAreSet s → ServicesStand s → ServicesStand (step s v).state }
 {}
