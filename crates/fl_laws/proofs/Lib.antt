@@ -12,3 +12,4 @@ pub mod Queues
 pub mod EndsStanding
 pub mod Bare
 pub mod Services
+pub mod Waitsets
