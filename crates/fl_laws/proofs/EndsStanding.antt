@@ -73,7 +73,7 @@ from_grown rs more (over_route route) q a h = h
 grown_stands : (i : Planned) (rs more : ℕ) (back : Back) (x : End) → rs ≤ more → Stands i rs back x → Stands i more back x
 grown_stands i rs more back x a h = record { rules = h.rules; passed = h.passed; queue = from_grown rs more back x.queue a h.queue }
 
-get_push : {X : Type 0} (xs : List X) (n : ℕ) (x y : X) → slice_get xs n ≡ Some x → slice_get (xs ++ y ∷ []) n ≡ Some x
+pub get_push : {X : Type 0} (xs : List X) (n : ℕ) (x y : X) → slice_get xs n ≡ Some x → slice_get (xs ++ y ∷ []) n ≡ Some x
 get_push [] n x y q = absurd (cc)
 get_push (z ∷ xs) zero x y q = q
 get_push (z ∷ xs) (suc n) x y q = get_push xs n x y q

@@ -13,3 +13,5 @@ pub mod EndsStanding
 pub mod Bare
 pub mod Services
 pub mod Waitsets
+pub mod Seating
+pub mod Ready

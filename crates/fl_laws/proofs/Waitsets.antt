@@ -28,7 +28,7 @@ in_push k c xs h =
     ]
 
 -- what stands in a list stood there, or is what was pushed there
-pushed_from : (w : Threads) (c : ℕ) (to place : Place) (k : ℕ) → is_in k (list_at (pushed w c to) place) ≡ true
+pub pushed_from : (w : Threads) (c : ℕ) (to place : Place) (k : ℕ) → is_in k (list_at (pushed w c to) place) ≡ true
     → (is_in k (list_at w place) ≡ true) ⊎ ((c ≡ k) × (place ≡ to))
 pushed_from w c Idle Idle k h = elim (in_push k c w.idle h) [ | inl a ↦ inl a | inr b ↦ inr (b, refl) ]
 pushed_from w c Idle Polled k h = inl h
