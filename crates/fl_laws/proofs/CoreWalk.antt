@@ -43,7 +43,7 @@ each_at_changed C xs m f h k =
     by_given (EachAt C) (slice_get xs m) xs (λ x. slice_set xs m (f x)) h
     (λ x q. each_at_set C xs m (f x) h (k x q (h m x q)))
 
-each_at_fresh : (C : ℕ → Core → Type 0) (a n : ℕ) → ((m : ℕ) → C m (fresh_core m)) → (i : ℕ) (x : Core)
+pub each_at_fresh : (C : ℕ → Core → Type 0) (a n : ℕ) → ((m : ℕ) → C m (fresh_core m)) → (i : ℕ) (x : Core)
     → slice_get (map fresh_core (range_with_len a n)) i ≡ Some x → C (a + i) x
 each_at_fresh C a zero h i x q = absurd (cc)
 each_at_fresh C a (suc n) h zero x q = subst (λ (m : ℕ). C m x) (omega arith) (subst (C a) (let e : fresh_core a ≡ x = cc in e) (h a))

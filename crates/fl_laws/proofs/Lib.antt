@@ -15,3 +15,4 @@ pub mod Services
 pub mod Waitsets
 pub mod Seating
 pub mod Ready
+pub mod WaitsetsStep

@@ -63,7 +63,7 @@ hears_leaves services l (circuit_refused c fault) k =
 
 -- ---- dispatchers stay
 
-abbrev At : List Core → ℕ → ℕ → Option Dispatcher
+abbrev pub At : List Core → ℕ → ℕ → Option Dispatcher
 At cores n place = given (slice_get cores n) None (λ k. slice_get k.dispatchers place)
 
 set_stays : (cores : List Core) (n : ℕ) (k y : Core) (m place : ℕ) → slice_get cores n ≡ Some k → length k.dispatchers ≤ length y.dispatchers
@@ -78,7 +78,7 @@ set_stays (z ∷ cores) zero k y (suc m) place q a h = h
 set_stays (z ∷ cores) (suc n) k y zero place q a h = h
 set_stays (z ∷ cores) (suc n) k y (suc m) place q a h = set_stays cores n k y m place q a h
 
-changed_stays : (cores : List Core) (n : ℕ) (f : Core → Core) (m place : ℕ)
+pub changed_stays : (cores : List Core) (n : ℕ) (f : Core → Core) (m place : ℕ)
     → ((k : Core) → slice_get cores n ≡ Some k → length k.dispatchers ≤ length (f k).dispatchers) → IsSome (At cores m place)
     → IsSome (At (changed_at n f cores) m place)
 changed_stays cores n f m place a h =
