@@ -16,3 +16,4 @@ pub mod Waitsets
 pub mod Seating
 pub mod Ready
 pub mod WaitsetsStep
+pub mod WaitsetsKept

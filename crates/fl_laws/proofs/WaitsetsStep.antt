@@ -73,19 +73,19 @@ off_kept t to s k h =
     (puts_off_stands Polled t.channel to k.dispatcher
     (first_polled k.dispatcher k.dispatcher.lists.pending k.dispatcher.lists.polled t.channel k.due_is) (ap is_some k.end_is)) b)
 
-label_taken : (e : EndId) (i : Planned) (l : Label) (s : State) → AllStand s.cores → AllStand (takes_label e i l s).state.cores
+pub label_taken : (e : EndId) (i : Planned) (l : Label) (s : State) → AllStand s.cores → AllStand (takes_label e i l s).state.cores
 label_taken e i (next_of sender k) s h = by_given (λ (o : Outcome). AllStand o.state.cores) (end_of s sender) _ _ h (λ y r. h)
 label_taken e i (says m) s h = h
 label_taken e i acknowledges s h = h
 
-found_kept : (t : Chosen) (at : RingEnd) (l : Label) (s : State) → IsTurn t (polled t.channel) s → AllStand s.cores → AllStand (finds t at l s).state.cores
+pub found_kept : (t : Chosen) (at : RingEnd) (l : Label) (s : State) → IsTurn t (polled t.channel) s → AllStand s.cores → AllStand (finds t at l s).state.cores
 found_kept t at (next_of e k) s d h = off_kept t Pending s d h
 found_kept t at (says m) s d h = off_kept t Pending s d h
 found_kept t at acknowledges s d h =
     off_kept t Polled (change_ring at.ring (takes at.side) s)
     (record { dispatcher = d.dispatcher; dispatcher_is = d.dispatcher_is; due_is = d.due_is; end_is = d.end_is }) h
 
-written_kept : (e : EndId) (i : Planned) (d : Direction) (o : Outlet) (s : State) → AllStand s.cores → AllStand (writes_to e i d o there_is_room s).state.cores
+pub written_kept : (e : EndId) (i : Planned) (d : Direction) (o : Outlet) (s : State) → AllStand s.cores → AllStand (writes_to e i d o there_is_room s).state.cores
 written_kept e i d peer_queue s h = triggered_kept (peer e) _ h
 written_kept e i d (ring_side on) s h = h
 
@@ -145,7 +145,7 @@ two_sides n h = let u : Server ≡ Client = ap (λ (e : EndId). e.side) h in abs
 
 -- ---- places
 
-places_of : (n : ℕ) (o : Option Dispatcher) (x : Dispatcher) → o ≡ Some x → given o false (has_places n) ≡ true → length x.ends + n ≤ most_ends
+pub places_of : (n : ℕ) (o : Option Dispatcher) (x : Dispatcher) → o ≡ Some x → given o false (has_places n) ≡ true → length x.ends + n ≤ most_ends
 places_of n o x q h =
     let there : has_places n x ≡ true = sym (ap (λ (p : Option Dispatcher). given p false (has_places n)) q) ∙ h in
     enough (length x.ends + n) there
@@ -298,7 +298,7 @@ seat_its s e x seat y a q r u =
     let same : z ≡ y = same_dispatcher_at s seat.dispatcher z y there u in
     subst (λ (v : Dispatcher). slice_get v.ends seat.channel ≡ Some e) same its
 
-ready_unlisted : (s : State) (e : EndId) (x : End) → SeatsAgree s → end_of s e ≡ Some x → has_channel_listed x s ≡ false → Ready e s
+pub ready_unlisted : (s : State) (e : EndId) (x : End) → SeatsAgree s → end_of s e ≡ Some x → has_channel_listed x s ≡ false → Ready e s
 ready_unlisted s e x a q h z seat r its y u =
     let same : x ≡ z = (let v : Some x ≡ Some z = sym q ∙ r in cc) in
     let none : has_channel_listed z s ≡ false = subst (λ (v : End). has_channel_listed v s ≡ false) same h in
@@ -316,7 +316,7 @@ HeardFits s (end_opened e c) = Ready e s
 HeardFits s heard = Unit {0}
 
 -- a core with other circuits and links has its dispatchers
-told_same : (s : State) (n : ℕ) (k z : Core) → core_of s n ≡ Some k → z.dispatchers ≡ k.dispatchers → (d : DispatcherId)
+pub told_same : (s : State) (n : ℕ) (k z : Core) → core_of s n ≡ Some k → z.dispatchers ≡ k.dispatchers → (d : DispatcherId)
     → dispatcher_of (change_core n (λ y. z) s) d ≡ dispatcher_of s d
 told_same s n k z q e d = set_same s.cores n k z q e d.core d.place
   where
@@ -336,7 +336,7 @@ told_same s n k z q e d = set_same s.cores n k z q e d.core d.place
         by_given (λ (ks : List Core). given (slice_get ks m) None (λ j. slice_get j.dispatchers place) ≡ given (slice_get cores m) None (λ j. slice_get j.dispatchers place))
         (slice_get cores n) cores (λ y. slice_set cores n z) refl (λ x r. set_at cores n k z q e m place)
 
-fits_told : (s : State) (n : ℕ) (z : Core) (x : Heard) → ((d : DispatcherId) → dispatcher_of (change_core n (λ y. z) s) d ≡ dispatcher_of s d) → HeardFits s x
+pub fits_told : (s : State) (n : ℕ) (z : Core) (x : Heard) → ((d : DispatcherId) → dispatcher_of (change_core n (λ y. z) s) d ≡ dispatcher_of s d) → HeardFits s x
     → HeardFits (change_core n (λ y. z) s) x
 fits_told s n z no_outbox same h = h
 fits_told s n z astray same h = h
@@ -347,7 +347,7 @@ fits_told s n z (answer_went_on b) same h = h
 fits_told s n z (end_opened e c) same h = λ x seat q r y u. h x seat q r y (sym (same seat.dispatcher) ∙ u)
 fits_told s n z (end_refused e fault) same h = h
 
-heard_kept : (at : RingEnd) (x : Heard) (s : State) → HeardFits s x → AllStand s.cores → AllStand (follows x (takes_said at x s)).state.cores
+pub heard_kept : (at : RingEnd) (x : Heard) (s : State) → HeardFits s x → AllStand s.cores → AllStand (follows x (takes_said at x s)).state.cores
 heard_kept at no_outbox s f h = h
 heard_kept at astray s f h = h
 heard_kept at (opening_went_on n c) s f h = h
