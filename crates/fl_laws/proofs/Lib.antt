@@ -17,3 +17,4 @@ pub mod Seating
 pub mod Ready
 pub mod WaitsetsStep
 pub mod WaitsetsKept
+pub mod Hearing
