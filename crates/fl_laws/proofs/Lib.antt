@@ -17,3 +17,16 @@ pub mod BindingsStep
 pub mod Whole
 pub mod Handled
 pub mod SoundCalls
+pub mod CoreWalk
+pub mod Outboxes
+pub mod BindingWalk
+pub mod Queues
+pub mod EndsStanding
+pub mod Bare
+pub mod Services
+pub mod Waitsets
+pub mod Seating
+pub mod Ready
+pub mod WaitsetsStep
+pub mod WaitsetsKept
+pub mod Hearing

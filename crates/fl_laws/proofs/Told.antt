@@ -52,7 +52,7 @@ use Rattle.fl_queues.specs.State.{Binding, Route, change_out}
 use Rattle.fl_queues.specs.Monitors.{Service, Link}
 use Rattle.fl_lists.specs.declared.place.Place.{Place}
 use Rattle.fl_lists.specs.declared.place.Place.TheVariants.{Pending}
-use Rattle.fl_laws.proofs.Walk.{At, IsWanted, with_ring, BeginsRoute, IsTurn, IsHere, IsPassing}
+use Rattle.fl_laws.proofs.Walk.{IsArriving, At, IsWanted, with_ring, BeginsRoute, IsTurn, IsHere, IsPassing}
 use Rattle.fl_queues.specs.Events.{accepted, handle, nothing}
 use Rattle.fl_queues.specs.Ends.{Direction, Wrote, writes, writes_by}
 use Rattle.fl_queues.specs.Monitors.{Heard, no_outbox, astray, opening_went_on, server_made, opening_failed, answer_went_on, end_opened, end_refused}
@@ -153,7 +153,7 @@ pub record Tells (v : Event) (S P : State → Type 0) (T : Outcome → Type 0) :
   pub passed : (here : LinkEnd) (p : Passing) (first : RingLabel) (route : Route) (hop : Hop) (on : RingEnd) (s : State)
       → IsPassing here p first route hop s → ring_room for_data on s ≡ there_is_room → P s → P (goes_on_by here p on there_is_room s).state
   pub arrived : (here : LinkEnd) (p : Passing) (first : RingLabel) (route : Route) (hop : Hop) (to : EndId) (s : State)
-      → IsPassing here p first route hop s → hop.way ≡ to_end to → P s → P (arrives_by here p to there_is_room s).state
+      → IsPassing here p first route hop s → IsArriving hop to s → P s → P (arrives_by here p to there_is_room s).state
   pub taken : (here : LinkEnd) (first : RingLabel) (s : State) → IsHere here s → first_on here.ring s ≡ Some first
       → first.label ≡ acknowledges → P s → P (change_ring here.ring.ring (takes here.ring.side) s)
 
@@ -413,11 +413,13 @@ module _ (v : Event) (S P : State → Type 0) (T : Outcome → Type 0) (K : Tell
     hop_is = k.hop_is;
   }
 
-  arrived_by_room : (here : LinkEnd) (p : Passing) (first : RingLabel) (route : Route) (hop : Hop) (to : EndId) (r : Room) (s : State)
-      → IsPassing here p first route hop s → hop.way ≡ to_end to → P s → T (arrives_by here p to r s)
-  arrived_by_room here p first route hop to there_is_room s k q h = K.plain _ tt (K.arrived here p first route hop to s k q h)
-  arrived_by_room here p first route hop to no_room s k q h = K.plain _ tt h
-  arrived_by_room here p first route hop to spent s k q h = K.plain _ tt h
+  arrived_by_room : (here : LinkEnd) (p : Passing) (first : RingLabel) (route : Route) (hop : Hop) (to : EndId) (x : End) (y : Queue) (r : Room)
+      (s : State) → IsPassing here p first route hop s → hop.way ≡ to_end to → end_of s to ≡ Some x → x.queue ≡ Some y → queue_room y ≡ r
+      → P s → T (arrives_by here p to r s)
+  arrived_by_room here p first route hop to x y there_is_room s k q t u v h =
+      K.plain _ tt (K.arrived here p first route hop to s k (record { way = q; end = x; end_is = t; queue = y; queue_is = u; room = v }) h)
+  arrived_by_room here p first route hop to x y no_room s k q t u v h = K.plain _ tt h
+  arrived_by_room here p first route hop to x y spent s k q t u v h = K.plain _ tt h
 
   entry_after : (here : LinkEnd) (p : Passing) (first : RingLabel) (route : Route) (hop : Hop) (k : Core) (way : Way) (s : State)
       → IsPassing here p first route hop s → hop.way ≡ way → P s → T (follows_entry here p k way s)
@@ -427,7 +429,7 @@ module _ (v : Event) (S P : State → Type 0) (T : Outcome → Type 0) (K : Tell
       (ring_makes_sure for_data link.ring s) refl (sure_passing here p first route hop link.ring s j) (K.sure for_data link.ring s h))
   entry_after here p first route hop k (to_end to) s j q h =
       by_given T (end_of s to) _ _ (K.plain _ tt h)
-      (λ x r. by_given T x.queue _ _ (K.plain _ tt h) (λ y t. arrived_by_room here p first route hop to (queue_room y) s j q h))
+      (λ x r. by_given T x.queue _ _ (K.plain _ tt h) (λ y t. arrived_by_room here p first route hop to x y (queue_room y) s j q r t refl h))
 
   call_label_after : (here : LinkEnd) (e : EndId) (number : ℕ) (first : RingLabel) (s : State) → IsHere here s
       → first_on here.ring s ≡ Some first → first.label ≡ next_of e number → P s → T (forwards_call here e number s)

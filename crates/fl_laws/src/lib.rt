@@ -7,8 +7,10 @@ ghost use Rattle.fl_queues.specs.State.{State, start};
 ghost use Rattle.fl_queues.specs.Step.{step};
 ghost use Rattle.fl_queues.specs.Runs.{reached};
 ghost use Rattle.fl_queues.specs.Sound.{Sound};
+ghost use Rattle.fl_queues.specs.SoundPlaces.{EndsStand, ServicesStand};
 ghost use Rattle.fl_queues.specs.SoundLabels.{WritesAreCounted};
 ghost use Rattle.fl_queues.specs.SoundRings.{RingsCount, RingsFit};
+ghost use Rattle.fl_queues.specs.SoundLists.{QueuesHaveRoom, OutboxesHaveRoom, BareUntilCoresAreSet};
 ghost use Rattle.fl_queues.specs.Laws.{RingsCountInOrder, FewWaitAndOnlyWhereBusy, AllAccepted};
 
 /// The start is a sound state.
@@ -43,4 +45,32 @@ pub fn writes_are_counted()
 /// in order; these replies, and then those that still wait, are all that fell due.
 pub fn all_accepted()
     ensures accepted { AllAccepted }
+{}
+
+/// Each step keeps the limit of all outboxes, whatever else the state holds: a monitor has at most 64 messages still to
+/// say on a link.
+pub fn steps_keep_outboxes()
+    ensures kept { (s : State) (v : Event) → OutboxesHaveRoom s → OutboxesHaveRoom (step s v).state }
+{}
+
+/// Each step keeps the limit of all queues, whatever else the state holds: a queue holds no more labels than it has slots.
+pub fn steps_keep_queues()
+    ensures kept { (s : State) (v : Event) → QueuesHaveRoom s → QueuesHaveRoom (step s v).state }
+{}
+
+/// Each step keeps how ends stand, whatever else the state holds: an end's binding has its interface, its direction all
+/// its stations, its rules one for each message, and it has a queue or its binding's ring.
+pub fn steps_keep_ends()
+    ensures kept { (s : State) (v : Event) → EndsStand s → EndsStand (step s v).state }
+{}
+
+/// Each step keeps what is there while the number of cores may be set: nothing but cores and interfaces.
+pub fn steps_keep_bare()
+    ensures kept { (s : State) (v : Event) → BareUntilCoresAreSet s → BareUntilCoresAreSet (step s v).state }
+{}
+
+/// Each step keeps the dispatcher and the interface of each service there, where nothing but cores and interfaces is
+/// there while the number of cores may be set.
+pub fn steps_keep_services()
+    ensures kept { (s : State) (v : Event) → BareUntilCoresAreSet s → ServicesStand s → ServicesStand (step s v).state }
 {}
