@@ -1,5 +1,5 @@
 -- Writes are counted: all calls of an end but the last are written, and no more than the calls have.
-use Rattle.std.proofs.Common.{◌≡◌, refl, sym, subst, ℕ, zero, suc, ◌+◌, ◌≤◌, ◌<◌, true, false, List, [], ◌∷◌, ◌++◌, length, Option, arith}
+use Rattle.std.proofs.Common.{◌≡◌, refl, sym, subst, ℕ, zero, suc, ◌+◌, ◌≤◌, ◌<◌, true, false, List, [], ◌∷◌, ◌++◌, length, Option, arith, slice_index, replicate}
 use Rattle.fl_value.specs.Value.{TheCall}
 use Rattle.fl_queues.specs.Events.{Event, nothing}
 use Rattle.fl_queues.specs.Calls.{Planned, fragments, total, last_count}
@@ -86,7 +86,7 @@ replied_ok i a_part x h = h
 replied_ok i (whole c) x h =
     by_given (CountedOk i) (rule_at x.rules c.msg) x _ h (λ msg r. reply_ok i (record { msg = msg; args = c.args }) x.out h)
 
-zero_first : (n : ℕ) → Rattle.std.specs.Prelude.slice_index (Rattle.std.specs.Prelude.replicate n 0) 0 ≡ 0
+zero_first : (n : ℕ) → slice_index (replicate n 0) 0 ≡ 0
 zero_first zero = refl
 zero_first (suc n) = refl
 

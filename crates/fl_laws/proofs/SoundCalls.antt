@@ -72,19 +72,10 @@ said_after Q K s v h e b i q r =
 
 -- ---- parts of soundness
 
-counted_ok : (s : State) → Sound s → AllOk CountedOk s
-counted_ok s h = all_by CountedOk s h.ends h.routes (λ e b i q r two. record { stations = two; counted = h.counted e b i q r })
-
-pub counted_after : (s : State) (v : Event) → Sound s → WritesAreCounted (step s v).state
-counted_after s v h e b i q r = (said_after CountedOk counts_keep s v (counted_ok s h) e b i q r).counted
-
-waiting_ok : (s : State) → Sound s → AllOk EndOk s
-waiting_ok s h =
-    all_by EndOk s h.ends h.routes
-    (λ e b i q r two. record { stations = two; busy = h.busy e b i q r; few = h.waiting e (end_in e.side b) (ap (end_at e.side) q) })
-
-pub busy_after : (s : State) (v : Event) → Sound s → RepliesWaitWhereBusy (step s v).state
-busy_after s v h e b i q r = (said_after EndOk replies_keep s v (waiting_ok s h) e b i q r).busy
+pub counted_after : (s : State) (v : Event) → EndsStand s → RoutesLead s → WritesAreCounted s → WritesAreCounted (step s v).state
+counted_after s v ends routes h e b i q r =
+    let all : AllOk CountedOk s = all_by CountedOk s ends routes (λ f c j u w two. record { stations = two; counted = h f c j u w }) in
+    (said_after CountedOk counts_keep s v all e b i q r).counted
 
 few_by : (o : Option Binding) (t : State) (e : EndId) (x : End) → slice_get t.bindings e.binding ≡ o → end_at e.side o ≡ Some x → AllOk EndOk t
     → length x.out.waiting ≤ 16
@@ -94,10 +85,14 @@ few_by (Some b) t e x q r h =
     let at : BindingOk EndOk t.interfaces b = h e.binding b q in
     subst (λ (y : End). length y.out.waiting ≤ 16) is (end_ok EndOk t.interfaces e.side b at.interface at.there at).few
 
-pub few_after : (s : State) (v : Event) → Sound s → FewRepliesWait (step s v).state
-few_after s v h e x q =
+pub waiting_after : (s : State) (v : Event) → EndsStand s → RoutesLead s → FewRepliesWait s → RepliesWaitWhereBusy s
+    → FewRepliesWait (step s v).state × RepliesWaitWhereBusy (step s v).state
+waiting_after s v ends routes few busy =
     let t : State = (step s v).state in
-    few_by (slice_get t.bindings e.binding) t e x refl q (step_keeps (AllOk EndOk) (all_keep EndOk replies_keep) s v (waiting_ok s h))
+    let before : AllOk EndOk s = all_by EndOk s ends routes
+    (λ e b i q r two. record { stations = two; busy = busy e b i q r; few = few e (end_in e.side b) (ap (end_at e.side) q) }) in
+    let all : AllOk EndOk t = step_keeps (AllOk EndOk) (all_keep EndOk replies_keep) s v before in
+    ((λ e x q. few_by (slice_get t.bindings e.binding) t e x refl q all), (λ e b i q r. (said_after EndOk replies_keep s v before e b i q r).busy))
 
 -- ---- the laws of calls, of runs whose states are sound
 

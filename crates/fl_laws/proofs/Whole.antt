@@ -3,7 +3,7 @@ use Rattle.std.proofs.Common.{◌≡◌, ◌≢◌, refl, sym, ◌∙◌, ap, su
 use Rattle.std.proofs.lemmas.Bool.Decides.{nat_tests}
 use Rattle.fl_base.specs.Prefix.{IsPrefix}
 use Rattle.fl_value.specs.Value.{TheCall}
-use Rattle.fl_queues.specs.Given.{changed_at}
+use Rattle.fl_queues.specs.Given.{given, changed_at}
 use Rattle.fl_queues.specs.Calls.{Planned, fragments, total, whole_in}
 use Rattle.fl_queues.specs.Ends.{Direction, passes, takes_one, taken_of, last_station}
 use Rattle.fl_laws.proofs.Cases.{either, by_given}
@@ -112,7 +112,7 @@ none_there (x ∷ xs) zero h q = absurd (cc)
 none_there (x ∷ xs) (suc n) h q = none_there xs n (omega arith) q
 
 index_by : (o : Option ℕ) (xs : List ℕ) (n : ℕ) → slice_get xs n ≡ o → n < length xs
-    → slice_index (Rattle.fl_queues.specs.Given.given o xs (λ x. slice_set xs n (x + 1))) n ≡ slice_index xs n + 1
+    → slice_index (given o xs (λ x. slice_set xs n (x + 1))) n ≡ slice_index xs n + 1
 index_by None xs n q h = absurd (none_there xs n h q)
 index_by (Some x) xs n q h =
     let is = index_set xs n x (x + 1) q in

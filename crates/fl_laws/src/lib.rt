@@ -8,9 +8,10 @@ ghost use Rattle.fl_queues.specs.Step.{step};
 ghost use Rattle.fl_queues.specs.Runs.{reached};
 ghost use Rattle.fl_queues.specs.Sound.{Sound};
 ghost use Rattle.fl_queues.specs.SoundPlaces.{EndsStand, ServicesStand};
+ghost use Rattle.fl_queues.specs.SoundRoutes.{RoutesLead};
 ghost use Rattle.fl_queues.specs.SoundLabels.{WritesAreCounted};
 ghost use Rattle.fl_queues.specs.SoundRings.{RingsCount, RingsFit};
-ghost use Rattle.fl_queues.specs.SoundLists.{QueuesHaveRoom, OutboxesHaveRoom, BareUntilCoresAreSet};
+ghost use Rattle.fl_queues.specs.SoundLists.{FewRepliesWait, RepliesWaitWhereBusy, QueuesHaveRoom, OutboxesHaveRoom, BareUntilCoresAreSet};
 ghost use Rattle.fl_queues.specs.Laws.{RingsCountInOrder, FewWaitAndOnlyWhereBusy, AllAccepted};
 
 /// The start is a sound state.
@@ -39,6 +40,19 @@ pub fn few_replies_wait()
 /// In every state that a run reaches, all calls of an end but the last are written, and no more fragments than its calls have.
 pub fn writes_are_counted()
     ensures counted { (vs : List Event) → WritesAreCounted (reached start vs) }
+{}
+
+/// Each step keeps the counts of all writes, where ends stand and routes lead: all calls of an end but the last are written,
+/// and no more fragments than its calls have.
+pub fn steps_keep_writes_counted()
+    ensures kept { (s : State) (v : Event) → EndsStand s → RoutesLead s → WritesAreCounted s → WritesAreCounted (step s v).state }
+{}
+
+/// Each step keeps what is said of replies that wait, where ends stand and routes lead: at most 16 wait at an end, and they
+/// wait only while the end is busy.
+pub fn steps_keep_waiting_replies()
+    ensures kept { (s : State) (v : Event) → EndsStand s → RoutesLead s → FewRepliesWait s → RepliesWaitWhereBusy s
+        → FewRepliesWait (step s v).state × RepliesWaitWhereBusy (step s v).state }
 {}
 
 /// What an end accepted over a run is the calls that it was asked for and that were accepted, and its replies by rule, merged
