@@ -9,10 +9,10 @@ ghost use Rattle.fl_queues.specs.Runs.{reached};
 ghost use Rattle.fl_queues.specs.Sound.{Sound};
 ghost use Rattle.fl_queues.specs.SoundPlaces.{EndsStand, ServicesStand};
 ghost use Rattle.fl_queues.specs.SoundRoutes.{RoutesLead};
-ghost use Rattle.fl_queues.specs.SoundLabels.{WritesAreCounted};
+ghost use Rattle.fl_queues.specs.SoundLabels.{LabelsKeepToTheirWays, WritesAreCounted};
 ghost use Rattle.fl_queues.specs.SoundRings.{RingsCount, RingsFit};
 ghost use Rattle.fl_queues.specs.SoundLists.{FewRepliesWait, RepliesWaitWhereBusy, QueuesHaveRoom, OutboxesHaveRoom, BareUntilCoresAreSet};
-ghost use Rattle.fl_queues.specs.Laws.{RingsCountInOrder, FewWaitAndOnlyWhereBusy, AllAccepted};
+ghost use Rattle.fl_queues.specs.Laws.{RingsCountInOrder, FewWaitAndOnlyWhereBusy, AllAccepted, PassedFalls, HandledIsCounted, HandledIsAPrefix};
 
 /// The start is a sound state.
 pub fn start_is_sound()
@@ -87,4 +87,16 @@ pub fn steps_keep_bare()
 /// there while the number of cores may be set.
 pub fn steps_keep_services()
     ensures kept { (s : State) (v : Event) → BareUntilCoresAreSet s → ServicesStand s → ServicesStand (step s v).state }
+{}
+
+/// Where in every state that a run reaches labels keep to their ways and numbers passed don't rise, the calls that an end
+/// handled are those that the fragments taken make whole.
+pub fn handled_is_counted_where_labels_keep_to_their_ways()
+    ensures counted { ((vs : List Event) → LabelsKeepToTheirWays (reached start vs)) → PassedFalls → HandledIsCounted }
+{}
+
+/// Where in every state that a run reaches labels keep to their ways and numbers passed don't rise, the calls that an end
+/// handled are a prefix of those that were accepted at the other, in order, with equal arguments.
+pub fn handled_is_a_prefix_where_labels_keep_to_their_ways()
+    ensures prefix { ((vs : List Event) → LabelsKeepToTheirWays (reached start vs)) → PassedFalls → HandledIsAPrefix }
 {}
