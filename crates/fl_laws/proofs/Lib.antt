@@ -30,3 +30,4 @@ pub mod Ready
 pub mod WaitsetsStep
 pub mod WaitsetsKept
 pub mod Hearing
+pub mod LabelQueues
