@@ -1,59 +1,49 @@
 -- In a queue stand labels of the other end's calls alone: each event keeps it, where a fragment that comes off a circuit
 -- comes to the other end.
-use Rattle.std.proofs.Common.{◌≡◌, refl, sym, ◌∙◌, subst, ℕ, ◌+◌, ◌≤◌}
+use Rattle.std.proofs.Common.{◌≡◌, refl, sym, ◌∙◌, subst, ℕ, ◌+◌}
 use Rattle.std.proofs.Common.{List, [], ◌∷◌, length, slice_get}
 use Rattle.std.proofs.Common.{Option, Some, None, arith}
 use Rattle.fl_base.specs.declared.identity.EndId.{EndId}
 use Rattle.fl_base.specs.declared.identity.Side.TheVariants.{Client, Server}
 use Rattle.fl_base.specs.Ends.{other, peer}
-use Rattle.fl_value.specs.Value.{TheCall}
 use Rattle.fl_queues.specs.Events.{DispatcherId}
 use Rattle.fl_queues.specs.Calls.{Planned}
 use Rattle.fl_queues.specs.Rings.{Label, next_of, says, acknowledges, RingEnd, there_is_room}
-use Rattle.fl_queues.specs.Ends.{Queue, fresh_queue, without_first, End, Taken, comes_to, is_busy}
+use Rattle.fl_queues.specs.Ends.{Queue, fresh_queue, without_first, End, Taken, comes_to}
 use Rattle.fl_queues.specs.Waits.{Dispatcher}
 use Rattle.fl_queues.specs.Monitors.{Heard, no_outbox, astray, opening_went_on, server_made, opening_failed}
 use Rattle.fl_queues.specs.Monitors.{answer_went_on, end_opened, end_refused, hears}
 use Rattle.fl_queues.specs.State.{Back, local, over_ring, State, Outcome, Outlet, peer_queue, ring_side}
 use Rattle.fl_queues.specs.State.{change_core, change_end, change_route, seats}
-use Rattle.fl_queues.specs.State.{delivers, dispatcher_of, interface_of, end_of, end_in, in_queue}
-use Rattle.fl_queues.specs.Making.{with_interface}
+use Rattle.fl_queues.specs.State.{delivers, dispatcher_of, end_of, end_in, in_queue}
 use Rattle.fl_queues.specs.Binding.{Wanted, end_id, with_new_binding, binds_both}
 use Rattle.fl_queues.specs.Sending.{writes_to}
 use Rattle.fl_queues.specs.Taking.{Chosen, takes_label, finds}
 use Rattle.fl_queues.specs.Forwarding.{follows, takes_said, label_of}
 use Rattle.fl_laws.proofs.Cases.{by_given, each_push}
-use Rattle.std.proofs.Common.{slice_set, zero}
+use Rattle.std.proofs.Common.{zero}
 use Rattle.fl_base.specs.declared.identity.Side.{Side}
-use Rattle.fl_queues.specs.Given.{changed_at}
 use Rattle.fl_queues.specs.Monitors.{Hearing}
 use Rattle.fl_queues.specs.Binding.{arrival_queue}
 use Rattle.std.proofs.Common.{suc}
 use Rattle.fl_queues.specs.State.{binds_end}
 use Rattle.fl_queues.specs.State.{Binding, Route, change_out, change_channel, with_end_in}
 use Rattle.fl_queues.specs.Ends.{accepts, writes, with_rule, passes, takes_one, replies}
-use Rattle.fl_laws.proofs.Cases.{Each, each_changed}
-use Rattle.fl_laws.proofs.Walk.{with_ring, Keeps}
+use Rattle.fl_laws.proofs.Cases.{Each}
+use Rattle.fl_laws.proofs.Walk.{with_ring}
 use Rattle.fl_base.specs.declared.identity.EndId.{EndId}
 use Rattle.fl_queues.specs.Forwarding.{with_number, grants, denies, passes_word}
-use Rattle.fl_queues.specs.Ends.{accepts_or_waits, accepts_waiting, rule_at, whole, a_part, Wrote, writes_by, last_station}
+use Rattle.fl_queues.specs.Ends.{rule_at, whole, a_part}
 use Rattle.fl_queues.specs.SoundPlaces.{stations}
-use Rattle.fl_queues.specs.Events.{nothing}
-use Rattle.fl_queues.specs.State.{over_route, undecided}
-use Rattle.fl_laws.proofs.Cases.{either}
-use Rattle.fl_laws.proofs.Replies.{length_changed}
-use Rattle.fl_laws.proofs.EndsStep.{queue_out, long_route, is_not, get_push, interface_side}
-use Rattle.fl_laws.proofs.RepliesStep.{length_replicate}
 use Rattle.fl_queues.specs.State.{in_route}
 use Rattle.fl_queues.specs.Ends.{joined_by, Direction}
-use Rattle.std.proofs.Common.{ap, ◌∙◌, sym, replicate}
-use Rattle.std.proofs.Common.{slice_index, ◌<◌, drop}
+use Rattle.std.proofs.Common.{ap, ◌∙◌, sym}
+use Rattle.std.proofs.Common.{◌<◌, drop}
 use Rattle.fl_queues.specs.Given.{given}
 use Rattle.fl_queues.specs.Ends.{written_of}
 use Rattle.fl_queues.specs.State.{change_ring}
 use Rattle.fl_queues.specs.Events.{Event}
 use Rattle.std.specs.Prelude.{Contains, slice_index_or}
-use Rattle.std.proofs.lemmas.List.{length-append}
 use Rattle.fl_hop.specs.declared.entry.Hop.{Hop}
 use Rattle.fl_queues.specs.Rings.{RingLabel, looks, takes}
 use Rattle.fl_queues.specs.State.{ring_makes_sure}
