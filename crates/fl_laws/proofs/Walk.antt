@@ -113,302 +113,316 @@ pub record IsPassing (here : LinkEnd) (p : Passing) (first : RingLabel) (route :
   pub number_is : number_between here.neighbour here.core route ≡ Some number
   pub hop_is : hop_at core.circuits here.link number ≡ Some hop
 
+-- an entry leads to an end, in whose queue there is room
+pub record IsArriving (hop : Hop) (to : EndId) (s : State) : Type 0 where
+  pub way : hop.way ≡ to_end to
+  pub end : End
+  pub end_is : end_of s to ≡ Some end
+  pub queue : Queue
+  pub queue_is : end.queue ≡ Some queue
+  pub room : queue_room queue ≡ there_is_room
+
 -- ---- what is to be shown of a predicate
 
-pub record Keeps (P : State → Type 0) : Type 0 where
+-- from a state of which P holds, each update leads to one of which Q holds; what only looks keeps P
+pub record KeepsFrom (P Q : State → Type 0) : Type 0 where
   -- making
-  pub settled : (s : State) → P s → P (record s { may_set_cores = false })
-  pub interface : (i : Planned) (s : State) → has_interface i.interface.name s ≡ false → P s → P (with_interface i s)
-  pub cores : (n : ℕ) (s : State) → not s.may_set_cores ≡ false → P s → P (record s { cores = map fresh_core (range_with_len 0 n) })
+  pub settled : (s : State) → Q s → Q (record s { may_set_cores = false })
+  pub interface : (i : Planned) (s : State) → has_interface i.interface.name s ≡ false → P s → Q (with_interface i s)
+  pub cores : (n : ℕ) (s : State) → not s.may_set_cores ≡ false → P s → Q (record s { cores = map fresh_core (range_with_len 0 n) })
   pub link : (a b size : ℕ) (s : State) → not (is_core a s && is_core b s) || (a == b) || has_link a b s ≡ false
-      → is_ring_size size ≡ true → P s → P (with_new_link a b size s)
-  pub dispatcher : (core : ℕ) (s : State) → P s → P (change_core core with_dispatcher s)
+      → is_ring_size size ≡ true → P s → Q (with_new_link a b size s)
+  pub dispatcher : (core : ℕ) (s : State) → P s → Q (change_core core with_dispatcher s)
   pub service : (x : Service) (s : State) (d : Dispatcher) (i : Planned) → dispatcher_of s x.dispatcher ≡ Some d
-      → slice_get s.interfaces x.interface ≡ Some i → has_service x.name s ≡ false → P s → P (with_service x s)
+      → slice_get s.interfaces x.interface ≡ Some i → has_service x.name s ≡ false → P s → Q (with_service x s)
   -- bindings
   pub queues : (w : Wanted) (i : Planned) (slots : ℕ) (s : State) → IsWanted w i s → not (has_both_places w s) ≡ false → P s
-      → P (binds_both (length s.bindings) w (with_new_binding w local 2 (Some (fresh_queue slots)) s))
+      → Q (binds_both (length s.bindings) w (with_new_binding w local 2 (Some (fresh_queue slots)) s))
   pub ring : (w : Wanted) (i : Planned) (size : ℕ) (s : State) → IsWanted w i s → is_ring_size size ≡ true
       → not (has_both_places w s) ≡ false → P s
-      → P (binds_both (length s.bindings) w (with_new_binding w (over_ring (length s.rings)) 2 None (with_ring size s)))
+      → Q (binds_both (length s.bindings) w (with_new_binding w (over_ring (length s.rings)) 2 None (with_ring size s)))
   pub route : (w : Wanted) (i : Planned) (cores : List ℕ) (k : Core) (l c : ℕ) (s : State) → IsWanted w i s
-      → BeginsRoute w cores k l c s → P s → P (with_circuit_begun w cores (length s.bindings) l c s)
+      → BeginsRoute w cores k l c s → P s → Q (with_circuit_begun w cores (length s.bindings) l c s)
   -- sending
   pub called : (e : EndId) (c : TheCall) (b : Binding) (i : Planned) (s : State) → At s e b i
-      → is_busy i (end_in e.side b).out ≡ false → P s → P (change_out e (accepts c) s)
+      → is_busy i (end_in e.side b).out ≡ false → P s → Q (change_out e (accepts c) s)
   pub sure : (need : ℕ) (at : RingEnd) (s : State) → P s → P (ring_makes_sure need at s)
   pub looked : (at : RingEnd) (s : State) → P s → P (change_ring at.ring (looks at.side) s)
   pub written : (e : EndId) (b : Binding) (i : Planned) (o : Outlet) (s : State) → At s e b i
       → not (is_bound (end_in e.side b)) ≡ false → not (is_busy i (end_in e.side b).out) ≡ false
       → outlet_by s e.side b.back ≡ Some o → outlet_room e o s ≡ there_is_room → P s
-      → P (writes_to e i (end_in e.side b).out o there_is_room s).state
+      → Q (writes_to e i (end_in e.side b).out o there_is_room s).state
   -- a turn
   pub held : (t : Chosen) (b : Binding) (i : Planned) (s : State) → IsTurn t (pending t.channel) s → At s t.end b i
-      → holds_back (end_in t.end.side b) ≡ true → P s → P (goes_back t Pending s)
-  pub no_label : (t : Chosen) (to : Place) (s : State) → IsTurn t (pending t.channel) s → P s → P (goes_back t to s)
+      → holds_back (end_in t.end.side b) ≡ true → P s → Q (goes_back t Pending s)
+  pub no_label : (t : Chosen) (to : Place) (s : State) → IsTurn t (pending t.channel) s → P s → Q (goes_back t to s)
   pub from_queue : (t : Chosen) (b : Binding) (i : Planned) (q : Queue) (label : Label) (s : State) → IsTurn t (pending t.channel) s
       → At s t.end b i → holds_back (end_in t.end.side b) ≡ false → (end_in t.end.side b).queue ≡ Some q
       → slice_get q.labels 0 ≡ Some label → P s
-      → P (takes_label t.end i label (goes_back t (waits_in (Some (without_first q))) (change_end t.end (in_queue without_first) s))).state
+      → Q (takes_label t.end i label (goes_back t (waits_in (Some (without_first q))) (change_end t.end (in_queue without_first) s))).state
   pub from_ring : (t : Chosen) (b : Binding) (i : Planned) (at : RingEnd) (first : RingLabel) (s : State) → IsTurn t (pending t.channel) s
       → At s t.end b i → holds_back (end_in t.end.side b) ≡ false → own_ring t.end.side b.back ≡ Some at → first_on at s ≡ Some first → P s
-      → P (takes_label t.end i first.label (goes_back t Polled (change_ring at.ring (takes at.side) s))).state
-  pub found_none : (t : Chosen) (s : State) → IsTurn t (polled t.channel) s → P s → P (comes_off t Polled s)
+      → Q (takes_label t.end i first.label (goes_back t Polled (change_ring at.ring (takes at.side) s))).state
+  pub found_none : (t : Chosen) (s : State) → IsTurn t (polled t.channel) s → P s → Q (comes_off t Polled s)
   pub found : (t : Chosen) (b : Binding) (at : RingEnd) (first : RingLabel) (s : State) → IsTurn t (polled t.channel) s
       → binding_of s t.end ≡ Some b → own_ring t.end.side b.back ≡ Some at → first_on at s ≡ Some first → P s
-      → P (finds t at first.label (change_ring at.ring (looks at.side) s)).state
+      → Q (finds t at first.label (change_ring at.ring (looks at.side) s)).state
   -- what an end says of itself
   pub acknowledged : (at : RingEnd) (s : State) → ring_room for_acknowledgement at s ≡ there_is_room → P s
-      → P (change_ring at.ring (puts at.side acknowledges) s)
+      → Q (change_ring at.ring (puts at.side acknowledges) s)
   pub registered : (e : EndId) (x : End) (s : State) → end_of s e ≡ Some x → not (is_bound x) ≡ false → has_channel_listed x s ≡ false
-      → P s → P (registers_end e s)
+      → P s → Q (registers_end e s)
   pub deregistered : (e : EndId) (x : End) (s : State) → end_of s e ≡ Some x → not (is_bound x) ≡ false → P s
-      → P (change_channel e (λ c y. deregisters c) s)
+      → Q (change_channel e (λ c y. deregisters c) s)
   pub ruled : (e : EndId) (msg answer : ℕ) (b : Binding) (i : Planned) (s : State) → At s e b i → P s
-      → P (change_end e (with_rule msg answer) s)
+      → Q (change_end e (with_rule msg answer) s)
   -- links
   pub monitor_written : (here : LinkEnd) (link : Link) (m : Said) (s : State) (k : IsHere here s)
       → link_between s k.core k.neighbour ≡ Some link → slice_get link.outbox 0 ≡ Some m
-      → ring_room for_data here.ring s ≡ there_is_room → P s → P (monitor_writes_by here m there_is_room s).state
+      → ring_room for_data here.ring s ≡ there_is_room → P s → Q (monitor_writes_by here m there_is_room s).state
   pub heard : (here : LinkEnd) (m : Said) (first : RingLabel) (k : Core) (s : State) → IsHere here s → first_on here.ring s ≡ Some first
-      → first.label ≡ says m → core_of s here.core ≡ Some k → P s → P (after_hearing here (hears s.services here.link m k) s).state
+      → first.label ≡ says m → core_of s here.core ≡ Some k → P s → Q (after_hearing here (hears s.services here.link m k) s).state
   pub passed : (here : LinkEnd) (p : Passing) (first : RingLabel) (route : Route) (hop : Hop) (on : RingEnd) (s : State)
-      → IsPassing here p first route hop s → ring_room for_data on s ≡ there_is_room → P s → P (goes_on_by here p on there_is_room s).state
+      → IsPassing here p first route hop s → ring_room for_data on s ≡ there_is_room → P s → Q (goes_on_by here p on there_is_room s).state
   pub arrived : (here : LinkEnd) (p : Passing) (first : RingLabel) (route : Route) (hop : Hop) (to : EndId) (s : State)
-      → IsPassing here p first route hop s → hop.way ≡ to_end to → P s → P (arrives_by here p to there_is_room s).state
+      → IsPassing here p first route hop s → IsArriving hop to s → P s → Q (arrives_by here p to there_is_room s).state
   pub taken : (here : LinkEnd) (first : RingLabel) (s : State) → IsHere here s → first_on here.ring s ≡ Some first
-      → first.label ≡ acknowledges → P s → P (change_ring here.ring.ring (takes here.ring.side) s)
+      → first.label ≡ acknowledges → P s → Q (change_ring here.ring.ring (takes here.ring.side) s)
+
+-- each update keeps P
+abbrev pub Keeps : (State → Type 0) → Type 0
+Keeps P = KeepsFrom P P
 
 -- ---- the walk
 
 abbrev pub After : (State → Type 0) → Outcome → Type 0
 After P o = P o.state
 
-module _ (P : State → Type 0) (K : Keeps P) where
-  interface_after : (i : TheInterface) (plan : PlanNo) (s : State) → P s → After P (adds_interface i plan s)
+module _ (P Q : State → Type 0) (weaker : (s : State) → P s → Q s) (K : KeepsFrom P Q) where
+  interface_after : (i : TheInterface) (plan : PlanNo) (s : State) → P s → After Q (adds_interface i plan s)
   interface_after i plan s h =
-      either (After P) (has_interface i.name s) _ _ (λ q. h)
-      (λ q. either (After P) (nat_le most_interfaces (length s.interfaces)) _ _ (λ r. h)
+      either (After Q) (has_interface i.name s) _ _ (λ q. weaker s h)
+      (λ q. either (After Q) (nat_le most_interfaces (length s.interfaces)) _ _ (λ r. weaker s h)
       (λ r. K.interface (record { interface = i; plan = plan }) s q h))
 
-  cores_after : (n : ℕ) (s : State) → P s → After P (sets_cores n s)
+  cores_after : (n : ℕ) (s : State) → P s → After Q (sets_cores n s)
   cores_after n s h =
-      either (After P) (not s.may_set_cores) _ _ (λ q. h)
-      (λ q. either (After P) (nat_lt n 1 || nat_lt most_cores n) _ _ (λ r. h) (λ r. K.cores n s q h))
+      either (After Q) (not s.may_set_cores) _ _ (λ q. weaker s h)
+      (λ q. either (After Q) (nat_lt n 1 || nat_lt most_cores n) _ _ (λ r. weaker s h) (λ r. K.cores n s q h))
 
   link_sized : (t : Bool) (a b size : ℕ) (s : State) → is_ring_size size ≡ t
       → not (is_core a s && is_core b s) || (a == b) || has_link a b s ≡ false → P s
-      → After P (if not t then answers s (refused 32) else answers (with_new_link a b size s) done)
+      → After Q (if not t then answers s (refused 32) else answers (with_new_link a b size s) done)
   link_sized true a b size s e q h = K.link a b size s q e h
-  link_sized false a b size s e q h = h
+  link_sized false a b size s e q h = weaker s h
 
-  link_after : (a b size : ℕ) (s : State) → P s → After P (adds_link a b size s)
+  link_after : (a b size : ℕ) (s : State) → P s → After Q (adds_link a b size s)
   link_after a b size s h =
-      either (After P) (not (is_core a s && is_core b s) || (a == b) || has_link a b s) _ _ (λ q. h)
+      either (After Q) (not (is_core a s && is_core b s) || (a == b) || has_link a b s) _ _ (λ q. weaker s h)
       (λ q. link_sized (is_ring_size size) a b size s refl q h)
 
-  dispatcher_after : (core : ℕ) (s : State) → P s → After P (adds_dispatcher core s)
+  dispatcher_after : (core : ℕ) (s : State) → P s → After Q (adds_dispatcher core s)
   dispatcher_after core s h =
-      either (After P) (nat_le most_dispatchers (count_dispatchers s)) _ _ (λ q. h)
-      (λ q. either (After P) (not (is_core core s)) _ _ (λ r. h) (λ r. K.dispatcher core s h))
+      either (After Q) (nat_le most_dispatchers (count_dispatchers s)) _ _ (λ q. weaker s h)
+      (λ q. either (After Q) (not (is_core core s)) _ _ (λ r. weaker s h) (λ r. K.dispatcher core s h))
 
-  export_after : (name : List ℕ) (d : DispatcherId) (i : ℕ) (s : State) → P s → After P (exports name d i s)
+  export_after : (name : List ℕ) (d : DispatcherId) (i : ℕ) (s : State) → P s → After Q (exports name d i s)
   export_after name d i s h =
-      by_given (After P) (dispatcher_of s d) _ _ h
-      (λ x q. by_given (After P) (slice_get s.interfaces i) _ _ h
-      (λ y r. either (After P) (has_service name s) _ _ (λ t. h)
-      (λ t. either (After P) (nat_le most_services (length s.services)) _ _ (λ u. h)
+      by_given (After Q) (dispatcher_of s d) _ _ (weaker s h)
+      (λ x q. by_given (After Q) (slice_get s.interfaces i) _ _ (weaker s h)
+      (λ y r. either (After Q) (has_service name s) _ _ (λ t. weaker s h)
+      (λ t. either (After Q) (nat_le most_services (length s.services)) _ _ (λ u. weaker s h)
       (λ u. K.service (record { name = name; dispatcher = d; interface = i }) s x y q r t h))))
 
-  queues_after : (w : Wanted) (i : Planned) (slots : ℕ) (s : State) → IsWanted w i s → P s → After P (binds_by_queues w slots s)
+  queues_after : (w : Wanted) (i : Planned) (slots : ℕ) (s : State) → IsWanted w i s → P s → After Q (binds_by_queues w slots s)
   queues_after w i slots s k h =
-      either (After P) (not (w.client.core == w.service.dispatcher.core)) _ _ (λ q. h)
-      (λ q. either (After P) (nat_lt slots 1 || nat_lt 1024 slots) _ _ (λ r. h)
-      (λ r. either (After P) (not (has_both_places w s)) _ _ (λ t. h) (λ t. K.queues w i slots s k t h)))
+      either (After Q) (not (w.client.core == w.service.dispatcher.core)) _ _ (λ q. weaker s h)
+      (λ q. either (After Q) (nat_lt slots 1 || nat_lt 1024 slots) _ _ (λ r. weaker s h)
+      (λ r. either (After Q) (not (has_both_places w s)) _ _ (λ t. weaker s h) (λ t. K.queues w i slots s k t h)))
 
   ring_sized : (t : Bool) (w : Wanted) (i : Planned) (size : ℕ) (s : State) → is_ring_size size ≡ t → IsWanted w i s → P s
-      → After P (if not t then answers s (refused 32) else if not (has_both_places w s) then answers s (refused 54)
+      → After Q (if not t then answers s (refused 32) else if not (has_both_places w s) then answers s (refused 54)
       else answers (binds_both (length s.bindings) w (with_new_binding w (over_ring (length s.rings)) 2 None (with_ring size s))) done)
-  ring_sized false w i size s e k h = h
+  ring_sized false w i size s e k h = weaker s h
   ring_sized true w i size s e k h =
-      either (After P) (not (has_both_places w s)) _ _ (λ t. h) (λ t. K.ring w i size s k e t h)
+      either (After Q) (not (has_both_places w s)) _ _ (λ t. weaker s h) (λ t. K.ring w i size s k e t h)
 
-  ring_after : (w : Wanted) (i : Planned) (size : ℕ) (s : State) → IsWanted w i s → P s → After P (binds_by_ring w size s)
+  ring_after : (w : Wanted) (i : Planned) (size : ℕ) (s : State) → IsWanted w i s → P s → After Q (binds_by_ring w size s)
   ring_after w i size s k h =
-      either (After P) (w.client.core == w.service.dispatcher.core) _ _ (λ q. h) (λ q. ring_sized (is_ring_size size) w i size s refl k h)
+      either (After Q) (w.client.core == w.service.dispatcher.core) _ _ (λ q. weaker s h) (λ q. ring_sized (is_ring_size size) w i size s refl k h)
 
-  route_after : (w : Wanted) (i : Planned) (cores : List ℕ) (s : State) → IsWanted w i s → P s → After P (binds_by_route w cores s)
+  route_after : (w : Wanted) (i : Planned) (cores : List ℕ) (s : State) → IsWanted w i s → P s → After Q (binds_by_route w cores s)
   route_after w i cores s j h =
-      either (After P) (not (is_route cores w.client.core w.service.dispatcher.core s)) _ _ (λ q. h)
-      (λ q. by_given (After P) (core_of s w.client.core) _ _ h
-      (λ k r. by_given (After P) (link_to (slice_index cores 1) k) _ _ h
-      (λ l t. either (After P) (not (has_places_for w.client 1 s)) _ _ (λ u. h)
-      (λ u. by_given (After P) (next_own k.circuits l) _ _ h
-      (λ c v. either (After P) (not (can_say l k)) _ _ (λ x. h)
+      either (After Q) (not (is_route cores w.client.core w.service.dispatcher.core s)) _ _ (λ q. weaker s h)
+      (λ q. by_given (After Q) (core_of s w.client.core) _ _ (weaker s h)
+      (λ k r. by_given (After Q) (link_to (slice_index cores 1) k) _ _ (weaker s h)
+      (λ l t. either (After Q) (not (has_places_for w.client 1 s)) _ _ (λ u. weaker s h)
+      (λ u. by_given (After Q) (next_own k.circuits l) _ _ (weaker s h)
+      (λ c v. either (After Q) (not (can_say l k)) _ _ (λ x. weaker s h)
       (λ x. K.route w i cores k l c s j (record { route = q; core = r; link = t; places = u; number = v; outbox = x }) h))))))
 
-  kind_after : (w : Wanted) (i : Planned) (kind : Kind) (s : State) → IsWanted w i s → P s → After P (binds_by w kind s)
+  kind_after : (w : Wanted) (i : Planned) (kind : Kind) (s : State) → IsWanted w i s → P s → After Q (binds_by w kind s)
   kind_after w i (by_queues slots) s k h = queues_after w i slots s k h
   kind_after w i (by_ring size) s k h = ring_after w i size s k h
   kind_after w i (by_route cores) s k h = route_after w i cores s k h
 
-  bind_after : (client : DispatcherId) (i : ℕ) (name : List ℕ) (kind : Kind) (s : State) → P s → After P (binds client i name kind s)
+  bind_after : (client : DispatcherId) (i : ℕ) (name : List ℕ) (kind : Kind) (s : State) → P s → After Q (binds client i name kind s)
   bind_after client i name kind s h =
-      by_given (After P) (dispatcher_of s client) _ _ h
-      (λ d q. by_given (After P) (slice_get s.interfaces i) _ _ h
-      (λ planned r. either (After P) (nat_le most_bindings (length s.bindings)) _ _ (λ t. h)
-      (λ t. by_given (After P) (place_of_service name s.services) _ _ h
-      (λ place u. by_given (After P) (slice_get s.services place) _ _ h
-      (λ service v. either (After P) (not (service.interface == i)) _ _ (λ x. h)
+      by_given (After Q) (dispatcher_of s client) _ _ (weaker s h)
+      (λ d q. by_given (After Q) (slice_get s.interfaces i) _ _ (weaker s h)
+      (λ planned r. either (After Q) (nat_le most_bindings (length s.bindings)) _ _ (λ t. weaker s h)
+      (λ t. by_given (After Q) (place_of_service name s.services) _ _ (weaker s h)
+      (λ place u. by_given (After Q) (slice_get s.services place) _ _ (weaker s h)
+      (λ service v. either (After Q) (not (service.interface == i)) _ _ (λ x. weaker s h)
       (λ x. kind_after (record { client = client; interface = i; messages = length planned.interface.messages; service = service; iref = place + 1 })
       planned kind s (record { dispatcher = d; client = q; interface = r; messages = refl; place = place; iref = refl; service = v; same = x }) h))))))
 
-  call_after : (e : EndId) (c : TheCall) (s : State) → P s → After P (calls e c s)
+  call_after : (e : EndId) (c : TheCall) (s : State) → P s → After Q (calls e c s)
   call_after e c s h =
-      by_given (After P) (binding_of s e) _ _ h
-      (λ b q. by_given (After P) (interface_of s b) _ _ h
-      (λ i r. either (After P) (nat_le (length i.interface.messages) c.msg) _ _ (λ t. h)
-      (λ t. either (After P) (not (fits_of i.interface c)) _ _ (λ u. h)
-      (λ u. either (After P) (not (is_bound (end_in e.side b))) _ _ (λ v. h)
-      (λ v. either (After P) (is_busy i (end_in e.side b).out) _ _ (λ x. h)
+      by_given (After Q) (binding_of s e) _ _ (weaker s h)
+      (λ b q. by_given (After Q) (interface_of s b) _ _ (weaker s h)
+      (λ i r. either (After Q) (nat_le (length i.interface.messages) c.msg) _ _ (λ t. weaker s h)
+      (λ t. either (After Q) (not (fits_of i.interface c)) _ _ (λ u. weaker s h)
+      (λ u. either (After Q) (not (is_bound (end_in e.side b))) _ _ (λ v. weaker s h)
+      (λ v. either (After Q) (is_busy i (end_in e.side b).out) _ _ (λ x. weaker s h)
       (λ x. K.called e c b i s (record { binding = q; interface = r }) x h))))))
 
-  show_after : (e : EndId) (s : State) → P s → After P (shows e s)
+  show_after : (e : EndId) (s : State) → P s → After Q (shows e s)
   show_after e s h =
-      by_given (After P) (binding_of s e) _ _ h
-      (λ b q. by_given (After P) (interface_of s b) _ _ h
-      (λ i r. either (After P) (not (is_bound (end_in e.side b))) _ _ (λ t. h)
-      (λ t. by_given (After P) (next_fragment i (end_in e.side b)) _ _ h
-      (λ f u. by_given (After P) (outlet_by s e.side b.back) _ _ h (λ o v. h)))))
+      by_given (After Q) (binding_of s e) _ _ (weaker s h)
+      (λ b q. by_given (After Q) (interface_of s b) _ _ (weaker s h)
+      (λ i r. either (After Q) (not (is_bound (end_in e.side b))) _ _ (λ t. weaker s h)
+      (λ t. by_given (After Q) (next_fragment i (end_in e.side b)) _ _ (weaker s h)
+      (λ f u. by_given (After Q) (outlet_by s e.side b.back) _ _ (weaker s h) (λ o v. weaker s h)))))
 
   written_by_room : (e : EndId) (b : Binding) (i : Planned) (o : Outlet) (r : Room) (s : State) → outlet_room e o s ≡ r → At s e b i
       → not (is_bound (end_in e.side b)) ≡ false → not (is_busy i (end_in e.side b).out) ≡ false
-      → outlet_by s e.side b.back ≡ Some o → P s → After P (writes_to e i (end_in e.side b).out o r s)
+      → outlet_by s e.side b.back ≡ Some o → P s → After Q (writes_to e i (end_in e.side b).out o r s)
   written_by_room e b i o there_is_room s q at t u v h = K.written e b i o s at t u v q h
-  written_by_room e b i o no_room s q at t u v h = h
-  written_by_room e b i o spent s q at t u v h = h
+  written_by_room e b i o no_room s q at t u v h = weaker s h
+  written_by_room e b i o spent s q at t u v h = weaker s h
 
   written_by_outlet : (e : EndId) (b : Binding) (i : Planned) (o : Outlet) (s : State) → At s e b i
       → not (is_bound (end_in e.side b)) ≡ false → not (is_busy i (end_in e.side b).out) ≡ false
       → outlet_by s e.side b.back ≡ Some o → P s
-      → After P (writes_to e i (end_in e.side b).out o (outlet_room e o (makes_sure_of o s)) (makes_sure_of o s))
+      → After Q (writes_to e i (end_in e.side b).out o (outlet_room e o (makes_sure_of o s)) (makes_sure_of o s))
   written_by_outlet e b i peer_queue s at t u v h = written_by_room e b i peer_queue (outlet_room e peer_queue s) s refl at t u v h
   written_by_outlet e b i (ring_side on) s at t u v h =
       written_by_room e b i (ring_side on) (ring_room for_data on (ring_makes_sure for_data on s)) (ring_makes_sure for_data on s) refl
       (record { binding = at.binding; interface = at.interface }) t u v (K.sure for_data on s h)
 
-  write_after : (e : EndId) (s : State) → P s → After P (writes_fragment e s)
+  write_after : (e : EndId) (s : State) → P s → After Q (writes_fragment e s)
   write_after e s h =
-      by_given (After P) (binding_of s e) _ _ h
-      (λ b q. by_given (After P) (interface_of s b) _ _ h
-      (λ i r. either (After P) (not (is_bound (end_in e.side b))) _ _ (λ t. h)
-      (λ t. either (After P) (not (is_busy i (end_in e.side b).out)) _ _ (λ u. h)
-      (λ u. by_given (After P) (outlet_by s e.side b.back) _ _ h
+      by_given (After Q) (binding_of s e) _ _ (weaker s h)
+      (λ b q. by_given (After Q) (interface_of s b) _ _ (weaker s h)
+      (λ i r. either (After Q) (not (is_bound (end_in e.side b))) _ _ (λ t. weaker s h)
+      (λ t. either (After Q) (not (is_busy i (end_in e.side b).out)) _ _ (λ u. weaker s h)
+      (λ u. by_given (After Q) (outlet_by s e.side b.back) _ _ (weaker s h)
       (λ o v. written_by_outlet e b i o s (record { binding = q; interface = r }) t u v h)))))
 
   -- a turn
 
   queue_after : (t : Chosen) (b : Binding) (i : Planned) (q : Queue) (s : State) → IsTurn t (pending t.channel) s → At s t.end b i
-      → holds_back (end_in t.end.side b) ≡ false → (end_in t.end.side b).queue ≡ Some q → P s → After P (gives_from_queue t i q s)
+      → holds_back (end_in t.end.side b) ≡ false → (end_in t.end.side b).queue ≡ Some q → P s → After Q (gives_from_queue t i q s)
   queue_after t b i q s d at u v h =
-      by_given (After P) (slice_get q.labels 0) _ _ (K.no_label t (waits_in (Some q)) s d h)
+      by_given (After Q) (slice_get q.labels 0) _ _ (K.no_label t (waits_in (Some q)) s d h)
       (λ l r. K.from_queue t b i q l s d at u v r h)
 
   ring_given_after : (t : Chosen) (b : Binding) (i : Planned) (on : RingEnd) (s : State) → IsTurn t (pending t.channel) s → At s t.end b i
-      → holds_back (end_in t.end.side b) ≡ false → own_ring t.end.side b.back ≡ Some on → P s → After P (gives_from_ring t i on s)
+      → holds_back (end_in t.end.side b) ≡ false → own_ring t.end.side b.back ≡ Some on → P s → After Q (gives_from_ring t i on s)
   ring_given_after t b i on s d at u v h =
-      by_given (After P) (first_on on s) _ _ (K.no_label t Polled s d h) (λ l r. K.from_ring t b i on l s d at u v r h)
+      by_given (After Q) (first_on on s) _ _ (K.no_label t Polled s d h) (λ l r. K.from_ring t b i on l s d at u v r h)
 
   gives_by_after : (t : Chosen) (b : Binding) (i : Planned) (o : Option Queue) (s : State) → IsTurn t (pending t.channel) s → At s t.end b i
-      → holds_back (end_in t.end.side b) ≡ false → (end_in t.end.side b).queue ≡ o → P s → After P (gives_by t i o b.back s)
+      → holds_back (end_in t.end.side b) ≡ false → (end_in t.end.side b).queue ≡ o → P s → After Q (gives_by t i o b.back s)
   gives_by_after t b i (Some q) s d at u v h = queue_after t b i q s d at u v h
   gives_by_after t b i None s d at u v h =
-      by_given (After P) (own_ring t.end.side b.back) _ _ h (λ on q. ring_given_after t b i on s d at u q h)
+      by_given (After Q) (own_ring t.end.side b.back) _ _ (weaker s h) (λ on q. ring_given_after t b i on s d at u q h)
 
-  gives_after : (t : Chosen) (s : State) → IsTurn t (pending t.channel) s → P s → After P (gives t s)
+  gives_after : (t : Chosen) (s : State) → IsTurn t (pending t.channel) s → P s → After Q (gives t s)
   gives_after t s d h =
-      by_given (After P) (binding_of s t.end) _ _ h
-      (λ b q. by_given (After P) (interface_of s b) _ _ h
-      (λ i r. either (After P) (holds_back (end_in t.end.side b)) _ _
+      by_given (After Q) (binding_of s t.end) _ _ (weaker s h)
+      (λ b q. by_given (After Q) (interface_of s b) _ _ (weaker s h)
+      (λ i r. either (After Q) (holds_back (end_in t.end.side b)) _ _
       (λ u. K.held t b i s d (record { binding = q; interface = r }) u h)
       (λ u. gives_by_after t b i (end_in t.end.side b).queue s d (record { binding = q; interface = r }) u refl h)))
 
-  examines_after : (t : Chosen) (s : State) → IsTurn t (polled t.channel) s → P s → After P (examines t s)
+  examines_after : (t : Chosen) (s : State) → IsTurn t (polled t.channel) s → P s → After Q (examines t s)
   examines_after t s d h =
-      by_given (After P) (binding_of s t.end) _ _ h
-      (λ b q. by_given (After P) (own_ring t.end.side b.back) _ _ h
-      (λ on r. by_given (After P) (first_on on s) _ _ (K.found_none t s d h)
+      by_given (After Q) (binding_of s t.end) _ _ (weaker s h)
+      (λ b q. by_given (After Q) (own_ring t.end.side b.back) _ _ (weaker s h)
+      (λ on r. by_given (After Q) (first_on on s) _ _ (K.found_none t s d h)
       (λ first u. K.found t b on first s d q r u h)))
 
-  due_after : (d : DispatcherId) (x : Dispatcher) (o : Due) (s : State) → dispatcher_of s d ≡ Some x → due x ≡ o → P s → After P (turns_by d x o s)
+  due_after : (d : DispatcherId) (x : Dispatcher) (o : Due) (s : State) → dispatcher_of s d ≡ Some x → due x ≡ o → P s → After Q (turns_by d x o s)
   due_after d x (pending c) s q r h =
-      by_given (After P) (slice_get x.ends c) _ _ h
+      by_given (After Q) (slice_get x.ends c) _ _ (weaker s h)
       (λ e u. gives_after (chosen d c e) s (record { dispatcher = x; dispatcher_is = q; due_is = r; end_is = u }) h)
   due_after d x (polled c) s q r h =
-      by_given (After P) (slice_get x.ends c) _ _ h
+      by_given (After Q) (slice_get x.ends c) _ _ (weaker s h)
       (λ e u. examines_after (chosen d c e) s (record { dispatcher = x; dispatcher_is = q; due_is = r; end_is = u }) h)
-  due_after d x no_one s q r h = h
+  due_after d x no_one s q r h = weaker s h
 
-  turn_after : (d : DispatcherId) (s : State) → P s → After P (turns d s)
-  turn_after d s h = by_given (After P) (dispatcher_of s d) _ _ h (λ x q. due_after d x (due x) s q refl h)
+  turn_after : (d : DispatcherId) (s : State) → P s → After Q (turns d s)
+  turn_after d s h = by_given (After Q) (dispatcher_of s d) _ _ (weaker s h) (λ x q. due_after d x (due x) s q refl h)
 
   -- what an end says of itself
 
-  told_by_room : (on : RingEnd) (r : Room) (s : State) → ring_room for_acknowledgement on s ≡ r → P s → After P (acknowledges_by on r s)
+  told_by_room : (on : RingEnd) (r : Room) (s : State) → ring_room for_acknowledgement on s ≡ r → P s → After Q (acknowledges_by on r s)
   told_by_room on there_is_room s q h = K.acknowledged on s q h
-  told_by_room on no_room s q h = h
-  told_by_room on spent s q h = h
+  told_by_room on no_room s q h = weaker s h
+  told_by_room on spent s q h = weaker s h
 
-  told_after : (on : RingEnd) (s : State) → P s → After P (acknowledges_on on s)
+  told_after : (on : RingEnd) (s : State) → P s → After Q (acknowledges_on on s)
   told_after on s h =
-      by_given (After P) (slice_get s.rings on.ring) _ _ h
-      (λ r q. either (After P) (not (owes on.side r)) _ _ (λ t. h)
+      by_given (After Q) (slice_get s.rings on.ring) _ _ (weaker s h)
+      (λ r q. either (After Q) (not (owes on.side r)) _ _ (λ t. weaker s h)
       (λ t. told_by_room on (ring_room for_acknowledgement on (ring_makes_sure for_acknowledgement on s))
       (ring_makes_sure for_acknowledgement on s) refl (K.sure for_acknowledgement on s h)))
 
-  acknowledge_after : (e : EndId) (s : State) → P s → After P (acknowledges_end e s)
+  acknowledge_after : (e : EndId) (s : State) → P s → After Q (acknowledges_end e s)
   acknowledge_after e s h =
-      by_given (After P) (binding_of s e) _ _ h
-      (λ b q. either (After P) (not (is_bound (end_in e.side b))) _ _ (λ t. h)
-      (λ t. by_given (After P) (own_ring e.side b.back) _ _ h (λ on r. told_after on s h)))
+      by_given (After Q) (binding_of s e) _ _ (weaker s h)
+      (λ b q. either (After Q) (not (is_bound (end_in e.side b))) _ _ (λ t. weaker s h)
+      (λ t. by_given (After Q) (own_ring e.side b.back) _ _ (weaker s h) (λ on r. told_after on s h)))
 
-  register_after : (e : EndId) (s : State) → P s → After P (registers_channel e s)
+  register_after : (e : EndId) (s : State) → P s → After Q (registers_channel e s)
   register_after e s h =
-      by_given (After P) (end_of s e) _ _ h
-      (λ x q. either (After P) (not (is_bound x)) _ _ (λ t. h)
-      (λ t. either (After P) (has_channel_listed x s) _ _ (λ u. h) (λ u. K.registered e x s q t u h)))
+      by_given (After Q) (end_of s e) _ _ (weaker s h)
+      (λ x q. either (After Q) (not (is_bound x)) _ _ (λ t. weaker s h)
+      (λ t. either (After Q) (has_channel_listed x s) _ _ (λ u. weaker s h) (λ u. K.registered e x s q t u h)))
 
-  deregister_after : (e : EndId) (s : State) → P s → After P (deregisters_channel e s)
+  deregister_after : (e : EndId) (s : State) → P s → After Q (deregisters_channel e s)
   deregister_after e s h =
-      by_given (After P) (end_of s e) _ _ h
-      (λ x q. either (After P) (not (is_bound x)) _ _ (λ t. h)
-      (λ t. either (After P) (not (has_channel_listed x s)) _ _ (λ u. h) (λ u. K.deregistered e x s q t h)))
+      by_given (After Q) (end_of s e) _ _ (weaker s h)
+      (λ x q. either (After Q) (not (is_bound x)) _ _ (λ t. weaker s h)
+      (λ t. either (After Q) (not (has_channel_listed x s)) _ _ (λ u. weaker s h) (λ u. K.deregistered e x s q t h)))
 
-  rule_after : (e : EndId) (msg answer : ℕ) (s : State) → P s → After P (sets_rule e msg answer s)
+  rule_after : (e : EndId) (msg answer : ℕ) (s : State) → P s → After Q (sets_rule e msg answer s)
   rule_after e msg answer s h =
-      by_given (After P) (binding_of s e) _ _ h
-      (λ b q. by_given (After P) (interface_of s b) _ _ h
-      (λ i r. either (After P) (not (has_message msg i && has_message answer i)) _ _ (λ t. h)
-      (λ t. either (After P) (not (same_arguments (arguments_of msg i) (arguments_of answer i))) _ _ (λ u. h)
+      by_given (After Q) (binding_of s e) _ _ (weaker s h)
+      (λ b q. by_given (After Q) (interface_of s b) _ _ (weaker s h)
+      (λ i r. either (After Q) (not (has_message msg i && has_message answer i)) _ _ (λ t. weaker s h)
+      (λ t. either (After Q) (not (same_arguments (arguments_of msg i) (arguments_of answer i))) _ _ (λ u. weaker s h)
       (λ u. K.ruled e msg answer b i s (record { binding = q; interface = r }) h))))
 
   -- links
 
   monitor_by_room : (here : LinkEnd) (link : Link) (m : Said) (r : Room) (s : State) → ring_room for_data here.ring s ≡ r → (k : IsHere here s)
-      → link_between s k.core k.neighbour ≡ Some link → slice_get link.outbox 0 ≡ Some m → P s → After P (monitor_writes_by here m r s)
+      → link_between s k.core k.neighbour ≡ Some link → slice_get link.outbox 0 ≡ Some m → P s → After Q (monitor_writes_by here m r s)
   monitor_by_room here link m there_is_room s q k t u h = K.monitor_written here link m s k t u q h
-  monitor_by_room here link m no_room s q k t u h = h
-  monitor_by_room here link m spent s q k t u h = h
+  monitor_by_room here link m no_room s q k t u h = weaker s h
+  monitor_by_room here link m spent s q k t u h = weaker s h
 
-  monitor_acknowledge_after : (core neighbour : ℕ) (s : State) → P s → After P (monitor_acknowledges core neighbour s)
+  monitor_acknowledge_after : (core neighbour : ℕ) (s : State) → P s → After Q (monitor_acknowledges core neighbour s)
   monitor_acknowledge_after core neighbour s h =
-      by_given (After P) (link_between s core neighbour) _ _ h (λ link q. told_after link.ring s h)
+      by_given (After Q) (link_between s core neighbour) _ _ (weaker s h) (λ link q. told_after link.ring s h)
 
-  monitor_after : (core neighbour : ℕ) (s : State) → P s → After P (monitor_writes core neighbour s)
+  monitor_after : (core neighbour : ℕ) (s : State) → P s → After Q (monitor_writes core neighbour s)
   monitor_after core neighbour s h =
-      by_given (After P) (link_end core neighbour s) _ _ h
-      (λ here q. by_given (After P) (link_between s core neighbour) _ _ h
-      (λ link r. by_given (After P) (slice_get link.outbox 0) _ _ h
+      by_given (After Q) (link_end core neighbour s) _ _ (weaker s h)
+      (λ here q. by_given (After Q) (link_between s core neighbour) _ _ (weaker s h)
+      (λ link r. by_given (After Q) (slice_get link.outbox 0) _ _ (weaker s h)
       (λ m t. monitor_by_room here link m (ring_room for_data here.ring (ring_makes_sure for_data here.ring s))
       (ring_makes_sure for_data here.ring s) refl (record { core = core; neighbour = neighbour; here_is = q }) r t
       (K.sure for_data here.ring s h))))
@@ -416,10 +430,10 @@ module _ (P : State → Type 0) (K : Keeps P) where
   -- what stands first on a link
 
   passed_by_room : (here : LinkEnd) (p : Passing) (first : RingLabel) (route : Route) (hop : Hop) (on : RingEnd) (r : Room) (s : State)
-      → ring_room for_data on s ≡ r → IsPassing here p first route hop s → P s → After P (goes_on_by here p on r s)
+      → ring_room for_data on s ≡ r → IsPassing here p first route hop s → P s → After Q (goes_on_by here p on r s)
   passed_by_room here p first route hop on there_is_room s q k h = K.passed here p first route hop on s k q h
-  passed_by_room here p first route hop on no_room s q k h = h
-  passed_by_room here p first route hop on spent s q k h = h
+  passed_by_room here p first route hop on no_room s q k h = weaker s h
+  passed_by_room here p first route hop on spent s q k h = weaker s h
 
   sure_passing : (here : LinkEnd) (p : Passing) (first : RingLabel) (route : Route) (hop : Hop) (on : RingEnd) (s : State)
       → IsPassing here p first route hop s → IsPassing here p first route hop (ring_makes_sure for_data on s)
@@ -438,31 +452,33 @@ module _ (P : State → Type 0) (K : Keeps P) where
     hop_is = k.hop_is;
   }
 
-  arrived_by_room : (here : LinkEnd) (p : Passing) (first : RingLabel) (route : Route) (hop : Hop) (to : EndId) (r : Room) (s : State)
-      → IsPassing here p first route hop s → hop.way ≡ to_end to → P s → After P (arrives_by here p to r s)
-  arrived_by_room here p first route hop to there_is_room s k q h = K.arrived here p first route hop to s k q h
-  arrived_by_room here p first route hop to no_room s k q h = h
-  arrived_by_room here p first route hop to spent s k q h = h
+  arrived_by_room : (here : LinkEnd) (p : Passing) (first : RingLabel) (route : Route) (hop : Hop) (to : EndId) (x : End) (y : Queue) (r : Room)
+      (s : State) → IsPassing here p first route hop s → hop.way ≡ to_end to → end_of s to ≡ Some x → x.queue ≡ Some y → queue_room y ≡ r
+      → P s → After Q (arrives_by here p to r s)
+  arrived_by_room here p first route hop to x y there_is_room s k q t u v h =
+      K.arrived here p first route hop to s k (record { way = q; end = x; end_is = t; queue = y; queue_is = u; room = v }) h
+  arrived_by_room here p first route hop to x y no_room s k q t u v h = weaker s h
+  arrived_by_room here p first route hop to x y spent s k q t u v h = weaker s h
 
   entry_after : (here : LinkEnd) (p : Passing) (first : RingLabel) (route : Route) (hop : Hop) (k : Core) (way : Way) (s : State)
-      → IsPassing here p first route hop s → hop.way ≡ way → P s → After P (follows_entry here p k way s)
+      → IsPassing here p first route hop s → hop.way ≡ way → P s → After Q (follows_entry here p k way s)
   entry_after here p first route hop k (to_link l c) s j q h =
-      by_given (After P) (slice_get k.links l.0) _ _ h
+      by_given (After Q) (slice_get k.links l.0) _ _ (weaker s h)
       (λ link r. passed_by_room here p first route hop link.ring (ring_room for_data link.ring (ring_makes_sure for_data link.ring s))
       (ring_makes_sure for_data link.ring s) refl (sure_passing here p first route hop link.ring s j) (K.sure for_data link.ring s h))
   entry_after here p first route hop k (to_end to) s j q h =
-      by_given (After P) (end_of s to) _ _ h
-      (λ x r. by_given (After P) x.queue _ _ h (λ y t. arrived_by_room here p first route hop to (queue_room y) s j q h))
+      by_given (After Q) (end_of s to) _ _ (weaker s h)
+      (λ x r. by_given (After Q) x.queue _ _ (weaker s h) (λ y t. arrived_by_room here p first route hop to x y (queue_room y) s j q r t refl h))
 
   call_label_after : (here : LinkEnd) (e : EndId) (number : ℕ) (first : RingLabel) (s : State) → IsHere here s
-      → first_on here.ring s ≡ Some first → first.label ≡ next_of e number → P s → After P (forwards_call here e number s)
+      → first_on here.ring s ≡ Some first → first.label ≡ next_of e number → P s → After Q (forwards_call here e number s)
   call_label_after here e number first s k f l h =
-      by_given (After P) (binding_of s e) _ _ h
-      (λ b q. by_given (After P) (route_of b.back) _ _ h
-      (λ route r. by_given (After P) (station_at e.side here.core route) _ _ h
-      (λ station t. by_given (After P) (core_of s here.core) _ _ h
-      (λ core u. by_given (After P) (number_between here.neighbour here.core route) _ _ h
-      (λ c v. by_given (After P) (hop_at core.circuits here.link c) _ _ h
+      by_given (After Q) (binding_of s e) _ _ (weaker s h)
+      (λ b q. by_given (After Q) (route_of b.back) _ _ (weaker s h)
+      (λ route r. by_given (After Q) (station_at e.side here.core route) _ _ (weaker s h)
+      (λ station t. by_given (After Q) (core_of s here.core) _ _ (weaker s h)
+      (λ core u. by_given (After Q) (number_between here.neighbour here.core route) _ _ (weaker s h)
+      (λ c v. by_given (After Q) (hop_at core.circuits here.link c) _ _ (weaker s h)
       (λ hop w. entry_after here (record { end = e; number = number; station = station }) first route hop core hop.way s
       (record {
         is_here = k;
@@ -480,22 +496,22 @@ module _ (P : State → Type 0) (K : Keeps P) where
       }) refl h))))))
 
   label_after : (here : LinkEnd) (label : Label) (first : RingLabel) (s : State) → IsHere here s → first_on here.ring s ≡ Some first
-      → first.label ≡ label → P s → After P (forwards_label here label s)
+      → first.label ≡ label → P s → After Q (forwards_label here label s)
   label_after here (next_of e number) first s k f l h = call_label_after here e number first s k f l h
-  label_after here (says m) first s k f l h = by_given (After P) (core_of s here.core) _ _ h (λ core q. K.heard here m first core s k f l q h)
+  label_after here (says m) first s k f l h = by_given (After Q) (core_of s here.core) _ _ (weaker s h) (λ core q. K.heard here m first core s k f l q h)
   label_after here acknowledges first s k f l h = K.taken here first s k f l h
 
-  forward_after : (core neighbour : ℕ) (s : State) → P s → After P (forwards core neighbour s)
+  forward_after : (core neighbour : ℕ) (s : State) → P s → After Q (forwards core neighbour s)
   forward_after core neighbour s h =
-      by_given (After P) (link_end core neighbour s) _ _ h
-      (λ here q. by_given (After P) (first_on here.ring s) _ _ h
+      by_given (After Q) (link_end core neighbour s) _ _ (weaker s h)
+      (λ here q. by_given (After Q) (first_on here.ring s) _ _ (weaker s h)
       (λ first r. label_after here first.label first (change_ring here.ring.ring (looks here.ring.side) s)
       (record { core = core; neighbour = neighbour; here_is = q }) (first_looked here.ring here.ring first s.rings r) refl
       (K.looked here.ring s h)))
 
   -- the step
 
-  does_after : (v : Event) (s : State) → P s → After P (does v s)
+  does_after : (v : Event) (s : State) → P s → After Q (does v s)
   does_after (add_interface i plan) s h = interface_after i plan s h
   does_after (set_cores n) s h = cores_after n s h
   does_after (add_link a b size) s h = link_after a b size s h
@@ -514,18 +530,21 @@ module _ (P : State → Type 0) (K : Keeps P) where
   does_after (forward core neighbour) s h = forward_after core neighbour s h
   does_after (monitor_acknowledge core neighbour) s h = monitor_acknowledge_after core neighbour s h
 
-  settled_by : (a : Answer) (s : State) → P s → P (settles_by a s)
+  settled_by : (a : Answer) (s : State) → Q s → Q (settles_by a s)
   settled_by (refused n) s h = h
   settled_by done s h = K.settled s h
   settled_by a s h = K.settled s h
 
-  settled : (v : Event) (o : Outcome) → After P o → After P (settles v o)
+  settled : (v : Event) (o : Outcome) → After Q o → After Q (settles v o)
   settled (add_interface i plan) o h = h
   settled v o h = settled_by o.answer o.state h
 
-  pub step_keeps : (s : State) (v : Event) → P s → P (step s v).state
-  step_keeps s v h = settled v (does v s) (does_after v s h)
+  pub step_leads : (s : State) (v : Event) → P s → Q (step s v).state
+  step_leads s v h = settled v (does v s) (does_after v s h)
 
-  pub run_keeps : (vs : List Event) (s : State) → P s → P (reached s vs)
-  run_keeps [] s h = h
-  run_keeps (v ∷ vs) s h = run_keeps vs (step s v).state (step_keeps s v h)
+pub step_keeps : (P : State → Type 0) → Keeps P → (s : State) (v : Event) → P s → P (step s v).state
+step_keeps P K s v h = step_leads P P (λ t x. x) K s v h
+
+pub run_keeps : (P : State → Type 0) → Keeps P → (vs : List Event) (s : State) → P s → P (reached s vs)
+run_keeps P K [] s h = h
+run_keeps P K (v ∷ vs) s h = run_keeps P K vs (step s v).state (step_keeps P K s v h)
