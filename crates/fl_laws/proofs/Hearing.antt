@@ -7,7 +7,7 @@ use Rattle.std.proofs.lemmas.Bool.{false≢true, true≢false}
 use Rattle.fl_base.specs.declared.identity.EndId.{EndId}
 use Rattle.fl_base.specs.declared.identity.Side.TheVariants.{Client, Server}
 use Rattle.fl_lists.specs.declared.place.Place.{Place}
-use Rattle.fl_lists.specs.Threads.{list_at, is_in}
+use Rattle.fl_lists.specs.ThreeLists.{list_at, is_in}
 use Rattle.fl_hop.specs.declared.entry.Way.{Way}
 use Rattle.fl_hop.specs.declared.entry.Way.TheVariants.{Link as to_link, End as to_end}
 use Rattle.fl_hop.specs.declared.entry.Hop.{Hop}

@@ -6,7 +6,7 @@ use Rattle.fl_base.specs.declared.identity.EndId.{EndId}
 use Rattle.fl_base.specs.declared.identity.Side.{Side}
 use Rattle.fl_base.specs.declared.identity.Side.TheVariants.{Client, Server}
 use Rattle.fl_lists.specs.declared.place.Place.{Place}
-use Rattle.fl_lists.specs.Threads.{list_at, is_in, pushed}
+use Rattle.fl_lists.specs.ThreeLists.{list_at, is_in, pushed}
 use Rattle.fl_queues.specs.Given.{given, changed_at}
 use Rattle.fl_queues.specs.Events.{DispatcherId}
 use Rattle.fl_queues.specs.Ends.{End, Seat}

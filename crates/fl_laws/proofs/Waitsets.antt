@@ -7,7 +7,7 @@ use Rattle.std.proofs.lemmas.Bool.{false≢true, true≢false, eqb-true, or_case
 use Rattle.fl_base.specs.declared.identity.EndId.{EndId}
 use Rattle.fl_lists.specs.declared.place.Place.{Place}
 use Rattle.fl_lists.specs.declared.place.Place.TheVariants.{Idle, Polled, Pending}
-use Rattle.fl_lists.specs.Threads.{Threads, list_at, is_in, place_of, unlinked, pushed, moved, NoRepeat, IsApart}
+use Rattle.fl_lists.specs.ThreeLists.{ThreeLists, list_at, is_in, place_of, unlinked, pushed, moved, NoRepeat, IsApart}
 use Rattle.fl_lists.proofs.Members.{is_in-push, left_out, is_in_from-without, NoRepeat-without, NoRepeat-push}
 use Rattle.fl_waitset.proofs.Moves.{idle_moves, first_moves}
 use Rattle.fl_queues.specs.Waits.{Dispatcher, most_ends, fresh_dispatcher, with_end, registers, deregisters, triggers, puts_off}

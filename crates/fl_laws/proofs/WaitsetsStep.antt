@@ -10,7 +10,7 @@ use Rattle.fl_base.specs.declared.identity.Side.TheVariants.{Client, Server}
 use Rattle.fl_base.specs.Ends.{peer}
 use Rattle.fl_lists.specs.declared.place.Place.{Place}
 use Rattle.fl_lists.specs.declared.place.Place.TheVariants.{Idle, Polled, Pending}
-use Rattle.fl_lists.specs.Threads.{Threads, list_at, is_in, pushed}
+use Rattle.fl_lists.specs.ThreeLists.{ThreeLists, list_at, is_in, pushed}
 use Rattle.fl_waitset.specs.Waiting.{is_registered}
 use Rattle.fl_queues.specs.Given.{given, changed_at}
 use Rattle.fl_queues.specs.Events.{DispatcherId, Event}
@@ -91,7 +91,7 @@ written_kept e i d (ring_side on) s h = h
 
 -- ---- both ends of a new binding
 
-free_by : (w : Rattle.fl_lists.specs.Threads.Threads) (c ch : ℕ) (to place : Place) → IsFree c w → c ≢ ch → (b : Bool)
+free_by : (w : Rattle.fl_lists.specs.ThreeLists.Threads) (c ch : ℕ) (to place : Place) → IsFree c w → c ≢ ch → (b : Bool)
     → is_in c (list_at (pushed w ch to) place) ≡ b → is_in c (list_at (pushed w ch to) place) ≡ false
 free_by w c ch to place f ne true q =
     elim (pushed_from w ch to place c q) [
