@@ -68,7 +68,7 @@ taken_ok i x h =
     let stations : 2 ≤ length x.out.passed = h.stations in
     station_ok (last_station x.out) i x (omega arith) h
 
-total_push : (i : Planned) (cs : List TheCall) (c : TheCall) → total i (cs ++ c ∷ []) ≡ total i cs + fragments i c
+pub total_push : (i : Planned) (cs : List TheCall) (c : TheCall) → total i (cs ++ c ∷ []) ≡ total i cs + fragments i c
 total_push i [] c = omega arith
 total_push i (d ∷ cs) c =
     let ih : total i (cs ++ c ∷ []) ≡ total i cs + fragments i c = total_push i cs c in
@@ -77,14 +77,17 @@ total_push i (d ∷ cs) c =
 at_least_one : (k : ℕ) → 1 ≤ max 1 k
 at_least_one k = omega arith
 
-some_fragments : (i : Planned) (c : TheCall) → 1 ≤ fragments i c
+pub some_fragments : (i : Planned) (c : TheCall) → 1 ≤ fragments i c
 some_fragments i c = at_least_one _
 
 busy_true : (a b : ℕ) → a < b → nat_lt a b ≡ true
 busy_true a b h = grind (arith, nat_tests, h)
 
-less : (a b : ℕ) → nat_lt a b ≡ true → a < b
+pub less : (a b : ℕ) → nat_lt a b ≡ true → a < b
 less a b h = grind (arith, nat_tests, h)
+
+pub at_most : (a b : ℕ) → nat_lt a b ≡ false → b ≤ a
+at_most a b h = grind (arith, nat_tests, h)
 
 -- the first that waits is accepted: then the end is busy with it
 next_ok : (i : Planned) (x : End) (d : Direction) (ws : List TheCall) → d.waiting ≡ ws → 2 ≤ length d.passed → length d.waiting ≤ 16
