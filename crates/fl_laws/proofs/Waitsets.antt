@@ -17,7 +17,7 @@ use Rattle.fl_laws.proofs.EndsStanding.{in_range, there_is}
 
 -- ---- three lists
 
-abbrev pub IsFree : ℕ → Threads → Type 0
+abbrev pub IsFree : ℕ → ThreeLists → Type 0
 IsFree c w = (place : Place) → is_in c (list_at w place) ≡ false
 
 in_push : (k c : ℕ) (xs : List ℕ) → is_in k (xs ++ c ∷ []) ≡ true → (is_in k xs ≡ true) ⊎ (c ≡ k)
@@ -28,7 +28,7 @@ in_push k c xs h =
     ]
 
 -- what stands in a list stood there, or is what was pushed there
-pub pushed_from : (w : Threads) (c : ℕ) (to place : Place) (k : ℕ) → is_in k (list_at (pushed w c to) place) ≡ true
+pub pushed_from : (w : ThreeLists) (c : ℕ) (to place : Place) (k : ℕ) → is_in k (list_at (pushed w c to) place) ≡ true
     → (is_in k (list_at w place) ≡ true) ⊎ ((c ≡ k) × (place ≡ to))
 pushed_from w c Idle Idle k h = elim (in_push k c w.idle h) [ | inl a ↦ inl a | inr b ↦ inr (b, refl) ]
 pushed_from w c Idle Polled k h = inl h
@@ -40,7 +40,7 @@ pushed_from w c Pending Idle k h = inl h
 pushed_from w c Pending Polled k h = inl h
 pushed_from w c Pending Pending k h = elim (in_push k c w.pending h) [ | inl a ↦ inl a | inr b ↦ inr (b, refl) ]
 
-pushed_once : (w : Threads) (c : ℕ) (to place : Place) → IsFree c w → IsApart w → NoRepeat (list_at (pushed w c to) place)
+pushed_once : (w : ThreeLists) (c : ℕ) (to place : Place) → IsFree c w → IsApart w → NoRepeat (list_at (pushed w c to) place)
 pushed_once w c Idle Idle f h = NoRepeat-push c w.idle (h.once Idle) (f Idle)
 pushed_once w c Idle Polled f h = h.once Polled
 pushed_once w c Idle Pending f h = h.once Pending
@@ -51,15 +51,15 @@ pushed_once w c Pending Idle f h = h.once Idle
 pushed_once w c Pending Polled f h = h.once Polled
 pushed_once w c Pending Pending f h = NoRepeat-push c w.pending (h.once Pending) (f Pending)
 
-pushed_size : (w : Threads) (c : ℕ) (to : Place) → (pushed w c to).size ≡ w.size
+pushed_size : (w : ThreeLists) (c : ℕ) (to : Place) → (pushed w c to).size ≡ w.size
 pushed_size w c Idle = refl
 pushed_size w c Polled = refl
 pushed_size w c Pending = refl
 
-stood : (w : Threads) (c k : ℕ) (place : Place) → IsFree c w → c ≡ k → is_in k (list_at w place) ≡ true → ⊥
+stood : (w : ThreeLists) (c k : ℕ) (place : Place) → IsFree c w → c ≡ k → is_in k (list_at w place) ≡ true → ⊥
 stood w c k place f e h = false≢true (sym (f place) ∙ ap (λ (n : ℕ). is_in n (list_at w place)) e ∙ h)
 
-pub push_apart : (w : Threads) (c : ℕ) (to : Place) → IsFree c w → c < w.size → IsApart w → IsApart (pushed w c to)
+pub push_apart : (w : ThreeLists) (c : ℕ) (to : Place) → IsFree c w → c < w.size → IsApart w → IsApart (pushed w c to)
 push_apart w c to f below h = record {
   once = λ place. pushed_once w c to place f h;
   one_list = λ p q k a b. elim (pushed_from w c to p k a) [
@@ -72,24 +72,24 @@ push_apart w c to f below h = record {
   ]);
 }
 
-unlinked_from : (w : Threads) (c : ℕ) (place : Place) (k : ℕ) → is_in k (list_at (unlinked w c) place) ≡ true → is_in k (list_at w place) ≡ true
+unlinked_from : (w : ThreeLists) (c : ℕ) (place : Place) (k : ℕ) → is_in k (list_at (unlinked w c) place) ≡ true → is_in k (list_at w place) ≡ true
 unlinked_from w c Idle k h = (is_in_from-without k c w.idle h).1
 unlinked_from w c Polled k h = (is_in_from-without k c w.polled h).1
 unlinked_from w c Pending k h = (is_in_from-without k c w.pending h).1
 
-unlinked_once : (w : Threads) (c : ℕ) (place : Place) → IsApart w → NoRepeat (list_at (unlinked w c) place)
+unlinked_once : (w : ThreeLists) (c : ℕ) (place : Place) → IsApart w → NoRepeat (list_at (unlinked w c) place)
 unlinked_once w c Idle h = NoRepeat-without c w.idle (h.once Idle)
 unlinked_once w c Polled h = NoRepeat-without c w.polled (h.once Polled)
 unlinked_once w c Pending h = NoRepeat-without c w.pending (h.once Pending)
 
-pub unlink_apart : (w : Threads) (c : ℕ) → IsApart w → IsApart (unlinked w c)
+pub unlink_apart : (w : ThreeLists) (c : ℕ) → IsApart w → IsApart (unlinked w c)
 unlink_apart w c h = record {
   once = λ place. unlinked_once w c place h;
   one_list = λ p q k a b. h.one_list p q k (unlinked_from w c p k a) (unlinked_from w c q k b);
   below = λ place k a. h.below place k (unlinked_from w c place k a);
 }
 
-unlinked_free : (w : Threads) (c : ℕ) → IsFree c (unlinked w c)
+unlinked_free : (w : ThreeLists) (c : ℕ) → IsFree c (unlinked w c)
 unlinked_free w c Idle = left_out c w.idle
 unlinked_free w c Polled = left_out c w.polled
 unlinked_free w c Pending = left_out c w.pending
@@ -129,15 +129,15 @@ deregisters_stands c d h = record {
 pub moves_stands : (c : ℕ) (to : Place) (d : Dispatcher) → HasEnd d c → ListsStand d → ListsStand (record d { lists = moved d.lists c to })
 moves_stands c to d a h = registers_stands c to (deregisters c d) (unlinked_free d.lists c) a (deregisters_stands c d h)
 
-with_lists : Dispatcher → Threads → Dispatcher
+with_lists : Dispatcher → ThreeLists → Dispatcher
 with_lists d w = record d { lists = w }
 
 pub puts_off_stands : (from : Place) (c : ℕ) (to : Place) (d : Dispatcher) → slice_get (list_at d.lists from) 0 ≡ Some c → HasEnd d c → ListsStand d
     → ListsStand (puts_off from c to d)
 puts_off_stands from c to d q a h =
-    subst (λ (w : Threads). ListsStand (record d { lists = w })) (first_moves d.lists c from to h.apart q) (moves_stands c to d a h)
+    subst (λ (w : ThreeLists). ListsStand (record d { lists = w })) (first_moves d.lists c from to h.apart q) (moves_stands c to d a h)
 
-idle_place : (w : Threads) (c : ℕ) → is_in c w.idle ≡ true → place_of w c ≡ Some Idle
+idle_place : (w : ThreeLists) (c : ℕ) → is_in c w.idle ≡ true → place_of w c ≡ Some Idle
 idle_place w c h = either (λ (o : Option Place). o ≡ Some Idle) (is_in c w.idle) _ _ (λ q. refl) (λ q. absurd (true≢false (sym h ∙ q)))
 
 pub triggers_stands : (c : ℕ) (d : Dispatcher) → ListsStand d → ListsStand (triggers c d)
@@ -145,10 +145,10 @@ triggers_stands c d h = by_idle (is_in c d.lists.idle) refl
   where
     by_idle : (b : Bool) → is_in c d.lists.idle ≡ b → ListsStand (triggers c d)
     by_idle true q =
-        subst (λ (w : Threads). ListsStand (record d { lists = w })) (idle_moves d.lists c h.apart (idle_place d.lists c q))
+        subst (λ (w : ThreeLists). ListsStand (record d { lists = w })) (idle_moves d.lists c h.apart (idle_place d.lists c q))
         (moves_stands c Pending d (h.ends Idle c q) h)
     by_idle false q =
-        either (λ (w : Threads). ListsStand (record d { lists = w })) (is_in c d.lists.idle) _ _ (λ r. absurd (true≢false (sym r ∙ q))) (λ r. h)
+        either (λ (w : ThreeLists). ListsStand (record d { lists = w })) (is_in c d.lists.idle) _ _ (λ r. absurd (true≢false (sym r ∙ q))) (λ r. h)
 
 pub with_end_stands : (e : EndId) (d : Dispatcher) → length d.ends + 1 ≤ most_ends → ListsStand d → ListsStand (with_end e d)
 with_end_stands e d a h =

@@ -91,7 +91,7 @@ written_kept e i d (ring_side on) s h = h
 
 -- ---- both ends of a new binding
 
-free_by : (w : Rattle.fl_lists.specs.ThreeLists.Threads) (c ch : ℕ) (to place : Place) → IsFree c w → c ≢ ch → (b : Bool)
+free_by : (w : Rattle.fl_lists.specs.ThreeLists.ThreeLists) (c ch : ℕ) (to place : Place) → IsFree c w → c ≢ ch → (b : Bool)
     → is_in c (list_at (pushed w ch to) place) ≡ b → is_in c (list_at (pushed w ch to) place) ≡ false
 free_by w c ch to place f ne true q =
     elim (pushed_from w ch to place c q) [
@@ -285,7 +285,7 @@ free_parts true b c h = absurd (cc)
 free_parts false true c h = absurd (cc)
 free_parts false false true h = absurd (cc)
 
-unlisted_free : (w : Threads) (c : ℕ) → is_registered w c ≡ false → IsFree c w
+unlisted_free : (w : ThreeLists) (c : ℕ) → is_registered w c ≡ false → IsFree c w
 unlisted_free w c h Idle = (free_parts (is_in c w.idle) (is_in c w.polled) (is_in c w.pending) h).0
 unlisted_free w c h Polled = (free_parts (is_in c w.idle) (is_in c w.polled) (is_in c w.pending) h).1
 unlisted_free w c h Pending = (free_parts (is_in c w.idle) (is_in c w.polled) (is_in c w.pending) h).2
