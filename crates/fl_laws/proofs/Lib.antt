@@ -18,3 +18,4 @@ pub mod Ready
 pub mod WaitsetsStep
 pub mod WaitsetsKept
 pub mod Hearing
+pub mod Arriving

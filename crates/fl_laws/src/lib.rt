@@ -5,9 +5,10 @@ ghost use Rattle.std.specs.Prelude.{◌≡◌};
 ghost use Rattle.fl_queues.specs.Events.{Event};
 ghost use Rattle.fl_queues.specs.State.{State};
 ghost use Rattle.fl_queues.specs.Step.{step};
+ghost use Rattle.fl_queues.specs.Sound.{Sound};
 ghost use Rattle.fl_queues.specs.SoundPlaces.{EndsStand, ServicesStand};
 ghost use Rattle.fl_queues.specs.SoundRings.{RingsCount, RingsFit};
-ghost use Rattle.fl_queues.specs.SoundLists.{QueuesHaveRoom, OutboxesHaveRoom, BareUntilCoresAreSet};
+ghost use Rattle.fl_queues.specs.SoundLists.{WaitsetsStand, QueuesHaveRoom, OutboxesHaveRoom, BareUntilCoresAreSet};
 ghost use Rattle.fl_queues.specs.Laws.{RingsCountInOrder, FewWaitAndOnlyWhereBusy};
 
 /// Each step keeps the counts of all rings, whatever else the state holds: what a writer knows, what waiting labels tell,
@@ -54,4 +55,10 @@ pub fn steps_keep_bare()
 /// there while the number of cores may be set.
 pub fn steps_keep_services()
     ensures kept { (s : State) (v : Event) → BareUntilCoresAreSet s → ServicesStand s → ServicesStand (step s v).state }
+{}
+
+/// Each step of a sound state keeps the waitsets: no channel is twice in a dispatcher's lists, each there is an end's, and no
+/// dispatcher has more than 1,024 ends.
+pub fn steps_keep_waitsets()
+    ensures kept { (s : State) (v : Event) → Sound s → WaitsetsStand (step s v).state }
 {}
