@@ -19,3 +19,4 @@ pub mod WaitsetsStep
 pub mod WaitsetsKept
 pub mod Hearing
 pub mod Arriving
+pub mod Seats

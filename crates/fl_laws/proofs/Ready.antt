@@ -98,7 +98,7 @@ ready_route e n f s h x seat q r y u =
           ∙ ap (λ (z : End). Some z) (sym (route_end e.side f c.1.0) ∙ ap (end_in e.side) (sym c.1.2) ∙ is)) r y u
     ]
 
-get_last : {X : Type 0} (xs : List X) (y : X) → slice_get (xs ++ y ∷ []) (length xs) ≡ Some y
+pub get_last : {X : Type 0} (xs : List X) (y : X) → slice_get (xs ++ y ∷ []) (length xs) ≡ Some y
 get_last [] y = refl
 get_last (x ∷ xs) y = get_last xs y
 
