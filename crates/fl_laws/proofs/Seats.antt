@@ -17,7 +17,7 @@ use Rattle.fl_laws.proofs.Cases.{by_given}
 use Rattle.fl_laws.proofs.BindingWalk.{given_there, end_there}
 use Rattle.fl_laws.proofs.EndsStanding.{get_push}
 use Rattle.fl_laws.proofs.Ready.{get_last}
-use Rattle.fl_laws.proofs.Seating.{changed_was, changed_here}
+use Rattle.fl_laws.proofs.Seating.{changed_was, changed_here, dispatcher_here, dispatcher_was}
 
 -- ---- views of one element
 
@@ -128,3 +128,188 @@ new_kept w back stations q s h =
 pub added_kept : (core : ℕ) (s : State) → Agree s → Agree (change_core core with_dispatcher s)
 added_kept core s h =
     core_kept core with_dispatcher s (λ k q place. view_push k.dispatchers place (λ (y : Dispatcher). y.ends) [] fresh_dispatcher refl) h
+
+-- ---- an end is seated
+
+abbrev pub Unseated : EndId → State → Type 0
+Unseated e s = (b : Binding) × (slice_get s.bindings e.binding ≡ Some b) × ((end_in e.side b).seat ≡ None)
+
+some_same : {X : Type 0} (a b : X) → Some a ≡ Some b → a ≡ b
+some_same a b h = cc
+
+given_elem : {X Y : Type 0} (o : Option X) (f : X → List Y) (c : ℕ) (y : Y) → slice_get (given o [] f) c ≡ Some y
+    → (x : X) × (o ≡ Some x) × (slice_get (f x) c ≡ Some y)
+given_elem None f c y h = absurd (cc)
+given_elem (Some x) f c y h = (x, refl, h)
+
+-- what stood at a place stands there after a change, changed or not
+abbrev Now : {X : Type 0} → List X → ℕ → (X → X) → ℕ → X → Type 0
+Now {X} xs n f m z = (slice_get (changed_at n f xs) m ≡ Some z) ⊎ ((m ≡ n) × (slice_get (changed_at n f xs) m ≡ Some (f z)))
+
+set_now : {X : Type 0} (xs : List X) (n : ℕ) (y : X) (m : ℕ) (z : X) → slice_get xs m ≡ Some z
+    → (slice_get (slice_set xs n y) m ≡ Some z) ⊎ ((m ≡ n) × (slice_get (slice_set xs n y) m ≡ Some y))
+set_now [] n y m z q = absurd (cc)
+set_now (x ∷ xs) zero y zero z q = inr (refl, refl)
+set_now (x ∷ xs) zero y (suc m) z q = inl q
+set_now (x ∷ xs) (suc n) y zero z q = inl q
+set_now (x ∷ xs) (suc n) y (suc m) z q = elim (set_now xs n y m z q) [ | inl a ↦ inl a | inr b ↦ inr (ap suc b.0, b.1) ]
+
+changed_now : {X : Type 0} (xs : List X) (n : ℕ) (f : X → X) (m : ℕ) (z : X) → slice_get xs m ≡ Some z → Now xs n f m z
+changed_now {X} xs n f m z h =
+    by_given (λ (ys : List X). (slice_get ys m ≡ Some z) ⊎ ((m ≡ n) × (slice_get ys m ≡ Some (f z)))) (slice_get xs n) xs (λ x. slice_set xs n (f x)) (inl h)
+    (λ x q. elim (set_now xs n (f x) m z h) [
+      | inl a ↦ inl a
+      | inr b ↦ inr (b.0, b.1 ∙ ap (λ (y : X). Some (f y)) (some_same x z (sym q ∙ ap (slice_get xs) (sym b.0) ∙ h)))
+    ])
+
+push_was : {X : Type 0} (xs : List X) (y : X) (c : ℕ) (z : X) → slice_get (xs ++ y ∷ []) c ≡ Some z → (slice_get xs c ≡ Some z) ⊎ ((c ≡ length xs) × (z ≡ y))
+push_was [] y zero z q = inr (refl, sym (some_same y z q))
+push_was [] y (suc c) z q = absurd (cc)
+push_was (x ∷ xs) y zero z q = inl q
+push_was (x ∷ xs) y (suc c) z q = elim (push_was xs y c z q) [ | inl a ↦ inl a | inr b ↦ inr (let e : c ≡ length xs = b.0 in omega arith, b.1) ]
+
+-- one side, or the other
+sides : (side by : Side) (f : End → End) → (side ≡ by) ⊎ ((b : Binding) → end_in side (with_end_in by f b) ≡ end_in side b)
+sides Client Client f = inl refl
+sides Client Server f = inr (λ b. refl)
+sides Server Client f = inr (λ b. refl)
+sides Server Server f = inl refl
+
+this_side : (side : Side) (f : End → End) (b : Binding) → end_in side (with_end_in side f b) ≡ f (end_in side b)
+this_side Client f b = refl
+this_side Server f b = refl
+
+same_end_id : (g e : EndId) → g.binding ≡ e.binding → g.side ≡ e.side → g ≡ e
+same_end_id g e p q = ap (λ (n : ℕ). end_id n g.side) p ∙ ap (end_id e.binding) q
+
+pub ends_at : (s : State) (d : DispatcherId) (y : Dispatcher) → dispatcher_of s d ≡ Some y → ends_of s.cores d ≡ y.ends
+ends_at s d y q =
+    let (k, at, is) = given_there (core_of s d.core) (λ k. slice_get k.dispatchers d.place) y q in
+    ap (λ (o : Option Core). given o [] (λ j. ends_in j.dispatchers d.place)) at ∙ ap (λ (o : Option Dispatcher). given o [] (λ z. z.ends)) is
+
+pub ends_from : (s : State) (d : DispatcherId) (c : ℕ) (e : EndId) → slice_get (ends_of s.cores d) c ≡ Some e
+    → (y : Dispatcher) × (dispatcher_of s d ≡ Some y) × (slice_get y.ends c ≡ Some e)
+ends_from s d c e q =
+    let (k, at, is) = given_elem (slice_get s.cores d.core) (λ j. ends_in j.dispatchers d.place) c e q in
+    let (y, there, its) = given_elem (slice_get k.dispatchers d.place) (λ (z : Dispatcher). z.ends) c e is in
+    (y, ap (λ (o : Option Core). given o None (λ j. slice_get j.dispatchers d.place)) at ∙ there, its)
+
+module _ (d : DispatcherId) (e : EndId) (s : State) (x : Dispatcher) (there : dispatcher_of s d ≡ Some x) (free : Unseated e s) (h : Agree s) where
+  abbrev place_it : End → End
+  place_it y = record y { seat = Some (at_channel d (length x.ends)) }
+
+  abbrev after : State
+  after = change_dispatcher d (with_end e) (change_end e place_it s)
+
+  its_seat : seat_of after e ≡ Some (at_channel d (length x.ends))
+  its_seat =
+      ap (λ (o : Option Binding). given o None (λ b. (end_in e.side b).seat)) (changed_here s.bindings e.binding (with_end_in e.side place_it) free.0 free.1)
+      ∙ ap (λ (y : End). y.seat) (this_side e.side place_it free.0)
+
+  seat_was : (g : EndId) (w : Seat) → seat_of after g ≡ Some w → (seat_of s g ≡ Some w) ⊎ ((g ≡ e) × (w ≡ at_channel d (length x.ends)))
+  seat_was g w q =
+      let (b, at, is) = given_there (slice_get after.bindings g.binding) (λ b. (end_in g.side b).seat) w q in
+      elim (changed_was s.bindings e.binding (with_end_in e.side place_it) g.binding b at) [
+        | inl a ↦ inl (ap (λ (o : Option Binding). given o None (λ a. (end_in g.side a).seat)) a ∙ is)
+        | inr c ↦ elim (sides g.side e.side place_it) [
+          | inl r ↦ inr (same_end_id g e c.0 r, some_same w (at_channel d (length x.ends))
+              (sym (subst (λ (i : EndId). seat_of after i ≡ Some w) (same_end_id g e c.0 r) q) ∙ its_seat))
+          | inr r ↦ inl (ap (λ (o : Option Binding). given o None (λ a. (end_in g.side a).seat)) (ap (slice_get s.bindings) c.0 ∙ c.1.1)
+              ∙ sym (ap (λ (y : End). y.seat) (ap (end_in g.side) c.1.2 ∙ r c.1.0)) ∙ is)
+        ]
+      ]
+
+  seat_now : (g : EndId) (w : Seat) → seat_of s g ≡ Some w → seat_of after g ≡ Some w
+  seat_now g w q =
+      let (b, at, is) = given_there (slice_get s.bindings g.binding) (λ b. (end_in g.side b).seat) w q in
+      elim (changed_now s.bindings e.binding (with_end_in e.side place_it) g.binding b at) [
+        | inl a ↦ ap (λ (o : Option Binding). given o None (λ a. (end_in g.side a).seat)) a ∙ is
+        | inr c ↦ elim (sides g.side e.side place_it) [
+          | inl r ↦ absurd (unseated (same_end_id g e c.0 r))
+          | inr r ↦ ap (λ (o : Option Binding). given o None (λ a. (end_in g.side a).seat)) c.1 ∙ ap (λ (y : End). y.seat) (r b) ∙ is
+        ]
+      ]
+    where
+      unseated : g ≡ e → ⊥
+      unseated same =
+          let none : seat_of s e ≡ None = ap (λ (o : Option Binding). given o None (λ a. (end_in e.side a).seat)) free.1 ∙ free.2 in
+          let some : None ≡ Some w = sym none ∙ ap (seat_of s) (sym same) ∙ q in
+          absurd (cc)
+
+  end_was : (g : DispatcherId) (c : ℕ) (i : EndId) → slice_get (ends_of after.cores g) c ≡ Some i
+      → (slice_get (ends_of s.cores g) c ≡ Some i) ⊎ ((g ≡ d) × (c ≡ length x.ends) × (i ≡ e))
+  end_was g c i q =
+      let (y, at, its) = ends_from after g c i q in
+      elim (dispatcher_was d (with_end e) (change_end e place_it s) g y at) [
+        | inl a ↦ inl (ap (λ es. slice_get es c) (ends_at s g y a) ∙ its)
+        | inr b ↦ pushed b.0 b.1.0 b.1.1 (ap (λ (z : Dispatcher). slice_get z.ends c) (sym b.1.2) ∙ its)
+      ]
+    where
+      pushed : g ≡ d → (z : Dispatcher) → dispatcher_of s d ≡ Some z → slice_get (z.ends ++ e ∷ []) c ≡ Some i
+          → (slice_get (ends_of s.cores g) c ≡ Some i) ⊎ ((g ≡ d) × (c ≡ length x.ends) × (i ≡ e))
+      pushed same z at its =
+          elim (push_was z.ends e c i its) [
+            | inl a ↦ inl (ap (λ (m : DispatcherId). slice_get (ends_of s.cores m) c) same ∙ ap (λ es. slice_get es c) (ends_at s d z at) ∙ a)
+            | inr b ↦ inr (same, b.0 ∙ ap (λ (v : Dispatcher). length v.ends) (some_same z x (sym at ∙ there)), b.1)
+          ]
+
+  its_end : slice_get (ends_of after.cores d) (length x.ends) ≡ Some e
+  its_end =
+      ap (λ es. slice_get es (length x.ends)) (ends_at after d (with_end e x) (dispatcher_here d (with_end e) (change_end e place_it s) x there))
+      ∙ get_last x.ends e
+
+  end_now : (g : DispatcherId) (c : ℕ) (i : EndId) → slice_get (ends_of s.cores g) c ≡ Some i → slice_get (ends_of after.cores g) c ≡ Some i
+  end_now g c i q =
+      let (k, at, is) = given_elem (slice_get s.cores g.core) (λ j. ends_in j.dispatchers g.place) c i q in
+      let (y, got, its) = given_elem (slice_get k.dispatchers g.place) (λ (z : Dispatcher). z.ends) c i is in
+      elim (changed_now s.cores d.core (λ j. record j { dispatchers = changed_at d.place (with_end e) j.dispatchers }) g.core k at) [
+        | inl a ↦ ap (λ (o : Option Core). slice_get (given o [] (λ j. ends_in j.dispatchers g.place)) c) a ∙ is
+        | inr b ↦ ap (λ (o : Option Core). slice_get (given o [] (λ j. ends_in j.dispatchers g.place)) c) b.1 ∙ in_core k y got its
+      ]
+    where
+      in_core : (k : Core) (y : Dispatcher) → slice_get k.dispatchers g.place ≡ Some y → slice_get y.ends c ≡ Some i
+          → slice_get (ends_in (changed_at d.place (with_end e) k.dispatchers) g.place) c ≡ Some i
+      in_core k y got its =
+          elim (changed_now k.dispatchers d.place (with_end e) g.place y got) [
+            | inl a ↦ ap (λ (o : Option Dispatcher). slice_get (given o [] (λ z. z.ends)) c) a ∙ its
+            | inr b ↦ ap (λ (o : Option Dispatcher). slice_get (given o [] (λ z. z.ends)) c) b.1 ∙ get_push y.ends c i e its
+          ]
+
+  pub seated_agree : Agree after
+  seated_agree =
+      ((λ i g c q. elim (seat_was i (at_channel g c) q) [
+        | inl a ↦ end_now g c i (h.0 i g c a)
+        | inr b ↦ ap (λ (w : Seat). slice_get (ends_of after.cores w.dispatcher) w.channel) b.1 ∙ its_end ∙ ap (λ (j : EndId). Some j) (sym b.0)
+      ]),
+      (λ i g c q. elim (end_was g c i q) [
+        | inl a ↦ seat_now i (at_channel g c) (h.1 i g c a)
+        | inr b ↦ ap (seat_of after) b.2 ∙ its_seat ∙ ap (λ (m : DispatcherId). Some (at_channel m (length x.ends))) (sym b.0)
+            ∙ ap (λ (n : ℕ). Some (at_channel g n)) (sym b.1)
+      ]))
+
+pub seating_kept : (d : DispatcherId) (e : EndId) (s : State) → Unseated e s → Agree s → Agree (seats d e s)
+seating_kept d e s u h = by_given Agree (dispatcher_of s d) _ _ h (λ x q. seated_agree d e s x q u h)
+
+-- ---- as the sound states say it
+
+pub agree_of : (s : State) → SeatsAgree s → Agree s
+agree_of s h =
+    ((λ e d c q.
+    let (b, at, is) = given_there (slice_get s.bindings e.binding) (λ b. (end_in e.side b).seat) (at_channel d c) q in
+    let (y, there, its) = h.seated e d c (end_in e.side b, ap (λ (o : Option Binding). given o None (λ a. Some (end_in e.side a))) at, is) in
+    ap (λ es. slice_get es c) (ends_at s d y there) ∙ its),
+    (λ e d c q.
+    let (y, there, its) = ends_from s d c e q in
+    let (x, at, is) = h.listed d y c e there its in
+    let (b, got, same) = end_there s e x at in
+    ap (λ (o : Option Binding). given o None (λ a. (end_in e.side a).seat)) got ∙ ap (λ (z : End). z.seat) same ∙ is))
+
+pub seats_of : (s : State) → Agree s → SeatsAgree s
+seats_of s h = record {
+  seated = λ e d c k.
+      let (b, got, same) = end_there s e k.0 k.1 in
+      ends_from s d c e (h.0 e d c (ap (λ (o : Option Binding). given o None (λ a. (end_in e.side a).seat)) got ∙ ap (λ (z : End). z.seat) same ∙ k.2));
+  listed = λ d y c e there its.
+      let (b, at, is) = given_there (slice_get s.bindings e.binding) (λ b. (end_in e.side b).seat) (at_channel d c) (h.1 e d c (ap (λ es. slice_get es c) (ends_at s d y there) ∙ its)) in
+      (end_in e.side b, ap (λ (o : Option Binding). given o None (λ a. Some (end_in e.side a))) at, is);
+}
