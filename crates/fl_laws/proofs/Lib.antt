@@ -20,3 +20,4 @@ pub mod WaitsetsKept
 pub mod Hearing
 pub mod Arriving
 pub mod Seats
+pub mod SeatsStep

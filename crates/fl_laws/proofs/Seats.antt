@@ -134,10 +134,10 @@ added_kept core s h =
 abbrev pub Unseated : EndId → State → Type 0
 Unseated e s = (b : Binding) × (slice_get s.bindings e.binding ≡ Some b) × ((end_in e.side b).seat ≡ None)
 
-some_same : {X : Type 0} (a b : X) → Some a ≡ Some b → a ≡ b
+pub some_same : {X : Type 0} (a b : X) → Some a ≡ Some b → a ≡ b
 some_same a b h = cc
 
-given_elem : {X Y : Type 0} (o : Option X) (f : X → List Y) (c : ℕ) (y : Y) → slice_get (given o [] f) c ≡ Some y
+pub given_elem : {X Y : Type 0} (o : Option X) (f : X → List Y) (c : ℕ) (y : Y) → slice_get (given o [] f) c ≡ Some y
     → (x : X) × (o ≡ Some x) × (slice_get (f x) c ≡ Some y)
 given_elem None f c y h = absurd (cc)
 given_elem (Some x) f c y h = (x, refl, h)
