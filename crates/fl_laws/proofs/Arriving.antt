@@ -88,16 +88,16 @@ pub record OpeningDue (route : Route) (to : ℕ) (o : Opening) : Type 0 where
   pub service : o.service ≡ route.service
   pub path : o.path ≡ route.cores
 
-same_opening : (p o : Opening) → open_circuit p ≡ open_circuit o → p ≡ o
+pub same_opening : (p o : Opening) → open_circuit p ≡ open_circuit o → p ≡ o
 same_opening p o h = cc
 
-not_opened : (c : ℕ) (o : Opening) → circuit_opened c ≡ open_circuit o → ⊥
+pub not_opened : (c : ℕ) (o : Opening) → circuit_opened c ≡ open_circuit o → ⊥
 not_opened c o h = absurd (cc)
 
-not_refused : (c fault : ℕ) (o : Opening) → circuit_refused c fault ≡ open_circuit o → ⊥
+pub not_refused : (c fault : ℕ) (o : Opening) → circuit_refused c fault ≡ open_circuit o → ⊥
 not_refused c fault o h = absurd (cc)
 
-said_same : (a b : Message) → Some a ≡ Some b → a.said ≡ b.said
+pub said_same : (a b : Message) → Some a ≡ Some b → a.said ≡ b.said
 said_same a b h = ap (λ (m : Message). m.said) (some_same a b h)
 
 opening_due : (n : ℕ) (route : Route) (from to : ℕ) (o : Opening) (v : Verdict)

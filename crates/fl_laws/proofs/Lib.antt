@@ -21,3 +21,4 @@ pub mod Hearing
 pub mod Arriving
 pub mod Seats
 pub mod SeatsStep
+pub mod Sitting

@@ -1,6 +1,6 @@
 -- An end's channel is its dispatcher's channel for it, and no other's: as the seats that ends have, and the ends that dispatchers have.
-use Rattle.std.proofs.Common.{◌≡◌, ◌≢◌, refl, sym, ◌∙◌, ap, subst, ℕ, zero, suc, ◌+◌, ◌≤◌, Bool, true, false, ◌⊎◌, inl, inr}
-use Rattle.std.proofs.Common.{List, [], ◌∷◌, ◌++◌, map, length, slice_get, slice_set, Option, Some, None, arith}
+use Rattle.std.proofs.Common.{◌≡◌, refl, sym, ◌∙◌, ap, subst, ℕ, zero, suc, ◌⊎◌, inl, inr}
+use Rattle.std.proofs.Common.{List, [], ◌∷◌, ◌++◌, length, slice_get, slice_set, Option, Some, None, arith}
 use Rattle.fl_base.specs.declared.identity.EndId.{EndId}
 use Rattle.fl_base.specs.declared.identity.Side.{Side}
 use Rattle.fl_base.specs.declared.identity.Side.TheVariants.{Client, Server}
@@ -11,7 +11,7 @@ use Rattle.fl_queues.specs.Waits.{Dispatcher, with_end, fresh_dispatcher}
 use Rattle.fl_queues.specs.Monitors.{Core}
 use Rattle.fl_queues.specs.State.{Route, Back, Binding, State, core_of, dispatcher_of, end_of, end_in, with_end_in, in_route, change_core, change_dispatcher, change_end, change_route, change_channel, seats, binds_end}
 use Rattle.fl_queues.specs.Making.{with_dispatcher}
-use Rattle.fl_queues.specs.Binding.{Wanted, end_id, with_new_binding, binds_both}
+use Rattle.fl_queues.specs.Binding.{Wanted, end_id, with_new_binding}
 use Rattle.fl_queues.specs.SoundPlaces.{SeatsAgree}
 use Rattle.fl_laws.proofs.Cases.{by_given}
 use Rattle.fl_laws.proofs.BindingWalk.{given_there, end_there}

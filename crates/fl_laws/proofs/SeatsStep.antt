@@ -1,20 +1,19 @@
 -- Each step of a sound state keeps the seats: only a bind and an opening that arrives seat an end, and none that has a seat.
-use Rattle.std.proofs.Common.{◌≡◌, refl, sym, ◌∙◌, ap, subst, ℕ, zero, suc, ◌+◌, Bool, true, false}
-use Rattle.std.proofs.Common.{List, [], ◌∷◌, ◌++◌, map, length, slice_get, Option, Some, None}
+use Rattle.std.proofs.Common.{◌≡◌, refl, sym, ◌∙◌, ap, ℕ, ◌+◌}
+use Rattle.std.proofs.Common.{[], ◌∷◌, map, length, slice_get, Some, None}
 use Rattle.std.specs.List.{range_with_len}
 use Rattle.fl_base.specs.declared.identity.EndId.{EndId}
 use Rattle.fl_base.specs.declared.identity.Side.TheVariants.{Client, Server}
 use Rattle.fl_base.specs.Ends.{peer}
 use Rattle.fl_lists.specs.declared.place.Place.TheVariants.{Polled}
-use Rattle.fl_queues.specs.Given.{given, changed_at}
 use Rattle.fl_queues.specs.Events.{DispatcherId, Event}
 use Rattle.fl_queues.specs.Calls.{Planned}
-use Rattle.fl_queues.specs.Rings.{Opening, Said, open_circuit, circuit_opened, circuit_refused, Label, next_of, says, acknowledges, RingLabel, Ring, RingEnd, RingSide, first_for, there_is_room, looks, makes_sure, takes, first_side, second_side}
+use Rattle.fl_queues.specs.Rings.{Opening, Said, Label, next_of, says, acknowledges, RingLabel, Ring, RingEnd, RingSide, first_for, there_is_room, looks, makes_sure, takes, first_side, second_side}
 use Rattle.fl_queues.specs.Ends.{End, Queue, Direction, fresh_queue, joined_by, without_first, accepts, writes, written_of, with_rule, passes, takes_one, comes_to, rule_at, Taken, whole, a_part, replies}
-use Rattle.fl_queues.specs.Waits.{Dispatcher, waits_in}
-use Rattle.fl_queues.specs.Monitors.{Core, fresh_core, can_say, Fate, goes_on, ends_at, fails, fate, hears_opening, hears_opened, hears_refused, opens, Hearing, hears}
+use Rattle.fl_queues.specs.Waits.{waits_in}
+use Rattle.fl_queues.specs.Monitors.{Core, fresh_core, opens, Hearing, hears}
 use Rattle.fl_queues.specs.Monitors.{Heard, no_outbox, astray, opening_went_on, server_made, opening_failed, answer_went_on, end_opened, end_refused}
-use Rattle.fl_queues.specs.State.{Route, Back, local, over_ring, over_route, undecided, Verdict, Binding, State, Outcome, Outlet, peer_queue, ring_side, core_of, dispatcher_of, end_of, end_in, first_on}
+use Rattle.fl_queues.specs.State.{Route, local, over_ring, over_route, undecided, Binding, State, Outcome, Outlet, peer_queue, ring_side, core_of, dispatcher_of, end_of, end_in, first_on}
 use Rattle.fl_queues.specs.State.{change_core, change_ring, change_end, change_out, change_route, in_route, in_queue, delivers, seats, binds_end}
 use Rattle.fl_queues.specs.Making.{linked}
 use Rattle.fl_queues.specs.Binding.{Wanted, end_id, with_new_binding, binds_both, arrival_queue}
@@ -24,14 +23,14 @@ use Rattle.fl_queues.specs.Forwarding.{LinkEnd, without_first_said, follows, tak
 use Rattle.fl_queues.specs.Step.{step}
 use Rattle.fl_queues.specs.SoundLists.{IsBare, BareUntilCoresAreSet}
 use Rattle.fl_queues.specs.SoundPlaces.{SeatsAgree}
-use Rattle.fl_laws.proofs.Cases.{either, by_given}
+use Rattle.fl_laws.proofs.Cases.{by_given}
 use Rattle.fl_laws.proofs.Bare.{none_of}
 use Rattle.fl_laws.proofs.CoreWalk.{each_at_fresh}
 use Rattle.fl_laws.proofs.BindingWalk.{given_there, new_binding}
 use Rattle.fl_laws.proofs.Ready.{get_last}
 use Rattle.fl_laws.proofs.Services.{hears_leaves, is_not, ring_bare}
 use Rattle.fl_laws.proofs.Seating.{changed_here}
-use Rattle.fl_laws.proofs.Seats.{given_elem, some_same, seat_of, ends_in, ends_of, Agree, Unseated, end_kept, route_kept, core_kept, dispatcher_kept, channel_kept, bound_kept, new_kept, added_kept, seating_kept, agree_of, seats_of}
+use Rattle.fl_laws.proofs.Seats.{given_elem, some_same, ends_in, Agree, Unseated, end_kept, route_kept, core_kept, dispatcher_kept, channel_kept, bound_kept, new_kept, added_kept, seating_kept, agree_of, seats_of}
 use Rattle.fl_laws.proofs.WaitsetsKept.{looks_same, sure_same, first_same}
 use Rattle.fl_laws.proofs.Walk.{KeepsFrom, IsHere, step_leads, with_ring}
 

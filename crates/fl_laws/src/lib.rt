@@ -6,7 +6,7 @@ ghost use Rattle.fl_queues.specs.Events.{Event};
 ghost use Rattle.fl_queues.specs.State.{State};
 ghost use Rattle.fl_queues.specs.Step.{step};
 ghost use Rattle.fl_queues.specs.Sound.{Sound};
-ghost use Rattle.fl_queues.specs.SoundPlaces.{EndsStand, ServicesStand};
+ghost use Rattle.fl_queues.specs.SoundPlaces.{EndsStand, ServicesStand, SeatsAgree};
 ghost use Rattle.fl_queues.specs.SoundRings.{RingsCount, RingsFit};
 ghost use Rattle.fl_queues.specs.SoundLists.{WaitsetsStand, QueuesHaveRoom, OutboxesHaveRoom, BareUntilCoresAreSet};
 ghost use Rattle.fl_queues.specs.Laws.{RingsCountInOrder, FewWaitAndOnlyWhereBusy};
@@ -61,4 +61,9 @@ pub fn steps_keep_services()
 /// dispatcher has more than 1,024 ends.
 pub fn steps_keep_waitsets()
     ensures kept { (s : State) (v : Event) → Sound s → WaitsetsStand (step s v).state }
+{}
+
+/// Each step of a sound state keeps the seats: an end's channel is its dispatcher's channel for it, and no other's.
+pub fn steps_keep_seats()
+    ensures kept { (s : State) (v : Event) → Sound s → SeatsAgree (step s v).state }
 {}
