@@ -1,34 +1,33 @@
 -- What stands first on a link and is a monitor's message is the one that is due for a binding; so an answer that comes to an end
 -- comes to the client's end of it, which isn't bound and is in no list.
-use Rattle.std.proofs.Common.{◌≡◌, refl, sym, ◌∙◌, ap, subst, ℕ, zero, suc, ◌+◌, ◌-◌, ◌<◌, ◌≤◌, ◌==◌, ◌&&◌, nat_le, nat_lt, not, Bool, true, false, if◌then◌else◌}
-use Rattle.std.proofs.Common.{List, [], ◌∷◌, ◌++◌, length, slice_get, slice_index, Option, Some, None, arith}
-use Rattle.std.specs.Prelude.{IsSome, is_some, filter_map, Contains, position}
-use Rattle.std.proofs.lemmas.Bool.{false≢true, true≢false}
+use Rattle.std.proofs.Common.{◌≡◌, refl, sym, ◌∙◌, ap, subst, ℕ, zero, suc, ◌+◌, ◌≤◌, Bool, true, false}
+use Rattle.std.proofs.Common.{List, [], ◌∷◌, ◌++◌, length, slice_get, Option, Some, None, arith}
+use Rattle.std.specs.Prelude.{IsSome, is_some, filter_map, Contains}
+use Rattle.std.proofs.lemmas.Bool.{false≢true}
 use Rattle.fl_base.specs.declared.identity.EndId.{EndId}
-use Rattle.fl_base.specs.declared.identity.Side.TheVariants.{Client, Server}
+use Rattle.fl_base.specs.declared.identity.Side.TheVariants.{Client}
 use Rattle.fl_lists.specs.declared.place.Place.{Place}
 use Rattle.fl_lists.specs.ThreeLists.{list_at, is_in}
 use Rattle.fl_hop.specs.declared.entry.Way.{Way}
-use Rattle.fl_hop.specs.declared.entry.Way.TheVariants.{Link as to_link, End as to_end}
+use Rattle.fl_hop.specs.declared.entry.Way.TheVariants.{End as to_end}
 use Rattle.fl_hop.specs.declared.entry.Hop.{Hop}
 use Rattle.fl_hop.specs.Table.{hop_at}
 use Rattle.fl_queues.specs.Given.{given}
-use Rattle.fl_queues.specs.Events.{DispatcherId}
 use Rattle.fl_queues.specs.Rings.{Opening, Said, open_circuit, circuit_opened, circuit_refused, Label, says, RingLabel, Ring, RingEnd, read_by, first_for}
-use Rattle.fl_queues.specs.Ends.{End, Seat}
+use Rattle.fl_queues.specs.Ends.{Seat}
 use Rattle.fl_queues.specs.Waits.{Dispatcher}
 use Rattle.fl_queues.specs.Monitors.{Link, Core, link_to}
-use Rattle.fl_queues.specs.State.{Verdict, undecided, granted, denied, Route, Back, over_route, Binding, State, core_of, dispatcher_of, end_of, end_in, link_between, first_on}
+use Rattle.fl_queues.specs.State.{Verdict, undecided, granted, denied, Route, Back, over_route, Binding, State, core_of, dispatcher_of, end_in, link_between, first_on}
 use Rattle.fl_queues.specs.Binding.{end_id}
-use Rattle.fl_queues.specs.Forwarding.{LinkEnd, link_end}
-use Rattle.fl_queues.specs.Standing.{Routed, core_at, number_at, standing, standing_by, Message, back_to, due_by, due_message, unread, labels_of, on_link, said_by, under_way}
+use Rattle.fl_queues.specs.Forwarding.{LinkEnd}
+use Rattle.fl_queues.specs.Standing.{core_at, number_at, standing, standing_by, Message, back_to, due_by, unread, labels_of, on_link, said_by, under_way}
 use Rattle.fl_queues.specs.SoundOpenings.{IsDue}
 use Rattle.fl_queues.specs.SoundRoutes.{VerdictFits, BoundBy, BoundWhere}
 use Rattle.fl_queues.specs.SoundEntries.{behind, SaysWay, EntryAt, near_key, EntryIs}
 use Rattle.fl_queues.specs.SoundLists.{Listed}
 use Rattle.fl_queues.specs.Sound.{Sound}
-use Rattle.fl_laws.proofs.BindingWalk.{given_there, end_there}
-use Rattle.fl_laws.proofs.Seating.{IsReady, Ready}
+use Rattle.fl_laws.proofs.BindingWalk.{given_there}
+use Rattle.fl_laws.proofs.Seating.{Ready}
 use Rattle.fl_laws.proofs.WaitsetsStep.{seat_its}
 use Rattle.fl_laws.proofs.Walk.{IsHere}
 
@@ -93,7 +92,7 @@ pub record OpenedDue (route : Route) (m : Message) (c : ℕ) : Type 0 where
   pub to : m.to ≡ core_at route waiting
   pub number : c ≡ number_at route waiting
 
-some_same : {X : Type 0} (a b : X) → Some a ≡ Some b → a ≡ b
+pub some_same : {X : Type 0} (a b : X) → Some a ≡ Some b → a ≡ b
 some_same a b h = cc
 
 not_open : (o : Opening) (m : Said) → open_circuit o ≡ m → {c : ℕ} → m ≡ circuit_opened c → ⊥

@@ -45,3 +45,7 @@ pub mod Refusals
 pub mod SameTypes
 pub mod FitsStep
 pub mod WorldReplies
+pub mod Arriving
+pub mod Seats
+pub mod SeatsStep
+pub mod Sitting

@@ -1,24 +1,17 @@
 -- An end that is seated may be registered, and so may it still after what others do.
-use Rattle.std.proofs.Common.{◌≡◌, ◌≢◌, refl, sym, ◌∙◌, ap, subst, ℕ, zero, suc, ◌+◌, ◌≤◌, Bool, true, false, ◌⊎◌, inl, inr}
-use Rattle.std.proofs.Common.{List, [], ◌∷◌, ◌++◌, length, slice_get, slice_set, Option, Some, None, arith}
-use Rattle.std.proofs.lemmas.Bool.{false≢true}
+use Rattle.std.proofs.Common.{◌≡◌, refl, sym, ◌∙◌, ap, subst, ℕ, ◌⊎◌, inl, inr}
+use Rattle.std.proofs.Common.{List, [], ◌∷◌, ◌++◌, length, slice_get, slice_set, Option, Some, None}
 use Rattle.fl_base.specs.declared.identity.EndId.{EndId}
 use Rattle.fl_base.specs.declared.identity.Side.{Side}
 use Rattle.fl_base.specs.declared.identity.Side.TheVariants.{Client, Server}
-use Rattle.fl_lists.specs.declared.place.Place.{Place}
-use Rattle.fl_lists.specs.ThreeLists.{list_at, is_in, pushed}
 use Rattle.fl_queues.specs.Given.{given, changed_at}
 use Rattle.fl_queues.specs.Events.{DispatcherId}
 use Rattle.fl_queues.specs.Ends.{End, Seat}
-use Rattle.fl_queues.specs.Waits.{Dispatcher, most_ends, waits_in, with_end, registers}
-use Rattle.fl_queues.specs.Monitors.{Core}
-use Rattle.fl_queues.specs.State.{Route, Binding, State, dispatcher_of, binding_of, end_of, end_in, with_end_in, in_route, change_dispatcher, change_end, change_route, seats, registers_end, binds_end}
-use Rattle.fl_queues.specs.Binding.{end_id}
-use Rattle.fl_laws.proofs.Cases.{by_given}
+use Rattle.fl_queues.specs.Waits.{Dispatcher, with_end}
+use Rattle.fl_queues.specs.State.{Route, Binding, State, dispatcher_of, binding_of, end_of, end_in, with_end_in, in_route, change_dispatcher, change_end, change_route, seats}
 use Rattle.fl_laws.proofs.BindingWalk.{end_there}
-use Rattle.fl_laws.proofs.EndsStanding.{get_push}
-use Rattle.fl_laws.proofs.Waitsets.{IsFree, pushed_from, next_free}
-use Rattle.fl_laws.proofs.Seating.{changed_here, changed_was, dispatcher_here, dispatcher_was, AllStand, stands_at, IsReady, Ready, registered_kept}
+use Rattle.fl_laws.proofs.Waitsets.{next_free}
+use Rattle.fl_laws.proofs.Seating.{changed_here, changed_was, dispatcher_here, dispatcher_was, AllStand, stands_at, IsReady, Ready}
 
 -- ---- ends after a change
 
@@ -105,7 +98,7 @@ ready_route e n f s h x seat q r y u =
           ∙ ap (λ (z : End). Some z) (sym (route_end e.side f c.1.0) ∙ ap (end_in e.side) (sym c.1.2) ∙ is)) r y u
     ]
 
-get_last : {X : Type 0} (xs : List X) (y : X) → slice_get (xs ++ y ∷ []) (length xs) ≡ Some y
+pub get_last : {X : Type 0} (xs : List X) (y : X) → slice_get (xs ++ y ∷ []) (length xs) ≡ Some y
 get_last [] y = refl
 get_last (x ∷ xs) y = get_last xs y
 

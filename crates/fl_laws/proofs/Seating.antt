@@ -1,25 +1,19 @@
 -- Where ends and dispatchers are after a change, and an end whose channel may be registered: its dispatcher has it for this
 -- end, in no list.
-use Rattle.std.proofs.Common.{◌≡◌, ◌≢◌, refl, sym, ◌∙◌, ap, subst, ℕ, zero, suc, ◌+◌, ◌≤◌, Bool, true, false, ◌⊎◌, inl, inr}
-use Rattle.std.proofs.Common.{List, [], ◌∷◌, ◌++◌, length, slice_get, slice_set, Option, Some, None, arith}
+use Rattle.std.proofs.Common.{◌≡◌, refl, sym, ◌∙◌, ap, subst, ℕ, zero, suc, ◌+◌, ◌≤◌, ◌⊎◌, inl, inr}
+use Rattle.std.proofs.Common.{List, [], ◌∷◌, length, slice_get, slice_set, Option, Some, None}
 use Rattle.std.specs.Prelude.{is_some}
-use Rattle.std.proofs.lemmas.Bool.{false≢true}
 use Rattle.fl_base.specs.declared.identity.EndId.{EndId}
-use Rattle.fl_base.specs.declared.identity.Side.{Side}
-use Rattle.fl_base.specs.declared.identity.Side.TheVariants.{Client, Server}
-use Rattle.fl_lists.specs.declared.place.Place.{Place}
-use Rattle.fl_lists.specs.ThreeLists.{ThreeLists, list_at, is_in, pushed}
 use Rattle.fl_queues.specs.Given.{given, changed_at}
 use Rattle.fl_queues.specs.Events.{DispatcherId}
 use Rattle.fl_queues.specs.Ends.{End, Seat}
 use Rattle.fl_queues.specs.Waits.{Dispatcher, most_ends, waits_in, with_end, registers, deregisters, triggers}
 use Rattle.fl_queues.specs.Monitors.{Core}
-use Rattle.fl_queues.specs.State.{Binding, State, core_of, dispatcher_of, binding_of, end_of, end_in, with_end_in, change_dispatcher, change_end, change_channel, seats, registers_end, binds_end}
-use Rattle.fl_queues.specs.Binding.{end_id}
+use Rattle.fl_queues.specs.State.{State, core_of, dispatcher_of, end_of, change_dispatcher, change_channel, seats, registers_end}
 use Rattle.fl_queues.specs.SoundLists.{ListsStand, WaitsetsStand}
 use Rattle.fl_laws.proofs.Cases.{by_given, Each, each_changed}
-use Rattle.fl_laws.proofs.BindingWalk.{given_there, end_there}
-use Rattle.fl_laws.proofs.Waitsets.{IsFree, pushed_from, registers_stands, deregisters_stands, triggers_stands, with_end_stands, next_free}
+use Rattle.fl_laws.proofs.BindingWalk.{given_there}
+use Rattle.fl_laws.proofs.Waitsets.{IsFree, registers_stands, deregisters_stands, triggers_stands, with_end_stands}
 
 -- ---- one element changed
 

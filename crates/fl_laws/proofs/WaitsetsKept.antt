@@ -1,30 +1,28 @@
 -- Each step keeps the waitsets, where seats agree and what a core would hear fits.
-use Rattle.std.proofs.Common.{◌≡◌, refl, sym, ◌∙◌, ap, subst, ℕ, zero, suc, ◌+◌, ◌≤◌, ◌||◌, nat_le, Bool, true, false}
-use Rattle.std.proofs.Common.{List, [], ◌∷◌, ◌++◌, length, slice_get, slice_set, Option, Some, None}
-use Rattle.fl_base.specs.declared.identity.EndId.{EndId}
-use Rattle.fl_base.specs.declared.identity.Side.TheVariants.{Client, Server}
+use Rattle.std.proofs.Common.{◌≡◌, refl, sym, ◌∙◌, ap, subst, ℕ, zero, suc, ◌+◌, ◌||◌, nat_le}
+use Rattle.std.proofs.Common.{List, [], ◌∷◌, length, slice_get, slice_set, Some, None}
+use Rattle.fl_base.specs.declared.identity.Side.TheVariants.{Client}
 use Rattle.fl_lists.specs.declared.place.Place.TheVariants.{Polled, Pending}
 use Rattle.fl_queues.specs.Given.{given, changed_at}
-use Rattle.fl_queues.specs.Events.{DispatcherId, Event}
-use Rattle.fl_queues.specs.Rings.{Opening, RingLabel, Ring, RingEnd, RingSide, first_for, looks, makes_sure, takes, is_spent, free, first_side, second_side, fresh_ring}
+use Rattle.fl_queues.specs.Events.{Event}
+use Rattle.fl_queues.specs.Rings.{Opening, Ring, RingSide, first_for, looks, makes_sure, takes, is_spent, free, first_side, second_side}
 use Rattle.fl_queues.specs.Ends.{fresh_queue, without_first}
 use Rattle.fl_queues.specs.Waits.{Dispatcher, waits_in, fresh_dispatcher}
 use Rattle.fl_queues.specs.Monitors.{Core, Hearing, hears, opens, Heard, no_outbox, astray, opening_went_on, server_made, opening_failed, answer_went_on, end_opened, end_refused}
-use Rattle.fl_queues.specs.State.{State, local, over_ring, over_route, undecided, Route, core_of, dispatcher_of, end_in}
+use Rattle.fl_queues.specs.State.{State, local, over_ring, over_route, undecided, Route, dispatcher_of, end_in}
 use Rattle.fl_queues.specs.State.{change_core, change_ring, change_end, seats, in_queue}
-use Rattle.fl_queues.specs.Making.{linked, with_dispatcher}
-use Rattle.fl_queues.specs.Binding.{Wanted, end_id, with_new_binding, arrival_queue}
+use Rattle.fl_queues.specs.Making.{with_dispatcher}
+use Rattle.fl_queues.specs.Binding.{end_id, with_new_binding, arrival_queue}
 use Rattle.fl_queues.specs.Taking.{goes_back}
-use Rattle.fl_queues.specs.Forwarding.{without_first_said, takes_said}
+use Rattle.fl_queues.specs.Forwarding.{without_first_said}
 use Rattle.fl_queues.specs.Step.{step}
 use Rattle.fl_queues.specs.SoundLists.{ListsStand, WaitsetsStand}
-use Rattle.fl_queues.specs.SoundPlaces.{SeatsAgree}
 use Rattle.fl_laws.proofs.Cases.{either, by_given, Each, none_at_end, each_push, each_changed}
 use Rattle.fl_laws.proofs.CoreWalk.{each_at_fresh}
 use Rattle.fl_laws.proofs.Services.{hears_leaves, is_not}
 use Rattle.fl_laws.proofs.Waitsets.{fresh_stands}
 use Rattle.fl_laws.proofs.Seating.{AllStand, all_of, waitsets_of, registered_kept, triggered_kept, deregistered_kept, seat_kept}
-use Rattle.fl_laws.proofs.WaitsetsStep.{back_kept, off_kept, label_taken, found_kept, written_kept, places, places_of, both_kept, ready_unlisted, HeardFits, told_same, fits_told, heard_kept, AllHeardFits, MayWait}
+use Rattle.fl_laws.proofs.WaitsetsStep.{back_kept, off_kept, label_taken, found_kept, written_kept, places, places_of, both_kept, ready_unlisted, HeardFits, told_same, fits_told, heard_kept, MayWait}
 use Rattle.fl_laws.proofs.Walk.{KeepsFrom, step_leads, with_ring}
 
 -- ---- what looks at rings leaves what stands first

@@ -1,9 +1,9 @@
 -- Each step keeps the waitsets' lists: no channel twice, and each an end's. What a heard answer or opening makes of an end is
 -- taken from the rest of the state.
-use Rattle.std.proofs.Common.{◌≡◌, ◌≢◌, refl, sym, ◌∙◌, ap, subst, ℕ, zero, suc, ◌+◌, ◌≤◌, ◌&&◌, ◌==◌, ◌||◌, nat_le, not, Bool, true, false, if◌then◌else◌, ◌⊎◌, inl, inr}
+use Rattle.std.proofs.Common.{◌≡◌, ◌≢◌, refl, sym, ◌∙◌, ap, subst, ℕ, zero, suc, ◌+◌, ◌≤◌, ◌&&◌, ◌==◌, ◌||◌, nat_le, not, Bool, true, false, if◌then◌else◌, inl, inr}
 use Rattle.std.proofs.Common.{List, [], ◌∷◌, ◌++◌, length, slice_get, slice_set, Option, Some, None, arith}
 use Rattle.std.specs.Prelude.{is_some}
-use Rattle.std.proofs.lemmas.Bool.{false≢true, true≢false, eqb-true, eq-eqb, and_parts, and_from}
+use Rattle.std.proofs.lemmas.Bool.{false≢true, eqb-true, eq-eqb, and_parts, and_from}
 use Rattle.std.proofs.lemmas.Bool.Decides.{nat_tests}
 use Rattle.fl_base.specs.declared.identity.EndId.{EndId}
 use Rattle.fl_base.specs.declared.identity.Side.TheVariants.{Client, Server}
@@ -13,32 +13,30 @@ use Rattle.fl_lists.specs.declared.place.Place.TheVariants.{Idle, Polled, Pendin
 use Rattle.fl_lists.specs.ThreeLists.{ThreeLists, list_at, is_in, pushed}
 use Rattle.fl_waitset.specs.Waiting.{is_registered}
 use Rattle.fl_queues.specs.Given.{given, changed_at}
-use Rattle.fl_queues.specs.Events.{DispatcherId, Event}
+use Rattle.fl_queues.specs.Events.{DispatcherId}
 use Rattle.fl_queues.specs.Calls.{Planned}
-use Rattle.fl_queues.specs.Rings.{Said, Label, next_of, says, acknowledges, RingLabel, Ring, RingEnd, RingSide, first_for, there_is_room, looks, makes_sure, takes, is_spent, free, first_side, second_side}
-use Rattle.fl_queues.specs.Ends.{End, Seat, Direction, Queue, fresh_queue, without_first}
+use Rattle.fl_queues.specs.Rings.{Said, Label, next_of, says, acknowledges, RingLabel, RingEnd, there_is_room, takes}
+use Rattle.fl_queues.specs.Ends.{End, Seat, Direction}
 use Rattle.fl_queues.specs.Waits.{Dispatcher, most_ends, has_places, waits_in, with_end, registers, Due, pending, polled, first_due, due, fresh_dispatcher}
-use Rattle.fl_queues.specs.Monitors.{Core, fresh_core, Hearing, hears, Heard, no_outbox, astray, opening_went_on, server_made, opening_failed, answer_went_on, end_opened, end_refused}
-use Rattle.fl_queues.specs.State.{State, Outcome, local, over_ring, over_route, undecided, Route, Outlet, peer_queue, ring_side, core_of, dispatcher_of, end_of, end_in, first_on}
-use Rattle.fl_queues.specs.State.{change_core, change_dispatcher, change_ring, change_end, change_channel, change_route, seats, registers_end, binds_end, in_queue, delivers, Binding}
-use Rattle.fl_queues.specs.Binding.{Wanted, end_id, with_new_binding, binds_both, arrival_queue, has_both_places, has_places_for, same_dispatcher}
+use Rattle.fl_queues.specs.Monitors.{Core, hears, Heard, no_outbox, astray, opening_went_on, server_made, opening_failed, answer_went_on, end_opened, end_refused}
+use Rattle.fl_queues.specs.State.{State, Outcome, Outlet, peer_queue, ring_side, core_of, dispatcher_of, end_of, first_on}
+use Rattle.fl_queues.specs.State.{change_core, change_dispatcher, change_ring, change_end, change_route, seats, registers_end, binds_end, Binding}
+use Rattle.fl_queues.specs.Binding.{Wanted, end_id, binds_both, has_both_places, has_places_for, same_dispatcher}
 use Rattle.fl_queues.specs.Sending.{writes_to}
 use Rattle.fl_queues.specs.Taking.{has_channel_listed, Chosen, takes_label, goes_back, comes_off, finds}
-use Rattle.fl_queues.specs.Forwarding.{LinkEnd, follows, takes_said, after_hearing, grants, denies, passes_word}
-use Rattle.fl_queues.specs.Step.{step}
+use Rattle.fl_queues.specs.Forwarding.{LinkEnd, follows, takes_said, grants, passes_word}
 use Rattle.fl_queues.specs.SoundLists.{ListsStand, WaitsetsStand}
-use Rattle.fl_queues.specs.SoundPlaces.{HasSeat, SeatsAgree}
-use Rattle.fl_laws.proofs.Cases.{either, by_given, Each, none_at_end, each_push, each_changed}
-use Rattle.fl_laws.proofs.BindingWalk.{given_there, end_there}
+use Rattle.fl_queues.specs.SoundPlaces.{SeatsAgree}
+use Rattle.fl_laws.proofs.Cases.{by_given}
+use Rattle.fl_laws.proofs.BindingWalk.{end_there}
 use Rattle.fl_laws.proofs.EndsStanding.{get_push}
-use Rattle.fl_laws.proofs.CoreWalk.{each_at_fresh}
 use Rattle.std.proofs.lemmas.List.{length-append}
 use Rattle.fl_laws.proofs.Replies.{length_changed}
-use Rattle.fl_laws.proofs.Services.{hears_leaves, is_not, changed_stays}
-use Rattle.fl_laws.proofs.Waitsets.{IsFree, pushed_from, puts_off_stands, fresh_stands}
-use Rattle.fl_laws.proofs.Seating.{changed_was, dispatcher_was, AllStand, all_of, waitsets_of, stands_at, one_changed, IsReady, Ready, registered_kept, triggered_kept, deregistered_kept, seat_kept}
-use Rattle.fl_laws.proofs.Ready.{end_was, ready_end, ready_dispatcher, ready_route, ready_seated}
-use Rattle.fl_laws.proofs.Walk.{KeepsFrom, IsTurn, IsHere, IsWanted, step_leads, with_ring}
+use Rattle.fl_laws.proofs.Services.{is_not, changed_stays}
+use Rattle.fl_laws.proofs.Waitsets.{IsFree, pushed_from, puts_off_stands}
+use Rattle.fl_laws.proofs.Seating.{changed_was, dispatcher_was, AllStand, one_changed, IsReady, Ready, registered_kept, triggered_kept, seat_kept}
+use Rattle.fl_laws.proofs.Ready.{ready_end, ready_dispatcher, ready_route, ready_seated}
+use Rattle.fl_laws.proofs.Walk.{IsTurn, IsHere}
 
 -- ---- a turn
 

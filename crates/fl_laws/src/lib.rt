@@ -8,15 +8,15 @@ ghost use Rattle.fl_queues.specs.Step.{step};
 ghost use Rattle.fl_queues.specs.Runs.{reached};
 ghost use Rattle.fl_queues.specs.Sound.{Sound};
 ghost use Rattle.fl_queues.specs.SoundOpenings.{OpeningsGoInOrder};
-ghost use Rattle.fl_queues.specs.SoundPlaces.{CoresStand, EndsStand, LinksArePaired, RingsHaveOneOwner, ServicesStand};
+ghost use Rattle.fl_queues.specs.SoundPlaces.{CoresStand, EndsStand, LinksArePaired, RingsHaveOneOwner, ServicesStand, SeatsAgree};
 ghost use Rattle.fl_queues.specs.SoundRoutes.{RoutesLead};
 ghost use Rattle.fl_queues.specs.SoundLabels.{LabelsKeepToTheirWays, WritesAreCounted};
 ghost use Rattle.fl_queues.specs.SoundRings.{RingsCount, RingsFit};
 ghost use Rattle.fl_queues.specs.Worlds.{WorldsAreSound, EverInOrder, EverFewWait};
 ghost use Rattle.fl_queues.specs.SoundCalls.{CallsFit, RulesSuit};
-ghost use Rattle.fl_queues.specs.SoundLists.{FewRepliesWait, RepliesWaitWhereBusy, QueuesHaveRoom, OutboxesHaveRoom, BareUntilCoresAreSet};
-ghost use Rattle.fl_queues.specs.Laws.{RingsCountInOrder, FewWaitAndOnlyWhereBusy, AllAccepted, PassedFalls};
-ghost use Rattle.fl_queues.specs.Laws.{HandledIsCounted, HandledIsAPrefix, RefusalsChangeNothing};
+ghost use Rattle.fl_queues.specs.SoundLists.{FewRepliesWait, RepliesWaitWhereBusy, QueuesHaveRoom, OutboxesHaveRoom, BareUntilCoresAreSet, WaitsetsStand};
+ghost use Rattle.fl_queues.specs.Laws.{RingsCountInOrder, FewWaitAndOnlyWhereBusy, AllAccepted};
+ghost use Rattle.fl_queues.specs.Laws.{PassedFalls, HandledIsCounted, HandledIsAPrefix, RefusalsChangeNothing};
 
 /// The start is a sound state.
 pub fn start_is_sound()
@@ -156,4 +156,15 @@ pub fn steps_keep_fitting()
         (s : State) (v : Event) → EndsStand s → LabelsKeepToTheirWays s → CallsFit s → RulesSuit s
         → CallsFit (step s v).state × RulesSuit (step s v).state
     }
+{}
+
+/// Each step of a sound state keeps the waitsets: no channel is twice in a dispatcher's lists, each there is an end's, and no
+/// dispatcher has more than 1,024 ends.
+pub fn steps_keep_waitsets()
+    ensures kept { (s : State) (v : Event) → Sound s → WaitsetsStand (step s v).state }
+{}
+
+/// Each step of a sound state keeps the seats: an end's channel is its dispatcher's channel for it, and no other's.
+pub fn steps_keep_seats()
+    ensures kept { (s : State) (v : Event) → Sound s → SeatsAgree (step s v).state }
 {}
