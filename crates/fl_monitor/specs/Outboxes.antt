@@ -33,6 +33,7 @@ pub record IsOutbox (frags : List Frag) : Type 0 where
 abbrev pub Puts : List Frag → Frag → Result (Unit {0}) MonitorFault → List Frag → Type 0
 Puts s f (Ok done) t = (length s < 64) × (t ≡ s ++ f ∷ [])
 Puts s f (Err OutboxFull) t = (length s ≡ 64) × (t ≡ s)
+Puts s f (Err fault) t = ⊥
 
 -- ---- laws
 

@@ -18,20 +18,30 @@
 #![tactic(auto)]
 
 mod call;
+mod fate;
 mod fault;
+mod heard;
+mod hearing;
 mod interface;
 mod law;
 mod message;
 mod messenger;
+mod monitor;
+mod opening;
 mod outbox;
 mod path;
+mod routing;
 
+pub use fate::Here;
 pub use fault::MonitorFault;
+pub use heard::Heard;
 pub use law::{
     epochs_say_nothing, messages_are_calls, one_fragment, one_message, one_reason,
     outboxes_say_messages, stands_alone,
 };
 pub use message::Message;
 pub use messenger::Messenger;
+pub use monitor::Monitor;
+pub use opening::Opening;
 pub use outbox::{MAX_WAITING, Outbox};
 pub use path::{MAX_ROUTE, Path};
