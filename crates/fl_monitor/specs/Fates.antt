@@ -1,9 +1,8 @@
 -- What an opening comes to at a core that hears it.
-use Rattle.std.specs.Prelude.{ℕ, ◌≡◌, ◌==◌, ◌&&◌, nat_lt, not, Bool, false, if◌then◌else◌, List, slice_get, Option, Some, None}
+use Rattle.std.specs.Prelude.{ℕ, ◌≡◌, ◌==◌, ◌&&◌, nat_lt, not, Bool, false, if◌then◌else◌, List, slice_get, Some}
 use Rattle.fl_base.specs.declared.identity.LinkId.{LinkId}
 use Rattle.fl_base.specs.declared.identity.CoreId.{CoreId}
 use Rattle.fl_base.specs.declared.identity.Circuit.{Circuit}
-use Rattle.fl_hop.specs.declared.links.LinkState.{LinkState}
 use Rattle.fl_hop.specs.Table.{TheCircuits, link_of, stands}
 use Rattle.fl_hop.specs.Numbers.{next_own, next_due}
 use Rattle.fl_hop.specs.Openings.{is_next}

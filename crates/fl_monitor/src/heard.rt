@@ -19,7 +19,10 @@ pub enum Heard {
         circuit: Circuit,
     },
     /// The opening fails here, for the fault of this number: 54, 70, 73 or 74.
-    OpeningFailed { binding: usize, reason: u32 },
+    OpeningFailed {
+        binding: usize,
+        reason: u32,
+    },
     /// The answer to the binding's opening goes back over a link, under the number there.
     AnswerWentOn {
         binding: usize,
@@ -27,7 +30,13 @@ pub enum Heard {
         circuit: Circuit,
     },
     /// The circuit stands. The core binds this client's end to it, and registers it.
-    EndOpened { end: EndId, circuit: Circuit },
+    EndOpened {
+        end: EndId,
+        circuit: Circuit,
+    },
     /// The circuit of this client's end is refused, for the fault of this number. The end stays unbound for good.
-    EndRefused { end: EndId, reason: u32 },
+    EndRefused {
+        end: EndId,
+        reason: u32,
+    },
 }

@@ -281,7 +281,9 @@ pub(crate) fn change(
 {
     match message {
         Message::OpenCircuit {
-            circuit, binding, ..
+            circuit,
+            binding,
+            ..
         } => take_opening(circuits, link, *circuit, *binding as usize, heard),
         Message::CircuitOpened { circuit } => note_answer(circuits, link, *circuit),
         Message::CircuitRefused { circuit, .. } => {

@@ -21,7 +21,7 @@ use crate::outbox::Outbox;
 use crate::routing::is_route;
 use fl_base::{Circuit, CoreId, Frag, LinkId};
 use fl_compile::Program;
-use fl_hop::{Circuits, HopFault};
+use fl_hop::{Circuits, HopFault, MAX_LINKS};
 use fl_nameserv::Names;
 use std::alloc::{AllocError, Global};
 use std::marker::Model;
@@ -106,6 +106,7 @@ impl Monitor {
         ensures refused { IfErr result (IsRefusal (link_fault self.old.circuits neighbour.0)) }
         ensures kept { OnErr result (self.new ≡ self.old) }
     {
+        may_link(&self.circuits, neighbour)?;
         let Ok(outbox) = Outbox::new(self.alloc) else {
             return Err(HopFault::Memory);
         };
@@ -232,6 +233,20 @@ impl Monitor {
         };
         outbox.sent_out();
     }
+}
+
+// Whether there may be a link to a core.
+fn may_link(circuits: &Circuits, neighbour: CoreId) -> Result<(), HopFault>
+    ensures may { OnOk result (link_fault circuits.now neighbour.0 ≡ None) }
+    ensures refused { IfErr result (λ fault. link_fault circuits.now neighbour.0 ≡ Some fault) }
+{
+    if neighbour.0 == circuits.core().0 || circuits.link_to(neighbour).is_some() {
+        return Err(HopFault::NoLink);
+    }
+    if circuits.links().len() >= MAX_LINKS {
+        return Err(HopFault::Limit);
+    }
+    Ok(())
 }
 
 // The link to the second core of a route, where it is one.
