@@ -7,3 +7,4 @@ pub mod Written
 pub mod Places
 pub mod Taken
 pub mod Boxes
+pub mod Tables

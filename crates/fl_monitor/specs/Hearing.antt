@@ -88,7 +88,14 @@ after_opening t l c binding (OpeningWentOn b m n) = passed_on t l c m n binding
 after_opening t l c binding (ServerMade b dispatcher d) = arrived t l c binding
 after_opening t l c binding heard = after_taking t l.0
 
+-- an answer is noted, or its entry removed, where one stands
+abbrev pub after_answer : TheCircuits → LinkId → Circuit → TheCircuits
+after_answer t l c = given (hop_at t l.0 c.0) t λ hop. answered t l c hop
+
+abbrev pub after_refusal : TheCircuits → LinkId → Circuit → TheCircuits
+after_refusal t l c = given (hop_at t l.0 c.0) t λ hop. without_entry t (Link l c) hop.way
+
 abbrev pub table_after : TheCircuits → LinkId → Message → Heard → TheCircuits
 table_after t l (OpenCircuit c binding service path) heard = after_opening t l c binding heard
-table_after t l (CircuitOpened c) heard = given (hop_at t l.0 c.0) t λ hop. answered t l c hop
-table_after t l (CircuitRefused c reason) heard = given (hop_at t l.0 c.0) t λ hop. without_entry t (Link l c) hop.way
+table_after t l (CircuitOpened c) heard = after_answer t l c
+table_after t l (CircuitRefused c reason) heard = after_refusal t l c

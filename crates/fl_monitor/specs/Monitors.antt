@@ -9,7 +9,8 @@ use Rattle.fl_hop.specs.declared.fault.HopFault.TheVariants.{NoLink, UsedUp as N
 use Rattle.fl_hop.specs.Table.{TheCircuits, link_of}
 use Rattle.fl_hop.specs.Numbers.{next_own}
 use Rattle.fl_hop.specs.Openings.{open_fault, opened}
-use Rattle.fl_compile.specs.Programs.{TheProgram}
+use Rattle.fl_compile.specs.declared.program.Program.{Program}
+use Rattle.fl_compile.specs.Programs.{TheProgram, program_of}
 use Rattle.fl_monitor.specs.declared.message.Message.{Message}
 use Rattle.fl_monitor.specs.declared.message.Message.TheVariants.{OpenCircuit}
 use Rattle.fl_monitor.specs.declared.opening.Opening.{Opening}
@@ -26,6 +27,14 @@ pub record TheMonitor : Type 0 where
   pub circuits : TheCircuits
   -- by link, the fragments of the messages that wait there, first to last
   pub outboxes : List (List Frag)
+
+-- what holds of every monitor: each link has its outbox
+abbrev pub HasOutboxes : TheMonitor → Type 0
+HasOutboxes m = length m.outboxes ≡ length m.circuits.links
+
+-- the monitor of a core without links
+abbrev pub fresh_monitor : ℕ → TheMonitor
+fresh_monitor core = record { circuits = record { core = core; links = []; hops = [] }; outboxes = [] }
 
 -- ---- outboxes
 
@@ -78,6 +87,10 @@ pub record Wanted : Type 0 where
   pub server : ℕ
   pub path : List CoreId
   pub cores : ℕ
+
+abbrev pub wanted : Program → Program → CoreId → List CoreId → ℕ → Wanted
+wanted client offered server path cores =
+    record { client = program_of client; offered = program_of offered; server = server.0; path = path; cores = cores }
 
 -- the link to the route's second core, where the route is one
 abbrev pub first_link : TheCircuits → List CoreId → ℕ → ℕ → Option ℕ

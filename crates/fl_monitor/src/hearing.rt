@@ -8,7 +8,7 @@ ghost use Rattle.fl_hop.specs.Numbers.{next_own};
 ghost use Rattle.fl_hop.specs.Openings.{IsWaiting, passed_on, answered};
 ghost use Rattle.fl_monitor.specs.Fates.{HasNext};
 ghost use Rattle.fl_monitor.specs.Routing.{given};
-ghost use Rattle.fl_monitor.specs.Hearing.{heard_by, opened_at, refused_at, ComesTo, IsAstray, GoesOnNext, circuit_in, with_circuit, says, after_opening, table_after};
+ghost use Rattle.fl_monitor.specs.Hearing.{heard_by, opened_at, refused_at, ComesTo, IsAstray, GoesOnNext, circuit_in, with_circuit, says, after_opening, after_answer, after_refusal, table_after};
 
 use crate::fate::{Fate, Here, find_fate, is_in_place};
 use crate::heard::Heard;
@@ -250,7 +250,7 @@ fn take_opening(
 
 // Notes that the answer came.
 fn note_answer(circuits: &mut Circuits, link: LinkId, circuit: Circuit) -> Result<(), HopFault>
-    ensures noted { OnOk result (circuits.new ≡ given (hop_at circuits.old link.0 circuit.0) circuits.old (answered circuits.old link circuit)) }
+    ensures noted { OnOk result (circuits.new ≡ after_answer circuits.old link circuit) }
     ensures kept { OnErr result (circuits.new ≡ circuits.old) }
 {
     circuits.answer(link, circuit)?;
@@ -259,7 +259,7 @@ fn note_answer(circuits: &mut Circuits, link: LinkId, circuit: Circuit) -> Resul
 
 // Removes the entry.
 fn remove(circuits: &mut Circuits, link: LinkId, circuit: Circuit)
-    ensures removed { circuits.new ≡ given (hop_at circuits.old link.0 circuit.0) circuits.old (λ (hop : Hop). without_entry circuits.old (Way.Link link circuit) hop.way) }
+    ensures removed { circuits.new ≡ after_refusal circuits.old link circuit }
 {
     circuits.remove(link, circuit);
 }

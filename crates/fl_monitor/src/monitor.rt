@@ -6,9 +6,8 @@ ghost use Rattle.fl_hop.specs.Openings.{IsRefusal, open_fault};
 ghost use Rattle.fl_hop.specs.Numbers.{next_own};
 ghost use Rattle.fl_base.specs.declared.identity.LinkId.{LinkId};
 ghost use Rattle.fl_base.specs.Control.{bare, is_ack_only};
-ghost use Rattle.fl_compile.specs.Programs.{program_of};
 ghost use Rattle.fl_monitor.specs.Outboxes.{IsFragOf};
-ghost use Rattle.fl_monitor.specs.Monitors.{can_say, Said, Hears, MayOpen, first_link, asks, RefusesOpening, Opens, waiting_for, without_first};
+ghost use Rattle.fl_monitor.specs.Monitors.{fresh_monitor, HasOutboxes, can_say, Said, wanted, Hears, MayOpen, first_link, asks, RefusesOpening, Opens, waiting_for, without_first};
 
 use crate::fate::Here;
 use crate::fault::MonitorFault;
@@ -38,11 +37,13 @@ pub struct Monitor {
 }
 
 impl Model for Monitor {
-    ghost use Rattle.fl_monitor.specs.Monitors.{TheMonitor};
+    ghost use Rattle.fl_monitor.specs.Monitors.{TheMonitor, HasOutboxes};
 
     ghost Value = { TheMonitor };
 
     ghost view = { λ m. record { circuits = m.circuits; outboxes = m.outboxes.items } };
+
+    ghost invariant = { λ m. HasOutboxes (record { circuits = m.circuits; outboxes = m.outboxes.items }) };
 }
 
 // Whether a link's outbox has room.
@@ -60,6 +61,7 @@ fn put(outboxes: &mut Vec<Outbox>, saying: &Saying, frag: &Frag)
     requires room { can_say outboxes.old.items saying.now.link.0 ≡ true }
     requires frag { IsFragOf frag.now saying.now.message }
     ensures said { Said saying.now outboxes.old.items outboxes.new.items }
+    ensures count { length outboxes.new.items ≡ length outboxes.old.items }
 {
     let Some(outbox) = outboxes.get_mut(usize::from(saying.link.0)) else {
         unreachable!();
@@ -75,7 +77,7 @@ impl Monitor {
     /// # Errors
     /// Out of memory (E99).
     pub fn new(alloc: Global, core: CoreId) -> Result<Monitor, AllocError>
-        ensures empty { IfOk result (λ monitor. monitor ≡ record { circuits = record { core = core.0; links = []; hops = [] }; outboxes = [] }) }
+        ensures empty { IfOk result (λ monitor. monitor ≡ fresh_monitor core.0) }
     {
         let messenger = Messenger::new(alloc)?;
         Ok(Monitor {
@@ -84,6 +86,13 @@ impl Monitor {
             outboxes: Vec::new(alloc),
             messenger,
         })
+    }
+
+    /// What holds of every monitor. It does nothing.
+    pub fn sound(&self)
+        ensures outboxes { HasOutboxes self.now }
+    {
+        let _outboxes = &self.outboxes;
     }
 
     /// The core's table of circuits.
@@ -132,7 +141,7 @@ impl Monitor {
         path: &[CoreId],
         cores: usize,
     ) -> Result<LinkId, MonitorFault>
-        ensures may { MayOpen (record { client = program_of client.now; offered = program_of offered.now; server = server.0; path = path.now; cores = cores }) self.now.circuits result }
+        ensures may { MayOpen (wanted client.now offered.now server path.now cores) self.now.circuits result }
     {
         if !client.interface().same(offered.interface()) {
             return Err(MonitorFault::Differs);
