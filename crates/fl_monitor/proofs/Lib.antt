@@ -8,3 +8,4 @@ pub mod Places
 pub mod Taken
 pub mod Boxes
 pub mod Tables
+pub mod Outcomes

@@ -99,3 +99,10 @@ abbrev pub table_after : TheCircuits → LinkId → Message → Heard → TheCir
 table_after t l (OpenCircuit c binding service path) heard = after_opening t l c binding heard
 table_after t l (CircuitOpened c) heard = after_answer t l c
 table_after t l (CircuitRefused c reason) heard = after_refusal t l c
+
+-- ---- law
+
+-- a message comes to one thing at most
+abbrev pub OneOutcome : Type 0
+OneOutcome =
+    (k : Known) (t : TheCircuits) (l : LinkId) (m : Message) (a b : Heard) → ComesTo k t l m a → ComesTo k t l m b → a ≡ b

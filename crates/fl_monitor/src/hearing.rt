@@ -6,9 +6,11 @@ ghost use Rattle.fl_hop.specs.declared.entry.Way.{Way};
 ghost use Rattle.fl_hop.specs.Table.{TheCircuits, hop_at, without_entry};
 ghost use Rattle.fl_hop.specs.Numbers.{next_own};
 ghost use Rattle.fl_hop.specs.Openings.{IsWaiting, passed_on, answered};
+ghost use Rattle.fl_hop.specs.Later.{Later};
 ghost use Rattle.fl_monitor.specs.Fates.{HasNext};
 ghost use Rattle.fl_monitor.specs.Routing.{given};
-ghost use Rattle.fl_monitor.specs.Hearing.{heard_by, opened_at, refused_at, ComesTo, IsAstray, GoesOnNext, circuit_in, with_circuit, says, after_opening, after_answer, after_refusal, table_after};
+ghost use Rattle.fl_monitor.specs.Hearing.{heard_by, opened_at, refused_at, ComesTo, IsAstray, GoesOnNext, circuit_in, with_circuit, says};
+ghost use Rattle.fl_monitor.specs.Hearing.{after_opening, after_answer, after_refusal, table_after};
 
 use crate::fate::{Fate, Here, find_fate, is_in_place};
 use crate::heard::Heard;
@@ -216,6 +218,7 @@ fn take_onward(
 ) -> Result<(), HopFault>
     requires next { next_own circuits.old next.0 ≡ Some number.0 }
     ensures taken { OnOk result (circuits.new ≡ passed_on circuits.old link circuit next number binding) }
+    ensures later { OnOk result (Later circuits.old circuits.new) }
     ensures kept { OnErr result (circuits.new ≡ circuits.old) }
 {
     circuits.pass_on(link, circuit, next, binding)?;
@@ -232,6 +235,7 @@ fn take_opening(
 ) -> Result<(), HopFault>
     requires next { GoesOnNext circuits.old heard }
     ensures taken { OnOk result (circuits.new ≡ after_opening circuits.old link circuit binding heard) }
+    ensures later { OnOk result (Later circuits.old circuits.new) }
     ensures kept { OnErr result (circuits.new ≡ circuits.old) }
 {
     match heard {
@@ -251,6 +255,7 @@ fn take_opening(
 // Notes that the answer came.
 fn note_answer(circuits: &mut Circuits, link: LinkId, circuit: Circuit) -> Result<(), HopFault>
     ensures noted { OnOk result (circuits.new ≡ after_answer circuits.old link circuit) }
+    ensures later { OnOk result (Later circuits.old circuits.new) }
     ensures kept { OnErr result (circuits.new ≡ circuits.old) }
 {
     circuits.answer(link, circuit)?;
@@ -258,10 +263,15 @@ fn note_answer(circuits: &mut Circuits, link: LinkId, circuit: Circuit) -> Resul
 }
 
 // Removes the entry.
-fn remove(circuits: &mut Circuits, link: LinkId, circuit: Circuit)
-    ensures removed { circuits.new ≡ after_refusal circuits.old link circuit }
+fn remove(circuits: &mut Circuits, link: LinkId, circuit: Circuit) -> Result<(), HopFault>
+    ensures removed { OnOk result (circuits.new ≡ after_refusal circuits.old link circuit) }
+    ensures later { OnOk result (Later circuits.old circuits.new) }
+    ensures kept { OnErr result (circuits.new ≡ circuits.old) }
 {
-    circuits.remove(link, circuit);
+    let Some(_) = circuits.remove(link, circuit) else {
+        return Err(HopFault::Astray);
+    };
+    Ok(())
 }
 
 /// Makes of the table what a message that was heard on a link makes of it.
@@ -277,6 +287,7 @@ pub(crate) fn change(
 ) -> Result<(), HopFault>
     requires next { GoesOnNext circuits.old heard }
     ensures changed { OnOk result (circuits.new ≡ table_after circuits.old link message.now heard) }
+    ensures later { OnOk result (Later circuits.old circuits.new) }
     ensures kept { OnErr result (circuits.new ≡ circuits.old) }
 {
     match message {
@@ -286,9 +297,6 @@ pub(crate) fn change(
             ..
         } => take_opening(circuits, link, *circuit, *binding as usize, heard),
         Message::CircuitOpened { circuit } => note_answer(circuits, link, *circuit),
-        Message::CircuitRefused { circuit, .. } => {
-            remove(circuits, link, *circuit);
-            Ok(())
-        }
+        Message::CircuitRefused { circuit, .. } => remove(circuits, link, *circuit),
     }
 }

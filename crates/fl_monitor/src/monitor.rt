@@ -1,13 +1,15 @@
 //! The part of a core that opens circuits.
 
-ghost use Rattle.std.specs.Prelude.{◌≡◌, ◌≢◌, ◌++◌, ◌∷◌, [], true, false, None, Some, IfOk, IfErr, IfSome, OnOk, OnErr, length, slice_get, option_map};
+ghost use Rattle.std.specs.Prelude.{◌≡◌, ◌≢◌, ◌++◌, ◌∷◌, [], true, false, None, Some, IfOk, IfErr, IfSome, IfNone, OnOk, OnErr, length, slice_get, option_map};
 ghost use Rattle.fl_hop.specs.Table.{with_link, link_fault};
 ghost use Rattle.fl_hop.specs.Openings.{IsRefusal, open_fault};
+ghost use Rattle.fl_hop.specs.Later.{Later};
 ghost use Rattle.fl_hop.specs.Numbers.{next_own};
 ghost use Rattle.fl_base.specs.declared.identity.LinkId.{LinkId};
 ghost use Rattle.fl_base.specs.Control.{bare, is_ack_only};
 ghost use Rattle.fl_monitor.specs.Outboxes.{IsFragOf};
-ghost use Rattle.fl_monitor.specs.Monitors.{fresh_monitor, HasOutboxes, can_say, Said, wanted, Hears, MayOpen, first_link, asks, RefusesOpening, Opens, waiting_for, without_first};
+ghost use Rattle.fl_monitor.specs.Monitors.{fresh_monitor, HasOutboxes, can_say, Said, Hears, wanted, first_link, MayOpen};
+ghost use Rattle.fl_monitor.specs.Monitors.{asks, RefusesOpening, Opens, waiting_for, without_first};
 
 use crate::fate::Here;
 use crate::fault::MonitorFault;
@@ -102,6 +104,14 @@ impl Monitor {
         &self.circuits
     }
 
+    /// What waits to be sent over a link; `None` where there is no such link.
+    pub fn outbox(&self, link: LinkId) -> Option<&Outbox>
+        ensures outbox { IfSome result (λ outbox. slice_get self.now.outboxes link.0 ≡ Some outbox.now) }
+        ensures none { IfNone result (slice_get self.now.outboxes link.0 ≡ None) }
+    {
+        self.outboxes.get(usize::from(link.0))
+    }
+
     /// Adds a link to another core, with an outbox that has room for all that may wait there.
     ///
     /// # Errors
@@ -111,6 +121,7 @@ impl Monitor {
         ensures circuits { OnOk result (self.new.circuits ≡ with_link self.old.circuits neighbour) }
         ensures outboxes { OnOk result (self.new.outboxes ≡ self.old.outboxes ++ [] ∷ []) }
         ensures link { IfOk result (λ link. link.0 ≡ length self.old.circuits.links) }
+        ensures later { OnOk result (Later self.old.circuits self.new.circuits) }
         ensures may { OnOk result (link_fault self.old.circuits neighbour.0 ≡ None) }
         ensures refused { IfErr result (IsRefusal (link_fault self.old.circuits neighbour.0)) }
         ensures kept { OnErr result (self.new ≡ self.old) }
@@ -163,6 +174,7 @@ impl Monitor {
     /// (E74); 64 messages wait there (E75); want of memory (E99). Nothing has changed then.
     pub fn start_open(&mut self, link: LinkId, opening: &Opening) -> Result<Circuit, MonitorFault>
         ensures opens { Opens link opening.now self.old result self.new }
+        ensures later { OnOk result (Later self.old.circuits self.new.circuits) }
     {
         let circuit = next_for(&self.circuits, link, opening.binding as usize)?;
         if !can_say(&self.outboxes, link) {
@@ -195,6 +207,7 @@ impl Monitor {
         message: &Message,
     ) -> Result<Heard, MonitorFault>
         ensures hears { Hears (record { names = names.now; here = here }) link message.now self.old result self.new }
+        ensures later { OnOk result (Later self.old.circuits self.new.circuits) }
     {
         let Some(heard) = comes_to(&self.circuits, names, here, link, message) else {
             return Err(MonitorFault::Astray);

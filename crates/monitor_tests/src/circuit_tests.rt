@@ -1,6 +1,8 @@
 //! Circuits over three cores: opened, and refused at the second and at the third core.
 
-use crate::monitors::{CROWDED, FIRST, FREE, SECOND, monitor, opening, passes, services};
+use crate::monitors::{
+    CROWDED, FIRST, FREE, SECOND, asks, entry, monitor, opening, passes, sends, services,
+};
 use fl_base::{Circuit, CoreId, EndId, LinkId, Side};
 use fl_hop::{Hop, Way};
 use fl_monitor::{Heard, Here, Messenger, Monitor, MonitorFault};
@@ -46,10 +48,10 @@ fn goes(line: &mut Line, leg: Leg, here: Here) -> Result<Answer, Fail> {
     let (messenger, names) = (&mut line.messenger, &line.names);
     let (first, middle, last) = (&mut line.first, &mut line.middle, &mut line.last);
     match leg {
-        Leg::Out => passes((first, FIRST), (middle, FIRST), messenger, names, here),
-        Leg::On => passes((middle, SECOND), (last, FIRST), messenger, names, here),
-        Leg::Back => passes((last, FIRST), (middle, SECOND), messenger, names, here),
-        Leg::Home => passes((middle, FIRST), (first, FIRST), messenger, names, here),
+        Leg::Out => passes(first, FIRST, middle, FIRST, messenger, names, here),
+        Leg::On => passes(middle, SECOND, last, FIRST, messenger, names, here),
+        Leg::Back => passes(last, FIRST, middle, SECOND, messenger, names, here),
+        Leg::Home => passes(middle, FIRST, first, FIRST, messenger, names, here),
     }
 }
 
@@ -90,7 +92,7 @@ fn end_refused(binding: usize, reason: u32) -> Answer {
 fn opened(alloc: Global) -> Result<[bool; 8], Fail> {
     let mut line = make_line(alloc)?;
     let asked = opening(0, 1, LINE)?;
-    let circuit = line.first.start_open(FIRST, &asked)?;
+    let circuit = asks(&mut line.first, FIRST, &asked)?;
     let out = goes(&mut line, Leg::Out, FREE)?;
     let on = goes(&mut line, Leg::On, FREE)?;
     let back = goes(&mut line, Leg::Back, FREE)?;
@@ -104,7 +106,7 @@ fn opened(alloc: Global) -> Result<[bool; 8], Fail> {
         end: client(0),
         circuit: Circuit(1),
     }));
-    let entry = Some(Hop {
+    let stood = Some(Hop {
         binding: 0,
         way: Way::Link(SECOND, Circuit(1)),
         answered: true,
@@ -115,7 +117,7 @@ fn opened(alloc: Global) -> Result<[bool; 8], Fail> {
         on == made,
         back == went_back(0, 1),
         home == bound,
-        line.middle.circuits().hop_of(FIRST, Circuit(1)) == entry,
+        entry(&line.middle, FIRST, 1) == stood,
         goes(&mut line, Leg::Out, FREE)?.is_none(),
         goes(&mut line, Leg::Home, FREE)?.is_none(),
     ])
@@ -131,7 +133,7 @@ fn a_circuit_over_three_cores(rt: HostRuntime) -> Result<(), Fail> {
 fn refused_last(alloc: Global, service: u32, here: Here, reason: u32) -> Result<[bool; 6], Fail> {
     let mut line = make_line(alloc)?;
     let asked = opening(7, service, LINE)?;
-    line.first.start_open(FIRST, &asked)?;
+    asks(&mut line.first, FIRST, &asked)?;
     let out = goes(&mut line, Leg::Out, FREE)?;
     let on = goes(&mut line, Leg::On, here)?;
     let back = goes(&mut line, Leg::Back, FREE)?;
@@ -141,8 +143,8 @@ fn refused_last(alloc: Global, service: u32, here: Here, reason: u32) -> Result<
         on == failed(7, reason),
         back == went_back(7, 1),
         home == end_refused(7, reason),
-        line.middle.circuits().hop_of(FIRST, Circuit(1)).is_none(),
-        line.first.circuits().hop_of(FIRST, Circuit(1)).is_none(),
+        entry(&line.middle, FIRST, 1).is_none(),
+        entry(&line.first, FIRST, 1).is_none(),
     ])
 }
 
@@ -157,13 +159,9 @@ fn refused_at_the_third_core(rt: HostRuntime) -> Result<(), Fail> {
 fn asks_for_all(monitor: &mut Monitor, link: LinkId) -> Result<bool, Fail> {
     for binding in 0..1_023 {
         let asked = opening(binding, 1, &[CoreId(1), CoreId(2)])?;
-        if monitor.start_open(link, &asked)? != Circuit(2 * binding as u16 + 1) {
+        if asks(monitor, link, &asked)? != Circuit(2 * binding as u16 + 1) || !sends(monitor, link) {
             return Ok(false);
         }
-        if monitor.next_out(link).is_none() {
-            return Ok(false);
-        }
-        monitor.sent_out(link);
     }
     Ok(true)
 }
@@ -171,13 +169,13 @@ fn asks_for_all(monitor: &mut Monitor, link: LinkId) -> Result<bool, Fail> {
 // An opening that the second core refuses.
 fn refused_second(line: &mut Line, cores: &[CoreId], reason: u32) -> Result<[bool; 3], Fail> {
     let asked = opening(1_023, 1, cores)?;
-    line.first.start_open(FIRST, &asked)?;
+    asks(&mut line.first, FIRST, &asked)?;
     let out = goes(line, Leg::Out, FREE)?;
     let home = goes(line, Leg::Home, FREE)?;
     Ok([
         out == failed(1_023, reason),
         home == end_refused(1_023, reason),
-        line.first.circuits().hop_of(FIRST, Circuit(1)).is_none(),
+        entry(&line.first, FIRST, 1).is_none(),
     ])
 }
 
@@ -188,6 +186,6 @@ fn refused_at_the_second_core(rt: HostRuntime) -> Result<(), Fail> {
     assert!(rt; asks_for_all(&mut line.middle, SECOND)?);
     assert_eq!(rt; refused_second(&mut line, LINE, 74)?, [true; 3]);
     let more = opening(1_023, 1, &[CoreId(1), CoreId(2)])?;
-    assert_eq!(rt; line.middle.start_open(SECOND, &more), Err(MonitorFault::UsedUp));
+    assert_eq!(rt; asks(&mut line.middle, SECOND, &more), Err(MonitorFault::UsedUp));
     Ok(())
 }

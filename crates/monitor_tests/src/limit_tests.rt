@@ -1,6 +1,6 @@
 //! The limits of a monitor: outboxes, routes, plans and memory.
 
-use crate::monitors::{FIRST, FREE, SECOND, monitor, opening, services, unless_memory};
+use crate::monitors::{FIRST, FREE, SECOND, asks, hears, monitor, next, opening, sends, services};
 use fl_base::{Circuit, CoreId, IRef, LinkId};
 use fl_check::{Interface, TextFault, check};
 use fl_compile::{Program, compile};
@@ -67,32 +67,37 @@ fn what_may_be_asked_for(rt: HostRuntime) -> Result<(), Fail> {
 fn fills(monitor: &mut Monitor) -> Result<bool, Fail> {
     for binding in 0..64 {
         let asked = opening(binding, 1, LINE)?;
-        if monitor.start_open(FIRST, &asked)? != Circuit(2 * binding as u16 + 1) {
+        if asks(monitor, FIRST, &asked)? != Circuit(2 * binding as u16 + 1) {
             return Ok(false);
         }
     }
     Ok(true)
 }
 
+// What a 65th opening is answered, the number that the next would have, and the answers when one message was sent.
+fn after_64(alloc: Global) -> Result<[bool; 7], Fail> {
+    let mut monitor = monitor(alloc, 0, &[1])?;
+    let filled = fills(&mut monitor)?;
+    let more = opening(64, 1, LINE)?;
+    Ok([
+        filled,
+        asks(&mut monitor, FIRST, &more) == Err(MonitorFault::OutboxFull),
+        next(&monitor, FIRST) == Some(Circuit(129)),
+        sends(&mut monitor, FIRST),
+        asks(&mut monitor, FIRST, &more)? == Circuit(129),
+        asks(&mut monitor, FIRST, &more) == Err(MonitorFault::Astray),
+        asks(&mut monitor, SECOND, &more) == Err(MonitorFault::NoRoute),
+    ])
+}
+
 #[test]
 fn a_full_outbox(rt: HostRuntime) -> Result<(), Fail> {
-    let mut monitor = monitor(rt.alloc(), 0, &[1])?;
-    assert!(rt; fills(&mut monitor)?);
-    let more = opening(64, 1, LINE)?;
-    assert_eq!(rt; monitor.start_open(FIRST, &more), Err(MonitorFault::OutboxFull));
-    assert_eq!(rt; monitor.circuits().next(FIRST), Some(Circuit(129)));
-    if monitor.next_out(FIRST).is_none() {
-        return Ok(());
-    }
-    monitor.sent_out(FIRST);
-    assert_eq!(rt; monitor.start_open(FIRST, &more), Ok(Circuit(129)));
-    assert_eq!(rt; monitor.start_open(FIRST, &more), Err(MonitorFault::Astray));
-    assert_eq!(rt; monitor.start_open(SECOND, &more), Err(MonitorFault::NoRoute));
+    assert_eq!(rt; after_64(rt.alloc())?, [true; 7]);
     Ok(())
 }
 
-// Asks for a service that isn't there.
-fn asks(circuit: u16, binding: u32) -> Option<Message> {
+// An opening for a service that isn't there.
+fn unknown(circuit: u16, binding: u32) -> Option<Message> {
     Some(Message::OpenCircuit {
         circuit: Circuit(circuit),
         binding,
@@ -107,10 +112,10 @@ fn refuses_until_full(alloc: Global) -> Result<(u16, bool), Fail> {
     let mut monitor = monitor(alloc, 1, &[0])?;
     let names = services(alloc)?;
     for turn in 0..65 {
-        let Some(message) = asks(2 * turn + 1, u32::from(turn)) else {
+        let Some(message) = unknown(2 * turn + 1, u32::from(turn)) else {
             return Ok((turn, false));
         };
-        let heard = unless_memory(monitor.on_message(&names, FREE, FIRST, &message))?;
+        let heard = hears(&mut monitor, &names, FREE, FIRST, &message)?;
         if heard == Err(MonitorFault::OutboxFull) {
             let due = monitor.circuits().expected(FIRST);
             return Ok((turn, due == Some(Circuit(2 * turn + 1))));
@@ -125,15 +130,8 @@ fn no_room_for_the_answer(rt: HostRuntime) -> Result<(), Fail> {
     Ok(())
 }
 
-// Whether a call that was refused for want of memory left the monitor as it was.
-fn with_little_memory(alloc: Global) -> bool {
-    let Ok(mut monitor) = Monitor::new(alloc, CoreId(0)) else {
-        return true;
-    };
-    match monitor.add_link(CoreId(1)) {
-        Ok(_) => {}
-        Err(fault) => return fault == HopFault::Memory && monitor.circuits().links().is_empty(),
-    }
+// Whether asking for a circuit was refused for want of memory and left the monitor as it was, or did its work.
+fn asks_with_little_memory(monitor: &mut Monitor) -> bool {
     let Some(path) = Path::new(LINE) else {
         return false;
     };
@@ -142,13 +140,23 @@ fn with_little_memory(alloc: Global) -> bool {
         service: IRef(1),
         path,
     };
-    match monitor.start_open(FIRST, &asked) {
-        Ok(circuit) => circuit == Circuit(1) && monitor.next_out(FIRST).is_some(),
+    match asks(monitor, FIRST, &asked) {
+        Ok(circuit) => circuit == Circuit(1) && sends(monitor, FIRST),
         Err(fault) => {
             fault == MonitorFault::Memory
-                && monitor.circuits().next(FIRST) == Some(Circuit(1))
-                && monitor.next_out(FIRST).is_none()
+                && next(monitor, FIRST) == Some(Circuit(1))
+                && !sends(monitor, FIRST)
         }
+    }
+}
+
+fn with_little_memory(alloc: Global) -> bool {
+    let Ok(mut monitor) = Monitor::new(alloc, CoreId(0)) else {
+        return true;
+    };
+    match monitor.add_link(CoreId(1)) {
+        Ok(_) => asks_with_little_memory(&mut monitor),
+        Err(fault) => fault == HopFault::Memory && next(&monitor, FIRST).is_none(),
     }
 }
 

@@ -1,6 +1,7 @@
 //! Monitors of a line of three cores that hear each other's fragments, in one thread.
 
-use fl_base::{CoreId, IRef, LinkId};
+use fl_base::{Circuit, CoreId, IRef, LinkId};
+use fl_hop::Hop;
 use fl_monitor::{Here, Heard, Message, Messenger, Monitor, MonitorFault, Opening, Path};
 use fl_nameserv::{Names, Service};
 use std::alloc::Global;
@@ -67,14 +68,33 @@ pub fn opening(binding: u32, service: u32, cores: &[CoreId]) -> Result<Opening, 
     }
 }
 
-// What a monitor answers; want of memory ends the test.
-pub fn unless_memory(
-    heard: Result<Heard, MonitorFault>,
+// What a monitor answers to a message; want of memory ends the test.
+pub fn hears(
+    monitor: &mut Monitor,
+    names: &Names,
+    here: Here,
+    link: LinkId,
+    message: &Message,
 ) -> Result<Result<Heard, MonitorFault>, Fail> {
+    let heard = monitor.on_message(names, here, link, message);
     if heard == Err(MonitorFault::Memory) {
         return Err(Fail::new(MonitorFault::Memory));
     }
     Ok(heard)
+}
+
+// What a monitor answers where it is to ask for a circuit.
+pub fn asks(monitor: &mut Monitor, link: LinkId, asked: &Opening) -> Result<Circuit, MonitorFault> {
+    monitor.start_open(link, asked)
+}
+
+// The next fragment of a link is sent, if one waits.
+pub fn sends(monitor: &mut Monitor, link: LinkId) -> bool {
+    if monitor.next_out(link).is_none() {
+        return false;
+    }
+    monitor.sent_out(link);
+    true
 }
 
 // The message that is sent next, if one waits.
@@ -89,23 +109,31 @@ pub fn next_said(
     }
 }
 
+// What the entry at a number says, and the number of the next opening of its own.
+pub fn entry(monitor: &Monitor, link: LinkId, circuit: u16) -> Option<Hop> {
+    monitor.circuits().hop_of(link, Circuit(circuit))
+}
+
+pub fn next(monitor: &Monitor, link: LinkId) -> Option<Circuit> {
+    monitor.circuits().next(link)
+}
+
 // The next message of one core's link is heard by the other, and is gone then; `None` where nothing waits.
 pub fn passes(
-    from: (&mut Monitor, LinkId),
-    to: (&mut Monitor, LinkId),
+    from: &mut Monitor,
+    there: LinkId,
+    to: &mut Monitor,
+    back: LinkId,
     messenger: &mut Messenger,
     names: &Names,
     here: Here,
 ) -> Result<Option<Result<Heard, MonitorFault>>, Fail> {
-    let (sender, there) = from;
-    let (hearer, back) = to;
-    let Some(frag) = sender.next_out(there) else {
+    let Some(message) = next_said(from, there, messenger)? else {
         return Ok(None);
     };
-    let message = messenger.read(&frag)?;
-    let heard = unless_memory(hearer.on_message(names, here, back, &message))?;
+    let heard = hears(to, names, here, back, &message)?;
     if heard.is_ok() {
-        sender.sent_out(there);
+        sends(from, there);
     }
     Ok(Some(heard))
 }
