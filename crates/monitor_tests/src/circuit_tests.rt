@@ -11,6 +11,7 @@ use std::alloc::Global;
 use std::test::Fail;
 
 const LINE: &[CoreId] = &[CoreId(0), CoreId(1), CoreId(2)];
+
 const ASIDE: &[CoreId] = &[CoreId(0), CoreId(1), CoreId(3)];
 
 // Three cores, what reads the fragments between them, and the table of names.
@@ -159,7 +160,9 @@ fn refused_at_the_third_core(rt: HostRuntime) -> Result<(), Fail> {
 fn asks_for_all(monitor: &mut Monitor, link: LinkId) -> Result<bool, Fail> {
     for binding in 0..1_023 {
         let asked = opening(binding, 1, &[CoreId(1), CoreId(2)])?;
-        if asks(monitor, link, &asked)? != Circuit(2 * binding as u16 + 1) || !sends(monitor, link) {
+        if asks(monitor, link, &asked)? != Circuit(2 * binding as u16 + 1)
+            || !sends(monitor, link)
+        {
             return Ok(false);
         }
     }
@@ -186,6 +189,9 @@ fn refused_at_the_second_core(rt: HostRuntime) -> Result<(), Fail> {
     assert!(rt; asks_for_all(&mut line.middle, SECOND)?);
     assert_eq!(rt; refused_second(&mut line, LINE, 74)?, [true; 3]);
     let more = opening(1_023, 1, &[CoreId(1), CoreId(2)])?;
-    assert_eq!(rt; asks(&mut line.middle, SECOND, &more), Err(MonitorFault::UsedUp));
+    assert_eq!(rt;
+        asks(&mut line.middle, SECOND, &more),
+        Err(MonitorFault::UsedUp)
+    );
     Ok(())
 }

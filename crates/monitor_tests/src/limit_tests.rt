@@ -26,6 +26,7 @@ fn program(alloc: Global, text: &[u8], plan: PlanNo) -> Result<Program, Fail> {
 }
 
 const ONE: &[u8] = b"interface i { message m(uint8 a, uint64 b); };";
+
 const OTHER: &[u8] = b"interface i { message m(uint8 a, uint32 b); };";
 
 // What is asked for, by two texts, two plans, the service's core and a route.
@@ -48,7 +49,10 @@ fn what_may_be_asked_for(rt: HostRuntime) -> Result<(), Fail> {
     let (same, other) = ((ONE, ONE), (ONE, OTHER));
     let (one, two) = (PlanNo::One, PlanNo::Two);
     assert_eq!(rt; may(alloc, other, two, 9, &[])?, Err(MonitorFault::Differs));
-    assert_eq!(rt; may(alloc, same, two, 9, &[])?, Err(MonitorFault::PlansDiffer));
+    assert_eq!(rt;
+        may(alloc, same, two, 9, &[])?,
+        Err(MonitorFault::PlansDiffer)
+    );
     assert_eq!(rt; may(alloc, same, one, 2, LINE)?, Ok(FIRST));
     for (server, cores) in [
         (1, LINE),
@@ -58,7 +62,10 @@ fn what_may_be_asked_for(rt: HostRuntime) -> Result<(), Fail> {
         (2, &[CoreId(0), CoreId(2)]),
         (1, &[CoreId(0), CoreId(1), CoreId(2), CoreId(1)]),
     ] {
-        assert_eq!(rt; may(alloc, same, one, server, cores)?, Err(MonitorFault::NoRoute));
+        assert_eq!(rt;
+            may(alloc, same, one, server, cores)?,
+            Err(MonitorFault::NoRoute)
+        );
     }
     Ok(())
 }

@@ -2,7 +2,7 @@
 
 use fl_base::{Circuit, CoreId, IRef, LinkId};
 use fl_hop::Hop;
-use fl_monitor::{Here, Heard, Message, Messenger, Monitor, MonitorFault, Opening, Path};
+use fl_monitor::{Heard, Here, Message, Messenger, Monitor, MonitorFault, Opening, Path};
 use fl_nameserv::{Names, Service};
 use std::alloc::Global;
 use std::test::Fail;
