@@ -1,6 +1,7 @@
 //! The part of a core that opens circuits.
 
-ghost use Rattle.std.specs.Prelude.{◌≡◌, ◌≢◌, ◌++◌, ◌∷◌, [], true, false, None, Some, IfOk, IfErr, IfSome, IfNone, OnOk, OnErr, length, slice_get, option_map};
+ghost use Rattle.std.specs.Prelude.{◌≡◌, ◌≢◌, ◌++◌, ◌∷◌, [], true, false, None, Some, length, slice_get, option_map};
+ghost use Rattle.std.specs.Prelude.{IfOk, IfErr, IfSome, IfNone, OnOk, OnErr};
 ghost use Rattle.fl_hop.specs.Table.{with_link, link_fault};
 ghost use Rattle.fl_hop.specs.Openings.{IsRefusal, open_fault};
 ghost use Rattle.fl_hop.specs.Later.{Later};
