@@ -51,9 +51,15 @@ pub record Fields : Type 0 where
   pub told : ℕ
 
 abbrev pub fields_of : ℕ → Fields
-fields_of word = record
-  { epoch = epoch_of word; first = first_of word; acknowledges = acknowledges_of word; reserved = reserved_of word
-  ; message = message_of word; circuit = circuit_of word; told = told_of word }
+fields_of word = record {
+  epoch = epoch_of word;
+  first = first_of word;
+  acknowledges = acknowledges_of word;
+  reserved = reserved_of word;
+  message = message_of word;
+  circuit = circuit_of word;
+  told = told_of word;
+}
 
 -- the fragment with this epoch bit
 abbrev pub with_epoch : ℕ → Frag → Frag

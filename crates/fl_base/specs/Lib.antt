@@ -1,3 +1,4 @@
+-- All three are what promises rest on.
 pub mod Control
 pub mod Ends
 pub mod Prefix

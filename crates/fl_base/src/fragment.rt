@@ -2,7 +2,8 @@
 
 ghost use Rattle.std.specs.Prelude.{◌≡◌, ◌+◌, ◌*◌, ◌^◌, ◌/◌, ◌%◌, ◌-◌, ◌≤◌, ◌<◌, ◌==◌, if◌then◌else◌, false};
 ghost use Rattle.std.specs.List.{list_all};
-ghost use Rattle.fl_base.specs.Control.{epoch_of, first_of, acknowledges_of, reserved_of, message_of, circuit_of, told_of, control_word, is_ack_only, with_epoch, with_circuit, stamped, fields_of, Fields};
+ghost use Rattle.fl_base.specs.Control.{epoch_of, first_of, acknowledges_of, reserved_of, message_of, circuit_of, told_of};
+ghost use Rattle.fl_base.specs.Control.{control_word, is_ack_only, with_epoch, with_circuit, stamped, fields_of, Fields};
 
 use crate::identity::{Circuit, MsgNo};
 

@@ -15,7 +15,7 @@ use Rattle.fl_stub.specs.declared.op.Column.TheVariants.{Send, Receive}
 use Rattle.fl_stub.specs.Structure.{one, Block, finished, next, is_within, last_op, block_ops}
 use Rattle.fl_compile.proofs.Cases.{Place, by_standing, place_at, place_after}
 use Rattle.fl_compile.specs.Compiled.{padding, text_op, type_then, start_at, start_then, counted_then, arguments_block, message_code}
-use Rattle.fl_image.specs.Image.{Codes, codes_of, compiled, is_name, argument_has_short_enums, is_message_writable, has_image}
+use Rattle.fl_image.specs.Image.{Codes, codes_of, compiled, is_name, argument_has_short_enums, is_message_spellable, has_image}
 use Rattle.fl_image.proofs.ReadBack.{AllAfter}
 use Rattle.fl_image.proofs.CodeLaws.{IsSpelled, AreSpelled}
 use Rattle.fl_image.proofs.Caps.{type_align}
@@ -163,7 +163,7 @@ code_spelled column plan m few h =
     let many = order_count plan m.args in
     (omega (arith, total, most, many, few), each_after column [] (body ++ last) (each_append column body last (arguments_have column (place_at 0) args plain) (last_has column, tt)))
 
-message_spelled : (plan : PlanNo) (m : TheMessage) → is_message_within m ≡ true → is_message_writable m ≡ true → AreSpelled (codes_of plan m)
+message_spelled : (plan : PlanNo) (m : TheMessage) → is_message_within m ≡ true → is_message_spellable m ≡ true → AreSpelled (codes_of plan m)
 message_spelled plan m within spelled =
     let a = and_parts (nat_le (length m.args) 32) (are_arguments_within m.args && not (is_too_long m)) within in
     let b = and_parts (are_arguments_within m.args) (not (is_too_long m)) a.1 in
@@ -172,18 +172,18 @@ message_spelled plan m within spelled =
     let plain = are_plain m.args b.0 c.1 in
     (code_spelled Send plan m few plain, code_spelled Receive plan m few plain)
 
-messages_spelled : (plan : PlanNo) (before : List Codes) (ms : List TheMessage) → are_messages_within ms ≡ true → list_all is_message_writable ms ≡ true → AllAfter (λ before. AreSpelled) before (map (codes_of plan) ms)
+messages_spelled : (plan : PlanNo) (before : List Codes) (ms : List TheMessage) → are_messages_within ms ≡ true → list_all is_message_spellable ms ≡ true → AllAfter (λ before. AreSpelled) before (map (codes_of plan) ms)
 messages_spelled plan before [] w s = tt
 messages_spelled plan before (m ∷ ms) w s =
     let p = and_parts (is_message_within m) (are_messages_within ms) w in
-    let q = and_parts (is_message_writable m) (list_all is_message_writable ms) s in
+    let q = and_parts (is_message_spellable m) (list_all is_message_spellable ms) s in
     (message_spelled plan m p.0 q.0, messages_spelled plan (before ++ codes_of plan m ∷ []) ms p.1 q.1)
 
 -- what is spelled for an interface with an image may be read
 pub compiled_has : (plan : PlanNo) (x : TheInterface) → has_image x ≡ true → HasFields (compiled plan x)
 compiled_has plan x h =
-    let a = and_parts (is_within_limits x) (is_name x.name && list_all is_message_writable x.messages) h in
-    let b = and_parts (is_name x.name) (list_all is_message_writable x.messages) a.1 in
+    let a = and_parts (is_within_limits x) (is_name x.name && list_all is_message_spellable x.messages) h in
+    let b = and_parts (is_name x.name) (list_all is_message_spellable x.messages) a.1 in
     let c = and_parts (nat_le (length x.messages) 256) (are_distinct (map (λ (m : TheMessage). m.name) x.messages) && are_messages_within x.messages) a.0 in
     let d = and_parts (are_distinct (map (λ (m : TheMessage). m.name) x.messages)) (are_messages_within x.messages) c.1 in
     record {

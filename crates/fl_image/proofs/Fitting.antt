@@ -12,7 +12,7 @@ use Rattle.fl_check.specs.Depth.{depth_of, deepest, array_depth_of, is_too_big}
 use Rattle.fl_check.specs.Known.{is_among}
 use Rattle.fl_check.specs.Checks.{count_of, is_well_made, are_well_made, is_type_within, is_argument_within, are_arguments_within, is_message_within, are_messages_within, are_distinct, is_within_limits}
 use Rattle.fl_check.specs.Places.{is_too_long}
-use Rattle.fl_image.specs.Image.{is_name, has_short_enums, have_short_enums, argument_has_short_enums, is_message_writable, has_image}
+use Rattle.fl_image.specs.Image.{is_name, has_short_enums, have_short_enums, argument_has_short_enums, is_message_spellable, has_image}
 use Rattle.fl_image.specs.Reading.{is_next, name_at, messages_at, interface_at}
 use Rattle.fl_image.proofs.ReadBack.{IsBytes, AllAfter}
 use Rattle.fl_image.proofs.TypeLaws.{NestsIn}
@@ -124,10 +124,10 @@ arguments_have before (a ∷ args) within short =
 
 -- ---- messages
 
-message_spellable : (m : TheMessage) → HasMessage m → is_message_writable m ≡ true
+message_spellable : (m : TheMessage) → HasMessage m → is_message_spellable m ≡ true
 message_spellable m h = both (is_name m.name) (list_all argument_has_short_enums m.args) h.name (arguments_short [] m.args h.args.1)
 
-message_has : (m : TheMessage) → is_message_within m ≡ true → is_message_writable m ≡ true → HasMessage m
+message_has : (m : TheMessage) → is_message_within m ≡ true → is_message_spellable m ≡ true → HasMessage m
 message_has m within spelled =
     let w = and_parts (nat_le (length m.args) 32) (are_arguments_within m.args && not (is_too_long m)) within in
     let k = and_parts (are_arguments_within m.args) (not (is_too_long m)) w.1 in
@@ -181,7 +181,7 @@ names_push : (before : List TheMessage) (m : TheMessage) → names (before ++ m 
 names_push before m = map-append (λ (m : TheMessage). m.name) before (m ∷ [])
 
 pub record Good (before ms : List TheMessage) : Type 0 where
-  pub spelled : list_all is_message_writable ms ≡ true
+  pub spelled : list_all is_message_spellable ms ≡ true
   pub within : are_messages_within ms ≡ true
   pub distinct : are_distinct (names ms) ≡ true
   pub fresh : NoneAmong (names before) (names ms)
@@ -193,7 +193,7 @@ messages_good before (m ∷ ms) h =
     let r = messages_good (before ++ m ∷ []) ms h.1 in
     let f = none_pop (names before) m.name (names ms) (subst (λ (ns : List (List ℕ)). NoneAmong ns (names ms)) (names_push before m) r.fresh) in
     record {
-      spelled = both (is_message_writable m) (list_all is_message_writable ms) (message_spellable m h.0.0) r.spelled;
+      spelled = both (is_message_spellable m) (list_all is_message_spellable ms) (message_spellable m h.0.0) r.spelled;
       within = both (is_message_within m) (are_messages_within ms) n.0 r.within;
       distinct = rw (f.1, r.distinct) refl;
       fresh = (not_true (is_among (names before) m.name) n.1, f.0);
@@ -202,7 +202,7 @@ messages_good before (m ∷ ms) h =
 messages_have : (before ms : List TheMessage) → Good before ms → AllAfter IsNext before ms
 messages_have before [] g = tt
 messages_have before (m ∷ ms) g =
-    let s = and_parts (is_message_writable m) (list_all is_message_writable ms) g.spelled in
+    let s = and_parts (is_message_spellable m) (list_all is_message_spellable ms) g.spelled in
     let w = and_parts (is_message_within m) (are_messages_within ms) g.within in
     let d = and_parts (not (is_among (names ms) m.name)) (are_distinct (names ms)) g.distinct in
     let next : is_next before m ≡ true = rw (w.0, g.fresh.0) refl in
@@ -229,8 +229,8 @@ read_has_image x h =
 
 pub image_has : (x : TheInterface) → has_image x ≡ true → HasInterface x
 image_has x h =
-    let a = and_parts (is_within_limits x) (is_name x.name && list_all is_message_writable x.messages) h in
-    let b = and_parts (is_name x.name) (list_all is_message_writable x.messages) a.1 in
+    let a = and_parts (is_within_limits x) (is_name x.name && list_all is_message_spellable x.messages) h in
+    let b = and_parts (is_name x.name) (list_all is_message_spellable x.messages) a.1 in
     let c = and_parts (nat_le (length x.messages) 256) (are_distinct (names x.messages) && are_messages_within x.messages) a.0 in
     let d = and_parts (are_distinct (names x.messages)) (are_messages_within x.messages) c.1 in
     record {
@@ -239,7 +239,7 @@ image_has x h =
     }
 
 within_limits : (x : TheInterface) → has_image x ≡ true → is_within_limits x ≡ true
-within_limits x h = (and_parts (is_within_limits x) (is_name x.name && list_all is_message_writable x.messages) h).0
+within_limits x h = (and_parts (is_within_limits x) (is_name x.name && list_all is_message_spellable x.messages) h).0
 
 -- a name and messages that were read are those of an interface within the limits
 pub kept : (bytes behind rest name : List ℕ) (messages : List TheMessage) → IsBytes bytes → name_at bytes ≡ Ok (name, behind) → messages_at behind ≡ Ok (messages, rest)

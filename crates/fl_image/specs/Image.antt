@@ -7,6 +7,8 @@ use Rattle.fl_check.specs.declared.interface.Scalar.TheVariants as scalars
 use Rattle.fl_check.specs.Interface.{TheType, scalar, enumeration, structure, array, TheTypes, no_more, field, TheArgType, fixed}
 use Rattle.fl_check.specs.Interface.{text, sized, TheMessage, TheInterface}
 use Rattle.fl_check.specs.Checks.{count_of, is_within_limits}
+pub use Rattle.fl_lex.specs.Words.{is_word, is_name}
+pub use Rattle.fl_check.specs.Texts.{has_short_enums, have_short_enums, argument_has_short_enums, is_message_spellable, is_spellable}
 use Rattle.fl_value.specs.declared.value.PlanNo.{PlanNo}
 use Rattle.fl_value.specs.declared.value.PlanNo.TheVariants.{One, Two}
 use Rattle.fl_stub.specs.declared.op.Op.{Op}
@@ -155,47 +157,10 @@ image_of plan x = fields_spelled (compiled plan x)
 
 -- ---- which interfaces have an image
 
--- a letter or _
-abbrev pub is_letter : ℕ → Bool
-is_letter b = is_ascii_alphabetic b || (b == 95)
-
-abbrev pub is_in_word : ℕ → Bool
-is_in_word b = is_letter b || is_ascii_digit b
-
--- a letter or _, and then letters, digits and _
-abbrev pub is_word : List ℕ → Bool
-is_word [] = false
-is_word (b ∷ bytes) = is_letter b && list_all is_in_word bytes
-
--- a word of 1 to 64 bytes
-abbrev pub is_name : List ℕ → Bool
-is_name bytes = nat_le (length bytes) 64 && is_word bytes
-
-abbrev mutual
-  -- enums of at most 65,535 enumerators
-  pub has_short_enums : TheType → Bool
-  has_short_enums (scalar s) = true
-  has_short_enums (enumeration n) = nat_le n 65535
-  has_short_enums (structure ts) = have_short_enums ts
-  has_short_enums (array n t) = has_short_enums t
-
-  pub have_short_enums : TheTypes → Bool
-  have_short_enums no_more = true
-  have_short_enums (field t ts) = has_short_enums t && have_short_enums ts
-
-abbrev pub argument_has_short_enums : TheArgType → Bool
-argument_has_short_enums (fixed t) = has_short_enums t
-argument_has_short_enums (text most) = true
-argument_has_short_enums (sized most t) = has_short_enums t
-
--- a message whose name and enums have room in an image
-abbrev pub is_message_writable : TheMessage → Bool
-is_message_writable m = is_name m.name && list_all argument_has_short_enums m.args
-
 -- an interface whose names and enums have room in an image: its names are words of 1 to 64 bytes, its enums have at most
 -- 65,535 enumerators; every interface of a text is so
 abbrev pub is_writable : TheInterface → Bool
-is_writable x = is_name x.name && list_all is_message_writable x.messages
+is_writable x = is_spellable x
 
 -- an interface that has an image: within the limits, and writable
 abbrev pub has_image : TheInterface → Bool

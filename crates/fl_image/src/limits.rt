@@ -32,36 +32,10 @@ pub(crate) struct Extent {
     pub due: u32,
 }
 
-fn scalar_bytes(kind: Scalar) -> u32
-    ensures exact { result ≡ scalar_size kind }
-{
-    match kind {
-        Scalar::Uint8 | Scalar::Int8 | Scalar::Bool | Scalar::Char => 1,
-        Scalar::Uint16 | Scalar::Int16 => 2,
-        Scalar::Uint32 | Scalar::Int32 | Scalar::Iref => 4,
-        Scalar::Uint64
-        | Scalar::Int64
-        | Scalar::Uintptr
-        | Scalar::Intptr
-        | Scalar::Size
-        | Scalar::Errval => 8,
-    }
-}
-
-/// The next multiple of an alignment.
-fn next_multiple(at: u32, align: u32) -> u32
-    requires align { IsAlign align }
-    requires small { at ≤ 65536 }
-    ensures exact { result ≡ round_up at align }
-    ensures near { result ≤ at + 7 }
-{
-    at + (align - at % align) % align
-}
-
 fn of_scalar(kind: Scalar) -> Measured
     ensures measures { Measures result (scalar kind) }
 {
-    let bytes = scalar_bytes(kind);
+    let bytes = kind.size();
     Measured {
         size: bytes,
         align: bytes,
@@ -109,7 +83,7 @@ fn with_field(so_far: Measured, next: Measured) -> Measured
     requires small_next { next.size ≤ 65536 }
     ensures so_far { (t : TheType) (left all : TheTypes) → Measures next t → SoFar so_far (field t left) all → SoFar result left all }
 {
-    let end = next_multiple(so_far.size, next.align) + next.size;
+    let end = so_far.size.next_multiple_of(next.align) + next.size;
     Measured {
         size: end.min(CAP),
         align: next.align.max(so_far.align),
@@ -126,7 +100,7 @@ fn of_fields(so_far: Measured) -> Measured
     ensures measures { (all : TheTypes) → SoFar so_far no_more all → Measures result (structure all) }
 {
     Measured {
-        size: next_multiple(so_far.size, so_far.align).min(CAP),
+        size: so_far.size.next_multiple_of(so_far.align).min(CAP),
         align: so_far.align,
         depth: (so_far.depth + 1).min(CAP),
         arrays: so_far.arrays,
@@ -256,7 +230,7 @@ fn behind_fixed(before: Extent, measured: Measured) -> Extent
     ensures reaches { (t : TheType) (left : List TheArgType) (total : ℕ) → Measures measured t
         → Reaches before (fixed t ∷ left) total → Reaches result left total }
 {
-    let end = next_multiple(before.end, before.due.max(measured.align)) + measured.size;
+    let end = before.end.next_multiple_of(before.due.max(measured.align)) + measured.size;
     Extent {
         end: end.min(CAP),
         due: 1,
@@ -270,7 +244,7 @@ fn behind_counted(before: Extent, size: u32) -> Extent
     ensures end { result.end ≡ min (round_up before.end 8 + (8 + size)) 65536 }
     ensures due { result.due ≡ 8 }
 {
-    let end = next_multiple(before.end, 8) + (8 + size);
+    let end = before.end.next_multiple_of(8) + (8 + size);
     Extent {
         end: end.min(CAP),
         due: 8,

@@ -8,7 +8,7 @@ use crate::fault::{ImageFault, Refusal};
 use crate::limits::{is_message_within, is_taken};
 use crate::number::{name, two};
 use crate::types::arguments;
-use fl_check::{Interface, Message};
+use fl_check::{Interface, Message, counts_fit};
 use std::alloc::Global;
 
 /// A message: its name, and its arguments' types.
@@ -91,5 +91,6 @@ pub(crate) fn interface(alloc: Global, bytes: &[u8]) -> Result<(Interface, &[u8]
 {
     let (name, rest) = name(alloc, bytes)?;
     let (messages, rest) = messages(alloc, rest)?;
+    counts_fit(&messages);
     Ok((Interface { name, messages }, rest))
 }

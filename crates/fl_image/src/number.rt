@@ -2,11 +2,11 @@
 
 ghost use Rattle.std.specs.Prelude.{◌≡◌, ◌<◌, IfOk, IfErr};
 ghost use Rattle.std.specs.List.{list_all};
-ghost use Rattle.fl_image.specs.Image.{is_letter, is_in_word, is_word};
 ghost use Rattle.fl_image.specs.Reading.{Gives, IsOfBytes, Behind, one_at, two_at, four_at, len_at, word_at, name_at};
 
 use crate::fault::{ImageFault, Refusal};
 use fl_check::Word;
+use fl_lex::is_word;
 use std::alloc::Global;
 
 /// A number of one byte.
@@ -42,37 +42,6 @@ pub(crate) fn four(bytes: &[u8]) -> Result<(u32, &[u8]), ImageFault>
     let (low, rest) = two(bytes)?;
     let (high, rest) = two(rest)?;
     Ok((low + 65536 * high, rest))
-}
-
-/// A letter or `_`.
-fn is_letter(byte: u8) -> bool
-    ensures exact { result ≡ is_letter byte }
-{
-    byte.is_ascii_alphabetic() || byte == b'_'
-}
-
-/// A letter, a digit or `_`.
-fn is_in_word(byte: u8) -> bool
-    ensures exact { result ≡ is_in_word byte }
-{
-    is_letter(byte) || byte.is_ascii_digit()
-}
-
-/// Letters, digits and `_` alone.
-fn are_in_word(bytes: &[u8]) -> bool
-    ensures exact { result ≡ list_all is_in_word bytes.now }
-{
-    bytes.iter().all(|byte| is_in_word(*byte))
-}
-
-/// Whether the bytes form a word.
-pub(crate) fn is_word(bytes: &[u8]) -> bool
-    ensures exact { result ≡ is_word bytes.now }
-{
-    let [first, more @ ..] = bytes else {
-        return false;
-    };
-    is_letter(*first) && are_in_word(more)
 }
 
 /// A word of so many bytes.

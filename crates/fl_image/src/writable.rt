@@ -3,17 +3,10 @@
 ghost use Rattle.std.specs.Prelude.{◌≡◌, map};
 ghost use Rattle.std.specs.List.{list_all};
 ghost use Rattle.fl_check.specs.Interface.{type_of, arg_type_of, message_of, interface_of, fields_from};
-ghost use Rattle.fl_image.specs.Image.{is_name, has_short_enums, have_short_enums, argument_has_short_enums, is_message_writable, is_writable};
+ghost use Rattle.fl_image.specs.Image.{has_short_enums, have_short_enums, argument_has_short_enums, is_message_spellable, is_writable};
 
-use crate::number::is_word;
 use fl_check::{ArgType, FixedType, Interface, Message};
-
-/// Whether bytes are a word of 1 to 64 bytes.
-fn is_name(bytes: &[u8]) -> bool
-    ensures exact { result ≡ is_name bytes.now }
-{
-    bytes.len() <= 64 && is_word(bytes)
-}
+use fl_lex::is_name;
 
 /// Whether the enums in a type have at most 65,535 enumerators.
 #[cycle(enums)]
@@ -65,18 +58,18 @@ fn arguments_have_short_enums(arguments: &[ArgType]) -> bool
 }
 
 /// Whether an image has room for a message.
-fn is_message_writable(message: &Message) -> bool
-    ensures exact { result ≡ is_message_writable (message_of message.now) }
+fn is_message_spellable(message: &Message) -> bool
+    ensures exact { result ≡ is_message_spellable (message_of message.now) }
 {
     is_name(&message.name.bytes) && arguments_have_short_enums(&message.args)
 }
 
 /// Whether an image has room for these messages.
 fn are_messages_writable(messages: &[Message]) -> bool
-    ensures exact { result ≡ list_all is_message_writable (map message_of messages.now) }
+    ensures exact { result ≡ list_all is_message_spellable (map message_of messages.now) }
 {
     for message in messages {
-        if !is_message_writable(message) {
+        if !is_message_spellable(message) {
             return false;
         }
     }

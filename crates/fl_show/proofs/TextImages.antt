@@ -1,5 +1,5 @@
 -- The interface that a text stands for has an image.
-use Rattle.std.proofs.Common.{◌≡◌, ℕ, true, ◌&&◌, List, ap, ◌∙◌, subst}
+use Rattle.std.proofs.Common.{◌≡◌, ℕ, Bool, true, false, ◌&&◌, List, ap, ◌∙◌, subst}
 use Rattle.std.specs.List.{list_all}
 use Rattle.std.proofs.lemmas.Bool.{and_parts}
 use Rattle.fl_lex.specs.Token.{TheTokens}
@@ -9,24 +9,23 @@ use Rattle.fl_parse.specs.Tree.{TheTree}
 use Rattle.fl_check.specs.Interface.{TheInterface}
 use Rattle.fl_check.specs.Checks.{StandsFor, interface_from, is_within_limits}
 use Rattle.fl_check.proofs.Limits.{within_limits}
+use Rattle.fl_check.proofs.TextInterfaces.{texts_are_spellable}
 use Rattle.fl_value.specs.declared.value.PlanNo.{PlanNo}
 use Rattle.fl_value.specs.declared.value.PlanNo.TheVariants.{Two}
 use Rattle.fl_compile.specs.Programs.{TheProgram}
-use Rattle.fl_image.specs.Image.{is_name, is_message_writable, is_writable, has_image, image_of}
+use Rattle.fl_image.specs.Image.{is_writable, has_image, image_of}
 use Rattle.fl_show.specs.Content.{StandsFor as TextStandsFor, IsImageOf, ShowsImage}
 use Rattle.fl_show.specs.Table.{IsTable}
-use Rattle.fl_show.proofs.Words.{both}
-use Rattle.fl_show.proofs.TreeNames.{text_is_small}
-use Rattle.fl_show.proofs.Declared.{messages_spellable}
 
-pub text_has_image : (bytes : List ℕ) (tokens : TheTokens) (tree : TheTree) (i : TheInterface) → IsLexed bytes tokens → Derives tokens.tokens tree → StandsFor tree i → has_image i ≡ true
+both : (a b : Bool) → a ≡ true → b ≡ true → (a && b) ≡ true
+both true b p q = q
+both false b p q = absurd cc
+
+pub text_has_image : (bytes : List ℕ) (tokens : TheTokens) (tree : TheTree) (i : TheInterface) → IsLexed bytes tokens → Derives tokens.tokens tree
+    → StandsFor tree i → has_image i ≡ true
 text_has_image bytes tokens tree i l p s =
-    let small = text_is_small bytes tokens tree l p in
-    let x = interface_from tree in
-    let spelled = messages_spellable tree.declarations small.declarations s.0 in
-    ap has_image s.1
-    ∙ both (is_within_limits x) (is_name x.name && list_all is_message_writable x.messages) (within_limits tree s.0)
-    (both (is_name x.name) (list_all is_message_writable x.messages) small.name spelled)
+    both (is_within_limits i) (is_writable i) (ap is_within_limits s.1 ∙ within_limits tree s.0)
+    (texts_are_spellable bytes i (record { tokens = tokens; tree = tree; spells = l; derives = p; checks = s }))
 
 -- so an image can spell it
 pub text_is_writable : (bytes : List ℕ) (i x : TheInterface) → TextStandsFor bytes i → x ≡ i → is_writable x ≡ true

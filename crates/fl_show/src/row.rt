@@ -2,11 +2,9 @@
 
 ghost use Rattle.std.specs.Prelude.{◌≡◌, Some};
 ghost use Rattle.fl_check.specs.Interface.{arg_type_of};
-ghost use Rattle.fl_layout.specs.Places.{count_for};
 ghost use Rattle.fl_layout.specs.Layouts.{argument_size};
 ghost use Rattle.fl_show.specs.Table.{figures_text, place_text, kind_of, kind_text};
 
-use fl_base::FRAG_BYTES;
 use fl_check::ArgType;
 use std::fmt;
 
@@ -17,13 +15,6 @@ pub(crate) struct Figures {
     pub least: usize,
     pub greatest: usize,
     pub fragments: usize,
-}
-
-/// The fragments of a payload of so many bytes; an empty one has one, too.
-pub(crate) fn fragments_for(bytes: usize) -> usize
-    ensures count { result ≡ count_for bytes }
-{
-    bytes.div_ceil(FRAG_BYTES).max(1)
 }
 
 impl fmt::Display for Figures {

@@ -6,10 +6,10 @@ ghost use Rattle.fl_check.specs.Interface.{arg_type_of, message_of, interface_of
 ghost use Rattle.fl_layout.specs.Leaves.{argument_types};
 ghost use Rattle.fl_show.specs.Table.{interface_line, message_line, argument_line, TellsEach, TellsArgument, TellsMessage, IsTable};
 
-use crate::row::{Figures, Kind, Place, fragments_for};
+use crate::row::{Figures, Kind, Place};
 use fl_base::MsgNo;
 use fl_check::{ArgType, Message};
-use fl_layout::Plans;
+use fl_layout::{Plans, fragment_count};
 use fl_value::PlanNo;
 use std::alloc::{AllocError, Global};
 
@@ -74,7 +74,7 @@ fn put_message(
 {
     let least = plans.least(msg);
     let greatest = plans.greatest(msg);
-    let fragments = fragments_for(greatest);
+    let fragments = fragment_count(greatest);
     let figures = Figures {
         least,
         greatest,

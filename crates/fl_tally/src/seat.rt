@@ -1,7 +1,8 @@
 //! A core's seat on the table of its run.
 
 ghost use Rattle.std.specs.Prelude.{◌≡◌, ◌+◌, ◌<◌, ◌≤◌, [], ◌∷◌, length, IfOk, OnOk, OnErr, vec_len};
-ghost use Rattle.fl_tally.specs.Tally.{added, opening_view, with_finish, with_stop, with_seen, with_stored, with_heard, without_core, core_alone, both, MayTell, Agrees, number_of};
+ghost use Rattle.fl_tally.specs.Tally.{added, opening_view, with_finish, with_stop, with_seen, with_stored};
+ghost use Rattle.fl_tally.specs.Tally.{with_heard, without_core, core_alone, both, MayTell, Agrees, number_of};
 ghost use Rattle.fl_tally.specs.Seats.{knowing};
 
 use crate::board::{Board, Place, Plan};
@@ -29,7 +30,8 @@ impl Model for EndSeat {
 
     ghost view = { λ s. seat_of s.seat };
 
-    ghost invariant = { λ s. IsSeated (arc_value s.table).shared.table_id (arc_value s.table).shared.key.cores (arc_value s.table).shared.key.owners.items s.seat };
+    ghost invariant = { λ s. IsSeated (arc_value s.table).shared.table_id (arc_value s.table).shared.key.cores
+        (arc_value s.table).shared.key.owners.items s.seat };
 }
 
 impl EndSeat {

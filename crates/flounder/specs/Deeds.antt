@@ -1,5 +1,5 @@
 -- What commands do with files. Public promises rest on this file.
-use Rattle.std.specs.Prelude.{◌≡◌, List, [], ◌∷◌, ◌++◌, ℕ, Option, None, Some, Result, Ok, Err}
+use Rattle.std.specs.Prelude.{◌≡◌, Bool, true, false, List, [], ◌∷◌, ◌++◌, ℕ, Option, None, Some, Result, Ok, Err}
 use Rattle.std.specs.IoError.{error_kind}
 use Rattle.std.specs.declared.io.Error.{Error}
 use Rattle.std.specs.declared.io.ErrorKind.{ErrorKind}
@@ -36,3 +36,10 @@ writing path bytes (Err e) = was_not_written path (error_kind e)
 -- some deeds were done, of which a property holds
 abbrev pub Does : Option (List Deed) → Option (List Deed) → (List Deed → Type 0) → Type 0
 Does old new Property = (deeds : List Deed) × Tells old new deeds × Property deeds
+
+-- a deed as a store may write it down: whether it was a read, the path, the bytes, and the error's kind where it failed
+abbrev pub deed_of : Bool → List ℕ → List ℕ → Option ErrorKind → Deed
+deed_of true path bytes None = was_read path bytes
+deed_of true path bytes (Some kind) = was_not_read path kind
+deed_of false path bytes None = was_written path bytes
+deed_of false path bytes (Some kind) = was_not_written path kind

@@ -1,12 +1,57 @@
 //! Whole runs of `compile`: words and a file in; another file, standard error and a status out.
 
+ghost use Rattle.std.specs.Prelude.{◌≡◌, ◌++◌, ◌∷◌, [], map, option_map, IfOk, IfSome};
+ghost use Rattle.flounder.specs.Deeds.{Adds, deed_of};
+
 use crate::files::FileStore;
 use crate::run::run;
-use std::alloc::Global;
+use std::alloc::{AllocError, Global};
 use std::io;
 use std::io::BufWriter;
 
-// The file `in.if`, which may not be read; and `out`, which may not be written. It takes no memory of its own.
+// A deed, as the desk writes it down.
+#[derive(Drop)]
+struct Entry {
+    is_read: bool,
+    path: Vec<u8>,
+    bytes: Vec<u8>,
+    failed: Option<io::ErrorKind>,
+}
+
+fn new_entry(
+    alloc: Global,
+    is_read: bool,
+    path: &[u8],
+    bytes: &[u8],
+    failed: Option<io::ErrorKind>,
+) -> Result<Entry, AllocError>
+    ensures deed { IfOk result (λ e. deed_of e.is_read e.path.items e.bytes.items e.failed ≡ deed_of is_read path.now bytes.now failed) }
+{
+    let path = Vec::from_slice(alloc, path)?;
+    let bytes = Vec::from_slice(alloc, bytes)?;
+    Ok(Entry {
+        is_read,
+        path,
+        bytes,
+        failed,
+    })
+}
+
+// The deeds with one more, as far as there is memory for them.
+fn with_entry(deeds: Vec<Entry>, entry: Entry) -> Option<Vec<Entry>>
+    ensures told { IfSome result (λ all. map (λ e. deed_of e.is_read e.path.items e.bytes.items e.failed) all.items
+        ≡ map (λ e. deed_of e.is_read e.path.items e.bytes.items e.failed) deeds.items
+        ++ deed_of entry.is_read entry.path.items entry.bytes.items entry.failed ∷ []) }
+{
+    let mut deeds = deeds;
+    match deeds.push(entry) {
+        Ok(()) => Some(deeds),
+        Err(_) => None,
+    }
+}
+
+// The file `in.if`, which may not be read; and `out`, which may not be written. It tells its deeds while it has memory to write
+// them down.
 #[derive(Drop)]
 struct Desk {
     content: &'static [u8],
@@ -15,10 +60,13 @@ struct Desk {
     image: [u8; 64],
     len: usize,
     writes: usize,
+    alloc: Global,
+    deeds: Option<Vec<Entry>>,
 }
 
 impl Desk {
     fn new(
+        alloc: Global,
         content: &'static [u8],
         unread: Option<io::ErrorKind>,
         unwritten: Option<io::ErrorKind>,
@@ -30,25 +78,14 @@ impl Desk {
             image: [0; 64],
             len: 0,
             writes: 0,
+            alloc,
+            deeds: Some(Vec::new(alloc)),
         }
     }
 
-    // The bytes of `out`.
-    fn written(&self) -> &[u8] {
-        &self.image[..self.len.min(64)]
-    }
-}
-
-impl FileStore for Desk {
-    fn read(&mut self, alloc: Global, path: &str) -> io::Result<Vec<u8>> {
-        match self.unread {
-            Some(kind) => Err(io::Error::from(kind)),
-            None if path == "in.if" => Ok(Vec::from_slice(alloc, self.content)?),
-            None => Err(io::Error::from(io::ErrorKind::NotFound)),
-        }
-    }
-
-    fn write(&mut self, path: &str, bytes: &[u8]) -> io::Result<()> {
+    fn put(&mut self, path: &str, bytes: &[u8]) -> io::Result<()>
+        ensures deeds { self.new.deeds ≡ self.old.deeds }
+    {
         self.writes = self.writes.saturating_add(1);
         if path != "out" {
             return Err(io::Error::from(io::ErrorKind::NotFound));
@@ -60,6 +97,76 @@ impl FileStore for Desk {
             Some(kind) => Err(io::Error::from(kind)),
             None => Ok(()),
         }
+    }
+
+    // The bytes of `out`.
+    fn written(&self) -> &[u8] {
+        &self.image[..self.len.min(64)]
+    }
+}
+
+// What was done so far, and one deed more.
+fn note(
+    alloc: Global,
+    deeds: Option<Vec<Entry>>,
+    is_read: bool,
+    path: &[u8],
+    bytes: &[u8],
+    failed: Option<io::ErrorKind>,
+) -> Option<Vec<Entry>>
+    ensures told { Adds
+        (option_map (λ all. map (λ e. deed_of e.is_read e.path.items e.bytes.items e.failed) all.items) deeds)
+        (option_map (λ all. map (λ e. deed_of e.is_read e.path.items e.bytes.items e.failed) all.items) result)
+        (deed_of is_read path.now bytes.now failed) }
+{
+    let deeds = deeds?;
+    match new_entry(alloc, is_read, path, bytes, failed) {
+        Ok(entry) => with_entry(deeds, entry),
+        Err(_) => None,
+    }
+}
+
+impl FileStore for Desk {
+    ghost deeds = { λ desk. option_map (λ all. map (λ e. deed_of e.is_read e.path.items e.bytes.items e.failed) all.items) desk.deeds };
+
+    fn read(&mut self, alloc: Global, path: &str) -> io::Result<Vec<u8>> {
+        let found = match self.unread {
+            Some(kind) => Err(io::Error::from(kind)),
+            None if path == "in.if" => Vec::from_slice(alloc, self.content).map_err(
+                io::Error::from,
+            ),
+            None => Err(io::Error::from(io::ErrorKind::NotFound)),
+        };
+        let deeds = self.deeds.take();
+        self.deeds = match &found {
+            Ok(bytes) => note(self.alloc, deeds, true, path.as_bytes(), bytes, None),
+            Err(error) => note(
+                self.alloc,
+                deeds,
+                true,
+                path.as_bytes(),
+                &[],
+                Some(error.kind()),
+            ),
+        };
+        found
+    }
+
+    fn write(&mut self, path: &str, bytes: &[u8]) -> io::Result<()> {
+        let done = self.put(path, bytes);
+        let deeds = self.deeds.take();
+        self.deeds = match &done {
+            Ok(()) => note(self.alloc, deeds, false, path.as_bytes(), bytes, None),
+            Err(error) => note(
+                self.alloc,
+                deeds,
+                false,
+                path.as_bytes(),
+                bytes,
+                Some(error.kind()),
+            ),
+        };
+        done
     }
 }
 
@@ -86,7 +193,7 @@ const WORDS: [&str; 4] = ["flounder", "compile", "in.if", "out"];
 
 #[test]
 fn an_image_is_written(rt: HostRuntime) {
-    let mut desk = Desk::new(PING, None, None);
+    let mut desk = Desk::new(rt.alloc(), PING, None, None);
     let mut errors = Vec::new(rt.alloc());
     assert_eq!(rt; go(rt.alloc(), &WORDS, &mut desk, &mut errors), 0);
     assert_eq!(rt; desk.written(), IMAGE);
@@ -96,7 +203,7 @@ fn an_image_is_written(rt: HostRuntime) {
 
 #[test]
 fn a_text_that_is_refused_writes_nothing(rt: HostRuntime) {
-    let mut desk = Desk::new(REFUSED, None, None);
+    let mut desk = Desk::new(rt.alloc(), REFUSED, None, None);
     let mut errors = Vec::new(rt.alloc());
     assert_eq!(rt; go(rt.alloc(), &WORDS, &mut desk, &mut errors), 2);
     let told = b"\
@@ -120,13 +227,13 @@ fn the_first_fault_of_compile_counts(rt: HostRuntime) {
         (PING, None, other, 4, 1),
         (PING, None, full, 3, 1),
     ] {
-        let mut desk = Desk::new(content, unread, unwritten);
+        let mut desk = Desk::new(rt.alloc(), content, unread, unwritten);
         let mut errors = Vec::new(rt.alloc());
         assert_eq!(rt; go(rt.alloc(), &WORDS, &mut desk, &mut errors), status);
         assert_eq!(rt; desk.writes, writes);
         assert!(rt; !errors.is_empty());
     }
-    let mut desk = Desk::new(REFUSED, other, other);
+    let mut desk = Desk::new(rt.alloc(), REFUSED, other, other);
     let mut errors = Vec::new(rt.alloc());
     let words = ["flounder", "compile", "in.if"];
     assert_eq!(rt; go(rt.alloc(), &words, &mut desk, &mut errors), 1);
@@ -136,7 +243,7 @@ fn the_first_fault_of_compile_counts(rt: HostRuntime) {
 // The image, or out of memory and nothing written.
 #[test]
 fn compiled_without_memory(rt: HostRuntime) {
-    let mut desk = Desk::new(PING, None, None);
+    let mut desk = Desk::new(rt.alloc(), PING, None, None);
     let mut errors = Vec::new(rt.alloc());
     match go(rt.alloc(), &WORDS, &mut desk, &mut errors) {
         0 => assert_eq!(rt; desk.written(), IMAGE),

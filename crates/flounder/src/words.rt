@@ -228,6 +228,9 @@ pub fn read_words<'a, S: AsStr>(alloc: Global, words: &'a [S]) -> Result<Request
     let matches = command.try_get_matches_from_mut(words)?;
     match request_of(&matches) {
         Some(request) => Ok(request),
-        None => Err(command.error(ErrorKind::MissingRequiredArgument, "a file's name is missing")?),
+        None => Err(command.error(
+            ErrorKind::MissingRequiredArgument,
+            "a file's name is missing",
+        )?),
     }
 }

@@ -69,8 +69,8 @@ fn the_image_of_ping(rt: HostRuntime) -> Result<(), Fail> {
 #[test]
 fn images_that_end_early(rt: HostRuntime) -> Result<(), Fail> {
     for len in 0..37 {
-        let (front, _rest) = PING.split_at(len);
-        assert_eq!(rt; answer(rt.alloc(), front)?, 82);
+        let (cut, _rest) = PING.split_at(len);
+        assert_eq!(rt; answer(rt.alloc(), cut)?, 82);
     }
     assert_eq!(rt; answer(rt.alloc(), b"XYZ")?, 82);
     assert_eq!(rt; answer(rt.alloc(), b"XYZA")?, 80);

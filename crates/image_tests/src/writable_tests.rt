@@ -2,7 +2,7 @@
 
 ghost use Rattle.std.specs.Prelude.{◌≤◌};
 
-use fl_check::{ArgType, FixedType, Interface, Message, Word};
+use fl_check::{ArgType, FixedType, Interface, Message, Word, counts_fit};
 use fl_image::is_writable;
 use std::alloc::{AllocError, Global};
 use std::test::Fail;
@@ -27,8 +27,14 @@ fn names_are_words(rt: HostRuntime) -> Result<(), Fail> {
         (b"", false),
         (b"4x", false),
         (b"a b", false),
-        (b"a_name_of_64_bytes_which_is_as_long_as_a_name_in_an_image_may_be", true),
-        (b"a_name_of_65_bytes_which_is_longer_than_a_name_in_an_image_may_be", false),
+        (
+            b"a_name_of_64_bytes_which_is_as_long_as_a_name_in_an_image_may_be",
+            true,
+        ),
+        (
+            b"a_name_of_65_bytes_which_is_longer_than_a_name_in_an_image_may_be",
+            false,
+        ),
     ];
     for (name, wanted) in rows {
         let interface = empty(rt.alloc(), name)?;
@@ -47,6 +53,7 @@ fn of_enum(alloc: Global, count: u32) -> Result<Interface, AllocError>
     let mut messages = Vec::new(alloc);
     messages.push(Message { name, args })?;
     let name = word(alloc, b"i")?;
+    counts_fit(&messages);
     Ok(Interface { name, messages })
 }
 

@@ -100,7 +100,7 @@ fn run(alloc: Global, reader: &mut Source<'_>, writer: &mut Sheet) -> Result<(),
     exec(alloc, reader, writer)
 }
 
-// The fault, and that what was written until then is a front of the transcript.
+// The fault, and that what was written until then is a prefix of the transcript.
 fn expect_fault(
     rt: &impl Abort,
     outcome: Result<(), ExecFault>,

@@ -73,7 +73,7 @@ fn refusals_are_told_with_their_place(rt: HostRuntime) -> Result<(), Fail> {
             return Err(Fail::from("it is shown"));
         };
         assert!(rt; fault.to_string(rt.alloc())?.as_str() == told, "{fault}");
-        assert_eq!(rt; fault.number(), 2);
+        assert_eq!(rt; fault.status(), 2);
     }
     Ok(())
 }

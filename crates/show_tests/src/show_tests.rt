@@ -95,8 +95,8 @@ fn the_first_line_is_the_fault_alone(rt: HostRuntime) -> Result<(), Fail> {
 #[test]
 fn images_cut_short(rt: HostRuntime) -> Result<(), Fail> {
     for len in 0..37 {
-        let (front, _rest) = PING.split_at(len);
-        let told = first_line(rt.alloc(), front)?;
+        let (cut, _rest) = PING.split_at(len);
+        let told = first_line(rt.alloc(), cut)?;
         let wanted = if len < 4 { "E7 at 0" } else { "E82" };
         assert!(rt; len == 0 || told.as_str() == wanted, "{len}: {told}");
     }
@@ -110,6 +110,6 @@ fn an_image_is_refused_in_words(rt: HostRuntime) -> Result<(), Fail> {
     };
     let told = "E81\nan image of another version: only versions 1 and 2 are known";
     assert!(rt; fault.to_string(rt.alloc())?.as_str() == told, "{fault}");
-    assert_eq!(rt; fault.number(), 2);
+    assert_eq!(rt; fault.status(), 2);
     Ok(())
 }

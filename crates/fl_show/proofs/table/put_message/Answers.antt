@@ -23,12 +23,12 @@ message_told plan i msg m f old mid new l g n e (rest, h, w) =
 
 pub returns : goal.returns
 returns c =
-    let f : Figures = record { least = c.least-least.result; greatest = c.greatest-greatest.result; fragments = c.fragments_for-fragments.result } in
+    let f : Figures = record { least = c.least-least.result; greatest = c.greatest-greatest.result; fragments = c.fragment_count-fragments.result } in
     let line = c.in_ok-put_figures.ensures.told ∙ ap (λ z. c.args.table.now.items ++ message_line c.args.msg.0 z f) c.deref.ensures.value in
     record {
       told =
           on_ok_weaker c.put_arguments.result
           (message_told c.args.plans.now.plan (interface_of c.args.plans.now.interface) c.args.msg.0 (message_of c.args.message.now) f _ _ _
-          c.least-least.ensures.least c.greatest-greatest.ensures.greatest c.fragments_for-fragments.ensures.count line)
+          c.least-least.ensures.least c.greatest-greatest.ensures.greatest c.fragment_count-fragments.ensures.count line)
           c.put_arguments.ensures.told;
     }
