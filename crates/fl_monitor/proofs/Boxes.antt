@@ -1,10 +1,9 @@
 -- The fragments in an outbox are those of one list of messages.
-use Rattle.std.proofs.Common.{◌≡◌, ◌≢◌, ◌≤◌, ◌<◌, ◌+◌, ℕ, false, List, [], ◌∷◌, ◌++◌, length, drop, length-append, refl, sym, ◌∙◌, ap, subst, arith}
+use Rattle.std.proofs.Common.{◌≡◌, ◌<◌, false, List, [], ◌∷◌, ◌++◌, length, drop, length-append, refl, sym, ◌∙◌, ap, subst, arith}
 use Rattle.std.specs.Prelude.{Option, IfSome, slice_get}
 use Rattle.fl_base.specs.declared.fragment.Frag.{Frag}
 use Rattle.fl_base.specs.Control.{bare, is_ack_only}
-use Rattle.fl_monitor.specs.declared.message.Message.{Message}
-use Rattle.fl_monitor.specs.Outboxes.{IsFragOf, IsSomeFrag, AreFragsOf, IsOutbox, OneListOfMessages, PutIsOneMore, SentIsOneLess}
+use Rattle.fl_monitor.specs.Outboxes.{IsSomeFrag, IsOutbox, OneListOfMessages, PutIsOneMore, SentIsOneLess}
 use Rattle.fl_monitor.proofs.Single.{frag_for, frags_are, bare_frag, says_what_is_written, says_no_other, says_alone}
 
 pub one_list : OneListOfMessages

@@ -7,3 +7,5 @@ pub mod Written
 pub mod Places
 pub mod Taken
 pub mod Boxes
+pub mod Tables
+pub mod Outcomes

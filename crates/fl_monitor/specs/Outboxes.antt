@@ -1,5 +1,5 @@
 -- An outbox: the fragments of the messages that a monitor is to send over one link, the first to be sent first.
-use Rattle.std.specs.Prelude.{◌≡◌, ◌<◌, ◌≤◌, ℕ, List, [], ◌∷◌, ◌++◌, length, Result, Ok, Err}
+use Rattle.std.specs.Prelude.{◌≡◌, ◌<◌, ◌≤◌, List, [], ◌∷◌, ◌++◌, length, Result, Ok, Err}
 use Rattle.fl_base.specs.declared.fragment.Frag.{Frag}
 use Rattle.fl_value.specs.declared.value.PlanNo.TheVariants.{One}
 use Rattle.fl_wire.specs.Payload.{frags_of}
@@ -33,6 +33,7 @@ pub record IsOutbox (frags : List Frag) : Type 0 where
 abbrev pub Puts : List Frag → Frag → Result (Unit {0}) MonitorFault → List Frag → Type 0
 Puts s f (Ok done) t = (length s < 64) × (t ≡ s ++ f ∷ [])
 Puts s f (Err OutboxFull) t = (length s ≡ 64) × (t ≡ s)
+Puts s f (Err fault) t = ⊥
 
 -- ---- laws
 

@@ -2,24 +2,59 @@
 
 ghost use Rattle.std.specs.Prelude.{◌≡◌};
 ghost use Rattle.fl_monitor.specs.Faults.{fault_number};
+ghost use Rattle.fl_monitor.specs.declared.fault.MonitorFault.TheVariants.{Memory};
 
+use std::alloc::AllocError;
 use thiserror::Error;
 
 /// Why nothing was done.
 #[derive(Clone, Copy, Debug, PartialEq, Eq, Drop, Error)]
 pub enum MonitorFault {
+    /// A message that no monitor in its right place says: an opening out of turn, for a binding that is here already, or on
+    /// a route that doesn't lead here; an answer that nobody waits for (E67).
+    #[error("a monitor's message out of place")]
+    Astray,
+    /// The service is of another interface than the client (E72).
+    #[error("the service is of another interface")]
+    Differs,
+    /// The route is none, or there is no link to its second core (E73).
+    #[error("no such route")]
+    NoRoute,
+    /// This core has opened 1,023 circuits on the link, and opens no more there (E74).
+    #[error("all circuits of the link are used up")]
+    UsedUp,
     /// 64 messages wait to be sent over the link (E75).
     #[error("64 messages wait to be sent over the link")]
     OutboxFull,
+    /// The service is of the same interface, compiled under another plan (E76).
+    #[error("the service is compiled under another plan")]
+    PlansDiffer,
+    /// There is no memory for one more circuit, or for the tape of what is to be said (E99).
+    #[error("no memory for one more circuit")]
+    Memory,
 }
 
 impl MonitorFault {
-    /// The fault's number, as answers show it.
+    /// The fault's number, as answers show it: 67, 72 to 76, or 99.
     pub fn number(self) -> u8
         ensures number { result ≡ fault_number self }
     {
         match self {
+            MonitorFault::Astray => 67,
+            MonitorFault::Differs => 72,
+            MonitorFault::NoRoute => 73,
+            MonitorFault::UsedUp => 74,
             MonitorFault::OutboxFull => 75,
+            MonitorFault::PlansDiffer => 76,
+            MonitorFault::Memory => 99,
         }
+    }
+}
+
+impl From<AllocError> for MonitorFault {
+    ghost from_gives = { λ _ e. e ≡ Memory };
+
+    fn from(_error: AllocError) -> MonitorFault {
+        MonitorFault::Memory
     }
 }

@@ -1,5 +1,6 @@
 //! What the monitors' messages come to as fragments: laws, as the contracts of functions that do nothing.
 
+ghost use Rattle.fl_monitor.specs.Hearing.{OneOutcome};
 ghost use Rattle.fl_monitor.specs.Outboxes.{OneListOfMessages, PutIsOneMore, SentIsOneLess};
 ghost use Rattle.fl_monitor.specs.Saying.{
   FitsByWidths,
@@ -63,4 +64,10 @@ pub fn outboxes_say_messages()
     ensures one { OneListOfMessages }
     ensures put { PutIsOneMore }
     ensures sent { SentIsOneLess }
+{}
+
+/// A message comes to one thing at most at the core that hears it. So a monitor's answer to a message is told by its table of
+/// circuits, the table of names, and what its core knows; and a message is out of its place, or not.
+pub fn one_outcome()
+    ensures one { OneOutcome }
 {}

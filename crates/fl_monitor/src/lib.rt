@@ -4,8 +4,14 @@
 //! own. That interface is compiled as any other, under plan 1 for good, and each of its calls is one fragment, which travels
 //! on circuit 0 of a link between two cores.
 //!
+//! A core's [`Monitor`] keeps its circuits, and what it has still to say on each link. It asks for a circuit
+//! ([`Monitor::may_open`], [`Monitor::start_open`]), and hears what the neighbours' monitors say ([`Monitor::on_message`]): an opening
+//! goes on, ends at a service, or is refused; an answer goes back by the entries.
+//!
 //! Contract for the layers above: a fragment says a message or none (`specs/Saying.antt`). [`Messenger::frag`] gives the one
 //! fragment of a message, and [`Messenger::read`] the message that a fragment says, or its first fault where it says none.
+//! What a message comes to is told by `specs/Hearing.antt` (an opening's fate by `specs/Fates.antt`), and what each event of a monitor does
+//! is one relation by its answer (`specs/Monitors.antt`).
 //!
 //! - `path.rt`: the route of a circuit
 //! - `message.rt`: the messages, and their tapes
@@ -13,25 +19,38 @@
 //! - `call.rt`: the message whose call it is
 //! - `messenger.rt`: writing and reading, by compiled stubs
 //! - `outbox.rt`: what a monitor is to send over one link
+//! - `monitor.rt`: `Monitor`
+//! - `opening.rt`, `routing.rt`: what is asked for, and routes at a core
+//! - `fate.rt`, `hearing.rt`, `heard.rt`: what a message comes to, what is said then, and what becomes of the table
 //! - `fault.rt`: why a call is refused
 //! - `law.rt`: messages, calls and fragments stand for one another
 #![tactic(auto)]
 
 mod call;
+mod fate;
 mod fault;
+mod heard;
+mod hearing;
 mod interface;
 mod law;
 mod message;
 mod messenger;
+mod monitor;
+mod opening;
 mod outbox;
 mod path;
+mod routing;
 
+pub use fate::Here;
 pub use fault::MonitorFault;
+pub use heard::Heard;
 pub use law::{
-    epochs_say_nothing, messages_are_calls, one_fragment, one_message, one_reason,
+    epochs_say_nothing, messages_are_calls, one_fragment, one_message, one_outcome, one_reason,
     outboxes_say_messages, stands_alone,
 };
 pub use message::Message;
 pub use messenger::Messenger;
+pub use monitor::Monitor;
+pub use opening::Opening;
 pub use outbox::{MAX_WAITING, Outbox};
 pub use path::{MAX_ROUTE, Path};

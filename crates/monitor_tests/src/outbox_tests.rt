@@ -62,9 +62,34 @@ fn first_in_first_out(rt: HostRuntime) -> Result<(), Fail> {
 
 #[test]
 fn monitor_faults(rt: HostRuntime) -> Result<(), Fail> {
-    let fault = MonitorFault::OutboxFull;
-    assert_eq!(rt; fault.number(), 75);
-    let shown = format!(in rt.alloc(); "{fault}")?;
-    assert_eq!(rt; shown.as_str(), "64 messages wait to be sent over the link");
+    for (fault, number, text) in [
+        (MonitorFault::Astray, 67, "a monitor's message out of place"),
+        (
+            MonitorFault::Differs,
+            72,
+            "the service is of another interface",
+        ),
+        (MonitorFault::NoRoute, 73, "no such route"),
+        (
+            MonitorFault::UsedUp,
+            74,
+            "all circuits of the link are used up",
+        ),
+        (
+            MonitorFault::OutboxFull,
+            75,
+            "64 messages wait to be sent over the link",
+        ),
+        (
+            MonitorFault::PlansDiffer,
+            76,
+            "the service is compiled under another plan",
+        ),
+        (MonitorFault::Memory, 99, "no memory for one more circuit"),
+    ] {
+        assert_eq!(rt; fault.number(), number);
+        let shown = format!(in rt.alloc(); "{fault}")?;
+        assert_eq!(rt; shown.as_str(), text);
+    }
     Ok(())
 }
