@@ -87,7 +87,7 @@ adds_by e v z o x y asked due p q r t g = record {
   merged = subst (λ (cs : List TheCall). Merged cs g.replies g.more) (sym r) g.merged;
   accepted = ap (λ (k : Calls). k.accepted) q ∙ g.accepted ∙ ap (λ (k : Calls). k.accepted ++ g.more) (sym p);
   all = ap (λ (k : Calls). k.waiting ++ replied_in e z o.answer) p ∙ ap (λ (cs : List TheCall). x.waiting ++ cs) t ∙ g.all
-  ∙ ap (λ (k : Calls). g.replies ++ k.waiting) (sym q);
+      ∙ ap (λ (k : Calls). g.replies ++ k.waiting) (sym q);
 }
 
 adds_none : (x : Calls) → Grows [] [] x x
@@ -231,10 +231,13 @@ took e f sender v t i z u x at h a = by_what t
   where
     w : State
     w = change_out sender takes_one u
+
     alike : calls_in (end_of w e) ≡ calls_in (end_of z e)
     alike = end_alike calls_in e sender (λ y. record y { out = takes_one y.out }) u (λ y. refl) ∙ a
+
     has : Has (IsTaking i x) w f
     has = has_kept (IsTaking i x) f sender (λ y. record y { out = takes_one y.out }) u (λ y k. record { rules = k.rules; ok = taken_ok i y k.ok }) h
+
     by_what : (t : Taken) → Adds e v z (answers (takes_next f sender t i u) (taken_answer f t))
     by_what a_part = plain_adds e v z _ tt (end_alike calls_in e f (replies i a_part) w (λ y. refl) ∙ alike)
     by_what (whole c) = handled_by (same_end e f) e f v c i z w x refl at has alike
@@ -328,10 +331,10 @@ since e (v ∷ vs) z ok =
       merged = merged_after a.merged b.merged;
       accepted = b.accepted ∙ ap (λ (cs : List TheCall). cs ++ b.more) a.accepted ∙ append_assoc (accepted_by z e) a.more b.more;
       all = sym (append_assoc (waiting_at z e) (replied_in e z o.answer) (replies_due e o.state vs))
-      ∙ ap (λ (cs : List TheCall). cs ++ replies_due e o.state vs) a.all
-      ∙ append_assoc a.replies (waiting_at o.state e) (replies_due e o.state vs)
-      ∙ ap (λ (cs : List TheCall). a.replies ++ cs) b.all
-      ∙ sym (append_assoc a.replies b.replies (waiting_at (reached o.state vs) e));
+          ∙ ap (λ (cs : List TheCall). cs ++ replies_due e o.state vs) a.all
+          ∙ append_assoc a.replies (waiting_at o.state e) (replies_due e o.state vs)
+          ∙ ap (λ (cs : List TheCall). a.replies ++ cs) b.all
+          ∙ sym (append_assoc a.replies b.replies (waiting_at (reached o.state vs) e));
     }
 
 pub all_accepted : AllAccepted

@@ -77,7 +77,7 @@ last_by xs n false e h = not_less n (length xs) e
 is_last : (xs : List ℕ) (t x : ℕ) → t < length xs → slice_index xs t ≡ x → all_differ xs ≡ true → next_on xs x ≡ None → length xs ≤ t + 1
 is_last xs t x a e d h =
     let here : position (λ c. c == x) xs ≡ Some t =
-        ap (λ (n : ℕ). cond (nat_lt n (length xs)) (Some n) None) (place_is xs t x a e d) ∙ cond-true _ _ _ (less_true t (length xs) a) in
+    ap (λ (n : ℕ). cond (nat_lt n (length xs)) (Some n) None) (place_is xs t x a e d) ∙ cond-true _ _ _ (less_true t (length xs) a) in
     let none : slice_get xs (t + 1) ≡ None = sym (ap (λ (o : Option ℕ). given o None (λ j. slice_get xs (j + 1))) here) ∙ h in
     last_by xs (t + 1) (nat_lt (t + 1) (length xs)) refl none
 
@@ -161,7 +161,7 @@ module _ (s : State) (sound : Sound s) where
   opening_heard here o first k j q l at =
       let t : LinkThere s here = link_there s here j in
       let due : IsDue s (record { from = here.neighbour; to = here.core; said = open_circuit o }) =
-          sound.messages here.neighbour here.core (open_circuit o) (is_under_way s here (open_circuit o) first t q l) in
+      sound.messages here.neighbour here.core (open_circuit o) (is_under_way s here (open_circuit o) first t q l) in
       let route : Route = due.route in
       let d : OpeningDue route here.core o = opening_due due.binding route here.neighbour here.core o route.verdict due.due in
       let leads : RouteLeads s route due.routed.binding = sound.routes due.binding route due.routed in
@@ -172,7 +172,7 @@ module _ (s : State) (sound : Sound s) where
       (λ none.
       let ends : next_on route.cores here.core ≡ None = ap (λ (c : ℕ). next_on route.cores c) (sym own) ∙ ap (λ (p : List ℕ). next_on p k.circuits.core) (sym d.path) ∙ none in
       let last : length route.cores ≤ length route.numbers + 1 =
-          is_last route.cores (length route.numbers) here.core (omega arith) (sym d.to_is) leads.differ ends in
+      is_last route.cores (length route.numbers) here.core (omega arith) (sym d.to_is) leads.differ ends in
       let place : length route.cores - 1 ≡ length route.numbers = omega arith in
       arrival_fits here k o.service leads.service at (ap (service_of s.services) d.service ∙ leads.service_is)
       (leads.last ∙ ap (core_at route) place ∙ sym d.to_is))

@@ -64,8 +64,8 @@ writes_passed : (i : Planned) (d : Direction) → length (writes i d there_is_ro
 writes_passed i d =
     let first : length (passes 0 d).passed ≡ length d.passed = length_changed d.passed 0 (λ n. n + 1) in
     let on : length (goes_on i (passes 0 d)).passed ≡ length (passes 0 d).passed =
-        either (λ (e : Direction). length e.passed ≡ length (passes 0 d).passed) (is_busy i (passes 0 d)) _ _ (λ q. refl)
-        (λ q. next_passed (passes 0 d).waiting (passes 0 d)) in
+    either (λ (e : Direction). length e.passed ≡ length (passes 0 d).passed) (is_busy i (passes 0 d)) _ _ (λ q. refl)
+    (λ q. next_passed (passes 0 d).waiting (passes 0 d)) in
     either (λ (w : Wrote). length w.direction.passed ≡ length d.passed) (is_busy i d) (writes_by i d there_is_room)
     (record { direction = d; answer = nothing }) (λ q. on ∙ first) (λ q. refl)
 

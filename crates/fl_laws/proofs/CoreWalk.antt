@@ -114,7 +114,7 @@ module _ (C : ℕ → Core → Type 0) (apart : IsApartFromChannels C) where
   follows_kept no_outbox s h = h
   follows_kept astray s h = h
   follows_kept (opening_went_on n c) s h = h
-  follows_kept (server_made n d c) s h = 
+  follows_kept (server_made n d c) s h =
       bound_kept (end_id n Server) c (seats d (end_id n Server) (change_route n grants s)) (seat_kept d (end_id n Server) (change_route n grants s) h)
   follows_kept (opening_failed n fault) s h = h
   follows_kept (answer_went_on n) s h = h
@@ -143,10 +143,10 @@ module _ (C : ℕ → Core → Type 0) (K : KeepsCores C) where
       → Cores C (change_core w.client.core (opens l c o) (seats w.client (end_id (length s.bindings) Client) t))
   begun_kept w l c o k s t there room same h =
       let all : Cores (CanSay w.client.core l) t =
-          subst (EachAt (CanSay w.client.core l)) (sym same)
-          (λ n x q. (h n x q, λ e. let u : Some k ≡ Some x = sym there ∙ ap (slice_get s.cores) (sym e) ∙ q in says_it k x u room)) in
+      subst (EachAt (CanSay w.client.core l)) (sym same)
+      (λ n x q. (h n x q, λ e. let u : Some k ≡ Some x = sym there ∙ ap (slice_get s.cores) (sym e) ∙ q in says_it k x u room)) in
       let seated : Cores (CanSay w.client.core l) (seats w.client (end_id (length s.bindings) Client) t) =
-          seat_kept (CanSay w.client.core l) (λ n place f x h. (K.channels n place f x h.0, h.1)) w.client _ t all in
+      seat_kept (CanSay w.client.core l) (λ n place f x h. (K.channels n place f x h.0, h.1)) w.client _ t all in
       each_at_changed C (seats w.client (end_id (length s.bindings) Client) t).cores w.client.core (opens l c o) (λ n x q. (seated n x q).0)
       (λ x q ok. K.opened w.client.core l c o x ((seated w.client.core x q).1 refl) ok)
     where
@@ -171,7 +171,7 @@ module _ (C : ℕ → Core → Type 0) (K : KeepsCores C) where
         both_kept C K.channels (length s.bindings) w (with_new_binding w local 2 (Some (fresh_queue slots)) s) h;
     ring = λ w i size s k q r h.
         both_kept C K.channels (length s.bindings) w (with_new_binding w (over_ring (length s.rings)) 2 None (with_ring size s)) h;
-    route = λ w i cores k l c s want begins h. 
+    route = λ w i cores k l c s want begins h.
         begun_kept w l c (record { circuit = c; binding = length s.bindings; service = w.iref; path = cores }) k s
         (with_new_binding w (over_route (record { service = w.iref; cores = cores; numbers = c ∷ []; verdict = undecided }))
         (length cores + 1) (Some arrival_queue) s) begins.core begins.outbox refl h;
@@ -198,7 +198,7 @@ module _ (C : ℕ → Core → Type 0) (K : KeepsCores C) where
         let x : Hearing = hears s.services here.link m k in
         let told : State = change_core here.core (λ y. x.core) s in
         let said : Cores C told = each_at_changed C s.cores here.core (λ y. x.core) h
-            (λ y u c. K.heard here.core s.services here.link m k (h here.core k t)) in
+        (λ y u c. K.heard here.core s.services here.link m k (h here.core k t)) in
         follows_kept C K.channels x.heard (takes_said here.ring x.heard told) (said_kept C K.channels here.ring x.heard told said);
     passed = λ here p first route hop on s k q h. h;
     arrived = λ here p first route hop to s k q h. delivered_kept C K.channels (label_of p) to s h;

@@ -162,7 +162,7 @@ ends_of s all e x there =
     let (b, at, is) = end_there s e x there in
     let h : BothStand s.interfaces (length s.rings) b = all e.binding b at in
     let one : Stands h.interface (length s.rings) b.back x =
-        subst (Stands h.interface (length s.rings) b.back) is (side_of s.interfaces (length s.rings) e.side b h) in
+    subst (Stands h.interface (length s.rings) b.back) is (side_of s.interfaces (length s.rings) e.side b h) in
     record {
       binding = b;
       there = at;

@@ -286,16 +286,16 @@ taken_next e i y s q h =
     let b : Binding = sent.0 in
     let fits : BindingFits s.interfaces b = h e.binding b sent.1.0 in
     let call : TakenFits fits.interface (comes_to i y.out) =
-        taken_fits i fits.interface y.out (subst (λ (x : End). AllFit fits.interface x.out.accepted) sent.1.1 (side_fits (other e.side) s.interfaces b fits).0.accepted) in
+    taken_fits i fits.interface y.out (subst (λ (x : End). AllFit fits.interface x.out.accepted) sent.1.1 (side_fits (other e.side) s.interfaces b fits).0.accepted) in
     let first : AllFitting (change_out (peer e) takes_one s) = end_kept (peer e) _ s (λ j x ok. (passed_fits _ j x.out ok.0, ok.1)) h in
     end_changed e (replies i (comes_to i y.out)) (change_out (peer e) takes_one s) first
     (λ w j r u ok.
     let there : slice_get s.interfaces w.interface ≡ Some fits.interface =
-        at_changed (λ (x : Binding). slice_get s.interfaces x.interface ≡ Some fits.interface) s.bindings e.binding e.binding
-        (with_end_in (other e.side) (λ x. record x { out = takes_one x.out }))
-        (λ x p. subst (λ (z : Binding). slice_get s.interfaces z.interface ≡ Some fits.interface) (let v : Some b ≡ Some x = sym sent.1.0 ∙ p in let z : b ≡ x = cc in z) fits.there)
-        (λ x p. subst (λ (n : ℕ). slice_get s.interfaces n ≡ Some fits.interface) (sym (interface_side (other e.side) (λ x. record x { out = takes_one x.out }) x)) p)
-        w r in
+    at_changed (λ (x : Binding). slice_get s.interfaces x.interface ≡ Some fits.interface) s.bindings e.binding e.binding
+    (with_end_in (other e.side) (λ x. record x { out = takes_one x.out }))
+    (λ x p. subst (λ (z : Binding). slice_get s.interfaces z.interface ≡ Some fits.interface) (let v : Some b ≡ Some x = sym sent.1.0 ∙ p in let z : b ≡ x = cc in z) fits.there)
+    (λ x p. subst (λ (n : ℕ). slice_get s.interfaces n ≡ Some fits.interface) (sym (interface_side (other e.side) (λ x. record x { out = takes_one x.out }) x)) p)
+    w r in
     let same : fits.interface ≡ j = same_interface s.interfaces w.interface fits.interface j there u in
     replied_fits i j (comes_to i y.out) (end_in e.side w) (subst (λ (p : Planned). TakenFits p (comes_to i y.out)) same call) ok)
 
@@ -422,7 +422,7 @@ fits_keep = record {
       let told : State = change_core here.core (λ y. x.core) s in
       follows_kept x.heard (takes_said here.ring x.heard told) (said_kept here.ring x.heard told h.0);
   passed = λ here p first route hop on s k q h. passing_kept p.end p.station (change_ring here.ring.ring (takes here.ring.side) (change_ring on.ring (puts on.side (label_of p)) s)) h.0;
-  arrived = λ here p first route hop to s k q h. 
+  arrived = λ here p first route hop to s k q h.
       passing_kept p.end p.station (change_ring here.ring.ring (takes here.ring.side) (delivers (label_of p) to s)) (delivered_kept (label_of p) to s h.0);
   taken = λ here first s k q r h. h.0;
 }
@@ -472,13 +472,13 @@ firsts_are_own : (s : State) → LabelsKeepToTheirWays s → FirstAreOwn s
 firsts_are_own s h = record {
   queues = λ e b q label u v w.
       let is : queue_of s e ≡ q.labels =
-          ap (λ (o : Option Binding). given (given o None λ x. Some (end_in e.side x)) [] λ x. given x.queue [] λ y. y.labels) u
-          ∙ ap (λ (o : Option Queue). given o [] λ y. y.labels) v in
+      ap (λ (o : Option Binding). given (given o None λ x. Some (end_in e.side x)) [] λ x. given x.queue [] λ y. y.labels) u
+      ∙ ap (λ (o : Option Queue). given o [] λ y. y.labels) v in
       of_own (peer e) label (h.queues e label (subst (λ (ls : List Label). Contains ls label) (sym is) (first_in q.labels label w)));
   rings = λ e b at first u v w.
       let own = ring_own e.side b.back at v in
       let first_is : given (slice_get s.rings at.ring) None (first_for (side_of e.side)) ≡ Some first =
-          subst (λ (side : RingSide). given (slice_get s.rings at.ring) None (first_for side) ≡ Some first) own.1 w in
+      subst (λ (side : RingSide). given (slice_get s.rings at.ring) None (first_for side) ≡ Some first) own.1 w in
       from_own (peer e) first.label
       (h.rings (peer e) b at.ring first.label u own.0 (first_in _ first.label (stands_first s.rings at.ring e.side first first_is)));
 }
@@ -509,6 +509,6 @@ pub step_fits : (s : State) (v : Event) → EndsStand s → LabelsKeepToTheirWay
     → CallsFit (step s v).state × RulesSuit (step s v).state
 step_fits s v ends ways calls rules =
     let all : AllFitting (step s v).state =
-        step_leads_under Fitting Suiting (λ e c b i t k. k) (λ e m n b i t k. k) FitsSo AllFitting (λ t h. h.0) fits_keep s v
-        (all_fitting s ends calls rules, firsts_are_own s ways) in
+    step_leads_under Fitting Suiting (λ e c b i t k. k) (λ e m n b i t k. k) FitsSo AllFitting (λ t h. h.0) fits_keep s v
+    (all_fitting s ends calls rules, firsts_are_own s ways) in
     ((λ e b i q r. (end_fits (step s v).state all e b i q r).0), (λ e b i q r. (end_fits (step s v).state all e b i q r).1))

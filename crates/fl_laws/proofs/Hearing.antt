@@ -75,12 +75,12 @@ is_under_way s here m first t q l =
     let (r, there, is) = given_there (slice_get s.rings here.ring.ring) (first_for here.ring.side) first q in
     let (rest, head) = head_said (read_by here.ring.side r).waiting first m is l in
     let between : link_between s here.core here.neighbour ≡ Some t.link =
-        ap (λ (o : Option Core). given o None (λ k. given (link_to here.neighbour k) None (λ n. slice_get k.links n))) t.core_is
-        ∙ ap (λ (o : Option ℕ). given o None (λ n. slice_get t.core.links n)) t.place ∙ t.link_is in
+    ap (λ (o : Option Core). given o None (λ k. given (link_to here.neighbour k) None (λ n. slice_get k.links n))) t.core_is
+    ∙ ap (λ (o : Option ℕ). given o None (λ n. slice_get t.core.links n)) t.place ∙ t.link_is in
     let stands : on_link s here.neighbour here.core ≡ labels_of (read_by here.ring.side r).waiting =
-        ap (λ (o : Option Link). given o [] (λ link. labels_of (unread s link.ring))) between
-        ∙ ap (λ (at : RingEnd). labels_of (unread s at)) t.ring
-        ∙ ap (λ (o : Option Ring). labels_of (given o [] (λ x. (read_by here.ring.side x).waiting))) there in
+    ap (λ (o : Option Link). given o [] (λ link. labels_of (unread s link.ring))) between
+    ∙ ap (λ (at : RingEnd). labels_of (unread s at)) t.ring
+    ∙ ap (λ (o : Option Ring). labels_of (given o [] (λ x. (read_by here.ring.side x).waiting))) there in
     contains_head (filter_map said_by (on_link s here.neighbour here.core)) _ m rest (ap (filter_map said_by) stands ∙ head)
 
 -- ---- an answer that a circuit is open
@@ -137,7 +137,7 @@ module _ (s : State) (sound : Sound s) where
   unbound_free e b seat y at none there its place false q = q
   unbound_free e b seat y at none there its place true q =
       let listed : Listed s place e b =
-          record { at = seat.dispatcher; dispatcher = y; dispatcher_is = there; channel = seat.channel; listed = q; end_is = its; binding_is = at } in
+      record { at = seat.dispatcher; dispatcher = y; dispatcher_is = there; channel = seat.channel; listed = q; end_is = its; binding_is = at } in
       let bound : IsSome (end_in e.side b).circuit = (sound.listed place e b listed).0 in
       absurd (false≢true (sym (ap is_some none) ∙ bound))
 
@@ -163,12 +163,12 @@ module _ (s : State) (sound : Sound s) where
       let mine : t.core ≡ k = same_core here.core t.core k t.core_is at in
       let place : link_to here.neighbour k ≡ Some here.link = subst (λ (j : Core). link_to here.neighbour j ≡ Some here.link) mine t.place in
       let to : link_to here.neighbour k ≡ Some there.link =
-          ap (λ (m : ℕ). link_to m k) (neighbour ∙ ap (core_at route) (omega arith)) ∙ subst (λ (j : Core). link_to (core_at route (i + 1)) j ≡ Some there.link) one there.link_is in
+      ap (λ (m : ℕ). link_to m k) (neighbour ∙ ap (core_at route) (omega arith)) ∙ subst (λ (j : Core). link_to (core_at route (i + 1)) j ≡ Some there.link) one there.link_is in
       let link : here.link ≡ there.link = some_same here.link there.link (sym place ∙ to) in
       let got : hop_at k.circuits there.link (number_at route i) ≡ Some entry.hop =
-          subst (λ (j : Core). hop_at j.circuits there.link (number_at route i) ≡ Some entry.hop) one there.there in
+      subst (λ (j : Core). hop_at j.circuits there.link (number_at route i) ≡ Some entry.hop) one there.there in
       let was : hop_at k.circuits there.link (number_at route i) ≡ Some hop =
-          ap (λ (m : ℕ). hop_at k.circuits m (number_at route i)) (sym link) ∙ ap (hop_at k.circuits here.link) (sym number) ∙ is in
+      ap (λ (m : ℕ). hop_at k.circuits m (number_at route i)) (sym link) ∙ ap (hop_at k.circuits here.link) (sym number) ∙ is in
       let hops : entry.hop ≡ hop = some_same entry.hop hop (sym got ∙ was) in
       subst (λ (h : Hop). SaysWay k h.way (behind n route i)) hops (subst (λ (j : Core). SaysWay j entry.hop.way (behind n route i)) one entry.way)
 
@@ -177,11 +177,11 @@ module _ (s : State) (sound : Sound s) where
   opened_ready here c first k hop e j q l at is way =
       let t : LinkThere s here = link_there s here j in
       let due : IsDue s (record { from = here.neighbour; to = here.core; said = circuit_opened c }) =
-          sound.messages here.neighbour here.core (circuit_opened c) (is_under_way s here (circuit_opened c) first t q l) in
+      sound.messages here.neighbour here.core (circuit_opened c) (is_under_way s here (circuit_opened c) first t q l) in
       let n : ℕ = due.binding in
       let route : Route = due.route in
       let o : OpenedDue route (record { from = here.neighbour; to = here.core; said = circuit_opened c }) c =
-          opened_due n route here.neighbour here.core c route.verdict refl due.due in
+      opened_due n route here.neighbour here.core c route.verdict refl due.due in
       let i : ℕ = o.waiting in
       let fits : VerdictFits route (granted (suc i)) = subst (VerdictFits route) o.verdict (sound.verdicts n route due.routed) in
       let whole : length route.numbers + 1 ≡ length route.cores = fits.0 in
@@ -189,8 +189,8 @@ module _ (s : State) (sound : Sound s) where
       let stands : standing route ≡ length route.cores = ap (standing_by route) o.verdict in
       let entry : EntryIs s (near_key route i) n (behind n route i) = (sound.entries n route due.routed).near i (omega arith) (omega arith) in
       let says : SaysWay k (to_end e) (behind n route i) =
-          subst (λ (w : Way). SaysWay k w (behind n route i)) way (entry_there here k hop c n route i t at is o.to o.from o.number entry) in
+      subst (λ (w : Way). SaysWay k w (behind n route i)) way (entry_there here k hop c n route i t at is o.to o.from o.number entry) in
       let (client, zero_is) = says_client k n route i e says in
       let none : due.routed.binding.client.circuit ≡ None =
-          bound_where route due.routed.binding i due.routed.back o.verdict (sound.bound n due.routed.binding due.routed.there) in
+      bound_where route due.routed.binding i due.routed.back o.verdict (sound.bound n due.routed.binding due.routed.there) in
       subst (λ (f : EndId). Ready f s) (sym client) (unbound_ready (end_id n Client) due.routed.binding due.routed.there none)

@@ -279,6 +279,7 @@ said_by_end (Some b) s e l q h c = by_queue (end_in e.side b).queue refl c
     of_side : (n : ℕ) (side : Side) → BothTake n b → TakesOf (end_id n side) (end_in side b)
     of_side n Client k = k.client
     of_side n Server k = k.server
+
     by_queue : (o : Option Queue) → (end_in e.side b).queue ≡ o → Contains (given o [] λ q. q.labels) l → IsOf (peer e) l
     by_queue None r c = absurd (let a : c.0 < 0 = c.1 in omega arith)
     by_queue (Some w) r c = each_said (IsOf (peer e)) w.labels l c.0 (of_side e.binding e.side (h e.binding b q) w r) c.1 c.2

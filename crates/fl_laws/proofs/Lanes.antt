@@ -89,12 +89,12 @@ lane_else b y l f us xs h away = lane_is y us (changed_at l f xs) ∙ by (positi
     by : (o : Option ℕ) → position (is_to y) us ≡ o → given o None (slice_get (changed_at l f xs)) ≡ given o None (slice_get xs)
     by None q = refl
     by (Some m) q =
-      let (i, j, k) = position-Some (is_to b) us l no_state h in
-      let (u, v, w) = position-Some (is_to y) us m no_state q in
-      changed_other xs l m f (λ e.
-      let one : y ≡ (get_or us m no_state).neighbour.0 = sym (eqb-true _ y v) in
-      let two : (get_or us l no_state).neighbour.0 ≡ b = eqb-true _ b j in
-      away (one ∙ ap (λ n. (get_or us n no_state).neighbour.0) e ∙ two))
+        let (i, j, k) = position-Some (is_to b) us l no_state h in
+        let (u, v, w) = position-Some (is_to y) us m no_state q in
+        changed_other xs l m f (λ e.
+        let one : y ≡ (get_or us m no_state).neighbour.0 = sym (eqb-true _ y v) in
+        let two : (get_or us l no_state).neighbour.0 ≡ b = eqb-true _ b j in
+        away (one ∙ ap (λ n. (get_or us n no_state).neighbour.0) e ∙ two))
 
 -- ---- between cores
 
@@ -161,12 +161,12 @@ was lane later a b f x h q = by (lane a b) refl (sym h.here ∙ q)
 
 pair_or : (x y a b : ℕ) → ((x ≡ a) × (y ≡ b)) ⊎ ((x ≡ a) × (y ≡ b) → ⊥)
 pair_or x y a b = elim (same_or x a) [
-    | inl e ↦ elim (same_or y b) [
-      | inl f ↦ inl (e, f)
-      | inr f ↦ inr (λ k. f k.1)
-    ]
-    | inr e ↦ inr (λ k. e k.0)
+  | inl e ↦ elim (same_or y b) [
+    | inl f ↦ inl (e, f)
+    | inr f ↦ inr (λ k. f k.1)
   ]
+  | inr e ↦ inr (λ k. e k.0)
+]
 
 -- ---- an opening more
 
@@ -176,31 +176,32 @@ opening_more a b x = record x { opened = x.opened + 1; waiting = x.waiting ++ nu
 pub opened_in_order : (lane later : ℕ → ℕ → Option Lane) (on : RingEnd → List ℕ) (a b : ℕ) → ((z : Lane) → lane a b ≡ Some z → a ≡ b → ⊥) → Alters lane later a b (opening_more a b) → GoInOrder lane on
     → GoInOrder later on
 opened_in_order lane later on a b apart alters h c d x y q r = elim (pair_or c d a b) [
-    | inl (e, f) ↦ subst (λ m. Goes on m d x y) (sym e) (subst (λ m. Goes on a m x y) (sym f)
-        (mine x y (subst (λ m. later m b ≡ Some x) e (subst (λ m. later c m ≡ Some x) f q)) (subst (λ m. later b m ≡ Some y) e (subst (λ m. later m c ≡ Some y) f r))))
-    | inr e ↦ elim (pair_or d c a b) [
-      | inl (f, g) ↦ subst (λ m. Goes on m d x y) (sym g) (subst (λ m. Goes on b m x y) (sym f)
-          (theirs x y (subst (λ m. later m a ≡ Some x) g (subst (λ m. later c m ≡ Some x) f q)) (subst (λ m. later a m ≡ Some y) g (subst (λ m. later m c ≡ Some y) f r))))
-      | inr f ↦ h c d x y (sym (alters.rest c d e) ∙ q) (sym (alters.rest d c f) ∙ r)
-    ]
+  | inl (e, f) ↦ subst (λ m. Goes on m d x y) (sym e) (subst (λ m. Goes on a m x y) (sym f)
+      (mine x y (subst (λ m. later m b ≡ Some x) e (subst (λ m. later c m ≡ Some x) f q)) (subst (λ m. later b m ≡ Some y) e (subst (λ m. later m c ≡ Some y) f r))))
+  | inr e ↦ elim (pair_or d c a b) [
+    | inl (f, g) ↦ subst (λ m. Goes on m d x y) (sym g) (subst (λ m. Goes on b m x y) (sym f)
+        (theirs x y (subst (λ m. later m a ≡ Some x) g (subst (λ m. later c m ≡ Some x) f q)) (subst (λ m. later a m ≡ Some y) g (subst (λ m. later m c ≡ Some y) f r))))
+    | inr f ↦ h c d x y (sym (alters.rest c d e) ∙ q) (sym (alters.rest d c f) ∙ r)
   ]
+]
   where
     mine : (x y : Lane) → later a b ≡ Some x → later b a ≡ Some y → Goes on a b x y
     mine x y q r =
-      let (z, e, f) = was lane later a b (opening_more a b) x alters q in
-      let other : lane b a ≡ Some y = sym (alters.rest b a (λ k. apart z e (sym k.0))) ∙ r in
-      let g = h a b z y e other in
-      let t : y.taken ≤ z.opened = g.taken in
-      subst (λ (w : Lane). Goes on a b w y) (sym f) (record {
-        taken = omega arith;
-        numbers = sym (append_assoc (on y.ring) z.waiting (number a b z.opened ∷ [])) ∙ ap (λ xs. xs ++ number a b z.opened ∷ []) g.numbers ∙ sym (numbers_push a b y.taken z.opened t);
-      })
+        let (z, e, f) = was lane later a b (opening_more a b) x alters q in
+        let other : lane b a ≡ Some y = sym (alters.rest b a (λ k. apart z e (sym k.0))) ∙ r in
+        let g = h a b z y e other in
+        let t : y.taken ≤ z.opened = g.taken in
+        subst (λ (w : Lane). Goes on a b w y) (sym f) (record {
+          taken = omega arith;
+          numbers = sym (append_assoc (on y.ring) z.waiting (number a b z.opened ∷ [])) ∙ ap (λ xs. xs ++ number a b z.opened ∷ []) g.numbers ∙ sym (numbers_push a b y.taken z.opened t);
+        })
+
     theirs : (x y : Lane) → later b a ≡ Some x → later a b ≡ Some y → Goes on b a x y
     theirs x y q r =
-      let (z, e, f) = was lane later a b (opening_more a b) y alters r in
-      let other : lane b a ≡ Some x = sym (alters.rest b a (λ k. apart z e (sym k.0))) ∙ q in
-      let g = h b a x z other e in
-      subst (λ (w : Lane). Goes on b a x w) (sym f) (record { taken = g.taken; numbers = g.numbers })
+        let (z, e, f) = was lane later a b (opening_more a b) y alters r in
+        let other : lane b a ≡ Some x = sym (alters.rest b a (λ k. apart z e (sym k.0))) ∙ q in
+        let g = h b a x z other e in
+        subst (λ (w : Lane). Goes on b a x w) (sym f) (record { taken = g.taken; numbers = g.numbers })
 
 -- ---- rings changed
 
@@ -229,32 +230,33 @@ taken_numbers_by a b t o (suc k) n ns ws e h q =
 pub taken_in_order : (lane later : ℕ → ℕ → Option Lane) (on more : RingEnd → List ℕ) (a b n : ℕ) (z : Lane) → Apart lane → lane a b ≡ Some z
     → Alters lane later a b taking_more → on z.ring ≡ n ∷ more z.ring → RingChanges on more z.ring → GoInOrder lane on → GoInOrder later more
 taken_in_order lane later on more a b n z apart here alters first changes h c d x y q r = elim (pair_or d c a b) [
-    | inl (e, f) ↦ subst (λ m. Goes more m d x y) (sym f) (subst (λ m. Goes more b m x y) (sym e)
-        (mine x y (subst (λ m. later b m ≡ Some x) e (subst (λ m. later m d ≡ Some x) f q)) (subst (λ m. later m b ≡ Some y) e (subst (λ m. later d m ≡ Some y) f r))))
-    | inr e ↦ theirs e
-  ]
+  | inl (e, f) ↦ subst (λ m. Goes more m d x y) (sym f) (subst (λ m. Goes more b m x y) (sym e)
+      (mine x y (subst (λ m. later b m ≡ Some x) e (subst (λ m. later m d ≡ Some x) f q)) (subst (λ m. later m b ≡ Some y) e (subst (λ m. later d m ≡ Some y) f r))))
+  | inr e ↦ theirs e
+]
   where
     mine : (x y : Lane) → later b a ≡ Some x → later a b ≡ Some y → Goes more b a x y
     mine x y q r =
-      let (w, e, f) = was lane later a b taking_more y alters r in
-      let same : w ≡ z = let k : Some w ≡ Some z = sym e ∙ here in cc in
-      let other : lane b a ≡ Some x = sym (alters.rest b a (λ k. not_self lane a b z apart here (sym k.0))) ∙ q in
-      let g = h b a x z other here in
-      let t = taken_numbers_by b a z.taken x.opened (x.opened - z.taken) n (more z.ring) x.waiting refl g.taken (ap (λ xs. xs ++ x.waiting) (sym first) ∙ g.numbers) in
-      subst (λ (v : Lane). Goes more b a x v) (sym (f ∙ ap taking_more same)) (record { taken = t.0; numbers = t.1 })
+        let (w, e, f) = was lane later a b taking_more y alters r in
+        let same : w ≡ z = let k : Some w ≡ Some z = sym e ∙ here in cc in
+        let other : lane b a ≡ Some x = sym (alters.rest b a (λ k. not_self lane a b z apart here (sym k.0))) ∙ q in
+        let g = h b a x z other here in
+        let t = taken_numbers_by b a z.taken x.opened (x.opened - z.taken) n (more z.ring) x.waiting refl g.taken (ap (λ xs. xs ++ x.waiting) (sym first) ∙ g.numbers) in
+        subst (λ (v : Lane). Goes more b a x v) (sym (f ∙ ap taking_more same)) (record { taken = t.0; numbers = t.1 })
+
     theirs : ((d ≡ a) × (c ≡ b) → ⊥) → Goes more c d x y
     theirs e =
-      let old : lane d c ≡ Some y = sym (alters.rest d c e) ∙ r in
-      let away : more y.ring ≡ on y.ring = changes.rest y.ring (λ k. e (apart.one d c a b y z old here k)) in
-      elim (pair_or c d a b) [
-        | inl (f, g) ↦
-          (let (w, i, j) = was lane later a b taking_more x alters (subst (λ m. later m b ≡ Some x) f (subst (λ m. later c m ≡ Some x) g q)) in
-          let k = h c d w y (ap (λ m. lane m d) f ∙ ap (λ m. lane a m) g ∙ i) old in
-          subst (λ (v : Lane). Goes more c d v y) (sym j) (record { taken = k.taken; numbers = ap (λ xs. xs ++ w.waiting) away ∙ k.numbers }))
-        | inr f ↦
-          (let k = h c d x y (sym (alters.rest c d f) ∙ q) old in
-          record { taken = k.taken; numbers = ap (λ xs. xs ++ x.waiting) away ∙ k.numbers })
-      ]
+        let old : lane d c ≡ Some y = sym (alters.rest d c e) ∙ r in
+        let away : more y.ring ≡ on y.ring = changes.rest y.ring (λ k. e (apart.one d c a b y z old here k)) in
+        elim (pair_or c d a b) [
+          | inl (f, g) ↦
+              (let (w, i, j) = was lane later a b taking_more x alters (subst (λ m. later m b ≡ Some x) f (subst (λ m. later c m ≡ Some x) g q)) in
+              let k = h c d w y (ap (λ m. lane m d) f ∙ ap (λ m. lane a m) g ∙ i) old in
+              subst (λ (v : Lane). Goes more c d v y) (sym j) (record { taken = k.taken; numbers = ap (λ xs. xs ++ w.waiting) away ∙ k.numbers }))
+          | inr f ↦
+              (let k = h c d x y (sym (alters.rest c d f) ∙ q) old in
+              record { taken = k.taken; numbers = ap (λ xs. xs ++ x.waiting) away ∙ k.numbers })
+        ]
 
 -- the first message of an outbox goes onto the link
 pub record Moves (f : Lane → Lane) (z : Lane) (ms : List ℕ) : Type 0 where
@@ -265,37 +267,38 @@ pub moved_in_order : (lane later : ℕ → ℕ → Option Lane) (on more : RingE
     → lane a b ≡ Some z → lane b a ≡ Some u → Alters lane later a b f → Moves f z ms → more u.ring ≡ on u.ring ++ ms → RingChanges on more u.ring → GoInOrder lane on
     → GoInOrder later more
 moved_in_order lane later on more a b f ms z u apart here there alters moves put changes h c d x y q r = elim (pair_or c d a b) [
-    | inl (e, g) ↦ subst (λ m. Goes more m d x y) (sym e) (subst (λ m. Goes more a m x y) (sym g)
-        (mine x y (subst (λ m. later m b ≡ Some x) e (subst (λ m. later c m ≡ Some x) g q)) (subst (λ m. later b m ≡ Some y) e (subst (λ m. later m c ≡ Some y) g r))))
-    | inr e ↦ theirs e
-  ]
+  | inl (e, g) ↦ subst (λ m. Goes more m d x y) (sym e) (subst (λ m. Goes more a m x y) (sym g)
+      (mine x y (subst (λ m. later m b ≡ Some x) e (subst (λ m. later c m ≡ Some x) g q)) (subst (λ m. later b m ≡ Some y) e (subst (λ m. later m c ≡ Some y) g r))))
+  | inr e ↦ theirs e
+]
   where
     mine : (x y : Lane) → later a b ≡ Some x → later b a ≡ Some y → Goes more a b x y
     mine x y q r =
-      let (w, i, j) = was lane later a b f x alters q in
-      let same : w ≡ z = let k : Some w ≡ Some z = sym i ∙ here in cc in
-      let other : lane b a ≡ Some y = sym (alters.rest b a (λ k. not_self lane a b z apart here (sym k.0))) ∙ r in
-      let one : u ≡ y = let k : Some u ≡ Some y = sym there ∙ other in cc in
-      let g = h a b z u here there in
-      let made : x ≡ record z { waiting = (f z).waiting } = j ∙ ap f same ∙ moves.same in
-      subst (λ (v : Lane). Goes more a b v y) (sym made) (subst (λ (v : Lane). Goes more a b (record z { waiting = (f z).waiting }) v) one (record {
-        taken = g.taken;
-        numbers = ap (λ xs. xs ++ (f z).waiting) put ∙ append_assoc (on u.ring) ms (f z).waiting ∙ ap (λ xs. on u.ring ++ xs) (sym moves.waiting) ∙ g.numbers;
-      }))
+        let (w, i, j) = was lane later a b f x alters q in
+        let same : w ≡ z = let k : Some w ≡ Some z = sym i ∙ here in cc in
+        let other : lane b a ≡ Some y = sym (alters.rest b a (λ k. not_self lane a b z apart here (sym k.0))) ∙ r in
+        let one : u ≡ y = let k : Some u ≡ Some y = sym there ∙ other in cc in
+        let g = h a b z u here there in
+        let made : x ≡ record z { waiting = (f z).waiting } = j ∙ ap f same ∙ moves.same in
+        subst (λ (v : Lane). Goes more a b v y) (sym made) (subst (λ (v : Lane). Goes more a b (record z { waiting = (f z).waiting }) v) one (record {
+          taken = g.taken;
+          numbers = ap (λ xs. xs ++ (f z).waiting) put ∙ append_assoc (on u.ring) ms (f z).waiting ∙ ap (λ xs. on u.ring ++ xs) (sym moves.waiting) ∙ g.numbers;
+        }))
+
     theirs : ((c ≡ a) × (d ≡ b) → ⊥) → Goes more c d x y
     theirs e =
-      elim (pair_or d c a b) [
-        | inl (k, l) ↦
-          (let (w, i, j) = was lane later a b f y alters (subst (λ m. later m b ≡ Some y) k (subst (λ m. later d m ≡ Some y) l r)) in
-          let same : w ≡ z = let m : Some w ≡ Some z = sym i ∙ here in cc in
-          let old : lane c d ≡ Some x = sym (alters.rest c d e) ∙ q in
-          let g = h c d x z old (ap (λ m. lane m c) k ∙ ap (λ m. lane a m) l ∙ here) in
-          let away : more z.ring ≡ on z.ring = changes.rest z.ring (λ m. not_self lane a b z apart here (apart.one a b b a z u here there m).0) in
-          subst (λ (v : Lane). Goes more c d x v) (sym (j ∙ ap f same ∙ moves.same)) (record { taken = g.taken; numbers = ap (λ xs. xs ++ x.waiting) away ∙ g.numbers }))
-        | inr k ↦
-          (let old : lane c d ≡ Some x = sym (alters.rest c d e) ∙ q in
-          let back : lane d c ≡ Some y = sym (alters.rest d c k) ∙ r in
-          let g = h c d x y old back in
-          let away : more y.ring ≡ on y.ring = changes.rest y.ring (λ m. let o = apart.one d c b a y u back there m in e (o.1, o.0)) in
-          record { taken = g.taken; numbers = ap (λ xs. xs ++ x.waiting) away ∙ g.numbers })
-      ]
+        elim (pair_or d c a b) [
+          | inl (k, l) ↦
+              (let (w, i, j) = was lane later a b f y alters (subst (λ m. later m b ≡ Some y) k (subst (λ m. later d m ≡ Some y) l r)) in
+              let same : w ≡ z = let m : Some w ≡ Some z = sym i ∙ here in cc in
+              let old : lane c d ≡ Some x = sym (alters.rest c d e) ∙ q in
+              let g = h c d x z old (ap (λ m. lane m c) k ∙ ap (λ m. lane a m) l ∙ here) in
+              let away : more z.ring ≡ on z.ring = changes.rest z.ring (λ m. not_self lane a b z apart here (apart.one a b b a z u here there m).0) in
+              subst (λ (v : Lane). Goes more c d x v) (sym (j ∙ ap f same ∙ moves.same)) (record { taken = g.taken; numbers = ap (λ xs. xs ++ x.waiting) away ∙ g.numbers }))
+          | inr k ↦
+              (let old : lane c d ≡ Some x = sym (alters.rest c d e) ∙ q in
+              let back : lane d c ≡ Some y = sym (alters.rest d c k) ∙ r in
+              let g = h c d x y old back in
+              let away : more y.ring ≡ on y.ring = changes.rest y.ring (λ m. let o = apart.one d c b a y u back there m in e (o.1, o.0)) in
+              record { taken = g.taken; numbers = ap (λ xs. xs ++ x.waiting) away ∙ g.numbers })
+        ]

@@ -102,11 +102,13 @@ take_order : (here : LinkEnd) (s : State) (k c : Core) (m : Said) (n : ℕ) → 
     × OrderOf (changed_at here.core (λ q. part_of c) (map part_of s.cores)) (taken_rings here s)
 take_order here s k c m n h some e f =
     let ps : List Part = map part_of s.cores in
-    let alters = alters_from ps here.core here.neighbour here.link (λ q. part_of c) taking_more (part_of k) h.there h.at e f in
-    (alters, (taken_in_order (part_lane ps) (part_lane (changed_at here.core (λ q. part_of c) ps)) (ring_openings s.rings) (ring_openings (taken_rings here s))
-    here.core here.neighbour n h.lane (linked_apart (view s) h.linked) h.lane_is alters
-    (ap (ring_openings s.rings) h.lane_ring ∙ head_taken here s k m n h some ∙ ap (λ r. n ∷ ring_openings (taken_rings here s) r) (sym h.lane_ring))
-    (record { rest = λ r away. ring_changes s.rings here.ring (takes here.ring.side) (λ x. take_else here.ring.side x) r (λ g. away (g ∙ sym h.lane_ring)) }) h.order))
+    let alters = alters_from ps here.core here.neighbour here.link (λ q. part_of c) taking_more (part_of k) h.there h.at e f in (
+      alters,
+      (taken_in_order (part_lane ps) (part_lane (changed_at here.core (λ q. part_of c) ps)) (ring_openings s.rings) (ring_openings (taken_rings here s))
+          here.core here.neighbour n h.lane (linked_apart (view s) h.linked) h.lane_is alters
+          (ap (ring_openings s.rings) h.lane_ring ∙ head_taken here s k m n h some ∙ ap (λ r. n ∷ ring_openings (taken_rings here s) r) (sym h.lane_ring))
+          (record { rest = λ r away. ring_changes s.rings here.ring (takes here.ring.side) (λ x. take_else here.ring.side x) r (λ g. away (g ∙ sym h.lane_ring)) }) h.order),
+    )
 
 pub taken_ok : (here : LinkEnd) (s : State) (k c : Core) (m : Said) (n : ℕ) → Hears here s k m → opening_number m ≡ Some n → names c.circuits.links ≡ names k.circuits.links
     → lanes c.circuits.links c.links ≡ changed_at here.link taking_more (lanes k.circuits.links k.links) → Set here s c (taken_rings here s)
@@ -127,30 +129,34 @@ passed_ok here s k c m n next l d h some to own e f =
     let core : k.circuits.core ≡ N = h.numbered N (part_of k) h.there in
     let same_mid = taking_lanes us k.links here.link in
     let raw = alters_at ps N next l (λ q. part_of mid) (λ q. part_of c) (λ z. opens_more (waits_more (d ∷ []) z)) (part_of k) us h.there to
-        (taking_counted us here.link) e (f ∙ ap (changed_at l (λ z. opens_more (waits_more (d ∷ []) z))) (sym same_mid)) in
+    (taking_counted us here.link) e (f ∙ ap (changed_at l (λ z. opens_more (waits_more (d ∷ []) z))) (sym same_mid)) in
     let right = alters_so (part_lane (changed_at N (λ q. part_of mid) ps)) (part_lane (changed_at N (λ q. part_of c) ps)) N next (λ z. opens_more (waits_more (d ∷ []) z)) (opening_more N next)
-        (λ z q. same_opening N next d z (fits was.link was.there core was.is z (at_mid same_mid z q))) raw in
+    (λ z q. same_opening N next d z (fits was.link was.there core was.is z (at_mid same_mid z q))) raw in
     both_orders (changed_at N (λ q. part_of c) ps) _ (taken_rings here s) _ (set_parts N c s) refl
     (opened_in_order (part_lane (changed_at N (λ q. part_of mid) ps)) (part_lane (changed_at N (λ q. part_of c) ps)) (ring_openings (taken_rings here s)) N next
     (λ z q g. not_next first z q g) right middle)
   where
     ps0 : List Part
     ps0 = map part_of s.cores
+
     mid0 : Core
     mid0 = with_circuits (after_taking k.circuits here.link) k
+
     fits : (u : LinkState) → slice_get k.circuits.links l ≡ Some u → k.circuits.core ≡ here.core → number k.circuits.core u.neighbour.0 u.opened ≡ d → (z : Lane)
         → slice_get (changed_at here.link taking_more (lanes k.circuits.links k.links)) l ≡ Some z → number here.core next z.opened ≡ d
     fits u q core is z r =
-      let (w, i, j) = taken_opened (lanes k.circuits.links k.links) here.link l z r in
-      ap (number here.core next) j ∙ number_is here.core next l d k.circuits.links k.links u w to q (ap (λ x. number x u.neighbour.0 u.opened) (sym core) ∙ is) i
+        let (w, i, j) = taken_opened (lanes k.circuits.links k.links) here.link l z r in
+        ap (number here.core next) j ∙ number_is here.core next l d k.circuits.links k.links u w to q (ap (λ x. number x u.neighbour.0 u.opened) (sym core) ∙ is) i
+
     at_mid : lanes (count_taking k.circuits.links here.link) k.links ≡ changed_at here.link taking_more (lanes k.circuits.links k.links) → (z : Lane)
         → part_lane (changed_at here.core (λ q. part_of mid0) ps0) here.core next ≡ Some z → slice_get (changed_at here.link taking_more (lanes k.circuits.links k.links)) l ≡ Some z
     at_mid g z q =
-      sym (ap (λ o. given o None (lane_in next)) (changed_same ps0 here.core (λ q. part_of mid0)) ∙ ap (λ o. given (option_map (λ (q : Part). part_of mid0) o) None (lane_in next)) h.there
-      ∙ ap (λ ns. lane_to next ns (lanes (count_taking k.circuits.links here.link) k.links)) (taking_counted k.circuits.links here.link)
-      ∙ ap (lane_to next (names k.circuits.links)) g
-      ∙ lane_is next k.circuits.links (changed_at here.link taking_more (lanes k.circuits.links k.links))
-      ∙ ap (λ o. given o None (slice_get (changed_at here.link taking_more (lanes k.circuits.links k.links)))) to) ∙ q
+        sym (ap (λ o. given o None (lane_in next)) (changed_same ps0 here.core (λ q. part_of mid0)) ∙ ap (λ o. given (option_map (λ (q : Part). part_of mid0) o) None (lane_in next)) h.there
+        ∙ ap (λ ns. lane_to next ns (lanes (count_taking k.circuits.links here.link) k.links)) (taking_counted k.circuits.links here.link)
+        ∙ ap (lane_to next (names k.circuits.links)) g
+        ∙ lane_is next k.circuits.links (changed_at here.link taking_more (lanes k.circuits.links k.links))
+        ∙ ap (λ o. given o None (slice_get (changed_at here.link taking_more (lanes k.circuits.links k.links)))) to) ∙ q
+
     not_next : Alters (part_lane ps0) (part_lane (changed_at here.core (λ q. part_of mid0) ps0)) here.core here.neighbour taking_more → (z : Lane)
         → part_lane (changed_at here.core (λ q. part_of mid0) ps0) here.core next ≡ Some z → here.core ≡ next → ⊥
     not_next alters z q g = elim (same_or next here.neighbour) [

@@ -83,12 +83,12 @@ begun_order w cores k l c s begins linked numbered h =
     let next = next_is k.circuits.core k.circuits.links l c begins.number in
     let core : k.circuits.core ≡ n = numbered n p there in
     let made = opening_lanes p.circuits.links (changed_at l (says_more (open_circuit o)) p.links) l
-        ∙ ap (changed_at l opens_more) (said_lanes (open_circuit o) p.circuits.links p.links l)
-        ∙ changed_twice opens_more (waits_more (c ∷ [])) (lanes p.circuits.links p.links) l in
+    ∙ ap (changed_at l opens_more) (said_lanes (open_circuit o) p.circuits.links p.links l)
+    ∙ changed_twice opens_more (waits_more (c ∷ [])) (lanes p.circuits.links p.links) l in
     let alters = alters_from ps n b l (part_opens l c o) (λ z. opens_more (waits_more (c ∷ []) z)) p there begins.link (opening_counted p.circuits.links l) made in
     let right = alters_so (part_lane ps) (part_lane (changed_at n (part_opens l c o) ps)) n b (λ z. opens_more (waits_more (c ∷ []) z)) (opening_more n b) (λ z q.
-        same_opening n b c z (number_is n b l c p.circuits.links p.links next.link z begins.link next.there (ap (λ m. number m next.link.neighbour.0 next.link.opened) (sym core) ∙ next.is)
-        (lane_lanes ps n b l p z there begins.link q))) alters in
+    same_opening n b c z (number_is n b l c p.circuits.links p.links next.link z begins.link next.there (ap (λ m. number m next.link.neighbour.0 next.link.opened) (sym core) ∙ next.is)
+    (lane_lanes ps n b l p z there begins.link q))) alters in
     both_orders (changed_at n (part_opens l c o) ps) _ s.rings _ (begun_parts w cores (length s.bindings) l c s) (seats_rings w.client (end_id (length s.bindings) Client) _)
     (opened_in_order (part_lane ps) (part_lane (changed_at n (part_opens l c o) ps)) (ring_openings s.rings) n b (λ z q. not_self (part_lane ps) n b z (linked_apart (view s) linked) q) right h)
 
@@ -113,17 +113,21 @@ at_link here s k =
     inner : (a b l : ℕ) (r : RingEnd) (y : LinkEnd) → Some (let z : LinkEnd = record { core = a; neighbour = b; link = l; ring = r } in z) ≡ Some y
         → (let z : LinkEnd = record { core = a; neighbour = b; link = l; ring = r } in z) ≡ y
     inner a b l r y e = cc
+
     by : (a b l : ℕ) (c : Core) (x : Link) (y : LinkEnd) → (let z : LinkEnd = record { core = a; neighbour = b; link = l; ring = x.ring } in z) ≡ y
         → core_of s a ≡ Some c → link_to b c ≡ Some l → slice_get c.links l ≡ Some x → AtLink y s × (a ≡ y.core) × (b ≡ y.neighbour)
-    by a b l c x y e q t v =
-      (record {
+    by a b l c x y e q t v = (
+      record {
         core = c;
         core_is = ap (λ (z : LinkEnd). core_of s z.core) (sym e) ∙ q;
         link_is = ap (λ (z : LinkEnd). link_to z.neighbour c) (sym e) ∙ t ∙ ap (λ (z : LinkEnd). Some z.link) e;
         link = x;
         there = ap (λ (z : LinkEnd). slice_get c.links z.link) (sym e) ∙ v;
         ring = ap (λ (z : LinkEnd). z.ring) e;
-      }, ap (λ (z : LinkEnd). z.core) e, ap (λ (z : LinkEnd). z.neighbour) e)
+      },
+      ap (λ (z : LinkEnd). z.core) e,
+      ap (λ (z : LinkEnd). z.neighbour) e,
+    )
 
 lanes_there : (us : List LinkState) (ls : List Link) (l : ℕ) (x : Link) → length us ≡ length ls → slice_get ls l ≡ Some x → (a : LinkState) × (slice_get (lanes us ls) l ≡ Some (lane_of a x))
 lanes_there [] [] l x e q = absurd (cc)
@@ -137,9 +141,11 @@ pub here_lane : (here : LinkEnd) (s : State) (k : AtLink here s) → LinkedView 
 here_lane here s k linked =
     let p : Part = part_of k.core in
     let there = part_there s here.core k.core k.core_is in
-    let (a, q) = lanes_there p.circuits.links p.links here.link k.link (even_parts s linked here.core p there) k.there in
-    (a, ap (λ o. given o None (lane_in here.neighbour)) there ∙ lane_is here.neighbour p.circuits.links (lanes p.circuits.links p.links)
-    ∙ ap (λ o. given o None (slice_get (lanes p.circuits.links p.links))) k.link_is ∙ q)
+    let (a, q) = lanes_there p.circuits.links p.links here.link k.link (even_parts s linked here.core p there) k.there in (
+      a,
+      ap (λ o. given o None (lane_in here.neighbour)) there ∙ lane_is here.neighbour p.circuits.links (lanes p.circuits.links p.links)
+          ∙ ap (λ o. given o None (slice_get (lanes p.circuits.links p.links))) k.link_is ∙ q,
+    )
 
 pub here_ring : (here : LinkEnd) (s : State) (k : AtLink here s) → LinkedView (view s) → (r : Ring) × (slice_get s.rings here.ring.ring ≡ Some r)
 here_ring here s k linked =
@@ -181,7 +187,7 @@ drop_lanes m (a ∷ us) (y ∷ ls) zero x q r =
     let e : y ≡ x = cc in
     let f : slice_get y.outbox 0 ≡ Some m = ap (λ (z : Link). slice_get z.outbox 0) e ∙ r in
     let g : openings (drop 1 y.outbox) ≡ behind (opening_number m) (openings y.outbox) =
-        sym (ap (behind (opening_number m)) (outbox_is y.outbox m f) ∙ behind_is (opening_number m) (openings (drop 1 y.outbox))) in
+    sym (ap (behind (opening_number m)) (outbox_is y.outbox m f) ∙ behind_is (opening_number m) (openings (drop 1 y.outbox))) in
     ap (λ ws. (let z : Lane = record { ring = y.ring; opened = a.opened; taken = a.taken; waiting = ws } in z) ∷ lanes us ls) g
 drop_lanes m (a ∷ us) (y ∷ ls) (suc l) x q r =
     ap (lanes (a ∷ us)) (changed_later y ls l drops) ∙ ap (λ xs. lane_of a y ∷ xs) (drop_lanes m us ls l x q r) ∙ sym (changed_later (lane_of a y) (lanes us ls) l (shifts m))
@@ -211,8 +217,8 @@ monitor_order here link m s k t u linked h =
     let p : Part = part_of x.core in
     let there = part_there s here.core x.core x.core_is in
     let same : x.link ≡ link = same_some (link_between s here.core here.neighbour) x.link link
-        (ap (λ o. given o None (λ c. given (link_to here.neighbour c) None (λ l. slice_get c.links l))) x.core_is ∙ ap (λ o. given o None (λ l. slice_get x.core.links l)) x.link_is ∙ x.there)
-        (ap (λ n. link_between s n here.neighbour) (sym e) ∙ ap (λ n. link_between s k.core n) (sym f) ∙ t) in
+    (ap (λ o. given o None (λ c. given (link_to here.neighbour c) None (λ l. slice_get c.links l))) x.core_is ∙ ap (λ o. given o None (λ l. slice_get x.core.links l)) x.link_is ∙ x.there)
+    (ap (λ n. link_between s n here.neighbour) (sym e) ∙ ap (λ n. link_between s k.core n) (sym f) ∙ t) in
     let first : slice_get x.link.outbox 0 ≡ Some m = ap (λ (y : Link). slice_get y.outbox 0) same ∙ u in
     let (a, q) = here_lane here s x linked in
     let z : Lane = lane_of a x.link in
@@ -221,10 +227,10 @@ monitor_order here link m s k t u linked h =
     let (y, j, l) = apart.pair here.core here.neighbour z q in
     let facing : y.ring ≡ turned here.ring = l ∙ ap turned x.ring in
     let box : z.waiting ≡ cons_option (opening_number m) [] ++ (shifts m z).waiting =
-        outbox_is x.link.outbox m first ∙ before_is (opening_number m) (openings (drop 1 x.link.outbox))
-        ∙ ap (λ ws. cons_option (opening_number m) [] ++ ws) (sym (ap (behind (opening_number m)) (outbox_is x.link.outbox m first) ∙ behind_is (opening_number m) (openings (drop 1 x.link.outbox)))) in
+    outbox_is x.link.outbox m first ∙ before_is (opening_number m) (openings (drop 1 x.link.outbox))
+    ∙ ap (λ ws. cons_option (opening_number m) [] ++ ws) (sym (ap (behind (opening_number m)) (outbox_is x.link.outbox m first) ∙ behind_is (opening_number m) (openings (drop 1 x.link.outbox)))) in
     let alters = alters_from ps here.core here.neighbour here.link (part_drops here.link) (shifts m) p there x.link_is refl
-        (drop_lanes m p.circuits.links p.links here.link x.link x.there first) in
+    (drop_lanes m p.circuits.links p.links here.link x.link x.there first) in
     both_orders (changed_at here.core (part_drops here.link) ps) _ (changed_at here.ring.ring (puts here.ring.side (says m)) s.rings) _
     (map_changed part_of (without_first_said here.link) (part_drops here.link) s.cores here.core (λ c g. refl)) refl
     (moved_in_order (part_lane ps) (part_lane (changed_at here.core (part_drops here.link) ps)) (ring_openings s.rings) (ring_openings (changed_at here.ring.ring (puts here.ring.side (says m)) s.rings))

@@ -196,7 +196,7 @@ heard_flows here m first k s j q r t h =
     let ps : List Part = map part_of s.cores in
     let ctx = hears_here here m first k s j q r t h.linked h.cores (order_of s h.order) in
     let parts : map part_of final.cores ≡ changed_at here.core (λ p. part_of x.core) ps =
-        follows_parts x.heard u ∙ ap (map part_of) (said_parts here.ring x.heard (change_core here.core (λ y. x.core) s)) ∙ set_parts here.core x.core s in
+    follows_parts x.heard u ∙ ap (map part_of) (said_parts here.ring x.heard (change_core here.core (λ y. x.core) s)) ∙ set_parts here.core x.core s in
     record {
       linked = places_move.heard here m first k s j q r t h.linked;
       cores = subst Numbered (sym parts) (numbered_set ps here.core (λ p. part_of x.core)
@@ -288,7 +288,7 @@ link_found s a b here linked q =
     both [] ls l x v w = absurd (cc)
     both (u ∷ us) [] l x v w = absurd (cc)
     both (u ∷ us) (y ∷ ls) zero x v w =
-      let e : u ≡ here = cc in let f : y ≡ x = cc in ap (λ (c : LinkState). Some (lane_of c y)) e ∙ ap (λ (c : Link). Some (lane_of here c)) f
+        let e : u ≡ here = cc in let f : y ≡ x = cc in ap (λ (c : LinkState). Some (lane_of c y)) e ∙ ap (λ (c : Link). Some (lane_of here c)) f
     both (u ∷ us) (y ∷ ls) (suc l) x v w = both us ls l x v w
 
 numbers_under_way : (s : State) (a b : ℕ) (link back : Link) → link_between s a b ≡ Some link → link_between s b a ≡ Some back
@@ -350,16 +350,17 @@ openings_flow s cores linked h = record { linked = linked; cores = numbered; ord
   where
     numbered : (n : ℕ) (p : Part) → slice_get (map part_of s.cores) n ≡ Some p → p.circuits.core ≡ n
     numbered n p q =
-      let (k, i, j) = given_some (slice_get s.cores n) (λ k. Some (part_of k)) p
-          (sym (given_map part_of None (λ (y : Part). Some y) s.cores n) ∙ ap (λ (o : Option Part). given o None (λ y. Some y)) q) in
-      let e : part_of k ≡ p = cc in ap (λ (y : Part). y.circuits.core) (sym e) ∙ (cores n k i).number
+        let (k, i, j) = given_some (slice_get s.cores n) (λ k. Some (part_of k)) p
+        (sym (given_map part_of None (λ (y : Part). Some y) s.cores n) ∙ ap (λ (o : Option Part). given o None (λ y. Some y)) q) in
+        let e : part_of k ≡ p = cc in ap (λ (y : Part). y.circuits.core) (sym e) ∙ (cores n k i).number
+
     order : OrderOf (map part_of s.cores) s.rings
     order a b x y q r =
-      let u = lane_found s a b x q in
-      let w = lane_found s b a y r in
-      let g = h a b u.here w.here u.state_is w.state_is in
-      subst (λ (z : Lane). Goes (ring_openings s.rings) a b z y) (sym u.is) (subst (λ (z : Lane). Goes (ring_openings s.rings) a b (lane_of u.here u.link) z) (sym w.is)
-      (record { taken = g.taken; numbers = sym (numbers_under_way s a b u.link w.link u.between w.between) ∙ g.numbers }))
+        let u = lane_found s a b x q in
+        let w = lane_found s b a y r in
+        let g = h a b u.here w.here u.state_is w.state_is in
+        subst (λ (z : Lane). Goes (ring_openings s.rings) a b z y) (sym u.is) (subst (λ (z : Lane). Goes (ring_openings s.rings) a b (lane_of u.here u.link) z) (sym w.is)
+        (record { taken = g.taken; numbers = sym (numbers_under_way s a b u.link w.link u.between w.between) ∙ g.numbers }))
 
 -- ---- the laws
 

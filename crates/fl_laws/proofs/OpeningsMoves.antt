@@ -36,6 +36,7 @@ fresh_openings rs size at e = ap (λ n. given (slice_get (rs ++ fresh_ring size 
     one : (side : RingSide) → side_openings side (sides_of (fresh_ring size)) ≡ []
     one first_side = refl
     one second_side = refl
+
     by : (xs : List Ring) → given (slice_get (xs ++ fresh_ring size ∷ []) (length xs)) [] (λ r. side_openings at.side (sides_of r)) ≡ []
     by [] = one at.side
     by (x ∷ xs) = by xs
@@ -65,32 +66,38 @@ link_order a b size s before after h c d x y q r =
       | inr i ↦ elim (comes d c y r) [
         | inl j ↦ absurd (let k : y.ring.ring < length s.rings = old d c y j in let l = paired in let m = i.ring in omega arith)
         | inr j ↦ (let e = j.taken in let f = i.opened in record {
-            taken = omega arith;
-            numbers = numbers_none (Rattle.fl_hop.specs.Numbers.number c d) x.opened y.taken _ x.waiting f (fresh_openings s.rings size y.ring j.ring) i.waiting;
-          })
+          taken = omega arith;
+          numbers = numbers_none (Rattle.fl_hop.specs.Numbers.number c d) x.opened y.taken _ x.waiting f (fresh_openings s.rings size y.ring j.ring) i.waiting;
+        })
       ]
     ]
   where
     n : ℕ
     n = length s.rings
+
     ps : List Part
     ps = map part_of s.cores
+
     near : List Part
     near = changed_at a (part_linked b n first_side) ps
+
     even : (m : ℕ) (p : Part) → slice_get ps m ≡ Some p → length p.circuits.links ≡ length p.links
     even = even_parts s before
+
     comes : (i j : ℕ) (z : Lane) → part_lane (map part_of (with_new_link a b size s).cores) i j ≡ Some z → (part_lane ps i j ≡ Some z) ⊎ IsNewLane n z
     comes i j z k = elim (linked_comes near b a n i j second_side z (linked_even ps a b n first_side even) (sym (ap (λ us. part_lane us i j) (linked_parts a b size s)) ∙ k)) [
       | inl l ↦ linked_comes ps a b n i j first_side z even l
       | inr l ↦ inr l
     ]
+
     old : (i j : ℕ) (z : Lane) → part_lane ps i j ≡ Some z → z.ring.ring < length s.rings
     old i j z k = let e = length-map s.rings sides_of in let l : z.ring.ring < length (map sides_of s.rings) = lane_within (view s) i j z before k in omega arith
+
     paired : y.ring.ring ≡ x.ring.ring
     paired =
-      let (u, i, j) = (linked_apart (view (with_new_link a b size s)) after).pair c d x q in
-      let same : u ≡ y = same_some (part_lane (map part_of (with_new_link a b size s).cores) d c) u y i r in
-      ap (λ (z : Lane). z.ring.ring) (sym same) ∙ ap (λ (z : RingEnd). z.ring) j
+        let (u, i, j) = (linked_apart (view (with_new_link a b size s)) after).pair c d x q in
+        let same : u ≡ y = same_some (part_lane (map part_of (with_new_link a b size s).cores) d c) u y i r in
+        ap (λ (z : Lane). z.ring.ring) (sym same) ∙ ap (λ (z : RingEnd). z.ring) j
 
 -- ---- a binding's ring
 
@@ -102,9 +109,10 @@ owned_order e b at s q r l h =
   where
     mine : ring_of (plan (view s)) (this_end e) ≡ Some at
     mine = ap (λ p. ring_of p (this_end e)) (plan_viewed s) ∙ owner_planned s (this_end e) at (b, q, r)
+
     apart : (c d : ℕ) (y : Lane) → part_lane (map part_of s.cores) c d ≡ Some y → y.ring ≡ at → ⊥
     apart c d y i k =
-      let same : core_to c d ≡ this_end e = l.one (core_to c d) (this_end e) at (lane_owner (view s) c d y i ∙ ap (λ (z : RingEnd). Some z) k) mine in cc
+        let same : core_to c d ≡ this_end e = l.one (core_to c d) (this_end e) at (lane_owner (view s) c d y i ∙ ap (λ (z : RingEnd). Some z) k) mine in cc
 
 -- ---- counts and outboxes
 
@@ -170,10 +178,10 @@ lanes_opened (a ∷ us) (x ∷ ls) (suc l) u z q r = lanes_opened us ls l u z q 
 
 pub taken_opened : (xs : List Lane) (l m : ℕ) (z : Lane) → slice_get (changed_at l taking_more xs) m ≡ Some z → (w : Lane) × (slice_get xs m ≡ Some w) × (z.opened ≡ w.opened)
 taken_opened xs l m z h = elim (same_or m l) [
-    | inr d ↦ (z, sym (changed_other xs l m taking_more d) ∙ h, refl)
-    | inl d ↦ (let (w, e, f) = by (slice_get xs l) refl (sym (changed_same xs l taking_more) ∙ subst (λ n. slice_get (changed_at l taking_more xs) n ≡ Some z) d h) in
-        (w, subst (λ n. slice_get xs n ≡ Some w) (sym d) e, f))
-  ]
+  | inr d ↦ (z, sym (changed_other xs l m taking_more d) ∙ h, refl)
+  | inl d ↦ (let (w, e, f) = by (slice_get xs l) refl (sym (changed_same xs l taking_more) ∙ subst (λ n. slice_get (changed_at l taking_more xs) n ≡ Some z) d h) in
+      (w, subst (λ n. slice_get xs n ≡ Some w) (sym d) e, f))
+]
   where
     by : (o : Option Lane) → slice_get xs l ≡ o → option_map taking_more o ≡ Some z → (w : Lane) × (slice_get xs l ≡ Some w) × (z.opened ≡ w.opened)
     by None e f = absurd (cc)

@@ -87,11 +87,11 @@ alters_at ps n b l g h f p us q at e e2 k = record {
 pub same_lanes : (ps : List Part) (n : ℕ) (g : Part → Part) (p : Part) → slice_get ps n ≡ Some p → names (g p).circuits.links ≡ names p.circuits.links
     → lanes (g p).circuits.links (g p).links ≡ lanes p.circuits.links p.links → (x y : ℕ) → part_lane (changed_at n g ps) x y ≡ part_lane ps x y
 same_lanes ps n g p q e k x y = elim (same_or x n) [
-    | inr d ↦ ap (λ o. given o None (lane_in y)) (changed_other ps n x g d)
-    | inl d ↦ subst (λ m. part_lane (changed_at n g ps) m y ≡ part_lane ps m y) (sym d)
-        (set_lane ps n y g p q ∙ ap (λ ns. lane_to y ns (lanes (g p).circuits.links (g p).links)) e ∙ ap (lane_to y (names p.circuits.links)) k
-        ∙ sym (ap (λ o. given o None (lane_in y)) q))
-  ]
+  | inr d ↦ ap (λ o. given o None (lane_in y)) (changed_other ps n x g d)
+  | inl d ↦ subst (λ m. part_lane (changed_at n g ps) m y ≡ part_lane ps m y) (sym d)
+      (set_lane ps n y g p q ∙ ap (λ ns. lane_to y ns (lanes (g p).circuits.links (g p).links)) e ∙ ap (lane_to y (names p.circuits.links)) k
+      ∙ sym (ap (λ o. given o None (lane_in y)) q))
+]
 
 -- ---- a ring changed
 
@@ -116,13 +116,13 @@ side_or second_side second_side = inl refl
 pub ring_changes : (rs : List Ring) (at : RingEnd) (f : Ring → Ring) → ((r : Ring) → side_openings (opposite at.side) (sides_of (f r)) ≡ side_openings (opposite at.side) (sides_of r))
     → (x : RingEnd) → (x ≡ at → ⊥) → ring_openings (changed_at at.ring f rs) x ≡ ring_openings rs x
 ring_changes rs at f h x away = elim (same_or x.ring at.ring) [
-    | inr d ↦ ap (λ o. given o [] (λ r. side_openings x.side (sides_of r))) (changed_other rs at.ring x.ring f d)
-    | inl d ↦ elim (side_or x.side at.side) [
-      | inl e ↦ absurd (away (same_end x at d e))
-      | inr e ↦ subst (λ n. given (slice_get (changed_at at.ring f rs) n) [] (λ r. side_openings x.side (sides_of r)) ≡ given (slice_get rs n) [] (λ r. side_openings x.side (sides_of r))) (sym d)
-          (ap (λ o. given o [] (λ r. side_openings x.side (sides_of r))) (changed_same rs at.ring f) ∙ by e (slice_get rs at.ring))
-    ]
+  | inr d ↦ ap (λ o. given o [] (λ r. side_openings x.side (sides_of r))) (changed_other rs at.ring x.ring f d)
+  | inl d ↦ elim (side_or x.side at.side) [
+    | inl e ↦ absurd (away (same_end x at d e))
+    | inr e ↦ subst (λ n. given (slice_get (changed_at at.ring f rs) n) [] (λ r. side_openings x.side (sides_of r)) ≡ given (slice_get rs n) [] (λ r. side_openings x.side (sides_of r))) (sym d)
+        (ap (λ o. given o [] (λ r. side_openings x.side (sides_of r))) (changed_same rs at.ring f) ∙ by e (slice_get rs at.ring))
   ]
+]
   where
     by : x.side ≡ opposite at.side → (o : Option Ring) → given (option_map f o) [] (λ r. side_openings x.side (sides_of r)) ≡ given o [] (λ r. side_openings x.side (sides_of r))
     by e None = refl
@@ -156,10 +156,10 @@ put_else second_side m r = refl
 pub ring_kept : (rs : List Ring) (n : ℕ) (f : Ring → Ring) → ((r : Ring) (side : RingSide) → slice_get rs n ≡ Some r → side_openings side (sides_of (f r)) ≡ side_openings side (sides_of r))
     → (x : RingEnd) → ring_openings (changed_at n f rs) x ≡ ring_openings rs x
 ring_kept rs n f h x = elim (same_or x.ring n) [
-    | inr d ↦ ap (λ o. given o [] (λ r. side_openings x.side (sides_of r))) (changed_other rs n x.ring f d)
-    | inl d ↦ subst (λ m. given (slice_get (changed_at n f rs) m) [] (λ r. side_openings x.side (sides_of r)) ≡ given (slice_get rs m) [] (λ r. side_openings x.side (sides_of r))) (sym d)
-        (ap (λ o. given o [] (λ r. side_openings x.side (sides_of r))) (changed_same rs n f) ∙ by (slice_get rs n) refl)
-  ]
+  | inr d ↦ ap (λ o. given o [] (λ r. side_openings x.side (sides_of r))) (changed_other rs n x.ring f d)
+  | inl d ↦ subst (λ m. given (slice_get (changed_at n f rs) m) [] (λ r. side_openings x.side (sides_of r)) ≡ given (slice_get rs m) [] (λ r. side_openings x.side (sides_of r))) (sym d)
+      (ap (λ o. given o [] (λ r. side_openings x.side (sides_of r))) (changed_same rs n f) ∙ by (slice_get rs n) refl)
+]
   where
     by : (o : Option Ring) → slice_get rs n ≡ o → given (option_map f o) [] (λ r. side_openings x.side (sides_of r)) ≡ given o [] (λ r. side_openings x.side (sides_of r))
     by None q = refl
@@ -168,11 +168,11 @@ ring_kept rs n f h x = elim (same_or x.ring n) [
 pub take_same : (side other : RingSide) (m : Said) (r : Ring) (x : RingLabel) → first_for side r ≡ Some x → x.label ≡ says m → opening_number m ≡ None
     → side_openings other (sides_of (takes side r)) ≡ side_openings other (sides_of r)
 take_same side other m r x h l q = elim (side_or other side) [
-    | inl e ↦ subst (λ s. side_openings s (sides_of (takes side r)) ≡ side_openings s (sides_of r)) (sym e)
-        (take_left side r ∙ sym (take_openings side r x h ∙ ap (λ o. openings (cons_option (said_by o) (messages (drop 1 (read_by side r).waiting)))) l
-        ∙ ap (λ o. cons_option o (openings (messages (drop 1 (read_by side r).waiting)))) q))
-    | inr e ↦ subst (λ s. side_openings s (sides_of (takes side r)) ≡ side_openings s (sides_of r)) (sym e) (take_else side r)
-  ]
+  | inl e ↦ subst (λ s. side_openings s (sides_of (takes side r)) ≡ side_openings s (sides_of r)) (sym e)
+      (take_left side r ∙ sym (take_openings side r x h ∙ ap (λ o. openings (cons_option (said_by o) (messages (drop 1 (read_by side r).waiting)))) l
+      ∙ ap (λ o. cons_option o (openings (messages (drop 1 (read_by side r).waiting)))) q))
+  | inr e ↦ subst (λ s. side_openings s (sides_of (takes side r)) ≡ side_openings s (sides_of r)) (sym e) (take_else side r)
+]
 
 -- ---- the predicate
 
@@ -195,9 +195,9 @@ of_order s h = same_in_order (lane (view s)) (lane (view s)) (ring_openings s.ri
 
 pub numbered_set : (ps : List Part) (n : ℕ) (g : Part → Part) → ((p : Part) → slice_get ps n ≡ Some p → (g p).circuits.core ≡ p.circuits.core) → Numbered ps → Numbered (changed_at n g ps)
 numbered_set ps n g e h m q r = elim (same_or m n) [
-    | inr d ↦ h m q (sym (changed_other ps n m g d) ∙ r)
-    | inl d ↦ by (slice_get ps n) refl (sym (changed_same ps n g) ∙ subst (λ k. slice_get (changed_at n g ps) k ≡ Some q) d r) ∙ sym d
-  ]
+  | inr d ↦ h m q (sym (changed_other ps n m g d) ∙ r)
+  | inl d ↦ by (slice_get ps n) refl (sym (changed_same ps n g) ∙ subst (λ k. slice_get (changed_at n g ps) k ≡ Some q) d r) ∙ sym d
+]
   where
     by : (o : Option Part) → slice_get ps n ≡ o → option_map g o ≡ Some q → q.circuits.core ≡ n
     by None f k = absurd (cc)
@@ -279,10 +279,10 @@ EvenParts ps = (n : ℕ) (p : Part) → slice_get ps n ≡ Some p → length p.c
 pub linked_comes : (ps : List Part) (a b n x y : ℕ) (side : RingSide) (z : Lane) → EvenParts ps → part_lane (changed_at a (part_linked b n side) ps) x y ≡ Some z
     → (part_lane ps x y ≡ Some z) ⊎ IsNewLane n z
 linked_comes ps a b n x y side z even h = elim (same_or x a) [
-    | inr d ↦ inl (sym (ap (λ o. given o None (lane_in y)) (changed_other ps a x (part_linked b n side) d)) ∙ h)
-    | inl d ↦ subst (λ m. (part_lane ps m y ≡ Some z) ⊎ IsNewLane n z) (sym d)
-        (by (slice_get ps a) refl (sym (ap (λ o. given o None (lane_in y)) (changed_same ps a (part_linked b n side))) ∙ subst (λ m. part_lane (changed_at a (part_linked b n side) ps) m y ≡ Some z) d h))
-  ]
+  | inr d ↦ inl (sym (ap (λ o. given o None (lane_in y)) (changed_other ps a x (part_linked b n side) d)) ∙ h)
+  | inl d ↦ subst (λ m. (part_lane ps m y ≡ Some z) ⊎ IsNewLane n z) (sym d)
+      (by (slice_get ps a) refl (sym (ap (λ o. given o None (lane_in y)) (changed_same ps a (part_linked b n side))) ∙ subst (λ m. part_lane (changed_at a (part_linked b n side) ps) m y ≡ Some z) d h))
+]
   where
     by : (o : Option Part) → slice_get ps a ≡ o → given (option_map (part_linked b n side) o) None (lane_in y) ≡ Some z → (given o None (lane_in y) ≡ Some z) ⊎ IsNewLane n z
     by None q k = absurd (cc)
@@ -290,15 +290,15 @@ linked_comes ps a b n x y side z even h = elim (same_or x a) [
 
 pub linked_even : (ps : List Part) (a b n : ℕ) (side : RingSide) → EvenParts ps → EvenParts (changed_at a (part_linked b n side) ps)
 linked_even ps a b n side even m p h = elim (same_or m a) [
-    | inr d ↦ even m p (sym (changed_other ps a m (part_linked b n side) d) ∙ h)
-    | inl d ↦ by (slice_get ps a) refl (sym (changed_same ps a (part_linked b n side)) ∙ subst (λ k. slice_get (changed_at a (part_linked b n side) ps) k ≡ Some p) d h)
-  ]
+  | inr d ↦ even m p (sym (changed_other ps a m (part_linked b n side) d) ∙ h)
+  | inl d ↦ by (slice_get ps a) refl (sym (changed_same ps a (part_linked b n side)) ∙ subst (λ k. slice_get (changed_at a (part_linked b n side) ps) k ≡ Some p) d h)
+]
   where
     by : (o : Option Part) → slice_get ps a ≡ o → option_map (part_linked b n side) o ≡ Some p → length p.circuits.links ≡ length p.links
     by None q k = absurd (cc)
     by (Some r) q k =
-      let e : part_linked b n side r ≡ p = cc in
-      let f : length r.circuits.links ≡ length r.links = even a r q in
-      let g = length_push r.circuits.links (record { neighbour = record { 0 = b }; opened = 0; taken = 0 }) in
-      let i = length_push r.links (record { ring = record { ring = n; side = side }; outbox = [] }) in
-      subst (λ (w : Part). length w.circuits.links ≡ length w.links) e (omega arith)
+        let e : part_linked b n side r ≡ p = cc in
+        let f : length r.circuits.links ≡ length r.links = even a r q in
+        let g = length_push r.circuits.links (record { neighbour = record { 0 = b }; opened = 0; taken = 0 }) in
+        let i = length_push r.links (record { ring = record { ring = n; side = side }; outbox = [] }) in
+        subst (λ (w : Part). length w.circuits.links ≡ length w.links) e (omega arith)

@@ -154,9 +154,9 @@ joined_comes [] zero r side at h = inr ((let e : at ≡ ring_side_of side r = cc
 joined_comes [] (suc n) r side at h = absurd (cc)
 joined_comes (x ∷ xs) zero r side at h = inl h
 joined_comes (x ∷ xs) (suc n) r side at h = elim (joined_comes xs n r side at h) [
-    | inl a ↦ inl a
-    | inr (a, b) ↦ inr (a, omega (arith, b))
-  ]
+  | inl a ↦ inl a
+  | inr (a, b) ↦ inr (a, omega (arith, b))
+]
 
 joined_stays : (xs : List (Option ℕ)) (n : ℕ) (o : Option ℕ) (side : Side) (at : RingEnd) → given (slice_get xs n) None (end_ring side) ≡ Some at
     → given (slice_get (xs ++ o ∷ []) n) None (end_ring side) ≡ Some at
@@ -166,9 +166,10 @@ joined_stays (x ∷ xs) (suc n) o side at h = joined_stays xs n o side at h
 
 joined_owner : (p : Plan) (e : EndId) (at : RingEnd) → at ≡ ring_side_of e.side p.rings → e.binding ≡ length p.joined
     → (at.ring ≡ p.rings) × (this_end e ≡ side_end (length p.joined) at.side)
-joined_owner p e at q r =
-    (ap (λ (x : RingEnd). x.ring) q,
-    (ap (λ n. this_end (record { binding = n; side = e.side })) r ∙ own_side (length p.joined) e.side ∙ ap (side_end (length p.joined)) (sym (ap (λ (x : RingEnd). x.side) q))))
+joined_owner p e at q r = (
+  ap (λ (x : RingEnd). x.ring) q,
+  (ap (λ n. this_end (record { binding = n; side = e.side })) r ∙ own_side (length p.joined) e.side ∙ ap (side_end (length p.joined)) (sym (ap (λ (x : RingEnd). x.side) q))),
+)
 
 pub joined_linked : (p : Plan) → Linked p → Linked (with_joined p)
 joined_linked p h = grown p (with_joined p) (side_end (length p.joined)) (record {
@@ -182,12 +183,14 @@ joined_linked p h = grown p (with_joined p) (side_end (length p.joined)) (record
     stays : (x : Owner) (at : RingEnd) → ring_of p x ≡ Some at → ring_of (with_joined p) x ≡ Some at
     stays (core_to a b) at e = e
     stays (this_end f) at e = joined_stays p.joined f.binding (Some p.rings) f.side at e
+
     comes : (x : Owner) (at : RingEnd) → ring_of (with_joined p) x ≡ Some at → (ring_of p x ≡ Some at) ⊎ ((at.ring ≡ p.rings) × (x ≡ side_end (length p.joined) at.side))
     comes (core_to a b) at e = inl e
     comes (this_end f) at e = elim (joined_comes p.joined f.binding p.rings f.side at e) [
       | inl k ↦ inl k
       | inr (k, l) ↦ inr (joined_owner p f at k l)
     ]
+
     no_core : (a b : ℕ) (side : RingSide) → core_to a b ≡ side_end (length p.joined) side → ⊥
     no_core a b first_side e = absurd (cc)
     no_core a b second_side e = absurd (cc)
@@ -227,10 +230,10 @@ in_comes o b n y side at e h = in_cases (ring_in y o) b y _ at (sym (found_push 
 
 join_stays : (cores : List Outline) (a b n x y : ℕ) (side : RingSide) (at : RingEnd) → IsEven cores → at_core cores x y ≡ Some at → at_core (changed_at a (joins b n side) cores) x y ≡ Some at
 join_stays cores a b n x y side at even h = elim (same_or x a) [
-    | inl e ↦ subst (λ m. at_core cores m y ≡ Some at → at_core (changed_at a (joins b n side) cores) m y ≡ Some at) (sym e)
+  | inl e ↦ subst (λ m. at_core cores m y ≡ Some at → at_core (changed_at a (joins b n side) cores) m y ≡ Some at) (sym e)
       (λ k. ap (λ o. given o None (ring_in y)) (changed_same cores a (joins b n side)) ∙ by (slice_get cores a) refl k) h
-    | inr e ↦ ap (λ o. given o None (ring_in y)) (changed_other cores a x (joins b n side) e) ∙ h
-  ]
+  | inr e ↦ ap (λ o. given o None (ring_in y)) (changed_other cores a x (joins b n side) e) ∙ h
+]
   where
     by : (o : Option Outline) → slice_get cores a ≡ o → given o None (ring_in y) ≡ Some at → given (option_map (joins b n side) o) None (ring_in y) ≡ Some at
     by None q k = absurd (cc)
@@ -239,20 +242,21 @@ join_stays cores a b n x y side at even h = elim (same_or x a) [
 join_comes : (cores : List Outline) (a b n x y : ℕ) (side : RingSide) (at : RingEnd) → IsEven cores → at_core (changed_at a (joins b n side) cores) x y ≡ Some at
     → (at_core cores x y ≡ Some at) ⊎ ((x ≡ a) × (y ≡ b) × (at ≡ record { ring = n; side = side }))
 join_comes cores a b n x y side at even h = elim (same_or x a) [
-    | inl e ↦ at_a e h
-    | inr e ↦ inl (sym (ap (λ o. given o None (ring_in y)) (changed_other cores a x (joins b n side) e)) ∙ h)
-  ]
+  | inl e ↦ at_a e h
+  | inr e ↦ inl (sym (ap (λ o. given o None (ring_in y)) (changed_other cores a x (joins b n side) e)) ∙ h)
+]
   where
     by : (o : Option Outline) → slice_get cores a ≡ o → given (option_map (joins b n side) o) None (ring_in y) ≡ Some at
         → (given o None (ring_in y) ≡ Some at) ⊎ ((y ≡ b) × (at ≡ record { ring = n; side = side }))
     by None q k = absurd (cc)
     by (Some o) q k = in_comes o b n y side at (even a o q) k
+
     at_a : x ≡ a → at_core (changed_at a (joins b n side) cores) x y ≡ Some at → (at_core cores x y ≡ Some at) ⊎ ((x ≡ a) × (y ≡ b) × (at ≡ record { ring = n; side = side }))
     at_a e k = elim (by (slice_get cores a) refl (sym (ap (λ o. given o None (ring_in y)) (changed_same cores a (joins b n side)))
         ∙ subst (λ m. at_core (changed_at a (joins b n side) cores) m y ≡ Some at) e k)) [
-      | inl l ↦ inl (subst (λ m. at_core cores m y ≡ Some at) (sym e) l)
-      | inr (l, m) ↦ inr (e, l, m)
-    ]
+          | inl l ↦ inl (subst (λ m. at_core cores m y ≡ Some at) (sym e) l)
+          | inr (l, m) ↦ inr (e, l, m)
+        ]
 
 join_new : (cores : List Outline) (a b n : ℕ) (side : RingSide) → IsEven cores → a < length cores → at_core cores a b ≡ None
     → at_core (changed_at a (joins b n side) cores) a b ≡ Some (record { ring = n; side = side })
@@ -263,18 +267,18 @@ join_new cores a b n side even within h =
 
 join_even : (cores : List Outline) (a b n : ℕ) (side : RingSide) → IsEven cores → IsEven (changed_at a (joins b n side) cores)
 join_even cores a b n side even m o h = elim (same_or m a) [
-    | inl e ↦ by (slice_get cores a) refl (sym (changed_same cores a (joins b n side)) ∙ subst (λ k. slice_get (changed_at a (joins b n side) cores) k ≡ Some o) e h)
-    | inr e ↦ even m o (sym (changed_other cores a m (joins b n side) e) ∙ h)
-  ]
+  | inl e ↦ by (slice_get cores a) refl (sym (changed_same cores a (joins b n side)) ∙ subst (λ k. slice_get (changed_at a (joins b n side) cores) k ≡ Some o) e h)
+  | inr e ↦ even m o (sym (changed_other cores a m (joins b n side) e) ∙ h)
+]
   where
     by : (p : Option Outline) → slice_get cores a ≡ p → option_map (joins b n side) p ≡ Some o → length o.neighbours ≡ length o.rings
     by None q k = absurd (cc)
     by (Some p) q k =
-      let same : length p.neighbours ≡ length p.rings = even a p q in
-      let e : joins b n side p ≡ o = cc in
-      let x = length-append p.neighbours (b ∷ []) in
-      let y = length-append p.rings (record { ring = n; side = side } ∷ []) in
-      subst (λ (z : Outline). length z.neighbours ≡ length z.rings) e (omega arith)
+        let same : length p.neighbours ≡ length p.rings = even a p q in
+        let e : joins b n side p ≡ o = cc in
+        let x = length-append p.neighbours (b ∷ []) in
+        let y = length-append p.rings (record { ring = n; side = side } ∷ []) in
+        subst (λ (z : Outline). length z.neighbours ≡ length z.rings) e (omega arith)
 
 abbrev pub with_link_between : ℕ → ℕ → Plan → Plan
 with_link_between a b p = record {
@@ -305,11 +309,14 @@ link_linked a b p apart wa wb none h = grown p (with_link_between a b p) (link_o
   where
     near : List Outline
     near = changed_at a (joins b p.rings first_side) p.cores
+
     near_even : IsEven near
     near_even = join_even p.cores a b p.rings first_side h.even
+
     stays : (x : Owner) (at : RingEnd) → ring_of p x ≡ Some at → ring_of (with_link_between a b p) x ≡ Some at
     stays (core_to x y) at e = join_stays near b a p.rings x y second_side at near_even (join_stays p.cores a b p.rings x y first_side at h.even e)
     stays (this_end f) at e = e
+
     comes : (x : Owner) (at : RingEnd) → ring_of (with_link_between a b p) x ≡ Some at → (ring_of p x ≡ Some at) ⊎ ((at.ring ≡ p.rings) × (x ≡ link_owner a b at.side))
     comes (this_end f) at e = inl e
     comes (core_to x y) at e = elim (join_comes near b a p.rings x y second_side at near_even e) [
@@ -319,23 +326,29 @@ link_linked a b p apart wa wb none h = grown p (with_link_between a b p) (link_o
         | inl k ↦ inl k
       ]
     ]
+
     none_back : (o : Option RingEnd) → at_core p.cores b a ≡ o → at_core p.cores b a ≡ None
     none_back None q = q
     none_back (Some at) q = absurd (let k : ring_of p (core_to a b) ≡ Some (turned at) = h.back b a at q in let m : None ≡ Some (turned at) = sym none ∙ k in cc)
+
     near_ab : at_core near a b ≡ Some (record { ring = p.rings; side = first_side })
     near_ab = join_new p.cores a b p.rings first_side h.even wa none
+
     near_ba : at_core near b a ≡ None
     near_ba = ap (λ o. given o None (ring_in a)) (changed_other p.cores a b (joins b p.rings first_side) (λ e. apart (sym e))) ∙ none_back (at_core p.cores b a) refl
+
     far_ba : at_core (with_link_between a b p).cores b a ≡ Some (record { ring = p.rings; side = second_side })
     far_ba = let e = length_set_at p.cores a (joins b p.rings first_side) in join_new near b a p.rings second_side near_even (omega (arith, e, wb)) near_ba
+
     far_ab : at_core (with_link_between a b p).cores a b ≡ Some (record { ring = p.rings; side = first_side })
     far_ab = join_stays near b a p.rings a b second_side _ near_even near_ab
+
     turns : (x y : ℕ) (side : RingSide) (r : ℕ) → r ≡ p.rings → core_to x y ≡ link_owner a b side → ring_of (with_link_between a b p) (core_to y x) ≡ Some (record { ring = r; side = opposite side })
     turns x y first_side r q e =
-      let k : x ≡ a = cc in
-      let l : y ≡ b = cc in
-      ap (λ n. at_core (with_link_between a b p).cores n x) l ∙ ap (λ n. at_core (with_link_between a b p).cores b n) k ∙ far_ba ∙ ap (λ n. Some (record { ring = n; side = second_side })) (sym q)
+        let k : x ≡ a = cc in
+        let l : y ≡ b = cc in
+        ap (λ n. at_core (with_link_between a b p).cores n x) l ∙ ap (λ n. at_core (with_link_between a b p).cores b n) k ∙ far_ba ∙ ap (λ n. Some (record { ring = n; side = second_side })) (sym q)
     turns x y second_side r q e =
-      let k : x ≡ b = cc in
-      let l : y ≡ a = cc in
-      ap (λ n. at_core (with_link_between a b p).cores n x) l ∙ ap (λ n. at_core (with_link_between a b p).cores a n) k ∙ far_ab ∙ ap (λ n. Some (record { ring = n; side = first_side })) (sym q)
+        let k : x ≡ b = cc in
+        let l : y ≡ a = cc in
+        ap (λ n. at_core (with_link_between a b p).cores n x) l ∙ ap (λ n. at_core (with_link_between a b p).cores a n) k ∙ far_ab ∙ ap (λ n. Some (record { ring = n; side = first_side })) (sym q)

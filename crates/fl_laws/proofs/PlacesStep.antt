@@ -224,8 +224,8 @@ link_planned s a b = by s.cores a
         ≡ ring_behind (given (slice_get ks n) None (λ k. given (link_to b k) None (λ l. slice_get k.links l)))
     by [] n = refl
     by (k ∷ ks) zero =
-      found_maps (λ n. n == b) (λ (a : LinkState). a.neighbour.0) (λ (l : Link). l.ring) k.circuits.links k.links
-      ∙ ap ring_behind (sym (found_is (λ (a : LinkState). a.neighbour.0 == b) k.circuits.links k.links))
+        found_maps (λ n. n == b) (λ (a : LinkState). a.neighbour.0) (λ (l : Link). l.ring) k.circuits.links k.links
+        ∙ ap ring_behind (sym (found_is (λ (a : LinkState). a.neighbour.0 == b) k.circuits.links k.links))
     by (k ∷ ks) (suc n) = by ks n
 
 end_planned : (s : State) (e : EndId) → ring_of (plan_of s) (this_end e) ≡ given (slice_get s.bindings e.binding) None (λ b. own_ring e.side b.back)
@@ -235,6 +235,7 @@ end_planned s e = by s.bindings e.binding
     one local = refl
     one (over_ring n) = refl
     one (over_route route) = refl
+
     by : (bs : List Binding) (n : ℕ) → given (slice_get (map binding_ring bs) n) None (end_ring e.side) ≡ given (slice_get bs n) None (λ b. own_ring e.side b.back)
     by [] n = refl
     by (b ∷ bs) zero = one b.back
@@ -298,19 +299,20 @@ to_linked s cores ends paired owned = record {
   where
     even : (n : ℕ) (o : Outline) → slice_get (map core_outline s.cores) n ≡ Some o → length o.neighbours ≡ length o.rings
     even n o q =
-      let k = given_some (slice_get s.cores n) (λ k. Some (core_outline k)) o (sym (given_map core_outline None (λ (y : Outline). Some y) s.cores n) ∙ ap (λ (p : Option Outline). given p None (λ y. Some y)) q) in
-      let same : core_outline k.0 ≡ o = cc in
-      let long : length k.0.links ≡ length k.0.circuits.links = (cores n k.0 k.1).links in
-      subst (λ (z : Outline). length z.neighbours ≡ length z.rings) same
-      (length-map k.0.circuits.links (λ (a : LinkState). a.neighbour.0) ∙ sym long ∙ sym (length-map k.0.links (λ (l : Link). l.ring)))
+        let k = given_some (slice_get s.cores n) (λ k. Some (core_outline k)) o (sym (given_map core_outline None (λ (y : Outline). Some y) s.cores n) ∙ ap (λ (p : Option Outline). given p None (λ y. Some y)) q) in
+        let same : core_outline k.0 ≡ o = cc in
+        let long : length k.0.links ≡ length k.0.circuits.links = (cores n k.0 k.1).links in
+        subst (λ (z : Outline). length z.neighbours ≡ length z.rings) same
+        (length-map k.0.circuits.links (λ (a : LinkState). a.neighbour.0) ∙ sym long ∙ sym (length-map k.0.links (λ (l : Link). l.ring)))
+
     inside : (x : Owner) (at : RingEnd) → ring_of (plan_of s) x ≡ Some at → at.ring < length s.rings
     inside (core_to a b) at q =
-      let l = planned_owner s (core_to a b) at q in
-      let p = paired a b l.0 l.1 in
-      subst (λ (r : RingEnd). r.ring < length s.rings) l.2 (within s.rings l.0.ring.ring p.ring p.ring_is)
+        let l = planned_owner s (core_to a b) at q in
+        let p = paired a b l.0 l.1 in
+        subst (λ (r : RingEnd). r.ring < length s.rings) l.2 (within s.rings l.0.ring.ring p.ring p.ring_is)
     inside (this_end e) at q =
-      let b = planned_owner s (this_end e) at q in
-      ring_there s e.binding b.0 at.ring ends b.1 (own_back e.side b.0.back at b.2)
+        let b = planned_owner s (this_end e) at q in
+        ring_there s e.binding b.0 at.ring ends b.1 (own_back e.side b.0.back at b.2)
 
 -- ---- events that make links and rings
 
@@ -370,6 +372,7 @@ no_link a b s h = link_planned s a b ∙ ap ring_behind (by (core_of s a) h)
     inner : (k : Core) (o : Option ℕ) → is_some o ≡ false → given o None (λ l. slice_get k.links l) ≡ None
     inner k None q = refl
     inner k (Some l) q = absurd (cc)
+
     by : (o : Option Core) → given o false (λ k. is_some (link_to b k)) ≡ false → given o None (λ k. given (link_to b k) None (λ l. slice_get k.links l)) ≡ None
     by None q = refl
     by (Some k) q = inner k (link_to b k) q

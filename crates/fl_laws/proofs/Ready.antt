@@ -59,7 +59,7 @@ end_done e f s P k x q =
         → (o : Option Binding) → slice_get s.bindings e.binding ≡ o → P x
     by_old e f s P k x b at is None there =
         let same : changed_at e.binding (with_end_in e.side f) s.bindings ≡ s.bindings =
-            ap (λ (o : Option Binding). given o s.bindings (λ y. slice_set s.bindings e.binding (with_end_in e.side f y))) there in
+        ap (λ (o : Option Binding). given o s.bindings (λ y. slice_set s.bindings e.binding (with_end_in e.side f y))) there in
         let gone : None ≡ Some b = sym there ∙ ap (λ (bs : List Binding). slice_get bs e.binding) (sym same) ∙ at in
         absurd (cc)
     by_old e f s P k x b at is (Some a) there =

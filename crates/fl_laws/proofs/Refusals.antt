@@ -96,7 +96,7 @@ rings_sure need n side rings =
     (λ r. slice_set rings n (makes_sure need side r)) (λ h. refl)
     (λ r q h.
     let after : room need side (makes_sure need side r) ≡ spent =
-        room_there need side (slice_set rings n (makes_sure need side r)) n (makes_sure need side r) (set_there rings n r (makes_sure need side r) q) h in
+    room_there need side (slice_set rings n (makes_sure need side r)) n (makes_sure need side r) (set_there rings n r (makes_sure need side r) q) h in
     let same : makes_sure need side r ≡ r = spent_sure need side r (room_spent need side (makes_sure need side r) after) in
     ap (slice_set rings n) same ∙ set_same rings n r q)
 

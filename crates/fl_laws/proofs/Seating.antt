@@ -36,12 +36,12 @@ set_was [] n y m z q = inl q
 set_was (x ∷ xs) zero y zero z q = inr (refl, let e : y ≡ z = cc in sym e)
 set_was (x ∷ xs) zero y (suc m) z q = inl q
 set_was (x ∷ xs) (suc n) y zero z q = inl q
-set_was (x ∷ xs) (suc n) y (suc m) z q = elim (set_was xs n y m z q) [ | inl a ↦ inl a | inr b ↦ inr (ap suc b.0, b.1) ]
+set_was (x ∷ xs) (suc n) y (suc m) z q = elim (set_was xs n y m z q) [ inl a ↦ inl a | inr b ↦ inr (ap suc b.0, b.1) ]
 
 pub changed_was : {X : Type 0} (xs : List X) (n : ℕ) (f : X → X) (m : ℕ) (z : X) → slice_get (changed_at n f xs) m ≡ Some z → Was xs n f m z
 changed_was {X} xs n f m z =
     by_given (λ (ys : List X). slice_get ys m ≡ Some z → Was xs n f m z) (slice_get xs n) xs (λ x. slice_set xs n (f x)) (λ h. inl h)
-    (λ x q h. elim (set_was xs n (f x) m z h) [ | inl a ↦ inl a | inr b ↦ inr (b.0, (x, q, b.1)) ])
+    (λ x q h. elim (set_was xs n (f x) m z h) [ inl a ↦ inl a | inr b ↦ inr (b.0, (x, q, b.1)) ])
 
 -- ---- dispatchers
 
@@ -72,11 +72,13 @@ dispatcher_was d f s e y q =
         → k ≡ record j { dispatchers = changed_at d.place f j.dispatchers } → WasAt d f s e y
     in_core d f s e y k is same j there made =
         let changed : slice_get (changed_at d.place f j.dispatchers) e.place ≡ Some y =
-            ap (λ (i : Core). slice_get i.dispatchers e.place) (sym made) ∙ is in
+        ap (λ (i : Core). slice_get i.dispatchers e.place) (sym made) ∙ is in
         elim (changed_was j.dispatchers d.place f e.place y changed) [
           | inl a ↦ inl (ap (λ (o : Option Core). given o None (λ i. slice_get i.dispatchers e.place)) (ap (slice_get s.cores) same ∙ there) ∙ a)
-          | inr b ↦ inr (ap (λ (c : ℕ). at_place c e.place) same ∙ ap (at_place d.core) b.0,
-              (b.1.0, ap (λ (o : Option Core). given o None (λ i. slice_get i.dispatchers d.place)) there ∙ b.1.1, b.1.2))
+          | inr b ↦ inr (
+            ap (λ (c : ℕ). at_place c e.place) same ∙ ap (at_place d.core) b.0,
+            (b.1.0, ap (λ (o : Option Core). given o None (λ i. slice_get i.dispatchers d.place)) there ∙ b.1.1, b.1.2),
+          )
         ]
 
 -- ---- all waitsets

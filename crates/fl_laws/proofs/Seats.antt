@@ -66,9 +66,10 @@ abbrev pub Agree : State → Type 0
 Agree s = Seated s.cores s × ListedHere s.cores s
 
 pub seats_same : (s t : State) → ((e : EndId) → seat_of t e ≡ seat_of s e) → ((d : DispatcherId) → ends_of t.cores d ≡ ends_of s.cores d) → Agree s → Agree t
-seats_same s t k l h =
-    ((λ e d c q. ap (λ es. slice_get es c) (l d) ∙ h.0 e d c (sym (k e) ∙ q)),
-    (λ e d c q. k e ∙ h.1 e d c (ap (λ es. slice_get es c) (sym (l d)) ∙ q)))
+seats_same s t k l h = (
+  (λ e d c q. ap (λ es. slice_get es c) (l d) ∙ h.0 e d c (sym (k e) ∙ q)),
+  (λ e d c q. k e ∙ h.1 e d c (ap (λ es. slice_get es c) (sym (l d)) ∙ q)),
+)
 
 side_seat : (side by : Side) (f : End → End) (b : Binding) → ((x : End) → (f x).seat ≡ x.seat) → (end_in side (with_end_in by f b)).seat ≡ (end_in side b).seat
 side_seat Client Client f b k = k b.client
@@ -152,7 +153,7 @@ set_now [] n y m z q = absurd (cc)
 set_now (x ∷ xs) zero y zero z q = inr (refl, refl)
 set_now (x ∷ xs) zero y (suc m) z q = inl q
 set_now (x ∷ xs) (suc n) y zero z q = inl q
-set_now (x ∷ xs) (suc n) y (suc m) z q = elim (set_now xs n y m z q) [ | inl a ↦ inl a | inr b ↦ inr (ap suc b.0, b.1) ]
+set_now (x ∷ xs) (suc n) y (suc m) z q = elim (set_now xs n y m z q) [ inl a ↦ inl a | inr b ↦ inr (ap suc b.0, b.1) ]
 
 changed_now : {X : Type 0} (xs : List X) (n : ℕ) (f : X → X) (m : ℕ) (z : X) → slice_get xs m ≡ Some z → Now xs n f m z
 changed_now {X} xs n f m z h =
@@ -166,7 +167,7 @@ push_was : {X : Type 0} (xs : List X) (y : X) (c : ℕ) (z : X) → slice_get (x
 push_was [] y zero z q = inr (refl, sym (some_same y z q))
 push_was [] y (suc c) z q = absurd (cc)
 push_was (x ∷ xs) y zero z q = inl q
-push_was (x ∷ xs) y (suc c) z q = elim (push_was xs y c z q) [ | inl a ↦ inl a | inr b ↦ inr (let e : c ≡ length xs = b.0 in omega arith, b.1) ]
+push_was (x ∷ xs) y (suc c) z q = elim (push_was xs y c z q) [ inl a ↦ inl a | inr b ↦ inr (let e : c ≡ length xs = b.0 in omega arith, b.1) ]
 
 -- one side, or the other
 sides : (side by : Side) (f : End → End) → (side ≡ by) ⊎ ((b : Binding) → end_in side (with_end_in by f b) ≡ end_in side b)
@@ -212,8 +213,11 @@ module _ (d : DispatcherId) (e : EndId) (s : State) (x : Dispatcher) (there : di
       elim (changed_was s.bindings e.binding (with_end_in e.side place_it) g.binding b at) [
         | inl a ↦ inl (ap (λ (o : Option Binding). given o None (λ a. (end_in g.side a).seat)) a ∙ is)
         | inr c ↦ elim (sides g.side e.side place_it) [
-          | inl r ↦ inr (same_end_id g e c.0 r, some_same w (at_channel d (length x.ends))
-              (sym (subst (λ (i : EndId). seat_of after i ≡ Some w) (same_end_id g e c.0 r) q) ∙ its_seat))
+          | inl r ↦ inr (
+            same_end_id g e c.0 r,
+            some_same w (at_channel d (length x.ends))
+                (sym (subst (λ (i : EndId). seat_of after i ≡ Some w) (same_end_id g e c.0 r) q) ∙ its_seat),
+          )
           | inr r ↦ inl (ap (λ (o : Option Binding). given o None (λ a. (end_in g.side a).seat)) (ap (slice_get s.bindings) c.0 ∙ c.1.1)
               ∙ sym (ap (λ (y : End). y.seat) (ap (end_in g.side) c.1.2 ∙ r c.1.0)) ∙ is)
         ]
@@ -276,16 +280,17 @@ module _ (d : DispatcherId) (e : EndId) (s : State) (x : Dispatcher) (there : di
           ]
 
   pub seated_agree : Agree after
-  seated_agree =
-      ((λ i g c q. elim (seat_was i (at_channel g c) q) [
-        | inl a ↦ end_now g c i (h.0 i g c a)
-        | inr b ↦ ap (λ (w : Seat). slice_get (ends_of after.cores w.dispatcher) w.channel) b.1 ∙ its_end ∙ ap (λ (j : EndId). Some j) (sym b.0)
-      ]),
-      (λ i g c q. elim (end_was g c i q) [
-        | inl a ↦ seat_now i (at_channel g c) (h.1 i g c a)
-        | inr b ↦ ap (seat_of after) b.2 ∙ its_seat ∙ ap (λ (m : DispatcherId). Some (at_channel m (length x.ends))) (sym b.0)
-            ∙ ap (λ (n : ℕ). Some (at_channel g n)) (sym b.1)
-      ]))
+  seated_agree = (
+    (λ i g c q. elim (seat_was i (at_channel g c) q) [
+      | inl a ↦ end_now g c i (h.0 i g c a)
+      | inr b ↦ ap (λ (w : Seat). slice_get (ends_of after.cores w.dispatcher) w.channel) b.1 ∙ its_end ∙ ap (λ (j : EndId). Some j) (sym b.0)
+    ]),
+    (λ i g c q. elim (end_was g c i q) [
+      | inl a ↦ seat_now i (at_channel g c) (h.1 i g c a)
+      | inr b ↦ ap (seat_of after) b.2 ∙ its_seat ∙ ap (λ (m : DispatcherId). Some (at_channel m (length x.ends))) (sym b.0)
+          ∙ ap (λ (n : ℕ). Some (at_channel g n)) (sym b.1)
+    ]),
+  )
 
 pub seating_kept : (d : DispatcherId) (e : EndId) (s : State) → Unseated e s → Agree s → Agree (seats d e s)
 seating_kept d e s u h = by_given Agree (dispatcher_of s d) _ _ h (λ x q. seated_agree d e s x q u h)
@@ -293,16 +298,17 @@ seating_kept d e s u h = by_given Agree (dispatcher_of s d) _ _ h (λ x q. seate
 -- ---- as the sound states say it
 
 pub agree_of : (s : State) → SeatsAgree s → Agree s
-agree_of s h =
-    ((λ e d c q.
-    let (b, at, is) = given_there (slice_get s.bindings e.binding) (λ b. (end_in e.side b).seat) (at_channel d c) q in
-    let (y, there, its) = h.seated e d c (end_in e.side b, ap (λ (o : Option Binding). given o None (λ a. Some (end_in e.side a))) at, is) in
-    ap (λ es. slice_get es c) (ends_at s d y there) ∙ its),
-    (λ e d c q.
-    let (y, there, its) = ends_from s d c e q in
-    let (x, at, is) = h.listed d y c e there its in
-    let (b, got, same) = end_there s e x at in
-    ap (λ (o : Option Binding). given o None (λ a. (end_in e.side a).seat)) got ∙ ap (λ (z : End). z.seat) same ∙ is))
+agree_of s h = (
+  (λ e d c q.
+      let (b, at, is) = given_there (slice_get s.bindings e.binding) (λ b. (end_in e.side b).seat) (at_channel d c) q in
+      let (y, there, its) = h.seated e d c (end_in e.side b, ap (λ (o : Option Binding). given o None (λ a. Some (end_in e.side a))) at, is) in
+      ap (λ es. slice_get es c) (ends_at s d y there) ∙ its),
+  (λ e d c q.
+      let (y, there, its) = ends_from s d c e q in
+      let (x, at, is) = h.listed d y c e there its in
+      let (b, got, same) = end_there s e x at in
+      ap (λ (o : Option Binding). given o None (λ a. (end_in e.side a).seat)) got ∙ ap (λ (z : End). z.seat) same ∙ is),
+)
 
 pub seats_of : (s : State) → Agree s → SeatsAgree s
 seats_of s h = record {

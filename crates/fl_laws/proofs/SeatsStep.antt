@@ -72,8 +72,11 @@ found_kept t at acknowledges s h = dispatcher_kept t.dispatcher _ (change_ring a
 server_free : (n : ℕ) (d : DispatcherId) (s : State) → Unseated (end_id n Server) s → Unseated (end_id n Server) (seats d (end_id n Client) s)
 server_free n d s u =
     by_given (Unseated (end_id n Server)) (dispatcher_of s d) _ _ u
-    (λ x q. (record u.0 { client = record u.0.client { seat = Some (record { dispatcher = d; channel = length x.ends }) } },
-    changed_here s.bindings n (λ (b : Binding). record b { client = record b.client { seat = Some (record { dispatcher = d; channel = length x.ends }) } }) u.0 u.1, u.2))
+    (λ x q. (
+      record u.0 { client = record u.0.client { seat = Some (record { dispatcher = d; channel = length x.ends }) } },
+      changed_here s.bindings n (λ (b : Binding). record b { client = record b.client { seat = Some (record { dispatcher = d; channel = length x.ends }) } }) u.0 u.1,
+      u.2,
+    ))
 
 both_kept : (n : ℕ) (w : Wanted) (s : State) → Unseated (end_id n Client) s → Unseated (end_id n Server) s → Agree s → Agree (binds_both n w s)
 both_kept n w s uc uv h =
@@ -144,14 +147,15 @@ may_sit_looked n f s same h = record {
 }
 
 fresh_agree : (n : ℕ) (s : State) → s.bindings ≡ [] → Agree (record s { cores = map fresh_core (range_with_len 0 n) })
-fresh_agree n s none =
-    ((λ e d c q.
-    let (b, at, is) = given_there (slice_get s.bindings e.binding) (λ (b : Binding). (end_in e.side b).seat) _ q in
-    absurd (none_of s.bindings e.binding b none at)),
-    (λ e d c q.
-    let (k, at, is) = given_elem (slice_get (map fresh_core (range_with_len 0 n)) d.core) (λ j. ends_in j.dispatchers d.place) c e q in
-    let empty : k.dispatchers ≡ [] = each_at_fresh (λ m j. j.dispatchers ≡ []) 0 n (λ m. refl) d.core k at in
-    absurd (no_end e d c (ap (λ ds. slice_get (ends_in ds d.place) c) (sym empty) ∙ is))))
+fresh_agree n s none = (
+  (λ e d c q.
+      let (b, at, is) = given_there (slice_get s.bindings e.binding) (λ (b : Binding). (end_in e.side b).seat) _ q in
+      absurd (none_of s.bindings e.binding b none at)),
+  (λ e d c q.
+      let (k, at, is) = given_elem (slice_get (map fresh_core (range_with_len 0 n)) d.core) (λ j. ends_in j.dispatchers d.place) c e q in
+      let empty : k.dispatchers ≡ [] = each_at_fresh (λ m j. j.dispatchers ≡ []) 0 n (λ m. refl) d.core k at in
+      absurd (no_end e d c (ap (λ ds. slice_get (ends_in ds d.place) c) (sym empty) ∙ is))),
+)
   where
     no_end : (e : EndId) (d : DispatcherId) (c : ℕ) → slice_get (ends_in [] d.place) c ≡ Some e → ⊥
     no_end e d c h = absurd (cc)

@@ -225,8 +225,8 @@ services_keep = record {
       let told : State = change_core here.core (λ y. x.core) s in
       let as_many : length x.core.dispatchers ≡ length k.dispatchers = ap length (hears_leaves s.services here.link m k) in
       let kept : ServicesStand told = core_kept here.core (λ y. x.core) s
-          (λ y u. let same : k ≡ y = (let e : Some k ≡ Some y = sym t ∙ u in cc) in
-          let long : length k.dispatchers ≡ length y.dispatchers = ap (λ (z : Core). length z.dispatchers) same in omega arith) h.services in
+      (λ y u. let same : k ≡ y = (let e : Some k ≡ Some y = sym t ∙ u in cc) in
+      let long : length k.dispatchers ≡ length y.dispatchers = ap (λ (z : Core). length z.dispatchers) same in omega arith) h.services in
       follows_kept x.heard (takes_said here.ring x.heard told) (said_kept here.ring x.heard told kept);
   passed = λ here p first route hop on s k q h. h.services;
   arrived = λ here p first route hop to s k q h. channel_kept to _ _ h.services;

@@ -56,7 +56,7 @@ module _ (s : State) (sound : Sound s) where
   server_unseated here o first j q l =
       let t : LinkThere s here = link_there s here j in
       let due : IsDue s (record { from = here.neighbour; to = here.core; said = open_circuit o }) =
-          sound.messages here.neighbour here.core (open_circuit o) (is_under_way s here (open_circuit o) first t q l) in
+      sound.messages here.neighbour here.core (open_circuit o) (is_under_way s here (open_circuit o) first t q l) in
       let route : Route = due.route in
       let opens : OpensFor due.binding route o = opens_for due.binding route here.neighbour here.core o route.verdict refl due.due in
       let bound : BoundWhere due.routed.binding.back due.routed.binding = sound.bound due.binding due.routed.binding due.routed.there in

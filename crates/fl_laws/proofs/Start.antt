@@ -119,7 +119,7 @@ world_is_sound n some few = record {
   entries = λ m route r. absurd (no_binding n m route r);
   only_entries = λ key hop at.
       let q : link_to key.neighbour (fresh_core key.core) ≡ Some at.link =
-          subst (λ (k : Core). link_to key.neighbour k ≡ Some at.link) (fresh_there n key.core at.core at.core_is) at.link_is in
+      subst (λ (k : Core). link_to key.neighbour k ≡ Some at.link) (fresh_there n key.core at.core at.core_is) at.link_is in
       absurd (cc);
   awaited = λ m route j r q. absurd (no_binding n m route r);
   labels = λ e b j q r. absurd (cc);

@@ -139,9 +139,9 @@ module _ {Y : Type 0} (G : Option End → Y) (R : ReadsCalls G) (I : State → T
     arrived = λ here p first route hop to s k q h. record {
       kept = J.arrived here p first route hop to s k q h.kept;
       alike =
-      K.moves here p first route hop s (change_ring here.ring.ring (takes here.ring.side) (delivers (label_of p) to s)) k h.kept
-      (delivered_passed p.end (label_of p) to s)
-      ∙ delivered_alike G R e (label_of p) to s ∙ h.alike;
+          K.moves here p first route hop s (change_ring here.ring.ring (takes here.ring.side) (delivers (label_of p) to s)) k h.kept
+          (delivered_passed p.end (label_of p) to s)
+          ∙ delivered_alike G R e (label_of p) to s ∙ h.alike;
     };
     taken = λ here first s k q r h. record { kept = J.taken here first s k q r h.kept; alike = h.alike };
   }

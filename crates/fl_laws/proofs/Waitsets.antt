@@ -30,15 +30,15 @@ in_push k c xs h =
 -- what stands in a list stood there, or is what was pushed there
 pub pushed_from : (w : ThreeLists) (c : ℕ) (to place : Place) (k : ℕ) → is_in k (list_at (pushed w c to) place) ≡ true
     → (is_in k (list_at w place) ≡ true) ⊎ ((c ≡ k) × (place ≡ to))
-pushed_from w c Idle Idle k h = elim (in_push k c w.idle h) [ | inl a ↦ inl a | inr b ↦ inr (b, refl) ]
+pushed_from w c Idle Idle k h = elim (in_push k c w.idle h) [ inl a ↦ inl a | inr b ↦ inr (b, refl) ]
 pushed_from w c Idle Polled k h = inl h
 pushed_from w c Idle Pending k h = inl h
 pushed_from w c Polled Idle k h = inl h
-pushed_from w c Polled Polled k h = elim (in_push k c w.polled h) [ | inl a ↦ inl a | inr b ↦ inr (b, refl) ]
+pushed_from w c Polled Polled k h = elim (in_push k c w.polled h) [ inl a ↦ inl a | inr b ↦ inr (b, refl) ]
 pushed_from w c Polled Pending k h = inl h
 pushed_from w c Pending Idle k h = inl h
 pushed_from w c Pending Polled k h = inl h
-pushed_from w c Pending Pending k h = elim (in_push k c w.pending h) [ | inl a ↦ inl a | inr b ↦ inr (b, refl) ]
+pushed_from w c Pending Pending k h = elim (in_push k c w.pending h) [ inl a ↦ inl a | inr b ↦ inr (b, refl) ]
 
 pushed_once : (w : ThreeLists) (c : ℕ) (to place : Place) → IsFree c w → IsApart w → NoRepeat (list_at (pushed w c to) place)
 pushed_once w c Idle Idle f h = NoRepeat-push c w.idle (h.once Idle) (f Idle)
@@ -63,8 +63,8 @@ pub push_apart : (w : ThreeLists) (c : ℕ) (to : Place) → IsFree c w → c < 
 push_apart w c to f below h = record {
   once = λ place. pushed_once w c to place f h;
   one_list = λ p q k a b. elim (pushed_from w c to p k a) [
-    | inl x ↦ elim (pushed_from w c to q k b) [ | inl y ↦ h.one_list p q k x y | inr y ↦ absurd (stood w c k p f y.0 x) ]
-    | inr x ↦ elim (pushed_from w c to q k b) [ | inl y ↦ absurd (stood w c k q f x.0 y) | inr y ↦ x.1 ∙ sym y.1 ]
+    | inl x ↦ elim (pushed_from w c to q k b) [ inl y ↦ h.one_list p q k x y | inr y ↦ absurd (stood w c k p f y.0 x) ]
+    | inr x ↦ elim (pushed_from w c to q k b) [ inl y ↦ absurd (stood w c k q f x.0 y) | inr y ↦ x.1 ∙ sym y.1 ]
   ];
   below = λ place k a. subst (λ (n : ℕ). k < n) (sym (pushed_size w c to)) (elim (pushed_from w c to place k a) [
     | inl x ↦ h.below place k x

@@ -218,9 +218,9 @@ seated_there d e t g x q =
         → (y : Dispatcher) × (dispatcher_of (change_dispatcher d f t) g ≡ Some y)
     there_after d f t g x q =
         let stays : is_some (dispatcher_of (change_dispatcher d f t) g) ≡ true =
-            changed_stays t.cores d.core (λ k. record k { dispatchers = changed_at d.place f k.dispatchers }) g.core g.place
-            (λ k r. let same : length (changed_at d.place f k.dispatchers) ≡ length k.dispatchers = length_changed k.dispatchers d.place f in omega arith)
-            (ap is_some q) in
+        changed_stays t.cores d.core (λ k. record k { dispatchers = changed_at d.place f k.dispatchers }) g.core g.place
+        (λ k r. let same : length (changed_at d.place f k.dispatchers) ≡ length k.dispatchers = length_changed k.dispatchers d.place f in omega arith)
+        (ap is_some q) in
         some_of (dispatcher_of (change_dispatcher d f t) g) stays
 
 -- the server's dispatcher has a place left after the client's end was seated
@@ -270,9 +270,9 @@ both_kept w s t p k same n h =
     let server : Ready v second = ready_seated sd v first server_there.0 server_there.1 first_all in
     let third_all : AllStand third.cores = bound_kept c 0 second client second_all in
     let server_third : Ready v third =
-        ready_registers v c (change_end c (λ x. record x { circuit = Some 0 }) second) (two_sides n)
-        (ready_end c c (λ x. record x { circuit = Some 0 }) second (λ y. refl) client)
-        (ready_end v c (λ x. record x { circuit = Some 0 }) second (λ y. refl) server) in
+    ready_registers v c (change_end c (λ x. record x { circuit = Some 0 }) second) (two_sides n)
+    (ready_end c c (λ x. record x { circuit = Some 0 }) second (λ y. refl) client)
+    (ready_end v c (λ x. record x { circuit = Some 0 }) second (λ y. refl) server) in
     bound_kept v 0 third server_third third_all
 
 -- ---- an end that isn't listed
@@ -301,8 +301,8 @@ ready_unlisted s e x a q h z seat r its y u =
     let same : x ≡ z = (let v : Some x ≡ Some z = sym q ∙ r in cc) in
     let none : has_channel_listed z s ≡ false = subst (λ (v : End). has_channel_listed v s ≡ false) same h in
     let free : is_registered y.lists seat.channel ≡ false =
-        sym (ap (λ (o : Option Dispatcher). given o false (λ d. is_registered d.lists seat.channel)) u)
-        ∙ sym (ap (λ (o : Option Seat). given o false (λ t. given (dispatcher_of s t.dispatcher) false (λ d. is_registered d.lists t.channel))) its) ∙ none in
+    sym (ap (λ (o : Option Dispatcher). given o false (λ d. is_registered d.lists seat.channel)) u)
+    ∙ sym (ap (λ (o : Option Seat). given o false (λ t. given (dispatcher_of s t.dispatcher) false (λ d. is_registered d.lists t.channel))) its) ∙ none in
     record { free = unlisted_free y.lists seat.channel free; its = seat_its s e z seat y a r its u }
 
 -- ---- what a core heard
@@ -353,7 +353,7 @@ heard_kept at (server_made n d c) s f h =
     let e : EndId = end_id n Server in
     let granted : State = change_route n grants (change_ring at.ring (takes at.side) s) in
     let all : AllStand (seats d e granted).cores = seat_kept d e granted
-        (λ x q. subst (λ (y : Dispatcher). length y.ends + 1 ≤ most_ends) (same_dispatcher_at s d f.0 x f.1 q) f.2) h in
+    (λ x q. subst (λ (y : Dispatcher). length y.ends + 1 ≤ most_ends) (same_dispatcher_at s d f.0 x f.1 q) f.2) h in
     bound_kept e c (seats d e granted) (ready_seated d e granted f.0 f.1 h) all
 heard_kept at (opening_failed n fault) s f h = h
 heard_kept at (answer_went_on n) s f h = h

@@ -12,6 +12,6 @@ pub ever_few_wait : EverFewWait
 ever_few_wait cores vs some few e b i q r =
     let s : State = reached (start_with cores) vs in
     let ok : EndOk i (end_in e.side b) =
-        end_ok EndOk s.interfaces e.side b i r
-        (run_keeps (AllOk EndOk) (all_keep EndOk replies_keep) vs (start_with cores) (none_at_end (BindingOk EndOk (start_with cores).interfaces)) e.binding b q) in
+    end_ok EndOk s.interfaces e.side b i r
+    (run_keeps (AllOk EndOk) (all_keep EndOk replies_keep) vs (start_with cores) (none_at_end (BindingOk EndOk (start_with cores).interfaces)) e.binding b q) in
     (ok.few, ok.busy)

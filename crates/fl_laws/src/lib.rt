@@ -152,10 +152,8 @@ pub fn few_replies_ever_wait()
 /// that reply rules lead from a message to one with the same argument types: where each end has its binding and its
 /// interface, and labels keep to their ways (both are parts of a sound state).
 pub fn steps_keep_fitting()
-    ensures kept {
-        (s : State) (v : Event) → EndsStand s → LabelsKeepToTheirWays s → CallsFit s → RulesSuit s
-        → CallsFit (step s v).state × RulesSuit (step s v).state
-    }
+    ensures kept { (s : State) (v : Event) → EndsStand s → LabelsKeepToTheirWays s → CallsFit s → RulesSuit s
+        → CallsFit (step s v).state × RulesSuit (step s v).state }
 {}
 
 /// Each step of a sound state keeps the waitsets: no channel is twice in a dispatcher's lists, each there is an end's, and no
