@@ -10,7 +10,7 @@ abbrev pub status_of : Fault → ℕ
 status_of (Usage e) = 1
 status_of (Words e) = 1
 status_of (Unread file e) = 4
-status_of (Show f) = shown.status_of f
+status_of (Show refused) = shown.status_of refused.fault
 status_of (Unmade file e) = 4
 status_of (Exec f) = script.status_of f
 status_of (Unwritten e) = 4

@@ -208,8 +208,25 @@ fn a_text_that_is_refused_writes_nothing(rt: HostRuntime) {
     assert_eq!(rt; go(rt.alloc(), &WORDS, &mut desk, &mut errors), 2);
     let told = b"\
 E14 at 24
-line 1, column 25: messages carry no capabilities
+in.if:1:25: messages carry no capabilities
 found there: cap c); }
+help: leave the argument out
+";
+    assert!(rt; errors.as_slice() == told.as_slice());
+    assert_eq!(rt; desk.writes, 0);
+}
+
+// An image begins like a word, and its version's byte begins no token.
+#[test]
+fn an_image_is_not_compiled(rt: HostRuntime) {
+    let mut desk = Desk::new(rt.alloc(), b"FLND\x02\x00", None, None);
+    let mut errors = Vec::new(rt.alloc());
+    assert_eq!(rt; go(rt.alloc(), &WORDS, &mut desk, &mut errors), 2);
+    let told = b"\
+E1 at 4
+in.if:1:5: no token begins with this byte
+found there: \\x02\\x00
+help: the file is an image: give the interface's text, or use show
 ";
     assert!(rt; errors.as_slice() == told.as_slice());
     assert_eq!(rt; desk.writes, 0);

@@ -3,8 +3,8 @@
 ghost use Rattle.std.specs.Prelude.{◌≡◌};
 ghost use Rattle.flounder.specs.Status.{status_of};
 
+use crate::told::RefusedFile;
 use fl_script::ExecFault;
-use fl_show::ShowFault;
 use std::io;
 use thiserror::Error;
 
@@ -22,7 +22,7 @@ pub enum Fault<'a> {
     Unread { file: &'a str, error: io::Error },
     /// The file's content is refused.
     #[error("{0}\n")]
-    Show(ShowFault<'a>),
+    Show(RefusedFile<'a>),
     /// The file can't be written.
     #[error("{file} could not be written: {error}\n")]
     Unmade { file: &'a str, error: io::Error },
@@ -47,7 +47,7 @@ impl Fault<'_> {
             Fault::Usage(_) => 1,
             Fault::Words(_) => 1,
             Fault::Unread { file: _, error: _ } => 4,
-            Fault::Show(fault) => fault.status(),
+            Fault::Show(refused) => refused.fault.status(),
             Fault::Unmade { file: _, error: _ } => 4,
             Fault::Exec(fault) => fault.number(),
             Fault::Unwritten(_) => 4,

@@ -7,6 +7,7 @@ mod fault;
 mod files;
 mod law;
 mod run;
+mod told;
 mod words;
 
 use crate::fault::Fault;

@@ -7,6 +7,7 @@ ghost use Rattle.clap.specs.Words.{kind_of};
 ghost use Rattle.clap.specs.declared.error.kind.ErrorKind.TheVariants.{DisplayHelp};
 ghost use Rattle.fl_base.specs.Prefix.{IsPrefix};
 ghost use Rattle.flounder.specs.Words.{asked_by};
+ghost use Rattle.fl_show.specs.Content.{status_of as shown_status};
 ghost use Rattle.flounder.specs.Status.{status_of};
 ghost use Rattle.flounder.specs.Deeds.{Does};
 ghost use Rattle.flounder.specs.Streams.{output_of, streams_of, PutsPrefix, Prints};
@@ -14,10 +15,11 @@ ghost use Rattle.flounder.specs.Commands.{failed_status, no_words_status, Compil
 
 use crate::fault::Fault;
 use crate::files::FileStore;
+use crate::told::RefusedFile;
 use crate::words::{Request, read_words};
 use clap::error::ErrorKind;
 use fl_script::{ExecFault, exec};
-use fl_show::{compile_text, show_content};
+use fl_show::{ShowFault, compile_text, show_content};
 use std::alloc::Global;
 use std::convert::AsStr;
 use std::io;
@@ -115,7 +117,7 @@ pub fn show_file<F: FileStore, W: Write + Drop, E: Write>(
     };
     let table = match show_content(alloc, &content) {
         Ok(table) => table,
-        Err(fault) => return finish(Err(Fault::Show(fault)), errors),
+        Err(fault) => return finish(Err(refused(file, &content, fault)), errors),
     };
     match put(&table, output) {
         Ok(()) => 0,
@@ -140,7 +142,7 @@ pub fn compile_file<F: FileStore, E: Write>(
     };
     let image = match compile_text(alloc, &content) {
         Ok(image) => image,
-        Err(fault) => return finish(Err(Fault::Show(fault)), errors),
+        Err(fault) => return finish(Err(refused(file, &content, fault)), errors),
     };
     match files.write(out, &image) {
         Ok(()) => 0,
@@ -182,6 +184,17 @@ pub fn no_words<'a>(error: io::Error) -> Fault<'a>
         io::ErrorKind::OutOfMemory => Fault::Memory,
         _ => Fault::Words(error),
     }
+}
+
+// The file whose content is refused.
+fn refused<'a>(file: &'a str, content: &'a [u8], fault: ShowFault<'a>) -> Fault<'a>
+    ensures status { status_of result ≡ shown_status fault.entry }
+{
+    Fault::Show(RefusedFile {
+        file,
+        content,
+        fault,
+    })
 }
 
 fn unread(file: &str, error: io::Error) -> Fault<'_>

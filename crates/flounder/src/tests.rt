@@ -136,8 +136,9 @@ fn a_text_that_is_refused(rt: HostRuntime) {
     );
     let told = b"\
 E14 at 24
-line 1, column 25: messages carry no capabilities
+cap.if:1:25: messages carry no capabilities
 found there: cap c); }
+help: leave the argument out
 ";
     assert_eq!(rt; status, 2);
     assert!(rt; out.is_empty());
@@ -150,19 +151,27 @@ fn a_text_of_no_language(rt: HostRuntime) {
     for (content, told) in [
         (
             b"".as_slice(),
-            b"E7 at 0\nline 1, column 1: this isn't expected here\n".as_slice(),
+            b"E7 at 0\nx:1:1: this isn't expected here\nhelp: compare with the grammar in docs/INTERFACES.md\n".as_slice(),
         ),
         (
             b"FLNE\x02\x00",
-            b"E1 at 4\nline 1, column 5: no token begins with this byte\nfound there: \\x02\\x00\n",
+            b"E1 at 4\nx:1:5: no token begins with this byte\nfound there: \\x02\\x00\n",
         ),
         (
             b"interface\ni {\n",
-            b"E7 at 14\nline 3, column 1: this isn't expected here\n",
+            b"E7 at 14\nx:3:1: this isn't expected here\nhelp: compare with the grammar in docs/INTERFACES.md\n",
+        ),
+        (
+            b"\xef\xbb\xbfinterface i { }",
+            b"E1 at 0\nx:1:1: no token begins with this byte\nfound there: \\xef\\xbb\\xbfinterface i { }\nhelp: the file begins with a byte order mark: save it without one\n",
+        ),
+        (
+            b"interface i { message m(later x); typedef uint8 later; }",
+            b"E11 at 24\nx:1:25: no type of this name is declared before\nfound there: later x); typedef uint8 later; }\nhelp: declare the type above what uses it, or mend its name\n",
         ),
         (
             b"FLND\x02\x00",
-            b"E82\nthe image ends early: it was cut, or not written whole\n",
+            b"E82\nx: the image ends early: it was cut, or not written whole\n",
         ),
     ] {
         let (mut out, mut err) = (Vec::new(rt.alloc()), Vec::new(rt.alloc()));
