@@ -49,3 +49,6 @@ pub mod Arriving
 pub mod Seats
 pub mod SeatsStep
 pub mod Sitting
+pub mod Faces
+pub mod Turned
+pub mod Routed
