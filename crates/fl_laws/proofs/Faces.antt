@@ -317,3 +317,23 @@ linked_grown ks ms a b g h =
     ap is_some (ap (λ (o : Option Core). given o None (λ j. given (link_to b j) None (λ n. slice_get j.links n))) then
     ∙ ap (λ (o : Option ℕ). given o None (λ n. slice_get m.links n)) (link_grown b k m l grows to))
     ∙ there_is m.links l (omega arith)
+
+-- a link that is there has counts
+pub counted_at : (ks : List Core) (a b : ℕ) → IsSome (linked_at ks a b) → (x : LinkState) × (counts_at ks a b ≡ Some x)
+counted_at ks a b h =
+    let (x, has) = some_there (linked_at ks a b) h in
+    let (k, at, is) = given_there (slice_get ks a) (λ k. given (link_to b k) None (λ l. slice_get k.links l)) x has in
+    let (l, to, there) = given_there (link_to b k) (λ n. slice_get k.links n) x is in
+    let (same, less) = some_place (position_or_len (λ (a : LinkState). a.neighbour.0 == b) k.circuits.links) (length k.circuits.links) l to in
+    let (y, got) = at_within k.circuits.links l (omega arith) in
+    (
+      y,
+      ap (λ (o : Option Core). given o None (λ j. given (link_to b j) None (λ n. slice_get j.circuits.links n))) at
+          ∙ ap (λ (o : Option ℕ). given o None (λ n. slice_get k.circuits.links n)) to ∙ got,
+    )
+
+pub more_cores : (ks ms : List Core) (n : ℕ) → CoresGrow ks ms → n < length ks → n < length ms
+more_cores ks ms n g h =
+    let (k, at) = at_within ks n h in
+    let (m, there, grows) = g n k at in
+    within ms n m there

@@ -52,3 +52,5 @@ pub mod Sitting
 pub mod Faces
 pub mod Turned
 pub mod Routed
+pub mod BoundEnds
+pub mod NumbersGiven
