@@ -54,3 +54,4 @@ pub mod Turned
 pub mod Routed
 pub mod BoundEnds
 pub mod NumbersGiven
+pub mod Growing
