@@ -74,7 +74,7 @@ pub last_by : (xs : List ℕ) (n : ℕ) (b : Bool) → nat_lt n (length xs) ≡ 
 last_by xs n true e h = absurd (false≢true (sym (ap is_some h) ∙ there_is xs n (less n (length xs) e)))
 last_by xs n false e h = not_less n (length xs) e
 
-is_last : (xs : List ℕ) (t x : ℕ) → t < length xs → slice_index xs t ≡ x → all_differ xs ≡ true → next_on xs x ≡ None → length xs ≤ t + 1
+pub is_last : (xs : List ℕ) (t x : ℕ) → t < length xs → slice_index xs t ≡ x → all_differ xs ≡ true → next_on xs x ≡ None → length xs ≤ t + 1
 is_last xs t x a e d h =
     let here : position (λ c. c == x) xs ≡ Some t =
     ap (λ (n : ℕ). cond (nat_lt n (length xs)) (Some n) None) (place_is xs t x a e d) ∙ cond-true _ _ _ (less_true t (length xs) a) in

@@ -12,7 +12,8 @@ use Rattle.fl_hop.proofs.Counting.{Grown, grown_on, grown_set, grown_push, next_
 use Rattle.fl_hop.proofs.Lists.{set_here, within}
 use Rattle.fl_queues.specs.Given.{given, changed_at}
 use Rattle.fl_queues.specs.Rings.{Opening, Said, open_circuit, circuit_opened, circuit_refused, RingSide}
-use Rattle.fl_queues.specs.Monitors.{Core, Link, Service, link_to, opens, says_more, can_say, saying, Fate, goes_on, ends_at, fails, fate, Heard, Hearing}
+use Rattle.fl_hop.specs.Openings.{passed_on}
+use Rattle.fl_queues.specs.Monitors.{link_id, circuit_id, with_said, with_circuits, Core, Link, Service, link_to, opens, says_more, can_say, saying, Fate, goes_on, ends_at, fails, fate, Heard, Hearing}
 use Rattle.fl_queues.specs.Monitors.{hears_opening, hears_opened, hears_refused, hears}
 use Rattle.fl_queues.specs.Making.{linked}
 use Rattle.fl_queues.specs.SoundPlaces.{CoreStands}
@@ -59,6 +60,20 @@ opening_grows l o (goes_on m n) k =
     saying_grows m _ _ _ k (grown_on us (count_taking us l) (count_opening (count_taking us l) m) (taking_grown us l) (opening_grown (count_taking us l) m))
 opening_grows l o (ends_at d) k = saying_grows l _ _ _ k (taking_grown k.circuits.links l)
 opening_grows l o (fails fault) k = saying_grows l _ _ _ k (taking_grown k.circuits.links l)
+
+-- a core that passed an opening on
+abbrev pub went_core : ℕ → Opening → ℕ → ℕ → Core → Core
+went_core l o m d k =
+    let t = passed_on k.circuits (link_id l) (circuit_id o.circuit) (link_id m) (circuit_id d) o.binding in
+    with_said m (open_circuit (record o { circuit = d })) (with_circuits t k)
+
+pub went_grows : (l : ℕ) (o : Opening) (m d : ℕ) (k : Core) → CoreGrows k (went_core l o m d k)
+went_grows l o m d k =
+    let us : List LinkState = k.circuits.links in
+    record {
+      links = grown_on us (count_taking us l) (count_opening (count_taking us l) m) (taking_grown us l) (opening_grown (count_taking us l) m);
+      places = said_places m (open_circuit (record o { circuit = d })) k.links;
+    }
 
 opened_grows : (l c : ℕ) (hop : Hop) (way : Way) (k : Core) → CoreGrows k (hears_opened l c hop way k).core
 opened_grows l c hop (to_link m d) k = saying_grows m.0 _ _ _ k (grown_same k.circuits.links)

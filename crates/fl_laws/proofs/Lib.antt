@@ -55,3 +55,4 @@ pub mod Routed
 pub mod BoundEnds
 pub mod NumbersGiven
 pub mod Growing
+pub mod HeardTurns
