@@ -56,3 +56,6 @@ pub mod BoundEnds
 pub mod NumbersGiven
 pub mod Growing
 pub mod HeardTurns
+pub mod TurnsStep
+pub mod Turning
+pub mod RoutesSound

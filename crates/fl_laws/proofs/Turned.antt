@@ -125,7 +125,7 @@ comes_stays x y h = inr (record {
 
 -- ---- a binding of which nothing else has changed since
 
-new_on : (x y z : Look) (a b d : ℕ) → CoresGrow y.cores z.cores → IsNew x y a b d → IsNew x z a b d
+pub new_on : (x y z : Look) (a b d : ℕ) → CoresGrow y.cores z.cores → IsNew x y a b d → IsNew x z a b d
 new_on x y z a b d g h =
     let (now, is, more) = counts_grown y.cores z.cores a b h.now g h.now_is in
     let before : h.was.opened < h.now.opened = h.more in
