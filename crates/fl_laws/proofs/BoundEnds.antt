@@ -1,15 +1,13 @@
 -- Which ends are bound after a step: by what the step makes of each binding.
-use Rattle.std.proofs.Common.{◌≡◌, refl, sym, ◌∙◌, ap, subst, ℕ, zero, suc, ◌+◌, ◌-◌, ◌≤◌, inl, inr}
-use Rattle.std.proofs.Common.{List, [], ◌∷◌, length, slice_get, Option, Some, None, arith}
+use Rattle.std.proofs.Common.{◌≡◌, sym, ◌∙◌, ap, subst, ℕ, zero, suc, ◌+◌, ◌-◌, ◌≤◌, inl, inr}
+use Rattle.std.proofs.Common.{List, length, slice_get, Option, Some, None, arith}
 use Rattle.std.specs.Prelude.{IsSome, is_some}
-use Rattle.fl_queues.specs.Ends.{Seat}
 use Rattle.fl_queues.specs.State.{Verdict, undecided, granted, denied, Route, Back, local, over_ring, over_route, Binding, State}
 use Rattle.fl_queues.specs.Forwarding.{with_number, grants, denies, passes_word, word_passes}
-use Rattle.fl_queues.specs.Standing.{Routed, number_at}
 use Rattle.fl_queues.specs.SoundRoutes.{NumbersGo, NumbersGoAlongRoutes, ClientBoundAfter, NoneBound, BothBound, BoundBy, BoundWhere, EndsAreBound}
-use Rattle.fl_laws.proofs.Faces.{Look, look, SameEnds, SameFace}
-use Rattle.fl_laws.proofs.Turned.{Turns, Arrives, Goes, HasFurther, Opens, Begins, Turned, stays, joins, begins, goes, arrives, fails, passes, opens, Comes}
-use Rattle.fl_laws.proofs.Routed.{no_binding, turned_at}
+use Rattle.fl_laws.proofs.Faces.{Look, look, SameEnds}
+use Rattle.fl_laws.proofs.Turned.{Turns, Arrives, HasFurther, Opens, Turned, stays, joins, begins, goes, arrives, fails, passes, opens, Comes}
+use Rattle.fl_laws.proofs.Routed.{turned_at}
 
 -- ---- ends that stay
 

@@ -1,7 +1,7 @@
 -- What routes and numbers stand on: each core's links and counts, how each binding is joined, where its ends are and on which
 -- circuits, and the services. What most events do leaves bindings so, and takes nothing from cores and services.
-use Rattle.std.proofs.Common.{◌≡◌, ◌≢◌, refl, sym, ◌∙◌, ap, subst, ℕ, zero, suc, ◌+◌, ◌<◌, ◌≤◌, ◌==◌, not, Bool, true, false, inl, inr}
-use Rattle.std.proofs.Common.{List, [], ◌∷◌, ◌++◌, length, slice_get, slice_set, Option, Some, None, option_map, position, nat_lt, arith}
+use Rattle.std.proofs.Common.{◌≡◌, refl, sym, ◌∙◌, ap, subst, ℕ, suc, ◌+◌, ◌<◌, ◌≤◌, ◌==◌, not, Bool, true, false, inl, inr}
+use Rattle.std.proofs.Common.{List, [], ◌∷◌, length, slice_get, Option, Some, None, option_map, nat_lt, arith}
 use Rattle.std.specs.Prelude.{IsSome, is_some, cond}
 use Rattle.std.specs.List.{position_or_len}
 use Rattle.std.proofs.lemmas.Bool.{cond-true}
@@ -17,12 +17,12 @@ use Rattle.fl_hop.proofs.Entering.{same_or}
 use Rattle.fl_hop.proofs.Lists.{within, at_within}
 use Rattle.fl_queues.specs.Given.{given, changed_at}
 use Rattle.fl_queues.specs.Events.{DispatcherId}
-use Rattle.fl_queues.specs.Rings.{Label, next_of, says, acknowledges, RingEnd, Ring, there_is_room, takes}
+use Rattle.fl_queues.specs.Rings.{Label, next_of, says, acknowledges, RingEnd, there_is_room, takes}
 use Rattle.fl_queues.specs.Calls.{Planned}
-use Rattle.fl_queues.specs.Ends.{Queue, joined_by, Direction, End, Taken, whole, a_part, replies, rule_at, comes_to, takes_one, writes, written_of, Seat}
+use Rattle.fl_queues.specs.Ends.{Queue, joined_by, Direction, End, Taken, whole, a_part, replies, rule_at, comes_to, takes_one, writes, written_of}
 use Rattle.fl_queues.specs.Waits.{Dispatcher}
 use Rattle.fl_queues.specs.Monitors.{Core, Link, Service, link_to}
-use Rattle.fl_queues.specs.State.{Back, Binding, State, Outcome, Outlet, peer_queue, ring_side, core_of, end_of, dispatcher_of, end_in, with_end_in}
+use Rattle.fl_queues.specs.State.{Binding, State, Outcome, Outlet, peer_queue, ring_side, end_of, with_end_in}
 use Rattle.fl_queues.specs.State.{change_core, change_dispatcher, change_ring, change_end, change_out, change_channel, in_queue, delivers}
 use Rattle.fl_queues.specs.Sending.{writes_to}
 use Rattle.fl_queues.specs.Taking.{Chosen, takes_label, finds}
@@ -294,8 +294,7 @@ counts_grown ks ms a b was g h =
     let (k, at, is) = given_there (slice_get ks a) (λ k. given (link_to b k) None (λ l. slice_get k.circuits.links l)) was h in
     let (l, to, there) = given_there (link_to b k) (λ n. slice_get k.circuits.links n) was is in
     let (m, then, grows) = g a k at in
-    let now = grows.links.link l was there in
-    (
+    let now = grows.links.link l was there in (
       now.0,
       ap (λ (o : Option Core). given o None (λ j. given (link_to b j) None (λ n. slice_get j.circuits.links n))) then
           ∙ ap (λ (o : Option ℕ). given o None (λ n. slice_get m.circuits.links n)) (link_grown b k m l grows to) ∙ now.1,
@@ -325,8 +324,7 @@ counted_at ks a b h =
     let (k, at, is) = given_there (slice_get ks a) (λ k. given (link_to b k) None (λ l. slice_get k.links l)) x has in
     let (l, to, there) = given_there (link_to b k) (λ n. slice_get k.links n) x is in
     let (same, less) = some_place (position_or_len (λ (a : LinkState). a.neighbour.0 == b) k.circuits.links) (length k.circuits.links) l to in
-    let (y, got) = at_within k.circuits.links l (omega arith) in
-    (
+    let (y, got) = at_within k.circuits.links l (omega arith) in (
       y,
       ap (λ (o : Option Core). given o None (λ j. given (link_to b j) None (λ n. slice_get j.circuits.links n))) at
           ∙ ap (λ (o : Option ℕ). given o None (λ n. slice_get k.circuits.links n)) to ∙ got,

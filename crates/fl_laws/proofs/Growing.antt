@@ -1,7 +1,7 @@
 -- A core that opens a circuit or hears a message keeps its links, and counts no less; what it gives as its next number is counted.
-use Rattle.std.proofs.Common.{◌≡◌, refl, sym, ◌∙◌, ap, subst, ℕ, zero, suc, ◌+◌, ◌<◌, ◌≤◌}
-use Rattle.std.proofs.Common.{List, [], ◌∷◌, ◌++◌, length, slice_get, slice_set, Option, Some, None, arith}
-use Rattle.std.specs.Prelude.{IsSome, is_some}
+use Rattle.std.proofs.Common.{◌≡◌, refl, sym, ◌∙◌, ap, ℕ, ◌+◌, ◌<◌, ◌≤◌}
+use Rattle.std.proofs.Common.{List, [], ◌∷◌, ◌++◌, length, slice_get, Option, Some, None, arith}
+use Rattle.std.specs.Prelude.{is_some}
 use Rattle.fl_hop.specs.declared.links.LinkState.{LinkState}
 use Rattle.fl_hop.specs.declared.entry.Way.{Way}
 use Rattle.fl_hop.specs.declared.entry.Way.TheVariants.{Link as to_link, End as to_end}
@@ -22,7 +22,7 @@ use Rattle.fl_laws.proofs.EndsStanding.{there_is}
 use Rattle.fl_laws.proofs.OpeningsMoves.{names_to}
 use Rattle.fl_laws.proofs.PlacesStep.{length_push}
 use Rattle.fl_laws.proofs.Replies.{length_changed}
-use Rattle.fl_laws.proofs.Faces.{Look, counts_at, linked_at, CoreGrows, core_same, grown_same, CoresGrow, link_grown, linked_grown}
+use Rattle.fl_laws.proofs.Faces.{Look, counts_at, CoreGrows, core_same, grown_same, CoresGrow, link_grown, linked_grown}
 use Rattle.fl_laws.proofs.Turned.{IsNew}
 
 -- ---- counts

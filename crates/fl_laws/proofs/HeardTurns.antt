@@ -1,17 +1,17 @@
 -- What a core hears in a sound state turns the route of one binding: the one whose opening, or whose answer, it is.
-use Rattle.std.proofs.Common.{◌≡◌, ◌≢◌, refl, sym, ◌∙◌, ap, subst, ℕ, zero, suc, ◌+◌, ◌-◌, ◌<◌, ◌≤◌, ◌==◌, nat_lt, Bool, true, false}
-use Rattle.std.proofs.Common.{List, [], ◌∷◌, ◌++◌, length, slice_get, slice_index, Option, Some, None, arith}
-use Rattle.std.specs.Prelude.{IsSome, is_some, position, cond}
+use Rattle.std.proofs.Common.{◌≡◌, refl, sym, ◌∙◌, ap, subst, ℕ, zero, suc, ◌+◌, ◌-◌, ◌<◌, ◌≤◌, ◌==◌, nat_lt, true}
+use Rattle.std.proofs.Common.{List, [], ◌∷◌, length, slice_get, slice_index, Option, Some, None, arith}
+use Rattle.std.specs.Prelude.{position, cond}
 use Rattle.std.proofs.lemmas.Bool.{cond-true}
 use Rattle.fl_base.specs.declared.identity.EndId.{EndId}
-use Rattle.fl_base.specs.declared.identity.Side.TheVariants.{Client, Server}
+use Rattle.fl_base.specs.declared.identity.Side.TheVariants.{Client}
 use Rattle.fl_hop.specs.declared.entry.Way.{Way}
 use Rattle.fl_hop.specs.declared.entry.Way.TheVariants.{Link as to_link, End as to_end}
 use Rattle.fl_hop.specs.declared.entry.Hop.{Hop}
 use Rattle.fl_hop.specs.Table.{TheCircuits, hop_at}
 use Rattle.fl_hop.specs.Numbers.{next_own, count_taking}
 use Rattle.fl_hop.proofs.Lists.{within}
-use Rattle.fl_queues.specs.Given.{given, changed_at}
+use Rattle.fl_queues.specs.Given.{given}
 use Rattle.fl_queues.specs.Events.{DispatcherId}
 use Rattle.fl_queues.specs.Rings.{Opening, Said, open_circuit, circuit_opened, circuit_refused, says, RingLabel}
 use Rattle.fl_queues.specs.Waits.{Dispatcher, has_places}
@@ -19,7 +19,7 @@ use Rattle.fl_hop.specs.Openings.{arrived}
 use Rattle.fl_queues.specs.Monitors.{with_said, with_circuits, link_id, circuit_id, Core, Service, service_of, link_to, can_say, next_on, Fate, goes_on, ends_at, fails, arrival, passage, fate}
 use Rattle.fl_queues.specs.Monitors.{Heard, no_outbox, astray, opening_went_on, server_made, opening_failed, answer_went_on, end_opened, end_refused}
 use Rattle.fl_queues.specs.Monitors.{hears_opening, hears_opened, hears_refused, Hearing, hears}
-use Rattle.fl_queues.specs.State.{Verdict, undecided, granted, denied, Route, Back, State, core_of, dispatcher_of, first_on, change_core}
+use Rattle.fl_queues.specs.State.{Verdict, undecided, granted, denied, Route, State, core_of, dispatcher_of, first_on, change_core}
 use Rattle.fl_queues.specs.Binding.{end_id, all_differ}
 use Rattle.fl_queues.specs.Forwarding.{LinkEnd}
 use Rattle.fl_queues.specs.Standing.{Routed, core_at, number_at, standing, standing_by, Message, back_to, due_by}
@@ -30,11 +30,10 @@ use Rattle.fl_queues.specs.Sound.{Sound}
 use Rattle.fl_laws.proofs.Cases.{either, by_given}
 use Rattle.fl_laws.proofs.Arriving.{place_is, less_true, is_last, same_opening, not_opened, not_refused, said_same}
 use Rattle.fl_laws.proofs.Hearing.{some_same, LinkThere, link_there, is_under_way}
-use Rattle.fl_laws.proofs.Services.{hears_leaves}
 use Rattle.fl_laws.proofs.WaitsetsStep.{told_same}
 use Rattle.fl_laws.proofs.Walk.{IsHere}
-use Rattle.fl_laws.proofs.Faces.{look, core_same, cores_changed, CoreGrows}
-use Rattle.fl_laws.proofs.Growing.{taking_grown, went_core, went_grows, Gives, new_number}
+use Rattle.fl_laws.proofs.Faces.{look, cores_changed, CoreGrows}
+use Rattle.fl_laws.proofs.Growing.{taking_grown, went_core, went_grows, new_number}
 use Rattle.fl_laws.proofs.Seating.{changed_here}
 use Rattle.fl_laws.proofs.Turned.{IsNew, HasFurther}
 
@@ -214,8 +213,7 @@ module _ (s : State) (sound : Sound s) where
       subst (λ (j : Core). hop_at j.circuits there.link (number_at route i) ≡ Some entry.hop) one there.there in
       let was : hop_at k.circuits there.link (number_at route i) ≡ Some hop =
       ap (λ (m : ℕ). hop_at k.circuits m (number_at route i)) (sym link) ∙ ap (hop_at k.circuits here.link) (sym answer.number) ∙ is in
-      let hops : entry.hop ≡ hop = some_same entry.hop hop (sym got ∙ was) in
-      (
+      let hops : entry.hop ≡ hop = some_same entry.hop hop (sym got ∙ was) in (
         subst (λ (h : Hop). h.binding ≡ n) hops entry.binding_is,
         subst (λ (h : Hop). SaysWay k h.way (behind n route i)) hops (subst (λ (j : Core). SaysWay j entry.hop.way (behind n route i)) one entry.way),
       )

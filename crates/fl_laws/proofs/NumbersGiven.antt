@@ -1,7 +1,7 @@
 -- The circuits' numbers after a step: each was given by the core whose it is, and once.
-use Rattle.std.proofs.Common.{◌≡◌, ◌≢◌, refl, sym, ◌∙◌, ap, subst, ℕ, zero, suc, ◌+◌, ◌-◌, ◌<◌, ◌≤◌, ◌==◌, true, false, not, inl, inr, ◌⊎◌}
-use Rattle.std.proofs.Common.{List, [], ◌∷◌, ◌++◌, length, slice_get, slice_index, Option, Some, None, arith}
-use Rattle.std.specs.Prelude.{IsSome, is_some, Contains}
+use Rattle.std.proofs.Common.{◌≡◌, ◌≢◌, refl, sym, ◌∙◌, ap, subst, ℕ, zero, suc, ◌+◌, ◌<◌, ◌≤◌, true, not, inl, inr, ◌⊎◌}
+use Rattle.std.proofs.Common.{List, [], ◌∷◌, length, slice_index, Some, None, arith}
+use Rattle.std.specs.Prelude.{Contains}
 use Rattle.std.specs.List.{push}
 use Rattle.std.proofs.lemmas.Bool.{false≢true, and_parts}
 use Rattle.fl_lists.specs.ThreeLists.{is_in}
@@ -12,12 +12,12 @@ use Rattle.fl_hop.proofs.Entering.{same_or}
 use Rattle.fl_hop.proofs.Numbering.{number_once, number_apart}
 use Rattle.fl_queues.specs.State.{Route, over_route, Binding, State}
 use Rattle.fl_queues.specs.Forwarding.{with_number, grants, denies, passes_word, route_of}
-use Rattle.fl_queues.specs.Standing.{Routed, core_at, number_at, link_state}
+use Rattle.fl_queues.specs.Standing.{Routed, core_at, number_at}
 use Rattle.fl_queues.specs.SoundRoutes.{RoutesLead, NumbersGo, NumbersGoAlongRoutes, NumbersWereOpened, OneNumber, NumbersAreOnce}
-use Rattle.fl_queues.specs.SoundLimits.{RoutesKeepToCores, OneNumberBack, NumbersAreOnceBothWays}
+use Rattle.fl_queues.specs.SoundLimits.{RoutesKeepToCores, NumbersAreOnceBothWays}
 use Rattle.fl_laws.proofs.PlacesStep.{length_push}
 use Rattle.fl_laws.proofs.Arriving.{in_at, not_true}
-use Rattle.fl_laws.proofs.Faces.{Look, look, counts_at, linked_at, SameFace, CoresGrow, counts_grown, counted_at, more_cores}
+use Rattle.fl_laws.proofs.Faces.{look, counts_at, counts_grown, counted_at, more_cores}
 use Rattle.fl_laws.proofs.Turned.{IsNew, Turns, Goes, Begins, Turned, stays, joins, begins, goes, arrives, fails, passes, opens, OneTurns, Comes}
 use Rattle.fl_laws.proofs.Routed.{same_route, no_binding, turned_at}
 
@@ -138,8 +138,7 @@ was_among s n route j go h w =
     let before : Route = w.before in
     let goes : NumbersGo s before = go n before w.routed in
     let (x, there) = counted_at s.cores (core_at before j) (core_at before (j + 1)) (goes.linked j w.within) in
-    let (i, less, is) = h n before j x w.routed w.within there in
-    (
+    let (i, less, is) = h n before j x w.routed w.within there in (
       x,
       ap (λ (a : ℕ). counts_at s.cores a (core_at route (j + 1))) w.from ∙ ap (counts_at s.cores (core_at before j)) w.to ∙ there,
       (i, less, w.number ∙ is ∙ ap (λ (a : ℕ). number a (core_at before (j + 1)) i) (sym w.from) ∙ ap (λ (b : ℕ). number (core_at route j) b i) (sym w.to)),

@@ -1,21 +1,19 @@
 -- Routes and numbers after a step: by what the step makes of each binding.
-use Rattle.std.proofs.Common.{◌≡◌, ◌≢◌, refl, sym, ◌∙◌, ap, subst, ℕ, zero, suc, ◌+◌, ◌-◌, ◌<◌, ◌≤◌, nat_lt, Bool, true, false, if◌then◌else◌, inl, inr, ◌⊎◌}
-use Rattle.std.proofs.Common.{List, [], ◌∷◌, ◌++◌, length, slice_get, slice_index, Option, Some, None, arith}
-use Rattle.std.specs.Prelude.{IsSome, is_some, Contains}
+use Rattle.std.proofs.Common.{◌≡◌, refl, sym, ◌∙◌, ap, subst, ℕ, zero, suc, ◌+◌, ◌-◌, ◌<◌, ◌≤◌, nat_lt, Bool, true, false, if◌then◌else◌, inl, inr}
+use Rattle.std.proofs.Common.{List, [], length, slice_get, slice_index, Some, None, arith}
+use Rattle.std.specs.Prelude.{IsSome}
 use Rattle.std.specs.List.{push}
-use Rattle.fl_hop.specs.declared.links.LinkState.{LinkState}
-use Rattle.fl_hop.specs.Numbers.{number, IsAmong}
 use Rattle.fl_hop.proofs.Entering.{same_or}
 use Rattle.fl_queues.specs.Ends.{Seat}
-use Rattle.fl_queues.specs.Monitors.{Core, Service, service_of}
-use Rattle.fl_queues.specs.State.{Verdict, undecided, granted, denied, Route, Back, local, over_ring, over_route, Binding, State, link_between}
+use Rattle.fl_queues.specs.Monitors.{Service, service_of}
+use Rattle.fl_queues.specs.State.{Verdict, undecided, granted, denied, Route, over_route, Binding, State}
 use Rattle.fl_queues.specs.Binding.{all_differ}
 use Rattle.fl_queues.specs.Forwarding.{with_number, grants, denies, passes_word, route_of, word_passes}
-use Rattle.fl_queues.specs.Standing.{Routed, core_at, number_at, link_state}
-use Rattle.fl_queues.specs.SoundRoutes.{RouteLeads, RoutesLead, NumbersGo, NumbersGoAlongRoutes, VerdictFits, VerdictsFit, NoneBound, BothBound, BoundBy, BoundWhere, EndsAreBound}
+use Rattle.fl_queues.specs.Standing.{Routed, core_at}
+use Rattle.fl_queues.specs.SoundRoutes.{RouteLeads, RoutesLead, NumbersGo, NumbersGoAlongRoutes, VerdictFits, VerdictsFit}
 use Rattle.fl_laws.proofs.PlacesStep.{length_push}
-use Rattle.fl_laws.proofs.Faces.{Look, look, counts_at, linked_at, SameEnds, SameFace, CoresGrow, ServicesStay, counts_grown, linked_grown}
-use Rattle.fl_laws.proofs.Turned.{IsNew, Turns, Arrives, Goes, HasFurther, Opens, Begins, Turned, stays, joins, begins, goes, arrives, fails, passes, opens, OneTurns, Comes}
+use Rattle.fl_laws.proofs.Faces.{look, linked_at, CoresGrow, ServicesStay, linked_grown}
+use Rattle.fl_laws.proofs.Turned.{Turns, Arrives, Goes, Begins, Turned, stays, joins, begins, goes, arrives, fails, passes, opens, OneTurns, Comes}
 
 -- ---- a binding after a step
 

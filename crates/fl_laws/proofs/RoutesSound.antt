@@ -1,5 +1,4 @@
 -- Each step of a sound state keeps what holds of routes, of the ends' circuits and of numbers.
-use Rattle.std.proofs.Common.{◌≡◌}
 use Rattle.fl_queues.specs.Events.{Event}
 use Rattle.fl_queues.specs.State.{State}
 use Rattle.fl_queues.specs.SoundRoutes.{RoutesLead, NumbersGoAlongRoutes, VerdictsFit, EndsAreBound, NumbersWereOpened, NumbersAreOnce}

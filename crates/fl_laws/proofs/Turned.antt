@@ -1,20 +1,20 @@
 -- What a step makes of a binding's route and of its ends: it leaves them, or turns one binding's, in few ways.
-use Rattle.std.proofs.Common.{◌≡◌, ◌≢◌, refl, sym, ◌∙◌, ap, subst, ℕ, zero, suc, ◌+◌, ◌-◌, ◌<◌, ◌≤◌, true, inl, inr, ◌⊎◌}
-use Rattle.std.proofs.Common.{List, [], ◌∷◌, ◌++◌, length, slice_get, slice_index, Option, Some, None, option_map, arith}
+use Rattle.std.proofs.Common.{◌≡◌, ◌≢◌, refl, sym, ◌∙◌, ap, subst, ℕ, zero, suc, ◌+◌, ◌-◌, ◌<◌, ◌≤◌, true, inr, ◌⊎◌}
+use Rattle.std.proofs.Common.{List, [], ◌∷◌, ◌++◌, length, slice_get, Some, None, option_map, arith}
 use Rattle.std.specs.Prelude.{IsSome, Contains}
 use Rattle.fl_hop.specs.declared.links.LinkState.{LinkState}
 use Rattle.fl_hop.specs.Numbers.{number}
 use Rattle.fl_queues.specs.Ends.{Seat}
-use Rattle.fl_queues.specs.Monitors.{Core, Service, service_of}
-use Rattle.fl_queues.specs.State.{Verdict, undecided, granted, denied, Route, Back, over_route, Binding, State}
+use Rattle.fl_queues.specs.Monitors.{Service, service_of}
+use Rattle.fl_queues.specs.State.{Verdict, undecided, granted, denied, Route, over_route, Binding}
 use Rattle.fl_queues.specs.Binding.{all_differ}
 use Rattle.fl_queues.specs.Forwarding.{with_number, grants, denies, passes_word, route_of}
-use Rattle.fl_queues.specs.Standing.{Routed, core_at, number_at}
-use Rattle.fl_queues.specs.SoundRoutes.{NoneBound, BothBound, BoundWhere}
+use Rattle.fl_queues.specs.Standing.{core_at, number_at}
+use Rattle.fl_queues.specs.SoundRoutes.{NoneBound, BoundWhere}
 use Rattle.fl_queues.specs.Given.{changed_at}
 use Rattle.fl_laws.proofs.Places.{changed_other, changed_same}
 use Rattle.fl_laws.proofs.Ready.{get_last}
-use Rattle.fl_laws.proofs.Faces.{same_face, Look, look, counts_at, linked_at, SameEnds, SameFace, ends_on, CoresGrow, ServicesStay, FacesStay, Stays, stays_same, stays_on, cores_on, counts_grown, linked_grown}
+use Rattle.fl_laws.proofs.Faces.{same_face, Look, counts_at, linked_at, SameEnds, SameFace, CoresGrow, ServicesStay, Stays, counts_grown, linked_grown}
 
 -- ---- what is known of a new number
 

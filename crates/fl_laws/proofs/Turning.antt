@@ -1,16 +1,15 @@
 -- Each step of a sound state turns at most one binding. So it keeps what holds of routes, of the ends' circuits and of numbers.
-use Rattle.std.proofs.Common.{◌≡◌, refl, sym, ◌∙◌, ap, subst, ℕ, ◌+◌, ◌≤◌, not, true, false, inl, inr}
-use Rattle.std.proofs.Common.{List, [], ◌∷◌, ◌++◌, length, drop, slice_get, Option, Some, None, arith}
-use Rattle.fl_base.specs.declared.identity.Side.TheVariants.{Client}
-use Rattle.fl_lists.specs.declared.place.Place.TheVariants.{Polled, Pending}
-use Rattle.fl_queues.specs.Given.{given, changed_at}
+use Rattle.std.proofs.Common.{◌≡◌, refl, sym, ◌∙◌, ap, subst, ℕ, ◌+◌, false, inl}
+use Rattle.std.proofs.Common.{List, [], length, drop, slice_get, Some, None, arith}
+use Rattle.fl_lists.specs.declared.place.Place.TheVariants.{Polled}
+use Rattle.fl_queues.specs.Given.{changed_at}
 use Rattle.fl_queues.specs.Events.{Event}
 use Rattle.fl_queues.specs.Standing.{core_at}
 use Rattle.fl_queues.specs.Rings.{Said, says, RingLabel, Ring, RingEnd, RingSide, first_for, looks, makes_sure, takes, puts, first_side, second_side}
 use Rattle.fl_queues.specs.Ends.{fresh_queue, without_first, with_rule, passes}
 use Rattle.fl_queues.specs.Waits.{waits_in}
 use Rattle.fl_queues.specs.Monitors.{Core, Link, Service, Hearing, hears, Heard, no_outbox, astray, opening_went_on, server_made, opening_failed, answer_went_on, end_opened, end_refused}
-use Rattle.fl_queues.specs.State.{local, over_ring, Binding, State, dispatcher_of, end_in, first_on, change_core, change_ring, change_end, in_queue, delivers}
+use Rattle.fl_queues.specs.State.{local, over_ring, State, dispatcher_of, end_in, first_on, change_core, change_ring, change_end, in_queue, delivers}
 use Rattle.fl_queues.specs.Making.{linked, with_dispatcher}
 use Rattle.fl_queues.specs.Binding.{with_new_binding}
 use Rattle.fl_queues.specs.Taking.{goes_back}
@@ -21,12 +20,11 @@ use Rattle.fl_queues.specs.Step.{step}
 use Rattle.fl_laws.proofs.EndsStanding.{get_push}
 use Rattle.fl_laws.proofs.Replies.{length_changed}
 use Rattle.fl_laws.proofs.Services.{is_not}
-use Rattle.fl_laws.proofs.PlacesStep.{length_push}
 use Rattle.fl_laws.proofs.WaitsetsStep.{places}
 use Rattle.fl_laws.proofs.WaitsetsKept.{looks_same, sure_same, first_same}
 use Rattle.fl_laws.proofs.Walk.{KeepsFrom, IsHere, step_leads, with_ring}
 use Rattle.fl_laws.proofs.Hearing.{some_same}
-use Rattle.fl_laws.proofs.Faces.{Look, look, CoreGrows, CoresGrow, ServicesStay, Stays, core_same, same_face, grown_same, stays_same, stays_on, cores_on, cores_changed, stays_core, stays_end, stays_dispatcher, stays_channel, queue_calm, stays_delivered, stays_out, stays_written, stays_taken, stays_found}
+use Rattle.fl_laws.proofs.Faces.{Look, look, CoreGrows, CoresGrow, ServicesStay, Stays, core_same, same_face, grown_same, stays_same, stays_on, cores_changed, stays_core, stays_end, stays_dispatcher, stays_channel, queue_calm, stays_delivered, stays_out, stays_written, stays_taken, stays_found}
 use Rattle.fl_laws.proofs.Growing.{hears_grows, linked_grows}
 use Rattle.fl_laws.proofs.HeardTurns.{HeardTurns, HearingTurns, heard_turns}
 use Rattle.fl_laws.proofs.Turned.{Comes, IsNew, comes_stays}

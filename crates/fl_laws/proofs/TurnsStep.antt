@@ -1,44 +1,38 @@
 -- Each step of a sound state takes nothing from cores and services, and turns at most one binding.
-use Rattle.std.proofs.Common.{◌≡◌, ◌≢◌, refl, sym, ◌∙◌, ap, subst, ℕ, zero, suc, ◌+◌, ◌-◌, ◌<◌, ◌≤◌, ◌==◌, ◌&&◌, nat_le, nat_lt, not, Bool, true, false, if◌then◌else◌, inl, inr}
-use Rattle.std.proofs.Common.{List, [], ◌∷◌, ◌++◌, length, map, slice_get, slice_index, Option, Some, None, option_map, arith}
-use Rattle.std.specs.Prelude.{IsSome, is_some, Contains, slice_index_or}
-use Rattle.std.specs.List.{list_all, range_with_len}
+use Rattle.std.proofs.Common.{◌≡◌, refl, sym, ◌∙◌, ap, subst, ℕ, zero, suc, ◌+◌, ◌-◌, ◌<◌, ◌≤◌, ◌==◌, nat_le, nat_lt, Bool, true, if◌then◌else◌}
+use Rattle.std.proofs.Common.{List, [], ◌∷◌, ◌++◌, length, slice_get, slice_index, Option, Some, None, arith}
+use Rattle.std.specs.Prelude.{Contains, slice_index_or}
+use Rattle.std.specs.List.{list_all}
 use Rattle.std.proofs.lemmas.Bool.{and_parts, eqb-true}
 use Rattle.std.proofs.lemmas.Bool.Decides.{nat_tests}
 use Rattle.fl_base.specs.declared.identity.EndId.{EndId}
 use Rattle.fl_base.specs.declared.identity.Side.TheVariants.{Client, Server}
-use Rattle.fl_lists.specs.declared.place.Place.TheVariants.{Polled, Pending}
 use Rattle.fl_queues.specs.Given.{given, changed_at}
-use Rattle.fl_queues.specs.Events.{DispatcherId, Event}
+use Rattle.fl_queues.specs.Events.{DispatcherId}
 use Rattle.fl_queues.specs.Calls.{Planned}
 use Rattle.fl_queues.specs.SoundPlaces.{CoreStands}
-use Rattle.fl_queues.specs.Rings.{Opening, Said, says, RingLabel, Ring, RingEnd, RingSide, first_for, looks, makes_sure, takes, puts, acknowledges, first_side, second_side, there_is_room}
-use Rattle.fl_queues.specs.Ends.{Queue, fresh_queue, without_first, End, Seat, accepts, with_rule, passes as passes_station}
-use Rattle.fl_queues.specs.Waits.{Dispatcher, waits_in, with_end}
-use Rattle.fl_queues.specs.Monitors.{Core, fresh_core, Service, service_of, opens as core_opens, Hearing, hears}
+use Rattle.fl_queues.specs.Rings.{Opening, RingEnd, takes}
+use Rattle.fl_queues.specs.Ends.{Queue, End}
+use Rattle.fl_queues.specs.Waits.{Dispatcher, with_end}
+use Rattle.fl_queues.specs.Monitors.{Core, Service, service_of, opens as core_opens}
 use Rattle.fl_queues.specs.Monitors.{Heard, no_outbox, astray, opening_went_on, server_made, opening_failed, answer_went_on, end_opened, end_refused}
 use Rattle.fl_queues.specs.State.{Route, Back, local, over_ring, over_route, undecided, granted, Binding, State, core_of, dispatcher_of, end_in, with_end_in, first_on}
 use Rattle.fl_queues.specs.State.{change_core, change_dispatcher, change_ring, change_end, change_out, change_route, change_channel, in_route, in_queue, delivers, seats, binds_end}
-use Rattle.fl_queues.specs.Making.{is_core, linked, with_dispatcher, with_service}
-use Rattle.fl_queues.specs.Binding.{Wanted, end_id, with_new_binding, binds_both, has_both_places, is_route, all_differ, arrival_queue, with_circuit_begun}
-use Rattle.fl_queues.specs.Taking.{Chosen, goes_back}
-use Rattle.fl_queues.specs.Forwarding.{LinkEnd, link_end, without_first_said, follows, takes_said, grants, denies, with_number, passes_word, word_passes, label_of, route_of}
-use Rattle.fl_queues.specs.Standing.{Routed, core_at, number_at}
+use Rattle.fl_queues.specs.Making.{is_core}
+use Rattle.fl_queues.specs.Binding.{Wanted, end_id, with_new_binding, binds_both, is_route, all_differ, arrival_queue, with_circuit_begun}
+use Rattle.fl_queues.specs.Forwarding.{follows, takes_said, grants, denies, with_number, passes_word, route_of}
+use Rattle.fl_queues.specs.Standing.{Routed, number_at}
 use Rattle.fl_queues.specs.SoundRoutes.{BoundWhere}
-use Rattle.fl_queues.specs.Sound.{Sound}
-use Rattle.fl_queues.specs.Step.{step}
 use Rattle.fl_laws.proofs.Cases.{by_given}
 use Rattle.fl_laws.proofs.BindingWalk.{new_binding}
 use Rattle.fl_laws.proofs.Seating.{changed_here}
-use Rattle.fl_laws.proofs.WaitsetsStep.{places, seated_there}
-use Rattle.fl_laws.proofs.WaitsetsKept.{looks_same, sure_same, first_same}
+use Rattle.fl_laws.proofs.WaitsetsStep.{seated_there}
 use Rattle.fl_laws.proofs.Services.{is_not}
-use Rattle.fl_laws.proofs.Ready.{get_last}
-use Rattle.fl_laws.proofs.Walk.{KeepsFrom, IsHere, IsWanted, BeginsRoute, step_leads, with_ring}
-use Rattle.fl_laws.proofs.Faces.{Look, look, CoresGrow, ServicesStay, Stays, core_same, core_on, same_face, SameEnds, stays_same, stays_on, cores_on, cores_changed, same_ends, stays_core, stays_end, stays_dispatcher, stays_channel, queue_calm, stays_delivered, stays_out, stays_written, stays_taken, stays_found}
-use Rattle.fl_laws.proofs.Growing.{hears_grows, opens_grows, linked_grows, Gives, new_number}
-use Rattle.fl_laws.proofs.HeardTurns.{GoesFor, ArrivesFor, FailsFor, PassesFor, OpensFor, HeardTurns, HearingTurns, heard_turns}
-use Rattle.fl_laws.proofs.Turned.{IsNew, new_on, Turns, Begins, Turned, joins, begins, goes, arrives, fails, passes, opens, OneTurns, Comes, comes_stays, OnlyAt, only_on, only_changed, only_pushed, comes_at}
+use Rattle.fl_laws.proofs.Walk.{IsWanted, BeginsRoute}
+use Rattle.fl_laws.proofs.Faces.{look, CoresGrow, ServicesStay, core_on, same_face, SameEnds, stays_same, cores_on, cores_changed, stays_dispatcher, stays_channel}
+use Rattle.fl_laws.proofs.Growing.{opens_grows, new_number}
+use Rattle.fl_laws.proofs.HeardTurns.{ArrivesFor, PassesFor, HeardTurns}
+use Rattle.fl_laws.proofs.Turned.{IsNew, new_on, Turns, Turned, joins, begins, goes, arrives, fails, passes, opens, Comes, comes_stays, OnlyAt, only_on, only_changed, only_pushed, comes_at}
 
 -- ---- an end is seated, and bound
 
