@@ -59,3 +59,4 @@ pub mod HeardTurns
 pub mod TurnsStep
 pub mod Turning
 pub mod RoutesSound
+pub mod TablesLater
