@@ -49,3 +49,14 @@ pub mod Arriving
 pub mod Seats
 pub mod SeatsStep
 pub mod Sitting
+pub mod Faces
+pub mod Turned
+pub mod Routed
+pub mod BoundEnds
+pub mod NumbersGiven
+pub mod Growing
+pub mod HeardTurns
+pub mod TurnsStep
+pub mod Turning
+pub mod RoutesSound
+pub mod TablesLater

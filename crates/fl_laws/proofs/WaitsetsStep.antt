@@ -208,7 +208,7 @@ abbrev IsSomeClient : Wanted → State → Type 0
 IsSomeClient w s = (x : Dispatcher) × (dispatcher_of s w.client ≡ Some x)
 
 -- a dispatcher that was there is there after an end was seated
-seated_there : (d : DispatcherId) (e : EndId) (t : State) (g : DispatcherId) (x : Dispatcher) → dispatcher_of t g ≡ Some x
+pub seated_there : (d : DispatcherId) (e : EndId) (t : State) (g : DispatcherId) (x : Dispatcher) → dispatcher_of t g ≡ Some x
     → (y : Dispatcher) × (dispatcher_of (seats d e t) g ≡ Some y)
 seated_there d e t g x q =
     by_given (λ (u : State). (y : Dispatcher) × (dispatcher_of u g ≡ Some y)) (dispatcher_of t d) _ _ (x, q)

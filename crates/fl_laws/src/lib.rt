@@ -9,7 +9,8 @@ ghost use Rattle.fl_queues.specs.Runs.{reached};
 ghost use Rattle.fl_queues.specs.Sound.{Sound};
 ghost use Rattle.fl_queues.specs.SoundOpenings.{OpeningsGoInOrder};
 ghost use Rattle.fl_queues.specs.SoundPlaces.{CoresStand, EndsStand, LinksArePaired, RingsHaveOneOwner, ServicesStand, SeatsAgree};
-ghost use Rattle.fl_queues.specs.SoundRoutes.{RoutesLead};
+ghost use Rattle.fl_queues.specs.SoundRoutes.{RoutesLead, NumbersGoAlongRoutes, VerdictsFit, EndsAreBound, NumbersWereOpened, NumbersAreOnce};
+ghost use Rattle.fl_queues.specs.SoundLimits.{RoutesKeepToCores, NumbersAreOnceBothWays};
 ghost use Rattle.fl_queues.specs.SoundLabels.{LabelsKeepToTheirWays, WritesAreCounted};
 ghost use Rattle.fl_queues.specs.SoundRings.{RingsCount, RingsFit};
 ghost use Rattle.fl_queues.specs.Worlds.{WorldsAreSound, EverInOrder, EverFewWait};
@@ -165,4 +166,50 @@ pub fn steps_keep_waitsets()
 /// Each step of a sound state keeps the seats: an end's channel is its dispatcher's channel for it, and no other's.
 pub fn steps_keep_seats()
     ensures kept { (s : State) (v : Event) → Sound s → SeatsAgree (step s v).state }
+{}
+
+/// Each step of a sound state keeps where routes lead: over 2 to 16 different cores, from that of the client's dispatcher to that
+/// of the service's, where the server's end is once it is made.
+pub fn steps_keep_routes()
+    ensures kept { (s : State) (v : Event) → Sound s → RoutesLead (step s v).state }
+{}
+
+/// Each step of a sound state keeps a circuit's numbers along its route: one on the first link, at most one on each, and these
+/// links are there.
+pub fn steps_keep_numbers()
+    ensures kept { (s : State) (v : Event) → Sound s → NumbersGoAlongRoutes (step s v).state }
+{}
+
+/// Each step of a sound state keeps that what an opening came to fits how far it came: a granted one had come to the last core,
+/// and no more cores wait for the answer than have a number.
+pub fn steps_keep_verdicts()
+    ensures kept { (s : State) (v : Event) → Sound s → VerdictsFit (step s v).state }
+{}
+
+/// Each step of a sound state keeps which ends are bound, and on which number: the server's once the opening was granted, the
+/// client's once the answer has come to it, both at once where there is no circuit.
+pub fn steps_keep_bound_ends()
+    ensures kept { (s : State) (v : Event) → Sound s → EndsAreBound (step s v).state }
+{}
+
+/// Each step of a sound state keeps that each number of a route was opened by the core from which its link goes.
+pub fn steps_keep_opened_numbers()
+    ensures kept { (s : State) (v : Event) → Sound s → NumbersWereOpened (step s v).state }
+{}
+
+/// Each step of a sound state keeps that a number is given once: where two routes have one number on the link from one core to
+/// the next, they are one binding's.
+pub fn steps_keep_numbers_once()
+    ensures kept { (s : State) (v : Event) → Sound s → NumbersAreOnce (step s v).state }
+{}
+
+/// Each step of a sound state keeps routes to the cores of the world.
+pub fn steps_keep_routes_within()
+    ensures kept { (s : State) (v : Event) → Sound s → RoutesKeepToCores (step s v).state }
+{}
+
+/// Each step of a sound state keeps that a number means the same in both directions of its link: where one route has it on the
+/// way forth and another on the way back, they are one binding's.
+pub fn steps_keep_numbers_once_back()
+    ensures kept { (s : State) (v : Event) → Sound s → NumbersAreOnceBothWays (step s v).state }
 {}
