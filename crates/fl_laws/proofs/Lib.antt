@@ -49,3 +49,6 @@ pub mod Arriving
 pub mod Seats
 pub mod SeatsStep
 pub mod Sitting
+pub mod Flows
+pub mod Scenes
+pub mod ScenesKept
