@@ -261,12 +261,12 @@ module _ (P : State → Type 0) (K : Arrives P) where
 
 -- ---- the same as sound states say it
 
-first_of : (xs : List Label) (k : ℕ) (x : Label) → slice_get xs k ≡ Some x → Contains xs x
+pub first_of : (xs : List Label) (k : ℕ) (x : Label) → slice_get xs k ≡ Some x → Contains xs x
 first_of [] k x q = absurd (cc)
 first_of (y ∷ ys) zero x q = (0, omega arith, (let e : y ≡ x = cc in e))
 first_of (y ∷ ys) (suc k) x q = let h = first_of ys k x q in (suc h.0, (let a : h.0 < length ys = h.1 in omega arith), h.2)
 
-each_said : (P : Label → Type 0) (xs : List Label) (x : Label) (k : ℕ) → Each P xs → k < length xs → slice_index_or xs k x ≡ x → P x
+pub each_said : (P : Label → Type 0) (xs : List Label) (x : Label) (k : ℕ) → Each P xs → k < length xs → slice_index_or xs k x ≡ x → P x
 each_said P [] x k h a q = absurd (omega arith)
 each_said P (y ∷ ys) x zero h a q = subst P (let e : y ≡ x = q in e) (h zero y refl)
 each_said P (y ∷ ys) x (suc k) h a q = each_said P ys x k (each_tail P y ys h) (omega arith) q

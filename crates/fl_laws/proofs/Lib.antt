@@ -52,3 +52,4 @@ pub mod Sitting
 pub mod Flows
 pub mod Scenes
 pub mod ScenesKept
+pub mod ScenesSaid

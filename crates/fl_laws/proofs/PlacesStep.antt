@@ -214,10 +214,10 @@ found_maps {X} {Y} {Z} {W} q g r (x ∷ xs) (y ∷ ys) = by (q (g x)) (found_map
     by true k = refl
     by false k = k
 
-abbrev ring_behind : Option Link → Option RingEnd
+abbrev pub ring_behind : Option Link → Option RingEnd
 ring_behind o = given o None (λ l. Some l.ring)
 
-link_planned : (s : State) (a b : ℕ) → ring_of (plan_of s) (core_to a b) ≡ ring_behind (link_between s a b)
+pub link_planned : (s : State) (a b : ℕ) → ring_of (plan_of s) (core_to a b) ≡ ring_behind (link_between s a b)
 link_planned s a b = by s.cores a
   where
     by : (ks : List Core) (n : ℕ) → given (slice_get (map core_outline ks) n) None (ring_in b)
@@ -228,7 +228,7 @@ link_planned s a b = by s.cores a
         ∙ ap ring_behind (sym (found_is (λ (a : LinkState). a.neighbour.0 == b) k.circuits.links k.links))
     by (k ∷ ks) (suc n) = by ks n
 
-end_planned : (s : State) (e : EndId) → ring_of (plan_of s) (this_end e) ≡ given (slice_get s.bindings e.binding) None (λ b. own_ring e.side b.back)
+pub end_planned : (s : State) (e : EndId) → ring_of (plan_of s) (this_end e) ≡ given (slice_get s.bindings e.binding) None (λ b. own_ring e.side b.back)
 end_planned s e = by s.bindings e.binding
   where
     one : (back : Back) → end_ring e.side (ring_no back) ≡ own_ring e.side back
@@ -282,7 +282,7 @@ back_ring local n h = absurd (cc)
 back_ring (over_ring m) n h = let e : m ≡ n = cc in ap (λ k. over_ring k) e
 back_ring (over_route route) n h = absurd (cc)
 
-own_back : (side : Side) (back : Back) (at : RingEnd) → own_ring side back ≡ Some at → back ≡ over_ring at.ring
+pub own_back : (side : Side) (back : Back) (at : RingEnd) → own_ring side back ≡ Some at → back ≡ over_ring at.ring
 own_back side local at h = absurd (cc)
 own_back side (over_ring m) at h = let e : ring_side_of side m ≡ at = cc in ap (λ (x : RingEnd). over_ring x.ring) e
 own_back side (over_route route) at h = absurd (cc)
