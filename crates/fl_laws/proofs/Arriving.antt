@@ -50,7 +50,7 @@ not_true true h = absurd (cc)
 one_more : (t : ℕ) → 1 + t ≡ suc t
 one_more t = omega arith
 
-place_is : (xs : List ℕ) (t x : ℕ) → t < length xs → slice_index xs t ≡ x → all_differ xs ≡ true
+pub place_is : (xs : List ℕ) (t x : ℕ) → t < length xs → slice_index xs t ≡ x → all_differ xs ≡ true
     → position_or_len (λ c. c == x) xs ≡ t
 place_is [] t x a e d = absurd (omega arith)
 place_is (y ∷ xs) zero x a e d =

@@ -53,3 +53,4 @@ pub mod Flows
 pub mod Scenes
 pub mod ScenesKept
 pub mod ScenesSaid
+pub mod Ways
