@@ -54,3 +54,4 @@ pub mod Scenes
 pub mod ScenesKept
 pub mod ScenesSaid
 pub mod Ways
+pub mod ReadsKept

@@ -75,7 +75,7 @@ map_twice : {X Y Z : Type 0} (f : Y → Z) (g : X → Y) (xs : List X) → map f
 map_twice f g [] = refl
 map_twice f g (x ∷ xs) = ap (λ ys. f (g x) ∷ ys) (map_twice f g xs)
 
-three : (a a2 : List Outline) (b b2 : ℕ) (c c2 : List (Option ℕ)) → a ≡ a2 → b ≡ b2 → c ≡ c2 → planned a b c ≡ planned a2 b2 c2
+pub three : (a a2 : List Outline) (b b2 : ℕ) (c c2 : List (Option ℕ)) → a ≡ a2 → b ≡ b2 → c ≡ c2 → planned a b c ≡ planned a2 b2 c2
 three a a2 b b2 c c2 p q r = cc
 
 pub plan_viewed : (s : State) → plan (view s) ≡ plan_of s
@@ -150,7 +150,7 @@ refused_outline : (l c fault : ℕ) (hop : Hop) (way : Way) (k : Core) → core_
 refused_outline l c fault hop (to_link m d) k = saying_outline m.0 _ _ _ k refl
 refused_outline l c fault hop (to_end e) k = refl
 
-heard_outline : (services : List Service) (l : ℕ) (m : Said) (k : Core) → core_outline (hears services l m k).core ≡ core_outline k
+pub heard_outline : (services : List Service) (l : ℕ) (m : Said) (k : Core) → core_outline (hears services l m k).core ≡ core_outline k
 heard_outline services l (open_circuit o) k = opening_outline l o (fate services o k) k
 heard_outline services l (circuit_opened c) k = by_given (λ (h : Hearing). core_outline h.core ≡ core_outline k) (hop_at k.circuits l c) _ _ refl (λ hop q. opened_outline l c hop hop.way k)
 heard_outline services l (circuit_refused c fault) k = by_given (λ (h : Hearing). core_outline h.core ≡ core_outline k) (hop_at k.circuits l c) _ _ refl (λ hop q. refused_outline l c fault hop hop.way k)
@@ -190,7 +190,7 @@ heard_plan here m k s q =
     follows_plan x.heard (takes_said here.ring x.heard told) ∙ said_plan here.ring x.heard told
     ∙ plan_core here.core (λ y. x.core) s (λ y r. heard_outline s.services here.link m k ∙ ap core_outline (same_some (slice_get s.cores here.core) k y q r))
 
-written_plan : (here : LinkEnd) (m : Said) (s : State) → plan_of (change_core here.core (without_first_said here.link) (change_ring here.ring.ring (puts here.ring.side (says m)) s)) ≡ plan_of s
+pub written_plan : (here : LinkEnd) (m : Said) (s : State) → plan_of (change_core here.core (without_first_said here.link) (change_ring here.ring.ring (puts here.ring.side (says m)) s)) ≡ plan_of s
 written_plan here m s =
     plan_core here.core (without_first_said here.link) (change_ring here.ring.ring (puts here.ring.side (says m)) s)
     (λ k q. ap (λ rs. (let o : Outline = record { neighbours = neighbours_of k.circuits.links; rings = rs } in o)) (map_kept (λ (x : Link). x.ring) _ k.links here.link (λ x r. refl)))
@@ -198,7 +198,7 @@ written_plan here m s =
 
 -- ---- new bindings
 
-joined_push : (b : Binding) (s : State) → map binding_ring (s.bindings ++ b ∷ []) ≡ map binding_ring s.bindings ++ binding_ring b ∷ []
+pub joined_push : (b : Binding) (s : State) → map binding_ring (s.bindings ++ b ∷ []) ≡ map binding_ring s.bindings ++ binding_ring b ∷ []
 joined_push b s = map-append binding_ring s.bindings (b ∷ [])
 
 -- ---- the plan tells what links and ends own
@@ -347,7 +347,7 @@ linked_outline b n side k =
 pub length_push : {X : Type 0} (xs : List X) (x : X) → length (xs ++ x ∷ []) ≡ length xs + 1
 length_push xs x = length-append xs (x ∷ [])
 
-link_plan : (a b size : ℕ) (s : State) → plan_of (with_new_link a b size s) ≡ with_link_between a b (plan_of s)
+pub link_plan : (a b size : ℕ) (s : State) → plan_of (with_new_link a b size s) ≡ with_link_between a b (plan_of s)
 link_plan a b size s =
     let n : ℕ = length s.rings in
     let near : List Core = changed_at a (linked b n first_side) s.cores in
