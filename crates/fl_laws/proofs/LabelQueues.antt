@@ -74,7 +74,7 @@ joined_by_queue (Some w) e l x p k h q r =
     let is : joined_by l w ≡ q = let u : Some (joined_by l w) ≡ Some q = r in cc in
     subst (λ (z : Queue). Each (IsOf (peer e)) z.labels) is (each_push (IsOf (peer e)) w.labels l (h w p) k)
 
-each_drop : {X : Type 0} (P : X → Type 0) (xs : List X) → Each P xs → Each P (drop 1 xs)
+pub each_drop : {X : Type 0} (P : X → Type 0) (xs : List X) → Each P xs → Each P (drop 1 xs)
 each_drop P [] h = h
 each_drop P (x ∷ xs) h = each_tail P x xs h
 
@@ -85,7 +85,7 @@ emptied_by_queue (Some w) e x p h q r =
     let is : without_first w ≡ q = let u : Some (without_first w) ≡ Some q = r in cc in
     subst (λ (z : Queue). Each (IsOf (peer e)) z.labels) is (each_drop (IsOf (peer e)) w.labels (h w p))
 
-replies_queue : (i : Planned) (t : Taken) (x : End) → (replies i t x).queue ≡ x.queue
+pub replies_queue : (i : Planned) (t : Taken) (x : End) → (replies i t x).queue ≡ x.queue
 replies_queue i a_part x = refl
 replies_queue i (whole c) x = by_given (λ (y : End). y.queue ≡ x.queue) (rule_at x.rules c.msg) x _ refl (λ msg q. refl)
 

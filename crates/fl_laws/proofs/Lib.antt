@@ -55,3 +55,4 @@ pub mod ScenesKept
 pub mod ScenesSaid
 pub mod Ways
 pub mod ReadsKept
+pub mod LabelsQuiet
