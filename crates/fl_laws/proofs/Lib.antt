@@ -56,3 +56,4 @@ pub mod ScenesSaid
 pub mod Ways
 pub mod ReadsKept
 pub mod LabelsQuiet
+pub mod LabelsPass
