@@ -57,3 +57,5 @@ pub mod Ways
 pub mod ReadsKept
 pub mod LabelsQuiet
 pub mod LabelsPass
+pub mod LabelsMoved
+pub mod LabelsWritten
