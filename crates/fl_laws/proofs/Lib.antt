@@ -59,3 +59,4 @@ pub mod LabelsQuiet
 pub mod LabelsPass
 pub mod LabelsMoved
 pub mod LabelsWritten
+pub mod LabelsTaken
