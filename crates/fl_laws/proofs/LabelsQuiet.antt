@@ -78,7 +78,7 @@ quiet_at_dispatcher d f s =
     quiet_at_core d.core (λ k. record k { dispatchers = changed_at d.place f k.dispatchers }) s
     (plan_quiet s (Rattle.fl_queues.specs.State.change_dispatcher d f s) (quiet_core d.core (λ k. record k { dispatchers = changed_at d.place f k.dispatchers }) s (λ k. refl)))
 
-channel_bindings : (e : EndId) (f : ℕ → End → Dispatcher → Dispatcher) (s : State) → (change_channel e f s).bindings ≡ s.bindings
+pub channel_bindings : (e : EndId) (f : ℕ → End → Dispatcher → Dispatcher) (s : State) → (change_channel e f s).bindings ≡ s.bindings
 channel_bindings e f s =
     by_given (λ (t : State). t.bindings ≡ s.bindings) (end_of s e) _ _ refl
     (λ x q. by_given (λ (t : State). t.bindings ≡ s.bindings) x.seat _ _ refl (λ seat r. refl))

@@ -60,3 +60,4 @@ pub mod LabelsPass
 pub mod LabelsMoved
 pub mod LabelsWritten
 pub mod LabelsTaken
+pub mod LabelsForward
