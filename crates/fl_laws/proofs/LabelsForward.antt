@@ -50,7 +50,7 @@ route_is local route h = absurd (cc)
 route_is (over_ring n) route h = absurd (cc)
 route_is (over_route r) route h = let e : r ≡ route = cc in ap (λ x. over_route x) e
 
-link_is : (s : State) (here neighbour : ℕ) (k : Core) (l : ℕ) (link : Link) → core_of s here ≡ Some k → link_to neighbour k ≡ Some l → slice_get k.links l ≡ Some link
+pub link_is : (s : State) (here neighbour : ℕ) (k : Core) (l : ℕ) (link : Link) → core_of s here ≡ Some k → link_to neighbour k ≡ Some l → slice_get k.links l ≡ Some link
     → link_between s here neighbour ≡ Some link
 link_is s here neighbour k l link at to is =
     ap (λ (o : Option Core). given o None (λ j. given (link_to neighbour j) None (λ n. slice_get j.links n))) at

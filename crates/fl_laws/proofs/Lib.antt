@@ -61,3 +61,4 @@ pub mod LabelsMoved
 pub mod LabelsWritten
 pub mod LabelsTaken
 pub mod LabelsForward
+pub mod LabelsStep

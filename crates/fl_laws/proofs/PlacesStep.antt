@@ -125,10 +125,10 @@ opening_counted ls l = counted with_opening (λ a. refl) ls l
 pub taking_counted : (ls : List LinkState) (l : ℕ) → neighbours_of (count_taking ls l) ≡ neighbours_of ls
 taking_counted ls l = counted with_taking (λ a. refl) ls l
 
-said_rings : (m : Said) (ls : List Link) (l : ℕ) → link_rings (changed_at l (says_more m) ls) ≡ link_rings ls
+pub said_rings : (m : Said) (ls : List Link) (l : ℕ) → link_rings (changed_at l (says_more m) ls) ≡ link_rings ls
 said_rings m ls l = map_kept (λ (x : Link). x.ring) (says_more m) ls l (λ x q. refl)
 
-two_lists : (a b : List ℕ) (c d : List RingEnd) → a ≡ b → c ≡ d → record { neighbours = a; rings = c } ≡ (let o : Outline = record { neighbours = b; rings = d } in o)
+pub two_lists : (a b : List ℕ) (c d : List RingEnd) → a ≡ b → c ≡ d → record { neighbours = a; rings = c } ≡ (let o : Outline = record { neighbours = b; rings = d } in o)
 two_lists a b c d p q = cc
 
 saying_outline : (l : ℕ) (m : Said) (t : TheCircuits) (x : Heard) (k : Core) → neighbours_of t.links ≡ neighbours_of k.circuits.links

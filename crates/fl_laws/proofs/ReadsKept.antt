@@ -98,7 +98,7 @@ first_read s at x first q h = ap (λ o. slice_get (given o [] (labels_at s.rings
 
 -- ---- looks
 
-abbrev SeesSame : (Ring → Ring) → Type 0
+abbrev pub SeesSame : (Ring → Ring) → Type 0
 SeesSame f = (side : RingSide) (r : Ring) → labels_of (read_by side (f r)).waiting ≡ labels_of (read_by side r).waiting
 
 pub looks_labels : (by : RingSide) → SeesSame (looks by)
