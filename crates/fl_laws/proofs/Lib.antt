@@ -62,3 +62,4 @@ pub mod LabelsWritten
 pub mod LabelsTaken
 pub mod LabelsForward
 pub mod LabelsStep
+pub mod LabelsSound
