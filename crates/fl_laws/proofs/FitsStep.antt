@@ -55,7 +55,7 @@ use Rattle.fl_queues.specs.SoundLabels.{LabelsKeepToTheirWays, MayStandFrom, IsO
 use Rattle.fl_queues.specs.SoundCalls.{AllFit, DirectionFits, CallsFit, RuleSuits, AllSuit, RulesSuit}
 use Rattle.fl_laws.proofs.Cases.{either, each_tail}
 use Rattle.fl_laws.proofs.SameTypes.{reply_fits}
-use Rattle.fl_laws.proofs.Walk.{At, Fitting, Suiting, KeepsUnder, with_ring, step_leads_under}
+use Rattle.fl_laws.proofs.Walk.{At, Fitting, Suiting, PassedAt, KeepsUnder, with_ring, step_leads_under}
 
 -- ---- one end
 
@@ -384,7 +384,7 @@ rule_set (r ∷ rules) zero answer (suc n) m P p h q = h (suc n) m q
 rule_set (r ∷ rules) (suc msg) answer zero m P p h q = h 0 m q
 rule_set (r ∷ rules) (suc msg) answer (suc n) m P p h q = rule_set rules msg answer n m (λ k l. P (suc k) l) p (λ k l u. h (suc k) l u) q
 
-pub fits_keep : KeepsUnder Fitting Suiting FitsSo AllFitting
+pub fits_keep : KeepsUnder Fitting Suiting PassedAt FitsSo AllFitting
 fits_keep = record {
   settled = λ s h. h;
   interface = λ i s q h. interface_kept i s h.0;
@@ -509,6 +509,6 @@ pub step_fits : (s : State) (v : Event) → EndsStand s → LabelsKeepToTheirWay
     → CallsFit (step s v).state × RulesSuit (step s v).state
 step_fits s v ends ways calls rules =
     let all : AllFitting (step s v).state =
-    step_leads_under Fitting Suiting (λ e c b i t k. k) (λ e m n b i t k. k) FitsSo AllFitting (λ t h. h.0) fits_keep s v
+    step_leads_under Fitting Suiting PassedAt (λ e c b i t k. k) (λ e m n b i t k. k) (λ here p first route hop on t k. k.passing) FitsSo AllFitting (λ t h. h.0) fits_keep s v
     (all_fitting s ends calls rules, firsts_are_own s ways) in
     ((λ e b i q r. (end_fits (step s v).state all e b i q r).0), (λ e b i q r. (end_fits (step s v).state all e b i q r).1))

@@ -74,7 +74,7 @@ joined_by_queue (Some w) e l x p k h q r =
     let is : joined_by l w ≡ q = let u : Some (joined_by l w) ≡ Some q = r in cc in
     subst (λ (z : Queue). Each (IsOf (peer e)) z.labels) is (each_push (IsOf (peer e)) w.labels l (h w p) k)
 
-each_drop : {X : Type 0} (P : X → Type 0) (xs : List X) → Each P xs → Each P (drop 1 xs)
+pub each_drop : {X : Type 0} (P : X → Type 0) (xs : List X) → Each P xs → Each P (drop 1 xs)
 each_drop P [] h = h
 each_drop P (x ∷ xs) h = each_tail P x xs h
 
@@ -85,7 +85,7 @@ emptied_by_queue (Some w) e x p h q r =
     let is : without_first w ≡ q = let u : Some (without_first w) ≡ Some q = r in cc in
     subst (λ (z : Queue). Each (IsOf (peer e)) z.labels) is (each_drop (IsOf (peer e)) w.labels (h w p))
 
-replies_queue : (i : Planned) (t : Taken) (x : End) → (replies i t x).queue ≡ x.queue
+pub replies_queue : (i : Planned) (t : Taken) (x : End) → (replies i t x).queue ≡ x.queue
 replies_queue i a_part x = refl
 replies_queue i (whole c) x = by_given (λ (y : End). y.queue ≡ x.queue) (rule_at x.rules c.msg) x _ refl (λ msg q. refl)
 
@@ -261,12 +261,12 @@ module _ (P : State → Type 0) (K : Arrives P) where
 
 -- ---- the same as sound states say it
 
-first_of : (xs : List Label) (k : ℕ) (x : Label) → slice_get xs k ≡ Some x → Contains xs x
+pub first_of : (xs : List Label) (k : ℕ) (x : Label) → slice_get xs k ≡ Some x → Contains xs x
 first_of [] k x q = absurd (cc)
 first_of (y ∷ ys) zero x q = (0, omega arith, (let e : y ≡ x = cc in e))
 first_of (y ∷ ys) (suc k) x q = let h = first_of ys k x q in (suc h.0, (let a : h.0 < length ys = h.1 in omega arith), h.2)
 
-each_said : (P : Label → Type 0) (xs : List Label) (x : Label) (k : ℕ) → Each P xs → k < length xs → slice_index_or xs k x ≡ x → P x
+pub each_said : (P : Label → Type 0) (xs : List Label) (x : Label) (k : ℕ) → Each P xs → k < length xs → slice_index_or xs k x ≡ x → P x
 each_said P [] x k h a q = absurd (omega arith)
 each_said P (y ∷ ys) x zero h a q = subst P (let e : y ≡ x = q in e) (h zero y refl)
 each_said P (y ∷ ys) x (suc k) h a q = each_said P ys x k (each_tail P y ys h) (omega arith) q

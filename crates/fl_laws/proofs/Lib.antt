@@ -60,3 +60,17 @@ pub mod TurnsStep
 pub mod Turning
 pub mod RoutesSound
 pub mod TablesLater
+pub mod Flows
+pub mod Scenes
+pub mod ScenesKept
+pub mod ScenesSaid
+pub mod Ways
+pub mod ReadsKept
+pub mod LabelsQuiet
+pub mod LabelsPass
+pub mod LabelsMoved
+pub mod LabelsWritten
+pub mod LabelsTaken
+pub mod LabelsForward
+pub mod LabelsStep
+pub mod LabelsSound

@@ -117,10 +117,10 @@ none_pushed [] (suc n) side = refl
 none_pushed (x ∷ xs) zero side = refl
 none_pushed (x ∷ xs) (suc n) side = none_pushed xs n side
 
-abbrev with_none : Plan → Plan
+abbrev pub with_none : Plan → Plan
 with_none p = record p { joined = p.joined ++ None ∷ [] }
 
-none_same : (p : Plan) (x : Owner) → ring_of (with_none p) x ≡ ring_of p x
+pub none_same : (p : Plan) (x : Owner) → ring_of (with_none p) x ≡ ring_of p x
 none_same p (core_to a b) = refl
 none_same p (this_end e) = none_pushed p.joined e.binding e.side
 
@@ -148,7 +148,7 @@ own_side : (n : ℕ) (side : Side) → this_end (record { binding = n; side = si
 own_side n Client = refl
 own_side n Server = refl
 
-joined_comes : (xs : List (Option ℕ)) (n r : ℕ) (side : Side) (at : RingEnd) → given (slice_get (xs ++ Some r ∷ []) n) None (end_ring side) ≡ Some at
+pub joined_comes : (xs : List (Option ℕ)) (n r : ℕ) (side : Side) (at : RingEnd) → given (slice_get (xs ++ Some r ∷ []) n) None (end_ring side) ≡ Some at
     → (given (slice_get xs n) None (end_ring side) ≡ Some at) ⊎ ((at ≡ ring_side_of side r) × (n ≡ length xs))
 joined_comes [] zero r side at h = inr ((let e : at ≡ ring_side_of side r = cc in e), refl)
 joined_comes [] (suc n) r side at h = absurd (cc)
@@ -158,7 +158,7 @@ joined_comes (x ∷ xs) (suc n) r side at h = elim (joined_comes xs n r side at 
   | inr (a, b) ↦ inr (a, omega (arith, b))
 ]
 
-joined_stays : (xs : List (Option ℕ)) (n : ℕ) (o : Option ℕ) (side : Side) (at : RingEnd) → given (slice_get xs n) None (end_ring side) ≡ Some at
+pub joined_stays : (xs : List (Option ℕ)) (n : ℕ) (o : Option ℕ) (side : Side) (at : RingEnd) → given (slice_get xs n) None (end_ring side) ≡ Some at
     → given (slice_get (xs ++ o ∷ []) n) None (end_ring side) ≡ Some at
 joined_stays [] n o side at h = absurd (cc)
 joined_stays (x ∷ xs) zero o side at h = h
@@ -228,7 +228,7 @@ in_comes : (o : Outline) (b n y : ℕ) (side : RingSide) (at : RingEnd) → leng
     → (ring_in y o ≡ Some at) ⊎ ((y ≡ b) × (at ≡ record { ring = n; side = side }))
 in_comes o b n y side at e h = in_cases (ring_in y o) b y _ at (sym (found_push (λ m. m == y) o.neighbours b o.rings _ e) ∙ h)
 
-join_stays : (cores : List Outline) (a b n x y : ℕ) (side : RingSide) (at : RingEnd) → IsEven cores → at_core cores x y ≡ Some at → at_core (changed_at a (joins b n side) cores) x y ≡ Some at
+pub join_stays : (cores : List Outline) (a b n x y : ℕ) (side : RingSide) (at : RingEnd) → IsEven cores → at_core cores x y ≡ Some at → at_core (changed_at a (joins b n side) cores) x y ≡ Some at
 join_stays cores a b n x y side at even h = elim (same_or x a) [
   | inl e ↦ subst (λ m. at_core cores m y ≡ Some at → at_core (changed_at a (joins b n side) cores) m y ≡ Some at) (sym e)
       (λ k. ap (λ o. given o None (ring_in y)) (changed_same cores a (joins b n side)) ∙ by (slice_get cores a) refl k) h
@@ -239,7 +239,7 @@ join_stays cores a b n x y side at even h = elim (same_or x a) [
     by None q k = absurd (cc)
     by (Some o) q k = in_stays o b n y side at (even a o q) k
 
-join_comes : (cores : List Outline) (a b n x y : ℕ) (side : RingSide) (at : RingEnd) → IsEven cores → at_core (changed_at a (joins b n side) cores) x y ≡ Some at
+pub join_comes : (cores : List Outline) (a b n x y : ℕ) (side : RingSide) (at : RingEnd) → IsEven cores → at_core (changed_at a (joins b n side) cores) x y ≡ Some at
     → (at_core cores x y ≡ Some at) ⊎ ((x ≡ a) × (y ≡ b) × (at ≡ record { ring = n; side = side }))
 join_comes cores a b n x y side at even h = elim (same_or x a) [
   | inl e ↦ at_a e h
@@ -265,7 +265,7 @@ join_new cores a b n side even within h =
     ap (λ o. given o None (ring_in b)) (changed_same cores a (joins b n side)) ∙ ap (λ o. given (option_map (joins b n side) o) None (ring_in b)) there.1
     ∙ in_new there.0 b n side (even a there.0 there.1) (sym (ap (λ o. given o None (ring_in b)) there.1) ∙ h)
 
-join_even : (cores : List Outline) (a b n : ℕ) (side : RingSide) → IsEven cores → IsEven (changed_at a (joins b n side) cores)
+pub join_even : (cores : List Outline) (a b n : ℕ) (side : RingSide) → IsEven cores → IsEven (changed_at a (joins b n side) cores)
 join_even cores a b n side even m o h = elim (same_or m a) [
   | inl e ↦ by (slice_get cores a) refl (sym (changed_same cores a (joins b n side)) ∙ subst (λ k. slice_get (changed_at a (joins b n side) cores) k ≡ Some o) e h)
   | inr e ↦ even m o (sym (changed_other cores a m (joins b n side) e) ∙ h)

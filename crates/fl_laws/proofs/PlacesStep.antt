@@ -75,7 +75,7 @@ map_twice : {X Y Z : Type 0} (f : Y → Z) (g : X → Y) (xs : List X) → map f
 map_twice f g [] = refl
 map_twice f g (x ∷ xs) = ap (λ ys. f (g x) ∷ ys) (map_twice f g xs)
 
-three : (a a2 : List Outline) (b b2 : ℕ) (c c2 : List (Option ℕ)) → a ≡ a2 → b ≡ b2 → c ≡ c2 → planned a b c ≡ planned a2 b2 c2
+pub three : (a a2 : List Outline) (b b2 : ℕ) (c c2 : List (Option ℕ)) → a ≡ a2 → b ≡ b2 → c ≡ c2 → planned a b c ≡ planned a2 b2 c2
 three a a2 b b2 c c2 p q r = cc
 
 pub plan_viewed : (s : State) → plan (view s) ≡ plan_of s
@@ -125,10 +125,10 @@ opening_counted ls l = counted with_opening (λ a. refl) ls l
 pub taking_counted : (ls : List LinkState) (l : ℕ) → neighbours_of (count_taking ls l) ≡ neighbours_of ls
 taking_counted ls l = counted with_taking (λ a. refl) ls l
 
-said_rings : (m : Said) (ls : List Link) (l : ℕ) → link_rings (changed_at l (says_more m) ls) ≡ link_rings ls
+pub said_rings : (m : Said) (ls : List Link) (l : ℕ) → link_rings (changed_at l (says_more m) ls) ≡ link_rings ls
 said_rings m ls l = map_kept (λ (x : Link). x.ring) (says_more m) ls l (λ x q. refl)
 
-two_lists : (a b : List ℕ) (c d : List RingEnd) → a ≡ b → c ≡ d → record { neighbours = a; rings = c } ≡ (let o : Outline = record { neighbours = b; rings = d } in o)
+pub two_lists : (a b : List ℕ) (c d : List RingEnd) → a ≡ b → c ≡ d → record { neighbours = a; rings = c } ≡ (let o : Outline = record { neighbours = b; rings = d } in o)
 two_lists a b c d p q = cc
 
 saying_outline : (l : ℕ) (m : Said) (t : TheCircuits) (x : Heard) (k : Core) → neighbours_of t.links ≡ neighbours_of k.circuits.links
@@ -150,7 +150,7 @@ refused_outline : (l c fault : ℕ) (hop : Hop) (way : Way) (k : Core) → core_
 refused_outline l c fault hop (to_link m d) k = saying_outline m.0 _ _ _ k refl
 refused_outline l c fault hop (to_end e) k = refl
 
-heard_outline : (services : List Service) (l : ℕ) (m : Said) (k : Core) → core_outline (hears services l m k).core ≡ core_outline k
+pub heard_outline : (services : List Service) (l : ℕ) (m : Said) (k : Core) → core_outline (hears services l m k).core ≡ core_outline k
 heard_outline services l (open_circuit o) k = opening_outline l o (fate services o k) k
 heard_outline services l (circuit_opened c) k = by_given (λ (h : Hearing). core_outline h.core ≡ core_outline k) (hop_at k.circuits l c) _ _ refl (λ hop q. opened_outline l c hop hop.way k)
 heard_outline services l (circuit_refused c fault) k = by_given (λ (h : Hearing). core_outline h.core ≡ core_outline k) (hop_at k.circuits l c) _ _ refl (λ hop q. refused_outline l c fault hop hop.way k)
@@ -190,7 +190,7 @@ heard_plan here m k s q =
     follows_plan x.heard (takes_said here.ring x.heard told) ∙ said_plan here.ring x.heard told
     ∙ plan_core here.core (λ y. x.core) s (λ y r. heard_outline s.services here.link m k ∙ ap core_outline (same_some (slice_get s.cores here.core) k y q r))
 
-written_plan : (here : LinkEnd) (m : Said) (s : State) → plan_of (change_core here.core (without_first_said here.link) (change_ring here.ring.ring (puts here.ring.side (says m)) s)) ≡ plan_of s
+pub written_plan : (here : LinkEnd) (m : Said) (s : State) → plan_of (change_core here.core (without_first_said here.link) (change_ring here.ring.ring (puts here.ring.side (says m)) s)) ≡ plan_of s
 written_plan here m s =
     plan_core here.core (without_first_said here.link) (change_ring here.ring.ring (puts here.ring.side (says m)) s)
     (λ k q. ap (λ rs. (let o : Outline = record { neighbours = neighbours_of k.circuits.links; rings = rs } in o)) (map_kept (λ (x : Link). x.ring) _ k.links here.link (λ x r. refl)))
@@ -198,7 +198,7 @@ written_plan here m s =
 
 -- ---- new bindings
 
-joined_push : (b : Binding) (s : State) → map binding_ring (s.bindings ++ b ∷ []) ≡ map binding_ring s.bindings ++ binding_ring b ∷ []
+pub joined_push : (b : Binding) (s : State) → map binding_ring (s.bindings ++ b ∷ []) ≡ map binding_ring s.bindings ++ binding_ring b ∷ []
 joined_push b s = map-append binding_ring s.bindings (b ∷ [])
 
 -- ---- the plan tells what links and ends own
@@ -214,10 +214,10 @@ found_maps {X} {Y} {Z} {W} q g r (x ∷ xs) (y ∷ ys) = by (q (g x)) (found_map
     by true k = refl
     by false k = k
 
-abbrev ring_behind : Option Link → Option RingEnd
+abbrev pub ring_behind : Option Link → Option RingEnd
 ring_behind o = given o None (λ l. Some l.ring)
 
-link_planned : (s : State) (a b : ℕ) → ring_of (plan_of s) (core_to a b) ≡ ring_behind (link_between s a b)
+pub link_planned : (s : State) (a b : ℕ) → ring_of (plan_of s) (core_to a b) ≡ ring_behind (link_between s a b)
 link_planned s a b = by s.cores a
   where
     by : (ks : List Core) (n : ℕ) → given (slice_get (map core_outline ks) n) None (ring_in b)
@@ -228,7 +228,7 @@ link_planned s a b = by s.cores a
         ∙ ap ring_behind (sym (found_is (λ (a : LinkState). a.neighbour.0 == b) k.circuits.links k.links))
     by (k ∷ ks) (suc n) = by ks n
 
-end_planned : (s : State) (e : EndId) → ring_of (plan_of s) (this_end e) ≡ given (slice_get s.bindings e.binding) None (λ b. own_ring e.side b.back)
+pub end_planned : (s : State) (e : EndId) → ring_of (plan_of s) (this_end e) ≡ given (slice_get s.bindings e.binding) None (λ b. own_ring e.side b.back)
 end_planned s e = by s.bindings e.binding
   where
     one : (back : Back) → end_ring e.side (ring_no back) ≡ own_ring e.side back
@@ -282,7 +282,7 @@ back_ring local n h = absurd (cc)
 back_ring (over_ring m) n h = let e : m ≡ n = cc in ap (λ k. over_ring k) e
 back_ring (over_route route) n h = absurd (cc)
 
-own_back : (side : Side) (back : Back) (at : RingEnd) → own_ring side back ≡ Some at → back ≡ over_ring at.ring
+pub own_back : (side : Side) (back : Back) (at : RingEnd) → own_ring side back ≡ Some at → back ≡ over_ring at.ring
 own_back side local at h = absurd (cc)
 own_back side (over_ring m) at h = let e : ring_side_of side m ≡ at = cc in ap (λ (x : RingEnd). over_ring x.ring) e
 own_back side (over_route route) at h = absurd (cc)
@@ -347,7 +347,7 @@ linked_outline b n side k =
 pub length_push : {X : Type 0} (xs : List X) (x : X) → length (xs ++ x ∷ []) ≡ length xs + 1
 length_push xs x = length-append xs (x ∷ [])
 
-link_plan : (a b size : ℕ) (s : State) → plan_of (with_new_link a b size s) ≡ with_link_between a b (plan_of s)
+pub link_plan : (a b size : ℕ) (s : State) → plan_of (with_new_link a b size s) ≡ with_link_between a b (plan_of s)
 link_plan a b size s =
     let n : ℕ = length s.rings in
     let near : List Core = changed_at a (linked b n first_side) s.cores in

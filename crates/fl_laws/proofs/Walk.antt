@@ -31,6 +31,8 @@ use Rattle.fl_queues.specs.Taking.{Chosen, takes_label, goes_back, gives_from_qu
 use Rattle.fl_queues.specs.SameTypes.{same_arguments}
 use Rattle.fl_queues.specs.Forwarding.{LinkEnd, link_end, monitor_writes_by, monitor_writes, monitor_acknowledges, Passing, label_of, goes_on_by, arrives_by, follows_entry, route_of, forwards_call, forwards_label, forwards}
 use Rattle.fl_queues.specs.Step.{does, settles_by, settles, step}
+use Rattle.fl_base.specs.declared.identity.LinkId.{LinkId}
+use Rattle.fl_base.specs.declared.identity.Circuit.{Circuit}
 use Rattle.fl_laws.proofs.Cases.{either, by_given}
 use Rattle.fl_queues.specs.Runs.{reached}
 use Rattle.fl_queues.specs.Forwarding.{after_hearing}
@@ -122,6 +124,18 @@ pub record IsArriving (hop : Hop) (to : EndId) (s : State) : Type 0 where
   pub queue_is : end.queue ≡ Some queue
   pub room : queue_room queue ≡ there_is_room
 
+-- an entry leads over a link of the core, which is on this side of a ring
+pub record IsGoingOn (here : LinkEnd) (p : Passing) (first : RingLabel) (route : Route) (hop : Hop) (on : RingEnd) (s : State) : Type 0 where
+  pub passing : IsPassing here p first route hop s
+  pub core : Core
+  pub core_is : core_of s here.core ≡ Some core
+  pub number : Circuit
+  pub link : LinkId
+  pub way : hop.way ≡ to_link link number
+  pub there : Link
+  pub link_is : slice_get core.links link.0 ≡ Some there
+  pub ring : there.ring ≡ on
+
 -- ---- what is to be shown of a predicate
 
 -- a call that passes all tests but the last; and a rule that passes all
@@ -143,10 +157,15 @@ CalledAt e c b i s = At s e b i
 abbrev pub RuledAt : EndId → ℕ → ℕ → Binding → Planned → State → Type 0
 RuledAt e msg answer b i s = At s e b i
 
+-- and of a fragment that goes on, only where it was
+abbrev pub PassedAt : LinkEnd → Passing → RingLabel → Route → Hop → RingEnd → State → Type 0
+PassedAt here p first route hop on s = IsPassing here p first route hop s
+
 -- from a state of which P holds, each update leads to one of which Q holds; what only looks keeps P. What is known
--- of a call and of a rule is given
+-- of a call, of a rule and of a fragment that goes on is given
 pub record KeepsUnder (Called : EndId → TheCall → Binding → Planned → State → Type 0)
-    (Ruled : EndId → ℕ → ℕ → Binding → Planned → State → Type 0) (P Q : State → Type 0) : Type 0 where
+    (Ruled : EndId → ℕ → ℕ → Binding → Planned → State → Type 0)
+    (Passed : LinkEnd → Passing → RingLabel → Route → Hop → RingEnd → State → Type 0) (P Q : State → Type 0) : Type 0 where
   -- making
   pub settled : (s : State) → Q s → Q (record s { may_set_cores = false })
   pub interface : (i : Planned) (s : State) → has_interface i.interface.name s ≡ false → P s → Q (with_interface i s)
@@ -204,14 +223,14 @@ pub record KeepsUnder (Called : EndId → TheCall → Binding → Planned → St
   pub heard : (here : LinkEnd) (m : Said) (first : RingLabel) (k : Core) (s : State) → IsHere here s → first_on here.ring s ≡ Some first
       → first.label ≡ says m → core_of s here.core ≡ Some k → P s → Q (after_hearing here (hears s.services here.link m k) s).state
   pub passed : (here : LinkEnd) (p : Passing) (first : RingLabel) (route : Route) (hop : Hop) (on : RingEnd) (s : State)
-      → IsPassing here p first route hop s → ring_room for_data on s ≡ there_is_room → P s → Q (goes_on_by here p on there_is_room s).state
+      → Passed here p first route hop on s → ring_room for_data on s ≡ there_is_room → P s → Q (goes_on_by here p on there_is_room s).state
   pub arrived : (here : LinkEnd) (p : Passing) (first : RingLabel) (route : Route) (hop : Hop) (to : EndId) (s : State)
       → IsPassing here p first route hop s → IsArriving hop to s → P s → Q (arrives_by here p to there_is_room s).state
   pub taken : (here : LinkEnd) (first : RingLabel) (s : State) → IsHere here s → first_on here.ring s ≡ Some first
       → first.label ≡ acknowledges → P s → Q (change_ring here.ring.ring (takes here.ring.side) s)
 
 abbrev pub KeepsFrom : (P Q : State → Type 0) → Type 0
-KeepsFrom P Q = KeepsUnder CalledAt RuledAt P Q
+KeepsFrom P Q = KeepsUnder CalledAt RuledAt PassedAt P Q
 
 -- each update keeps P
 abbrev pub Keeps : (State → Type 0) → Type 0
@@ -223,9 +242,12 @@ abbrev pub After : (State → Type 0) → Outcome → Type 0
 After P o = P o.state
 
 module _ (Called : EndId → TheCall → Binding → Planned → State → Type 0) (Ruled : EndId → ℕ → ℕ → Binding → Planned → State → Type 0)
+    (Passed : LinkEnd → Passing → RingLabel → Route → Hop → RingEnd → State → Type 0)
     (fitting : (e : EndId) (c : TheCall) (b : Binding) (i : Planned) (s : State) → Fitting e c b i s → Called e c b i s)
     (suiting : (e : EndId) (msg answer : ℕ) (b : Binding) (i : Planned) (s : State) → Suiting e msg answer b i s → Ruled e msg answer b i s)
-    (P Q : State → Type 0) (weaker : (s : State) → P s → Q s) (K : KeepsUnder Called Ruled P Q) where
+    (onward : (here : LinkEnd) (p : Passing) (first : RingLabel) (route : Route) (hop : Hop) (on : RingEnd) (s : State)
+        → IsGoingOn here p first route hop on s → Passed here p first route hop on s)
+    (P Q : State → Type 0) (weaker : (s : State) → P s → Q s) (K : KeepsUnder Called Ruled Passed P Q) where
   interface_after : (i : TheInterface) (plan : PlanNo) (s : State) → P s → After Q (adds_interface i plan s)
   interface_after i plan s h =
       either (After Q) (has_interface i.name s) _ _ (λ q. weaker s h)
@@ -457,8 +479,8 @@ module _ (Called : EndId → TheCall → Binding → Planned → State → Type 
   -- what stands first on a link
 
   passed_by_room : (here : LinkEnd) (p : Passing) (first : RingLabel) (route : Route) (hop : Hop) (on : RingEnd) (r : Room) (s : State)
-      → ring_room for_data on s ≡ r → IsPassing here p first route hop s → P s → After Q (goes_on_by here p on r s)
-  passed_by_room here p first route hop on there_is_room s q k h = K.passed here p first route hop on s k q h
+      → ring_room for_data on s ≡ r → IsGoingOn here p first route hop on s → P s → After Q (goes_on_by here p on r s)
+  passed_by_room here p first route hop on there_is_room s q k h = K.passed here p first route hop on s (onward here p first route hop on s k) q h
   passed_by_room here p first route hop on no_room s q k h = weaker s h
   passed_by_room here p first route hop on spent s q k h = weaker s h
 
@@ -488,12 +510,23 @@ module _ (Called : EndId → TheCall → Binding → Planned → State → Type 
   arrived_by_room here p first route hop to x y spent s k q t u v h = weaker s h
 
   entry_after : (here : LinkEnd) (p : Passing) (first : RingLabel) (route : Route) (hop : Hop) (k : Core) (way : Way) (s : State)
-      → IsPassing here p first route hop s → hop.way ≡ way → P s → After Q (follows_entry here p k way s)
-  entry_after here p first route hop k (to_link l c) s j q h =
+      → IsPassing here p first route hop s → core_of s here.core ≡ Some k → hop.way ≡ way → P s → After Q (follows_entry here p k way s)
+  entry_after here p first route hop k (to_link l c) s j at q h =
       by_given (After Q) (slice_get k.links l.0) _ _ (weaker s h)
       (λ link r. passed_by_room here p first route hop link.ring (ring_room for_data link.ring (ring_makes_sure for_data link.ring s))
-      (ring_makes_sure for_data link.ring s) refl (sure_passing here p first route hop link.ring s j) (K.sure for_data link.ring s h))
-  entry_after here p first route hop k (to_end to) s j q h =
+      (ring_makes_sure for_data link.ring s) refl
+      (record {
+        passing = sure_passing here p first route hop link.ring s j;
+        core = k;
+        core_is = at;
+        number = c;
+        link = l;
+        way = q;
+        there = link;
+        link_is = r;
+        ring = refl;
+      }) (K.sure for_data link.ring s h))
+  entry_after here p first route hop k (to_end to) s j at q h =
       by_given (After Q) (end_of s to) _ _ (weaker s h)
       (λ x r. by_given (After Q) x.queue _ _ (weaker s h) (λ y t. arrived_by_room here p first route hop to x y (queue_room y) s j q r t refl h))
 
@@ -520,7 +553,7 @@ module _ (Called : EndId → TheCall → Binding → Planned → State → Type 
         number = c;
         number_is = v;
         hop_is = w;
-      }) refl h))))))
+      }) u refl h))))))
 
   label_after : (here : LinkEnd) (label : Label) (first : RingLabel) (s : State) → IsHere here s → first_on here.ring s ≡ Some first
       → first.label ≡ label → P s → After Q (forwards_label here label s)
@@ -570,7 +603,8 @@ module _ (Called : EndId → TheCall → Binding → Planned → State → Type 
   step_leads_under s v h = settled v (does v s) (does_after v s h)
 
 pub step_leads : (P Q : State → Type 0) → ((s : State) → P s → Q s) → KeepsFrom P Q → (s : State) (v : Event) → P s → Q (step s v).state
-step_leads P Q weaker K s v h = step_leads_under CalledAt RuledAt (λ e c b i t k. k.at) (λ e m n b i t k. k.at) P Q weaker K s v h
+step_leads P Q weaker K s v h =
+    step_leads_under CalledAt RuledAt PassedAt (λ e c b i t k. k.at) (λ e m n b i t k. k.at) (λ here p first route hop on t k. k.passing) P Q weaker K s v h
 
 pub step_keeps : (P : State → Type 0) → Keeps P → (s : State) (v : Event) → P s → P (step s v).state
 step_keeps P K s v h = step_leads P P (λ t x. x) K s v h
