@@ -39,6 +39,7 @@ pub mod Seating
 pub mod Ready
 pub mod WaitsetsStep
 pub mod WaitsetsKept
+pub mod Listing
 pub mod Hearing
 pub mod LabelQueues
 pub mod Refusals
