@@ -29,6 +29,7 @@ pub mod Handled
 pub mod SoundCalls
 pub mod CoreWalk
 pub mod Outboxes
+pub mod Limits
 pub mod BindingWalk
 pub mod Queues
 pub mod EndsStanding
@@ -40,6 +41,7 @@ pub mod Ready
 pub mod WaitsetsStep
 pub mod WaitsetsKept
 pub mod Listing
+pub mod ListingEnds
 pub mod Hearing
 pub mod LabelQueues
 pub mod Refusals

@@ -15,6 +15,7 @@ ghost use Rattle.fl_queues.specs.SoundRings.{RingsCount, RingsFit};
 ghost use Rattle.fl_queues.specs.Worlds.{WorldsAreSound, EverInOrder, EverFewWait};
 ghost use Rattle.fl_queues.specs.SoundCalls.{CallsFit, RulesSuit};
 ghost use Rattle.fl_queues.specs.SoundLists.{FewRepliesWait, RepliesWaitWhereBusy, QueuesHaveRoom, OutboxesHaveRoom, BareUntilCoresAreSet, WaitsetsStand};
+ghost use Rattle.fl_queues.specs.SoundLimits.{CoresAreFew, InterfacesAreFew, ServicesAreFew, BindingsAreFew};
 ghost use Rattle.fl_queues.specs.Laws.{RingsCountInOrder, FewWaitAndOnlyWhereBusy, AllAccepted};
 ghost use Rattle.fl_queues.specs.Laws.{PassedFalls, HandledIsCounted, HandledIsAPrefix, RefusalsChangeNothing};
 
@@ -165,4 +166,12 @@ pub fn steps_keep_waitsets()
 /// Each step of a sound state keeps the seats: an end's channel is its dispatcher's channel for it, and no other's.
 pub fn steps_keep_seats()
     ensures kept { (s : State) (v : Event) → Sound s → SeatsAgree (step s v).state }
+{}
+
+/// Each step keeps the limits of a world, whatever else the state holds: at most 16 cores, 64 interfaces, 256 services and
+/// 1,024 bindings.
+pub fn steps_keep_limits()
+    ensures kept { (s : State) (v : Event) → CoresAreFew s → InterfacesAreFew s → ServicesAreFew s → BindingsAreFew s
+        → CoresAreFew (step s v).state × InterfacesAreFew (step s v).state × ServicesAreFew (step s v).state
+        × BindingsAreFew (step s v).state }
 {}
