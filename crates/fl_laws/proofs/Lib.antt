@@ -51,4 +51,5 @@ pub mod WorldReplies
 pub mod Arriving
 pub mod Seats
 pub mod SeatsStep
+pub mod ListingStep
 pub mod Sitting

@@ -166,7 +166,7 @@ back_same : (side : Side) (g : End → End) (b : Binding) → (with_end_in side 
 back_same Client g b = refl
 back_same Server g b = refl
 
-ring_end : (f : EndId) (g : End → End) (s : State) (e : EndId) → ring_of (change_end f g s).bindings e ≡ ring_of s.bindings e
+pub ring_end : (f : EndId) (g : End → End) (s : State) (e : EndId) → ring_of (change_end f g s).bindings e ≡ ring_of s.bindings e
 ring_end f g s e =
     view_same s.bindings f.binding e.binding (with_end_in f.side g) (λ b. own_ring e.side b.back) None (λ b q. ap (own_ring e.side) (back_same f.side g b))
 
@@ -246,7 +246,7 @@ BothOne b = (side : Side) → OneOf (own_ring side b.back) (end_in side b)
 abbrev pub AllOne : List Binding → Type 0
 AllOne bs = Each BothOne bs
 
-one_at : (s : State) (e : EndId) (x : End) → AllOne s.bindings → end_of s e ≡ Some x → OneOf (ring_of s.bindings e) x
+pub one_at : (s : State) (e : EndId) (x : End) → AllOne s.bindings → end_of s e ≡ Some x → OneOf (ring_of s.bindings e) x
 one_at s e x h q =
     let (b, at, is) = end_there s e x q in
     subst (λ (o : Option Binding). OneOf (given o None (λ c. own_ring e.side c.back)) x) (sym at)
@@ -296,7 +296,7 @@ no_queue : (q : Queue) (x : End) (own : Option RingEnd) → x.queue ≡ Some q �
 no_queue q x own e (inl a) = a
 no_queue q x own e (inr b) = absurd (let u : None ≡ Some q = sym b ∙ e in cc)
 
-fit_waits : (rings : List Ring) (own : Option RingEnd) (x : End) → IsSome x.circuit → OneOf own x → (q : Option Queue) → x.queue ≡ q
+pub fit_waits : (rings : List Ring) (own : Option RingEnd) (x : End) → IsSome x.circuit → OneOf own x → (q : Option Queue) → x.queue ≡ q
     → FitEnd rings (waits_in q) own x
 fit_waits rings own x b one None e =
     record { bound = b; kind = subst (λ (o : Option Queue). IsNone o) (sym e) refl; holds = tt }
@@ -374,7 +374,7 @@ push_some (k ∷ ls) l h = absurd (cc)
 queue_seat : (f : Queue → Queue) (x : End) → (in_queue f x).seat ≡ x.seat
 queue_seat f x = by_given (λ (y : End). y.seat ≡ x.seat) x.queue x _ refl (λ q r. refl)
 
-ones_queue : (f : Queue → Queue) (own : Option RingEnd) (x : End) → OneOf own x → OneOf own (in_queue f x)
+pub ones_queue : (f : Queue → Queue) (own : Option RingEnd) (x : End) → OneOf own x → OneOf own (in_queue f x)
 ones_queue f own x h =
     by_given (OneOf own) x.queue x _ h (λ q r. inl (no_queue q x own r h))
 

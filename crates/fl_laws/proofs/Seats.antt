@@ -163,7 +163,7 @@ changed_now {X} xs n f m z h =
       | inr b ↦ inr (b.0, b.1 ∙ ap (λ (y : X). Some (f y)) (some_same x z (sym q ∙ ap (slice_get xs) (sym b.0) ∙ h)))
     ])
 
-push_was : {X : Type 0} (xs : List X) (y : X) (c : ℕ) (z : X) → slice_get (xs ++ y ∷ []) c ≡ Some z → (slice_get xs c ≡ Some z) ⊎ ((c ≡ length xs) × (z ≡ y))
+pub push_was : {X : Type 0} (xs : List X) (y : X) (c : ℕ) (z : X) → slice_get (xs ++ y ∷ []) c ≡ Some z → (slice_get xs c ≡ Some z) ⊎ ((c ≡ length xs) × (z ≡ y))
 push_was [] y zero z q = inr (refl, sym (some_same y z q))
 push_was [] y (suc c) z q = absurd (cc)
 push_was (x ∷ xs) y zero z q = inl q
