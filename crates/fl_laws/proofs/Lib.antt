@@ -53,3 +53,4 @@ pub mod Seats
 pub mod SeatsStep
 pub mod ListingStep
 pub mod Sitting
+pub mod ListingKept

@@ -15,6 +15,7 @@ ghost use Rattle.fl_queues.specs.SoundRings.{RingsCount, RingsFit};
 ghost use Rattle.fl_queues.specs.Worlds.{WorldsAreSound, EverInOrder, EverFewWait};
 ghost use Rattle.fl_queues.specs.SoundCalls.{CallsFit, RulesSuit};
 ghost use Rattle.fl_queues.specs.SoundLists.{FewRepliesWait, RepliesWaitWhereBusy, QueuesHaveRoom, OutboxesHaveRoom, BareUntilCoresAreSet, WaitsetsStand};
+ghost use Rattle.fl_queues.specs.SoundLists.{ListedAreBound, PendingQueuesHold, PendingRingsWereLookedAt};
 ghost use Rattle.fl_queues.specs.SoundLimits.{CoresAreFew, InterfacesAreFew, ServicesAreFew, BindingsAreFew};
 ghost use Rattle.fl_queues.specs.Laws.{RingsCountInOrder, FewWaitAndOnlyWhereBusy, AllAccepted};
 ghost use Rattle.fl_queues.specs.Laws.{PassedFalls, HandledIsCounted, HandledIsAPrefix, RefusalsChangeNothing};
@@ -174,4 +175,11 @@ pub fn steps_keep_limits()
     ensures kept { (s : State) (v : Event) → CoresAreFew s → InterfacesAreFew s → ServicesAreFew s → BindingsAreFew s
         → CoresAreFew (step s v).state × InterfacesAreFew (step s v).state × ServicesAreFew (step s v).state
         × BindingsAreFew (step s v).state }
+{}
+
+/// Each step of a sound state keeps what is said of registered channels: the end of each is bound and of the kind of its list,
+/// a pending channel's queue holds something, and a pending channel's ring was looked at and has a call's fragment first.
+pub fn steps_keep_listed()
+    ensures kept { (s : State) (v : Event) → Sound s
+        → ListedAreBound (step s v).state × PendingQueuesHold (step s v).state × PendingRingsWereLookedAt (step s v).state }
 {}
