@@ -54,3 +54,4 @@ pub mod SeatsStep
 pub mod ListingStep
 pub mod Sitting
 pub mod ListingKept
+pub mod TurnsTold

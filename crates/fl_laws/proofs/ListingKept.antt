@@ -165,7 +165,7 @@ sound_owners s owners = record {
 }
 
 -- what an end reads, the other writes
-reads_other : (side : Side) (r : Ring) → read_by (side_of side) r ≡ written_by (side_of (other side)) r
+pub reads_other : (side : Side) (r : Ring) → read_by (side_of side) r ≡ written_by (side_of (other side)) r
 reads_other Client r = refl
 reads_other Server r = refl
 

@@ -190,7 +190,7 @@ written_fit e i d (ring_side on) s h =
 
 -- ---- turns
 
-first_in : (xs : List ℕ) (c : ℕ) → slice_get xs 0 ≡ Some c → is_in c xs ≡ true
+pub first_in : (xs : List ℕ) (c : ℕ) → slice_get xs 0 ≡ Some c → is_in c xs ≡ true
 first_in [] c h = absurd (cc)
 first_in (x ∷ xs) c h = subst (λ (n : ℕ). is_in n (x ∷ xs) ≡ true) (some_same x c h) (first_is_in x xs)
 
@@ -231,7 +231,7 @@ off_fit t to s k w a mine h =
 ring_at : (s : State) (e : EndId) (b : Binding) → binding_of s e ≡ Some b → ring_of s.bindings e ≡ own_ring e.side b.back
 ring_at s e b q = ap (λ (o : Option Binding). given o None (λ a. own_ring e.side a.back)) q
 
-end_at : (s : State) (e : EndId) (b : Binding) → binding_of s e ≡ Some b → end_of s e ≡ Some (end_in e.side b)
+pub end_at : (s : State) (e : EndId) (b : Binding) → binding_of s e ≡ Some b → end_of s e ≡ Some (end_in e.side b)
 end_at s e b q = ap (λ (o : Option Binding). given o None (λ a. Some (end_in e.side a))) q
 
 queue_circuit : (f : Queue → Queue) (x : End) → (in_queue f x).circuit ≡ x.circuit
@@ -284,7 +284,7 @@ from_ring_fit t b i at s k j r h =
     (λ place g ne. fit_takes at s place g (λ u. ne (h.owners.ends g t.end at u own))) mine h.fit)
 
 -- a pending channel finds something
-first_none : (ls : List Label) → slice_get ls 0 ≡ None → ls ≡ []
+pub first_none : (ls : List Label) → slice_get ls 0 ≡ None → ls ≡ []
 first_none [] h = refl
 first_none (l ∷ ls) h = absurd (cc)
 
