@@ -55,3 +55,4 @@ pub mod ListingStep
 pub mod Sitting
 pub mod ListingKept
 pub mod TurnsTold
+pub mod WritesTold
