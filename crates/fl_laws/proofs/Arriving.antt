@@ -50,7 +50,7 @@ not_true true h = absurd (cc)
 one_more : (t : ℕ) → 1 + t ≡ suc t
 one_more t = omega arith
 
-place_is : (xs : List ℕ) (t x : ℕ) → t < length xs → slice_index xs t ≡ x → all_differ xs ≡ true
+pub place_is : (xs : List ℕ) (t x : ℕ) → t < length xs → slice_index xs t ≡ x → all_differ xs ≡ true
     → position_or_len (λ c. c == x) xs ≡ t
 place_is [] t x a e d = absurd (omega arith)
 place_is (y ∷ xs) zero x a e d =
@@ -61,7 +61,7 @@ place_is (y ∷ xs) (suc t) x a e d =
     ap (λ (b : Bool). cond (not b) (1 + position_or_len (λ c. c == x) xs) 0) (ne_eqb y x ne)
     ∙ ap (λ (n : ℕ). 1 + n) (place_is xs t x (omega arith) e both.1) ∙ one_more t
 
-less_true : (m n : ℕ) → m < n → nat_lt m n ≡ true
+pub less_true : (m n : ℕ) → m < n → nat_lt m n ≡ true
 less_true m n h = grind (arith, nat_tests, h)
 
 less : (m n : ℕ) → nat_lt m n ≡ true → m < n

@@ -56,3 +56,4 @@ pub mod Sitting
 pub mod ListingKept
 pub mod TurnsTold
 pub mod WritesTold
+pub mod ForwardsTold

@@ -174,7 +174,7 @@ side_self Server = refl
 pub end_self : (e : EndId) → same_end e e ≡ true
 end_self e = ap (λ (t : Bool). t && same_side e.side e.side) (eq-eqb e.binding e.binding refl) ∙ side_self e.side
 
-picked_first : (e : EndId) (k : ℕ) (rest : List Label) → picked e (next_of e k ∷ rest) ≡ k ∷ picked e rest
+pub picked_first : (e : EndId) (k : ℕ) (rest : List Label) → picked e (next_of e k ∷ rest) ≡ k ∷ picked e rest
 picked_first e k rest = ap (λ (t : Bool). cons_option (if t then Some k else None) (picked e rest)) (end_self e)
 
 range_first : (a n k : ℕ) (rest : List ℕ) → range_with_len a n ≡ k ∷ rest → k ≡ a
@@ -191,7 +191,7 @@ peer_twice e = ap (λ (x : Side). (at e.binding x)) (side_twice e.side)
     at : ℕ → Side → EndId
     at n side = record { binding = n; side = side }
 
-way_length : (side : Side) (route : Route) → length (way_of side route) ≡ length route.cores
+pub way_length : (side : Side) (route : Route) → length (way_of side route) ≡ length route.cores
 way_length Client route = refl
 way_length Server route = Rattle.std.proofs.lemmas.List.length-reverse route.cores
 
