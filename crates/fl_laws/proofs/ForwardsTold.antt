@@ -242,9 +242,10 @@ module _ (s : State) (sound : Sound s) (here : LinkEnd) (t : LinkThere s here) w
       let one : e.entry.core ≡ t.core = some_same e.entry.core t.core (sym e.entry.core_is ∙ ap (core_of s) core ∙ t.core_is) in
       let to : link_to here.neighbour t.core ≡ Some e.entry.link =
       ap (λ (m : ℕ). link_to m t.core) (sym neighbour) ∙ ap (link_to key.neighbour) (sym one) ∙ e.entry.link_is in
-      let link : here.link ≡ e.entry.link = some_same here.link e.entry.link (sym t.place ∙ to) in
-      (ap (λ (l : ℕ). hop_at t.core.circuits l key.number) link ∙ ap (λ (k : Core). hop_at k.circuits e.entry.link key.number) (sym one) ∙ e.entry.there,
-      subst (λ (k : Core). SaysWay k e.hop.way leads) one e.way)
+      let link : here.link ≡ e.entry.link = some_same here.link e.entry.link (sym t.place ∙ to) in (
+        ap (λ (l : ℕ). hop_at t.core.circuits l key.number) link ∙ ap (λ (k : Core). hop_at k.circuits e.entry.link key.number) (sym one) ∙ e.entry.there,
+        subst (λ (k : Core). SaysWay k e.hop.way leads) one e.way,
+      )
 
   -- ---- a call's label
 
@@ -324,7 +325,7 @@ module _ (s : State) (sound : Sound s) (here : LinkEnd) (t : LinkThere s here) w
         let all : length its_out.passed ≡ length over.route.cores + 1 = all_passed in
         let below : suc over.place < length its_way = far_at.0 in
         let numbers : picked e (before_by s e its_binding.back (suc over.place)) ≡ range_with_len (slice_index its_out.passed (suc over.place))
-            (slice_index its_out.passed over.place - slice_index its_out.passed (suc over.place)) = (before over.place (omega arith)).labels in
+        (slice_index its_out.passed over.place - slice_index its_out.passed (suc over.place)) = (before over.place (omega arith)).labels in
         let more : 1 ≤ slice_index its_out.passed over.place - slice_index its_out.passed (suc over.place) =
         some_stand (slice_index its_out.passed (suc over.place)) _ k (picked e rest) (sym numbers ∙ ap (picked e) it_stands ∙ picked_first e k rest) in
         let most : slice_index its_out.passed over.place ≤ slice_index its_out.passed 0 = first_most over.place (omega arith) in
@@ -426,7 +427,7 @@ module _ (s : State) (sound : Sound s) (here : LinkEnd) (t : LinkThere s here) w
       let entry : EntryIs s (near_key due.route d.place) due.binding (behind due.binding due.route d.place) =
       (sound.entries due.binding due.route due.routed).near d.place d.stands d.within in
       let (there, leads_so) = entry_here due.binding (behind due.binding due.route d.place) (near_key due.route d.place) (sym d.to)
-          (ap (core_at due.route) (omega arith) ∙ sym d.from) entry in
+      (ap (core_at due.route) (omega arith) ∙ sym d.from) entry in
       (entry.hop, ap (hop_at t.core.circuits here.link) (sym d.number) ∙ there)
 
   said_known : (services : List Service) (m : Said) (first : RingLabel) → first_on here.ring s ≡ Some first → first.label ≡ says m

@@ -57,3 +57,4 @@ pub mod ListingKept
 pub mod TurnsTold
 pub mod WritesTold
 pub mod ForwardsTold
+pub mod ListingLaws

@@ -77,10 +77,12 @@ module _ (s : State) (sound : Sound s) where
       let whole : length route.numbers + 1 ≡ length route.cores = granted_by route r.binding route.verdict by bound (sound.verdicts n route r) in
       let j : ℕ = length route.cores - 2 in
       let (link, is) = some_there (link_between s (core_at route j) (core_at route (j + 1))) (go.linked j (omega arith)) in
-      let paired : LinkIsPaired s (core_at route j) (core_at route (j + 1)) link = sound.links (core_at route j) (core_at route (j + 1)) link is in
-      (paired.back, link_first s (reverse route.cores) (core_at route (j + 1)) (core_at route j) paired.back
-      (get_back route.cores 0 (omega arith) ∙ ap (λ (k : ℕ). Some (core_at route k)) (omega arith))
-      (get_back route.cores 1 (omega arith) ∙ ap (λ (k : ℕ). Some (core_at route k)) (omega arith)) paired.back_is)
+      let paired : LinkIsPaired s (core_at route j) (core_at route (j + 1)) link = sound.links (core_at route j) (core_at route (j + 1)) link is in (
+        paired.back,
+        link_first s (reverse route.cores) (core_at route (j + 1)) (core_at route j) paired.back
+            (get_back route.cores 0 (omega arith) ∙ ap (λ (k : ℕ). Some (core_at route k)) (omega arith))
+            (get_back route.cores 1 (omega arith) ∙ ap (λ (k : ℕ). Some (core_at route k)) (omega arith)) paired.back_is,
+      )
 
   outlet_there : (e : EndId) (b : Binding) (back : Back) → binding_of s e ≡ Some b → b.back ≡ back → IsSome (end_in e.side b).circuit
       → (o : Outlet) × (outlet_by s e.side back ≡ Some o)
@@ -134,7 +136,7 @@ length_stream circuit i (c ∷ cs) =
     length-map (range_with_len 0 (fragments i c)) (frag_on circuit c.msg (payload_of i.plan i.interface c)) ∙ length-range_with_len 0 (fragments i c) in
     let rest : length (stream circuit i cs) ≡ total i cs = length_stream circuit i cs in
     let both : length (Rattle.fl_wire.specs.Payload.frags_on circuit i.plan i.interface c ++ stream circuit i cs)
-        ≡ length (Rattle.fl_wire.specs.Payload.frags_on circuit i.plan i.interface c) + length (stream circuit i cs) =
+    ≡ length (Rattle.fl_wire.specs.Payload.frags_on circuit i.plan i.interface c) + length (stream circuit i cs) =
     length-append (Rattle.fl_wire.specs.Payload.frags_on circuit i.plan i.interface c) (stream circuit i cs) in
     omega arith
 

@@ -13,6 +13,8 @@ ghost use Rattle.fl_queues.specs.SoundRoutes.{RoutesLead};
 ghost use Rattle.fl_queues.specs.SoundLabels.{LabelsKeepToTheirWays, WritesAreCounted};
 ghost use Rattle.fl_queues.specs.SoundRings.{RingsCount, RingsFit};
 ghost use Rattle.fl_queues.specs.Worlds.{WorldsAreSound, EverInOrder, EverFewWait};
+ghost use Rattle.fl_queues.specs.Worlds.{ListedHaveEnds, WritesUnderstand, ShowsUnderstand, TurnsGiveTheNext};
+ghost use Rattle.fl_queues.specs.Laws.{RunsAreSound, ChannelsAreOnce, PendingHasAFragment, TurnsUnderstand, ForwardsUnderstand};
 ghost use Rattle.fl_queues.specs.SoundCalls.{CallsFit, RulesSuit};
 ghost use Rattle.fl_queues.specs.SoundLists.{FewRepliesWait, RepliesWaitWhereBusy, QueuesHaveRoom, OutboxesHaveRoom, BareUntilCoresAreSet, WaitsetsStand};
 ghost use Rattle.fl_queues.specs.SoundLists.{ListedAreBound, PendingQueuesHold, PendingRingsWereLookedAt};
@@ -182,4 +184,46 @@ pub fn steps_keep_limits()
 pub fn steps_keep_listed()
     ensures kept { (s : State) (v : Event) → Sound s
         → ListedAreBound (step s v).state × PendingQueuesHold (step s v).state × PendingRingsWereLookedAt (step s v).state }
+{}
+
+/// In a sound state, a channel that stands in a list of its dispatcher has an end, and that a binding.
+pub fn listed_have_ends_in_sound_states()
+    ensures ends { (s : State) → Sound s → ListedHaveEnds s }
+{}
+
+/// Where every state that a run reaches is sound, no channel stands twice in a waitset's lists.
+pub fn channels_are_once_where_runs_are_sound()
+    ensures once { RunsAreSound → ChannelsAreOnce }
+{}
+
+/// Where every state that a run reaches is sound, a pending channel has a fragment, and where that is a ring's it was looked at.
+pub fn pending_has_a_fragment_where_runs_are_sound()
+    ensures has { RunsAreSound → PendingHasAFragment }
+{}
+
+/// In a sound state, a turn answers `nothing` only where no channel of the dispatcher is pending or polled.
+pub fn turns_are_understood()
+    ensures understood { TurnsUnderstand }
+{}
+
+/// In a sound state, a turn of a dispatcher with a pending channel gives the first one's end the other end's next fragment, or
+/// holds that back.
+pub fn turns_give_the_next_fragment()
+    ensures next { TurnsGiveTheNext }
+{}
+
+/// In a sound state, a write answers `nothing` only where all fragments of the end's calls are written.
+pub fn writes_are_understood()
+    ensures understood { WritesUnderstand }
+{}
+
+/// In a sound state, nothing is shown only where all fragments of the end's calls are written.
+pub fn shows_are_understood()
+    ensures understood { ShowsUnderstand }
+{}
+
+/// In a sound state, a forward answers `nothing` only where nothing stands on the link: for each call's fragment, and each
+/// answer to an opening, an entry stands.
+pub fn forwards_are_understood()
+    ensures understood { ForwardsUnderstand }
 {}
