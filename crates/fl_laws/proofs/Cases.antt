@@ -10,6 +10,11 @@ pub by_given : {X Y : Type 0} (P : Y → Type 0) (o : Option X) (y : Y) (f : X �
 by_given P None y f h g = h
 by_given P (Some x) y f h g = g x refl
 
+-- and with what is known where nothing is there
+pub by_given_or : {X Y : Type 0} (P : Y → Type 0) (o : Option X) (y : Y) (f : X → Y) → (o ≡ None → P y) → ((x : X) → o ≡ Some x → P (f x)) → P (given o y f)
+by_given_or P None y f h g = h refl
+by_given_or P (Some x) y f h g = g x refl
+
 -- P holds of each element
 abbrev pub Each : {X : Type 0} → (X → Type 0) → List X → Type 0
 Each {X} P xs = (n : ℕ) (x : X) → slice_get xs n ≡ Some x → P x

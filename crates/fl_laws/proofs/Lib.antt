@@ -29,6 +29,7 @@ pub mod Handled
 pub mod SoundCalls
 pub mod CoreWalk
 pub mod Outboxes
+pub mod Limits
 pub mod BindingWalk
 pub mod Queues
 pub mod EndsStanding
@@ -39,6 +40,8 @@ pub mod Seating
 pub mod Ready
 pub mod WaitsetsStep
 pub mod WaitsetsKept
+pub mod Listing
+pub mod ListingEnds
 pub mod Hearing
 pub mod LabelQueues
 pub mod Refusals
@@ -48,6 +51,7 @@ pub mod WorldReplies
 pub mod Arriving
 pub mod Seats
 pub mod SeatsStep
+pub mod ListingStep
 pub mod Sitting
 pub mod Faces
 pub mod Turned
@@ -74,3 +78,8 @@ pub mod LabelsTaken
 pub mod LabelsForward
 pub mod LabelsStep
 pub mod LabelsSound
+pub mod ListingKept
+pub mod TurnsTold
+pub mod WritesTold
+pub mod ForwardsTold
+pub mod ListingLaws

@@ -159,8 +159,8 @@ passed_grows : (S T : ℕ → Option Sight) (e : EndId) (i : ℕ) (x y : Sight) 
 passed_grows S T e i x y p n z q = elim (same_or n e.binding) [
   | inr d ↦ (z, p.rest n d ∙ q, refl)
   | inl d ↦ (
-    let same : x ≡ z = (let u : Some x ≡ Some z = sym p.was ∙ ap S (sym d) ∙ q in cc) in
-    (y, ap T d ∙ p.now, p.joint ∙ ap (λ (w : Sight). w.joint) same))
+      let same : x ≡ z = (let u : Some x ≡ Some z = sym p.was ∙ ap S (sym d) ∙ q in cc) in
+      (y, ap T d ∙ p.now, p.joint ∙ ap (λ (w : Sight). w.joint) same))
 ]
 
 pub passing_good : (R R2 : Owner → List Label) (S T : ℕ → Option Sight) (e : EndId) (i k : ℕ) (x y : Sight) → PassedBy S T e i x y

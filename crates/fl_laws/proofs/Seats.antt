@@ -144,7 +144,7 @@ given_elem None f c y h = absurd (cc)
 given_elem (Some x) f c y h = (x, refl, h)
 
 -- what stood at a place stands there after a change, changed or not
-abbrev Now : {X : Type 0} → List X → ℕ → (X → X) → ℕ → X → Type 0
+abbrev pub Now : {X : Type 0} → List X → ℕ → (X → X) → ℕ → X → Type 0
 Now {X} xs n f m z = (slice_get (changed_at n f xs) m ≡ Some z) ⊎ ((m ≡ n) × (slice_get (changed_at n f xs) m ≡ Some (f z)))
 
 set_now : {X : Type 0} (xs : List X) (n : ℕ) (y : X) (m : ℕ) (z : X) → slice_get xs m ≡ Some z
@@ -155,7 +155,7 @@ set_now (x ∷ xs) zero y (suc m) z q = inl q
 set_now (x ∷ xs) (suc n) y zero z q = inl q
 set_now (x ∷ xs) (suc n) y (suc m) z q = elim (set_now xs n y m z q) [ inl a ↦ inl a | inr b ↦ inr (ap suc b.0, b.1) ]
 
-changed_now : {X : Type 0} (xs : List X) (n : ℕ) (f : X → X) (m : ℕ) (z : X) → slice_get xs m ≡ Some z → Now xs n f m z
+pub changed_now : {X : Type 0} (xs : List X) (n : ℕ) (f : X → X) (m : ℕ) (z : X) → slice_get xs m ≡ Some z → Now xs n f m z
 changed_now {X} xs n f m z h =
     by_given (λ (ys : List X). (slice_get ys m ≡ Some z) ⊎ ((m ≡ n) × (slice_get ys m ≡ Some (f z)))) (slice_get xs n) xs (λ x. slice_set xs n (f x)) (inl h)
     (λ x q. elim (set_now xs n (f x) m z h) [
@@ -163,7 +163,7 @@ changed_now {X} xs n f m z h =
       | inr b ↦ inr (b.0, b.1 ∙ ap (λ (y : X). Some (f y)) (some_same x z (sym q ∙ ap (slice_get xs) (sym b.0) ∙ h)))
     ])
 
-push_was : {X : Type 0} (xs : List X) (y : X) (c : ℕ) (z : X) → slice_get (xs ++ y ∷ []) c ≡ Some z → (slice_get xs c ≡ Some z) ⊎ ((c ≡ length xs) × (z ≡ y))
+pub push_was : {X : Type 0} (xs : List X) (y : X) (c : ℕ) (z : X) → slice_get (xs ++ y ∷ []) c ≡ Some z → (slice_get xs c ≡ Some z) ⊎ ((c ≡ length xs) × (z ≡ y))
 push_was [] y zero z q = inr (refl, sym (some_same y z q))
 push_was [] y (suc c) z q = absurd (cc)
 push_was (x ∷ xs) y zero z q = inl q

@@ -69,7 +69,7 @@ found_kept t at acknowledges s h = dispatcher_kept t.dispatcher _ (change_ring a
 -- ---- who is seated
 
 -- the server's end is unseated after the client's was seated
-server_free : (n : ℕ) (d : DispatcherId) (s : State) → Unseated (end_id n Server) s → Unseated (end_id n Server) (seats d (end_id n Client) s)
+pub server_free : (n : ℕ) (d : DispatcherId) (s : State) → Unseated (end_id n Server) s → Unseated (end_id n Server) (seats d (end_id n Client) s)
 server_free n d s u =
     by_given (Unseated (end_id n Server)) (dispatcher_of s d) _ _ u
     (λ x q. (
@@ -87,7 +87,7 @@ both_kept n w s uc uv h =
     bound_kept v 0 (binds_end c 0 second) (bound_kept c 0 second
     (seating_kept w.service.dispatcher v first (server_free n w.client s uv) (seating_kept w.client c s uc h)))
 
-route_free : (n : ℕ) (f : Route → Route) (s : State) → Unseated (end_id n Server) s → Unseated (end_id n Server) (change_route n f s)
+pub route_free : (n : ℕ) (f : Route → Route) (s : State) → Unseated (end_id n Server) s → Unseated (end_id n Server) (change_route n f s)
 route_free n f s u =
     (record u.0 { back = in_route f u.0.back }, changed_here s.bindings n (λ (b : Binding). record b { back = in_route f b.back }) u.0 u.1, u.2)
 
@@ -98,7 +98,7 @@ abbrev pub SitFits : State → Heard → Type 0
 SitFits s (server_made n d c) = Unseated (end_id n Server) s
 SitFits s heard = Unit {0}
 
-fits_alike : (s t : State) (x : Heard) → ((n : ℕ) → Unseated (end_id n Server) s → Unseated (end_id n Server) t) → SitFits s x → SitFits t x
+pub fits_alike : (s t : State) (x : Heard) → ((n : ℕ) → Unseated (end_id n Server) s → Unseated (end_id n Server) t) → SitFits s x → SitFits t x
 fits_alike s t no_outbox k h = h
 fits_alike s t astray k h = h
 fits_alike s t (opening_went_on b c) k h = h

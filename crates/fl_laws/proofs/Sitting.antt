@@ -64,7 +64,7 @@ module _ (s : State) (sound : Sound s) where
       let none : NoneBound due.routed.binding = subst (λ (v : Verdict). BoundBy route v due.routed.binding) opens.verdict by in
       subst (λ (n : ℕ). Unseated (end_id n Server) s) opens.binding (due.routed.binding, due.routed.there, none.2)
 
-  sit_fits : (here : LinkEnd) (m : Said) (first : RingLabel) (k : Core) → IsHere here s → first_on here.ring s ≡ Some first → first.label ≡ says m
+  pub sit_fits : (here : LinkEnd) (m : Said) (first : RingLabel) (k : Core) → IsHere here s → first_on here.ring s ≡ Some first → first.label ≡ says m
       → core_of s here.core ≡ Some k → SitFits s (hears s.services here.link m k).heard
   sit_fits here (open_circuit o) first k j q l at = opening_fits s here.link o (fate s.services o k) k (server_unseated here o first j q l)
   sit_fits here (circuit_opened c) first k j q l at =

@@ -165,7 +165,7 @@ empty_once Idle = tt
 empty_once Polled = tt
 empty_once Pending = tt
 
-empty_none : (place : Place) (k : ℕ) → is_in k (list_at fresh_dispatcher.lists place) ≡ true → ⊥
+pub empty_none : (place : Place) (k : ℕ) → is_in k (list_at fresh_dispatcher.lists place) ≡ true → ⊥
 empty_none Idle k h = false≢true h
 empty_none Polled k h = false≢true h
 empty_none Pending k h = false≢true h

@@ -40,17 +40,17 @@ use Rattle.fl_laws.proofs.Walk.{IsTurn, IsHere}
 
 -- ---- a turn
 
-first_pending : (x : Dispatcher) (pend poll : List ℕ) (c : ℕ) → first_due pend poll ≡ pending c → slice_get pend 0 ≡ Some c
+pub first_pending : (x : Dispatcher) (pend poll : List ℕ) (c : ℕ) → first_due pend poll ≡ pending c → slice_get pend 0 ≡ Some c
 first_pending x (d ∷ pend) poll c h = let e : d ≡ c = cc in ap (λ (n : ℕ). Some n) e
 first_pending x [] (d ∷ poll) c h = absurd (cc)
 first_pending x [] [] c h = absurd (cc)
 
-first_polled : (x : Dispatcher) (pend poll : List ℕ) (c : ℕ) → first_due pend poll ≡ polled c → slice_get poll 0 ≡ Some c
+pub first_polled : (x : Dispatcher) (pend poll : List ℕ) (c : ℕ) → first_due pend poll ≡ polled c → slice_get poll 0 ≡ Some c
 first_polled x (d ∷ pend) poll c h = absurd (cc)
 first_polled x [] (d ∷ poll) c h = let e : d ≡ c = cc in ap (λ (n : ℕ). Some n) e
 first_polled x [] [] c h = absurd (cc)
 
-same_dispatcher_at : (s : State) (d : DispatcherId) (x y : Dispatcher) → dispatcher_of s d ≡ Some x → dispatcher_of s d ≡ Some y → x ≡ y
+pub same_dispatcher_at : (s : State) (d : DispatcherId) (x y : Dispatcher) → dispatcher_of s d ≡ Some x → dispatcher_of s d ≡ Some y → x ≡ y
 same_dispatcher_at s d x y p q = let e : Some x ≡ Some y = sym p ∙ q in cc
 
 pub back_kept : (t : Chosen) (to : Place) (s : State) → IsTurn t (pending t.channel) s → AllStand s.cores → AllStand (goes_back t to s).cores

@@ -33,7 +33,7 @@ use Rattle.fl_queues.specs.Forwarding.{LinkEnd, link_end, monitor_writes_by, mon
 use Rattle.fl_queues.specs.Step.{does, settles_by, settles, step}
 use Rattle.fl_base.specs.declared.identity.LinkId.{LinkId}
 use Rattle.fl_base.specs.declared.identity.Circuit.{Circuit}
-use Rattle.fl_laws.proofs.Cases.{either, by_given}
+use Rattle.fl_laws.proofs.Cases.{either, by_given, by_given_or}
 use Rattle.fl_queues.specs.Runs.{reached}
 use Rattle.fl_queues.specs.Forwarding.{after_hearing}
 use Rattle.fl_queues.specs.State.{registers_end}
@@ -161,28 +161,61 @@ RuledAt e msg answer b i s = At s e b i
 abbrev pub PassedAt : LinkEnd → Passing → RingLabel → Route → Hop → RingEnd → State → Type 0
 PassedAt here p first route hop on s = IsPassing here p first route hop s
 
+-- what a world makes within a limit
+pub data Making : Type 0 where
+  an_interface : Making
+  so_many_cores : ℕ → Making
+  a_service : Making
+  a_binding : Making
+
+-- there is room for it
+abbrev pub HasRoom : Making → State → Type 0
+HasRoom an_interface s = nat_le most_interfaces (length s.interfaces) ≡ false
+HasRoom (so_many_cores n) s = nat_lt n 1 || nat_lt most_cores n ≡ false
+HasRoom a_service s = nat_le most_services (length s.services) ≡ false
+HasRoom a_binding s = nat_le most_bindings (length s.bindings) ≡ false
+
+-- a pending channel at which no fragment stands, and the list that it goes to
+pub data FindsNone (t : Chosen) (b : Binding) (s : State) : Place → Type 0 where
+  in_queue_none : (q : Queue) → (end_in t.end.side b).queue ≡ Some q → slice_get q.labels 0 ≡ None → FindsNone t b s (waits_in (Some q))
+  on_ring_none : (at : RingEnd) → own_ring t.end.side b.back ≡ Some at → first_on at s ≡ None → FindsNone t b s Polled
+
+pub record IsWithout (t : Chosen) (to : Place) (s : State) : Type 0 where
+  pub turn : IsTurn t (pending t.channel) s
+  pub binding : Binding
+  pub there : binding_of s t.end ≡ Some binding
+  pub none : FindsNone t binding s to
+
+-- or of either no more than the state that it is in
+abbrev pub MadeIn : (State → Type 0) → Making → State → Type 0
+MadeIn P m s = P s
+
+abbrev pub TurnAt : Chosen → Place → State → Type 0
+TurnAt t to s = IsTurn t (pending t.channel) s
+
 -- from a state of which P holds, each update leads to one of which Q holds; what only looks keeps P. What is known
--- of a call, of a rule and of a fragment that goes on is given
-pub record KeepsUnder (Called : EndId → TheCall → Binding → Planned → State → Type 0)
+-- of a call, of a rule and of a fragment that goes on, where there is a limit, and of a pending channel without a fragment, is given
+pub record KeepsWithin (Called : EndId → TheCall → Binding → Planned → State → Type 0)
     (Ruled : EndId → ℕ → ℕ → Binding → Planned → State → Type 0)
-    (Passed : LinkEnd → Passing → RingLabel → Route → Hop → RingEnd → State → Type 0) (P Q : State → Type 0) : Type 0 where
+    (Passed : LinkEnd → Passing → RingLabel → Route → Hop → RingEnd → State → Type 0) (Made : Making → State → Type 0)
+    (Without : Chosen → Place → State → Type 0) (P Q : State → Type 0) : Type 0 where
   -- making
   pub settled : (s : State) → Q s → Q (record s { may_set_cores = false })
-  pub interface : (i : Planned) (s : State) → has_interface i.interface.name s ≡ false → P s → Q (with_interface i s)
-  pub cores : (n : ℕ) (s : State) → not s.may_set_cores ≡ false → P s → Q (record s { cores = map fresh_core (range_with_len 0 n) })
+  pub interface : (i : Planned) (s : State) → has_interface i.interface.name s ≡ false → Made an_interface s → Q (with_interface i s)
+  pub cores : (n : ℕ) (s : State) → not s.may_set_cores ≡ false → Made (so_many_cores n) s → Q (record s { cores = map fresh_core (range_with_len 0 n) })
   pub link : (a b size : ℕ) (s : State) → not (is_core a s && is_core b s) || (a == b) || has_link a b s ≡ false
       → is_ring_size size ≡ true → P s → Q (with_new_link a b size s)
   pub dispatcher : (core : ℕ) (s : State) → P s → Q (change_core core with_dispatcher s)
   pub service : (x : Service) (s : State) (d : Dispatcher) (i : Planned) → dispatcher_of s x.dispatcher ≡ Some d
-      → slice_get s.interfaces x.interface ≡ Some i → has_service x.name s ≡ false → P s → Q (with_service x s)
+      → slice_get s.interfaces x.interface ≡ Some i → has_service x.name s ≡ false → Made a_service s → Q (with_service x s)
   -- bindings
-  pub queues : (w : Wanted) (i : Planned) (slots : ℕ) (s : State) → IsWanted w i s → not (has_both_places w s) ≡ false → P s
+  pub queues : (w : Wanted) (i : Planned) (slots : ℕ) (s : State) → IsWanted w i s → not (has_both_places w s) ≡ false → Made a_binding s
       → Q (binds_both (length s.bindings) w (with_new_binding w local 2 (Some (fresh_queue slots)) s))
   pub ring : (w : Wanted) (i : Planned) (size : ℕ) (s : State) → IsWanted w i s → is_ring_size size ≡ true
-      → not (has_both_places w s) ≡ false → P s
+      → not (has_both_places w s) ≡ false → Made a_binding s
       → Q (binds_both (length s.bindings) w (with_new_binding w (over_ring (length s.rings)) 2 None (with_ring size s)))
   pub route : (w : Wanted) (i : Planned) (cores : List ℕ) (k : Core) (l c : ℕ) (s : State) → IsWanted w i s
-      → BeginsRoute w cores k l c s → P s → Q (with_circuit_begun w cores (length s.bindings) l c s)
+      → BeginsRoute w cores k l c s → Made a_binding s → Q (with_circuit_begun w cores (length s.bindings) l c s)
   -- sending
   pub called : (e : EndId) (c : TheCall) (b : Binding) (i : Planned) (s : State) → Called e c b i s
       → is_busy i (end_in e.side b).out ≡ false → P s → Q (change_out e (accepts c) s)
@@ -195,7 +228,7 @@ pub record KeepsUnder (Called : EndId → TheCall → Binding → Planned → St
   -- a turn
   pub held : (t : Chosen) (b : Binding) (i : Planned) (s : State) → IsTurn t (pending t.channel) s → At s t.end b i
       → holds_back (end_in t.end.side b) ≡ true → P s → Q (goes_back t Pending s)
-  pub no_label : (t : Chosen) (to : Place) (s : State) → IsTurn t (pending t.channel) s → P s → Q (goes_back t to s)
+  pub no_label : (t : Chosen) (to : Place) (s : State) → Without t to s → P s → Q (goes_back t to s)
   pub from_queue : (t : Chosen) (b : Binding) (i : Planned) (q : Queue) (label : Label) (s : State) → IsTurn t (pending t.channel) s
       → At s t.end b i → holds_back (end_in t.end.side b) ≡ false → (end_in t.end.side b).queue ≡ Some q
       → slice_get q.labels 0 ≡ Some label → P s
@@ -229,6 +262,11 @@ pub record KeepsUnder (Called : EndId → TheCall → Binding → Planned → St
   pub taken : (here : LinkEnd) (first : RingLabel) (s : State) → IsHere here s → first_on here.ring s ≡ Some first
       → first.label ≡ acknowledges → P s → Q (change_ring here.ring.ring (takes here.ring.side) s)
 
+-- as it is without the limits and the fragment of a pending channel
+abbrev pub KeepsUnder : (EndId → TheCall → Binding → Planned → State → Type 0) → (EndId → ℕ → ℕ → Binding → Planned → State → Type 0)
+    → (LinkEnd → Passing → RingLabel → Route → Hop → RingEnd → State → Type 0) → (P Q : State → Type 0) → Type 0
+KeepsUnder Called Ruled Passed P Q = KeepsWithin Called Ruled Passed (MadeIn P) TurnAt P Q
+
 abbrev pub KeepsFrom : (P Q : State → Type 0) → Type 0
 KeepsFrom P Q = KeepsUnder CalledAt RuledAt PassedAt P Q
 
@@ -246,18 +284,21 @@ module _ (Called : EndId → TheCall → Binding → Planned → State → Type 
     (fitting : (e : EndId) (c : TheCall) (b : Binding) (i : Planned) (s : State) → Fitting e c b i s → Called e c b i s)
     (suiting : (e : EndId) (msg answer : ℕ) (b : Binding) (i : Planned) (s : State) → Suiting e msg answer b i s → Ruled e msg answer b i s)
     (onward : (here : LinkEnd) (p : Passing) (first : RingLabel) (route : Route) (hop : Hop) (on : RingEnd) (s : State)
-        → IsGoingOn here p first route hop on s → Passed here p first route hop on s)
-    (P Q : State → Type 0) (weaker : (s : State) → P s → Q s) (K : KeepsUnder Called Ruled Passed P Q) where
+    → IsGoingOn here p first route hop on s → Passed here p first route hop on s)
+    (Made : Making → State → Type 0) (Without : Chosen → Place → State → Type 0) (P Q : State → Type 0)
+    (making : (m : Making) (s : State) → HasRoom m s → P s → Made m s)
+    (without : (t : Chosen) (to : Place) (s : State) → IsWithout t to s → Without t to s)
+    (weaker : (s : State) → P s → Q s) (K : KeepsWithin Called Ruled Passed Made Without P Q) where
   interface_after : (i : TheInterface) (plan : PlanNo) (s : State) → P s → After Q (adds_interface i plan s)
   interface_after i plan s h =
       either (After Q) (has_interface i.name s) _ _ (λ q. weaker s h)
       (λ q. either (After Q) (nat_le most_interfaces (length s.interfaces)) _ _ (λ r. weaker s h)
-      (λ r. K.interface (record { interface = i; plan = plan }) s q h))
+      (λ r. K.interface (record { interface = i; plan = plan }) s q (making an_interface s r h)))
 
   cores_after : (n : ℕ) (s : State) → P s → After Q (sets_cores n s)
   cores_after n s h =
       either (After Q) (not s.may_set_cores) _ _ (λ q. weaker s h)
-      (λ q. either (After Q) (nat_lt n 1 || nat_lt most_cores n) _ _ (λ r. weaker s h) (λ r. K.cores n s q h))
+      (λ q. either (After Q) (nat_lt n 1 || nat_lt most_cores n) _ _ (λ r. weaker s h) (λ r. K.cores n s q (making (so_many_cores n) s r h)))
 
   link_sized : (t : Bool) (a b size : ℕ) (s : State) → is_ring_size size ≡ t
       → not (is_core a s && is_core b s) || (a == b) || has_link a b s ≡ false → P s
@@ -281,39 +322,39 @@ module _ (Called : EndId → TheCall → Binding → Planned → State → Type 
       (λ x q. by_given (After Q) (slice_get s.interfaces i) _ _ (weaker s h)
       (λ y r. either (After Q) (has_service name s) _ _ (λ t. weaker s h)
       (λ t. either (After Q) (nat_le most_services (length s.services)) _ _ (λ u. weaker s h)
-      (λ u. K.service (record { name = name; dispatcher = d; interface = i }) s x y q r t h))))
+      (λ u. K.service (record { name = name; dispatcher = d; interface = i }) s x y q r t (making a_service s u h)))))
 
-  queues_after : (w : Wanted) (i : Planned) (slots : ℕ) (s : State) → IsWanted w i s → P s → After Q (binds_by_queues w slots s)
-  queues_after w i slots s k h =
+  queues_after : (w : Wanted) (i : Planned) (slots : ℕ) (s : State) → IsWanted w i s → HasRoom a_binding s → P s → After Q (binds_by_queues w slots s)
+  queues_after w i slots s k m h =
       either (After Q) (not (w.client.core == w.service.dispatcher.core)) _ _ (λ q. weaker s h)
       (λ q. either (After Q) (nat_lt slots 1 || nat_lt 1024 slots) _ _ (λ r. weaker s h)
-      (λ r. either (After Q) (not (has_both_places w s)) _ _ (λ t. weaker s h) (λ t. K.queues w i slots s k t h)))
+      (λ r. either (After Q) (not (has_both_places w s)) _ _ (λ t. weaker s h) (λ t. K.queues w i slots s k t (making a_binding s m h))))
 
-  ring_sized : (t : Bool) (w : Wanted) (i : Planned) (size : ℕ) (s : State) → is_ring_size size ≡ t → IsWanted w i s → P s
+  ring_sized : (t : Bool) (w : Wanted) (i : Planned) (size : ℕ) (s : State) → is_ring_size size ≡ t → IsWanted w i s → HasRoom a_binding s → P s
       → After Q (if not t then answers s (refused 32) else if not (has_both_places w s) then answers s (refused 54)
       else answers (binds_both (length s.bindings) w (with_new_binding w (over_ring (length s.rings)) 2 None (with_ring size s))) done)
-  ring_sized false w i size s e k h = weaker s h
-  ring_sized true w i size s e k h =
-      either (After Q) (not (has_both_places w s)) _ _ (λ t. weaker s h) (λ t. K.ring w i size s k e t h)
+  ring_sized false w i size s e k m h = weaker s h
+  ring_sized true w i size s e k m h =
+      either (After Q) (not (has_both_places w s)) _ _ (λ t. weaker s h) (λ t. K.ring w i size s k e t (making a_binding s m h))
 
-  ring_after : (w : Wanted) (i : Planned) (size : ℕ) (s : State) → IsWanted w i s → P s → After Q (binds_by_ring w size s)
-  ring_after w i size s k h =
-      either (After Q) (w.client.core == w.service.dispatcher.core) _ _ (λ q. weaker s h) (λ q. ring_sized (is_ring_size size) w i size s refl k h)
+  ring_after : (w : Wanted) (i : Planned) (size : ℕ) (s : State) → IsWanted w i s → HasRoom a_binding s → P s → After Q (binds_by_ring w size s)
+  ring_after w i size s k m h =
+      either (After Q) (w.client.core == w.service.dispatcher.core) _ _ (λ q. weaker s h) (λ q. ring_sized (is_ring_size size) w i size s refl k m h)
 
-  route_after : (w : Wanted) (i : Planned) (cores : List ℕ) (s : State) → IsWanted w i s → P s → After Q (binds_by_route w cores s)
-  route_after w i cores s j h =
+  route_after : (w : Wanted) (i : Planned) (cores : List ℕ) (s : State) → IsWanted w i s → HasRoom a_binding s → P s → After Q (binds_by_route w cores s)
+  route_after w i cores s j m h =
       either (After Q) (not (is_route cores w.client.core w.service.dispatcher.core s)) _ _ (λ q. weaker s h)
       (λ q. by_given (After Q) (core_of s w.client.core) _ _ (weaker s h)
       (λ k r. by_given (After Q) (link_to (slice_index cores 1) k) _ _ (weaker s h)
       (λ l t. either (After Q) (not (has_places_for w.client 1 s)) _ _ (λ u. weaker s h)
       (λ u. by_given (After Q) (next_own k.circuits l) _ _ (weaker s h)
       (λ c v. either (After Q) (not (can_say l k)) _ _ (λ x. weaker s h)
-      (λ x. K.route w i cores k l c s j (record { route = q; core = r; link = t; places = u; number = v; outbox = x }) h))))))
+      (λ x. K.route w i cores k l c s j (record { route = q; core = r; link = t; places = u; number = v; outbox = x }) (making a_binding s m h)))))))
 
-  kind_after : (w : Wanted) (i : Planned) (kind : Kind) (s : State) → IsWanted w i s → P s → After Q (binds_by w kind s)
-  kind_after w i (by_queues slots) s k h = queues_after w i slots s k h
-  kind_after w i (by_ring size) s k h = ring_after w i size s k h
-  kind_after w i (by_route cores) s k h = route_after w i cores s k h
+  kind_after : (w : Wanted) (i : Planned) (kind : Kind) (s : State) → IsWanted w i s → HasRoom a_binding s → P s → After Q (binds_by w kind s)
+  kind_after w i (by_queues slots) s k m h = queues_after w i slots s k m h
+  kind_after w i (by_ring size) s k m h = ring_after w i size s k m h
+  kind_after w i (by_route cores) s k m h = route_after w i cores s k m h
 
   bind_after : (client : DispatcherId) (i : ℕ) (name : List ℕ) (kind : Kind) (s : State) → P s → After Q (binds client i name kind s)
   bind_after client i name kind s h =
@@ -324,7 +365,7 @@ module _ (Called : EndId → TheCall → Binding → Planned → State → Type 
       (λ place u. by_given (After Q) (slice_get s.services place) _ _ (weaker s h)
       (λ service v. either (After Q) (not (service.interface == i)) _ _ (λ x. weaker s h)
       (λ x. kind_after (record { client = client; interface = i; messages = length planned.interface.messages; service = service; iref = place + 1 })
-      planned kind s (record { dispatcher = d; client = q; interface = r; messages = refl; place = place; iref = refl; service = v; same = x }) h))))))
+      planned kind s (record { dispatcher = d; client = q; interface = r; messages = refl; place = place; iref = refl; service = v; same = x }) t h))))))
 
   call_after : (e : EndId) (c : TheCall) (s : State) → P s → After Q (calls e c s)
   call_after e c s h =
@@ -374,13 +415,17 @@ module _ (Called : EndId → TheCall → Binding → Planned → State → Type 
   queue_after : (t : Chosen) (b : Binding) (i : Planned) (q : Queue) (s : State) → IsTurn t (pending t.channel) s → At s t.end b i
       → holds_back (end_in t.end.side b) ≡ false → (end_in t.end.side b).queue ≡ Some q → P s → After Q (gives_from_queue t i q s)
   queue_after t b i q s d at u v h =
-      by_given (After Q) (slice_get q.labels 0) _ _ (K.no_label t (waits_in (Some q)) s d h)
+      by_given_or (After Q) (slice_get q.labels 0) _ _
+      (λ none. K.no_label t (waits_in (Some q)) s
+      (without t (waits_in (Some q)) s (record { turn = d; binding = b; there = at.binding; none = in_queue_none q v none })) h)
       (λ l r. K.from_queue t b i q l s d at u v r h)
 
   ring_given_after : (t : Chosen) (b : Binding) (i : Planned) (on : RingEnd) (s : State) → IsTurn t (pending t.channel) s → At s t.end b i
       → holds_back (end_in t.end.side b) ≡ false → own_ring t.end.side b.back ≡ Some on → P s → After Q (gives_from_ring t i on s)
   ring_given_after t b i on s d at u v h =
-      by_given (After Q) (first_on on s) _ _ (K.no_label t Polled s d h) (λ l r. K.from_ring t b i on l s d at u v r h)
+      by_given_or (After Q) (first_on on s) _ _
+      (λ none. K.no_label t Polled s (without t Polled s (record { turn = d; binding = b; there = at.binding; none = on_ring_none on v none })) h)
+      (λ l r. K.from_ring t b i on l s d at u v r h)
 
   gives_by_after : (t : Chosen) (b : Binding) (i : Planned) (o : Option Queue) (s : State) → IsTurn t (pending t.channel) s → At s t.end b i
       → holds_back (end_in t.end.side b) ≡ false → (end_in t.end.side b).queue ≡ o → P s → After Q (gives_by t i o b.back s)
@@ -599,8 +644,18 @@ module _ (Called : EndId → TheCall → Binding → Planned → State → Type 
   settled (add_interface i plan) o h = h
   settled v o h = settled_by o.answer o.state h
 
-  pub step_leads_under : (s : State) (v : Event) → P s → Q (step s v).state
-  step_leads_under s v h = settled v (does v s) (does_after v s h)
+  pub step_leads_within : (s : State) (v : Event) → P s → Q (step s v).state
+  step_leads_within s v h = settled v (does v s) (does_after v s h)
+
+pub step_leads_under : (Called : EndId → TheCall → Binding → Planned → State → Type 0) (Ruled : EndId → ℕ → ℕ → Binding → Planned → State → Type 0)
+    (Passed : LinkEnd → Passing → RingLabel → Route → Hop → RingEnd → State → Type 0)
+    → ((e : EndId) (c : TheCall) (b : Binding) (i : Planned) (s : State) → Fitting e c b i s → Called e c b i s)
+    → ((e : EndId) (msg answer : ℕ) (b : Binding) (i : Planned) (s : State) → Suiting e msg answer b i s → Ruled e msg answer b i s)
+    → ((here : LinkEnd) (p : Passing) (first : RingLabel) (route : Route) (hop : Hop) (on : RingEnd) (s : State)
+    → IsGoingOn here p first route hop on s → Passed here p first route hop on s)
+    → (P Q : State → Type 0) → ((s : State) → P s → Q s) → KeepsUnder Called Ruled Passed P Q → (s : State) (v : Event) → P s → Q (step s v).state
+step_leads_under Called Ruled Passed fitting suiting onward P Q weaker K s v h =
+    step_leads_within Called Ruled Passed fitting suiting onward (MadeIn P) TurnAt P Q (λ m t r k. k) (λ t to u k. k.turn) weaker K s v h
 
 pub step_leads : (P Q : State → Type 0) → ((s : State) → P s → Q s) → KeepsFrom P Q → (s : State) (v : Event) → P s → Q (step s v).state
 step_leads P Q weaker K s v h =

@@ -10,14 +10,13 @@ ghost use Rattle.fl_queues.specs.Sound.{Sound};
 ghost use Rattle.fl_queues.specs.SoundOpenings.{OpeningsGoInOrder};
 ghost use Rattle.fl_queues.specs.SoundPlaces.{CoresStand, EndsStand, LinksArePaired, RingsHaveOneOwner, ServicesStand, SeatsAgree};
 ghost use Rattle.fl_queues.specs.SoundRoutes.{RoutesLead, NumbersGoAlongRoutes, VerdictsFit, EndsAreBound, NumbersWereOpened, NumbersAreOnce};
-ghost use Rattle.fl_queues.specs.SoundLimits.{RoutesKeepToCores, NumbersAreOnceBothWays};
-ghost use Rattle.fl_queues.specs.SoundLabels.{LabelsKeepToTheirWays, WritesAreCounted};
+ghost use Rattle.fl_queues.specs.SoundLabels.{LabelsKeepToTheirWays, WritesAreCounted, LabelsFollow, NothingBeforeTheOpening};
 ghost use Rattle.fl_queues.specs.SoundRings.{RingsCount, RingsFit};
-ghost use Rattle.fl_queues.specs.Worlds.{WorldsAreSound, EverInOrder, EverFewWait};
+ghost use Rattle.fl_queues.specs.Worlds.{WorldsAreSound, EverInOrder, EverFewWait, ListedHaveEnds, WritesUnderstand, ShowsUnderstand, TurnsGiveTheNext};
 ghost use Rattle.fl_queues.specs.SoundCalls.{CallsFit, RulesSuit};
-ghost use Rattle.fl_queues.specs.SoundLists.{FewRepliesWait, RepliesWaitWhereBusy, QueuesHaveRoom, OutboxesHaveRoom, BareUntilCoresAreSet, WaitsetsStand};
-ghost use Rattle.fl_queues.specs.Laws.{RingsCountInOrder, FewWaitAndOnlyWhereBusy, AllAccepted};
-ghost use Rattle.fl_queues.specs.Laws.{PassedFalls, HandledIsCounted, HandledIsAPrefix, RefusalsChangeNothing};
+ghost use Rattle.fl_queues.specs.SoundLists.{FewRepliesWait, RepliesWaitWhereBusy, QueuesHaveRoom, OutboxesHaveRoom, BareUntilCoresAreSet, WaitsetsStand, ListedAreBound, PendingQueuesHold, PendingRingsWereLookedAt};
+ghost use Rattle.fl_queues.specs.Laws.{RingsCountInOrder, FewWaitAndOnlyWhereBusy, AllAccepted, PassedFalls, HandledIsCounted, HandledIsAPrefix, RefusalsChangeNothing, RunsAreSound, ChannelsAreOnce, PendingHasAFragment, TurnsUnderstand, ForwardsUnderstand};
+ghost use Rattle.fl_queues.specs.SoundLimits.{RoutesKeepToCores, NumbersAreOnceBothWays, CoresAreFew, InterfacesAreFew, ServicesAreFew, BindingsAreFew};
 
 /// The start is a sound state.
 pub fn start_is_sound()
@@ -212,4 +211,78 @@ pub fn steps_keep_routes_within()
 /// way forth and another on the way back, they are one binding's.
 pub fn steps_keep_numbers_once_back()
     ensures kept { (s : State) (v : Event) → Sound s → NumbersAreOnceBothWays (step s v).state }
+{}
+
+/// Each step of a sound state keeps labels on their ways: on a link stand monitors' messages, acknowledgements, and fragments
+/// of ends whose way goes over it; on a binding's ring and in a queue the fragments of one end alone.
+pub fn steps_keep_labels_on_their_ways()
+    ensures kept { (s : State) (v : Event) → Sound s → LabelsKeepToTheirWays (step s v).state }
+{}
+
+/// Each step of a sound state keeps labels in order: what has passed one station of a direction and not the next stands
+/// between the two, each fragment once, and numbers passed don't rise.
+pub fn steps_keep_labels_in_order()
+    ensures kept { (s : State) (v : Event) → Sound s → LabelsFollow (step s v).state }
+{}
+
+/// Each step of a sound state keeps that of a circuit that isn't open nothing was ever written.
+pub fn steps_keep_the_unopened_unwritten()
+    ensures kept { (s : State) (v : Event) → Sound s → NothingBeforeTheOpening (step s v).state }
+{}
+
+/// Each step keeps the limits of a world, whatever else the state holds: at most 16 cores, 64 interfaces, 256 services and
+/// 1,024 bindings.
+pub fn steps_keep_limits()
+    ensures kept { (s : State) (v : Event) → CoresAreFew s → InterfacesAreFew s → ServicesAreFew s → BindingsAreFew s
+        → CoresAreFew (step s v).state × InterfacesAreFew (step s v).state × ServicesAreFew (step s v).state
+        × BindingsAreFew (step s v).state }
+{}
+
+/// Each step of a sound state keeps what is said of registered channels: the end of each is bound and of the kind of its list,
+/// a pending channel's queue holds something, and a pending channel's ring was looked at and has a call's fragment first.
+pub fn steps_keep_listed()
+    ensures kept { (s : State) (v : Event) → Sound s
+        → ListedAreBound (step s v).state × PendingQueuesHold (step s v).state × PendingRingsWereLookedAt (step s v).state }
+{}
+
+/// In a sound state, a channel that stands in a list of its dispatcher has an end, and that a binding.
+pub fn listed_have_ends_in_sound_states()
+    ensures ends { (s : State) → Sound s → ListedHaveEnds s }
+{}
+
+/// Where every state that a run reaches is sound, no channel stands twice in a waitset's lists.
+pub fn channels_are_once_where_runs_are_sound()
+    ensures once { RunsAreSound → ChannelsAreOnce }
+{}
+
+/// Where every state that a run reaches is sound, a pending channel has a fragment, and where that is a ring's it was looked at.
+pub fn pending_has_a_fragment_where_runs_are_sound()
+    ensures has { RunsAreSound → PendingHasAFragment }
+{}
+
+/// In a sound state, a turn answers `nothing` only where no channel of the dispatcher is pending or polled.
+pub fn turns_are_understood()
+    ensures understood { TurnsUnderstand }
+{}
+
+/// In a sound state, a turn of a dispatcher with a pending channel gives the first one's end the other end's next fragment, or
+/// holds that back.
+pub fn turns_give_the_next_fragment()
+    ensures next { TurnsGiveTheNext }
+{}
+
+/// In a sound state, a write answers `nothing` only where all fragments of the end's calls are written.
+pub fn writes_are_understood()
+    ensures understood { WritesUnderstand }
+{}
+
+/// In a sound state, nothing is shown only where all fragments of the end's calls are written.
+pub fn shows_are_understood()
+    ensures understood { ShowsUnderstand }
+{}
+
+/// In a sound state, a forward answers `nothing` only where nothing stands on the link: for each call's fragment, and each
+/// answer to an opening, an entry stands.
+pub fn forwards_are_understood()
+    ensures understood { ForwardsUnderstand }
 {}
