@@ -60,3 +60,4 @@ pub mod TurnsStep
 pub mod Turning
 pub mod RoutesSound
 pub mod TablesLater
+pub mod TablesHeard
