@@ -61,3 +61,4 @@ pub mod Turning
 pub mod RoutesSound
 pub mod TablesLater
 pub mod TablesHeard
+pub mod TablesGoOn

@@ -1,8 +1,8 @@
 -- A core's table after what it hears in a sound state: numbers stay given, and at a number that was given no other entry comes.
-use Rattle.std.proofs.Common.{◌≡◌, ◌≢◌, refl, sym, ◌∙◌, ap, subst, ℕ, zero, suc, ◌+◌, ◌-◌, ◌<◌, ◌≤◌, true, false}
-use Rattle.std.proofs.Common.{List, [], ◌∷◌, ◌++◌, length, map, slice_get, Option, Some, None, arith}
-use Rattle.std.specs.Prelude.{IsSome, is_some, filter_map}
-use Rattle.std.specs.List.{range_with_len, cons_option}
+use Rattle.std.proofs.Common.{◌≡◌, refl, sym, ◌∙◌, ap, subst, ℕ, zero, suc, ◌+◌, ◌-◌, ◌≤◌, false}
+use Rattle.std.proofs.Common.{List, [], ◌∷◌, ◌++◌, map, slice_get, Option, Some, None, arith}
+use Rattle.std.specs.Prelude.{is_some, filter_map}
+use Rattle.std.specs.List.{range_with_len}
 use Rattle.fl_base.specs.declared.identity.Side.TheVariants.{Client, Server}
 use Rattle.fl_hop.specs.declared.links.LinkState.{LinkState}
 use Rattle.fl_hop.specs.declared.entry.Way.{Way}
@@ -10,7 +10,7 @@ use Rattle.fl_hop.specs.declared.entry.Way.TheVariants.{Link as to_link, End as 
 use Rattle.fl_hop.specs.declared.entry.Hop.{Hop}
 use Rattle.fl_hop.specs.Joined.{Sound as IsTable}
 use Rattle.fl_hop.specs.Later.{Later}
-use Rattle.fl_hop.specs.Numbers.{number, Given, next_own, count_opening, count_taking}
+use Rattle.fl_hop.specs.Numbers.{number, next_own, count_opening, count_taking}
 use Rattle.fl_hop.specs.Table.{TheCircuits, hop_at}
 use Rattle.fl_hop.proofs.Counting.{Next, Due, next_is, never_next, never_due, grown_on}
 use Rattle.fl_hop.proofs.Laters.{later_without}
@@ -24,12 +24,12 @@ use Rattle.fl_queues.specs.Waits.{has_places}
 use Rattle.fl_queues.specs.State.{State, core_of, link_between, first_on}
 use Rattle.fl_queues.specs.Forwarding.{LinkEnd}
 use Rattle.fl_queues.specs.Standing.{unread, labels_of, on_link, said_by, under_way, opening_number}
-use Rattle.fl_queues.specs.SoundPlaces.{CoresStand, CoreStands, LinkIsPaired}
+use Rattle.fl_queues.specs.SoundPlaces.{LinkIsPaired}
 use Rattle.fl_queues.specs.SoundOpenings.{OpeningsGo}
 use Rattle.fl_queues.specs.Sound.{Sound}
 use Rattle.fl_laws.proofs.Cases.{either, by_given}
 use Rattle.fl_laws.proofs.BindingWalk.{given_there}
-use Rattle.fl_laws.proofs.Faces.{counts_at, linked_at, counted_at}
+use Rattle.fl_laws.proofs.Faces.{counts_at, counted_at}
 use Rattle.fl_laws.proofs.Growing.{opening_grown, taking_grown}
 use Rattle.fl_laws.proofs.Hearing.{some_same, LinkThere, link_there, head_said}
 use Rattle.fl_laws.proofs.OpeningsMoves.{names_to}

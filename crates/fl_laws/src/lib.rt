@@ -17,7 +17,7 @@ ghost use Rattle.fl_queues.specs.Worlds.{WorldsAreSound, EverInOrder, EverFewWai
 ghost use Rattle.fl_queues.specs.SoundCalls.{CallsFit, RulesSuit};
 ghost use Rattle.fl_queues.specs.SoundLists.{FewRepliesWait, RepliesWaitWhereBusy, QueuesHaveRoom, OutboxesHaveRoom, BareUntilCoresAreSet, WaitsetsStand};
 ghost use Rattle.fl_queues.specs.Laws.{RingsCountInOrder, FewWaitAndOnlyWhereBusy, AllAccepted};
-ghost use Rattle.fl_queues.specs.Laws.{PassedFalls, HandledIsCounted, HandledIsAPrefix, RefusalsChangeNothing};
+ghost use Rattle.fl_queues.specs.Laws.{PassedFalls, HandledIsCounted, HandledIsAPrefix, RefusalsChangeNothing, TablesGoOn};
 
 /// The start is a sound state.
 pub fn start_is_sound()
@@ -212,4 +212,10 @@ pub fn steps_keep_routes_within()
 /// way forth and another on the way back, they are one binding's.
 pub fn steps_keep_numbers_once_back()
     ensures kept { (s : State) (v : Event) → Sound s → NumbersAreOnceBothWays (step s v).state }
+{}
+
+/// Each step of a sound state keeps each core's table: numbers that were given stay given, and at a number that was given no
+/// other entry ever comes.
+pub fn tables_go_on()
+    ensures kept { TablesGoOn }
 {}
