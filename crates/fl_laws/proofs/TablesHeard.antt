@@ -17,6 +17,7 @@ use Rattle.fl_hop.proofs.Laters.{later_without}
 use Rattle.fl_hop.proofs.Laws.{later_same}
 use Rattle.fl_hop.proofs.Numbering.{small}
 use Rattle.fl_queues.specs.Given.{given}
+use Rattle.fl_queues.specs.Events.{DispatcherId}
 use Rattle.fl_queues.specs.Rings.{Opening, Said, open_circuit, circuit_opened, circuit_refused, says, RingLabel, Ring, RingEnd, read_by, first_for}
 use Rattle.fl_queues.specs.Monitors.{Core, Link, Service, link_to, link_id, circuit_id, opens, can_say, saying, Heard, Hearing}
 use Rattle.fl_queues.specs.Monitors.{next_on, Fate, goes_on, ends_at, fails, arrival, passage, fate, service_of, hears_opening, hears_opened, hears_refused, hears}
@@ -88,7 +89,7 @@ module _ (l : ℕ) (o : Opening) (k : Core) (table : IsTable k.circuits) (due : 
       (grown_on us (count_taking us l) (count_opening (count_taking us l) m) (taking_grown us l) (opening_grown (count_taking us l) m))
       (ungiven_due k.circuits l o.circuit table due) (ungiven_next k.circuits m d table h))
 
-  ends_later : (d : Rattle.fl_queues.specs.Events.DispatcherId) → OpeningLater l o k (ends_at d)
+  ends_later : (d : DispatcherId) → OpeningLater l o k (ends_at d)
   ends_later d =
       saying_later l _ _ _ k
       (later_entered k.circuits (count_taking k.circuits.links l) o.binding false (to_link (link_id l) (circuit_id o.circuit)) (to_end (record { binding = o.binding; side = Server }))
