@@ -58,7 +58,7 @@ link_there s here j =
 
 -- ---- the message is under way
 
-head_said : (ls : List RingLabel) (first : RingLabel) (m : Said) → slice_get ls 0 ≡ Some first → first.label ≡ says m
+pub head_said : (ls : List RingLabel) (first : RingLabel) (m : Said) → slice_get ls 0 ≡ Some first → first.label ≡ says m
     → (rest : List Said) × (filter_map said_by (labels_of ls) ≡ m ∷ rest)
 head_said [] first m q l = absurd (cc)
 head_said (x ∷ ls) first m q l =

@@ -83,3 +83,5 @@ pub mod TurnsTold
 pub mod WritesTold
 pub mod ForwardsTold
 pub mod ListingLaws
+pub mod TablesHeard
+pub mod TablesGoOn

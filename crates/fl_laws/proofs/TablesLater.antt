@@ -1,6 +1,6 @@
 -- A core's table after it opened a circuit, or heard a message: numbers stay given, and at a number that was given no other entry comes.
-use Rattle.std.proofs.Common.{◌≡◌, ◌≢◌, refl, sym, ◌∙◌, ap, subst, ℕ, zero, suc, ◌+◌, ◌<◌, ◌≤◌, nat_lt, Bool, true, false, cond, inl, inr, ◌⊎◌}
-use Rattle.std.proofs.Common.{List, [], ◌∷◌, ◌++◌, length, slice_get, slice_set, slice_index_or, Option, Some, None, option_map, arith}
+use Rattle.std.proofs.Common.{◌≡◌, refl, sym, ◌∙◌, ap, subst, ℕ, zero, suc, ◌≤◌, nat_lt, Bool, true, false, cond, inl, inr}
+use Rattle.std.proofs.Common.{List, [], ◌∷◌, slice_set, slice_index_or, Option, Some, None, option_map, arith}
 use Rattle.std.proofs.lemmas.Bool.{cases_eq}
 use Rattle.fl_base.specs.declared.identity.LinkId.{LinkId}
 use Rattle.fl_base.specs.declared.identity.Circuit.{Circuit}
@@ -10,7 +10,7 @@ use Rattle.fl_hop.specs.declared.entry.Way.TheVariants.{Link as to_link, End as 
 use Rattle.fl_hop.specs.declared.entry.Hop.{Hop}
 use Rattle.fl_hop.specs.Joined.{Sound as IsTable}
 use Rattle.fl_hop.specs.Later.{Later, entry_at, unanswered}
-use Rattle.fl_hop.specs.Numbers.{number, Given, IsGiven, IsOpened, IsTaken, IsAmong}
+use Rattle.fl_hop.specs.Numbers.{Given, IsOpened, IsTaken}
 use Rattle.fl_hop.specs.Table.{TheCircuits, slot, hop_at, put_at, with_hops, with_links, with_entry, leading}
 use Rattle.fl_hop.proofs.Cells.{slot_once}
 use Rattle.fl_hop.proofs.Counting.{Grown, opened_stays, taken_stays}

@@ -41,14 +41,14 @@ pub record IsLike (s t : State) : Type 0 where
 abbrev of_look : Look → State
 of_look x = record { may_set_cores = false; cores = x.cores; rings = []; interfaces = []; services = x.services; bindings = x.bindings }
 
-like_looked : (s : State) (n : ℕ) (f : Ring → Ring) (t : State) → ((side : RingSide) (r : Ring) → first_for side (f r) ≡ first_for side r) → IsLike s t → IsLike s (change_ring n f t)
+pub like_looked : (s : State) (n : ℕ) (f : Ring → Ring) (t : State) → ((side : RingSide) (r : Ring) → first_for side (f r) ≡ first_for side r) → IsLike s t → IsLike s (change_ring n f t)
 like_looked s n f t k h = record {
   same = h.same;
   first = λ at. first_same t.rings n at.ring at.side f (k at.side) ∙ h.first at;
   may = h.may;
 }
 
-like_here : (s t : State) (here : LinkEnd) → IsLike s t → IsHere here t → IsHere here s
+pub like_here : (s t : State) (here : LinkEnd) → IsLike s t → IsHere here t → IsHere here s
 like_here s t here h j = record {
   core = j.core;
   neighbour = j.neighbour;
@@ -94,7 +94,7 @@ module _ (s : State) (sound : Sound s) where
   quiet : (t : State) (y : Look) → IsLike s t → Stays (look t) y → Comes (look s) y
   quiet t y h k = from_like t y h (comes_stays (look t) y k)
 
-  like_core : (t : State) (n : ℕ) (k : Core) → IsLike s t → slice_get t.cores n ≡ Some k → slice_get s.cores n ≡ Some k
+  pub like_core : (t : State) (n : ℕ) (k : Core) → IsLike s t → slice_get t.cores n ≡ Some k → slice_get s.cores n ≡ Some k
   like_core t n k h q = ap (λ (x : Look). slice_get x.cores n) (sym h.same) ∙ q
 
   heard_after : (here : LinkEnd) (m : Said) (first : RingLabel) (k : Core) (t : State) → IsHere here t → first_on here.ring t ≡ Some first

@@ -16,8 +16,8 @@ use Rattle.fl_queues.specs.Ends.{Queue, End}
 use Rattle.fl_queues.specs.Waits.{Dispatcher, with_end}
 use Rattle.fl_queues.specs.Monitors.{Core, Service, service_of, opens as core_opens}
 use Rattle.fl_queues.specs.Monitors.{Heard, no_outbox, astray, opening_went_on, server_made, opening_failed, answer_went_on, end_opened, end_refused}
-use Rattle.fl_queues.specs.State.{Route, Back, local, over_ring, over_route, undecided, granted, Binding, State, core_of, dispatcher_of, end_in, with_end_in, first_on}
-use Rattle.fl_queues.specs.State.{change_core, change_dispatcher, change_ring, change_end, change_out, change_route, change_channel, in_route, in_queue, delivers, seats, binds_end}
+use Rattle.fl_queues.specs.State.{Route, Back, local, over_ring, over_route, undecided, granted, Binding, State, dispatcher_of, end_of, with_end_in}
+use Rattle.fl_queues.specs.State.{change_dispatcher, change_ring, change_end, change_route, change_channel, in_route, seats, binds_end}
 use Rattle.fl_queues.specs.Making.{is_core}
 use Rattle.fl_queues.specs.Binding.{Wanted, end_id, with_new_binding, binds_both, is_route, all_differ, arrival_queue, with_circuit_begun}
 use Rattle.fl_queues.specs.Forwarding.{follows, takes_said, grants, denies, with_number, passes_word, route_of}
@@ -66,7 +66,7 @@ seats_bindings d e s x q =
 
 channel_bindings : (e : EndId) (f : ℕ → End → Dispatcher → Dispatcher) (s : State) → (change_channel e f s).bindings ≡ s.bindings
 channel_bindings e f s =
-    by_given (λ (t : State). t.bindings ≡ s.bindings) (Rattle.fl_queues.specs.State.end_of s e) _ _ refl
+    by_given (λ (t : State). t.bindings ≡ s.bindings) (end_of s e) _ _ refl
     (λ x q. by_given (λ (t : State). t.bindings ≡ s.bindings) x.seat _ _ refl (λ seat r. refl))
 
 binds_bindings : (e : EndId) (circuit : ℕ) (s : State) → (binds_end e circuit s).bindings ≡ changed_at e.binding (with_end_in e.side (bound_on circuit)) s.bindings

@@ -17,6 +17,9 @@ ghost use Rattle.fl_queues.specs.SoundCalls.{CallsFit, RulesSuit};
 ghost use Rattle.fl_queues.specs.SoundLists.{FewRepliesWait, RepliesWaitWhereBusy, QueuesHaveRoom, OutboxesHaveRoom, BareUntilCoresAreSet, WaitsetsStand, ListedAreBound, PendingQueuesHold, PendingRingsWereLookedAt};
 ghost use Rattle.fl_queues.specs.Laws.{RingsCountInOrder, FewWaitAndOnlyWhereBusy, AllAccepted, PassedFalls, HandledIsCounted, HandledIsAPrefix, RefusalsChangeNothing, RunsAreSound, ChannelsAreOnce, PendingHasAFragment, TurnsUnderstand, ForwardsUnderstand};
 ghost use Rattle.fl_queues.specs.SoundLimits.{RoutesKeepToCores, NumbersAreOnceBothWays, CoresAreFew, InterfacesAreFew, ServicesAreFew, BindingsAreFew};
+ghost use Rattle.fl_queues.specs.SoundLists.{FewRepliesWait, RepliesWaitWhereBusy, QueuesHaveRoom, OutboxesHaveRoom, BareUntilCoresAreSet, WaitsetsStand};
+ghost use Rattle.fl_queues.specs.Laws.{RingsCountInOrder, FewWaitAndOnlyWhereBusy, AllAccepted};
+ghost use Rattle.fl_queues.specs.Laws.{PassedFalls, HandledIsCounted, HandledIsAPrefix, RefusalsChangeNothing, TablesGoOn};
 
 /// The start is a sound state.
 pub fn start_is_sound()
@@ -285,4 +288,8 @@ pub fn shows_are_understood()
 /// answer to an opening, an entry stands.
 pub fn forwards_are_understood()
     ensures understood { ForwardsUnderstand }
+/// Each step of a sound state keeps each core's table: numbers that were given stay given, and at a number that was given no
+/// other entry ever comes.
+pub fn tables_go_on()
+    ensures kept { TablesGoOn }
 {}
