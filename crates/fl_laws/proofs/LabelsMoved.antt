@@ -53,7 +53,7 @@ ends_same s t u n b c e k = record {
 
 -- ---- what an end's calls leave
 
-goes_on_passed : (i : Planned) (d : Direction) → (goes_on i d).passed ≡ d.passed
+pub goes_on_passed : (i : Planned) (d : Direction) → (goes_on i d).passed ≡ d.passed
 goes_on_passed i d = either (λ (x : Direction). x.passed ≡ d.passed) (is_busy i d) d (accepts_waiting d.waiting d) (λ q. refl) (λ q. by d.waiting)
   where
     by : (cs : List Rattle.fl_value.specs.Value.TheCall) → (accepts_waiting cs d).passed ≡ d.passed

@@ -63,3 +63,4 @@ pub mod LabelsTaken
 pub mod LabelsForward
 pub mod LabelsStep
 pub mod LabelsSound
+pub mod Begun
