@@ -64,3 +64,4 @@ pub mod LabelsForward
 pub mod LabelsStep
 pub mod LabelsSound
 pub mod Begun
+pub mod SoundRuns

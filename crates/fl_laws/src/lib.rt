@@ -10,7 +10,7 @@ ghost use Rattle.fl_queues.specs.Sound.{Sound};
 ghost use Rattle.fl_queues.specs.SoundOpenings.{OpeningsGoInOrder};
 ghost use Rattle.fl_queues.specs.SoundPlaces.{CoresStand, EndsStand, LinksArePaired, RingsHaveOneOwner, ServicesStand, SeatsAgree};
 ghost use Rattle.fl_queues.specs.SoundRoutes.{RoutesLead};
-ghost use Rattle.fl_queues.specs.SoundLabels.{LabelsKeepToTheirWays, WritesAreCounted};
+ghost use Rattle.fl_queues.specs.SoundLabels.{LabelsKeepToTheirWays, LabelsFollow, NothingBeforeTheOpening, WritesAreCounted};
 ghost use Rattle.fl_queues.specs.SoundRings.{RingsCount, RingsFit};
 ghost use Rattle.fl_queues.specs.Worlds.{WorldsAreSound, EverInOrder, EverFewWait};
 ghost use Rattle.fl_queues.specs.SoundCalls.{CallsFit, RulesSuit};
@@ -165,4 +165,21 @@ pub fn steps_keep_waitsets()
 /// Each step of a sound state keeps the seats: an end's channel is its dispatcher's channel for it, and no other's.
 pub fn steps_keep_seats()
     ensures kept { (s : State) (v : Event) → Sound s → SeatsAgree (step s v).state }
+{}
+
+/// Each step of a sound state keeps labels on their ways: on a link stand monitors' messages, acknowledgements, and fragments
+/// of ends whose way goes over it; on a binding's ring and in a queue the fragments of one end alone.
+pub fn steps_keep_labels_on_their_ways()
+    ensures kept { (s : State) (v : Event) → Sound s → LabelsKeepToTheirWays (step s v).state }
+{}
+
+/// Each step of a sound state keeps labels in order: what has passed one station of a direction and not the next stands
+/// between the two, each fragment once, and numbers passed don't rise.
+pub fn steps_keep_labels_in_order()
+    ensures kept { (s : State) (v : Event) → Sound s → LabelsFollow (step s v).state }
+{}
+
+/// Each step of a sound state keeps that of a circuit that isn't open nothing was ever written.
+pub fn steps_keep_the_unopened_unwritten()
+    ensures kept { (s : State) (v : Event) → Sound s → NothingBeforeTheOpening (step s v).state }
 {}
