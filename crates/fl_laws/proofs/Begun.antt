@@ -15,12 +15,12 @@ use Rattle.fl_queues.specs.Given.{given, changed_at}
 use Rattle.fl_queues.specs.Events.{DispatcherId, Event}
 use Rattle.fl_queues.specs.Calls.{Planned}
 use Rattle.fl_queues.specs.Rings.{Opening, Said, open_circuit, circuit_opened, circuit_refused, Label, next_of, says, acknowledges, RingLabel, Ring, RingSide, RingEnd, first_for, looks, makes_sure, puts, takes, there_is_room}
-use Rattle.fl_queues.specs.Ends.{Queue, Direction, End, fresh_queue, joined_by, without_first, accepts, writes, written_of, with_rule, passes, takes_one, last_station, comes_to, Taken, replies, is_bound}
+use Rattle.fl_queues.specs.Ends.{Queue, Direction, End, fresh_queue, joined_by, without_first, accepts, writes, written_of, with_rule, passes, takes_one, last_station, comes_to, Taken, replies, is_bound, fresh_direction, Wrote, is_busy}
 use Rattle.fl_queues.specs.Waits.{Dispatcher}
 use Rattle.fl_queues.specs.Monitors.{Core, can_say, Fate, goes_on, ends_at, fails, fate, hears_opening, hears_opened, hears_refused, Hearing, hears, Heard, no_outbox, astray, opening_went_on, server_made, opening_failed, answer_went_on, end_opened, end_refused}
 use Rattle.fl_queues.specs.State.{Verdict, undecided, granted, denied, Route, Back, local, over_ring, over_route, Binding, State, Outcome, Outlet, peer_queue, ring_side, first_on, core_of, dispatcher_of, binding_of, end_of, end_in, change_core, change_ring, change_end, change_out, change_channel, change_route, with_end_in, in_route, in_queue, seats, binds_end, delivers}
 use Rattle.fl_queues.specs.Binding.{Wanted, end_id, with_new_binding, binds_both, arrival_queue}
-use Rattle.fl_queues.specs.Sending.{writes_to}
+use Rattle.fl_queues.specs.Sending.{writes_to, puts_to}
 use Rattle.fl_queues.specs.Taking.{Chosen, takes_label, finds}
 use Rattle.fl_queues.specs.Forwarding.{LinkEnd, Passing, label_of, follows, takes_said, with_number, grants, denies, passes_word, word_passes}
 use Rattle.fl_queues.specs.Step.{step}
@@ -35,7 +35,7 @@ use Rattle.fl_laws.proofs.BindingWalk.{given_there, new_binding}
 use Rattle.fl_laws.proofs.EndsStep.{is_not, queue_out, station_some, long_route}
 use Rattle.fl_laws.proofs.Flows.{index_else}
 use Rattle.fl_laws.proofs.Hearing.{LinkThere, link_there, is_under_way}
-use Rattle.fl_laws.proofs.LabelsMoved.{replies_passed, IsShaped}
+use Rattle.fl_laws.proofs.LabelsMoved.{replies_passed, IsShaped, goes_on_passed}
 use Rattle.fl_laws.proofs.LabelsPass.{end_own, end_back}
 use Rattle.fl_laws.proofs.LabelsQuiet.{channel_bindings}
 use Rattle.fl_laws.proofs.LabelsSound.{shaped_of}
@@ -127,7 +127,7 @@ zero_first : (n : ℕ) → slice_index (replicate n 0) 0 ≡ 0
 zero_first zero = refl
 zero_first (suc n) = refl
 
-fresh_opens : (v : Verdict) (n : ℕ) → OpensBefore v (Rattle.fl_queues.specs.Ends.fresh_direction n)
+fresh_opens : (v : Verdict) (n : ℕ) → OpensBefore v (fresh_direction n)
 fresh_opens (granted i) n = tt
 fresh_opens undecided n = zero_first n
 fresh_opens (denied i fault) n = zero_first n
@@ -244,8 +244,8 @@ bound_opens b Server route (denied i fault) q h k d = absurd (false≢true (sym 
 
 write_long : (i : Planned) (x : End) → length (writes i x.out there_is_room).direction.passed ≡ length x.out.passed
 write_long i x =
-    either (λ (w : Rattle.fl_queues.specs.Ends.Wrote). length w.direction.passed ≡ length x.out.passed) (Rattle.fl_queues.specs.Ends.is_busy i x.out) _ _
-    (λ q. ap length (Rattle.fl_laws.proofs.LabelsMoved.goes_on_passed i (passes 0 x.out)) ∙ length_changed x.out.passed 0 (λ n. n + 1)) (λ q. refl)
+    either (λ (w : Wrote). length w.direction.passed ≡ length x.out.passed) (is_busy i x.out) _ _
+    (λ q. ap length (goes_on_passed i (passes 0 x.out)) ∙ length_changed x.out.passed 0 (λ n. n + 1)) (λ q. refl)
 
 writing_begun : (e : EndId) (b : Binding) (i : Planned) (s : State) → slice_get s.bindings e.binding ≡ Some b → is_bound (end_in e.side b) ≡ true → BoundWhere b.back b → AllBegun s
     → AllBegun (change_out e (λ d. (writes i d there_is_room).direction) s)
@@ -278,7 +278,7 @@ writing_begun e b i s at bound where_bound h =
     by Client back q = begins_by b.back refl (with_end_in Client (λ x. record x { out = (writes i x.out there_is_room).direction }) b)
     by Server back q = begins_by b.back refl (with_end_in Server (λ x. record x { out = (writes i x.out there_is_room).direction }) b)
 
-put_begun : (e : EndId) (o : Outlet) (l : Label) (s : State) → AllBegun s → AllBegun (Rattle.fl_queues.specs.Sending.puts_to e o l s)
+put_begun : (e : EndId) (o : Outlet) (l : Label) (s : State) → AllBegun s → AllBegun (puts_to e o l s)
 put_begun e peer_queue l s h = delivered_begun l (peer e) s h
 put_begun e (ring_side at) l s h = h
 

@@ -1,6 +1,6 @@
 -- Where each state that a run reaches is sound, numbers passed don't rise along a route, and the calls handled at an end are those that
 -- the fragments taken make whole, a prefix of those accepted at the other.
-use Rattle.std.proofs.Common.{◌≡◌, ap, subst, ℕ, suc, ◌<◌, ◌≤◌, List, length, slice_get, Some}
+use Rattle.std.proofs.Common.{◌≡◌, ap, subst, ℕ, suc, ◌<◌, ◌≤◌, List, length, slice_get, Some, sym}
 use Rattle.std.specs.Prelude.{slice_index}
 use Rattle.fl_base.specs.declared.identity.EndId.{EndId}
 use Rattle.fl_queues.specs.Ends.{End}
@@ -17,7 +17,7 @@ falls_at : (s : State) → LabelsFollow s → (e : EndId) (x : End) (j : ℕ) �
 falls_at s follows e x j q a =
     let (b, there, is) = end_there s e x q in
     subst (λ (y : End). slice_index y.out.passed (suc j) ≤ slice_index y.out.passed j) is
-    (follows e b j there (subst (λ (n : ℕ). suc j < n) (ap (λ (y : End). length y.out.passed) (Rattle.std.proofs.Common.sym is)) a)).falls
+    (follows e b j there (subst (λ (n : ℕ). suc j < n) (ap (λ (y : End). length y.out.passed) (sym is)) a)).falls
 
 pub sound_runs_fall : RunsAreSound → PassedFalls
 sound_runs_fall sound vs e x j q a = falls_at (reached start vs) (sound vs).labels e x j q a
