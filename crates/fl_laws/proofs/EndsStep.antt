@@ -147,7 +147,7 @@ open_at s e i b at q w r =
     let same : b ≡ w = let u : Some b ≡ Some w = sym at.binding ∙ r in cc in
     subst (OpenAt s.interfaces i e.side) same (record { open_is = q; there = at.interface })
 
-station_some : (o : Option ℕ) (n : ℕ) → given o None (λ j. Some (j + 1)) ≡ Some n → 1 ≤ n
+pub station_some : (o : Option ℕ) (n : ℕ) → given o None (λ j. Some (j + 1)) ≡ Some n → 1 ≤ n
 station_some None n h = absurd (cc)
 station_some (Some j) n h = let e : j + 1 ≡ n = cc in omega arith
 

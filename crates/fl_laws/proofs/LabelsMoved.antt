@@ -1,5 +1,5 @@
 -- A call's fragment is written, goes on over a link, arrives, or is taken: labels stay on their ways, and in order.
-use Rattle.std.proofs.Common.{◌≡◌, ◌≢◌, refl, sym, ◌∙◌, ap, subst, ℕ, zero, suc, ◌+◌, ◌-◌, ◌<◌, ◌≤◌, Bool, true, false, List, [], ◌∷◌, ◌++◌, length, drop, slice_get, Option, Some, None, arith, ◌⊎◌, inl, inr}
+use Rattle.std.proofs.Common.{◌≡◌, ◌≢◌, refl, sym, ◌∙◌, ap, subst, ℕ, zero, suc, ◌+◌, ◌-◌, ◌<◌, ◌≤◌, Bool, true, false, List, [], ◌∷◌, ◌++◌, length, drop, slice_get, Option, Some, None, arith, ◌⊎◌, inl, inr, if◌then◌else◌}
 use Rattle.std.specs.Prelude.{slice_index, IsSome, IsNone}
 use Rattle.fl_base.specs.declared.identity.EndId.{EndId}
 use Rattle.fl_base.specs.declared.identity.Side.{Side}
@@ -16,15 +16,18 @@ use Rattle.fl_queues.specs.SoundLabels.{IsOf}
 use Rattle.fl_laws.proofs.Cases.{Each, each_push, either, by_given}
 use Rattle.fl_laws.proofs.Ends.{changed_here}
 use Rattle.fl_laws.proofs.LabelQueues.{each_drop}
-use Rattle.fl_laws.proofs.Flows.{Passes, first_passes}
+use Rattle.fl_laws.proofs.Flows.{Passes, first_passes, Follows}
 use Rattle.fl_laws.proofs.Places.{Linked, ring_of, turned, changed_other}
 use Rattle.fl_laws.proofs.PlacesStep.{plan_of}
-use Rattle.fl_laws.proofs.Scenes.{over, joint_of, queued, seen, sights, reads, way_on, Suits, queue_at, before}
+use Rattle.fl_laws.proofs.Scenes.{over, joint_of, queued, seen, sights, reads, way_on, Suits, queue_at, before, Flow, sight_of}
 use Rattle.fl_laws.proofs.ScenesKept.{twice, number_other, picked_more, picked_same, picked_first, picked_without}
 use Rattle.fl_laws.proofs.ReadsKept.{PutOn, TakenOff, put_cases, take_cases, put_reads, put_leaves, take_reads, take_leaves, first_read}
 use Rattle.fl_laws.proofs.LabelsQuiet.{GoodIn}
 use Rattle.fl_laws.proofs.LabelsPass.{Moved, moved_good}
 use Rattle.fl_laws.proofs.Ways.{Once}
+use Rattle.fl_queues.specs.Events.{nothing}
+use Rattle.fl_value.specs.Value.{TheCall}
+use Rattle.fl_laws.proofs.ScenesSaid.{flow_at}
 
 -- ---- a binding's ends change
 
@@ -53,16 +56,16 @@ ends_same s t u n b c e k = record {
 
 -- ---- what an end's calls leave
 
-goes_on_passed : (i : Planned) (d : Direction) → (goes_on i d).passed ≡ d.passed
+pub goes_on_passed : (i : Planned) (d : Direction) → (goes_on i d).passed ≡ d.passed
 goes_on_passed i d = either (λ (x : Direction). x.passed ≡ d.passed) (is_busy i d) d (accepts_waiting d.waiting d) (λ q. refl) (λ q. by d.waiting)
   where
-    by : (cs : List Rattle.fl_value.specs.Value.TheCall) → (accepts_waiting cs d).passed ≡ d.passed
+    by : (cs : List TheCall) → (accepts_waiting cs d).passed ≡ d.passed
     by [] = refl
     by (c ∷ cs) = refl
 
 pub writes_passed : (i : Planned) (d : Direction) → is_busy i d ≡ true → (writes i d there_is_room).direction.passed ≡ changed_at 0 (λ n. n + 1) d.passed
 writes_passed i d q =
-    ap (λ (b : Bool). (Rattle.std.proofs.Common.if◌then◌else◌ b (writes_by i d there_is_room) (record { direction = d; answer = Rattle.fl_queues.specs.Events.nothing })).direction.passed) q
+    ap (λ (b : Bool). (if b then writes_by i d there_is_room else record { direction = d; answer = nothing }).direction.passed) q
     ∙ goes_on_passed i (passes 0 d)
 
 pub replies_passed : (i : Planned) (t : Taken) (x : End) → (replies i t x).out.passed ≡ x.out.passed
@@ -132,6 +135,6 @@ pub number_passes : (s : State) (e : EndId) (b : Binding) (j k : ℕ) (ks : List
     → (k ≡ slice_index (end_in e.side b).out.passed (suc j)) × (slice_index (end_in e.side b).out.passed (suc j) < slice_index (end_in e.side b).out.passed j)
 number_passes s e b j k ks good was a q =
     first_passes (λ i. picked e (before (reads s) (sights s) e (joint_of b.back) i)) (end_in e.side b).out.passed j k ks
-    (subst (Rattle.fl_laws.proofs.Flows.Follows (λ i. picked e (before (reads s) (sights s) e (joint_of b.back) i)))
-    (ap (λ (f : Rattle.fl_laws.proofs.Scenes.Flow). f.passed) (Rattle.fl_laws.proofs.ScenesSaid.flow_at e.side b))
-    (good.follows e (Rattle.fl_laws.proofs.Scenes.sight_of b) (ap seen was))) a q
+    (subst (Follows (λ i. picked e (before (reads s) (sights s) e (joint_of b.back) i)))
+    (ap (λ (f : Flow). f.passed) (flow_at e.side b))
+    (good.follows e (sight_of b) (ap seen was))) a q

@@ -9,16 +9,16 @@ use Rattle.fl_base.specs.Ends.{peer}
 use Rattle.fl_hop.proofs.Entering.{same_or}
 use Rattle.fl_queues.specs.Given.{given, changed_at}
 use Rattle.fl_queues.specs.Events.{DispatcherId}
-use Rattle.fl_queues.specs.Rings.{Label, next_of, says, acknowledges, RingLabel, Ring, RingEnd, looks, makes_sure, puts, takes, fresh_ring}
+use Rattle.fl_queues.specs.Rings.{Label, next_of, says, acknowledges, RingLabel, Ring, RingEnd, looks, makes_sure, puts, takes, fresh_ring, Said}
 use Rattle.fl_queues.specs.Ends.{Queue, End, fresh_queue}
 use Rattle.fl_queues.specs.Waits.{Dispatcher}
 use Rattle.fl_queues.specs.Monitors.{Core, fresh_core, Heard, no_outbox, astray, opening_went_on, server_made, opening_failed, answer_went_on, end_opened, end_refused}
-use Rattle.fl_queues.specs.State.{Back, local, over_ring, over_route, Route, Binding, State, first_on, dispatcher_of, end_of, end_in, change_core, change_ring, change_end, change_channel, change_route, with_end_in, in_route, seats, binds_end}
+use Rattle.fl_queues.specs.State.{Back, local, over_ring, over_route, Route, Binding, State, first_on, dispatcher_of, end_of, end_in, change_core, change_ring, change_end, change_channel, change_route, with_end_in, in_route, seats, binds_end, change_dispatcher, own_ring}
 use Rattle.fl_queues.specs.Binding.{Wanted, end_id, with_new_binding, binds_both}
 use Rattle.fl_queues.specs.Forwarding.{follows, takes_said, with_number, grants, denies, passes_word}
 use Rattle.fl_queues.specs.Standing.{picked, number_of}
 use Rattle.fl_queues.specs.SoundPlaces.{Owner, core_to, this_end}
-use Rattle.fl_laws.proofs.Cases.{by_given, Each}
+use Rattle.fl_laws.proofs.Cases.{by_given, Each, each_push}
 use Rattle.fl_laws.proofs.BindingWalk.{new_binding}
 use Rattle.fl_laws.proofs.Ends.{changed_alike}
 use Rattle.fl_laws.proofs.LabelQueues.{each_drop}
@@ -27,7 +27,7 @@ use Rattle.fl_laws.proofs.PlacesStep.{plan_of, plan_ring, plan_route, plan_quiet
 use Rattle.fl_laws.proofs.Quiet.{quiet_core, quiet_end, quiet_channel, quiet_seats, quiet_binds, quiet_both}
 use Rattle.fl_laws.proofs.Ready.{get_last}
 use Rattle.fl_laws.proofs.RingsKept.{channel_rings, seats_rings}
-use Rattle.fl_laws.proofs.Scenes.{joint_of, flow_of, Flow, Sight, sight_of, flow_in, seen, sights, labels_at, reads, Suits, Good}
+use Rattle.fl_laws.proofs.Scenes.{joint_of, flow_of, Flow, Sight, sight_of, flow_in, seen, sights, labels_at, reads, Suits, Good, Joint, over}
 use Rattle.fl_laws.proofs.ScenesKept.{quiet_good, NewOne, new_good, picked_same, picked_without}
 use Rattle.fl_laws.proofs.ReadsKept.{RingsOnly, PutOn, TakenOff, put_cases, take_cases, first_read, looks_labels, sure_labels, reads_seen, OneMore, reads_more}
 use Rattle.fl_laws.proofs.Walk.{with_ring}
@@ -55,7 +55,7 @@ as_it_was s = record { plan = refl; rings = refl; sights = λ n. refl }
 pub and_then : (s t u : State) → Quietly s t → Quietly t u → Quietly s u
 and_then s t u a b = record { plan = b.plan ∙ a.plan; rings = b.rings ∙ a.rings; sights = λ n. b.sights n ∙ a.sights n }
 
-two_flows : (j : Rattle.fl_laws.proofs.Scenes.Joint) (a b c d : Flow) → a ≡ c → b ≡ d
+two_flows : (j : Joint) (a b c d : Flow) → a ≡ c → b ≡ d
     → record { joint = j; client = a; server = b } ≡ (let x : Sight = record { joint = j; client = c; server = d } in x)
 two_flows j a b c d p q = cc
 
@@ -73,10 +73,10 @@ quiet_at_end e f s h = record {
 pub quiet_at_core : (n : ℕ) (f : Core → Core) (s : State) → plan_of (change_core n f s) ≡ plan_of s → Quietly s (change_core n f s)
 quiet_at_core n f s h = record { plan = h; rings = refl; sights = λ m. refl }
 
-pub quiet_at_dispatcher : (d : DispatcherId) (f : Dispatcher → Dispatcher) (s : State) → Quietly s (Rattle.fl_queues.specs.State.change_dispatcher d f s)
+pub quiet_at_dispatcher : (d : DispatcherId) (f : Dispatcher → Dispatcher) (s : State) → Quietly s (change_dispatcher d f s)
 quiet_at_dispatcher d f s =
     quiet_at_core d.core (λ k. record k { dispatchers = changed_at d.place f k.dispatchers }) s
-    (plan_quiet s (Rattle.fl_queues.specs.State.change_dispatcher d f s) (quiet_core d.core (λ k. record k { dispatchers = changed_at d.place f k.dispatchers }) s (λ k. refl)))
+    (plan_quiet s (change_dispatcher d f s) (quiet_core d.core (λ k. record k { dispatchers = changed_at d.place f k.dispatchers }) s (λ k. refl)))
 
 pub channel_bindings : (e : EndId) (f : ℕ → End → Dispatcher → Dispatcher) (s : State) → (change_channel e f s).bindings ≡ s.bindings
 channel_bindings e f s =
@@ -117,7 +117,7 @@ quiet_binding_both n w s =
 route_joint : (f : Route → Route) (back : Back) → ((r : Route) → (f r).cores ≡ r.cores) → joint_of (in_route f back) ≡ joint_of back
 route_joint f local h = refl
 route_joint f (over_ring n) h = refl
-route_joint f (over_route route) h = ap (λ cores. Rattle.fl_laws.proofs.Scenes.over cores) (h route)
+route_joint f (over_route route) h = ap (λ cores. over cores) (h route)
 
 pub quiet_at_route : (n : ℕ) (f : Route → Route) (s : State) → ((r : Route) → (f r).cores ≡ r.cores) → Quietly s (change_route n f s)
 quiet_at_route n f s h = record {
@@ -152,7 +152,7 @@ quiet_put s t at l k same linked suits none h = quiet_good (reads s) (reads t) (
     read : (o : Owner) → Each (Suits (sights s) o) (reads t o)
     read o = elim (put_cases s t at l o k linked) [
       | inl e ↦ subst (Each (Suits (sights s) o)) (sym e) (h.reads o)
-      | inr (q, e) ↦ subst (Each (Suits (sights s) o)) (sym e) (Rattle.fl_laws.proofs.Cases.each_push (Suits (sights s) o) (reads s o) l (h.reads o) (suits o q))
+      | inr (q, e) ↦ subst (Each (Suits (sights s) o)) (sym e) (each_push (Suits (sights s) o) (reads s o) l (h.reads o) (suits o q))
     ]
 
     alike : (o : Owner) (e : EndId) → picked e (reads t o) ≡ picked e (reads s o)
@@ -177,7 +177,7 @@ quiet_take s t at first k same there none h = quiet_good (reads s) (reads t) (si
       | inr (r, q) ↦ ap (picked e) q ∙ picked_without e (reads s o) first.label (first_read s at o first r there) (none e)
     ]
 
-pub no_call_said : (l : Label) (m : Rattle.fl_queues.specs.Rings.Said) → l ≡ says m → (e : EndId) → number_of e l ≡ None
+pub no_call_said : (l : Label) (m : Said) → l ≡ says m → (e : EndId) → number_of e l ≡ None
 no_call_said l m q e = ap (number_of e) q
 
 pub no_call_told : (l : Label) → l ≡ acknowledges → (e : EndId) → number_of e l ≡ None
@@ -226,7 +226,7 @@ made_new w back stations o s h = record {
 nothing_read : (s : State) (e : EndId) → e.binding ≡ length s.bindings → reads s (this_end e) ≡ []
 nothing_read s e d =
     ap (λ (o : Option RingEnd). given o [] (labels_at s.rings))
-    (end_planned s e ∙ ap (λ (o : Option Binding). given o None (λ b. Rattle.fl_queues.specs.State.own_ring e.side b.back)) (ap (slice_get s.bindings) d ∙ none_at_length s.bindings))
+    (end_planned s e ∙ ap (λ (o : Option Binding). given o None (λ b. own_ring e.side b.back)) (ap (slice_get s.bindings) d ∙ none_at_length s.bindings))
 
 pub good_new : (w : Wanted) (back : Back) (stations : ℕ) (o : Option Queue) (s t : State) → given o [] (λ (q : Queue). q.labels) ≡ []
     → t.bindings ≡ s.bindings → ((x : Owner) → reads (with_new_binding w back stations o t) x ≡ reads s x) → GoodIn s → GoodIn (with_new_binding w back stations o t)

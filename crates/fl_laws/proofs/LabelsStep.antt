@@ -32,11 +32,12 @@ use Rattle.fl_laws.proofs.Places.{Linked, ring_of, turned}
 use Rattle.fl_laws.proofs.PlacesStep.{plan_of, plan_ring, plan_core, plan_quiet, owner_planned, heard_outline, core_outline, same_some, written_plan, two_lists, said_rings, neighbours_of, link_rings, opening_counted}
 use Rattle.fl_laws.proofs.Quiet.{quiet_core}
 use Rattle.fl_laws.proofs.ReadsKept.{SeesSame, looks_labels, sure_labels, reads_seen, reads_more, link_more}
-use Rattle.fl_laws.proofs.Scenes.{sights, reads, labels_at, Suits, Good}
+use Rattle.fl_laws.proofs.Scenes.{sights, reads, labels_at, Suits, Good, Sight}
 use Rattle.fl_laws.proofs.ScenesKept.{quiet_good}
 use Rattle.fl_laws.proofs.Services.{ring_bare}
 use Rattle.fl_laws.proofs.Walk.{KeepsUnder, CalledAt, RuledAt, IsHere, IsPassing, IsGoingOn, with_ring, step_leads_under}
 use Rattle.fl_laws.proofs.WaitsetsKept.{looks_same, sure_same, first_same}
+use Rattle.fl_queues.specs.Standing.{picked}
 
 pub record MayLabel (s : State) : Type 0 where
   pub linked : Linked (plan_of s)
@@ -74,7 +75,7 @@ may_label_seen n f s labels same h = record {
 
 -- ---- what the events do
 
-told_suits : (S : ℕ → Option Rattle.fl_laws.proofs.Scenes.Sight) (x : Owner) → Suits S x acknowledges
+told_suits : (S : ℕ → Option Sight) (x : Owner) → Suits S x acknowledges
 told_suits S (core_to a b) = tt
 told_suits S (this_end f) = tt
 
@@ -88,7 +89,7 @@ no_rings s q x = by (ring_of (plan_of s) x)
 alike_good : (s t : State) → ((n : ℕ) → sights t n ≡ sights s n) → ((x : Owner) → reads t x ≡ reads s x) → GoodIn s → GoodIn t
 alike_good s t same read h =
     quiet_good (reads s) (reads t) (sights s) (sights t) same (λ o. subst (Each (Suits (sights s) o)) (sym (read o)) (h.reads o))
-    (λ o e. ap (Rattle.fl_queues.specs.Standing.picked e) (read o)) h
+    (λ o e. ap (picked e) (read o)) h
 
 found_good : (t : Chosen) (at : RingEnd) (first : RingLabel) (l : Label) (s : State) → first_on at s ≡ Some first → first.label ≡ l → GoodIn s → GoodIn (finds t at l s).state
 found_good t at first (next_of e k) s q r h = quiet s _ (quiet_at_dispatcher t.dispatcher (puts_off Polled t.channel Pending) s) h

@@ -1,6 +1,6 @@
 -- An end takes a fragment: labels stay on their ways, and in order.
 use Rattle.std.proofs.Common.{◌≡◌, ◌≢◌, refl, sym, ◌∙◌, ap, subst, ℕ, zero, suc, ◌+◌, ◌-◌, ◌<◌, ◌≤◌, Bool, true, false, List, [], ◌∷◌, ◌++◌, length, drop, slice_get, Option, Some, None, arith}
-use Rattle.std.specs.Prelude.{slice_index, IsSome, IsNone}
+use Rattle.std.specs.Prelude.{slice_index, IsSome, IsNone, is_some}
 use Rattle.fl_base.specs.declared.identity.EndId.{EndId}
 use Rattle.fl_base.specs.declared.identity.Side.{Side}
 use Rattle.fl_base.specs.declared.identity.Side.TheVariants.{Client, Server}
@@ -14,7 +14,7 @@ use Rattle.fl_queues.specs.Waits.{Dispatcher}
 use Rattle.fl_queues.specs.State.{Back, local, over_ring, over_route, Route, Binding, State, Outcome, answers, first_on, own_ring, end_in, end_of, in_queue, with_end_in, change_end, change_out, change_ring, change_dispatcher}
 use Rattle.fl_queues.specs.Taking.{takes_label, takes_next, taken_answer}
 use Rattle.fl_queues.specs.Events.{Answer}
-use Rattle.fl_queues.specs.Standing.{picked}
+use Rattle.fl_queues.specs.Standing.{picked, number_of}
 use Rattle.fl_queues.specs.SoundPlaces.{Owner, core_to, this_end, stations}
 use Rattle.fl_queues.specs.SoundLabels.{IsOf, MayStandFrom}
 use Rattle.fl_laws.proofs.Cases.{Each}
@@ -22,8 +22,8 @@ use Rattle.fl_laws.proofs.EndsStep.{queue_out}
 use Rattle.fl_laws.proofs.Flows.{Passes}
 use Rattle.fl_laws.proofs.LabelQueues.{each_drop, replies_queue}
 use Rattle.fl_laws.proofs.LabelsMoved.{EndsWere, ends_begin, ends_change, ends_same, replies_passed, take_suits, take_others, own_each, HasQueue, IsShaped, number_passes}
-use Rattle.fl_laws.proofs.LabelsPass.{Moved, moved_good, queue_is, end_own, end_back, end_else, joint_kept, emptied_queue, PassesOver, over_passes, take_passes, before_last}
-use Rattle.fl_laws.proofs.LabelsQuiet.{GoodIn, quiet, quiet_at_dispatcher, quiet_take}
+use Rattle.fl_laws.proofs.LabelsPass.{Moved, moved_good, queue_is, end_own, end_back, end_else, joint_kept, emptied_queue, PassesOver, over_passes, take_passes, before_last, reader}
+use Rattle.fl_laws.proofs.LabelsQuiet.{GoodIn, quiet, quiet_at_dispatcher, quiet_take, no_call_told}
 use Rattle.fl_laws.proofs.Places.{Linked, ring_of}
 use Rattle.fl_laws.proofs.PlacesStep.{plan_of, plan_ring, plan_quiet, owner_planned, own_back}
 use Rattle.fl_laws.proofs.Quiet.{quiet_end, quiet_core}
@@ -145,7 +145,7 @@ module _ (s : State) (e : EndId) (b : Binding) (i : Planned) (k : ℕ) (d : Disp
         leaves_last = λ u. leaves;
         comes = λ a. absurd (omega arith);
         comes_last = λ u. absurd (omega arith);
-        rest = λ j a u v. same_reads (Rattle.fl_laws.proofs.LabelsPass.reader way j);
+        rest = λ j a u v. same_reads (reader way j);
         rest_last = λ u v. absurd (u (sym place));
       }))
 
@@ -219,7 +219,7 @@ module _ (s : State) (e : EndId) (b : Binding) (i : Planned) (k : ℕ) (d : Disp
         picked_first e (reads s (this_end (peer e))) k stands ∙ ap (λ ls. k ∷ picked e ls) (sym (take_reads s t4 at (this_end (peer e)) off own)) in
         let number = number_passes s e b 0 k _ good was (omega arith) (ap (λ j. picked e (before (reads s) (sights s) e j 1)) joint ∙ leaves) in
         moved_good s t4 e n k b c4 tmoved (take_suits (Suits (sights s)) s t4 at off good.reads)
-        (λ o g u. take_others s t4 at first g off there (ap (Rattle.fl_queues.specs.Standing.number_of g) l ∙ number_other g e k u) o)
+        (λ o g u. take_others s t4 at first g off there (ap (number_of g) l ∙ number_other g e k u) o)
         (subst (Each (IsOf e)) (sym tqueue) (own_each e _ (good.queues (peer e))))
         (subst (λ z. Passes (λ j. picked e (before (reads s) (sights s) e (joint_of b.back) j)) (λ j. picked e (before (reads t4) (sights t4) e (joint_of b.back) j)) (end_in e.side b).out.passed z k) (sym one)
         (subst (λ c. Passes (λ j. picked e (before (reads s) (sights s) e c j)) (λ j. picked e (before (reads t4) (sights t4) e c j)) (end_in e.side b).out.passed 1 k) (sym joint)
@@ -251,7 +251,7 @@ module _ (s : State) (g : EndId) (b : Binding) (i : Planned) (d : DispatcherId) 
       let b1 : Binding = with_end_in g.side (in_queue without_first) b in
       let ends : EndsWere s (change_end g (in_queue without_first) s) g.binding b b1 = ends_change s s g.binding b b g.side (in_queue without_first) (ends_begin s g.binding b was) in
       let some : IsSome (end_in (other sender.side) b).queue =
-      subst (λ (x : Side). IsSome (end_in x b).queue) (sym (twice_side g.side)) (ap Rattle.std.specs.Prelude.is_some has) in
+      subst (λ (x : Side). IsSome (end_in x b).queue) (sym (twice_side g.side)) (ap is_some has) in
       let stands : slice_get (queue_at (sights s) (peer sender)) 0 ≡ Some (next_of sender k) =
       ap (λ (x : EndId). slice_get (queue_at (sights s) x) 0) (twice g) ∙ there ∙ ap (λ l. Some l) of_peer.1 in
       subst (λ l. GoodIn (takes_label g i l u).state) (sym of_peer.1)
@@ -278,7 +278,7 @@ module _ (s : State) (g : EndId) (b : Binding) (i : Planned) (d : DispatcherId) 
           let t : State = change_ring at.ring (takes at.side) s in
           quiet t (change_dispatcher d f t) (quiet_at_dispatcher d f t)
           (quiet_take s t at first (record { plan = plan_ring at.ring (takes at.side) s; rings = refl }) (λ m. refl) there
-          (Rattle.fl_laws.proofs.LabelsQuiet.no_call_told first.label q) good)
+          (no_call_told first.label q) good)
       by (next_of w k) q h =
           let v : State = change_dispatcher d f (change_ring at.ring (takes at.side) s) in
           let mine2 : ring_of (plan_of s) (this_end (peer (peer g))) ≡ Some at = ap (λ (x : EndId). ring_of (plan_of s) (this_end x)) (twice g) ∙ mine in

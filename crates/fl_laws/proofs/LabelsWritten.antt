@@ -26,7 +26,7 @@ use Rattle.fl_laws.proofs.Places.{Linked, ring_of, turned}
 use Rattle.fl_laws.proofs.PlacesStep.{plan_of, plan_ring, plan_quiet, owner_planned}
 use Rattle.fl_laws.proofs.Quiet.{quiet_end}
 use Rattle.fl_laws.proofs.ReadsKept.{PutOn, put_reads}
-use Rattle.fl_laws.proofs.Scenes.{Joint, by_queue, by_one_ring, over, joint_of, queued, seen, sights, reads, labels_at, way_on, Goes, Suits, queue_at, before}
+use Rattle.fl_laws.proofs.Scenes.{Joint, by_queue, by_one_ring, over, joint_of, queued, seen, sights, reads, labels_at, way_on, Goes, Suits, queue_at, before, sight_of}
 use Rattle.fl_laws.proofs.ScenesKept.{twice, number_other, picked_more}
 use Rattle.fl_laws.proofs.ScenesSaid.{way_at}
 use Rattle.fl_laws.proofs.Ways.{Once, once_on, way_long, got_index, got_within}
@@ -157,7 +157,7 @@ module _ (s : State) (e : EndId) (b : Binding) (i : Planned) (was : slice_get s.
         let own : ring_of (plan_of s) (core_to y x) ≡ Some (turned at) = linked.back x y at (owner_planned s (core_to x y) at (link, between, is)) in
         let its : reader way 0 ≡ core_to y x = ap (λ n. core_to n (slice_index way 0)) (got_index way 1 y far) ∙ ap (core_to y) (got_index way 0 x near) in
         let there : ring_of (plan_of s) (reader way 0) ≡ Some (turned at) = ap (ring_of (plan_of s)) its ∙ own in
-        let goes : Goes (sights s) x y e = record { sight = Rattle.fl_laws.proofs.Scenes.sight_of b; there = ap seen was; cores = route.cores; joint = ap joint_of q; place = 0; near = near; far = far } in
+        let goes : Goes (sights s) x y e = record { sight = sight_of b; there = ap seen was; cores = route.cores; joint = ap joint_of q; place = 0; near = near; far = far } in
         let joint : joint_of b.back ≡ over route.cores = ap joint_of q in
         let long : length (end_in e.side b).out.passed ≡ length route.cores + 1 = shaped.passed e.side ∙ ap stations q in
         let same : length way ≡ length route.cores = way_long e.side route.cores in

@@ -85,3 +85,5 @@ pub mod ForwardsTold
 pub mod ListingLaws
 pub mod TablesHeard
 pub mod TablesGoOn
+pub mod Begun
+pub mod SoundRuns

@@ -1,11 +1,11 @@
 -- What stands before each reader after a label is put on a ring or taken, after a look, and after a ring is made.
-use Rattle.std.proofs.Common.{◌≡◌, ◌≢◌, refl, sym, ◌∙◌, ap, subst, ℕ, zero, suc, ◌+◌, ◌<◌, List, [], ◌∷◌, ◌++◌, length, drop, slice_get, Option, Some, None, option_map, arith, ◌⊎◌, inl, inr}
+use Rattle.std.proofs.Common.{◌≡◌, ◌≢◌, refl, sym, ◌∙◌, ap, subst, ℕ, zero, suc, ◌+◌, ◌<◌, List, [], ◌∷◌, ◌++◌, length, drop, slice_get, Option, Some, None, option_map, arith, ◌⊎◌, inl, inr, ◌||◌, nat_le}
 use Rattle.std.proofs.lemmas.List.{append-nil}
 use Rattle.fl_base.specs.declared.identity.EndId.{EndId}
 use Rattle.fl_base.specs.declared.identity.Side.{Side}
 use Rattle.fl_base.specs.declared.identity.Side.TheVariants.{Client, Server}
 use Rattle.fl_hop.proofs.Entering.{same_or}
-use Rattle.fl_hop.proofs.Lists.{push_keeps, push_cases}
+use Rattle.fl_hop.proofs.Lists.{push_keeps, push_cases, at_within}
 use Rattle.fl_queues.specs.Given.{given, changed_at}
 use Rattle.fl_queues.specs.Rings.{Label, RingLabel, Ring, RingSide, first_side, second_side, RingEnd, read_by, first_for, puts, takes, looks, makes_sure, fresh_ring, is_spent, free}
 use Rattle.fl_queues.specs.State.{State, first_on, change_ring}
@@ -13,7 +13,7 @@ use Rattle.fl_queues.specs.Making.{with_new_link}
 use Rattle.fl_queues.specs.Standing.{labels_of}
 use Rattle.fl_queues.specs.SoundPlaces.{Owner, core_to, this_end, opposite}
 use Rattle.fl_laws.proofs.Cases.{either, by_given, Each}
-use Rattle.fl_laws.proofs.Places.{Plan, Linked, ring_of, turned, changed_same, changed_other, join_stays, join_comes, join_even, joins, with_link_between}
+use Rattle.fl_laws.proofs.Places.{Plan, Linked, ring_of, turned, changed_same, changed_other, join_stays, join_comes, join_even, joins, with_link_between, IsEven}
 use Rattle.fl_laws.proofs.PlacesStep.{plan_of, plan_ring, link_plan}
 use Rattle.fl_laws.proofs.Scenes.{labels_at, reads, put_here, put_else, take_here, take_else, end_or, gone_past}
 
@@ -110,7 +110,7 @@ looks_labels second_side second_side r = by_given (λ (t : Ring). labels_of (rea
 pub sure_labels : (need : ℕ) (by : RingSide) → SeesSame (makes_sure need by)
 sure_labels need by side r =
     either (λ (t : Ring). labels_of (read_by side t).waiting ≡ labels_of (read_by side r).waiting)
-    (Rattle.std.proofs.Common.◌||◌ (is_spent by r) (Rattle.std.proofs.Common.nat_le need (free by r))) r (looks by r) (λ q. refl) (λ q. looks_labels by side r)
+    (is_spent by r || nat_le need (free by r)) r (looks by r) (λ q. refl) (λ q. looks_labels by side r)
 
 pub reads_seen : (n : ℕ) (f : Ring → Ring) (s : State) → SeesSame f → (x : Owner) → reads (change_ring n f s) x ≡ reads s x
 reads_seen n f s h x = ap (λ p. given (ring_of p x) [] (labels_at (changed_at n f s.rings))) (plan_ring n f s) ∙ by (ring_of (plan_of s) x)
@@ -145,7 +145,7 @@ fresh_labels size second_side = refl
 
 push_labels : (rs : List Ring) (r : Ring) (y : RingEnd) → y.ring < length rs → labels_at (rs ++ r ∷ []) y ≡ labels_at rs y
 push_labels rs r y h =
-    let (x, q) = Rattle.fl_hop.proofs.Lists.at_within rs y.ring h in
+    let (x, q) = at_within rs y.ring h in
     ap (λ o. given o [] (λ z. labels_of (read_by y.side z).waiting)) (push_keeps rs (r ∷ []) y.ring x q ∙ sym q)
 
 last_labels : (rs : List Ring) (size : ℕ) (y : RingEnd) → y.ring ≡ length rs → labels_at (rs ++ fresh_ring size ∷ []) y ≡ []
@@ -185,7 +185,7 @@ link_more a b size s h = record {
     p : Plan
     p = plan_of s
 
-    near_even : Rattle.fl_laws.proofs.Places.IsEven (changed_at a (joins b p.rings first_side) p.cores)
+    near_even : IsEven (changed_at a (joins b p.rings first_side) p.cores)
     near_even = join_even p.cores a b p.rings first_side h.even
 
     stays : (x : Owner) (at : RingEnd) → ring_of p x ≡ Some at → ring_of (with_link_between a b p) x ≡ Some at

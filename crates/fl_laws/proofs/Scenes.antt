@@ -1,6 +1,6 @@
 -- What labels speak of, apart from all else: how many fragments of each end have passed each station, what stands in each queue and
 -- before each reader of a ring. Links and rings are told by who reads them.
-use Rattle.std.proofs.Common.{◌≡◌, ◌≢◌, refl, sym, ◌∙◌, ap, subst, ℕ, zero, suc, ◌+◌, ◌-◌, ◌<◌, ◌==◌, if◌then◌else◌, List, [], ◌∷◌, ◌++◌, length, map, drop, slice_get, Option, Some, None, option_map, arith, ◌⊎◌, inl, inr, reverse}
+use Rattle.std.proofs.Common.{◌≡◌, ◌≢◌, refl, sym, ◌∙◌, ap, subst, ℕ, zero, suc, ◌+◌, ◌-◌, ◌<◌, ◌==◌, if◌then◌else◌, List, [], ◌∷◌, ◌++◌, length, map, drop, slice_get, Option, Some, None, option_map, arith, ◌⊎◌, inl, inr, reverse, slice_set}
 use Rattle.std.specs.Prelude.{slice_index}
 use Rattle.std.proofs.lemmas.List.{map-append}
 use Rattle.fl_base.specs.declared.identity.EndId.{EndId}
@@ -215,4 +215,4 @@ end_or x y = elim (same_or x.ring y.ring) [
 ]
 
 pub gone_past : (rs : List Ring) (n : ℕ) (f : Ring → Ring) → slice_get rs n ≡ None → changed_at n f rs ≡ rs
-gone_past rs n f q = ap (λ o. given o rs (λ r. Rattle.std.proofs.Common.slice_set rs n (f r))) q
+gone_past rs n f q = ap (λ o. given o rs (λ r. slice_set rs n (f r))) q

@@ -28,7 +28,7 @@ pub record OpensFor (n : ℕ) (route : Route) (o : Opening) : Type 0 where
   pub binding : n ≡ o.binding
   pub verdict : route.verdict ≡ undecided
 
-opens_for : (n : ℕ) (route : Route) (from to : ℕ) (o : Opening) (v : Verdict) → route.verdict ≡ v
+pub opens_for : (n : ℕ) (route : Route) (from to : ℕ) (o : Opening) (v : Verdict) → route.verdict ≡ v
     → due_by n route v ≡ Some (record { from = from; to = to; said = open_circuit o }) → OpensFor n route o
 opens_for n route from to o undecided e h =
     record { binding = ap (λ (p : Opening). p.binding) (same_opening _ o (said_same _ _ h)); verdict = e }

@@ -2,7 +2,7 @@
 -- along it, by its entry, to the next core or to the other end.
 use Rattle.std.proofs.Common.{◌≡◌, ◌≢◌, refl, sym, ◌∙◌, ap, subst, ℕ, zero, suc, ◌+◌, ◌-◌, ◌<◌, ◌≤◌, ◌==◌, min, Bool, true, false, if◌then◌else◌, List, [], ◌∷◌, length, drop, reverse, get_or, slice_get, Option, Some, None, arith, position}
 use Rattle.std.specs.Prelude.{slice_index}
-use Rattle.std.proofs.lemmas.Bool.{eqb-true}
+use Rattle.std.proofs.lemmas.Bool.{eqb-true, eqb-false}
 use Rattle.std.proofs.lemmas.List.{length-reverse, get_or-reverse}
 use Rattle.std.proofs.lemmas.List.Quantifiers.{position-Some}
 use Rattle.fl_base.specs.declared.identity.EndId.{EndId}
@@ -130,7 +130,7 @@ client_leads k n route place (to_end e) true q a h =
     let last : place + 1 + 1 ≡ length route.cores = eqb-true (place + 1 + 1) (length route.cores) q in
     (omega arith, ap peer (sym h))
 client_leads k n route place (to_link l c) false q a h =
-    let more : place + 1 + 1 ≢ length route.cores = Rattle.std.proofs.lemmas.Bool.eqb-false (place + 1 + 1) (length route.cores) q in
+    let more : place + 1 + 1 ≢ length route.cores = eqb-false (place + 1 + 1) (length route.cores) q in
     let two : place + 1 + 1 ≡ suc (suc place) = omega arith in
     (core_at route (place + 1 + 1), ap (slice_get route.cores) (sym two) ∙ index_got route.cores (place + 1 + 1) (omega arith), h.0)
 client_leads k n route place (to_end e) false q a h = absurd h

@@ -11,6 +11,8 @@ ghost use Rattle.fl_queues.specs.SoundOpenings.{OpeningsGoInOrder};
 ghost use Rattle.fl_queues.specs.SoundPlaces.{CoresStand, EndsStand, LinksArePaired, RingsHaveOneOwner, ServicesStand, SeatsAgree};
 ghost use Rattle.fl_queues.specs.SoundRoutes.{RoutesLead, NumbersGoAlongRoutes, VerdictsFit, EndsAreBound, NumbersWereOpened, NumbersAreOnce};
 ghost use Rattle.fl_queues.specs.SoundLabels.{LabelsKeepToTheirWays, WritesAreCounted, LabelsFollow, NothingBeforeTheOpening};
+ghost use Rattle.fl_queues.specs.SoundRoutes.{RoutesLead};
+ghost use Rattle.fl_queues.specs.SoundLabels.{LabelsKeepToTheirWays, LabelsFollow, NothingBeforeTheOpening, WritesAreCounted};
 ghost use Rattle.fl_queues.specs.SoundRings.{RingsCount, RingsFit};
 ghost use Rattle.fl_queues.specs.Worlds.{WorldsAreSound, EverInOrder, EverFewWait, ListedHaveEnds, WritesUnderstand, ShowsUnderstand, TurnsGiveTheNext};
 ghost use Rattle.fl_queues.specs.SoundCalls.{CallsFit, RulesSuit};
