@@ -461,3 +461,174 @@ counted_sound t l a b sound there same more_opened more_taken most =
       one = λ i m x d binding p q g h.
           sound.one i m x d binding p q (record { answered = g.answered; there = g.there }) (record { answered = h.answered; there = h.there });
     }
+
+-- ---- openings
+
+abbrev pub Fresh : TheCircuits → ℕ → Type 0
+Fresh t binding = (l n : ℕ) (way : Way) → Leads t l n binding way → ⊥
+
+module _ (t : TheCircuits) (sound : Sound t) where
+  pub opening_counted : (l n : ℕ) → Next t.core t.links l n → Sound (after_opening t l)
+  opening_counted l n x =
+      let a : LinkState = x.link in
+      let counts = sound.counts l a x.there in
+      let most : a.taken ≤ 1023 = counts.1 in
+      let few : a.opened ≤ 1022 = x.few in
+      subst (λ (links : List LinkState). Sound (with_links t links)) (sym (counted_opening t.core t.links l n x))
+      (counted_sound t l a (with_opening a) sound x.there refl (omega arith) (omega arith) (omega arith, omega arith))
+
+  pub taking_counted : (l n : ℕ) → Due t.core t.links l n → Sound (after_taking t l)
+  taking_counted l n x =
+      let a : LinkState = x.link in
+      let counts = sound.counts l a x.there in
+      let most : a.opened ≤ 1023 = counts.0 in
+      let few : a.taken ≤ 1022 = x.few in
+      subst (λ (links : List LinkState). Sound (with_links t links)) (sym (counted_taking t.core t.links l n x))
+      (counted_sound t l a (with_taking a) sound x.there refl (omega arith) (omega arith) (omega arith, omega arith))
+
+  opened_now : (l n : ℕ) → Next t.core t.links l n → IsOpened t.core (count_opening t.links l) l n
+  opened_now l n x =
+      subst (λ (links : List LinkState). IsOpened t.core links l n) (sym (counted_opening t.core t.links l n x))
+      (record { link = with_opening x.link; there = set_here t.links l x.link (with_opening x.link) x.there; among = (x.link.opened, omega arith, sym x.is) })
+
+  taken_now : (l n : ℕ) → Due t.core t.links l n → IsTaken t.core (count_taking t.links l) l n
+  taken_now l n x =
+      subst (λ (links : List LinkState). IsTaken t.core links l n) (sym (counted_taking t.core t.links l n x))
+      (record { link = with_taking x.link; there = set_here t.links l x.link (with_taking x.link) x.there; among = (x.link.taken, omega arith, sym x.is) })
+
+  grown_opening : (l n : ℕ) → Next t.core t.links l n → Grown t.links (count_opening t.links l)
+  grown_opening l n x =
+      subst (λ (links : List LinkState). Grown t.links links) (sym (counted_opening t.core t.links l n x))
+      (grown_set t.links l x.link (with_opening x.link) x.there refl (omega arith) (omega arith))
+
+  some_hop : (l n : ℕ) (hop : Hop) → hop_at t l n ≡ Some hop → IsGiven t.core t.links l n
+  some_hop l n hop h = given_of t sound l n hop.binding hop.way (record { answered = hop.answered; there = h })
+
+  none_by : (o : Option Hop) (l n : ℕ) → hop_at t l n ≡ o → (IsGiven t.core t.links l n → ⊥) → hop_at t l n ≡ None
+  none_by None l n e new = e
+  none_by (Some hop) l n e new = absurd (new (some_hop l n hop e))
+
+  -- nothing stands at a number that nobody gave
+  no_hop : (l n : ℕ) → (IsGiven t.core t.links l n → ⊥) → hop_at t l n ≡ None
+  no_hop l n new = none_by (hop_at t l n) l n refl new
+
+  free_at : (l : LinkId) (c : Circuit) → (IsGiven t.core t.links l.0 c.0 → ⊥) → (m n : ℕ) → IsAt (Link l c) m n → hop_at t m n ≡ None
+  free_at l c new m n h = ap (λ (i : ℕ). hop_at t i n) h.0 ∙ ap (hop_at t l.0) h.1 ∙ no_hop l.0 c.0 new
+
+  same_length : (links : List LinkState) (l : ℕ) (b : LinkState) → length (slice_set links l b) ≡ length links
+  same_length links l b = length-set links l b
+
+  next_range : (links : List LinkState) (l : LinkId) (c : Circuit) → length links ≡ length t.links → Next t.core t.links l.0 c.0 → InRange (length links) (Link l c)
+  next_range links l c long x =
+      let few : x.link.opened ≤ 1022 = x.few in
+      let below : l.0 < length t.links = within t.links l.0 x.link x.there in
+      (omega (arith, long, below), (small t.core x.link.neighbour.0 (x.link.opened + 1) c.0 (omega arith) (x.link.opened, omega arith, sym x.is)).1)
+
+  due_range : (links : List LinkState) (l : LinkId) (c : Circuit) → length links ≡ length t.links → Due t.core t.links l.0 c.0 → InRange (length links) (Link l c)
+  due_range links l c long x =
+      let few : x.link.taken ≤ 1022 = x.few in
+      let below : l.0 < length t.links = within t.links l.0 x.link x.there in
+      (omega (arith, long, below), (small x.link.neighbour.0 t.core (x.link.taken + 1) c.0 (omega arith) (x.link.taken, omega arith, sym x.is)).1)
+
+  opening_length : (l n : ℕ) → Next t.core t.links l n → length (count_opening t.links l) ≡ length t.links
+  opening_length l n x = ap (λ (ls : List LinkState). length ls) (counted_opening t.core t.links l n x) ∙ length-set t.links l (with_opening x.link)
+
+  taking_length : (l n : ℕ) → Due t.core t.links l n → length (count_taking t.links l) ≡ length t.links
+  taking_length l n x = ap (λ (ls : List LinkState). length ls) (counted_taking t.core t.links l n x) ∙ length-set t.links l (with_taking x.link)
+
+  moved_leads : (links : List LinkState) (l n binding : ℕ) (way : Way) → Leads (with_links t links) l n binding way → Leads t l n binding way
+  moved_leads links l n binding way h = record { answered = h.answered; there = h.there }
+
+  pub opened_sound : (l : LinkId) (c : Circuit) (binding : ℕ) → Next t.core t.links l.0 c.0 → Fresh t binding → Sound (opened t l c binding)
+  opened_sound l c binding x fresh =
+      entered_sound (after_opening t l.0) (opening_counted l.0 c.0 x) binding false (End (record { binding = binding; side = Client })) (Link l c) tt
+      (next_range (count_opening t.links l.0) l c (opening_length l.0 c.0 x) x) (λ m n h. absurd h)
+      (free_at l c (never_next t.core t.links sound.apart l.0 c.0 x)) tt refl (opened_now l.0 c.0 x)
+      (λ m n way h. fresh m n way (moved_leads (count_opening t.links l.0) m n binding way h))
+
+  pub arrived_sound : (l : LinkId) (c : Circuit) (binding : ℕ) → Due t.core t.links l.0 c.0 → Fresh t binding → Sound (arrived t l c binding)
+  arrived_sound l c binding x fresh =
+      entered_sound (after_taking t l.0) (taking_counted l.0 c.0 x) binding false (Link l c) (End (record { binding = binding; side = Server }))
+      (due_range (count_taking t.links l.0) l c (taking_length l.0 c.0 x) x) tt (free_at l c (never_due t.core t.links sound.apart l.0 c.0 x))
+      (λ m n h. absurd h) tt (taken_now l.0 c.0 x) refl
+      (λ m n way h. fresh m n way (moved_leads (count_taking t.links l.0) m n binding way h))
+
+pub passed_sound : (t : TheCircuits) → Sound t → (l m : LinkId) (c d : Circuit) (binding : ℕ) → Due t.core t.links l.0 c.0 → Next t.core t.links m.0 d.0
+    → l.0 ≢ m.0 → Fresh t binding → Sound (passed_on t l c m d binding)
+passed_sound t sound l m c d binding x y apart fresh =
+    let u : TheCircuits = after_taking t l.0 in
+    let u_sound : Sound u = taking_counted t sound l.0 c.0 x in
+    let z : Next t.core u.links m.0 d.0 = next_stays t.core t.links l.0 c.0 m.0 d.0 x apart y in
+    let w_sound : Sound (after_opening u m.0) = opening_counted u u_sound m.0 d.0 z in
+    let first : length u.links ≡ length t.links = taking_length t sound l.0 c.0 x in
+    let long : length (count_opening u.links m.0) ≡ length t.links = opening_length u u_sound m.0 d.0 z ∙ first in
+    entered_sound (after_opening u m.0) w_sound binding false (Link l c) (Link m d)
+    (due_range t sound (count_opening u.links m.0) l c long x)
+    (next_range t sound (count_opening u.links m.0) m d long y)
+    (free_at t sound l c (never_due t.core t.links sound.apart l.0 c.0 x)) (free_at t sound m d (never_next t.core t.links sound.apart m.0 d.0 y)) apart
+    (taken_stays t.core u.links (count_opening u.links m.0) (grown_opening u u_sound m.0 d.0 z) l.0 c.0 (taken_now t sound l.0 c.0 x))
+    (opened_now u u_sound m.0 d.0 z)
+    (λ i n way h. fresh i n way (record { answered = h.answered; there = h.there }))
+
+-- ---- one more link
+
+default_filled : (hops : List (Option Hop)) (i n : ℕ) → slice_index_or (hops ++ replicate n None) i None ≡ slice_index_or hops i None
+default_filled [] i zero = refl
+default_filled [] zero (suc n) = refl
+default_filled [] (suc i) (suc n) = default_filled [] i n
+default_filled (x ∷ hops) zero n = refl
+default_filled (x ∷ hops) (suc i) n = default_filled hops i n
+
+abbrev no_hops : List (Option Hop)
+no_hops = replicate numbers None
+
+no_hops_long : length no_hops ≡ 2047
+no_hops_long = length-replicate {A = Option Hop} numbers None
+
+pub linked_sound : (t : TheCircuits) (to : CoreId) → Sound t → length t.links < 15 → to.0 ≢ t.core
+    → ((l : ℕ) (a : LinkState) → slice_get t.links l ≡ Some a → a.neighbour.0 ≢ to.0) → Sound (with_link t to)
+linked_sound t to sound few self other =
+    let fresh : LinkState = record { neighbour = to; opened = 0; taken = 0 } in
+    let more : List LinkState = t.links ++ fresh ∷ [] in
+    let long : length more ≡ length t.links + 1 = length-append t.links (fresh ∷ []) in
+    let grown : Grown t.links more = grown_push t.links fresh in
+    let hops : length (t.hops ++ no_hops) ≡ length t.hops + length no_hops = length-append t.hops no_hops in
+    let filled : length no_hops ≡ 2047 = no_hops_long in
+    let whole : length t.hops ≡ 2047 * length t.links = sound.whole in
+    record {
+      few = omega (arith, long, few);
+      whole = omega (arith, long, hops, filled, whole);
+      apart = λ l a h. elim (push_cases t.links fresh l a h) [
+        | inl k ↦ sound.apart l a k
+        | inr k ↦ subst (λ (b : LinkState). b.neighbour.0 ≢ t.core) (sym k.1) self
+      ];
+      once = λ l m a b g h e. elim (push_cases t.links fresh l a g) [
+        | inl k ↦ elim (push_cases t.links fresh m b h) [
+          | inl w ↦ sound.once l m a b k w e
+          | inr w ↦ absurd (other l a k (e ∙ ap (λ (x : LinkState). x.neighbour.0) w.1))
+        ]
+        | inr k ↦ elim (push_cases t.links fresh m b h) [
+          | inl w ↦ absurd (other m b w (sym e ∙ ap (λ (x : LinkState). x.neighbour.0) k.1))
+          | inr w ↦ k.0 ∙ sym w.0
+        ]
+      ];
+      counts = λ l a h. elim (push_cases t.links fresh l a h) [
+        | inl k ↦ sound.counts l a k
+        | inr k ↦ subst (λ (b : LinkState). (b.opened ≤ 1023) × (b.taken ≤ 1023)) (sym k.1) (omega arith, omega arith)
+      ];
+      toward = λ l n binding way h. elim (sound.toward l n binding way (was l n binding way h)) [
+        | inl k ↦ inl (opened_stays t.core t.links more grown l n k.0, client_stays t.core t.links more grown binding way k.1)
+        | inr k ↦ inr (taken_stays t.core t.links more grown l n k.0, server_stays t.core t.links more grown binding way k.1)
+      ];
+      both = λ l m c d binding h.
+          let back = sound.both l m c d binding (was l.0 c.0 binding (Link m d) h) in
+          record { answered = back.answered; there = same m.0 d.0 ∙ back.there };
+      over = λ l n binding m d h. sound.over l n binding m d (was l n binding (Link m d) h);
+      one = λ l m c d binding p q g h. sound.one l m c d binding p q (was l.0 c.0 binding p g) (was m.0 d.0 binding q h);
+    }
+  where
+    same : (l n : ℕ) → hop_at (with_link t to) l n ≡ hop_at t l n
+    same l n = ap (λ (o : Option Hop). if nat_lt n numbers then o else None) (default_filled t.hops (slot l n) numbers)
+
+    was : (l n binding : ℕ) (way : Way) → Leads (with_link t to) l n binding way → Leads t l n binding way
+    was l n binding way h = record { answered = h.answered; there = sym (same l n) ∙ h.there }
