@@ -27,6 +27,7 @@ pub mod BindingsStep
 pub mod Whole
 pub mod Handled
 pub mod SoundCalls
+pub mod TablesKept
 pub mod CoreWalk
 pub mod Outboxes
 pub mod Limits
