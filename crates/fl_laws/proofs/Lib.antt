@@ -50,3 +50,5 @@ pub mod Seats
 pub mod SeatsStep
 pub mod Sitting
 pub mod Boards
+pub mod BoardSteps
+pub mod BoardOwn
