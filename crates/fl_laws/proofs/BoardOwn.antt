@@ -357,3 +357,234 @@ failed_own b c n route fault known h = record {
             way = says_on b c key.core hop.way (ahead n route (j + 1)) (h.places key.core) a.way;
           }))
         ])
+
+-- ---- the answer that the circuit is open came to core i of the route: its entry there is marked
+
+pub record OpenedBack (b c : Board) (n : ℕ) (route : Route) (i : ℕ) : Type 0 where
+  pub was : b.routes n ≡ Some route
+  pub verdict : route.verdict ≡ granted (suc i)
+  pub is : c.routes n ≡ Some (passes_word route)
+  pub changes : Changes b c n
+  pub elsewhere : Elsewhere b c (core_at route i)
+  pub near : Stands c (near_key route i) n (behind n route i)
+  pub far : (j : ℕ) → suc j ≡ i → Stands c (far_key route j) n (ahead n route (j + 1))
+  pub came : (key : Key) (hop : Hop) → c.hops key ≡ Some hop → hop.binding ≡ n → (b.hops key ≡ Some hop) ⊎ ((key ≡ near_key route i) ⊎ IsFar key route i)
+
+module _ (b c : Board) (n : ℕ) (route : Route) (i : ℕ) (known : Known b) (h : OpenedBack b c n route i) where
+  granted_fits : VerdictFits route (granted (suc i))
+  granted_fits = subst (VerdictFits route) h.verdict (known.routes n route h.was).verdict
+
+  back_stood : standing route ≡ length route.cores
+  back_stood = ap (standing_by route) h.verdict
+
+  back_stands : standing (passes_word route) ≡ length route.cores
+  back_stands = ap (λ (v : Verdict). standing_by (passes_word route) (word_passes v)) h.verdict
+
+  back_asked : asking route ≡ suc i
+  back_asked = ap (asking_by route) h.verdict
+
+  back_asks : asking (passes_word route) ≡ i
+  back_asks = ap (λ (v : Verdict). asking_by (passes_word route) (word_passes v)) h.verdict ∙ (let e : suc i - 1 ≡ i = omega arith in e)
+
+  off_place : (j : ℕ) → j < length route.cores → j ≢ i → core_at route j ≡ core_at route i → ⊥
+  off_place j l ne =
+      let whole : length route.numbers + 1 ≡ length route.cores = granted_fits.0 in
+      let fits : suc i ≤ length route.numbers = granted_fits.1 in
+      cores_apart route (known.routes n route h.was) j i l (omega arith) ne
+
+  back_near : (j : ℕ) → j < length route.numbers → Stands c (near_key route j) n (behind n route j)
+  back_near j l = elim (same_or j i) [
+    | inl e ↦ subst (λ (k : ℕ). Stands c (near_key route k) n (behind n route k)) (sym e) h.near
+    | inr ne ↦
+        (let whole : length route.numbers + 1 ≡ length route.cores = granted_fits.0 in
+        let were = back_stood in
+        stands_else b c n (core_at route i) (near_key route j) (behind n route j) h.changes h.elsewhere (off_place j (omega arith) ne)
+        ((known.fits.stand n route h.was).near j (omega arith) l))
+  ]
+
+  back_far : (j : ℕ) → j < length route.numbers → Stands c (far_key route j) n (ahead n route (j + 1))
+  back_far j l = elim (same_or (suc j) i) [
+    | inl e ↦ h.far j e
+    | inr ne ↦
+        (let whole : length route.numbers + 1 ≡ length route.cores = granted_fits.0 in
+        let were = back_stood in
+        stands_else b c n (core_at route i) (far_key route j) (ahead n route (j + 1)) h.changes h.elsewhere (off_place (j + 1) (omega arith) (λ e. ne (omega (arith, e))))
+        ((known.fits.stand n route h.was).far j (omega arith) l))
+  ]
+
+  back_due : (key : Key) (hop : Hop) → c.hops key ≡ Some hop → hop.binding ≡ n → DueOn c key hop n (passes_word route)
+  back_due key hop q e =
+      let whole : length route.numbers + 1 ≡ length route.cores = granted_fits.0 in
+      let fits : suc i ≤ length route.numbers = granted_fits.1 in
+      let st = back_stands in
+      elim (h.came key hop q e) [
+        | inl old ↦
+            (let (j, due) = its_due b n route key hop known.fits h.was old e in
+            (j, elim due [
+              | inl a ↦ (let w : j < length route.numbers = a.within in inl (record {
+                within = w;
+                stands = omega arith;
+                key_is = a.key_is;
+                way = says_on b c key.core hop.way (behind n route j) (h.changes.places key.core) a.way;
+              }))
+              | inr a ↦ (let w : j < length route.numbers = a.within in inr (record {
+                within = w;
+                stands = omega arith;
+                key_is = a.key_is;
+                way = says_on b c key.core hop.way (ahead n route (j + 1)) (h.changes.places key.core) a.way;
+              }))
+            ]))
+        | inr new ↦ elim new [
+          | inl is ↦ (i, inl (due_near_at c key hop n (passes_word route) i h.near is q (omega arith) (omega arith)))
+          | inr (j, (at, is)) ↦ (j, inr (due_far_at c key hop n (passes_word route) j (h.far j at) is q (omega (arith, at, fits)) (omega (arith, at, fits, whole, st))))
+        ]
+      ]
+
+  back_wait : WaitsOn c (passes_word route)
+  back_wait j p =
+      let whole : length route.numbers + 1 ≡ length route.cores = granted_fits.0 in
+      let fits : suc i ≤ length route.numbers = granted_fits.1 in
+      let asks = back_asks in
+      let were = back_asked in
+      let (hop, there, bare) = known.fits.wait n route h.was j (omega arith) in
+      (hop, h.elsewhere (near_key route j) (off_place j (omega arith) (λ e. absurd (omega (arith, e, p, asks)))) ∙ there, bare)
+
+  pub back_own : Own c n
+  back_own = record {
+    stand = λ r q. subst (StandOn c n) (some_is (c.routes n) (passes_word route) r h.is q) (record { near = λ j p w. back_near j w; far = λ j p w. back_far j w });
+    due = λ key hop q e. (passes_word route, h.is, back_due key hop q e);
+    wait = λ r q. subst (WaitsOn c) (some_is (c.routes n) (passes_word route) r h.is q) back_wait;
+  }
+
+-- ---- the answer that it is refused came to core i of the route: its entry there is gone
+
+pub record RefusedBack (b c : Board) (n : ℕ) (route : Route) (i fault : ℕ) : Type 0 where
+  pub was : b.routes n ≡ Some route
+  pub verdict : route.verdict ≡ denied (suc i) fault
+  pub is : c.routes n ≡ Some (passes_word route)
+  pub changes : Changes b c n
+  pub elsewhere : Elsewhere b c (core_at route i)
+  pub near : c.hops (near_key route i) ≡ None
+  pub far : (j : ℕ) → suc j ≡ i → c.hops (far_key route j) ≡ None
+  pub came : (key : Key) (hop : Hop) → c.hops key ≡ Some hop → b.hops key ≡ Some hop
+
+module _ (b c : Board) (n : ℕ) (route : Route) (i fault : ℕ) (known : Known b) (h : RefusedBack b c n route i fault) where
+  denied_fits : suc i ≤ length route.numbers
+  denied_fits = subst (VerdictFits route) h.verdict (known.routes n route h.was).verdict
+
+  gone_stood : standing route ≡ suc i
+  gone_stood = ap (standing_by route) h.verdict
+
+  gone_stands : standing (passes_word route) ≡ i
+  gone_stands = ap (λ (v : Verdict). standing_by (passes_word route) (word_passes v)) h.verdict ∙ (let e : suc i - 1 ≡ i = omega arith in e)
+
+  gone_asked : asking route ≡ suc i
+  gone_asked = ap (asking_by route) h.verdict
+
+  gone_asks : asking (passes_word route) ≡ i
+  gone_asks = ap (λ (v : Verdict). asking_by (passes_word route) (word_passes v)) h.verdict ∙ (let e : suc i - 1 ≡ i = omega arith in e)
+
+  off_gone : (j : ℕ) → j < i → core_at route j ≡ core_at route i → ⊥
+  off_gone j l =
+      let fits = denied_fits in
+      let few = (known.routes n route h.was).few in
+      cores_apart route (known.routes n route h.was) j i (omega arith) (omega arith) (λ e. absurd (omega (arith, e, l)))
+
+  not_there : (key at : Key) (hop : Hop) → c.hops key ≡ Some hop → key ≡ at → c.hops at ≡ None → ⊥
+  not_there key at hop q e none = let f : Some hop ≡ None = sym q ∙ ap c.hops e ∙ none in absurd (cc)
+
+  gone_stand : StandOn c n (passes_word route)
+  gone_stand =
+      let st = gone_stands in
+      let were = gone_stood in record {
+        near = λ j p w. stands_else b c n (core_at route i) (near_key route j) (behind n route j) h.changes h.elsewhere (off_gone j (omega (arith, p, st)))
+            ((known.fits.stand n route h.was).near j (omega (arith, p, st, were)) w);
+        far = λ j p w. stands_else b c n (core_at route i) (far_key route j) (ahead n route (j + 1)) h.changes h.elsewhere (off_gone (j + 1) (omega (arith, p, st)))
+            ((known.fits.stand n route h.was).far j (omega (arith, p, st, were)) w);
+      }
+
+  near_left : (key : Key) (hop : Hop) (j : ℕ) → c.hops key ≡ Some hop → DueNear b key hop n route j → DueNear c key hop n (passes_word route) j
+  near_left key hop j q a =
+      let st = gone_stands in
+      let were = gone_stood in
+      let s : j < standing route = a.stands in
+      let ne : j ≢ i = λ e. not_there key (near_key route i) hop q (a.key_is ∙ ap (near_key route) e) h.near in
+      record {
+        within = a.within;
+        stands = omega arith;
+        key_is = a.key_is;
+        way = says_on b c key.core hop.way (behind n route j) (h.changes.places key.core) a.way;
+      }
+
+  far_left : (key : Key) (hop : Hop) (j : ℕ) → c.hops key ≡ Some hop → DueFar b key hop n route j → DueFar c key hop n (passes_word route) j
+  far_left key hop j q a =
+      let st = gone_stands in
+      let were = gone_stood in
+      let s : j + 1 < standing route = a.stands in
+      let ne : suc j ≢ i = λ e. not_there key (far_key route j) hop q a.key_is (h.far j e) in
+      record {
+        within = a.within;
+        stands = omega arith;
+        key_is = a.key_is;
+        way = says_on b c key.core hop.way (ahead n route (j + 1)) (h.changes.places key.core) a.way;
+      }
+
+  gone_due : (key : Key) (hop : Hop) → c.hops key ≡ Some hop → hop.binding ≡ n → DueOn c key hop n (passes_word route)
+  gone_due key hop q e =
+      let (j, due) = its_due b n route key hop known.fits h.was (h.came key hop q) e in
+      (j, elim due [
+        | inl a ↦ inl (near_left key hop j q a)
+        | inr a ↦ inr (far_left key hop j q a)
+      ])
+
+  gone_wait : WaitsOn c (passes_word route)
+  gone_wait j p =
+      let asks = gone_asks in
+      let were = gone_asked in
+      let l : j < i = omega arith in
+      let (hop, there, bare) = known.fits.wait n route h.was j (omega arith) in
+      (hop, h.elsewhere (near_key route j) (off_gone j l) ∙ there, bare)
+
+  pub gone_own : Own c n
+  gone_own = record {
+    stand = λ r q. subst (StandOn c n) (some_is (c.routes n) (passes_word route) r h.is q) gone_stand;
+    due = λ key hop q e. (passes_word route, h.is, gone_due key hop q e);
+    wait = λ r q. subst (WaitsOn c) (some_is (c.routes n) (passes_word route) r h.is q) gone_wait;
+  }
+
+-- ---- a circuit was begun
+
+pub record Begun (b c : Board) (n : ℕ) (after : Route) (d : ℕ) : Type 0 where
+  pub was : b.routes n ≡ None
+  pub is : c.routes n ≡ Some after
+  pub numbers : after.numbers ≡ d ∷ []
+  pub verdict : after.verdict ≡ undecided
+  pub near : Stands c (near_key after 0) n (to_this (end_id n Client))
+  pub fresh : near.hop.answered ≡ false
+  pub came : (key : Key) (hop : Hop) → c.hops key ≡ Some hop → hop.binding ≡ n → (b.hops key ≡ Some hop) ⊎ (key ≡ near_key after 0)
+
+pub begun_own : (b c : Board) (n : ℕ) (after : Route) (d : ℕ) → Known b → Begun b c n after d → Own c n
+begun_own b c n after d known h = record {
+  stand = λ r q. subst (StandOn c n) (some_is (c.routes n) after r h.is q) (record {
+    near = λ j p w. subst (λ (k : ℕ). Stands c (near_key after k) n (behind n after k)) (sym (only j w)) h.near;
+    far = λ j p w. absurd (let st = stands_one in omega (arith, st, p));
+  });
+  due = λ key hop q e. elim (h.came key hop q e) [
+    | inl old ↦ absurd (let (other, there, due) = known.fits.due key hop old in let f : None ≡ Some other = sym h.was ∙ ap b.routes (sym e) ∙ there in cc)
+    | inr is ↦ (after, h.is, (0, inl (due_near_at c key hop n after 0 h.near is q (let l = long in omega arith) (let st = stands_one in omega arith))))
+  ];
+  wait = λ r q. subst (WaitsOn c) (some_is (c.routes n) after r h.is q)
+      (λ j p. (h.near.hop, ap (λ (k : ℕ). c.hops (near_key after k)) (none_else j p) ∙ h.near.there, h.fresh));
+}
+  where
+    long : length after.numbers ≡ 1
+    long = ap length h.numbers
+
+    stands_one : standing after ≡ 1
+    stands_one = ap (standing_by after) h.verdict ∙ ap length h.numbers
+
+    only : (j : ℕ) → j < length after.numbers → j ≡ 0
+    only j w = let l = long in omega arith
+
+    none_else : (j : ℕ) → j < asking after → j ≡ 0
+    none_else j p = let one : asking after ≡ 1 = ap (asking_by after) h.verdict ∙ ap length h.numbers in omega arith
