@@ -52,3 +52,4 @@ pub mod Sitting
 pub mod Boards
 pub mod BoardSteps
 pub mod BoardOwn
+pub mod BoardViews
