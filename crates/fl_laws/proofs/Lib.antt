@@ -53,3 +53,6 @@ pub mod Boards
 pub mod BoardSteps
 pub mod BoardOwn
 pub mod BoardViews
+pub mod TableSteps
+pub mod BoardCores
+pub mod BoardSaid
