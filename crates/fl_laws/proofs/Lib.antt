@@ -56,3 +56,5 @@ pub mod BoardViews
 pub mod TableSteps
 pub mod BoardCores
 pub mod BoardSaid
+pub mod BoardHears
+pub mod BoardOpenings
