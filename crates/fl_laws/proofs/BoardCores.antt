@@ -85,6 +85,20 @@ module _ (ps : List Part) (core n : ℕ) (p q : Part) (at : slice_get ps core �
         (sym (hop_here ps core key.neighbour key.number p q at) ∙ subst (λ (m : ℕ). hop_in (set_part core q ps) (own_key m key.neighbour key.number) ≡ Some hop) same s))
   ]
 
+-- a table on which nothing changed but counts
+pub same_hops : (ps : List Part) (core : ℕ) (p q : Part) → slice_get ps core ≡ Some p → names q.circuits.links ≡ names p.circuits.links
+    → ((l m : ℕ) → hop_at q.circuits l m ≡ hop_at p.circuits l m) → (key : Key) → hop_in (set_part core q ps) key ≡ hop_in ps key
+same_hops ps core p q at e h key = elim (same_or key.core core) [
+  | inr other ↦ hop_else ps core q key other
+  | inl same ↦ subst (λ (m : ℕ). hop_in (set_part core q ps) (own_key m key.neighbour key.number) ≡ hop_in ps (own_key m key.neighbour key.number)) (sym same)
+      (hop_here ps core key.neighbour key.number p q at ∙ ap (λ o. given o None (λ l. hop_at q.circuits l key.number)) (same_link_of p.circuits q.circuits key.neighbour e)
+      ∙ by (link_of p.circuits key.neighbour) ∙ sym (hop_there ps core key.neighbour key.number p at))
+]
+  where
+    by : (o : Option ℕ) → given o None (λ l. hop_at q.circuits l key.number) ≡ given o None (λ l. hop_at p.circuits l key.number)
+    by None = refl
+    by (Some l) = h l key.number
+
 -- what stands at a core's number after the change
 pub set_at : (ps : List Part) (core neighbour number l : ℕ) (p q : Part) (o : Option Hop) → slice_get ps core ≡ Some p → names q.circuits.links ≡ names p.circuits.links
     → link_of p.circuits neighbour ≡ Some l → hop_at q.circuits l number ≡ o → hop_in (set_part core q ps) (own_key core neighbour number) ≡ o

@@ -26,7 +26,7 @@ use Rattle.fl_laws.proofs.Boards.{Board, Says, Known, IsRoute, Fits, Stands, Cha
 use Rattle.fl_laws.proofs.BoardSteps.{Hears, heard_fits, AnswerAt}
 use Rattle.fl_laws.proofs.BoardOwn.{index_last, WentOn, went_own, next_key, IsFar, Arrived, arrived_own, Failed, failed_own}
 use Rattle.fl_laws.proofs.BoardViews.{hop_in, place_in, line, route_in, said_in, board}
-use Rattle.fl_laws.proofs.BoardCores.{set_part, own_key, hop_else, set_at, came_at, CameAt, was_there, same_key, NewTable, NewLinks, place_stays}
+use Rattle.fl_laws.proofs.BoardCores.{set_part, own_key, hop_else, set_at, came_at, CameAt, was_there, same_key, NewTable, NewLinks, place_stays, same_hops}
 use Rattle.fl_laws.proofs.BoardSaid.{said_on}
 use Rattle.fl_laws.proofs.BoardHears.{Whole, HeardAt, taken_rings, heard_view, is_taken, is_put, route_set, is_changed, only_far, hop_small, slot_within, next_free}
 
@@ -212,3 +212,137 @@ module _ (v : View) (w : Whole v) (n : ℕ) (route : Route) (j l : ℕ) (ring : 
           new_at = λ x y e q. absurd (let f : open_circuit (passed_opening d) ≡ x = cc in let g : None ≡ Some y = ap answer_number f ∙ q in cc);
           apart = λ e. let before = before_last in let few = is_route.few in apart_from j (omega arith) (λ f. absurd (omega (arith, f, before))) (sym e.0);
         })
+
+  -- it arrives
+
+  abbrev pub client_way : Way
+  client_way = to_link (link_id l) (circuit_id (number_at route j))
+
+  abbrev pub server_way : Way
+  server_way = to_end (end_id n Server)
+
+  abbrev pub arrived_part : Part
+  arrived_part = record {
+    circuits = arrived p.circuits (link_id l) (circuit_id (number_at route j)) n;
+    links = changed_at l (says_more (circuit_opened (number_at route j))) p.links;
+  }
+
+  arrived_names : names (arrived_part).circuits.links ≡ names p.circuits.links
+  arrived_names = taking_counted p.circuits.links l
+
+  arrived_new : NewTable p.circuits (arrived_part).circuits n
+  arrived_new = record {
+    names = arrived_names;
+    kept = λ x y h q away. both_kept (after_taking p.circuits l) client_way server_way (leading n false server_way) (leading n false client_way) n x y h
+        (number_small, only_its) tt (leads_of n false server_way) q away;
+    were = λ x y h q away. both_were (after_taking p.circuits l) client_way server_way (leading n false server_way) (leading n false client_way) n x y h
+        (leads_of n false server_way) (leads_of n false client_way) q away;
+  }
+
+  arrived_stands : (i : ℕ) → suc i ≡ length route.numbers
+      → Stands (board (heard_view v (core_at route (length route.numbers)) (arrived_part) ring n grants)) (far_key route i) n (to_this (end_id n Server))
+  arrived_stands i e =
+      subst (λ (x : ℕ). Stands (board (heard_view v (core_at route (length route.numbers)) (arrived_part) ring n grants)) (far_key route x) n (to_this (end_id n Server)))
+      (sym (one_far i e))
+      (subst (λ (x : Key). Stands (board (heard_view v (core_at route (length route.numbers)) (arrived_part) ring n grants)) x n (to_this (end_id n Server))) far_is (record {
+        hop = record { binding = n; way = to_end (end_id n Server); answered = false };
+        there = set_at v.parts (core_at route (length route.numbers)) (core_at route j) (number_at route j) l p (arrived_part) _ o.at.part_is arrived_names o.at.to
+            (both_first (after_taking p.circuits l) (link_id l) (circuit_id (number_at route j)) server_way (leading n false server_way) (leading n false client_way) number_small inside (λ e. e));
+        binding_is = refl;
+        way = refl;
+      }))
+
+  arrived_came : (key : Key) (hop : Hop) → hop_in (set_part (core_at route (length route.numbers)) (arrived_part) v.parts) key ≡ Some hop
+      → (hop_in v.parts key ≡ Some hop) ⊎ IsFar key route (length route.numbers)
+  arrived_came key hop q = elim (came_at v.parts (core_at route (length route.numbers)) p (arrived_part) o.at.part_is arrived_names key hop q) [
+    | inl old ↦ inl old
+    | inr x ↦ elim (both_came (after_taking p.circuits l) client_way server_way (leading n false server_way) (leading n false client_way) x.link key.number hop x.there) [
+      | inl (e, its) ↦ absurd e
+      | inr y ↦ elim y [
+        | inl (e, its) ↦ inr (others_far key
+            (slot_key (core_at route (length route.numbers)) l (number_at route j) (core_at route j) p (arrived_part) key hop x o.at.to number_small e))
+        | inr old ↦ inl (was_there v.parts (core_at route (length route.numbers)) p key hop x.link o.at.part_is x.core_is x.link_is old)
+      ]
+    ]
+  ]
+
+  -- what goes back
+  back_from : core_at route (suc j) ≡ core_at route (length route.numbers)
+  back_from = ap (core_at route) o.place
+
+  answers_at : (k : ℕ) → k ≡ number_at route j → AnswerAt route (core_at route (length route.numbers)) (core_at route j) k
+  answers_at k e = record { place = j; within = before_last; from = sym back_from; to = refl; number = e }
+
+  not_back : (core_at route (length route.numbers) ≡ core_at route j) × (core_at route j ≡ core_at route (length route.numbers)) → ⊥
+  not_back e = let before = before_last in let few = is_route.few in apart_from j (omega arith) (λ f. absurd (omega (arith, f, before))) (sym e.0)
+
+  pub arrived_fits : length route.numbers + 1 ≡ length route.cores → Fits (board (heard_view v (core_at route (length route.numbers)) (arrived_part) ring n grants))
+  arrived_fits last =
+      let after : Board = board (heard_view v (core_at route (length route.numbers)) (arrived_part) ring n grants) in
+      let changes = is_changed v (core_at route (length route.numbers)) n ring grants p (arrived_part) o.at.part_is arrived_new in
+      heard_fits (board v) after n route (grants route) (core_at route j) (core_at route (length route.numbers)) m (said_on (line v.parts) (taken_rings v ring))
+      (core_at route (length route.numbers)) (core_at route j) (Some (circuit_opened (number_at route j))) w.known changes
+      (arrived_own (board v) after n route w.known (record {
+        was = o.was;
+        verdict = o.verdict;
+        last = last;
+        is = route_set v.backs n grants route o.was;
+        changes = changes;
+        elsewhere = λ key away. hop_else v.parts (core_at route (length route.numbers)) (arrived_part) key away;
+        far = arrived_stands;
+        came = λ key hop q e. arrived_came key hop q;
+      }))
+      (record {
+        was = o.was;
+        is = route_set v.backs n grants route o.was;
+        due = o.due;
+        takes = is_taken v (core_at route (length route.numbers)) (core_at route j) l ring m p w o.at;
+        puts = is_put v (core_at route (length route.numbers)) (core_at route j) l ring p (arrived_part) _ w o.at.part_is
+            (record { names = arrived_names; next_is = o.at.to; links = refl });
+        new_due = λ x e. (let same : length route.cores - 1 ≡ suc j = (let f = o.place in omega arith) in
+            ap (λ (i : ℕ). due_by n (grants route) (granted i)) same
+            ∙ ap (λ (c : ℕ). Some (message c (core_at route j) (circuit_opened (number_at route j)))) back_from
+            ∙ ap (λ (y : Option Said). given y None (λ z. Some (message (core_at route (length route.numbers)) (core_at route j) z))) e);
+        new_at = λ x y e q. answers_at y (let f : circuit_opened (number_at route j) ≡ x = cc in let g : Some (number_at route j) ≡ Some y = ap answer_number f ∙ q in cc);
+        apart = not_back;
+      })
+
+  -- it fails
+
+  abbrev pub failed_part : ℕ → Part
+  failed_part fault = record {
+    circuits = after_taking p.circuits l;
+    links = changed_at l (says_more (circuit_refused (number_at route j) fault)) p.links;
+  }
+
+  failed_hops : (fault : ℕ) (key : Key) → hop_in (set_part (core_at route (length route.numbers)) (failed_part fault) v.parts) key ≡ hop_in v.parts key
+  failed_hops fault key = same_hops v.parts (core_at route (length route.numbers)) p (failed_part fault) o.at.part_is (taking_counted p.circuits.links l) (λ a b. refl) key
+
+  pub failed_fits : (fault : ℕ) → Fits (board (heard_view v (core_at route (length route.numbers)) (failed_part fault) ring n (denies fault)))
+  failed_fits fault =
+      let after : Board = board (heard_view v (core_at route (length route.numbers)) (failed_part fault) ring n (denies fault)) in
+      let table : NewTable p.circuits (failed_part fault).circuits n = record { names = taking_counted p.circuits.links l; kept = λ a b h q away. q; were = λ a b h q away. q } in
+      let changes = is_changed v (core_at route (length route.numbers)) n ring (denies fault) p (failed_part fault) o.at.part_is table in
+      heard_fits (board v) after n route (denies fault route) (core_at route j) (core_at route (length route.numbers)) m (said_on (line v.parts) (taken_rings v ring))
+      (core_at route (length route.numbers)) (core_at route j) (Some (circuit_refused (number_at route j) fault)) w.known changes
+      (failed_own (board v) after n route fault w.known (record {
+        was = o.was;
+        verdict = o.verdict;
+        is = route_set v.backs n (denies fault) route o.was;
+        places = changes.places;
+        hops = failed_hops fault;
+      }))
+      (record {
+        was = o.was;
+        is = route_set v.backs n (denies fault) route o.was;
+        due = o.due;
+        takes = is_taken v (core_at route (length route.numbers)) (core_at route j) l ring m p w o.at;
+        puts = is_put v (core_at route (length route.numbers)) (core_at route j) l ring p (failed_part fault) _ w o.at.part_is
+            (record { names = taking_counted p.circuits.links l; next_is = o.at.to; links = refl });
+        new_due = λ x e. ap (λ (i : ℕ). due_by n (denies fault route) (denied i fault)) (sym o.place)
+            ∙ ap (λ (c : ℕ). Some (message c (core_at route j) (circuit_refused (number_at route j) fault))) back_from
+            ∙ ap (λ (y : Option Said). given y None (λ z. Some (message (core_at route (length route.numbers)) (core_at route j) z))) e;
+        new_at = λ x y e q.
+            answers_at y (let f : circuit_refused (number_at route j) fault ≡ x = cc in let g : Some (number_at route j) ≡ Some y = ap answer_number f ∙ q in cc);
+        apart = not_back;
+      })
