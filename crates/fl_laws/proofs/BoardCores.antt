@@ -146,6 +146,15 @@ same_key core l p key neighbour number c a b n =
 pub line_other : (ps : List Part) (n a b : ℕ) (q : Part) → (a ≡ n → ⊥) → line (set_part n q ps) a b ≡ line ps a b
 line_other ps n a b q away = ap (λ o. given o None (part_line b)) (part_other ps n a q away)
 
+pub line_stays : (ps : List Part) (n : ℕ) (p q : Part) → slice_get ps n ≡ Some p → names q.circuits.links ≡ names p.circuits.links → q.links ≡ p.links
+    → (a b : ℕ) → line (set_part n q ps) a b ≡ line ps a b
+line_stays ps n p q at e f a b = elim (same_or a n) [
+  | inr other ↦ line_other ps n a b q other
+  | inl same ↦ subst (λ (m : ℕ). line (set_part n q ps) m b ≡ line ps m b) (sym same)
+      (ap (λ o. given o None (part_line b)) (part_same ps n p q at) ∙ ap (λ o. given o None (slice_get q.links)) (same_link_of p.circuits q.circuits b e)
+      ∙ ap (λ (ls : List Link). given (link_of p.circuits b) None (slice_get ls)) f ∙ sym (ap (λ o. given o None (part_line b)) at))
+]
+
 -- where links change at one place, the line to the neighbour there changes
 pub record NewLinks (p q : Part) (next l : ℕ) (f : Link → Link) : Type 0 where
   pub names : names q.circuits.links ≡ names p.circuits.links

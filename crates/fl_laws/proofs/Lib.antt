@@ -58,3 +58,4 @@ pub mod BoardCores
 pub mod BoardSaid
 pub mod BoardHears
 pub mod BoardOpenings
+pub mod BoardAnswers
