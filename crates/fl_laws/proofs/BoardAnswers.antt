@@ -177,3 +177,178 @@ module _ (v : View) (w : Whole v) (n : ℕ) (route : Route) (i l : ℕ) (ring : 
         new_at = λ x y e q. absurd (cc);
         apart = λ e. not_same e.0;
       })
+
+  -- ---- at a core in between
+
+  module _ (j k : ℕ) (place : suc j ≡ i) (to : link_of p.circuits (core_at route j) ≡ Some k) where
+    abbrev pub far_way : Way
+    far_way = to_link (link_id k) (circuit_id (number_at route j))
+
+    abbrev pub opened_on : Part
+    opened_on = record { circuits = with_entry p.circuits n true far_way near_way; links = changed_at k (says_more (circuit_opened (number_at route j))) p.links }
+
+    abbrev pub refused_on : ℕ → Part
+    refused_on fault =
+        record { circuits = without_entry p.circuits near_way far_way; links = changed_at k (says_more (circuit_refused (number_at route j) fault)) p.links }
+
+    here_core : core_at route (j + 1) ≡ core_at route i
+    here_core = ap (core_at route) (let e = place in omega arith)
+
+    far_small : number_at route j ≤ 2046
+    far_small = small_at j (let e = place in omega arith)
+
+    far_within : j < length route.numbers
+    far_within = let e = place in let a = o.within in omega arith
+
+    far_only : (h : Hop) → hop_at p.circuits k (number_at route j) ≡ Some h → h.binding ≡ n
+    far_only h q =
+        only_far (board v) w.known n route o.was j far_within h (was_there v.parts (core_at route i) p (far_key route j) h k o.at.part_is here_core to q)
+
+    far_inside : slot k (number_at route j) < length p.circuits.hops
+    far_inside = slot_within p.circuits (core_at route j) k (number_at route j) (w.parts _ p o.at.part_is).table to far_small
+
+    links_apart : k ≡ l → ⊥
+    links_apart e =
+        let few = is_route.few in
+        let a = o.within in
+        let f = place in
+        let same = one_neighbour p.circuits (core_at route j) (core_at route (i + 1)) k to (o.at.to ∙ ap (λ (x : ℕ). Some x) (sym e)) in
+        let g : j ≡ i + 1 = is_route.apart j (i + 1) (omega arith) (omega arith) same in
+        absurd (omega (arith, f, g))
+
+    far_apart : IsSlot near_way (slot k (number_at route j)) → ⊥
+    far_apart e = links_apart (slot_once k (number_at route j) l (number_at route i) e far_small (small_at i (omega arith))).0
+
+    near_apart : IsSlot (to_link (link_id k) (circuit_id (number_at route j))) (slot l (number_at route i)) → ⊥
+    near_apart e = links_apart (sym (slot_once l (number_at route i) k (number_at route j) e (small_at i (omega arith)) far_small).0)
+
+    far_is : own_key (core_at route i) (core_at route j) (number_at route j) ≡ far_key route j
+    far_is = ap (λ (c : ℕ). own_key c (core_at route j) (number_at route j)) (sym here_core)
+
+    one_far : (x : ℕ) → suc x ≡ i → x ≡ j
+    one_far x e = let f = place in omega arith
+
+    word_at : (y : ℕ) → y ≡ number_at route j → AnswerAt route (core_at route i) (core_at route j) y
+    word_at y e = record { place = j; within = far_within; from = ap (core_at route) (sym place); to = refl; number = e }
+
+    not_forth : (core_at route i ≡ core_at route (i + 1)) × (core_at route j ≡ core_at route i) → ⊥
+    not_forth e = not_same e.0
+
+    ahead_is : length route.numbers + 1 ≡ length route.cores → suc i ≤ length route.numbers → ahead n route (j + 1) ≡ on_to (core_at route (i + 1)) (number_at route i)
+    ahead_is whole fits =
+        let e : j + 1 ≡ i = (let f = place in omega arith) in
+        ap (ahead n route) e
+        ∙ ap (λ (t : Bool). if t then to_this (end_id n Server) else on_to (core_at route (i + 1)) (number_at route i))
+        (ne_eqb (i + 1) (length route.cores) (λ same. absurd (omega (arith, same, whole, fits))))
+
+    pub opened_on_fits : route.verdict ≡ granted (suc i) → Fits (board (heard_view v (core_at route i) opened_on ring n passes_word))
+    opened_on_fits verdict =
+        let granted_fits : VerdictFits route (granted (suc i)) = subst (VerdictFits route) verdict is_route.verdict in
+        let after : Board = board (heard_view v (core_at route i) opened_on ring n passes_word) in
+        let table : NewTable p.circuits opened_on.circuits n = record {
+          names = refl;
+          kept = λ x y h q away. both_kept p.circuits far_way near_way (leading n true near_way) (leading n true far_way) n x y h (far_small, far_only)
+              (small_at i (omega arith), near_only) (leads_of n true near_way) q away;
+          were = λ x y h q away. both_were p.circuits far_way near_way (leading n true near_way) (leading n true far_way) n x y h
+              (leads_of n true near_way) (leads_of n true far_way) q away;
+        } in
+        let changes = is_changed v (core_at route i) n ring passes_word p opened_on o.at.part_is table in
+        let near : Stands after (near_key route i) n (behind n route i) = record {
+          hop = record { binding = n; way = far_way; answered = true };
+          there = set_at v.parts (core_at route i) (core_at route (i + 1)) (number_at route i) l p opened_on _ o.at.part_is refl o.at.to
+              (both_second p.circuits far_way (link_id l) (circuit_id (number_at route i)) (leading n true near_way) (leading n true far_way) (small_at i (omega arith)) near_inside);
+          binding_is = refl;
+          way = subst (λ (x : ℕ). Says after (core_at route i) far_way (behind n route x)) place
+              ((place_stays v.parts (core_at route i) p opened_on o.at.part_is refl (core_at route i) (core_at route j) ∙ near_back (core_at route j) ∙ to), refl);
+        } in
+        let far : Stands after (own_key (core_at route i) (core_at route j) (number_at route j)) n (on_to (core_at route (i + 1)) (number_at route i)) = record {
+          hop = record { binding = n; way = near_way; answered = true };
+          there = set_at v.parts (core_at route i) (core_at route j) (number_at route j) k p opened_on _ o.at.part_is refl to
+              (both_first p.circuits (link_id k) (circuit_id (number_at route j)) near_way (leading n true near_way) (leading n true far_way) far_small far_inside far_apart);
+          binding_is = refl;
+          way = ((place_stays v.parts (core_at route i) p opened_on o.at.part_is refl (core_at route i) (core_at route (i + 1)) ∙ near_back (core_at route (i + 1)) ∙ o.at.to), refl);
+        } in
+        heard_fits (board v) after n route (passes_word route) (core_at route (i + 1)) (core_at route i) m (said_on (line v.parts) (taken_rings v ring))
+        (core_at route i) (core_at route j) (Some (circuit_opened (number_at route j))) w.known changes
+        (back_own (board v) after n route i w.known (record {
+          was = o.was;
+          verdict = verdict;
+          is = route_set v.backs n passes_word route o.was;
+          changes = changes;
+          elsewhere = λ key away. hop_else v.parts (core_at route i) opened_on key away;
+          near = near;
+          far = λ x e. subst (λ (y : ℕ). Stands after (far_key route y) n (ahead n route (y + 1))) (sym (one_far x e))
+              (subst (Stands after (far_key route j) n) (sym (ahead_is granted_fits.0 granted_fits.1))
+              (subst (λ (y : Key). Stands after y n (on_to (core_at route (i + 1)) (number_at route i))) far_is far));
+          came = λ key hop q e. elim (came_at v.parts (core_at route i) p opened_on o.at.part_is refl key hop q) [
+            | inl old ↦ inl old
+            | inr x ↦ elim (both_came p.circuits far_way near_way (leading n true near_way) (leading n true far_way) x.link key.number hop x.there) [
+              | inl (s, its) ↦ inr (inl (slot_key (core_at route i) l (number_at route i) (core_at route (i + 1)) p opened_on key hop x o.at.to (small_at i (omega arith)) s))
+              | inr y ↦ elim y [
+                | inl (s, its) ↦ inr (inr (j, (place, slot_key (core_at route i) k (number_at route j) (core_at route j) p opened_on key hop x to far_small s ∙ far_is)))
+                | inr old ↦ inl (was_there v.parts (core_at route i) p key hop x.link o.at.part_is x.core_is x.link_is old)
+              ]
+            ]
+          ];
+        }))
+        (record {
+          was = o.was;
+          is = route_set v.backs n passes_word route o.was;
+          due = o.due;
+          takes = is_taken v (core_at route i) (core_at route (i + 1)) l ring m p w o.at;
+          puts = is_put v (core_at route i) (core_at route j) k ring p opened_on _ w o.at.part_is (record { names = refl; next_is = to; links = refl });
+          new_due = λ x e. ap (λ (y : Verdict). due_by n (passes_word route) (word_passes y)) verdict
+              ∙ (let less : suc i - 1 ≡ suc j = (let f = place in omega arith) in ap (λ (y : ℕ). due_by n (passes_word route) (granted y)) less)
+              ∙ ap (λ (c : ℕ). Some (message c (core_at route j) (circuit_opened (number_at route j)))) (ap (core_at route) place)
+              ∙ ap (λ (y : Option Said). given y None (λ z. Some (message (core_at route i) (core_at route j) z))) e;
+          new_at = λ x y e q. word_at y (let f : circuit_opened (number_at route j) ≡ x = cc in let g : Some (number_at route j) ≡ Some y = ap answer_number f ∙ q in cc);
+          apart = not_forth;
+        })
+
+    pub refused_on_fits : (fault : ℕ) → route.verdict ≡ denied (suc i) fault → Fits (board (heard_view v (core_at route i) (refused_on fault) ring n passes_word))
+    refused_on_fits fault verdict =
+        let after : Board = board (heard_view v (core_at route i) (refused_on fault) ring n passes_word) in
+        let table : NewTable p.circuits (refused_on fault).circuits n = record {
+          names = refl;
+          kept = λ x y h q away. both_kept p.circuits near_way far_way None None n x y h (small_at i (omega arith), near_only) (far_small, far_only) (none_of n) q away;
+          were = λ x y h q away. both_were p.circuits near_way far_way None None n x y h (none_of n) (none_of n) q away;
+        } in
+        let changes = is_changed v (core_at route i) n ring passes_word p (refused_on fault) o.at.part_is table in
+        let far : after.hops (own_key (core_at route i) (core_at route j) (number_at route j)) ≡ None =
+        set_at v.parts (core_at route i) (core_at route j) (number_at route j) k p (refused_on fault) _ o.at.part_is refl to
+        (both_second p.circuits near_way (link_id k) (circuit_id (number_at route j)) None None far_small far_inside) in
+        heard_fits (board v) after n route (passes_word route) (core_at route (i + 1)) (core_at route i) m (said_on (line v.parts) (taken_rings v ring))
+        (core_at route i) (core_at route j) (Some (circuit_refused (number_at route j) fault)) w.known changes
+        (gone_own (board v) after n route i fault w.known (record {
+          was = o.was;
+          verdict = verdict;
+          is = route_set v.backs n passes_word route o.was;
+          changes = changes;
+          elsewhere = λ key away. hop_else v.parts (core_at route i) (refused_on fault) key away;
+          near = set_at v.parts (core_at route i) (core_at route (i + 1)) (number_at route i) l p (refused_on fault) _ o.at.part_is refl o.at.to
+              (both_first p.circuits (link_id l) (circuit_id (number_at route i)) far_way None None (small_at i (omega arith)) near_inside near_apart);
+          far = λ x e. ap (λ (y : ℕ). after.hops (far_key route y)) (one_far x e) ∙ ap after.hops (sym far_is) ∙ far;
+          came = λ key hop q. elim (came_at v.parts (core_at route i) p (refused_on fault) o.at.part_is refl key hop q) [
+            | inl old ↦ old
+            | inr x ↦ elim (both_came p.circuits near_way far_way None None x.link key.number hop x.there) [
+              | inl (s, its) ↦ absurd (let f : None ≡ Some hop = its in cc)
+              | inr y ↦ elim y [
+                | inl (s, its) ↦ absurd (let f : None ≡ Some hop = its in cc)
+                | inr old ↦ was_there v.parts (core_at route i) p key hop x.link o.at.part_is x.core_is x.link_is old
+              ]
+            ]
+          ];
+        }))
+        (record {
+          was = o.was;
+          is = route_set v.backs n passes_word route o.was;
+          due = o.due;
+          takes = is_taken v (core_at route i) (core_at route (i + 1)) l ring m p w o.at;
+          puts = is_put v (core_at route i) (core_at route j) k ring p (refused_on fault) _ w o.at.part_is (record { names = refl; next_is = to; links = refl });
+          new_due = λ x e. ap (λ (y : Verdict). due_by n (passes_word route) (word_passes y)) verdict
+              ∙ (let less : suc i - 1 ≡ suc j = (let f = place in omega arith) in ap (λ (y : ℕ). due_by n (passes_word route) (denied y fault)) less)
+              ∙ ap (λ (c : ℕ). Some (message c (core_at route j) (circuit_refused (number_at route j) fault))) (ap (core_at route) place)
+              ∙ ap (λ (y : Option Said). given y None (λ z. Some (message (core_at route i) (core_at route j) z))) e;
+          new_at = λ x y e q. word_at y (let f : circuit_refused (number_at route j) fault ≡ x = cc in let g : Some (number_at route j) ≡ Some y = ap answer_number f ∙ q in cc);
+          apart = not_forth;
+        })
