@@ -59,3 +59,4 @@ pub mod BoardSaid
 pub mod BoardHears
 pub mod BoardOpenings
 pub mod BoardAnswers
+pub mod Leading
