@@ -60,3 +60,4 @@ pub mod BoardHears
 pub mod BoardOpenings
 pub mod BoardAnswers
 pub mod Leading
+pub mod BoardQuiet

@@ -34,7 +34,7 @@ stands_there t l n h e =
     let small = is_less n 2047 b in
     (omega arith, index_found t.hops (slot l n) None (Some h) v (some_none h))
 
-there_stands : (t : TheCircuits) (l n : ℕ) (o : Option Hop) → n ≤ 2046 → slice_get t.hops (slot l n) ≡ Some o → hop_at t l n ≡ o
+pub there_stands : (t : TheCircuits) (l n : ℕ) (o : Option Hop) → n ≤ 2046 → slice_get t.hops (slot l n) ≡ Some o → hop_at t l n ≡ o
 there_stands t l n o small e =
     cond_true (nat_lt n 2047) (slice_index_or t.hops (slot l n) None) None (less_is n 2047 (omega arith)) ∙ index_there t.hops (slot l n) None o e
 
