@@ -79,17 +79,22 @@ line_there v core next l p w at to =
     let (z, got) = at_within p.links l (omega arith) in
     (z, ap (λ o. given o None (λ (x : Part). given (link_of x.circuits next) None (slice_get x.links))) at ∙ ap (λ o. given o None (slice_get p.links)) to ∙ got)
 
--- a message more for a neighbour
-pub is_put : (v : View) (core next l : ℕ) (ring : RingEnd) (p q : Part) (new : Said) → Whole v → slice_get v.parts core ≡ Some p → NewLinks p q next l (says_more new)
-    → Puts (said_on (line v.parts) (taken_rings v ring)) (said_in (set_part core q v.parts) (taken_rings v ring)) core next (Some new)
-is_put v core next l ring p q new w at links =
+-- a message more for a neighbour, whatever stands on rings
+pub is_added : (v : View) (core next l : ℕ) (rings : List Sides) (p q : Part) (new : Said) → Whole v → slice_get v.parts core ≡ Some p → NewLinks p q next l (says_more new)
+    → Puts (said_on (line v.parts) rings) (said_in (set_part core q v.parts) rings) core next (Some new)
+is_added v core next l rings p q new w at links =
     let (z, got) = line_there v core next l p w at links.next_is in
     let alters : Alters (line v.parts) (line (set_part core q v.parts)) core next (says_more new) = record {
       here = line_next v.parts core p q next l (says_more new) at links;
       rest = λ a b away. line_else v.parts core p q next l (says_more new) at links a b away;
       ring = λ x. refl;
     } in
-    said_put (line v.parts) (line (set_part core q v.parts)) (taken_rings v ring) core next new z got alters
+    said_put (line v.parts) (line (set_part core q v.parts)) rings core next new z got alters
+
+-- and where one is taken
+pub is_put : (v : View) (core next l : ℕ) (ring : RingEnd) (p q : Part) (new : Said) → Whole v → slice_get v.parts core ≡ Some p → NewLinks p q next l (says_more new)
+    → Puts (said_on (line v.parts) (taken_rings v ring)) (said_in (set_part core q v.parts) (taken_rings v ring)) core next (Some new)
+is_put v core next l ring p q new w at links = is_added v core next l (taken_rings v ring) p q new w at links
 
 -- ---- routes
 

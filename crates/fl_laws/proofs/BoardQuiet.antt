@@ -60,7 +60,6 @@ unread_push rings r at h = by rings at.ring h
 
 pub bound_fits : (w : Wanted) (stations : ℕ) (q : Option Queue) (s : State) → Whole (view s) → After (view (with_new_binding w local stations q s))
 bound_fits w stations q s h =
-    let (parts, rings, backs) : List Part × List Sides × List Back = (map part_of s.cores, map sides_of s.rings, map back_of s.bindings) in
     subst (λ (bs : List Back). After (made (map part_of s.cores) (map sides_of s.rings) bs)) (sym (map-append back_of s.bindings _))
     (same_fits (board (view s)) (board (made (map part_of s.cores) (map sides_of s.rings) (map back_of s.bindings ++ local ∷ []))) (record {
       routes = λ n. route_push (map back_of s.bindings) local n refl;

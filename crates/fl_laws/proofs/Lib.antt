@@ -61,3 +61,4 @@ pub mod BoardOpenings
 pub mod BoardAnswers
 pub mod Leading
 pub mod BoardQuiet
+pub mod BoardBegins
