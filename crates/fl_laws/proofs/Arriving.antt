@@ -50,7 +50,7 @@ not_true true h = absurd (cc)
 one_more : (t : ℕ) → 1 + t ≡ suc t
 one_more t = omega arith
 
-place_is : (xs : List ℕ) (t x : ℕ) → t < length xs → slice_index xs t ≡ x → all_differ xs ≡ true
+pub place_is : (xs : List ℕ) (t x : ℕ) → t < length xs → slice_index xs t ≡ x → all_differ xs ≡ true
     → position_or_len (λ c. c == x) xs ≡ t
 place_is [] t x a e d = absurd (omega arith)
 place_is (y ∷ xs) zero x a e d =
@@ -61,7 +61,7 @@ place_is (y ∷ xs) (suc t) x a e d =
     ap (λ (b : Bool). cond (not b) (1 + position_or_len (λ c. c == x) xs) 0) (ne_eqb y x ne)
     ∙ ap (λ (n : ℕ). 1 + n) (place_is xs t x (omega arith) e both.1) ∙ one_more t
 
-less_true : (m n : ℕ) → m < n → nat_lt m n ≡ true
+pub less_true : (m n : ℕ) → m < n → nat_lt m n ≡ true
 less_true m n h = grind (arith, nat_tests, h)
 
 less : (m n : ℕ) → nat_lt m n ≡ true → m < n
@@ -74,7 +74,7 @@ last_by : (xs : List ℕ) (n : ℕ) (b : Bool) → nat_lt n (length xs) ≡ b �
 last_by xs n true e h = absurd (false≢true (sym (ap is_some h) ∙ there_is xs n (less n (length xs) e)))
 last_by xs n false e h = not_less n (length xs) e
 
-is_last : (xs : List ℕ) (t x : ℕ) → t < length xs → slice_index xs t ≡ x → all_differ xs ≡ true → next_on xs x ≡ None → length xs ≤ t + 1
+pub is_last : (xs : List ℕ) (t x : ℕ) → t < length xs → slice_index xs t ≡ x → all_differ xs ≡ true → next_on xs x ≡ None → length xs ≤ t + 1
 is_last xs t x a e d h =
     let here : position (λ c. c == x) xs ≡ Some t =
     ap (λ (n : ℕ). cond (nat_lt n (length xs)) (Some n) None) (place_is xs t x a e d) ∙ cond-true _ _ _ (less_true t (length xs) a) in

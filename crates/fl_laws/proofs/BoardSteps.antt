@@ -56,7 +56,7 @@ answer_at n route (denied (suc i) fault) x y k w f h q =
       number = some_number (circuit_refused (number_at route i) fault) w (number_at route i) k refl (ap (λ (m : Message). m.said) same) q;
     }
 
-next_place : (route : Route) (i : ℕ) → core_at route (i + 1) ≡ core_at route (suc i)
+pub next_place : (route : Route) (i : ℕ) → core_at route (i + 1) ≡ core_at route (suc i)
 next_place route i = ap (core_at route) (omega arith)
 
 -- another answer with the number of a link of the route is its own; so none comes twice

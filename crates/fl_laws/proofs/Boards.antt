@@ -15,6 +15,7 @@ use Rattle.fl_hop.specs.declared.entry.Hop.{Hop}
 use Rattle.fl_hop.proofs.Entering.{same_or}
 use Rattle.fl_queues.specs.Rings.{Opening, Said, open_circuit, circuit_opened, circuit_refused}
 use Rattle.fl_queues.specs.State.{Verdict, undecided, granted, denied, Route}
+use Rattle.fl_queues.specs.Binding.{all_differ}
 use Rattle.fl_queues.specs.Standing.{core_at, number_at, standing, asking, Message, due_by, due_message, opening_number, answer_number}
 use Rattle.fl_queues.specs.SoundRoutes.{VerdictFits, OneNumber}
 use Rattle.fl_queues.specs.SoundLimits.{OneNumberBack}
@@ -125,6 +126,7 @@ pub record Fits (b : Board) : Type 0 where
   pub wait : (n : ℕ) (route : Route) → b.routes n ≡ Some route → WaitsOn b route
 
 pub record IsRoute (route : Route) : Type 0 where
+  pub differ : all_differ route.cores ≡ true
   pub apart : (i j : ℕ) → i < length route.cores → j < length route.cores → core_at route i ≡ core_at route j → i ≡ j
   pub some : 1 ≤ length route.numbers
   pub few : length route.numbers + 1 ≤ length route.cores

@@ -62,3 +62,4 @@ pub mod BoardAnswers
 pub mod Leading
 pub mod BoardQuiet
 pub mod BoardBegins
+pub mod BoardHeard
