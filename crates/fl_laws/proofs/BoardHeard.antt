@@ -102,7 +102,7 @@ hearer here m first k s j q e at w =
 abbrev pub HearFits : LinkEnd → State → Hearing → Type 0
 HearFits here s h = After (view (after_hearing here h s).state)
 
-taken_view : (here : LinkEnd) (m : Said) (k c : Core) (s : State) (n : ℕ) (f : Route → Route) → Hearer s here m k
+pub taken_view : (here : LinkEnd) (m : Said) (k c : Core) (s : State) (n : ℕ) (f : Route → Route) → Hearer s here m k
     → view (change_route n f (change_ring here.ring.ring (takes here.ring.side) (change_core here.core (λ y. c) s))) ≡ heard_view (view s) here.core (part_of c) here.ring n f
 taken_view here m k c s n f h =
     let rings : map sides_of (changed_at here.ring.ring (takes here.ring.side) s.rings) ≡ changed_at here.ring.ring (takes_first here.ring.side) (map sides_of s.rings) =
@@ -118,12 +118,12 @@ set_itself : (ps : List Part) (n : ℕ) (p : Part) → slice_get ps n ≡ Some p
 set_itself ps n p q = ap (λ (o : Option Part). given o ps (λ x. slice_set ps n p)) q ∙ set_same ps n p q
 
 -- nothing was heard
-left_view : (here : LinkEnd) (m : Said) (k : Core) (s : State) → Hearer s here m k → After (view (change_core here.core (λ y. k) s))
+pub left_view : (here : LinkEnd) (m : Said) (k : Core) (s : State) → Hearer s here m k → After (view (change_core here.core (λ y. k) s))
 left_view here m k s h =
     subst (λ (ps : List Part). After (made ps (map sides_of s.rings) (map back_of s.bindings))) (sym (set_parts here.core k s ∙ set_itself (map part_of s.cores) here.core (part_of k) h.heard.part_is))
     h.whole.known.fits
 
-said_or_left : (here : LinkEnd) (m : Said) (k : Core) (s : State) (l : ℕ) (new : Said) (t : TheCircuits) (x : Rattle.fl_queues.specs.Monitors.Heard) → Hearer s here m k
+pub said_or_left : (here : LinkEnd) (m : Said) (k : Core) (s : State) (l : ℕ) (new : Said) (t : TheCircuits) (x : Rattle.fl_queues.specs.Monitors.Heard) → Hearer s here m k
     → HearFits here s (record { core = with_said l new (with_circuits t k); heard = x }) → HearFits here s (Rattle.fl_queues.specs.Monitors.saying l new t x k)
 said_or_left here m k s l new t x h good = either (HearFits here s) (can_say l k) _ _ (λ q. good) (λ q. left_view here m k s h)
 

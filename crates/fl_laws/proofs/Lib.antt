@@ -63,3 +63,4 @@ pub mod Leading
 pub mod BoardQuiet
 pub mod BoardBegins
 pub mod BoardHeard
+pub mod BoardBacks
