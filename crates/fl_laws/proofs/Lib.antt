@@ -64,3 +64,5 @@ pub mod BoardQuiet
 pub mod BoardBegins
 pub mod BoardHeard
 pub mod BoardBacks
+pub mod BoardLinks
+pub mod BoardLaw
