@@ -120,39 +120,42 @@ module _ (v : View) (w : Whole v) (core n service l c : ℕ) (cores : List ℕ) 
   key_is = ap (λ (x : ℕ). own_key x next_core c) first
 
   near : (x : Stands the_board (near_key the_route 0) n (to_this (end_id n Client))) × (x.hop.answered ≡ false)
-  near = (record {
-    hop = record { binding = n; way = client_way; answered = false };
-    there = ap the_board.hops key_is ∙ set_at v.parts core next_core c l p the_part _ at same_names to
-        (both_second (after_opening p.circuits l) client_way (link_id l) (circuit_id c) (leading n false near_way) (leading n false client_way) free.0
-        (slot_within p.circuits next_core l c (w.parts core p at).table to free.0));
-    binding_is = refl;
-    way = refl;
-  }, refl)
+  near = (
+    record {
+      hop = record { binding = n; way = client_way; answered = false };
+      there = ap the_board.hops key_is ∙ set_at v.parts core next_core c l p the_part _ at same_names to
+          (both_second (after_opening p.circuits l) client_way (link_id l) (circuit_id c) (leading n false near_way) (leading n false client_way) free.0
+          (slot_within p.circuits next_core l c (w.parts core p at).table to free.0));
+      binding_is = refl;
+      way = refl;
+    },
+    refl,
+  )
 
   pub view_begun : Fits (board (begun_view v core (begun_part p l c (begun_opening service cores n c)) (begun_route service cores c)))
   view_begun =
-    begun_fits (board v) the_board n the_route core next_core (open_circuit the_opening) w.known changes
-    (begun_own (board v) the_board n the_route c w.known (record {
-      was = route_none v.backs n new;
-      is = route_last v.backs (over_route the_route) n new;
-      numbers = refl;
-      verdict = refl;
-      near = near.0;
-      fresh = near.1;
-      came = λ key hop q e. elim (came_at v.parts core p the_part at same_names key hop q) [
-        | inl old ↦ inl old
-        | inr x ↦ elim (both_came (after_opening p.circuits l) client_way near_way (leading n false near_way) (leading n false client_way) x.link key.number hop x.there) [
-          | inl (s, its) ↦ inr (slot_key core l c next_core p the_part key hop x to free.0 s ∙ sym key_is)
-          | inr y ↦ elim y [
-            | inl (s, its) ↦ absurd s
-            | inr old ↦ inl (was_there v.parts core p key hop x.link at x.core_is x.link_is old)
+      begun_fits (board v) the_board n the_route core next_core (open_circuit the_opening) w.known changes
+      (begun_own (board v) the_board n the_route c w.known (record {
+        was = route_none v.backs n new;
+        is = route_last v.backs (over_route the_route) n new;
+        numbers = refl;
+        verdict = refl;
+        near = near.0;
+        fresh = near.1;
+        came = λ key hop q e. elim (came_at v.parts core p the_part at same_names key hop q) [
+          | inl old ↦ inl old
+          | inr x ↦ elim (both_came (after_opening p.circuits l) client_way near_way (leading n false near_way) (leading n false client_way) x.link key.number hop x.there) [
+            | inl (s, its) ↦ inr (slot_key core l c next_core p the_part key hop x to free.0 s ∙ sym key_is)
+            | inr y ↦ elim y [
+              | inl (s, its) ↦ absurd s
+              | inr old ↦ inl (was_there v.parts core p key hop x.link at x.core_is x.link_is old)
+            ]
           ]
-        ]
-      ];
-    }))
-    (route_none v.backs n new) (route_last v.backs (over_route the_route) n new)
-    (is_added v core next_core l v.rings p the_part (open_circuit the_opening) w at (record { names = same_names; next_is = to; links = refl }))
-    (ap (λ (x : ℕ). Some (message x next_core (open_circuit the_opening))) first) refl
+        ];
+      }))
+      (route_none v.backs n new) (route_last v.backs (over_route the_route) n new)
+      (is_added v core next_core l v.rings p the_part (open_circuit the_opening) w at (record { names = same_names; next_is = to; links = refl }))
+      (ap (λ (x : ℕ). Some (message x next_core (open_circuit the_opening))) first) refl
 
 -- ---- on a state
 

@@ -193,8 +193,10 @@ pub next_free : (t : TheCircuits) (l d : ℕ) → IsTable t → next_own t l ≡
 next_free t l d table own =
     let next = next_is t.core t.links l d own in
     let few : next.link.opened ≤ 1022 = next.few in
-    let among = small t.core next.link.neighbour.0 (next.link.opened + 1) d (omega arith) (next.link.opened, omega arith, sym next.is) in
-    (among.1, (λ h q. elim (table.toward l d h.binding h.way (record { answered = h.answered; there = q })) [
-      | inl x ↦ never_next t.core t.links table.apart l d next (inl x.0)
-      | inr x ↦ never_next t.core t.links table.apart l d next (inr x.0)
-    ]))
+    let among = small t.core next.link.neighbour.0 (next.link.opened + 1) d (omega arith) (next.link.opened, omega arith, sym next.is) in (
+      among.1,
+      (λ h q. elim (table.toward l d h.binding h.way (record { answered = h.answered; there = q })) [
+        | inl x ↦ never_next t.core t.links table.apart l d next (inl x.0)
+        | inr x ↦ never_next t.core t.links table.apart l d next (inr x.0)
+      ]),
+    )

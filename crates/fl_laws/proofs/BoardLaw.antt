@@ -67,9 +67,11 @@ module _ (s : State) (sound : Sound s) where
       let (l, to, there) = given_some (link_to b k) (λ l. slice_get k.links l) link is in
       let even = (sound.cores a k at).links in
       let inside = within k.links l link there in
-      let (x, got) = at_within k.circuits.links l (omega arith) in
-      (x, ap (λ o. given o None (λ (c : Core). given (link_to b c) None (λ m. slice_get c.circuits.links m))) at
-          ∙ ap (λ o. given o None (λ m. slice_get k.circuits.links m)) to ∙ got)
+      let (x, got) = at_within k.circuits.links l (omega arith) in (
+        x,
+        ap (λ o. given o None (λ (c : Core). given (link_to b c) None (λ m. slice_get c.circuits.links m))) at
+            ∙ ap (λ o. given o None (λ m. slice_get k.circuits.links m)) to ∙ got,
+      )
 
   said_none : (a b : ℕ) → link_between s a b ≡ None → link_between s b a ≡ None → said_in (map part_of s.cores) (map sides_of s.rings) a b ≡ []
   said_none a b p q =

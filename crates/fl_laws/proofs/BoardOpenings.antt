@@ -138,17 +138,22 @@ module _ (v : View) (w : Whole v) (n : ℕ) (route : Route) (j l : ℕ) (ring : 
 
     passed_near : (x : Stands (board (heard_view v (core_at route (length route.numbers)) (passed_part k d) ring n (with_number d))) (next_key route d) n
         (behind n route (length route.numbers))) × (x.hop.answered ≡ false)
-    passed_near = (record {
-      hop = record { binding = n; way = to_link (link_id l) (circuit_id (number_at route j)); answered = false };
-      there = set_at v.parts (core_at route (length route.numbers)) (core_at route (length route.numbers + 1)) d k p (passed_part k d) _ o.at.part_is same_names to
-          (both_second (after_opening (after_taking p.circuits l) k) (to_link (link_id l) (circuit_id (number_at route j))) (link_id k) (circuit_id d) _ _ free.0
-          (slot_within p.circuits (core_at route (length route.numbers + 1)) k d (w.parts _ p o.at.part_is).table to free.0));
-      binding_is = refl;
-      way = subst (λ (i : ℕ). Says (board (heard_view v (core_at route (length route.numbers)) (passed_part k d) ring n (with_number d)))
-          (core_at route (length route.numbers)) (to_link (link_id l) (circuit_id (number_at route j))) (behind n route i)) o.place
-          ((place_stays v.parts (core_at route (length route.numbers)) p (passed_part k d) o.at.part_is same_names (core_at route (length route.numbers)) (core_at route j)
-          ∙ ap (λ x. given x None (λ (y : Part). link_of y.circuits (core_at route j))) o.at.part_is ∙ o.at.to), refl);
-    }, refl)
+    passed_near = (
+      record {
+        hop = record { binding = n; way = to_link (link_id l) (circuit_id (number_at route j)); answered = false };
+        there = set_at v.parts (core_at route (length route.numbers)) (core_at route (length route.numbers + 1)) d k p (passed_part k d) _ o.at.part_is same_names to
+            (both_second (after_opening (after_taking p.circuits l) k) (to_link (link_id l) (circuit_id (number_at route j))) (link_id k) (circuit_id d) _ _ free.0
+            (slot_within p.circuits (core_at route (length route.numbers + 1)) k d (w.parts _ p o.at.part_is).table to free.0));
+        binding_is = refl;
+        way = subst (λ (i : ℕ). Says (board (heard_view v (core_at route (length route.numbers)) (passed_part k d) ring n (with_number d)))
+            (core_at route (length route.numbers)) (to_link (link_id l) (circuit_id (number_at route j))) (behind n route i)) o.place (
+              (place_stays v.parts (core_at route (length route.numbers)) p (passed_part k d) o.at.part_is same_names (core_at route (length route.numbers)) (core_at route j)
+                  ∙ ap (λ x. given x None (λ (y : Part). link_of y.circuits (core_at route j))) o.at.part_is ∙ o.at.to),
+              refl,
+            );
+      },
+      refl,
+    )
 
     passed_far : (i : ℕ) → suc i ≡ length route.numbers
         → Stands (board (heard_view v (core_at route (length route.numbers)) (passed_part k d) ring n (with_number d))) (far_key route i) n (on_to (core_at route (length route.numbers + 1)) d)
@@ -174,13 +179,13 @@ module _ (v : View) (w : Whole v) (n : ℕ) (route : Route) (j l : ℕ) (ring : 
       | inl old ↦ inl old
       | inr x ↦ elim (both_came (after_opening (after_taking p.circuits l) k) (to_link (link_id l) (circuit_id (number_at route j))) (to_link (link_id k) (circuit_id d)) _ _
           x.link key.number hop x.there) [
-        | inl (e, its) ↦ inr (inl (slot_key (core_at route (length route.numbers)) k d (core_at route (length route.numbers + 1)) p (passed_part k d) key hop x to free.0 e))
-        | inr y ↦ elim y [
-          | inl (e, its) ↦ inr (inr (others_far key
-              (slot_key (core_at route (length route.numbers)) l (number_at route j) (core_at route j) p (passed_part k d) key hop x o.at.to number_small e)))
-          | inr old ↦ inl (was_there v.parts (core_at route (length route.numbers)) p key hop x.link o.at.part_is x.core_is x.link_is old)
-        ]
-      ]
+            | inl (e, its) ↦ inr (inl (slot_key (core_at route (length route.numbers)) k d (core_at route (length route.numbers + 1)) p (passed_part k d) key hop x to free.0 e))
+            | inr y ↦ elim y [
+              | inl (e, its) ↦ inr (inr (others_far key
+                  (slot_key (core_at route (length route.numbers)) l (number_at route j) (core_at route j) p (passed_part k d) key hop x o.at.to number_small e)))
+              | inr old ↦ inl (was_there v.parts (core_at route (length route.numbers)) p key hop x.link o.at.part_is x.core_is x.link_is old)
+            ]
+          ]
     ]
 
     pub passed_fits : Fits (board (heard_view v (core_at route (length route.numbers)) (passed_part k d) ring n (with_number d)))

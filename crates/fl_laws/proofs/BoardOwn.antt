@@ -174,26 +174,34 @@ module _ (b c : Board) (n : ℕ) (route : Route) (d : ℕ) (known : Known b) (h 
       let long = length_push route.numbers d in
       elim (h.came key hop q e) [
         | inl old ↦
-            (let (j, due) = its_due b n route key hop known.fits h.was old e in
-            (j, elim due [
-              | inl a ↦ (let w : j < length route.numbers = a.within in inl (record {
-                within = omega arith;
-                stands = omega arith;
-                key_is = a.key_is ∙ sym (same_near j w);
-                way = subst (Says c key.core hop.way) (sym (same_behind j (omega arith))) (says_on b c key.core hop.way (behind n route j) (h.changes.places key.core) a.way);
-              }))
-              | inr a ↦ (let w : j < length route.numbers = a.within in let s : j + 1 < standing route = a.stands in inr (record {
-                within = omega arith;
-                stands = omega arith;
-                key_is = a.key_is ∙ sym (same_far j w);
-                way = subst (Says c key.core hop.way) (sym (same_ahead (j + 1) (omega arith))) (says_on b c key.core hop.way (ahead n route (j + 1)) (h.changes.places key.core) a.way);
-              }))
-            ]))
+            (let (j, due) = its_due b n route key hop known.fits h.was old e in (
+              j,
+              elim due [
+                | inl a ↦ (let w : j < length route.numbers = a.within in inl (record {
+                  within = omega arith;
+                  stands = omega arith;
+                  key_is = a.key_is ∙ sym (same_near j w);
+                  way = subst (Says c key.core hop.way) (sym (same_behind j (omega arith))) (says_on b c key.core hop.way (behind n route j) (h.changes.places key.core) a.way);
+                }))
+                | inr a ↦ (let w : j < length route.numbers = a.within in let s : j + 1 < standing route = a.stands in inr (record {
+                  within = omega arith;
+                  stands = omega arith;
+                  key_is = a.key_is ∙ sym (same_far j w);
+                  way = subst (Says c key.core hop.way) (sym (same_ahead (j + 1) (omega arith))) (says_on b c key.core hop.way (ahead n route (j + 1)) (h.changes.places key.core) a.way);
+                }))
+              ],
+            ))
         | inr new ↦ elim new [
-          | inl is ↦ (length route.numbers, inl (due_near_at c key hop n (with_number d route) (length route.numbers) (went_near (length route.numbers) (omega arith)) (is ∙ sym last_near) q
-              (omega arith) (omega arith)))
-          | inr (j, (at, is)) ↦ (j, inr (due_far_at c key hop n (with_number d route) j (went_far j (omega (arith, at, st))) (is ∙ sym (same_far j (omega (arith, at)))) q
-              (omega (arith, at, long)) (omega (arith, at, st))))
+          | inl is ↦ (
+            length route.numbers,
+            inl (due_near_at c key hop n (with_number d route) (length route.numbers) (went_near (length route.numbers) (omega arith)) (is ∙ sym last_near) q
+                (omega arith) (omega arith)),
+          )
+          | inr (j, (at, is)) ↦ (
+            j,
+            inr (due_far_at c key hop n (with_number d route) j (went_far j (omega (arith, at, st))) (is ∙ sym (same_far j (omega (arith, at)))) q
+                (omega (arith, at, long)) (omega (arith, at, st))),
+          )
         ]
       ]
 
@@ -266,21 +274,23 @@ module _ (b c : Board) (n : ℕ) (route : Route) (known : Known b) (h : Arrived 
       let last = h.last in
       elim (h.came key hop q e) [
         | inl old ↦
-            (let (j, due) = its_due b n route key hop known.fits h.was old e in
-            (j, elim due [
-              | inl a ↦ (let w : j < length route.numbers = a.within in inl (record {
-                within = w;
-                stands = (let s : j < length route.cores = omega arith in s);
-                key_is = a.key_is;
-                way = says_on b c key.core hop.way (behind n route j) (h.changes.places key.core) a.way;
-              }))
-              | inr a ↦ (let w : j < length route.numbers = a.within in inr (record {
-                within = w;
-                stands = (let s : j + 1 < length route.cores = omega arith in s);
-                key_is = a.key_is;
-                way = says_on b c key.core hop.way (ahead n route (j + 1)) (h.changes.places key.core) a.way;
-              }))
-            ]))
+            (let (j, due) = its_due b n route key hop known.fits h.was old e in (
+              j,
+              elim due [
+                | inl a ↦ (let w : j < length route.numbers = a.within in inl (record {
+                  within = w;
+                  stands = (let s : j < length route.cores = omega arith in s);
+                  key_is = a.key_is;
+                  way = says_on b c key.core hop.way (behind n route j) (h.changes.places key.core) a.way;
+                }))
+                | inr a ↦ (let w : j < length route.numbers = a.within in inr (record {
+                  within = w;
+                  stands = (let s : j + 1 < length route.cores = omega arith in s);
+                  key_is = a.key_is;
+                  way = says_on b c key.core hop.way (ahead n route (j + 1)) (h.changes.places key.core) a.way;
+                }))
+              ],
+            ))
         | inr (j, (at, is)) ↦
             (let w : j < length route.numbers = omega (arith, at) in
             let s : j + 1 < length route.cores = omega (arith, at, last) in
@@ -342,21 +352,23 @@ failed_own b c n route fault known h = record {
     dues : (key : Key) (hop : Hop) → c.hops key ≡ Some hop → hop.binding ≡ n → DueOn c key hop n (denies fault route)
     dues key hop q e =
         let were = stood in
-        let (j, due) = its_due b n route key hop known.fits h.was (sym (h.hops key) ∙ q) e in
-        (j, elim due [
-          | inl a ↦ inl (record {
-            within = a.within;
-            stands = (let s : j < length route.numbers = a.within in s);
-            key_is = a.key_is;
-            way = says_on b c key.core hop.way (behind n route j) (h.places key.core) a.way;
-          })
-          | inr a ↦ (let t : j + 1 < standing route = a.stands in inr (record {
-            within = a.within;
-            stands = (let s : j + 1 < length route.numbers = omega arith in s);
-            key_is = a.key_is;
-            way = says_on b c key.core hop.way (ahead n route (j + 1)) (h.places key.core) a.way;
-          }))
-        ])
+        let (j, due) = its_due b n route key hop known.fits h.was (sym (h.hops key) ∙ q) e in (
+          j,
+          elim due [
+            | inl a ↦ inl (record {
+              within = a.within;
+              stands = (let s : j < length route.numbers = a.within in s);
+              key_is = a.key_is;
+              way = says_on b c key.core hop.way (behind n route j) (h.places key.core) a.way;
+            })
+            | inr a ↦ (let t : j + 1 < standing route = a.stands in inr (record {
+              within = a.within;
+              stands = (let s : j + 1 < length route.numbers = omega arith in s);
+              key_is = a.key_is;
+              way = says_on b c key.core hop.way (ahead n route (j + 1)) (h.places key.core) a.way;
+            }))
+          ],
+        )
 
 -- ---- the answer that the circuit is open came to core i of the route: its entry there is marked
 
@@ -419,21 +431,23 @@ module _ (b c : Board) (n : ℕ) (route : Route) (i : ℕ) (known : Known b) (h 
       let st = back_stands in
       elim (h.came key hop q e) [
         | inl old ↦
-            (let (j, due) = its_due b n route key hop known.fits h.was old e in
-            (j, elim due [
-              | inl a ↦ (let w : j < length route.numbers = a.within in inl (record {
-                within = w;
-                stands = omega arith;
-                key_is = a.key_is;
-                way = says_on b c key.core hop.way (behind n route j) (h.changes.places key.core) a.way;
-              }))
-              | inr a ↦ (let w : j < length route.numbers = a.within in inr (record {
-                within = w;
-                stands = omega arith;
-                key_is = a.key_is;
-                way = says_on b c key.core hop.way (ahead n route (j + 1)) (h.changes.places key.core) a.way;
-              }))
-            ]))
+            (let (j, due) = its_due b n route key hop known.fits h.was old e in (
+              j,
+              elim due [
+                | inl a ↦ (let w : j < length route.numbers = a.within in inl (record {
+                  within = w;
+                  stands = omega arith;
+                  key_is = a.key_is;
+                  way = says_on b c key.core hop.way (behind n route j) (h.changes.places key.core) a.way;
+                }))
+                | inr a ↦ (let w : j < length route.numbers = a.within in inr (record {
+                  within = w;
+                  stands = omega arith;
+                  key_is = a.key_is;
+                  way = says_on b c key.core hop.way (ahead n route (j + 1)) (h.changes.places key.core) a.way;
+                }))
+              ],
+            ))
         | inr new ↦ elim new [
           | inl is ↦ (i, inl (due_near_at c key hop n (passes_word route) i h.near is q (omega arith) (omega arith)))
           | inr (j, (at, is)) ↦ (j, inr (due_far_at c key hop n (passes_word route) j (h.far j at) is q (omega (arith, at, fits)) (omega (arith, at, fits, whole, st))))
@@ -531,11 +545,13 @@ module _ (b c : Board) (n : ℕ) (route : Route) (i fault : ℕ) (known : Known 
 
   gone_due : (key : Key) (hop : Hop) → c.hops key ≡ Some hop → hop.binding ≡ n → DueOn c key hop n (passes_word route)
   gone_due key hop q e =
-      let (j, due) = its_due b n route key hop known.fits h.was (h.came key hop q) e in
-      (j, elim due [
-        | inl a ↦ inl (near_left key hop j q a)
-        | inr a ↦ inr (far_left key hop j q a)
-      ])
+      let (j, due) = its_due b n route key hop known.fits h.was (h.came key hop q) e in (
+        j,
+        elim due [
+          | inl a ↦ inl (near_left key hop j q a)
+          | inr a ↦ inr (far_left key hop j q a)
+        ],
+      )
 
   gone_wait : WaitsOn c (passes_word route)
   gone_wait j p =

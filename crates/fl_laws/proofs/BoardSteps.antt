@@ -144,9 +144,17 @@ begun_fits b c n after x y w known ch own none is puts due quiet = record {
             | inr away ↦ (o, (other, (ch.others o away ∙ at, its)))
             | inl e ↦ absurd (let f : None ≡ Some other = sym none ∙ ap b.routes (sym e) ∙ at in cc)
           ])
-      | inr (e, (f, k)) ↦
-          (n, (after, (is, due ∙ (let l : w ≡ z = cc in ap (λ (m : Said). Some (message x y m)) l)
-          ∙ ap (λ (p : ℕ). Some (message p y z)) (sym e) ∙ ap (λ (p : ℕ). Some (message u p z)) (sym f))))
+      | inr (e, (f, k)) ↦ (
+        n,
+        (
+          after,
+          (
+            is,
+            due ∙ (let l : w ≡ z = cc in ap (λ (m : Said). Some (message x y m)) l)
+                ∙ ap (λ (p : ℕ). Some (message p y z)) (sym e) ∙ ap (λ (p : ℕ). Some (message u p z)) (sym f),
+          ),
+        ),
+      )
     ]
 
 -- ---- nothing changes

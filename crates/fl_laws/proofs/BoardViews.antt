@@ -180,11 +180,17 @@ fits_of s due once stand only wait = record {
       record { near = λ j p w. entry_stands s _ n _ (e.near j p w); far = λ j p w. entry_stands s _ n _ (e.far j p w) };
   due = λ key hop q.
       let at : EntryAt s key hop = hop_entry s key hop q in
-      let (route, r, (j, d)) = only key hop at in
-      (route, routed_in s hop.binding route r, (j, elim d [
-        | inl a ↦ inl (record { within = a.within; stands = a.stands; key_is = a.key_is; way = says_board s key.core at.core hop.way _ at.core_is a.way })
-        | inr a ↦ inr (record { within = a.within; stands = a.stands; key_is = a.key_is; way = says_board s key.core at.core hop.way _ at.core_is a.way })
-      ]));
+      let (route, r, (j, d)) = only key hop at in (
+        route,
+        routed_in s hop.binding route r,
+        (
+          j,
+          elim d [
+            | inl a ↦ inl (record { within = a.within; stands = a.stands; key_is = a.key_is; way = says_board s key.core at.core hop.way _ at.core_is a.way })
+            | inr a ↦ inr (record { within = a.within; stands = a.stands; key_is = a.key_is; way = says_board s key.core at.core hop.way _ at.core_is a.way })
+          ],
+        ),
+      );
   wait = λ n route q j h. let (hop, at, bare) = wait n route j (in_routed s n route q) h in (hop, entry_hop s _ hop at, bare);
 }
 
@@ -204,11 +210,17 @@ module _ (s : State) (f : Fits (board_of s)) where
 
   pub entries_due : EntriesAreDue s
   entries_due key hop at =
-      let (route, there, (j, d)) = f.due key hop (entry_hop s key hop at) in
-      (route, in_routed s hop.binding route there, (j, elim d [
-        | inl a ↦ inl (record { within = a.within; stands = a.stands; key_is = a.key_is; way = board_says s key.core at.core hop.way _ at.core_is a.way })
-        | inr a ↦ inr (record { within = a.within; stands = a.stands; key_is = a.key_is; way = board_says s key.core at.core hop.way _ at.core_is a.way })
-      ]))
+      let (route, there, (j, d)) = f.due key hop (entry_hop s key hop at) in (
+        route,
+        in_routed s hop.binding route there,
+        (
+          j,
+          elim d [
+            | inl a ↦ inl (record { within = a.within; stands = a.stands; key_is = a.key_is; way = board_says s key.core at.core hop.way _ at.core_is a.way })
+            | inr a ↦ inr (record { within = a.within; stands = a.stands; key_is = a.key_is; way = board_says s key.core at.core hop.way _ at.core_is a.way })
+          ],
+        ),
+      )
 
   pub answers_awaited : AnswersAreAwaited s
   answers_awaited n route j r h =

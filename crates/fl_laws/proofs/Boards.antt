@@ -167,10 +167,13 @@ says_on b c core (to_link l d) (on_to neighbour number) h s = (h neighbour l.0 s
 
 pub due_on : (b c : Board) (key : Key) (hop : Hop) (n : ℕ) (route : Route)
     → ((core neighbour l : ℕ) → b.places core neighbour ≡ Some l → c.places core neighbour ≡ Some l) → DueOn b key hop n route → DueOn c key hop n route
-due_on b c key hop n route h (j, d) = (j, elim d [
-  | inl a ↦ inl (record { within = a.within; stands = a.stands; key_is = a.key_is; way = says_on b c key.core hop.way (behind n route j) (h key.core) a.way })
-  | inr a ↦ inr (record { within = a.within; stands = a.stands; key_is = a.key_is; way = says_on b c key.core hop.way (ahead n route (j + 1)) (h key.core) a.way })
-])
+due_on b c key hop n route h (j, d) = (
+  j,
+  elim d [
+    | inl a ↦ inl (record { within = a.within; stands = a.stands; key_is = a.key_is; way = says_on b c key.core hop.way (behind n route j) (h key.core) a.way })
+    | inr a ↦ inr (record { within = a.within; stands = a.stands; key_is = a.key_is; way = says_on b c key.core hop.way (ahead n route (j + 1)) (h key.core) a.way })
+  ],
+)
 
 module _ (b c : Board) (n : ℕ) (ch : Changes b c n) where
   pub stands_on : (key : Key) (m : ℕ) (leads : Leads) → (m ≡ n → ⊥) → Stands b key m leads → Stands c key m leads
