@@ -1,32 +1,32 @@
 -- The answer to an opening is heard, at a core in between or at the client's: its entry is marked, or removed. What is then
 -- on the board fits.
-use Rattle.std.proofs.Common.{◌≡◌, ◌≢◌, refl, sym, ◌∙◌, ap, subst, ℕ, zero, suc, ◌+◌, ◌-◌, ◌*◌, ◌<◌, ◌≤◌, ◌==◌, ◌⊎◌, inl, inr, Bool, true, false, if◌then◌else◌}
-use Rattle.std.proofs.Common.{List, [], ◌∷◌, ◌++◌, length, slice_get, Option, Some, None, arith}
+use Rattle.std.proofs.Common.{◌≡◌, refl, sym, ◌∙◌, ap, subst, ℕ, suc, ◌+◌, ◌-◌, ◌<◌, ◌≤◌, inl, inr, Bool, true, if◌then◌else◌}
+use Rattle.std.proofs.Common.{length, Option, Some, None, arith}
 use Rattle.std.proofs.lemmas.Bool.{ne_eqb}
 use Rattle.fl_base.specs.declared.identity.Side.TheVariants.{Client, Server}
 use Rattle.fl_hop.specs.declared.entry.Way.{Way}
 use Rattle.fl_hop.specs.declared.entry.Way.TheVariants.{Link as to_link, End as to_end}
 use Rattle.fl_hop.specs.declared.entry.Hop.{Hop}
-use Rattle.fl_hop.specs.Table.{TheCircuits, hop_at, link_of, slot, leading, with_entry, without_entry}
+use Rattle.fl_hop.specs.Table.{hop_at, link_of, slot, leading, with_entry, without_entry}
 use Rattle.fl_hop.proofs.Cells.{slot_once}
 use Rattle.fl_hop.proofs.Entering.{IsSlot}
 use Rattle.fl_queues.specs.Given.{given, changed_at}
 use Rattle.fl_queues.specs.Rings.{Said, circuit_opened, circuit_refused, RingEnd}
-use Rattle.fl_queues.specs.Monitors.{Link, says_more, link_id, circuit_id}
+use Rattle.fl_queues.specs.Monitors.{says_more, link_id, circuit_id}
 use Rattle.fl_queues.specs.State.{Verdict, granted, denied, Route}
 use Rattle.fl_queues.specs.Binding.{end_id}
 use Rattle.fl_queues.specs.Forwarding.{passes_word, word_passes}
-use Rattle.fl_queues.specs.Standing.{core_at, number_at, standing, standing_by, due_by, due_message, answer_number}
+use Rattle.fl_queues.specs.Standing.{core_at, number_at, standing, due_by, due_message, answer_number}
 use Rattle.fl_queues.specs.SoundRoutes.{VerdictFits}
 use Rattle.fl_queues.specs.SoundEntries.{Key, near_key, far_key, on_to, to_this, behind, ahead}
-use Rattle.fl_laws.proofs.Views.{View, Part, made}
+use Rattle.fl_laws.proofs.Views.{View, Part}
 use Rattle.fl_laws.proofs.Lanes.{names}
-use Rattle.fl_laws.proofs.TableSteps.{OnlyOf, put_both, both_kept, both_came, both_were, both_first, both_second, leads_of, none_of, one_neighbour}
-use Rattle.fl_laws.proofs.Boards.{Board, Says, Known, IsRoute, Fits, Stands, Changes, Puts, message, some_is}
-use Rattle.fl_laws.proofs.BoardSteps.{Hears, heard_fits, AnswerAt}
-use Rattle.fl_laws.proofs.BoardOwn.{IsFar, OpenedBack, back_own, RefusedBack, gone_own}
-use Rattle.fl_laws.proofs.BoardViews.{hop_in, place_in, line, route_in, said_in, board}
-use Rattle.fl_laws.proofs.BoardCores.{set_part, own_key, hop_else, set_at, came_at, CameAt, was_there, NewTable, NewLinks, place_stays, line_stays}
+use Rattle.fl_laws.proofs.TableSteps.{both_kept, both_came, both_were, both_first, both_second, leads_of, none_of, one_neighbour}
+use Rattle.fl_laws.proofs.Boards.{Board, Says, IsRoute, Fits, Stands, Puts, message}
+use Rattle.fl_laws.proofs.BoardSteps.{heard_fits, AnswerAt}
+use Rattle.fl_laws.proofs.BoardOwn.{back_own, gone_own}
+use Rattle.fl_laws.proofs.BoardViews.{place_in, line, route_in, said_in, board}
+use Rattle.fl_laws.proofs.BoardCores.{set_part, own_key, hop_else, set_at, came_at, was_there, NewTable, place_stays, line_stays}
 use Rattle.fl_laws.proofs.BoardSaid.{said_on, said_left}
 use Rattle.fl_laws.proofs.BoardHears.{Whole, HeardAt, taken_rings, heard_view, is_taken, is_put, route_set, is_changed, only_far, only_near, hop_small, slot_within}
 use Rattle.fl_laws.proofs.BoardOpenings.{slot_key}

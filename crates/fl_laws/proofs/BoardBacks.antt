@@ -1,6 +1,6 @@
 -- A core that hears an answer leaves a board that fits; and so one that hears any message.
-use Rattle.std.proofs.Common.{◌≡◌, ◌≢◌, refl, sym, ◌∙◌, ap, subst, ℕ, zero, suc, ◌+◌, ◌-◌, ◌<◌, ◌≤◌, Bool, true, false, ◌⊎◌, inl, inr}
-use Rattle.std.proofs.Common.{List, [], ◌∷◌, length, map, slice_get, Option, Some, None, arith}
+use Rattle.std.proofs.Common.{◌≡◌, refl, sym, ◌∙◌, ap, subst, ℕ, zero, suc, ◌+◌, ◌<◌, ◌≤◌, true}
+use Rattle.std.proofs.Common.{length, map, Some, None, arith}
 use Rattle.fl_base.specs.declared.identity.EndId.{EndId}
 use Rattle.fl_base.specs.declared.identity.LinkId.{LinkId}
 use Rattle.fl_base.specs.declared.identity.Circuit.{Circuit}
@@ -8,26 +8,26 @@ use Rattle.fl_base.specs.declared.identity.Side.TheVariants.{Client}
 use Rattle.fl_hop.specs.declared.entry.Way.{Way}
 use Rattle.fl_hop.specs.declared.entry.Way.TheVariants.{Link as to_link, End as to_end}
 use Rattle.fl_hop.specs.declared.entry.Hop.{Hop}
-use Rattle.fl_hop.specs.Table.{TheCircuits, hop_at, link_of, with_entry, without_entry}
+use Rattle.fl_hop.specs.Table.{hop_at, link_of, with_entry, without_entry}
 use Rattle.fl_hop.specs.Openings.{answered}
 use Rattle.fl_hop.proofs.Cells.{same_circuit}
 use Rattle.fl_queues.specs.Given.{given, changed_at}
 use Rattle.fl_queues.specs.Rings.{Opening, Said, open_circuit, circuit_opened, circuit_refused, says, RingLabel, takes}
-use Rattle.fl_queues.specs.Monitors.{Core, says_more, link_id, circuit_id, Hearing, hears_opened, hears_refused, hears, with_said, with_circuits, goes_astray}
+use Rattle.fl_queues.specs.Monitors.{Core, says_more, link_id, circuit_id, hears_opened, hears_refused, hears, with_said, with_circuits}
 use Rattle.fl_queues.specs.State.{Verdict, undecided, granted, denied, Route, State, core_of, change_core, change_ring, change_route, first_on}
 use Rattle.fl_queues.specs.Binding.{end_id}
 use Rattle.fl_queues.specs.Forwarding.{LinkEnd, after_hearing, passes_word}
 use Rattle.fl_queues.specs.Standing.{core_at, number_at, standing, standing_by, Message, back_to, due_by, due_message}
 use Rattle.fl_queues.specs.SoundRoutes.{VerdictFits}
-use Rattle.fl_queues.specs.SoundEntries.{Key, Leads, near_key, behind}
+use Rattle.fl_queues.specs.SoundEntries.{near_key, behind}
 use Rattle.fl_laws.proofs.Cases.{by_given}
-use Rattle.fl_laws.proofs.Views.{View, Part, part_of, view}
+use Rattle.fl_laws.proofs.Views.{Part, part_of, view}
 use Rattle.fl_laws.proofs.Quiet.{quiet_binds}
 use Rattle.fl_laws.proofs.Walk.{IsHere}
 use Rattle.fl_laws.proofs.Hearing.{some_same, OpenedDue, opened_due}
-use Rattle.fl_laws.proofs.Boards.{Board, Says, Fits, Known, IsRoute, Stands, message, some_is}
+use Rattle.fl_laws.proofs.Boards.{Says, IsRoute, Stands, message, some_is}
 use Rattle.fl_laws.proofs.BoardSteps.{next_place}
-use Rattle.fl_laws.proofs.BoardViews.{hop_in, place_in, route_in, board}
+use Rattle.fl_laws.proofs.BoardViews.{place_in, route_in, board}
 use Rattle.fl_laws.proofs.BoardCores.{was_at}
 use Rattle.fl_laws.proofs.BoardHears.{Whole, HeardAt, heard_view}
 use Rattle.fl_laws.proofs.BoardAnswers.{AnswersAt, opened_part, opened_fits, refused_part, refused_fits, opened_on, opened_on_fits, refused_on, refused_on_fits}

@@ -1,27 +1,23 @@
 -- A circuit is begun at its client's core. What is then on the board fits.
-use Rattle.std.proofs.Common.{◌≡◌, ◌≢◌, refl, sym, ◌∙◌, ap, subst, ℕ, zero, suc, ◌+◌, ◌-◌, ◌<◌, ◌≤◌, ◌==◌, ◌&&◌, nat_le, not, Bool, true, false, ◌⊎◌, inl, inr}
-use Rattle.std.proofs.Common.{List, [], ◌∷◌, ◌++◌, length, map, slice_get, slice_index, Option, Some, None, option_map, arith}
-use Rattle.std.specs.List.{list_all}
+use Rattle.std.proofs.Common.{◌≡◌, ◌≢◌, refl, sym, ◌∙◌, ap, subst, ℕ, zero, suc, ◌+◌, ◌-◌, ◌≤◌, ◌==◌, true, false, inl, inr}
+use Rattle.std.proofs.Common.{List, [], ◌∷◌, ◌++◌, length, map, slice_get, slice_index, Some, None, arith}
 use Rattle.std.proofs.lemmas.Bool.{eqb-true, and_parts}
 use Rattle.std.proofs.lemmas.List.{length-map, map-append}
-use Rattle.fl_base.specs.declared.identity.Side.TheVariants.{Client, Server}
+use Rattle.fl_base.specs.declared.identity.Side.TheVariants.{Client}
 use Rattle.fl_hop.specs.declared.entry.Way.{Way}
 use Rattle.fl_hop.specs.declared.entry.Way.TheVariants.{Link as to_link, End as to_end}
 use Rattle.fl_hop.specs.declared.entry.Hop.{Hop}
-use Rattle.fl_hop.specs.Table.{TheCircuits, hop_at, link_of, slot, leading}
+use Rattle.fl_hop.specs.Table.{hop_at, link_of, leading}
 use Rattle.fl_hop.specs.Numbers.{next_own, after_opening}
 use Rattle.fl_hop.specs.Openings.{opened}
-use Rattle.fl_hop.proofs.Entering.{same_or}
-use Rattle.fl_queues.specs.Given.{given, changed_at}
-use Rattle.fl_queues.specs.Rings.{Opening, Said, open_circuit}
-use Rattle.fl_queues.specs.Monitors.{Core, Link, says_more, link_id, circuit_id, opens}
-use Rattle.fl_queues.specs.State.{Back, over_route, undecided, Route, State, Binding, core_of, seats}
-use Rattle.fl_queues.specs.Making.{is_core}
+use Rattle.fl_queues.specs.Given.{changed_at}
+use Rattle.fl_queues.specs.Rings.{Opening, open_circuit}
+use Rattle.fl_queues.specs.Monitors.{Core, says_more, link_id, circuit_id, opens}
+use Rattle.fl_queues.specs.State.{Back, over_route, undecided, Route, State, seats}
 use Rattle.fl_queues.specs.Binding.{Wanted, end_id, with_new_binding, with_circuit_begun, is_route, all_differ, arrival_queue}
 use Rattle.fl_queues.specs.Forwarding.{route_of}
-use Rattle.fl_queues.specs.Standing.{core_at, number_at, due_message, answer_number}
-use Rattle.fl_queues.specs.SoundEntries.{Key, near_key, to_this}
-use Rattle.fl_laws.proofs.Views.{View, Part, Sides, part_of, sides_of, back_of, view, made, map_changed}
+use Rattle.fl_queues.specs.SoundEntries.{near_key, to_this}
+use Rattle.fl_laws.proofs.Views.{View, Part, part_of, sides_of, back_of, view, made, map_changed}
 use Rattle.fl_laws.proofs.Quiet.{quiet_seats}
 use Rattle.fl_laws.proofs.Walk.{BeginsRoute}
 use Rattle.fl_laws.proofs.EndsStep.{is_not}
@@ -29,11 +25,11 @@ use Rattle.fl_laws.proofs.PlacesStep.{opening_counted}
 use Rattle.fl_laws.proofs.OpeningsKept.{part_opens}
 use Rattle.fl_laws.proofs.Lanes.{names}
 use Rattle.fl_laws.proofs.TableSteps.{both_kept, both_came, both_were, both_second, leads_of}
-use Rattle.fl_laws.proofs.Boards.{Board, Says, Known, Fits, Stands, Changes, message}
+use Rattle.fl_laws.proofs.Boards.{Board, Fits, Stands, Changes, message}
 use Rattle.fl_laws.proofs.BoardSteps.{begun_fits}
-use Rattle.fl_laws.proofs.BoardOwn.{Begun, begun_own}
-use Rattle.fl_laws.proofs.BoardViews.{hop_in, place_in, line, route_in, said_in, board, core_part}
-use Rattle.fl_laws.proofs.BoardCores.{set_part, own_key, set_at, came_at, CameAt, was_there, NewTable, NewLinks, place_stays, set_kept, set_were}
+use Rattle.fl_laws.proofs.BoardOwn.{begun_own}
+use Rattle.fl_laws.proofs.BoardViews.{route_in, board, core_part}
+use Rattle.fl_laws.proofs.BoardCores.{set_part, own_key, set_at, came_at, was_there, NewTable, place_stays, set_kept, set_were}
 use Rattle.fl_laws.proofs.BoardHears.{Whole, is_added, slot_within, next_free}
 use Rattle.fl_laws.proofs.BoardOpenings.{slot_key}
 use Rattle.fl_laws.proofs.BoardQuiet.{After, changed_to}

@@ -1,26 +1,19 @@
 -- A board on which one core's table or links changed, or the head of a ring's messages was taken.
-use Rattle.std.proofs.Common.{◌≡◌, ◌≢◌, refl, sym, ◌∙◌, ap, subst, ℕ, zero, suc, ◌+◌, ◌*◌, ◌<◌, ◌≤◌, Bool, true, false, ◌⊎◌, inl, inr}
-use Rattle.std.proofs.Common.{List, [], ◌∷◌, ◌++◌, length, drop, slice_get, Option, Some, None, option_map, append_assoc, arith}
-use Rattle.std.specs.List.{cons_option}
-use Rattle.std.proofs.lemmas.List.{append-nil}
-use Rattle.fl_hop.specs.declared.entry.Way.{Way}
+use Rattle.std.proofs.Common.{◌≡◌, refl, sym, ◌∙◌, ap, subst, ℕ, ◌⊎◌, inl, inr}
+use Rattle.std.proofs.Common.{List, slice_get, Option, Some, None, option_map}
 use Rattle.fl_hop.specs.declared.entry.Hop.{Hop}
 use Rattle.fl_hop.specs.Table.{TheCircuits, hop_at, link_of}
 use Rattle.fl_hop.proofs.Entering.{same_or}
 use Rattle.fl_queues.specs.Given.{given, changed_at}
-use Rattle.fl_queues.specs.Rings.{Said, RingSide, first_side, second_side, RingEnd}
-use Rattle.fl_queues.specs.Monitors.{Link, says_more}
-use Rattle.fl_queues.specs.State.{Route, Back}
-use Rattle.fl_queues.specs.SoundPlaces.{opposite}
-use Rattle.fl_queues.specs.SoundEntries.{Key, Leads, to_this, on_to}
-use Rattle.fl_laws.proofs.Views.{View, Part, Sides, two}
-use Rattle.fl_laws.proofs.Places.{changed_other, changed_same, turned}
-use Rattle.fl_laws.proofs.PlacesStep.{given_some, same_some}
+use Rattle.fl_queues.specs.Monitors.{Link}
+use Rattle.fl_queues.specs.SoundEntries.{Key}
+use Rattle.fl_laws.proofs.Views.{Part}
+use Rattle.fl_laws.proofs.Places.{changed_other, changed_same}
+use Rattle.fl_laws.proofs.PlacesStep.{given_some}
 use Rattle.fl_laws.proofs.Lanes.{names}
 use Rattle.fl_laws.proofs.TableSteps.{same_link_of, one_neighbour}
-use Rattle.fl_laws.proofs.Boards.{Board, Takes, Puts, some_is, pair_or}
-use Rattle.fl_laws.proofs.BoardOwn.{Elsewhere}
-use Rattle.fl_laws.proofs.BoardViews.{part_hop, part_line, hop_in, place_in, line, side_said, unread_said, said_in, board}
+use Rattle.fl_laws.proofs.Boards.{pair_or}
+use Rattle.fl_laws.proofs.BoardViews.{part_hop, part_line, hop_in, place_in, line}
 
 -- ---- one core's part is another
 

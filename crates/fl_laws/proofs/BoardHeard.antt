@@ -1,48 +1,36 @@
 -- What a core hears leaves a board that fits.
-use Rattle.std.proofs.Common.{◌≡◌, ◌≢◌, refl, sym, ◌∙◌, ap, subst, ℕ, zero, suc, ◌+◌, ◌-◌, ◌<◌, ◌≤◌, ◌==◌, nat_lt, Bool, true, false, cond, ◌⊎◌, inl, inr}
-use Rattle.std.proofs.Common.{List, [], ◌∷◌, ◌++◌, length, map, drop, slice_get, slice_set, slice_index, Option, Some, None, option_map, arith}
+use Rattle.std.proofs.Common.{◌≡◌, refl, sym, ◌∙◌, ap, subst, ℕ, zero, suc, ◌+◌, ◌-◌, ◌<◌, ◌≤◌, ◌==◌, nat_lt, Bool, cond, inl}
+use Rattle.std.proofs.Common.{List, [], ◌∷◌, length, map, drop, slice_get, slice_set, slice_index, Option, Some, None, option_map, arith}
 use Rattle.std.specs.Prelude.{position}
 use Rattle.std.specs.List.{cons_option}
 use Rattle.std.proofs.lemmas.Option.{slice_get-map}
-use Rattle.fl_base.specs.declared.identity.EndId.{EndId}
-use Rattle.fl_base.specs.declared.identity.LinkId.{LinkId}
-use Rattle.fl_base.specs.declared.identity.Circuit.{Circuit}
-use Rattle.fl_base.specs.declared.identity.Side.TheVariants.{Client, Server}
-use Rattle.fl_hop.specs.declared.entry.Way.{Way}
-use Rattle.fl_hop.specs.declared.entry.Way.TheVariants.{Link as to_link, End as to_end}
-use Rattle.fl_hop.specs.declared.entry.Hop.{Hop}
-use Rattle.fl_hop.specs.Table.{TheCircuits, hop_at, link_of, with_entry, without_entry}
-use Rattle.fl_hop.specs.Numbers.{next_own, after_taking}
-use Rattle.fl_hop.specs.Openings.{answered}
-use Rattle.fl_hop.proofs.Cells.{same_link, same_circuit}
+use Rattle.fl_base.specs.declared.identity.Side.TheVariants.{Server}
+use Rattle.fl_hop.specs.Table.{TheCircuits, link_of}
+use Rattle.fl_hop.specs.Numbers.{next_own}
 use Rattle.fl_hop.proofs.Lists.{set_same, within}
 use Rattle.fl_queues.specs.Given.{given, changed_at}
 use Rattle.fl_queues.specs.Events.{DispatcherId}
-use Rattle.fl_queues.specs.Rings.{Opening, Said, open_circuit, circuit_opened, circuit_refused, says, RingLabel, RingSide, first_side, second_side, RingEnd, Ring, read_by, first_for, takes}
-use Rattle.fl_queues.specs.Waits.{Dispatcher, has_places}
+use Rattle.fl_queues.specs.Rings.{Opening, Said, open_circuit, circuit_opened, circuit_refused, says, RingLabel, RingSide, first_side, second_side, Ring, first_for, takes}
+use Rattle.fl_queues.specs.Waits.{has_places}
 use Rattle.fl_queues.specs.Monitors.{Core, Link, says_more, link_to, link_id, circuit_id, can_say, service_of, next_on, Fate, goes_on, ends_at, fails, arrival, passage, fate, Hearing, no_outbox, hears_opening, hears_opened, hears_refused, hears, with_said, with_circuits, goes_astray}
 use Rattle.fl_queues.specs.State.{Verdict, undecided, granted, denied, Route, State, Binding, in_route, core_of, change_core, change_ring, change_route, first_on, seats}
 use Rattle.fl_queues.specs.Binding.{end_id}
-use Rattle.fl_queues.specs.Forwarding.{LinkEnd, after_hearing, with_number, grants, denies, passes_word}
+use Rattle.fl_queues.specs.Forwarding.{LinkEnd, after_hearing, with_number, grants, denies}
 use Rattle.fl_queues.specs.Standing.{core_at, number_at, standing, standing_by, Message, back_to, due_by, due_message}
-use Rattle.fl_queues.specs.SoundRoutes.{VerdictFits}
-use Rattle.fl_queues.specs.SoundEntries.{Key, near_key, behind}
 use Rattle.fl_laws.proofs.Cases.{either, by_given}
-use Rattle.fl_laws.proofs.Views.{View, Part, Sides, part_of, sides_of, back_of, view, made, two, messages, map_changed}
+use Rattle.fl_laws.proofs.Views.{Part, part_of, sides_of, back_of, view, made, two, messages, map_changed}
 use Rattle.fl_laws.proofs.Quiet.{drop_said, quiet_seats, quiet_binds}
 use Rattle.fl_laws.proofs.Walk.{IsHere}
-use Rattle.fl_laws.proofs.PlacesStep.{given_some, same_some}
+use Rattle.fl_laws.proofs.PlacesStep.{given_some}
 use Rattle.fl_laws.proofs.OpeningsHeard.{set_parts}
-use Rattle.fl_laws.proofs.Hearing.{LinkThere, link_there, some_same, OpenedDue, opened_due}
+use Rattle.fl_laws.proofs.Hearing.{LinkThere, link_there, some_same}
 use Rattle.fl_laws.proofs.Arriving.{is_last, place_is, less_true, same_opening, not_opened, not_refused, said_same}
-use Rattle.fl_laws.proofs.Boards.{Has, Board, Says, Fits, Known, IsRoute, Stands, message, some_is}
-use Rattle.fl_laws.proofs.BoardSteps.{next_place}
-use Rattle.fl_laws.proofs.BoardViews.{hop_in, place_in, part_line, line, route_in, side_said, said_in, board, core_part}
-use Rattle.fl_laws.proofs.BoardCores.{set_part, was_at}
+use Rattle.fl_laws.proofs.Boards.{Has, IsRoute, message, some_is}
+use Rattle.fl_laws.proofs.BoardViews.{part_line, side_said, board, core_part}
+use Rattle.fl_laws.proofs.BoardCores.{set_part}
 use Rattle.fl_laws.proofs.BoardSaid.{takes_first}
 use Rattle.fl_laws.proofs.BoardHears.{Whole, HeardAt, heard_view, is_taken}
 use Rattle.fl_laws.proofs.BoardOpenings.{OpenAt, passed_part, passed_fits, arrived_part, arrived_fits, failed_part, failed_fits}
-use Rattle.fl_laws.proofs.BoardAnswers.{AnswersAt, opened_part, opened_fits, refused_part, refused_fits, opened_on, opened_on_fits, refused_on, refused_on_fits}
 use Rattle.fl_laws.proofs.BoardQuiet.{After}
 
 -- ---- what is known where a message is heard

@@ -1,14 +1,11 @@
 -- Where a monitor's message is heard: what is known there of the core, its line to the one who said it, and the entries of
 -- the circuit that it's about.
-use Rattle.std.proofs.Common.{◌≡◌, ◌≢◌, refl, sym, ◌∙◌, ap, subst, ℕ, zero, suc, ◌+◌, ◌-◌, ◌*◌, ◌<◌, ◌≤◌, ◌⊎◌, inl, inr}
-use Rattle.std.proofs.Common.{List, [], ◌∷◌, ◌++◌, length, slice_get, Option, Some, None, option_map, arith}
+use Rattle.std.proofs.Common.{◌≡◌, refl, sym, ◌∙◌, ap, ℕ, ◌+◌, ◌*◌, ◌<◌, ◌≤◌, inl, inr}
+use Rattle.std.proofs.Common.{List, length, slice_get, Some, None, option_map, arith}
 use Rattle.fl_base.specs.declared.identity.EndId.{EndId}
-use Rattle.fl_hop.specs.declared.entry.Way.{Way}
-use Rattle.fl_hop.specs.declared.entry.Way.TheVariants.{Link as to_link, End as to_end}
 use Rattle.fl_hop.specs.declared.entry.Hop.{Hop}
-use Rattle.fl_hop.specs.declared.links.LinkState.{LinkState}
 use Rattle.fl_hop.specs.Joined.{Sound as IsTable}
-use Rattle.fl_hop.specs.Table.{TheCircuits, hop_at, link_of, slot, numbers, leading}
+use Rattle.fl_hop.specs.Table.{TheCircuits, hop_at, link_of, slot}
 use Rattle.fl_hop.specs.Numbers.{next_own}
 use Rattle.fl_hop.proofs.Counting.{next_is, never_next}
 use Rattle.fl_hop.proofs.Numbering.{small}
@@ -18,18 +15,16 @@ use Rattle.fl_queues.specs.Rings.{Said, RingEnd}
 use Rattle.fl_queues.specs.Monitors.{Link, says_more}
 use Rattle.fl_queues.specs.State.{Route, Back, local, over_ring, over_route, in_route, own_ring}
 use Rattle.fl_queues.specs.Forwarding.{route_of}
-use Rattle.fl_queues.specs.Standing.{core_at, number_at, standing}
 use Rattle.fl_queues.specs.SoundRoutes.{OneNumber}
 use Rattle.fl_queues.specs.SoundLimits.{OneNumberBack}
 use Rattle.fl_queues.specs.SoundEntries.{Key, near_key, far_key}
 use Rattle.fl_laws.proofs.Views.{View, Part, Sides, made}
 use Rattle.fl_laws.proofs.Places.{changed_other, changed_same}
 use Rattle.fl_laws.proofs.PlacesStep.{given_some}
-use Rattle.fl_laws.proofs.Lanes.{names}
-use Rattle.fl_laws.proofs.TableSteps.{stands_there, link_within, OnlyOf}
-use Rattle.fl_laws.proofs.Boards.{Board, Known, IsRoute, Fits, Stands, Takes, Puts, Changes, some_is}
-use Rattle.fl_laws.proofs.BoardViews.{part_hop, hop_in, place_in, line, route_in, side_said, unread_said, said_in, board}
-use Rattle.fl_laws.proofs.BoardCores.{set_part, own_key, was_at, NewTable, set_kept, set_were, place_stays, NewLinks, line_next, line_else}
+use Rattle.fl_laws.proofs.TableSteps.{stands_there, link_within}
+use Rattle.fl_laws.proofs.Boards.{Board, Known, Takes, Puts, Changes}
+use Rattle.fl_laws.proofs.BoardViews.{part_hop, hop_in, line, route_in, side_said, said_in, board}
+use Rattle.fl_laws.proofs.BoardCores.{set_part, NewTable, set_kept, set_were, place_stays, NewLinks, line_next, line_else}
 use Rattle.fl_laws.proofs.BoardSaid.{Paired, said_on, takes_first, said_taken, Alters, said_put}
 
 -- ---- what is known of a sound state's view

@@ -1,40 +1,34 @@
 -- In a sound state the monitors' messages under way are due, answers come once, and entries stand where they are due and
 -- nowhere else: kept by each step.
-use Rattle.std.proofs.Common.{◌≡◌, ◌≢◌, refl, sym, ◌∙◌, ap, subst, ℕ, zero, suc, ◌+◌, ◌-◌, ◌<◌, ◌≤◌, Bool, true, false, ◌⊎◌, inl, inr}
-use Rattle.std.proofs.Common.{List, [], ◌∷◌, ◌++◌, length, map, slice_get, slice_index, Option, Some, None, option_map, arith}
+use Rattle.std.proofs.Common.{◌≡◌, refl, sym, ◌∙◌, ap, subst, ℕ, zero, suc, ◌+◌, ◌-◌, ◌<◌, false}
+use Rattle.std.proofs.Common.{List, [], ◌++◌, length, map, slice_get, Option, Some, None, arith}
 use Rattle.std.specs.Prelude.{filter_map}
 use Rattle.std.specs.List.{range_with_len}
-use Rattle.std.proofs.lemmas.Option.{slice_get-map}
 use Rattle.std.proofs.lemmas.List.{length-map}
 use Rattle.std.proofs.lemmas.Bool.{ne_eqb, or_from}
 use Rattle.fl_base.specs.declared.identity.EndId.{EndId}
 use Rattle.fl_lists.specs.ThreeLists.{is_in, NoRepeat}
 use Rattle.fl_hop.specs.declared.links.LinkState.{LinkState}
-use Rattle.fl_hop.specs.Table.{link_of}
 use Rattle.fl_hop.specs.Numbers.{number}
 use Rattle.fl_hop.proofs.Lists.{at_within, within}
 use Rattle.fl_hop.proofs.Numbering.{number_once}
 use Rattle.fl_queues.specs.Given.{given}
 use Rattle.fl_queues.specs.Events.{Event}
-use Rattle.fl_queues.specs.Rings.{Said, RingEnd, Ring}
+use Rattle.fl_queues.specs.Rings.{Said}
 use Rattle.fl_queues.specs.Monitors.{Core, Link, link_to}
 use Rattle.fl_queues.specs.State.{Route, Back, Binding, State, core_of, link_between, own_ring}
-use Rattle.fl_queues.specs.Binding.{all_differ}
-use Rattle.fl_queues.specs.Forwarding.{LinkEnd}
 use Rattle.fl_queues.specs.Step.{step}
 use Rattle.fl_queues.specs.Standing.{Routed, core_at, link_state, opening_number}
-use Rattle.fl_queues.specs.SoundPlaces.{CoreStands, core_to, this_end, owns}
+use Rattle.fl_queues.specs.SoundPlaces.{CoreStands, core_to, this_end}
 use Rattle.fl_queues.specs.SoundOpenings.{MessagesAreDue, AnswersComeOnce, OpeningsGo}
 use Rattle.fl_queues.specs.SoundEntries.{EntriesStand, EntriesAreDue, AnswersAreAwaited}
 use Rattle.fl_queues.specs.Sound.{Sound}
-use Rattle.fl_laws.proofs.Views.{View, Part, part_of, sides_of, back_of, view, given_map}
-use Rattle.fl_laws.proofs.Places.{turned}
+use Rattle.fl_laws.proofs.Views.{Part, part_of, sides_of, back_of, view, given_map}
 use Rattle.fl_laws.proofs.PlacesStep.{given_some}
-use Rattle.fl_laws.proofs.Hearing.{LinkThere, link_there}
+use Rattle.fl_laws.proofs.Hearing.{link_there}
 use Rattle.fl_laws.proofs.Arriving.{place_is}
 use Rattle.fl_laws.proofs.OpeningsKept.{at_link}
-use Rattle.fl_laws.proofs.Walk.{IsHere}
-use Rattle.fl_laws.proofs.Boards.{Known, IsRoute, Fits, some_is}
+use Rattle.fl_laws.proofs.Boards.{IsRoute, Fits}
 use Rattle.fl_laws.proofs.BoardViews.{line, part_line, route_in, said_in, board, under_way_is, fits_of, in_routed, messages_due, answers_once, entries_stand, entries_due, answers_awaited}
 use Rattle.fl_laws.proofs.BoardSaid.{Paired}
 use Rattle.fl_laws.proofs.BoardHears.{PartStands, Whole}

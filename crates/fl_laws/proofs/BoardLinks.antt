@@ -1,5 +1,5 @@
 -- A new link leaves the board as it is: no number on it leads anywhere, and nothing stands there.
-use Rattle.std.proofs.Common.{◌≡◌, ◌≢◌, refl, sym, ◌∙◌, ap, subst, ℕ, zero, suc, ◌+◌, ◌*◌, ◌<◌, ◌≤◌, nat_lt, not, Bool, true, false, cond, ◌⊎◌, inl, inr}
+use Rattle.std.proofs.Common.{◌≡◌, refl, sym, ◌∙◌, ap, subst, ℕ, ◌+◌, ◌*◌, ◌<◌, ◌≤◌, nat_lt, not, Bool, true, false, cond, ◌⊎◌, inl, inr}
 use Rattle.std.proofs.Common.{List, [], ◌∷◌, ◌++◌, length, map, replicate, slice_get, Option, Some, None, option_map, arith}
 use Rattle.std.specs.Prelude.{position}
 use Rattle.std.specs.List.{position_or_len}
@@ -17,14 +17,13 @@ use Rattle.fl_queues.specs.Monitors.{Link}
 use Rattle.fl_queues.specs.State.{State}
 use Rattle.fl_queues.specs.Making.{with_new_link}
 use Rattle.fl_queues.specs.SoundEntries.{Key}
-use Rattle.fl_laws.proofs.Views.{View, Part, Sides, part_of, sides_of, back_of, view, made, two}
+use Rattle.fl_laws.proofs.Views.{Part, Sides, part_of, sides_of, back_of, view, made, two}
 use Rattle.fl_laws.proofs.Places.{changed_other, changed_same}
 use Rattle.fl_laws.proofs.PlacesStep.{given_some, length_push}
 use Rattle.fl_laws.proofs.Lanes.{is_to}
 use Rattle.fl_laws.proofs.OpeningsStep.{part_linked}
 use Rattle.fl_laws.proofs.OpeningsMoves.{linked_parts}
-use Rattle.fl_laws.proofs.TableSteps.{stands_there, there_stands, link_within}
-use Rattle.fl_laws.proofs.Boards.{Board, Fits}
+use Rattle.fl_laws.proofs.TableSteps.{stands_there, there_stands}
 use Rattle.fl_laws.proofs.BoardSteps.{same_fits}
 use Rattle.fl_laws.proofs.BoardViews.{part_hop, part_line, hop_in, place_in, line, side_said, unread_said, board}
 use Rattle.fl_laws.proofs.BoardSaid.{said_on}

@@ -1,18 +1,18 @@
 -- An opening is heard: it goes on, arrives or fails. What is then on the board fits.
-use Rattle.std.proofs.Common.{◌≡◌, ◌≢◌, refl, sym, ◌∙◌, ap, subst, ℕ, zero, suc, ◌+◌, ◌-◌, ◌*◌, ◌<◌, ◌≤◌, ◌⊎◌, inl, inr, false}
-use Rattle.std.proofs.Common.{List, [], ◌∷◌, ◌++◌, length, slice_get, Option, Some, None, arith}
-use Rattle.fl_base.specs.declared.identity.Side.TheVariants.{Client, Server}
+use Rattle.std.proofs.Common.{◌≡◌, ◌≢◌, refl, sym, ◌∙◌, ap, subst, ℕ, suc, ◌+◌, ◌-◌, ◌<◌, ◌≤◌, ◌⊎◌, inl, inr, false}
+use Rattle.std.proofs.Common.{length, Option, Some, None, arith}
+use Rattle.fl_base.specs.declared.identity.Side.TheVariants.{Server}
 use Rattle.fl_hop.specs.declared.entry.Way.{Way}
 use Rattle.fl_hop.specs.declared.entry.Way.TheVariants.{Link as to_link, End as to_end}
 use Rattle.fl_hop.specs.declared.entry.Hop.{Hop}
-use Rattle.fl_hop.specs.Table.{TheCircuits, hop_at, link_of, slot, leading}
+use Rattle.fl_hop.specs.Table.{hop_at, link_of, slot, leading}
 use Rattle.fl_hop.specs.Numbers.{next_own, after_opening, after_taking, count_taking}
 use Rattle.fl_hop.specs.Openings.{passed_on, arrived}
 use Rattle.fl_hop.proofs.Cells.{slot_once}
 use Rattle.fl_hop.proofs.Entering.{IsSlot}
 use Rattle.fl_queues.specs.Given.{given, changed_at}
 use Rattle.fl_queues.specs.Rings.{Opening, Said, open_circuit, circuit_opened, circuit_refused, RingEnd}
-use Rattle.fl_queues.specs.Monitors.{Link, says_more, link_id, circuit_id}
+use Rattle.fl_queues.specs.Monitors.{says_more, link_id, circuit_id}
 use Rattle.fl_queues.specs.State.{undecided, granted, denied, Route}
 use Rattle.fl_queues.specs.Binding.{end_id}
 use Rattle.fl_queues.specs.Forwarding.{with_number, grants, denies}
@@ -21,12 +21,12 @@ use Rattle.fl_queues.specs.SoundEntries.{Key, near_key, far_key, on_to, to_this,
 use Rattle.fl_laws.proofs.Views.{View, Part}
 use Rattle.fl_laws.proofs.PlacesStep.{length_push, opening_counted, taking_counted}
 use Rattle.fl_laws.proofs.Lanes.{names}
-use Rattle.fl_laws.proofs.TableSteps.{stands_there, OnlyOf, put_both, both_kept, both_came, both_were, both_first, both_second, leads_of, one_neighbour}
-use Rattle.fl_laws.proofs.Boards.{Board, Says, Known, IsRoute, Fits, Stands, Changes, message, some_is}
-use Rattle.fl_laws.proofs.BoardSteps.{Hears, heard_fits, AnswerAt}
-use Rattle.fl_laws.proofs.BoardOwn.{index_last, WentOn, went_own, next_key, IsFar, Arrived, arrived_own, Failed, failed_own}
-use Rattle.fl_laws.proofs.BoardViews.{hop_in, place_in, line, route_in, said_in, board}
-use Rattle.fl_laws.proofs.BoardCores.{set_part, own_key, hop_else, set_at, came_at, CameAt, was_there, same_key, NewTable, NewLinks, place_stays, same_hops}
+use Rattle.fl_laws.proofs.TableSteps.{stands_there, both_kept, both_came, both_were, both_first, both_second, leads_of, one_neighbour}
+use Rattle.fl_laws.proofs.Boards.{Board, Says, IsRoute, Fits, Stands, message}
+use Rattle.fl_laws.proofs.BoardSteps.{heard_fits, AnswerAt}
+use Rattle.fl_laws.proofs.BoardOwn.{index_last, went_own, next_key, IsFar, arrived_own, failed_own}
+use Rattle.fl_laws.proofs.BoardViews.{hop_in, line, route_in, board}
+use Rattle.fl_laws.proofs.BoardCores.{set_part, own_key, hop_else, set_at, came_at, CameAt, was_there, same_key, NewTable, place_stays, same_hops}
 use Rattle.fl_laws.proofs.BoardSaid.{said_on}
 use Rattle.fl_laws.proofs.BoardHears.{Whole, HeardAt, taken_rings, heard_view, is_taken, is_put, route_set, is_changed, only_far, hop_small, slot_within, next_free}
 

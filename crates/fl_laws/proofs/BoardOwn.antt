@@ -1,6 +1,6 @@
 -- The entries of the binding whose circuit changed: an opening went on, arrived or failed; an answer went back.
-use Rattle.std.proofs.Common.{◌≡◌, ◌≢◌, refl, sym, ◌∙◌, ap, subst, ℕ, zero, suc, ◌+◌, ◌-◌, ◌<◌, ◌≤◌, ◌==◌, Bool, true, false, if◌then◌else◌, ◌⊎◌, inl, inr}
-use Rattle.std.proofs.Common.{List, [], ◌∷◌, ◌++◌, length, slice_index, Option, Some, None, arith}
+use Rattle.std.proofs.Common.{◌≡◌, ◌≢◌, refl, sym, ◌∙◌, ap, subst, ℕ, zero, suc, ◌+◌, ◌-◌, ◌<◌, ◌≤◌, ◌==◌, Bool, false, if◌then◌else◌, ◌⊎◌, inl, inr}
+use Rattle.std.proofs.Common.{List, [], ◌∷◌, ◌++◌, length, slice_index, Some, None, arith}
 use Rattle.std.proofs.lemmas.Bool.{ne_eqb, eq-eqb}
 use Rattle.fl_base.specs.declared.identity.Side.TheVariants.{Client, Server}
 use Rattle.fl_hop.specs.declared.entry.Hop.{Hop}
@@ -12,7 +12,7 @@ use Rattle.fl_queues.specs.Standing.{core_at, number_at, standing, standing_by, 
 use Rattle.fl_queues.specs.SoundRoutes.{VerdictFits}
 use Rattle.fl_queues.specs.SoundEntries.{Leads, to_this, on_to, behind, ahead, Key, near_key, far_key}
 use Rattle.fl_laws.proofs.PlacesStep.{length_push}
-use Rattle.fl_laws.proofs.Boards.{Board, Says, Stands, StandOn, DueNear, DueFar, DueOn, DueIn, WaitsOn, Fits, Known, IsRoute, some_is, Changes, Own, says_on}
+use Rattle.fl_laws.proofs.Boards.{Board, Says, Stands, StandOn, DueNear, DueFar, DueOn, WaitsOn, Fits, Known, IsRoute, some_is, Changes, Own, says_on}
 
 -- ---- numbers
 

@@ -2,23 +2,17 @@
 -- ring, and a message that goes from its outbox onto the ring.
 use Rattle.std.proofs.Common.{◌≡◌, ◌≢◌, refl, sym, ◌∙◌, ap, subst, ℕ, zero, suc, ◌+◌, ◌*◌, ◌<◌, ◌≤◌, ◌==◌, ◌||◌, ◌&&◌, not, nat_lt, Bool, true, false, cond, ◌⊎◌, inl, inr}
 use Rattle.std.proofs.Common.{List, [], ◌∷◌, ◌++◌, length, map, drop, replicate, slice_get, Option, Some, None, option_map, arith}
-use Rattle.std.specs.Prelude.{position}
-use Rattle.std.specs.List.{range_with_len, position_or_len}
+use Rattle.std.specs.List.{range_with_len}
 use Rattle.std.proofs.lemmas.Option.{slice_get-map}
-use Rattle.std.proofs.lemmas.List.{length-map, map-append, length-append, length-replicate}
-use Rattle.std.proofs.lemmas.Bool.Decides.{nat_tests}
+use Rattle.std.proofs.lemmas.List.{map-append}
 use Rattle.fl_base.specs.declared.identity.EndId.{EndId}
-use Rattle.fl_hop.specs.declared.entry.Hop.{Hop}
-use Rattle.fl_hop.specs.declared.links.LinkState.{LinkState}
-use Rattle.fl_hop.specs.Table.{TheCircuits, hop_at, link_of, with_link, slot}
 use Rattle.fl_hop.proofs.Entering.{same_or}
-use Rattle.fl_hop.proofs.Lists.{push_keeps, fill_cases, within, at_within}
+use Rattle.fl_hop.proofs.Lists.{at_within}
 use Rattle.fl_queues.specs.Given.{given, changed_at}
 use Rattle.fl_queues.specs.Rings.{Said, says, RingSide, first_side, second_side, RingEnd, Ring, fresh_ring, puts, takes, there_is_room}
 use Rattle.fl_queues.specs.Ends.{Queue}
 use Rattle.fl_queues.specs.Monitors.{Link, fresh_core}
-use Rattle.fl_queues.specs.State.{Back, local, over_ring, State, Binding, link_between, change_ring, binding_of, own_ring, Route}
-use Rattle.fl_queues.specs.Making.{with_new_link}
+use Rattle.fl_queues.specs.State.{Back, local, over_ring, State, Binding, link_between, change_ring, binding_of, own_ring}
 use Rattle.fl_queues.specs.Binding.{Wanted, with_new_binding}
 use Rattle.fl_queues.specs.Forwarding.{LinkEnd, route_of, monitor_writes_by, without_first_said}
 use Rattle.fl_queues.specs.SoundPlaces.{opposite}
@@ -27,17 +21,13 @@ use Rattle.fl_laws.proofs.Views.{View, Part, Sides, part_of, sides_of, back_of, 
 use Rattle.fl_laws.proofs.Quiet.{messages_push}
 use Rattle.fl_laws.proofs.Walk.{IsHere, with_ring}
 use Rattle.fl_laws.proofs.Places.{changed_other, changed_same}
-use Rattle.fl_laws.proofs.PlacesStep.{given_some, length_push}
-use Rattle.fl_laws.proofs.OpeningsStep.{part_linked}
-use Rattle.fl_laws.proofs.OpeningsMoves.{linked_parts}
-use Rattle.fl_laws.proofs.Hearing.{LinkThere, link_there}
-use Rattle.fl_laws.proofs.TableSteps.{stands_there, there_stands}
-use Rattle.fl_laws.proofs.Boards.{Board, Fits, some_is}
-use Rattle.fl_laws.proofs.BoardSteps.{Same, same_fits, empty_fits}
-use Rattle.fl_laws.proofs.BoardViews.{part_hop, part_line, hop_in, place_in, line, route_in, side_said, unread_said, said_in, board, core_part}
+use Rattle.fl_laws.proofs.Hearing.{LinkThere}
+use Rattle.fl_laws.proofs.Boards.{Fits, some_is}
+use Rattle.fl_laws.proofs.BoardSteps.{same_fits, empty_fits}
+use Rattle.fl_laws.proofs.BoardViews.{part_hop, part_line, hop_in, line, route_in, side_said, unread_said, board, core_part}
 use Rattle.fl_laws.proofs.BoardCores.{set_part, place_stays, same_hops, NewLinks, line_next, line_else}
-use Rattle.fl_laws.proofs.BoardSaid.{Paired, said_on, same_said, side_or, same_ring_end, gains, Alters, drops, said_moved}
-use Rattle.fl_laws.proofs.BoardHears.{Whole, PartStands}
+use Rattle.fl_laws.proofs.BoardSaid.{same_said, side_or, same_ring_end, gains, Alters, drops, said_moved}
+use Rattle.fl_laws.proofs.BoardHears.{Whole}
 
 abbrev pub After : View → Type 0
 After v = Fits (board v)

@@ -1,7 +1,6 @@
 -- The monitors' messages between two cores, by the lines that the cores have to each other and what stands on the rings.
-use Rattle.std.proofs.Common.{◌≡◌, ◌≢◌, refl, sym, ◌∙◌, ap, subst, ℕ, zero, suc, ◌+◌, ◌<◌, ◌⊎◌, inl, inr}
-use Rattle.std.proofs.Common.{List, [], ◌∷◌, ◌++◌, length, drop, slice_get, Option, Some, None, option_map, append_assoc, arith}
-use Rattle.std.specs.List.{cons_option}
+use Rattle.std.proofs.Common.{◌≡◌, refl, sym, ◌∙◌, ap, subst, ℕ, ◌⊎◌, inl, inr}
+use Rattle.std.proofs.Common.{List, [], ◌∷◌, ◌++◌, drop, slice_get, Option, Some, None, option_map, append_assoc}
 use Rattle.std.proofs.lemmas.List.{append-nil}
 use Rattle.fl_hop.proofs.Entering.{same_or}
 use Rattle.fl_queues.specs.Given.{given, changed_at}
@@ -10,7 +9,6 @@ use Rattle.fl_queues.specs.Monitors.{Link, says_more}
 use Rattle.fl_queues.specs.SoundPlaces.{opposite}
 use Rattle.fl_laws.proofs.Views.{Sides, two}
 use Rattle.fl_laws.proofs.Places.{changed_other, changed_same, turned}
-use Rattle.fl_laws.proofs.PlacesStep.{same_some}
 use Rattle.fl_laws.proofs.Boards.{Takes, Puts, pair_or}
 use Rattle.fl_laws.proofs.BoardViews.{side_said, unread_said}
 

@@ -1,6 +1,6 @@
 -- What becomes of a board: where nothing of it changes, where a circuit is begun, and where a monitor's message is heard.
-use Rattle.std.proofs.Common.{◌≡◌, ◌≢◌, refl, sym, ◌∙◌, ap, subst, ℕ, zero, suc, ◌+◌, ◌<◌, ◌≤◌, ◌⊎◌, inl, inr}
-use Rattle.std.proofs.Common.{List, [], ◌∷◌, ◌++◌, length, Option, Some, None, arith}
+use Rattle.std.proofs.Common.{◌≡◌, refl, sym, ◌∙◌, ap, subst, ℕ, zero, suc, ◌+◌, ◌<◌, ◌≤◌, inl, inr}
+use Rattle.std.proofs.Common.{List, [], length, Option, Some, None, arith}
 use Rattle.std.specs.Prelude.{filter_map}
 use Rattle.fl_lists.specs.ThreeLists.{NoRepeat}
 use Rattle.fl_hop.specs.declared.entry.Hop.{Hop}
@@ -10,7 +10,7 @@ use Rattle.fl_queues.specs.State.{Verdict, undecided, granted, denied, Route}
 use Rattle.fl_queues.specs.Standing.{core_at, number_at, Message, back_to, due_by, due_message, answer_number}
 use Rattle.fl_queues.specs.SoundRoutes.{VerdictFits, OneNumber}
 use Rattle.fl_queues.specs.SoundEntries.{Key}
-use Rattle.fl_laws.proofs.Boards.{Has, has_none, Board, StandOn, WaitsOn, message, MessageDue, Fits, Known, IsRoute, some_is, Changes, Own, says_on, due_on}
+use Rattle.fl_laws.proofs.Boards.{Has, has_none, Board, StandOn, message, MessageDue, Fits, Known, some_is, Changes, Own, says_on, due_on}
 use Rattle.fl_laws.proofs.Boards.{Stands, stand_kept, due_kept, wait_kept, Takes, Puts, taken_left, taken_once, put_has, put_once}
 use Rattle.fl_laws.proofs.Hearing.{some_same}
 

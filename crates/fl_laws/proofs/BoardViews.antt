@@ -1,32 +1,24 @@
 -- The board of a state, and what the predicates of sound states say of it.
-use Rattle.std.proofs.Common.{◌≡◌, ◌≢◌, refl, sym, ◌∙◌, ap, subst, ℕ, zero, suc, ◌+◌, ◌-◌, ◌<◌, ◌≤◌, ◌==◌, Bool, true, false, ◌⊎◌, inl, inr}
-use Rattle.std.proofs.Common.{List, [], ◌∷◌, ◌++◌, length, map, slice_get, slice_index, get_or, Option, Some, None, arith}
+use Rattle.std.proofs.Common.{◌≡◌, refl, sym, ◌∙◌, ap, subst, ℕ, zero, suc, ◌<◌, inl, inr}
+use Rattle.std.proofs.Common.{List, [], ◌∷◌, ◌++◌, length, map, slice_get, Option, Some, None, arith}
 use Rattle.std.specs.Prelude.{filter_map, Contains}
-use Rattle.std.specs.List.{range_with_len}
-use Rattle.std.proofs.lemmas.Bool.{false≢true, eq-eqb, and_parts, not_from_true}
-use Rattle.fl_lists.specs.ThreeLists.{is_in, NoRepeat}
+use Rattle.fl_lists.specs.ThreeLists.{NoRepeat}
 use Rattle.fl_hop.specs.declared.entry.Way.{Way}
 use Rattle.fl_hop.specs.declared.entry.Way.TheVariants.{Link as to_link, End as to_end}
 use Rattle.fl_hop.specs.declared.entry.Hop.{Hop}
-use Rattle.fl_hop.specs.declared.links.LinkState.{LinkState}
 use Rattle.fl_hop.specs.Table.{hop_at, link_of}
 use Rattle.fl_hop.specs.Numbers.{number}
-use Rattle.fl_hop.proofs.Numbering.{number_once}
-use Rattle.fl_hop.proofs.Entering.{same_or}
 use Rattle.fl_queues.specs.Given.{given}
-use Rattle.fl_queues.specs.Rings.{Said, RingLabel, Ring, RingSide, first_side, second_side, RingEnd, read_by}
+use Rattle.fl_queues.specs.Rings.{Said, Ring, RingSide, first_side, second_side, RingEnd, read_by}
 use Rattle.fl_queues.specs.Monitors.{Core, Link, link_to}
 use Rattle.fl_queues.specs.State.{Route, Back, local, over_ring, over_route, Binding, State, core_of, link_between}
 use Rattle.fl_queues.specs.Forwarding.{route_of}
-use Rattle.fl_queues.specs.Standing.{Routed, core_at, under_way, on_link, unread, labels_of, said_by, opening_number, answer_number, link_state}
-use Rattle.fl_queues.specs.SoundRoutes.{OneNumber, RouteLeads, NumbersGo}
-use Rattle.fl_queues.specs.SoundLimits.{OneNumberBack}
-use Rattle.fl_queues.specs.SoundEntries.{Leads, to_this, on_to, SaysWay, Key, EntryAt, EntryIs, near_key, far_key, behind, ahead, EntriesStandOn, IsDueNear, IsDueFar, EntriesStand, EntriesAreDue, AnswersAreAwaited}
+use Rattle.fl_queues.specs.Standing.{Routed, under_way, unread, labels_of, said_by, answer_number}
+use Rattle.fl_queues.specs.SoundEntries.{Leads, to_this, on_to, SaysWay, Key, EntryAt, EntryIs, EntriesStandOn, EntriesStand, EntriesAreDue, AnswersAreAwaited}
 use Rattle.fl_queues.specs.SoundOpenings.{MessagesAreDue, AnswersComeOnce, IsDue}
-use Rattle.fl_queues.specs.Binding.{all_differ}
 use Rattle.fl_laws.proofs.Views.{View, Part, Sides, part_of, sides_of, back_of, view, messages, given_map}
 use Rattle.fl_laws.proofs.PlacesStep.{given_some}
-use Rattle.fl_laws.proofs.Boards.{Has, Board, Says, Stands, StandOn, DueNear, DueFar, DueOn, message, MessageDue, Fits, IsRoute, some_is}
+use Rattle.fl_laws.proofs.Boards.{Has, Board, Says, Stands, StandOn, message, Fits}
 
 -- ---- the board of a view
 

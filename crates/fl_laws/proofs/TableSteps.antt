@@ -1,7 +1,7 @@
 -- What a core's table says of each number after two were changed, as each entry's two sides are.
-use Rattle.std.proofs.Common.{◌≡◌, ◌≢◌, refl, sym, ◌∙◌, ap, subst, ℕ, zero, suc, ◌+◌, ◌*◌, ◌<◌, ◌≤◌, Bool, true, false, cond, nat_lt, ◌⊎◌, inl, inr}
-use Rattle.std.proofs.Common.{List, [], ◌∷◌, length, map, slice_get, slice_set, slice_index_or, get_or, Option, Some, None, length-set, arith}
-use Rattle.std.specs.Prelude.{position, not, ◌==◌}
+use Rattle.std.proofs.Common.{◌≡◌, refl, sym, ◌∙◌, ap, ℕ, ◌+◌, ◌<◌, ◌≤◌, Bool, true, false, cond, nat_lt, ◌⊎◌, inl, inr}
+use Rattle.std.proofs.Common.{List, [], ◌∷◌, length, slice_get, slice_index_or, Option, Some, None, length-set, arith}
+use Rattle.std.specs.Prelude.{not, ◌==◌}
 use Rattle.std.specs.List.{position_or_len}
 use Rattle.std.proofs.lemmas.Bool.{eqb-true}
 use Rattle.std.proofs.lemmas.List.{length-map}
@@ -15,7 +15,7 @@ use Rattle.fl_hop.specs.declared.links.LinkState.{LinkState}
 use Rattle.fl_hop.specs.Table.{TheCircuits, hop_at, slot, with_hops, put_at, leading, link_of}
 use Rattle.fl_hop.proofs.Cells.{slot_once, is_less, less_is, cond_true}
 use Rattle.fl_hop.proofs.Entering.{IsSlot}
-use Rattle.fl_hop.proofs.Lists.{set_cases, set_here, at_within, index_found, index_there, within}
+use Rattle.fl_hop.proofs.Lists.{set_cases, set_here, at_within, index_found, index_there}
 use Rattle.fl_hop.proofs.Laters.{put_other}
 use Rattle.fl_laws.proofs.Lanes.{names, is_to, no_state}
 
