@@ -10,7 +10,7 @@ use Rattle.fl_hop.specs.declared.entry.Way.TheVariants.{Link as to_link, End as 
 use Rattle.fl_hop.specs.declared.entry.Hop.{Hop}
 use Rattle.fl_hop.specs.Table.{hop_at, link_of, with_entry, without_entry}
 use Rattle.fl_hop.specs.Openings.{answered}
-use Rattle.fl_hop.proofs.Cells.{same_circuit}
+use Rattle.fl_hop.proofs.Cells.{same_circuit, same_link}
 use Rattle.fl_queues.specs.Given.{given, changed_at}
 use Rattle.fl_queues.specs.Rings.{Opening, Said, open_circuit, circuit_opened, circuit_refused, says, RingLabel, takes}
 use Rattle.fl_queues.specs.Monitors.{Core, says_more, link_id, circuit_id, hears_opened, hears_refused, hears, with_said, with_circuits}
@@ -76,7 +76,7 @@ removed_on k l way c next e fault =
 
 link_way : (m : LinkId) (d : Circuit) (next e : ℕ) → m.0 ≡ next → d.0 ≡ e → to_link m d ≡ to_link (link_id next) (circuit_id e)
 link_way m d next e p q =
-    ap (λ (x : LinkId). to_link x d) (Rattle.fl_hop.proofs.Cells.same_link m (link_id next) p) ∙ ap (λ (x : Circuit). to_link (link_id next) x) (same_circuit d (circuit_id e) q)
+    ap (λ (x : LinkId). to_link x d) (same_link m (link_id next) p) ∙ ap (λ (x : Circuit). to_link (link_id next) x) (same_circuit d (circuit_id e) q)
 
 module _ (here : LinkEnd) (k : Core) (s : State) (n : ℕ) (route : Route) (i c : ℕ) (m : Said) (h : Hearer s here m k)
     (o : AnswersAt (view s) n route i here.link here.ring m (part_of k)) (to_is : here.core ≡ core_at route i) (hop : Hop)

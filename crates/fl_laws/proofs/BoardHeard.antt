@@ -12,11 +12,11 @@ use Rattle.fl_queues.specs.Given.{given, changed_at}
 use Rattle.fl_queues.specs.Events.{DispatcherId}
 use Rattle.fl_queues.specs.Rings.{Opening, Said, open_circuit, circuit_opened, circuit_refused, says, RingLabel, RingSide, first_side, second_side, Ring, first_for, takes}
 use Rattle.fl_queues.specs.Waits.{has_places}
-use Rattle.fl_queues.specs.Monitors.{Core, Link, says_more, link_to, link_id, circuit_id, can_say, service_of, next_on, Fate, goes_on, ends_at, fails, arrival, passage, fate, Hearing, no_outbox, hears_opening, hears_opened, hears_refused, hears, with_said, with_circuits, goes_astray}
+use Rattle.fl_queues.specs.Monitors.{Core, Link, says_more, link_to, link_id, circuit_id, can_say, service_of, next_on, Fate, goes_on, ends_at, fails, arrival, passage, fate, Hearing, no_outbox, hears_opening, hears_opened, hears_refused, hears, with_said, with_circuits, goes_astray, Heard, saying}
 use Rattle.fl_queues.specs.State.{Verdict, undecided, granted, denied, Route, State, Binding, in_route, core_of, change_core, change_ring, change_route, first_on, seats}
 use Rattle.fl_queues.specs.Binding.{end_id}
 use Rattle.fl_queues.specs.Forwarding.{LinkEnd, after_hearing, with_number, grants, denies}
-use Rattle.fl_queues.specs.Standing.{core_at, number_at, standing, standing_by, Message, back_to, due_by, due_message}
+use Rattle.fl_queues.specs.Standing.{core_at, number_at, standing, standing_by, Message, back_to, due_by, due_message, said_by}
 use Rattle.fl_laws.proofs.Cases.{either, by_given}
 use Rattle.fl_laws.proofs.Views.{Part, part_of, sides_of, back_of, view, made, two, messages, map_changed}
 use Rattle.fl_laws.proofs.Quiet.{drop_said, quiet_seats, quiet_binds}
@@ -46,7 +46,7 @@ pub record Hearer (s : State) (here : LinkEnd) (m : Said) (k : Core) : Type 0 wh
   pub label : first.label ≡ says m
 
 first_said : (ls : List RingLabel) (x : RingLabel) (m : Said) → slice_get ls 0 ≡ Some x → x.label ≡ says m → messages ls ≡ m ∷ messages (drop 1 ls)
-first_said ls x m q e = drop_said ls x q ∙ ap (λ l. cons_option (Rattle.fl_queues.specs.Standing.said_by l) (messages (drop 1 ls))) e
+first_said ls x m q e = drop_said ls x q ∙ ap (λ l. cons_option (said_by l) (messages (drop 1 ls))) e
 
 side_first : (side : RingSide) (r : Ring) (x : RingLabel) (m : Said) → first_for side r ≡ Some x → x.label ≡ says m → slice_get (side_said side (sides_of r)) 0 ≡ Some m
 side_first first_side r x m q e = ap (λ ms. slice_get ms 0) (first_said r.by_second.waiting x m q e)
@@ -111,8 +111,8 @@ left_view here m k s h =
     subst (λ (ps : List Part). After (made ps (map sides_of s.rings) (map back_of s.bindings))) (sym (set_parts here.core k s ∙ set_itself (map part_of s.cores) here.core (part_of k) h.heard.part_is))
     h.whole.known.fits
 
-pub said_or_left : (here : LinkEnd) (m : Said) (k : Core) (s : State) (l : ℕ) (new : Said) (t : TheCircuits) (x : Rattle.fl_queues.specs.Monitors.Heard) → Hearer s here m k
-    → HearFits here s (record { core = with_said l new (with_circuits t k); heard = x }) → HearFits here s (Rattle.fl_queues.specs.Monitors.saying l new t x k)
+pub said_or_left : (here : LinkEnd) (m : Said) (k : Core) (s : State) (l : ℕ) (new : Said) (t : TheCircuits) (x : Heard) → Hearer s here m k
+    → HearFits here s (record { core = with_said l new (with_circuits t k); heard = x }) → HearFits here s (saying l new t x k)
 said_or_left here m k s l new t x h good = either (HearFits here s) (can_say l k) _ _ (λ q. good) (λ q. left_view here m k s h)
 
 -- ---- the message is due

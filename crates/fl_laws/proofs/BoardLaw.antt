@@ -29,7 +29,7 @@ use Rattle.fl_laws.proofs.Hearing.{link_there}
 use Rattle.fl_laws.proofs.Arriving.{place_is}
 use Rattle.fl_laws.proofs.OpeningsKept.{at_link}
 use Rattle.fl_laws.proofs.Boards.{IsRoute, Fits}
-use Rattle.fl_laws.proofs.BoardViews.{line, part_line, route_in, said_in, board, under_way_is, fits_of, in_routed, messages_due, answers_once, entries_stand, entries_due, answers_awaited}
+use Rattle.fl_laws.proofs.BoardViews.{line, part_line, route_in, said_in, board, under_way_is, fits_of, in_routed, messages_due, answers_once, entries_stand, entries_due, answers_awaited, unread_said}
 use Rattle.fl_laws.proofs.BoardSaid.{Paired}
 use Rattle.fl_laws.proofs.BoardHears.{PartStands, Whole}
 use Rattle.fl_laws.proofs.BoardQuiet.{After, bound_fits, ring_fits, from_ring_fits, cores_fits, written_fits}
@@ -69,7 +69,7 @@ module _ (s : State) (sound : Sound s) where
 
   said_none : (a b : ℕ) → link_between s a b ≡ None → link_between s b a ≡ None → said_in (map part_of s.cores) (map sides_of s.rings) a b ≡ []
   said_none a b p q =
-      ap (λ o. given o [] (λ (l : Link). Rattle.fl_laws.proofs.BoardViews.unread_said (map sides_of s.rings) l.ring) ++ given (line (map part_of s.cores) a b) [] (λ (l : Link). l.outbox))
+      ap (λ o. given o [] (λ (l : Link). unread_said (map sides_of s.rings) l.ring) ++ given (line (map part_of s.cores) a b) [] (λ (l : Link). l.outbox))
       (line_was s b a ∙ q)
       ∙ ap (λ o. given o [] (λ (l : Link). l.outbox)) (line_was s a b ∙ p)
 

@@ -30,13 +30,20 @@ use Rattle.fl_laws.proofs.BoardCores.{set_part, own_key, hop_else, set_at, came_
 use Rattle.fl_laws.proofs.BoardSaid.{said_on}
 use Rattle.fl_laws.proofs.BoardHears.{Whole, HeardAt, taken_rings, heard_view, is_taken, is_put, route_set, is_changed, only_far, hop_small, slot_within, next_free}
 
+-- the core behind those that have numbers, to which the opening comes, and the one behind that
+abbrev pub reached : Route → ℕ
+reached route = core_at route (length route.numbers)
+
+abbrev pub beyond : Route → ℕ
+beyond route = core_at route (length route.numbers + 1)
+
 -- an opening stands first at the core behind those that have numbers
 pub record OpenAt (v : View) (n : ℕ) (route : Route) (j l : ℕ) (ring : RingEnd) (m : Said) (p : Part) : Type 0 where
   pub was : route_in v.backs n ≡ Some route
   pub verdict : route.verdict ≡ undecided
   pub place : suc j ≡ length route.numbers
-  pub at : HeardAt v (core_at route (length route.numbers)) (core_at route j) l ring m p
-  pub due : due_message n route ≡ Some (message (core_at route j) (core_at route (length route.numbers)) m)
+  pub at : HeardAt v (reached route) (core_at route j) l ring m p
+  pub due : due_message n route ≡ Some (message (core_at route j) (reached route) m)
 
 -- an entry at a core's number tells its key
 pub slot_key : (core l c neighbour : ℕ) (p q : Part) (key : Key) (hop : Hop) → (x : CameAt core p q key hop) → link_of p.circuits neighbour ≡ Some l → c ≤ 2046
@@ -52,10 +59,10 @@ module _ (v : View) (w : Whole v) (n : ℕ) (route : Route) (j l : ℕ) (ring : 
   before_last : j < length route.numbers
   before_last = let e = o.place in omega arith
 
-  next_core : core_at route (j + 1) ≡ core_at route (length route.numbers)
+  next_core : core_at route (j + 1) ≡ reached route
   next_core = ap (core_at route) (let e = o.place in omega arith)
 
-  apart_from : (i : ℕ) → i < length route.cores → i ≢ length route.numbers → core_at route i ≡ core_at route (length route.numbers) → ⊥
+  apart_from : (i : ℕ) → i < length route.cores → i ≢ length route.numbers → core_at route i ≡ reached route → ⊥
   apart_from i a ne e = let few = is_route.few in ne (is_route.apart i (length route.numbers) a (omega arith) e)
 
   number_small : number_at route j ≤ 2046
@@ -68,18 +75,18 @@ module _ (v : View) (w : Whole v) (n : ℕ) (route : Route) (j l : ℕ) (ring : 
   only_its : (h : Hop) → hop_at p.circuits l (number_at route j) ≡ Some h → h.binding ≡ n
   only_its h q =
       only_far (board v) w.known n route o.was j before_last h
-      (was_there v.parts (core_at route (length route.numbers)) p (far_key route j) h l o.at.part_is next_core o.at.to q)
+      (was_there v.parts (reached route) p (far_key route j) h l o.at.part_is next_core o.at.to q)
 
   inside : slot l (number_at route j) < length p.circuits.hops
   inside = slot_within p.circuits (core_at route j) l (number_at route j) (w.parts _ p o.at.part_is).table o.at.to number_small
 
-  far_is : own_key (core_at route (length route.numbers)) (core_at route j) (number_at route j) ≡ far_key route j
+  far_is : own_key (reached route) (core_at route j) (number_at route j) ≡ far_key route j
   far_is = ap (λ (c : ℕ). own_key c (core_at route j) (number_at route j)) (sym next_core)
 
   one_far : (i : ℕ) → suc i ≡ length route.numbers → i ≡ j
   one_far i e = let f = o.place in omega arith
 
-  others_far : (key : Key) → key ≡ own_key (core_at route (length route.numbers)) (core_at route j) (number_at route j) → IsFar key route (length route.numbers)
+  others_far : (key : Key) → key ≡ own_key (reached route) (core_at route j) (number_at route j) → IsFar key route (length route.numbers)
   others_far key e = (j, (o.place, e ∙ far_is))
 
   -- it goes on, under this number
@@ -93,15 +100,18 @@ module _ (v : View) (w : Whole v) (n : ℕ) (route : Route) (j l : ℕ) (ring : 
     links = changed_at k (says_more (open_circuit (passed_opening d))) p.links;
   }
 
+  abbrev pub passed_board : ℕ → ℕ → Board
+  passed_board k d = board (heard_view v (core_at route (length route.numbers)) (passed_part k d) ring n (with_number d))
+
   pub passed_due : (d : ℕ) → due_message n (with_number d route)
-      ≡ Some (message (core_at route (length route.numbers)) (core_at route (length route.numbers + 1)) (open_circuit (passed_opening d)))
+      ≡ Some (message (reached route) (beyond route) (open_circuit (passed_opening d)))
   passed_due d =
       let long = length_push route.numbers d in
       let less : length route.numbers + 1 - 1 ≡ length route.numbers = omega arith in
       ap (due_by n (with_number d route)) o.verdict
       ∙ ap (λ (i : ℕ). by i (i - 1)) long
       ∙ ap (by (length route.numbers + 1)) less
-      ∙ ap (λ (c : ℕ). Some (message (core_at route (length route.numbers)) (core_at route (length route.numbers + 1))
+      ∙ ap (λ (c : ℕ). Some (message (reached route) (beyond route)
       (open_circuit (let x : Opening = record { circuit = c; binding = n; service = route.service; path = route.cores } in x)))) (index_last route.numbers d)
     where
       by : ℕ → ℕ → Option Message
@@ -111,7 +121,7 @@ module _ (v : View) (w : Whole v) (n : ℕ) (route : Route) (j l : ℕ) (ring : 
         said = open_circuit (record { circuit = number_at (with_number d route) k; binding = n; service = route.service; path = route.cores });
       })
 
-  module _ (k d : ℕ) (more : length route.numbers + 1 < length route.cores) (to : link_of p.circuits (core_at route (length route.numbers + 1)) ≡ Some k)
+  module _ (k d : ℕ) (more : length route.numbers + 1 < length route.cores) (to : link_of p.circuits (beyond route) ≡ Some k)
       (own : next_own p.circuits k ≡ Some d) where
     free : (d ≤ 2046) × ((h : Hop) → hop_at p.circuits k d ≡ Some h → ⊥)
     free = next_free p.circuits k d (w.parts _ p o.at.part_is).table own
@@ -131,23 +141,23 @@ module _ (v : View) (w : Whole v) (n : ℕ) (route : Route) (j l : ℕ) (ring : 
     slots_apart : IsSlot (to_link (link_id k) (circuit_id d)) (slot l (number_at route j)) → ⊥
     slots_apart e =
         let (a, c) = slot_once l (number_at route j) k d e number_small free.0 in
-        let same = one_neighbour p.circuits (core_at route j) (core_at route (length route.numbers + 1)) l o.at.to (to ∙ ap (λ (x : ℕ). Some x) (sym a)) in
+        let same = one_neighbour p.circuits (core_at route j) (beyond route) l o.at.to (to ∙ ap (λ (x : ℕ). Some x) (sym a)) in
         let before = before_last in
         let e : j ≡ length route.numbers + 1 = is_route.apart j (length route.numbers + 1) (omega arith) more same in
         absurd (omega (arith, e, before))
 
-    passed_near : (x : Stands (board (heard_view v (core_at route (length route.numbers)) (passed_part k d) ring n (with_number d))) (next_key route d) n
+    passed_near : (x : Stands (passed_board k d) (next_key route d) n
         (behind n route (length route.numbers))) × (x.hop.answered ≡ false)
     passed_near = (
       record {
         hop = record { binding = n; way = to_link (link_id l) (circuit_id (number_at route j)); answered = false };
-        there = set_at v.parts (core_at route (length route.numbers)) (core_at route (length route.numbers + 1)) d k p (passed_part k d) _ o.at.part_is same_names to
+        there = set_at v.parts (reached route) (beyond route) d k p (passed_part k d) _ o.at.part_is same_names to
             (both_second (after_opening (after_taking p.circuits l) k) (to_link (link_id l) (circuit_id (number_at route j))) (link_id k) (circuit_id d) _ _ free.0
-            (slot_within p.circuits (core_at route (length route.numbers + 1)) k d (w.parts _ p o.at.part_is).table to free.0));
+            (slot_within p.circuits (beyond route) k d (w.parts _ p o.at.part_is).table to free.0));
         binding_is = refl;
-        way = subst (λ (i : ℕ). Says (board (heard_view v (core_at route (length route.numbers)) (passed_part k d) ring n (with_number d)))
-            (core_at route (length route.numbers)) (to_link (link_id l) (circuit_id (number_at route j))) (behind n route i)) o.place (
-              (place_stays v.parts (core_at route (length route.numbers)) p (passed_part k d) o.at.part_is same_names (core_at route (length route.numbers)) (core_at route j)
+        way = subst (λ (i : ℕ). Says (passed_board k d)
+            (reached route) (to_link (link_id l) (circuit_id (number_at route j))) (behind n route i)) o.place (
+              (place_stays v.parts (reached route) p (passed_part k d) o.at.part_is same_names (reached route) (core_at route j)
                   ∙ ap (λ x. given x None (λ (y : Part). link_of y.circuits (core_at route j))) o.at.part_is ∙ o.at.to),
               refl,
             );
@@ -156,51 +166,51 @@ module _ (v : View) (w : Whole v) (n : ℕ) (route : Route) (j l : ℕ) (ring : 
     )
 
     passed_far : (i : ℕ) → suc i ≡ length route.numbers
-        → Stands (board (heard_view v (core_at route (length route.numbers)) (passed_part k d) ring n (with_number d))) (far_key route i) n (on_to (core_at route (length route.numbers + 1)) d)
+        → Stands (passed_board k d) (far_key route i) n (on_to (beyond route) d)
     passed_far i e =
-        subst (λ (x : ℕ). Stands (board (heard_view v (core_at route (length route.numbers)) (passed_part k d) ring n (with_number d))) (far_key route x) n
-        (on_to (core_at route (length route.numbers + 1)) d)) (sym (one_far i e))
-        (subst (λ (x : Key). Stands (board (heard_view v (core_at route (length route.numbers)) (passed_part k d) ring n (with_number d))) x n
-        (on_to (core_at route (length route.numbers + 1)) d)) far_is (record {
+        subst (λ (x : ℕ). Stands (passed_board k d) (far_key route x) n
+        (on_to (beyond route) d)) (sym (one_far i e))
+        (subst (λ (x : Key). Stands (passed_board k d) x n
+        (on_to (beyond route) d)) far_is (record {
           hop = record { binding = n; way = to_link (link_id k) (circuit_id d); answered = false };
-          there = set_at v.parts (core_at route (length route.numbers)) (core_at route j) (number_at route j) l p (passed_part k d) _ o.at.part_is same_names o.at.to
+          there = set_at v.parts (reached route) (core_at route j) (number_at route j) l p (passed_part k d) _ o.at.part_is same_names o.at.to
               (both_first (after_opening (after_taking p.circuits l) k) (link_id l) (circuit_id (number_at route j)) (to_link (link_id k) (circuit_id d)) _ _ number_small inside slots_apart);
           binding_is = refl;
           way = (
-            (place_stays v.parts (core_at route (length route.numbers)) p (passed_part k d) o.at.part_is same_names (core_at route (length route.numbers)) (core_at route (length route.numbers + 1))
-                ∙ ap (λ x. given x None (λ (y : Part). link_of y.circuits (core_at route (length route.numbers + 1)))) o.at.part_is ∙ to),
+            (place_stays v.parts (reached route) p (passed_part k d) o.at.part_is same_names (reached route) (beyond route)
+                ∙ ap (λ x. given x None (λ (y : Part). link_of y.circuits (beyond route))) o.at.part_is ∙ to),
             refl,
           );
         }))
 
-    passed_came : (key : Key) (hop : Hop) → hop_in (set_part (core_at route (length route.numbers)) (passed_part k d) v.parts) key ≡ Some hop
+    passed_came : (key : Key) (hop : Hop) → hop_in (set_part (reached route) (passed_part k d) v.parts) key ≡ Some hop
         → (hop_in v.parts key ≡ Some hop) ⊎ ((key ≡ next_key route d) ⊎ IsFar key route (length route.numbers))
-    passed_came key hop q = elim (came_at v.parts (core_at route (length route.numbers)) p (passed_part k d) o.at.part_is same_names key hop q) [
+    passed_came key hop q = elim (came_at v.parts (reached route) p (passed_part k d) o.at.part_is same_names key hop q) [
       | inl old ↦ inl old
       | inr x ↦ elim (both_came (after_opening (after_taking p.circuits l) k) (to_link (link_id l) (circuit_id (number_at route j))) (to_link (link_id k) (circuit_id d)) _ _
           x.link key.number hop x.there) [
-            | inl (e, its) ↦ inr (inl (slot_key (core_at route (length route.numbers)) k d (core_at route (length route.numbers + 1)) p (passed_part k d) key hop x to free.0 e))
+            | inl (e, its) ↦ inr (inl (slot_key (reached route) k d (beyond route) p (passed_part k d) key hop x to free.0 e))
             | inr y ↦ elim y [
               | inl (e, its) ↦ inr (inr (others_far key
-                  (slot_key (core_at route (length route.numbers)) l (number_at route j) (core_at route j) p (passed_part k d) key hop x o.at.to number_small e)))
-              | inr old ↦ inl (was_there v.parts (core_at route (length route.numbers)) p key hop x.link o.at.part_is x.core_is x.link_is old)
+                  (slot_key (reached route) l (number_at route j) (core_at route j) p (passed_part k d) key hop x o.at.to number_small e)))
+              | inr old ↦ inl (was_there v.parts (reached route) p key hop x.link o.at.part_is x.core_is x.link_is old)
             ]
           ]
     ]
 
-    pub passed_fits : Fits (board (heard_view v (core_at route (length route.numbers)) (passed_part k d) ring n (with_number d)))
+    pub passed_fits : Fits (passed_board k d)
     passed_fits =
-        let after : Board = board (heard_view v (core_at route (length route.numbers)) (passed_part k d) ring n (with_number d)) in
-        let changes = is_changed v (core_at route (length route.numbers)) n ring (with_number d) p (passed_part k d) o.at.part_is passed_new in
-        heard_fits (board v) after n route (with_number d route) (core_at route j) (core_at route (length route.numbers)) m (said_on (line v.parts) (taken_rings v ring))
-        (core_at route (length route.numbers)) (core_at route (length route.numbers + 1)) (Some (open_circuit (passed_opening d))) w.known changes
+        let after : Board = passed_board k d in
+        let changes = is_changed v (reached route) n ring (with_number d) p (passed_part k d) o.at.part_is passed_new in
+        heard_fits (board v) after n route (with_number d route) (core_at route j) (reached route) m (said_on (line v.parts) (taken_rings v ring))
+        (reached route) (beyond route) (Some (open_circuit (passed_opening d))) w.known changes
         (went_own (board v) after n route d w.known (record {
           was = o.was;
           verdict = o.verdict;
           more = more;
           is = route_set v.backs n (with_number d) route o.was;
           changes = changes;
-          elsewhere = λ key away. hop_else v.parts (core_at route (length route.numbers)) (passed_part k d) key away;
+          elsewhere = λ key away. hop_else v.parts (reached route) (passed_part k d) key away;
           near = passed_near.0;
           fresh = passed_near.1;
           far = passed_far;
@@ -210,10 +220,10 @@ module _ (v : View) (w : Whole v) (n : ℕ) (route : Route) (j l : ℕ) (ring : 
           was = o.was;
           is = route_set v.backs n (with_number d) route o.was;
           due = o.due;
-          takes = is_taken v (core_at route (length route.numbers)) (core_at route j) l ring m p w o.at;
-          puts = is_put v (core_at route (length route.numbers)) (core_at route (length route.numbers + 1)) k ring p (passed_part k d) _ w o.at.part_is
+          takes = is_taken v (reached route) (core_at route j) l ring m p w o.at;
+          puts = is_put v (reached route) (beyond route) k ring p (passed_part k d) _ w o.at.part_is
               (record { names = same_names; next_is = to; links = refl });
-          new_due = λ x e. passed_due d ∙ ap (λ (y : Option Said). given y None (λ z. Some (message (core_at route (length route.numbers)) (core_at route (length route.numbers + 1)) z))) e;
+          new_due = λ x e. passed_due d ∙ ap (λ (y : Option Said). given y None (λ z. Some (message (reached route) (beyond route) z))) e;
           new_at = λ x y e q. absurd (let f : open_circuit (passed_opening d) ≡ x = cc in let g : None ≡ Some y = ap answer_number f ∙ q in cc);
           apart = λ e. let before = before_last in let few = is_route.few in apart_from j (omega arith) (λ f. absurd (omega (arith, f, before))) (sym e.0);
         })
@@ -232,10 +242,13 @@ module _ (v : View) (w : Whole v) (n : ℕ) (route : Route) (j l : ℕ) (ring : 
     links = changed_at l (says_more (circuit_opened (number_at route j))) p.links;
   }
 
-  arrived_names : names (arrived_part).circuits.links ≡ names p.circuits.links
+  abbrev pub arrived_board : Board
+  arrived_board = board (heard_view v (core_at route (length route.numbers)) arrived_part ring n grants)
+
+  arrived_names : names arrived_part.circuits.links ≡ names p.circuits.links
   arrived_names = taking_counted p.circuits.links l
 
-  arrived_new : NewTable p.circuits (arrived_part).circuits n
+  arrived_new : NewTable p.circuits arrived_part.circuits n
   arrived_new = record {
     names = arrived_names;
     kept = λ x y h q away. both_kept (after_taking p.circuits l) client_way server_way (leading n false server_way) (leading n false client_way) n x y h
@@ -245,55 +258,55 @@ module _ (v : View) (w : Whole v) (n : ℕ) (route : Route) (j l : ℕ) (ring : 
   }
 
   arrived_stands : (i : ℕ) → suc i ≡ length route.numbers
-      → Stands (board (heard_view v (core_at route (length route.numbers)) (arrived_part) ring n grants)) (far_key route i) n (to_this (end_id n Server))
+      → Stands arrived_board (far_key route i) n (to_this (end_id n Server))
   arrived_stands i e =
-      subst (λ (x : ℕ). Stands (board (heard_view v (core_at route (length route.numbers)) (arrived_part) ring n grants)) (far_key route x) n (to_this (end_id n Server)))
+      subst (λ (x : ℕ). Stands arrived_board (far_key route x) n (to_this (end_id n Server)))
       (sym (one_far i e))
-      (subst (λ (x : Key). Stands (board (heard_view v (core_at route (length route.numbers)) (arrived_part) ring n grants)) x n (to_this (end_id n Server))) far_is (record {
+      (subst (λ (x : Key). Stands arrived_board x n (to_this (end_id n Server))) far_is (record {
         hop = record { binding = n; way = to_end (end_id n Server); answered = false };
-        there = set_at v.parts (core_at route (length route.numbers)) (core_at route j) (number_at route j) l p (arrived_part) _ o.at.part_is arrived_names o.at.to
+        there = set_at v.parts (reached route) (core_at route j) (number_at route j) l p arrived_part _ o.at.part_is arrived_names o.at.to
             (both_first (after_taking p.circuits l) (link_id l) (circuit_id (number_at route j)) server_way (leading n false server_way) (leading n false client_way) number_small inside (λ e. e));
         binding_is = refl;
         way = refl;
       }))
 
-  arrived_came : (key : Key) (hop : Hop) → hop_in (set_part (core_at route (length route.numbers)) (arrived_part) v.parts) key ≡ Some hop
+  arrived_came : (key : Key) (hop : Hop) → hop_in (set_part (reached route) arrived_part v.parts) key ≡ Some hop
       → (hop_in v.parts key ≡ Some hop) ⊎ IsFar key route (length route.numbers)
-  arrived_came key hop q = elim (came_at v.parts (core_at route (length route.numbers)) p (arrived_part) o.at.part_is arrived_names key hop q) [
+  arrived_came key hop q = elim (came_at v.parts (reached route) p arrived_part o.at.part_is arrived_names key hop q) [
     | inl old ↦ inl old
     | inr x ↦ elim (both_came (after_taking p.circuits l) client_way server_way (leading n false server_way) (leading n false client_way) x.link key.number hop x.there) [
       | inl (e, its) ↦ absurd e
       | inr y ↦ elim y [
         | inl (e, its) ↦ inr (others_far key
-            (slot_key (core_at route (length route.numbers)) l (number_at route j) (core_at route j) p (arrived_part) key hop x o.at.to number_small e))
-        | inr old ↦ inl (was_there v.parts (core_at route (length route.numbers)) p key hop x.link o.at.part_is x.core_is x.link_is old)
+            (slot_key (reached route) l (number_at route j) (core_at route j) p arrived_part key hop x o.at.to number_small e))
+        | inr old ↦ inl (was_there v.parts (reached route) p key hop x.link o.at.part_is x.core_is x.link_is old)
       ]
     ]
   ]
 
   -- what goes back
-  back_from : core_at route (suc j) ≡ core_at route (length route.numbers)
+  back_from : core_at route (suc j) ≡ reached route
   back_from = ap (core_at route) o.place
 
-  answers_at : (k : ℕ) → k ≡ number_at route j → AnswerAt route (core_at route (length route.numbers)) (core_at route j) k
+  answers_at : (k : ℕ) → k ≡ number_at route j → AnswerAt route (reached route) (core_at route j) k
   answers_at k e = record { place = j; within = before_last; from = sym back_from; to = refl; number = e }
 
-  not_back : (core_at route (length route.numbers) ≡ core_at route j) × (core_at route j ≡ core_at route (length route.numbers)) → ⊥
+  not_back : (reached route ≡ core_at route j) × (core_at route j ≡ reached route) → ⊥
   not_back e = let before = before_last in let few = is_route.few in apart_from j (omega arith) (λ f. absurd (omega (arith, f, before))) (sym e.0)
 
-  pub arrived_fits : length route.numbers + 1 ≡ length route.cores → Fits (board (heard_view v (core_at route (length route.numbers)) (arrived_part) ring n grants))
+  pub arrived_fits : length route.numbers + 1 ≡ length route.cores → Fits arrived_board
   arrived_fits last =
-      let after : Board = board (heard_view v (core_at route (length route.numbers)) (arrived_part) ring n grants) in
-      let changes = is_changed v (core_at route (length route.numbers)) n ring grants p (arrived_part) o.at.part_is arrived_new in
-      heard_fits (board v) after n route (grants route) (core_at route j) (core_at route (length route.numbers)) m (said_on (line v.parts) (taken_rings v ring))
-      (core_at route (length route.numbers)) (core_at route j) (Some (circuit_opened (number_at route j))) w.known changes
+      let after : Board = arrived_board in
+      let changes = is_changed v (reached route) n ring grants p arrived_part o.at.part_is arrived_new in
+      heard_fits (board v) after n route (grants route) (core_at route j) (reached route) m (said_on (line v.parts) (taken_rings v ring))
+      (reached route) (core_at route j) (Some (circuit_opened (number_at route j))) w.known changes
       (arrived_own (board v) after n route w.known (record {
         was = o.was;
         verdict = o.verdict;
         last = last;
         is = route_set v.backs n grants route o.was;
         changes = changes;
-        elsewhere = λ key away. hop_else v.parts (core_at route (length route.numbers)) (arrived_part) key away;
+        elsewhere = λ key away. hop_else v.parts (reached route) arrived_part key away;
         far = arrived_stands;
         came = λ key hop q e. arrived_came key hop q;
       }))
@@ -301,13 +314,13 @@ module _ (v : View) (w : Whole v) (n : ℕ) (route : Route) (j l : ℕ) (ring : 
         was = o.was;
         is = route_set v.backs n grants route o.was;
         due = o.due;
-        takes = is_taken v (core_at route (length route.numbers)) (core_at route j) l ring m p w o.at;
-        puts = is_put v (core_at route (length route.numbers)) (core_at route j) l ring p (arrived_part) _ w o.at.part_is
+        takes = is_taken v (reached route) (core_at route j) l ring m p w o.at;
+        puts = is_put v (reached route) (core_at route j) l ring p arrived_part _ w o.at.part_is
             (record { names = arrived_names; next_is = o.at.to; links = refl });
         new_due = λ x e. (let same : length route.cores - 1 ≡ suc j = (let f = o.place in omega arith) in
             ap (λ (i : ℕ). due_by n (grants route) (granted i)) same
             ∙ ap (λ (c : ℕ). Some (message c (core_at route j) (circuit_opened (number_at route j)))) back_from
-            ∙ ap (λ (y : Option Said). given y None (λ z. Some (message (core_at route (length route.numbers)) (core_at route j) z))) e);
+            ∙ ap (λ (y : Option Said). given y None (λ z. Some (message (reached route) (core_at route j) z))) e);
         new_at = λ x y e q. answers_at y (let f : circuit_opened (number_at route j) ≡ x = cc in let g : Some (number_at route j) ≡ Some y = ap answer_number f ∙ q in cc);
         apart = not_back;
       })
@@ -320,16 +333,16 @@ module _ (v : View) (w : Whole v) (n : ℕ) (route : Route) (j l : ℕ) (ring : 
     links = changed_at l (says_more (circuit_refused (number_at route j) fault)) p.links;
   }
 
-  failed_hops : (fault : ℕ) (key : Key) → hop_in (set_part (core_at route (length route.numbers)) (failed_part fault) v.parts) key ≡ hop_in v.parts key
-  failed_hops fault key = same_hops v.parts (core_at route (length route.numbers)) p (failed_part fault) o.at.part_is (taking_counted p.circuits.links l) (λ a b. refl) key
+  failed_hops : (fault : ℕ) (key : Key) → hop_in (set_part (reached route) (failed_part fault) v.parts) key ≡ hop_in v.parts key
+  failed_hops fault key = same_hops v.parts (reached route) p (failed_part fault) o.at.part_is (taking_counted p.circuits.links l) (λ a b. refl) key
 
-  pub failed_fits : (fault : ℕ) → Fits (board (heard_view v (core_at route (length route.numbers)) (failed_part fault) ring n (denies fault)))
+  pub failed_fits : (fault : ℕ) → Fits (board (heard_view v (reached route) (failed_part fault) ring n (denies fault)))
   failed_fits fault =
-      let after : Board = board (heard_view v (core_at route (length route.numbers)) (failed_part fault) ring n (denies fault)) in
+      let after : Board = board (heard_view v (reached route) (failed_part fault) ring n (denies fault)) in
       let table : NewTable p.circuits (failed_part fault).circuits n = record { names = taking_counted p.circuits.links l; kept = λ a b h q away. q; were = λ a b h q away. q } in
-      let changes = is_changed v (core_at route (length route.numbers)) n ring (denies fault) p (failed_part fault) o.at.part_is table in
-      heard_fits (board v) after n route (denies fault route) (core_at route j) (core_at route (length route.numbers)) m (said_on (line v.parts) (taken_rings v ring))
-      (core_at route (length route.numbers)) (core_at route j) (Some (circuit_refused (number_at route j) fault)) w.known changes
+      let changes = is_changed v (reached route) n ring (denies fault) p (failed_part fault) o.at.part_is table in
+      heard_fits (board v) after n route (denies fault route) (core_at route j) (reached route) m (said_on (line v.parts) (taken_rings v ring))
+      (reached route) (core_at route j) (Some (circuit_refused (number_at route j) fault)) w.known changes
       (failed_own (board v) after n route fault w.known (record {
         was = o.was;
         verdict = o.verdict;
@@ -341,12 +354,12 @@ module _ (v : View) (w : Whole v) (n : ℕ) (route : Route) (j l : ℕ) (ring : 
         was = o.was;
         is = route_set v.backs n (denies fault) route o.was;
         due = o.due;
-        takes = is_taken v (core_at route (length route.numbers)) (core_at route j) l ring m p w o.at;
-        puts = is_put v (core_at route (length route.numbers)) (core_at route j) l ring p (failed_part fault) _ w o.at.part_is
+        takes = is_taken v (reached route) (core_at route j) l ring m p w o.at;
+        puts = is_put v (reached route) (core_at route j) l ring p (failed_part fault) _ w o.at.part_is
             (record { names = taking_counted p.circuits.links l; next_is = o.at.to; links = refl });
         new_due = λ x e. ap (λ (i : ℕ). due_by n (denies fault route) (denied i fault)) (sym o.place)
             ∙ ap (λ (c : ℕ). Some (message c (core_at route j) (circuit_refused (number_at route j) fault))) back_from
-            ∙ ap (λ (y : Option Said). given y None (λ z. Some (message (core_at route (length route.numbers)) (core_at route j) z))) e;
+            ∙ ap (λ (y : Option Said). given y None (λ z. Some (message (reached route) (core_at route j) z))) e;
         new_at = λ x y e q.
             answers_at y (let f : circuit_refused (number_at route j) fault ≡ x = cc in let g : Some (number_at route j) ≡ Some y = ap answer_number f ∙ q in cc);
         apart = not_back;

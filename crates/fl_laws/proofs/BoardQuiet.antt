@@ -1,6 +1,6 @@
 -- Updates that leave the board as it is: the number of cores, a new link, bindings off circuits, what an end takes from its
 -- ring, and a message that goes from its outbox onto the ring.
-use Rattle.std.proofs.Common.{◌≡◌, ◌≢◌, refl, sym, ◌∙◌, ap, subst, ℕ, zero, suc, ◌+◌, ◌*◌, ◌<◌, ◌≤◌, ◌==◌, ◌||◌, ◌&&◌, not, nat_lt, Bool, true, false, cond, ◌⊎◌, inl, inr}
+use Rattle.std.proofs.Common.{◌≡◌, ◌≢◌, refl, sym, ◌∙◌, ap, subst, ℕ, zero, suc, ◌+◌, ◌*◌, ◌<◌, ◌≤◌, ◌==◌, ◌||◌, ◌&&◌, not, nat_lt, Bool, true, false, cond, ◌⊎◌, inl, inr, slice_set}
 use Rattle.std.proofs.Common.{List, [], ◌∷◌, ◌++◌, length, map, drop, replicate, slice_get, Option, Some, None, option_map, arith}
 use Rattle.std.specs.List.{range_with_len}
 use Rattle.std.proofs.lemmas.Option.{slice_get-map}
@@ -146,8 +146,8 @@ put_sides second_side m r = ap (λ ms. two (messages r.by_first.waiting) ms) (me
 
 pub changed_to : {X : Type 0} (n : ℕ) (f : X → X) (xs : List X) (x : X) → slice_get xs n ≡ Some x → changed_at n f xs ≡ changed_at n (λ y. f x) xs
 changed_to {X} n f xs x q =
-    ap (λ (o : Option X). given o xs (λ y. Rattle.std.proofs.Common.slice_set xs n (f y))) q
-    ∙ sym (ap (λ (o : Option X). given o xs (λ y. Rattle.std.proofs.Common.slice_set xs n (f x))) q)
+    ap (λ (o : Option X). given o xs (λ y. slice_set xs n (f y))) q
+    ∙ sym (ap (λ (o : Option X). given o xs (λ y. slice_set xs n (f x))) q)
 
 abbrev part_drops : ℕ → Part → Part
 part_drops l p = record { circuits = p.circuits; links = changed_at l drops p.links }

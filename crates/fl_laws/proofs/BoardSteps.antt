@@ -9,7 +9,7 @@ use Rattle.fl_queues.specs.Rings.{Said, circuit_opened, circuit_refused}
 use Rattle.fl_queues.specs.State.{Verdict, undecided, granted, denied, Route}
 use Rattle.fl_queues.specs.Standing.{core_at, number_at, Message, back_to, due_by, due_message, answer_number}
 use Rattle.fl_queues.specs.SoundRoutes.{VerdictFits, OneNumber}
-use Rattle.fl_queues.specs.SoundEntries.{Key}
+use Rattle.fl_queues.specs.SoundEntries.{Key, Leads}
 use Rattle.fl_laws.proofs.Boards.{Has, has_none, Board, StandOn, message, MessageDue, Fits, Known, some_is, Changes, Own, says_on, due_on}
 use Rattle.fl_laws.proofs.Boards.{Stands, stand_kept, due_kept, wait_kept, Takes, Puts, taken_left, taken_once, put_has, put_once}
 use Rattle.fl_laws.proofs.Hearing.{some_same}
@@ -179,7 +179,7 @@ same_fits b c s f = record {
   wait = λ n route q j h. let (hop, there, bare) = f.wait n route (sym (s.routes n) ∙ q) j h in (hop, s.kept _ hop there, bare);
 }
   where
-    stands : (key : Key) (n : ℕ) (leads : Rattle.fl_queues.specs.SoundEntries.Leads) → Stands b key n leads → Stands c key n leads
+    stands : (key : Key) (n : ℕ) (leads : Leads) → Stands b key n leads → Stands c key n leads
     stands key n leads x = record {
       hop = x.hop;
       there = s.kept key x.hop x.there;

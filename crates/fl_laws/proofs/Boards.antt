@@ -16,7 +16,7 @@ use Rattle.fl_hop.proofs.Entering.{same_or}
 use Rattle.fl_queues.specs.Rings.{Said, open_circuit, circuit_opened, circuit_refused}
 use Rattle.fl_queues.specs.State.{Verdict, undecided, granted, denied, Route}
 use Rattle.fl_queues.specs.Binding.{all_differ}
-use Rattle.fl_queues.specs.Standing.{core_at, number_at, standing, asking, Message, due_by, due_message, opening_number, answer_number}
+use Rattle.fl_queues.specs.Standing.{core_at, number_at, standing, asking, Message, due_by, due_message, opening_number, answer_number, asking_by, standing_by}
 use Rattle.fl_queues.specs.SoundRoutes.{VerdictFits, OneNumber}
 use Rattle.fl_queues.specs.SoundLimits.{OneNumberBack}
 use Rattle.fl_queues.specs.SoundEntries.{Leads, to_this, on_to, behind, ahead, Key, near_key, far_key}
@@ -211,8 +211,8 @@ module _ (b c : Board) (n : ℕ) (ch : Changes b c n) where
     | inr away ↦ other_wait away (sym (ch.others m away) ∙ q)
   ]
     where
-      asked : (v : Verdict) → VerdictFits route v → (j : ℕ) → j < Rattle.fl_queues.specs.Standing.asking_by route v → length route.numbers + 1 ≤ length route.cores
-          → (j < length route.numbers) × (j < Rattle.fl_queues.specs.Standing.standing_by route v)
+      asked : (v : Verdict) → VerdictFits route v → (j : ℕ) → j < asking_by route v → length route.numbers + 1 ≤ length route.cores
+          → (j < length route.numbers) × (j < standing_by route v)
       asked undecided f j h few = (h, h)
       asked (granted i) f j h few = let g : i ≤ length route.numbers = f.1 in (omega arith, omega arith)
       asked (denied i fault) f j h few = let g : i ≤ length route.numbers = f in (omega arith, h)

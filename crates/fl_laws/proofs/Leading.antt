@@ -18,6 +18,7 @@ use Rattle.fl_queues.specs.Taking.{goes_back}
 use Rattle.fl_queues.specs.Forwarding.{LinkEnd, Passing, label_of, monitor_writes_by, after_hearing}
 use Rattle.fl_queues.specs.Step.{step}
 use Rattle.fl_laws.proofs.RingsKept.{first_put, first_looked}
+use Rattle.fl_laws.proofs.EndsStep.{is_not}
 use Rattle.fl_laws.proofs.Views.{View, view}
 use Rattle.fl_laws.proofs.Quiet.{quiet_ring, quiet_core, quiet_end, quiet_channel, quiet_both, quiet_taken, quiet_put, quiet_looked, quiet_label, quiet_written, quiet_found, quiet_delivers, sure_sides, first_delivered}
 use Rattle.fl_laws.proofs.Walk.{IsWanted, BeginsRoute, IsHere, with_ring, KeepsFrom, step_leads}
@@ -46,10 +47,6 @@ pub record Before (B : View → Type 0) (s : State) : Type 0 where
   pub known : B (view s)
   pub bare : s.may_set_cores ≡ true → s.bindings ≡ []
 
-not_not : (b : Rattle.std.proofs.Common.Bool) → not b ≡ false → b ≡ true
-not_not true h = refl
-not_not false h = absurd (Rattle.std.proofs.lemmas.Bool.false≢true (sym h))
-
 module _ (B Q : View → Type 0) (M : Leads B Q) where
   by_view : (v w : View) → w ≡ v → B v → Q w
   by_view v w e h = subst Q (sym e) (M.weaker v h)
@@ -66,7 +63,7 @@ module _ (B Q : View → Type 0) (M : Leads B Q) where
   leading = record {
     settled = λ s h. h;
     interface = λ i s q h. M.weaker _ h.known;
-    cores = λ n s q h. M.cores n s (h.bare (not_not s.may_set_cores q)) h.known;
+    cores = λ n s q h. M.cores n s (h.bare (is_not s.may_set_cores q)) h.known;
     link = λ a b size s q e h. M.link a b size s q h.known;
     dispatcher = λ core s h. by_view _ _ (quiet_core core _ s (λ k. refl)) h.known;
     service = λ x s d i q r t h. M.weaker _ h.known;
