@@ -12,11 +12,11 @@ use Rattle.fl_queues.specs.Given.{given, changed_at}
 use Rattle.fl_queues.specs.Events.{DispatcherId}
 use Rattle.fl_queues.specs.Rings.{Opening, Said, open_circuit, circuit_opened, circuit_refused, says, RingLabel, RingSide, first_side, second_side, Ring, first_for, takes}
 use Rattle.fl_queues.specs.Waits.{has_places}
-use Rattle.fl_queues.specs.Monitors.{Core, Link, says_more, link_to, link_id, circuit_id, can_say, service_of, next_on, Fate, goes_on, ends_at, fails, arrival, passage, fate, Hearing, no_outbox, hears_opening, hears_opened, hears_refused, hears, with_said, with_circuits, goes_astray, Heard, saying}
+use Rattle.fl_queues.specs.Monitors.{Core, link_to, can_say, service_of, next_on, Fate, goes_on, ends_at, fails, arrival, passage, fate, Hearing, hears_opening, hears, with_said, with_circuits, Heard, saying}
 use Rattle.fl_queues.specs.State.{Verdict, undecided, granted, denied, Route, State, Binding, in_route, core_of, change_core, change_ring, change_route, first_on, seats}
 use Rattle.fl_queues.specs.Binding.{end_id}
 use Rattle.fl_queues.specs.Forwarding.{LinkEnd, after_hearing, with_number, grants, denies}
-use Rattle.fl_queues.specs.Standing.{core_at, number_at, standing, standing_by, Message, back_to, due_by, due_message, said_by}
+use Rattle.fl_queues.specs.Standing.{core_at, number_at, Message, due_by, said_by}
 use Rattle.fl_laws.proofs.Cases.{either, by_given}
 use Rattle.fl_laws.proofs.Views.{Part, part_of, sides_of, back_of, view, made, two, messages, map_changed}
 use Rattle.fl_laws.proofs.Quiet.{drop_said, quiet_seats, quiet_binds}

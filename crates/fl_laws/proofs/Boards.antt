@@ -16,7 +16,7 @@ use Rattle.fl_hop.proofs.Entering.{same_or}
 use Rattle.fl_queues.specs.Rings.{Said, open_circuit, circuit_opened, circuit_refused}
 use Rattle.fl_queues.specs.State.{Verdict, undecided, granted, denied, Route}
 use Rattle.fl_queues.specs.Binding.{all_differ}
-use Rattle.fl_queues.specs.Standing.{core_at, number_at, standing, asking, Message, due_by, due_message, opening_number, answer_number, asking_by, standing_by}
+use Rattle.fl_queues.specs.Standing.{core_at, standing, asking, Message, due_message, opening_number, answer_number, asking_by, standing_by}
 use Rattle.fl_queues.specs.SoundRoutes.{VerdictFits, OneNumber}
 use Rattle.fl_queues.specs.SoundLimits.{OneNumberBack}
 use Rattle.fl_queues.specs.SoundEntries.{Leads, to_this, on_to, behind, ahead, Key, near_key, far_key}
