@@ -104,7 +104,7 @@ not_refused a fault c h = absurd (cc)
 same_number : (a c : ℕ) → circuit_opened a ≡ circuit_opened c → a ≡ c
 same_number a c h = cc
 
-opened_due : (n : ℕ) (route : Route) (from to c : ℕ) (v : Verdict) → route.verdict ≡ v
+pub opened_due : (n : ℕ) (route : Route) (from to c : ℕ) (v : Verdict) → route.verdict ≡ v
     → due_by n route v ≡ Some (record { from = from; to = to; said = circuit_opened c }) → OpenedDue route (record { from = from; to = to; said = circuit_opened c }) c
 opened_due n route from to c undecided e h = absurd (not_open _ (circuit_opened c) (ap (λ (m : Message). m.said) (some_same _ _ h)) refl)
 opened_due n route from to c (granted zero) e h = absurd (cc)

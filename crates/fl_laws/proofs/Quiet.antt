@@ -55,7 +55,7 @@ pub look_sides : (side : RingSide) (r : Ring) → sides_of (looks side r) ≡ si
 look_sides first_side r = by_given (λ (t : Ring). sides_of t ≡ sides_of r) (first_for first_side r) _ _ refl (λ x q. refl)
 look_sides second_side r = by_given (λ (t : Ring). sides_of t ≡ sides_of r) (first_for second_side r) _ _ refl (λ x q. refl)
 
-sure_sides : (need : ℕ) (side : RingSide) (r : Ring) → sides_of (makes_sure need side r) ≡ sides_of r
+pub sure_sides : (need : ℕ) (side : RingSide) (r : Ring) → sides_of (makes_sure need side r) ≡ sides_of r
 sure_sides need side r =
     either (λ (t : Ring). sides_of t ≡ sides_of r) (is_spent side r || nat_le need (free side r)) r (looks side r) (λ q. refl) (λ q. look_sides side r)
 
@@ -95,7 +95,7 @@ quiet_seats d e s =
 pub quiet_binds : (e : EndId) (circuit : ℕ) (s : State) → view (binds_end e circuit s) ≡ view s
 quiet_binds e circuit s = quiet_channel e _ _ ∙ quiet_end e _ s
 
-quiet_delivers : (label : Label) (e : EndId) (s : State) → view (delivers label e s) ≡ view s
+pub quiet_delivers : (label : Label) (e : EndId) (s : State) → view (delivers label e s) ≡ view s
 quiet_delivers label e s = quiet_channel e _ _ ∙ quiet_end e _ s
 
 pub quiet_both : (n : ℕ) (w : Wanted) (s : State) → view (binds_both n w s) ≡ view s
@@ -103,10 +103,10 @@ quiet_both n w s =
     quiet_binds (end_id n Server) 0 _ ∙ quiet_binds (end_id n Client) 0 _
     ∙ quiet_seats w.service.dispatcher (end_id n Server) _ ∙ quiet_seats w.client (end_id n Client) s
 
-quiet_taken : (at : RingEnd) (first : RingLabel) (s : State) → first_on at s ≡ Some first → said_by first.label ≡ None → view (change_ring at.ring (takes at.side) s) ≡ view s
+pub quiet_taken : (at : RingEnd) (first : RingLabel) (s : State) → first_on at s ≡ Some first → said_by first.label ≡ None → view (change_ring at.ring (takes at.side) s) ≡ view s
 quiet_taken at first s h q = quiet_ring at.ring (takes at.side) s (λ r t. take_sides at.side r first (first_is (slice_get s.rings at.ring) (first_for at.side) r first t h) q)
 
-quiet_put : (at : RingEnd) (label : Label) (s : State) → said_by label ≡ None → view (change_ring at.ring (puts at.side label) s) ≡ view s
+pub quiet_put : (at : RingEnd) (label : Label) (s : State) → said_by label ≡ None → view (change_ring at.ring (puts at.side label) s) ≡ view s
 quiet_put at label s q = quiet_ring at.ring (puts at.side label) s (λ r t. put_sides at.side label r q)
 
 pub quiet_looked : (at : RingEnd) (s : State) → view (change_ring at.ring (looks at.side) s) ≡ view s
@@ -114,21 +114,21 @@ quiet_looked at s = quiet_ring at.ring (looks at.side) s (λ r t. look_sides at.
 
 -- ---- events
 
-quiet_label : (e : EndId) (i : Planned) (l : Label) (s : State) → view (takes_label e i l s).state ≡ view s
+pub quiet_label : (e : EndId) (i : Planned) (l : Label) (s : State) → view (takes_label e i l s).state ≡ view s
 quiet_label e i (next_of sender k) s = by_given (λ (o : Outcome). view o.state ≡ view s) (end_of s sender) _ _ refl (λ y q. quiet_end e _ (change_out sender takes_one s) ∙ quiet_end sender _ s)
 quiet_label e i (says m) s = refl
 quiet_label e i acknowledges s = refl
 
-quiet_written : (e : EndId) (i : Planned) (d : Direction) (o : Outlet) (s : State) → view (writes_to e i d o there_is_room s).state ≡ view s
+pub quiet_written : (e : EndId) (i : Planned) (d : Direction) (o : Outlet) (s : State) → view (writes_to e i d o there_is_room s).state ≡ view s
 quiet_written e i d peer_queue s = quiet_delivers _ (peer e) _ ∙ quiet_end e _ s
 quiet_written e i d (ring_side at) s = quiet_put at (next_of e (written_of d)) (change_out e (λ x. (writes i x there_is_room).direction) s) refl ∙ quiet_end e _ s
 
-first_delivered : (at : RingEnd) (first : RingLabel) (label : Label) (to : EndId) (s : State) → first_on at s ≡ Some first → first_on at (delivers label to s) ≡ Some first
+pub first_delivered : (at : RingEnd) (first : RingLabel) (label : Label) (to : EndId) (s : State) → first_on at s ≡ Some first → first_on at (delivers label to s) ≡ Some first
 first_delivered at first label to s f =
     let same : (delivers label to s).rings ≡ s.rings = channel_rings to _ _ in
     subst (λ (rs : List Ring). given (slice_get rs at.ring) None (first_for at.side) ≡ Some first) (sym same) f
 
-quiet_found : (t : Chosen) (at : RingEnd) (l : Label) (first : RingLabel) (s : State) → first_on at s ≡ Some first → first.label ≡ l → view (finds t at l s).state ≡ view s
+pub quiet_found : (t : Chosen) (at : RingEnd) (l : Label) (first : RingLabel) (s : State) → first_on at s ≡ Some first → first.label ≡ l → view (finds t at l s).state ≡ view s
 quiet_found t at (next_of e k) first s h q = quiet_core t.dispatcher.core _ s (λ k. refl)
 quiet_found t at (says m) first s h q = quiet_core t.dispatcher.core _ s (λ k. refl)
 quiet_found t at acknowledges first s h q = quiet_core t.dispatcher.core _ (change_ring at.ring (takes at.side) s) (λ k. refl) ∙ quiet_taken at first s h (ap said_by q)

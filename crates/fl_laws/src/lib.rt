@@ -7,7 +7,8 @@ ghost use Rattle.fl_queues.specs.State.{State, start};
 ghost use Rattle.fl_queues.specs.Step.{step};
 ghost use Rattle.fl_queues.specs.Runs.{reached};
 ghost use Rattle.fl_queues.specs.Sound.{Sound};
-ghost use Rattle.fl_queues.specs.SoundOpenings.{OpeningsGoInOrder};
+ghost use Rattle.fl_queues.specs.SoundOpenings.{OpeningsGoInOrder, MessagesAreDue, AnswersComeOnce};
+ghost use Rattle.fl_queues.specs.SoundEntries.{EntriesStand, EntriesAreDue, AnswersAreAwaited};
 ghost use Rattle.fl_queues.specs.SoundPlaces.{CoresStand, EndsStand, LinksArePaired, RingsHaveOneOwner, ServicesStand, SeatsAgree};
 ghost use Rattle.fl_queues.specs.SoundRoutes.{RoutesLead, NumbersGoAlongRoutes, VerdictsFit, EndsAreBound, NumbersWereOpened, NumbersAreOnce};
 ghost use Rattle.fl_queues.specs.SoundLabels.{LabelsKeepToTheirWays, WritesAreCounted, LabelsFollow, NothingBeforeTheOpening};
@@ -294,4 +295,28 @@ pub fn forwards_are_understood()
 /// other entry ever comes.
 pub fn tables_go_on()
     ensures kept { TablesGoOn }
+/// Each step of a sound state keeps the monitors' messages due: each that is under way is the one that is due for a binding,
+/// and stands where that is due.
+pub fn steps_keep_messages_due()
+    ensures kept { (s : State) (v : Event) → Sound s → MessagesAreDue (step s v).state }
+{}
+
+/// Each step of a sound state keeps that no two answers under way between two cores are for one circuit.
+pub fn steps_keep_answers_once()
+    ensures kept { (s : State) (v : Event) → Sound s → AnswersComeOnce (step s v).state }
+{}
+
+/// Each step of a sound state keeps each circuit's entries standing, as far as the circuit has come.
+pub fn steps_keep_entries()
+    ensures kept { (s : State) (v : Event) → Sound s → EntriesStand (step s v).state }
+{}
+
+/// Each step of a sound state keeps that no other entries stand than those that are due for a binding.
+pub fn steps_keep_entries_due()
+    ensures kept { (s : State) (v : Event) → Sound s → EntriesAreDue (step s v).state }
+{}
+
+/// Each step of a sound state keeps that the entries of cores that wait for an answer are not marked as answered.
+pub fn steps_keep_answers_awaited()
+    ensures kept { (s : State) (v : Event) → Sound s → AnswersAreAwaited (step s v).state }
 {}
