@@ -8,21 +8,16 @@ ghost use Rattle.fl_queues.specs.Step.{step};
 ghost use Rattle.fl_queues.specs.Runs.{reached};
 ghost use Rattle.fl_queues.specs.Sound.{Sound};
 ghost use Rattle.fl_queues.specs.SoundOpenings.{OpeningsGoInOrder, MessagesAreDue, AnswersComeOnce};
-ghost use Rattle.fl_queues.specs.SoundEntries.{EntriesStand, EntriesAreDue, AnswersAreAwaited};
 ghost use Rattle.fl_queues.specs.SoundPlaces.{CoresStand, EndsStand, LinksArePaired, RingsHaveOneOwner, ServicesStand, SeatsAgree};
 ghost use Rattle.fl_queues.specs.SoundRoutes.{RoutesLead, NumbersGoAlongRoutes, VerdictsFit, EndsAreBound, NumbersWereOpened, NumbersAreOnce};
 ghost use Rattle.fl_queues.specs.SoundLabels.{LabelsKeepToTheirWays, WritesAreCounted, LabelsFollow, NothingBeforeTheOpening};
-ghost use Rattle.fl_queues.specs.SoundRoutes.{RoutesLead};
-ghost use Rattle.fl_queues.specs.SoundLabels.{LabelsKeepToTheirWays, LabelsFollow, NothingBeforeTheOpening, WritesAreCounted};
 ghost use Rattle.fl_queues.specs.SoundRings.{RingsCount, RingsFit};
 ghost use Rattle.fl_queues.specs.Worlds.{WorldsAreSound, EverInOrder, EverFewWait, ListedHaveEnds, WritesUnderstand, ShowsUnderstand, TurnsGiveTheNext};
 ghost use Rattle.fl_queues.specs.SoundCalls.{CallsFit, RulesSuit};
 ghost use Rattle.fl_queues.specs.SoundLists.{FewRepliesWait, RepliesWaitWhereBusy, QueuesHaveRoom, OutboxesHaveRoom, BareUntilCoresAreSet, WaitsetsStand, ListedAreBound, PendingQueuesHold, PendingRingsWereLookedAt};
-ghost use Rattle.fl_queues.specs.Laws.{RingsCountInOrder, FewWaitAndOnlyWhereBusy, AllAccepted, PassedFalls, HandledIsCounted, HandledIsAPrefix, RefusalsChangeNothing, RunsAreSound, ChannelsAreOnce, PendingHasAFragment, TurnsUnderstand, ForwardsUnderstand};
+ghost use Rattle.fl_queues.specs.Laws.{RingsCountInOrder, FewWaitAndOnlyWhereBusy, AllAccepted, PassedFalls, HandledIsCounted, HandledIsAPrefix, RefusalsChangeNothing, TablesGoOn, RunsAreSound, ChannelsAreOnce, PendingHasAFragment, TurnsUnderstand, ForwardsUnderstand};
 ghost use Rattle.fl_queues.specs.SoundLimits.{RoutesKeepToCores, NumbersAreOnceBothWays, CoresAreFew, InterfacesAreFew, ServicesAreFew, BindingsAreFew};
-ghost use Rattle.fl_queues.specs.SoundLists.{FewRepliesWait, RepliesWaitWhereBusy, QueuesHaveRoom, OutboxesHaveRoom, BareUntilCoresAreSet, WaitsetsStand};
-ghost use Rattle.fl_queues.specs.Laws.{RingsCountInOrder, FewWaitAndOnlyWhereBusy, AllAccepted};
-ghost use Rattle.fl_queues.specs.Laws.{PassedFalls, HandledIsCounted, HandledIsAPrefix, RefusalsChangeNothing, TablesGoOn};
+ghost use Rattle.fl_queues.specs.SoundEntries.{EntriesStand, EntriesAreDue, AnswersAreAwaited};
 
 /// The start is a sound state.
 pub fn start_is_sound()
@@ -219,6 +214,38 @@ pub fn steps_keep_numbers_once_back()
     ensures kept { (s : State) (v : Event) → Sound s → NumbersAreOnceBothWays (step s v).state }
 {}
 
+/// Each step of a sound state keeps each core's table: numbers that were given stay given, and at a number that was given no
+/// other entry ever comes.
+pub fn tables_go_on()
+    ensures kept { TablesGoOn }
+{}
+
+/// Each step of a sound state keeps the monitors' messages due: each that is under way is the one that is due for a binding,
+/// and stands where that is due.
+pub fn steps_keep_messages_due()
+    ensures kept { (s : State) (v : Event) → Sound s → MessagesAreDue (step s v).state }
+{}
+
+/// Each step of a sound state keeps that no two answers under way between two cores are for one circuit.
+pub fn steps_keep_answers_once()
+    ensures kept { (s : State) (v : Event) → Sound s → AnswersComeOnce (step s v).state }
+{}
+
+/// Each step of a sound state keeps each circuit's entries standing, as far as the circuit has come.
+pub fn steps_keep_entries()
+    ensures kept { (s : State) (v : Event) → Sound s → EntriesStand (step s v).state }
+{}
+
+/// Each step of a sound state keeps that no other entries stand than those that are due for a binding.
+pub fn steps_keep_entries_due()
+    ensures kept { (s : State) (v : Event) → Sound s → EntriesAreDue (step s v).state }
+{}
+
+/// Each step of a sound state keeps that the entries of cores that wait for an answer are not marked as answered.
+pub fn steps_keep_answers_awaited()
+    ensures kept { (s : State) (v : Event) → Sound s → AnswersAreAwaited (step s v).state }
+{}
+
 /// Each step of a sound state keeps labels on their ways: on a link stand monitors' messages, acknowledgements, and fragments
 /// of ends whose way goes over it; on a binding's ring and in a queue the fragments of one end alone.
 pub fn steps_keep_labels_on_their_ways()
@@ -291,32 +318,4 @@ pub fn shows_are_understood()
 /// answer to an opening, an entry stands.
 pub fn forwards_are_understood()
     ensures understood { ForwardsUnderstand }
-/// Each step of a sound state keeps each core's table: numbers that were given stay given, and at a number that was given no
-/// other entry ever comes.
-pub fn tables_go_on()
-    ensures kept { TablesGoOn }
-/// Each step of a sound state keeps the monitors' messages due: each that is under way is the one that is due for a binding,
-/// and stands where that is due.
-pub fn steps_keep_messages_due()
-    ensures kept { (s : State) (v : Event) → Sound s → MessagesAreDue (step s v).state }
-{}
-
-/// Each step of a sound state keeps that no two answers under way between two cores are for one circuit.
-pub fn steps_keep_answers_once()
-    ensures kept { (s : State) (v : Event) → Sound s → AnswersComeOnce (step s v).state }
-{}
-
-/// Each step of a sound state keeps each circuit's entries standing, as far as the circuit has come.
-pub fn steps_keep_entries()
-    ensures kept { (s : State) (v : Event) → Sound s → EntriesStand (step s v).state }
-{}
-
-/// Each step of a sound state keeps that no other entries stand than those that are due for a binding.
-pub fn steps_keep_entries_due()
-    ensures kept { (s : State) (v : Event) → Sound s → EntriesAreDue (step s v).state }
-{}
-
-/// Each step of a sound state keeps that the entries of cores that wait for an answer are not marked as answered.
-pub fn steps_keep_answers_awaited()
-    ensures kept { (s : State) (v : Event) → Sound s → AnswersAreAwaited (step s v).state }
 {}
