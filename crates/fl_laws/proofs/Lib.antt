@@ -105,3 +105,4 @@ pub mod BoardHeard
 pub mod BoardBacks
 pub mod BoardLinks
 pub mod BoardLaw
+pub mod SoundSteps

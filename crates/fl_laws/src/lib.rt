@@ -12,10 +12,10 @@ ghost use Rattle.fl_queues.specs.SoundPlaces.{CoresStand, EndsStand, LinksArePai
 ghost use Rattle.fl_queues.specs.SoundRoutes.{RoutesLead, NumbersGoAlongRoutes, VerdictsFit, EndsAreBound, NumbersWereOpened, NumbersAreOnce};
 ghost use Rattle.fl_queues.specs.SoundLabels.{LabelsKeepToTheirWays, WritesAreCounted, LabelsFollow, NothingBeforeTheOpening};
 ghost use Rattle.fl_queues.specs.SoundRings.{RingsCount, RingsFit};
-ghost use Rattle.fl_queues.specs.Worlds.{WorldsAreSound, EverInOrder, EverFewWait, ListedHaveEnds, WritesUnderstand, ShowsUnderstand, TurnsGiveTheNext};
+ghost use Rattle.fl_queues.specs.Worlds.{WorldsAreSound, EverInOrder, EverFewWait, ListedHaveEnds, WritesUnderstand, ShowsUnderstand, TurnsGiveTheNext, EverSound, EverOnceBothWays, EverFits, EverHaveEnds};
 ghost use Rattle.fl_queues.specs.SoundCalls.{CallsFit, RulesSuit};
 ghost use Rattle.fl_queues.specs.SoundLists.{FewRepliesWait, RepliesWaitWhereBusy, QueuesHaveRoom, OutboxesHaveRoom, BareUntilCoresAreSet, WaitsetsStand, ListedAreBound, PendingQueuesHold, PendingRingsWereLookedAt};
-ghost use Rattle.fl_queues.specs.Laws.{RingsCountInOrder, FewWaitAndOnlyWhereBusy, AllAccepted, PassedFalls, HandledIsCounted, HandledIsAPrefix, RefusalsChangeNothing, TablesGoOn, RunsAreSound, ChannelsAreOnce, PendingHasAFragment, TurnsUnderstand, ForwardsUnderstand};
+ghost use Rattle.fl_queues.specs.Laws.{RingsCountInOrder, FewWaitAndOnlyWhereBusy, AllAccepted, PassedFalls, HandledIsCounted, HandledIsAPrefix, RefusalsChangeNothing, TablesGoOn, RunsAreSound, ChannelsAreOnce, PendingHasAFragment, TurnsUnderstand, ForwardsUnderstand, StepsAreSound, NumbersAreGivenOnce};
 ghost use Rattle.fl_queues.specs.SoundLimits.{RoutesKeepToCores, NumbersAreOnceBothWays, CoresAreFew, InterfacesAreFew, ServicesAreFew, BindingsAreFew};
 ghost use Rattle.fl_queues.specs.SoundEntries.{EntriesStand, EntriesAreDue, AnswersAreAwaited};
 
@@ -115,18 +115,6 @@ pub fn steps_keep_bare()
 /// there while the number of cores may be set.
 pub fn steps_keep_services()
     ensures kept { (s : State) (v : Event) → BareUntilCoresAreSet s → ServicesStand s → ServicesStand (step s v).state }
-{}
-
-/// Where in every state that a run reaches labels keep to their ways and numbers passed don't rise, the calls that an end
-/// handled are those that the fragments taken make whole.
-pub fn handled_is_counted_where_labels_keep_to_their_ways()
-    ensures counted { ((vs : List Event) → LabelsKeepToTheirWays (reached start vs)) → PassedFalls → HandledIsCounted }
-{}
-
-/// Where in every state that a run reaches labels keep to their ways and numbers passed don't rise, the calls that an end
-/// handled are a prefix of those that were accepted at the other, in order, with equal arguments.
-pub fn handled_is_a_prefix_where_labels_keep_to_their_ways()
-    ensures prefix { ((vs : List Event) → LabelsKeepToTheirWays (reached start vs)) → PassedFalls → HandledIsAPrefix }
 {}
 
 /// An event that is refused changes nothing, in any state at all.
@@ -283,16 +271,6 @@ pub fn listed_have_ends_in_sound_states()
     ensures ends { (s : State) → Sound s → ListedHaveEnds s }
 {}
 
-/// Where every state that a run reaches is sound, no channel stands twice in a waitset's lists.
-pub fn channels_are_once_where_runs_are_sound()
-    ensures once { RunsAreSound → ChannelsAreOnce }
-{}
-
-/// Where every state that a run reaches is sound, a pending channel has a fragment, and where that is a ring's it was looked at.
-pub fn pending_has_a_fragment_where_runs_are_sound()
-    ensures has { RunsAreSound → PendingHasAFragment }
-{}
-
 /// In a sound state, a turn answers `nothing` only where no channel of the dispatcher is pending or polled.
 pub fn turns_are_understood()
     ensures understood { TurnsUnderstand }
@@ -318,4 +296,66 @@ pub fn shows_are_understood()
 /// answer to an opening, an entry stands.
 pub fn forwards_are_understood()
     ensures understood { ForwardsUnderstand }
+{}
+
+/// Each step of a sound state leads to a sound state.
+pub fn steps_are_sound()
+    ensures sound { StepsAreSound }
+{}
+
+/// Every state that a run reaches is sound, from one core.
+pub fn runs_are_sound()
+    ensures sound { RunsAreSound }
+{}
+
+/// Every state that a run reaches is sound, from a world of 1 to 16 cores.
+pub fn worlds_stay_sound()
+    ensures sound { EverSound }
+{}
+
+/// In every state that a run reaches, no more fragments of a direction have passed a station than the one before it.
+pub fn passed_falls()
+    ensures falls { PassedFalls }
+{}
+
+/// The calls that an end handled over a run are those that the fragments taken make whole.
+pub fn handled_is_counted()
+    ensures counted { HandledIsCounted }
+{}
+
+/// The calls that an end handled over a run are a prefix of those that were accepted at the other end, in order, with equal
+/// arguments: over every route and back end.
+pub fn handled_is_a_prefix()
+    ensures prefix { HandledIsAPrefix }
+{}
+
+/// In every state that a run reaches, no channel stands twice in a waitset's lists.
+pub fn channels_are_once()
+    ensures once { ChannelsAreOnce }
+{}
+
+/// In every state that a run reaches, a pending channel has a fragment, and where that is a ring's it was looked at.
+pub fn pending_has_a_fragment()
+    ensures has { PendingHasAFragment }
+{}
+
+/// A circuit's number on a link is given once: in every state that a run reaches, where two routes have one number on the link
+/// from one core to the next, they are one binding's.
+pub fn numbers_are_given_once()
+    ensures once { NumbersAreGivenOnce }
+{}
+
+/// The same in both directions of a link, in every run from a world of 1 to 16 cores: whichever of the two cores gave the number.
+pub fn numbers_are_once_both_ways()
+    ensures once { EverOnceBothWays }
+{}
+
+/// In every run from a world of 1 to 16 cores, each call that an end accepted, and each reply that waits there, fits the interface.
+pub fn calls_ever_fit()
+    ensures fit { EverFits }
+{}
+
+/// In every run from a world of 1 to 16 cores, a channel that stands in a list of its dispatcher has an end, and that a binding.
+pub fn listed_ever_have_ends()
+    ensures ends { EverHaveEnds }
 {}
