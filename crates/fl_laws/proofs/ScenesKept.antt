@@ -1,5 +1,5 @@
 -- What keeps labels on their ways, and in order: labels of no call come and go, a fragment passes a station, a binding is made.
-use Rattle.std.proofs.Common.{◌≡◌, ◌≢◌, refl, sym, ◌∙◌, ap, subst, ℕ, zero, suc, ◌+◌, ◌-◌, ◌<◌, ◌≤◌, ◌==◌, ◌&&◌, Bool, true, false, if◌then◌else◌, List, [], ◌∷◌, ◌++◌, length, drop, slice_get, Option, Some, None, arith, ◌⊎◌, inl, inr}
+use Rattle.std.proofs.Common.{◌≡◌, ◌≢◌, refl, sym, ◌∙◌, ap, subst, ℕ, zero, suc, ◌+◌, ◌-◌, ◌==◌, ◌&&◌, Bool, true, false, if◌then◌else◌, List, [], ◌∷◌, ◌++◌, length, drop, slice_get, Option, Some, None, arith, ◌⊎◌, inl, inr}
 use Rattle.std.specs.Prelude.{slice_index}
 use Rattle.std.specs.List.{range_with_len, cons_option}
 use Rattle.std.proofs.lemmas.Bool.{eq-eqb}
@@ -19,7 +19,7 @@ use Rattle.fl_queues.specs.SoundLabels.{IsOf}
 use Rattle.fl_laws.proofs.Cases.{Each}
 use Rattle.fl_laws.proofs.Ends.{same_end_true}
 use Rattle.fl_laws.proofs.Flows.{Follows, same_follows, Passes, passes_follows}
-use Rattle.fl_laws.proofs.Scenes.{Joint, by_queue, by_one_ring, over, Flow, Sight, flow_in, way_on, Goes, Suits, queue_at, before, Good}
+use Rattle.fl_laws.proofs.Scenes.{Joint, by_queue, by_one_ring, over, Sight, flow_in, way_on, Goes, Suits, queue_at, before, Good}
 
 -- ---- ends
 
@@ -159,8 +159,8 @@ passed_grows : (S T : ℕ → Option Sight) (e : EndId) (i : ℕ) (x y : Sight) 
 passed_grows S T e i x y p n z q = elim (same_or n e.binding) [
   | inr d ↦ (z, p.rest n d ∙ q, refl)
   | inl d ↦ (
-    let same : x ≡ z = (let u : Some x ≡ Some z = sym p.was ∙ ap S (sym d) ∙ q in cc) in
-    (y, ap T d ∙ p.now, p.joint ∙ ap (λ (w : Sight). w.joint) same))
+      let same : x ≡ z = (let u : Some x ≡ Some z = sym p.was ∙ ap S (sym d) ∙ q in cc) in
+      (y, ap T d ∙ p.now, p.joint ∙ ap (λ (w : Sight). w.joint) same))
 ]
 
 pub passing_good : (R R2 : Owner → List Label) (S T : ℕ → Option Sight) (e : EndId) (i k : ℕ) (x y : Sight) → PassedBy S T e i x y

@@ -246,7 +246,7 @@ module _ (Called : EndId → TheCall → Binding → Planned → State → Type 
     (fitting : (e : EndId) (c : TheCall) (b : Binding) (i : Planned) (s : State) → Fitting e c b i s → Called e c b i s)
     (suiting : (e : EndId) (msg answer : ℕ) (b : Binding) (i : Planned) (s : State) → Suiting e msg answer b i s → Ruled e msg answer b i s)
     (onward : (here : LinkEnd) (p : Passing) (first : RingLabel) (route : Route) (hop : Hop) (on : RingEnd) (s : State)
-        → IsGoingOn here p first route hop on s → Passed here p first route hop on s)
+    → IsGoingOn here p first route hop on s → Passed here p first route hop on s)
     (P Q : State → Type 0) (weaker : (s : State) → P s → Q s) (K : KeepsUnder Called Ruled Passed P Q) where
   interface_after : (i : TheInterface) (plan : PlanNo) (s : State) → P s → After Q (adds_interface i plan s)
   interface_after i plan s h =
