@@ -1,7 +1,7 @@
 -- Of a circuit that isn't open nothing was written: each step of a sound state keeps it, since an end writes only once it is bound, and
 -- what is refused wasn't decided.
-use Rattle.std.proofs.Common.{◌≡◌, ◌≢◌, refl, sym, ◌∙◌, ap, subst, ℕ, zero, suc, ◌+◌, ◌-◌, ◌<◌, ◌≤◌, not, Bool, true, false, List, [], ◌∷◌, ◌++◌, length, map, replicate, slice_get, Option, Some, None, arith}
-use Rattle.std.specs.Prelude.{slice_index, IsSome, is_some}
+use Rattle.std.proofs.Common.{◌≡◌, ◌≢◌, refl, sym, ◌∙◌, ap, subst, ℕ, zero, suc, ◌+◌, ◌-◌, ◌≤◌, true, [], ◌∷◌, length, replicate, slice_get, Option, Some, None, arith}
+use Rattle.std.specs.Prelude.{slice_index, is_some}
 use Rattle.std.proofs.lemmas.Bool.{false≢true}
 use Rattle.fl_base.specs.declared.identity.EndId.{EndId}
 use Rattle.fl_base.specs.declared.identity.Side.{Side}
@@ -11,37 +11,34 @@ use Rattle.fl_hop.specs.declared.entry.Way.{Way}
 use Rattle.fl_hop.specs.declared.entry.Way.TheVariants.{Link as to_link, End as to_end}
 use Rattle.fl_hop.specs.declared.entry.Hop.{Hop}
 use Rattle.fl_hop.specs.Table.{hop_at}
-use Rattle.fl_queues.specs.Given.{given, changed_at}
 use Rattle.fl_queues.specs.Events.{DispatcherId, Event}
 use Rattle.fl_queues.specs.Calls.{Planned}
-use Rattle.fl_queues.specs.Rings.{Opening, Said, open_circuit, circuit_opened, circuit_refused, Label, next_of, says, acknowledges, RingLabel, Ring, RingSide, RingEnd, first_for, looks, makes_sure, puts, takes, there_is_room}
-use Rattle.fl_queues.specs.Ends.{Queue, Direction, End, fresh_queue, joined_by, without_first, accepts, writes, written_of, with_rule, passes, takes_one, last_station, comes_to, Taken, replies, is_bound, fresh_direction, Wrote, is_busy}
+use Rattle.fl_queues.specs.Rings.{Opening, Said, open_circuit, circuit_opened, circuit_refused, Label, next_of, says, acknowledges, RingLabel, Ring, RingSide, RingEnd, first_for, looks, makes_sure, takes, there_is_room}
+use Rattle.fl_queues.specs.Ends.{Queue, Direction, End, fresh_queue, joined_by, without_first, accepts, writes, written_of, with_rule, passes, takes_one, last_station, comes_to, replies, is_bound, fresh_direction, Wrote, is_busy}
 use Rattle.fl_queues.specs.Waits.{Dispatcher}
 use Rattle.fl_queues.specs.Monitors.{Core, can_say, Fate, goes_on, ends_at, fails, fate, hears_opening, hears_opened, hears_refused, Hearing, hears, Heard, no_outbox, astray, opening_went_on, server_made, opening_failed, answer_went_on, end_opened, end_refused}
-use Rattle.fl_queues.specs.State.{Verdict, undecided, granted, denied, Route, Back, local, over_ring, over_route, Binding, State, Outcome, Outlet, peer_queue, ring_side, first_on, core_of, dispatcher_of, binding_of, end_of, end_in, change_core, change_ring, change_end, change_out, change_channel, change_route, with_end_in, in_route, in_queue, seats, binds_end, delivers}
+use Rattle.fl_queues.specs.State.{Verdict, undecided, granted, denied, Route, Back, local, over_ring, over_route, Binding, State, Outcome, Outlet, peer_queue, ring_side, first_on, core_of, dispatcher_of, end_of, end_in, change_core, change_ring, change_end, change_out, change_channel, change_route, with_end_in, in_route, in_queue, seats, binds_end, delivers}
 use Rattle.fl_queues.specs.Binding.{Wanted, end_id, with_new_binding, binds_both, arrival_queue}
-use Rattle.fl_queues.specs.Sending.{writes_to, puts_to}
+use Rattle.fl_queues.specs.Sending.{puts_to}
 use Rattle.fl_queues.specs.Taking.{Chosen, takes_label, finds}
-use Rattle.fl_queues.specs.Forwarding.{LinkEnd, Passing, label_of, follows, takes_said, with_number, grants, denies, passes_word, word_passes}
+use Rattle.fl_queues.specs.Forwarding.{LinkEnd, label_of, follows, takes_said, with_number, grants, denies, passes_word, word_passes}
 use Rattle.fl_queues.specs.Step.{step}
-use Rattle.fl_queues.specs.Standing.{Routed}
 use Rattle.fl_queues.specs.SoundOpenings.{IsDue}
-use Rattle.fl_queues.specs.SoundRoutes.{NoneBound, BoundBy, BoundWhere, EndsAreBound}
+use Rattle.fl_queues.specs.SoundRoutes.{BoundBy, BoundWhere, EndsAreBound}
 use Rattle.fl_queues.specs.SoundLabels.{OpensBefore, NothingBeforeTheOpening}
 use Rattle.fl_queues.specs.SoundPlaces.{stations}
 use Rattle.fl_queues.specs.Sound.{Sound}
 use Rattle.fl_laws.proofs.Cases.{Each, each_changed, each_push, either, by_given}
-use Rattle.fl_laws.proofs.BindingWalk.{given_there, new_binding}
+use Rattle.fl_laws.proofs.BindingWalk.{new_binding}
 use Rattle.fl_laws.proofs.EndsStep.{is_not, queue_out, station_some, long_route}
 use Rattle.fl_laws.proofs.Flows.{index_else}
 use Rattle.fl_laws.proofs.Hearing.{LinkThere, link_there, is_under_way}
 use Rattle.fl_laws.proofs.LabelsMoved.{replies_passed, IsShaped, goes_on_passed}
-use Rattle.fl_laws.proofs.LabelsPass.{end_own, end_back}
 use Rattle.fl_laws.proofs.LabelsQuiet.{channel_bindings}
 use Rattle.fl_laws.proofs.LabelsSound.{shaped_of}
 use Rattle.fl_laws.proofs.Replies.{length_changed}
 use Rattle.fl_laws.proofs.Sitting.{OpensFor, opens_for}
-use Rattle.fl_laws.proofs.Walk.{At, KeepsFrom, IsHere, IsPassing, with_ring, step_leads}
+use Rattle.fl_laws.proofs.Walk.{KeepsFrom, IsHere, with_ring, step_leads}
 use Rattle.fl_laws.proofs.WaitsetsKept.{looks_same, sure_same, first_same}
 
 -- ---- one binding
@@ -252,7 +249,7 @@ writing_begun : (e : EndId) (b : Binding) (i : Planned) (s : State) → slice_ge
 writing_begun e b i s at bound where_bound h =
     each_changed BegunAt s.bindings e.binding (with_end_in e.side f) h
     (λ x q c. let same : b ≡ x = (let u : Some b ≡ Some x = sym at ∙ q in cc) in
-    subst (λ (y : Binding). BegunAt (with_end_in e.side f y)) same (record { long = long (subst BegunAt (sym same) c); begins = by e.side b.back refl }))
+    subst (λ (y : Binding). BegunAt (with_end_in e.side f y)) same (record { long = long (subst BegunAt (sym same) c); begins = by e.side }))
   where
     f : End → End
     f x = record x { out = (writes i x.out there_is_room).direction }
@@ -274,9 +271,9 @@ writing_begun e b i s at bound where_bound h =
         bound_opens b e.side route route.verdict refl (subst (λ (k : Back). BoundWhere k b) q where_bound) bound in
         (opens c.client.out, opens c.server.out)
 
-    by : (side : Side) (back : Back) → b.back ≡ back → Begins (with_end_in side (λ x. record x { out = (writes i x.out there_is_room).direction }) b).back (with_end_in side (λ x. record x { out = (writes i x.out there_is_room).direction }) b)
-    by Client back q = begins_by b.back refl (with_end_in Client (λ x. record x { out = (writes i x.out there_is_room).direction }) b)
-    by Server back q = begins_by b.back refl (with_end_in Server (λ x. record x { out = (writes i x.out there_is_room).direction }) b)
+    by : (side : Side) → Begins (with_end_in side (λ x. record x { out = (writes i x.out there_is_room).direction }) b).back (with_end_in side (λ x. record x { out = (writes i x.out there_is_room).direction }) b)
+    by Client = begins_by b.back refl (with_end_in Client (λ x. record x { out = (writes i x.out there_is_room).direction }) b)
+    by Server = begins_by b.back refl (with_end_in Server (λ x. record x { out = (writes i x.out there_is_room).direction }) b)
 
 put_begun : (e : EndId) (o : Outlet) (l : Label) (s : State) → AllBegun s → AllBegun (puts_to e o l s)
 put_begun e peer_queue l s h = delivered_begun l (peer e) s h

@@ -1,38 +1,35 @@
 -- A fragment leaves a link, for the next one or for the other end's queue: labels stay on their ways, and in order.
-use Rattle.std.proofs.Common.{◌≡◌, ◌≢◌, refl, sym, ◌∙◌, ap, subst, ℕ, zero, suc, ◌+◌, ◌-◌, ◌<◌, ◌≤◌, Bool, true, false, List, [], ◌∷◌, ◌++◌, length, drop, slice_get, Option, Some, None, arith}
+use Rattle.std.proofs.Common.{◌≡◌, ◌≢◌, refl, sym, ◌∙◌, ap, subst, ℕ, suc, ◌+◌, ◌<◌, List, [], ◌∷◌, ◌++◌, length, drop, slice_get, Option, Some, None, arith}
 use Rattle.std.specs.Prelude.{slice_index, IsSome}
 use Rattle.fl_base.specs.declared.identity.EndId.{EndId}
-use Rattle.fl_base.specs.declared.identity.Side.{Side}
-use Rattle.fl_base.specs.declared.identity.Side.TheVariants.{Client, Server}
 use Rattle.fl_base.specs.Ends.{other, peer}
-use Rattle.fl_hop.specs.declared.entry.Way.{Way}
 use Rattle.fl_hop.specs.declared.entry.Way.TheVariants.{Link as to_link, End as to_end}
 use Rattle.fl_hop.specs.declared.entry.Hop.{Hop}
 use Rattle.fl_queues.specs.Given.{given, changed_at}
-use Rattle.fl_queues.specs.Rings.{Label, next_of, RingLabel, RingEnd, there_is_room, puts, takes}
-use Rattle.fl_queues.specs.Ends.{Direction, Queue, End, joined_by, passes}
+use Rattle.fl_queues.specs.Rings.{Label, RingLabel, RingEnd, there_is_room, puts, takes}
+use Rattle.fl_queues.specs.Ends.{Direction, End, joined_by, passes}
 use Rattle.fl_queues.specs.Waits.{triggers}
 use Rattle.fl_queues.specs.Monitors.{Core, Link, link_to}
-use Rattle.fl_queues.specs.State.{Back, local, over_ring, over_route, Route, Binding, State, first_on, core_of, link_between, end_in, in_queue, with_end_in, change_end, change_out, change_ring, change_channel, delivers}
+use Rattle.fl_queues.specs.State.{Back, local, over_ring, over_route, Route, Binding, State, first_on, core_of, link_between, end_in, in_queue, with_end_in, change_end, change_out, change_ring, delivers}
 use Rattle.fl_queues.specs.Forwarding.{LinkEnd, Passing, label_of, goes_on_by, arrives_by, route_of}
 use Rattle.fl_queues.specs.Standing.{picked, number_of}
-use Rattle.fl_queues.specs.SoundPlaces.{Owner, core_to, this_end, stations}
+use Rattle.fl_queues.specs.SoundPlaces.{Owner, core_to, stations}
 use Rattle.fl_queues.specs.SoundLabels.{IsOf}
 use Rattle.fl_laws.proofs.Cases.{Each, each_push}
 use Rattle.fl_laws.proofs.EndsStep.{queue_out}
 use Rattle.fl_laws.proofs.Flows.{Passes}
 use Rattle.fl_laws.proofs.Hearing.{LinkThere, link_there}
 use Rattle.fl_laws.proofs.LabelsMoved.{EndsWere, ends_begin, ends_change, ends_same, put_suits, put_others, put_apart, take_suits, take_others, take_apart, own_each, HasQueue, IsShaped, number_passes}
-use Rattle.fl_laws.proofs.LabelsPass.{Moved, moved_good, queue_is, end_own, end_back, end_else, joint_kept, joined_queue, PassesOver, over_passes, before_link, reader, readers_differ}
+use Rattle.fl_laws.proofs.LabelsPass.{Moved, moved_good, queue_is, end_own, end_back, end_else, joint_kept, joined_queue, over_passes, before_link, reader, readers_differ}
 use Rattle.fl_laws.proofs.LabelsQuiet.{GoodIn, channel_bindings}
 use Rattle.fl_laws.proofs.Places.{Linked, ring_of, turned}
 use Rattle.fl_laws.proofs.PlacesStep.{plan_of, plan_ring, plan_quiet, owner_planned}
 use Rattle.fl_laws.proofs.Quiet.{quiet_end, quiet_channel}
 use Rattle.fl_laws.proofs.ReadsKept.{PutOn, TakenOff, put_reads, take_reads, first_read}
 use Rattle.fl_laws.proofs.RingsKept.{first_put, channel_rings}
-use Rattle.fl_laws.proofs.Scenes.{Joint, over, joint_of, queued, seen, sight_of, sights, reads, way_on, Goes, Suits, queue_at, before}
+use Rattle.fl_laws.proofs.Scenes.{over, joint_of, queued, seen, sight_of, sights, reads, way_on, Goes, Suits, queue_at, before}
 use Rattle.fl_laws.proofs.ScenesKept.{twice, number_other, picked_more, picked_first}
-use Rattle.fl_laws.proofs.Walk.{IsPassing, IsGoingOn, IsArriving}
+use Rattle.fl_laws.proofs.Walk.{IsPassing, IsGoingOn}
 use Rattle.fl_laws.proofs.Ways.{Once, once_on, way_long, got_index, got_within, LeadsOn}
 
 -- where a fragment stands that is first on a link, and where its entry leads

@@ -1,29 +1,27 @@
 -- A call's fragment is written, goes on over a link, arrives, or is taken: labels stay on their ways, and in order.
-use Rattle.std.proofs.Common.{◌≡◌, ◌≢◌, refl, sym, ◌∙◌, ap, subst, ℕ, zero, suc, ◌+◌, ◌-◌, ◌<◌, ◌≤◌, Bool, true, false, List, [], ◌∷◌, ◌++◌, length, drop, slice_get, Option, Some, None, arith, ◌⊎◌, inl, inr, if◌then◌else◌}
+use Rattle.std.proofs.Common.{◌≡◌, ◌≢◌, refl, sym, ◌∙◌, ap, subst, ℕ, suc, ◌+◌, ◌<◌, ◌≤◌, Bool, true, List, [], ◌∷◌, length, slice_get, Some, None, inl, inr, if◌then◌else◌}
 use Rattle.std.specs.Prelude.{slice_index, IsSome, IsNone}
 use Rattle.fl_base.specs.declared.identity.EndId.{EndId}
 use Rattle.fl_base.specs.declared.identity.Side.{Side}
-use Rattle.fl_base.specs.declared.identity.Side.TheVariants.{Client, Server}
-use Rattle.fl_base.specs.Ends.{other, peer}
-use Rattle.fl_queues.specs.Given.{given, changed_at}
+use Rattle.fl_base.specs.Ends.{peer}
+use Rattle.fl_queues.specs.Given.{changed_at}
 use Rattle.fl_queues.specs.Calls.{Planned}
-use Rattle.fl_queues.specs.Rings.{Label, next_of, RingLabel, RingEnd, there_is_room}
-use Rattle.fl_queues.specs.Ends.{Queue, Direction, End, Taken, whole, a_part, is_busy, passes, goes_on, accepts_waiting, writes, writes_by, replies, rule_at, accepts_or_waits}
+use Rattle.fl_queues.specs.Rings.{Label, RingLabel, RingEnd, there_is_room}
+use Rattle.fl_queues.specs.Ends.{Direction, End, Taken, whole, a_part, is_busy, passes, goes_on, accepts_waiting, writes, writes_by, replies, rule_at}
 use Rattle.fl_queues.specs.State.{Back, local, over_ring, over_route, Route, Binding, State, first_on, end_in, change_end, with_end_in}
 use Rattle.fl_queues.specs.Standing.{picked, number_of}
-use Rattle.fl_queues.specs.SoundPlaces.{Owner, core_to, this_end, stations}
+use Rattle.fl_queues.specs.SoundPlaces.{Owner, stations}
 use Rattle.fl_queues.specs.SoundLabels.{IsOf}
 use Rattle.fl_laws.proofs.Cases.{Each, each_push, either, by_given}
 use Rattle.fl_laws.proofs.Ends.{changed_here}
 use Rattle.fl_laws.proofs.LabelQueues.{each_drop}
-use Rattle.fl_laws.proofs.Flows.{Passes, first_passes, Follows}
+use Rattle.fl_laws.proofs.Flows.{first_passes, Follows}
 use Rattle.fl_laws.proofs.Places.{Linked, ring_of, turned, changed_other}
 use Rattle.fl_laws.proofs.PlacesStep.{plan_of}
-use Rattle.fl_laws.proofs.Scenes.{over, joint_of, queued, seen, sights, reads, way_on, Suits, queue_at, before, Flow, sight_of}
-use Rattle.fl_laws.proofs.ScenesKept.{twice, number_other, picked_more, picked_same, picked_first, picked_without}
-use Rattle.fl_laws.proofs.ReadsKept.{PutOn, TakenOff, put_cases, take_cases, put_reads, put_leaves, take_reads, take_leaves, first_read}
+use Rattle.fl_laws.proofs.Scenes.{joint_of, seen, sights, reads, Suits, before, Flow, sight_of}
+use Rattle.fl_laws.proofs.ScenesKept.{twice, picked_same, picked_without}
+use Rattle.fl_laws.proofs.ReadsKept.{PutOn, TakenOff, put_cases, take_cases, put_leaves, take_leaves, first_read}
 use Rattle.fl_laws.proofs.LabelsQuiet.{GoodIn}
-use Rattle.fl_laws.proofs.LabelsPass.{Moved, moved_good}
 use Rattle.fl_laws.proofs.Ways.{Once}
 use Rattle.fl_queues.specs.Events.{nothing}
 use Rattle.fl_value.specs.Value.{TheCall}

@@ -1,6 +1,6 @@
 -- A fragment passes a station of its way: what stands before each station of its direction then.
-use Rattle.std.proofs.Common.{◌≡◌, ◌≢◌, refl, sym, ◌∙◌, ap, subst, ℕ, zero, suc, ◌+◌, ◌-◌, ◌<◌, ◌≤◌, ◌==◌, Bool, true, false, if◌then◌else◌, List, [], ◌∷◌, ◌++◌, length, drop, slice_get, Option, Some, None, arith, ◌⊎◌, inl, inr}
-use Rattle.std.specs.Prelude.{slice_index, IsSome, is_some}
+use Rattle.std.proofs.Common.{◌≡◌, ◌≢◌, refl, sym, ◌∙◌, ap, subst, ℕ, suc, ◌+◌, ◌-◌, ◌<◌, ◌==◌, if◌then◌else◌, List, [], ◌∷◌, ◌++◌, length, drop, slice_get, Option, Some, None, arith, ◌⊎◌, inl, inr}
+use Rattle.std.specs.Prelude.{slice_index, IsSome}
 use Rattle.std.proofs.lemmas.Bool.{eq-eqb, ne_eqb}
 use Rattle.fl_base.specs.declared.identity.EndId.{EndId}
 use Rattle.fl_base.specs.declared.identity.Side.{Side}
@@ -8,15 +8,15 @@ use Rattle.fl_base.specs.declared.identity.Side.TheVariants.{Client, Server}
 use Rattle.fl_base.specs.Ends.{other, peer}
 use Rattle.fl_hop.proofs.Entering.{same_or}
 use Rattle.fl_queues.specs.Given.{given, changed_at}
-use Rattle.fl_queues.specs.Rings.{Label, next_of}
+use Rattle.fl_queues.specs.Rings.{Label}
 use Rattle.fl_queues.specs.Ends.{Queue, joined_by, without_first, End}
 use Rattle.fl_queues.specs.State.{Binding, State, end_in, in_queue, with_end_in}
 use Rattle.fl_queues.specs.Standing.{picked}
-use Rattle.fl_queues.specs.SoundPlaces.{Owner, core_to, this_end}
+use Rattle.fl_queues.specs.SoundPlaces.{Owner, core_to}
 use Rattle.fl_queues.specs.SoundLabels.{IsOf}
 use Rattle.fl_laws.proofs.Cases.{Each}
 use Rattle.fl_laws.proofs.Flows.{Passes}
-use Rattle.fl_laws.proofs.Scenes.{Joint, over, joint_of, Flow, Sight, sight_of, flow_in, queued, seen, sights, reads, way_on, Suits, queue_at, before}
+use Rattle.fl_laws.proofs.Scenes.{over, joint_of, Flow, Sight, sight_of, flow_in, queued, seen, sights, reads, way_on, Suits, queue_at, before}
 use Rattle.fl_laws.proofs.ScenesKept.{PassedBy, passing_good}
 use Rattle.fl_laws.proofs.ScenesSaid.{flow_at}
 use Rattle.fl_laws.proofs.LabelsQuiet.{GoodIn}
@@ -136,9 +136,6 @@ pub record Moved (s t : State) (e : EndId) (i : ℕ) (b c : Binding) : Type 0 wh
   pub queue : queued (end_in e.side c) ≡ queued (end_in e.side b)
   pub back : (end_in (other e.side) c).out.passed ≡ (end_in (other e.side) b).out.passed
   pub rest : (n : ℕ) → n ≢ e.binding → sights t n ≡ sights s n
-
-abbrev sight_ofs : Side → Binding → Flow
-sight_ofs side b = flow_in side (sight_of b)
 
 pub moved_by : (s t : State) (e : EndId) (i : ℕ) (b c : Binding) → Moved s t e i b c → PassedBy (sights s) (sights t) e i (sight_of b) (sight_of c)
 moved_by s t e i b c m = record {

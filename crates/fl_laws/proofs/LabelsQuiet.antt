@@ -1,21 +1,18 @@
 -- Events that leave labels where they stand, put or take one of no call, or make a binding.
-use Rattle.std.proofs.Common.{◌≡◌, ◌≢◌, refl, sym, ◌∙◌, ap, subst, ℕ, zero, suc, ◌+◌, ◌<◌, List, [], ◌∷◌, ◌++◌, length, map, drop, replicate, slice_get, Option, Some, None, option_map, arith, ◌⊎◌, inl, inr}
+use Rattle.std.proofs.Common.{◌≡◌, ◌≢◌, refl, sym, ◌∙◌, ap, subst, ℕ, zero, suc, List, [], ◌∷◌, ◌++◌, length, replicate, slice_get, Option, Some, None, ◌⊎◌, inl, inr}
 use Rattle.std.specs.Prelude.{slice_index}
-use Rattle.std.specs.List.{range_with_len}
 use Rattle.fl_base.specs.declared.identity.EndId.{EndId}
 use Rattle.fl_base.specs.declared.identity.Side.{Side}
 use Rattle.fl_base.specs.declared.identity.Side.TheVariants.{Client, Server}
-use Rattle.fl_base.specs.Ends.{peer}
-use Rattle.fl_hop.proofs.Entering.{same_or}
 use Rattle.fl_queues.specs.Given.{given, changed_at}
 use Rattle.fl_queues.specs.Events.{DispatcherId}
-use Rattle.fl_queues.specs.Rings.{Label, next_of, says, acknowledges, RingLabel, Ring, RingEnd, looks, makes_sure, puts, takes, fresh_ring, Said}
-use Rattle.fl_queues.specs.Ends.{Queue, End, fresh_queue}
+use Rattle.fl_queues.specs.Rings.{Label, says, acknowledges, RingLabel, Ring, RingEnd, fresh_ring, Said}
+use Rattle.fl_queues.specs.Ends.{Queue, End}
 use Rattle.fl_queues.specs.Waits.{Dispatcher}
-use Rattle.fl_queues.specs.Monitors.{Core, fresh_core, Heard, no_outbox, astray, opening_went_on, server_made, opening_failed, answer_went_on, end_opened, end_refused}
+use Rattle.fl_queues.specs.Monitors.{Core, Heard, no_outbox, astray, opening_went_on, server_made, opening_failed, answer_went_on, end_opened, end_refused}
 use Rattle.fl_queues.specs.State.{Back, local, over_ring, over_route, Route, Binding, State, first_on, dispatcher_of, end_of, end_in, change_core, change_ring, change_end, change_channel, change_route, with_end_in, in_route, seats, binds_end, change_dispatcher, own_ring}
 use Rattle.fl_queues.specs.Binding.{Wanted, end_id, with_new_binding, binds_both}
-use Rattle.fl_queues.specs.Forwarding.{follows, takes_said, with_number, grants, denies, passes_word}
+use Rattle.fl_queues.specs.Forwarding.{follows, with_number, grants, denies, passes_word}
 use Rattle.fl_queues.specs.Standing.{picked, number_of}
 use Rattle.fl_queues.specs.SoundPlaces.{Owner, core_to, this_end}
 use Rattle.fl_laws.proofs.Cases.{by_given, Each, each_push}
@@ -23,13 +20,13 @@ use Rattle.fl_laws.proofs.BindingWalk.{new_binding}
 use Rattle.fl_laws.proofs.Ends.{changed_alike}
 use Rattle.fl_laws.proofs.LabelQueues.{each_drop}
 use Rattle.fl_laws.proofs.Places.{Linked, ring_of, turned, none_same, with_none, with_joined, joined_stays, joined_comes}
-use Rattle.fl_laws.proofs.PlacesStep.{plan_of, plan_ring, plan_route, plan_quiet, end_planned, joined_push, three, length_push}
-use Rattle.fl_laws.proofs.Quiet.{quiet_core, quiet_end, quiet_channel, quiet_seats, quiet_binds, quiet_both}
+use Rattle.fl_laws.proofs.PlacesStep.{plan_of, plan_route, plan_quiet, end_planned, joined_push, three, length_push}
+use Rattle.fl_laws.proofs.Quiet.{quiet_core, quiet_end, quiet_channel, quiet_seats}
 use Rattle.fl_laws.proofs.Ready.{get_last}
 use Rattle.fl_laws.proofs.RingsKept.{channel_rings, seats_rings}
 use Rattle.fl_laws.proofs.Scenes.{joint_of, flow_of, Flow, Sight, sight_of, flow_in, seen, sights, labels_at, reads, Suits, Good, Joint, over}
 use Rattle.fl_laws.proofs.ScenesKept.{quiet_good, NewOne, new_good, picked_same, picked_without}
-use Rattle.fl_laws.proofs.ReadsKept.{RingsOnly, PutOn, TakenOff, put_cases, take_cases, first_read, looks_labels, sure_labels, reads_seen, OneMore, reads_more}
+use Rattle.fl_laws.proofs.ReadsKept.{PutOn, TakenOff, put_cases, take_cases, first_read, OneMore}
 use Rattle.fl_laws.proofs.Walk.{with_ring}
 
 abbrev pub GoodIn : State → Type 0

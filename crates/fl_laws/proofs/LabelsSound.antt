@@ -1,6 +1,6 @@
 -- Each step of a sound state keeps labels on their ways and in order.
-use Rattle.std.proofs.Common.{◌≡◌, ◌≢◌, refl, sym, ◌∙◌, ap, subst, ℕ, zero, suc, ◌+◌, ◌-◌, ◌<◌, ◌≤◌, List, [], ◌∷◌, length, drop, slice_get, Option, Some, None, arith}
-use Rattle.std.specs.Prelude.{slice_index, IsSome, IsNone}
+use Rattle.std.proofs.Common.{◌≡◌, refl, sym, ◌∙◌, ap, subst, ℕ, zero, suc, ◌+◌, ◌<◌, ◌≤◌, List, length, drop, slice_get, Option, Some, None, arith}
+use Rattle.std.specs.Prelude.{slice_index}
 use Rattle.fl_base.specs.declared.identity.EndId.{EndId}
 use Rattle.fl_base.specs.declared.identity.Side.{Side}
 use Rattle.fl_base.specs.declared.identity.Side.TheVariants.{Client, Server}
@@ -9,12 +9,12 @@ use Rattle.fl_queues.specs.Given.{given}
 use Rattle.fl_queues.specs.Events.{Event}
 use Rattle.fl_queues.specs.Rings.{RingLabel}
 use Rattle.fl_queues.specs.Ends.{Direction, End, written_of}
-use Rattle.fl_queues.specs.State.{Verdict, undecided, granted, denied, Route, Back, local, over_ring, over_route, Binding, State, end_in, end_of, way_of, place_in}
+use Rattle.fl_queues.specs.State.{Verdict, undecided, granted, denied, Route, Back, local, over_ring, over_route, Binding, State, end_in, way_of, place_in}
 use Rattle.fl_queues.specs.Binding.{end_id}
 use Rattle.fl_queues.specs.Forwarding.{LinkEnd, Passing, label_of}
 use Rattle.fl_queues.specs.Step.{step}
 use Rattle.fl_queues.specs.Standing.{Routed, standing, standing_by, picked}
-use Rattle.fl_queues.specs.SoundPlaces.{Owner, core_to, stations, TakesFrom, EndsStand, EndStands}
+use Rattle.fl_queues.specs.SoundPlaces.{core_to, stations, TakesFrom, EndStands}
 use Rattle.fl_queues.specs.SoundRoutes.{RouteLeads}
 use Rattle.fl_queues.specs.SoundLabels.{LabelsFollow, LabelsKeepToTheirWays, OpensBefore}
 use Rattle.fl_queues.specs.Sound.{Sound}
@@ -32,7 +32,7 @@ use Rattle.fl_laws.proofs.Scenes.{over, joint_of, Sight, sight_of, seen, sights,
 use Rattle.fl_laws.proofs.ScenesKept.{picked_first}
 use Rattle.fl_laws.proofs.ScenesSaid.{way_at, good_of, ways_of, follows_of}
 use Rattle.fl_laws.proofs.Walk.{IsPassing}
-use Rattle.fl_laws.proofs.Ways.{Once, once_of, once_on, way_long, got_index, got_within, place_got, dropped_got, LeadsOn, leads_on}
+use Rattle.fl_laws.proofs.Ways.{Once, once_of, once_on, way_long, got_index, got_within, place_got, dropped_got, leads_on}
 
 -- ---- bindings
 

@@ -1,8 +1,7 @@
 -- Each step keeps labels on their ways and in order, where links are paired, ends stand, and what stands first on a link goes on along
 -- its way.
-use Rattle.std.proofs.Common.{◌≡◌, refl, sym, ◌∙◌, ap, subst, ℕ, zero, suc, ◌+◌, not, Bool, true, false, List, [], ◌∷◌, length, map, slice_get, Option, Some, None}
+use Rattle.std.proofs.Common.{◌≡◌, refl, sym, ◌∙◌, ap, subst, ℕ, ◌+◌, List, [], ◌∷◌, length, map, slice_get, Option, Some, None}
 use Rattle.std.specs.List.{range_with_len}
-use Rattle.fl_base.specs.declared.identity.EndId.{EndId}
 use Rattle.fl_base.specs.declared.identity.Side.TheVariants.{Client}
 use Rattle.fl_lists.specs.declared.place.Place.TheVariants.{Polled, Pending}
 use Rattle.fl_hop.specs.declared.entry.Hop.{Hop}
@@ -11,11 +10,11 @@ use Rattle.fl_queues.specs.Events.{Event}
 use Rattle.fl_queues.specs.Rings.{Opening, Said, Label, next_of, says, acknowledges, RingLabel, Ring, RingSide, RingEnd, first_for, looks, makes_sure, puts, takes}
 use Rattle.fl_queues.specs.Ends.{fresh_queue, accepts, with_rule, without_first}
 use Rattle.fl_queues.specs.Waits.{waits_in, puts_off, registers, deregisters}
-use Rattle.fl_queues.specs.Monitors.{Core, fresh_core, opens, Heard, no_outbox, astray, opening_went_on, server_made, opening_failed, answer_went_on, end_opened, end_refused, Hearing, hears}
-use Rattle.fl_queues.specs.State.{Route, local, over_ring, over_route, undecided, Binding, State, first_on, core_of, end_in, change_core, change_ring, change_dispatcher, seats}
+use Rattle.fl_queues.specs.Monitors.{fresh_core, opens, Heard, no_outbox, astray, opening_went_on, server_made, opening_failed, answer_went_on, end_opened, end_refused, Hearing, hears}
+use Rattle.fl_queues.specs.State.{Route, local, over_ring, over_route, undecided, Binding, State, first_on, change_core, change_ring, seats}
 use Rattle.fl_queues.specs.Making.{with_new_link, with_dispatcher}
 use Rattle.fl_queues.specs.Binding.{Wanted, end_id, with_new_binding, binds_both, with_circuit_begun, arrival_queue}
-use Rattle.fl_queues.specs.Taking.{Chosen, finds, goes_back, comes_off}
+use Rattle.fl_queues.specs.Taking.{Chosen, finds, comes_off}
 use Rattle.fl_queues.specs.Forwarding.{LinkEnd, Passing, follows, takes_said, without_first_said}
 use Rattle.fl_queues.specs.Step.{step}
 use Rattle.fl_queues.specs.SoundLists.{IsBare, BareUntilCoresAreSet}
@@ -32,7 +31,7 @@ use Rattle.fl_laws.proofs.Places.{Linked, ring_of, turned}
 use Rattle.fl_laws.proofs.PlacesStep.{plan_of, plan_ring, plan_core, plan_quiet, owner_planned, heard_outline, core_outline, same_some, written_plan, two_lists, said_rings, neighbours_of, link_rings, opening_counted}
 use Rattle.fl_laws.proofs.Quiet.{quiet_core}
 use Rattle.fl_laws.proofs.ReadsKept.{SeesSame, looks_labels, sure_labels, reads_seen, reads_more, link_more}
-use Rattle.fl_laws.proofs.Scenes.{sights, reads, labels_at, Suits, Good, Sight}
+use Rattle.fl_laws.proofs.Scenes.{sights, reads, labels_at, Suits, Sight}
 use Rattle.fl_laws.proofs.ScenesKept.{quiet_good}
 use Rattle.fl_laws.proofs.Services.{ring_bare}
 use Rattle.fl_laws.proofs.Walk.{KeepsUnder, CalledAt, RuledAt, IsHere, IsPassing, IsGoingOn, with_ring, step_leads_under}
@@ -103,9 +102,6 @@ said_good : (at : RingEnd) (x : Heard) (m : Said) (first : RingLabel) (s : State
     → GoodIn (follows x (takes_said at x s)).state
 said_good at x m first s q r h = by x
   where
-    taken : State
-    taken = change_ring at.ring (takes at.side) s
-
     after : GoodIn (change_ring at.ring (takes at.side) s)
     after = quiet_take s (change_ring at.ring (takes at.side) s) at first (record { plan = plan_ring at.ring (takes at.side) s; rings = refl }) (λ n. refl) q (no_call_said first.label m r) h
 

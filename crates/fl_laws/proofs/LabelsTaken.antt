@@ -1,34 +1,33 @@
 -- An end takes a fragment: labels stay on their ways, and in order.
-use Rattle.std.proofs.Common.{◌≡◌, ◌≢◌, refl, sym, ◌∙◌, ap, subst, ℕ, zero, suc, ◌+◌, ◌-◌, ◌<◌, ◌≤◌, Bool, true, false, List, [], ◌∷◌, ◌++◌, length, drop, slice_get, Option, Some, None, arith}
+use Rattle.std.proofs.Common.{◌≡◌, refl, sym, ◌∙◌, ap, subst, ℕ, suc, ◌+◌, ◌-◌, ◌≤◌, List, [], ◌∷◌, length, drop, slice_get, Option, Some, None, arith}
 use Rattle.std.specs.Prelude.{slice_index, IsSome, IsNone, is_some}
 use Rattle.fl_base.specs.declared.identity.EndId.{EndId}
 use Rattle.fl_base.specs.declared.identity.Side.{Side}
 use Rattle.fl_base.specs.declared.identity.Side.TheVariants.{Client, Server}
 use Rattle.fl_base.specs.Ends.{other, peer}
-use Rattle.fl_queues.specs.Given.{given, changed_at}
+use Rattle.fl_queues.specs.Given.{given}
 use Rattle.fl_queues.specs.Events.{DispatcherId}
 use Rattle.fl_queues.specs.Calls.{Planned}
 use Rattle.fl_queues.specs.Rings.{Label, next_of, says, acknowledges, RingLabel, RingEnd, takes}
 use Rattle.fl_queues.specs.Ends.{Queue, Direction, End, Taken, without_first, takes_one, last_station, comes_to, replies}
 use Rattle.fl_queues.specs.Waits.{Dispatcher}
-use Rattle.fl_queues.specs.State.{Back, local, over_ring, over_route, Route, Binding, State, Outcome, answers, first_on, own_ring, end_in, end_of, in_queue, with_end_in, change_end, change_out, change_ring, change_dispatcher}
-use Rattle.fl_queues.specs.Taking.{takes_label, takes_next, taken_answer}
-use Rattle.fl_queues.specs.Events.{Answer}
+use Rattle.fl_queues.specs.State.{Back, local, over_ring, over_route, Binding, State, Outcome, first_on, own_ring, end_in, end_of, in_queue, with_end_in, change_end, change_out, change_ring, change_dispatcher}
+use Rattle.fl_queues.specs.Taking.{takes_label}
 use Rattle.fl_queues.specs.Standing.{picked, number_of}
-use Rattle.fl_queues.specs.SoundPlaces.{Owner, core_to, this_end, stations}
+use Rattle.fl_queues.specs.SoundPlaces.{Owner, this_end, stations}
 use Rattle.fl_queues.specs.SoundLabels.{IsOf, MayStandFrom}
 use Rattle.fl_laws.proofs.Cases.{Each}
 use Rattle.fl_laws.proofs.EndsStep.{queue_out}
 use Rattle.fl_laws.proofs.Flows.{Passes}
 use Rattle.fl_laws.proofs.LabelQueues.{each_drop, replies_queue}
 use Rattle.fl_laws.proofs.LabelsMoved.{EndsWere, ends_begin, ends_change, ends_same, replies_passed, take_suits, take_others, own_each, HasQueue, IsShaped, number_passes}
-use Rattle.fl_laws.proofs.LabelsPass.{Moved, moved_good, queue_is, end_own, end_back, end_else, joint_kept, emptied_queue, PassesOver, over_passes, take_passes, before_last, reader}
+use Rattle.fl_laws.proofs.LabelsPass.{Moved, moved_good, queue_is, end_own, end_back, end_else, joint_kept, emptied_queue, over_passes, take_passes, before_last, reader}
 use Rattle.fl_laws.proofs.LabelsQuiet.{GoodIn, quiet, quiet_at_dispatcher, quiet_take, no_call_told}
 use Rattle.fl_laws.proofs.Places.{Linked, ring_of}
 use Rattle.fl_laws.proofs.PlacesStep.{plan_of, plan_ring, plan_quiet, owner_planned, own_back}
-use Rattle.fl_laws.proofs.Quiet.{quiet_end, quiet_core}
+use Rattle.fl_laws.proofs.Quiet.{quiet_end}
 use Rattle.fl_laws.proofs.ReadsKept.{TakenOff, take_reads, first_read}
-use Rattle.fl_laws.proofs.Scenes.{Joint, by_queue, by_one_ring, over, joint_of, queued, seen, sights, reads, labels_at, way_on, Suits, queue_at, before}
+use Rattle.fl_laws.proofs.Scenes.{by_queue, by_one_ring, over, joint_of, queued, seen, sights, reads, labels_at, way_on, Suits, queue_at, before}
 use Rattle.fl_laws.proofs.ScenesKept.{twice, number_other, picked_first}
 use Rattle.fl_laws.proofs.Ways.{way_long}
 

@@ -1,5 +1,5 @@
 -- A fragment is written: labels stay on their ways, and in order.
-use Rattle.std.proofs.Common.{◌≡◌, ◌≢◌, refl, sym, ◌∙◌, ap, subst, ℕ, zero, suc, ◌+◌, ◌<◌, ◌≤◌, Bool, true, false, List, [], ◌∷◌, ◌++◌, length, slice_get, Option, Some, None, arith}
+use Rattle.std.proofs.Common.{◌≡◌, refl, sym, ◌∙◌, ap, subst, ℕ, ◌+◌, ◌<◌, true, List, [], ◌∷◌, ◌++◌, length, slice_get, Some, arith}
 use Rattle.std.specs.Prelude.{slice_index, IsSome}
 use Rattle.fl_base.specs.declared.identity.EndId.{EndId}
 use Rattle.fl_base.specs.declared.identity.Side.{Side}
@@ -8,9 +8,9 @@ use Rattle.fl_base.specs.Ends.{other, peer}
 use Rattle.fl_queues.specs.Given.{given, changed_at}
 use Rattle.fl_queues.specs.Calls.{Planned}
 use Rattle.fl_queues.specs.Rings.{Label, next_of, RingEnd, there_is_room, puts}
-use Rattle.fl_queues.specs.Ends.{Queue, Direction, End, is_busy, joined_by, writes, written_of}
+use Rattle.fl_queues.specs.Ends.{Direction, End, is_busy, joined_by, writes, written_of}
 use Rattle.fl_queues.specs.Monitors.{Link}
-use Rattle.fl_queues.specs.State.{Back, local, over_ring, over_route, Route, Binding, State, Outlet, peer_queue, ring_side, outlet_by, side_of, first_link, link_between, own_ring, end_in, in_queue, with_end_in, change_end, change_out, change_ring, delivers, way_of}
+use Rattle.fl_queues.specs.State.{Back, local, over_ring, over_route, Route, Binding, State, Outlet, peer_queue, ring_side, outlet_by, side_of, first_link, link_between, own_ring, end_in, in_queue, with_end_in, change_end, change_ring, delivers, way_of}
 use Rattle.fl_queues.specs.Sending.{writes_to}
 use Rattle.fl_queues.specs.Standing.{picked}
 use Rattle.fl_queues.specs.SoundPlaces.{Owner, core_to, this_end, stations, opposite}
@@ -20,13 +20,13 @@ use Rattle.fl_laws.proofs.Cases.{Each, each_push}
 use Rattle.fl_laws.proofs.EndsStep.{queue_out}
 use Rattle.fl_laws.proofs.Flows.{Passes}
 use Rattle.fl_laws.proofs.LabelsMoved.{EndsWere, ends_begin, ends_change, writes_passed, put_suits, put_others, put_apart, own_each, HasQueue, IsShaped}
-use Rattle.fl_laws.proofs.LabelsPass.{Moved, moved_good, queue_is, end_own, end_back, end_else, joint_kept, joined_queue, PassesOver, over_passes, write_passes, reader, readers_differ}
+use Rattle.fl_laws.proofs.LabelsPass.{Moved, moved_good, queue_is, end_own, end_back, end_else, joint_kept, joined_queue, over_passes, write_passes, reader, readers_differ}
 use Rattle.fl_laws.proofs.LabelsQuiet.{GoodIn, quiet, quiet_at_channel}
 use Rattle.fl_laws.proofs.Places.{Linked, ring_of, turned}
 use Rattle.fl_laws.proofs.PlacesStep.{plan_of, plan_ring, plan_quiet, owner_planned}
 use Rattle.fl_laws.proofs.Quiet.{quiet_end}
 use Rattle.fl_laws.proofs.ReadsKept.{PutOn, put_reads}
-use Rattle.fl_laws.proofs.Scenes.{Joint, by_queue, by_one_ring, over, joint_of, queued, seen, sights, reads, labels_at, way_on, Goes, Suits, queue_at, before, sight_of}
+use Rattle.fl_laws.proofs.Scenes.{by_queue, by_one_ring, over, joint_of, queued, seen, sights, reads, labels_at, way_on, Goes, Suits, queue_at, before, sight_of}
 use Rattle.fl_laws.proofs.ScenesKept.{twice, number_other, picked_more}
 use Rattle.fl_laws.proofs.ScenesSaid.{way_at}
 use Rattle.fl_laws.proofs.Ways.{Once, once_on, way_long, got_index, got_within}

@@ -1,21 +1,17 @@
 -- What stands before each reader after a label is put on a ring or taken, after a look, and after a ring is made.
-use Rattle.std.proofs.Common.{◌≡◌, ◌≢◌, refl, sym, ◌∙◌, ap, subst, ℕ, zero, suc, ◌+◌, ◌<◌, List, [], ◌∷◌, ◌++◌, length, drop, slice_get, Option, Some, None, option_map, arith, ◌⊎◌, inl, inr, ◌||◌, nat_le}
-use Rattle.std.proofs.lemmas.List.{append-nil}
-use Rattle.fl_base.specs.declared.identity.EndId.{EndId}
-use Rattle.fl_base.specs.declared.identity.Side.{Side}
-use Rattle.fl_base.specs.declared.identity.Side.TheVariants.{Client, Server}
+use Rattle.std.proofs.Common.{◌≡◌, ◌≢◌, refl, sym, ◌∙◌, ap, subst, ℕ, ◌<◌, List, [], ◌∷◌, ◌++◌, length, drop, slice_get, Option, Some, None, option_map, ◌⊎◌, inl, inr, ◌||◌, nat_le}
 use Rattle.fl_hop.proofs.Entering.{same_or}
-use Rattle.fl_hop.proofs.Lists.{push_keeps, push_cases, at_within}
+use Rattle.fl_hop.proofs.Lists.{push_keeps, at_within}
 use Rattle.fl_queues.specs.Given.{given, changed_at}
 use Rattle.fl_queues.specs.Rings.{Label, RingLabel, Ring, RingSide, first_side, second_side, RingEnd, read_by, first_for, puts, takes, looks, makes_sure, fresh_ring, is_spent, free}
 use Rattle.fl_queues.specs.State.{State, first_on, change_ring}
 use Rattle.fl_queues.specs.Making.{with_new_link}
 use Rattle.fl_queues.specs.Standing.{labels_of}
-use Rattle.fl_queues.specs.SoundPlaces.{Owner, core_to, this_end, opposite}
-use Rattle.fl_laws.proofs.Cases.{either, by_given, Each}
+use Rattle.fl_queues.specs.SoundPlaces.{Owner, core_to, this_end}
+use Rattle.fl_laws.proofs.Cases.{either, by_given}
 use Rattle.fl_laws.proofs.Places.{Plan, Linked, ring_of, turned, changed_same, changed_other, join_stays, join_comes, join_even, joins, with_link_between, IsEven}
 use Rattle.fl_laws.proofs.PlacesStep.{plan_of, plan_ring, link_plan}
-use Rattle.fl_laws.proofs.Scenes.{labels_at, reads, put_here, put_else, take_here, take_else, end_or, gone_past}
+use Rattle.fl_laws.proofs.Scenes.{labels_at, reads, put_here, put_else, take_here, take_else, end_or}
 
 -- ---- a label is put, or taken
 

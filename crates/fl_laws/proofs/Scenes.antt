@@ -1,18 +1,18 @@
 -- What labels speak of, apart from all else: how many fragments of each end have passed each station, what stands in each queue and
 -- before each reader of a ring. Links and rings are told by who reads them.
-use Rattle.std.proofs.Common.{◌≡◌, ◌≢◌, refl, sym, ◌∙◌, ap, subst, ℕ, zero, suc, ◌+◌, ◌-◌, ◌<◌, ◌==◌, if◌then◌else◌, List, [], ◌∷◌, ◌++◌, length, map, drop, slice_get, Option, Some, None, option_map, arith, ◌⊎◌, inl, inr, reverse, slice_set}
+use Rattle.std.proofs.Common.{◌≡◌, ◌≢◌, refl, sym, ◌∙◌, ap, subst, ℕ, suc, ◌-◌, ◌<◌, ◌==◌, if◌then◌else◌, List, [], ◌∷◌, ◌++◌, length, drop, slice_get, Option, Some, None, option_map, ◌⊎◌, inl, inr, reverse}
 use Rattle.std.specs.Prelude.{slice_index}
 use Rattle.std.proofs.lemmas.List.{map-append}
 use Rattle.fl_base.specs.declared.identity.EndId.{EndId}
 use Rattle.fl_base.specs.declared.identity.Side.{Side}
 use Rattle.fl_base.specs.declared.identity.Side.TheVariants.{Client, Server}
-use Rattle.fl_base.specs.Ends.{other, peer}
+use Rattle.fl_base.specs.Ends.{peer}
 use Rattle.fl_hop.proofs.Entering.{same_or}
 use Rattle.fl_hop.proofs.Lists.{at_within}
 use Rattle.fl_queues.specs.Given.{given, changed_at}
 use Rattle.fl_queues.specs.Rings.{Label, next_of, RingLabel, Ring, RingSide, first_side, second_side, RingEnd, read_by, puts, takes}
-use Rattle.fl_queues.specs.Ends.{End, Queue}
-use Rattle.fl_queues.specs.State.{Back, local, over_ring, over_route, Binding, State, end_in}
+use Rattle.fl_queues.specs.Ends.{End}
+use Rattle.fl_queues.specs.State.{Back, local, over_ring, over_route, Binding, State}
 use Rattle.fl_queues.specs.Standing.{labels_of, picked}
 use Rattle.fl_queues.specs.SoundPlaces.{Owner, core_to, this_end, opposite}
 use Rattle.fl_queues.specs.SoundLabels.{MayStandFrom, IsOf}
@@ -213,6 +213,3 @@ end_or x y = elim (same_or x.ring y.ring) [
     | inr e ↦ inr (λ f. not_turned y.side (sym (ap (λ (z : RingEnd). z.side) f) ∙ e))
   ]
 ]
-
-pub gone_past : (rs : List Ring) (n : ℕ) (f : Ring → Ring) → slice_get rs n ≡ None → changed_at n f rs ≡ rs
-gone_past rs n f q = ap (λ o. given o rs (λ r. slice_set rs n (f r))) q

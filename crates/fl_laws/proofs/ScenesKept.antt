@@ -1,5 +1,5 @@
 -- What keeps labels on their ways, and in order: labels of no call come and go, a fragment passes a station, a binding is made.
-use Rattle.std.proofs.Common.{◌≡◌, ◌≢◌, refl, sym, ◌∙◌, ap, subst, ℕ, zero, suc, ◌+◌, ◌-◌, ◌<◌, ◌≤◌, ◌==◌, ◌&&◌, Bool, true, false, if◌then◌else◌, List, [], ◌∷◌, ◌++◌, length, drop, slice_get, Option, Some, None, arith, ◌⊎◌, inl, inr}
+use Rattle.std.proofs.Common.{◌≡◌, ◌≢◌, refl, sym, ◌∙◌, ap, subst, ℕ, zero, suc, ◌+◌, ◌-◌, ◌==◌, ◌&&◌, Bool, true, false, if◌then◌else◌, List, [], ◌∷◌, ◌++◌, length, drop, slice_get, Option, Some, None, arith, ◌⊎◌, inl, inr}
 use Rattle.std.specs.Prelude.{slice_index}
 use Rattle.std.specs.List.{range_with_len, cons_option}
 use Rattle.std.proofs.lemmas.Bool.{eq-eqb}
@@ -19,7 +19,7 @@ use Rattle.fl_queues.specs.SoundLabels.{IsOf}
 use Rattle.fl_laws.proofs.Cases.{Each}
 use Rattle.fl_laws.proofs.Ends.{same_end_true}
 use Rattle.fl_laws.proofs.Flows.{Follows, same_follows, Passes, passes_follows}
-use Rattle.fl_laws.proofs.Scenes.{Joint, by_queue, by_one_ring, over, Flow, Sight, flow_in, way_on, Goes, Suits, queue_at, before, Good}
+use Rattle.fl_laws.proofs.Scenes.{Joint, by_queue, by_one_ring, over, Sight, flow_in, way_on, Goes, Suits, queue_at, before, Good}
 
 -- ---- ends
 

@@ -1,25 +1,23 @@
 -- What sound states say of labels, by readers.
-use Rattle.std.proofs.Common.{◌≡◌, refl, sym, ◌∙◌, ap, subst, ℕ, zero, suc, ◌+◌, ◌-◌, ◌<◌, ◌==◌, Bool, true, false, if◌then◌else◌, List, [], ◌∷◌, length, slice_get, Option, Some, None, arith}
+use Rattle.std.proofs.Common.{◌≡◌, refl, sym, ◌∙◌, ap, subst, ℕ, suc, ◌-◌, ◌==◌, Bool, true, false, if◌then◌else◌, List, [], length, slice_get, Option, Some, None}
 use Rattle.std.specs.Prelude.{slice_index, Contains}
-use Rattle.std.specs.List.{range_with_len}
 use Rattle.fl_base.specs.declared.identity.EndId.{EndId}
 use Rattle.fl_base.specs.declared.identity.Side.{Side}
 use Rattle.fl_base.specs.declared.identity.Side.TheVariants.{Client, Server}
 use Rattle.fl_base.specs.Ends.{other, peer}
 use Rattle.fl_queues.specs.Given.{given}
-use Rattle.fl_queues.specs.Rings.{Label, next_of, says, acknowledges, RingLabel, Ring, RingEnd, read_by, written_by}
-use Rattle.fl_queues.specs.Ends.{Queue}
+use Rattle.fl_queues.specs.Rings.{Label, next_of, says, acknowledges, Ring, RingEnd, read_by, written_by}
 use Rattle.fl_queues.specs.Monitors.{Link}
 use Rattle.fl_queues.specs.State.{Back, local, over_ring, over_route, Route, Binding, State, end_in, way_of, side_of, own_ring, link_between}
-use Rattle.fl_queues.specs.Standing.{Routed, labels_of, unread, on_link, queue_of, ring_from, before_by, before_on, picked}
+use Rattle.fl_queues.specs.Standing.{labels_of, unread, on_link, queue_of, ring_from, before_by, before_on, picked}
 use Rattle.fl_queues.specs.SoundPlaces.{Owner, core_to, this_end}
 use Rattle.fl_queues.specs.SoundLabels.{StandsBefore, LabelsFollow, GoesOver, MayStandOn, MayStandFrom, IsOf, LabelsKeepToTheirWays}
 use Rattle.fl_laws.proofs.Cases.{Each}
 use Rattle.fl_laws.proofs.LabelQueues.{first_of, each_said}
-use Rattle.fl_laws.proofs.Places.{Plan, ring_of}
+use Rattle.fl_laws.proofs.Places.{ring_of}
 use Rattle.fl_laws.proofs.PlacesStep.{plan_of, link_planned, end_planned, ring_behind, planned_owner, own_back}
 use Rattle.fl_laws.proofs.Flows.{Follows}
-use Rattle.fl_laws.proofs.Scenes.{Joint, by_queue, by_one_ring, over, joint_of, Flow, flow_of, Sight, sight_of, flow_in, seen, sights, labels_at, reads, way_on, Goes, MayGo, Suits, queue_at, before, Good}
+use Rattle.fl_laws.proofs.Scenes.{over, joint_of, Flow, flow_of, Sight, sight_of, flow_in, seen, sights, labels_at, reads, way_on, Goes, MayGo, Suits, queue_at, before, Good}
 use Rattle.fl_laws.proofs.ScenesKept.{twice}
 
 -- ---- what stands where

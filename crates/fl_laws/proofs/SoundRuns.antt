@@ -1,10 +1,9 @@
 -- Where each state that a run reaches is sound, numbers passed don't rise along a route, and the calls handled at an end are those that
 -- the fragments taken make whole, a prefix of those accepted at the other.
-use Rattle.std.proofs.Common.{◌≡◌, ap, subst, ℕ, suc, ◌<◌, ◌≤◌, List, length, slice_get, Some, sym}
+use Rattle.std.proofs.Common.{◌≡◌, ap, subst, ℕ, suc, ◌<◌, ◌≤◌, length, Some, sym}
 use Rattle.std.specs.Prelude.{slice_index}
 use Rattle.fl_base.specs.declared.identity.EndId.{EndId}
 use Rattle.fl_queues.specs.Ends.{End}
-use Rattle.fl_queues.specs.Events.{Event}
 use Rattle.fl_queues.specs.Laws.{RunsAreSound, PassedFalls, HandledIsCounted, HandledIsAPrefix}
 use Rattle.fl_queues.specs.Runs.{reached}
 use Rattle.fl_queues.specs.SoundLabels.{LabelsFollow}

@@ -1,6 +1,6 @@
 -- The way of an end's calls over its route: no core comes twice; and in a sound state a fragment that stands first on a link goes on
 -- along it, by its entry, to the next core or to the other end.
-use Rattle.std.proofs.Common.{◌≡◌, ◌≢◌, refl, sym, ◌∙◌, ap, subst, ℕ, zero, suc, ◌+◌, ◌-◌, ◌<◌, ◌≤◌, ◌==◌, min, Bool, true, false, if◌then◌else◌, List, [], ◌∷◌, length, drop, reverse, get_or, slice_get, Option, Some, None, arith, position}
+use Rattle.std.proofs.Common.{◌≡◌, ◌≢◌, refl, sym, ◌∙◌, ap, subst, ℕ, zero, suc, ◌+◌, ◌-◌, ◌<◌, ◌==◌, min, Bool, true, false, if◌then◌else◌, List, [], ◌∷◌, length, drop, reverse, get_or, slice_get, Some, arith}
 use Rattle.std.specs.Prelude.{slice_index}
 use Rattle.std.proofs.lemmas.Bool.{eqb-true, eqb-false}
 use Rattle.std.proofs.lemmas.List.{length-reverse, get_or-reverse}
@@ -13,11 +13,10 @@ use Rattle.fl_hop.specs.declared.entry.Way.{Way}
 use Rattle.fl_hop.specs.declared.entry.Way.TheVariants.{Link as to_link, End as to_end}
 use Rattle.fl_hop.specs.declared.entry.Hop.{Hop}
 use Rattle.fl_hop.specs.Table.{hop_at}
-use Rattle.fl_queues.specs.Given.{given}
 use Rattle.fl_queues.specs.Monitors.{Core, link_to}
 use Rattle.fl_queues.specs.State.{Route, State, core_of, place_in, number_between}
 use Rattle.fl_queues.specs.Binding.{all_differ, end_id}
-use Rattle.fl_queues.specs.Forwarding.{LinkEnd, Passing}
+use Rattle.fl_queues.specs.Forwarding.{LinkEnd}
 use Rattle.fl_queues.specs.Standing.{core_at, number_at, standing}
 use Rattle.fl_queues.specs.SoundEntries.{Leads, to_this, on_to, behind, ahead, SaysWay, Key, EntryAt, near_key, far_key, EntryIs, EntriesStandOn}
 use Rattle.fl_laws.proofs.Arriving.{place_is}
