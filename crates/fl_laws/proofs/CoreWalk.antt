@@ -92,25 +92,25 @@ module _ (C : ℕ → Core → Type 0) (apart : IsApartFromChannels C) where
       let second : State = seats w.service.dispatcher v first in
       bound_kept v 0 (binds_end c 0 second) (bound_kept c 0 second (seat_kept w.service.dispatcher v first (seat_kept w.client c s h)))
 
-  delivered_kept : (l : Label) (e : EndId) (s : State) → Cores C s → Cores C (delivers l e s)
+  pub delivered_kept : (l : Label) (e : EndId) (s : State) → Cores C s → Cores C (delivers l e s)
   delivered_kept l e s h = channel_kept e _ (change_end e (in_queue (joined_by l)) s) h
 
-  written_kept : (e : EndId) (i : Planned) (d : Direction) (o : Outlet) (s : State) → Cores C s
+  pub written_kept : (e : EndId) (i : Planned) (d : Direction) (o : Outlet) (s : State) → Cores C s
       → Cores C (writes_to e i d o there_is_room s).state
   written_kept e i d peer_queue s h = delivered_kept (next_of e (written_of d)) (peer e) (change_out e (λ x. (writes i x there_is_room).direction) s) h
   written_kept e i d (ring_side on) s h = h
 
-  label_taken : (e : EndId) (i : Planned) (l : Label) (s : State) → Cores C s → Cores C (takes_label e i l s).state
+  pub label_taken : (e : EndId) (i : Planned) (l : Label) (s : State) → Cores C s → Cores C (takes_label e i l s).state
   label_taken e i (next_of sender k) s h = by_given (λ (o : Outcome). Cores C o.state) (end_of s sender) _ _ h (λ y r. h)
   label_taken e i (says m) s h = h
   label_taken e i acknowledges s h = h
 
-  found_kept : (t : Chosen) (at : RingEnd) (l : Label) (s : State) → Cores C s → Cores C (finds t at l s).state
+  pub found_kept : (t : Chosen) (at : RingEnd) (l : Label) (s : State) → Cores C s → Cores C (finds t at l s).state
   found_kept t at (next_of e k) s h = dispatcher_kept t.dispatcher _ _ h
   found_kept t at (says m) s h = dispatcher_kept t.dispatcher _ _ h
   found_kept t at acknowledges s h = dispatcher_kept t.dispatcher _ _ h
 
-  follows_kept : (x : Heard) (s : State) → Cores C s → Cores C (follows x s).state
+  pub follows_kept : (x : Heard) (s : State) → Cores C s → Cores C (follows x s).state
   follows_kept no_outbox s h = h
   follows_kept astray s h = h
   follows_kept (opening_went_on n c) s h = h
@@ -121,7 +121,7 @@ module _ (C : ℕ → Core → Type 0) (apart : IsApartFromChannels C) where
   follows_kept (end_opened e c) s h = bound_kept e c (change_route e.binding passes_word s) h
   follows_kept (end_refused e fault) s h = h
 
-  said_kept : (at : RingEnd) (x : Heard) (s : State) → Cores C s → Cores C (takes_said at x s)
+  pub said_kept : (at : RingEnd) (x : Heard) (s : State) → Cores C s → Cores C (takes_said at x s)
   said_kept at no_outbox s h = h
   said_kept at astray s h = h
   said_kept at (opening_went_on n c) s h = h

@@ -45,7 +45,7 @@ use Rattle.fl_laws.proofs.Walk.{IsHere}
 
 -- ---- what stands first on the link
 
-first_unread : (o : Option Ring) (side : RingSide) → slice_get (given o [] λ r. (read_by side r).waiting) 0 ≡ given o None (first_for side)
+pub first_unread : (o : Option Ring) (side : RingSide) → slice_get (given o [] λ r. (read_by side r).waiting) 0 ≡ given o None (first_for side)
 first_unread None side = refl
 first_unread (Some r) side = refl
 
@@ -53,7 +53,7 @@ no_labels : (ls : List RingLabel) → slice_get ls 0 ≡ None → labels_of ls �
 no_labels [] h = refl
 no_labels (l ∷ ls) h = absurd (cc)
 
-first_labels : (ls : List RingLabel) (first : RingLabel) → slice_get ls 0 ≡ Some first → (rest : List Label) × (labels_of ls ≡ first.label ∷ rest)
+pub first_labels : (ls : List RingLabel) (first : RingLabel) → slice_get ls 0 ≡ Some first → (rest : List Label) × (labels_of ls ≡ first.label ∷ rest)
 first_labels [] first h = absurd (cc)
 first_labels (l ∷ ls) first h = (labels_of ls, ap (λ (x : RingLabel). x.label ∷ labels_of ls) (some_same l first h))
 
@@ -72,7 +72,7 @@ got_at [] n x h = absurd (cc)
 got_at (y ∷ xs) zero x h = (omega arith, some_same y x h)
 got_at (y ∷ xs) (suc n) x h = let (below, is) = got_at xs n x h in (omega arith, is)
 
-place_there : (xs : List ℕ) (t x : ℕ) → t < length xs → slice_index xs t ≡ x → Rattle.fl_queues.specs.Binding.all_differ xs ≡ true → place_in xs x ≡ Some t
+pub place_there : (xs : List ℕ) (t x : ℕ) → t < length xs → slice_index xs t ≡ x → Rattle.fl_queues.specs.Binding.all_differ xs ≡ true → place_in xs x ≡ Some t
 place_there xs t x a e d =
     ap (λ (n : ℕ). cond (nat_lt n (length xs)) (Some n) None) (place_is xs t x a e d) ∙ cond-true _ _ _ (less_true t (length xs) a)
 

@@ -59,3 +59,4 @@ pub mod TurnsTold
 pub mod WritesTold
 pub mod ForwardsTold
 pub mod ListingLaws
+pub mod CoresKept

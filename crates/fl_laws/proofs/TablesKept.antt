@@ -299,7 +299,7 @@ module _ (t : TheCircuits) (sound : Sound t) where
       let most = sound.counts l o.link o.there in
       (within t.links l o.link o.there, (small o.link.neighbour.0 t.core o.link.taken n most.1 o.among).1)
 
-  leads_range : (l n binding : ℕ) (way : Way) → Leads t l n binding way → (l < length t.links) × (n ≤ 2046)
+  pub leads_range : (l n binding : ℕ) (way : Way) → Leads t l n binding way → (l < length t.links) × (n ≤ 2046)
   leads_range l n binding way h = given_range l n (given_of l n binding way h)
 
   far_range : (l : LinkId) (c : Circuit) (binding : ℕ) (way : Way) → Leads t l.0 c.0 binding way → InRange (length t.links) way
