@@ -1,62 +1,46 @@
 -- Each step of a sound state keeps the tables of its cores: each core's own, with a link of the monitor for each of its links, and sound.
 use Rattle.std.proofs.Common.{◌≡◌, ◌≢◌, refl, sym, ◌∙◌, ap, subst, ℕ, zero, suc, ◌+◌, ◌-◌, ◌<◌, ◌≤◌, ◌==◌, ◌||◌, ◌&&◌, not, nat_lt, cond, ◌⊎◌, inl, inr, Bool, true, false, if◌then◌else◌}
 use Rattle.std.proofs.Common.{List, [], ◌∷◌, ◌++◌, length, map, position, slice_get, slice_index, Option, Some, None, arith}
-use Rattle.std.specs.Prelude.{IsSome, is_some, filter_map}
+use Rattle.std.specs.Prelude.{filter_map}
 use Rattle.std.specs.List.{range_with_len, position_or_len}
 use Rattle.std.proofs.lemmas.List.{length-append}
-use Rattle.std.proofs.lemmas.Bool.{cond-true, eq-eqb, eqb-true, eqb-false, and_parts, true≢false, false≢true}
-use Rattle.std.proofs.lemmas.Bool.Decides.{nat_tests}
-use Rattle.fl_base.specs.declared.identity.EndId.{EndId}
-use Rattle.fl_base.specs.declared.identity.LinkId.{LinkId}
-use Rattle.fl_base.specs.declared.identity.Circuit.{Circuit}
-use Rattle.fl_base.specs.declared.identity.Side.TheVariants.{Client, Server}
-use Rattle.fl_lists.specs.declared.place.Place.TheVariants.{Polled}
+use Rattle.std.proofs.lemmas.Bool.{cond-true, eq-eqb, eqb-true, false≢true}
 use Rattle.fl_hop.specs.declared.links.LinkState.{LinkState}
 use Rattle.fl_hop.specs.declared.entry.Way.{Way}
 use Rattle.fl_hop.specs.declared.entry.Way.TheVariants.{Link as to_link, End as to_end}
 use Rattle.fl_hop.specs.declared.entry.Hop.{Hop}
-use Rattle.fl_hop.specs.Table.{TheCircuits, hop_at, link_of, link_fault, without_entry}
-use Rattle.fl_hop.specs.Joined.{Leads, Sound as IsTable}
+use Rattle.fl_hop.specs.Table.{TheCircuits, hop_at, link_of, without_entry}
+use Rattle.fl_hop.specs.Joined.{Sound as IsTable}
 use Rattle.fl_hop.specs.Numbers.{number, next_own, after_taking}
-use Rattle.fl_hop.specs.Openings.{opened, passed_on, arrived, answered}
-use Rattle.fl_hop.specs.Limits.{AreCores}
+use Rattle.fl_hop.specs.Openings.{passed_on, arrived, answered}
 use Rattle.fl_hop.proofs.Lists.{within}
-use Rattle.fl_hop.proofs.Limits.{links_suffice}
 use Rattle.fl_hop.proofs.Counting.{Next, Due, next_is, counted_opening, counted_taking}
-use Rattle.fl_queues.specs.Given.{given, changed_at}
-use Rattle.fl_queues.specs.Events.{DispatcherId, Event}
-use Rattle.fl_queues.specs.Rings.{Opening, Said, open_circuit, circuit_opened, circuit_refused, Label, says, RingLabel, Ring, RingSide, first_side, second_side, RingEnd, first_for, looks, makes_sure}
-use Rattle.fl_queues.specs.Ends.{fresh_queue}
-use Rattle.fl_queues.specs.Waits.{Dispatcher, has_places}
-use Rattle.fl_queues.specs.Monitors.{Core, Link, Service, fresh_core, service_of, link_to, can_say, with_said, with_circuits, link_id, circuit_id, says_more, next_on, Fate, goes_on, ends_at, fails, arrival, passage, fate, saying, Hearing, hears, hears_opening, hears_opened, hears_refused, goes_astray, Heard, opens}
-use Rattle.fl_queues.specs.State.{Verdict, undecided, granted, denied, Route, Back, local, over_ring, over_route, Binding, State, core_of, dispatcher_of, end_in, link_between, first_on, change_core, change_ring, seats}
-use Rattle.fl_queues.specs.Making.{is_core, has_link, linked, with_dispatcher, most_cores}
-use Rattle.fl_queues.specs.Binding.{end_id, with_new_binding, arrival_queue, all_differ}
-use Rattle.fl_queues.specs.Forwarding.{LinkEnd, without_first_said, takes_said, label_of}
+use Rattle.fl_queues.specs.Given.{given}
+use Rattle.fl_queues.specs.Events.{DispatcherId}
+use Rattle.fl_queues.specs.Rings.{Opening, Said, open_circuit, circuit_opened, circuit_refused, Label, says, RingLabel, RingEnd}
+use Rattle.fl_queues.specs.Waits.{has_places}
+use Rattle.fl_queues.specs.Monitors.{Core, Link, Service, service_of, link_to, can_say, with_said, with_circuits, link_id, circuit_id, says_more, next_on, Fate, goes_on, ends_at, fails, arrival, fate, saying, Hearing, hears, hears_opening, hears_opened, hears_refused, Heard}
+use Rattle.fl_queues.specs.State.{Verdict, undecided, granted, denied, Route, over_route, Binding, State, core_of, link_between, first_on}
+use Rattle.fl_queues.specs.Binding.{all_differ}
+use Rattle.fl_queues.specs.Forwarding.{LinkEnd}
 use Rattle.fl_queues.specs.Standing.{Routed, core_at, number_at, standing, standing_by, Message, due_by, link_state, on_link, said_by, under_way, opening_number}
-use Rattle.fl_queues.specs.SoundPlaces.{CoreStands, CoresStand, LinkIsPaired, LinksArePaired}
+use Rattle.fl_queues.specs.SoundPlaces.{CoreStands, LinkIsPaired}
 use Rattle.fl_queues.specs.SoundRoutes.{RouteLeads, NumbersGo}
 use Rattle.fl_queues.specs.SoundOpenings.{IsDue, OpeningsGo}
-use Rattle.fl_queues.specs.SoundEntries.{Key, EntryAt, IsDueNear, IsDueFar, near_key, far_key}
-use Rattle.fl_queues.specs.SoundLimits.{CoresAreFew}
+use Rattle.fl_queues.specs.SoundEntries.{Key, EntryAt}
 use Rattle.fl_queues.specs.Sound.{Sound}
-use Rattle.fl_queues.specs.Step.{step}
 use Rattle.fl_laws.proofs.Cases.{either, by_given}
 use Rattle.fl_laws.proofs.Arriving.{less_true}
 use Rattle.fl_laws.proofs.BindingWalk.{given_there}
-use Rattle.fl_laws.proofs.CoreWalk.{EachAt, each_at_changed, each_at_fresh, Cores, IsApartFromChannels, dispatcher_kept, channel_kept, seat_kept, both_kept, delivered_kept, written_kept, label_taken, found_kept, follows_kept, said_kept}
+use Rattle.fl_laws.proofs.CoreWalk.{IsApartFromChannels}
 use Rattle.fl_laws.proofs.EndsStanding.{there_is as stands_there}
 use Rattle.fl_laws.proofs.ForwardsTold.{got_at, place_there, first_unread, first_labels}
 use Rattle.fl_laws.proofs.Hearing.{LinkThere, link_there, is_under_way}
 use Rattle.fl_laws.proofs.ListingKept.{some_there}
 use Rattle.fl_laws.proofs.Replies.{length_changed}
-use Rattle.fl_laws.proofs.Seating.{changed_was}
 use Rattle.fl_laws.proofs.Seats.{some_same}
-use Rattle.fl_laws.proofs.Services.{is_not}
-use Rattle.fl_laws.proofs.Start.{empty_table}
 use Rattle.fl_laws.proofs.TablesKept.{Fresh, opened_sound, arrived_sound, passed_sound, answered_sound, removed_sound, taking_counted, linked_sound}
-use Rattle.fl_laws.proofs.WaitsetsKept.{looks_same, sure_same, first_same}
-use Rattle.fl_laws.proofs.Walk.{KeepsFrom, IsHere, BeginsRoute, step_leads, with_ring}
+use Rattle.fl_laws.proofs.Walk.{IsHere}
 
 -- ---- a core's links by their neighbours
 
@@ -79,14 +63,14 @@ abbrev leads_to : ℕ → LinkState → Bool
 leads_to core a = a.neighbour.0 == core
 
 -- where a link leads to a core, the core's link to it is found, and leads there
-record FoundLink (t : TheCircuits) (core : ℕ) : Type 0 where
-  place : ℕ
-  found : link_of t core ≡ Some place
-  state : LinkState
-  there : slice_get t.links place ≡ Some state
-  neighbour : state.neighbour.0 ≡ core
+pub record FoundLink (t : TheCircuits) (core : ℕ) : Type 0 where
+  pub place : ℕ
+  pub found : link_of t core ≡ Some place
+  pub state : LinkState
+  pub there : slice_get t.links place ≡ Some state
+  pub neighbour : state.neighbour.0 ≡ core
 
-found_link : (t : TheCircuits) (core l : ℕ) (a : LinkState) → slice_get t.links l ≡ Some a → a.neighbour.0 ≡ core → FoundLink t core
+pub found_link : (t : TheCircuits) (core l : ℕ) (a : LinkState) → slice_get t.links l ≡ Some a → a.neighbour.0 ≡ core → FoundLink t core
 found_link t core l a h e =
     let (b, there, is) = first_passing (leads_to core) t.links l a h (eq-eqb a.neighbour.0 core e) in
     record {
@@ -97,13 +81,13 @@ found_link t core l a h e =
       neighbour = eqb-true b.neighbour.0 core is;
     }
 
-link_place : (t : TheCircuits) (l : ℕ) (a : LinkState) → IsTable t → slice_get t.links l ≡ Some a → link_of t a.neighbour.0 ≡ Some l
+pub link_place : (t : TheCircuits) (l : ℕ) (a : LinkState) → IsTable t → slice_get t.links l ≡ Some a → link_of t a.neighbour.0 ≡ Some l
 link_place t l a table h =
     let f : FoundLink t a.neighbour.0 = found_link t a.neighbour.0 l a h refl in
     f.found ∙ ap (λ (n : ℕ). Some n) (table.once f.place l f.state a f.there h f.neighbour)
 
 -- the link that is found leads there
-linked_to : (t : TheCircuits) (core l : ℕ) → link_of t core ≡ Some l → (a : LinkState) × (slice_get t.links l ≡ Some a) × (a.neighbour.0 ≡ core)
+pub linked_to : (t : TheCircuits) (core l : ℕ) → link_of t core ≡ Some l → (a : LinkState) × (slice_get t.links l ≡ Some a) × (a.neighbour.0 ≡ core)
 linked_to t core l h =
     let found = Rattle.std.proofs.lemmas.List.Quantifiers.position-Some (leads_to core) t.links l (record { neighbour = record { 0 = 0 }; opened = 0; taken = 0 }) h in
     let (a, there) = some_there (slice_get t.links l) (stands_there t.links l (let below : l < length t.links = found.0 in omega arith)) in
@@ -117,14 +101,14 @@ linked_to t core l h =
 
 -- ---- what keeps a core standing
 
-apart_from_channels : IsApartFromChannels CoreStands
+pub apart_from_channels : IsApartFromChannels CoreStands
 apart_from_channels n place f k c = record { number = c.number; links = c.links; table = c.table }
 
-with_table : (n : ℕ) (k : Core) (t : TheCircuits) → CoreStands n k → IsTable t → t.core ≡ k.circuits.core → length t.links ≡ length k.circuits.links
+pub with_table : (n : ℕ) (k : Core) (t : TheCircuits) → CoreStands n k → IsTable t → t.core ≡ k.circuits.core → length t.links ≡ length k.circuits.links
     → CoreStands n (with_circuits t k)
 with_table n k t c table core long = record { number = core ∙ c.number; links = c.links ∙ sym long; table = table }
 
-said_more : (n l : ℕ) (m : Said) (k : Core) → CoreStands n k → CoreStands n (with_said l m k)
+pub said_more : (n l : ℕ) (m : Said) (k : Core) → CoreStands n k → CoreStands n (with_said l m k)
 said_more n l m k c = record { number = c.number; links = length_changed k.links l (says_more m) ∙ c.links; table = c.table }
 
 said_after : (n l : ℕ) (m : Said) (t : TheCircuits) (x : Heard) (k : Core) → CoreStands n k → CoreStands n (with_circuits t k)
@@ -132,7 +116,7 @@ said_after : (n l : ℕ) (m : Said) (t : TheCircuits) (x : Heard) (k : Core) →
 said_after n l m t x k c d =
     either (λ (h : Hearing). CoreStands n h.core) (can_say l k) _ _ (λ q. said_more n l m (with_circuits t k) d) (λ q. c)
 
-opening_length : (t : TheCircuits) (l n : ℕ) (x : Next t.core t.links l n) → length (Rattle.fl_hop.specs.Numbers.count_opening t.links l) ≡ length t.links
+pub opening_length : (t : TheCircuits) (l n : ℕ) (x : Next t.core t.links l n) → length (Rattle.fl_hop.specs.Numbers.count_opening t.links l) ≡ length t.links
 opening_length t l n x =
     ap (λ (ls : List LinkState). length ls) (counted_opening t.core t.links l n x)
     ∙ Rattle.std.proofs.lemmas.List.length-set t.links l (Rattle.fl_hop.specs.Numbers.with_opening x.link)
@@ -293,14 +277,14 @@ module _ (s : State) (sound : Sound s) (here : LinkEnd) (o : Opening) (first : R
       ∙ ap (λ (x : Option ℕ). given x None λ n. slice_get ka.circuits.links n) la_to ∙ far_is in
       let goes : OpeningsGo s here.neighbour here.core far there = sound.openings here.neighbour here.core far there far_state near_state in
       let (rest, labels) = first_labels (Rattle.fl_queues.specs.Standing.unread s here.ring) first
-          (first_unread (slice_get s.rings here.ring.ring) here.ring.side ∙ q) in
+      (first_unread (slice_get s.rings here.ring.ring) here.ring.side ∙ q) in
       let on : on_link s here.neighbour here.core ≡ says (open_circuit o) ∷ rest =
       ap (λ (x : Option Link). given x [] (λ link. Rattle.fl_queues.specs.Standing.labels_of (Rattle.fl_queues.specs.Standing.unread s link.ring))) between
       ∙ ap (λ (x : RingEnd). Rattle.fl_queues.specs.Standing.labels_of (Rattle.fl_queues.specs.Standing.unread s x)) t.ring ∙ labels
       ∙ ap (λ (x : Label). x ∷ rest) is in
       let waiting : List Said = given (link_between s here.neighbour here.core) [] λ link. link.outbox in
       let numbers : o.circuit ∷ filter_map opening_number (filter_map said_by rest ++ waiting)
-          ≡ map (number here.neighbour here.core) (range_with_len there.taken (far.opened - there.taken)) =
+      ≡ map (number here.neighbour here.core) (range_with_len there.taken (far.opened - there.taken)) =
       sym (ap (λ (ls : List Label). filter_map opening_number (filter_map said_by ls ++ waiting)) on) ∙ goes.numbers in
       let (some, head) = first_number here.neighbour here.core there.taken (far.opened - there.taken) o.circuit _ numbers in
       let most = (sound.cores here.neighbour ka ka_at).table.counts la far far_is in
@@ -374,11 +358,11 @@ module _ (s : State) (sound : Sound s) (here : LinkEnd) (o : Opening) (first : R
   opening_stands : CoreStands here.core (hears s.services here.link (open_circuit o) k).core
   opening_stands = fate_stands here.core here.link o k stands its_due its_fresh s.services its_apart
 
-abbrev HeardStands : State → Type 0
+abbrev pub HeardStands : State → Type 0
 HeardStands s = (here : LinkEnd) (m : Said) (first : RingLabel) (k : Core) → IsHere here s → first_on here.ring s ≡ Some first → first.label ≡ says m
     → core_of s here.core ≡ Some k → CoreStands here.core (hears s.services here.link m k).core
 
-heard_stands : (s : State) → Sound s → HeardStands s
+pub heard_stands : (s : State) → Sound s → HeardStands s
 heard_stands s sound here (open_circuit o) first k j q is at = opening_stands s sound here o first k j q is at
 heard_stands s sound here (circuit_opened c) first k j q is at =
     by_given (λ (x : Hearing). CoreStands here.core x.core) (hop_at k.circuits here.link c) _ _ (sound.cores here.core k at)

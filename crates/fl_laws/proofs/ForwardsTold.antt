@@ -1,7 +1,7 @@
 -- In a sound state a forward answers `nothing` only where nothing stands on the link: an entry stands for every call's fragment and
 -- every answer.
 use Rattle.std.proofs.Common.{◌≡◌, ◌≢◌, refl, sym, ◌∙◌, ap, subst, ℕ, zero, suc, ◌+◌, ◌-◌, ◌<◌, ◌≤◌, ◌==◌, min, nat_lt, not, cond, Bool, true, false, if◌then◌else◌}
-use Rattle.std.proofs.Common.{List, [], ◌∷◌, length, reverse, position, slice_get, slice_index, Option, Some, None, arith}
+use Rattle.std.proofs.Common.{List, [], ◌∷◌, length, reverse, slice_get, slice_index, Option, Some, None, arith}
 use Rattle.std.specs.Prelude.{IsSome, is_some, Contains}
 use Rattle.std.specs.List.{range_with_len, position_or_len}
 use Rattle.std.proofs.lemmas.Bool.{cond-true, eq-eqb, ne_eqb, true≢false}
@@ -16,20 +16,19 @@ use Rattle.fl_hop.specs.declared.entry.Way.TheVariants.{Link as to_link, End as 
 use Rattle.fl_hop.specs.declared.entry.Hop.{Hop}
 use Rattle.fl_hop.specs.Table.{hop_at}
 use Rattle.fl_queues.specs.Given.{given}
-use Rattle.fl_queues.specs.Events.{forward, nothing}
+use Rattle.fl_queues.specs.Events.{nothing}
 use Rattle.fl_queues.specs.Rings.{Opening, Said, open_circuit, circuit_opened, circuit_refused, Label, next_of, says, acknowledges, RingLabel, Ring, RingSide, RingEnd, first_for, read_by, looks, takes, Room, there_is_room, no_room, spent}
-use Rattle.fl_queues.specs.Ends.{End, Queue, Direction, written_of, queue_room}
+use Rattle.fl_queues.specs.Ends.{Direction, written_of, queue_room}
 use Rattle.fl_queues.specs.Monitors.{Core, Link, link_to, can_say, Service, Fate, goes_on, ends_at, fails, fate, Hearing, hears, hears_opening, hears_opened, hears_refused, Heard, no_outbox, astray, opening_went_on, server_made, opening_failed, answer_went_on, end_opened, end_refused}
 use Rattle.fl_queues.specs.State.{Verdict, undecided, granted, denied, Route, Back, over_route, Binding, State, Outcome, core_of, binding_of, end_of, end_in, link_between, first_on, way_of, place_in, number_between, station_at, change_ring}
-use Rattle.fl_queues.specs.Forwarding.{LinkEnd, link_end, follows, Passing, goes_on_by, goes_on_over, arrives_by, follows_entry, forwards_passing, route_of, forwards_call, forwards_said, forwards_label, after_hearing, takes_said}
-use Rattle.fl_queues.specs.Standing.{Routed, core_at, number_at, standing, standing_by, Message, due_by, unread, labels_of, on_link, before_by, before_on, queue_of, picked, under_way, answer_number}
+use Rattle.fl_queues.specs.Forwarding.{LinkEnd, link_end, follows, Passing, goes_on_by, arrives_by, follows_entry, route_of, forwards_call, forwards_said, forwards_label, takes_said}
+use Rattle.fl_queues.specs.Standing.{Routed, core_at, number_at, standing, standing_by, Message, due_by, unread, labels_of, on_link, before_by, queue_of, picked, answer_number}
 use Rattle.fl_queues.specs.SoundPlaces.{TakesFrom, EndStands, stations}
-use Rattle.fl_queues.specs.SoundRoutes.{RouteLeads, NumbersGo, VerdictFits}
+use Rattle.fl_queues.specs.SoundRoutes.{VerdictFits}
 use Rattle.fl_queues.specs.SoundOpenings.{IsDue}
-use Rattle.fl_queues.specs.SoundEntries.{Leads, to_this, on_to, behind, ahead, SaysWay, Key, EntryAt, near_key, far_key, EntryIs}
+use Rattle.fl_queues.specs.SoundEntries.{Leads, to_this, on_to, behind, ahead, SaysWay, Key, near_key, far_key, EntryIs}
 use Rattle.fl_queues.specs.SoundLabels.{GoesOver, StandsBefore, OpensBefore}
 use Rattle.fl_queues.specs.Sound.{Sound}
-use Rattle.fl_queues.specs.Step.{step}
 use Rattle.fl_queues.specs.Laws.{ForwardsUnderstand}
 use Rattle.fl_laws.proofs.Cases.{either, by_given, by_given_or}
 use Rattle.fl_laws.proofs.BindingWalk.{given_there}
@@ -41,7 +40,6 @@ use Rattle.fl_laws.proofs.ListingStep.{end_at}
 use Rattle.fl_laws.proofs.ListingKept.{some_there}
 use Rattle.fl_laws.proofs.TurnsTold.{there_is, Tells, picked_first, way_length, takes_from}
 use Rattle.fl_laws.proofs.WritesTold.{get_at, get_back}
-use Rattle.fl_laws.proofs.Walk.{IsHere}
 
 -- ---- what stands first on the link
 

@@ -60,3 +60,4 @@ pub mod WritesTold
 pub mod ForwardsTold
 pub mod ListingLaws
 pub mod CoresKept
+pub mod CoresStep

@@ -14,7 +14,7 @@ use Rattle.fl_queues.specs.Calls.{Planned}
 use Rattle.fl_queues.specs.Rings.{Label, next_of, says, acknowledges, RingEnd, there_is_room, looks, takes}
 use Rattle.fl_queues.specs.Ends.{End, Direction, fresh_queue, without_first}
 use Rattle.fl_queues.specs.Waits.{Dispatcher, waits_in}
-use Rattle.fl_queues.specs.Monitors.{Core, fresh_core, Service, Heard, Hearing, hears, no_outbox, astray, opening_went_on, server_made, opening_failed, answer_went_on, end_opened, end_refused}
+use Rattle.fl_queues.specs.Monitors.{Core, fresh_core, Heard, Hearing, hears, no_outbox, astray, opening_went_on, server_made, opening_failed, answer_went_on, end_opened, end_refused}
 use Rattle.fl_queues.specs.State.{State, Binding, Outcome, local, over_ring, Outlet, peer_queue, ring_side, dispatcher_of, end_of, end_in}
 use Rattle.fl_queues.specs.State.{change_core, change_ring, change_binding, change_end, change_channel, change_route, seats, binds_end, in_queue}
 use Rattle.fl_queues.specs.Making.{most_cores, most_interfaces, most_services}
@@ -26,7 +26,7 @@ use Rattle.fl_queues.specs.Step.{step}
 use Rattle.fl_queues.specs.SoundLimits.{CoresAreFew, InterfacesAreFew, ServicesAreFew, BindingsAreFew}
 use Rattle.fl_laws.proofs.Cases.{by_given}
 use Rattle.fl_laws.proofs.Replies.{length_changed}
-use Rattle.fl_laws.proofs.Walk.{CalledAt, RuledAt, Making, an_interface, so_many_cores, a_service, a_binding, HasRoom, TurnAt, KeepsWithin, step_leads_within, with_ring}
+use Rattle.fl_laws.proofs.Walk.{CalledAt, RuledAt, Making, HasRoom, TurnAt, KeepsWithin, step_leads_within, with_ring}
 
 pub record IsFew (s : State) : Type 0 where
   pub cores : CoresAreFew s

@@ -1,7 +1,7 @@
 -- What changes of ends, bindings and rings leave of the ends of listed channels, and how an end comes to be listed.
-use Rattle.std.proofs.Common.{◌≡◌, ◌≢◌, refl, sym, ◌∙◌, ap, subst, ℕ, zero, suc, ◌||◌, nat_lt, nat_le, Bool, true, false, ◌⊎◌, inl, inr}
-use Rattle.std.proofs.Common.{List, [], ◌∷◌, ◌++◌, drop, length, slice_get, Option, Some, None}
-use Rattle.std.specs.Prelude.{IsSome, IsNone, is_some}
+use Rattle.std.proofs.Common.{◌≡◌, ◌≢◌, refl, sym, ◌∙◌, ap, subst, ℕ, ◌||◌, nat_lt, nat_le, Bool, true, false, ◌⊎◌, inl, inr}
+use Rattle.std.proofs.Common.{List, [], ◌∷◌, ◌++◌, length, slice_get, Option, Some, None}
+use Rattle.std.specs.Prelude.{IsSome, IsNone}
 use Rattle.fl_base.specs.declared.identity.EndId.{EndId}
 use Rattle.fl_base.specs.declared.identity.Side.{Side}
 use Rattle.fl_base.specs.declared.identity.Side.TheVariants.{Client, Server}
@@ -11,15 +11,14 @@ use Rattle.fl_queues.specs.Given.{given, changed_at}
 use Rattle.fl_queues.specs.Events.{DispatcherId}
 use Rattle.fl_queues.specs.Rings.{Label, RingLabel, Ring, RingSide, first_side, second_side, RingEnd, first_for, read_by, written_by, puts, takes, looks, makes_sure, is_spent, free}
 use Rattle.fl_queues.specs.Ends.{Queue, End, Seat, joined_by}
-use Rattle.fl_queues.specs.Waits.{Dispatcher, registers, triggers, deregisters, waits_in, with_end}
+use Rattle.fl_queues.specs.Waits.{Dispatcher, deregisters, waits_in}
 use Rattle.fl_queues.specs.State.{Route, Back, local, over_ring, over_route, Binding, State, dispatcher_of, binding_of, end_of, end_in, with_end_in, in_route, in_queue, own_ring, change_ring, change_end, change_route, change_channel, seats, registers_end, binds_end, delivers}
 use Rattle.fl_queues.specs.Runs.{same_end}
 use Rattle.fl_queues.specs.SoundLists.{IsOfCall}
-use Rattle.fl_laws.proofs.Cases.{either, by_given, Each, each_changed, each_push}
+use Rattle.fl_laws.proofs.Cases.{either, by_given, Each, each_changed}
 use Rattle.fl_laws.proofs.Ends.{Has, has_kept, same_end_true, elsewhere}
 use Rattle.fl_laws.proofs.BindingWalk.{end_there}
 use Rattle.fl_laws.proofs.EndsStanding.{get_push}
-use Rattle.fl_laws.proofs.Seating.{changed_was}
 use Rattle.fl_laws.proofs.Seats.{view_same, some_same, Agree, seat_of, at_channel, ends_at, end_kept, changed_now}
 use Rattle.fl_laws.proofs.Listing.{WasLooked, LookedAt, Suits, Holds, FitEnd, ring_of, FitAt, Listing, ListedFit, listing_weaker, listing_with_end, listing_registers, listing_triggers, listing_deregisters}
 

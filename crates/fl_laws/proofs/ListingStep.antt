@@ -1,7 +1,7 @@
 -- Each step keeps that the ends of listed channels fit: where seats agree, ends take from a queue or a ring, rings have one owner
 -- and what stands first on an end's own ring is no monitor's.
-use Rattle.std.proofs.Common.{◌≡◌, ◌≢◌, refl, sym, ◌∙◌, ap, subst, ℕ, zero, suc, ◌+◌, Bool, true, false, not, ◌⊎◌, inl, inr}
-use Rattle.std.proofs.Common.{List, [], ◌∷◌, ◌++◌, drop, length, map, slice_get, Option, Some, None}
+use Rattle.std.proofs.Common.{◌≡◌, ◌≢◌, refl, sym, ◌∙◌, ap, subst, ℕ, ◌+◌, true, false, not, inl, inr}
+use Rattle.std.proofs.Common.{List, [], ◌∷◌, ◌++◌, length, map, slice_get, Option, Some, None}
 use Rattle.std.specs.Prelude.{IsSome, IsNone, is_some}
 use Rattle.std.specs.List.{range_with_len}
 use Rattle.fl_base.specs.declared.identity.EndId.{EndId}
@@ -9,7 +9,7 @@ use Rattle.fl_base.specs.declared.identity.Side.{Side}
 use Rattle.fl_base.specs.declared.identity.Side.TheVariants.{Client, Server}
 use Rattle.fl_base.specs.Ends.{peer}
 use Rattle.fl_lists.specs.declared.place.Place.{Place}
-use Rattle.fl_lists.specs.declared.place.Place.TheVariants.{Idle, Polled, Pending}
+use Rattle.fl_lists.specs.declared.place.Place.TheVariants.{Polled, Pending}
 use Rattle.fl_lists.specs.ThreeLists.{list_at, is_in}
 use Rattle.fl_lists.proofs.Members.{first_is_in}
 use Rattle.fl_queues.specs.Given.{given, changed_at}
@@ -17,10 +17,10 @@ use Rattle.fl_queues.specs.Events.{DispatcherId, Event}
 use Rattle.fl_queues.specs.Calls.{Planned}
 use Rattle.fl_queues.specs.Rings.{Opening, Said, Label, next_of, says, acknowledges, RingLabel, Ring, RingEnd, RingSide, first_side, second_side, first_for, there_is_room, looks, makes_sure, takes, puts, fresh_ring}
 use Rattle.fl_queues.specs.Ends.{End, Queue, Direction, fresh_queue, without_first, accepts, writes, written_of, with_rule, passes, takes_one, comes_to, rule_at, Taken, whole, a_part, replies, is_bound}
-use Rattle.fl_queues.specs.Waits.{Dispatcher, waits_in, fresh_dispatcher, puts_off, Due, pending, polled, due}
+use Rattle.fl_queues.specs.Waits.{Dispatcher, waits_in, fresh_dispatcher, Due, pending, polled}
 use Rattle.fl_queues.specs.Monitors.{Core, fresh_core, opens, Hearing, hears, Heard, no_outbox, astray, opening_went_on, server_made, opening_failed, answer_went_on, end_opened, end_refused}
 use Rattle.fl_queues.specs.State.{Route, Back, local, over_ring, over_route, undecided, Binding, State, Outcome, Outlet, peer_queue, ring_side, core_of, dispatcher_of, binding_of, end_of, end_in, first_on, own_ring}
-use Rattle.fl_queues.specs.State.{change_core, change_dispatcher, change_ring, change_end, change_out, change_route, change_channel, in_queue, delivers, seats, binds_end}
+use Rattle.fl_queues.specs.State.{change_core, change_ring, change_end, change_out, change_route, change_channel, in_queue, delivers, seats, binds_end}
 use Rattle.fl_queues.specs.Making.{linked, with_dispatcher}
 use Rattle.fl_queues.specs.Binding.{Wanted, end_id, with_new_binding, binds_both, arrival_queue}
 use Rattle.fl_queues.specs.Sending.{writes_to}
@@ -30,7 +30,7 @@ use Rattle.fl_queues.specs.Step.{step}
 use Rattle.fl_queues.specs.SoundLists.{IsOfCall, WaitsetsStand}
 use Rattle.fl_laws.proofs.Cases.{by_given, each_push}
 use Rattle.fl_laws.proofs.CoreWalk.{each_at_fresh}
-use Rattle.fl_laws.proofs.BindingWalk.{given_there, end_there, new_binding}
+use Rattle.fl_laws.proofs.BindingWalk.{given_there, new_binding}
 use Rattle.fl_laws.proofs.Ends.{here}
 use Rattle.fl_laws.proofs.Ready.{get_last}
 use Rattle.fl_laws.proofs.Services.{hears_leaves, is_not}
@@ -38,9 +38,9 @@ use Rattle.fl_laws.proofs.Seating.{changed_here, changed_was}
 use Rattle.fl_laws.proofs.Seats.{some_same, push_was, Agree, Unseated, seating_kept, new_kept, end_kept, route_kept, bound_kept}
 use Rattle.fl_laws.proofs.SeatsStep.{server_free, route_free, SitFits, AllSitFits, fits_alike}
 use Rattle.fl_laws.proofs.Waitsets.{empty_none}
-use Rattle.fl_laws.proofs.WaitsetsStep.{first_pending, first_polled, same_dispatcher_at}
+use Rattle.fl_laws.proofs.WaitsetsStep.{first_pending, first_polled}
 use Rattle.fl_laws.proofs.WaitsetsKept.{looks_same, sure_same, first_same}
-use Rattle.fl_laws.proofs.Listing.{LookedAt, Holds, FitEnd, ring_of, FitAt, HasSuch, Listing, ListedFit, listing_core, listing_puts_off}
+use Rattle.fl_laws.proofs.Listing.{LookedAt, FitEnd, ring_of, FitAt, HasSuch, Listing, ListedFit, listing_core, listing_puts_off}
 use Rattle.fl_laws.proofs.ListingEnds.{looked_now, put_quiet, look_quiet, sure_quiet, fit_takes, taken_other, taken_quiet, ring_end, fit_elsewhere, end_quiet, route_quiet, binding_quiet, new_ring_quiet, OneOf, AllOne, one_at, ones_end, ones_route, ones_seats, ones_binds, ones_queue, fit_waits, relisted, seat_quiet, registered_fit, deregistered_fit, bound_fit, delivered_fit}
 use Rattle.fl_laws.proofs.Walk.{CalledAt, RuledAt, MadeIn, At, IsTurn, IsHere, IsWithout, FindsNone, in_queue_none, on_ring_none, KeepsWithin, step_leads_within, with_ring}
 

@@ -1,7 +1,7 @@
 -- In a sound state a turn answers `nothing` only where no channel is due, and gives a pending channel's end the other end's next fragment.
-use Rattle.std.proofs.Common.{◌≡◌, ◌≢◌, refl, sym, ◌∙◌, ap, subst, ℕ, zero, suc, ◌+◌, ◌-◌, ◌<◌, ◌≤◌, ◌==◌, ◌&&◌, Bool, true, false, if◌then◌else◌}
+use Rattle.std.proofs.Common.{◌≡◌, ◌≢◌, refl, sym, ◌∙◌, ap, subst, ℕ, zero, suc, ◌-◌, ◌≤◌, ◌&&◌, Bool, true, false, if◌then◌else◌}
 use Rattle.std.proofs.Common.{List, [], ◌∷◌, length, slice_get, slice_index, Option, Some, None, arith}
-use Rattle.std.specs.Prelude.{IsSome, IsNone, is_some, Contains}
+use Rattle.std.specs.Prelude.{IsNone, is_some, Contains}
 use Rattle.std.specs.List.{range_with_len, cons_option}
 use Rattle.std.proofs.lemmas.Bool.{eq-eqb}
 use Rattle.fl_base.specs.declared.identity.EndId.{EndId}
@@ -10,15 +10,15 @@ use Rattle.fl_base.specs.declared.identity.Side.TheVariants.{Client, Server}
 use Rattle.fl_base.specs.Ends.{other, peer}
 use Rattle.fl_lists.specs.declared.place.Place.TheVariants.{Polled, Pending}
 use Rattle.fl_queues.specs.Given.{given}
-use Rattle.fl_queues.specs.Events.{DispatcherId, turn, Answer, nothing, full, handle, part, quiet, ready}
+use Rattle.fl_queues.specs.Events.{DispatcherId, turn, nothing, full}
 use Rattle.fl_queues.specs.Calls.{Planned}
 use Rattle.fl_queues.specs.Rings.{Label, next_of, says, acknowledges, RingLabel, Ring, RingEnd, first_for, read_by, written_by, looks, takes, Half}
-use Rattle.fl_queues.specs.Ends.{End, Queue, Direction, without_first, holds_back, Taken, whole, a_part, comes_to, last_station, taken_of}
+use Rattle.fl_queues.specs.Ends.{End, Queue, Direction, without_first, holds_back, Taken, whole, a_part, comes_to, taken_of}
 use Rattle.fl_queues.specs.Waits.{Dispatcher, waits_in, Due, pending, polled, no_one, due}
 use Rattle.fl_queues.specs.State.{Route, Back, local, over_ring, over_route, Binding, State, Outcome, side_of, dispatcher_of, binding_of, interface_of, end_of, end_in, own_ring, first_on, change_ring, change_end, in_queue, way_of}
-use Rattle.fl_queues.specs.Taking.{Chosen, chosen, takes_label, taken_answer, goes_back, gives_by, gives, finds, examines, turns_by}
+use Rattle.fl_queues.specs.Taking.{Chosen, chosen, takes_label, taken_answer, goes_back, gives_by, gives, finds, turns_by}
 use Rattle.fl_queues.specs.Runs.{same_side, same_end}
-use Rattle.fl_queues.specs.Standing.{labels_of, on_link, ring_from, queue_of, before_by, number_of, picked}
+use Rattle.fl_queues.specs.Standing.{labels_of, on_link, ring_from, queue_of, before_by, picked}
 use Rattle.fl_queues.specs.SoundPlaces.{TakesFrom, stations, EndStands}
 use Rattle.fl_queues.specs.SoundLabels.{IsOf, StandsBefore, MayStandFrom}
 use Rattle.fl_queues.specs.SoundLists.{Listed, RingWasLooked}
@@ -26,7 +26,7 @@ use Rattle.fl_queues.specs.SoundRoutes.{RouteLeads}
 use Rattle.fl_queues.specs.Sound.{Sound}
 use Rattle.fl_queues.specs.Step.{step}
 use Rattle.fl_queues.specs.Laws.{TurnsUnderstand}
-use Rattle.fl_queues.specs.Worlds.{IsGiven, first_before, TurnGives, TurnsGiveTheNext}
+use Rattle.fl_queues.specs.Worlds.{IsGiven, TurnsGiveTheNext}
 use Rattle.fl_laws.proofs.Cases.{either, by_given, by_given_or}
 use Rattle.fl_laws.proofs.BindingWalk.{given_there}
 use Rattle.fl_laws.proofs.Ends.{Has, has_kept}

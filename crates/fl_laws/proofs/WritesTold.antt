@@ -12,16 +12,15 @@ use Rattle.fl_base.specs.declared.identity.EndId.{EndId}
 use Rattle.fl_base.specs.declared.identity.Side.{Side}
 use Rattle.fl_base.specs.declared.identity.Side.TheVariants.{Client, Server}
 use Rattle.fl_value.specs.Value.{TheCall}
-use Rattle.fl_layout.specs.Places.{count}
 use Rattle.fl_wire.specs.Payload.{payload_of, frag_on}
 use Rattle.fl_queues.specs.Given.{given}
-use Rattle.fl_queues.specs.Events.{write, show, nothing, words}
+use Rattle.fl_queues.specs.Events.{write, show, nothing}
 use Rattle.fl_queues.specs.Calls.{Planned, fragments, total, stream}
 use Rattle.fl_queues.specs.Rings.{Room, there_is_room, no_room, spent}
 use Rattle.fl_queues.specs.Ends.{End, Direction, written_of, is_busy, is_bound, writes, Wrote}
 use Rattle.fl_queues.specs.Monitors.{Link}
-use Rattle.fl_queues.specs.State.{Verdict, undecided, granted, denied, Route, Back, local, over_ring, over_route, Binding, State, Outcome, Outlet, peer_queue, ring_side, side_of, binding_of, interface_of, end_in, way_of, first_link, outlet_by, link_between}
-use Rattle.fl_queues.specs.Sending.{outlet_room, makes_sure_of, writes_to, writes_fragment, next_fragment, stamped_for, shows}
+use Rattle.fl_queues.specs.State.{Verdict, undecided, granted, denied, Route, Back, local, over_ring, over_route, Binding, State, Outlet, peer_queue, ring_side, side_of, binding_of, interface_of, end_in, way_of, first_link, outlet_by, link_between}
+use Rattle.fl_queues.specs.Sending.{outlet_room, makes_sure_of, writes_to, writes_fragment, next_fragment, shows}
 use Rattle.fl_queues.specs.Standing.{Routed, core_at}
 use Rattle.fl_queues.specs.SoundPlaces.{LinkIsPaired}
 use Rattle.fl_queues.specs.SoundRoutes.{RouteLeads, NumbersGo, VerdictFits, BoundBy, BoundWhere}

@@ -227,3 +227,9 @@ pub fn shows_are_understood()
 pub fn forwards_are_understood()
     ensures understood { ForwardsUnderstand }
 {}
+
+/// Each step of a sound state keeps the cores: each core's table of circuits is its own and sound, with a link of the monitor for
+/// each of its links.
+pub fn steps_keep_cores()
+    ensures kept { (s : State) (v : Event) → Sound s → CoresStand (step s v).state }
+{}
