@@ -1,9 +1,9 @@
 -- Each step of a sound state keeps the tables of its cores: each core's own, with a link of the monitor for each of its links, and sound.
-use Rattle.std.proofs.Common.{◌≡◌, ◌≢◌, refl, sym, ◌∙◌, ap, subst, ℕ, zero, suc, ◌+◌, ◌-◌, ◌<◌, ◌≤◌, ◌==◌, ◌||◌, ◌&&◌, not, nat_lt, cond, ◌⊎◌, inl, inr, Bool, true, false, if◌then◌else◌}
+use Rattle.std.proofs.Common.{◌≡◌, ◌≢◌, refl, sym, ◌∙◌, ap, subst, ℕ, zero, suc, ◌+◌, ◌-◌, ◌<◌, ◌≤◌, ◌==◌, ◌||◌, ◌&&◌, not, nat_lt, cond, ◌⊎◌, inl, inr, Bool, true, false, if◌then◌else◌, slice_index_or}
 use Rattle.std.proofs.Common.{List, [], ◌∷◌, ◌++◌, length, map, position, slice_get, slice_index, Option, Some, None, arith}
 use Rattle.std.specs.Prelude.{filter_map}
 use Rattle.std.specs.List.{range_with_len, position_or_len}
-use Rattle.std.proofs.lemmas.List.{length-append}
+use Rattle.std.proofs.lemmas.List.{length-append, length-set}
 use Rattle.std.proofs.lemmas.Bool.{cond-true, eq-eqb, eqb-true, false≢true}
 use Rattle.fl_hop.specs.declared.links.LinkState.{LinkState}
 use Rattle.fl_hop.specs.declared.entry.Way.{Way}
@@ -11,10 +11,10 @@ use Rattle.fl_hop.specs.declared.entry.Way.TheVariants.{Link as to_link, End as 
 use Rattle.fl_hop.specs.declared.entry.Hop.{Hop}
 use Rattle.fl_hop.specs.Table.{TheCircuits, hop_at, link_of, without_entry}
 use Rattle.fl_hop.specs.Joined.{Sound as IsTable}
-use Rattle.fl_hop.specs.Numbers.{number, next_own, after_taking}
+use Rattle.fl_hop.specs.Numbers.{number, next_own, after_taking, count_opening, count_taking, with_opening, with_taking}
 use Rattle.fl_hop.specs.Openings.{passed_on, arrived, answered}
 use Rattle.fl_hop.proofs.Lists.{within}
-use Rattle.fl_hop.proofs.Counting.{Next, Due, next_is, counted_opening, counted_taking}
+use Rattle.fl_hop.proofs.Counting.{Next, Due, next_is, counted_opening, counted_taking, next_stays}
 use Rattle.fl_queues.specs.Given.{given}
 use Rattle.fl_queues.specs.Events.{DispatcherId}
 use Rattle.fl_queues.specs.Rings.{Opening, Said, open_circuit, circuit_opened, circuit_refused, Label, says, RingLabel, RingEnd}
@@ -23,14 +23,14 @@ use Rattle.fl_queues.specs.Monitors.{Core, Link, Service, service_of, link_to, c
 use Rattle.fl_queues.specs.State.{Verdict, undecided, granted, denied, Route, over_route, Binding, State, core_of, link_between, first_on}
 use Rattle.fl_queues.specs.Binding.{all_differ}
 use Rattle.fl_queues.specs.Forwarding.{LinkEnd}
-use Rattle.fl_queues.specs.Standing.{Routed, core_at, number_at, standing, standing_by, Message, due_by, link_state, on_link, said_by, under_way, opening_number}
+use Rattle.fl_queues.specs.Standing.{Routed, core_at, number_at, standing, standing_by, Message, due_by, link_state, on_link, said_by, under_way, opening_number, labels_of, unread}
 use Rattle.fl_queues.specs.SoundPlaces.{CoreStands, LinkIsPaired}
 use Rattle.fl_queues.specs.SoundRoutes.{RouteLeads, NumbersGo}
 use Rattle.fl_queues.specs.SoundOpenings.{IsDue, OpeningsGo}
 use Rattle.fl_queues.specs.SoundEntries.{Key, EntryAt}
 use Rattle.fl_queues.specs.Sound.{Sound}
 use Rattle.fl_laws.proofs.Cases.{either, by_given}
-use Rattle.fl_laws.proofs.Arriving.{less_true}
+use Rattle.fl_laws.proofs.Arriving.{less_true, not_opened, not_refused, said_same, same_opening}
 use Rattle.fl_laws.proofs.BindingWalk.{given_there}
 use Rattle.fl_laws.proofs.CoreWalk.{IsApartFromChannels}
 use Rattle.fl_laws.proofs.EndsStanding.{there_is as stands_there}
@@ -39,8 +39,9 @@ use Rattle.fl_laws.proofs.Hearing.{LinkThere, link_there, is_under_way}
 use Rattle.fl_laws.proofs.ListingKept.{some_there}
 use Rattle.fl_laws.proofs.Replies.{length_changed}
 use Rattle.fl_laws.proofs.Seats.{some_same}
-use Rattle.fl_laws.proofs.TablesKept.{Fresh, opened_sound, arrived_sound, passed_sound, answered_sound, removed_sound, taking_counted, linked_sound}
+use Rattle.fl_laws.proofs.TablesKept.{Fresh, opened_sound, arrived_sound, passed_sound, answered_sound, removed_sound, taking_counted, linked_sound, leads_range}
 use Rattle.fl_laws.proofs.Walk.{IsHere}
+use Rattle.std.proofs.lemmas.List.Quantifiers.{position-Some}
 
 -- ---- a core's links by their neighbours
 
@@ -89,12 +90,12 @@ link_place t l a table h =
 -- the link that is found leads there
 pub linked_to : (t : TheCircuits) (core l : ℕ) → link_of t core ≡ Some l → (a : LinkState) × (slice_get t.links l ≡ Some a) × (a.neighbour.0 ≡ core)
 linked_to t core l h =
-    let found = Rattle.std.proofs.lemmas.List.Quantifiers.position-Some (leads_to core) t.links l (record { neighbour = record { 0 = 0 }; opened = 0; taken = 0 }) h in
+    let found = position-Some (leads_to core) t.links l (record { neighbour = record { 0 = 0 }; opened = 0; taken = 0 }) h in
     let (a, there) = some_there (slice_get t.links l) (stands_there t.links l (let below : l < length t.links = found.0 in omega arith)) in
     (a, there, eqb-true a.neighbour.0 core (subst (λ (x : LinkState). leads_to core x ≡ true) (got t.links l a there) found.1))
   where
     got : (xs : List LinkState) (l : ℕ) (a : LinkState) → slice_get xs l ≡ Some a
-        → Rattle.std.proofs.Common.slice_index_or xs l (record { neighbour = record { 0 = 0 }; opened = 0; taken = 0 }) ≡ a
+        → slice_index_or xs l (record { neighbour = record { 0 = 0 }; opened = 0; taken = 0 }) ≡ a
     got [] l a h = absurd (cc)
     got (x ∷ xs) zero a h = some_same x a h
     got (x ∷ xs) (suc l) a h = got xs l a h
@@ -116,15 +117,15 @@ said_after : (n l : ℕ) (m : Said) (t : TheCircuits) (x : Heard) (k : Core) →
 said_after n l m t x k c d =
     either (λ (h : Hearing). CoreStands n h.core) (can_say l k) _ _ (λ q. said_more n l m (with_circuits t k) d) (λ q. c)
 
-pub opening_length : (t : TheCircuits) (l n : ℕ) (x : Next t.core t.links l n) → length (Rattle.fl_hop.specs.Numbers.count_opening t.links l) ≡ length t.links
+pub opening_length : (t : TheCircuits) (l n : ℕ) (x : Next t.core t.links l n) → length (count_opening t.links l) ≡ length t.links
 opening_length t l n x =
     ap (λ (ls : List LinkState). length ls) (counted_opening t.core t.links l n x)
-    ∙ Rattle.std.proofs.lemmas.List.length-set t.links l (Rattle.fl_hop.specs.Numbers.with_opening x.link)
+    ∙ length-set t.links l (with_opening x.link)
 
-taking_length : (t : TheCircuits) (l n : ℕ) (x : Due t.core t.links l n) → length (Rattle.fl_hop.specs.Numbers.count_taking t.links l) ≡ length t.links
+taking_length : (t : TheCircuits) (l n : ℕ) (x : Due t.core t.links l n) → length (count_taking t.links l) ≡ length t.links
 taking_length t l n x =
     ap (λ (ls : List LinkState). length ls) (counted_taking t.core t.links l n x)
-    ∙ Rattle.std.proofs.lemmas.List.length-set t.links l (Rattle.fl_hop.specs.Numbers.with_taking x.link)
+    ∙ length-set t.links l (with_taking x.link)
 
 -- ---- what a core hears of answers
 
@@ -171,7 +172,7 @@ module _ (n l : ℕ) (o : Opening) (k : Core) (stands : CoreStands n k) (due : D
   goes_stands : (m c : ℕ) → Next k.circuits.core k.circuits.links m c → l ≢ m → OpeningStands n l o k (goes_on m c)
   goes_stands m c next apart =
       let u : TheCircuits = after_taking k.circuits l in
-      let z : Next u.core u.links m c = Rattle.fl_hop.proofs.Counting.next_stays k.circuits.core k.circuits.links l o.circuit m c due apart next in
+      let z : Next u.core u.links m c = next_stays k.circuits.core k.circuits.links l o.circuit m c due apart next in
       said_after n m (open_circuit (record o { circuit = c })) (passed_on k.circuits (link_id l) (circuit_id o.circuit) (link_id m) (circuit_id c) o.binding) _ k stands
       (with_table n k (passed_on k.circuits (link_id l) (circuit_id o.circuit) (link_id m) (circuit_id c) o.binding) stands
       (passed_sound k.circuits stands.table (link_id l) (link_id m) (circuit_id o.circuit) (circuit_id c) o.binding due next apart fresh) refl
@@ -204,7 +205,7 @@ opening_at : (n : ℕ) (route : Route) (from to : ℕ) (o : Opening) (v : Verdic
     → due_by n route v ≡ Some (record { from = from; to = to; said = open_circuit o }) → OpeningAt n route from to o
 opening_at n route from to o undecided e h =
     let same = some_same _ _ h in
-    let opening = Rattle.fl_laws.proofs.Arriving.same_opening _ o (ap (λ (m : Message). m.said) same) in
+    let opening = same_opening _ o (ap (λ (m : Message). m.said) same) in
     record {
       binding = ap (λ (p : Opening). p.binding) opening;
       verdict = e;
@@ -213,9 +214,9 @@ opening_at n route from to o undecided e h =
       path = sym (ap (λ (p : Opening). p.path) opening);
     }
 opening_at n route from to o (granted zero) e h = absurd (cc)
-opening_at n route from to o (granted (suc i)) e h = absurd (Rattle.fl_laws.proofs.Arriving.not_opened _ o (Rattle.fl_laws.proofs.Arriving.said_same _ _ h))
+opening_at n route from to o (granted (suc i)) e h = absurd (not_opened _ o (said_same _ _ h))
 opening_at n route from to o (denied zero fault) e h = absurd (cc)
-opening_at n route from to o (denied (suc i) fault) e h = absurd (Rattle.fl_laws.proofs.Arriving.not_refused _ _ o (Rattle.fl_laws.proofs.Arriving.said_same _ _ h))
+opening_at n route from to o (denied (suc i) fault) e h = absurd (not_refused _ _ o (said_same _ _ h))
 
 one_place : (xs : List ℕ) (i j x : ℕ) → i < length xs → j < length xs → slice_index xs i ≡ x → slice_index xs j ≡ x → all_differ xs ≡ true → i ≡ j
 one_place xs i j x a b p q d = some_same i j (sym (place_there xs i x a p d) ∙ place_there xs j x b q d)
@@ -276,11 +277,11 @@ module _ (s : State) (sound : Sound s) (here : LinkEnd) (o : Opening) (first : R
       ap (λ (x : Option Core). given x None λ y. given (link_to here.core y) None λ n. slice_get y.circuits.links n) ka_at
       ∙ ap (λ (x : Option ℕ). given x None λ n. slice_get ka.circuits.links n) la_to ∙ far_is in
       let goes : OpeningsGo s here.neighbour here.core far there = sound.openings here.neighbour here.core far there far_state near_state in
-      let (rest, labels) = first_labels (Rattle.fl_queues.specs.Standing.unread s here.ring) first
+      let (rest, labels) = first_labels (unread s here.ring) first
       (first_unread (slice_get s.rings here.ring.ring) here.ring.side ∙ q) in
       let on : on_link s here.neighbour here.core ≡ says (open_circuit o) ∷ rest =
-      ap (λ (x : Option Link). given x [] (λ link. Rattle.fl_queues.specs.Standing.labels_of (Rattle.fl_queues.specs.Standing.unread s link.ring))) between
-      ∙ ap (λ (x : RingEnd). Rattle.fl_queues.specs.Standing.labels_of (Rattle.fl_queues.specs.Standing.unread s x)) t.ring ∙ labels
+      ap (λ (x : Option Link). given x [] (λ link. labels_of (unread s link.ring))) between
+      ∙ ap (λ (x : RingEnd). labels_of (unread s x)) t.ring ∙ labels
       ∙ ap (λ (x : Label). x ∷ rest) is in
       let waiting : List Said = given (link_between s here.neighbour here.core) [] λ link. link.outbox in
       let numbers : o.circuit ∷ filter_map opening_number (filter_map said_by rest ++ waiting)
@@ -305,7 +306,7 @@ module _ (s : State) (sound : Sound s) (here : LinkEnd) (o : Opening) (first : R
   its_fresh : Fresh k.circuits o.binding
   its_fresh l n way h =
       let hop : Hop = record { binding = o.binding; way = way; answered = h.answered } in
-      let below = Rattle.fl_laws.proofs.TablesKept.leads_range k.circuits stands.table l n o.binding way h in
+      let below = leads_range k.circuits stands.table l n o.binding way h in
       let (a, a_at) = some_there (slice_get k.circuits.links l) (stands_there k.circuits.links l (let less : l < length k.circuits.links = below.0 in omega arith)) in
       let key : Key = record { core = here.core; neighbour = a.neighbour.0; number = n } in
       let entry : EntryAt s key hop =

@@ -3,7 +3,7 @@ use Rattle.std.proofs.Common.{◌≡◌, ◌≢◌, refl, sym, ◌∙◌, ap, su
 use Rattle.std.proofs.Common.{List, [], ◌∷◌, ◌++◌, length, slice_get, Option, Some, None, zero-add, arith}
 use Rattle.std.specs.Prelude.{is_some}
 use Rattle.std.proofs.lemmas.List.{length-append}
-use Rattle.std.proofs.lemmas.Bool.{eqb-false, and_parts, true≢false}
+use Rattle.std.proofs.lemmas.Bool.{eqb-false, and_parts, true≢false, ne_eqb}
 use Rattle.fl_base.specs.declared.identity.Side.TheVariants.{Client}
 use Rattle.fl_lists.specs.declared.place.Place.TheVariants.{Polled}
 use Rattle.fl_hop.specs.declared.fault.HopFault.TheVariants.{NoLink, Limit}
@@ -23,7 +23,7 @@ use Rattle.fl_queues.specs.Ends.{fresh_queue, without_first}
 use Rattle.fl_queues.specs.Waits.{waits_in}
 use Rattle.fl_queues.specs.Monitors.{Core, Link, link_to, link_id, circuit_id, with_circuits, opens, Hearing, hears}
 use Rattle.fl_queues.specs.State.{local, over_ring, over_route, undecided, Binding, State, core_of, end_in, link_between, change_core, change_ring, change_end, seats, in_queue}
-use Rattle.fl_queues.specs.Making.{is_core, has_link, linked, with_dispatcher, most_cores}
+use Rattle.fl_queues.specs.Making.{is_core, has_link, linked, with_dispatcher, most_cores, with_new_link}
 use Rattle.fl_queues.specs.Binding.{Wanted, end_id, with_new_binding, arrival_queue}
 use Rattle.fl_queues.specs.Taking.{goes_back}
 use Rattle.fl_queues.specs.Forwarding.{without_first_said, takes_said, label_of}
@@ -84,7 +84,7 @@ no_some : (o : Option ℕ) → o ≡ None → is_some o ≡ false
 no_some o e = ap is_some e
 
 not_same : (a b : ℕ) → a ≢ b → (a == b) ≡ false
-not_same a b h = Rattle.std.proofs.lemmas.Bool.ne_eqb a b h
+not_same a b h = ne_eqb a b h
 
 link_stands : (n neighbour ring : ℕ) (side : RingSide) (k : Core) → CoreStands n k → n < 16 → neighbour < 16 → neighbour ≢ n → link_to neighbour k ≡ None
     → ((l : ℕ) (a : LinkState) → slice_get k.circuits.links l ≡ Some a → a.neighbour.0 < 16) → CoreStands n (linked neighbour ring side k)
@@ -139,7 +139,7 @@ module _ (a b size : ℕ) (s : State) (q : not (is_core a s && is_core b s) || (
   second_none : (k : Core) → core_of s b ≡ Some k → link_to a k ≡ None
   second_none k at = none_by (link_to a k) k a refl (λ l e. absurd (true≢false (sym (h.paired b a k l at e) ∙ parts.2)))
 
-  link_kept : CoresStand (Rattle.fl_queues.specs.Making.with_new_link a b size s)
+  link_kept : CoresStand (with_new_link a b size s)
   link_kept =
       let n : ℕ = length s.rings in
       let first : EachAt CoreStands (change_core a (linked b n first_side) (with_ring size s)).cores =

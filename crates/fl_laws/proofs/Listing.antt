@@ -7,7 +7,7 @@ use Rattle.std.proofs.lemmas.Bool.{cases_eq}
 use Rattle.fl_base.specs.declared.identity.EndId.{EndId}
 use Rattle.fl_lists.specs.declared.place.Place.{Place}
 use Rattle.fl_lists.specs.declared.place.Place.TheVariants.{Idle, Polled, Pending}
-use Rattle.fl_lists.specs.ThreeLists.{ThreeLists, list_at, is_in, unlinked, pushed, popped, moved, IsApart}
+use Rattle.fl_lists.specs.ThreeLists.{ThreeLists, list_at, is_in, unlinked, pushed, popped, moved, IsApart, without}
 use Rattle.fl_lists.proofs.Members.{is_in_from-without}
 use Rattle.fl_waitset.specs.Waiting.{triggered}
 use Rattle.fl_waitset.proofs.Moves.{first_moves}
@@ -143,7 +143,7 @@ triggered_from w c place k =
     either (λ (v : ThreeLists). is_in k (list_at v place) ≡ true → (is_in k (list_at w place) ≡ true) ⊎ ((is_in c w.idle ≡ true) × (c ≡ k) × (place ≡ Pending)))
     (is_in c w.idle) _ _ (λ q l. moved_from q place l) (λ q l. inl l)
   where
-    moved_from : is_in c w.idle ≡ true → (place : Place) → is_in k (list_at (record w { idle = Rattle.fl_lists.specs.ThreeLists.without c w.idle; pending = w.pending ++ c ∷ [] }) place) ≡ true
+    moved_from : is_in c w.idle ≡ true → (place : Place) → is_in k (list_at (record w { idle = without c w.idle; pending = w.pending ++ c ∷ [] }) place) ≡ true
         → (is_in k (list_at w place) ≡ true) ⊎ ((is_in c w.idle ≡ true) × (c ≡ k) × (place ≡ Pending))
     moved_from q Idle l = inl (is_in_from-without k c w.idle l).1
     moved_from q Polled l = inl l

@@ -12,7 +12,7 @@ use Rattle.fl_lists.specs.declared.place.Place.TheVariants.{Idle, Polled, Pendin
 use Rattle.fl_lists.specs.ThreeLists.{list_at, is_in}
 use Rattle.fl_queues.specs.Given.{given}
 use Rattle.fl_queues.specs.Events.{DispatcherId, Event}
-use Rattle.fl_queues.specs.Rings.{Said, Label, next_of, says, RingLabel, Ring, RingEnd, RingSide, first_for, read_by, written_by}
+use Rattle.fl_queues.specs.Rings.{Said, Label, next_of, says, RingLabel, Ring, RingEnd, RingSide, first_for, read_by, written_by, Half}
 use Rattle.fl_queues.specs.Ends.{End, Queue}
 use Rattle.fl_queues.specs.Waits.{Dispatcher}
 use Rattle.fl_queues.specs.Monitors.{Core, link_to}
@@ -182,7 +182,7 @@ own_first s sound e at first q r =
     let ahead : slice_get (read_by (side_of e.side) ring).waiting 0 ≡ Some first = ap (λ (a : RingEnd). first_for a.side ring) is ∙ head in
     let stands : ring_from s (peer e) n ≡ labels_of (read_by (side_of e.side) ring).waiting =
     ap (λ (o : Option Ring). given o [] (λ x. labels_of (written_by (side_of (other e.side)) x).waiting)) here
-    ∙ ap (λ (h : Rattle.fl_queues.specs.Rings.Half). labels_of h.waiting) (sym (reads_other e.side ring)) in
+    ∙ ap (λ (h : Half). labels_of h.waiting) (sym (reads_other e.side ring)) in
     sound.ways.rings (peer e) b n first.label there back
     (subst (λ (ls : List Label). Contains ls first.label) (sym stands) (first_contained (read_by (side_of e.side) ring).waiting first ahead))
 
