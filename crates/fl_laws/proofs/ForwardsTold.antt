@@ -1,8 +1,8 @@
 -- In a sound state a forward answers `nothing` only where nothing stands on the link: an entry stands for every call's fragment and
 -- every answer.
 use Rattle.std.proofs.Common.{◌≡◌, ◌≢◌, refl, sym, ◌∙◌, ap, subst, ℕ, zero, suc, ◌+◌, ◌-◌, ◌<◌, ◌≤◌, ◌==◌, min, nat_lt, not, cond, Bool, true, false, if◌then◌else◌}
-use Rattle.std.proofs.Common.{List, [], ◌∷◌, length, reverse, position, slice_get, slice_index, Option, Some, None, arith}
-use Rattle.std.specs.Prelude.{IsSome, is_some, Contains}
+use Rattle.std.proofs.Common.{List, [], ◌∷◌, length, reverse, slice_get, slice_index, Option, Some, None, arith}
+use Rattle.std.specs.Prelude.{IsSome, Contains, drop}
 use Rattle.std.specs.List.{range_with_len, position_or_len}
 use Rattle.std.proofs.lemmas.Bool.{cond-true, eq-eqb, ne_eqb, true≢false}
 use Rattle.std.proofs.lemmas.List.{length-reverse}
@@ -16,20 +16,19 @@ use Rattle.fl_hop.specs.declared.entry.Way.TheVariants.{Link as to_link, End as 
 use Rattle.fl_hop.specs.declared.entry.Hop.{Hop}
 use Rattle.fl_hop.specs.Table.{hop_at}
 use Rattle.fl_queues.specs.Given.{given}
-use Rattle.fl_queues.specs.Events.{forward, nothing}
-use Rattle.fl_queues.specs.Rings.{Opening, Said, open_circuit, circuit_opened, circuit_refused, Label, next_of, says, acknowledges, RingLabel, Ring, RingSide, RingEnd, first_for, read_by, looks, takes, Room, there_is_room, no_room, spent}
-use Rattle.fl_queues.specs.Ends.{End, Queue, Direction, written_of, queue_room}
+use Rattle.fl_queues.specs.Events.{nothing}
+use Rattle.fl_queues.specs.Rings.{Opening, Said, open_circuit, circuit_opened, circuit_refused, Label, next_of, says, acknowledges, RingLabel, Ring, RingSide, RingEnd, first_for, read_by, looks, Room, there_is_room, no_room, spent, for_data}
+use Rattle.fl_queues.specs.Ends.{Direction, written_of, queue_room}
 use Rattle.fl_queues.specs.Monitors.{Core, Link, link_to, can_say, Service, Fate, goes_on, ends_at, fails, fate, Hearing, hears, hears_opening, hears_opened, hears_refused, Heard, no_outbox, astray, opening_went_on, server_made, opening_failed, answer_went_on, end_opened, end_refused}
-use Rattle.fl_queues.specs.State.{Verdict, undecided, granted, denied, Route, Back, over_route, Binding, State, Outcome, core_of, binding_of, end_of, end_in, link_between, first_on, way_of, place_in, number_between, station_at, change_ring}
-use Rattle.fl_queues.specs.Forwarding.{LinkEnd, link_end, follows, Passing, goes_on_by, goes_on_over, arrives_by, follows_entry, forwards_passing, route_of, forwards_call, forwards_said, forwards_label, after_hearing, takes_said}
-use Rattle.fl_queues.specs.Standing.{Routed, core_at, number_at, standing, standing_by, Message, due_by, unread, labels_of, on_link, before_by, before_on, queue_of, picked, under_way, answer_number}
+use Rattle.fl_queues.specs.State.{Verdict, undecided, granted, denied, Route, Back, Binding, State, Outcome, core_of, binding_of, end_of, end_in, link_between, first_on, way_of, place_in, number_between, station_at, change_ring, change_core, ring_makes_sure, ring_room}
+use Rattle.fl_queues.specs.Forwarding.{LinkEnd, link_end, follows, Passing, goes_on_by, arrives_by, follows_entry, route_of, forwards_call, forwards_said, forwards_label, takes_said}
+use Rattle.fl_queues.specs.Standing.{Routed, core_at, number_at, standing, standing_by, Message, due_by, unread, labels_of, on_link, before_by, queue_of, picked, answer_number}
 use Rattle.fl_queues.specs.SoundPlaces.{TakesFrom, EndStands, stations}
-use Rattle.fl_queues.specs.SoundRoutes.{RouteLeads, NumbersGo, VerdictFits}
+use Rattle.fl_queues.specs.SoundRoutes.{VerdictFits}
 use Rattle.fl_queues.specs.SoundOpenings.{IsDue}
-use Rattle.fl_queues.specs.SoundEntries.{Leads, to_this, on_to, behind, ahead, SaysWay, Key, EntryAt, near_key, far_key, EntryIs}
+use Rattle.fl_queues.specs.SoundEntries.{Leads, to_this, on_to, behind, ahead, SaysWay, Key, near_key, far_key, EntryIs}
 use Rattle.fl_queues.specs.SoundLabels.{GoesOver, StandsBefore, OpensBefore}
 use Rattle.fl_queues.specs.Sound.{Sound}
-use Rattle.fl_queues.specs.Step.{step}
 use Rattle.fl_queues.specs.Laws.{ForwardsUnderstand}
 use Rattle.fl_laws.proofs.Cases.{either, by_given, by_given_or}
 use Rattle.fl_laws.proofs.BindingWalk.{given_there}
@@ -41,11 +40,12 @@ use Rattle.fl_laws.proofs.ListingStep.{end_at}
 use Rattle.fl_laws.proofs.ListingKept.{some_there}
 use Rattle.fl_laws.proofs.TurnsTold.{there_is, Tells, picked_first, way_length, takes_from}
 use Rattle.fl_laws.proofs.WritesTold.{get_at, get_back}
-use Rattle.fl_laws.proofs.Walk.{IsHere}
+use Rattle.fl_queues.specs.Binding.{all_differ}
+use Rattle.fl_base.specs.Ends.{peer}
 
 -- ---- what stands first on the link
 
-first_unread : (o : Option Ring) (side : RingSide) → slice_get (given o [] λ r. (read_by side r).waiting) 0 ≡ given o None (first_for side)
+pub first_unread : (o : Option Ring) (side : RingSide) → slice_get (given o [] λ r. (read_by side r).waiting) 0 ≡ given o None (first_for side)
 first_unread None side = refl
 first_unread (Some r) side = refl
 
@@ -53,7 +53,7 @@ no_labels : (ls : List RingLabel) → slice_get ls 0 ≡ None → labels_of ls �
 no_labels [] h = refl
 no_labels (l ∷ ls) h = absurd (cc)
 
-first_labels : (ls : List RingLabel) (first : RingLabel) → slice_get ls 0 ≡ Some first → (rest : List Label) × (labels_of ls ≡ first.label ∷ rest)
+pub first_labels : (ls : List RingLabel) (first : RingLabel) → slice_get ls 0 ≡ Some first → (rest : List Label) × (labels_of ls ≡ first.label ∷ rest)
 first_labels [] first h = absurd (cc)
 first_labels (l ∷ ls) first h = (labels_of ls, ap (λ (x : RingLabel). x.label ∷ labels_of ls) (some_same l first h))
 
@@ -72,7 +72,7 @@ got_at [] n x h = absurd (cc)
 got_at (y ∷ xs) zero x h = (omega arith, some_same y x h)
 got_at (y ∷ xs) (suc n) x h = let (below, is) = got_at xs n x h in (omega arith, is)
 
-place_there : (xs : List ℕ) (t x : ℕ) → t < length xs → slice_index xs t ≡ x → Rattle.fl_queues.specs.Binding.all_differ xs ≡ true → place_in xs x ≡ Some t
+pub place_there : (xs : List ℕ) (t x : ℕ) → t < length xs → slice_index xs t ≡ x → all_differ xs ≡ true → place_in xs x ≡ Some t
 place_there xs t x a e d =
     ap (λ (n : ℕ). cond (nat_lt n (length xs)) (Some n) None) (place_is xs t x a e d) ∙ cond-true _ _ _ (less_true t (length xs) a)
 
@@ -261,9 +261,9 @@ module _ (s : State) (sound : Sound s) (here : LinkEnd) (t : LinkThere s here) w
   way_tells z p n route r (to_link l c) (on_to neighbour number) same leads_so within =
       let (link, there) = link_at neighbour l.0 leads_so.0 in
       there_is Tells (slice_get t.core.links l.0) _ _ link there
-      (room_tells here p link.ring (Rattle.fl_queues.specs.State.ring_room Rattle.fl_queues.specs.Rings.for_data link.ring
-      (Rattle.fl_queues.specs.State.ring_makes_sure Rattle.fl_queues.specs.Rings.for_data link.ring z))
-      (Rattle.fl_queues.specs.State.ring_makes_sure Rattle.fl_queues.specs.Rings.for_data link.ring z))
+      (room_tells here p link.ring (ring_room for_data link.ring
+      (ring_makes_sure for_data link.ring z))
+      (ring_makes_sure for_data link.ring z))
   way_tells z p n route r (to_end to) (to_this f) same leads_so within =
       let its : binding_of s to ≡ Some r.binding = ap (λ (e : EndId). slice_get s.bindings e.binding) leads_so ∙ ap (slice_get s.bindings) within ∙ r.there in
       let queue : IsSome (end_in to.side r.binding).queue = subst (λ (a : Back). TakesFrom s a (end_in to.side r.binding)) r.back (takes_from s sound to r.binding its) in
@@ -313,7 +313,7 @@ module _ (s : State) (sound : Sound s) (here : LinkEnd) (t : LinkThere s here) w
     it_stands =
         let ne : suc over.place ≢ length its_way = λ same. let below : suc over.place < length its_way = far_at.0 in absurd (omega arith) in
         ap (λ (b : Back). before_by s e b (suc over.place)) over.routed.back
-        ∙ ap (λ (b : Bool). if b then queue_of s (Rattle.fl_base.specs.Ends.peer e)
+        ∙ ap (λ (b : Bool). if b then queue_of s (peer e)
         else on_link s (slice_index its_way (suc over.place - 1)) (slice_index its_way (suc over.place))) (ne_eqb (suc over.place) (length its_way) ne)
         ∙ ap (λ (j : ℕ). on_link s (slice_index its_way j) (slice_index its_way (suc over.place))) (omega arith)
         ∙ ap (λ (a : ℕ). on_link s a (slice_index its_way (suc over.place))) near_at.1
@@ -343,7 +343,7 @@ module _ (s : State) (sound : Sound s) (here : LinkEnd) (t : LinkThere s here) w
     all_stand : standing over.route ≡ length over.route.cores
     all_stand = ap (standing_by over.route) is_granted.1
 
-    differ : Rattle.fl_queues.specs.Binding.all_differ over.route.cores ≡ true
+    differ : all_differ over.route.cores ≡ true
     differ = (sound.routes e.binding over.route over.routed).differ
 
     number_on : (i j l : ℕ) → place_in over.route.cores here.neighbour ≡ Some i → place_in over.route.cores here.core ≡ Some j → min i j ≡ l
@@ -402,7 +402,7 @@ module _ (s : State) (sound : Sound s) (here : LinkEnd) (t : LinkThere s here) w
     call_tells z bs cs =
         let m : Meets s here e.binding over.route = meets_on e.side refl in
         let (there, leads_so) = entry_here e.binding m.leads m.key m.core m.neighbour m.entry in
-        let (j, place) = has_place (Rattle.std.specs.Prelude.drop 1 its_way) over.place here.core (drop_far its_way over.place over.far) in
+        let (j, place) = has_place (drop 1 its_way) over.place here.core (drop_far its_way over.place over.far) in
         let station : station_at e.side here.core over.route ≡ Some (j + 1) = ap (λ (o : Option ℕ). given o None λ x. Some (x + 1)) place in
         there_is Tells (binding_of z e) _ _ its_binding (ap (λ (b : List Binding). slice_get b e.binding) bs ∙ over.routed.there)
         (there_is Tells (route_of its_binding.back) _ _ over.route (ap route_of over.routed.back)
@@ -412,7 +412,7 @@ module _ (s : State) (sound : Sound s) (here : LinkEnd) (t : LinkThere s here) w
         (there_is Tells (hop_at t.core.circuits here.link m.number) _ _ m.entry.hop (ap (hop_at t.core.circuits here.link) (sym m.same) ∙ there)
         (way_tells z (record { end = e; number = k; station = j + 1 }) e.binding over.route over.routed m.entry.hop.way m.leads bs leads_so m.within))))))
       where
-        drop_far : (way : List ℕ) (p : ℕ) → slice_get way (suc p) ≡ Some here.core → slice_get (Rattle.std.specs.Prelude.drop 1 way) p ≡ Some here.core
+        drop_far : (way : List ℕ) (p : ℕ) → slice_get way (suc p) ≡ Some here.core → slice_get (drop 1 way) p ≡ Some here.core
         drop_far [] p h = absurd (cc)
         drop_far (x ∷ way) p h = h
 
@@ -445,7 +445,7 @@ module _ (s : State) (sound : Sound s) (here : LinkEnd) (t : LinkThere s here) w
   said_tells m first z q l cs =
       let x : Hearing = hears z.services here.link m t.core in
       there_is Tells (core_of z here.core) _ _ t.core (ap (λ (c : List Core). slice_get c here.core) cs ∙ t.core_is)
-      (heard_tells x.heard (takes_said here.ring x.heard (Rattle.fl_queues.specs.State.change_core here.core (λ k. x.core) z)) (said_known z.services m first q l))
+      (heard_tells x.heard (takes_said here.ring x.heard (change_core here.core (λ k. x.core) z)) (said_known z.services m first q l))
 
   pub label_tells : (label : Label) (first : RingLabel) (z : State) → first_on here.ring s ≡ Some first → first.label ≡ label → z.bindings ≡ s.bindings
       → z.cores ≡ s.cores → Tells (forwards_label here label z)

@@ -106,3 +106,5 @@ pub mod BoardBacks
 pub mod BoardLinks
 pub mod BoardLaw
 pub mod SoundSteps
+pub mod CoresKept
+pub mod CoresStep

@@ -1,5 +1,5 @@
 -- Each step keeps the limits of a world: each thing that is made within one is asked for room first, and nothing else makes one.
-use Rattle.std.proofs.Common.{◌≡◌, refl, sym, ◌∙◌, ap, subst, ℕ, zero, suc, ◌+◌, ◌≤◌, ◌||◌, nat_le, nat_lt, Bool, true, false}
+use Rattle.std.proofs.Common.{◌≡◌, refl, sym, ap, subst, ℕ, zero, suc, ◌+◌, ◌≤◌, ◌||◌, nat_le, nat_lt, false, Option}
 use Rattle.std.proofs.Common.{List, [], ◌∷◌, ◌++◌, length, map, Some, None, arith}
 use Rattle.std.specs.List.{range_with_len}
 use Rattle.std.proofs.lemmas.List.{length-append}
@@ -11,11 +11,11 @@ use Rattle.fl_lists.specs.declared.place.Place.TheVariants.{Polled}
 use Rattle.fl_queues.specs.Given.{changed_at}
 use Rattle.fl_queues.specs.Events.{DispatcherId, Event}
 use Rattle.fl_queues.specs.Calls.{Planned}
-use Rattle.fl_queues.specs.Rings.{Label, next_of, says, acknowledges, RingEnd, there_is_room, looks, takes}
-use Rattle.fl_queues.specs.Ends.{End, Direction, fresh_queue, without_first}
+use Rattle.fl_queues.specs.Rings.{Label, next_of, says, acknowledges, RingEnd, there_is_room, looks, takes, Ring}
+use Rattle.fl_queues.specs.Ends.{End, Direction, fresh_queue, without_first, Queue}
 use Rattle.fl_queues.specs.Waits.{Dispatcher, waits_in}
-use Rattle.fl_queues.specs.Monitors.{Core, fresh_core, Service, Heard, Hearing, hears, no_outbox, astray, opening_went_on, server_made, opening_failed, answer_went_on, end_opened, end_refused}
-use Rattle.fl_queues.specs.State.{State, Binding, Outcome, local, over_ring, Outlet, peer_queue, ring_side, dispatcher_of, end_of, end_in}
+use Rattle.fl_queues.specs.Monitors.{Core, fresh_core, Heard, Hearing, hears, no_outbox, astray, opening_went_on, server_made, opening_failed, answer_went_on, end_opened, end_refused}
+use Rattle.fl_queues.specs.State.{State, Binding, Outcome, local, over_ring, Outlet, peer_queue, ring_side, dispatcher_of, end_of, end_in, Back}
 use Rattle.fl_queues.specs.State.{change_core, change_ring, change_binding, change_end, change_channel, change_route, seats, binds_end, in_queue}
 use Rattle.fl_queues.specs.Making.{most_cores, most_interfaces, most_services}
 use Rattle.fl_queues.specs.Binding.{Wanted, end_id, most_bindings, with_new_binding, binds_both}
@@ -26,7 +26,7 @@ use Rattle.fl_queues.specs.Step.{step}
 use Rattle.fl_queues.specs.SoundLimits.{CoresAreFew, InterfacesAreFew, ServicesAreFew, BindingsAreFew}
 use Rattle.fl_laws.proofs.Cases.{by_given}
 use Rattle.fl_laws.proofs.Replies.{length_changed}
-use Rattle.fl_laws.proofs.Walk.{CalledAt, RuledAt, PassedAt, Making, an_interface, so_many_cores, a_service, a_binding, HasRoom, TurnAt, KeepsWithin, step_leads_within, with_ring}
+use Rattle.fl_laws.proofs.Walk.{CalledAt, RuledAt, PassedAt, Making, HasRoom, TurnAt, KeepsWithin, step_leads_within, with_ring}
 
 pub record IsFew (s : State) : Type 0 where
   pub cores : CoresAreFew s
@@ -64,7 +64,7 @@ as_few s t c i v b h = record {
   bindings = same_few s.bindings t.bindings most_bindings (ap (λ xs. length xs) b) h.bindings;
 }
 
-ring_kept : (n : ℕ) (f : Rattle.fl_queues.specs.Rings.Ring → Rattle.fl_queues.specs.Rings.Ring) (s : State) → IsFew s → IsFew (change_ring n f s)
+ring_kept : (n : ℕ) (f : Ring → Ring) (s : State) → IsFew s → IsFew (change_ring n f s)
 ring_kept n f s h = as_few s (change_ring n f s) refl refl refl refl h
 
 end_kept : (e : EndId) (f : End → End) (s : State) → IsFew s → IsFew (change_end e f s)
@@ -146,7 +146,7 @@ counted_cores a (suc n) = let later : length (map fresh_core (range_with_len (a 
 few_cores : (n : ℕ) → nat_lt n 1 || nat_lt most_cores n ≡ false → n ≤ most_cores
 few_cores n h = grind (arith, nat_tests, h)
 
-with_binding : (w : Wanted) (back : Rattle.fl_queues.specs.State.Back) (stations : ℕ) (q : Rattle.std.proofs.Common.Option Rattle.fl_queues.specs.Ends.Queue) (s : State)
+with_binding : (w : Wanted) (back : Back) (stations : ℕ) (q : Option Queue) (s : State)
     → nat_le most_bindings (length s.bindings) ≡ false → IsFew s → IsFew (with_new_binding w back stations q s)
 with_binding w back stations q s r h = record {
   cores = h.cores;

@@ -1,29 +1,26 @@
 -- What the end of a listed channel is to be: bound, of the kind of its list, and with a fragment where it is pending. Said of
 -- every list at once, and what changes of ends, rings and lists leave of it.
-use Rattle.std.proofs.Common.{◌≡◌, ◌≢◌, refl, sym, ◌∙◌, ap, subst, ℕ, nat_lt, Bool, true, false, ◌⊎◌, inl, inr}
-use Rattle.std.proofs.Common.{List, [], ◌∷◌, ◌++◌, length, slice_get, Option, Some, None}
-use Rattle.std.specs.Prelude.{IsSome, IsNone, is_some}
-use Rattle.std.proofs.lemmas.Bool.{true≢false, cases_eq}
+use Rattle.std.proofs.Common.{◌≡◌, ◌≢◌, refl, sym, ◌∙◌, ap, subst, ℕ, true, ◌⊎◌, inl, inr}
+use Rattle.std.proofs.Common.{List, [], ◌∷◌, ◌++◌, slice_get, Option, Some, None}
+use Rattle.std.specs.Prelude.{IsSome, IsNone}
+use Rattle.std.proofs.lemmas.Bool.{cases_eq}
 use Rattle.fl_base.specs.declared.identity.EndId.{EndId}
-use Rattle.fl_base.specs.declared.identity.Side.{Side}
-use Rattle.fl_base.specs.declared.identity.Side.TheVariants.{Client, Server}
 use Rattle.fl_lists.specs.declared.place.Place.{Place}
 use Rattle.fl_lists.specs.declared.place.Place.TheVariants.{Idle, Polled, Pending}
-use Rattle.fl_lists.specs.ThreeLists.{ThreeLists, list_at, is_in, unlinked, pushed, popped, moved, IsApart}
+use Rattle.fl_lists.specs.ThreeLists.{ThreeLists, list_at, is_in, unlinked, pushed, popped, moved, IsApart, without}
 use Rattle.fl_lists.proofs.Members.{is_in_from-without}
 use Rattle.fl_waitset.specs.Waiting.{triggered}
 use Rattle.fl_waitset.proofs.Moves.{first_moves}
-use Rattle.fl_queues.specs.Given.{given, changed_at}
+use Rattle.fl_queues.specs.Given.{given}
 use Rattle.fl_queues.specs.Events.{DispatcherId}
 use Rattle.fl_queues.specs.Rings.{RingLabel, Ring, RingSide, RingEnd, first_for, written_by}
 use Rattle.fl_queues.specs.Ends.{Queue, End, Seat}
-use Rattle.fl_queues.specs.Waits.{Dispatcher, with_end, registers, deregisters, triggers, puts_off, waits_in}
+use Rattle.fl_queues.specs.Waits.{Dispatcher, with_end, registers, deregisters, triggers, puts_off}
 use Rattle.fl_queues.specs.Monitors.{Core}
-use Rattle.fl_queues.specs.State.{Route, Back, local, over_ring, over_route, Binding, State, core_of, dispatcher_of, end_of, end_in, with_end_in, in_route, own_ring, change_core, change_dispatcher, change_end, change_route}
+use Rattle.fl_queues.specs.State.{Binding, State, core_of, dispatcher_of, own_ring, change_core, change_dispatcher}
 use Rattle.fl_queues.specs.SoundLists.{IsOfCall}
-use Rattle.fl_laws.proofs.Cases.{either, by_given, Each, each_changed}
-use Rattle.fl_laws.proofs.Ends.{Has, has_kept, same_end_true, elsewhere}
-use Rattle.fl_queues.specs.Runs.{same_end}
+use Rattle.fl_laws.proofs.Cases.{either}
+use Rattle.fl_laws.proofs.Ends.{Has}
 use Rattle.fl_laws.proofs.EndsStanding.{get_push}
 use Rattle.fl_laws.proofs.Seating.{dispatcher_here, dispatcher_was}
 use Rattle.fl_laws.proofs.Seats.{view_same, some_same, Agree, seat_of, at_channel, ends_at}
@@ -146,7 +143,7 @@ triggered_from w c place k =
     either (λ (v : ThreeLists). is_in k (list_at v place) ≡ true → (is_in k (list_at w place) ≡ true) ⊎ ((is_in c w.idle ≡ true) × (c ≡ k) × (place ≡ Pending)))
     (is_in c w.idle) _ _ (λ q l. moved_from q place l) (λ q l. inl l)
   where
-    moved_from : is_in c w.idle ≡ true → (place : Place) → is_in k (list_at (record w { idle = Rattle.fl_lists.specs.ThreeLists.without c w.idle; pending = w.pending ++ c ∷ [] }) place) ≡ true
+    moved_from : is_in c w.idle ≡ true → (place : Place) → is_in k (list_at (record w { idle = without c w.idle; pending = w.pending ++ c ∷ [] }) place) ≡ true
         → (is_in k (list_at w place) ≡ true) ⊎ ((is_in c w.idle ≡ true) × (c ≡ k) × (place ≡ Pending))
     moved_from q Idle l = inl (is_in_from-without k c w.idle l).1
     moved_from q Polled l = inl l

@@ -1,7 +1,7 @@
 -- What changes of ends, bindings and rings leave of the ends of listed channels, and how an end comes to be listed.
-use Rattle.std.proofs.Common.{◌≡◌, ◌≢◌, refl, sym, ◌∙◌, ap, subst, ℕ, zero, suc, ◌||◌, nat_lt, nat_le, Bool, true, false, ◌⊎◌, inl, inr}
-use Rattle.std.proofs.Common.{List, [], ◌∷◌, ◌++◌, drop, length, slice_get, Option, Some, None}
-use Rattle.std.specs.Prelude.{IsSome, IsNone, is_some}
+use Rattle.std.proofs.Common.{◌≡◌, ◌≢◌, refl, sym, ◌∙◌, ap, subst, ℕ, ◌||◌, nat_lt, nat_le, Bool, true, false, ◌⊎◌, inl, inr}
+use Rattle.std.proofs.Common.{List, [], ◌∷◌, ◌++◌, length, slice_get, Option, Some, None}
+use Rattle.std.specs.Prelude.{IsSome, IsNone}
 use Rattle.fl_base.specs.declared.identity.EndId.{EndId}
 use Rattle.fl_base.specs.declared.identity.Side.{Side}
 use Rattle.fl_base.specs.declared.identity.Side.TheVariants.{Client, Server}
@@ -9,19 +9,20 @@ use Rattle.fl_lists.specs.declared.place.Place.{Place}
 use Rattle.fl_lists.specs.declared.place.Place.TheVariants.{Idle, Polled, Pending}
 use Rattle.fl_queues.specs.Given.{given, changed_at}
 use Rattle.fl_queues.specs.Events.{DispatcherId}
-use Rattle.fl_queues.specs.Rings.{Label, RingLabel, Ring, RingSide, first_side, second_side, RingEnd, first_for, read_by, written_by, puts, takes, looks, makes_sure, is_spent, free}
+use Rattle.fl_queues.specs.Rings.{Label, RingLabel, Ring, RingSide, first_side, second_side, RingEnd, first_for, read_by, written_by, puts, takes, looks, makes_sure, is_spent, free, knows, with_halves}
 use Rattle.fl_queues.specs.Ends.{Queue, End, Seat, joined_by}
-use Rattle.fl_queues.specs.Waits.{Dispatcher, registers, triggers, deregisters, waits_in, with_end}
-use Rattle.fl_queues.specs.State.{Route, Back, local, over_ring, over_route, Binding, State, dispatcher_of, binding_of, end_of, end_in, with_end_in, in_route, in_queue, own_ring, change_ring, change_end, change_route, change_channel, seats, registers_end, binds_end, delivers}
+use Rattle.fl_queues.specs.Waits.{Dispatcher, deregisters, waits_in}
+use Rattle.fl_queues.specs.State.{Route, Back, local, over_ring, over_route, Binding, State, dispatcher_of, end_of, end_in, with_end_in, in_route, in_queue, own_ring, change_ring, change_end, change_route, change_channel, seats, registers_end, binds_end, delivers, change_core, first_on}
 use Rattle.fl_queues.specs.Runs.{same_end}
 use Rattle.fl_queues.specs.SoundLists.{IsOfCall}
-use Rattle.fl_laws.proofs.Cases.{either, by_given, Each, each_changed, each_push}
+use Rattle.fl_laws.proofs.Cases.{either, by_given, Each, each_changed}
 use Rattle.fl_laws.proofs.Ends.{Has, has_kept, same_end_true, elsewhere}
 use Rattle.fl_laws.proofs.BindingWalk.{end_there}
 use Rattle.fl_laws.proofs.EndsStanding.{get_push}
-use Rattle.fl_laws.proofs.Seating.{changed_was}
 use Rattle.fl_laws.proofs.Seats.{view_same, some_same, Agree, seat_of, at_channel, ends_at, end_kept, changed_now}
 use Rattle.fl_laws.proofs.Listing.{WasLooked, LookedAt, Suits, Holds, FitEnd, ring_of, FitAt, Listing, ListedFit, listing_weaker, listing_with_end, listing_registers, listing_triggers, listing_deregisters}
+use Rattle.fl_queues.specs.Monitors.{Core}
+use Rattle.fl_laws.proofs.Ready.{end_done}
 
 -- ---- rings
 
@@ -62,13 +63,13 @@ pub looked_now : (side : RingSide) (r : Ring) (first : RingLabel) → first_for 
 looked_now first_side r first q k =
     by_given_some first q (λ (l : RingLabel). record { first = first; first_is = q; call = k; known = refl })
   where
-    by_given_some : (first : RingLabel) → first_for first_side r ≡ Some first → (RingLabel → WasLooked first_side (Rattle.fl_queues.specs.Rings.with_halves first_side (Rattle.fl_queues.specs.Rings.knows first.told (written_by first_side r)) (read_by first_side r) r))
+    by_given_some : (first : RingLabel) → first_for first_side r ≡ Some first → (RingLabel → WasLooked first_side (with_halves first_side (knows first.told (written_by first_side r)) (read_by first_side r) r))
         → WasLooked first_side (looks first_side r)
     by_given_some first q k =
-        subst (λ (o : Option RingLabel). WasLooked first_side (given o r λ l. Rattle.fl_queues.specs.Rings.with_halves first_side (Rattle.fl_queues.specs.Rings.knows l.told (written_by first_side r)) (read_by first_side r) r))
+        subst (λ (o : Option RingLabel). WasLooked first_side (given o r λ l. with_halves first_side (knows l.told (written_by first_side r)) (read_by first_side r) r))
         (sym q) (k first)
 looked_now second_side r first q k =
-    subst (λ (o : Option RingLabel). WasLooked second_side (given o r λ l. Rattle.fl_queues.specs.Rings.with_halves second_side (Rattle.fl_queues.specs.Rings.knows l.told (written_by second_side r)) (read_by second_side r) r))
+    subst (λ (o : Option RingLabel). WasLooked second_side (given o r λ l. with_halves second_side (knows l.told (written_by second_side r)) (read_by second_side r) r))
     (sym q) (record { first = first; first_is = q; call = k; known = refl })
 
 looked_after : (rings : List Ring) (n : ℕ) (f : Ring → Ring) (at : RingEnd)
@@ -141,7 +142,7 @@ pub taken_other : (at : RingEnd) (s : State) → ((e : EndId) → ring_of s.bind
 taken_other at s ne h =
     listing_weaker (FitAt s) (FitAt (change_ring at.ring (takes at.side) s)) s (λ place e. fit_takes at s place e (ne e)) h
 
-pub taken_quiet : (at : RingEnd) (first : RingLabel) (s : State) → Rattle.fl_queues.specs.State.first_on at s ≡ Some first → (IsOfCall first.label → ⊥)
+pub taken_quiet : (at : RingEnd) (first : RingLabel) (s : State) → first_on at s ≡ Some first → (IsOfCall first.label → ⊥)
     → ListedFit s → ListedFit (change_ring at.ring (takes at.side) s)
 taken_quiet at first s q none h =
     listing_weaker (FitAt s) (FitAt (change_ring at.ring (takes at.side) s)) s
@@ -314,15 +315,15 @@ fit_waits rings own x b one (Some q) e =
 
 -- ---- channels
 
-fit_core : (n : ℕ) (f : Rattle.fl_queues.specs.Monitors.Core → Rattle.fl_queues.specs.Monitors.Core) (s : State) (place : Place) (e : EndId)
-    → FitAt s place e → FitAt (Rattle.fl_queues.specs.State.change_core n f s) place e
+fit_core : (n : ℕ) (f : Core → Core) (s : State) (place : Place) (e : EndId)
+    → FitAt s place e → FitAt (change_core n f s) place e
 fit_core n f s place e h = record { end = h.end; there = h.there; holds = h.holds }
 
 -- the ends are those before cores changed
-pub relisted : (n : ℕ) (f : Rattle.fl_queues.specs.Monitors.Core → Rattle.fl_queues.specs.Monitors.Core) (s : State)
-    → Listing (FitAt s) (Rattle.fl_queues.specs.State.change_core n f s) → ListedFit (Rattle.fl_queues.specs.State.change_core n f s)
+pub relisted : (n : ℕ) (f : Core → Core) (s : State)
+    → Listing (FitAt s) (change_core n f s) → ListedFit (change_core n f s)
 relisted n f s h =
-    listing_weaker (FitAt s) (FitAt (Rattle.fl_queues.specs.State.change_core n f s)) (Rattle.fl_queues.specs.State.change_core n f s)
+    listing_weaker (FitAt s) (FitAt (change_core n f s)) (change_core n f s)
     (λ place e. fit_core n f s place e) h
 
 pub seat_quiet : (d : DispatcherId) (e : EndId) (s : State) → ListedFit s → ListedFit (seats d e s)
@@ -361,7 +362,7 @@ bound_fit e circuit s a one h =
     let g : End → End = λ x. record x { circuit = Some circuit } in
     let bound : State = change_end e g s in
     registered_fit e bound (end_kept e g s (λ x. refl) a) (ones_end e g s (λ own x k. k) one)
-    (λ x q. Rattle.fl_laws.proofs.Ready.end_done e g s (λ y. IsSome y.circuit) (λ y. refl) x q)
+    (λ x q. end_done e g s (λ y. IsSome y.circuit) (λ y. refl) x q)
     (listing_weaker (FitAt s) (FitAt bound) s
     (λ place f. fit_end e g s place f (λ own x k. record { bound = refl; kind = k.kind; holds = k.holds })) h)
 
@@ -442,7 +443,7 @@ delivered_fit l e s a one h =
             bound = k.holds.bound;
             kind = tt;
             holds = (
-              (λ p r. Rattle.fl_laws.proofs.Ready.end_done e (in_queue (joined_by l)) s (λ y. (z : Queue) → y.queue ≡ Some z → z.labels ≢ [])
+              (λ p r. end_done e (in_queue (joined_by l)) s (λ y. (z : Queue) → y.queue ≡ Some z → z.labels ≢ [])
                   (λ y z. joined_some l y z) k.end k.there p r),
               (λ at r. absurd (let u : None ≡ Some at = sym none ∙ r in cc)),
             );

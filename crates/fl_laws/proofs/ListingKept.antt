@@ -1,8 +1,8 @@
 -- Each step of a sound state keeps what is said of registered channels: their ends are bound and of the kind of their list, a pending
 -- queue holds something, and a pending ring was looked at.
-use Rattle.std.proofs.Common.{◌≡◌, ◌≢◌, refl, sym, ◌∙◌, ap, subst, ℕ, Bool, true, false, inl, inr}
-use Rattle.std.proofs.Common.{List, [], ◌∷◌, length, slice_get, Option, Some, None, arith}
-use Rattle.std.specs.Prelude.{IsSome, IsNone, is_some, Contains}
+use Rattle.std.proofs.Common.{◌≡◌, refl, sym, ◌∙◌, ap, subst, ℕ, true, false, inl, inr}
+use Rattle.std.proofs.Common.{List, [], ◌∷◌, slice_get, Option, Some, None, arith}
+use Rattle.std.specs.Prelude.{IsSome, IsNone, Contains}
 use Rattle.fl_base.specs.declared.identity.EndId.{EndId}
 use Rattle.fl_base.specs.declared.identity.Side.{Side}
 use Rattle.fl_base.specs.declared.identity.Side.TheVariants.{Client, Server}
@@ -12,14 +12,13 @@ use Rattle.fl_lists.specs.declared.place.Place.TheVariants.{Idle, Polled, Pendin
 use Rattle.fl_lists.specs.ThreeLists.{list_at, is_in}
 use Rattle.fl_queues.specs.Given.{given}
 use Rattle.fl_queues.specs.Events.{DispatcherId, Event}
-use Rattle.fl_queues.specs.Rings.{Said, Label, next_of, says, RingLabel, Ring, RingEnd, RingSide, first_for, read_by, written_by}
+use Rattle.fl_queues.specs.Rings.{Label, RingLabel, Ring, RingEnd, first_for, read_by, written_by, Half}
 use Rattle.fl_queues.specs.Ends.{End, Queue}
 use Rattle.fl_queues.specs.Waits.{Dispatcher}
-use Rattle.fl_queues.specs.Monitors.{Link, Core, link_to}
+use Rattle.fl_queues.specs.Monitors.{Core, link_to}
 use Rattle.fl_queues.specs.State.{Back, local, over_ring, over_route, Binding, State, side_of, end_of, end_in, own_ring, first_on, link_between, dispatcher_of}
-use Rattle.fl_queues.specs.Forwarding.{LinkEnd}
 use Rattle.fl_queues.specs.Standing.{labels_of, ring_from}
-use Rattle.fl_queues.specs.SoundPlaces.{Owner, core_to, this_end, TakesFrom, EndStands, RingsHaveOneOwner}
+use Rattle.fl_queues.specs.SoundPlaces.{core_to, this_end, TakesFrom, EndStands, RingsHaveOneOwner}
 use Rattle.fl_queues.specs.SoundLabels.{MayStandFrom}
 use Rattle.fl_queues.specs.SoundLists.{Listed, KindFits, ListedAreBound, PendingQueuesHold, PendingRingsWereLookedAt, RingWasLooked}
 use Rattle.fl_queues.specs.Sound.{Sound}
@@ -31,7 +30,6 @@ use Rattle.fl_laws.proofs.Sitting.{sit_fits}
 use Rattle.fl_laws.proofs.Listing.{LookedAt, Suits, Holds, FitEnd, ring_of, FitAt, HasSuch, ListedFit}
 use Rattle.fl_laws.proofs.ListingEnds.{OneOf, AllOne}
 use Rattle.fl_laws.proofs.ListingStep.{OwnAlone, OwnCalls, MayList, step_keeps_listed}
-use Rattle.fl_laws.proofs.Walk.{IsHere}
 
 pub some_there : {X : Type 0} (o : Option X) → IsSome o → (x : X) × (o ≡ Some x)
 some_there None h = absurd (let u : false ≡ true = h in cc)
@@ -184,7 +182,7 @@ own_first s sound e at first q r =
     let ahead : slice_get (read_by (side_of e.side) ring).waiting 0 ≡ Some first = ap (λ (a : RingEnd). first_for a.side ring) is ∙ head in
     let stands : ring_from s (peer e) n ≡ labels_of (read_by (side_of e.side) ring).waiting =
     ap (λ (o : Option Ring). given o [] (λ x. labels_of (written_by (side_of (other e.side)) x).waiting)) here
-    ∙ ap (λ (h : Rattle.fl_queues.specs.Rings.Half). labels_of h.waiting) (sym (reads_other e.side ring)) in
+    ∙ ap (λ (h : Half). labels_of h.waiting) (sym (reads_other e.side ring)) in
     sound.ways.rings (peer e) b n first.label there back
     (subst (λ (ls : List Label). Contains ls first.label) (sym stands) (first_contained (read_by (side_of e.side) ring).waiting first ahead))
 

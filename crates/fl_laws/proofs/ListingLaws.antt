@@ -1,10 +1,9 @@
 -- What sound states say of waitsets: a listed channel has an end, no channel is listed twice, a pending one has a fragment.
-use Rattle.std.proofs.Common.{◌≡◌, ap, Option, Some, None}
+use Rattle.std.proofs.Common.{ap}
 use Rattle.std.specs.Prelude.{is_some}
 use Rattle.fl_base.specs.declared.identity.EndId.{EndId}
 use Rattle.fl_lists.specs.declared.place.Place.TheVariants.{Pending}
-use Rattle.fl_queues.specs.Rings.{RingEnd}
-use Rattle.fl_queues.specs.State.{Binding, State, start, end_in, own_ring}
+use Rattle.fl_queues.specs.State.{Binding, State, start, end_in}
 use Rattle.fl_queues.specs.Runs.{reached}
 use Rattle.fl_queues.specs.SoundLists.{Listed}
 use Rattle.fl_queues.specs.Sound.{Sound}

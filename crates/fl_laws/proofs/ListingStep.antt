@@ -1,7 +1,7 @@
 -- Each step keeps that the ends of listed channels fit: where seats agree, ends take from a queue or a ring, rings have one owner
 -- and what stands first on an end's own ring is no monitor's.
-use Rattle.std.proofs.Common.{◌≡◌, ◌≢◌, refl, sym, ◌∙◌, ap, subst, ℕ, zero, suc, ◌+◌, Bool, true, false, not, ◌⊎◌, inl, inr}
-use Rattle.std.proofs.Common.{List, [], ◌∷◌, ◌++◌, drop, length, map, slice_get, Option, Some, None}
+use Rattle.std.proofs.Common.{◌≡◌, ◌≢◌, refl, sym, ◌∙◌, ap, subst, ℕ, ◌+◌, true, false, not, inl, inr}
+use Rattle.std.proofs.Common.{List, [], ◌∷◌, ◌++◌, length, map, slice_get, Option, Some, None}
 use Rattle.std.specs.Prelude.{IsSome, IsNone, is_some}
 use Rattle.std.specs.List.{range_with_len}
 use Rattle.fl_base.specs.declared.identity.EndId.{EndId}
@@ -9,19 +9,19 @@ use Rattle.fl_base.specs.declared.identity.Side.{Side}
 use Rattle.fl_base.specs.declared.identity.Side.TheVariants.{Client, Server}
 use Rattle.fl_base.specs.Ends.{peer}
 use Rattle.fl_lists.specs.declared.place.Place.{Place}
-use Rattle.fl_lists.specs.declared.place.Place.TheVariants.{Idle, Polled, Pending}
+use Rattle.fl_lists.specs.declared.place.Place.TheVariants.{Polled, Pending}
 use Rattle.fl_lists.specs.ThreeLists.{list_at, is_in}
 use Rattle.fl_lists.proofs.Members.{first_is_in}
 use Rattle.fl_queues.specs.Given.{given, changed_at}
 use Rattle.fl_queues.specs.Events.{DispatcherId, Event}
 use Rattle.fl_queues.specs.Calls.{Planned}
 use Rattle.fl_queues.specs.Rings.{Opening, Said, Label, next_of, says, acknowledges, RingLabel, Ring, RingEnd, RingSide, first_side, second_side, first_for, there_is_room, looks, makes_sure, takes, puts, fresh_ring}
-use Rattle.fl_queues.specs.Ends.{End, Queue, Direction, fresh_queue, without_first, accepts, writes, written_of, with_rule, passes, takes_one, comes_to, rule_at, Taken, whole, a_part, replies, is_bound}
-use Rattle.fl_queues.specs.Waits.{Dispatcher, waits_in, fresh_dispatcher, puts_off, Due, pending, polled, due}
+use Rattle.fl_queues.specs.Ends.{End, Queue, Direction, fresh_queue, without_first, accepts, writes, written_of, with_rule, passes, takes_one, comes_to, rule_at, Taken, whole, a_part, replies, is_bound, joined_by}
+use Rattle.fl_queues.specs.Waits.{Dispatcher, waits_in, fresh_dispatcher, Due, pending, polled}
 use Rattle.fl_queues.specs.Monitors.{Core, fresh_core, opens, Hearing, hears, Heard, no_outbox, astray, opening_went_on, server_made, opening_failed, answer_went_on, end_opened, end_refused}
 use Rattle.fl_queues.specs.State.{Route, Back, local, over_ring, over_route, undecided, Binding, State, Outcome, Outlet, peer_queue, ring_side, core_of, dispatcher_of, binding_of, end_of, end_in, first_on, own_ring}
-use Rattle.fl_queues.specs.State.{change_core, change_dispatcher, change_ring, change_end, change_out, change_route, change_channel, in_queue, delivers, seats, binds_end}
-use Rattle.fl_queues.specs.Making.{linked, with_dispatcher}
+use Rattle.fl_queues.specs.State.{change_core, change_ring, change_end, change_out, change_route, change_channel, in_queue, delivers, seats, binds_end}
+use Rattle.fl_queues.specs.Making.{linked, with_dispatcher, with_interface, with_service}
 use Rattle.fl_queues.specs.Binding.{Wanted, end_id, with_new_binding, binds_both, arrival_queue}
 use Rattle.fl_queues.specs.Sending.{writes_to}
 use Rattle.fl_queues.specs.Taking.{Chosen, takes_label, goes_back, comes_off, finds}
@@ -30,17 +30,17 @@ use Rattle.fl_queues.specs.Step.{step}
 use Rattle.fl_queues.specs.SoundLists.{IsOfCall, WaitsetsStand}
 use Rattle.fl_laws.proofs.Cases.{by_given, each_push}
 use Rattle.fl_laws.proofs.CoreWalk.{each_at_fresh}
-use Rattle.fl_laws.proofs.BindingWalk.{given_there, end_there, new_binding}
+use Rattle.fl_laws.proofs.BindingWalk.{given_there, new_binding}
 use Rattle.fl_laws.proofs.Ends.{here}
 use Rattle.fl_laws.proofs.Ready.{get_last}
 use Rattle.fl_laws.proofs.Services.{hears_leaves, is_not}
 use Rattle.fl_laws.proofs.Seating.{changed_here, changed_was}
-use Rattle.fl_laws.proofs.Seats.{some_same, push_was, Agree, Unseated, seating_kept, new_kept, end_kept, route_kept, bound_kept}
+use Rattle.fl_laws.proofs.Seats.{some_same, push_was, Agree, Unseated, seating_kept, new_kept, end_kept, route_kept, bound_kept, core_kept, ends_in}
 use Rattle.fl_laws.proofs.SeatsStep.{server_free, route_free, SitFits, AllSitFits, fits_alike}
 use Rattle.fl_laws.proofs.Waitsets.{empty_none}
-use Rattle.fl_laws.proofs.WaitsetsStep.{first_pending, first_polled, same_dispatcher_at}
+use Rattle.fl_laws.proofs.WaitsetsStep.{first_pending, first_polled}
 use Rattle.fl_laws.proofs.WaitsetsKept.{looks_same, sure_same, first_same}
-use Rattle.fl_laws.proofs.Listing.{LookedAt, Holds, FitEnd, ring_of, FitAt, HasSuch, Listing, ListedFit, listing_core, listing_puts_off}
+use Rattle.fl_laws.proofs.Listing.{LookedAt, FitEnd, ring_of, FitAt, HasSuch, Listing, ListedFit, listing_core, listing_puts_off}
 use Rattle.fl_laws.proofs.ListingEnds.{looked_now, put_quiet, look_quiet, sure_quiet, fit_takes, taken_other, taken_quiet, ring_end, fit_elsewhere, end_quiet, route_quiet, binding_quiet, new_ring_quiet, OneOf, AllOne, one_at, ones_end, ones_route, ones_seats, ones_binds, ones_queue, fit_waits, relisted, seat_quiet, registered_fit, deregistered_fit, bound_fit, delivered_fit}
 use Rattle.fl_laws.proofs.Walk.{CalledAt, RuledAt, PassedAt, MadeIn, At, IsTurn, IsHere, IsWithout, FindsNone, in_queue_none, on_ring_none, KeepsWithin, step_leads_within, with_ring}
 
@@ -377,7 +377,7 @@ channel_bindings e f s =
 
 delivered_ring : (l : Label) (e : EndId) (s : State) (g : EndId) → ring_of (delivers l e s).bindings g ≡ ring_of s.bindings g
 delivered_ring l e s g =
-    ap (λ (bs : List Binding). ring_of bs g) (channel_bindings e _ _) ∙ ring_end e (in_queue (Rattle.fl_queues.specs.Ends.joined_by l)) s g
+    ap (λ (bs : List Binding). ring_of bs g) (channel_bindings e _ _) ∙ ring_end e (in_queue (joined_by l)) s g
 
 is_sure : (x : End) → not (is_bound x) ≡ false → IsSome x.circuit
 is_sure x q = is_not (is_bound x) q
@@ -385,13 +385,13 @@ is_sure x q = is_not (is_bound x) q
 listed_keep : KeepsWithin CalledAt RuledAt PassedAt (MadeIn MayList) IsWithout MayList ListedFit
 listed_keep = record {
   settled = λ s h. as_listed s (record s { may_set_cores = false }) refl refl refl h;
-  interface = λ i s q h. as_listed s (Rattle.fl_queues.specs.Making.with_interface i s) refl refl refl h.fit;
+  interface = λ i s q h. as_listed s (with_interface i s) refl refl refl h.fit;
   cores = λ n s q h. fresh_fit n s;
   link = λ a b size s q r h.
       core_quiet b (linked a (length s.rings) second_side) (change_core a (linked b (length s.rings) first_side) (with_ring size s)) (λ k u. refl)
       (core_quiet a (linked b (length s.rings) first_side) (with_ring size s) (λ k u. refl) (new_ring_quiet (fresh_ring size) s h.fit));
   dispatcher = λ core s h. added_fit core s h.fit;
-  service = λ x s d i q r t h. as_listed s (Rattle.fl_queues.specs.Making.with_service x s) refl refl refl h.fit;
+  service = λ x s d i q r t h. as_listed s (with_service x s) refl refl refl h.fit;
   queues = λ w i slots s k q h.
       both_new w local 2 (Some (fresh_queue slots)) s (λ side. inl refl) h.seats h.ones h.fit;
   ring = λ w i size s k q r h.
@@ -433,9 +433,9 @@ listed_keep = record {
       core_quiet here.core (λ y. x.core) s
       (λ y u. hears_leaves s.services here.link m k ∙ ap (λ (z : Core). z.dispatchers) (some_same k y (sym t ∙ u))) h.fit in
       heard_fit here.ring x.heard told (fits_alike s told x.heard (λ b u. u) (h.sits here m first k j q r t))
-      (Rattle.fl_laws.proofs.Seats.core_kept here.core (λ y. x.core) s
-      (λ y u place. ap (λ ds. Rattle.fl_laws.proofs.Seats.ends_in ds place) (hears_leaves s.services here.link m k)
-      ∙ ap (λ (z : Core). Rattle.fl_laws.proofs.Seats.ends_in z.dispatchers place) (some_same k y (sym t ∙ u))) h.seats) h.ones fit
+      (core_kept here.core (λ y. x.core) s
+      (λ y u place. ap (λ ds. ends_in ds place) (hears_leaves s.services here.link m k)
+      ∙ ap (λ (z : Core). ends_in z.dispatchers place) (some_same k y (sym t ∙ u))) h.seats) h.ones fit
       (taken_quiet here.ring first told q (not_said m first.label r) fit);
   passed = λ here p first route hop on s k q h.
       out_quiet p.end (passes p.station) (change_ring here.ring.ring (takes here.ring.side) (change_ring on.ring (puts on.side (label_of p)) s))

@@ -1,12 +1,11 @@
 -- Each step of a sound state leads to a sound state: so every state that a run reaches is sound, from one core, and from a
 -- world of 1 to 16 cores.
-use Rattle.std.proofs.Common.{ℕ, List, [], ◌∷◌, ◌≤◌}
+use Rattle.std.proofs.Common.{List, [], ◌∷◌}
 use Rattle.fl_queues.specs.Events.{Event}
 use Rattle.fl_queues.specs.State.{State, start}
 use Rattle.fl_queues.specs.Step.{step}
 use Rattle.fl_queues.specs.Runs.{reached}
 use Rattle.fl_queues.specs.Sound.{Sound}
-use Rattle.fl_queues.specs.Making.{most_cores}
 use Rattle.fl_queues.specs.Laws.{StepsAreSound, RunsAreSound, NumbersAreGivenOnce}
 use Rattle.fl_queues.specs.Worlds.{start_with, EverSound, EverFits, EverOnceBothWays, EverHaveEnds}
 use Rattle.fl_laws.proofs.Start.{start_is_sound, world_is_sound}

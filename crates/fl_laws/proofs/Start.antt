@@ -64,7 +64,7 @@ no_hop core l n hop = either (λ (o : Option Hop). o ≡ Some hop → ⊥) (nat_
 no_lead : (core l n binding : ℕ) (way : Way) → Leads (bare_table core) l n binding way → ⊥
 no_lead core l n binding way h = no_hop core l n _ h.there
 
-empty_table : (core : ℕ) → IsTable (bare_table core)
+pub empty_table : (core : ℕ) → IsTable (bare_table core)
 empty_table core = record {
   few = omega arith;
   whole = refl;

@@ -1,6 +1,6 @@
 -- A core's table stays sound: entries that come at new numbers, are answered and leave; counts that rise; and one more link.
 use Rattle.std.proofs.Common.{◌≡◌, ◌≢◌, refl, sym, ◌∙◌, ap, subst, ℕ, zero, suc, ◌+◌, ◌*◌, ◌<◌, ◌≤◌, ◌⊎◌, inl, inr, nat_lt, Bool, true, false, if◌then◌else◌}
-use Rattle.std.proofs.Common.{List, [], ◌∷◌, ◌++◌, length, replicate, position, slice_get, slice_set, slice_index_or, Option, Some, None, arith}
+use Rattle.std.proofs.Common.{List, [], ◌∷◌, ◌++◌, length, replicate, slice_get, slice_set, slice_index_or, Option, Some, None, arith}
 use Rattle.std.proofs.lemmas.List.{length-set, length-append, length-replicate}
 use Rattle.fl_base.specs.declared.identity.LinkId.{LinkId}
 use Rattle.fl_base.specs.declared.identity.Circuit.{Circuit}
@@ -11,7 +11,7 @@ use Rattle.fl_hop.specs.declared.entry.Way.TheVariants.{Link, End}
 use Rattle.fl_hop.specs.declared.entry.Hop.{Hop}
 use Rattle.fl_hop.specs.declared.links.LinkState.{LinkState}
 use Rattle.fl_hop.specs.Table.{TheCircuits, numbers, most_links, slot, hop_at, put_at, leading, with_hops, with_links, with_entry, without_entry, with_link}
-use Rattle.fl_hop.specs.Numbers.{number, with_opening, with_taking, count_opening, count_taking, after_opening, after_taking, IsOpened, IsTaken, IsGiven, OpenedHere, OpenedThere}
+use Rattle.fl_hop.specs.Numbers.{with_opening, with_taking, count_opening, count_taking, after_opening, after_taking, IsOpened, IsTaken, IsGiven, OpenedHere, OpenedThere}
 use Rattle.fl_hop.specs.Openings.{opened, passed_on, arrived, answered}
 use Rattle.fl_hop.specs.Joined.{Leads, IsClientWay, IsServerWay, Sound}
 use Rattle.fl_hop.specs.Slots.{IsOver}
@@ -299,7 +299,7 @@ module _ (t : TheCircuits) (sound : Sound t) where
       let most = sound.counts l o.link o.there in
       (within t.links l o.link o.there, (small o.link.neighbour.0 t.core o.link.taken n most.1 o.among).1)
 
-  leads_range : (l n binding : ℕ) (way : Way) → Leads t l n binding way → (l < length t.links) × (n ≤ 2046)
+  pub leads_range : (l n binding : ℕ) (way : Way) → Leads t l n binding way → (l < length t.links) × (n ≤ 2046)
   leads_range l n binding way h = given_range l n (given_of l n binding way h)
 
   far_range : (l : LinkId) (c : Circuit) (binding : ℕ) (way : Way) → Leads t l.0 c.0 binding way → InRange (length t.links) way

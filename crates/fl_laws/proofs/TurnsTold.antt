@@ -1,7 +1,7 @@
 -- In a sound state a turn answers `nothing` only where no channel is due, and gives a pending channel's end the other end's next fragment.
-use Rattle.std.proofs.Common.{◌≡◌, ◌≢◌, refl, sym, ◌∙◌, ap, subst, ℕ, zero, suc, ◌+◌, ◌-◌, ◌<◌, ◌≤◌, ◌==◌, ◌&&◌, Bool, true, false, if◌then◌else◌}
+use Rattle.std.proofs.Common.{◌≡◌, ◌≢◌, refl, sym, ◌∙◌, ap, subst, ℕ, zero, suc, ◌-◌, ◌≤◌, ◌&&◌, Bool, true, false, if◌then◌else◌}
 use Rattle.std.proofs.Common.{List, [], ◌∷◌, length, slice_get, slice_index, Option, Some, None, arith}
-use Rattle.std.specs.Prelude.{IsSome, IsNone, is_some, Contains}
+use Rattle.std.specs.Prelude.{IsNone, is_some, Contains}
 use Rattle.std.specs.List.{range_with_len, cons_option}
 use Rattle.std.proofs.lemmas.Bool.{eq-eqb}
 use Rattle.fl_base.specs.declared.identity.EndId.{EndId}
@@ -10,15 +10,15 @@ use Rattle.fl_base.specs.declared.identity.Side.TheVariants.{Client, Server}
 use Rattle.fl_base.specs.Ends.{other, peer}
 use Rattle.fl_lists.specs.declared.place.Place.TheVariants.{Polled, Pending}
 use Rattle.fl_queues.specs.Given.{given}
-use Rattle.fl_queues.specs.Events.{DispatcherId, turn, Answer, nothing, full, handle, part, quiet, ready}
+use Rattle.fl_queues.specs.Events.{DispatcherId, turn, nothing, full}
 use Rattle.fl_queues.specs.Calls.{Planned}
 use Rattle.fl_queues.specs.Rings.{Label, next_of, says, acknowledges, RingLabel, Ring, RingEnd, first_for, read_by, written_by, looks, takes, Half}
-use Rattle.fl_queues.specs.Ends.{End, Queue, Direction, without_first, holds_back, Taken, whole, a_part, comes_to, last_station, taken_of}
+use Rattle.fl_queues.specs.Ends.{End, Queue, Direction, without_first, holds_back, Taken, whole, a_part, comes_to, taken_of}
 use Rattle.fl_queues.specs.Waits.{Dispatcher, waits_in, Due, pending, polled, no_one, due}
-use Rattle.fl_queues.specs.State.{Route, Back, local, over_ring, over_route, Binding, State, Outcome, side_of, dispatcher_of, binding_of, interface_of, end_of, end_in, own_ring, first_on, change_ring, change_end, in_queue, way_of}
-use Rattle.fl_queues.specs.Taking.{Chosen, chosen, takes_label, taken_answer, goes_back, gives_by, gives, finds, examines, turns_by}
+use Rattle.fl_queues.specs.State.{Route, Back, local, over_ring, over_route, Binding, State, Outcome, side_of, dispatcher_of, binding_of, interface_of, end_of, end_in, own_ring, first_on, change_ring, change_end, in_queue, way_of, answers}
+use Rattle.fl_queues.specs.Taking.{Chosen, chosen, takes_label, taken_answer, goes_back, gives_by, gives, finds, turns_by}
 use Rattle.fl_queues.specs.Runs.{same_side, same_end}
-use Rattle.fl_queues.specs.Standing.{labels_of, on_link, ring_from, queue_of, before_by, number_of, picked}
+use Rattle.fl_queues.specs.Standing.{labels_of, on_link, ring_from, queue_of, before_by, picked}
 use Rattle.fl_queues.specs.SoundPlaces.{TakesFrom, stations, EndStands}
 use Rattle.fl_queues.specs.SoundLabels.{IsOf, StandsBefore, MayStandFrom}
 use Rattle.fl_queues.specs.SoundLists.{Listed, RingWasLooked}
@@ -26,7 +26,7 @@ use Rattle.fl_queues.specs.SoundRoutes.{RouteLeads}
 use Rattle.fl_queues.specs.Sound.{Sound}
 use Rattle.fl_queues.specs.Step.{step}
 use Rattle.fl_queues.specs.Laws.{TurnsUnderstand}
-use Rattle.fl_queues.specs.Worlds.{IsGiven, first_before, TurnGives, TurnsGiveTheNext}
+use Rattle.fl_queues.specs.Worlds.{IsGiven, TurnsGiveTheNext}
 use Rattle.fl_laws.proofs.Cases.{either, by_given, by_given_or}
 use Rattle.fl_laws.proofs.BindingWalk.{given_there}
 use Rattle.fl_laws.proofs.Ends.{Has, has_kept}
@@ -34,6 +34,7 @@ use Rattle.fl_laws.proofs.Seats.{some_same}
 use Rattle.fl_laws.proofs.WaitsetsStep.{first_pending, first_polled}
 use Rattle.fl_laws.proofs.ListingStep.{first_in, first_none, end_at}
 use Rattle.fl_laws.proofs.ListingKept.{IsListed, listed_of, own_over, reads_other, own_first}
+use Rattle.std.proofs.lemmas.List.{length-reverse}
 
 -- ---- what is there
 
@@ -120,7 +121,7 @@ module _ (s : State) (sound : Sound s) where
       none o e = ap is_some e
 
   gives_such : (P : Outcome → Type 0) (t : Chosen) (b : Binding) (i : Planned) → Listed s Pending t.end b → interface_of s b ≡ Some i
-      → ((z : State) → P (Rattle.fl_queues.specs.State.answers z full))
+      → ((z : State) → P (answers z full))
       → ((q : Queue) (l : Label) → (end_in t.end.side b).queue ≡ Some q → slice_get q.labels 0 ≡ Some l
       → P (takes_label t.end i l (goes_back t (waits_in (Some (without_first q))) (change_end t.end (in_queue without_first) s))))
       → ((at : RingEnd) (first : RingLabel) → (end_in t.end.side b).queue ≡ None → own_ring t.end.side b.back ≡ Some at → first_on at s ≡ Some first
@@ -193,7 +194,7 @@ peer_twice e = ap (λ (x : Side). (at e.binding x)) (side_twice e.side)
 
 pub way_length : (side : Side) (route : Route) → length (way_of side route) ≡ length route.cores
 way_length Client route = refl
-way_length Server route = Rattle.std.proofs.lemmas.List.length-reverse route.cores
+way_length Server route = length-reverse route.cores
 
 -- before the last station stands the queue of the end that takes
 before_queue : (s : State) (e : EndId) (back : Back) (j : ℕ) → own_ring e.side back ≡ None → suc j ≡ stations back - 1

@@ -12,16 +12,15 @@ use Rattle.fl_base.specs.declared.identity.EndId.{EndId}
 use Rattle.fl_base.specs.declared.identity.Side.{Side}
 use Rattle.fl_base.specs.declared.identity.Side.TheVariants.{Client, Server}
 use Rattle.fl_value.specs.Value.{TheCall}
-use Rattle.fl_layout.specs.Places.{count}
-use Rattle.fl_wire.specs.Payload.{payload_of, frag_on}
+use Rattle.fl_wire.specs.Payload.{payload_of, frag_on, frags_on}
 use Rattle.fl_queues.specs.Given.{given}
-use Rattle.fl_queues.specs.Events.{write, show, nothing, words}
+use Rattle.fl_queues.specs.Events.{write, show, nothing}
 use Rattle.fl_queues.specs.Calls.{Planned, fragments, total, stream}
 use Rattle.fl_queues.specs.Rings.{Room, there_is_room, no_room, spent}
-use Rattle.fl_queues.specs.Ends.{End, Direction, written_of, is_busy, is_bound, writes, Wrote}
+use Rattle.fl_queues.specs.Ends.{End, Direction, written_of, is_busy, is_bound, writes, Wrote, writes_by}
 use Rattle.fl_queues.specs.Monitors.{Link}
-use Rattle.fl_queues.specs.State.{Verdict, undecided, granted, denied, Route, Back, local, over_ring, over_route, Binding, State, Outcome, Outlet, peer_queue, ring_side, side_of, binding_of, interface_of, end_in, way_of, first_link, outlet_by, link_between}
-use Rattle.fl_queues.specs.Sending.{outlet_room, makes_sure_of, writes_to, writes_fragment, next_fragment, stamped_for, shows}
+use Rattle.fl_queues.specs.State.{Verdict, undecided, granted, denied, Route, Back, local, over_ring, over_route, Binding, State, Outlet, peer_queue, ring_side, side_of, binding_of, interface_of, end_in, way_of, first_link, outlet_by, link_between}
+use Rattle.fl_queues.specs.Sending.{outlet_room, makes_sure_of, writes_to, writes_fragment, next_fragment, shows}
 use Rattle.fl_queues.specs.Standing.{Routed, core_at}
 use Rattle.fl_queues.specs.SoundPlaces.{LinkIsPaired}
 use Rattle.fl_queues.specs.SoundRoutes.{RouteLeads, NumbersGo, VerdictFits, BoundBy, BoundWhere}
@@ -98,7 +97,7 @@ wrote_tells : (i : Planned) (d : Direction) (r : Room) → is_busy i d ≡ true 
 wrote_tells i d r busy =
     either (λ (w : Wrote). w.answer ≢ nothing) (is_busy i d) _ _ (λ q. by_room r) (λ q. absurd (true≢false (sym busy ∙ q)))
   where
-    by_room : (r : Room) → (Rattle.fl_queues.specs.Ends.writes_by i d r).answer ≢ nothing
+    by_room : (r : Room) → (writes_by i d r).answer ≢ nothing
     by_room there_is_room = λ h. absurd (cc)
     by_room no_room = λ h. absurd (cc)
     by_room spent = λ h. absurd (cc)
@@ -132,12 +131,12 @@ writes_understand s e b i sound q r h = write_by s sound e b i q r (is_busy i (e
 length_stream : (circuit : ℕ) (i : Planned) (cs : List TheCall) → length (stream circuit i cs) ≡ total i cs
 length_stream circuit i [] = refl
 length_stream circuit i (c ∷ cs) =
-    let first : length (Rattle.fl_wire.specs.Payload.frags_on circuit i.plan i.interface c) ≡ fragments i c =
+    let first : length (frags_on circuit i.plan i.interface c) ≡ fragments i c =
     length-map (range_with_len 0 (fragments i c)) (frag_on circuit c.msg (payload_of i.plan i.interface c)) ∙ length-range_with_len 0 (fragments i c) in
     let rest : length (stream circuit i cs) ≡ total i cs = length_stream circuit i cs in
-    let both : length (Rattle.fl_wire.specs.Payload.frags_on circuit i.plan i.interface c ++ stream circuit i cs)
-    ≡ length (Rattle.fl_wire.specs.Payload.frags_on circuit i.plan i.interface c) + length (stream circuit i cs) =
-    length-append (Rattle.fl_wire.specs.Payload.frags_on circuit i.plan i.interface c) (stream circuit i cs) in
+    let both : length (frags_on circuit i.plan i.interface c ++ stream circuit i cs)
+    ≡ length (frags_on circuit i.plan i.interface c) + length (stream circuit i cs) =
+    length-append (frags_on circuit i.plan i.interface c) (stream circuit i cs) in
     omega arith
 
 less : (m n : ℕ) → nat_lt m n ≡ true → m < n

@@ -359,3 +359,9 @@ pub fn calls_ever_fit()
 pub fn listed_ever_have_ends()
     ensures ends { EverHaveEnds }
 {}
+
+/// Each step of a sound state keeps the cores: each core's table of circuits is its own and sound, with a link of the monitor for
+/// each of its links.
+pub fn steps_keep_cores()
+    ensures kept { (s : State) (v : Event) → Sound s → CoresStand (step s v).state }
+{}
