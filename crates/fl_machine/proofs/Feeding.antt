@@ -26,7 +26,7 @@ use Rattle.fl_check.specs.Counts.{interface_words_fit}
 use Rattle.fl_wire.specs.declared.fault.WireFault.{WireFault}
 use Rattle.fl_wire.proofs.Bytes.{length_payload}
 use Rattle.fl_wire.proofs.Readings.{count_positive, byte_of_payload}
-use Rattle.fl_wire.proofs.Decoding.{front_frags, short_count, whole_count}
+use Rattle.fl_wire.proofs.Decoding.{prefix_frags, short_count, whole_count}
 use Rattle.fl_wire.proofs.Frames.{start_known}
 use Rattle.fl_wire.proofs.Unread.{IsUnderWay, fault_is_wrong, reads_right, one_fits}
 use Rattle.fl_stub.specs.declared.op.Op.{Op}
@@ -88,9 +88,9 @@ part_of plan i msg m all bytes n has bare_are many long begins =
       call = c;
       fits = carries.fits;
       short = omega (arith, many, short);
-      front = bare_are ∙ same_begun (length bytes) msg bytes begins.full n begins.goes.follows (omega (arith, long))
+      prefix = bare_are ∙ same_begun (length bytes) msg bytes begins.full n begins.goes.follows (omega (arith, long))
           ∙ call_begun plan i c msg begins.full n carries.message carries.bytes_are
-          ∙ sym (front_frags plan i c n (omega (arith, short)))
+          ∙ sym (prefix_frags plan i c n (omega (arith, short)))
           ∙ ap (λ (k : ℕ). take k (frags_of plan i c)) (sym many);
     }
 
@@ -116,7 +116,7 @@ ends plan i msg m parts f bytes more tape k has grown long begins is =
       turns = is.goes.turns;
       follows = record {
         each = λ p small.
-            grown.front.each p (omega (arith, small, long)) ∙ is.goes.follows.each p (omega (arith, small, long, grown.long));
+            grown.prefix.each p (omega (arith, small, long)) ∙ is.goes.follows.each p (omega (arith, small, long, grown.long));
       };
     }) in
     short_count (size (leaves plan i c)) (count plan i c) k refl (omega (arith, long, longer, sizes)))

@@ -188,10 +188,10 @@ rest_has_no_call plan i d x y w hd (inl none) e =
     absurd (omega (arith, long, count_positive plan i d, length_frags plan i d))
 rest_has_no_call plan i d x y w hd (inr (c, part)) e =
     let long : length x ≡ count plan i d + length y = ap length e ∙ length-append (frags_of plan i d) y ∙ omega (arith, length_frags plan i d) in
-    let front : frags_of plan i d ≡ take (count plan i d) (frags_of plan i c)
-    = sym (take_at (frags_of plan i d) y (count plan i d) (length_frags plan i d)) ∙ ap (λ (fs : List Frag). take (count plan i d) fs) (sym e ∙ part.front)
+    let prefix : frags_of plan i d ≡ take (count plan i d) (frags_of plan i c)
+    = sym (take_at (frags_of plan i d) y (count plan i d) (length_frags plan i d)) ∙ ap (λ (fs : List Frag). take (count plan i d) fs) (sym e ∙ part.prefix)
     ∙ take-take (count plan i d) (length x) (frags_of plan i c) (omega (arith, long)) in
-    let same : d ≡ c = begins_with plan i d c w hd part.fits (omega (arith, long, part.short)) front in
+    let same : d ≡ c = begins_with plan i d c w hd part.fits (omega (arith, long, part.short)) prefix in
     let counts : count plan i d ≡ count plan i c = ap (count plan i) same in
     absurd (omega (arith, counts, long, part.short))
 
@@ -225,7 +225,7 @@ bare_rest plan i x (inr part) = inr (
   record {
     fits = part.fits;
     short = subst (λ (n : ℕ). n < count plan i part.call) (sym (length-map x bare)) part.short;
-    front = part.front ∙ ap (λ (n : ℕ). take n (frags_of plan i part.call)) (sym (length-map x bare));
+    prefix = part.prefix ∙ ap (λ (n : ℕ). take n (frags_of plan i part.call)) (sym (length-map x bare));
   },
 )
 

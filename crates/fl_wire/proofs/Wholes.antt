@@ -24,7 +24,7 @@ use Rattle.fl_wire.proofs.Agreement.{over_self, over_arguments, grows, all_ranks
 use Rattle.fl_wire.proofs.Covers.{covered_past}
 use Rattle.fl_wire.proofs.Steps.{fewer}
 use Rattle.fl_wire.proofs.Calls.{no_length_past}
-use Rattle.fl_wire.proofs.Fronts.{no_bytes}
+use Rattle.fl_wire.proofs.Prefixes.{no_bytes}
 
 in_frags : (n : ℕ) → n ≤ 56 * max 1 ((n + 55) / 56)
 in_frags n = omega arith
