@@ -16,7 +16,7 @@ use Rattle.std.proofs.lemmas.List.{append-nil}
 use Rattle.fl_value.specs.Fits.{fits_of, fit_message}
 use Rattle.fl_value.specs.Tape.{tape_of}
 use Rattle.fl_layout.specs.Leaves.{leaves}
-use Rattle.fl_layout.specs.Places.{size, count}
+use Rattle.fl_layout.specs.Places.{size, count_for, count}
 use Rattle.fl_layout.proofs.BothPlans.{length_small}
 use Rattle.fl_wire.specs.Payload.{payload_of, frags_of}
 use Rattle.fl_wire.specs.Reading.{Means, IsPart, IsWrong}
@@ -196,7 +196,7 @@ whole_shown plan i tape e m x has =
     ∙ turns_into_given (receive plan m) (tape_of plan i c) (payload_of plan i c) (turns_of_call plan i e.msg.0 m c has x.message x.fits) in
     ap (λ (k : ℕ). frags_holding true k 0 (bytes_given (block_at plan i e.msg.0) (take e.count tape))) (sym x.message)
     ∙ ap (λ (bs : List ℕ). frags_holding true c.msg 0 bs) bytes
-    ∙ ap (λ (n : ℕ). map (frag_of true c.msg 0 (payload_of plan i c)) (range_with_len 0 (max 1 ((n + 55) / 56)))) (length_payload (leaves plan i c))
+    ∙ ap (λ (n : ℕ). map (frag_of true c.msg 0 (payload_of plan i c)) (range_with_len 0 (count_for n))) (length_payload (leaves plan i c))
 
 -- ---- taking a fragment
 

@@ -132,3 +132,28 @@ call_once bytes one other values others s r =
     let same = same_inside bytes s.start one s.after s.inside other others s.before dark s.word s.named ends s.opens r in
     let p = values_once (data_from values) (data_from others) 41 s.inside s.last r.last s.end r.end refl s.spelled s.closes (subst (λ a. SpellsValues (data_from others) a r.last) (sym same) r.spelled) r.closes in
     (names.0, data_same values others p.0)
+
+no_more : (left : List ℕ) → length left ≡ 0 → left ≡ []
+no_more [] e = refl
+no_more (b ∷ left) e = absurd (omega (arith, e))
+
+-- a call was read: its name, a parenthesis, values up to the closing one, and blanks
+pub spelled_call : (bytes start word after inside end left name : List ℕ) (values : List Datum) → Blanks bytes start → is_name word ≡ true
+    → start ≡ word ++ after → Token (a_mark 40) after inside → Listed 41 (data_from values) inside end → greatest_depth (data_from values) ≤ 20
+    → Blanks end left → length left ≡ 0 → name ≡ word → SpellsCall bytes name values
+spelled_call bytes start word after inside end left name values before named split o (last, v, t) nested ends none e =
+    subst (λ n. SpellsCall bytes n values) (sym e) (record {
+      start = start;
+      after = after;
+      inside = inside;
+      last = last;
+      end = end;
+      before = before;
+      word = named;
+      named = split;
+      opens = o;
+      spelled = v;
+      closes = t;
+      ends = subst (Blanks end) (no_more left none) ends;
+      nested = nested;
+    })

@@ -18,7 +18,7 @@ use Rattle.fl_value.specs.Value.{Datum, number, TheCall}
 use Rattle.fl_value.specs.Fits.{is_argument, least_above, how_many_below, is_scalar_value}
 use Rattle.fl_value.specs.declared.value.PlanNo.{PlanNo}
 use Rattle.fl_layout.specs.Leaves.{leaves, is_number_type}
-use Rattle.fl_layout.specs.Places.{size, count}
+use Rattle.fl_layout.specs.Places.{size, count_for, count}
 use Rattle.fl_wire.specs.Payload.{payload_of, word, frag_on, frags_of}
 use Rattle.fl_wire.specs.Standing.{words_in, HoldsPayload, raw_of, signed_half, number_back}
 use Rattle.fl_wire.proofs.Bytes.{get_made}
@@ -130,8 +130,8 @@ prefix_message plan i c k frags f h e some small is =
     omega (arith, control, small)
 
 -- a call that is cut short, and one that is whole
-pub short_count : (size count k : ℕ) → count ≡ max 1 ((size + 55) / 56) → 56 * k < size → k < count
+pub short_count : (size count k : ℕ) → count ≡ count_for size → 56 * k < size → k < count
 short_count size count k e h = omega (arith, e, h)
 
-pub whole_count : (size count k : ℕ) → count ≡ max 1 ((size + 55) / 56) → 0 < k → size ≤ 56 * k → count ≤ k
+pub whole_count : (size count k : ℕ) → count ≡ count_for size → 0 < k → size ≤ 56 * k → count ≤ k
 whole_count size count k e some h = omega (arith, e, some, h)

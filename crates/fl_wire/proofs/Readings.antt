@@ -16,7 +16,7 @@ use Rattle.fl_value.specs.declared.value.PlanNo.{PlanNo}
 use Rattle.fl_layout.specs.Leaves.{kind, Leaf, leaves, argument_types, types_of, arguments_onto}
 use Rattle.fl_value.specs.Plan.{of_ranks}
 use Rattle.std.specs.Cmp.{first_so, second_so}
-use Rattle.fl_layout.specs.Places.{size, place, count}
+use Rattle.fl_layout.specs.Places.{size, place, frags_filled, count_for, count}
 use Rattle.fl_wire.specs.Payload.{payload_at, payload_bytes, payload_of, word, frag_on, frags_of}
 use Rattle.fl_check.specs.Counts.{interface_words_fit, argument_words_fit}
 use Rattle.fl_wire.specs.Reading.{AllFit, IsRest, IsPart, Reads}
@@ -27,12 +27,12 @@ use Rattle.fl_wire.proofs.Agreement.{Agree, values_agree}
 positive : (n : ℕ) → 0 < max 1 n
 positive n = omega arith
 
-covered : (n : ℕ) → n ≤ 56 * max 1 ((n + 55) / 56)
+covered : (n : ℕ) → n ≤ 56 * count_for n
 covered n = omega arith
 
 -- a call has at least one fragment, and as many as it counts
 pub count_positive : (plan : PlanNo) (i : TheInterface) (c : TheCall) → 0 < count plan i c
-count_positive plan i c = positive ((size (leaves plan i c) + 55) / 56)
+count_positive plan i c = positive (frags_filled (size (leaves plan i c)))
 
 pub length_frags : (plan : PlanNo) (i : TheInterface) (c : TheCall) → length (frags_of plan i c) ≡ count plan i c
 length_frags plan i c = length-map-range_with_len (frag_on 0 c.msg (payload_of plan i c)) 0 (count plan i c)
