@@ -1,5 +1,5 @@
 -- The test of argument types is true of equal ones, and of no others.
-use Rattle.std.proofs.Common.{◌≡◌, refl, sym, ◌∙◌, ap, subst, ℕ, ◌==◌, ◌&&◌, Bool, true, false, List, [], ◌∷◌, Some, slice_get, eq-eqb}
+use Rattle.std.proofs.Common.{◌≡◌, refl, sym, ◌∙◌, ap, subst, ◌==◌, ◌&&◌, Bool, true, false, List, [], ◌∷◌, Some, slice_get, eq-eqb}
 use Rattle.std.specs.Prelude.{◌↔◌, IsTrue}
 use Rattle.std.proofs.lemmas.Bool.{eqb-true}
 use Rattle.fl_lex.proofs.Classes.{both as both_so}

@@ -1,20 +1,14 @@
 -- Parts of a type that is small.
-use Rattle.std.proofs.Common.{◌≡◌, ℕ, zero, suc, ◌+◌, ◌*◌, ◌<◌, ◌≤◌, ◌⊎◌, inl, inr, ⊎_elim, true, max, ◌&&◌, List, [], map, drop, length, get_or, refl, sym, ◌∙◌, ap, subst, arith}
-use Rattle.std.proofs.Math.Nat.{mul-le-mul_right}
+use Rattle.std.proofs.Common.{◌≡◌, ℕ, zero, suc, ◌+◌, ◌*◌, ◌<◌, ◌≤◌, true, ◌&&◌, List, [], map, drop, length, get_or, sym, ◌∙◌, ap, subst, arith}
 use Rattle.std.proofs.lemmas.List.{drop_all}
 use Rattle.std.proofs.lemmas.Bool.{and_parts, leb-true}
-use Rattle.fl_check.specs.declared.interface.Scalar.{Scalar}
-use Rattle.fl_check.specs.declared.interface.Scalar.TheVariants.{Uint8, Int8, Bool as BoolType, Char, Uint16, Int16, Uint32, Int32, Iref, Uint64, Int64, Uintptr, Intptr, Size, Errval}
-use Rattle.fl_check.specs.Interface.{TheType, scalar, enumeration, structure, array, TheTypes, no_more, field, fields_from}
-use Rattle.fl_check.specs.Sizes.{size_of, align_of, greatest_align, end_after, round_up, scalar_size}
+use Rattle.fl_check.specs.Interface.{TheType, structure, array, field, fields_from}
+use Rattle.fl_check.specs.Sizes.{size_of, align_of, greatest_align, end_after, round_up}
 use Rattle.fl_check.specs.Checks.{is_well_made, are_well_made}
 use Rattle.fl_check.proofs.Aligned.{round_least}
 use Rattle.fl_check.proofs.FieldSizes.{end_least, rest_is}
 
 -- ---- parts of a small type
-
-pub times_more : (k m n : ℕ) → m ≤ n → k * m ≤ k * n
-times_more k m n h = let e : m * k ≤ n * k = mul-le-mul_right k h in omega (arith, e)
 
 least_part : (n size : ℕ) → 1 ≤ n → n * size ≤ 4096 → size ≤ 4096
 least_part zero size some h = absurd (omega (arith, some))

@@ -1,8 +1,6 @@
 -- Zeros up to multiples of alignments.
-use Rattle.std.proofs.Common.{◌≡◌, ℕ, zero, suc, ◌+◌, ◌*◌, ◌%◌, ◌≤◌, refl, sym, subst, arith}
-use Rattle.fl_check.specs.Interface.{TheType, scalar, enumeration, structure, array}
-use Rattle.fl_check.specs.declared.interface.Scalar.TheVariants.{Uint8, Int8, Bool as BoolType, Char, Uint16, Int16, Uint32, Int32, Iref, Uint64, Int64, Uintptr, Intptr, Size, Errval}
-use Rattle.fl_check.specs.Sizes.{round_up, size_of, align_of, greatest_align, end_after}
+use Rattle.std.proofs.Common.{◌≡◌, ℕ, ◌+◌, ◌%◌, sym, subst, arith}
+use Rattle.fl_check.specs.Sizes.{round_up}
 use Rattle.fl_stub.specs.Meaning.{gap_to_8}
 use Rattle.fl_compile.specs.Compiled.{padding}
 use Rattle.fl_check.specs.Sizes.{IsAlign}

@@ -5,7 +5,7 @@ use Rattle.fl_check.specs.Interface.{TheType, scalar, enumeration, structure, ar
 use Rattle.fl_check.specs.Sizes.{size_of, align_of, greatest_align, end_after, round_up, scalar_size}
 use Rattle.fl_layout.specs.Extents.{numbers_of, numbers_of_all}
 use Rattle.fl_check.proofs.FieldSizes.{rest_is}
-use Rattle.fl_check.proofs.Aligned.{round_least, align_small, type_align, types_align, scalar_align}
+use Rattle.fl_check.proofs.Aligned.{round_least, align_small, scalar_align}
 
 pub times_more : (k m n : ℕ) → m ≤ n → k * m ≤ k * n
 times_more k m n h = let e : m * k ≤ n * k = mul-le-mul_right k h in omega (arith, e)

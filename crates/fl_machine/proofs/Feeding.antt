@@ -1,5 +1,5 @@
 -- What taking a fragment's bytes says of the calls of its message.
-use Rattle.std.proofs.Common.{◌≡◌, ℕ, zero, suc, ◌+◌, ◌*◌, ◌/◌, ◌^◌, ◌<◌, ◌≤◌, true, ⊎_elim, inl, inr, List, [], ◌∷◌, ◌++◌, map, take, length, get_or, slice_index, Some, None, Result, Ok, Err, refl, sym, ◌∙◌, ap, subst, arith, eqb, max}
+use Rattle.std.proofs.Common.{◌≡◌, ℕ, zero, suc, ◌+◌, ◌*◌, ◌^◌, ◌<◌, ◌≤◌, true, ⊎_elim, inl, inr, List, [], ◌∷◌, ◌++◌, map, take, length, get_or, slice_index, Some, None, Result, Ok, Err, refl, sym, ◌∙◌, ap, subst, arith, eqb}
 use Rattle.std.specs.Prelude.{slice_get, Option, IfErr, IfOk}
 use Rattle.std.specs.Option.{option_map}
 use Rattle.std.specs.List.{range_with_len}

@@ -1,5 +1,5 @@
 -- What was found before memory ran out.
-use Rattle.std.proofs.Common.{◌≡◌, ◌≤◌, ◌++◌, ℕ, true, List, map, length, refl, subst, Option, None, ap, ◌∙◌, Result, Ok, Err, IfErr, append_assoc, sym}
+use Rattle.std.proofs.Common.{◌≡◌, ◌≤◌, ◌++◌, ℕ, true, List, map, length, refl, subst, None, ap, ◌∙◌, Result, Ok, Err, IfErr, append_assoc, sym}
 use Rattle.std.specs.Result.{IsErrAnd}
 use Rattle.std.proofs.lemmas.Bool.{and_parts}
 use Rattle.std.specs.List.{list_all, flat_map}

@@ -1,5 +1,5 @@
 -- What the first fragments of a call hold, and its arguments from their bits.
-use Rattle.std.proofs.Common.{◌≡◌, ℕ, ℤ, pos, negsuc, zero, suc, ◌+◌, ◌-◌, ◌*◌, ◌/◌, ◌%◌, ◌^◌, ◌<◌, ◌≤◌, true, false, ◌⊎◌, inl, inr, ⊎_elim, List, map, length, get_or, take, slice_index, refl, sym, ◌∙◌, ap, arith, cond, ltb, leb, ◌&&◌, max, Some}
+use Rattle.std.proofs.Common.{◌≡◌, ℕ, ℤ, pos, negsuc, zero, suc, ◌+◌, ◌-◌, ◌*◌, ◌/◌, ◌%◌, ◌^◌, ◌<◌, ◌≤◌, true, false, ◌⊎◌, inl, inr, ⊎_elim, List, map, length, get_or, take, slice_index, refl, sym, ◌∙◌, ap, arith, cond, ltb, leb, ◌&&◌, Some}
 use Rattle.std.specs.Prelude.{slice_get, Option, ◌-ℤ◌}
 use Rattle.std.specs.List.{range_with_len}
 use Rattle.std.specs.Int.{byte_at, to_le_bytes, w64}

@@ -1,6 +1,6 @@
 use Rattle.std.proofs.Common.{◌∙◌}
 use Rattle.fl_check.proofs.FirstFaults.{tells_here, tells_past, none_past, err_of, sound_at_end, fault_at_end}
-use Rattle.fl_check.proofs.Looks.{err_after, sound_before, call_after}
+use Rattle.fl_check.proofs.Looks.{err_after, call_after}
 use Rattle.fl_check.proofs.declared.Declared.declare_alias.Goals as goal
 
 pub returns-in_err-check_new_type-clause-fault : goal.returns-in_err-check_new_type-clause-fault
