@@ -1,39 +1,17 @@
 -- What was found before memory ran out.
-use Rattle.std.proofs.Common.{◌≡◌, ◌≤◌, ◌++◌, ℕ, true, List, map, length, refl, subst, None, ap, ◌∙◌, Result, Ok, Err, IfErr, append_assoc, sym}
+use Rattle.std.proofs.Common.{◌≡◌, ◌++◌, ℕ, true, List, map, length, subst, ap, ◌∙◌, Result, Ok, Err, IfErr, append_assoc, sym}
 use Rattle.std.specs.Result.{IsErrAnd}
 use Rattle.std.proofs.lemmas.Bool.{and_parts}
 use Rattle.std.specs.List.{list_all, flat_map}
-use Rattle.fl_lex.specs.declared.fault.LexFault.{LexFault}
-use Rattle.fl_lex.specs.declared.fault.LexFault.TheVariants as lex_faults
-use Rattle.fl_lex.specs.Outcome as lex
 use Rattle.fl_check.specs.Interface.{TheInterface}
 use Rattle.fl_check.specs.Checks.{is_within_limits}
 use Rattle.fl_check.specs.Texts.{is_message_spellable}
-use Rattle.fl_check.specs.declared.explained.TextFault.{TextFault}
-use Rattle.fl_check.specs.declared.explained.TextFault.TheVariants.{Lex, Parse, Check}
-use Rattle.fl_check.specs.Explained.{text_fault_offset}
 use Rattle.fl_value.specs.declared.value.PlanNo.{PlanNo}
 use Rattle.fl_image.specs.Image.{two, is_name, name_image, message_image, codes_image, codes_of, magic, version_of, is_writable, has_image, image_of}
 use Rattle.fl_image.specs.Outcome.{BeginsAsImage}
-use Rattle.fl_show.specs.Content.{StandsFor, IsFaultOf, IsRefusalOf, IsImageRefusalOf}
+use Rattle.fl_show.specs.Content.{StandsFor, IsRefusalOf, IsImageRefusalOf}
 use Rattle.fl_show.specs.declared.fault.ShowFault.{ShowFault}
 use Rattle.fl_show.specs.declared.fault.ShowFault.TheVariants.{Memory}
-
--- a fault of a lexer without a place
-placeless : (f : LexFault) → lex.fault_offset f ≡ None → f ≡ lex_faults.Memory
-placeless (lex_faults.NoToken at) e = absurd (cc)
-placeless (lex_faults.OpenComment at) e = absurd (cc)
-placeless (lex_faults.OpenDescription at) e = absurd (cc)
-placeless (lex_faults.LongWord at) e = absurd (cc)
-placeless (lex_faults.LargeNumber at) e = absurd (cc)
-placeless lex_faults.LongText e = absurd (cc)
-placeless lex_faults.Memory e = refl
-
--- a text in which no fault was found is no longer than one may be
-pub short_text : (bytes : List ℕ) (fault : TextFault) → text_fault_offset fault ≡ None → IsFaultOf bytes fault → length bytes ≤ 65536
-short_text bytes (Lex f) e h = h.1 (placeless f e)
-short_text bytes (Parse f) e (tokens, l, rest) = l.short
-short_text bytes (Check f) e (tokens, tree, l, rest) = l.short
 
 -- the bytes of an interface's image begin as one
 pub image_begins : (bytes : List ℕ) (plan : PlanNo) (x : TheInterface) → (has_image x ≡ true) × (bytes ≡ image_of plan x) → BeginsAsImage bytes
