@@ -1,38 +1,8 @@
--- Alignments are 1 to 8, and a part of a struct is no longer than the struct.
+-- A part of a struct is no longer than the struct.
 use Rattle.std.proofs.Common.{◌≡◌, ℕ, zero, suc, ◌+◌, ◌*◌, ◌<◌, ◌≤◌, ◌^◌, List, ◌∷◌, map, drop, length, get_or, sym, ◌∙◌, ap, arith}
 use Rattle.std.proofs.Math.Seq.{drop-cons}
-use Rattle.fl_check.specs.declared.interface.Scalar.{Scalar}
-use Rattle.fl_check.specs.declared.interface.Scalar.TheVariants.{Uint8, Int8, Bool, Char, Uint16, Int16, Uint32, Int32, Iref, Uint64, Int64, Uintptr, Intptr, Size, Errval}
-use Rattle.fl_check.specs.Interface.{TheType, scalar, enumeration, structure, array, TheTypes, no_more, field, fields_from}
-use Rattle.fl_check.specs.Sizes.{size_of, align_of, greatest_align, end_after, round_up, scalar_size}
-
-pub some_scalar : (s : Scalar) → 1 ≤ scalar_size s
-some_scalar Uint8 = omega arith
-some_scalar Int8 = omega arith
-some_scalar Bool = omega arith
-some_scalar Char = omega arith
-some_scalar Uint16 = omega arith
-some_scalar Int16 = omega arith
-some_scalar Uint32 = omega arith
-some_scalar Int32 = omega arith
-some_scalar Iref = omega arith
-some_scalar Uint64 = omega arith
-some_scalar Int64 = omega arith
-some_scalar Uintptr = omega arith
-some_scalar Intptr = omega arith
-some_scalar Size = omega arith
-some_scalar Errval = omega arith
-
-mutual
-  pub some_align : (t : TheType) → 1 ≤ align_of t
-  some_align (scalar s) = some_scalar s
-  some_align (enumeration n) = omega arith
-  some_align (structure ts) = some_greatest ts
-  some_align (array n t) = some_align t
-
-  pub some_greatest : (ts : TheTypes) → 1 ≤ greatest_align ts
-  some_greatest no_more = omega arith
-  some_greatest (field t ts) = omega (arith, some_align t)
+use Rattle.fl_check.specs.Interface.{TheType, structure, TheTypes, no_more, field, fields_from}
+use Rattle.fl_check.specs.Sizes.{size_of, align_of, greatest_align, end_after, round_up}
 
 -- what follows never ends earlier
 pub end_least : (ts : TheTypes) (at : ℕ) → at ≤ end_after at ts

@@ -1,5 +1,5 @@
 -- The first fault of places that follow one another.
-use Rattle.std.proofs.Common.{◌≡◌, List, [], ◌∷◌, ◌++◌, Option, Some, None, refl, sym, ◌∙◌, subst, Result, Ok, Err, OnOk, IfErr}
+use Rattle.std.proofs.Common.{◌≡◌, List, [], ◌∷◌, ◌++◌, take, Option, Some, None, refl, sym, ◌∙◌, subst, Result, Ok, Err, OnOk, IfErr}
 use Rattle.std.specs.Result.{IsErrAnd}
 use Rattle.std.proofs.lemmas.Result.{on_ok_weaker}
 use Rattle.fl_check.specs.Places.{Place}
@@ -33,10 +33,21 @@ unfolding first_fault
 none_after [] qs h = refl
 none_after (p ∷ ps) qs h = none_both (fault_at p) (first_fault ps) (first_fault (ps ++ qs)) (first_fault qs) (λ e. none_after ps qs e) h
 
-pub fault_front : (ps qs : List Place) (f : Fault) → first_fault ps ≡ Some f → first_fault (ps ++ qs) ≡ Some f
+pub none_prefix : (ps qs : List Place) → first_fault (ps ++ qs) ≡ None → first_fault ps ≡ None
 unfolding first_fault
-fault_front [] qs f h = cc
-fault_front (p ∷ ps) qs f h = some_both (fault_at p) (first_fault ps) (first_fault (ps ++ qs)) f (λ e. fault_front ps qs f e) h
+none_prefix [] qs h = refl
+none_prefix (p ∷ ps) qs h = none_both (fault_at p) (first_fault (ps ++ qs)) (first_fault ps) None (λ e. none_prefix ps qs e) h
+
+-- of places that keep the rules the first does
+pub first_sound : (ps : List Place) → first_fault ps ≡ None → first_fault (take 1 ps) ≡ None
+unfolding first_fault
+first_sound [] h = h
+first_sound (p ∷ ps) h = none_both (fault_at p) (first_fault ps) None None (λ e. refl) h
+
+pub fault_prefix : (ps qs : List Place) (f : Fault) → first_fault ps ≡ Some f → first_fault (ps ++ qs) ≡ Some f
+unfolding first_fault
+fault_prefix [] qs f h = cc
+fault_prefix (p ∷ ps) qs f h = some_both (fault_at p) (first_fault ps) (first_fault (ps ++ qs)) f (λ e. fault_prefix ps qs f e) h
 
 pub tells_here : (e : CheckFault) (p : Place) (ps : List Place) → Tells e (first_fault (p ∷ [])) → Tells e (first_fault (p ∷ ps))
 tells_here (Broken r at) p ps h = fault_here p ps _ h
@@ -46,9 +57,9 @@ pub tells_past : (e : CheckFault) (p : Place) (ps : List Place) → first_fault 
 tells_past (Broken r at) p ps n h = none_past p ps n ∙ h
 tells_past Memory p ps n h = tt
 
-pub tells_front : (e : CheckFault) (ps qs : List Place) → Tells e (first_fault ps) → Tells e (first_fault (ps ++ qs))
-tells_front (Broken r at) ps qs h = fault_front ps qs _ h
-tells_front Memory ps qs h = tt
+pub tells_prefix : (e : CheckFault) (ps qs : List Place) → Tells e (first_fault ps) → Tells e (first_fault (ps ++ qs))
+tells_prefix (Broken r at) ps qs h = fault_prefix ps qs _ h
+tells_prefix Memory ps qs h = tt
 
 pub tells_after : (e : CheckFault) (ps qs : List Place) → first_fault ps ≡ None → Tells e (first_fault qs) → Tells e (first_fault (ps ++ qs))
 tells_after (Broken r at) ps qs n h = none_after ps qs n ∙ h
@@ -69,4 +80,4 @@ sound_at_end r f g e h = on_ok_weaker r (λ k. e ∙ k) h
 pub fault_at_end : {T : Type 0} (r : Result T CheckFault) (f g : Option Fault) → f ≡ g → IfErr r (λ e. Tells e g) → IfErr r (λ e. Tells e f)
 fault_at_end {T} r f g e h = subst (λ k. IfErr r (λ x. Tells x k)) (sym e) h
 
-pub ruleset places = (none_past, none_after, tells_here, tells_past, tells_front, tells_after)
+pub ruleset places = (none_past, none_after, tells_here, tells_past, tells_prefix, tells_after)

@@ -108,16 +108,16 @@ first_here : (p : Place) (ps : List Place) (n at : ℕ) → fault_at p ≡ Some 
 first_here p ps n at e =
     let t = tells_of p (least_of p.broken) n at e in
     let l = least_is p.broken n t.0 in
-    record { front = []; here = p; rest = ps; stands = refl; sound = All-nil IsSound; place = t.1; broken = l.0; least = l.1 }
+    record { prefix = []; here = p; rest = ps; stands = refl; sound = All-nil IsSound; place = t.1; broken = l.0; least = l.1 }
 
 -- a sound place before these
 first_later : (p : Place) (ps : List Place) (n at : ℕ) → IsSound p → FirstFault ps n at → FirstFault (p ∷ ps) n at
 first_later p ps n at s f = record {
-  front = p ∷ f.front;
+  prefix = p ∷ f.prefix;
   here = f.here;
   rest = f.rest;
   stands = ap (λ l. p ∷ l) f.stands;
-  sound = All-cons IsSound p f.front s f.sound;
+  sound = All-cons IsSound p f.prefix s f.sound;
   place = f.place;
   broken = f.broken;
   least = f.least;
@@ -154,7 +154,7 @@ pub fault_from : (ps : List Place) (n at : ℕ) → FirstFault ps n at → first
 fault_from ps n at f =
     let l = least_from f.here.broken n (least_of f.here.broken) refl (f.broken, f.least) in
     let h : fault_at f.here ≡ Some (told n at) = ap (option_map (told_at f.here)) l ∙ ap (λ a. Some (told n a)) f.place in
-    ap first_fault f.stands ∙ none_after f.front (f.here ∷ f.rest) (no_fault f.front f.sound) ∙ here_first f.here f.rest (told n at) h
+    ap first_fault f.stands ∙ none_after f.prefix (f.here ∷ f.rest) (no_fault f.prefix f.sound) ∙ here_first f.here f.rest (told n at) h
 
 -- each tree has an outcome
 some_by : (tree : TheTree) (o : Option Fault) → first_fault (places tree) ≡ o → (outcome : CheckOutcome) × Checks tree outcome

@@ -1,10 +1,12 @@
 pub mod Sames
+pub mod SameTypes
 pub mod Layouts
 pub mod FirstFaults
 pub mod Walks
 pub mod Lists
 pub mod Halves
 pub mod FieldSizes
+pub mod Aligned
 pub mod Firsts
 pub mod Limits
 pub mod Longs
@@ -12,3 +14,4 @@ pub mod NameSets
 pub mod NameMaps
 pub mod TextInterfaces
 pub mod TextTrees
+pub mod Looks

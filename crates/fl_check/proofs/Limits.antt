@@ -50,9 +50,9 @@ not_true a e = ap not e
 
 -- ---- all places of a list
 
-pub all_front : (ps qs : List Place) → All IsSound (ps ++ qs) → All IsSound ps
-all_front [] qs a = All-nil IsSound
-all_front (p ∷ ps) qs a = All-cons IsSound p ps (All-head IsSound p (ps ++ qs) a) (all_front ps qs (All-tail IsSound p (ps ++ qs) a))
+pub all_prefix : (ps qs : List Place) → All IsSound (ps ++ qs) → All IsSound ps
+all_prefix [] qs a = All-nil IsSound
+all_prefix (p ∷ ps) qs a = All-cons IsSound p ps (All-head IsSound p (ps ++ qs) a) (all_prefix ps qs (All-tail IsSound p (ps ++ qs) a))
 
 pub all_back : (ps qs : List Place) → All IsSound (ps ++ qs) → All IsSound qs
 all_back [] qs a = a
@@ -149,7 +149,7 @@ fields_within : (b : Before) (others : List (List ℕ)) (fs : List TheField) →
 fields_within b others [] a few s = (refl, omega arith)
 fields_within b others (f ∷ fs) a few s =
     let rest = field_places b (others ++ f.name.text ∷ []) fs in
-    let here = all_front (field_place b others f) rest s in
+    let here = all_prefix (field_place b others f) rest s in
     let one = All-head IsSound (fixed_type_place b f.type_name) (listed_place others (length others) f.name ∷ count_places f.count) here in
     let two = All-tail IsSound (fixed_type_place b f.type_name) (listed_place others (length others) f.name ∷ count_places f.count) here in
     let k = listed_few others (length others) f.name (All-head IsSound (listed_place others (length others) f.name) (count_places f.count) two) in
@@ -203,7 +203,7 @@ pub arguments_all : (b : Before) (others : List (List ℕ)) (k : ℕ) (args : Li
 arguments_all b others k [] a few s = (All-nil (ArgumentWithin b), omega arith)
 arguments_all b others k (g ∷ args) a few s =
     let rest = argument_places b (others ++ argument_names g) (k + 1) args in
-    let h = shape_within b others k g.type_name g.name g.shape a (all_front (argument_place b others k g) rest s) in
+    let h = shape_within b others k g.type_name g.name g.shape a (all_prefix (argument_place b others k g) rest s) in
     let ih = arguments_all b (others ++ argument_names g) (k + 1) args a (omega (arith, h.1)) (all_back (argument_place b others k g) rest s) in
     (All-cons (ArgumentWithin b) g args h.0 ih.0, omega (arith, ih.1))
 
@@ -363,7 +363,7 @@ kept_after b (typedef_of old new count) k s =
     let two = All-tail IsSound p2 (count_places count ++ p3 ∷ []) one in
     let w = well (stands_for b old) (fixed_within b old k.types (All-head IsSound p1 (p2 ∷ (count_places count ++ p3 ∷ [])) s)) in
     kept_type b new.text t k
-    (from_whole new t (counted_well count (stands_for b old) w (all_front (count_places count) (p3 ∷ []) two))
+    (from_whole new t (counted_well count (stands_for b old) w (all_prefix (count_places count) (p3 ∷ []) two))
     (All-head IsSound p3 [] (all_back (count_places count) (p3 ∷ []) two)))
 kept_after b (enum_of members name) k s =
     let p1 = new_type_place b name (nat_eq (length members) 0) in
@@ -379,7 +379,7 @@ kept_after b (struct_of fields name) k s =
     let p2 = whole_type_place name t in
     let r = all_back (field_places b [] fields) (p1 ∷ (p2 ∷ [])) s in
     let e = some (length fields) (new_sound b name (nat_eq (length fields) 0) (All-head IsSound p1 (p2 ∷ []) r)) in
-    let f = fields_within b [] fields k.types (omega arith) (all_front (field_places b [] fields) (p1 ∷ (p2 ∷ [])) s) in
+    let f = fields_within b [] fields k.types (omega arith) (all_prefix (field_places b [] fields) (p1 ∷ (p2 ∷ [])) s) in
     let n = counts ts in
     let l = length-map fields (field_type b) in
     kept_type b name.text t k
@@ -393,7 +393,7 @@ kept_after b (message_of kind name args) k s =
     let p2 = whole_message_place name (some_too_long (m ∷ [])) in
     let n = message_name_sound b name (All-head IsSound p1 (argument_places b [] 0 args ++ p2 ∷ []) s) in
     let r = All-tail IsSound p1 (argument_places b [] 0 args ++ p2 ∷ []) s in
-    let a = arguments_all b [] 0 args k.types (omega arith) (all_front (argument_places b [] 0 args) (p2 ∷ []) r) in
+    let a = arguments_all b [] 0 args k.types (omega arith) (all_prefix (argument_places b [] 0 args) (p2 ∷ []) r) in
     let t = too_long_sound name (some_too_long (m ∷ [])) (All-head IsSound p2 [] (all_back (argument_places b [] 0 args) (p2 ∷ []) r)) in
     let w = message_within b name.text args a.0 (omega (arith, a.1)) (or_left (is_too_long m) false t) in
     kept_messages b (m ∷ []) k (both (is_message_within m) true w refl)
@@ -406,7 +406,7 @@ kept_after b (rpc_of name args) k s =
     let p2 = whole_message_place name (some_too_long (m1 ∷ (m2 ∷ []))) in
     let n = rpc_name_sound b name (All-head IsSound p1 (argument_places b [] 0 ds ++ p2 ∷ []) s) in
     let r = All-tail IsSound p1 (argument_places b [] 0 ds ++ p2 ∷ []) s in
-    let a = arguments_all b [] 0 ds k.types (omega arith) (all_front (argument_places b [] 0 ds) (p2 ∷ []) r) in
+    let a = arguments_all b [] 0 ds k.types (omega arith) (all_prefix (argument_places b [] 0 ds) (p2 ∷ []) r) in
     let i = ins_all b args a.0 in
     let o = outs_all b args a.0 in
     let t = too_long_sound name (some_too_long (m1 ∷ (m2 ∷ []))) (All-head IsSound p2 [] (all_back (argument_places b [] 0 ds) (p2 ∷ []) r)) in
@@ -420,7 +420,7 @@ kept_after b (rpc_of name args) k s =
 kept_all : (b : Before) (ds : List TheDeclaration) → Kept b → All IsSound (places_from b ds) → Kept (after_all b ds)
 kept_all b [] k s = k
 kept_all b (d ∷ ds) k s =
-    kept_all (after b d) ds (kept_after b d k (all_front (declaration_places b d) (places_from (after b d) ds) s)) (all_back (declaration_places b d) (places_from (after b d) ds) s)
+    kept_all (after b d) ds (kept_after b d k (all_prefix (declaration_places b d) (places_from (after b d) ds) s)) (all_back (declaration_places b d) (places_from (after b d) ds) s)
 
 pub kept_none : Kept nothing_declared
 kept_none = record { types = All-nil (λ (k : Named). is_type_within k.type ≡ true); messages = refl; distinct = refl; few = omega arith }

@@ -9,9 +9,9 @@ use Rattle.fl_check.specs.Places.{Place, rule, is_unknown, type_names, message_n
 use Rattle.fl_check.specs.Checks.{IsSound, Fault, first_fault, are_arguments_within, places}
 use Rattle.fl_check.specs.TooLong.{name_declared, IsTooLongAt, RefusesTooLong, AcceptsNoneTooLong}
 use Rattle.fl_parse.specs.Tree.{TheName, TheNumber, TheField, TheShape, plain, bounded, sized as sized_shape, TheArgument, TheDeclaration, alias_of, typedef_of, enum_of, struct_of, message_of, rpc_of}
-use Rattle.fl_check.proofs.FirstFaults.{none_after, fault_front}
+use Rattle.fl_check.proofs.FirstFaults.{none_after, fault_prefix}
 use Rattle.fl_check.proofs.Firsts.{told, contains_head, contains_tail, contains_none, first_is, all_sound, fault_from}
-use Rattle.fl_check.proofs.Limits.{Kept, kept_none, kept_after, all_front, all_back, or_left, or_right, arguments_all, all_within, ins_all, outs_all, too_long_sound}
+use Rattle.fl_check.proofs.Limits.{Kept, kept_none, kept_after, all_prefix, all_back, or_left, or_right, arguments_all, all_within, ins_all, outs_all, too_long_sound}
 
 -- ---- all other places tell of other rules
 
@@ -137,7 +137,7 @@ not_told : (ps : List Place) (at : ℕ) → AllOther ps → first_fault ps ≡ S
 not_told ps at a e =
     let f = first_is ps 21 at e in
     let all = subst AllOther f.stands a in
-    let here = All-head IsOther f.here f.rest (back f.front (f.here ∷ f.rest) all) in
+    let here = All-head IsOther f.here f.rest (back f.prefix (f.here ∷ f.rest) all) in
     let small : 21 ≤ 20 = All-contains (λ n. n ≤ 20) f.here.broken 21 here f.broken in
     omega (arith, small)
 
@@ -148,20 +148,20 @@ unfolding whole_message_place first_fault
 at_whole n true at e = (refl, let q : told 21 n.at ≡ told 21 at = cc in ap (λ (f : Fault). f.at) q)
 at_whole n false at e = absurd cc
 
-record AtEnd (front : List Place) (n : TheName) (t : Bool) (at : ℕ) : Type 0 where
-  sound : All IsSound front
+record AtEnd (prefix : List Place) (n : TheName) (t : Bool) (at : ℕ) : Type 0 where
+  sound : All IsSound prefix
   long : t ≡ true
   place : n.at ≡ at
 
-end_step : (front : List Place) (n : TheName) (t : Bool) (at : ℕ) (o : Option Fault) → first_fault front ≡ o → AllOther front
-    → first_fault (front ++ whole_message_place n t ∷ []) ≡ Some (told 21 at) → AtEnd front n t at
-end_step front n t at None q a e =
-    let w = at_whole n t at (sym (none_after front (whole_message_place n t ∷ []) q) ∙ e) in
-    record { sound = all_sound front q; long = w.0; place = w.1 }
-end_step front n t at (Some f) q a e = absurd (not_told front at a (q ∙ sym (fault_front front (whole_message_place n t ∷ []) f q) ∙ e))
+end_step : (prefix : List Place) (n : TheName) (t : Bool) (at : ℕ) (o : Option Fault) → first_fault prefix ≡ o → AllOther prefix
+    → first_fault (prefix ++ whole_message_place n t ∷ []) ≡ Some (told 21 at) → AtEnd prefix n t at
+end_step prefix n t at None q a e =
+    let w = at_whole n t at (sym (none_after prefix (whole_message_place n t ∷ []) q) ∙ e) in
+    record { sound = all_sound prefix q; long = w.0; place = w.1 }
+end_step prefix n t at (Some f) q a e = absurd (not_told prefix at a (q ∙ sym (fault_prefix prefix (whole_message_place n t ∷ []) f q) ∙ e))
 
-at_end : (front : List Place) (n : TheName) (t : Bool) (at : ℕ) → AllOther front → first_fault (front ++ whole_message_place n t ∷ []) ≡ Some (told 21 at) → AtEnd front n t at
-at_end front n t at a e = end_step front n t at (first_fault front) refl a e
+at_end : (prefix : List Place) (n : TheName) (t : Bool) (at : ℕ) → AllOther prefix → first_fault (prefix ++ whole_message_place n t ∷ []) ≡ Some (told 21 at) → AtEnd prefix n t at
+at_end prefix n t at a e = end_step prefix n t at (first_fault prefix) refl a e
 
 -- ---- one of several messages is too long
 
@@ -237,8 +237,8 @@ in_declaration b (struct_of fields name) ds at k e =
 in_declaration b (message_of kind name args) ds at k e =
     let m = message_from b name.text args in
     let first = message_name_place b name in
-    let front = first ∷ argument_places b [] 0 args in
-    let end = at_end front name (some_too_long (m ∷ [])) at (more first (argument_places b [] 0 args) (message_other b name) (arguments_other b [] 0 args)) e in
+    let prefix = first ∷ argument_places b [] 0 args in
+    let end = at_end prefix name (some_too_long (m ∷ [])) at (more first (argument_places b [] 0 args) (message_other b name) (arguments_other b [] 0 args)) e in
     let a = arguments_all b [] 0 args k.types (omega arith) (All-tail IsSound first (argument_places b [] 0 args) end.sound) in
     let types = All-cons HasTypes m [] (all_within b args a.0) (All-nil HasTypes) in
     here_long b (message_of kind name args) ds name at end.place refl (long_among (m ∷ []) types end.long)
@@ -273,7 +273,7 @@ find_step : (b : Before) (d : TheDeclaration) (ds : List TheDeclaration) (at : �
 find_step b d ds at k None q later e =
     later_long b d ds at (later (all_sound (declaration_places b d) q) (sym (none_after (declaration_places b d) (places_from (after b d) ds) q) ∙ e))
 find_step b d ds at k (Some f) q later e =
-    in_declaration b d ds at k (q ∙ sym (fault_front (declaration_places b d) (places_from (after b d) ds) f q) ∙ e)
+    in_declaration b d ds at k (q ∙ sym (fault_prefix (declaration_places b d) (places_from (after b d) ds) f q) ∙ e)
 
 find : (b : Before) (ds : List TheDeclaration) (at : ℕ) → Kept b → first_fault (places_from b ds) ≡ Some (told 21 at) → IsTooLongAt b ds at
 unfolding first_fault
@@ -286,13 +286,13 @@ refuses_too_long tree at h = find nothing_declared tree.declarations at kept_non
 -- ---- what is accepted
 
 sound_there : (b : Before) (before : List TheDeclaration) (d : TheDeclaration) (rest : List TheDeclaration) → All IsSound (places_from b (before ++ d ∷ rest)) → All IsSound (declaration_places (after_all b before) d)
-sound_there b [] d rest s = all_front (declaration_places b d) (places_from (after b d) rest) s
+sound_there b [] d rest s = all_prefix (declaration_places b d) (places_from (after b d) rest) s
 sound_there b (x ∷ before) d rest s = sound_there (after b x) before d rest (all_back (declaration_places b x) (places_from (after b x) (before ++ d ∷ rest)) s)
 
-not_long : (ms : List TheMessage) (m : TheMessage) (front : List Place) (n : TheName) → All IsSound (front ++ whole_message_place n (some_too_long ms) ∷ []) → Contains ms m → is_too_long m ≡ true → ⊥
-not_long ms m front n s c e =
+not_long : (ms : List TheMessage) (m : TheMessage) (prefix : List Place) (n : TheName) → All IsSound (prefix ++ whole_message_place n (some_too_long ms) ∷ []) → Contains ms m → is_too_long m ≡ true → ⊥
+not_long ms m prefix n s c e =
     let last = whole_message_place n (some_too_long ms) in
-    let t = too_long_sound n (some_too_long ms) (All-head IsSound last [] (all_back front (last ∷ []) s)) in
+    let t = too_long_sound n (some_too_long ms) (All-head IsSound last [] (all_back prefix (last ∷ []) s)) in
     let f : is_too_long m ≡ false = All-contains (λ (m : TheMessage). is_too_long m ≡ false) ms m (none_long ms t) c in
     cc
 

@@ -16,7 +16,7 @@ use Rattle.fl_lex.specs.Words.{is_letter, is_word_byte, is_word, is_name}
 use Rattle.fl_lex.proofs.Classes.{both}
 use Rattle.fl_check.specs.Texts.{has_short_enums, have_short_enums, argument_has_short_enums, is_message_spellable, is_spellable, TextsAreSpellable}
 use Rattle.fl_check.specs.Checks.{interface_from}
-use Rattle.fl_check.proofs.Limits.{or_right, all_front, all_back}
+use Rattle.fl_check.proofs.Limits.{or_right, all_prefix, all_back}
 use Rattle.fl_check.proofs.TextTrees.{IsSmall, text_is_small}
 
 -- every type declared has short enums, and every message is spellable
@@ -76,17 +76,17 @@ message_spellable b name args k h = both (is_name name) (list_all argument_has_s
 
 -- ---- the two names of an rpc
 
-longer_word : (front more : List ℕ) → is_word front ≡ true → list_all is_word_byte more ≡ true → is_word (front ++ more) ≡ true
+longer_word : (prefix more : List ℕ) → is_word prefix ≡ true → list_all is_word_byte more ≡ true → is_word (prefix ++ more) ≡ true
 longer_word [] more w h = absurd cc
-longer_word (c ∷ front) more w h =
-    let all : list_all is_word_byte (front ++ more) ≡ true =
-    list_all-append is_word_byte front more ∙ both (list_all is_word_byte front) (list_all is_word_byte more) (second_so (is_letter c) (list_all is_word_byte front) w) h in
-    both (is_letter c) (list_all is_word_byte (front ++ more)) (first_so (is_letter c) (list_all is_word_byte front) w) all
+longer_word (c ∷ prefix) more w h =
+    let all : list_all is_word_byte (prefix ++ more) ≡ true =
+    list_all-append is_word_byte prefix more ∙ both (list_all is_word_byte prefix) (list_all is_word_byte more) (second_so (is_letter c) (list_all is_word_byte prefix) w) h in
+    both (is_letter c) (list_all is_word_byte (prefix ++ more)) (first_so (is_letter c) (list_all is_word_byte prefix) w) all
 
-longer_name : (front more : List ℕ) → is_name front ≡ true → list_all is_word_byte more ≡ true → length front + length more ≤ 64 → is_name (front ++ more) ≡ true
-longer_name front more n h few =
-    both (nat_le (length (front ++ more)) 64) (is_word (front ++ more)) (le-leb (length (front ++ more)) 64 (omega (arith, few, length-append front more)))
-    (longer_word front more (second_so (nat_le (length front) 64) (is_word front) n) h)
+longer_name : (prefix more : List ℕ) → is_name prefix ≡ true → list_all is_word_byte more ≡ true → length prefix + length more ≤ 64 → is_name (prefix ++ more) ≡ true
+longer_name prefix more n h few =
+    both (nat_le (length (prefix ++ more)) 64) (is_word (prefix ++ more)) (le-leb (length (prefix ++ more)) 64 (omega (arith, few, length-append prefix more)))
+    (longer_word prefix more (second_so (nat_le (length prefix) 64) (is_word prefix) n) h)
 
 not_broken : (n : ℕ) (b : Bool) → rule n b ≡ [] → b ≡ false
 not_broken n true e = absurd cc
@@ -140,7 +140,7 @@ kept_after b (rpc_of name args) k h s =
 kept_all : (b : Before) (ds : List TheDeclaration) → Kept b → AllByRecursion IsSmall ds → All IsSound (places_from b ds) → Kept (after_all b ds)
 kept_all b [] k h s = k
 kept_all b (d ∷ ds) k h s =
-    kept_all (after b d) ds (kept_after b d k h.0 (all_front (declaration_places b d) (places_from (after b d) ds) s)) h.1
+    kept_all (after b d) ds (kept_after b d k h.0 (all_prefix (declaration_places b d) (places_from (after b d) ds) s)) h.1
     (all_back (declaration_places b d) (places_from (after b d) ds) s)
 
 -- the messages that declarations declare are spellable

@@ -29,8 +29,8 @@ right_cut : (a b : List TheToken) → AllByRecursion IsRight (a ++ b) → AllByR
 right_cut [] b m = (tt, m)
 right_cut (t ∷ a) b m = let (f, g) = right_cut a b m.1 in ((m.0, f), g)
 
-front_right : (most : ℕ) (tokens a b : List TheToken) → tokens ≡ a ++ b → Right most tokens → Right most a
-front_right most tokens a b e r = record {
+prefix_right : (most : ℕ) (tokens a b : List TheToken) → tokens ≡ a ++ b → Right most tokens → Right most a
+prefix_right most tokens a b e r = record {
   each = (right_cut a b (subst (AllByRecursion IsRight) e r.each)).0;
   few = omega (arith, r.few, ap length e, length-append a b);
 }
@@ -42,16 +42,16 @@ back_right most tokens a b e r = record {
 }
 
 behind : {A B : Type 0} {first : List TheToken → A → Type 0} {next : A → List TheToken → B → Type 0} {tokens : List TheToken} {y : B} (most : ℕ) (p : Then first next tokens y) → Right most tokens → Right most p.back
-behind {tokens = tokens} most p r = back_right most tokens p.front p.back p.tokens_are r
+behind {tokens = tokens} most p r = back_right most tokens p.prefix p.back p.tokens_are r
 
-before : {A B : Type 0} {first : List TheToken → A → Type 0} {next : A → List TheToken → B → Type 0} {tokens : List TheToken} {y : B} (most : ℕ) (p : Then first next tokens y) → Right most tokens → Right most p.front
-before {tokens = tokens} most p r = front_right most tokens p.front p.back p.tokens_are r
+before : {A B : Type 0} {first : List TheToken → A → Type 0} {next : A → List TheToken → B → Type 0} {tokens : List TheToken} {y : B} (most : ℕ) (p : Then first next tokens y) → Right most tokens → Right most p.prefix
+before {tokens = tokens} most p r = prefix_right most tokens p.prefix p.back p.tokens_are r
 
 -- behind one token there is one less
 behind_one : {A B : Type 0} {read : TheToken → Option A} {next : A → List TheToken → B → Type 0} {tokens : List TheToken} {y : B} (p : Then (One read) next tokens y) → Right 65536 tokens → Right 65535 p.back
 behind_one {tokens = tokens} p r = record {
   each = (behind 65536 p r).each;
-  few = omega (arith, r.few, ap length p.tokens_are, length-append p.front p.back, ap length p.front_is.tokens_are);
+  few = omega (arith, r.few, ap length p.tokens_are, length-append p.prefix p.back, ap length p.prefix_is.tokens_are);
 }
 
 -- ---- names
@@ -87,13 +87,13 @@ name_right most tokens x r p =
 behind_name : (back : List TheToken) (xs : List TheName) → ((ts : List TheToken) → Members ts xs → length xs ≤ length ts)
     → (((xs ≡ []) × (back ≡ [])) ⊎ Joined (λ comma. TheMark Comma comma tt) (λ rest. Members rest xs) back) → length xs ≤ length back
 behind_name back xs h (inl q) = omega (arith, ap length q.0)
-behind_name back xs h (inr q) = omega (arith, h q.back q.back_is, ap length q.tokens_are, length-append q.front q.back)
+behind_name back xs h (inr q) = omega (arith, h q.back q.back_is, ap length q.tokens_are, length-append q.prefix q.back)
 
 members_few : (tokens : List TheToken) (names : List TheName) → Members tokens names → length names ≤ length tokens
 members_few tokens [] p = omega arith
 members_few tokens (x ∷ xs) p =
     let rest = behind_name p.back xs (λ ts m. members_few ts xs m) p.back_is in
-    omega (arith, rest, ap length p.tokens_are, length-append p.front p.back, ap length p.front_is.tokens_are)
+    omega (arith, rest, ap length p.tokens_are, length-append p.prefix p.back, ap length p.prefix_is.tokens_are)
 
 -- ---- declarations
 
@@ -111,7 +111,7 @@ small_as d e same h = subst IsSmall (sym same) h
 
 definition_small : (defined : Defined) (tokens : List TheToken) (d : TheDeclaration) → Right 65535 tokens → Definition defined tokens d → IsSmall d
 definition_small enum_word tokens d r p =
-    let few = members_few p.back_is.front p.back_is.middle p.back_is.front_is in
+    let few = members_few p.back_is.prefix p.back_is.middle p.back_is.prefix_is in
     let room = before 65535 p.back_is (behind 65535 p r) in
     small_as _ d p.back_is.back_is.back_is.back_is.back_is.value_is (omega (arith, few, room.few))
 definition_small struct_word tokens d r p = small_as _ d p.back_is.back_is.back_is.back_is.back_is.value_is tt
@@ -121,16 +121,16 @@ production_small : (opening : Opening) (tokens : List TheToken) (d : TheDeclarat
 production_small alias_word tokens d r p = small_as _ d p.back_is.back_is.back_is.value_is tt
 production_small typedef_word tokens d r p = definition_small p.middle p.back d (behind 65535 p r) p.back_is
 production_small (message_word kind) tokens d r p =
-    small_as _ d p.back_is.back_is.back_is.back_is.back_is.value_is (name_right 65535 p.front p.middle (before 65535 p r) p.front_is)
+    small_as _ d p.back_is.back_is.back_is.back_is.back_is.value_is (name_right 65535 p.prefix p.middle (before 65535 p r) p.prefix_is)
 production_small rpc_word tokens d r p =
-    small_as _ d p.back_is.back_is.back_is.back_is.back_is.value_is (name_right 65535 p.front p.middle (before 65535 p r) p.front_is)
+    small_as _ d p.back_is.back_is.back_is.back_is.back_is.value_is (name_right 65535 p.prefix p.middle (before 65535 p r) p.prefix_is)
 
 declarations_small : (tokens : List TheToken) (ds : List TheDeclaration) → Right 65536 tokens → Many ADeclaration tokens ds → AllByRecursion IsSmall ds
 declarations_small tokens [] r p = tt
 declarations_small tokens (d ∷ ds) r p =
-    let here = front_right 65536 tokens p.front p.back p.tokens_are r in
-    let more = back_right 65536 tokens p.front p.back p.tokens_are r in (
-      production_small p.front_is.middle p.front_is.back d (behind_one p.front_is here) p.front_is.back_is,
+    let here = prefix_right 65536 tokens p.prefix p.back p.tokens_are r in
+    let more = back_right 65536 tokens p.prefix p.back p.tokens_are r in (
+      production_small p.prefix_is.middle p.prefix_is.back d (behind_one p.prefix_is here) p.prefix_is.back_is,
       declarations_small p.back ds more p.back_is,
     )
 
@@ -148,13 +148,13 @@ body_small tokens tree r p =
     let d = q.back_is.back_is.back_is in
     let at_declarations = before 65536 d (behind 65536 q.back_is.back_is (behind 65536 q.back_is (behind 65536 q after_name))) in
     subst IsSmallTree (sym d.back_is.back_is.value_is) record {
-      name = name_right 65536 q.front q.middle (before 65536 q after_name) q.front_is;
-      declarations = declarations_small d.front d.middle at_declarations d.front_is;
+      name = name_right 65536 q.prefix q.middle (before 65536 q after_name) q.prefix_is;
+      declarations = declarations_small d.prefix d.middle at_declarations d.prefix_is;
     }
 
 tree_small : (tokens : List TheToken) (tree : TheTree) → Right 65536 tokens → Derives tokens tree → IsSmallTree tree
 tree_small tokens tree r p =
-    subst IsSmallTree (sym p.back_is.back_is.value_is) (body_small p.front p.middle (before 65536 p r) p.front_is)
+    subst IsSmallTree (sym p.back_is.back_is.value_is) (body_small p.prefix p.middle (before 65536 p r) p.prefix_is)
 
 -- so is every text's tree
 pub text_is_small : (text : List ℕ) (tokens : TheTokens) (tree : TheTree) → IsLexed text tokens → Derives tokens.tokens tree → IsSmallTree tree

@@ -5,7 +5,7 @@ use Rattle.fl_check.specs.Places.{Place}
 use Rattle.fl_check.specs.Checks.{Fault, first_fault}
 use Rattle.fl_check.specs.Faults.{Tells}
 use Rattle.fl_check.specs.declared.fault.CheckFault.{CheckFault}
-use Rattle.fl_check.proofs.FirstFaults.{none_after, tells_front}
+use Rattle.fl_check.proofs.FirstFaults.{none_after, tells_prefix}
 
 pub no_places : first_fault [] ≡ None
 unfolding first_fault
@@ -26,7 +26,7 @@ walk_on F P next w whole s s2 xs i x d h q inv sound more =
 
 pub walk_fault : {S X : Type 0} (F : S → List X → List Place) (P : S → X → List Place) (next : S → X → S) → IsWalk F P next → (whole : Option Fault) (e : CheckFault) (s : S) (xs : List X) (i : ℕ) (x d : X) → i < length xs → x ≡ get_or xs i d → whole ≡ first_fault (F s (drop i xs)) → Tells e (first_fault (P s x)) → Tells e whole
 walk_fault F P next w whole e s xs i x d h q inv told =
-    subst (Tells e) (sym (inv ∙ ap first_fault (turn F P next w s xs i x d h q))) (tells_front e (P s x) (F (next s x) (drop (i + 1) xs)) told)
+    subst (Tells e) (sym (inv ∙ ap first_fault (turn F P next w s xs i x d h q))) (tells_prefix e (P s x) (F (next s x) (drop (i + 1) xs)) told)
 
 pub walk_end : {S X : Type 0} (F : S → List X → List Place) (P : S → X → List Place) (next : S → X → S) → IsWalk F P next → (whole : Option Fault) (s : S) (xs : List X) (i : ℕ) → length xs ≤ i → whole ≡ first_fault (F s (drop i xs)) → whole ≡ None
 walk_end F P next w whole s xs i h inv =

@@ -26,11 +26,11 @@ StandsFor tree i = All IsSound (places tree) × (i ≡ interface_from tree)
 
 -- the first place at which a rule is broken, and the least number of those broken there
 pub record FirstFault (ps : List Place) (number at : ℕ) : Type 0 where
-  pub front : List Place
+  pub prefix : List Place
   pub here : Place
   pub rest : List Place
-  pub stands : ps ≡ front ++ here ∷ rest
-  pub sound : All IsSound front
+  pub stands : ps ≡ prefix ++ here ∷ rest
+  pub sound : All IsSound prefix
   pub place : here.at ≡ at
   pub broken : Contains here.broken number
   pub least : All (λ n. number ≤ n) here.broken

@@ -1,11 +1,12 @@
 -- The faults of checking, by number and offset.
-use Rattle.std.specs.Prelude.{◌≡◌, ℕ, Option, Some, None}
+use Rattle.std.specs.Prelude.{◌≡◌, ℕ, List, Option, Some, None}
 use Rattle.fl_check.specs.declared.fault.Rule.{Rule}
 use Rattle.fl_check.specs.declared.fault.Rule.TheVariants.{TypeNameTaken, UnknownType, MessageNameTaken, NameTwice, Capability, NothingInIt, BadCount}
 use Rattle.fl_check.specs.declared.fault.Rule.TheVariants.{TooBig, NotFixed, TooMany, BadBound, TooLong}
 use Rattle.fl_check.specs.declared.fault.CheckFault.{CheckFault}
 use Rattle.fl_check.specs.declared.fault.CheckFault.TheVariants.{Broken, Memory}
-use Rattle.fl_check.specs.Checks.{Fault}
+use Rattle.fl_check.specs.Places.{Place}
+use Rattle.fl_check.specs.Checks.{Fault, first_fault}
 
 abbrev pub rule_number : Rule → ℕ
 rule_number TypeNameTaken = 10
@@ -34,3 +35,8 @@ fault_offset Memory = None
 abbrev pub Tells : CheckFault → Option Fault → Type 0
 Tells (Broken r at) f = f ≡ Some (record { number = rule_number r; at = at })
 Tells Memory f = Unit {0}
+
+-- an error that is want of memory comes after a look at these places, which found nothing
+abbrev pub ComesAfter : CheckFault → List Place → Type 0
+ComesAfter (Broken r at) looks = Unit {0}
+ComesAfter Memory looks = first_fault looks ≡ None

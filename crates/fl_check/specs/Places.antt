@@ -1,9 +1,9 @@
 -- The places of a tree in the order in which they are looked at, and the rules broken at each.
-use Rattle.std.specs.Prelude.{ℕ, ◌+◌, Bool, true, false, ◌||◌, not, List, [], ◌∷◌, ◌++◌, map, length, Option, Some, None, is_some, nat_lt, nat_le, nat_eq}
+use Rattle.std.specs.Prelude.{ℕ, ◌+◌, Bool, true, false, ◌||◌, not, List, [], ◌∷◌, ◌++◌, map, length, take, Option, Some, None, is_some, nat_lt, nat_le, nat_eq}
 use Rattle.fl_check.specs.Types.{TheType, enumeration, structure, fields_from, TheMessage}
 use Rattle.fl_check.specs.Depth.{is_too_big}
 use Rattle.fl_check.specs.Payload.{greatest_payload}
-use Rattle.fl_check.specs.Known.{is_string, is_capability, is_built_in, is_among, Named, Before, type_named, stands_for, counted, field_type}
+use Rattle.fl_check.specs.Known.{is_string, is_capability, is_built_in, is_among, Named, Before, nothing_declared, type_named, stands_for, counted, field_type}
 use Rattle.fl_check.specs.Known.{messages_of, after, call_name, response_name}
 use Rattle.fl_parse.specs.Tree.{TheName, TheNumber, TheField, TheShape, plain, bounded, sized, TheArgument, TheDirected, TheDeclaration, alias_of}
 use Rattle.fl_parse.specs.Tree.{typedef_of, enum_of, struct_of, message_of, rpc_of}
@@ -205,3 +205,14 @@ declaration_places b (rpc_of name args) =
 abbrev pub places_from : Before → List TheDeclaration → List Place
 places_from b [] = []
 places_from b (d ∷ ds) = declaration_places b d ++ places_from (after b d) ds
+
+-- the place at which a declaration is looked at before memory is taken: its first, but none of an rpc, whose two names are made
+-- before they are looked at
+abbrev pub first_look : Before → TheDeclaration → List Place
+first_look b (rpc_of name args) = []
+first_look b d = take 1 (declaration_places b d)
+
+-- that of declarations: the first one's
+abbrev pub first_looks : List TheDeclaration → List Place
+first_looks [] = []
+first_looks (d ∷ ds) = first_look nothing_declared d

@@ -1,7 +1,7 @@
 -- Sizes and alignments in bytes. A scalar is aligned to its size; a struct's alignment is its greatest
 -- field's, its fields follow in order, each at its alignment, and its size is rounded up to its
 -- alignment; an array has its element's alignment and stride.
-use Rattle.std.specs.Prelude.{ℕ, ◌+◌, ◌-◌, ◌*◌, ◌%◌, max}
+use Rattle.std.specs.Prelude.{◌≡◌, ◌⊎◌, ℕ, ◌+◌, ◌-◌, ◌*◌, ◌%◌, max}
 use Rattle.fl_check.specs.declared.interface.Scalar.{Scalar}
 use Rattle.fl_check.specs.declared.interface.Scalar.TheVariants.{Uint8, Int8, Bool, Char, Uint16, Int16, Uint32, Int32, Iref, Uint64, Int64, Uintptr}
 use Rattle.fl_check.specs.declared.interface.Scalar.TheVariants.{Intptr, Size, Errval}
@@ -50,3 +50,7 @@ abbrev mutual
   pub end_after : ℕ → TheTypes → ℕ
   end_after at no_more = at
   end_after at (field t ts) = end_after (round_up at (align_of t) + size_of t) ts
+
+-- the alignments that types have, which are the widths that numbers have
+abbrev pub IsAlign : ℕ → Type 0
+IsAlign n = (n ≡ 1) ⊎ ((n ≡ 2) ⊎ ((n ≡ 4) ⊎ (n ≡ 8)))

@@ -2,9 +2,9 @@
 
 ghost use Rattle.std.specs.Prelude.{◌≡◌, ◌∷◌, [], ◌++◌, OnOk, IfErr, None, map, option_map, false};
 ghost use Rattle.fl_check.specs.Known.{is_among, after, call_name, response_name};
-ghost use Rattle.fl_check.specs.Places.{message_names, message_name_place, rpc_name_place, whole_message_place, declaration_places};
+ghost use Rattle.fl_check.specs.Places.{message_names, message_name_place, rpc_name_place, whole_message_place, declaration_places, first_look};
 ghost use Rattle.fl_check.specs.Checks.{first_fault};
-ghost use Rattle.fl_check.specs.Faults.{Tells};
+ghost use Rattle.fl_check.specs.Faults.{Tells, ComesAfter};
 ghost use Rattle.fl_check.specs.Views.{before_of};
 ghost use Rattle.fl_parse.specs.Tree.{name_of, number_of, field_of, argument_of, directed_of, declaration_of, alias_of, typedef_of, enum_of};
 ghost use Rattle.fl_parse.specs.Tree.{struct_of, message_of, rpc_of};
@@ -36,6 +36,7 @@ impl<'a> Declared<'a> {
         ensures absent { OnOk result (is_among (message_names (before_of self.now)) name.now.text.now ≡ false) }
         ensures sound { OnOk result (first_fault (message_name_place (before_of self.now) (name_of name.now) ∷ []) ≡ None) }
         ensures fault { IfErr result (λ e. Tells e (first_fault (message_name_place (before_of self.now) (name_of name.now) ∷ []))) }
+        ensures memory { IfErr result (λ e. ComesAfter e (message_name_place (before_of self.now) (name_of name.now) ∷ [])) }
     {
         if self.has_message(name.text) {
             return Err(refuse(Rule::MessageNameTaken, name.at));
@@ -69,6 +70,7 @@ impl<'a> Declared<'a> {
         ensures sound { OnOk result (first_fault (declaration_places (before_of self.old) (alias_of (name_of new.now) (name_of old.now))) ≡ None) }
         ensures after { OnOk result (before_of self.new ≡ after (before_of self.old) (alias_of (name_of new.now) (name_of old.now))) }
         ensures fault { IfErr result (λ e. Tells e (first_fault (declaration_places (before_of self.old) (alias_of (name_of new.now) (name_of old.now))))) }
+        ensures memory { IfErr result (λ e. ComesAfter e (first_look (before_of self.old) (alias_of (name_of new.now) (name_of old.now)))) }
     {
         self.check_new_type(new, false)?;
         let measured = self.check_fixed_type(alloc, old)?;
@@ -89,6 +91,8 @@ impl<'a> Declared<'a> {
             (typedef_of (name_of old.now) (name_of new.now) (option_map number_of count))) }
         ensures fault { IfErr result (λ e. Tells e (first_fault
             (declaration_places (before_of self.old) (typedef_of (name_of old.now) (name_of new.now) (option_map number_of count))))) }
+        ensures memory { IfErr result (λ e. ComesAfter e (first_look (before_of self.old)
+            (typedef_of (name_of old.now) (name_of new.now) (option_map number_of count)))) }
     {
         let element = self.check_fixed_type(alloc, old)?;
         self.check_new_type(new, false)?;
@@ -107,6 +111,7 @@ impl<'a> Declared<'a> {
         ensures after { OnOk result (before_of self.new ≡ after (before_of self.old) (enum_of (map name_of names.now) (name_of name.now))) }
         ensures fault { IfErr result (λ e. Tells e (first_fault
             (declaration_places (before_of self.old) (enum_of (map name_of names.now) (name_of name.now))))) }
+        ensures memory { IfErr result (λ e. ComesAfter e (first_look (before_of self.old) (enum_of (map name_of names.now) (name_of name.now)))) }
     {
         check_members(alloc, names)?;
         self.check_new_type(name, names.is_empty())?;
@@ -127,6 +132,7 @@ impl<'a> Declared<'a> {
         ensures after { OnOk result (before_of self.new ≡ after (before_of self.old) (struct_of (map field_of fields.now) (name_of name.now))) }
         ensures fault { IfErr result (λ e. Tells e (first_fault
             (declaration_places (before_of self.old) (struct_of (map field_of fields.now) (name_of name.now))))) }
+        ensures memory { IfErr result (λ e. ComesAfter e (first_look (before_of self.old) (struct_of (map field_of fields.now) (name_of name.now)))) }
     {
         let measured = self.check_structure(alloc, fields)?;
         self.check_new_type(name, fields.is_empty())?;
@@ -146,6 +152,8 @@ impl<'a> Declared<'a> {
         ensures after { OnOk result (before_of self.new ≡ after (before_of self.old) (message_of kind (name_of name.now) (map argument_of args.now))) }
         ensures fault { IfErr result (λ e. Tells e (first_fault
             (declaration_places (before_of self.old) (message_of kind (name_of name.now) (map argument_of args.now))))) }
+        ensures memory { IfErr result (λ e. ComesAfter e (first_look (before_of self.old)
+            (message_of kind (name_of name.now) (map argument_of args.now)))) }
     {
         self.check_message_name(name)?;
         let payload = self.check_arguments(alloc, args)?;
@@ -165,6 +173,7 @@ impl<'a> Declared<'a> {
         ensures after { OnOk result (before_of self.new ≡ after (before_of self.old) (rpc_of (name_of name.now) (map directed_of args.now))) }
         ensures fault { IfErr result (λ e. Tells e (first_fault
             (declaration_places (before_of self.old) (rpc_of (name_of name.now) (map directed_of args.now))))) }
+        ensures memory { IfErr result (λ e. ComesAfter e (first_look (before_of self.old) (rpc_of (name_of name.now) (map directed_of args.now)))) }
     {
         let call = join(alloc, name.text, b"_call".as_slice())?;
         let response = join(alloc, name.text, b"_response".as_slice())?;
@@ -185,6 +194,7 @@ impl<'a> Declared<'a> {
         ensures sound { OnOk result (first_fault (declaration_places (before_of self.old) (declaration_of declaration.now)) ≡ None) }
         ensures after { OnOk result (before_of self.new ≡ after (before_of self.old) (declaration_of declaration.now)) }
         ensures fault { IfErr result (λ e. Tells e (first_fault (declaration_places (before_of self.old) (declaration_of declaration.now)))) }
+        ensures memory { IfErr result (λ e. ComesAfter e (first_look (before_of self.old) (declaration_of declaration.now))) }
     {
         match declaration {
             Declaration::Alias { new, old } => self.declare_alias(alloc, new, old),

@@ -1,11 +1,11 @@
 //! The parts of declarations in their order: enumerators and fields.
 
-ghost use Rattle.std.specs.Prelude.{◌≡◌, ◌≤◌, ◌<◌, ◌+◌, ◌∷◌, [], ◌++◌, OnOk, IfOk, IfErr, IfSome, option_map, None, map, length, false};
+ghost use Rattle.std.specs.Prelude.{◌≡◌, ◌≤◌, ◌<◌, ◌+◌, ◌∷◌, [], ◌++◌, OnOk, OnErr, IfOk, IfErr, IfSome, option_map, None, map, length, take, false};
 ghost use Rattle.fl_check.specs.Interface.{type_of, structure, fields_from};
 ghost use Rattle.fl_check.specs.Known.{is_among, counted, field_type};
 ghost use Rattle.fl_check.specs.Places.{other_place, listed_place, member_places, field_place, field_places, count_places};
 ghost use Rattle.fl_check.specs.Checks.{first_fault};
-ghost use Rattle.fl_check.specs.Faults.{Tells};
+ghost use Rattle.fl_check.specs.Faults.{Tells, ComesAfter};
 ghost use Rattle.fl_check.specs.Views.{before_of, list_of};
 ghost use Rattle.fl_parse.specs.Tree.{name_of, number_of, field_of};
 
@@ -55,6 +55,7 @@ pub fn add_listed_name<'a>(
 pub fn check_members(alloc: Global, members: &[Name]) -> Result<(), CheckFault>
     ensures sound { OnOk result (first_fault (member_places [] (map name_of members.now)) ≡ None) }
     ensures fault { IfErr result (λ e. Tells e (first_fault (member_places [] (map name_of members.now)))) }
+    ensures some { OnErr result (0 < length members.now) }
 {
     let mut names = Names::new(alloc);
     for member in members {
@@ -105,6 +106,7 @@ impl<'a> Declared<'a> {
         ensures depth { IfOk result (λ m. m.depth ≤ 17) }
         ensures arrays { IfOk result (λ m. m.arrays ≤ 8) }
         ensures fault { IfErr result (λ e. Tells e (first_fault (field_place (before_of self.now) (list_of names.old) (field_of field.now)))) }
+        ensures memory { IfErr result (λ e. ComesAfter e (take 1 (field_place (before_of self.now) (list_of names.old) (field_of field.now)))) }
     {
         let measured = self.check_fixed_type(alloc, &field.type_name)?;
         let counted_before = names.len();
@@ -122,6 +124,8 @@ impl<'a> Declared<'a> {
         ensures sound { OnOk result (first_fault (field_places (before_of self.now) [] (map field_of fields.now)) ≡ None) }
         ensures stands { IfOk result (λ m. type_of m.fixed ≡ structure (fields_from (map (field_type (before_of self.now)) (map field_of fields.now)))) }
         ensures fault { IfErr result (λ e. Tells e (first_fault (field_places (before_of self.now) [] (map field_of fields.now)))) }
+        ensures memory { IfErr result (λ e. ComesAfter e (take 1 (field_places (before_of self.now) [] (map field_of fields.now)))) }
+        ensures some { OnErr result (0 < length fields.now) }
     {
         let mut names = Names::new(alloc);
         let mut laid = Fields::new(alloc);

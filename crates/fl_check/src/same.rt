@@ -2,6 +2,7 @@
 
 ghost use Rattle.std.specs.Prelude.{◌≡◌, ◌↔◌, IsTrue, map};
 ghost use Rattle.fl_check.specs.Interface.{type_of, arg_type_of, message_of, interface_of};
+ghost use Rattle.fl_check.specs.SameTypes.{same_arguments};
 
 use crate::interface::{ArgType, FixedType, Interface, Message};
 
@@ -44,6 +45,13 @@ fn same_message(one: &Message, other: &Message) -> bool
 
 /// Whether two messages' arguments have the same types, in the same order.
 pub fn same_args(ones: &[ArgType], others: &[ArgType]) -> bool
+    ensures exact { IsTrue result ↔ map arg_type_of ones.now ≡ map arg_type_of others.now }
+    ensures test { result ≡ same_arguments (map arg_type_of ones.now) (map arg_type_of others.now) }
+{
+    same_each(ones, others)
+}
+
+fn same_each(ones: &[ArgType], others: &[ArgType]) -> bool
     ensures exact { IsTrue result ↔ map arg_type_of ones.now ≡ map arg_type_of others.now }
 {
     if ones.len() != others.len() {

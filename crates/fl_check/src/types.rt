@@ -1,12 +1,12 @@
 //! The rules on types and their names, each at its place.
 
-ghost use Rattle.std.specs.Prelude.{◌≡◌, ◌≤◌, ◌∷◌, [], ◌++◌, OnOk, OnErr, IfOk, IfErr, IfSome, option_map, None, false, if◌then◌else◌};
+ghost use Rattle.std.specs.Prelude.{◌≡◌, ◌≤◌, ◌∷◌, [], ◌++◌, OnOk, OnErr, IfOk, IfErr, IfSome, option_map, is_some, None, true, false, if◌then◌else◌};
 ghost use Rattle.fl_check.specs.Interface.{type_of, fixed, text};
 ghost use Rattle.fl_check.specs.Known.{is_among, is_string, type_named, stands_for};
 ghost use Rattle.fl_check.specs.Places.{fixed_type_place, plain_type_place, string_place, new_type_place, whole_type_place, count_places};
 ghost use Rattle.fl_check.specs.Places.{bound_places, type_names};
 ghost use Rattle.fl_check.specs.Checks.{first_fault};
-ghost use Rattle.fl_check.specs.Faults.{Tells};
+ghost use Rattle.fl_check.specs.Faults.{Tells, ComesAfter};
 ghost use Rattle.fl_check.specs.Views.{before_of, checked_of, IsBounded};
 ghost use Rattle.fl_parse.specs.Tree.{name_of, number_of};
 
@@ -34,6 +34,7 @@ impl<'a> Declared<'a> {
         ensures size { IfOk result (λ found. IfSome found (λ m. m.size ≤ 4096)) }
         ensures depth { IfOk result (λ found. IfSome found (λ m. m.depth ≤ 16)) }
         ensures arrays { IfOk result (λ found. IfSome found (λ m. m.arrays ≤ 7)) }
+        ensures named { OnErr result (is_some (type_named (before_of self.now) name.now) ≡ true) }
     {
         if let Some(kind) = scalar_named(name) {
             return Ok(Some(Measured::of_scalar(kind)));
@@ -54,6 +55,7 @@ impl<'a> Declared<'a> {
         ensures depth { IfOk result (λ m. m.depth ≤ 16) }
         ensures arrays { IfOk result (λ m. m.arrays ≤ 7) }
         ensures fault { IfErr result (λ e. Tells e (first_fault (fixed_type_place (before_of self.now) (name_of name.now) ∷ []))) }
+        ensures memory { IfErr result (λ e. ComesAfter e (fixed_type_place (before_of self.now) (name_of name.now) ∷ [])) }
     {
         if is_capability(name.text) {
             return Err(refuse(Rule::Capability, name.at));
@@ -94,6 +96,7 @@ impl<'a> Declared<'a> {
         ensures absent { OnOk result (is_among (type_names (before_of self.now)) name.now.text.now ≡ false) }
         ensures sound { OnOk result (first_fault (new_type_place (before_of self.now) (name_of name.now) empty ∷ []) ≡ None) }
         ensures fault { IfErr result (λ e. Tells e (first_fault (new_type_place (before_of self.now) (name_of name.now) empty ∷ []))) }
+        ensures memory { IfErr result (λ e. ComesAfter e (new_type_place (before_of self.now) (name_of name.now) empty ∷ [])) }
     {
         if is_built_in(name.text) || self.has_type(name.text) {
             return Err(refuse(Rule::TypeNameTaken, name.at));

@@ -6,7 +6,7 @@ use Rattle.std.proofs.lemmas.List.{length-append, length-replicate, get_or-repli
 use Rattle.std.proofs.lemmas.List.FromFn.{length-map-range_with_len, get_or-map-range_with_len}
 use Rattle.std.proofs.lemmas.Bool.{cases_lt, and_parts, leb-true, ltb-true, eqb-true, false≢true}
 use Rattle.fl_check.specs.Interface.{TheType, scalar, enumeration, structure, array, TheTypes, no_more, field, TheArgType, fixed, text, sized}
-use Rattle.fl_check.specs.Sizes.{round_up, scalar_size, size_of, align_of, greatest_align}
+use Rattle.fl_check.specs.Sizes.{round_up, scalar_size, size_of, align_of, greatest_align, IsAlign}
 use Rattle.fl_check.specs.Checks.{is_well_made, are_well_made, count_of as fields_in, is_type_within, is_argument_within}
 use Rattle.fl_value.specs.Value.{Datum, number, string, elements, fields, Data, nothing_more, also}
 use Rattle.fl_value.specs.Fits.{has_type, have_types, all_have_type, count_of, is_argument}
@@ -16,13 +16,13 @@ use Rattle.fl_layout.specs.Places.{size, place}
 use Rattle.fl_wire.specs.Covered.{holds, is_covered, is_length}
 use Rattle.fl_wire.specs.Payload.{payload_bytes}
 use Rattle.fl_check.specs.Counts.{words_fit, all_words_fit, argument_words_fit}
+use Rattle.fl_check.proofs.Aligned.{align_eight, type_align, types_align, IsMultiple, multiple_of_less}
 use Rattle.fl_wire.proofs.Covers.{holds_before, holds_in, covered_past, covered_before, covered_in}
 use Rattle.fl_stub.specs.declared.mark.Mark.{Mark}
 use Rattle.fl_stub.specs.declared.mark.Mark.TheVariants.{Length, Number, Zero}
 use Rattle.fl_stub.specs.Marks.{mark_at}
 use Rattle.fl_compile.specs.Compiled.{padding}
-use Rattle.fl_compile.proofs.Measures.{IsAlign, align_eight, type_align, types_align}
-use Rattle.fl_compile.proofs.Paddings.{IsMultiple, padded, padded_multiple, no_padding, padding_after, multiple_of_less, multiple_of_8}
+use Rattle.fl_compile.proofs.Paddings.{padded, padded_multiple, no_padding, padding_after, multiple_of_8}
 use Rattle.fl_compile.proofs.Payloads.{length_payload}
 use Rattle.fl_compile.proofs.Encoded.{ends, after_multiple, joins, value_lies}
 use Rattle.fl_compile.proofs.Placing.{placed_bytes, is_sound, made_of, length_multiple, counted_joins, argument_lies}
@@ -53,16 +53,16 @@ covers_tell ls p = ⊎_elim
     (cases_lt p (size ls))
 
 -- before a leaf's place
-abbrev front : Leaf → List Leaf → List Mark
-front l ls = covers ls ++ replicate (padding (size ls) l.align) Zero
+abbrev prefix : Leaf → List Leaf → List Mark
+prefix l ls = covers ls ++ replicate (padding (size ls) l.align) Zero
 
-front_length : (l : Leaf) (ls : List Leaf) → length (front l ls) ≡ place l ls
-front_length l ls =
+prefix_length : (l : Leaf) (ls : List Leaf) → length (prefix l ls) ≡ place l ls
+prefix_length l ls =
     let missing = padding (size ls) l.align in
     length-append (covers ls) (replicate missing Zero) ∙ omega (arith, length_covers ls, length-replicate {A = Mark} missing Zero)
 
-front_at : (l : Leaf) (ls : List Leaf) (p : ℕ) → p < place l ls → get_or (front l ls) p Zero ≡ cover_at (l ∷ ls) p
-front_at l ls p h =
+prefix_at : (l : Leaf) (ls : List Leaf) (p : ℕ) → p < place l ls → get_or (prefix l ls) p Zero ≡ cover_at (l ∷ ls) p
+prefix_at l ls p h =
     let missing = padding (size ls) l.align in ⊎_elim
     (λ (below : p < size ls).
     get_or_append_left (covers ls) (replicate missing Zero) Zero p (omega (arith, length_covers ls, below)) ∙ get_covers ls p below
@@ -73,28 +73,28 @@ front_at l ls p h =
     ∙ rw (covered_before l ls p past h) refl)
     (cases_lt p (size ls))
 
-cover_same : (l : Leaf) (ls : List Leaf) (p : ℕ) → p < size (l ∷ ls) → cover_at (l ∷ ls) p ≡ get_or (front l ls ++ replicate l.width Number) p Zero
+cover_same : (l : Leaf) (ls : List Leaf) (p : ℕ) → p < size (l ∷ ls) → cover_at (l ∷ ls) p ≡ get_or (prefix l ls ++ replicate l.width Number) p Zero
 cover_same l ls p h =
-    let long : length (front l ls) ≡ place l ls = front_length l ls in ⊎_elim
-    (λ (below : p < place l ls). sym (get_or_append_left (front l ls) (replicate l.width Number) Zero p (omega (arith, long, below)) ∙ front_at l ls p below))
+    let long : length (prefix l ls) ≡ place l ls = prefix_length l ls in ⊎_elim
+    (λ (below : p < place l ls). sym (get_or_append_left (prefix l ls) (replicate l.width Number) Zero p (omega (arith, long, below)) ∙ prefix_at l ls p below))
     (λ (past : place l ls ≤ p).
     let here : cover_at (l ∷ ls) p ≡ Number = rw (covered_in l ls p past h) refl in
     here
-    ∙ sym (get_or-append_right (front l ls) (replicate l.width Number) (place l ls) p Zero long past ∙ get_or-replicate l.width (p - place l ls) Number Zero (omega (arith, h, past))))
+    ∙ sym (get_or-append_right (prefix l ls) (replicate l.width Number) (place l ls) p Zero long past ∙ get_or-replicate l.width (p - place l ls) Number Zero (omega (arith, h, past))))
     (cases_lt p (place l ls))
 
 -- with one leaf more: zeros up to its place, and its number
-leaf_covers : (l : Leaf) (ls : List Leaf) → covers (l ∷ ls) ≡ front l ls ++ replicate l.width Number
+leaf_covers : (l : Leaf) (ls : List Leaf) → covers (l ∷ ls) ≡ prefix l ls ++ replicate l.width Number
 leaf_covers l ls =
     let own : List Mark = replicate l.width Number in
-    let long : length (covers (l ∷ ls)) ≡ length (front l ls ++ own)
-    = length_covers (l ∷ ls) ∙ sym (length-append (front l ls) own ∙ omega (arith, front_length l ls, length-replicate {A = Mark} l.width Number)) in
-    ext_get_or Zero (covers (l ∷ ls)) (front l ls ++ own) long
+    let long : length (covers (l ∷ ls)) ≡ length (prefix l ls ++ own)
+    = length_covers (l ∷ ls) ∙ sym (length-append (prefix l ls) own ∙ omega (arith, prefix_length l ls, length-replicate {A = Mark} l.width Number)) in
+    ext_get_or Zero (covers (l ∷ ls)) (prefix l ls ++ own) long
     (λ p h. let h' : p < size (l ∷ ls) = subst (λ (n : ℕ). p < n) (length_covers (l ∷ ls)) h in
     get_covers (l ∷ ls) p h' ∙ cover_same l ls p h')
 
 gap_covers : (align : ℕ) (ls : List Leaf) → covers (gap align ∷ ls) ≡ covers ls ++ replicate (padding (size ls) align) Zero
-gap_covers align ls = leaf_covers (gap align) ls ∙ append-nil (front (gap align) ls)
+gap_covers align ls = leaf_covers (gap align) ls ∙ append-nil (prefix (gap align) ls)
 
 number_covers : (align width x : ℕ) (ls : List Leaf)
     → covers (record { align = align; width = width; value = x } ∷ ls) ≡ covers (gap align ∷ ls) ++ replicate width Number
@@ -286,12 +286,12 @@ length_by : (held rest : Bool) (x : Mark) (low : List Leaf) (own after : List Ma
     → cond (held || rest) Length x ≡ mark_at (covers low ++ ((replicate (padding (size low) 8) Zero ++ (replicate 8 Length ++ own)) ++ after)) p
 length_by true rest x low own after p e h =
     let zeros : List Mark = replicate (padding (size low) 8) Zero in
-    mark_inside (front (gap 8) low) (own ++ after) Length (place (gap 8) low) p (front_length (gap 8) low) e
+    mark_inside (prefix (gap 8) low) (own ++ after) Length (place (gap 8) low) p (prefix_length (gap 8) low) e
     ∙ ap (λ (ms : List Mark). mark_at ms p) (sym (spread (covers low) zeros (replicate 8 Length) own after))
 length_by false rest x low own after p e h =
     let zeros : List Mark = replicate (padding (size low) 8) Zero in
     h ∙ ap (λ (ms : List Mark). mark_at ms p) (spread (covers low) zeros (replicate 8 Number) own after)
-    ∙ mark_outside (front (gap 8) low) (own ++ after) Number Length (place (gap 8) low) p (front_length (gap 8) low) e
+    ∙ mark_outside (prefix (gap 8) low) (own ++ after) Number Length (place (gap 8) low) p (prefix_length (gap 8) low) e
     ∙ ap (λ (ms : List Mark). mark_at ms p) (sym (spread (covers low) zeros (replicate 8 Length) own after))
 
 length_marked : (after : Bool) (t : TheArgType) (d : Datum) (rest : Bool) (x : Mark) (low : List Leaf) (others : List Mark) (p : ℕ) → is_argument t d ≡ true

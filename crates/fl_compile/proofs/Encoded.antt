@@ -3,7 +3,7 @@ use Rattle.std.proofs.Common.{◌≡◌, ℕ, ◌+◌, ◌*◌, ◌^◌, ◌≤�
 use Rattle.std.proofs.lemmas.List.{length-append, length-replicate, append-nil}
 use Rattle.std.proofs.lemmas.Bool.{and_parts, leb-true, eqb-true, false≢true}
 use Rattle.fl_check.specs.Interface.{TheType, scalar, enumeration, structure, array, TheTypes, no_more, field}
-use Rattle.fl_check.specs.Sizes.{round_up, scalar_size, size_of, align_of, greatest_align, end_after}
+use Rattle.fl_check.specs.Sizes.{round_up, scalar_size, size_of, align_of, greatest_align, end_after, IsAlign}
 use Rattle.fl_check.specs.Checks.{is_well_made, are_well_made, count_of as fields_in}
 use Rattle.fl_value.specs.Value.{Datum, number, string, elements, fields, Data, nothing_more, also}
 use Rattle.fl_value.specs.Fits.{has_type, have_types, all_have_type, count_of, scalar_bits}
@@ -12,10 +12,10 @@ use Rattle.fl_layout.specs.Leaves.{Leaf, gap, bits_of, value_onto, fields_onto, 
 use Rattle.fl_layout.specs.Places.{size}
 use Rattle.fl_wire.specs.Payload.{payload_bytes}
 use Rattle.fl_check.specs.Counts.{words_fit, all_words_fit}
+use Rattle.fl_check.proofs.Aligned.{type_align, types_align, IsMultiple, multiple_add, multiple_of_less, size_multiple}
 use Rattle.fl_stub.specs.Meaning.{number_bytes}
 use Rattle.fl_compile.specs.Compiled.{padding}
-use Rattle.fl_compile.proofs.Measures.{IsAlign, type_align, types_align}
-use Rattle.fl_compile.proofs.Paddings.{IsMultiple, padded, padded_multiple, no_padding, padding_after, multiple_add, multiple_of_less, size_multiple}
+use Rattle.fl_compile.proofs.Paddings.{padded, padded_multiple, no_padding, padding_after}
 use Rattle.fl_compile.proofs.Payloads.{length_payload, gap_bytes, number_written, number_length, no_gap}
 use Rattle.fl_compile.proofs.Numerals.{scalar_leaf, enum_leaf}
 

@@ -5,6 +5,7 @@ use Rattle.std.proofs.lemmas.List.{length-append, length-replicate, append-nil}
 use Rattle.std.proofs.lemmas.Bool.{and_parts, eqb-true, false≢true}
 use Rattle.fl_check.specs.Interface.{TheType, scalar, enumeration, structure, array, TheTypes, no_more, field, TheArgType, fixed, text, sized}
 use Rattle.fl_check.specs.Sizes.{round_up, scalar_size, size_of, align_of, greatest_align}
+use Rattle.fl_check.proofs.Aligned.{type_align}
 use Rattle.fl_value.specs.Value.{Datum, number, string, elements, fields, Data, nothing_more, also}
 use Rattle.fl_value.specs.Fits.{has_type, have_types, all_have_type, count_of, scalar_bits, is_argument}
 use Rattle.fl_value.specs.Plan.{is_dynamic}
@@ -22,7 +23,6 @@ use Rattle.fl_stub.specs.Marks.{move_marks, turns_marks, piece_marks, block_mark
 use Rattle.fl_compile.specs.declared.arguments.Standing.{Standing}
 use Rattle.fl_compile.specs.declared.arguments.Standing.TheVariants.{At, AfterDynamic}
 use Rattle.fl_compile.specs.Compiled.{padding, scalar_op, enum_op, text_op, pad_op, zeros_then, type_then, fields_then, start_then, arguments_block}
-use Rattle.fl_compile.proofs.Measures.{type_align}
 use Rattle.fl_compile.proofs.Paddings.{padding_same, gap_is_padding}
 use Rattle.fl_compile.proofs.Payloads.{number_length}
 use Rattle.fl_compile.proofs.Numerals.{moved_below, scalar_moves, enum_moved_below, enum_moves}

@@ -3,13 +3,13 @@ use Rattle.std.proofs.Common.{◌≡◌, ℕ, ◌+◌, ◌*◌, ◌<◌, ◌≤�
 use Rattle.std.proofs.lemmas.List.{drop_more}
 use Rattle.std.proofs.lemmas.Bool.{and_parts}
 use Rattle.fl_check.specs.Interface.{TheArgType}
-use Rattle.fl_check.specs.Sizes.{round_up}
+use Rattle.fl_check.specs.Sizes.{round_up, IsAlign}
 use Rattle.fl_check.specs.Checks.{is_argument_within, are_arguments_within}
+use Rattle.fl_check.proofs.Aligned.{by_align}
 use Rattle.fl_compile.specs.declared.arguments.Standing.{Standing}
 use Rattle.fl_compile.specs.declared.arguments.Standing.TheVariants.{At, AfterDynamic}
 use Rattle.fl_compile.specs.Compiled.{start_at}
 use Rattle.fl_compile.specs.Standings.{StandsBy}
-use Rattle.fl_compile.proofs.Measures.{IsAlign, by_align}
 
 pub start_near : (n : ℕ) (standing : Standing) (align : ℕ) → IsAlign align → StandsBy n standing → start_at standing align ≤ n + 7
 start_near n (At at) align is h = by_align (λ a. round_up at a ≤ n + 7) (omega (arith, h)) (omega (arith, h)) (omega (arith, h)) (omega (arith, h)) align is

@@ -111,14 +111,14 @@ as_long_same (k ∷ a) [] c d f g e long = absurd (omega (arith, long))
 as_long_same (k ∷ a) (h ∷ b) c d f g e long =
     let first : k ≡ h = cc in
     let tails : a ++ f ∷ c ≡ b ++ g ∷ d = cc in
-    let (fronts, ones) = as_long_same a b c d f g tails (omega (arith, long)) in
-    ((λ i. first i ∷ fronts i), ones)
+    let (prefixes, ones) = as_long_same a b c d f g tails (omega (arith, long)) in
+    ((λ i. first i ∷ prefixes i), ones)
 
 -- what begins with fragments that no calls' begin with is so too
-wrong_longer : (plan : PlanNo) (i : TheInterface) (front more frags : List Frag) → frags ≡ front ++ more → IsWrong plan i front → IsWrong plan i frags
-wrong_longer plan i front more frags is wrong calls after fit e =
+wrong_longer : (plan : PlanNo) (i : TheInterface) (prefix more frags : List Frag) → frags ≡ prefix ++ more → IsWrong plan i prefix → IsWrong plan i frags
+wrong_longer plan i prefix more frags is wrong calls after fit e =
     wrong calls (map bare more ++ after) fit
-    (e ∙ ap (λ (xs : List Frag). map bare xs ++ after) is ∙ ap (λ (xs : List Frag). xs ++ after) (map-append bare front more) ∙ append_assoc (map bare front) (map bare more) after)
+    (e ∙ ap (λ (xs : List Frag). map bare xs ++ after) is ∙ ap (λ (xs : List Frag). xs ++ after) (map-append bare prefix more) ∙ append_assoc (map bare prefix) (map bare more) after)
 
 -- the place of the first fragment at fault is one
 not_before : (plan : PlanNo) (i : TheInterface) (frags : List Frag) (a b : WireFault) (x : IsWrongAt plan i frags a) (y : IsWrongAt plan i frags b) → length y.before ≤ length x.before
@@ -133,8 +133,8 @@ pub one_refusal : OneRefusal
 one_refusal plan i frags a b within words x y =
     let low = not_before plan i frags a b x y in
     let high = not_before plan i frags b a y x in
-    let (fronts, ones) = as_long_same x.before y.before x.after y.after x.one y.one (sym x.is ∙ y.is) (omega (arith, low, high)) in
-    let reads : Reads plan i x.before y.calls y.rest = subst (λ (xs : List Frag). Reads plan i xs y.calls y.rest) (sym fronts) y.reads in
+    let (prefixes, ones) = as_long_same x.before y.before x.after y.after x.one y.one (sym x.is ∙ y.is) (omega (arith, low, high)) in
+    let reads : Reads plan i x.before y.calls y.rest = subst (λ (xs : List Frag). Reads plan i xs y.calls y.rest) (sym prefixes) y.reads in
     let rests : y.rest ≡ x.rest = sym (reads_once plan i x.before x.calls y.calls x.rest y.rest words x.reads reads).1 in
     let first : HasFault plan i x.rest y.one b = subst (λ (xs : List Frag). HasFault plan i xs y.one b) rests y.first in
     one_fault plan i x.rest x.one a b within words x.first (subst (λ (k : Frag). HasFault plan i x.rest k b) (sym ones) first)

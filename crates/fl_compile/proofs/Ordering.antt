@@ -15,7 +15,7 @@ use Rattle.fl_value.specs.Plan.{arranged, is_fixed_at, is_dynamic, fixed_rank, r
 use Rattle.fl_value.specs.Tape.{Argument, kind}
 use Rattle.fl_value.proofs.Ranked.{arranged_ranks}
 use Rattle.fl_check.specs.Counts.{argument_words_fit}
-use Rattle.fl_compile.proofs.Measures.{by_align, type_align}
+use Rattle.fl_check.proofs.Aligned.{by_align, type_align}
 use Rattle.fl_compile.proofs.Placing.{is_sound}
 
 -- ---- what holds of all holds of all in the plan's order
@@ -218,28 +218,28 @@ merge (t ∷ ts) f h g =
 
 -- a list of arguments whose types are two lists
 record Split (us vs : List TheArgType) (args : List Argument) : Type 0 where
-  front : List Argument
+  prefix : List Argument
   back : List Argument
-  is : args ≡ front ++ back
-  fronts : map kind front ≡ us
+  is : args ≡ prefix ++ back
+  prefixes : map kind prefix ≡ us
   backs : map kind back ≡ vs
-  front_fits : list_all is_fitting front ≡ true
+  prefix_fits : list_all is_fitting prefix ≡ true
   back_fits : list_all is_fitting back ≡ true
 
 split : (us vs : List TheArgType) (args : List Argument) → map kind args ≡ us ++ vs → list_all is_fitting args ≡ true → Split us vs args
-split [] vs args e h = record { front = []; back = args; is = refl; fronts = refl; backs = e; front_fits = refl; back_fits = h }
+split [] vs args e h = record { prefix = []; back = args; is = refl; prefixes = refl; backs = e; prefix_fits = refl; back_fits = h }
 split (u ∷ us) vs args e h =
     let x = first u (us ++ vs) args e in
     let fit : list_all is_fitting (x.one ∷ x.rest) ≡ true = sym (ap (list_all is_fitting) x.is) ∙ h in
     let parts = and_parts (is_fitting x.one) (list_all is_fitting x.rest) fit in
     let s = split us vs x.rest x.kinds parts.1 in
     record {
-      front = x.one ∷ s.front;
+      prefix = x.one ∷ s.prefix;
       back = s.back;
       is = x.is ∙ ap (λ (l : List Argument). x.one ∷ l) s.is;
-      fronts = ap (λ (w : TheArgType). w ∷ map kind s.front) x.its_kind ∙ ap (λ (l : List TheArgType). u ∷ l) s.fronts;
+      prefixes = ap (λ (w : TheArgType). w ∷ map kind s.prefix) x.its_kind ∙ ap (λ (l : List TheArgType). u ∷ l) s.prefixes;
       backs = s.backs;
-      front_fits = and_from (is_fitting x.one) (list_all is_fitting s.front) parts.0 s.front_fits;
+      prefix_fits = and_from (is_fitting x.one) (list_all is_fitting s.prefix) parts.0 s.prefix_fits;
       back_fits = s.back_fits;
     }
 
@@ -298,8 +298,8 @@ undo_last : (ts : List TheArgType) (args abcd abc ab c d e : List Argument) → 
     → map kind c ≡ of_rank 2 ts → map kind d ≡ of_rank 3 ts → map kind e ≡ of_rank 4 ts
     → list_all is_fitting c ≡ true → list_all is_fitting d ≡ true → list_all is_fitting e ≡ true → Undone Two ts args
 undo_last ts args abcd abc ab c d e p q r s kc kd ke fc fd fe =
-    subst (Undone Two ts) {x = s.front ++ s.back ++ c ++ d ++ e} (joined args s.front s.back c d e abcd abc ab p q r s.is)
-    (undo_five ts s.front s.back c d e s.fronts s.backs kc kd ke s.front_fits s.back_fits fc fd fe)
+    subst (Undone Two ts) {x = s.prefix ++ s.back ++ c ++ d ++ e} (joined args s.prefix s.back c d e abcd abc ab p q r s.is)
+    (undo_five ts s.prefix s.back c d e s.prefixes s.backs kc kd ke s.prefix_fits s.back_fits fc fd fe)
 
 pub undo : (plan : PlanNo) (ts : List TheArgType) (args : List Argument) → map kind args ≡ arranged (λ (t : TheArgType). t) plan ts → list_all is_fitting args ≡ true → Undone plan ts args
 undo One ts args e h = undone_from One ts args args e h refl
@@ -308,7 +308,7 @@ undo Two ts args e h =
     = e ∙ arranged_ranks (λ (t : TheArgType). t) Two ts ∙ simp (append_assoc, append-nil) in
     let r0 = of_rank 0 ts in let r1 = of_rank 1 ts in let r2 = of_rank 2 ts in let r3 = of_rank 3 ts in
     let s4 = split (r0 ++ r1 ++ r2 ++ r3) (of_rank 4 ts) args ranks h in
-    let s3 = split (r0 ++ r1 ++ r2) r3 s4.front s4.fronts s4.front_fits in
-    let s2 = split (r0 ++ r1) r2 s3.front s3.fronts s3.front_fits in
-    undo_last ts args s4.front s3.front s2.front s2.back s3.back s4.back s4.is s3.is s2.is (split r0 r1 s2.front s2.fronts s2.front_fits)
+    let s3 = split (r0 ++ r1 ++ r2) r3 s4.prefix s4.prefixes s4.prefix_fits in
+    let s2 = split (r0 ++ r1) r2 s3.prefix s3.prefixes s3.prefix_fits in
+    undo_last ts args s4.prefix s3.prefix s2.prefix s2.back s3.back s4.back s4.is s3.is s2.is (split r0 r1 s2.prefix s2.prefixes s2.prefix_fits)
     s2.backs s3.backs s4.backs s2.back_fits s3.back_fits s4.back_fits

@@ -39,20 +39,20 @@ past_end (l ∷ ls) p h =
     elim (leb (place l ls) p) as (λ v. cond (v && false) (byte_at (p - place l ls) l.value) (payload_at ls p) ≡ 0) [ true ↦ before | false ↦ before ])
 
 -- the bytes before a leaf's place
-abbrev front : Leaf → List Leaf → List ℕ
-front l ls = payload_bytes ls ++ replicate (padding (size ls) l.align) 0
+abbrev prefix : Leaf → List Leaf → List ℕ
+prefix l ls = payload_bytes ls ++ replicate (padding (size ls) l.align) 0
 
 -- a leaf's own bytes
 abbrev own : Leaf → List ℕ
 own l = map (λ j. byte_at j l.value) (range_with_len 0 l.width)
 
-front_length : (l : Leaf) (ls : List Leaf) → length (front l ls) ≡ place l ls
-front_length l ls =
+prefix_length : (l : Leaf) (ls : List Leaf) → length (prefix l ls) ≡ place l ls
+prefix_length l ls =
     let missing = padding (size ls) l.align in
     length-append (payload_bytes ls) (replicate missing 0) ∙ omega (arith, length_payload ls, length-replicate {A = ℕ} missing 0)
 
-front_at : (l : Leaf) (ls : List Leaf) (p : ℕ) → p < place l ls → get_or (front l ls) p 0 ≡ payload_at ls p
-front_at l ls p h =
+prefix_at : (l : Leaf) (ls : List Leaf) (p : ℕ) → p < place l ls → get_or (prefix l ls) p 0 ≡ payload_at ls p
+prefix_at l ls p h =
     let missing = padding (size ls) l.align in ⊎_elim
     (λ (below : p < size ls). get_or_append_left (payload_bytes ls) (replicate missing 0) 0 p (omega (arith, length_payload ls, below)) ∙ get_payload ls p below)
     (λ (past : size ls ≤ p).
@@ -61,25 +61,25 @@ front_at l ls p h =
     ∙ sym (past_end ls p past))
     (cases_lt p (size ls))
 
-byte_same : (l : Leaf) (ls : List Leaf) (p : ℕ) → p < size (l ∷ ls) → payload_at (l ∷ ls) p ≡ get_or (front l ls ++ own l) p 0
+byte_same : (l : Leaf) (ls : List Leaf) (p : ℕ) → p < size (l ∷ ls) → payload_at (l ∷ ls) p ≡ get_or (prefix l ls ++ own l) p 0
 byte_same l ls p h =
-    let long : length (front l ls) ≡ place l ls = front_length l ls in ⊎_elim
+    let long : length (prefix l ls) ≡ place l ls = prefix_length l ls in ⊎_elim
     (λ (below : p < place l ls).
-    below_place l ls p below ∙ sym (get_or_append_left (front l ls) (own l) 0 p (omega (arith, long, below)) ∙ front_at l ls p below))
+    below_place l ls p below ∙ sym (get_or_append_left (prefix l ls) (own l) 0 p (omega (arith, long, below)) ∙ prefix_at l ls p below))
     (λ (past : place l ls ≤ p).
     let j = p - place l ls in
     let small : j < l.width = omega (arith, h, past) in
     at_place l ls p j small (omega (arith, past))
-    ∙ sym (get_or-append_right (front l ls) (own l) (place l ls) p 0 long past ∙ get_or-map-range_with_len (λ j. byte_at j l.value) 0 l.width j j 0 small (omega arith)))
+    ∙ sym (get_or-append_right (prefix l ls) (own l) (place l ls) p 0 long past ∙ get_or-map-range_with_len (λ j. byte_at j l.value) 0 l.width j j 0 small (omega arith)))
     (cases_lt p (place l ls))
 
 -- a payload with one leaf more: zeros up to its place, and its bytes
-leaf_bytes : (l : Leaf) (ls : List Leaf) → payload_bytes (l ∷ ls) ≡ front l ls ++ own l
+leaf_bytes : (l : Leaf) (ls : List Leaf) → payload_bytes (l ∷ ls) ≡ prefix l ls ++ own l
 leaf_bytes l ls =
     let back = length-map-range_with_len (λ j. byte_at j l.value) 0 l.width in
-    let long : length (payload_bytes (l ∷ ls)) ≡ length (front l ls ++ own l)
-    = length_payload (l ∷ ls) ∙ sym (length-append (front l ls) (own l) ∙ omega (arith, front_length l ls, back)) in
-    ext_get_or 0 (payload_bytes (l ∷ ls)) (front l ls ++ own l) long
+    let long : length (payload_bytes (l ∷ ls)) ≡ length (prefix l ls ++ own l)
+    = length_payload (l ∷ ls) ∙ sym (length-append (prefix l ls) (own l) ∙ omega (arith, prefix_length l ls, back)) in
+    ext_get_or 0 (payload_bytes (l ∷ ls)) (prefix l ls ++ own l) long
     (λ p h. let h' : p < size (l ∷ ls) = subst (λ (n : ℕ). p < n) (length_payload (l ∷ ls)) h in
     get_payload (l ∷ ls) p h' ∙ byte_same l ls p h')
 
@@ -92,7 +92,7 @@ low_bytes i (suc width) x =
 -- ---- what contracts on code need
 
 pub gap_bytes : (align : ℕ) (ls : List Leaf) → payload_bytes (gap align ∷ ls) ≡ payload_bytes ls ++ replicate (padding (size ls) align) 0
-gap_bytes align ls = leaf_bytes (gap align) ls ∙ append-nil (front (gap align) ls)
+gap_bytes align ls = leaf_bytes (gap align) ls ∙ append-nil (prefix (gap align) ls)
 
 -- a number after the zeros before it
 pub number_written : (align width x : ℕ) (ls : List Leaf)

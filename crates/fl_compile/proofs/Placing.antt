@@ -14,6 +14,7 @@ use Rattle.fl_layout.specs.Leaves.{Leaf, gap, whole, single, elements_onto, byte
 use Rattle.fl_layout.specs.Places.{size}
 use Rattle.fl_wire.specs.Payload.{payload_bytes}
 use Rattle.fl_check.specs.Counts.{words_fit, argument_words_fit}
+use Rattle.fl_check.proofs.Aligned.{align_eight, type_align, IsMultiple}
 use Rattle.fl_stub.specs.declared.op.Op.TheVariants.{Align}
 use Rattle.fl_stub.specs.declared.op.Column.{Column}
 use Rattle.fl_stub.specs.declared.op.Column.TheVariants.{Receive}
@@ -22,8 +23,7 @@ use Rattle.fl_stub.specs.Meaning.{Moment, number_bytes, MovesZeros, BlockTurns, 
 use Rattle.fl_compile.specs.declared.arguments.Standing.{Standing}
 use Rattle.fl_compile.specs.declared.arguments.Standing.TheVariants.{At, AfterDynamic}
 use Rattle.fl_compile.specs.Compiled.{padding, zeros_then, type_then, start_at, start_then, arguments_block}
-use Rattle.fl_compile.proofs.Measures.{align_eight, type_align}
-use Rattle.fl_compile.proofs.Paddings.{IsMultiple, padded, padded_multiple, no_padding, padding_same, gap_is_padding, multiple_of_8}
+use Rattle.fl_compile.proofs.Paddings.{padded, padded_multiple, no_padding, padding_same, gap_is_padding, multiple_of_8}
 use Rattle.fl_compile.proofs.Payloads.{length_payload, gap_bytes, number_written, number_length, no_gap}
 use Rattle.fl_compile.proofs.Encoded.{value_bytes, elements_bytes, value_length, value_lies, elements_lie}
 use Rattle.fl_compile.proofs.Turning.{moment, same_turns, zeros_go, counted_goes, value_goes, elements_turn, text_bytes, text_code, text_turns}

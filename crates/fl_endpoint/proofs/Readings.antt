@@ -31,8 +31,8 @@ long_frags : (p : TheProgram) (c : TheCall) → length (frags p c) ≡ many p c
 long_frags p c = length_frags 0 p.plan p.interface c
 
 -- the fragments of a call stand first in a list
-front : (p : TheProgram) (c : TheCall) (x : List Frag) → take (many p c) (frags p c ++ x) ≡ frags p c
-front p c x =
+prefix : (p : TheProgram) (c : TheCall) (x : List Frag) → take (many p c) (frags p c ++ x) ≡ frags p c
+prefix p c x =
     let long = long_frags p c in
     take-append-le (many p c) (frags p c) x (omega (arith, long)) ∙ take_all (many p c) (frags p c) (omega (arith, long))
 
@@ -41,7 +41,7 @@ shorter : (p : TheProgram) (c d : TheCall) (x y : List Frag) → NoneBeginsWithA
 shorter p c d x y law words fc fd less e =
     let long = long_frags p d in
     law p.plan p.interface c d words fc fd less
-    (sym (front p c x) ∙ ap (take (many p c)) e ∙ take-append-le (many p c) (frags p d) y (omega (arith, long, less)))
+    (sym (prefix p c x) ∙ ap (take (many p c)) e ∙ take-append-le (many p c) (frags p d) y (omega (arith, long, less)))
 
 pub first_call : (p : TheProgram) (c d : TheCall) (x y : List Frag) → NoneBeginsWithAnother → interface_words_fit p.interface ≡ true → Fits p c → Fits p d
     → frags p c ++ x ≡ frags p d ++ y → c ≡ d
@@ -96,8 +96,8 @@ part_short p parts more y c law words fc plain part e = ⊎_elim
     let longer = long_frags p d in
     let less = part.short in
     let in_parts : take (many p c) parts ≡ frags p c
-    = sym (take-append-le (many p c) parts more h) ∙ ap (take (many p c)) e ∙ front p c y in
-    let parts_are : parts ≡ take (length parts) (frags p d) = sym plain ∙ part.front in
+    = sym (take-append-le (many p c) parts more h) ∙ ap (take (many p c)) e ∙ prefix p c y in
+    let parts_are : parts ≡ take (length parts) (frags p d) = sym plain ∙ part.prefix in
     let in_other : take (many p c) (take (length parts) (frags p d)) ≡ take (many p c) (frags p d)
     = take_twice (many p c) (length parts) (frags p d) h in
     let same : c ≡ d = law p.plan p.interface c d words fc part.fits (omega (arith, h, less))

@@ -18,7 +18,7 @@ use Rattle.fl_compile.specs.Compiled.{padding, text_op, type_then, start_at, sta
 use Rattle.fl_image.specs.Image.{Codes, codes_of, compiled, is_name, argument_has_short_enums, is_message_spellable, has_image}
 use Rattle.fl_image.proofs.ReadBack.{AllAfter}
 use Rattle.fl_image.proofs.CodeLaws.{IsSpelled, AreSpelled}
-use Rattle.fl_image.proofs.Caps.{type_align}
+use Rattle.fl_check.proofs.Aligned.{type_align}
 use Rattle.fl_image.proofs.WholeLaws.{HasFields}
 use Rattle.fl_image.proofs.Fitting.{within_type, small_type, image_has}
 use Rattle.fl_image.proofs.Places.{length_of_map}

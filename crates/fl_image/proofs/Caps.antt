@@ -3,73 +3,14 @@ use Rattle.std.proofs.Common.{◌≡◌, ℕ, zero, suc, ◌+◌, ◌*◌, ◌<�
 use Rattle.std.specs.Prelude.{nat_lt}
 use Rattle.std.proofs.Math.Nat.{mul-le-mul_right}
 use Rattle.std.proofs.lemmas.Bool.{cases_lt, lt-ltb}
-use Rattle.fl_check.specs.declared.interface.Scalar.{Scalar}
-use Rattle.fl_check.specs.declared.interface.Scalar.TheVariants.{Uint8, Int8, Bool as BoolType, Char, Uint16, Int16, Uint32, Int32, Iref, Uint64, Int64, Uintptr, Intptr, Size, Errval}
-use Rattle.fl_check.specs.Interface.{TheType, scalar, enumeration, structure, array, TheTypes, no_more, field, TheArgType, fixed, text, sized}
-use Rattle.fl_check.specs.Sizes.{size_of, align_of, greatest_align, end_after, round_up, scalar_size}
+use Rattle.fl_check.specs.Interface.{TheType, structure, array, TheTypes, no_more, field, TheArgType, fixed, text, sized}
+use Rattle.fl_check.specs.Sizes.{size_of, align_of, greatest_align, end_after, round_up, IsAlign}
 use Rattle.fl_check.specs.Depth.{depth_of, deepest, array_depth_of, deepest_array}
 use Rattle.fl_check.specs.Payload.{greatest_end}
-use Rattle.fl_image.specs.Limits.{Near, IsAlign, Measures, SoFar, Reaches}
+use Rattle.fl_check.proofs.Aligned.{align_one, align_eight, align_small, greater_align, type_align, types_align, round_least}
+use Rattle.fl_image.specs.Limits.{Near, Measures, SoFar, Reaches}
 use Rattle.fl_image.specs.declared.limits.Measured.{Measured}
 use Rattle.fl_image.specs.declared.limits.Extent.{Extent}
-
--- ---- alignments
-
-by_align : (P : ℕ → Type 0) → P 1 → P 2 → P 4 → P 8 → (a : ℕ) → IsAlign a → P a
-by_align P one two four eight a is =
-    ⊎_elim (λ (e : a ≡ 1). subst P (sym e) one)
-    (⊎_elim (λ (e : a ≡ 2). subst P (sym e) two)
-    (⊎_elim (λ (e : a ≡ 4). subst P (sym e) four) (λ (e : a ≡ 8). subst P (sym e) eight))) is
-
-pub is_one : IsAlign 1
-is_one = inl refl
-
-pub is_eight : IsAlign 8
-is_eight = inr (inr (inr refl))
-
-pub scalar_align : (s : Scalar) → IsAlign (scalar_size s)
-scalar_align Uint8 = inl refl
-scalar_align Int8 = inl refl
-scalar_align BoolType = inl refl
-scalar_align Char = inl refl
-scalar_align Uint16 = inr (inl refl)
-scalar_align Int16 = inr (inl refl)
-scalar_align Uint32 = inr (inr (inl refl))
-scalar_align Int32 = inr (inr (inl refl))
-scalar_align Iref = inr (inr (inl refl))
-scalar_align Uint64 = inr (inr (inr refl))
-scalar_align Int64 = inr (inr (inr refl))
-scalar_align Uintptr = inr (inr (inr refl))
-scalar_align Intptr = inr (inr (inr refl))
-scalar_align Size = inr (inr (inr refl))
-scalar_align Errval = inr (inr (inr refl))
-
-pub align_small : (a : ℕ) → IsAlign a → (1 ≤ a) × (a ≤ 8)
-align_small a h = by_align (λ a. (1 ≤ a) × (a ≤ 8)) (omega arith, omega arith) (omega arith, omega arith) (omega arith, omega arith) (omega arith, omega arith) a h
-
-pub greater_align : (a b : ℕ) → IsAlign a → IsAlign b → IsAlign (max a b)
-greater_align a b ha hb =
-    ⊎_elim
-    (λ (lt : a < b). let e : b ≡ max a b = omega (arith, lt) in subst IsAlign e hb)
-    (λ (le : b ≤ a). let e : a ≡ max a b = omega (arith, le) in subst IsAlign e ha)
-    (cases_lt a b)
-
-mutual
-  pub type_align : (t : TheType) → IsAlign (align_of t)
-  type_align (scalar s) = scalar_align s
-  type_align (enumeration n) = inr (inr (inl refl))
-  type_align (structure ts) = fields_align ts
-  type_align (array n t) = type_align t
-
-  pub fields_align : (ts : TheTypes) → IsAlign (greatest_align ts)
-  fields_align no_more = is_one
-  fields_align (field t ts) = greater_align (align_of t) (greatest_align ts) (type_align t) (fields_align ts)
-
-pub round_up_least : (a : ℕ) → IsAlign a → (n : ℕ) → n ≤ round_up n a
-round_up_least a h n = omega arith
-
-pub round_up_most : (a : ℕ) → IsAlign a → (n : ℕ) → round_up n a ≤ n + 7
-round_up_most a h = by_align (λ a. (n : ℕ) → round_up n a ≤ n + 7) (λ n. omega arith) (λ n. omega arith) (λ n. omega arith) (λ n. omega arith) a h
 
 -- ---- near
 
@@ -93,7 +34,7 @@ near_max a b x y (inr p) q = inr (omega (arith, p.0), omega (arith, p.1))
 
 near_round : (align a x : ℕ) → IsAlign align → Near a x → Near (round_up a align) (round_up x align)
 near_round align a x h (inl e) = inl (ap (λ (n : ℕ). round_up n align) e)
-near_round align a x h (inr p) = inr (omega (arith, p.0, round_up_least align h a), omega (arith, p.1, round_up_least align h x))
+near_round align a x h (inr p) = inr (omega (arith, p.0, round_least align a), omega (arith, p.1, round_least align x))
 
 many_times : (n s : ℕ) → 65536 ≤ s → 65536 ≤ suc n * s
 many_times n s h =
@@ -115,15 +56,15 @@ pub near_greatest_end : (args : List TheArgType) (due a x : ℕ) → IsAlign due
 near_greatest_end [] due a x d h = h
 near_greatest_end (fixed t ∷ args) due a x d h =
     let m = max due (align_of t) in
-    near_greatest_end args 1 (round_up a m + size_of t) (round_up x m + size_of t) is_one
+    near_greatest_end args 1 (round_up a m + size_of t) (round_up x m + size_of t) align_one
     (near_sum (round_up a m) (size_of t) (round_up x m) (size_of t) (near_round m a x (greater_align due (align_of t) d (type_align t)) h) (inl refl))
 near_greatest_end (text bound ∷ args) due a x d h =
-    near_greatest_end args 8 (round_up a 8 + (8 + bound)) (round_up x 8 + (8 + bound)) is_eight
-    (near_sum (round_up a 8) (8 + bound) (round_up x 8) (8 + bound) (near_round 8 a x is_eight h) (inl refl))
+    near_greatest_end args 8 (round_up a 8 + (8 + bound)) (round_up x 8 + (8 + bound)) align_eight
+    (near_sum (round_up a 8) (8 + bound) (round_up x 8) (8 + bound) (near_round 8 a x align_eight h) (inl refl))
 near_greatest_end (sized bound t ∷ args) due a x d h =
     let n = 8 + bound * size_of t in
-    near_greatest_end args 8 (round_up a 8 + n) (round_up x 8 + n) is_eight
-    (near_sum (round_up a 8) n (round_up x 8) n (near_round 8 a x is_eight h) (inl refl))
+    near_greatest_end args 8 (round_up a 8 + n) (round_up x 8 + n) align_eight
+    (near_sum (round_up a 8) n (round_up x 8) n (near_round 8 a x align_eight h) (inl refl))
 
 -- what is past a limit is told by what is near
 pub same_past : (limit n m : ℕ) → limit < 65536 → Near n m → nat_lt limit n ≡ nat_lt limit m
@@ -187,7 +128,7 @@ measures_fields before m end all f at size align depth arrays =
     let whole : before.align ≡ greatest_align all = omega (arith, f.align, small.0) in
     let deep : Near before.depth (deepest all) = subst (λ (n : ℕ). Near n (deepest all)) (omega arith) f.depth in
     let nested : Near before.arrays (deepest_array all) = subst (λ (n : ℕ). Near n (deepest_array all)) (omega arith) f.arrays in
-    let up : Near (round_up before.size (greatest_align all)) (round_up (end_after 0 all) (greatest_align all)) = near_round (greatest_align all) before.size (end_after 0 all) (fields_align all) f.size in
+    let up : Near (round_up before.size (greatest_align all)) (round_up (end_after 0 all) (greatest_align all)) = near_round (greatest_align all) before.size (end_after 0 all) (types_align all) f.size in
     let start : end ≡ round_up before.size (greatest_align all) = at ∙ ap (round_up before.size) whole in
     record {
       size = subst (λ (n : ℕ). Near n (size_of (structure all))) (sym size)
@@ -204,7 +145,7 @@ measures_fields before m end all f at size align depth arrays =
 -- no field so far
 pub at_first : (m : Measured) (all : TheTypes) → m.size ≡ 0 → m.align ≡ 1 → m.depth ≡ 0 → m.arrays ≡ 0 → SoFar m all all
 at_first m all size align depth arrays =
-    let some = align_small (greatest_align all) (fields_align all) in
+    let some = align_small (greatest_align all) (types_align all) in
     record {
       size = inl (ap (λ (n : ℕ). end_after n all) size);
       align = omega (arith, align, some.0);
@@ -229,7 +170,7 @@ reaches_fixed before after m top at end t left total h r top_is at_is end_is cap
     let near_end : Near end goal_end = subst (λ (n : ℕ). Near n goal_end) (sym end_is) sum in
     let reached : Near after.end goal_end = subst (λ (n : ℕ). Near n goal_end) (sym capped_is) (near_then (min end 65536) end goal_end (capped end) near_end) in
     record {
-      near = subst (λ (d : ℕ). Near (greatest_end after.end d left) total) (sym due) (near_then (greatest_end after.end 1 left) (greatest_end goal_end 1 left) total (near_greatest_end left 1 after.end goal_end is_one reached) r.near);
+      near = subst (λ (d : ℕ). Near (greatest_end after.end d left) total) (sym due) (near_then (greatest_end after.end 1 left) (greatest_end goal_end 1 left) total (near_greatest_end left 1 after.end goal_end align_one reached) r.near);
       small = omega (arith, capped_is);
       aligned = inl due;
     }
@@ -242,9 +183,9 @@ reaches_counted before after size real left total h d r capped_is due =
     let sum : Near (at + (8 + size)) (at + (8 + real)) = near_sum at (8 + size) at (8 + real) (inl refl) (near_sum 8 size 8 real (inl refl) h) in
     let reached : Near after.end (at + (8 + real)) = subst (λ (n : ℕ). Near n (at + (8 + real))) (sym capped_is) (near_then (min (at + (8 + size)) 65536) (at + (8 + size)) (at + (8 + real)) (capped (at + (8 + size))) sum) in
     record {
-      near = subst (λ (n : ℕ). Near (greatest_end after.end n left) total) (sym due) (near_then (greatest_end after.end 8 left) (greatest_end (at + (8 + real)) 8 left) total (near_greatest_end left 8 after.end (at + (8 + real)) is_eight reached) r);
+      near = subst (λ (n : ℕ). Near (greatest_end after.end n left) total) (sym due) (near_then (greatest_end after.end 8 left) (greatest_end (at + (8 + real)) 8 left) total (near_greatest_end left 8 after.end (at + (8 + real)) align_eight reached) r);
       small = omega (arith, capped_is);
-      aligned = subst IsAlign (sym due) is_eight;
+      aligned = subst IsAlign (sym due) align_eight;
     }
 
 pub near_counted : (count size : ℕ) (m : Measured) (t : TheType) → Measures m t → size ≡ min (count * m.size) 65536 → Near size (count * size_of t)

@@ -7,7 +7,7 @@ use Rattle.std.proofs.Math.Nat.{mul-le-mul_right}
 use Rattle.fl_check.specs.declared.interface.Scalar.{Scalar}
 use Rattle.fl_check.specs.declared.interface.Scalar.TheVariants.{Uint8, Int8, Bool as BoolType, Char, Uint16, Int16, Uint32, Int32, Iref, Uint64, Int64, Uintptr, Intptr, Size, Errval}
 use Rattle.fl_check.specs.Interface.{TheType, scalar, enumeration, structure, array, TheTypes, no_more, field}
-use Rattle.fl_check.specs.Sizes.{size_of, align_of, greatest_align, end_after, round_up, scalar_size}
+use Rattle.fl_check.specs.Sizes.{size_of, align_of, greatest_align, end_after, round_up, scalar_size, IsAlign}
 use Rattle.fl_check.specs.Depth.{depth_of, deepest}
 use Rattle.fl_check.specs.Checks.{count_of, is_well_made, are_well_made}
 use Rattle.fl_stub.specs.declared.op.Op.{Op}
@@ -18,10 +18,9 @@ use Rattle.fl_stub.specs.Structure.{one, Block, finished, next, is_width, is_wit
 use Rattle.fl_compile.specs.Compiled.{scalar_op, enum_op, text_op, pad_op, padding, zeros_then, type_then, fields_then}
 use Rattle.fl_image.specs.Image.{has_short_enums, have_short_enums}
 use Rattle.fl_image.specs.Reading.{op_with}
-use Rattle.fl_image.specs.Limits.{IsAlign}
 use Rattle.fl_image.proofs.ReadBack.{AllAfter}
 use Rattle.fl_image.proofs.CodeLaws.{HasImage}
-use Rattle.fl_image.proofs.Caps.{type_align, fields_align, round_up_most, round_up_least}
+use Rattle.fl_check.proofs.Aligned.{type_align, types_align, round_near, round_least}
 
 -- ---- single ops
 
@@ -147,7 +146,7 @@ pub zeros_have : (column : Column) (count : ℕ) (rest : Block) → count ≤ 7 
 zeros_have column count rest few h = zeros_step column count rest (eqb count 0) refl few h
 
 pub padding_small : (align : ℕ) → IsAlign align → (at : ℕ) → padding at align ≤ 7
-padding_small align h at = omega (arith, round_up_most align h at)
+padding_small align h at = omega (arith, round_near align at h)
 
 mutual
   pub type_has : (column : Column) (t : TheType) (rest : Block) → is_well_made t ≡ true → has_short_enums t ≡ true → BlockHas column rest → BlockHas column (type_then column t rest)
@@ -156,7 +155,7 @@ mutual
   type_has column (structure ts) rest w f h =
       let a = and_parts (nat_le 1 (count_of ts)) (nat_le (count_of ts) 32 && are_well_made ts) w in
       let b = and_parts (nat_le (count_of ts) 32) (are_well_made ts) a.1 in
-      fields_have column (greatest_align ts) 0 ts rest (fields_align ts) b.1 f h
+      fields_have column (greatest_align ts) 0 ts rest (types_align ts) b.1 f h
   type_has column (array n t) rest w f h =
       let a = and_parts (nat_le 1 n) (nat_le n 1024 && is_well_made t) w in
       let b = and_parts (nat_le n 1024) (is_well_made t) a.1 in
@@ -209,7 +208,7 @@ scalar_some Errval = omega arith
 
 no_less : (ts : TheTypes) (at : ℕ) → at ≤ end_after at ts
 no_less no_more at = omega arith
-no_less (field t ts) at = omega (arith, no_less ts (round_up at (align_of t) + size_of t), round_up_least (align_of t) (type_align t) at)
+no_less (field t ts) at = omega (arith, no_less ts (round_up at (align_of t) + size_of t), round_least (align_of t) at)
 
 array_some : (n s : ℕ) → 1 ≤ n → s ≤ n * s
 array_some n s h =
@@ -223,7 +222,7 @@ mutual
   size_some (structure ts) w =
       let a = and_parts (nat_le 1 (count_of ts)) (nat_le (count_of ts) 32 && are_well_made ts) w in
       let b = and_parts (nat_le (count_of ts) 32) (are_well_made ts) a.1 in
-      omega (arith, fields_some ts (leb-true 1 (count_of ts) a.0) b.1, round_up_least (greatest_align ts) (fields_align ts) (end_after 0 ts))
+      omega (arith, fields_some ts (leb-true 1 (count_of ts) a.0) b.1, round_least (greatest_align ts) (end_after 0 ts))
   size_some (array n t) w =
       let a = and_parts (nat_le 1 n) (nat_le n 1024 && is_well_made t) w in
       let b = and_parts (nat_le n 1024) (is_well_made t) a.1 in
@@ -259,7 +258,7 @@ mutual
       let b = and_parts (nat_le (count_of ts) 32) (are_well_made ts) a.1 in
       let size = size_of (structure ts) in
       let inside = fields_count column d (greatest_align ts) 0 ts rest b.1 (omega (arith, lt)) in
-      let reach : end_after 0 ts ≤ size = round_up_least (greatest_align ts) (fields_align ts) (end_after 0 ts) in
+      let reach : end_after 0 ts ≤ size = round_least (greatest_align ts) (end_after 0 ts) in
       omega (arith, inside, cost_more d (end_after 0 ts) size reach, size_some (structure ts) w)
   type_count column zero (array n t) rest w lt = absurd (omega (arith, lt))
   type_count column (suc d) (array n t) rest w lt =
@@ -280,5 +279,5 @@ mutual
       let zeros = zeros_count column (padding at (align_of t)) inner in
       let first = type_count column d t (fields_then column align after ts rest) a.0 (omega (arith, lt)) in
       let others = fields_count column d align after ts rest a.1 (omega (arith, lt)) in
-      let up = cost_more d at start (round_up_least (align_of t) (type_align t) at) in
+      let up = cost_more d at start (round_least (align_of t) at) in
       omega (arith, zeros, first, others, up, cost_sum d start (size_of t))

@@ -1,7 +1,7 @@
 -- For the code alone: measures of types and payloads that may be of any size; past 65,536 it is only known that they are.
 use Rattle.std.specs.Prelude.{◌≡◌, ℕ, ◌≤◌, ◌⊎◌, max, List}
 use Rattle.fl_check.specs.Interface.{TheType, TheTypes, TheArgType}
-use Rattle.fl_check.specs.Sizes.{size_of, align_of, greatest_align, end_after}
+use Rattle.fl_check.specs.Sizes.{size_of, align_of, greatest_align, end_after, IsAlign}
 use Rattle.fl_check.specs.Depth.{depth_of, deepest, array_depth_of, deepest_array}
 use Rattle.fl_check.specs.Payload.{greatest_end}
 use Rattle.fl_image.specs.declared.limits.Measured.{Measured}
@@ -10,9 +10,6 @@ use Rattle.fl_image.specs.declared.limits.Extent.{Extent}
 -- the same number, or both past every limit
 abbrev pub Near : ℕ → ℕ → Type 0
 Near n m = (n ≡ m) ⊎ ((65536 ≤ n) × (65536 ≤ m))
-
-abbrev pub IsAlign : ℕ → Type 0
-IsAlign a = (a ≡ 1) ⊎ ((a ≡ 2) ⊎ ((a ≡ 4) ⊎ (a ≡ 8)))
 
 -- the measures of a type
 pub record Measures (m : Measured) (t : TheType) : Type 0 where

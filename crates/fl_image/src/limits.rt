@@ -8,7 +8,8 @@ ghost use Rattle.fl_check.specs.Depth.{is_too_big};
 ghost use Rattle.fl_check.specs.Checks.{is_well_made, are_well_made, is_type_within, is_argument_within, are_arguments_within, is_message_within};
 ghost use Rattle.fl_check.specs.Payload.{greatest_payload};
 ghost use Rattle.fl_check.specs.Known.{is_among};
-ghost use Rattle.fl_image.specs.Limits.{IsAlign, Measures, SoFar, Reaches};
+ghost use Rattle.fl_check.specs.Sizes.{IsAlign};
+ghost use Rattle.fl_image.specs.Limits.{Measures, SoFar, Reaches};
 
 use fl_check::{ArgType, FixedType, Message, Scalar};
 

@@ -6,13 +6,14 @@ use Rattle.std.specs.List.{zip, range_with_len, list_all}
 use Rattle.fl_check.specs.Interface.{TheType, TheArgType, fixed, text, sized, TheMessage}
 use Rattle.fl_check.specs.Sizes.{size_of}
 use Rattle.fl_check.specs.Checks.{is_type_within, is_argument_within, are_arguments_within, is_message_within}
+use Rattle.fl_check.proofs.Aligned.{some_align}
 use Rattle.fl_value.specs.declared.value.PlanNo.{PlanNo}
 use Rattle.fl_value.specs.declared.value.PlanNo.TheVariants.{One, Two}
 use Rattle.fl_value.specs.Plan.{arranged, is_fixed_at, is_dynamic, rank_of, of_rank}
 use Rattle.fl_layout.specs.declared.extent.Placed.{Placed}
 use Rattle.fl_layout.specs.Extents.{extent_of, numbered, placing, typed, placed_of, is_varying, is_within, are_within}
 use Rattle.fl_layout.proofs.Order.{all_arranged}
-use Rattle.fl_layout.proofs.Measures.{numbers_small, some_align}
+use Rattle.fl_layout.proofs.Measures.{numbers_small}
 
 pub filter_ext : {A : Type 0} (p q : A → Bool) → ((x : A) → p x ≡ q x) → (xs : List A) → filter p xs ≡ filter q xs
 filter_ext p q same [] = refl

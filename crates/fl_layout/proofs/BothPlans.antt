@@ -5,7 +5,7 @@ use Rattle.std.specs.Prelude.{slice_get, nat_lt}
 use Rattle.std.proofs.lemmas.Bool.{and_parts, eqb-true, ltb-false, false≢true, cases_Bool}
 use Rattle.std.proofs.lemmas.List.{map-append, append_assoc}
 use Rattle.fl_check.specs.Interface.{TheArgType, fixed, text, sized, TheMessage, TheInterface}
-use Rattle.fl_check.specs.Sizes.{size_of, align_of, round_up}
+use Rattle.fl_check.specs.Sizes.{size_of, align_of, round_up, IsAlign}
 use Rattle.fl_check.specs.Payload.{greatest_end, greatest_payload}
 use Rattle.fl_check.specs.Places.{is_too_long}
 use Rattle.fl_check.specs.Checks.{are_arguments_within, is_message_within, is_within_limits}
@@ -16,8 +16,7 @@ use Rattle.fl_value.specs.Plan.{arranged, is_fixed_at, is_dynamic}
 use Rattle.fl_layout.specs.declared.extent.Fill.TheVariants.{Full}
 use Rattle.fl_layout.specs.Extents.{Filled, extent_of, numbered, placing, end_of_all, count_by, filled_up}
 use Rattle.fl_layout.specs.Layouts.{payload_length, IsCallOf}
-use Rattle.fl_layout.proofs.Rounding.{IsAlign, by_align, IsMultiple, align_one, align_two, align_four, align_eight, align_small, rounded, round_multiple, round_after, round_least, round_rises, multiple_add, multiple_of_less}
-use Rattle.fl_layout.proofs.Sizes.{aligned, size_multiple}
+use Rattle.fl_check.proofs.Aligned.{by_align, IsMultiple, align_one, align_two, align_four, align_eight, align_small, rounded, round_multiple, round_after, round_least, round_rises, multiple_add, multiple_of_less, type_align, size_multiple}
 use Rattle.fl_layout.proofs.Order.{arranged_map, numbered_are}
 use Rattle.fl_layout.proofs.Lengths.{limit, map_map, message_within, greatest_is}
 use Rattle.fl_layout.proofs.Sums.{total, total_append, total_arranged}
@@ -96,7 +95,7 @@ lower (fixed t ∷ ts) at due d =
     let start = round_up at (max due (align_of t)) in
     let rest = lower ts (start + size_of t) 1 (inl refl) in
     let one : round_up (start + size_of t) 1 ≡ start + size_of t = omega arith in
-    let least = due_least due (align_of t) at d (aligned t) in
+    let least = due_least due (align_of t) at d (type_align t) in
     let f = total fixed_bytes ts in
     let up : round_up (round_up at due + (size_of t + f)) 8 ≤ round_up (round_up (start + size_of t) 1 + f) 8
     = round_rises 8 (round_up at due + (size_of t + f)) (round_up (start + size_of t) 1 + f) align_eight (omega (arith, least, one)) in
@@ -121,7 +120,7 @@ record Fixed (a : ℕ) (t : TheArgType) : Type 0 where
 fixed_one : (a : ℕ) (t : TheArgType) → IsAlign a → is_fixed_at a t ≡ true → Fixed a t
 fixed_one a (fixed t) h e =
     let same : align_of t ≡ a = eqb-true (align_of t) a e in
-    let least = (align_small (align_of t) (aligned t)).0 in
+    let least = (align_small (align_of t) (type_align t)).0 in
     let align : max 1 (align_of t) ≡ a = omega (arith, same, least) in
     record {
       next = λ at m rest. ap (λ n. end_of_all (round_up at n + size_of t) 1 rest) align ∙ ap (λ n. end_of_all (n + size_of t) 1 rest) (round_multiple a at h m);

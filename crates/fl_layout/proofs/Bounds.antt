@@ -4,14 +4,13 @@ use Rattle.std.proofs.lemmas.Bool.{and_parts, and_from, leb-true, false≢true}
 use Rattle.std.proofs.Math.Nat.{mul-le-mul_right}
 use Rattle.std.specs.List.{list_all, zip}
 use Rattle.fl_check.specs.Interface.{TheArgType, fixed, text, sized}
-use Rattle.fl_check.specs.Sizes.{size_of, align_of}
+use Rattle.fl_check.specs.Sizes.{size_of, align_of, IsAlign}
 use Rattle.fl_check.specs.Checks.{is_argument_within, are_arguments_within}
 use Rattle.fl_value.specs.Value.{Datum, number, string, elements, fields}
 use Rattle.fl_value.specs.Fits.{is_argument, are_arguments, count_of}
 use Rattle.fl_layout.specs.Leaves.{Argument}
 use Rattle.fl_layout.specs.Extents.{Filled, most_of, count_at, extent_of, end_of, due_after, end_of_all}
-use Rattle.fl_layout.proofs.Rounding.{IsAlign, align_one, align_eight, greater_align, round_rises}
-use Rattle.fl_layout.proofs.Sizes.{aligned}
+use Rattle.fl_check.proofs.Aligned.{align_one, align_eight, greater_align, round_rises, type_align}
 use Rattle.fl_layout.proofs.Ends.{is_good}
 
 -- with the one count an argument never ends after it ends with the other
@@ -22,12 +21,12 @@ pub times_rises : (k m n : ℕ) → m ≤ n → m * k ≤ n * k
 times_rises k m n h = mul-le-mul_right k h
 
 pub none_rises : (t : TheArgType) (n : ℕ) → Rises t 0 n
-none_rises (fixed t) n at at' due d h = omega (arith, round_rises (max due (align_of t)) at at' (greater_align due (align_of t) d (aligned t)) h)
+none_rises (fixed t) n at at' due d h = omega (arith, round_rises (max due (align_of t)) at at' (greater_align due (align_of t) d (type_align t)) h)
 none_rises (text most) n at at' due d h = omega (arith, round_rises 8 at at' align_eight h)
 none_rises (sized most t) n at at' due d h = omega (arith, round_rises 8 at at' align_eight h, times_rises (size_of t) 0 n (omega arith))
 
 pub most_rises : (t : TheArgType) (d : Datum) → is_argument t d ≡ true → Rises t (count_at (extent_of t) d) (most_of (extent_of t))
-most_rises (fixed t) d h at at' due a r = omega (arith, round_rises (max due (align_of t)) at at' (greater_align due (align_of t) a (aligned t)) r)
+most_rises (fixed t) d h at at' due a r = omega (arith, round_rises (max due (align_of t)) at at' (greater_align due (align_of t) a (type_align t)) r)
 most_rises (text most) (string bytes) h at at' due a r =
     omega (arith, round_rises 8 at at' align_eight r, leb-true (length bytes) most (and_parts _ _ h).0)
 most_rises (sized most t) (elements ds) h at at' due a r =

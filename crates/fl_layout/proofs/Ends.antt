@@ -3,7 +3,7 @@ use Rattle.std.proofs.Common.{◌≡◌, ℕ, ◌+◌, ◌*◌, true, false, Boo
 use Rattle.std.proofs.lemmas.Bool.{and_parts, false≢true}
 use Rattle.std.specs.List.{list_all}
 use Rattle.fl_check.specs.Interface.{TheArgType, fixed, text, sized}
-use Rattle.fl_check.specs.Sizes.{size_of, align_of, round_up}
+use Rattle.fl_check.specs.Sizes.{size_of, align_of, round_up, IsAlign}
 use Rattle.fl_check.specs.Checks.{is_well_made, is_argument_within}
 use Rattle.fl_value.specs.Value.{Datum, number, string, elements, fields}
 use Rattle.fl_value.specs.Fits.{is_argument, count_of}
@@ -11,8 +11,8 @@ use Rattle.fl_value.specs.Plan.{is_dynamic}
 use Rattle.fl_layout.specs.Leaves.{Leaf, Argument, whole, single, bytes_onto, start_onto, argument_onto, arguments_onto}
 use Rattle.fl_layout.specs.Places.{size}
 use Rattle.fl_layout.specs.Extents.{Filled, count_at, extent_of, end_of, due_after, end_of_all}
-use Rattle.fl_layout.proofs.Rounding.{IsAlign, IsMultiple, align_eight, align_small, rounded, round_multiple, multiple_add, multiple_of_less}
-use Rattle.fl_layout.proofs.Sizes.{aligned, value_size, elements_size}
+use Rattle.fl_check.proofs.Aligned.{IsMultiple, align_eight, align_small, rounded, round_multiple, multiple_add, multiple_of_less, type_align}
+use Rattle.fl_layout.proofs.Sizes.{value_size, elements_size}
 
 abbrev pub filled : Argument → Filled
 filled a = (extent_of a.0, count_at (extent_of a.0) a.1)
@@ -51,7 +51,7 @@ pub argument_end : (t : TheArgType) (d : Datum) (after_dynamic : Bool) (before :
 argument_end (fixed t) d after before w h =
     let made = and_parts (is_well_made t) _ w in
     value_size t d (start_onto after before) (made.0) h
-    ∙ ap (λ n. n + size_of t) (fixed_start after (align_of t) (size before) (aligned t) before refl)
+    ∙ ap (λ n. n + size_of t) (fixed_start after (align_of t) (size before) (type_align t) before refl)
 argument_end (text most) (string bytes) after before w h =
     bytes_size bytes (whole 8 (length bytes) ∷ start_onto after before)
     ∙ ap (λ n. n + 8 + length bytes) (dynamic_start after before) ∙ omega arith
@@ -62,9 +62,9 @@ argument_end (sized most t) (elements ds) after before w h =
     let a = align_of t in
     let start : size (whole 8 (count_of ds) ∷ start_onto after before) ≡ round_up (size before) 8 + 8
     = ap (λ n. n + 8) (dynamic_start after before) in
-    let eight : IsMultiple a 8 = multiple_of_less a 8 8 (aligned t) align_eight (align_small a (aligned t)).1 refl in
+    let eight : IsMultiple a 8 = multiple_of_less a 8 8 (type_align t) align_eight (align_small a (type_align t)).1 refl in
     let m : IsMultiple a (size (whole 8 (count_of ds) ∷ start_onto after before))
-    = subst (IsMultiple a) (sym start) (multiple_add a (round_up (size before) 8) 8 (aligned t) (start_eight a (size before) (aligned t)) eight) in
+    = subst (IsMultiple a) (sym start) (multiple_add a (round_up (size before) 8) 8 (type_align t) (start_eight a (size before) (type_align t)) eight) in
     elements_size t ds (whole 8 (count_of ds) ∷ start_onto after before) m (made.0) (has.1)
     ∙ ap (λ n. n + count_of ds * size_of t) start ∙ omega arith
 argument_end (text most) (number z) after before w h = absurd (false≢true h)

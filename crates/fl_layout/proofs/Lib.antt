@@ -1,4 +1,3 @@
-pub mod Rounding
 pub mod Sizes
 pub mod Ends
 pub mod Order

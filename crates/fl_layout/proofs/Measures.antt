@@ -5,8 +5,7 @@ use Rattle.fl_check.specs.Interface.{TheType, scalar, enumeration, structure, ar
 use Rattle.fl_check.specs.Sizes.{size_of, align_of, greatest_align, end_after, round_up, scalar_size}
 use Rattle.fl_layout.specs.Extents.{numbers_of, numbers_of_all}
 use Rattle.fl_check.proofs.FieldSizes.{rest_is}
-use Rattle.fl_layout.proofs.Rounding.{round_least, align_small}
-use Rattle.fl_layout.proofs.Sizes.{aligned, all_aligned, scalar_align}
+use Rattle.fl_check.proofs.Aligned.{round_least, align_small, scalar_align}
 
 pub times_more : (k m n : ℕ) → m ≤ n → k * m ≤ k * n
 times_more k m n h = let e : m * k ≤ n * k = mul-le-mul_right k h in omega (arith, e)
@@ -22,12 +21,6 @@ mutual
   all_small no_more at = omega arith
   all_small (field t ts) at =
       omega (arith, numbers_small t, round_least (align_of t) at, all_small ts (round_up at (align_of t) + size_of t))
-
-pub some_align : (t : TheType) → (1 ≤ align_of t) × (align_of t ≤ 8)
-some_align t = align_small (align_of t) (aligned t)
-
-pub some_greatest : (ts : TheTypes) → (1 ≤ greatest_align ts) × (greatest_align ts ≤ 8)
-some_greatest ts = align_small (greatest_align ts) (all_aligned ts)
 
 -- what a loop over fields counts: the numbers so far, those of the next field, and those of the others
 pub next_numbers : {F : Type 0} (type : F → TheType) (fs : List F) (k numbers : ℕ) (f : F) → k < length fs → f ≡ get_or fs k f

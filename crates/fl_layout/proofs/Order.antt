@@ -51,13 +51,13 @@ numbered_are [] k = refl
 numbered_are (x ∷ xs) k = ap (λ ys. x ∷ ys) (numbered_are xs (k + 1))
 
 -- the types beside the values are the numbered types, each with the value of its number
-pub zip_numbered : {A B : Type 0} (default : B) (ts : List A) (front vs : List B) (k : ℕ) → k ≡ length front → length ts ≡ length vs
-    → zip ts vs ≡ map (λ (a : ℕ × A). (a.1, get_or (front ++ vs) (a.0) default)) (zip (range_with_len k (length ts)) ts)
-zip_numbered default [] front vs k e h = refl
-zip_numbered default (t ∷ ts) front [] k e h = absurd (omega (arith, h))
-zip_numbered {A = A} {B = B} default (t ∷ ts) front (v ∷ vs) k e h =
-    let seam : get_or (front ++ v ∷ vs) k default ≡ v = ap (λ n. get_or (front ++ v ∷ vs) n default) e ∙ get_or-append_seam front v vs default in
-    let rest = zip_numbered default ts (front ++ v ∷ []) vs (k + 1) (omega (arith, e, length-append front (v ∷ []))) (omega (arith, h)) in
-    let same : (front ++ v ∷ []) ++ vs ≡ front ++ v ∷ vs = append_assoc front (v ∷ []) vs in
+pub zip_numbered : {A B : Type 0} (default : B) (ts : List A) (prefix vs : List B) (k : ℕ) → k ≡ length prefix → length ts ≡ length vs
+    → zip ts vs ≡ map (λ (a : ℕ × A). (a.1, get_or (prefix ++ vs) (a.0) default)) (zip (range_with_len k (length ts)) ts)
+zip_numbered default [] prefix vs k e h = refl
+zip_numbered default (t ∷ ts) prefix [] k e h = absurd (omega (arith, h))
+zip_numbered {A = A} {B = B} default (t ∷ ts) prefix (v ∷ vs) k e h =
+    let seam : get_or (prefix ++ v ∷ vs) k default ≡ v = ap (λ n. get_or (prefix ++ v ∷ vs) n default) e ∙ get_or-append_seam prefix v vs default in
+    let rest = zip_numbered default ts (prefix ++ v ∷ []) vs (k + 1) (omega (arith, e, length-append prefix (v ∷ []))) (omega (arith, h)) in
+    let same : (prefix ++ v ∷ []) ++ vs ≡ prefix ++ v ∷ vs = append_assoc prefix (v ∷ []) vs in
     let look = λ (all : List B). map (λ (a : ℕ × A). (a.1, get_or all (a.0) default)) (zip (range_with_len (k + 1) (length ts)) ts) in
-    ap (λ (zs : List (A × B)). (t, v) ∷ zs) (rest ∙ ap look same) ∙ ap (λ (w : B). (t, w) ∷ look (front ++ v ∷ vs)) (sym seam)
+    ap (λ (zs : List (A × B)). (t, v) ∷ zs) (rest ∙ ap look same) ∙ ap (λ (w : B). (t, w) ∷ look (prefix ++ v ∷ vs)) (sym seam)

@@ -1,65 +1,14 @@
 -- The leaves of a value take as many bytes as its type, from the next multiple of its alignment on.
-use Rattle.std.proofs.Common.{◌≡◌, ℕ, ◌+◌, ◌*◌, ◌≤◌, true, inl, inr, List, ◌∷◌, refl, sym, ◌∙◌, ap, subst, arith, leb, eqb}
+use Rattle.std.proofs.Common.{◌≡◌, ℕ, ◌+◌, ◌*◌, ◌≤◌, true, List, ◌∷◌, refl, sym, ◌∙◌, ap, subst, arith, leb, eqb}
 use Rattle.std.proofs.lemmas.Bool.{and_parts, leb-true, eqb-true, false≢true}
-use Rattle.fl_check.specs.declared.interface.Scalar.{Scalar}
-use Rattle.fl_check.specs.declared.interface.Scalar.TheVariants.{Uint8, Int8, Bool as BoolType, Char, Uint16, Int16, Uint32, Int32, Iref, Uint64, Int64, Uintptr, Intptr, Size, Errval}
 use Rattle.fl_check.specs.Interface.{TheType, scalar, enumeration, structure, array, TheTypes, no_more, field}
-use Rattle.fl_check.specs.Sizes.{size_of, align_of, greatest_align, end_after, round_up, scalar_size}
+use Rattle.fl_check.specs.Sizes.{size_of, align_of, greatest_align, end_after, round_up, IsAlign}
 use Rattle.fl_check.specs.Checks.{is_well_made, are_well_made}
 use Rattle.fl_value.specs.Value.{Datum, number, string, elements, fields, Data, nothing_more, also}
 use Rattle.fl_value.specs.Fits.{has_type, have_types, all_have_type, count_of}
 use Rattle.fl_layout.specs.Leaves.{Leaf, gap, value_onto, fields_onto, elements_onto}
 use Rattle.fl_layout.specs.Places.{size}
-use Rattle.fl_layout.proofs.Rounding.{IsAlign, IsMultiple, align_one, align_four, greater_align, rounded, round_multiple, round_after, multiple_add, multiple_times, multiple_of_less}
-
-pub scalar_align : (s : Scalar) → IsAlign (scalar_size s)
-scalar_align Uint8 = inl refl
-scalar_align Int8 = inl refl
-scalar_align BoolType = inl refl
-scalar_align Char = inl refl
-scalar_align Uint16 = inr (inl refl)
-scalar_align Int16 = inr (inl refl)
-scalar_align Uint32 = inr (inr (inl refl))
-scalar_align Int32 = inr (inr (inl refl))
-scalar_align Iref = inr (inr (inl refl))
-scalar_align Uint64 = inr (inr (inr refl))
-scalar_align Int64 = inr (inr (inr refl))
-scalar_align Uintptr = inr (inr (inr refl))
-scalar_align Intptr = inr (inr (inr refl))
-scalar_align Size = inr (inr (inr refl))
-scalar_align Errval = inr (inr (inr refl))
-
-mutual
-  pub aligned : (t : TheType) → IsAlign (align_of t)
-  aligned (scalar s) = scalar_align s
-  aligned (enumeration n) = align_four
-  aligned (structure ts) = all_aligned ts
-  aligned (array n t) = aligned t
-
-  pub all_aligned : (ts : TheTypes) → IsAlign (greatest_align ts)
-  all_aligned no_more = align_one
-  all_aligned (field t ts) = greater_align (align_of t) (greatest_align ts) (aligned t) (all_aligned ts)
-
--- the size of a type is a multiple of its alignment
-pub size_multiple : (t : TheType) → IsMultiple (align_of t) (size_of t)
-size_multiple (scalar Uint8) = refl
-size_multiple (scalar Int8) = refl
-size_multiple (scalar BoolType) = refl
-size_multiple (scalar Char) = refl
-size_multiple (scalar Uint16) = refl
-size_multiple (scalar Int16) = refl
-size_multiple (scalar Uint32) = refl
-size_multiple (scalar Int32) = refl
-size_multiple (scalar Iref) = refl
-size_multiple (scalar Uint64) = refl
-size_multiple (scalar Int64) = refl
-size_multiple (scalar Uintptr) = refl
-size_multiple (scalar Intptr) = refl
-size_multiple (scalar Size) = refl
-size_multiple (scalar Errval) = refl
-size_multiple (enumeration n) = refl
-size_multiple (structure ts) = rounded (greatest_align ts) (end_after 0 ts) (all_aligned ts)
-size_multiple (array n t) = multiple_times (align_of t) n (size_of t) (aligned t) (size_multiple t)
+use Rattle.fl_check.proofs.Aligned.{IsMultiple, rounded, round_multiple, round_after, multiple_add, multiple_of_less, type_align, types_align, size_multiple}
 
 mutual
   pub value_size : (t : TheType) (d : Datum) (before : List Leaf) → is_well_made t ≡ true → has_type t d ≡ true
@@ -73,9 +22,9 @@ mutual
       let made = and_parts _ _ (and_parts _ _ w).1 in
       let begins : size start ≡ base + 0 = refl in
       let ends : size (fields_onto ts ds start) ≡ base + end_after 0 ts
-      = fields_size ts ds start base 0 a (omega arith) (all_aligned ts) (rounded a (size before) (all_aligned ts)) begins made.1 h in
+      = fields_size ts ds start base 0 a (omega arith) (types_align ts) (rounded a (size before) (types_align ts)) begins made.1 h in
       ap (λ n. round_up n a + 0) ends
-      ∙ omega (arith, round_after a base (end_after 0 ts) (all_aligned ts) (rounded a (size before) (all_aligned ts)))
+      ∙ omega (arith, round_after a base (end_after 0 ts) (types_align ts) (rounded a (size before) (types_align ts)))
   value_size (array n t) (elements ds) before w h =
       let made = and_parts _ _ w in
       let inner = and_parts _ _ made.1 in
@@ -101,11 +50,11 @@ mutual
   fields_size (field t ts) (also d ds) before base at top r a m e w h =
       let made = and_parts _ _ w in
       let has = and_parts _ _ h in
-      let low : IsMultiple (align_of t) base = multiple_of_less (align_of t) top base (aligned t) a (omega (arith, r)) m in
+      let low : IsMultiple (align_of t) base = multiple_of_less (align_of t) top base (type_align t) a (omega (arith, r)) m in
       let next : size (value_onto t d before) ≡ base + (round_up at (align_of t) + size_of t)
       = value_size t d before (made.0) (has.0)
       ∙ ap (λ n. round_up n (align_of t) + size_of t) e
-      ∙ omega (arith, round_after (align_of t) base at (aligned t) low) in
+      ∙ omega (arith, round_after (align_of t) base at (type_align t) low) in
       fields_size ts ds (value_onto t d before) base (round_up at (align_of t) + size_of t) top (omega (arith, r)) a m next (made.1) (has.1)
   fields_size no_more (also d ds) before base at top r a m e w h = absurd (false≢true h)
   fields_size (field t ts) nothing_more before base at top r a m e w h = absurd (false≢true h)
@@ -119,7 +68,7 @@ mutual
       let a = align_of t in
       let first : size (value_onto t d before) ≡ round_up (size before) a + size_of t = value_size t d before w (has.0) in
       let m : IsMultiple a (size (value_onto t d before))
-      = subst (IsMultiple a) (sym first) (multiple_add a (round_up (size before) a) (size_of t) (aligned t) (rounded a (size before) (aligned t)) (size_multiple t)) in
+      = subst (IsMultiple a) (sym first) (multiple_add a (round_up (size before) a) (size_of t) (type_align t) (rounded a (size before) (type_align t)) (size_multiple t)) in
       let rest : size (elements_onto t ds (value_onto t d before)) ≡ size (value_onto t d before) + count_of ds * size_of t
       = elements_size t ds (value_onto t d before) m w (has.1) in
       let count : n ≡ 1 + count_of ds = omega (arith, eqb-true (1 + count_of ds) n c) in
@@ -132,7 +81,7 @@ mutual
       let has = and_parts _ _ h in
       let a = align_of t in
       let first : size (value_onto t d before) ≡ size before + size_of t
-      = value_size t d before w (has.0) ∙ ap (λ n. n + size_of t) (round_multiple a (size before) (aligned t) m) in
+      = value_size t d before w (has.0) ∙ ap (λ n. n + size_of t) (round_multiple a (size before) (type_align t) m) in
       let m' : IsMultiple a (size (value_onto t d before))
-      = subst (IsMultiple a) (sym first) (multiple_add a (size before) (size_of t) (aligned t) m (size_multiple t)) in
+      = subst (IsMultiple a) (sym first) (multiple_add a (size before) (size_of t) (type_align t) m (size_multiple t)) in
       elements_size t ds (value_onto t d before) m' w (has.1) ∙ ap (λ k. k + count_of ds * size_of t) first ∙ omega arith

@@ -20,8 +20,7 @@ use Rattle.fl_layout.specs.Leaves.{Argument, kind, types_of, argument_types, sta
 use Rattle.fl_layout.specs.Places.{size}
 use Rattle.fl_layout.specs.Extents.{extent_of, count_at, numbered, placing, placed_of, start_of, end_of, end_of_all, due_after, is_varying, extent_among, start_among, unit_of}
 use Rattle.fl_layout.specs.Layouts.{until, standing_before, start_align, start_align_at, ends_dynamic, end_of_arguments, argument_place, argument_size, has_one_place, IsPlace}
-use Rattle.fl_layout.proofs.Rounding.{align_small}
-use Rattle.fl_layout.proofs.Sizes.{aligned}
+use Rattle.fl_check.proofs.Aligned.{align_small, type_align}
 use Rattle.fl_layout.proofs.Ends.{filled, is_good, arguments_end}
 use Rattle.fl_layout.proofs.Order.{arranged_map, numbered_are}
 use Rattle.fl_layout.proofs.Arranging.{filter_ext, varying_kind}
@@ -35,16 +34,16 @@ use Rattle.fl_layout.proofs.Sums.{total, total_arranged}
 abbrev pub look : {A : Type 0} → A → List A → ℕ → ℕ × A
 look default xs k = (k, get_or xs k default)
 
-pub numbered_from : {A : Type 0} (default : A) (xs front : List A) (k : ℕ) → k ≡ length front
-    → zip (range_with_len k (length xs)) xs ≡ map (look default (front ++ xs)) (range_with_len k (length xs))
-numbered_from default [] front k e = refl
-numbered_from {A = A} default (x ∷ xs) front k e =
-    let seam : get_or (front ++ x ∷ xs) k default ≡ x = ap (λ n. get_or (front ++ x ∷ xs) n default) e ∙ get_or-append_seam front x xs default in
-    let rest = numbered_from default xs (front ++ x ∷ []) (k + 1) (omega (arith, e, length-append front (x ∷ []))) in
-    let same : (front ++ x ∷ []) ++ xs ≡ front ++ x ∷ xs = append_assoc front (x ∷ []) xs in
+pub numbered_from : {A : Type 0} (default : A) (xs prefix : List A) (k : ℕ) → k ≡ length prefix
+    → zip (range_with_len k (length xs)) xs ≡ map (look default (prefix ++ xs)) (range_with_len k (length xs))
+numbered_from default [] prefix k e = refl
+numbered_from {A = A} default (x ∷ xs) prefix k e =
+    let seam : get_or (prefix ++ x ∷ xs) k default ≡ x = ap (λ n. get_or (prefix ++ x ∷ xs) n default) e ∙ get_or-append_seam prefix x xs default in
+    let rest = numbered_from default xs (prefix ++ x ∷ []) (k + 1) (omega (arith, e, length-append prefix (x ∷ []))) in
+    let same : (prefix ++ x ∷ []) ++ xs ≡ prefix ++ x ∷ xs = append_assoc prefix (x ∷ []) xs in
     let numbers = range_with_len (k + 1) (length xs) in
     ap (λ (zs : List (ℕ × A)). (k, x) ∷ zs) (rest ∙ ap (λ (all : List A). map (look default all) numbers) same)
-    ∙ ap (λ (w : A). (k, w) ∷ map (look default (front ++ x ∷ xs)) numbers) (sym seam)
+    ∙ ap (λ (w : A). (k, w) ∷ map (look default (prefix ++ x ∷ xs)) numbers) (sym seam)
 
 abbrev pub numbers : {A : Type 0} → List A → List ℕ
 numbers xs = range_with_len 0 (length xs)
@@ -297,7 +296,7 @@ ends_fixed ts ds (k ∷ ks) h =
     ap (λ (b : Bool). ends_dynamic b (map (value_at ts ds) ks)) parts.0 ∙ ends_fixed ts ds ks parts.1
 
 start_rounds : (t : TheArgType) (at : ℕ) → round_up at (start_align t) ≡ start_of at 1 (extent_of t)
-start_rounds (fixed t) at = ap (round_up at) (omega (arith, align_small (align_of t) (aligned t)))
+start_rounds (fixed t) at = ap (round_up at) (omega (arith, align_small (align_of t) (type_align t)))
 start_rounds (text most) at = refl
 start_rounds (sized most t) at = refl
 

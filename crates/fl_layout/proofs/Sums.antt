@@ -6,8 +6,7 @@ use Rattle.fl_check.specs.Sizes.{align_of}
 use Rattle.fl_value.specs.declared.value.PlanNo.{PlanNo}
 use Rattle.fl_value.specs.declared.value.PlanNo.TheVariants.{One, Two}
 use Rattle.fl_value.specs.Plan.{arranged, is_fixed_at, is_dynamic}
-use Rattle.fl_layout.proofs.Rounding.{by_align}
-use Rattle.fl_layout.proofs.Sizes.{aligned}
+use Rattle.fl_check.proofs.Aligned.{by_align, type_align}
 
 abbrev pub total : {A : Type 0} → (A → ℕ) → List A → ℕ
 total w [] = 0
@@ -40,7 +39,7 @@ kept n b = if b then n else 0
 pub one_kind : (n : ℕ) (t : TheArgType) → kept n (is_fixed_at 8 t) + kept n (is_fixed_at 4 t) + kept n (is_fixed_at 2 t) + kept n (is_fixed_at 1 t) + kept n (is_dynamic t) ≡ n
 one_kind n (fixed t) =
     by_align (λ a. kept n (a == 8) + kept n (a == 4) + kept n (a == 2) + kept n (a == 1) + 0 ≡ n)
-    (omega arith) (omega arith) (omega arith) (omega arith) (align_of t) (aligned t)
+    (omega arith) (omega arith) (omega arith) (omega arith) (align_of t) (type_align t)
 one_kind n (text most) = omega arith
 one_kind n (sized most t) = omega arith
 

@@ -15,9 +15,13 @@ size (leaf ∷ before) = round_up (size before) leaf.align + leaf.width
 abbrev pub place : Leaf → List Leaf → ℕ
 place leaf before = round_up (size before) leaf.align
 
--- how many fragments so many payload bytes take
+-- how many fragments so many bytes fill, the last perhaps in part
+abbrev pub frags_filled : ℕ → ℕ
+frags_filled bytes = (bytes + 55) / 56
+
+-- how many fragments so many payload bytes take; a call has at least one
 abbrev pub count_for : ℕ → ℕ
-count_for bytes = max 1 ((bytes + 55) / 56)
+count_for bytes = max 1 (frags_filled bytes)
 
 -- how many fragments a call takes
 abbrev pub count : PlanNo → TheInterface → TheCall → ℕ

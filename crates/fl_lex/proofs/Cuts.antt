@@ -23,13 +23,13 @@ pub cuts : (text : List ℕ) (item : Item) (bytes rest : List ℕ) (n : ℕ) →
 cuts text item bytes rest n begins fits e =
     let whole : length text ≡ length bytes + length rest = ap length (sym begins.joined) ∙ length-append bytes rest in
     let some : 0 < length bytes = nonempty item bytes begins.is_item in
-    let front : take n text ≡ bytes = ap (λ (t : List ℕ). take n t) (sym begins.joined) ∙ ap (λ k. take k (bytes ++ rest)) e ∙ take-append_seam bytes rest in
+    let prefix : take n text ≡ bytes = ap (λ (t : List ℕ). take n t) (sym begins.joined) ∙ ap (λ k. take k (bytes ++ rest)) e ∙ take-append_seam bytes rest in
     let back : drop n text ≡ rest = ap (λ (t : List ℕ). drop n t) (sym begins.joined) ∙ ap (λ k. drop k (bytes ++ rest)) e ∙ drop-append_seam bytes rest in
     record {
       within = omega (arith, whole, e);
       nonempty = omega (arith, some, e);
-      begins = subst (λ (b : List ℕ). Begins text item b (drop n text)) (sym front) (subst (λ (r : List ℕ). Begins text item bytes r) (sym back) begins);
-      fits = subst (λ (b : List ℕ). ItemFits item b) (sym front) fits;
+      begins = subst (λ (b : List ℕ). Begins text item b (drop n text)) (sym prefix) (subst (λ (r : List ℕ). Begins text item bytes r) (sym back) begins);
+      fits = subst (λ (b : List ℕ). ItemFits item b) (sym prefix) fits;
     }
 
 mark_is_no_quote : (byte : ℕ) → mark_class byte ≡ classes.Quote → ⊥
@@ -181,7 +181,7 @@ described_cut : (text : List ℕ) (n : ℕ) → FirstIs classes.Quote text → n
 described_cut [] n first e within last = absurd first
 described_cut (byte ∷ tail) n first e within last =
     cuts (byte ∷ tail) (token kinds.Description) (34 ∷ take n tail ++ (34 ∷ [])) (drop (suc n) tail) (n + 2) (described_run byte tail n first e within last) tt
-    (let front : length (take n tail) ≡ n = length-take-le n tail (omega arith) in omega (arith, front, length-append (take n tail) (34 ∷ [])))
+    (let prefix : length (take n tail) ≡ n = length-take-le n tail (omega arith) in omega (arith, prefix, length-append (take n tail) (34 ∷ [])))
 
 described_end : (rest : List ℕ) → Stops is_described rest → (0 < length rest → get_or rest 0 0 ≡ 34 → ⊥) → EndsLine rest
 described_end [] stops differs = tt
@@ -226,18 +226,18 @@ line_cuts text n first some second tail back count =
     tt (omega (arith, many))
 
 -- where */ stands inside, its two bytes stand at some place
-has_at : (front back : List ℕ) → (length front + 1 < length (front ++ (42 ∷ 47 ∷ []) ++ back)) × (get_or (front ++ (42 ∷ 47 ∷ []) ++ back) (length front) 0 ≡ 42) × (get_or (front ++ (42 ∷ 47 ∷ []) ++ back) (length front + 1) 0 ≡ 47)
+has_at : (prefix back : List ℕ) → (length prefix + 1 < length (prefix ++ (42 ∷ 47 ∷ []) ++ back)) × (get_or (prefix ++ (42 ∷ 47 ∷ []) ++ back) (length prefix) 0 ≡ 42) × (get_or (prefix ++ (42 ∷ 47 ∷ []) ++ back) (length prefix + 1) 0 ≡ 47)
 has_at [] back = (omega arith, refl, refl)
-has_at (x ∷ front) back =
-    let rest : List ℕ = front ++ (42 ∷ 47 ∷ []) ++ back in
-    let there = has_at front back in
-    let next : suc (length front) + 1 ≡ suc (length front + 1) = omega arith in
+has_at (x ∷ prefix) back =
+    let rest : List ℕ = prefix ++ (42 ∷ 47 ∷ []) ++ back in
+    let there = has_at prefix back in
+    let next : suc (length prefix) + 1 ≡ suc (length prefix + 1) = omega arith in
     (omega (arith, there.0), there.1, ap (λ k. get_or (x ∷ rest) k 0) next ∙ there.2)
 
 no_end : (bytes : List ℕ) → ((k : ℕ) → k + 1 < length bytes → get_or bytes k 0 ≡ 42 → get_or bytes (k + 1) 0 ≡ 47 → ⊥) → ¬ Has (42 ∷ 47 ∷ []) bytes
-no_end bytes none (front, back, e) =
+no_end bytes none (prefix, back, e) =
     subst (λ (l : List ℕ). ((k : ℕ) → k + 1 < length l → get_or l k 0 ≡ 42 → get_or l (k + 1) 0 ≡ 47 → ⊥) → ⊥) (sym e)
-    (λ here. here (length front) (has_at front back).0 (has_at front back).1 (has_at front back).2)
+    (λ here. here (length prefix) (has_at prefix back).0 (has_at prefix back).1 (has_at prefix back).2)
     none
 
 block_parts : (tail : List ℕ) (n : ℕ) → n + 1 < length tail → get_or tail n 0 ≡ 42 → get_or tail (n + 1) 0 ≡ 47 → take n tail ++ (42 ∷ 47 ∷ drop (suc (suc n)) tail) ≡ tail

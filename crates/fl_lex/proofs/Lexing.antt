@@ -17,16 +17,16 @@ fits_more (t ∷ ts) at item bytes fits fit = (fits.0, fits_more ts at item byte
 
 -- one more item is read
 module _ (text rest : List ℕ) (tokens more : List TheToken) (item : Item) (n at : ℕ) (bytes after : List ℕ)
-    (cut : Cuts rest item n) (front : bytes ≡ take n rest) (pushed : more ≡ tokens ++ token_in at item bytes) where
+    (cut : Cuts rest item n) (prefix : bytes ≡ take n rest) (pushed : more ≡ tokens ++ token_in at item bytes) where
   pub goes_on : length rest ≤ length text → at ≡ length text - length rest → after ≡ drop n rest → Spells text tokens rest → Spells text more after
   goes_on within place back spelled =
       let begins : Begins rest item bytes after =
-      subst (λ (b : List ℕ). Begins rest item b after) (sym front) (subst (λ (r : List ℕ). Begins rest item (take n rest) r) (sym back) cut.begins) in
+      subst (λ (b : List ℕ). Begins rest item b after) (sym prefix) (subst (λ (r : List ℕ). Begins rest item (take n rest) r) (sym back) cut.begins) in
       subst (λ ts. Spells text ts after) (sym pushed) (spells_more text tokens rest item bytes after at spelled begins (omega (arith, within, place)))
 
   pub still_fits : AllByRecursion Fits tokens → AllByRecursion Fits more
   still_fits fits =
-      subst (λ ts. AllByRecursion Fits ts) (sym pushed) (fits_more tokens at item bytes fits (subst (λ (b : List ℕ). ItemFits item b) (sym front) cut.fits))
+      subst (λ ts. AllByRecursion Fits ts) (sym pushed) (fits_more tokens at item bytes fits (subst (λ (b : List ℕ). ItemFits item b) (sym prefix) cut.fits))
 
 -- a flaw ends the reading
 module _ (text rest : List ℕ) (tokens : List TheToken) (short : length text ≤ 65536) (within : length rest ≤ length text) (spelled : Spells text tokens rest) (fits : AllByRecursion Fits tokens) where

@@ -44,7 +44,7 @@ run_stops p (x ∷ xs) = by_test (p x) refl (run_stops p xs)
     by_test false fails stops = fails
 
 has_later : (inner : List ℕ) (x : ℕ) (xs : List ℕ) → Has inner xs → Has inner (x ∷ xs)
-has_later inner x xs (front, back, e) = (x ∷ front, back, ap (λ l. x ∷ l) e)
+has_later inner x xs (prefix, back, e) = (x ∷ prefix, back, ap (λ l. x ∷ l) e)
 
 -- a body without */ that is followed by */ is no longer than another
 pub close_once : (more less bytes rest : List ℕ) → more ++ (42 ∷ 47 ∷ less) ≡ bytes ++ (42 ∷ 47 ∷ rest) → ¬ Has (42 ∷ 47 ∷ []) more → length more ≤ length bytes

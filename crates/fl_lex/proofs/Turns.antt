@@ -65,23 +65,23 @@ in_order_few : (ts : List TheToken) (from end : ℕ) → InOrder from ts end →
 in_order_few [] from end order = omega (arith, order)
 in_order_few (t ∷ ts) from end order = omega (arith, order.0, order.1, in_order_few ts (t.at + length t.text) end order.2)
 
-piece_in : (front bytes rest text : List ℕ) → bytes ++ rest ≡ text → take (length bytes) (drop (length front) (front ++ text)) ≡ bytes
-piece_in front bytes rest text e =
-    ap (λ (l : List ℕ). take (length bytes) l) (drop-append_seam front text ∙ sym e) ∙ take-append_seam bytes rest
+piece_in : (prefix bytes rest text : List ℕ) → bytes ++ rest ≡ text → take (length bytes) (drop (length prefix) (prefix ++ text)) ≡ bytes
+piece_in prefix bytes rest text e =
+    ap (λ (l : List ℕ). take (length bytes) l) (drop-append_seam prefix text ∙ sym e) ∙ take-append_seam bytes rest
 
-pieces_in : (front : List ℕ) (pieces : List Piece) (text left : List ℕ) → InTurn pieces text left → AllByRecursion (IsTokenIn (front ++ text)) (tokens_from (length front) pieces)
-pieces_in front [] text left turn = tt
-pieces_in front (piece ∷ pieces) text left (rest, begins, turn) =
-    let joined : (front ++ piece.bytes) ++ rest ≡ front ++ text = append_assoc front piece.bytes rest ∙ ap (λ (l : List ℕ). front ++ l) begins.joined in
-    let here : length (front ++ piece.bytes) ≡ length front + length piece.bytes = length-append front piece.bytes in
-    let more : AllByRecursion (IsTokenIn (front ++ text)) (tokens_from (length front + length piece.bytes) pieces) =
-    subst (λ n. AllByRecursion (IsTokenIn (front ++ text)) (tokens_from n pieces)) here
-    (subst (λ (l : List ℕ). AllByRecursion (IsTokenIn l) (tokens_from (length (front ++ piece.bytes)) pieces)) joined (pieces_in (front ++ piece.bytes) pieces rest left turn)) in
-    one_more piece.item begins.is_item (piece_in front piece.bytes rest text begins.joined) more
+pieces_in : (prefix : List ℕ) (pieces : List Piece) (text left : List ℕ) → InTurn pieces text left → AllByRecursion (IsTokenIn (prefix ++ text)) (tokens_from (length prefix) pieces)
+pieces_in prefix [] text left turn = tt
+pieces_in prefix (piece ∷ pieces) text left (rest, begins, turn) =
+    let joined : (prefix ++ piece.bytes) ++ rest ≡ prefix ++ text = append_assoc prefix piece.bytes rest ∙ ap (λ (l : List ℕ). prefix ++ l) begins.joined in
+    let here : length (prefix ++ piece.bytes) ≡ length prefix + length piece.bytes = length-append prefix piece.bytes in
+    let more : AllByRecursion (IsTokenIn (prefix ++ text)) (tokens_from (length prefix + length piece.bytes) pieces) =
+    subst (λ n. AllByRecursion (IsTokenIn (prefix ++ text)) (tokens_from n pieces)) here
+    (subst (λ (l : List ℕ). AllByRecursion (IsTokenIn l) (tokens_from (length (prefix ++ piece.bytes)) pieces)) joined (pieces_in (prefix ++ piece.bytes) pieces rest left turn)) in
+    one_more piece.item begins.is_item (piece_in prefix piece.bytes rest text begins.joined) more
   where
-    one_more : (item : Item) → IsItem item piece.bytes → take (length piece.bytes) (drop (length front) (front ++ text)) ≡ piece.bytes
-        → AllByRecursion (IsTokenIn (front ++ text)) (tokens_from (length front + length piece.bytes) pieces)
-        → AllByRecursion (IsTokenIn (front ++ text)) (token_in (length front) item piece.bytes ++ tokens_from (length front + length piece.bytes) pieces)
+    one_more : (item : Item) → IsItem item piece.bytes → take (length piece.bytes) (drop (length prefix) (prefix ++ text)) ≡ piece.bytes
+        → AllByRecursion (IsTokenIn (prefix ++ text)) (tokens_from (length prefix + length piece.bytes) pieces)
+        → AllByRecursion (IsTokenIn (prefix ++ text)) (token_in (length prefix) item piece.bytes ++ tokens_from (length prefix + length piece.bytes) pieces)
     one_more gap is there more = more
     one_more (token kind) is there more = (record { in_text = there; of_kind = is }, more)
 

@@ -115,7 +115,7 @@ pub record Grown (msg : ℕ) (parts : List Frag) (f : Frag) (bytes more : List �
   pub many : length (parts ++ f ∷ []) ≡ k + 1
   pub long : length more ≡ 56 * (k + 1)
   pub small : (p : ℕ) → slice_index more p < 256
-  pub front : Follows (56 * k) bytes more
+  pub prefix : Follows (56 * k) bytes more
 
 word_is : (f : Frag) → Line f → (xs : List ℕ) (m j : ℕ) → j < 7 → ((r : ℕ) → r < 8 → byte_at r (get_or f.words j 0) ≡ slice_index xs (8 * m + r)) → get_or f.words j 0 ≡ word xs m
 word_is f line xs m j small bytes =
@@ -151,9 +151,9 @@ grows msg f bytes k fits line long small control =
     let more = bytes ++ words_bytes f.words in
     let words = words_are f line bytes k long in
     let last : bare f ≡ frag_of true msg 0 more k = λ i. record { words = words i; control = control i } in
-    let front = follows_more bytes f.words k long in
+    let prefix = follows_more bytes f.words k long in
     let parts : frags_begun msg bytes k ++ bare f ∷ [] ≡ frags_begun msg more (k + 1)
-    = ap (λ (fs : List Frag). fs ++ bare f ∷ []) (same_begun (56 * k) msg bytes more k front (omega arith))
+    = ap (λ (fs : List Frag). fs ++ bare f ∷ []) (same_begun (56 * k) msg bytes more k prefix (omega arith))
     ∙ ap (λ (g : Frag). frags_begun msg more k ++ g ∷ []) last ∙ sym (begun_more msg more k) in
     record {
       bare_are = map-append bare (frags_begun msg bytes k) (f ∷ []) ∙ ap (λ (fs : List Frag). fs ++ bare f ∷ []) (bare_begun msg bytes k fits) ∙ parts;
@@ -161,7 +161,7 @@ grows msg f bytes k fits line long small control =
       many = length-append (frags_begun msg bytes k) (f ∷ []) ∙ omega (arith, begun_length msg bytes k);
       long = length-append bytes (words_bytes f.words) ∙ omega (arith, long, length_words f.words, line.seven);
       small = small_more bytes f.words k long small;
-      front = front;
+      prefix = prefix;
     }
 
 -- ---- their bytes

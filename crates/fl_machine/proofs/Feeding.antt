@@ -1,5 +1,5 @@
 -- What taking a fragment's bytes says of the calls of its message.
-use Rattle.std.proofs.Common.{◌≡◌, ℕ, zero, suc, ◌+◌, ◌*◌, ◌/◌, ◌^◌, ◌<◌, ◌≤◌, true, ⊎_elim, inl, inr, List, [], ◌∷◌, ◌++◌, map, take, length, get_or, slice_index, Some, None, Result, Ok, Err, refl, sym, ◌∙◌, ap, subst, arith, eqb, max}
+use Rattle.std.proofs.Common.{◌≡◌, ℕ, zero, suc, ◌+◌, ◌*◌, ◌^◌, ◌<◌, ◌≤◌, true, ⊎_elim, inl, inr, List, [], ◌∷◌, ◌++◌, map, take, length, get_or, slice_index, Some, None, Result, Ok, Err, refl, sym, ◌∙◌, ap, subst, arith, eqb}
 use Rattle.std.specs.Prelude.{slice_get, Option, IfErr, IfOk}
 use Rattle.std.specs.Option.{option_map}
 use Rattle.std.specs.List.{range_with_len}
@@ -16,7 +16,7 @@ use Rattle.std.proofs.lemmas.List.{append-nil}
 use Rattle.fl_value.specs.Fits.{fits_of, fit_message}
 use Rattle.fl_value.specs.Tape.{tape_of}
 use Rattle.fl_layout.specs.Leaves.{leaves}
-use Rattle.fl_layout.specs.Places.{size, count}
+use Rattle.fl_layout.specs.Places.{size, count_for, count}
 use Rattle.fl_layout.proofs.BothPlans.{length_small}
 use Rattle.fl_wire.specs.Payload.{payload_of, frags_of}
 use Rattle.fl_wire.specs.Reading.{Means, IsPart, IsWrong}
@@ -26,7 +26,7 @@ use Rattle.fl_check.specs.Counts.{interface_words_fit}
 use Rattle.fl_wire.specs.declared.fault.WireFault.{WireFault}
 use Rattle.fl_wire.proofs.Bytes.{length_payload}
 use Rattle.fl_wire.proofs.Readings.{count_positive, byte_of_payload}
-use Rattle.fl_wire.proofs.Decoding.{front_frags, short_count, whole_count}
+use Rattle.fl_wire.proofs.Decoding.{prefix_frags, short_count, whole_count}
 use Rattle.fl_wire.proofs.Frames.{start_known}
 use Rattle.fl_wire.proofs.Unread.{IsUnderWay, fault_is_wrong, reads_right, one_fits}
 use Rattle.fl_stub.specs.declared.op.Op.{Op}
@@ -88,9 +88,9 @@ part_of plan i msg m all bytes n has bare_are many long begins =
       call = c;
       fits = carries.fits;
       short = omega (arith, many, short);
-      front = bare_are ∙ same_begun (length bytes) msg bytes begins.full n begins.goes.follows (omega (arith, long))
+      prefix = bare_are ∙ same_begun (length bytes) msg bytes begins.full n begins.goes.follows (omega (arith, long))
           ∙ call_begun plan i c msg begins.full n carries.message carries.bytes_are
-          ∙ sym (front_frags plan i c n (omega (arith, short)))
+          ∙ sym (prefix_frags plan i c n (omega (arith, short)))
           ∙ ap (λ (k : ℕ). take k (frags_of plan i c)) (sym many);
     }
 
@@ -116,7 +116,7 @@ ends plan i msg m parts f bytes more tape k has grown long begins is =
       turns = is.goes.turns;
       follows = record {
         each = λ p small.
-            grown.front.each p (omega (arith, small, long)) ∙ is.goes.follows.each p (omega (arith, small, long, grown.long));
+            grown.prefix.each p (omega (arith, small, long)) ∙ is.goes.follows.each p (omega (arith, small, long, grown.long));
       };
     }) in
     short_count (size (leaves plan i c)) (count plan i c) k refl (omega (arith, long, longer, sizes)))
@@ -196,7 +196,7 @@ whole_shown plan i tape e m x has =
     ∙ turns_into_given (receive plan m) (tape_of plan i c) (payload_of plan i c) (turns_of_call plan i e.msg.0 m c has x.message x.fits) in
     ap (λ (k : ℕ). frags_holding true k 0 (bytes_given (block_at plan i e.msg.0) (take e.count tape))) (sym x.message)
     ∙ ap (λ (bs : List ℕ). frags_holding true c.msg 0 bs) bytes
-    ∙ ap (λ (n : ℕ). map (frag_of true c.msg 0 (payload_of plan i c)) (range_with_len 0 (max 1 ((n + 55) / 56)))) (length_payload (leaves plan i c))
+    ∙ ap (λ (n : ℕ). map (frag_of true c.msg 0 (payload_of plan i c)) (range_with_len 0 (count_for n))) (length_payload (leaves plan i c))
 
 -- ---- taking a fragment
 

@@ -280,13 +280,13 @@ pub filled_more : (words buffer : List ℕ) (index : ℕ) → index < length wor
     → take (8 * (index + 1)) (take (8 * index) buffer ++ (number_bytes 8 (get_or words index 0) ++ drop (8 * index + 8) buffer)) ≡ words_bytes (take (index + 1) words)
 filled_more words buffer index inside room so_far_is =
     let word = get_or words index 0 in
-    let front = take (8 * index) buffer in
+    let prefix = take (8 * index) buffer in
     let rest = drop (8 * index + 8) buffer in
-    let long : length front ≡ 8 * index = length-take-le (8 * index) buffer (omega (arith, room)) in
+    let long : length prefix ≡ 8 * index = length-take-le (8 * index) buffer (omega (arith, room)) in
     let eight : length (number_bytes 8 word) ≡ 8 = length_bytes 8 word in
-    ap (λ (k : ℕ). take k (front ++ (number_bytes 8 word ++ rest))) (omega (arith, long))
-    ∙ take-append-add front (number_bytes 8 word ++ rest) 8
-    ∙ ap (λ (x : List ℕ). front ++ x) (take_at (number_bytes 8 word) rest 8 eight)
+    ap (λ (k : ℕ). take k (prefix ++ (number_bytes 8 word ++ rest))) (omega (arith, long))
+    ∙ take-append-add prefix (number_bytes 8 word ++ rest) 8
+    ∙ ap (λ (x : List ℕ). prefix ++ x) (take_at (number_bytes 8 word) rest 8 eight)
     ∙ ap (λ (x : List ℕ). x ++ number_bytes 8 word) so_far_is
     ∙ ap (λ (x : List ℕ). words_bytes (take index words) ++ x) (sym (append-nil (number_bytes 8 word)))
     ∙ sym (flat_map-append (number_bytes 8) (take index words) (word ∷ []))
@@ -392,9 +392,9 @@ pub cut_here : (ops : List Op) (taken : List ℕ) (c : Intake) (all left rest : 
     → c.have + n < f.width → low ≤ f.last → IsFed ops taken (record c { value = low; have = c.have + n }) all rest
 cut_here ops taken c all left rest f low n fed field quiet g less high =
     let h = here_of ops taken c all left f fed field in
-    let front : List ℕ = h.done ++ number_bytes (c.have + n) low in
+    let before : List ℕ = h.done ++ number_bytes (c.have + n) low in
     record {
-      prefix = front;
+      prefix = before;
       at = record {
         done = h.done;
         stance = h.stance;
@@ -509,8 +509,8 @@ pub ended_here : (ops : List Op) (taken : List ℕ) (c : Intake) (all left : Lis
 ended_here ops taken c all left fed last =
     let a = fed.at in
     let idle : c.have ≡ 0 = by_waiting (last (length a.done)) a.waiting in
-    let front : fed.prefix ≡ a.done = a.bytes_are ∙ ap (λ (w : ℕ). a.done ++ number_bytes w c.value) idle ∙ append-nil a.done in
-    record { done = a.done; reach = a.reach; is = fed.joined ∙ ap (λ (x : List ℕ). x ++ left) front }
+    let prefix : fed.prefix ≡ a.done = a.bytes_are ∙ ap (λ (w : ℕ). a.done ++ number_bytes w c.value) idle ∙ append-nil a.done in
+    record { done = a.done; reach = a.reach; is = fed.joined ∙ ap (λ (x : List ℕ). x ++ left) prefix }
   where
     never : (f : TheField) (k : ℕ → Rest) → no_more ≡ takes f k → ⊥
     never f k e = absurd (cc)

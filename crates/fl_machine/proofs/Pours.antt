@@ -146,17 +146,17 @@ length_over buffer at value long room =
 pub holds_number : (buffer put : List ℕ) (at width value : ℕ) → length buffer ≡ 56 → length put ≡ at → at + 8 ≤ 56 → width ≤ 8 → value < 256 ^ width
     → Holds buffer put → Holds (over_eight buffer at value) (put ++ number_bytes width value)
 holds_number buffer put at width value long end room few small h =
-    let front : length (take at buffer) ≡ at = length-take-le at buffer (omega (arith, long, room)) in
+    let prefix : length (take at buffer) ≡ at = length-take-le at buffer (omega (arith, long, room)) in
     let eight : length (number_bytes 8 value) ≡ 8 = length_bytes 0 8 value in
     let rest = number_bytes 8 value ++ drop (at + 8) buffer in
     record {
       each = λ i low. ⊎_elim
           (λ (below : i < at).
-          get_or_append_left (take at buffer) rest 0 i (omega (arith, below, front))
+          get_or_append_left (take at buffer) rest 0 i (omega (arith, below, prefix))
           ∙ get_or-take at buffer i 0 below
           ∙ h.each i low
           ∙ sym (get_or_append_left put (number_bytes width value) 0 i (omega (arith, below, end))))
-          (λ (past : at ≤ i). get_or-append_right (take at buffer) rest at i 0 front past ∙ ⊎_elim
+          (λ (past : at ≤ i). get_or-append_right (take at buffer) rest at i 0 prefix past ∙ ⊎_elim
           (λ (inside : i - at < 8).
           get_or_append_left (number_bytes 8 value) (drop (at + 8) buffer) 0 (i - at) (omega (arith, inside, eight))
           ∙ same_bytes width value (i - at) few small inside

@@ -31,13 +31,13 @@ bare_all_twice [] = refl
 bare_all_twice (f ∷ frags) = ap (λ (g : Frag). g ∷ map bare (map bare frags)) (bare_twice f) ∙ ap (λ (gs : List Frag). bare f ∷ gs) (bare_all_twice frags)
 
 -- the fragments so far, with one more, in front of those that are left
-pub record Fronts (plan : PlanNo) (i : TheInterface) (c : TheCall) (parts : List Frag) (f : Frag) (rest : List Frag) : Type 0 where
+pub record Prefixes (plan : PlanNo) (i : TheInterface) (c : TheCall) (parts : List Frag) (f : Frag) (rest : List Frag) : Type 0 where
   pub joined : map bare (parts ++ f ∷ []) ++ map bare rest ≡ frags_of plan i c
   pub long : length (map bare (parts ++ f ∷ [])) + length rest ≡ count plan i c
 
-fronts : (plan : PlanNo) (i : TheInterface) (c : TheCall) (parts done : List Frag) (f : Frag) (rest : List Frag) → parts ≡ map bare done → map bare (done ++ f ∷ rest) ≡ frags_of plan i c
-    → Fronts plan i c parts f rest
-fronts plan i c parts done f rest e is =
+prefixes : (plan : PlanNo) (i : TheInterface) (c : TheCall) (parts done : List Frag) (f : Frag) (rest : List Frag) → parts ≡ map bare done → map bare (done ++ f ∷ rest) ≡ frags_of plan i c
+    → Prefixes plan i c parts f rest
+prefixes plan i c parts done f rest e is =
     let first : map bare (parts ++ f ∷ []) ≡ map bare (done ++ f ∷ [])
     = map-append bare parts (f ∷ []) ∙ ap (λ (fs : List Frag). map bare fs ++ bare f ∷ []) e ∙ ap (λ (fs : List Frag). fs ++ bare f ∷ []) (bare_all_twice done) ∙ sym (map-append bare done (f ∷ [])) in
     let joined : map bare (parts ++ f ∷ []) ++ map bare rest ≡ frags_of plan i c
@@ -47,38 +47,38 @@ fronts plan i c parts done f rest e is =
     record { joined = joined; long = omega (arith, all, length-map rest bare) }
 
 -- with others left they are part of the call, and not a call's own
-front_part : (plan : PlanNo) (i : TheInterface) (c : TheCall) (parts : List Frag) (f g : Frag) (rest : List Frag) → fits_of i c ≡ true → Fronts plan i c parts f (g ∷ rest) → IsPart plan i (parts ++ f ∷ [])
-front_part plan i c parts f g rest fits x =
+prefix_part : (plan : PlanNo) (i : TheInterface) (c : TheCall) (parts : List Frag) (f g : Frag) (rest : List Frag) → fits_of i c ≡ true → Prefixes plan i c parts f (g ∷ rest) → IsPart plan i (parts ++ f ∷ [])
+prefix_part plan i c parts f g rest fits x =
     let all = parts ++ f ∷ [] in
     let few = length-map all bare in
     record {
       call = c;
       fits = fits;
       short = omega (arith, x.long, few);
-      front = sym (take_at (map bare all) (map bare (g ∷ rest)) (length all) few) ∙ ap (take (length all)) x.joined;
+      prefix = sym (take_at (map bare all) (map bare (g ∷ rest)) (length all) few) ∙ ap (take (length all)) x.joined;
     }
 
 not_whole : (plan : PlanNo) (i : TheInterface) (c d : TheCall) (parts : List Frag) (f g : Frag) (rest : List Frag) → interface_words_fit i ≡ true → fits_of i c ≡ true → fits_of i d ≡ true
-    → Fronts plan i c parts f (g ∷ rest) → Means plan i (parts ++ f ∷ []) d 0 → ⊥
-unfolding front_part
+    → Prefixes plan i c parts f (g ∷ rest) → Means plan i (parts ++ f ∷ []) d 0 → ⊥
+unfolding prefix_part
 not_whole plan i c d parts f g rest words fc fd x means =
     let all = parts ++ f ∷ [] in
-    let part = front_part plan i c parts f g rest fc x in
+    let part = prefix_part plan i c parts f g rest fc x in
     let many : length all ≡ count plan i d = sym (length-map all bare) ∙ ap length means ∙ length_frags plan i d in
     let short : length all < count plan i c = part.short in
-    let same : d ≡ c = begins_with plan i d c words fd fc (omega (arith, many, short)) (sym means ∙ part.front ∙ ap (λ (n : ℕ). take n (frags_of plan i c)) many) in
+    let same : d ≡ c = begins_with plan i d c words fd fc (omega (arith, many, short)) (sym means ∙ part.prefix ∙ ap (λ (n : ℕ). take n (frags_of plan i c)) many) in
     let counts : count plan i d ≡ count plan i c = ap (count plan i) same in
     absurd (omega (arith, many, short, counts))
 
 -- with none left they are the call's own, and not part of a call
-front_whole : (plan : PlanNo) (i : TheInterface) (c : TheCall) (parts : List Frag) (f : Frag) → Fronts plan i c parts f [] → Means plan i (parts ++ f ∷ []) c 0
-front_whole plan i c parts f x = sym (append-nil (map bare (parts ++ f ∷ []))) ∙ x.joined
+prefix_whole : (plan : PlanNo) (i : TheInterface) (c : TheCall) (parts : List Frag) (f : Frag) → Prefixes plan i c parts f [] → Means plan i (parts ++ f ∷ []) c 0
+prefix_whole plan i c parts f x = sym (append-nil (map bare (parts ++ f ∷ []))) ∙ x.joined
 
 not_part : (plan : PlanNo) (i : TheInterface) (c : TheCall) (all : List Frag) → interface_words_fit i ≡ true → fits_of i c ≡ true → Means plan i all c 0 → IsPart plan i all → ⊥
 not_part plan i c all words fits means part =
     let d = part.call in
     let many : length all ≡ count plan i c = sym (length-map all bare) ∙ ap length means ∙ length_frags plan i c in
-    let same : c ≡ d = begins_with plan i c d words fits part.fits (omega (arith, many, part.short)) (sym means ∙ part.front ∙ ap (λ (n : ℕ). take n (frags_of plan i d)) many) in
+    let same : c ≡ d = begins_with plan i c d words fits part.fits (omega (arith, many, part.short)) (sym means ∙ part.prefix ∙ ap (λ (n : ℕ). take n (frags_of plan i d)) many) in
     absurd (omega (arith, many, part.short, ap (count plan i) same))
 
 -- ---- the rounds
@@ -103,11 +103,11 @@ interface_of_program p = (program_of p).interface
 rounds : (s t : TheReceiving) (c : TheCall) (done : List Frag) (f : Frag) (rest : List Frag) (answers : List (Result Fed WireFault)) → interface_words_fit (interface_in s) ≡ true → s.parts ≡ map bare done
     → fits_of (interface_in s) c ≡ true → map bare (done ++ f ∷ rest) ≡ frags_of (plan_in s) (interface_in s) c → FeedsAll s (f ∷ rest) answers t → Took s.program c (suc (length rest)) answers t
 rounds s t c done f [] (Ok Part ∷ answers) words parts fits is (u, (adds, on), left) =
-    let x = fronts (plan_in s) (interface_in s) c s.parts done f [] parts is in
-    absurd (not_part (plan_in s) (interface_in s) c (s.parts ++ f ∷ []) words fits (front_whole (plan_in s) (interface_in s) c s.parts f x) adds.part)
+    let x = prefixes (plan_in s) (interface_in s) c s.parts done f [] parts is in
+    absurd (not_part (plan_in s) (interface_in s) c (s.parts ++ f ∷ []) words fits (prefix_whole (plan_in s) (interface_in s) c s.parts f x) adds.part)
 rounds s t c done f [] (Err fault ∷ answers) words parts fits is (u, (refused, same), left) =
-    let x = fronts (plan_in s) (interface_in s) c s.parts done f [] parts is in
-    absurd (whole_right (plan_in s) (interface_in s) (s.parts ++ f ∷ []) c fits (front_whole (plan_in s) (interface_in s) c s.parts f x) refused.wrong)
+    let x = prefixes (plan_in s) (interface_in s) c s.parts done f [] parts is in
+    absurd (whole_right (plan_in s) (interface_in s) (s.parts ++ f ∷ []) c fits (prefix_whole (plan_in s) (interface_in s) c s.parts f x) refused.wrong)
 rounds s t c done f [] (Ok Whole ∷ []) words parts fits is (u, (adds, on), left) = record {
   answers_are = refl;
   parts_are = ap (λ (r : TheReceiving). r.parts) left ∙ adds.parts_are;
@@ -116,10 +116,10 @@ rounds s t c done f [] (Ok Whole ∷ []) words parts fits is (u, (adds, on), lef
 }
 rounds s t c done f [] (Ok Whole ∷ r ∷ answers) words parts fits is (u, (adds, on), left) = absurd left
 rounds s t c done f (g ∷ rest) (Err fault ∷ answers) words parts fits is (u, (refused, same), left) =
-    let x = fronts (plan_in s) (interface_in s) c s.parts done f (g ∷ rest) parts is in
-    absurd (part_right (plan_in s) (interface_in s) (s.parts ++ f ∷ []) (front_part (plan_in s) (interface_in s) c s.parts f g rest fits x) refused.wrong)
+    let x = prefixes (plan_in s) (interface_in s) c s.parts done f (g ∷ rest) parts is in
+    absurd (part_right (plan_in s) (interface_in s) (s.parts ++ f ∷ []) (prefix_part (plan_in s) (interface_in s) c s.parts f g rest fits x) refused.wrong)
 rounds s t c done f (g ∷ rest) (Ok Whole ∷ answers) words parts fits is (u, (adds, on), left) =
-    let x = fronts (plan_in s) (interface_in s) c s.parts done f (g ∷ rest) parts is in
+    let x = prefixes (plan_in s) (interface_in s) c s.parts done f (g ∷ rest) parts is in
     absurd (not_whole (plan_in s) (interface_in s) c adds.call s.parts f g rest words fits adds.fits x adds.means)
 rounds s t c done f (g ∷ rest) (Ok Part ∷ answers) words parts fits is (u, (adds, on), left) =
     let same = on.program in

@@ -21,11 +21,11 @@ use Rattle.fl_machine.specs.Receiving.{TheHeld, TheStored, receiving, fed_of, fe
 
 -- the first so many numbers of two tapes are the same
 pub record Same (n : ℕ) (tape tape2 : List ℕ) : Type 0 where
-  pub front : take n tape2 ≡ take n tape
+  pub prefix : take n tape2 ≡ take n tape
   pub long : length tape2 ≡ length tape
 
 fewer : (n k : ℕ) (tape tape2 : List ℕ) → Same n tape tape2 → k ≤ n → take k tape2 ≡ take k tape
-fewer n k tape tape2 same few = sym (take-take k n tape2 few) ∙ ap (take k) same.front ∙ take-take k n tape few
+fewer n k tape tape2 same few = sym (take-take k n tape2 few) ∙ ap (take k) same.prefix ∙ take-take k n tape few
 
 pub fed_same : (plan : PlanNo) (i : TheInterface) (n : ℕ) (tape tape2 : List ℕ) (s : Stand) → Same n tape tape2 → numbers_in s ≤ n → fed_of plan i tape2 s ≡ fed_of plan i tape s
 fed_same plan i n tape tape2 Between same few = refl

@@ -1,11 +1,12 @@
 -- What a run of send code gives: fragments.
-use Rattle.std.specs.Prelude.{◌≡◌, ℕ, ◌+◌, ◌*◌, ◌/◌, ◌&&◌, ◌==◌, max, Bool, if◌then◌else◌, List, map, length}
+use Rattle.std.specs.Prelude.{◌≡◌, ℕ, ◌*◌, ◌&&◌, ◌==◌, Bool, if◌then◌else◌, List, map, length}
 use Rattle.std.specs.List.{range_with_len}
 use Rattle.fl_base.specs.declared.fragment.Frag.{Frag}
 use Rattle.fl_base.specs.Control.{control_word}
 use Rattle.fl_stub.specs.Code.{TheCode}
 use Rattle.fl_stub.specs.declared.op.Column.TheVariants.{Send}
 use Rattle.fl_stub.specs.Spots.{TheSpot, bytes_from, IsSpot, IsSettled}
+use Rattle.fl_layout.specs.Places.{frags_filled, count_for}
 use Rattle.fl_wire.specs.Payload.{word}
 
 -- fragment k of those that hold these bytes; the first has the first bit, where these bytes begin a call
@@ -15,9 +16,9 @@ frag_of begins msg circuit bytes k = record {
   control = control_word (begins && k == 0) msg circuit;
 }
 
--- how many fragments so many bytes take; a call has at least one
+-- how many fragments so many bytes take: a whole call's, or what is left of one
 abbrev pub frags_for : Bool → ℕ → ℕ
-frags_for begins bytes = max (if begins then 1 else 0) ((bytes + 55) / 56)
+frags_for begins bytes = if begins then count_for bytes else frags_filled bytes
 
 -- the fragments that hold these bytes
 abbrev pub frags_holding : Bool → ℕ → ℕ → List ℕ → List Frag

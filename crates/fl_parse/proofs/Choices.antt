@@ -13,23 +13,23 @@ pub narrowed : {A : Type 0} (L W : List TheToken → A → Type 0) (F : List The
     → Answers L F tokens o → Answers W F tokens o
 narrowed L W F tokens (Ok p) to from h =
     record {
-      front = h.front;
+      prefix = h.prefix;
       tokens_are = h.tokens_are;
-      is = to h.front p.0 h.is;
+      is = to h.prefix p.0 h.is;
       only = λ other a b y s w f e. h.only other a b y s
           (from a b y (subst (λ (z : List TheToken). SameFirst z (a ++ b)) (sym h.tokens_are)
-          (subst (λ (z : List TheToken). SameFirst (h.front ++ p.1) z) (sym e) (same_append h.front p.1 other s))) w f) f e;
+          (subst (λ (z : List TheToken). SameFirst (h.prefix ++ p.1) z) (sym e) (same_append h.prefix p.1 other s))) w f) f e;
     }
 narrowed L W F tokens (Err rest) to from h =
     record {
-      front = h.front;
+      prefix = h.prefix;
       tokens_are = h.tokens_are;
       more = h.more;
       example = h.example;
-      begins_one = to (h.front ++ h.more) h.example h.begins_one;
+      begins_one = to (h.prefix ++ h.more) h.example h.begins_one;
       none = λ other a b y s w f e. h.none other a b y s
           (from a b y (subst (λ (z : List TheToken). SameFirst z (a ++ b)) (sym h.tokens_are)
-          (subst (λ (z : List TheToken). SameFirst (h.front ++ rest) z) (sym e) (same_append h.front rest other s))) w f) f e;
+          (subst (λ (z : List TheToken). SameFirst (h.prefix ++ rest) z) (sym e) (same_append h.prefix rest other s))) w f) f e;
     }
 
 -- the list is not empty, and its first token gives this answer
@@ -65,13 +65,13 @@ only_to : {A B : Type 0} (P : List TheToken → A → Type 0) (f : A → B) (a :
 only_to P f a y l = (
   l.middle,
   subst (λ (z : List TheToken). P z l.middle)
-      (sym (l.tokens_are ∙ ap (λ (z : List TheToken). l.front ++ z) l.back_is.tokens_are ∙ append-nil l.front)) l.front_is,
+      (sym (l.tokens_are ∙ ap (λ (z : List TheToken). l.prefix ++ z) l.back_is.tokens_are ∙ append-nil l.prefix)) l.prefix_is,
   l.back_is.value_is,
 )
 
 only_from : {A B : Type 0} (P : List TheToken → A → Type 0) (f : A → B) (a : List TheToken) (x : A) → P a x → Only P f a (f x)
 only_from P f a x p =
-    record { front = a; back = []; middle = x; tokens_are = sym (append-nil a); front_is = p; back_is = record { tokens_are = refl; value_is = refl } }
+    record { prefix = a; back = []; middle = x; tokens_are = sym (append-nil a); prefix_is = p; back_is = record { tokens_are = refl; value_is = refl } }
 
 optional_to : {A : Type 0} (P : List TheToken → A → Type 0) (a : List TheToken) (y : Option A) → Only P (λ x. Some x) a y → Optional P a y
 optional_to P a y l =
@@ -126,21 +126,21 @@ OneMore P Rest = Then P (λ x. Then Rest (λ xs. Means (x ∷ xs)))
 -- a phrase, and then what a list is
 pub listed_to : {A : Type 0} (P : List TheToken → A → Type 0) (Rest : List TheToken → List A → Type 0) (a : List TheToken) (y : List A)
     → OneMore P Rest a y
-    → (x : A) × ((xs : List A) × ((y ≡ x ∷ xs) × Joined (λ front. P front x) (λ back. Rest back xs) a))
+    → (x : A) × ((xs : List A) × ((y ≡ x ∷ xs) × Joined (λ prefix. P prefix x) (λ back. Rest back xs) a))
 listed_to P Rest a y l =
     let (xs, q, e) = only_to Rest (λ xs. l.middle ∷ xs) l.back y l.back_is in
-    (l.middle, (xs, (e, record { front = l.front; back = l.back; tokens_are = l.tokens_are; front_is = l.front_is; back_is = q })))
+    (l.middle, (xs, (e, record { prefix = l.prefix; back = l.back; tokens_are = l.tokens_are; prefix_is = l.prefix_is; back_is = q })))
 
 pub listed_from : {A : Type 0} (P : List TheToken → A → Type 0) (Rest : List TheToken → List A → Type 0) (a : List TheToken) (x : A) (xs : List A)
-    → Joined (λ front. P front x) (λ back. Rest back xs) a
+    → Joined (λ prefix. P prefix x) (λ back. Rest back xs) a
     → OneMore P Rest a (x ∷ xs)
 listed_from P Rest a x xs j =
     record {
-      front = j.front;
+      prefix = j.prefix;
       back = j.back;
       middle = x;
       tokens_are = j.tokens_are;
-      front_is = j.front_is;
+      prefix_is = j.prefix_is;
       back_is = only_from Rest (λ xs. x ∷ xs) j.back xs j.back_is;
     }
 
@@ -151,7 +151,7 @@ pub many_follow : {A : Type 0} (P : List TheToken → A → Type 0) (F : List Th
 many_follow P F ends again last a b [] l e = subst F (sym (after_nothing a b l)) (last b e)
 many_follow P F ends again last a b (x ∷ xs) l e =
     subst F (ap (λ (z : List TheToken). z ++ b) (sym l.tokens_are))
-    (subst F (sym (append_assoc l.front l.back b)) (again l.front x (l.back ++ b) l.front_is))
+    (subst F (sym (append_assoc l.prefix l.back b)) (again l.prefix x (l.back ++ b) l.prefix_is))
 
 many_to : {A : Type 0} (P : List TheToken → A → Type 0) (a : List TheToken) (y : List A) → OneMore P (Many P) a y → Many P a y
 many_to P a y l =
@@ -175,8 +175,8 @@ none_from : {A : Type 0} (P : List TheToken → A → Type 0) (ends : TheToken �
 none_from P ends tokens passes starts a b [] s l f = record { tokens_are = l; value_is = refl }
 none_from P ends tokens passes starts a b (x ∷ xs) s l f =
     let same : begins ends tokens ≡ begins ends (a ++ b) = same_begins ends tokens (a ++ b) s in
-    let here : begins ends (l.front ++ (l.back ++ b)) ≡ false = starts_begins ends false l.front (l.back ++ b) (starts l.front x l.front_is) in
-    let there : a ++ b ≡ l.front ++ (l.back ++ b) = ap (λ (z : List TheToken). z ++ b) l.tokens_are ∙ append_assoc l.front l.back b in
+    let here : begins ends (l.prefix ++ (l.back ++ b)) ≡ false = starts_begins ends false l.prefix (l.back ++ b) (starts l.prefix x l.prefix_is) in
+    let there : a ++ b ≡ l.prefix ++ (l.back ++ b) = ap (λ (z : List TheToken). z ++ b) l.tokens_are ∙ append_assoc l.prefix l.back b in
     let fails : begins ends (a ++ b) ≡ false = ap (begins ends) there ∙ here in
     cc
 
@@ -184,9 +184,9 @@ none_from P ends tokens passes starts a b (x ∷ xs) s l f =
 shorter_read : {A : Type 0} (P : List TheToken → A → Type 0) (F : List TheToken → Type 0) (test : TheToken → Bool) (answer : Bool) (tokens rest : List TheToken) (x : A)
     → ((a : List TheToken) (x : A) → P a x → Starts test answer a) → WasRead P F tokens x rest → length rest < length tokens
 shorter_read P F test answer tokens rest x starts h =
-    let some : 0 < length h.front = some_length h.front (starts h.front x h.is) in
-    let all : length tokens ≡ length (h.front ++ rest) = ap length h.tokens_are in
-    omega (arith, length-append h.front rest)
+    let some : 0 < length h.prefix = some_length h.prefix (starts h.prefix x h.is) in
+    let all : length tokens ≡ length (h.prefix ++ rest) = ap length h.tokens_are in
+    omega (arith, length-append h.prefix rest)
   where
     some_length : (a : List TheToken) → Starts test answer a → 0 < length a
     some_length [] s = absurd s
@@ -239,7 +239,7 @@ many_answers : {A : Type 0} (P : List TheToken → A → Type 0) (F : List TheTo
     → Answers (Many P) (λ b. begins ends b ≡ true) tokens (many_at ends p n tokens)
 many_answers P F p ends reads starts again last zero [] short =
     record {
-      front = [];
+      prefix = [];
       tokens_are = refl;
       more = [];
       example = [];

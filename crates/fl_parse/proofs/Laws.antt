@@ -15,20 +15,20 @@ SameFirst (x ∷ xs) (y ∷ ys) = x ≡ y
 -- The tokens begin with the phrase; and whatever stands behind the next token, they begin with no
 -- other that is followed as F says.
 pub record WasRead {A : Type 0} (L : List TheToken → A → Type 0) (F : List TheToken → Type 0) (tokens : List TheToken) (x : A) (rest : List TheToken) : Type 0 where
-  pub front : List TheToken
-  pub tokens_are : tokens ≡ front ++ rest
-  pub is : L front x
-  pub only : (other a b : List TheToken) (y : A) → SameFirst rest other → L a y → F b → a ++ b ≡ front ++ other → (a ≡ front) × (y ≡ x)
+  pub prefix : List TheToken
+  pub tokens_are : tokens ≡ prefix ++ rest
+  pub is : L prefix x
+  pub only : (other a b : List TheToken) (y : A) → SameFirst rest other → L a y → F b → a ++ b ≡ prefix ++ other → (a ≡ prefix) × (y ≡ x)
 
 -- The tokens before the rest begin the phrase; and whatever stands behind the next token, they begin
 -- with none that is followed as F says.
 pub record WasRefused {A : Type 0} (L : List TheToken → A → Type 0) (F : List TheToken → Type 0) (tokens : List TheToken) (rest : List TheToken) : Type 0 where
-  pub front : List TheToken
-  pub tokens_are : tokens ≡ front ++ rest
+  pub prefix : List TheToken
+  pub tokens_are : tokens ≡ prefix ++ rest
   pub more : List TheToken
   pub example : A
-  pub begins_one : L (front ++ more) example
-  pub none : (other a b : List TheToken) (y : A) → SameFirst rest other → L a y → F b → a ++ b ≡ front ++ other → ⊥
+  pub begins_one : L (prefix ++ more) example
+  pub none : (other a b : List TheToken) (y : A) → SameFirst rest other → L a y → F b → a ++ b ≡ prefix ++ other → ⊥
 
 abbrev pub Answers : {A : Type 0} → (List TheToken → A → Type 0) → (List TheToken → Type 0) → List TheToken → Read A → Type 0
 Answers L F tokens (Ok p) = WasRead L F tokens p.0 p.1
@@ -86,7 +86,7 @@ one_answers : {A : Type 0} (read : TheToken → Option A) (o : Option A) (t : Th
     → read t ≡ o → Answers (One read) Any (t ∷ rest) (one_of o t rest)
 one_answers read None t rest example e =
     record {
-      front = [];
+      prefix = [];
       tokens_are = refl;
       more = example.tokens;
       example = example.value;
@@ -95,7 +95,7 @@ one_answers read None t rest example e =
     }
 one_answers read (Some x) t rest example e =
     record {
-      front = t ∷ [];
+      prefix = t ∷ [];
       tokens_are = refl;
       is = record { token = t; tokens_are = refl; reads = e };
       only = λ other a b y s l f j. one_only read t x rest other a b y e s l j;
@@ -115,7 +115,7 @@ one_reads {A} read t x e =
     answers : Example (One read) → (tokens : List TheToken) → Answers (One read) Any tokens (one_at read tokens)
     answers example [] =
         record {
-          front = [];
+          prefix = [];
           tokens_are = refl;
           more = example.tokens;
           example = example.value;
@@ -132,7 +132,7 @@ means_example value = record { tokens = []; value = value; is = record { tokens_
 pub means_answers : {A : Type 0} (value : A) (F : List TheToken → Type 0) (tokens : List TheToken) → WasRead (Means value) F tokens value tokens
 means_answers value F tokens =
     record {
-      front = [];
+      prefix = [];
       tokens_are = refl;
       is = record { tokens_are = refl; value_is = refl };
       only = λ other a b y s l f j. (l.tokens_are, l.value_is);
@@ -143,10 +143,10 @@ means_reads value = record { example = means_example value; answers = means_answ
 
 -- A phrase and then another.
 
-regrouped : (a front back b all : List TheToken) → a ≡ front ++ back → a ++ b ≡ all → front ++ (back ++ b) ≡ all
-regrouped a front back b all split e = sym (append_assoc front back b) ∙ ap (λ (z : List TheToken). z ++ b) (sym split) ∙ e
+regrouped : (a prefix back b all : List TheToken) → a ≡ prefix ++ back → a ++ b ≡ all → prefix ++ (back ++ b) ≡ all
+regrouped a prefix back b all split e = sym (append_assoc prefix back b) ∙ ap (λ (z : List TheToken). z ++ b) (sym split) ∙ e
 
--- what is left of two equal lists whose fronts are equal
+-- what is left of two equal lists whose prefixes are equal
 pub left_over : (f g x y : List TheToken) → f ≡ g → f ++ x ≡ g ++ y → x ≡ y
 left_over f g x y same e = append_cancel_left g x y (ap (λ (z : List TheToken). z ++ x) (sym same) ∙ e)
 
@@ -159,29 +159,29 @@ then_refused : {A B : Type 0} (L : List TheToken → A → Type 0) (F : List The
 then_refused L F M G tokens rest h examples fits =
     let ex : Example (M h.example) = examples h.example in
     record {
-      front = h.front;
+      prefix = h.prefix;
       tokens_are = h.tokens_are;
       more = h.more ++ ex.tokens;
       example = ex.value;
-      begins_one = record { front = h.front ++ h.more; back = ex.tokens; middle = h.example; tokens_are = sym (append_assoc h.front h.more ex.tokens); front_is = h.begins_one; back_is = ex.is };
-      none = λ other a b y s l f e. h.none other l.front (l.back ++ b) l.middle s l.front_is (fits l.middle l.back b y l.back_is f)
-          (regrouped a l.front l.back b (h.front ++ other) l.tokens_are e);
+      begins_one = record { prefix = h.prefix ++ h.more; back = ex.tokens; middle = h.example; tokens_are = sym (append_assoc h.prefix h.more ex.tokens); prefix_is = h.begins_one; back_is = ex.is };
+      none = λ other a b y s l f e. h.none other l.prefix (l.back ++ b) l.middle s l.prefix_is (fits l.middle l.back b y l.back_is f)
+          (regrouped a l.prefix l.back b (h.prefix ++ other) l.tokens_are e);
     }
 
 -- what the first phrase leaves to the second
 handed_on : {A B : Type 0} (L : List TheToken → A → Type 0) (F : List TheToken → Type 0) (M : A → List TheToken → B → Type 0) (G : List TheToken → Type 0)
     (tokens rest : List TheToken) (x : A) (h : WasRead L F tokens x rest)
     → ((x : A) (a b : List TheToken) (y : B) → M x a y → G b → F (a ++ b))
-    → (front rest2 other a b : List TheToken) (y : B) → rest ≡ front ++ rest2 → SameFirst rest2 other → (l : Then L M a y) → G b → a ++ b ≡ (h.front ++ front) ++ other
-    → (l.front ≡ h.front) × M x l.back y × (l.back ++ b ≡ front ++ other)
-handed_on L F M G tokens rest x h fits front rest2 other a b y split s l f e =
-    let all : l.front ++ (l.back ++ b) ≡ h.front ++ (front ++ other) =
-    regrouped a l.front l.back b (h.front ++ (front ++ other)) l.tokens_are (e ∙ append_assoc h.front front other) in
-    let same : SameFirst rest (front ++ other) =
-    subst (λ (z : List TheToken). SameFirst z (front ++ other)) (sym split) (same_append front rest2 other s) in
-    let one : (l.front ≡ h.front) × (l.middle ≡ x) =
-    h.only (front ++ other) l.front (l.back ++ b) l.middle same l.front_is (fits l.middle l.back b y l.back_is f) all in
-    (one.0, subst (λ z. M z l.back y) one.1 l.back_is, left_over l.front h.front (l.back ++ b) (front ++ other) one.0 all)
+    → (prefix rest2 other a b : List TheToken) (y : B) → rest ≡ prefix ++ rest2 → SameFirst rest2 other → (l : Then L M a y) → G b → a ++ b ≡ (h.prefix ++ prefix) ++ other
+    → (l.prefix ≡ h.prefix) × M x l.back y × (l.back ++ b ≡ prefix ++ other)
+handed_on L F M G tokens rest x h fits prefix rest2 other a b y split s l f e =
+    let all : l.prefix ++ (l.back ++ b) ≡ h.prefix ++ (prefix ++ other) =
+    regrouped a l.prefix l.back b (h.prefix ++ (prefix ++ other)) l.tokens_are (e ∙ append_assoc h.prefix prefix other) in
+    let same : SameFirst rest (prefix ++ other) =
+    subst (λ (z : List TheToken). SameFirst z (prefix ++ other)) (sym split) (same_append prefix rest2 other s) in
+    let one : (l.prefix ≡ h.prefix) × (l.middle ≡ x) =
+    h.only (prefix ++ other) l.prefix (l.back ++ b) l.middle same l.prefix_is (fits l.middle l.back b y l.back_is f) all in
+    (one.0, subst (λ z. M z l.back y) one.1 l.back_is, left_over l.prefix h.prefix (l.back ++ b) (prefix ++ other) one.0 all)
 
 then_second : {A B : Type 0} (L : List TheToken → A → Type 0) (F : List TheToken → Type 0) (M : A → List TheToken → B → Type 0) (G : List TheToken → Type 0)
     (tokens rest : List TheToken) (x : A) (o : Read B)
@@ -191,24 +191,24 @@ then_second : {A B : Type 0} (L : List TheToken → A → Type 0) (F : List TheT
     → Answers (Then L M) G tokens o
 then_second L F M G tokens rest x (Err rest2) h k fits =
     record {
-      front = h.front ++ k.front;
-      tokens_are = h.tokens_are ∙ ap (λ (z : List TheToken). h.front ++ z) k.tokens_are ∙ sym (append_assoc h.front k.front rest2);
+      prefix = h.prefix ++ k.prefix;
+      tokens_are = h.tokens_are ∙ ap (λ (z : List TheToken). h.prefix ++ z) k.tokens_are ∙ sym (append_assoc h.prefix k.prefix rest2);
       more = k.more;
       example = k.example;
-      begins_one = record { front = h.front; back = k.front ++ k.more; middle = x; tokens_are = append_assoc h.front k.front k.more; front_is = h.is; back_is = k.begins_one };
+      begins_one = record { prefix = h.prefix; back = k.prefix ++ k.more; middle = x; tokens_are = append_assoc h.prefix k.prefix k.more; prefix_is = h.is; back_is = k.begins_one };
       none = λ other a b y s l f e.
-          let on = handed_on L F M G tokens rest x h fits k.front rest2 other a b y k.tokens_are s l f e in
+          let on = handed_on L F M G tokens rest x h fits k.prefix rest2 other a b y k.tokens_are s l f e in
           k.none other l.back b y s on.1 f on.2;
     }
 then_second L F M G tokens rest x (Ok q) h k fits =
     record {
-      front = h.front ++ k.front;
-      tokens_are = h.tokens_are ∙ ap (λ (z : List TheToken). h.front ++ z) k.tokens_are ∙ sym (append_assoc h.front k.front q.1);
-      is = record { front = h.front; back = k.front; middle = x; tokens_are = refl; front_is = h.is; back_is = k.is };
+      prefix = h.prefix ++ k.prefix;
+      tokens_are = h.tokens_are ∙ ap (λ (z : List TheToken). h.prefix ++ z) k.tokens_are ∙ sym (append_assoc h.prefix k.prefix q.1);
+      is = record { prefix = h.prefix; back = k.prefix; middle = x; tokens_are = refl; prefix_is = h.is; back_is = k.is };
       only = λ other a b y s l f e.
-          let on = handed_on L F M G tokens rest x h fits k.front q.1 other a b y k.tokens_are s l f e in
+          let on = handed_on L F M G tokens rest x h fits k.prefix q.1 other a b y k.tokens_are s l f e in
           let two = k.only other l.back b y s on.1 f on.2 in
-          (l.tokens_are ∙ ap (λ (z : List TheToken). z ++ l.back) on.0 ∙ ap (λ (z : List TheToken). h.front ++ z) two.0, two.1);
+          (l.tokens_are ∙ ap (λ (z : List TheToken). z ++ l.back) on.0 ∙ ap (λ (z : List TheToken). h.prefix ++ z) two.0, two.1);
     }
 
 pub then_answers : {A B : Type 0} (L : List TheToken → A → Type 0) (F : List TheToken → Type 0) (M : A → List TheToken → B → Type 0) (G : List TheToken → Type 0)
@@ -234,7 +234,7 @@ then_reads {L = L} {F = F} {M = M} {G = G} {r = r} {g = g} first next fits =
       example = record {
         tokens = ex.tokens ++ ex2.tokens;
         value = ex2.value;
-        is = record { front = ex.tokens; back = ex2.tokens; middle = ex.value; tokens_are = refl; front_is = ex.is; back_is = ex2.is };
+        is = record { prefix = ex.tokens; back = ex2.tokens; middle = ex.value; tokens_are = refl; prefix_is = ex.is; back_is = ex2.is };
       };
       answers = λ tokens. then_answers L F M G tokens (r tokens) (λ p. g p.0 p.1) (first.answers tokens)
           (λ x rest e. (next x).answers rest) (λ x. (next x).example) fits;

@@ -71,7 +71,7 @@ pub then_starts : {A B : Type 0} {L : List TheToken → A → Type 0} {M : A →
     → ((a : List TheToken) (x : A) → L a x → Starts test answer a)
     → (a : List TheToken) (y : B) → Then L M a y → Starts test answer a
 then_starts test answer first a y l =
-    subst (λ (z : List TheToken). Starts test answer z) (sym l.tokens_are) (starts_append test answer l.front l.back (first l.front l.middle l.front_is))
+    subst (λ (z : List TheToken). Starts test answer z) (sym l.tokens_are) (starts_append test answer l.prefix l.back (first l.prefix l.middle l.prefix_is))
 
 -- Phrases with commas between them.
 
@@ -97,8 +97,8 @@ nothing_from : {A : Type 0} (P : List TheToken → A → Type 0) (ends : TheToke
 nothing_from P ends tokens passes starts a b [] s l f = record { tokens_are = l; value_is = refl }
 nothing_from P ends tokens passes starts a b (x ∷ xs) s l f =
     let same : begins ends tokens ≡ begins ends (a ++ b) = same_begins ends tokens (a ++ b) s in
-    let here : begins ends (l.front ++ (l.back ++ b)) ≡ false = starts_begins ends false l.front (l.back ++ b) (starts l.front x l.front_is) in
-    let there : a ++ b ≡ l.front ++ (l.back ++ b) = ap (λ (z : List TheToken). z ++ b) l.tokens_are ∙ append_assoc l.front l.back b in
+    let here : begins ends (l.prefix ++ (l.back ++ b)) ≡ false = starts_begins ends false l.prefix (l.back ++ b) (starts l.prefix x l.prefix_is) in
+    let there : a ++ b ≡ l.prefix ++ (l.back ++ b) = ap (λ (z : List TheToken). z ++ b) l.tokens_are ∙ append_assoc l.prefix l.back b in
     let fails : begins ends (a ++ b) ≡ false = ap (begins ends) there ∙ here in
     cc
 
@@ -188,8 +188,8 @@ no_members_from tokens passes a b [] s l f = record { tokens_are = l; value_is =
 no_members_from tokens passes a b (x ∷ xs) s l f =
     let test : TheToken → Bool = λ token. is_mark token CloseBrace in
     let same : begins test tokens ≡ begins test (a ++ b) = same_begins test tokens (a ++ b) s in
-    let here : begins test (l.front ++ (l.back ++ b)) ≡ false = starts_begins test false l.front (l.back ++ b) (name_starts CloseBrace l.front x l.front_is) in
-    let there : a ++ b ≡ l.front ++ (l.back ++ b) = ap (λ (z : List TheToken). z ++ b) l.tokens_are ∙ append_assoc l.front l.back b in
+    let here : begins test (l.prefix ++ (l.back ++ b)) ≡ false = starts_begins test false l.prefix (l.back ++ b) (name_starts CloseBrace l.prefix x l.prefix_is) in
+    let there : a ++ b ≡ l.prefix ++ (l.back ++ b) = ap (λ (z : List TheToken). z ++ b) l.tokens_are ∙ append_assoc l.prefix l.back b in
     let fails : begins test (a ++ b) ≡ false = ap (begins test) there ∙ here in
     cc
 
@@ -198,7 +198,7 @@ abbrev More : List TheToken → List TheName → Type 0
 More = TheMark Comma >> Members
 
 more_to : (a : List TheToken) (y : List TheName) → More a y → Behind a y
-more_to a y l = inr (record { front = l.front; back = l.back; tokens_are = l.tokens_are; front_is = l.front_is; back_is = l.back_is })
+more_to a y l = inr (record { prefix = l.prefix; back = l.back; tokens_are = l.tokens_are; prefix_is = l.prefix_is; back_is = l.back_is })
 
 more_from : (tokens : List TheToken) → begins (λ token. is_mark token Comma) tokens ≡ true
     → (a b : List TheToken) (y : List TheName) → SameFirst tokens (a ++ b) → Behind a y → EndsBrace b → More a y
@@ -206,7 +206,7 @@ more_from tokens passes a b y s (inl (none, empty)) f =
     absurd (clash (λ token. is_mark token Comma) tokens b (subst (λ (z : List TheToken). SameFirst tokens z) (after_nothing a b empty) s) passes
     (begins_other CloseBrace Comma refl b f))
 more_from tokens passes a b y s (inr j) f =
-    record { front = j.front; back = j.back; middle = tt; tokens_are = j.tokens_are; front_is = j.front_is; back_is = j.back_is }
+    record { prefix = j.prefix; back = j.back; middle = tt; tokens_are = j.tokens_are; prefix_is = j.prefix_is; back_is = j.back_is }
 
 last_to : (a : List TheToken) (y : List TheName) → Means [] a y → Behind a y
 last_to a y l = inl (l.value_is, l.tokens_are)
@@ -217,8 +217,8 @@ last_from tokens fails a b y s (inl (none, empty)) f = record { tokens_are = emp
 last_from tokens fails a b y s (inr j) f =
     let test : TheToken → Bool = λ token. is_mark token Comma in
     let same : begins test tokens ≡ begins test (a ++ b) = same_begins test tokens (a ++ b) s in
-    let here : begins test (j.front ++ (j.back ++ b)) ≡ true = starts_begins test true j.front (j.back ++ b) (mark_starts Comma Comma true refl j.front tt j.front_is) in
-    let there : a ++ b ≡ j.front ++ (j.back ++ b) = ap (λ (z : List TheToken). z ++ b) j.tokens_are ∙ append_assoc j.front j.back b in
+    let here : begins test (j.prefix ++ (j.back ++ b)) ≡ true = starts_begins test true j.prefix (j.back ++ b) (mark_starts Comma Comma true refl j.prefix tt j.prefix_is) in
+    let there : a ++ b ≡ j.prefix ++ (j.back ++ b) = ap (λ (z : List TheToken). z ++ b) j.tokens_are ∙ append_assoc j.prefix j.back b in
     let passes : begins test (a ++ b) ≡ true = ap (begins test) there ∙ here in
     absurd (let e : true ≡ false = sym passes ∙ sym same ∙ fails in cc)
 
@@ -254,7 +254,7 @@ members_step n tokens false e short next =
 members_answers : (n : ℕ) (tokens : List TheToken) → length tokens ≤ n → Answers Members EndsBrace tokens (members_at n tokens)
 members_answers zero [] short =
     record {
-      front = [];
+      prefix = [];
       tokens_are = refl;
       more = [];
       example = [];

@@ -37,11 +37,11 @@ prepend_one xs x (Err rest) = refl
 at_once : {A : Type 0} {L : List TheToken → A → Type 0} {F : List TheToken → Type 0} {p : List TheToken → Read A} (rest : List TheToken) → Reads L F p → p [] ≡ Err rest → [] ≡ rest
 at_once {L = L} {F = F} {p = p} rest reads e =
     let h : WasRefused L F [] rest = subst (λ o. Answers L F [] o) e (reads.answers []) in
-    nothing_left h.front rest h.tokens_are
+    nothing_left h.prefix rest h.tokens_are
   where
-    nothing_left : (front rest : List TheToken) → [] ≡ front ++ rest → [] ≡ rest
+    nothing_left : (prefix rest : List TheToken) → [] ≡ prefix ++ rest → [] ≡ rest
     nothing_left [] rest j = j
-    nothing_left (t ∷ front) rest j = cc
+    nothing_left (t ∷ prefix) rest j = cc
 
 many_open : {A : Type 0} (ends : TheToken → Bool) (p : List TheToken → Read A) (k : ℕ) (t : TheToken) (rest : List TheToken) (test : Bool) → begins ends (t ∷ rest) ≡ test
     → many_at ends p (suc k) (t ∷ rest) ≡ (if test then Ok ([], t ∷ rest) else (p (t ∷ rest) >>= λ q. many_at ends p k q.1 >>= λ r. Ok (q.0 ∷ r.0, r.1)))

@@ -23,23 +23,23 @@ itself x = x
 
 -- a list cut in two as another with its signs
 record Cut (b c d : List TheToken) : Type 0 where
-  front : List TheToken
+  prefix : List TheToken
   back : List TheToken
-  tokens_are : b ≡ front ++ back
-  front_same : map sign_of front ≡ map sign_of c
+  tokens_are : b ≡ prefix ++ back
+  prefix_same : map sign_of prefix ≡ map sign_of c
   back_same : map sign_of back ≡ map sign_of d
 
 one_longer : {b c d : List TheToken} (s t : TheToken) → sign_of s ≡ sign_of t → Cut b c d → Cut (s ∷ b) (t ∷ c) d
 one_longer s t e parts = record {
-  front = s ∷ parts.front;
+  prefix = s ∷ parts.prefix;
   back = parts.back;
   tokens_are = ap (λ (z : List TheToken). s ∷ z) parts.tokens_are;
-  front_same = ap₂ (λ (x : Sign) (z : List Sign). x ∷ z) e parts.front_same;
+  prefix_same = ap₂ (λ (x : Sign) (z : List Sign). x ∷ z) e parts.prefix_same;
   back_same = parts.back_same;
 }
 
 cut : (b c d : List TheToken) → map sign_of b ≡ map sign_of (c ++ d) → Cut b c d
-cut b [] d e = record { front = []; back = b; tokens_are = refl; front_same = refl; back_same = e }
+cut b [] d e = record { prefix = []; back = b; tokens_are = refl; prefix_same = refl; back_same = e }
 cut [] (t ∷ c) d e = absurd cc
 cut (s ∷ b) (t ∷ c) d e =
     let first : sign_of s ≡ sign_of t = cc in
@@ -65,10 +65,10 @@ then_moves : {A B : Type 0} {f : A → A} {g : B → B} {L K : List TheToken →
     → Moves f L K → ((x y : A) → f y ≡ f x → Moves g (M x) (N y)) → Moves g (Then L M) (Then K N)
 then_moves {f = f} first next = record {
   moved = λ a b x l e.
-      let parts : Cut b l.front l.back = cut b l.front l.back (e ∙ ap (map sign_of) l.tokens_are) in
-      let (y, k, same) = first.moved l.front parts.front l.middle l.front_is parts.front_same in
+      let parts : Cut b l.prefix l.back = cut b l.prefix l.back (e ∙ ap (map sign_of) l.tokens_are) in
+      let (y, k, same) = first.moved l.prefix parts.prefix l.middle l.prefix_is parts.prefix_same in
       let (z, n, also) = (next l.middle y same).moved l.back parts.back x l.back_is parts.back_same in
-      (z, record { front = parts.front; back = parts.back; middle = y; tokens_are = parts.tokens_are; front_is = k; back_is = n }, also);
+      (z, record { prefix = parts.prefix; back = parts.back; middle = y; tokens_are = parts.tokens_are; prefix_is = k; back_is = n }, also);
 }
 
 means_moves : {A : Type 0} {f : A → A} (v w : A) → f w ≡ f v → Moves f (Means v) (Means w)
@@ -132,10 +132,10 @@ many_moves {f = f} {P = P} {Q = Q} phrase = record { moved = λ a b xs l e. by_l
     by_list : (xs : List _) (a b : List TheToken) → Many P a xs → map sign_of b ≡ map sign_of a → (ys : List _) × Many Q b ys × (map f ys ≡ map f xs)
     by_list [] a b l e = ([], none_same b (e ∙ ap (map sign_of) l), refl)
     by_list (x ∷ xs) a b l e =
-        let parts : Cut b l.front l.back = cut b l.front l.back (e ∙ ap (map sign_of) l.tokens_are) in
-        let (y, k, same) = phrase.moved l.front parts.front x l.front_is parts.front_same in
+        let parts : Cut b l.prefix l.back = cut b l.prefix l.back (e ∙ ap (map sign_of) l.tokens_are) in
+        let (y, k, same) = phrase.moved l.prefix parts.prefix x l.prefix_is parts.prefix_same in
         let (ys, n, also) = by_list xs l.back parts.back l.back_is parts.back_same in
-        (y ∷ ys, record { front = parts.front; back = parts.back; tokens_are = parts.tokens_are; front_is = k; back_is = n }, ap₂ (λ z zs. z ∷ zs) same also)
+        (y ∷ ys, record { prefix = parts.prefix; back = parts.back; tokens_are = parts.tokens_are; prefix_is = k; back_is = n }, ap₂ (λ z zs. z ∷ zs) same also)
 
 separated_moves : {A : Type 0} {f : A → A} {P Q : List TheToken → A → Type 0} → Moves f P Q → Moves (map f) (Separated P) (Separated Q)
 separated_moves {f = f} {P = P} {Q = Q} phrase = record { moved = λ a b xs l e. by_list xs a b l e }
@@ -146,10 +146,10 @@ separated_moves {f = f} {P = P} {Q = Q} phrase = record { moved = λ a b xs l e.
     by_list : (xs : List _) (a b : List TheToken) → Separated P a xs → map sign_of b ≡ map sign_of a → (ys : List _) × Separated Q b ys × (map f ys ≡ map f xs)
     by_list [] a b l e = ([], none_same b (e ∙ ap (map sign_of) l), refl)
     by_list (x ∷ xs) a b l e =
-        let parts : Cut b l.front l.back = cut b l.front l.back (e ∙ ap (map sign_of) l.tokens_are) in
-        let (y, k, same) = phrase.moved l.front parts.front x l.front_is parts.front_same in
+        let parts : Cut b l.prefix l.back = cut b l.prefix l.back (e ∙ ap (map sign_of) l.tokens_are) in
+        let (y, k, same) = phrase.moved l.prefix parts.prefix x l.prefix_is parts.prefix_same in
         let (ys, n, also) = more.moved l.back parts.back xs l.back_is parts.back_same in
-        (y ∷ ys, record { front = parts.front; back = parts.back; tokens_are = parts.tokens_are; front_is = k; back_is = n }, ap₂ (λ z zs. z ∷ zs) same also)
+        (y ∷ ys, record { prefix = parts.prefix; back = parts.back; tokens_are = parts.tokens_are; prefix_is = k; back_is = n }, ap₂ (λ z zs. z ∷ zs) same also)
 
 members_moves : Moves (map name_aside) Members Members
 members_moves = record { moved = λ a b xs l e. by_list xs a b l e }
@@ -157,30 +157,30 @@ members_moves = record { moved = λ a b xs l e. by_list xs a b l e }
     by_list : (xs : List TheName) (a b : List TheToken) → Members a xs → map sign_of b ≡ map sign_of a → (ys : List TheName) × Members b ys × (map name_aside ys ≡ map name_aside xs)
     by_list [] a b l e = ([], none_same b (e ∙ ap (map sign_of) l), refl)
     by_list (x ∷ xs) a b l e =
-        let parts : Cut b l.front l.back = cut b l.front l.back (e ∙ ap (map sign_of) l.tokens_are) in
-        let (y, k, same) = name_moves.moved l.front parts.front x l.front_is parts.front_same in
+        let parts : Cut b l.prefix l.back = cut b l.prefix l.back (e ∙ ap (map sign_of) l.tokens_are) in
+        let (y, k, same) = name_moves.moved l.prefix parts.prefix x l.prefix_is parts.prefix_same in
         behind (λ c d m i. by_list xs c d m i) y same parts k l.back_is
       where
         behind : ((c d : List TheToken) → Members c xs → map sign_of d ≡ map sign_of c → (ys : List TheName) × Members d ys × (map name_aside ys ≡ map name_aside xs))
-            → (y : TheName) → name_aside y ≡ name_aside x → (parts : Cut b l.front l.back) → AName parts.front y
+            → (y : TheName) → name_aside y ≡ name_aside x → (parts : Cut b l.prefix l.back) → AName parts.prefix y
             → ((xs ≡ []) × (l.back ≡ [])) ⊎ Joined (λ comma. TheMark Comma comma tt) (λ rest. Members rest xs) l.back
             → (ys : List TheName) × Members b ys × (map name_aside ys ≡ map name_aside (x ∷ xs))
         behind others y same parts k (inl (last, ends)) = (
           y ∷ [],
-          record { front = parts.front; back = parts.back; tokens_are = parts.tokens_are; front_is = k; back_is = inl (refl, none_same parts.back (parts.back_same ∙ ap (map sign_of) ends)) },
+          record { prefix = parts.prefix; back = parts.back; tokens_are = parts.tokens_are; prefix_is = k; back_is = inl (refl, none_same parts.back (parts.back_same ∙ ap (map sign_of) ends)) },
           ap₂ (λ (z : TheName) (zs : List TheName). z ∷ zs) same (ap (map name_aside) (sym last)),
         )
         behind others y same parts k (inr j) =
-            let inner : Cut parts.back j.front j.back = cut parts.back j.front j.back (parts.back_same ∙ ap (map sign_of) j.tokens_are) in
-            let (u, comma, done) = (mark_moves Comma).moved j.front inner.front tt j.front_is inner.front_same in
+            let inner : Cut parts.back j.prefix j.back = cut parts.back j.prefix j.back (parts.back_same ∙ ap (map sign_of) j.tokens_are) in
+            let (u, comma, done) = (mark_moves Comma).moved j.prefix inner.prefix tt j.prefix_is inner.prefix_same in
             let (ys, n, also) = others j.back inner.back j.back_is inner.back_same in (
               y ∷ ys,
               record {
-                front = parts.front;
+                prefix = parts.prefix;
                 back = parts.back;
                 tokens_are = parts.tokens_are;
-                front_is = k;
-                back_is = inr (record { front = inner.front; back = inner.back; tokens_are = inner.tokens_are; front_is = comma; back_is = n });
+                prefix_is = k;
+                back_is = inr (record { prefix = inner.prefix; back = inner.back; tokens_are = inner.tokens_are; prefix_is = comma; back_is = n });
               },
               ap₂ (λ (z : TheName) (zs : List TheName). z ∷ zs) same also,
             )

@@ -21,10 +21,10 @@ Ending back = (back ≡ []) ⊎ ((s : TheToken) × ((back ≡ s ∷ []) × (is_m
 
 -- a body and its ending
 record Ended (tokens : List TheToken) (tree : TheTree) : Type 0 where
-  front : List TheToken
+  prefix : List TheToken
   back : List TheToken
-  tokens_are : tokens ≡ front ++ back
-  body : Body front tree
+  tokens_are : tokens ≡ prefix ++ back
+  body : Body prefix tree
   ending : Ending back
 
 ending_of : (found : Option (Unit {0})) (tokens : List TheToken) → Optional (TheMark Semicolon) tokens found → Ending tokens
@@ -33,39 +33,39 @@ ending_of (Some x) tokens l = inr (l.token, (l.tokens_are, so_true (is_mark l.to
 
 ended : (tokens : List TheToken) (tree : TheTree) → Derives tokens tree → Ended tokens tree
 ended tokens tree d =
-    let semi : Ending d.back_is.front = ending_of d.back_is.middle d.back_is.front d.back_is.front_is in
-    let all : d.back ≡ d.back_is.front = d.back_is.tokens_are ∙ ap (λ (z : List TheToken). d.back_is.front ++ z) d.back_is.back_is.tokens_are ∙ append-nil d.back_is.front in
+    let semi : Ending d.back_is.prefix = ending_of d.back_is.middle d.back_is.prefix d.back_is.prefix_is in
+    let all : d.back ≡ d.back_is.prefix = d.back_is.tokens_are ∙ ap (λ (z : List TheToken). d.back_is.prefix ++ z) d.back_is.back_is.tokens_are ∙ append-nil d.back_is.prefix in
     record {
-      front = d.front;
+      prefix = d.prefix;
       back = d.back;
       tokens_are = d.tokens_are;
-      body = subst (λ (z : TheTree). Body d.front z) (sym d.back_is.back_is.value_is) d.front_is;
+      body = subst (λ (z : TheTree). Body d.prefix z) (sym d.back_is.back_is.value_is) d.prefix_is;
       ending = subst Ending (sym all) semi;
     }
 
-derives : (tokens front back : List TheToken) (tree : TheTree) → tokens ≡ front ++ back → Body front tree → Ending back → Derives tokens tree
-derives tokens front back tree split body (inl none) =
+derives : (tokens prefix back : List TheToken) (tree : TheTree) → tokens ≡ prefix ++ back → Body prefix tree → Ending back → Derives tokens tree
+derives tokens prefix back tree split body (inl none) =
     record {
-      front = front;
+      prefix = prefix;
       back = back;
       middle = tree;
       tokens_are = split;
-      front_is = body;
-      back_is = record { front = []; back = []; middle = None; tokens_are = none; front_is = refl; back_is = record { tokens_are = refl; value_is = refl } };
+      prefix_is = body;
+      back_is = record { prefix = []; back = []; middle = None; tokens_are = none; prefix_is = refl; back_is = record { tokens_are = refl; value_is = refl } };
     }
-derives tokens front back tree split body (inr (s, (one, semi))) =
+derives tokens prefix back tree split body (inr (s, (one, semi))) =
     record {
-      front = front;
+      prefix = prefix;
       back = back;
       middle = tree;
       tokens_are = split;
-      front_is = body;
+      prefix_is = body;
       back_is = record {
-        front = s ∷ [];
+        prefix = s ∷ [];
         back = [];
         middle = Some tt;
         tokens_are = one;
-        front_is = record { token = s; tokens_are = refl; reads = ap (λ b. if_so b tt) semi };
+        prefix_is = record { token = s; tokens_are = refl; reads = ap (λ b. if_so b tt) semi };
         back_is = record { tokens_are = refl; value_is = refl };
       };
     }
@@ -73,20 +73,20 @@ derives tokens front back tree split body (inr (s, (one, semi))) =
 -- A body, and what is left of the text behind its semicolon.
 
 pub is_parsed : (tokens : List TheToken) (tree : TheTree) (rest : List TheToken) → WasRead Body Any tokens tree rest → behind_semicolon rest ≡ [] → Derives tokens tree
-is_parsed tokens tree [] h e = derives tokens h.front [] tree h.tokens_are h.is (inl refl)
+is_parsed tokens tree [] h e = derives tokens h.prefix [] tree h.tokens_are h.is (inl refl)
 is_parsed tokens tree (s ∷ rest) h e = by_test (is_mark s Semicolon) refl e
   where
     by_test : (b : Bool) → is_mark s Semicolon ≡ b → (if b then rest else s ∷ rest) ≡ [] → Derives tokens tree
-    by_test true semi e = derives tokens h.front (s ∷ rest) tree h.tokens_are h.is (inr (s, (ap (λ (z : List TheToken). s ∷ z) e, semi)))
+    by_test true semi e = derives tokens h.prefix (s ∷ rest) tree h.tokens_are h.is (inr (s, (ap (λ (z : List TheToken). s ∷ z) e, semi)))
     by_test false semi e = cc
 
 -- what follows a body in a text that begins as this one
 next_is : (tokens : List TheToken) (tree : TheTree) (rest : List TheToken) (h : WasRead Body Any tokens tree rest) (other : List TheToken) (found : TheTree)
-    → SameFirst rest other → Derives (h.front ++ other) found → Ending other
+    → SameFirst rest other → Derives (h.prefix ++ other) found → Ending other
 next_is tokens tree rest h other found s d =
-    let e : Ended (h.front ++ other) found = ended (h.front ++ other) found d in
-    let one = h.only other e.front e.back found s e.body tt (sym e.tokens_are) in
-    let back : e.back ≡ other = left_over e.front h.front e.back other one.0 (sym e.tokens_are) in
+    let e : Ended (h.prefix ++ other) found = ended (h.prefix ++ other) found d in
+    let one = h.only other e.prefix e.back found s e.body tt (sym e.tokens_are) in
+    let back : e.back ≡ other = left_over e.prefix h.prefix e.back other one.0 (sym e.tokens_are) in
     subst Ending back e.ending
 
 longer : (s t : TheToken) (more : List TheToken) → Ending (s ∷ t ∷ more) → ⊥
@@ -107,31 +107,31 @@ is_after tokens tree (s ∷ rest) t later h e = by_test (is_mark s Semicolon) re
   where
     by_test : (b : Bool) → is_mark s Semicolon ≡ b → (if b then rest else s ∷ rest) ≡ t ∷ later → FaultAtToken tokens 8 t.at
     by_test true semi e =
-        let whole : Derives (h.front ++ s ∷ []) tree = derives (h.front ++ s ∷ []) h.front (s ∷ []) tree refl h.is (inr (s, (refl, semi))) in
+        let whole : Derives (h.prefix ++ s ∷ []) tree = derives (h.prefix ++ s ∷ []) h.prefix (s ∷ []) tree refl h.is (inr (s, (refl, semi))) in
         record {
-          front = h.front ++ s ∷ [];
+          prefix = h.prefix ++ s ∷ [];
           token = t;
           later = later;
-          tokens_are = h.tokens_are ∙ ap (λ (z : List TheToken). h.front ++ s ∷ z) e ∙ sym (append_assoc h.front (s ∷ []) (t ∷ later));
-          begins = record { more = []; tree = tree; derives = subst (λ (z : List TheToken). Derives z tree) (sym (append-nil (h.front ++ s ∷ []))) whole };
+          tokens_are = h.tokens_are ∙ ap (λ (z : List TheToken). h.prefix ++ s ∷ z) e ∙ sym (append_assoc h.prefix (s ∷ []) (t ∷ later));
+          begins = record { more = []; tree = tree; derives = subst (λ (z : List TheToken). Derives z tree) (sym (append-nil (h.prefix ++ s ∷ []))) whole };
           no_more = λ b.
-              let all : ((h.front ++ s ∷ []) ++ t ∷ []) ++ b.more ≡ h.front ++ (s ∷ t ∷ b.more) =
-              append_assoc (h.front ++ s ∷ []) (t ∷ []) b.more ∙ append_assoc h.front (s ∷ []) (t ∷ b.more) in
+              let all : ((h.prefix ++ s ∷ []) ++ t ∷ []) ++ b.more ≡ h.prefix ++ (s ∷ t ∷ b.more) =
+              append_assoc (h.prefix ++ s ∷ []) (t ∷ []) b.more ∙ append_assoc h.prefix (s ∷ []) (t ∷ b.more) in
               longer s t b.more (next_is tokens tree (s ∷ rest) h (s ∷ t ∷ b.more) b.tree refl (subst (λ (z : List TheToken). Derives z b.tree) all b.derives));
           number_is = inl (refl, tree, whole);
           at_is = refl;
         }
     by_test false semi e =
-        let whole : Derives h.front tree = derives h.front h.front [] tree (sym (append-nil h.front)) h.is (inl refl) in
+        let whole : Derives h.prefix tree = derives h.prefix h.prefix [] tree (sym (append-nil h.prefix)) h.is (inl refl) in
         let same : s ≡ t = cc in
         record {
-          front = h.front;
+          prefix = h.prefix;
           token = s;
           later = rest;
           tokens_are = h.tokens_are;
-          begins = record { more = []; tree = tree; derives = subst (λ (z : List TheToken). Derives z tree) (sym (append-nil h.front)) whole };
+          begins = record { more = []; tree = tree; derives = subst (λ (z : List TheToken). Derives z tree) (sym (append-nil h.prefix)) whole };
           no_more = λ b.
-              let all : (h.front ++ s ∷ []) ++ b.more ≡ h.front ++ (s ∷ b.more) = append_assoc h.front (s ∷ []) b.more in
+              let all : (h.prefix ++ s ∷ []) ++ b.more ≡ h.prefix ++ (s ∷ b.more) = append_assoc h.prefix (s ∷ []) b.more in
               not_semicolon s b.more semi (next_is tokens tree (s ∷ rest) h (s ∷ b.more) b.tree refl (subst (λ (z : List TheToken). Derives z b.tree) all b.derives));
           number_is = inl (refl, tree, whole);
           at_is = ap (λ (z : TheToken). z.at) (sym same);
@@ -140,32 +140,32 @@ is_after tokens tree (s ∷ rest) t later h e = by_test (is_mark s Semicolon) re
 -- A body that stopped.
 
 stops_at : (tokens : List TheToken) (rest other : List TheToken) (h : WasRefused Body Any tokens rest) (tree : TheTree)
-    → SameFirst rest other → (all more : List TheToken) → Derives all tree → all ++ more ≡ h.front ++ other → ⊥
+    → SameFirst rest other → (all more : List TheToken) → Derives all tree → all ++ more ≡ h.prefix ++ other → ⊥
 stops_at tokens rest other h tree s all more d e =
     let done : Ended all tree = ended all tree d in
-    h.none other done.front (done.back ++ more) tree s done.body tt
-    (sym (append_assoc done.front done.back more) ∙ ap (λ (z : List TheToken). z ++ more) (sym done.tokens_are) ∙ e)
+    h.none other done.prefix (done.back ++ more) tree s done.body tt
+    (sym (append_assoc done.prefix done.back more) ∙ ap (λ (z : List TheToken). z ++ more) (sym done.tokens_are) ∙ e)
 
 pub is_stopped : (tokens : TheTokens) (rest : List TheToken) → WasRefused Body Any tokens.tokens rest → Parses tokens (parse_fault 7 (place_of rest tokens.end))
 is_stopped tokens (t ∷ later) h =
     inl (record {
-      front = h.front;
+      prefix = h.prefix;
       token = t;
       later = later;
       tokens_are = h.tokens_are;
-      begins = record { more = h.more; tree = h.example; derives = derives (h.front ++ h.more) (h.front ++ h.more) [] h.example (sym (append-nil (h.front ++ h.more))) h.begins_one (inl refl) };
-      no_more = λ b. stops_at tokens.tokens (t ∷ later) (t ∷ b.more) h b.tree refl ((h.front ++ t ∷ []) ++ b.more) [] b.derives
-          (append-nil ((h.front ++ t ∷ []) ++ b.more) ∙ append_assoc h.front (t ∷ []) b.more);
-      number_is = inr (refl, λ tree d. stops_at tokens.tokens (t ∷ later) (t ∷ later) h tree refl h.front (t ∷ later) d refl);
+      begins = record { more = h.more; tree = h.example; derives = derives (h.prefix ++ h.more) (h.prefix ++ h.more) [] h.example (sym (append-nil (h.prefix ++ h.more))) h.begins_one (inl refl) };
+      no_more = λ b. stops_at tokens.tokens (t ∷ later) (t ∷ b.more) h b.tree refl ((h.prefix ++ t ∷ []) ++ b.more) [] b.derives
+          (append-nil ((h.prefix ++ t ∷ []) ++ b.more) ∙ append_assoc h.prefix (t ∷ []) b.more);
+      number_is = inr (refl, λ tree d. stops_at tokens.tokens (t ∷ later) (t ∷ later) h tree refl h.prefix (t ∷ later) d refl);
       at_is = refl;
     })
 is_stopped tokens [] h =
-    let all : tokens.tokens ≡ h.front = h.tokens_are ∙ append-nil h.front in
+    let all : tokens.tokens ≡ h.prefix = h.tokens_are ∙ append-nil h.prefix in
     inr (record {
       begins = record {
         more = h.more;
         tree = h.example;
-        derives = derives (tokens.tokens ++ h.more) (h.front ++ h.more) [] h.example (ap (λ (z : List TheToken). z ++ h.more) all ∙ sym (append-nil (h.front ++ h.more))) h.begins_one (inl refl);
+        derives = derives (tokens.tokens ++ h.more) (h.prefix ++ h.more) [] h.example (ap (λ (z : List TheToken). z ++ h.more) all ∙ sym (append-nil (h.prefix ++ h.more))) h.begins_one (inl refl);
       };
       no_tree = λ tree d. stops_at tokens.tokens [] [] h tree tt tokens.tokens [] d (ap (λ (z : List TheToken). z ++ []) all);
       number_is = refl;
@@ -196,14 +196,14 @@ some_outcome tokens = some_by tokens (body_at tokens.tokens) refl
 -- One outcome at most.
 
 same_tree : (tokens : List TheToken) (o : Read TheTree) (x y : TheTree) → Answers Body Any tokens o → Ended tokens x → Ended tokens y → x ≡ y
-same_tree tokens (Err rest) x y h a b = absurd (h.none rest a.front a.back x (same_self rest) a.body tt (sym a.tokens_are ∙ h.tokens_are))
+same_tree tokens (Err rest) x y h a b = absurd (h.none rest a.prefix a.back x (same_self rest) a.body tt (sym a.tokens_are ∙ h.tokens_are))
   where
     same_self : (l : List TheToken) → SameFirst l l
     same_self [] = tt
     same_self (t ∷ l) = refl
 same_tree tokens (Ok p) x y h a b =
-    (h.only p.1 a.front a.back x (same_self p.1) a.body tt (sym a.tokens_are ∙ h.tokens_are)).1
-    ∙ sym ((h.only p.1 b.front b.back y (same_self p.1) b.body tt (sym b.tokens_are ∙ h.tokens_are)).1)
+    (h.only p.1 a.prefix a.back x (same_self p.1) a.body tt (sym a.tokens_are ∙ h.tokens_are)).1
+    ∙ sym ((h.only p.1 b.prefix b.back y (same_self p.1) b.body tt (sym b.tokens_are ∙ h.tokens_are)).1)
   where
     same_self : (l : List TheToken) → SameFirst l l
     same_self [] = tt
@@ -213,21 +213,21 @@ pub one_tree : (tokens : List TheToken) (x y : TheTree) → Derives tokens x →
 one_tree tokens x y a b = same_tree tokens (body_at tokens) x y (body_reads.answers tokens) (ended tokens x a) (ended tokens y b)
 
 -- what begins a list that begins a derivable one does so too
-begins_less : (all front more : List TheToken) → Begins all → all ≡ front ++ more → Begins front
-begins_less all front more b e =
+begins_less : (all prefix more : List TheToken) → Begins all → all ≡ prefix ++ more → Begins prefix
+begins_less all prefix more b e =
     record {
       more = more ++ b.more;
       tree = b.tree;
-      derives = subst (λ (z : List TheToken). Derives z b.tree) (ap (λ (z : List TheToken). z ++ b.more) e ∙ append_assoc front more b.more) b.derives;
+      derives = subst (λ (z : List TheToken). Derives z b.tree) (ap (λ (z : List TheToken). z ++ b.more) e ∙ append_assoc prefix more b.more) b.derives;
     }
 
 begins_all : (all : List TheToken) (tree : TheTree) → Derives all tree → Begins all
 begins_all all tree d = record { more = []; tree = tree; derives = subst (λ (z : List TheToken). Derives z tree) (sym (append-nil all)) d }
 
--- a fault stands where no longer front begins a derivable list
-not_past : (tokens : List TheToken) (n at : ℕ) (f : FaultAtToken tokens n at) (all more : List TheToken) → Begins all → all ≡ f.front ++ f.token ∷ more → ⊥
+-- a fault stands where no longer prefix begins a derivable list
+not_past : (tokens : List TheToken) (n at : ℕ) (f : FaultAtToken tokens n at) (all more : List TheToken) → Begins all → all ≡ f.prefix ++ f.token ∷ more → ⊥
 not_past tokens n at f all more b e =
-    f.no_more (begins_less all (f.front ++ f.token ∷ []) more b (e ∙ sym (append_assoc f.front (f.token ∷ []) more)))
+    f.no_more (begins_less all (f.prefix ++ f.token ∷ []) more b (e ∙ sym (append_assoc f.prefix (f.token ∷ []) more)))
 
 -- two ways to cut a list before a token: at one place, or one before the other
 record Earlier (f : List TheToken) (t : TheToken) (g : List TheToken) : Type 0 where
@@ -248,20 +248,20 @@ cuts (x ∷ f) (y ∷ g) t u l m e =
     further head (inr (inl k)) = let is : g ≡ f ++ t ∷ k.between = k.is in inr (inl (record { between = k.between; is = cc }))
     further head (inr (inr k)) = let is : f ≡ g ++ u ∷ k.between = k.is in inr (inr (record { between = k.between; is = cc }))
 
-same_number : (front : List TheToken) (m n : ℕ) → NumberAfter front m → NumberAfter front n → m ≡ n
-same_number front m n (inl (a, tree, d)) (inl (b, tree2, d2)) = a ∙ sym b
-same_number front m n (inl (a, tree, d)) (inr (b, none)) = absurd (none tree d)
-same_number front m n (inr (a, none)) (inl (b, tree, d)) = absurd (none tree d)
-same_number front m n (inr (a, none)) (inr (b, none2)) = a ∙ sym b
+same_number : (prefix : List TheToken) (m n : ℕ) → NumberAfter prefix m → NumberAfter prefix n → m ≡ n
+same_number prefix m n (inl (a, tree, d)) (inl (b, tree2, d2)) = a ∙ sym b
+same_number prefix m n (inl (a, tree, d)) (inr (b, none)) = absurd (none tree d)
+same_number prefix m n (inr (a, none)) (inl (b, tree, d)) = absurd (none tree d)
+same_number prefix m n (inr (a, none)) (inr (b, none2)) = a ∙ sym b
 
 same_fault : (tokens : List TheToken) (m n at where_else : ℕ) (f : FaultAtToken tokens m at) (g : FaultAtToken tokens n where_else)
-    → ((f.front ≡ g.front) × (f.token ≡ g.token)) ⊎ (Earlier f.front f.token g.front ⊎ Earlier g.front g.token f.front) → parse_fault m at ≡ parse_fault n where_else
+    → ((f.prefix ≡ g.prefix) × (f.token ≡ g.token)) ⊎ (Earlier f.prefix f.token g.prefix ⊎ Earlier g.prefix g.token f.prefix) → parse_fault m at ≡ parse_fault n where_else
 same_fault tokens m n at where_else f g (inl (a, b)) =
-    let number : m ≡ n = same_number g.front m n (subst (λ (z : List TheToken). NumberAfter z m) a f.number_is) g.number_is in
+    let number : m ≡ n = same_number g.prefix m n (subst (λ (z : List TheToken). NumberAfter z m) a f.number_is) g.number_is in
     let place : at ≡ where_else = f.at_is ∙ ap (λ (z : TheToken). z.at) b ∙ sym g.at_is in
     cc
-same_fault tokens m n at where_else f g (inr (inl k)) = absurd (not_past tokens m at f g.front k.between g.begins k.is)
-same_fault tokens m n at where_else f g (inr (inr k)) = absurd (not_past tokens n where_else g f.front k.between f.begins k.is)
+same_fault tokens m n at where_else f g (inr (inl k)) = absurd (not_past tokens m at f g.prefix k.between g.begins k.is)
+same_fault tokens m n at where_else f g (inr (inr k)) = absurd (not_past tokens n where_else g f.prefix k.between f.begins k.is)
 
 pub one_outcome : (tokens : TheTokens) (x y : ParseOutcome) → Parses tokens x → Parses tokens y → x ≡ y
 one_outcome tokens (parsed x) (parsed y) a b = ap parsed (one_tree tokens.tokens x y a b)
@@ -270,7 +270,7 @@ one_outcome tokens (parsed x) (parse_fault n at) a (inr f) = absurd (f.no_tree x
 one_outcome tokens (parse_fault n at) (parsed y) (inl f) b = absurd (not_past tokens.tokens n at f tokens.tokens f.later (begins_all tokens.tokens y b) f.tokens_are)
 one_outcome tokens (parse_fault n at) (parsed y) (inr f) b = absurd (f.no_tree y b)
 one_outcome tokens (parse_fault m at) (parse_fault n place) (inl f) (inl g) =
-    same_fault tokens.tokens m n at place f g (cuts f.front g.front f.token g.token f.later g.later (sym f.tokens_are ∙ g.tokens_are))
+    same_fault tokens.tokens m n at place f g (cuts f.prefix g.prefix f.token g.token f.later g.later (sym f.tokens_are ∙ g.tokens_are))
 one_outcome tokens (parse_fault m at) (parse_fault n place) (inl f) (inr g) = absurd (not_past tokens.tokens m at f tokens.tokens f.later g.begins f.tokens_are)
 one_outcome tokens (parse_fault m at) (parse_fault n place) (inr f) (inl g) = absurd (not_past tokens.tokens n place g tokens.tokens g.later f.begins g.tokens_are)
 one_outcome tokens (parse_fault m at) (parse_fault n place) (inr f) (inr g) =

@@ -68,9 +68,9 @@ NoBracket b = begins (λ token. is_mark token OpenBracket) b ≡ false
 
 -- fewer lists may follow
 fewer : {A : Type 0} (L : List TheToken → A → Type 0) (F : List TheToken → Type 0) (tokens : List TheToken) (o : Read A) → Answers L Any tokens o → Answers L F tokens o
-fewer L F tokens (Ok p) h = record { front = h.front; tokens_are = h.tokens_are; is = h.is; only = λ other a b y s l f e. h.only other a b y s l tt e }
+fewer L F tokens (Ok p) h = record { prefix = h.prefix; tokens_are = h.tokens_are; is = h.is; only = λ other a b y s l f e. h.only other a b y s l tt e }
 fewer L F tokens (Err rest) h =
-    record { front = h.front; tokens_are = h.tokens_are; more = h.more; example = h.example; begins_one = h.begins_one; none = λ other a b y s l f e. h.none other a b y s l tt e }
+    record { prefix = h.prefix; tokens_are = h.tokens_are; more = h.more; example = h.example; begins_one = h.begins_one; none = λ other a b y s l f e. h.none other a b y s l tt e }
 
 shape_from : (type_name : TheName) (tokens : List TheToken) → begins (λ token. is_mark token OpenBracket) tokens ≡ true
     → (a b : List TheToken) (y : TheShape) → SameFirst tokens (a ++ b) → AShape type_name a y → NoBracket b → ABracket type_name a y

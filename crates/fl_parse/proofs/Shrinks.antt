@@ -112,11 +112,11 @@ then_ends : {A B : Type 0} {L : List TheToken → A → Type 0} {M : A → List 
     → Covers L g → ((x : A) → Ends (M x) (before ++ g x) f) → Ends (Then L M) before f
 then_ends {g = g} {f = f} {before = before} first next = record {
   ended = λ a y l sound.
-      let (m, n) = sound_cut l.front l.back (subst Sound l.tokens_are sound) in
+      let (m, n) = sound_cut l.prefix l.back (subst Sound l.tokens_are sound) in
       let (out, tail, e) = (next l.middle).ended l.back y l.back_is n in (
         g l.middle ++ out,
         subst (λ (z : List TheToken). Shrinks z (g l.middle ++ out)) (sym l.tokens_are)
-            (shrinks_append l.front (g l.middle) l.back out (first.covered l.front l.middle l.front_is m) tail),
+            (shrinks_append l.prefix (g l.middle) l.back out (first.covered l.prefix l.middle l.prefix_is m) tail),
         e ∙ append_assoc before (g l.middle) out,
       );
 }
@@ -243,10 +243,10 @@ many_covers {P = P} {f = f} phrase = record { covered = λ a xs l sound. by_list
     by_list : (xs : List _) (a : List TheToken) → Many P a xs → Sound a → Shrinks a (flat_map f xs)
     by_list [] a l sound = subst (λ (z : List TheToken). Shrinks z []) (sym l) shrinks_none
     by_list (x ∷ xs) a l sound =
-        let (m, n) = sound_cut l.front l.back (subst Sound l.tokens_are sound) in
+        let (m, n) = sound_cut l.prefix l.back (subst Sound l.tokens_are sound) in
         subst (λ (z : List TheToken). Shrinks z (flat_map f (x ∷ xs))) (sym l.tokens_are)
-        (subst (λ (z : List TheToken). Shrinks (l.front ++ l.back) z) (sym (flat_map-cons f x xs))
-        (shrinks_append l.front (f x) l.back (flat_map f xs) (phrase.covered l.front x l.front_is m) (by_list xs l.back l.back_is n)))
+        (subst (λ (z : List TheToken). Shrinks (l.prefix ++ l.back) z) (sym (flat_map-cons f x xs))
+        (shrinks_append l.prefix (f x) l.back (flat_map f xs) (phrase.covered l.prefix x l.prefix_is m) (by_list xs l.back l.back_is n)))
 
 separated_covers : {A : Type 0} {P : List TheToken → A → Type 0} {f : A → List TheToken} → Covers P f → Covers (Separated P) (comma_tokens f)
 separated_covers {P = P} {f = f} phrase = record { covered = λ a xs l sound. by_list xs a l sound }
@@ -254,38 +254,38 @@ separated_covers {P = P} {f = f} phrase = record { covered = λ a xs l sound. by
     behind : Covers (TheMark Comma >> P) (λ y. a_mark Comma ∷ f y)
     behind = record {
       covered = λ a x l sound.
-          let (m, n) = sound_cut l.front l.back (subst Sound l.tokens_are sound) in
+          let (m, n) = sound_cut l.prefix l.back (subst Sound l.tokens_are sound) in
           subst (λ (z : List TheToken). Shrinks z (a_mark Comma ∷ f x)) (sym l.tokens_are)
-          (shrinks_append l.front (a_mark Comma ∷ []) l.back (f x) ((mark_covers Comma).covered l.front l.middle l.front_is m) (phrase.covered l.back x l.back_is n));
+          (shrinks_append l.prefix (a_mark Comma ∷ []) l.back (f x) ((mark_covers Comma).covered l.prefix l.middle l.prefix_is m) (phrase.covered l.back x l.back_is n));
     }
 
     by_list : (xs : List _) (a : List TheToken) → Separated P a xs → Sound a → Shrinks a (comma_tokens f xs)
     by_list [] a l sound = subst (λ (z : List TheToken). Shrinks z []) (sym l) shrinks_none
     by_list (x ∷ xs) a l sound =
-        let (m, n) = sound_cut l.front l.back (subst Sound l.tokens_are sound) in
+        let (m, n) = sound_cut l.prefix l.back (subst Sound l.tokens_are sound) in
         subst (λ (z : List TheToken). Shrinks z (comma_tokens f (x ∷ xs))) (sym l.tokens_are)
-        (shrinks_append l.front (f x) l.back (flat_map (λ y. a_mark Comma ∷ f y) xs) (phrase.covered l.front x l.front_is m) ((many_covers behind).covered l.back xs l.back_is n))
+        (shrinks_append l.prefix (f x) l.back (flat_map (λ y. a_mark Comma ∷ f y) xs) (phrase.covered l.prefix x l.prefix_is m) ((many_covers behind).covered l.back xs l.back_is n))
 
 -- One comma stands behind each name but the last, and the one that may stand behind the last isn't printed.
 members_shrink : (xs : List TheName) (a : List TheToken) → Members a xs → Sound a → Shrinks a (comma_tokens name_tokens xs)
 members_shrink [] a l sound = subst (λ (z : List TheToken). Shrinks z []) (sym l) shrinks_none
 members_shrink (x ∷ []) a l sound =
-    let (m, n) = sound_cut l.front l.back (subst Sound l.tokens_are sound) in
+    let (m, n) = sound_cut l.prefix l.back (subst Sound l.tokens_are sound) in
     subst (λ (z : List TheToken). Shrinks z (a_name x ∷ [])) (sym l.tokens_are)
-    (shrinks_append l.front (a_name x ∷ []) l.back [] (name_covers.covered l.front x l.front_is m) (behind [] (λ b k. k) l.back l.back_is n))
+    (shrinks_append l.prefix (a_name x ∷ []) l.back [] (name_covers.covered l.prefix x l.prefix_is m) (behind [] (λ b k. k) l.back l.back_is n))
   where
     behind : (none : List TheName) → ((b : List TheToken) → Members b none → b ≡ []) → (b : List TheToken)
         → ((none ≡ []) × (b ≡ [])) ⊎ Joined (λ comma. TheMark Comma comma tt) (λ rest. Members rest none) b → Sound b → Shrinks b []
     behind none empty b (inl (last, ends)) sound = subst (λ (z : List TheToken). Shrinks z []) (sym ends) shrinks_none
     behind none empty b (inr j) sound =
-        let (m, n) = sound_cut j.front j.back (subst Sound j.tokens_are sound) in
+        let (m, n) = sound_cut j.prefix j.back (subst Sound j.tokens_are sound) in
         subst (λ (z : List TheToken). Shrinks z []) (sym j.tokens_are)
-        (shrinks_append j.front [] j.back [] ((unprinted Comma).covered j.front tt j.front_is m)
+        (shrinks_append j.prefix [] j.back [] ((unprinted Comma).covered j.prefix tt j.prefix_is m)
         (subst (λ (z : List TheToken). Shrinks z []) (sym (empty j.back j.back_is)) shrinks_none))
 members_shrink (x ∷ y ∷ ys) a l sound =
-    let (m, n) = sound_cut l.front l.back (subst Sound l.tokens_are sound) in
+    let (m, n) = sound_cut l.prefix l.back (subst Sound l.tokens_are sound) in
     subst (λ (z : List TheToken). Shrinks z (comma_tokens name_tokens (x ∷ y ∷ ys))) (sym l.tokens_are)
-    (shrinks_append l.front (a_name x ∷ []) l.back (flat_map (λ z. a_mark Comma ∷ name_tokens z) (y ∷ ys)) (name_covers.covered l.front x l.front_is m)
+    (shrinks_append l.prefix (a_name x ∷ []) l.back (flat_map (λ z. a_mark Comma ∷ name_tokens z) (y ∷ ys)) (name_covers.covered l.prefix x l.prefix_is m)
     (behind (λ b k s. members_shrink (y ∷ ys) b k s) l.back l.back_is n))
   where
     behind : ((b : List TheToken) → Members b (y ∷ ys) → Sound b → Shrinks b (comma_tokens name_tokens (y ∷ ys))) → (b : List TheToken)
@@ -293,10 +293,10 @@ members_shrink (x ∷ y ∷ ys) a l sound =
         → Shrinks b (flat_map (λ z. a_mark Comma ∷ name_tokens z) (y ∷ ys))
     behind others b (inl (last, ends)) sound = absurd (let e : y ∷ ys ≡ [] = last in cc)
     behind others b (inr j) sound =
-        let (m, n) = sound_cut j.front j.back (subst Sound j.tokens_are sound) in
+        let (m, n) = sound_cut j.prefix j.back (subst Sound j.tokens_are sound) in
         subst (λ (z : List TheToken). Shrinks z (flat_map (λ z. a_mark Comma ∷ name_tokens z) (y ∷ ys))) (sym j.tokens_are)
-        (subst (λ (z : List TheToken). Shrinks (j.front ++ j.back) z) (sym (flat_map-cons (λ z. a_mark Comma ∷ name_tokens z) y ys))
-        (shrinks_append j.front (a_mark Comma ∷ []) j.back (comma_tokens name_tokens (y ∷ ys)) ((mark_covers Comma).covered j.front tt j.front_is m) (others j.back j.back_is n)))
+        (subst (λ (z : List TheToken). Shrinks (j.prefix ++ j.back) z) (sym (flat_map-cons (λ z. a_mark Comma ∷ name_tokens z) y ys))
+        (shrinks_append j.prefix (a_mark Comma ∷ []) j.back (comma_tokens name_tokens (y ∷ ys)) ((mark_covers Comma).covered j.prefix tt j.prefix_is m) (others j.back j.back_is n)))
 
 members_covers : Covers Members (comma_tokens name_tokens)
 members_covers = record { covered = λ a xs l sound. members_shrink xs a l sound }
@@ -319,9 +319,9 @@ field_covers =
 bound_covers : Covers (TheMark Comma >> ANumber) (λ n. a_mark Comma ∷ a_number n ∷ [])
 bound_covers = record {
   covered = λ a x l sound.
-      let (m, n) = sound_cut l.front l.back (subst Sound l.tokens_are sound) in
+      let (m, n) = sound_cut l.prefix l.back (subst Sound l.tokens_are sound) in
       subst (λ (z : List TheToken). Shrinks z (a_mark Comma ∷ a_number x ∷ [])) (sym l.tokens_are)
-      (shrinks_append l.front (a_mark Comma ∷ []) l.back (a_number x ∷ []) ((mark_covers Comma).covered l.front l.middle l.front_is m) (number_covers.covered l.back x l.back_is n));
+      (shrinks_append l.prefix (a_mark Comma ∷ []) l.back (a_number x ∷ []) ((mark_covers Comma).covered l.prefix l.middle l.prefix_is m) (number_covers.covered l.back x l.back_is n));
 }
 
 abbrev inside_tokens : Inside → List TheToken

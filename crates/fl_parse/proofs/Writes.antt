@@ -22,12 +22,12 @@ use Rattle.fl_parse.proofs.Lists.{so_true}
 put_one : {A B : Type 0} {read : TheToken → Option A} {M : A → List TheToken → B → Type 0} (token : TheToken) (x : A) (back : List TheToken) (y : B)
     → read token ≡ Some x → M x back y → Then (One read) M (token ∷ back) y
 put_one token x back y e m =
-    record { front = token ∷ []; back = back; middle = x; tokens_are = refl; front_is = record { token = token; tokens_are = refl; reads = e }; back_is = m }
+    record { prefix = token ∷ []; back = back; middle = x; tokens_are = refl; prefix_is = record { token = token; tokens_are = refl; reads = e }; back_is = m }
 
 -- a phrase, and what follows
-put : {A B : Type 0} {L : List TheToken → A → Type 0} {M : A → List TheToken → B → Type 0} (front : List TheToken) (x : A) (back : List TheToken) (y : B)
-    → L front x → M x back y → Then L M (front ++ back) y
-put front x back y l m = record { front = front; back = back; middle = x; tokens_are = refl; front_is = l; back_is = m }
+put : {A B : Type 0} {L : List TheToken → A → Type 0} {M : A → List TheToken → B → Type 0} (prefix : List TheToken) (x : A) (back : List TheToken) (y : B)
+    → L prefix x → M x back y → Then L M (prefix ++ back) y
+put prefix x back y l m = record { prefix = prefix; back = back; middle = x; tokens_are = refl; prefix_is = l; back_is = m }
 
 means : {A : Type 0} (value : A) → Means value [] value
 means value = record { tokens_are = refl; value_is = refl }
@@ -51,10 +51,10 @@ fields_written : (fields : List TheField) → Many AField (flat_map field_tokens
 fields_written [] = refl
 fields_written (field ∷ fields) =
     record {
-      front = field_tokens field;
+      prefix = field_tokens field;
       back = flat_map field_tokens fields;
       tokens_are = flat_map-cons field_tokens field fields;
-      front_is = field_written field;
+      prefix_is = field_written field;
       back_is = fields_written fields;
     }
 
@@ -64,15 +64,15 @@ more_members_written : (names : List TheName)
 more_members_written [] = inl (refl, refl)
 more_members_written (name ∷ names) =
     inr (record {
-      front = a_mark Comma ∷ [];
+      prefix = a_mark Comma ∷ [];
       back = a_name name ∷ flat_map (λ y. a_mark Comma ∷ name_tokens y) names;
       tokens_are = flat_map-cons (λ y. a_mark Comma ∷ name_tokens y) name names;
-      front_is = one (a_mark Comma) tt refl;
+      prefix_is = one (a_mark Comma) tt refl;
       back_is = record {
-        front = a_name name ∷ [];
+        prefix = a_name name ∷ [];
         back = flat_map (λ y. a_mark Comma ∷ name_tokens y) names;
         tokens_are = refl;
-        front_is = one (a_name name) (name_aside name) refl;
+        prefix_is = one (a_name name) (name_aside name) refl;
         back_is = more_members_written names;
       };
     })
@@ -81,10 +81,10 @@ members_written : (names : List TheName) → Members (comma_tokens name_tokens n
 members_written [] = refl
 members_written (name ∷ names) =
     record {
-      front = a_name name ∷ [];
+      prefix = a_name name ∷ [];
       back = flat_map (λ y. a_mark Comma ∷ name_tokens y) names;
       tokens_are = refl;
-      front_is = one (a_name name) (name_aside name) refl;
+      prefix_is = one (a_name name) (name_aside name) refl;
       back_is = more_members_written names;
     }
 
@@ -111,9 +111,9 @@ shape_written type_name (sized length bound) fits =
     (put_one (a_mark CloseBracket) tt _ _ refl (means (sized (name_aside length) (option_map number_aside bound)))))))
 
 -- a phrase at the end
-put_last : {A B : Type 0} {L : List TheToken → A → Type 0} {M : A → List TheToken → B → Type 0} (front : List TheToken) (x : A) (y : B)
-    → L front x → M x [] y → Then L M front y
-put_last front x y l m = record { front = front; back = []; middle = x; tokens_are = sym (append-nil front); front_is = l; back_is = m }
+put_last : {A B : Type 0} {L : List TheToken → A → Type 0} {M : A → List TheToken → B → Type 0} (prefix : List TheToken) (x : A) (y : B)
+    → L prefix x → M x [] y → Then L M prefix y
+put_last prefix x y l m = record { prefix = prefix; back = []; middle = x; tokens_are = sym (append-nil prefix); prefix_is = l; back_is = m }
 
 argument_written : (argument : TheArgument) → Fits argument.type_name argument.shape → AnArgument (argument_tokens argument) (argument_aside argument)
 argument_written argument fits =
@@ -139,12 +139,12 @@ bracket_fits type_name (length_word length) tokens shape token e l =
 shape_fits : (type_name : TheName) (tokens : List TheToken) (shape : TheShape) → AShape type_name tokens shape → Fits type_name shape
 shape_fits type_name tokens shape (inl m) = subst (λ (z : TheShape). Fits type_name z) (sym m.value_is) tt
 shape_fits type_name tokens shape (inr l) =
-    bracket_fits type_name l.back_is.middle l.back_is.back shape l.back_is.front_is.token l.back_is.front_is.reads l.back_is.back_is
+    bracket_fits type_name l.back_is.middle l.back_is.back shape l.back_is.prefix_is.token l.back_is.prefix_is.reads l.back_is.back_is
 
 argument_fits : (tokens : List TheToken) (argument : TheArgument) → AnArgument tokens argument → Fits argument.type_name argument.shape
 argument_fits tokens argument l =
     subst (λ (z : TheArgument). Fits z.type_name z.shape) (sym l.back_is.back_is.back_is.value_is)
-    (shape_fits l.middle l.back_is.back_is.front l.back_is.back_is.middle l.back_is.back_is.front_is)
+    (shape_fits l.middle l.back_is.back_is.prefix l.back_is.back_is.middle l.back_is.back_is.prefix_is)
 
 argument_again : (tokens : List TheToken) (argument : TheArgument) → AnArgument tokens argument → AnArgument (argument_tokens argument) (argument_aside argument)
 argument_again tokens argument l = argument_written argument (argument_fits tokens argument l)
@@ -162,7 +162,7 @@ directed_again : (tokens : List TheToken) (directed : TheDirected) → ADirected
 directed_again tokens directed l =
     directed_written directed
     (subst (λ (z : TheDirected). AnArgument (argument_tokens z.argument) (argument_aside z.argument)) (sym l.back_is.back_is.value_is)
-    (argument_again l.back_is.front l.back_is.middle l.back_is.front_is))
+    (argument_again l.back_is.prefix l.back_is.middle l.back_is.prefix_is))
 
 -- what holds of each item
 abbrev Each : {A : Type 0} → (A → Type 0) → List A → Type 0
@@ -172,35 +172,35 @@ Each R (x ∷ xs) = R x × Each R xs
 many_each : {A : Type 0} (P : List TheToken → A → Type 0) (R : A → Type 0) → ((a : List TheToken) (x : A) → P a x → R x)
     → (a : List TheToken) (xs : List A) → Many P a xs → Each R xs
 many_each P R again a [] l = tt
-many_each P R again a (x ∷ xs) l = (again l.front x l.front_is, many_each P R again l.back xs l.back_is)
+many_each P R again a (x ∷ xs) l = (again l.prefix x l.prefix_is, many_each P R again l.back xs l.back_is)
 
 separated_each : {A : Type 0} (P : List TheToken → A → Type 0) (R : A → Type 0) → ((a : List TheToken) (x : A) → P a x → R x)
     → (a : List TheToken) (xs : List A) → Separated P a xs → Each R xs
 separated_each P R again a [] l = tt
 separated_each P R again a (x ∷ xs) l =
-    (again l.front x l.front_is, many_each (TheMark Comma >> P) R (λ b y m. again m.back y m.back_is) l.back xs l.back_is)
+    (again l.prefix x l.prefix_is, many_each (TheMark Comma >> P) R (λ b y m. again m.back y m.back_is) l.back xs l.back_is)
 
 many_written : {A : Type 0} (P : List TheToken → A → Type 0) (f : A → List TheToken) (g : A → A) → (xs : List A) → Each (λ x. P (f x) (g x)) xs → Many P (flat_map f xs) (map g xs)
 many_written P f g [] each = refl
 many_written P f g (x ∷ xs) each =
-    record { front = f x; back = flat_map f xs; tokens_are = flat_map-cons f x xs; front_is = each.0; back_is = many_written P f g xs each.1 }
+    record { prefix = f x; back = flat_map f xs; tokens_are = flat_map-cons f x xs; prefix_is = each.0; back_is = many_written P f g xs each.1 }
 
 commas_written : {A : Type 0} (P : List TheToken → A → Type 0) (f : A → List TheToken) (g : A → A) → (xs : List A) → Each (λ x. P (f x) (g x)) xs
     → Many (TheMark Comma >> P) (flat_map (λ y. a_mark Comma ∷ f y) xs) (map g xs)
 commas_written P f g [] each = refl
 commas_written P f g (x ∷ xs) each =
     record {
-      front = a_mark Comma ∷ f x;
+      prefix = a_mark Comma ∷ f x;
       back = flat_map (λ y. a_mark Comma ∷ f y) xs;
       tokens_are = flat_map-cons (λ y. a_mark Comma ∷ f y) x xs;
-      front_is = put_one (a_mark Comma) tt (f x) (g x) refl each.0;
+      prefix_is = put_one (a_mark Comma) tt (f x) (g x) refl each.0;
       back_is = commas_written P f g xs each.1;
     }
 
 separated_written : {A : Type 0} (P : List TheToken → A → Type 0) (f : A → List TheToken) (g : A → A) → (xs : List A) → Each (λ x. P (f x) (g x)) xs → Separated P (comma_tokens f xs) (map g xs)
 separated_written P f g [] each = refl
 separated_written P f g (x ∷ xs) each =
-    record { front = f x; back = flat_map (λ y. a_mark Comma ∷ f y) xs; tokens_are = refl; front_is = each.0; back_is = commas_written P f g xs each.1 }
+    record { prefix = f x; back = flat_map (λ y. a_mark Comma ∷ f y) xs; tokens_are = refl; prefix_is = each.0; back_is = commas_written P f g xs each.1 }
 
 -- Declarations.
 
@@ -284,15 +284,15 @@ production_again : (opening : Opening) (tokens : List TheToken) (d : TheDeclarat
 production_again alias_word tokens d l =
     subst (λ (z : TheDeclaration). ADeclaration (declaration_tokens z) (declaration_aside z)) (sym l.back_is.back_is.back_is.value_is)
     (alias_written l.middle l.back_is.middle)
-production_again typedef_word tokens d l = definition_again l.middle l.front_is.token l.back d l.front_is.reads l.back_is
+production_again typedef_word tokens d l = definition_again l.middle l.prefix_is.token l.back d l.prefix_is.reads l.back_is
 production_again (message_word kind) tokens d l =
     subst (λ (z : TheDeclaration). ADeclaration (declaration_tokens z) (declaration_aside z)) (sym l.back_is.back_is.back_is.back_is.back_is.value_is)
     (message_written kind l.middle l.back_is.back_is.middle
-    (separated_each AnArgument (λ x. AnArgument (argument_tokens x) (argument_aside x)) argument_again l.back_is.back_is.front l.back_is.back_is.middle l.back_is.back_is.front_is))
+    (separated_each AnArgument (λ x. AnArgument (argument_tokens x) (argument_aside x)) argument_again l.back_is.back_is.prefix l.back_is.back_is.middle l.back_is.back_is.prefix_is))
 production_again rpc_word tokens d l =
     subst (λ (z : TheDeclaration). ADeclaration (declaration_tokens z) (declaration_aside z)) (sym l.back_is.back_is.back_is.back_is.back_is.value_is)
     (rpc_written l.middle l.back_is.back_is.middle
-    (separated_each ADirected (λ x. ADirected (directed_tokens x) (directed_aside x)) directed_again l.back_is.back_is.front l.back_is.back_is.middle l.back_is.back_is.front_is))
+    (separated_each ADirected (λ x. ADirected (directed_tokens x) (directed_aside x)) directed_again l.back_is.back_is.prefix l.back_is.back_is.middle l.back_is.back_is.prefix_is))
 
 -- The interface.
 
@@ -313,12 +313,12 @@ body_again : (tokens : List TheToken) (tree : TheTree) → Body tokens tree → 
 body_again tokens tree l =
     let inner = l.back_is.back_is.back_is.back_is in
     let each : Each (λ d. ADeclaration (declaration_tokens d) (declaration_aside d)) inner.middle =
-    many_each ADeclaration (λ d. ADeclaration (declaration_tokens d) (declaration_aside d)) (λ a d m. production_again m.middle m.back d m.back_is) inner.front inner.middle inner.front_is in
+    many_each ADeclaration (λ d. ADeclaration (declaration_tokens d) (declaration_aside d)) (λ a d m. production_again m.middle m.back d m.back_is) inner.prefix inner.middle inner.prefix_is in
     body_written tree
     (subst (λ (z : TheTree). Each (λ d. ADeclaration (declaration_tokens d) (declaration_aside d)) z.declarations) (sym inner.back_is.back_is.value_is) each)
 
 pub printed_derives : PrintedDerives
 printed_derives tokens tree d =
     put_last (tokens_of_tree tree) (spans_aside tree) (spans_aside tree)
-    (body_again d.front tree (subst (λ (z : TheTree). Body d.front z) (sym d.back_is.back_is.value_is) d.front_is))
-    (record { front = []; back = []; middle = None; tokens_are = refl; front_is = refl; back_is = means (spans_aside tree) })
+    (body_again d.prefix tree (subst (λ (z : TheTree). Body d.prefix z) (sym d.back_is.back_is.value_is) d.prefix_is))
+    (record { prefix = []; back = []; middle = None; tokens_are = refl; prefix_is = refl; back_is = means (spans_aside tree) })

@@ -30,11 +30,11 @@ pub record Means {A : Type 0} (value : A) (tokens : List TheToken) (x : A) : Typ
 
 -- a phrase, and then the one that its value asks for
 pub record Then {A B : Type 0} (first : List TheToken → A → Type 0) (next : A → List TheToken → B → Type 0) (tokens : List TheToken) (y : B) : Type 0 where
-  pub front : List TheToken
+  pub prefix : List TheToken
   pub back : List TheToken
   pub middle : A
-  pub tokens_are : tokens ≡ front ++ back
-  pub front_is : first front middle
+  pub tokens_are : tokens ≡ prefix ++ back
+  pub prefix_is : first prefix middle
   pub back_is : next middle back y
 
 infixl 10 ◌>>=◌
@@ -52,16 +52,16 @@ Optional P tokens (Some x) = P tokens x
 
 -- a list cut in two
 pub record Joined (First Second : List TheToken → Type 0) (tokens : List TheToken) : Type 0 where
-  pub front : List TheToken
+  pub prefix : List TheToken
   pub back : List TheToken
-  pub tokens_are : tokens ≡ front ++ back
-  pub front_is : First front
+  pub tokens_are : tokens ≡ prefix ++ back
+  pub prefix_is : First prefix
   pub back_is : Second back
 
 -- a phrase any number of times
 abbrev pub Many : {A : Type 0} → (List TheToken → A → Type 0) → List TheToken → List A → Type 0
 Many P tokens [] = tokens ≡ []
-Many P tokens (x ∷ xs) = Joined (λ front. P front x) (λ back. Many P back xs) tokens
+Many P tokens (x ∷ xs) = Joined (λ prefix. P prefix x) (λ back. Many P back xs) tokens
 
 -- What one token is read as. No word is reserved.
 
@@ -207,7 +207,7 @@ AField = do
 abbrev pub Members : List TheToken → List TheName → Type 0
 Members tokens [] = tokens ≡ []
 Members tokens (name ∷ names) =
-    Joined (λ front. AName front name)
+    Joined (λ prefix. AName prefix name)
     (λ back. ((names ≡ []) × (back ≡ [])) ⊎ Joined (λ comma. TheMark Comma comma tt) (λ rest. Members rest names) back)
     tokens
 
@@ -215,7 +215,7 @@ Members tokens (name ∷ names) =
 abbrev pub Separated : {A : Type 0} → (List TheToken → A → Type 0) → List TheToken → List A → Type 0
 Separated P tokens [] = tokens ≡ []
 Separated P tokens (x ∷ xs) =
-    Joined (λ front. P front x) (λ back. Many (TheMark Comma >> P) back xs) tokens
+    Joined (λ prefix. P prefix x) (λ back. Many (TheMark Comma >> P) back xs) tokens
 
 -- NUMBER "]" or NAME ["," NUMBER] "]"
 abbrev pub InBrackets : Inside → List TheToken → TheShape → Type 0
@@ -356,18 +356,18 @@ pub data ParseOutcome : Type 0 where
 
 -- A fault's number at a token: 8 where the tokens before it are written for a tree, else 7.
 abbrev pub NumberAfter : List TheToken → ℕ → Type 0
-NumberAfter front number =
-    ((number ≡ 8) × (tree : TheTree) × Derives front tree) ⊎ ((number ≡ 7) × ((tree : TheTree) → Derives front tree → ⊥))
+NumberAfter prefix number =
+    ((number ≡ 8) × (tree : TheTree) × Derives prefix tree) ⊎ ((number ≡ 7) × ((tree : TheTree) → Derives prefix tree → ⊥))
 
 -- The first token with which the tokens so far begin no list that is written for a tree.
 pub record FaultAtToken (tokens : List TheToken) (number at : ℕ) : Type 0 where
-  pub front : List TheToken
+  pub prefix : List TheToken
   pub token : TheToken
   pub later : List TheToken
-  pub tokens_are : tokens ≡ front ++ token ∷ later
-  pub begins : Begins front
-  pub no_more : Begins (front ++ token ∷ []) → ⊥
-  pub number_is : NumberAfter front number
+  pub tokens_are : tokens ≡ prefix ++ token ∷ later
+  pub begins : Begins prefix
+  pub no_more : Begins (prefix ++ token ∷ []) → ⊥
+  pub number_is : NumberAfter prefix number
   pub at_is : at ≡ token.at
 
 -- The text ends where the tokens only begin a list that is written for a tree.

@@ -1,7 +1,6 @@
 pub mod Given
 pub mod Events
 pub mod Calls
-pub mod SameTypes
 pub mod Rings
 pub mod Ends
 pub mod Waits

@@ -1,16 +1,20 @@
 -- What a file's content shows: the interface that a text stands for or that an image is of, or the first fault.
-use Rattle.std.specs.Prelude.{◌≡◌, ◌⊎◌, ◌==◌, ℕ, Bool, true, false, List, take, drop, Err, IfSome, Option, None, Some, option_map}
+use Rattle.std.specs.Prelude.{◌≡◌, ◌≤◌, ◌⊎◌, ◌==◌, All, length, ℕ, Bool, true, false, List, take, drop, Err, IfSome, Option, None, Some, option_map}
 use Rattle.std.specs.List.{position}
 use Rattle.std.specs.Str.{bytes_eq}
 use Rattle.fl_lex.specs.Token.{TheTokens}
 use Rattle.fl_lex.specs.Outcome as lex
 use Rattle.fl_lex.specs.Outcome.{lexed, Lexes}
+use Rattle.fl_lex.specs.declared.fault.LexFault.TheVariants as lex_faults
 use Rattle.fl_parse.specs.Tree.{TheTree}
 use Rattle.fl_parse.specs.Outcome as parse
-use Rattle.fl_parse.specs.Grammar.{parsed, Parses}
+use Rattle.fl_parse.specs.Grammar.{parsed, Parses, HasHead}
+use Rattle.fl_parse.specs.declared.fault.ParseFault.TheVariants as parse_faults
 use Rattle.fl_check.specs.Interface.{TheInterface}
 use Rattle.fl_check.specs.Outcome as check
-use Rattle.fl_check.specs.Checks.{checked, Checks}
+use Rattle.fl_check.specs.Checks.{checked, Checks, IsSound}
+use Rattle.fl_check.specs.Places.{first_looks}
+use Rattle.fl_check.specs.declared.fault.CheckFault.TheVariants as check_faults
 use Rattle.fl_check.specs.declared.explained.TextFault.{TextFault}
 use Rattle.fl_check.specs.declared.explained.TextFault.TheVariants.{Lex, Parse, Check}
 use Rattle.fl_check.specs.Explained.{text_fault_offset, place_of, place_in}
@@ -18,6 +22,7 @@ use Rattle.fl_value.specs.declared.value.PlanNo.{PlanNo}
 use Rattle.fl_value.specs.declared.value.PlanNo.TheVariants.{Two}
 use Rattle.fl_image.specs.Image.{magic, has_image, image_of}
 use Rattle.fl_image.specs.Reading.{FirstFault}
+use Rattle.fl_image.specs.Outcome.{BeginsAsImage}
 use Rattle.fl_show.specs.declared.fault.ShowFault.{ShowFault}
 use Rattle.fl_show.specs.declared.fault.ShowFault.TheVariants.{Refused, NoImage, Memory}
 use Rattle.fl_show.specs.Table.{IsTable}
@@ -30,14 +35,16 @@ pub record StandsFor (bytes : List ℕ) (i : TheInterface) : Type 0 where
   pub derives : Parses tokens (parsed tree)
   pub checks : Checks tree (checked i)
 
--- the first fault of a text, where memory did not run out
+-- the first fault of a text; where memory ran out, what was found before it did: that the text is no longer than one may be,
+-- or its tokens, with an interface's head, or its tree, which keeps the rules at the place that is looked at first
 abbrev pub IsFaultOf : List ℕ → TextFault → Type 0
-IsFaultOf bytes (Lex fault) = IfSome (lex.outcome_of (Err fault)) (Lexes bytes)
+IsFaultOf bytes (Lex fault) = IfSome (lex.outcome_of (Err fault)) (Lexes bytes) × (fault ≡ lex_faults.Memory → length bytes ≤ 65536)
 IsFaultOf bytes (Parse fault) =
     (tokens : TheTokens) × Lexes bytes (lexed tokens) × IfSome (parse.outcome_of (Err fault)) (Parses tokens)
+    × (fault ≡ parse_faults.Memory → HasHead tokens.tokens)
 IsFaultOf bytes (Check fault) =
     (tokens : TheTokens) × (tree : TheTree) × Lexes bytes (lexed tokens) × Parses tokens (parsed tree)
-    × IfSome (check.outcome_of (Err fault)) (Checks tree)
+    × IfSome (check.outcome_of (Err fault)) (Checks tree) × (fault ≡ check_faults.Memory → All IsSound (first_looks tree.declarations))
 
 -- bytes up to the place, where there is one
 abbrev pub up_to : Option ℕ → List ℕ → List ℕ
@@ -52,7 +59,8 @@ first_line bytes = up_to (position (λ byte. byte == 10) bytes) bytes
 abbrev pub excerpt_at : List ℕ → ℕ → List ℕ
 excerpt_at bytes offset = take 40 (first_line (drop offset bytes))
 
--- what is told of a text's fault: where it stands, in bytes and in lines, and what stands there; nothing where memory ran out
+-- what is told of a text's fault: where it stands, in bytes and in lines, and what stands there; where memory ran out only that
+-- the text is no longer than one may be
 abbrev pub IsRefusalOf : List ℕ → ShowFault → Type 0
 IsRefusalOf bytes (Refused r) =
     IsFaultOf bytes r.explained.fault
@@ -60,13 +68,13 @@ IsRefusalOf bytes (Refused r) =
     × (option_map place_of r.explained.place ≡ Some (place_in bytes r.offset))
     × (r.found.now ≡ excerpt_at bytes r.offset)
 IsRefusalOf bytes (NoImage r) = ⊥
-IsRefusalOf bytes Memory = Unit {0}
+IsRefusalOf bytes Memory = length bytes ≤ 65536
 
--- what is told of an image's fault: the first; nothing where memory ran out
+-- what is told of an image's fault: the first; where memory ran out only that the bytes begin as an image does
 abbrev pub IsImageRefusalOf : List ℕ → ShowFault → Type 0
 IsImageRefusalOf bytes (Refused r) = ⊥
 IsImageRefusalOf bytes (NoImage r) = FirstFault bytes r.fault
-IsImageRefusalOf bytes Memory = Unit {0}
+IsImageRefusalOf bytes Memory = BeginsAsImage bytes
 
 -- the image of an interface that has one
 pub record IsImageOf (bytes : List ℕ) (plan : PlanNo) (i : TheInterface) : Type 0 where

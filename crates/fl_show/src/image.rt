@@ -16,7 +16,7 @@ use std::alloc::Global;
 ///
 /// # Errors
 /// [`ShowFault::Refused`] with the text's first fault where it is no interface; [`ShowFault::Memory`] for want
-/// of memory.
+/// of memory, which is answered only of texts of at most 65,536 bytes.
 pub fn compile_text(alloc: Global, text: &[u8]) -> Result<Vec<u8>, ShowFault<'_>>
     ensures image { IfOk result (λ v. (i : TheInterface) × StandsFor text.now i × IsImageOf v.items Two i) }
     ensures refused { IfErr result (λ e. IsRefusalOf text.now e) }

@@ -18,7 +18,7 @@ const LONGEST_EXCERPT: usize = 40;
 ///
 /// # Errors
 /// The text's first fault: one of its bytes, else of its tokens, else of its declarations; or E99 for want of
-/// memory.
+/// memory, behind what its step finds before it takes memory.
 pub fn read_interface(alloc: Global, text: &[u8]) -> Result<Interface, TextFault>
     ensures interface { IfOk result (λ i. StandsFor text.now (interface_of i)) }
     ensures fault { IfErr result (λ e. IsFaultOf text.now e) }

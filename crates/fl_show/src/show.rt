@@ -39,7 +39,7 @@ fn starts_as_image(content: &[u8]) -> bool
 ///
 /// # Errors
 /// [`ShowFault::Refused`] with the text's first fault where it is no interface; [`ShowFault::Memory`] for want
-/// of memory.
+/// of memory, which is answered only of texts of at most 65,536 bytes.
 pub fn show_text(alloc: Global, text: &[u8]) -> Result<Vec<u8>, ShowFault<'_>>
     ensures table { IfOk result (λ t. ShowsText text.now t.items) }
     ensures refused { IfErr result (λ e. IsRefusalOf text.now e) }
@@ -53,7 +53,8 @@ pub fn show_text(alloc: Global, text: &[u8]) -> Result<Vec<u8>, ShowFault<'_>>
 /// The plan table of the interface that an image is of, under the plan that it is of.
 ///
 /// # Errors
-/// [`ShowFault::NoImage`] with the first fault where the bytes are no image; [`ShowFault::Memory`] when out of memory.
+/// [`ShowFault::NoImage`] with the first fault where the bytes are no image; [`ShowFault::Memory`] when out of memory,
+/// which is answered only of bytes that begin as an image does, with the magic, a version and a name.
 pub fn show_image<'a>(alloc: Global, bytes: &[u8]) -> Result<Vec<u8>, ShowFault<'a>>
     ensures table { IfOk result (λ t. ShowsImage bytes.now t.items) }
     ensures refused { IfErr result (λ e. IsImageRefusalOf bytes.now e) }

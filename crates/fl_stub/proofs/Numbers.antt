@@ -76,25 +76,25 @@ pub cut : (done more : List ℕ) (t low j : ℕ) → j ≤ t
     → done ++ (number_bytes t low ++ more) ≡ (done ++ number_bytes j (low % 256 ^ j)) ++ (number_bytes (t - j) (low / 256 ^ j) ++ more)
 cut done more t low j few =
     let e : t ≡ j + (t - j) = omega (arith, few) in
-    let front : List ℕ = number_bytes j (low % 256 ^ j) in
+    let prefix : List ℕ = number_bytes j (low % 256 ^ j) in
     let back : List ℕ = number_bytes (t - j) (low / 256 ^ j) in
     ap (λ (k : ℕ). done ++ (number_bytes k low ++ more)) e
     ∙ ap (λ (x : List ℕ). done ++ (x ++ more)) (split_bytes j (t - j) low)
-    ∙ ap (λ (x : List ℕ). done ++ x) (append_assoc front back more)
-    ∙ sym (append_assoc done front (back ++ more))
+    ∙ ap (λ (x : List ℕ). done ++ x) (append_assoc prefix back more)
+    ∙ sym (append_assoc done prefix (back ++ more))
 
-pub same_front : (u v a b : List ℕ) → length u ≡ length v → ((i : ℕ) → i < length u → get_or (u ++ a) i 0 ≡ get_or (v ++ b) i 0) → u ≡ v
-same_front [] [] a b e h = refl
-same_front [] (y ∷ v) a b e h = absurd (omega (arith, e))
-same_front (x ∷ u) [] a b e h = absurd (omega (arith, e))
-same_front (x ∷ u) (y ∷ v) a b e h =
+pub same_prefix : (u v a b : List ℕ) → length u ≡ length v → ((i : ℕ) → i < length u → get_or (u ++ a) i 0 ≡ get_or (v ++ b) i 0) → u ≡ v
+same_prefix [] [] a b e h = refl
+same_prefix [] (y ∷ v) a b e h = absurd (omega (arith, e))
+same_prefix (x ∷ u) [] a b e h = absurd (omega (arith, e))
+same_prefix (x ∷ u) (y ∷ v) a b e h =
     let first : x ≡ y = h 0 (omega arith) in
     let long : length u ≡ length v = omega (arith, e) in
-    let rest : u ≡ v = same_front u v a b long (λ i small. h (suc i) (omega (arith, small))) in
+    let rest : u ≡ v = same_prefix u v a b long (λ i small. h (suc i) (omega (arith, small))) in
     λ i. first i ∷ rest i
 
-pub front_follows : (u a b : List ℕ) (n : ℕ) → length u ≡ n → Follows n (u ++ a) (u ++ b)
-front_follows u a b n long = record { each = λ i small. get_or_append_left u a 0 i (omega (arith, small, long)) ∙ sym (get_or_append_left u b 0 i (omega (arith, small, long))) }
+pub prefix_follows : (u a b : List ℕ) (n : ℕ) → length u ≡ n → Follows n (u ++ a) (u ++ b)
+prefix_follows u a b n long = record { each = λ i small. get_or_append_left u a 0 i (omega (arith, small, long)) ∙ sym (get_or_append_left u b 0 i (omega (arith, small, long))) }
 
 -- two lists that begin with the same bytes and then with as many of two numbers' follow one another only if those are the same
 pub same_low : (done a b : List ℕ) (j x y n : ℕ) → x < 256 ^ j → y < 256 ^ j → n ≡ length done + j
@@ -102,7 +102,7 @@ pub same_low : (done a b : List ℕ) (j x y n : ℕ) → x < 256 ^ j → y < 256
 same_low done a b j x y n low low2 long f =
     let one : length (done ++ number_bytes j x) ≡ length done + j = length-append done (number_bytes j x) ∙ ap (λ (k : ℕ). length done + k) (length_bytes j x) in
     let two : length (done ++ number_bytes j y) ≡ length done + j = length-append done (number_bytes j y) ∙ ap (λ (k : ℕ). length done + k) (length_bytes j y) in
-    let same = same_front (done ++ number_bytes j x) (done ++ number_bytes j y) a b (one ∙ sym two) (λ i small. f.each i (omega (arith, small, one, long))) in
+    let same = same_prefix (done ++ number_bytes j x) (done ++ number_bytes j y) a b (one ∙ sym two) (λ i small. f.each i (omega (arith, small, one, long))) in
     same_number j x y low low2 (append_cancel_left done (number_bytes j x) (number_bytes j y) same)
 
 -- two numbers, one behind the other, have no more bytes than both

@@ -13,7 +13,7 @@ use Rattle.fl_stub.specs.Marks.{marks_of, mark_at}
 use Rattle.fl_stub.specs.Streams.{Follows, GoesOn, BeginsPayload, IsPayload, LeavesPayloads}
 use Rattle.fl_stub.specs.Rests.{TheField, Rest, no_more, goes_by, takes, rest_all, onto, told, told_number, told_rest, RestTurns, rest_bytes, rest_marks, IsSound, AllSound, GoesFrom, Reaches, IsPartOfField}
 use Rattle.fl_stub.proofs.Trees.{all_bytes, all_marks, tree_turns, turns_tree}
-use Rattle.fl_stub.proofs.Numbers.{length_bytes, pow_positive, cut, front_follows, same_low}
+use Rattle.fl_stub.proofs.Numbers.{length_bytes, pow_positive, cut, prefix_follows, same_low}
 
 -- each rest of sound fields has an end
 pub record Ends (r : Rest) : Type 0 where
@@ -94,8 +94,8 @@ pub record CanGo (b : Block) (taken all : List ℕ) (p : ℕ) : Type 0 where
   pub full : List ℕ
   pub goes : GoesOn b all p (taken ++ tail) full
 
-long_front : (done : List ℕ) (j x : ℕ) → length (done ++ number_bytes j x) ≡ length done + j
-long_front done j x = length-append done (number_bytes j x) ∙ ap (λ (k : ℕ). length done + k) (length_bytes j x)
+long_prefix : (done : List ℕ) (j x : ℕ) → length (done ++ number_bytes j x) ≡ length done + j
+long_prefix done j x = length-append done (number_bytes j x) ∙ ap (λ (k : ℕ). length done + k) (length_bytes j x)
 
 pub can_go : (b : Block) (f : TheField) (k : ℕ → Rest) (taken done all more : List ℕ) (t low j : ℕ) → Reaches (rest_all b) (takes f k) taken done
     → all ≡ done ++ (number_bytes t low ++ more) → j ≤ t → j < f.width → low % 256 ^ j < f.bound → CanGo b taken all (length done + j)
@@ -103,18 +103,18 @@ can_go b f k taken done all more t low j reach is few less below =
     let y = pick f j low (reach.sound.0) less below in
     let on = turns_on b f k taken done y.x reach y.at_least y.below in
     let full : List ℕ = done ++ (number_bytes f.width y.x ++ on.more) in
-    let front : List ℕ = done ++ number_bytes j (low % 256 ^ j) in
+    let prefix : List ℕ = done ++ number_bytes j (low % 256 ^ j) in
     let a : List ℕ = number_bytes (t - j) (low / 256 ^ j) ++ more in
     let c : List ℕ = number_bytes (f.width - j) (y.x / 256 ^ j) ++ on.more in
-    let one : all ≡ front ++ a = is ∙ cut done more t low j few in
-    let two : full ≡ front ++ c = cut done on.more f.width y.x j (omega (arith, less)) ∙ ap (λ (z : ℕ). (done ++ number_bytes j z) ++ c) y.same in
-    let follows : Follows (length done + j) (front ++ a) (front ++ c) = front_follows front a c (length done + j) (long_front done j (low % 256 ^ j)) in
+    let one : all ≡ prefix ++ a = is ∙ cut done more t low j few in
+    let two : full ≡ prefix ++ c = cut done on.more f.width y.x j (omega (arith, less)) ∙ ap (λ (z : ℕ). (done ++ number_bytes j z) ++ c) y.same in
+    let follows : Follows (length done + j) (prefix ++ a) (prefix ++ c) = prefix_follows prefix a c (length done + j) (long_prefix done j (low % 256 ^ j)) in
     record {
       tail = onto f.told y.x on.tail;
       full = full;
       goes = record {
         turns = on.turns;
-        follows = subst (λ (z : List ℕ). Follows (length done + j) z full) (sym one) (subst (λ (z : List ℕ). Follows (length done + j) (front ++ a) z) (sym two) follows);
+        follows = subst (λ (z : List ℕ). Follows (length done + j) z full) (sym one) (subst (λ (z : List ℕ). Follows (length done + j) (prefix ++ a) z) (sym two) follows);
       };
     }
 
@@ -252,7 +252,7 @@ begins_payload b r taken done all have value reach part is =
     let same : value % 256 ^ have ≡ value = mod-eq_of_lt part.small in
     let below = part.below in
     let go = can_go b f part.after taken done all [] have value have at nothing (omega arith) part.less (omega (arith, same, below)) in
-    let long : length done + have ≡ length all = sym (ap length is ∙ long_front done have value) in
+    let long : length done + have ≡ length all = sym (ap length is ∙ long_prefix done have value) in
     record {
       tape = taken ++ go.tail;
       full = go.full;
@@ -350,7 +350,7 @@ pub reach_field : (whole : Rest) (f : TheField) (k : ℕ → Rest) (taken done :
 reach_field whole f k taken done x h low high =
     let sound = h.sound.0 in
     let bytes : List ℕ = number_bytes f.width x in
-    let long : length (done ++ bytes) ≡ length done + f.width = long_front done f.width x in
+    let long : length (done ++ bytes) ≡ length done + f.width = long_prefix done f.width x in
     let tall = sound.high in
     let fits : x < 256 ^ f.width = omega (arith, high, tall) in
     let none : f.told ≡ false → x ≡ 0 = λ e. let one = sound.untold e in omega (arith, one, high) in
@@ -406,7 +406,7 @@ shows_bytes b r taken done all have value reach (inl none) is =
     let same : all ≡ done ++ [] = is ∙ ap (λ (z : ℕ). done ++ number_bytes z value) (none.0) in
     let long : length done ≡ length all = sym (ap length (same ∙ append-nil done)) in
     subst (λ (z : List ℕ). Follows (length all) z (bytes_given b (taken ++ value ∷ []))) (sym same)
-    (subst (λ (z : List ℕ). Follows (length all) (done ++ []) z) (sym given) (front_follows done [] (rest_bytes r (value ∷ [])) (length all) long))
+    (subst (λ (z : List ℕ). Follows (length all) (done ++ []) z) (sym given) (prefix_follows done [] (rest_bytes r (value ∷ [])) (length all) long))
 shows_bytes b r taken done all have value reach (inr part) is =
     let f = part.field in
     let at : Reaches (rest_all b) (takes f part.after) taken done = subst (λ (z : Rest). Reaches (rest_all b) z taken done) part.is reach in
@@ -422,7 +422,7 @@ shows_bytes b r taken done all have value reach (inr part) is =
     let same : all ≡ (done ++ number_bytes have value) ++ [] = is ∙ sym (append-nil (done ++ number_bytes have value)) in
     subst (λ (z : List ℕ). Follows (length all) z (bytes_given b (taken ++ tape))) (sym same)
     (subst (λ (z : List ℕ). Follows (length all) ((done ++ number_bytes have value) ++ []) z) (sym split)
-    (front_follows (done ++ number_bytes have value) [] (number_bytes (f.width - have) (value / 256 ^ have) ++ more) (length all) (sym (ap length is))))
+    (prefix_follows (done ++ number_bytes have value) [] (number_bytes (f.width - have) (value / 256 ^ have) ++ more) (length all) (sym (ap length is))))
   where
     by_told : (t : Bool) → (t ≡ false → value ≡ 0) → told_number t (value ∷ []) ≡ value
     by_told true h = refl

@@ -77,20 +77,20 @@ is_body column d ops (b ∷ outer) s = record {
   stands = record { ops_are = refl; nested = s.nested.1 };
 }
 
-regroup : (front ops inner rest : List Op) → ops ≡ inner ++ rest → front ++ ops ≡ (front ++ inner) ++ rest
-regroup front ops inner rest e = ap (λ (x : List Op). front ++ x) e ∙ sym (append_assoc front inner rest)
+regroup : (prefix ops inner rest : List Op) → ops ≡ inner ++ rest → prefix ++ ops ≡ (prefix ++ inner) ++ rest
+regroup prefix ops inner rest e = ap (λ (x : List Op). prefix ++ x) e ∙ sym (append_assoc prefix inner rest)
 
 -- a loop over what is left inside it stands in front of the blocks around it
-pub closed : (column : Column) (d : ℕ) (loop : Block → Piece) (front ops : List Op) (blocks : List Block) → ((b : Block) → FitsAt column (suc d) b → PieceFitsAt column d (loop b))
-    → ((b : Block) → piece_ops column (loop b) ≡ front ++ (block_ops column b ++ Back ∷ []))
-    → IsStack column (suc d) ops blocks → IsStack column d (front ++ ops) (closes loop blocks)
-closed column d loop front ops blocks fit is s =
+pub closed : (column : Column) (d : ℕ) (loop : Block → Piece) (prefix ops : List Op) (blocks : List Block) → ((b : Block) → FitsAt column (suc d) b → PieceFitsAt column d (loop b))
+    → ((b : Block) → piece_ops column (loop b) ≡ prefix ++ (block_ops column b ++ Back ∷ []))
+    → IsStack column (suc d) ops blocks → IsStack column d (prefix ++ ops) (closes loop blocks)
+closed column d loop prefix ops blocks fit is s =
     let i = is_body column d ops blocks s in
     let made = in_front column d (loop i.body) (stack_ops column d i.outer) i.outer (fit i.body i.fits) i.stands in
-    let e : front ++ ops ≡ piece_ops column (loop i.body) ++ stack_ops column d i.outer
-    = regroup front ops (block_ops column i.body ++ Back ∷ []) (stack_ops column d i.outer) i.ops_are ∙ ap (λ (x : List Op). x ++ stack_ops column d i.outer) (sym (is i.body)) in
-    let at : IsStack column d (front ++ ops) (starts_with (loop i.body) i.outer) = subst (λ (x : List Op). IsStack column d x (starts_with (loop i.body) i.outer)) (sym e) made in
-    subst (λ (x : List Block). IsStack column d (front ++ ops) (closes loop x)) (sym i.blocks_are) at
+    let e : prefix ++ ops ≡ piece_ops column (loop i.body) ++ stack_ops column d i.outer
+    = regroup prefix ops (block_ops column i.body ++ Back ∷ []) (stack_ops column d i.outer) i.ops_are ∙ ap (λ (x : List Op). x ++ stack_ops column d i.outer) (sym (is i.body)) in
+    let at : IsStack column d (prefix ++ ops) (starts_with (loop i.body) i.outer) = subst (λ (x : List Op). IsStack column d x (starts_with (loop i.body) i.outer)) (sym e) made in
+    subst (λ (x : List Block). IsStack column d (prefix ++ ops) (closes loop x)) (sym i.blocks_are) at
 
 -- the walk goes on only where the test holds
 pub record GoesOn (column : Column) (test : Bool) (standing : Standing) (ops : List Op) : Type 0 where

@@ -3,35 +3,35 @@ use Rattle.std.proofs.Common.{◌≡◌, ◌++◌, List, [], ℕ, cond, refl, sy
 use Rattle.std.specs.Prelude.{Result, Ok, Err, OnErr, is_ok}
 use Rattle.fl_value.specs.Printed.{BeginsToAppend}
 
--- a front of the text was appended, and this of it is left
+-- a prefix of the text was appended, and this of it is left
 abbrev pub IsLeft : List ℕ → List ℕ → List ℕ → List ℕ → Type 0
-IsLeft old new text left = (front : List ℕ) × (text ≡ front ++ left) × (new ≡ old ++ front)
+IsLeft old new text left = (prefix : List ℕ) × (text ≡ prefix ++ left) × (new ≡ old ++ prefix)
 
 pub all_left : (old text : List ℕ) → IsLeft old old text text
 all_left old text = ([], refl, sym (append-nil old))
 
 pub one_piece_less : (old out new text left piece rest : List ℕ) → IsLeft old out text left → left ≡ piece ++ rest → new ≡ out ++ piece → IsLeft old new text rest
-one_piece_less old out new text left piece rest (front, whole, was) split now = (
-  front ++ piece,
-  whole ∙ ap (λ (xs : List ℕ). front ++ xs) split ∙ sym (append_assoc front piece rest),
-  now ∙ ap (λ (xs : List ℕ). xs ++ piece) was ∙ append_assoc old front piece,
+one_piece_less old out new text left piece rest (prefix, whole, was) split now = (
+  prefix ++ piece,
+  whole ∙ ap (λ (xs : List ℕ). prefix ++ xs) split ∙ sym (append_assoc prefix piece rest),
+  now ∙ ap (λ (xs : List ℕ). xs ++ piece) was ∙ append_assoc old prefix piece,
 )
 
 pub none_left : (old new text left : List ℕ) → left ≡ [] → IsLeft old new text left → new ≡ old ++ text
-none_left old new text left none (front, whole, was) =
-    was ∙ ap (λ (xs : List ℕ). old ++ xs) (sym (append-nil front) ∙ ap (λ (xs : List ℕ). front ++ xs) (sym none) ∙ sym whole)
+none_left old new text left none (prefix, whole, was) =
+    was ∙ ap (λ (xs : List ℕ). old ++ xs) (sym (append-nil prefix) ∙ ap (λ (xs : List ℕ). prefix ++ xs) (sym none) ∙ sym whole)
 
 -- where a piece is refused
 pub begun_piece : (old out new text left piece rest : List ℕ) → IsLeft old out text left → left ≡ piece ++ rest → BeginsToAppend out new piece → BeginsToAppend old new text
-begun_piece old out new text left piece rest (front, whole, was) split (first, last, parts, now) = (
-  front ++ first,
+begun_piece old out new text left piece rest (prefix, whole, was) split (first, last, parts, now) = (
+  prefix ++ first,
   last ++ rest,
-  whole ∙ ap (λ (xs : List ℕ). front ++ xs) (split ∙ ap (λ (xs : List ℕ). xs ++ rest) parts ∙ append_assoc first last rest) ∙ sym (append_assoc front first (last ++ rest)),
-  now ∙ ap (λ (xs : List ℕ). xs ++ first) was ∙ append_assoc old front first,
+  whole ∙ ap (λ (xs : List ℕ). prefix ++ xs) (split ∙ ap (λ (xs : List ℕ). xs ++ rest) parts ∙ append_assoc first last rest) ∙ sym (append_assoc prefix first (last ++ rest)),
+  now ∙ ap (λ (xs : List ℕ). xs ++ first) was ∙ append_assoc old prefix first,
 )
 
 pub begun_left : (old out new text left : List ℕ) → IsLeft old out text left → new ≡ out → BeginsToAppend old new text
-begun_left old out new text left (front, whole, was) same = (front, left, whole, same ∙ was)
+begun_left old out new text left (prefix, whole, was) same = (prefix, left, whole, same ∙ was)
 
 pub not_begun : (old new text : List ℕ) → new ≡ old → BeginsToAppend old new text
 not_begun old new text same = begun_left old old new text text (all_left old text) same

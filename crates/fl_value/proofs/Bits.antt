@@ -163,7 +163,7 @@ scalar_all s n z b = ⊎_elim
 
 scalar_only : (s : Scalar) (n : ℕ) (after : List ℕ) (z : ℤ) → scalar_back s n ≡ Some z → (c : Datum) (end : List ℕ) → ValueAt (scalar s) (n ∷ after) c end → (number z ≡ c) × (after ≡ end)
 scalar_only s n after z e (number y) end h =
-    let front : n ∷ after ≡ raw_of (scalar_bits s) y ∷ end = h.front in
+    let prefix : n ∷ after ≡ raw_of (scalar_bits s) y ∷ end = h.prefix in
     let heads : raw_of (scalar_bits s) y ≡ n = cc in
     let tails : after ≡ end = cc in
     let found : scalar_back s n ≡ Some y = scalar_all s n y (scalar_range s y h.typed, heads) in
@@ -177,13 +177,13 @@ pub scalar_one : (s : Scalar) (n : ℕ) (after : List ℕ) (z : ℤ) → scalar_
 scalar_one s n after z e =
     let b = scalar_found s n z e in
     record {
-      stands = record { typed = in_range s z b.0; front = ap (λ (k : ℕ). k ∷ after) (sym b.1) };
+      stands = record { typed = in_range s z b.0; prefix = ap (λ (k : ℕ). k ∷ after) (sym b.1) };
       only = scalar_only s n after z e;
     }
 
 pub scalar_none : (s : Scalar) (n : ℕ) (after : List ℕ) → scalar_back s n ≡ None → (c : Datum) (end : List ℕ) → ValueAt (scalar s) (n ∷ after) c end → ⊥
 scalar_none s n after e (number y) end h =
-    let front : n ∷ after ≡ raw_of (scalar_bits s) y ∷ end = h.front in
+    let prefix : n ∷ after ≡ raw_of (scalar_bits s) y ∷ end = h.prefix in
     let heads : raw_of (scalar_bits s) y ≡ n = cc in
     let found : scalar_back s n ≡ Some y = scalar_all s n y (scalar_range s y h.typed, heads) in
     cc
@@ -192,7 +192,7 @@ scalar_none s n after e (elements ds) end h = false≢true h.typed
 scalar_none s n after e (fields ds) end h = false≢true h.typed
 
 pub scalar_at_end : (s : Scalar) (c : Datum) (end : List ℕ) → ValueAt (scalar s) [] c end → ⊥
-scalar_at_end s (number y) end h = let front : [] ≡ raw_of (scalar_bits s) y ∷ end = h.front in cc
+scalar_at_end s (number y) end h = let prefix : [] ≡ raw_of (scalar_bits s) y ∷ end = h.prefix in cc
 scalar_at_end s (string bs) end h = false≢true h.typed
 scalar_at_end s (elements ds) end h = false≢true h.typed
 scalar_at_end s (fields ds) end h = false≢true h.typed
@@ -203,7 +203,7 @@ enum_value count (negsuc n) h = absurd (omega (arith, h))
 
 enum_only : (count n : ℕ) (after : List ℕ) (z : ℤ) → count ≤ 2 ^ 32 → unsigned_back count n ≡ Some z → (c : Datum) (end : List ℕ) → ValueAt (enumeration count) (n ∷ after) c end → (number z ≡ c) × (after ≡ end)
 enum_only count n after z few e (number y) end h =
-    let front : n ∷ after ≡ raw_of 32 y ∷ end = h.front in
+    let prefix : n ∷ after ≡ raw_of 32 y ∷ end = h.prefix in
     let heads : raw_of 32 y ≡ n = cc in
     let tails : after ≡ end = cc in
     let found : unsigned_back count n ≡ Some y = unsigned_all 32 count n y few (enum_range count y h.typed, heads) in
@@ -217,13 +217,13 @@ pub enum_one : (count n : ℕ) (after : List ℕ) (z : ℤ) → count ≤ 2 ^ 32
 enum_one count n after z few e =
     let b = unsigned_found 32 count n z few e in
     record {
-      stands = record { typed = enum_value count z b.0; front = ap (λ (k : ℕ). k ∷ after) (sym b.1) };
+      stands = record { typed = enum_value count z b.0; prefix = ap (λ (k : ℕ). k ∷ after) (sym b.1) };
       only = enum_only count n after z few e;
     }
 
 pub enum_none : (count n : ℕ) (after : List ℕ) → count ≤ 2 ^ 32 → unsigned_back count n ≡ None → (c : Datum) (end : List ℕ) → ValueAt (enumeration count) (n ∷ after) c end → ⊥
 enum_none count n after few e (number y) end h =
-    let front : n ∷ after ≡ raw_of 32 y ∷ end = h.front in
+    let prefix : n ∷ after ≡ raw_of 32 y ∷ end = h.prefix in
     let heads : raw_of 32 y ≡ n = cc in
     let found : unsigned_back count n ≡ Some y = unsigned_all 32 count n y few (enum_range count y h.typed, heads) in
     cc
@@ -232,7 +232,7 @@ enum_none count n after few e (elements ds) end h = false≢true h.typed
 enum_none count n after few e (fields ds) end h = false≢true h.typed
 
 pub enum_at_end : (count : ℕ) (c : Datum) (end : List ℕ) → ValueAt (enumeration count) [] c end → ⊥
-enum_at_end count (number y) end h = let front : [] ≡ raw_of 32 y ∷ end = h.front in cc
+enum_at_end count (number y) end h = let prefix : [] ≡ raw_of 32 y ∷ end = h.prefix in cc
 enum_at_end count (string bs) end h = false≢true h.typed
 enum_at_end count (elements ds) end h = false≢true h.typed
 enum_at_end count (fields ds) end h = false≢true h.typed

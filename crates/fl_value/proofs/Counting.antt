@@ -30,5 +30,5 @@ text_bytes [] h = refl
 text_bytes (x ∷ xs) h =
     let small : ltb x 256 ≡ true = lt-ltb x 256 (h 0) in
     let rest : list_all is_text_byte xs ≡ list_all (λ b. ltb 0 b) xs = text_bytes xs (λ k. h (suc k)) in
-    let front = and-true (ltb 0 x) in
+    let prefix = and-true (ltb 0 x) in
     cc

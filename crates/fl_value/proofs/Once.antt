@@ -2,12 +2,13 @@
 use Rattle.std.proofs.Common.{◌≡◌, ◌≤◌, ◌<◌, ◌+◌, ◌*◌, ◌⊎◌, inl, inr, ℕ, ℤ, pos, neg_ℤ, List, [], ◌∷◌, ◌++◌, length, arith, eqb, refl, ap, sym, subst, ◌∙◌, Bool, true, false, length-append}
 use Rattle.std.specs.Int.{IsInRange}
 use Rattle.std.proofs.lemmas.Bool.Decides.{nat_tests}
-use Rattle.std.proofs.lemmas.Bool.{false≢true, ltb-true, eq-eqb}
-use Rattle.std.proofs.lemmas.Str.Parse.{digit_from_value}
-use Rattle.std.specs.Cmp.{first_so}
+use Rattle.std.specs.Prelude.{nat_le}
+use Rattle.std.proofs.lemmas.Bool.{false≢true, leb-true, eq-eqb}
+use Rattle.std.specs.Cmp.{first_so, second_so}
 use Rattle.std.specs.List.{list_all}
 use Rattle.std.specs.Char.{digit_value}
-use Rattle.fl_value.specs.CallText.{is_blank, is_digit, is_mark, is_plain, Blanks, Digits, Number, plain, minus, TextByte, itself, quote, backslash, coded, TextBytes, Closed, Token, TokenAt, TheToken, a_number, a_text, a_mark, StopsAt}
+use Rattle.fl_lex.specs.Words.{is_digit}
+use Rattle.fl_value.specs.CallText.{is_blank, is_mark, is_plain, Blanks, Digits, Number, plain, minus, TextByte, itself, quote, backslash, coded, TextBytes, Closed, Token, TokenAt, TheToken, a_number, a_text, a_mark, StopsAt}
 use Rattle.fl_value.proofs.Scan.{run_once, digits_once}
 
 pub head_of : (x y : ℕ) (xs ys : List ℕ) → x ∷ xs ≡ y ∷ ys → x ≡ y
@@ -81,7 +82,7 @@ bytes_more (c ∷ s) b a x y (next, first, more) one = (next, first, bytes_more 
 
 -- no digit is a blank, a mark, a quote or a minus
 pub digit_range : (b : ℕ) → is_digit b ≡ true → IsInRange 48 57 b
-digit_range b h = digit_from_value b (ltb-true (digit_value b) 10 h)
+digit_range b h = (leb-true 48 b (first_so (nat_le 48 b) (nat_le b 57) h), leb-true b 57 (second_so (nat_le 48 b) (nat_le b 57) h))
 
 pub blank_cases : (b : ℕ) → is_blank b ≡ true → (b ≡ 32) ⊎ (b ≡ 9)
 blank_cases b h = grind (arith, nat_tests)

@@ -1,6 +1,8 @@
 -- What is printed, and that it reads as what was printed.
 use Rattle.std.proofs.Common.{◌≡◌, ◌≤◌, ◌<◌, ◌+◌, ◌/◌, ◌%◌, ◌^◌, ◌&&◌, ℕ, ℤ, pos, negsuc, zero, suc, cond, not, List, [], ◌∷◌, ◌++◌, arith, refl, ap, sym, subst, ◌∙◌, Bool, true, false, eqb, ltb, leb, append_assoc}
-use Rattle.std.proofs.lemmas.Bool.{eqb-true, ltb-true, lt-ltb}
+use Rattle.std.specs.Prelude.{nat_le}
+use Rattle.std.proofs.lemmas.Bool.{eqb-true, ltb-true, le-leb}
+use Rattle.std.proofs.lemmas.Str.Parse.{digit_from_value}
 use Rattle.std.proofs.lemmas.Bool.Decides.{nat_tests}
 use Rattle.std.proofs.lemmas.Fmt.{decimal_is_IsNumeral_wide, length-decimal-le_wide}
 use Rattle.std.specs.Cmp.{first_so, second_so}
@@ -10,7 +12,8 @@ use Rattle.std.specs.Str.Parse.{AllDigits}
 use Rattle.std.specs.List.{flat_map, list_all}
 use Rattle.fl_value.specs.Value.{Datum, number, string, elements, fields, Data, nothing_more, also, data_from}
 use Rattle.fl_value.specs.Printed.{printed_byte, printed_text, printed_value, printed_values, printed_more, printed_call, is_short, is_printable, are_printable}
-use Rattle.fl_value.specs.CallText.{is_digit, is_plain, StopsAt, IsWord, Digits, Number, plain, minus, TextByte, itself, quote, backslash, coded, TextBytes, TokenAt, Token, TheToken, a_number, a_text, a_mark, SpellsValue, SpellsValues, SpellsMore, SpellsCall, greatest_depth}
+use Rattle.fl_lex.specs.Words.{is_digit, is_name}
+use Rattle.fl_value.specs.CallText.{is_plain, StopsAt, Digits, Number, plain, minus, TextByte, itself, quote, backslash, coded, TextBytes, TokenAt, Token, TheToken, a_number, a_text, a_mark, SpellsValue, SpellsValues, SpellsMore, SpellsCall, greatest_depth}
 use Rattle.fl_value.proofs.Scan.{blank_none}
 
 -- the values from an index on, as they stand after those before
@@ -19,9 +22,14 @@ printed_from zero ds = printed_values ds
 printed_from (suc k) ds = printed_more ds
 
 -- numbers
+digit_passes : (d : ℕ) → digit_value d < 10 → is_digit d ≡ true
+digit_passes d h =
+    let (least, most) = digit_from_value d h in
+    ap (λ t. t && nat_le d 57) (le-leb 48 d least) ∙ le-leb d 57 most
+
 passing_digits : (ds : List ℕ) → AllDigits 10 ds → list_all is_digit ds ≡ true
 passing_digits [] h = refl
-passing_digits (d ∷ ds) h = ap (λ t. t && list_all is_digit ds) (lt-ltb (digit_value d) 10 h.0) ∙ passing_digits ds h.1
+passing_digits (d ∷ ds) h = ap (λ t. t && list_all is_digit ds) (digit_passes d h.0) ∙ passing_digits ds h.1
 
 decimal_digits : (n : ℕ) (rest : List ℕ) → n < 10 ^ 20 → StopsAt is_digit rest → Digits n (decimal n ++ rest) rest
 decimal_digits n rest small stops =
@@ -125,7 +133,7 @@ mutual
       let here = subst (λ a. SpellsValue d a next) (sym (append_assoc (printed_value d) (printed_more ds) x)) one in
       (start, next, token_here (a_mark 44) (44 ∷ start) start (refl, refl), blank_before_value d ((printed_value d ++ printed_more ds) ++ x) next here, more_read ds x (second_so (is_printable d) (are_printable ds) h) stops)
 
-pub call_reads : (name : List ℕ) (values : List Datum) → IsWord name → are_printable (data_from values) ≡ true → greatest_depth (data_from values) ≤ 20 → SpellsCall (printed_call name values) name values
+pub call_reads : (name : List ℕ) (values : List Datum) → is_name name ≡ true → are_printable (data_from values) ≡ true → greatest_depth (data_from values) ≤ 20 → SpellsCall (printed_call name values) name values
 call_reads name values word printable shallow =
     let inside : List ℕ = printed_values (data_from values) ++ (41 ∷ []) in
     record {

@@ -1,5 +1,5 @@
 -- The plan's order: what it does to values beside their types, and how it is undone.
-use Rattle.std.proofs.Common.{◌≡◌, ℕ, zero, suc, ◌+◌, ◌-◌, ◌<◌, ◌≤◌, Bool, true, false, inl, inr, ⊎_elim, ◌⊎◌, List, [], ◌∷◌, ◌++◌, length, map, take, drop, get_or, refl, sym, ◌∙◌, ap, subst, arith, cond, eqb, leb, ltb, ◌&&◌, max, eq-eqb, length-append, append_assoc}
+use Rattle.std.proofs.Common.{◌≡◌, ℕ, zero, suc, ◌+◌, ◌-◌, ◌<◌, ◌≤◌, Bool, true, false, ⊎_elim, ◌⊎◌, List, [], ◌∷◌, ◌++◌, length, map, take, drop, get_or, refl, sym, ◌∙◌, ap, subst, arith, cond, eqb, leb, ltb, ◌&&◌, max, eq-eqb, length-append, append_assoc}
 use Rattle.std.specs.Prelude.{filter}
 use Rattle.std.specs.List.{zip, insert, remove, count_by}
 use Rattle.std.specs.Cmp.{first_so, second_so}
@@ -7,10 +7,9 @@ use Rattle.std.proofs.lemmas.Bool.{cases_lt, false≢true, ne_eqb}
 use Rattle.std.proofs.lemmas.Bool.Decides.{nat_tests}
 use Rattle.std.proofs.lemmas.List.Recursion.{is_count_by}
 use Rattle.std.proofs.lemmas.List.{take-append-drop, append-nil, map-append}
-use Rattle.fl_check.specs.declared.interface.Scalar.{Scalar}
-use Rattle.fl_check.specs.declared.interface.Scalar.TheVariants.{Uint8, Int8, Bool as BoolType, Char, Uint16, Int16, Uint32, Int32, Iref, Uint64, Int64, Uintptr, Intptr, Size, Errval}
-use Rattle.fl_check.specs.Interface.{TheType, scalar, enumeration, structure, array, TheTypes, no_more, field, TheArgType, fixed, text, sized}
-use Rattle.fl_check.specs.Sizes.{scalar_size, align_of, greatest_align}
+use Rattle.fl_check.specs.Interface.{TheArgType, fixed, text, sized}
+use Rattle.fl_check.specs.Sizes.{align_of}
+use Rattle.fl_check.proofs.Aligned.{by_align, type_align}
 use Rattle.fl_value.specs.declared.value.PlanNo.{PlanNo}
 use Rattle.fl_value.specs.declared.value.PlanNo.TheVariants.{One, Two}
 use Rattle.fl_value.specs.Value.{Datum}
@@ -38,91 +37,35 @@ abbrev pub rearranged : {A : Type 0} → PlanNo → List TheArgType → List A �
 rearranged One ts xs = xs
 rearranged Two ts xs = ranked 5 0 ts xs
 
--- ---- alignments and ranks
-
-abbrev IsAlign : ℕ → Type 0
-IsAlign n = (n ≡ 1) ⊎ ((n ≡ 2) ⊎ ((n ≡ 4) ⊎ (n ≡ 8)))
-
-pub scalar_align : (s : Scalar) → IsAlign (scalar_size s)
-scalar_align Uint8 = inl refl
-scalar_align Int8 = inl refl
-scalar_align BoolType = inl refl
-scalar_align Char = inl refl
-scalar_align Uint16 = inr (inl refl)
-scalar_align Int16 = inr (inl refl)
-scalar_align Uint32 = inr (inr (inl refl))
-scalar_align Int32 = inr (inr (inl refl))
-scalar_align Iref = inr (inr (inl refl))
-scalar_align Uint64 = inr (inr (inr refl))
-scalar_align Int64 = inr (inr (inr refl))
-scalar_align Uintptr = inr (inr (inr refl))
-scalar_align Intptr = inr (inr (inr refl))
-scalar_align Size = inr (inr (inr refl))
-scalar_align Errval = inr (inr (inr refl))
-
-max_align : (a b : ℕ) → IsAlign a → IsAlign b → IsAlign (max a b)
-max_align a b (inl e) (inl f) = rw (e, f) (inl refl)
-max_align a b (inl e) (inr (inl f)) = rw (e, f) (inr (inl refl))
-max_align a b (inl e) (inr (inr (inl f))) = rw (e, f) (inr (inr (inl refl)))
-max_align a b (inl e) (inr (inr (inr f))) = rw (e, f) (inr (inr (inr refl)))
-max_align a b (inr (inl e)) (inl f) = rw (e, f) (inr (inl refl))
-max_align a b (inr (inl e)) (inr (inl f)) = rw (e, f) (inr (inl refl))
-max_align a b (inr (inl e)) (inr (inr (inl f))) = rw (e, f) (inr (inr (inl refl)))
-max_align a b (inr (inl e)) (inr (inr (inr f))) = rw (e, f) (inr (inr (inr refl)))
-max_align a b (inr (inr (inl e))) (inl f) = rw (e, f) (inr (inr (inl refl)))
-max_align a b (inr (inr (inl e))) (inr (inl f)) = rw (e, f) (inr (inr (inl refl)))
-max_align a b (inr (inr (inl e))) (inr (inr (inl f))) = rw (e, f) (inr (inr (inl refl)))
-max_align a b (inr (inr (inl e))) (inr (inr (inr f))) = rw (e, f) (inr (inr (inr refl)))
-max_align a b (inr (inr (inr e))) (inl f) = rw (e, f) (inr (inr (inr refl)))
-max_align a b (inr (inr (inr e))) (inr (inl f)) = rw (e, f) (inr (inr (inr refl)))
-max_align a b (inr (inr (inr e))) (inr (inr (inl f))) = rw (e, f) (inr (inr (inr refl)))
-max_align a b (inr (inr (inr e))) (inr (inr (inr f))) = rw (e, f) (inr (inr (inr refl)))
-
-mutual
-  pub type_align : (t : TheType) → IsAlign (align_of t)
-  type_align (scalar s) = scalar_align s
-  type_align (enumeration n) = inr (inr (inl refl))
-  type_align (structure ts) = types_align ts
-  type_align (array n t) = type_align t
-
-  pub types_align : (ts : TheTypes) → IsAlign (greatest_align ts)
-  types_align no_more = inl refl
-  types_align (field t ts) = max_align (align_of t) (greatest_align ts) (type_align t) (types_align ts)
-
--- what holds at 1, 2, 4 and 8 holds at an alignment
-pub along_align : (P : ℕ → Type 0) → P 1 → P 2 → P 4 → P 8 → (n : ℕ) → IsAlign n → P n
-along_align P one two four eight n (inl e) = subst P (sym e) one
-along_align P one two four eight n (inr (inl e)) = subst P (sym e) two
-along_align P one two four eight n (inr (inr (inl e))) = subst P (sym e) four
-along_align P one two four eight n (inr (inr (inr e))) = subst P (sym e) eight
+-- ---- ranks
 
 rank_small : (t : TheArgType) → rank t < 5
-rank_small (fixed t) = along_align (λ (n : ℕ). fixed_rank n < 5) (omega arith) (omega arith) (omega arith) (omega arith) (align_of t) (type_align t)
+rank_small (fixed t) = by_align (λ (n : ℕ). fixed_rank n < 5) (omega arith) (omega arith) (omega arith) (omega arith) (align_of t) (type_align t)
 rank_small (text max) = omega arith
 rank_small (sized max t) = omega arith
 
 is_eight : (t : TheArgType) → is_fixed_at 8 t ≡ eqb (rank t) 0
-is_eight (fixed t) = along_align (λ (n : ℕ). eqb n 8 ≡ eqb (fixed_rank n) 0) refl refl refl refl (align_of t) (type_align t)
+is_eight (fixed t) = by_align (λ (n : ℕ). eqb n 8 ≡ eqb (fixed_rank n) 0) refl refl refl refl (align_of t) (type_align t)
 is_eight (text max) = refl
 is_eight (sized max t) = refl
 
 is_four : (t : TheArgType) → is_fixed_at 4 t ≡ eqb (rank t) 1
-is_four (fixed t) = along_align (λ (n : ℕ). eqb n 4 ≡ eqb (fixed_rank n) 1) refl refl refl refl (align_of t) (type_align t)
+is_four (fixed t) = by_align (λ (n : ℕ). eqb n 4 ≡ eqb (fixed_rank n) 1) refl refl refl refl (align_of t) (type_align t)
 is_four (text max) = refl
 is_four (sized max t) = refl
 
 is_two : (t : TheArgType) → is_fixed_at 2 t ≡ eqb (rank t) 2
-is_two (fixed t) = along_align (λ (n : ℕ). eqb n 2 ≡ eqb (fixed_rank n) 2) refl refl refl refl (align_of t) (type_align t)
+is_two (fixed t) = by_align (λ (n : ℕ). eqb n 2 ≡ eqb (fixed_rank n) 2) refl refl refl refl (align_of t) (type_align t)
 is_two (text max) = refl
 is_two (sized max t) = refl
 
 is_one : (t : TheArgType) → is_fixed_at 1 t ≡ eqb (rank t) 3
-is_one (fixed t) = along_align (λ (n : ℕ). eqb n 1 ≡ eqb (fixed_rank n) 3) refl refl refl refl (align_of t) (type_align t)
+is_one (fixed t) = by_align (λ (n : ℕ). eqb n 1 ≡ eqb (fixed_rank n) 3) refl refl refl refl (align_of t) (type_align t)
 is_one (text max) = refl
 is_one (sized max t) = refl
 
 pub is_last : (t : TheArgType) → is_dynamic t ≡ eqb (rank t) 4
-is_last (fixed t) = along_align (λ (n : ℕ). false ≡ eqb (fixed_rank n) 4) refl refl refl refl (align_of t) (type_align t)
+is_last (fixed t) = by_align (λ (n : ℕ). false ≡ eqb (fixed_rank n) 4) refl refl refl refl (align_of t) (type_align t)
 is_last (text max) = refl
 is_last (sized max t) = refl
 
@@ -305,11 +248,11 @@ between_before : (t : TheArgType) (ts : List TheArgType) → between 0 (rank t) 
 between_before t ts = between_zero (rank t) ts
     ∙ is_count_by (counted (λ (u : TheArgType). ltb (rank u) (rank t))) (λ (u : TheArgType). ltb (rank u) (rank t)) refl (λ u us. refl) ts
 
-insert_behind : {A : Type 0} (front behind : List A) (n : ℕ) (x : A) → insert (front ++ behind) (length front + n) x ≡ front ++ insert behind n x
+insert_behind : {A : Type 0} (prefix behind : List A) (n : ℕ) (x : A) → insert (prefix ++ behind) (length prefix + n) x ≡ prefix ++ insert behind n x
 insert_behind {A = A} [] behind n x = ap (λ (m : ℕ). insert behind m x) (omega arith)
-insert_behind {A = A} (y ∷ front) behind n x =
-    let same : length (y ∷ front) + n ≡ suc (length front + n) = omega arith in
-    ap (λ (m : ℕ). insert (y ∷ (front ++ behind)) m x) same ∙ ap (λ (l : List A). y ∷ l) (insert_behind front behind n x)
+insert_behind {A = A} (y ∷ prefix) behind n x =
+    let same : length (y ∷ prefix) + n ≡ suc (length prefix + n) = omega arith in
+    ap (λ (m : ℕ). insert (y ∷ (prefix ++ behind)) m x) same ∙ ap (λ (l : List A). y ∷ l) (insert_behind prefix behind n x)
 
 passed : {A : Type 0} (n from : ℕ) (t : TheArgType) (ts : List TheArgType) (x : A) (xs : List A) → rank t < from → ranked n from (t ∷ ts) (x ∷ xs) ≡ ranked n from ts xs
 passed zero from t ts x xs h = refl
@@ -318,10 +261,10 @@ passed {A = A} (suc n) from t ts x xs h =
     rw other (ap (λ (l : List A). picked (λ (u : TheArgType). eqb (rank u) from) ts xs ++ l) (passed n (from + 1) t ts x xs (omega (arith, h))))
 
 -- a value goes behind those of the arguments that the plan puts before it
-one_front : {A : Type 0} (n from : ℕ) (t : TheArgType) (ts : List TheArgType) (x : A) (xs : List A) → length xs ≡ length ts → from ≤ rank t → rank t < from + n
+one_prefix : {A : Type 0} (n from : ℕ) (t : TheArgType) (ts : List TheArgType) (x : A) (xs : List A) → length xs ≡ length ts → from ≤ rank t → rank t < from + n
     → ranked n from (t ∷ ts) (x ∷ xs) ≡ insert (ranked n from ts xs) (between from (rank t) ts) x
-one_front zero from t ts x xs long low high = absurd (omega (arith, low, high))
-one_front {A = A} (suc n) from t ts x xs long low high =
+one_prefix zero from t ts x xs long low high = absurd (omega (arith, low, high))
+one_prefix {A = A} (suc n) from t ts x xs long low high =
     let here = picked (λ (u : TheArgType). eqb (rank u) from) ts xs in
     let rest = ranked n (from + 1) ts xs in
     ⊎_elim
@@ -329,7 +272,7 @@ one_front {A = A} (suc n) from t ts x xs long low high =
     let other : eqb (rank t) from ≡ false = ne_eqb (rank t) from (λ e. absurd (omega (arith, e, above))) in
     let places : between from (rank t) ts ≡ length here + between (from + 1) (rank t) ts
     = count_split from (rank t) above ts ∙ ap (λ (m : ℕ). m + between (from + 1) (rank t) ts) (sym (length_picked (λ (u : TheArgType). eqb (rank u) from) ts xs long)) in
-    rw other (ap (λ (l : List A). here ++ l) (one_front n (from + 1) t ts x xs long (omega (arith, above)) (omega (arith, high)))
+    rw other (ap (λ (l : List A). here ++ l) (one_prefix n (from + 1) t ts x xs long (omega (arith, above)) (omega (arith, high)))
     ∙ sym (insert_behind here rest (between (from + 1) (rank t) ts) x) ∙ ap (λ (m : ℕ). insert (here ++ rest) m x) (sym places)))
     (λ (below : rank t ≤ from).
     let same : rank t ≡ from = omega (arith, low, below) in
@@ -338,10 +281,10 @@ one_front {A = A} (suc n) from t ts x xs long low high =
     ∙ ap (λ (m : ℕ). insert (here ++ rest) m x) (sym none)))
     (cases_lt from (rank t))
 
-pub front : {A : Type 0} (t : TheArgType) (ts : List TheArgType) (x : A) (xs : List A) → length xs ≡ length ts
+pub prefix : {A : Type 0} (t : TheArgType) (ts : List TheArgType) (x : A) (xs : List A) → length xs ≡ length ts
     → rearranged Two (t ∷ ts) (x ∷ xs) ≡ insert (rearranged Two ts xs) (before t ts) x
-front {A = A} t ts x xs long =
-    one_front 5 0 t ts x xs long (omega arith) (omega (arith, rank_small t)) ∙ ap (λ (n : ℕ). insert (ranked 5 0 ts xs) n x) (between_before t ts)
+prefix {A = A} t ts x xs long =
+    one_prefix 5 0 t ts x xs long (omega arith) (omega (arith, rank_small t)) ∙ ap (λ (n : ℕ). insert (ranked 5 0 ts xs) n x) (between_before t ts)
 
 -- ---- what the order keeps
 
@@ -356,7 +299,7 @@ length_rearranged Two [] xs long = refl
 length_rearranged Two (t ∷ ts) [] long = absurd (omega (arith, long))
 length_rearranged Two (t ∷ ts) (x ∷ xs) long =
     let rest : length xs ≡ length ts = omega (arith, long) in
-    ap length (front t ts x xs rest) ∙ length_insert (rearranged Two ts xs) (before t ts) x
+    ap length (prefix t ts x xs rest) ∙ length_insert (rearranged Two ts xs) (before t ts) x
     ∙ ap (λ (n : ℕ). suc n) (length_rearranged Two ts xs rest)
 
 insert_told : {A : Type 0} (n : ℕ) (xs ys : List A) (x y : A) → length xs ≡ length ys → insert xs n x ≡ insert ys n y → (x ≡ y) × (xs ≡ ys)
@@ -387,7 +330,7 @@ rearranged_told Two (t ∷ ts) (x ∷ xs) (y ∷ ys) long same e =
     let here : length xs ≡ length ts = omega (arith, long) in
     let there : length ys ≡ length ts = omega (arith, same) in
     let (one, rest) = insert_told (before t ts) (rearranged Two ts xs) (rearranged Two ts ys) x y
-    (length_rearranged Two ts xs here ∙ sym (length_rearranged Two ts ys there)) (sym (front t ts x xs here) ∙ e ∙ front t ts y ys there) in
+    (length_rearranged Two ts xs here ∙ sym (length_rearranged Two ts ys there)) (sym (prefix t ts x xs here) ∙ e ∙ prefix t ts y ys there) in
     let others : xs ≡ ys = rearranged_told Two ts xs ys here there rest in
     cc
 
@@ -420,8 +363,8 @@ rearranged_typed Two (t ∷ ts) (x ∷ xs) long h =
     let n = before t ts in
     let rest = rearranged_typed Two ts xs here (second_so (is_argument t x) _ h) in
     let both = insert_typed n (rearranged Two ts ts) (rearranged Two ts xs) t x (first_so (is_argument t x) _ h) rest in
-    subst (λ (us : List TheArgType). are_arguments us (rearranged Two (t ∷ ts) (x ∷ xs)) ≡ true) (sym (front t ts t ts refl))
-    (subst (λ (ws : List Datum). are_arguments (insert (rearranged Two ts ts) n t) ws ≡ true) (sym (front t ts x xs here)) both)
+    subst (λ (us : List TheArgType). are_arguments us (rearranged Two (t ∷ ts) (x ∷ xs)) ≡ true) (sym (prefix t ts t ts refl))
+    (subst (λ (ws : List Datum). are_arguments (insert (rearranged Two ts ts) n t) ws ≡ true) (sym (prefix t ts x xs here)) both)
 
 pub typed_again : (plan : PlanNo) (ts : List TheArgType) (xs : List Datum) → length xs ≡ length ts → are_arguments (rearranged plan ts ts) (rearranged plan ts xs) ≡ true → are_arguments ts xs ≡ true
 typed_again One ts xs long h = h
@@ -432,8 +375,8 @@ typed_again Two (t ∷ ts) (x ∷ xs) long h =
     let here : length xs ≡ length ts = omega (arith, long) in
     let n = before t ts in
     let both : are_arguments (insert (rearranged Two ts ts) n t) (insert (rearranged Two ts xs) n x) ≡ true
-    = subst (λ (us : List TheArgType). are_arguments us (insert (rearranged Two ts xs) n x) ≡ true) (front t ts t ts refl)
-    (subst (λ (ws : List Datum). are_arguments (rearranged Two (t ∷ ts) (t ∷ ts)) ws ≡ true) (front t ts x xs here) h) in
+    = subst (λ (us : List TheArgType). are_arguments us (insert (rearranged Two ts xs) n x) ≡ true) (prefix t ts t ts refl)
+    (subst (λ (ws : List Datum). are_arguments (rearranged Two (t ∷ ts) (t ∷ ts)) ws ≡ true) (prefix t ts x xs here) h) in
     let p = inserted_typed n (rearranged Two ts ts) (rearranged Two ts xs) t x (length_rearranged Two ts ts refl ∙ sym (length_rearranged Two ts xs here)) both in
     rw p.0 (typed_again Two ts xs here p.1)
 
@@ -448,5 +391,5 @@ taken_goes_back {B = B} f (y ∷ xs) (suc n) x h e = ap (λ (l : List B). f y �
 pub order_step : {V : Type 0} (f : V → Datum) (t : TheArgType) (ts : List TheArgType) (left : List V) (n : ℕ) (x : V) → n ≡ before t ts → n < length left → x ≡ get_or left n x
     → (more : List Datum) → length more ≡ length ts → rearranged Two ts more ≡ map f (remove left n) → rearranged Two (t ∷ ts) (f x ∷ more) ≡ map f left
 order_step f t ts left n x place low here more long e =
-    front t ts (f x) more long ∙ ap (λ (l : List Datum). insert l (before t ts) (f x)) e
+    prefix t ts (f x) more long ∙ ap (λ (l : List Datum). insert l (before t ts) (f x)) e
     ∙ ap (λ (k : ℕ). insert (map f (remove left n)) k (f x)) (sym place) ∙ taken_goes_back f left n x low here

@@ -5,7 +5,8 @@ use Rattle.std.proofs.lemmas.List.{take_all}
 use Rattle.std.proofs.Common.{length-drop}
 use Rattle.std.specs.List.{prefix_len}
 use Rattle.std.specs.Str.Parse.{digits_value}
-use Rattle.fl_value.specs.CallText.{is_blank, is_digit, Blanks, Digits, Number, plain, minus, TextBytes, Closed, Token, TokenAt, TheToken, a_number, a_text, a_mark, StopsAt}
+use Rattle.fl_lex.specs.Words.{is_digit}
+use Rattle.fl_value.specs.CallText.{is_blank, Blanks, Digits, Number, plain, minus, TextBytes, Closed, Token, TokenAt, TheToken, a_number, a_text, a_mark, StopsAt}
 use Rattle.fl_value.proofs.Scan.{blank_more, counted}
 use Rattle.fl_value.proofs.Once.{head_of, tail_of, not_that, blanks_once, bytes_once, quote_closes, token_stops, digits_begin}
 

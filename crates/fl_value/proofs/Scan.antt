@@ -6,12 +6,15 @@ use Rattle.std.proofs.lemmas.Str.Parse.{digit_from_value}
 use Rattle.std.proofs.lemmas.List.Folds.{length-prefix_len, list_all-append}
 use Rattle.std.proofs.lemmas.List.{take-append-drop}
 use Rattle.std.proofs.Math.Nat.{pow-le-pow_right}
-use Rattle.std.proofs.lemmas.Bool.{ltb-true, false≢true}
+use Rattle.std.specs.Prelude.{nat_le}
+use Rattle.std.proofs.lemmas.Bool.{leb-true, false≢true}
+use Rattle.std.proofs.lemmas.Str.{digit_value_digit}
 use Rattle.std.specs.Cmp.{first_so, second_so}
 use Rattle.std.specs.List.{list_all, prefix_len}
 use Rattle.std.specs.Char.{digit_value}
 use Rattle.std.specs.Str.Parse.{digits_value, AllDigits}
-use Rattle.fl_value.specs.CallText.{is_blank, is_digit, Blanks, Digits, StopsAt}
+use Rattle.fl_lex.specs.Words.{is_digit}
+use Rattle.fl_value.specs.CallText.{is_blank, Blanks, Digits, StopsAt}
 
 -- two splits at the end of the same run are one
 pub run_once : (p : ℕ → Bool) (a b x y : List ℕ) → list_all p a ≡ true → list_all p b ≡ true → StopsAt p x → StopsAt p y → a ++ x ≡ b ++ y → (a ≡ b) × (x ≡ y)
@@ -35,31 +38,37 @@ pub one_more : (n : ℕ) → 1 + n ≡ suc n
 one_more n = omega arith
 
 -- the longest run at the front
-passes_front : (p : ℕ → Bool) (x : ℕ) (xs : List ℕ) (b : Bool) → p x ≡ b → list_all p (take (prefix_len p xs) xs) ≡ true → list_all p (take (cond b (1 + prefix_len p xs) 0) (x ∷ xs)) ≡ true
-passes_front p x xs true e h = rw (one_more (prefix_len p xs)) (ap (λ t. t && list_all p (take (prefix_len p xs) xs)) e ∙ h)
-passes_front p x xs false e h = refl
+passes_prefix : (p : ℕ → Bool) (x : ℕ) (xs : List ℕ) (b : Bool) → p x ≡ b → list_all p (take (prefix_len p xs) xs) ≡ true → list_all p (take (cond b (1 + prefix_len p xs) 0) (x ∷ xs)) ≡ true
+passes_prefix p x xs true e h = rw (one_more (prefix_len p xs)) (ap (λ t. t && list_all p (take (prefix_len p xs) xs)) e ∙ h)
+passes_prefix p x xs false e h = refl
 
 pub run_passes : (p : ℕ → Bool) (xs : List ℕ) → list_all p (take (prefix_len p xs) xs) ≡ true
 run_passes p [] = refl
-run_passes p (x ∷ xs) = passes_front p x xs (p x) refl (run_passes p xs)
+run_passes p (x ∷ xs) = passes_prefix p x xs (p x) refl (run_passes p xs)
 
-stops_front : (p : ℕ → Bool) (x : ℕ) (xs : List ℕ) (b : Bool) → p x ≡ b → StopsAt p (drop (prefix_len p xs) xs) → StopsAt p (drop (cond b (1 + prefix_len p xs) 0) (x ∷ xs))
-stops_front p x xs true e h = rw (one_more (prefix_len p xs)) h
-stops_front p x xs false e h = e
+stops_prefix : (p : ℕ → Bool) (x : ℕ) (xs : List ℕ) (b : Bool) → p x ≡ b → StopsAt p (drop (prefix_len p xs) xs) → StopsAt p (drop (cond b (1 + prefix_len p xs) 0) (x ∷ xs))
+stops_prefix p x xs true e h = rw (one_more (prefix_len p xs)) h
+stops_prefix p x xs false e h = e
 
 pub run_stops : (p : ℕ → Bool) (xs : List ℕ) → StopsAt p (drop (prefix_len p xs) xs)
 run_stops p [] = tt
-run_stops p (x ∷ xs) = stops_front p x xs (p x) refl (run_stops p xs)
+run_stops p (x ∷ xs) = stops_prefix p x xs (p x) refl (run_stops p xs)
+
+digit_low : (d : ℕ) → is_digit d ≡ true → digit_value d < 10
+digit_low d h =
+    let least = leb-true 48 d (first_so (nat_le 48 d) (nat_le d 57) h) in
+    let most = leb-true d 57 (second_so (nat_le 48 d) (nat_le d 57) h) in
+    omega (arith, digit_value_digit d (least, most), most)
 
 pub all_digits : (ds : List ℕ) → list_all is_digit ds ≡ true → AllDigits 10 ds
 all_digits [] h = tt
-all_digits (d ∷ ds) h = (ltb-true _ _ (first_so (is_digit d) (list_all is_digit ds) h), all_digits ds (second_so (is_digit d) (list_all is_digit ds) h))
+all_digits (d ∷ ds) h = (digit_low d (first_so (is_digit d) (list_all is_digit ds) h), all_digits ds (second_so (is_digit d) (list_all is_digit ds) h))
 
-pub digits_front : (ds : List ℕ) (n : ℕ) → AllDigits 10 ds → AllDigits 10 (take n ds)
-digits_front [] zero h = tt
-digits_front [] (suc n) h = tt
-digits_front (d ∷ ds) zero h = tt
-digits_front (d ∷ ds) (suc n) h = (h.0, digits_front ds n h.1)
+pub digits_prefix : (ds : List ℕ) (n : ℕ) → AllDigits 10 ds → AllDigits 10 (take n ds)
+digits_prefix [] zero h = tt
+digits_prefix [] (suc n) h = tt
+digits_prefix (d ∷ ds) zero h = tt
+digits_prefix (d ∷ ds) (suc n) h = (h.0, digits_prefix ds n h.1)
 
 pub digit_is : (c : ℕ) → digit_value c < 10 → digit_value c ≡ c - 48
 digit_is c h = let r = digit_from_value c h in grind (arith, nat_tests)

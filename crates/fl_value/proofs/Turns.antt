@@ -15,20 +15,20 @@ use Rattle.fl_value.specs.Taken.{ValueAt, ArgumentAt, LengthAt, BytesAt, InTurn,
 -- ---- one after another
 
 record Cut {A : Type 0} (At : A → List ℕ → Datum → List ℕ → Type 0) (ts us : List A) (tape : List ℕ) (ds : List Datum) (rest : List ℕ) : Type 0 where
-  pub front : List Datum
+  pub prefix : List Datum
   pub behind : List Datum
   pub next : List ℕ
-  pub joined : ds ≡ front ++ behind
-  pub first : InTurn At ts tape front next
+  pub joined : ds ≡ prefix ++ behind
+  pub first : InTurn At ts tape prefix next
   pub second : InTurn At us next behind rest
 
 cut_turn : {A : Type 0} (At : A → List ℕ → Datum → List ℕ → Type 0) (ts us : List A) (tape : List ℕ) (ds : List Datum) (rest : List ℕ)
     → InTurn At (ts ++ us) tape ds rest → Cut At ts us tape ds rest
-cut_turn At [] us tape ds rest h = record { front = []; behind = ds; next = tape; joined = refl; first = refl; second = h }
+cut_turn At [] us tape ds rest h = record { prefix = []; behind = ds; next = tape; joined = refl; first = refl; second = h }
 cut_turn At (t ∷ ts) us tape [] rest h = absurd h
 cut_turn At (t ∷ ts) us tape (d ∷ ds) rest h =
     let c = cut_turn At ts us h.0 ds rest h.2 in
-    record { front = d ∷ c.front; behind = c.behind; next = c.next; joined = ap (λ (xs : List Datum). d ∷ xs) c.joined; first = (h.0, h.1, c.first); second = c.second }
+    record { prefix = d ∷ c.prefix; behind = c.behind; next = c.next; joined = ap (λ (xs : List Datum). d ∷ xs) c.joined; first = (h.0, h.1, c.first); second = c.second }
 
 pub join_turn : {A : Type 0} (At : A → List ℕ → Datum → List ℕ → Type 0) (ts us : List A) (tape : List ℕ) (xs : List Datum) (next : List ℕ) (ys : List Datum) (rest : List ℕ)
     → InTurn At ts tape xs next → InTurn At us next ys rest → InTurn At (ts ++ us) tape (xs ++ ys) rest
@@ -55,20 +55,20 @@ join_ones At ts us tape xs next ys rest one two = record {
   stands = join_turn At ts us tape xs next ys rest one.stands two.stands;
   only = λ ds end h.
       let c = cut_turn At ts us tape ds end h in
-      let p = one.only c.front c.next c.first in
+      let p = one.only c.prefix c.next c.first in
       let q = two.only c.behind end (subst (λ (n : List ℕ). InTurn At us n c.behind end) (sym p.1) c.second) in
-      (ap (λ (l : List Datum). l ++ ys) p.0 ∙ ap (λ (l : List Datum). c.front ++ l) q.0 ∙ sym c.joined, q.1);
+      (ap (λ (l : List Datum). l ++ ys) p.0 ∙ ap (λ (l : List Datum). c.prefix ++ l) q.0 ∙ sym c.joined, q.1);
 }
 
 pub none_first : {A : Type 0} (At : A → List ℕ → Datum → List ℕ → Type 0) (ts us : List A) (tape : List ℕ)
     → NoneOf (InTurn At ts tape) → NoneOf (InTurn At (ts ++ us) tape)
-none_first At ts us tape none = λ ds rest h. let c = cut_turn At ts us tape ds rest h in none c.front c.next c.first
+none_first At ts us tape none = λ ds rest h. let c = cut_turn At ts us tape ds rest h in none c.prefix c.next c.first
 
 pub none_second : {A : Type 0} (At : A → List ℕ → Datum → List ℕ → Type 0) (ts us : List A) (tape : List ℕ) (xs : List Datum) (next : List ℕ)
     → TheOne (InTurn At ts tape) xs next → NoneOf (InTurn At us next) → NoneOf (InTurn At (ts ++ us) tape)
 none_second At ts us tape xs next one none = λ ds rest h.
     let c = cut_turn At ts us tape ds rest h in
-    let p = one.only c.front c.next c.first in
+    let p = one.only c.prefix c.next c.first in
     none c.behind rest (subst (λ (n : List ℕ). InTurn At us n c.behind rest) (sym p.1) c.second)
 
 only_single : {A : Type 0} (At : A → List ℕ → Datum → List ℕ → Type 0) (t : A) (tape : List ℕ) (d : Datum) (rest : List ℕ) → TheOne (At t tape) d rest
@@ -114,12 +114,12 @@ fields_typed [] tape (d ∷ ds) rest h = absurd h
 fields_typed (t ∷ ts) tape [] rest h = absurd h
 fields_typed (t ∷ ts) tape (d ∷ ds) rest h = rw h.1.typed (fields_typed ts h.0 ds rest h.2)
 
-fields_front : (ts : List TheType) (tape : List ℕ) (ds : List Datum) (rest : List ℕ) → InTurn ValueAt ts tape ds rest → tape ≡ fields_tape (fields_from ts) (data_from ds) ++ rest
-fields_front [] tape [] rest h = h
-fields_front [] tape (d ∷ ds) rest h = absurd h
-fields_front (t ∷ ts) tape [] rest h = absurd h
-fields_front (t ∷ ts) tape (d ∷ ds) rest h =
-    h.1.front ∙ ap (λ (l : List ℕ). value_tape t d ++ l) (fields_front ts h.0 ds rest h.2)
+fields_prefix : (ts : List TheType) (tape : List ℕ) (ds : List Datum) (rest : List ℕ) → InTurn ValueAt ts tape ds rest → tape ≡ fields_tape (fields_from ts) (data_from ds) ++ rest
+fields_prefix [] tape [] rest h = h
+fields_prefix [] tape (d ∷ ds) rest h = absurd h
+fields_prefix (t ∷ ts) tape [] rest h = absurd h
+fields_prefix (t ∷ ts) tape (d ∷ ds) rest h =
+    h.1.prefix ∙ ap (λ (l : List ℕ). value_tape t d ++ l) (fields_prefix ts h.0 ds rest h.2)
     ∙ sym (append_assoc (value_tape t d) (fields_tape (fields_from ts) (data_from ds)) rest)
 
 fields_stand : (ts : List TheType) (tape : List ℕ) (ds : Data) (rest : List ℕ) → have_types (fields_from ts) ds ≡ true → tape ≡ fields_tape (fields_from ts) ds ++ rest
@@ -130,12 +130,12 @@ fields_stand (t ∷ ts) tape nothing_more rest h e = absurd (false≢true h)
 fields_stand (t ∷ ts) tape (also d ds) rest h e =
     let after = fields_tape (fields_from ts) ds ++ rest in (
       after,
-      record { typed = first_so (has_type t d) _ h; front = e ∙ append_assoc (value_tape t d) (fields_tape (fields_from ts) ds) rest },
+      record { typed = first_so (has_type t d) _ h; prefix = e ∙ append_assoc (value_tape t d) (fields_tape (fields_from ts) ds) rest },
       fields_stand ts after ds rest (second_so (has_type t d) _ h) refl,
     )
 
 pub struct_none : (ts : List TheType) (tape : List ℕ) → NoneOf (InTurn ValueAt ts tape) → (c : Datum) (end : List ℕ) → ValueAt (structure (fields_from ts)) tape c end → ⊥
-struct_none ts tape none (fields ds) end h = none (list_from ds) end (fields_stand ts tape ds end h.typed h.front)
+struct_none ts tape none (fields ds) end h = none (list_from ds) end (fields_stand ts tape ds end h.typed h.prefix)
 struct_none ts tape none (number z) end h = false≢true h.typed
 struct_none ts tape none (string bs) end h = false≢true h.typed
 struct_none ts tape none (elements ds) end h = false≢true h.typed
@@ -143,7 +143,7 @@ struct_none ts tape none (elements ds) end h = false≢true h.typed
 struct_only : (ts : List TheType) (tape : List ℕ) (ds : List Datum) (rest : List ℕ) → TheOne (InTurn ValueAt ts tape) ds rest
     → (c : Datum) (end : List ℕ) → ValueAt (structure (fields_from ts)) tape c end → (fields (data_from ds) ≡ c) × (rest ≡ end)
 struct_only ts tape ds rest one (fields es) end h =
-    let p = one.only (list_from es) end (fields_stand ts tape es end h.typed h.front) in
+    let p = one.only (list_from es) end (fields_stand ts tape es end h.typed h.prefix) in
     (ap (λ (l : List Datum). fields (data_from l)) p.0 ∙ ap (λ (l : Data). fields l) (data_again es), p.1)
 struct_only ts tape ds rest one (number z) end h = absurd (false≢true h.typed)
 struct_only ts tape ds rest one (string bs) end h = absurd (false≢true h.typed)
@@ -152,7 +152,7 @@ struct_only ts tape ds rest one (elements es) end h = absurd (false≢true h.typ
 pub struct_one : (ts : List TheType) (tape : List ℕ) (ds : List Datum) (rest : List ℕ) → TheOne (InTurn ValueAt ts tape) ds rest
     → TheOne (ValueAt (structure (fields_from ts)) tape) (fields (data_from ds)) rest
 struct_one ts tape ds rest one = record {
-  stands = record { typed = fields_typed ts tape ds rest one.stands; front = fields_front ts tape ds rest one.stands };
+  stands = record { typed = fields_typed ts tape ds rest one.stands; prefix = fields_prefix ts tape ds rest one.stands };
   only = struct_only ts tape ds rest one;
 }
 
@@ -168,12 +168,12 @@ elements_many zero t tape (d ∷ ds) rest h = absurd h
 elements_many (suc n) t tape [] rest h = absurd h
 elements_many (suc n) t tape (d ∷ ds) rest h = omega (arith, elements_many n t h.0 ds rest h.2)
 
-elements_front : (n : ℕ) (t : TheType) (tape : List ℕ) (ds : List Datum) (rest : List ℕ) → InTurn ValueAt (replicate n t) tape ds rest → tape ≡ elements_tape t (data_from ds) ++ rest
-elements_front zero t tape [] rest h = h
-elements_front zero t tape (d ∷ ds) rest h = absurd h
-elements_front (suc n) t tape [] rest h = absurd h
-elements_front (suc n) t tape (d ∷ ds) rest h =
-    h.1.front ∙ ap (λ (l : List ℕ). value_tape t d ++ l) (elements_front n t h.0 ds rest h.2)
+elements_prefix : (n : ℕ) (t : TheType) (tape : List ℕ) (ds : List Datum) (rest : List ℕ) → InTurn ValueAt (replicate n t) tape ds rest → tape ≡ elements_tape t (data_from ds) ++ rest
+elements_prefix zero t tape [] rest h = h
+elements_prefix zero t tape (d ∷ ds) rest h = absurd h
+elements_prefix (suc n) t tape [] rest h = absurd h
+elements_prefix (suc n) t tape (d ∷ ds) rest h =
+    h.1.prefix ∙ ap (λ (l : List ℕ). value_tape t d ++ l) (elements_prefix n t h.0 ds rest h.2)
     ∙ sym (append_assoc (value_tape t d) (elements_tape t (data_from ds)) rest)
 
 elements_stand : (n : ℕ) (t : TheType) (tape : List ℕ) (ds : Data) (rest : List ℕ) → count_of ds ≡ n → all_have_type t ds ≡ true → tape ≡ elements_tape t ds ++ rest
@@ -184,13 +184,13 @@ elements_stand (suc n) t tape nothing_more rest k h e = absurd (omega (arith, k)
 elements_stand (suc n) t tape (also d ds) rest k h e =
     let after = elements_tape t ds ++ rest in (
       after,
-      record { typed = first_so (has_type t d) _ h; front = e ∙ append_assoc (value_tape t d) (elements_tape t ds) rest },
+      record { typed = first_so (has_type t d) _ h; prefix = e ∙ append_assoc (value_tape t d) (elements_tape t ds) rest },
       elements_stand n t after ds rest (omega (arith, k)) (second_so (has_type t d) _ h) refl,
     )
 
 pub array_none : (n : ℕ) (t : TheType) (tape : List ℕ) → NoneOf (InTurn ValueAt (replicate n t) tape) → (c : Datum) (end : List ℕ) → ValueAt (array n t) tape c end → ⊥
 array_none n t tape none (elements ds) end h =
-    none (list_from ds) end (elements_stand n t tape ds end (eqb-true (count_of ds) n (first_so _ _ h.typed)) (second_so _ _ h.typed) h.front)
+    none (list_from ds) end (elements_stand n t tape ds end (eqb-true (count_of ds) n (first_so _ _ h.typed)) (second_so _ _ h.typed) h.prefix)
 array_none n t tape none (number z) end h = false≢true h.typed
 array_none n t tape none (string bs) end h = false≢true h.typed
 array_none n t tape none (fields ds) end h = false≢true h.typed
@@ -198,7 +198,7 @@ array_none n t tape none (fields ds) end h = false≢true h.typed
 array_only : (n : ℕ) (t : TheType) (tape : List ℕ) (ds : List Datum) (rest : List ℕ) → TheOne (InTurn ValueAt (replicate n t) tape) ds rest
     → (c : Datum) (end : List ℕ) → ValueAt (array n t) tape c end → (elements (data_from ds) ≡ c) × (rest ≡ end)
 array_only n t tape ds rest one (elements es) end h =
-    let p = one.only (list_from es) end (elements_stand n t tape es end (eqb-true (count_of es) n (first_so _ _ h.typed)) (second_so _ _ h.typed) h.front) in
+    let p = one.only (list_from es) end (elements_stand n t tape es end (eqb-true (count_of es) n (first_so _ _ h.typed)) (second_so _ _ h.typed) h.prefix) in
     (ap (λ (l : List Datum). elements (data_from l)) p.0 ∙ ap (λ (l : Data). elements l) (data_again es), p.1)
 array_only n t tape ds rest one (number z) end h = absurd (false≢true h.typed)
 array_only n t tape ds rest one (string bs) end h = absurd (false≢true h.typed)
@@ -209,7 +209,7 @@ pub array_one : (n : ℕ) (t : TheType) (tape : List ℕ) (ds : List Datum) (res
 array_one n t tape ds rest one =
     let many = eq-eqb (count_of (data_from ds)) n (elements_many n t tape ds rest one.stands) in
     record {
-      stands = record { typed = rw many (elements_typed n t tape ds rest one.stands); front = elements_front n t tape ds rest one.stands };
+      stands = record { typed = rw many (elements_typed n t tape ds rest one.stands); prefix = elements_prefix n t tape ds rest one.stands };
       only = array_only n t tape ds rest one;
     }
 
@@ -217,33 +217,33 @@ array_one n t tape ds rest one =
 
 -- a fixed argument is a value
 pub fixed_none : (t : TheType) (tape : List ℕ) → NoneOf (ValueAt t tape) → (c : Datum) (end : List ℕ) → ArgumentAt (fixed t) tape c end → ⊥
-fixed_none t tape none c end h = none c end (record { typed = h.typed; front = h.front })
+fixed_none t tape none c end h = none c end (record { typed = h.typed; prefix = h.prefix })
 
 pub fixed_one : (t : TheType) (tape : List ℕ) (d : Datum) (rest : List ℕ) → TheOne (ValueAt t tape) d rest → TheOne (ArgumentAt (fixed t) tape) d rest
 fixed_one t tape d rest one = record {
-  stands = record { typed = one.stands.typed; front = one.stands.front };
-  only = λ c end h. one.only c end (record { typed = h.typed; front = h.front });
+  stands = record { typed = one.stands.typed; prefix = one.stands.prefix };
+  only = λ c end h. one.only c end (record { typed = h.typed; prefix = h.prefix });
 }
 
 -- a length, and then the rest of the argument
 length_same : (most : ℕ) (tape : List ℕ) (n : ℕ) (after : List ℕ) (m : ℕ) (more : List ℕ) → LengthAt most tape n after → tape ≡ m ∷ more → (n ≡ m) × (after ≡ more)
 length_same most tape n after m more l e =
-    let same : n ∷ after ≡ m ∷ more = sym l.front ∙ e in
+    let same : n ∷ after ≡ m ∷ more = sym l.prefix ∙ e in
     let heads : n ≡ m = cc in
     let tails : after ≡ more = cc in
     (heads, tails)
 
 pub string_too_long : (most : ℕ) (tape : List ℕ) → NoneOf (LengthAt most tape) → (c : Datum) (end : List ℕ) → ArgumentAt (text most) tape c end → ⊥
 string_too_long most tape none (string bs) end h =
-    none (length bs) (bs ++ end) (record { few = leb-true (length bs) most (first_so _ _ h.typed); front = h.front })
+    none (length bs) (bs ++ end) (record { few = leb-true (length bs) most (first_so _ _ h.typed); prefix = h.prefix })
 string_too_long most tape none (number z) end h = false≢true h.typed
 string_too_long most tape none (elements ds) end h = false≢true h.typed
 string_too_long most tape none (fields ds) end h = false≢true h.typed
 
 string_bytes : (most : ℕ) (tape : List ℕ) (n : ℕ) (after : List ℕ) (bs end : List ℕ) → LengthAt most tape n after → ArgumentAt (text most) tape (string bs) end → BytesAt n after bs end
 string_bytes most tape n after bs end l h =
-    let p = length_same most tape n after (length bs) (bs ++ end) l h.front in
-    record { many = sym p.0; typed = second_so _ _ h.typed; front = p.1 }
+    let p = length_same most tape n after (length bs) (bs ++ end) l h.prefix in
+    record { many = sym p.0; typed = second_so _ _ h.typed; prefix = p.1 }
 
 pub string_none : (most : ℕ) (tape : List ℕ) (n : ℕ) (after : List ℕ) → LengthAt most tape n after → NoneOf (BytesAt n after) → (c : Datum) (end : List ℕ) → ArgumentAt (text most) tape c end → ⊥
 string_none most tape n after l none (string bs) end h = none bs end (string_bytes most tape n after bs end l h)
@@ -251,7 +251,7 @@ string_none most tape n after l none (number z) end h = false≢true h.typed
 string_none most tape n after l none (elements ds) end h = false≢true h.typed
 string_none most tape n after l none (fields ds) end h = false≢true h.typed
 
--- two fronts of one length
+-- two prefixes of one length
 pub split_same : {A : Type 0} (a b c d : List A) → length a ≡ length b → a ++ c ≡ b ++ d → (a ≡ b) × (c ≡ d)
 split_same [] [] c d long e = (refl, e)
 split_same [] (y ∷ b) c d long e = absurd (omega (arith, long))
@@ -266,7 +266,7 @@ string_only : (most : ℕ) (tape : List ℕ) (n : ℕ) (after bs rest : List ℕ
     → (c : Datum) (end : List ℕ) → ArgumentAt (text most) tape c end → (string bs ≡ c) × (rest ≡ end)
 string_only most tape n after bs rest l b (string es) end h =
     let other = string_bytes most tape n after es end l h in
-    let p = split_same bs es rest end (b.many ∙ sym other.many) (sym b.front ∙ other.front) in
+    let p = split_same bs es rest end (b.many ∙ sym other.many) (sym b.prefix ∙ other.prefix) in
     (ap (λ (x : List ℕ). string x) p.0, p.1)
 string_only most tape n after bs rest l b (number z) end h = absurd (false≢true h.typed)
 string_only most tape n after bs rest l b (elements ds) end h = absurd (false≢true h.typed)
@@ -276,15 +276,15 @@ pub string_one : (most : ℕ) (tape : List ℕ) (n : ℕ) (after bs rest : List 
     → TheOne (ArgumentAt (text most) tape) (string bs) rest
 string_one most tape n after bs rest l b =
     let few = le-leb (length bs) most (omega (arith, l.few, b.many)) in
-    let whole : tape ≡ length bs ∷ (bs ++ rest) = l.front ∙ ap (λ (m : ℕ). m ∷ after) (sym b.many) ∙ ap (λ (x : List ℕ). length bs ∷ x) b.front in
+    let whole : tape ≡ length bs ∷ (bs ++ rest) = l.prefix ∙ ap (λ (m : ℕ). m ∷ after) (sym b.many) ∙ ap (λ (x : List ℕ). length bs ∷ x) b.prefix in
     record {
-      stands = record { typed = rw few b.typed; front = whole };
+      stands = record { typed = rw few b.typed; prefix = whole };
       only = string_only most tape n after bs rest l b;
     }
 
 pub sized_too_long : (most : ℕ) (t : TheType) (tape : List ℕ) → NoneOf (LengthAt most tape) → (c : Datum) (end : List ℕ) → ArgumentAt (sized most t) tape c end → ⊥
 sized_too_long most t tape none (elements ds) end h =
-    none (count_of ds) (elements_tape t ds ++ end) (record { few = leb-true (count_of ds) most (first_so _ _ h.typed); front = h.front })
+    none (count_of ds) (elements_tape t ds ++ end) (record { few = leb-true (count_of ds) most (first_so _ _ h.typed); prefix = h.prefix })
 sized_too_long most t tape none (number z) end h = false≢true h.typed
 sized_too_long most t tape none (string bs) end h = false≢true h.typed
 sized_too_long most t tape none (fields ds) end h = false≢true h.typed
@@ -292,7 +292,7 @@ sized_too_long most t tape none (fields ds) end h = false≢true h.typed
 sized_elements : (most : ℕ) (t : TheType) (tape : List ℕ) (n : ℕ) (after : List ℕ) (ds : Data) (end : List ℕ) → LengthAt most tape n after → ArgumentAt (sized most t) tape (elements ds) end
     → InTurn ValueAt (replicate n t) after (list_from ds) end
 sized_elements most t tape n after ds end l h =
-    let p = length_same most tape n after (count_of ds) (elements_tape t ds ++ end) l h.front in
+    let p = length_same most tape n after (count_of ds) (elements_tape t ds ++ end) l h.prefix in
     elements_stand n t after ds end (sym p.0) (second_so _ _ h.typed) p.1
 
 pub sized_none : (most : ℕ) (t : TheType) (tape : List ℕ) (n : ℕ) (after : List ℕ) → LengthAt most tape n after → NoneOf (InTurn ValueAt (replicate n t) after)
@@ -317,13 +317,13 @@ sized_one most t tape n after ds rest l one =
     let many = elements_many n t after ds rest one.stands in
     let few = le-leb (count_of (data_from ds)) most (omega (arith, l.few, many)) in
     let whole : tape ≡ count_of (data_from ds) ∷ (elements_tape t (data_from ds) ++ rest)
-    = l.front ∙ ap (λ (m : ℕ). m ∷ after) (sym many) ∙ ap (λ (x : List ℕ). count_of (data_from ds) ∷ x) (elements_front n t after ds rest one.stands) in
+    = l.prefix ∙ ap (λ (m : ℕ). m ∷ after) (sym many) ∙ ap (λ (x : List ℕ). count_of (data_from ds) ∷ x) (elements_prefix n t after ds rest one.stands) in
     record {
-      stands = record { typed = rw few (elements_typed n t after ds rest one.stands); front = whole };
+      stands = record { typed = rw few (elements_typed n t after ds rest one.stands); prefix = whole };
       only = sized_only most t tape n after ds rest l one;
     }
 
--- ---- fronts of lists
+-- ---- prefixes of lists
 
 pub list_again : {A : Type 0} (xs : List A) (n : ℕ) (x : A) → n < length xs → x ≡ get_or xs n x → take n xs ++ x ∷ drop (suc n) xs ≡ xs
 list_again [] n x h e = absurd (omega (arith, h))

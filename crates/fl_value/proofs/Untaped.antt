@@ -17,7 +17,7 @@ use Rattle.fl_value.specs.Tape.{value_tape, fields_tape, elements_tape, argument
 use Rattle.fl_value.specs.Taken.{ArgumentAt, InTurn, TheOne, NoneOf, HasTape}
 use Rattle.fl_value.proofs.Bits.{raw_told, scalar_range, enum_range, scalar_room}
 use Rattle.fl_value.proofs.Turns.{split_same}
-use Rattle.fl_value.proofs.Ranked.{rearranged, before, front, seconds_arranged, firsts_arranged, types_arranged, rearranged_told, rearranged_typed, typed_again, length_rearranged}
+use Rattle.fl_value.proofs.Ranked.{rearranged, before, prefix, seconds_arranged, firsts_arranged, types_arranged, rearranged_told, rearranged_typed, typed_again, length_rearranged}
 
 -- ---- arguments one after another
 
@@ -30,12 +30,12 @@ arguments_typed [] tape (d ∷ ds) rest h = absurd h
 arguments_typed (t ∷ ts) tape [] rest h = absurd h
 arguments_typed (t ∷ ts) tape (d ∷ ds) rest h = rw h.1.typed (arguments_typed ts h.0 ds rest h.2)
 
-arguments_front : (ts : List TheArgType) (tape : List ℕ) (ds : List Datum) (rest : List ℕ) → InTurn ArgumentAt ts tape ds rest → tape ≡ tape_with ts ds ++ rest
-arguments_front [] tape [] rest h = h
-arguments_front [] tape (d ∷ ds) rest h = absurd h
-arguments_front (t ∷ ts) tape [] rest h = absurd h
-arguments_front (t ∷ ts) tape (d ∷ ds) rest h =
-    h.1.front ∙ ap (λ (l : List ℕ). argument_tape t d ++ l) (arguments_front ts h.0 ds rest h.2)
+arguments_prefix : (ts : List TheArgType) (tape : List ℕ) (ds : List Datum) (rest : List ℕ) → InTurn ArgumentAt ts tape ds rest → tape ≡ tape_with ts ds ++ rest
+arguments_prefix [] tape [] rest h = h
+arguments_prefix [] tape (d ∷ ds) rest h = absurd h
+arguments_prefix (t ∷ ts) tape [] rest h = absurd h
+arguments_prefix (t ∷ ts) tape (d ∷ ds) rest h =
+    h.1.prefix ∙ ap (λ (l : List ℕ). argument_tape t d ++ l) (arguments_prefix ts h.0 ds rest h.2)
     ∙ sym (append_assoc (argument_tape t d) (tape_with ts ds) rest)
 
 arguments_stand : (ts : List TheArgType) (tape : List ℕ) (ds : List Datum) (rest : List ℕ) → are_arguments ts ds ≡ true → tape ≡ tape_with ts ds ++ rest → InTurn ArgumentAt ts tape ds rest
@@ -45,7 +45,7 @@ arguments_stand (t ∷ ts) tape [] rest h e = absurd (false≢true h)
 arguments_stand (t ∷ ts) tape (d ∷ ds) rest h e =
     let after = tape_with ts ds ++ rest in (
       after,
-      record { typed = first_so (is_argument t d) _ h; front = e ∙ append_assoc (argument_tape t d) (tape_with ts ds) rest },
+      record { typed = first_so (is_argument t d) _ h; prefix = e ∙ append_assoc (argument_tape t d) (tape_with ts ds) rest },
       arguments_stand ts after ds rest (second_so (is_argument t d) _ h) refl,
     )
 
@@ -97,7 +97,7 @@ call_found plan i m msg tape rs vs here stands long back =
     = subst (λ (us : List TheArgType). are_arguments us (rearranged plan ts vs) ≡ true) (types_arranged plan ts)
     (subst (λ (ds : List Datum). are_arguments (arranged (λ (t : TheArgType). t) plan ts) ds ≡ true) (sym back) (arguments_typed (arranged (λ (t : TheArgType). t) plan ts) tape rs [] stands)) in
     let whole : tape ≡ flat_map tape_of_argument (arranged kind plan (zip ts vs))
-    = arguments_front (arranged (λ (t : TheArgType). t) plan ts) tape rs [] stands ∙ append-nil (tape_with (arranged (λ (t : TheArgType). t) plan ts) rs)
+    = arguments_prefix (arranged (λ (t : TheArgType). t) plan ts) tape rs [] stands ∙ append-nil (tape_with (arranged (λ (t : TheArgType). t) plan ts) rs)
     ∙ ap (λ (ds : List Datum). tape_with (arranged (λ (t : TheArgType). t) plan ts) ds) (sym back) ∙ sym (tape_rearranged plan ts vs long) in
     record {
       message = refl;
@@ -236,7 +236,7 @@ rearranged_all : (p : TheArgType → Bool) (plan : PlanNo) (ts : List TheArgType
 rearranged_all p One ts h = h
 rearranged_all p Two [] h = refl
 rearranged_all p Two (t ∷ ts) h =
-    subst (λ (us : List TheArgType). list_all p us ≡ true) (sym (front t ts t ts refl))
+    subst (λ (us : List TheArgType). list_all p us ≡ true) (sym (prefix t ts t ts refl))
     (insert_all p (before t ts) (rearranged Two ts ts) t (first_so (p t) _ h) (rearranged_all p Two ts (second_so (p t) _ h)))
 
 message_all : (p : TheMessage → Bool) (ms : List TheMessage) (n : ℕ) (m : TheMessage) → list_all p ms ≡ true → slice_get ms n ≡ Some m → p m ≡ true
@@ -256,7 +256,7 @@ two_calls plan i m msg tape c d w here h k =
     let two = call_stands plan i m msg tape d here k in
     let same = arguments_told us (rearranged plan ts c.args) (rearranged plan ts d.args) [] [] smalls
     (arguments_typed us tape (rearranged plan ts c.args) [] one) (arguments_typed us tape (rearranged plan ts d.args) [] two)
-    (sym (arguments_front us tape (rearranged plan ts c.args) [] one) ∙ arguments_front us tape (rearranged plan ts d.args) [] two) in
+    (sym (arguments_prefix us tape (rearranged plan ts c.args) [] one) ∙ arguments_prefix us tape (rearranged plan ts d.args) [] two) in
     let args : c.args ≡ d.args = rearranged_told plan ts c.args d.args (arguments_many ts c.args (call_fits plan i m msg tape c here h)) (arguments_many ts d.args (call_fits plan i m msg tape d here k)) same.0 in
     call_same c d (h.message ∙ sym k.message) args
 

@@ -1,35 +1,21 @@
 -- Calls as text: `name(v, v)`. What stands where is said by two places of a text, each told by the
 -- bytes from there on: something stands from `bytes` up to `rest`.
-use Rattle.std.specs.Prelude.{◌≡◌, ℕ, ℤ, pos, ◌+◌, ◌*◌, ◌<◌, ◌≤◌, ◌==◌, ◌&&◌, ◌||◌, nat_lt}
+use Rattle.std.specs.Prelude.{◌≡◌, ℕ, ℤ, pos, ◌+◌, ◌*◌, ◌<◌, ◌≤◌, ◌==◌, ◌&&◌, ◌||◌}
 use Rattle.std.specs.Prelude.{nat_le, max, not, Bool, true, false, List, [], ◌∷◌, ◌++◌, length}
 use Rattle.std.proofs.Common.{neg_ℤ}
 use Rattle.std.specs.List.{list_all}
 use Rattle.std.specs.Char.{digit_value}
 use Rattle.std.specs.Str.Parse.{digits_value}
+use Rattle.fl_lex.specs.Words.{is_digit, is_name}
 use Rattle.fl_value.specs.Value.{Datum, number, string, elements, fields, Data, nothing_more, also, data_from}
 
 -- a space or a tab
 abbrev pub is_blank : ℕ → Bool
 is_blank b = (b == 32) || (b == 9)
 
-abbrev pub is_digit : ℕ → Bool
-is_digit b = nat_lt (digit_value b) 10
-
--- a letter or `_`
-abbrev pub is_letter : ℕ → Bool
-is_letter b = (nat_le 65 b && nat_le b 90) || (nat_le 97 b && nat_le b 122) || (b == 95)
-
-abbrev pub is_word_byte : ℕ → Bool
-is_word_byte b = is_letter b || (nat_le 48 b && nat_le b 57)
-
 -- one of ( ) , [ ] { }
 abbrev pub is_mark : ℕ → Bool
 is_mark b = (b == 40) || (b == 41) || (b == 44) || (b == 91) || (b == 93) || (b == 123) || (b == 125)
-
--- a letter or `_`, then letters, digits and `_`; at most 64 bytes
-abbrev pub IsWord : List ℕ → Type 0
-IsWord [] = ⊥
-IsWord (b ∷ bs) = (is_letter b ≡ true) × (list_all is_word_byte bs ≡ true) × (length (b ∷ bs) ≤ 64)
 
 -- the text doesn't begin with such a byte
 abbrev pub StopsAt : (ℕ → Bool) → List ℕ → Type 0
@@ -132,7 +118,7 @@ pub record SpellsCall (bytes name : List ℕ) (values : List Datum) : Type 0 whe
   pub last : List ℕ
   pub end : List ℕ
   pub before : Blanks bytes start
-  pub word : IsWord name
+  pub word : is_name name ≡ true
   pub named : start ≡ name ++ after
   pub opens : Token (a_mark 40) after inside
   pub spelled : SpellsValues (data_from values) inside last

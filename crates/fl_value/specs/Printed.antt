@@ -7,7 +7,8 @@ use Rattle.std.specs.Fmt.{signed_decimal}
 use Rattle.fl_check.specs.Interface.{TheMessage, TheInterface}
 use Rattle.fl_check.specs.Checks.{is_within_limits}
 use Rattle.fl_check.specs.Counts.{interface_words_fit}
-use Rattle.fl_value.specs.CallText.{IsWord, SpellsCall, greatest_depth}
+use Rattle.fl_lex.specs.Words.{is_name}
+use Rattle.fl_value.specs.CallText.{SpellsCall, greatest_depth}
 use Rattle.fl_value.specs.Fits.{fits_of}
 use Rattle.fl_value.specs.Resolve.{ComesTo}
 use Rattle.fl_value.specs.Value.{TheCall, Datum, number, string, elements, fields, Data, nothing_more, also, data_from}
@@ -49,7 +50,7 @@ separator index = if index == 0 then [] else 44 ∷ 32 ∷ []
 
 -- what stood there still stands, and behind it a prefix of the text
 abbrev pub BeginsToAppend : (old new whole : List ℕ) → Type 0
-BeginsToAppend old new whole = (front : List ℕ) × (rest : List ℕ) × (whole ≡ front ++ rest) × (new ≡ old ++ front)
+BeginsToAppend old new whole = (prefix : List ℕ) × (rest : List ℕ) × (whole ≡ prefix ++ rest) × (new ≡ old ++ prefix)
 
 -- numbers of at most 20 digits, and bytes in texts
 abbrev pub is_short : ℤ → Bool
@@ -74,13 +75,13 @@ pub record HasText (i : TheInterface) (m : TheMessage) (c : TheCall) : Type 0 wh
   pub counted : interface_words_fit i ≡ true
   pub fits : fits_of i c ≡ true
   pub message : slice_get i.messages c.msg ≡ Some m
-  pub word : IsWord m.name
+  pub word : is_name m.name ≡ true
 
 -- ---- laws
 
 -- what is printed of a name and values reads as these: the name a word, numbers of at most 20 digits, nested at most 20 deep
 abbrev pub PrintedReads : Type 0
-PrintedReads = (name : List ℕ) (values : List Datum) → IsWord name → are_printable (data_from values) ≡ true
+PrintedReads = (name : List ℕ) (values : List Datum) → is_name name ≡ true → are_printable (data_from values) ≡ true
     → greatest_depth (data_from values) ≤ 20 → SpellsCall (printed_call name values) name values
 
 -- what is printed of a call that an interface prints is that call there

@@ -32,23 +32,23 @@ scalar_back s bits = if is_signed s then signed_back (how_many_below s) bits els
 -- a value of the type, and then the rest
 pub record ValueAt (t : TheType) (tape : List ℕ) (d : Datum) (rest : List ℕ) : Type 0 where
   pub typed : has_type t d ≡ true
-  pub front : tape ≡ value_tape t d ++ rest
+  pub prefix : tape ≡ value_tape t d ++ rest
 
 -- an argument of the type
 pub record ArgumentAt (t : TheArgType) (tape : List ℕ) (d : Datum) (rest : List ℕ) : Type 0 where
   pub typed : is_argument t d ≡ true
-  pub front : tape ≡ argument_tape t d ++ rest
+  pub prefix : tape ≡ argument_tape t d ++ rest
 
 -- a length of at most so many
 pub record LengthAt (most : ℕ) (tape : List ℕ) (n : ℕ) (rest : List ℕ) : Type 0 where
   pub few : n ≤ most
-  pub front : tape ≡ n ∷ rest
+  pub prefix : tape ≡ n ∷ rest
 
 -- so many bytes of a string
 pub record BytesAt (count : ℕ) (tape : List ℕ) (bytes rest : List ℕ) : Type 0 where
   pub many : length bytes ≡ count
   pub typed : list_all is_text_byte bytes ≡ true
-  pub front : tape ≡ bytes ++ rest
+  pub prefix : tape ≡ bytes ++ rest
 
 -- values of these types, one after another
 abbrev pub InTurn : {A : Type 0} → (A → List ℕ → Datum → List ℕ → Type 0) → List A → List ℕ → List Datum → List ℕ → Type 0

@@ -1,10 +1,11 @@
 //! Calls from their text, and which call of an interface a text is.
 
-ghost use Rattle.std.specs.Prelude.{Result, ◌≡◌, ℕ, ◌++◌, ◌≤◌, List, map, length, IfOk, IfErr, IfSome, IfNone};
+ghost use Rattle.std.specs.Prelude.{Result, ◌≡◌, ℕ, ◌++◌, ◌≤◌, List, map, length, IfOk, IfErr, IfSome, IfNone, true};
 ghost use Rattle.std.specs.List.{prefix_len};
 ghost use Rattle.fl_check.specs.Interface.{interface_of, message_of};
 ghost use Rattle.fl_value.specs.Value.{Datum, TheCall, datum_of};
-ghost use Rattle.fl_value.specs.CallText.{IsWord, is_letter, is_word_byte, StopsAt, SpellsCall};
+ghost use Rattle.fl_lex.specs.Words.{is_letter, is_word_byte, is_name};
+ghost use Rattle.fl_value.specs.CallText.{StopsAt, SpellsCall};
 ghost use Rattle.fl_value.specs.declared.fault.ValueFault.{ValueFault};
 ghost use Rattle.fl_value.specs.Fault.{Refuses};
 ghost use Rattle.fl_value.specs.Resolve.{named_from, resolved, Answers, AnswersUnlessMemory, ComesTo, ReadsAs};
@@ -58,10 +59,10 @@ fn count_word_bytes(bytes: &[u8]) -> usize
 
 /// The word that the bytes begin with, and what follows it.
 fn read_word(bytes: &[u8]) -> Option<(&[u8], &[u8])>
-    ensures word { IfSome result (λ r. IsWord r.0.now) }
+    ensures word { IfSome result (λ r. is_name r.0.now ≡ true) }
     ensures split { IfSome result (λ r. bytes.now ≡ r.0.now ++ r.1.now) }
     ensures stops { IfSome result (λ r. StopsAt is_word_byte r.1.now) }
-    ensures none { IfNone result ((word rest : List ℕ) → IsWord word → StopsAt is_word_byte rest → bytes.now ≡ word ++ rest → ⊥) }
+    ensures none { IfNone result ((word rest : List ℕ) → is_name word ≡ true → StopsAt is_word_byte rest → bytes.now ≡ word ++ rest → ⊥) }
 {
     let [first, ..] = bytes else {
         return None;

@@ -4,7 +4,8 @@ ghost use Rattle.std.specs.Prelude.{◌≡◌, ◌+◌, ◌<◌, ◌≤◌, ◌^
 ghost use Rattle.std.specs.List.{prefix_len, list_all};
 ghost use Rattle.std.specs.Char.{digit_value};
 ghost use Rattle.std.specs.Str.Parse.{digits_value};
-ghost use Rattle.fl_value.specs.CallText.{is_blank, is_digit, is_mark, Blanks, Digits, TextByte, TextBytes};
+ghost use Rattle.fl_lex.specs.Words.{is_digit};
+ghost use Rattle.fl_value.specs.CallText.{is_blank, is_mark, Blanks, Digits, TextByte, TextBytes};
 ghost use Rattle.fl_value.specs.CallText.{Token, a_number, a_text, a_mark, StopsAt, Closed};
 
 use std::alloc::{AllocError, Global};

@@ -209,8 +209,8 @@ fn read_bytes(
     if tape.len() < count {
         return Ok(None);
     }
-    let (front, rest) = tape.split_at(count);
-    let Some(bytes) = bytes_from(alloc, front)? else {
+    let (prefix, rest) = tape.split_at(count);
+    let Some(bytes) = bytes_from(alloc, prefix)? else {
         return Ok(None);
     };
     Ok(Some((bytes, rest)))

@@ -22,7 +22,7 @@ use Rattle.fl_value.specs.declared.value.PlanNo.TheVariants.{One, Two}
 use Rattle.fl_wire.specs.Standing.{Over, firsts, fitting}
 use Rattle.fl_check.specs.Counts.{words_fit, all_words_fit, argument_words_fit}
 use Rattle.fl_wire.proofs.Bytes.{size_le_place, below_place, at_place}
-use Rattle.fl_wire.proofs.Arguments.{IsAlign, type_align, along_align, scalar_align}
+use Rattle.fl_wire.proofs.Arguments.{IsAlign, type_align, by_align, scalar_align}
 
 -- ---- leaves that stand under others
 
@@ -336,7 +336,7 @@ same_types plan (suc n) k ts xs ys hx hy =
     ∙ ap (λ (us : List TheArgType). firsts (of_rank kind plan k (zip ts ys)) ++ us) (same_types plan n (k + 1) ts xs ys hx hy)
     ∙ sym (map-append first (of_rank kind plan k (zip ts ys)) (of_ranks kind plan n (k + 1) (zip ts ys)))
 
--- two joins with fronts of one length
+-- two joins with prefixes of one length
 split_same : {A : Type 0} (a b c d : List A) → length a ≡ length b → a ++ c ≡ b ++ d → (a ≡ b) × (c ≡ d)
 split_same [] [] c d long e = (refl, e)
 split_same [] (y ∷ b) c d long e = absurd (omega (arith, long))
@@ -364,7 +364,7 @@ ranks_told plan (suc n) k j ts xs ys hx hy e low high =
 
 pub rank_small : (plan : PlanNo) (t : TheArgType) → rank_of plan t < 5
 rank_small One t = omega arith
-rank_small Two (fixed t) = along_align (λ (n : ℕ). fixed_rank n < 5) (omega arith) (omega arith) (omega arith) (omega arith) (align_of t) (type_align t)
+rank_small Two (fixed t) = by_align (λ (n : ℕ). fixed_rank n < 5) (omega arith) (omega arith) (omega arith) (omega arith) (align_of t) (type_align t)
 rank_small Two (text m) = omega arith
 rank_small Two (sized m t) = omega arith
 

@@ -15,8 +15,9 @@ use Rattle.fl_value.specs.Plan.{is_dynamic, rank_of, of_rank, of_ranks}
 use Rattle.fl_value.specs.declared.value.PlanNo.{PlanNo}
 use Rattle.fl_layout.specs.Leaves.{Leaf, leaves, Argument, kind, argument_onto, arguments_onto, argument_types, types_of, is_number_type}
 use Rattle.fl_wire.specs.Widths.{number_width, number_of, fits_width, IsWordSized}
-pub use Rattle.fl_wire.specs.Widths.{IsAlign}
-pub use Rattle.fl_value.proofs.Ranked.{scalar_align, type_align, types_align, along_align, arranged_ranks}
+pub use Rattle.fl_check.specs.Sizes.{IsAlign}
+pub use Rattle.fl_check.proofs.Aligned.{scalar_align, type_align, types_align, by_align}
+pub use Rattle.fl_value.proofs.Ranked.{arranged_ranks}
 
 -- ---- two lists side by side
 

@@ -47,19 +47,19 @@ past_end (l ∷ ls) p h =
 abbrev pub joined : Leaf → List Leaf → ℕ → List ℕ
 joined l ls missing = (payload_bytes ls ++ replicate missing 0) ++ map (λ j. byte_at j l.value) (range_with_len 0 l.width)
 
-length_front : (ls : List Leaf) (missing n : ℕ) → size ls + missing ≡ n → length (payload_bytes ls ++ replicate missing 0) ≡ n
-length_front ls missing n e = length-append (payload_bytes ls) (replicate missing 0) ∙ omega (arith, length_payload ls, length-replicate {A = ℕ} missing 0, e)
+length_prefix : (ls : List Leaf) (missing n : ℕ) → size ls + missing ≡ n → length (payload_bytes ls ++ replicate missing 0) ≡ n
+length_prefix ls missing n e = length-append (payload_bytes ls) (replicate missing 0) ∙ omega (arith, length_payload ls, length-replicate {A = ℕ} missing 0, e)
 
 same_length : (l : Leaf) (ls : List Leaf) (missing : ℕ) → size ls + missing ≡ place l ls → length (payload_bytes (l ∷ ls)) ≡ length (joined l ls missing)
 same_length l ls missing e =
-    let front = length_front ls missing (place l ls) e in
+    let prefix = length_prefix ls missing (place l ls) e in
     let back = length-map-range_with_len (λ j. byte_at j l.value) 0 l.width in
     length_payload (l ∷ ls)
     ∙ sym (length-append (payload_bytes ls ++ replicate missing 0) (map (λ j. byte_at j l.value) (range_with_len 0 l.width))
-    ∙ omega (arith, front, back))
+    ∙ omega (arith, prefix, back))
 
-get_front : (ls : List Leaf) (missing p : ℕ) → p < size ls + missing → get_or (payload_bytes ls ++ replicate missing 0) p 0 ≡ payload_at ls p
-get_front ls missing p h = ⊎_elim
+get_prefix : (ls : List Leaf) (missing p : ℕ) → p < size ls + missing → get_or (payload_bytes ls ++ replicate missing 0) p 0 ≡ payload_at ls p
+get_prefix ls missing p h = ⊎_elim
     (λ (below : p < size ls). get_or_append_left (payload_bytes ls) (replicate missing 0) 0 p (omega (arith, length_payload ls, below)) ∙ get_payload ls p below)
     (λ (past : size ls ≤ p).
     get_or-append_right (payload_bytes ls) (replicate missing 0) (size ls) p 0 (length_payload ls) past
@@ -69,17 +69,17 @@ get_front ls missing p h = ⊎_elim
 
 same_byte : (l : Leaf) (ls : List Leaf) (missing : ℕ) → size ls + missing ≡ place l ls → (p : ℕ) → p < size (l ∷ ls) → payload_at (l ∷ ls) p ≡ get_or (joined l ls missing) p 0
 same_byte l ls missing e p h =
-    let front = payload_bytes ls ++ replicate missing 0 in
+    let prefix = payload_bytes ls ++ replicate missing 0 in
     let back = map (λ j. byte_at j l.value) (range_with_len 0 l.width) in
-    let long : length front ≡ place l ls = length_front ls missing (place l ls) e in
+    let long : length prefix ≡ place l ls = length_prefix ls missing (place l ls) e in
     ⊎_elim
     (λ (below : p < place l ls).
-    below_place l ls p below ∙ sym (get_or_append_left front back 0 p (omega (arith, long, below)) ∙ get_front ls missing p (omega (arith, e, below))))
+    below_place l ls p below ∙ sym (get_or_append_left prefix back 0 p (omega (arith, long, below)) ∙ get_prefix ls missing p (omega (arith, e, below))))
     (λ (past : place l ls ≤ p).
     let j = p - place l ls in
     let small : j < l.width = omega (arith, h, past) in
     at_place l ls p j small (omega (arith, past))
-    ∙ sym (get_or-append_right front back (place l ls) p 0 long past ∙ get_or-map-range_with_len (λ j. byte_at j l.value) 0 l.width j j 0 small (omega arith)))
+    ∙ sym (get_or-append_right prefix back (place l ls) p 0 long past ∙ get_or-map-range_with_len (λ j. byte_at j l.value) 0 l.width j j 0 small (omega arith)))
     (cases_lt p (place l ls))
 
 -- a payload with one leaf more: zeros up to its place, then its bytes

@@ -1,5 +1,5 @@
 -- What the first fragments of a call hold, and its arguments from their bits.
-use Rattle.std.proofs.Common.{◌≡◌, ℕ, ℤ, pos, negsuc, zero, suc, ◌+◌, ◌-◌, ◌*◌, ◌/◌, ◌%◌, ◌^◌, ◌<◌, ◌≤◌, true, false, ◌⊎◌, inl, inr, ⊎_elim, List, map, length, get_or, take, slice_index, refl, sym, ◌∙◌, ap, arith, cond, ltb, leb, ◌&&◌, max, Some}
+use Rattle.std.proofs.Common.{◌≡◌, ℕ, ℤ, pos, negsuc, zero, suc, ◌+◌, ◌-◌, ◌*◌, ◌/◌, ◌%◌, ◌^◌, ◌<◌, ◌≤◌, true, false, ◌⊎◌, inl, inr, ⊎_elim, List, map, length, get_or, take, slice_index, refl, sym, ◌∙◌, ap, arith, cond, ltb, leb, ◌&&◌, Some}
 use Rattle.std.specs.Prelude.{slice_get, Option, ◌-ℤ◌}
 use Rattle.std.specs.List.{range_with_len}
 use Rattle.std.specs.Int.{byte_at, to_le_bytes, w64}
@@ -18,7 +18,7 @@ use Rattle.fl_value.specs.Value.{Datum, number, TheCall}
 use Rattle.fl_value.specs.Fits.{is_argument, least_above, how_many_below, is_scalar_value}
 use Rattle.fl_value.specs.declared.value.PlanNo.{PlanNo}
 use Rattle.fl_layout.specs.Leaves.{leaves, is_number_type}
-use Rattle.fl_layout.specs.Places.{size, count}
+use Rattle.fl_layout.specs.Places.{size, count_for, count}
 use Rattle.fl_wire.specs.Payload.{payload_of, word, frag_on, frags_of}
 use Rattle.fl_wire.specs.Standing.{words_in, HoldsPayload, raw_of, signed_half, number_back}
 use Rattle.fl_wire.proofs.Bytes.{get_made}
@@ -94,25 +94,25 @@ byte_of_word xs m r p small h e =
     ∙ window_at xs m r h ∙ ap (slice_index xs) e
 
 -- the first fragments
-pub front_frags : (plan : PlanNo) (i : TheInterface) (c : TheCall) (k : ℕ) → k ≤ count plan i c → take k (frags_of plan i c) ≡ map (frag_on 0 c.msg (payload_of plan i c)) (range_with_len 0 k)
-front_frags plan i c k h = take-map-range_with_len (frag_on 0 c.msg (payload_of plan i c)) 0 (count plan i c) k h
+pub prefix_frags : (plan : PlanNo) (i : TheInterface) (c : TheCall) (k : ℕ) → k ≤ count plan i c → take k (frags_of plan i c) ≡ map (frag_on 0 c.msg (payload_of plan i c)) (range_with_len 0 k)
+prefix_frags plan i c k h = take-map-range_with_len (frag_on 0 c.msg (payload_of plan i c)) 0 (count plan i c) k h
 
-pub front_length : (plan : PlanNo) (i : TheInterface) (c : TheCall) (k : ℕ) (frags : List Frag) → k ≤ count plan i c → frags ≡ take k (frags_of plan i c) → length frags ≡ k
-front_length plan i c k frags h e = ap length e ∙ length-take-le k (frags_of plan i c) (omega (arith, h, length_frags plan i c))
+pub prefix_length : (plan : PlanNo) (i : TheInterface) (c : TheCall) (k : ℕ) (frags : List Frag) → k ≤ count plan i c → frags ≡ take k (frags_of plan i c) → length frags ≡ k
+prefix_length plan i c k frags h e = ap length e ∙ length-take-le k (frags_of plan i c) (omega (arith, h, length_frags plan i c))
 
-pub front_get : (plan : PlanNo) (i : TheInterface) (c : TheCall) (k j : ℕ) (frags : List Frag) → k ≤ count plan i c → frags ≡ take k (frags_of plan i c) → j < k
+pub prefix_get : (plan : PlanNo) (i : TheInterface) (c : TheCall) (k j : ℕ) (frags : List Frag) → k ≤ count plan i c → frags ≡ take k (frags_of plan i c) → j < k
     → slice_get frags j ≡ Some (frag_on 0 c.msg (payload_of plan i c) j)
-front_get plan i c k j frags h e small =
-    ap (λ (fs : List Frag). slice_get fs j) (e ∙ front_frags plan i c k h) ∙ get_made (frag_on 0 c.msg (payload_of plan i c)) 0 k j small
+prefix_get plan i c k j frags h e small =
+    ap (λ (fs : List Frag). slice_get fs j) (e ∙ prefix_frags plan i c k h) ∙ get_made (frag_on 0 c.msg (payload_of plan i c)) 0 k j small
     ∙ ap (λ (m : ℕ). Some (frag_on 0 c.msg (payload_of plan i c) m)) (omega arith)
 
-pub front_holds : (plan : PlanNo) (i : TheInterface) (c : TheCall) (k : ℕ) (frags : List Frag) → k ≤ count plan i c → frags ≡ take k (frags_of plan i c) → HoldsPayload frags (leaves plan i c)
-front_holds plan i c k frags h e = record {
+pub prefix_holds : (plan : PlanNo) (i : TheInterface) (c : TheCall) (k : ℕ) (frags : List Frag) → k ≤ count plan i c → frags ≡ take k (frags_of plan i c) → HoldsPayload frags (leaves plan i c)
+prefix_holds plan i c k frags h e = record {
   at = λ p inside.
       let bytes = payload_of plan i c in
       let n = p / 56 in
-      let small : n < k = omega (arith, inside, front_length plan i c k frags h e) in
-      ap (λ (f : Option Frag). byte_at (p % 8) (slice_index (words_in f) (p / 8 % 7))) (front_get plan i c k n frags h e small)
+      let small : n < k = omega (arith, inside, prefix_length plan i c k frags h e) in
+      ap (λ (f : Option Frag). byte_at (p % 8) (slice_index (words_in f) (p / 8 % 7))) (prefix_get plan i c k n frags h e small)
       ∙ ap (byte_at (p % 8)) (get_or-map-range_with_len (word bytes) (7 * n) 7 (p / 8 % 7) (p / 8) 0 (omega arith) (omega arith))
       ∙ byte_of_word bytes (p / 8) (p % 8) p (all_small (leaves plan i c)) (omega arith) (omega arith)
       ∙ byte_of_payload (leaves plan i c) p;
@@ -122,16 +122,16 @@ control_same : (f g : Frag) → Some f ≡ Some g → f.control ≡ g.control
 control_same f g e = cc
 
 -- the first fragment tells the message
-pub front_message : (plan : PlanNo) (i : TheInterface) (c : TheCall) (k : ℕ) (frags : List Frag) (f : Frag) → k ≤ count plan i c → frags ≡ take k (frags_of plan i c) → 0 < k → c.msg < 2 ^ 16
+pub prefix_message : (plan : PlanNo) (i : TheInterface) (c : TheCall) (k : ℕ) (frags : List Frag) (f : Frag) → k ≤ count plan i c → frags ≡ take k (frags_of plan i c) → 0 < k → c.msg < 2 ^ 16
     → Some f ≡ slice_get frags 0 → message_of f.control ≡ c.msg
-front_message plan i c k frags f h e some small is =
-    let same : Some f ≡ Some (frag_on 0 c.msg (payload_of plan i c) 0) = is ∙ front_get plan i c k 0 frags h e some in
+prefix_message plan i c k frags f h e some small is =
+    let same : Some f ≡ Some (frag_on 0 c.msg (payload_of plan i c) 0) = is ∙ prefix_get plan i c k 0 frags h e some in
     let control : f.control ≡ control_word true c.msg 0 = control_same f (frag_on 0 c.msg (payload_of plan i c) 0) same in
     omega (arith, control, small)
 
 -- a call that is cut short, and one that is whole
-pub short_count : (size count k : ℕ) → count ≡ max 1 ((size + 55) / 56) → 56 * k < size → k < count
+pub short_count : (size count k : ℕ) → count ≡ count_for size → 56 * k < size → k < count
 short_count size count k e h = omega (arith, e, h)
 
-pub whole_count : (size count k : ℕ) → count ≡ max 1 ((size + 55) / 56) → 0 < k → size ≤ 56 * k → count ≤ k
+pub whole_count : (size count k : ℕ) → count ≡ count_for size → 0 < k → size ≤ 56 * k → count ≤ k
 whole_count size count k e some h = omega (arith, e, some, h)

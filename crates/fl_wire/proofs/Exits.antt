@@ -35,7 +35,7 @@ use Rattle.fl_wire.proofs.Arguments.{leaves_ranks, arranged_ranks, arguments_fit
 use Rattle.fl_wire.proofs.Readings.{make_call, length_frags, count_positive}
 use Rattle.fl_wire.proofs.Decoding.{short_count}
 use Rattle.fl_wire.proofs.Steps.{fewer}
-use Rattle.fl_wire.proofs.Frames.{start_known, follow_message, group_front}
+use Rattle.fl_wire.proofs.Frames.{start_known, follow_message, group_prefix}
 use Rattle.fl_wire.proofs.Unread.{IsUnderWay, with_one, wrong_at, wrong_after, reads_right, all_join, flat_join, one_fits}
 
 -- ---- interfaces within the limits
@@ -119,8 +119,8 @@ part_of plan i msg group sound g cut =
       call = c;
       fits = call_fits i msg group near.one g near.fit;
       short = short;
-      front = ap (map bare) (sym (take_all (length group) group (omega arith)))
-          ∙ group_front plan i c group (length group) g (omega arith) (omega (arith, short)) (subst (λ (ls : List Leaf). Agrees group ls (56 * length group)) (sym same) near.agree);
+      prefix = ap (map bare) (sym (take_all (length group) group (omega arith)))
+          ∙ group_prefix plan i c group (length group) g (omega arith) (omega (arith, short)) (subst (λ (ls : List Leaf). Agrees group ls (56 * length group)) (sym same) near.agree);
     }
 
 -- its first fragments mean a call
@@ -137,7 +137,7 @@ whole_of plan i msg frags n ds many within g w =
       some = omega (arith, counts, count_positive plan i c);
       within = omega (arith, w.within, long, within);
       means = ap (map bare) (sym (take-take many n frags (omega (arith, w.within, long))))
-          ∙ group_front plan i c group many g w.within (omega (arith, counts)) (subst (λ (ls : List Leaf). Agrees group ls (56 * many)) (sym same) w.agree)
+          ∙ group_prefix plan i c group many g w.within (omega (arith, counts)) (subst (λ (ls : List Leaf). Agrees group ls (56 * many)) (sym same) w.agree)
           ∙ take_all many (frags_of plan i c) (omega (arith, length_frags plan i c, counts));
     }
 
@@ -169,15 +169,15 @@ fault_told Value fault of_length covered h why = h ∙ sym (ap (λ (v : Bool). c
 fault_told Length fault of_length covered h why = h ∙ sym (ap (λ (v : Bool). cond v TooLong (cond covered OutOfType NotZero)) why)
 fault_told Memory fault of_length covered h why = absurd h
 
--- elements and bytes of a front
-get_front : (n k : ℕ) (frags : List Frag) → k < n → slice_get (take n frags) k ≡ slice_get frags k
-get_front zero k frags h = absurd (omega (arith, h))
-get_front (suc n) k [] h = refl
-get_front (suc n) zero (f ∷ frags) h = refl
-get_front (suc n) (suc k) (f ∷ frags) h = get_front n k frags (omega (arith, h))
+-- elements and bytes of a prefix
+get_prefix : (n k : ℕ) (frags : List Frag) → k < n → slice_get (take n frags) k ≡ slice_get frags k
+get_prefix zero k frags h = absurd (omega (arith, h))
+get_prefix (suc n) k [] h = refl
+get_prefix (suc n) zero (f ∷ frags) h = refl
+get_prefix (suc n) (suc k) (f ∷ frags) h = get_prefix n k frags (omega (arith, h))
 
-byte_front : (n p : ℕ) (frags : List Frag) → p < 56 * n → byte_in (take n frags) p ≡ byte_in frags p
-byte_front n p frags h = ap (λ (o : Option Frag). byte_at (p % 8) (slice_index (words_in o) (p / 8 % 7))) (get_front n (p / 56) frags (omega (arith, h)))
+byte_prefix : (n p : ℕ) (frags : List Frag) → p < 56 * n → byte_in (take n frags) p ≡ byte_in frags p
+byte_prefix n p frags h = ap (λ (o : Option Frag). byte_at (p % 8) (slice_index (words_in o) (p / 8 % 7))) (get_prefix n (p / 56) frags (omega (arith, h)))
 
 pub wrong_call : (plan : PlanNo) (i : TheInterface) (msg : ℕ) (frags : List Frag) (n : ℕ) (stop : Stop) (fault : WireFault) → n ≤ length frags → Sound i → Group i msg (take n frags)
     → WrongCall stop plan (argument_types i msg) (take n frags) → IsFaultOf stop fault → IsWrongAt plan i frags fault
@@ -186,12 +186,12 @@ wrong_call plan i msg frags n stop fault within sound g w told =
       header k refl,
       record {
         p = w.p;
-        inside = omega (arith, length_front);
+        inside = omega (arith, length_prefix);
         call = c;
         of = sym (name k refl);
         fits = fits;
-        before = record { at = λ q small. front_byte q (omega (arith, small)) ∙ agree.at q small };
-        none = λ d named fd agrees. none_of d named fd (record { at = λ q small. sym (front_byte q (omega (arith, small))) ∙ agrees.at q small });
+        before = record { at = λ q small. prefix_byte q (omega (arith, small)) ∙ agree.at q small };
+        none = λ d named fd agrees. none_of d named fd (record { at = λ q small. sym (prefix_byte q (omega (arith, small))) ∙ agrees.at q small });
         is = fault_told stop fault _ _ told near.why ∙ sym (ap (λ (v : Bool). cond v TooLong (cond (is_covered (leaves plan i c) w.p) OutOfType NotZero)) lengths
             ∙ ap (λ (ls : List Leaf). cond (is_length false (of_ranks kind plan 5 0 (zip ts near.one)) [] w.p) TooLong (cond (is_covered ls w.p) OutOfType NotZero)) same);
       },
@@ -225,7 +225,7 @@ wrong_call plan i msg frags n stop fault within sound g w told =
     is = slice_get-get_or frags k blank (omega (arith, small, within))
 
     in_group : slice_get group k ≡ Some f
-    in_group = get_front n k frags small ∙ is
+    in_group = get_prefix n k frags small ∙ is
 
     same : leaves plan i c ≡ leaves_of plan ts near.one
     same = call_leaves plan i msg near.one
@@ -245,16 +245,16 @@ wrong_call plan i msg frags n stop fault within sound g w told =
     lengths : is_length false (arranged kind plan (zip ts near.one)) [] w.p ≡ is_length false (of_ranks kind plan 5 0 (zip ts near.one)) [] w.p
     lengths = ap (λ (xs : List Argument). is_length false xs [] w.p) (arranged_ranks kind plan (zip ts near.one))
 
-    length_front : w.p < 56 * length (with_one (take k frags) f)
-    length_front =
-        let front = length-take-le k frags (omega (arith, small, within)) in
+    length_prefix : w.p < 56 * length (with_one (take k frags) f)
+    length_prefix =
+        let prefix = length-take-le k frags (omega (arith, small, within)) in
         let one = length-append (take k frags) (f ∷ []) in
-        omega (arith, front, one)
+        omega (arith, prefix, one)
 
-    front_byte : (q : ℕ) → q < w.p + 1 → byte_in (with_one (take k frags) f) q ≡ byte_in group q
-    front_byte q before =
+    prefix_byte : (q : ℕ) → q < w.p + 1 → byte_in (with_one (take k frags) f) q ≡ byte_in group q
+    prefix_byte q before =
         ap (λ (xs : List Frag). byte_in xs q) (sym (take_more frags k blank (omega (arith, small, within))))
-        ∙ byte_front (k + 1) q frags (omega (arith, before)) ∙ sym (byte_front n q frags (omega (arith, before, small)))
+        ∙ byte_prefix (k + 1) q frags (omega (arith, before)) ∙ sym (byte_prefix n q frags (omega (arith, before, small)))
 
     name : (m : ℕ) → k ≡ m → message_of f.control ≡ msg
     name zero e = g.names f (ap (slice_get group) (sym e) ∙ in_group)
@@ -270,7 +270,7 @@ wrong_call plan i msg frags n stop fault within sound g w told =
     header zero e = ap (λ (n : ℕ). header_fault i (take n frags) f) e ∙ g.starts f (ap (slice_get group) (sym e) ∙ in_group)
     header (suc m) e =
         header_after i msg (take k frags) f (omega (arith, e, length-take-le k frags (omega (arith, small, within))))
-        (λ h first. g.names h (get_front n 0 frags (omega (arith, small)) ∙ sym (get_front k 0 frags (omega (arith, e))) ∙ first))
+        (λ h first. g.names h (get_prefix n 0 frags (omega (arith, small)) ∙ sym (get_prefix k 0 frags (omega (arith, e))) ∙ first))
         ∙ g.follow (suc m) f (omega arith) (ap (slice_get group) (sym e) ∙ in_group)
 
     under_way : (m : ℕ) → k ≡ m → IsUnderWay plan i (take k frags)
@@ -281,8 +281,8 @@ wrong_call plan i msg frags n stop fault within sound g w told =
           call = c;
           fits = fits;
           short = subst (λ (x : ℕ). x < count plan i c) (sym few) more;
-          front = ap (map bare) (sym (take-take k n frags (omega (arith, small))))
-              ∙ group_front plan i c group k g (omega (arith, small, long)) (omega (arith, more)) (fewer group (leaves plan i c) (56 * k) w.p (omega arith) agree)
+          prefix = ap (map bare) (sym (take-take k n frags (omega (arith, small))))
+              ∙ group_prefix plan i c group k g (omega (arith, small, long)) (omega (arith, more)) (fewer group (leaves plan i c) (56 * k) w.p (omega arith) agree)
               ∙ ap (λ (x : ℕ). take x (frags_of plan i c)) (sym few);
         }
 
@@ -337,7 +337,7 @@ pub begins_well : (i : TheInterface) (msg n : ℕ) (frags : List Frag) → 0 < l
 begins_well i msg n frags some group =
     let is = slice_get-get_or frags 0 blank some in
     let few : 0 < n = omega (arith, group.some, length-take n frags) in
-    record { one = get_or frags 0 blank; first = is; starts = group.starts (get_or frags 0 blank) (get_front n 0 frags few ∙ is) }
+    record { one = get_or frags 0 blank; first = is; starts = group.starts (get_or frags 0 blank) (get_prefix n 0 frags few ∙ is) }
 
 pub wrong_left : (plan : PlanNo) (i : TheInterface) (frags : List Frag) (calls : List TheCall) (left : List Frag) (fault : WireFault) → interface_words_fit i ≡ true → MeansCalls plan i frags calls left
     → ((fault ≡ NoMemory) × BeginsWell i left) ⊎ IsWrongAt plan i left fault → IsFirstFault plan i frags fault
@@ -373,7 +373,7 @@ group_made i msg others (first ∷ frags) rest d is some starts named line follo
     short k f e = omega (arith, slice_get_within (take others frags) k f e, length-take others frags)
 
     there : (k : ℕ) (f : Frag) → slice_get (take others frags) k ≡ Some f → slice_get rest k ≡ Some f
-    there k f e = ap (λ (xs : List Frag). slice_get xs k) is ∙ sym (get_front others k frags (short k f e)) ∙ e
+    there k f e = ap (λ (xs : List Frag). slice_get xs k) is ∙ sym (get_prefix others k frags (short k f e)) ∙ e
 
     follow_at : (k : ℕ) (f : Frag) → 0 < k → slice_get (first ∷ take others frags) k ≡ Some f → follow_fault msg f ≡ None
     follow_at zero f late e = absurd (omega (arith, late))

@@ -186,9 +186,9 @@ group_control i msg frags (suc k) f group is =
 blank : Frag
 blank = record { words = []; control = 0 }
 
-pub group_front : (plan : PlanNo) (i : TheInterface) (c : TheCall) (frags : List Frag) (n : ℕ) → Group i c.msg frags → n ≤ length frags → n ≤ count plan i c → Agrees frags (leaves plan i c) (56 * n)
+pub group_prefix : (plan : PlanNo) (i : TheInterface) (c : TheCall) (frags : List Frag) (n : ℕ) → Group i c.msg frags → n ≤ length frags → n ≤ count plan i c → Agrees frags (leaves plan i c) (56 * n)
     → map bare (take n frags) ≡ take n (frags_of plan i c)
-group_front plan i c frags n group within few agree =
+group_prefix plan i c frags n group within few agree =
     let long : length (map bare (take n frags)) ≡ n = length-map (take n frags) bare ∙ length-take-le n frags within in
     let also : length (take n (frags_of plan i c)) ≡ n = length-take-le n (frags_of plan i c) (omega (arith, few, length_frags plan i c)) in
     ext_get_or blank (map bare (take n frags)) (take n (frags_of plan i c)) (long ∙ sym also) (λ k h.

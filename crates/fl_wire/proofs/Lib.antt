@@ -10,7 +10,7 @@ pub mod Steps
 pub mod Sites
 pub mod Parts
 pub mod Calls
-pub mod Fronts
+pub mod Prefixes
 pub mod Wholes
 pub mod Lines
 pub mod Frames

@@ -27,25 +27,25 @@ first_wrong (suc k) f bound some h = ⊎_elim
     one_more = omega arith
 
 -- the first bytes of a number make no greater one
-front_of : (k : ℕ) (f b : ℕ → ℕ) → k ≤ 8 → ((j : ℕ) → j < k → b j ≡ f j) → from_low k f ≤ from_low 8 b
-front_of zero f b few h = omega arith
-front_of (suc zero) f b few h = omega (arith, h 0 (omega arith))
-front_of (suc (suc zero)) f b few h = omega (arith, h 0 (omega arith), h 1 (omega arith))
-front_of (suc (suc (suc zero))) f b few h = omega (arith, h 0 (omega arith), h 1 (omega arith), h 2 (omega arith))
-front_of (suc (suc (suc (suc zero)))) f b few h = omega (arith, h 0 (omega arith), h 1 (omega arith), h 2 (omega arith), h 3 (omega arith))
-front_of (suc (suc (suc (suc (suc zero))))) f b few h = omega (arith, h 0 (omega arith), h 1 (omega arith), h 2 (omega arith), h 3 (omega arith), h 4 (omega arith))
-front_of (suc (suc (suc (suc (suc (suc zero)))))) f b few h =
+prefix_of : (k : ℕ) (f b : ℕ → ℕ) → k ≤ 8 → ((j : ℕ) → j < k → b j ≡ f j) → from_low k f ≤ from_low 8 b
+prefix_of zero f b few h = omega arith
+prefix_of (suc zero) f b few h = omega (arith, h 0 (omega arith))
+prefix_of (suc (suc zero)) f b few h = omega (arith, h 0 (omega arith), h 1 (omega arith))
+prefix_of (suc (suc (suc zero))) f b few h = omega (arith, h 0 (omega arith), h 1 (omega arith), h 2 (omega arith))
+prefix_of (suc (suc (suc (suc zero)))) f b few h = omega (arith, h 0 (omega arith), h 1 (omega arith), h 2 (omega arith), h 3 (omega arith))
+prefix_of (suc (suc (suc (suc (suc zero))))) f b few h = omega (arith, h 0 (omega arith), h 1 (omega arith), h 2 (omega arith), h 3 (omega arith), h 4 (omega arith))
+prefix_of (suc (suc (suc (suc (suc (suc zero)))))) f b few h =
     omega (arith, h 0 (omega arith), h 1 (omega arith), h 2 (omega arith), h 3 (omega arith), h 4 (omega arith), h 5 (omega arith))
-front_of (suc (suc (suc (suc (suc (suc (suc zero))))))) f b few h =
+prefix_of (suc (suc (suc (suc (suc (suc (suc zero))))))) f b few h =
     omega (arith, h 0 (omega arith), h 1 (omega arith), h 2 (omega arith), h 3 (omega arith), h 4 (omega arith), h 5 (omega arith), h 6 (omega arith))
-front_of (suc (suc (suc (suc (suc (suc (suc (suc zero)))))))) f b few h =
+prefix_of (suc (suc (suc (suc (suc (suc (suc (suc zero)))))))) f b few h =
     omega (arith, h 0 (omega arith), h 1 (omega arith), h 2 (omega arith), h 3 (omega arith), h 4 (omega arith), h 5 (omega arith), h 6 (omega arith), h 7 (omega arith))
-front_of (suc (suc (suc (suc (suc (suc (suc (suc (suc k))))))))) f b few h = absurd (omega (arith, few))
+prefix_of (suc (suc (suc (suc (suc (suc (suc (suc (suc k))))))))) f b few h = absurd (omega (arith, few))
 
-pub front_le : (k e : ℕ) (f : ℕ → ℕ) → k ≤ 8 → e < 2 ^ 64 → ((j : ℕ) → j < k → byte_at j e ≡ f j) → from_low k f ≤ e
-front_le k e f few small h =
+pub prefix_le : (k e : ℕ) (f : ℕ → ℕ) → k ≤ 8 → e < 2 ^ 64 → ((j : ℕ) → j < k → byte_at j e ≡ f j) → from_low k f ≤ e
+prefix_le k e f few small h =
     let all : from_low 8 (λ j. byte_at j e) ≡ e = from_le_bytes-to_le_bytes_8 e small in
-    subst (λ (m : ℕ). from_low k f ≤ m) all (front_of k f (λ j. byte_at j e) few h)
+    subst (λ (m : ℕ). from_low k f ≤ m) all (prefix_of k f (λ j. byte_at j e) few h)
 
 pub none_such : Argument
 none_such = (text 0, string [])

@@ -16,7 +16,7 @@ use Rattle.fl_value.specs.declared.value.PlanNo.{PlanNo}
 use Rattle.fl_layout.specs.Leaves.{kind, Leaf, leaves, argument_types, types_of, arguments_onto}
 use Rattle.fl_value.specs.Plan.{of_ranks}
 use Rattle.std.specs.Cmp.{first_so, second_so}
-use Rattle.fl_layout.specs.Places.{size, place, count}
+use Rattle.fl_layout.specs.Places.{size, place, frags_filled, count_for, count}
 use Rattle.fl_wire.specs.Payload.{payload_at, payload_bytes, payload_of, word, frag_on, frags_of}
 use Rattle.fl_check.specs.Counts.{interface_words_fit, argument_words_fit}
 use Rattle.fl_wire.specs.Reading.{AllFit, IsRest, IsPart, Reads}
@@ -27,12 +27,12 @@ use Rattle.fl_wire.proofs.Agreement.{Agree, values_agree}
 positive : (n : ℕ) → 0 < max 1 n
 positive n = omega arith
 
-covered : (n : ℕ) → n ≤ 56 * max 1 ((n + 55) / 56)
+covered : (n : ℕ) → n ≤ 56 * count_for n
 covered n = omega arith
 
 -- a call has at least one fragment, and as many as it counts
 pub count_positive : (plan : PlanNo) (i : TheInterface) (c : TheCall) → 0 < count plan i c
-count_positive plan i c = positive ((size (leaves plan i c) + 55) / 56)
+count_positive plan i c = positive (frags_filled (size (leaves plan i c)))
 
 pub length_frags : (plan : PlanNo) (i : TheInterface) (c : TheCall) → length (frags_of plan i c) ≡ count plan i c
 length_frags plan i c = length-map-range_with_len (frag_on 0 c.msg (payload_of plan i c)) 0 (count plan i c)
@@ -188,10 +188,10 @@ rest_has_no_call plan i d x y w hd (inl none) e =
     absurd (omega (arith, long, count_positive plan i d, length_frags plan i d))
 rest_has_no_call plan i d x y w hd (inr (c, part)) e =
     let long : length x ≡ count plan i d + length y = ap length e ∙ length-append (frags_of plan i d) y ∙ omega (arith, length_frags plan i d) in
-    let front : frags_of plan i d ≡ take (count plan i d) (frags_of plan i c)
-    = sym (take_at (frags_of plan i d) y (count plan i d) (length_frags plan i d)) ∙ ap (λ (fs : List Frag). take (count plan i d) fs) (sym e ∙ part.front)
+    let prefix : frags_of plan i d ≡ take (count plan i d) (frags_of plan i c)
+    = sym (take_at (frags_of plan i d) y (count plan i d) (length_frags plan i d)) ∙ ap (λ (fs : List Frag). take (count plan i d) fs) (sym e ∙ part.prefix)
     ∙ take-take (count plan i d) (length x) (frags_of plan i c) (omega (arith, long)) in
-    let same : d ≡ c = begins_with plan i d c w hd part.fits (omega (arith, long, part.short)) front in
+    let same : d ≡ c = begins_with plan i d c w hd part.fits (omega (arith, long, part.short)) prefix in
     let counts : count plan i d ≡ count plan i c = ap (count plan i) same in
     absurd (omega (arith, counts, long, part.short))
 
@@ -225,7 +225,7 @@ bare_rest plan i x (inr part) = inr (
   record {
     fits = part.fits;
     short = subst (λ (n : ℕ). n < count plan i part.call) (sym (length-map x bare)) part.short;
-    front = part.front ∙ ap (λ (n : ℕ). take n (frags_of plan i part.call)) (sym (length-map x bare));
+    prefix = part.prefix ∙ ap (λ (n : ℕ). take n (frags_of plan i part.call)) (sym (length-map x bare));
   },
 )
 

@@ -17,22 +17,22 @@ use Rattle.fl_wire.specs.Shapes.{Agrees, nothing, padding, number_in, number_bel
 use Rattle.fl_wire.specs.declared.leaf.Stop.{Stop}
 use Rattle.fl_wire.specs.declared.leaf.Stop.TheVariants.{Padding, Value, Length}
 use Rattle.fl_wire.proofs.Bytes.{size_le_place, below_place, at_place, past_end}
-use Rattle.fl_wire.proofs.Arguments.{IsAlign, along_align}
+use Rattle.fl_wire.proofs.Arguments.{IsAlign, by_align}
 use Rattle.fl_wire.proofs.Agreement.{leaf_byte, same_number, keeps, grows, over_self}
 use Rattle.fl_wire.proofs.Covers.{holds_before, holds_in, covered_before, covered_in}
 use Rattle.fl_wire.proofs.Readings.{byte_small}
 use Rattle.fl_wire.proofs.Decoding.{byte_of_list}
-use Rattle.fl_wire.proofs.Numbers.{from_low, first_wrong, front_le}
+use Rattle.fl_wire.proofs.Numbers.{from_low, first_wrong, prefix_le}
 
 pub byte_in_small : (frags : List Frag) (p : ℕ) → byte_in frags p < 256
 byte_in_small frags p = byte_small (p % 8) _
 
 -- fragments end at a multiple of every alignment
 pub round_within : (align at n : ℕ) → IsAlign align → at ≤ 56 * n → round_up at align ≤ 56 * n
-round_within align at n h room = along_align (λ a. round_up at a ≤ 56 * n) (omega (arith, room)) (omega (arith, room)) (omega (arith, room)) (omega (arith, room)) align h
+round_within align at n h room = by_align (λ a. round_up at a ≤ 56 * n) (omega (arith, room)) (omega (arith, room)) (omega (arith, room)) (omega (arith, room)) align h
 
 align_small : (w : ℕ) → IsAlign w → w ≤ 8
-align_small w h = along_align (λ a. a ≤ 8) (omega arith) (omega arith) (omega arith) (omega arith) w h
+align_small w h = by_align (λ a. a ≤ 8) (omega arith) (omega arith) (omega arith) (omega arith) w h
 
 -- a number from its low bytes has these bytes
 abbrev low_list : ℕ → (ℕ → ℕ) → List ℕ
@@ -59,7 +59,7 @@ low_byte w f j few small h =
     ∙ low_at w f j below ∙ rw (lt-ltb j w h) refl
 
 pub low_below : (w : ℕ) (f : ℕ → ℕ) → IsAlign w → ((j : ℕ) → f j < 256) → from_low w f < 2 ^ (8 * w)
-low_below w f align h = along_align (λ v. from_low v f < 2 ^ (8 * v))
+low_below w f align h = by_align (λ v. from_low v f < 2 ^ (8 * v))
     (omega (arith, h 0)) (omega (arith, h 0, h 1)) (omega (arith, h 0, h 1, h 2, h 3)) (omega (arith, h 0, h 1, h 2, h 3, h 4, h 5, h 6, h 7)) w align
 
 -- zeros stand up to a leaf's place
@@ -154,7 +154,7 @@ number_padding of_length w bound align frags low at p here agree room after befo
 -- a number that doesn't fit stands wholly past the fragments
 past_all : (w at n : ℕ) → IsAlign w → 56 * n < round_up at w + w → 56 * n ≤ round_up at w
 past_all w at n align h =
-    along_align (λ v. 56 * n < round_up at v + v → 56 * n ≤ round_up at v) (λ h. omega (arith, h)) (λ h. omega (arith, h)) (λ h. omega (arith, h)) (λ h. omega (arith, h)) w align h
+    by_align (λ v. 56 * n < round_up at v + v → 56 * n ≤ round_up at v) (λ h. omega (arith, h)) (λ h. omega (arith, h)) (λ h. omega (arith, h)) (λ h. omega (arith, h)) w align h
 
 pub number_short : (of_length : Bool) (w bound : ℕ) → IsAlign w → (frags : List Frag) (low : List Leaf) (at : ℕ) → at ≡ size low → Agrees frags low at → 56 * length frags < round_up at w + w
     → ((q : ℕ) → at ≤ q → q < round_up at w → byte_in frags q ≡ 0) → Cut (number_in of_length w bound) frags low
@@ -250,7 +250,7 @@ low_agrees w n m k end frags low few got bytes = record {
 }
 
 width_room : (w : ℕ) → IsAlign w → 2 ^ (8 * w) ≤ 2 ^ 64
-width_room w align = along_align (λ v. 2 ^ (8 * v) ≤ 2 ^ 64) (omega arith) (omega arith) (omega arith) (omega arith) w align
+width_room w align = by_align (λ v. 2 ^ (8 * v) ≤ 2 ^ 64) (omega arith) (omega arith) (omega arith) (omega arith) w align
 
 pub below_wrong : (of_length : Bool) (w bound : ℕ) → IsAlign w → (frags : List Frag) (low : List Leaf) (n end : ℕ) → bound ≤ n → bound ≤ 2 ^ (8 * w) → end ≤ 56 * length frags → Got (number_below w (2 ^ (8 * w))) frags low n end
     → Wrong (number_stop of_length) (number_in of_length w bound) frags low
@@ -299,7 +299,7 @@ below_wrong of_length w bound align frags low n end above room within got = ⊎_
     ends = got.ends
 
     wide : 0 < w
-    wide = along_align (λ v. 0 < v) (omega arith) (omega arith) (omega arith) (omega arith) w align
+    wide = by_align (λ v. 0 < v) (omega arith) (omega arith) (omega arith) (omega arith) w align
 
     high : bound ≤ from_low w f
     high = ⊎_elim
@@ -312,7 +312,7 @@ below_wrong of_length w bound align frags low n end above room within got = ⊎_
 
     too_small : (j e : ℕ) (full : List Leaf) → j + 1 ≤ 8 → j < w → bound ≤ from_low (j + 1) f → e < bound → Over (whole w e ∷ low) full → Agrees frags full (start + j + 1) → ⊥
     too_small j e full few own over_bound fit over agrees =
-        let least : from_low (j + 1) f ≤ e = front_le (j + 1) e f few (omega (arith, fit, room, width_room w align)) (λ i small.
+        let least : from_low (j + 1) f ≤ e = prefix_le (j + 1) e f few (omega (arith, fit, room, width_room w align)) (λ i small.
         sym (leaf_byte w e i low full (omega (arith, small, own)) over).0 ∙ sym (agrees.at (start + i) (omega (arith, small)))) in
         omega (arith, least, over_bound, fit)
 

@@ -22,7 +22,7 @@ use Rattle.fl_wire.specs.Shapes.{Agrees}
 use Rattle.fl_wire.specs.Wrong.{follow_fault, header_fault, HasFault, IsWrongAt}
 use Rattle.fl_wire.specs.declared.fault.WireFault.{WireFault}
 use Rattle.fl_wire.proofs.Readings.{count_positive, length_frags, frag_at, two_begin, begins_with, first_fits, rest_fit}
-use Rattle.fl_wire.proofs.Decoding.{front_holds}
+use Rattle.fl_wire.proofs.Decoding.{prefix_holds}
 use Rattle.fl_wire.proofs.Frames.{starts_well, follows_well}
 
 -- nothing, or part of a fitting call
@@ -40,7 +40,7 @@ length_one rest f = length-append rest (f ∷ []) ∙ omega arith
 pub record GoesOn (plan : PlanNo) (i : TheInterface) (rest : List Frag) (f : Frag) (d : TheCall) : Type 0 where
   pub fits : fits_of i d ≡ true
   pub longer : length rest < count plan i d
-  pub front : map bare (with_one rest f) ≡ take (length rest + 1) (frags_of plan i d)
+  pub prefix : map bare (with_one rest f) ≡ take (length rest + 1) (frags_of plan i d)
 
 -- calls whose fragments begin with part of a call and one more: the first one goes on with it
 pub next_call : (plan : PlanNo) (i : TheInterface) (rest : List Frag) (f : Frag) (cs : List TheCall) (more : List Frag) → interface_words_fit i ≡ true → IsUnderWay plan i rest → AllFit i cs
@@ -54,7 +54,7 @@ next_call plan i rest f (d ∷ ds) more words part fit e = ⊎_elim
       record {
         fits = own;
         longer = longer;
-        front = sym (take_at (map bare all) more n long) ∙ ap (take n) (sym e) ∙ take-append-le n (frags_of plan i d) after (omega (arith, longer, length_frags plan i d));
+        prefix = sym (take_at (map bare all) more n long) ∙ ap (take n) (sym e) ∙ take-append-le n (frags_of plan i d) after (omega (arith, longer, length_frags plan i d));
       },
     ))
     (λ (whole : count plan i d ≤ length rest). absurd (not_whole part whole))
@@ -76,8 +76,8 @@ next_call plan i rest f (d ∷ ds) more words part fit e = ⊎_elim
     long = length-map all bare ∙ length_one rest f
 
     -- the call's fragments are the first of those under way
-    front_of : count plan i d ≤ length rest → frags_of plan i d ≡ take (count plan i d) (map bare rest)
-    front_of whole =
+    prefix_of : count plan i d ≤ length rest → frags_of plan i d ≡ take (count plan i d) (map bare rest)
+    prefix_of whole =
         let split : map bare all ++ more ≡ map bare rest ++ (bare f ∷ more) = ap (λ (xs : List Frag). xs ++ more) (map-append bare rest (f ∷ [])) ∙ append_assoc (map bare rest) (bare f ∷ []) more in
         sym (take_at (frags_of plan i d) after (count plan i d) (length_frags plan i d)) ∙ ap (take (count plan i d)) (e ∙ split)
         ∙ take-append-le (count plan i d) (map bare rest) (bare f ∷ more) (omega (arith, whole, length-map rest bare))
@@ -86,9 +86,9 @@ next_call plan i rest f (d ∷ ds) more words part fit e = ⊎_elim
     not_whole (inl none) whole = absurd (omega (arith, whole, ap length none, count_positive plan i d))
     not_whole (inr part) whole =
         let c = part.call in
-        let front : frags_of plan i d ≡ take (count plan i d) (frags_of plan i c)
-        = front_of whole ∙ ap (take (count plan i d)) part.front ∙ take-take (count plan i d) (length rest) (frags_of plan i c) whole in
-        let same : d ≡ c = begins_with plan i d c words own part.fits (omega (arith, whole, part.short)) front in
+        let prefix : frags_of plan i d ≡ take (count plan i d) (frags_of plan i c)
+        = prefix_of whole ∙ ap (take (count plan i d)) part.prefix ∙ take-take (count plan i d) (length rest) (frags_of plan i c) whole in
+        let same : d ≡ c = begins_with plan i d c words own part.fits (omega (arith, whole, part.short)) prefix in
         absurd (omega (arith, whole, part.short, ap (count plan i) same))
 
 -- ---- control words
@@ -104,11 +104,11 @@ control_same f g e = ap (λ (h : Frag). h.control) e
 -- the control words of the fragments of a call that goes on
 control_at : (plan : PlanNo) (i : TheInterface) (all : List Frag) (n k : ℕ) (g : Frag) (d : TheCall) → map bare all ≡ take n (frags_of plan i d) → n ≤ count plan i d → k < n → slice_get all k ≡ Some g
     → 2 * (g.control / 2 % 2 ^ 47) ≡ control_word (eqb k 0) d.msg 0
-control_at plan i all n k g d front few small is =
+control_at plan i all n k g d prefix few small is =
     let inside = slice_get_within all k g is in
     control_same (bare g) (frag_on 0 d.msg (payload_of plan i d) k)
     (ap bare (sym (get_or_from_slice_get all k g g is)) ∙ sym (get_or-map bare all k g g inside)
-    ∙ ap (λ (xs : List Frag). get_or xs k g) front ∙ get_or-take n (frags_of plan i d) k g small ∙ frag_at plan i d k g (omega (arith, small, few)))
+    ∙ ap (λ (xs : List Frag). get_or xs k g) prefix ∙ get_or-take n (frags_of plan i d) k g small ∙ frag_at plan i d k g (omega (arith, small, few)))
 
 last_at : (rest : List Frag) (f : Frag) → slice_get (with_one rest f) (length rest) ≡ Some f
 last_at [] f = refl
@@ -119,14 +119,14 @@ well_formed : (plan : PlanNo) (i : TheInterface) (rest : List Frag) (f : Frag) (
     → (header_fault i rest f ≡ None) × (message_of f.control ≡ d.msg)
 well_formed plan i [] f d room on =
     let known = fits_known i.messages d.msg d.args on.fits in
-    starts_well i f d.msg (omega (arith, known, room)) known (control_at plan i (f ∷ []) 1 0 f d on.front (omega (arith, on.longer)) (omega arith) refl)
+    starts_well i f d.msg (omega (arith, known, room)) known (control_at plan i (f ∷ []) 1 0 f d on.prefix (omega (arith, on.longer)) (omega arith) refl)
 well_formed plan i (g ∷ rest) f d room on =
     let known = fits_known i.messages d.msg d.args on.fits in
     let small : d.msg < 2 ^ 16 = omega (arith, known, room) in
     let n = length (g ∷ rest) + 1 in
     let few : n ≤ count plan i d = omega (arith, on.longer) in
-    let (starts, first) = starts_well i g d.msg small known (control_at plan i (with_one (g ∷ rest) f) n 0 g d on.front few (omega arith) refl) in
-    let last = control_at plan i (with_one (g ∷ rest) f) n (length (g ∷ rest)) f d on.front few (omega arith) (last_at (g ∷ rest) f) in
+    let (starts, first) = starts_well i g d.msg small known (control_at plan i (with_one (g ∷ rest) f) n 0 g d on.prefix few (omega arith) refl) in
+    let last = control_at plan i (with_one (g ∷ rest) f) n (length (g ∷ rest)) f d on.prefix few (omega arith) (last_at (g ∷ rest) f) in
     let (follows, is) = follows_well f d.msg small (last ∙ ap (λ (v : Bool). control_word v d.msg 0) (ne_eqb (length (g ∷ rest)) 0 (λ e. absurd (omega (arith, e))))) in
     (ap (λ (m : ℕ). follow_fault m f) first ∙ follows, is)
 
@@ -150,7 +150,7 @@ fault_is_wrong plan i rest f fault words room part (inl header) cs more fit e =
 fault_is_wrong plan i rest f fault words room part (inr (header, w)) cs more fit e =
     let (d, on) = next_call plan i rest f cs more words part fit e in
     let n = length rest + 1 in
-    let holds = front_holds plan i d n (map bare (with_one rest f)) (omega (arith, on.longer)) on.front in
+    let holds = prefix_holds plan i d n (map bare (with_one rest f)) (omega (arith, on.longer)) on.prefix in
     let long = length-map (with_one rest f) bare in
     let agree : Agrees (with_one rest f) (leaves plan i d) (w.p + 1)
     = record { at = λ p small. sym (byte_bare (with_one rest f) p) ∙ holds.at p (omega (arith, small, w.inside, long)) } in
@@ -243,7 +243,7 @@ reads_right plan i frags cs rest r wrong = ⊎_elim
     (λ (part : IsPart plan i rest).
     let c = part.call in
     wrong (cs ++ c ∷ []) (drop (length rest) (frags_of plan i c)) (all_join i cs (c ∷ []) r.fit (one_fits i c part.fits))
-    (flat_join plan i cs (c ∷ []) ∙ ap (λ (xs : List Frag). flat_map (frags_of plan i) cs ++ xs) (only_one c ∙ sym (take-append-drop (length rest) (frags_of plan i c)) ∙ ap (λ (xs : List Frag). xs ++ drop (length rest) (frags_of plan i c)) (sym part.front))
+    (flat_join plan i cs (c ∷ []) ∙ ap (λ (xs : List Frag). flat_map (frags_of plan i) cs ++ xs) (only_one c ∙ sym (take-append-drop (length rest) (frags_of plan i c)) ∙ ap (λ (xs : List Frag). xs ++ drop (length rest) (frags_of plan i c)) (sym part.prefix))
     ∙ sym (append_assoc (flat_map (frags_of plan i) cs) (map bare rest) (drop (length rest) (frags_of plan i c))) ∙ ap (λ (xs : List Frag). xs ++ drop (length rest) (frags_of plan i c)) (sym joined)))
     r.part
   where

@@ -1,5 +1,5 @@
 -- A message's whole call, from the reading of its arguments and the zeros after them.
-use Rattle.std.proofs.Common.{◌≡◌, ℕ, ◌+◌, ◌*◌, ◌/◌, ◌<◌, ◌≤◌, Bool, true, false, ⊎_elim, List, [], ◌∷◌, ◌++◌, length, refl, sym, ◌∙◌, ap, subst, arith, max}
+use Rattle.std.proofs.Common.{◌≡◌, ℕ, ◌+◌, ◌*◌, ◌<◌, ◌≤◌, Bool, true, false, ⊎_elim, List, [], ◌∷◌, ◌++◌, length, refl, sym, ◌∙◌, ap, subst, arith}
 use Rattle.std.specs.Prelude.{◌||◌}
 use Rattle.std.specs.List.{zip}
 use Rattle.std.specs.Cmp.{first_so, second_so}
@@ -24,12 +24,12 @@ use Rattle.fl_wire.proofs.Agreement.{over_self, over_arguments, grows, all_ranks
 use Rattle.fl_wire.proofs.Covers.{covered_past}
 use Rattle.fl_wire.proofs.Steps.{fewer}
 use Rattle.fl_wire.proofs.Calls.{no_length_past}
-use Rattle.fl_wire.proofs.Fronts.{no_bytes}
+use Rattle.fl_wire.proofs.Prefixes.{no_bytes}
 
-in_frags : (n : ℕ) → n ≤ 56 * max 1 ((n + 55) / 56)
+in_frags : (n : ℕ) → n ≤ 56 * count_for n
 in_frags n = omega arith
 
-few_frags : (n count frags : ℕ) → count ≡ max 1 ((n + 55) / 56) → n ≤ 56 * frags → 0 < frags → count ≤ frags
+few_frags : (n count frags : ℕ) → count ≡ count_for n → n ≤ 56 * frags → 0 < frags → count ≤ frags
 few_frags n count frags e h some = omega (arith, e, h, some)
 
 pub whole_read : (plan : PlanNo) (ts : List TheArgType) (frags : List Frag) (ds : List Datum) (end count : ℕ) → 0 < length frags → count ≡ count_for end → end ≤ 56 * length frags

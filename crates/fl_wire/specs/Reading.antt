@@ -21,7 +21,7 @@ pub record IsPart (plan : PlanNo) (i : TheInterface) (frags : List Frag) : Type 
   pub call : TheCall
   pub fits : fits_of i call ≡ true
   pub short : length frags < count plan i call
-  pub front : map bare frags ≡ take (length frags) (frags_of plan i call)
+  pub prefix : map bare frags ≡ take (length frags) (frags_of plan i call)
 
 -- what is read of a fitting call's first fragments: that call once all are there, else none
 abbrev pub ReadsBack : PlanNo → TheInterface → List Frag → Option TheCall → Type 0
@@ -56,7 +56,7 @@ IsWrong plan i frags =
 pub record Starts (plan : PlanNo) (i : TheInterface) (frags : List Frag) (call : TheCall) : Type 0 where
   pub fits : fits_of i call ≡ true
   pub short : length frags < count plan i call
-  pub front : frags ≡ take (length frags) (frags_of plan i call)
+  pub prefix : frags ≡ take (length frags) (frags_of plan i call)
 
 abbrev pub IsRest : PlanNo → TheInterface → List Frag → Type 0
 IsRest plan i frags = (frags ≡ []) ⊎ ((call : TheCall) × Starts plan i frags call)

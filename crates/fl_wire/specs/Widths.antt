@@ -1,12 +1,8 @@
--- Working definitions of the code: alignments, the widths of numbers, and which numbers fit them.
-use Rattle.std.specs.Prelude.{◌≡◌, ◌⊎◌, ◌≤◌, ℕ, ℤ, pos, negsuc, ◌*◌, ◌^◌, nat_lt, Bool}
+-- Working definitions of the code: the widths of numbers, and which numbers fit them.
+use Rattle.std.specs.Prelude.{◌≤◌, ℕ, ℤ, pos, negsuc, ◌*◌, ◌^◌, nat_lt, Bool}
 use Rattle.fl_check.specs.Interface.{scalar, enumeration, TheArgType, fixed}
 use Rattle.fl_check.specs.Sizes.{scalar_size}
 use Rattle.fl_value.specs.Value.{Datum, number, string, elements, fields}
-
--- the alignments that types have, which are the widths that numbers have
-abbrev pub IsAlign : ℕ → Type 0
-IsAlign n = (n ≡ 1) ⊎ ((n ≡ 2) ⊎ ((n ≡ 4) ⊎ (n ≡ 8)))
 
 -- the bytes of a number's type
 abbrev pub number_width : TheArgType → ℕ

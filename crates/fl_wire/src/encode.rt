@@ -11,7 +11,8 @@ ghost use Rattle.fl_value.specs.Plan.{arranged, is_dynamic, of_rank, of_ranks};
 ghost use Rattle.fl_layout.specs.Leaves.{Leaf, gap, whole, bits_of, kind, value_onto};
 ghost use Rattle.fl_layout.specs.Leaves.{fields_onto, elements_onto, bytes_onto, argument_onto, arguments_onto};
 ghost use Rattle.fl_wire.specs.Payload.{payload_bytes, payload_of};
-ghost use Rattle.fl_wire.specs.Widths.{IsAlign, fits_width};
+ghost use Rattle.fl_check.specs.Sizes.{IsAlign};
+ghost use Rattle.fl_wire.specs.Widths.{fits_width};
 
 use crate::types::{arguments_of, is_dynamic};
 use fl_base::FRAG_BYTES;

@@ -14,7 +14,7 @@ pub fn one_reading()
 
 /// The fragments of a fitting call never begin with those of another.
 pub fn none_begins_with_another()
-    ensures front { NoneBeginsWithAnother }
+    ensures prefix { NoneBeginsWithAnother }
 {}
 
 /// No list of fragments reads as calls and a rest in two ways, whatever its epochs and the counts told.

@@ -31,7 +31,7 @@ pub struct Reading {
 
 // The first fragments that may be those of one call, by their control words.
 #[derive(Clone, Copy)]
-struct Front {
+struct Prefix {
     msg: MsgNo,
     count: usize,
     // The fault of the next fragment's control word; none where there is no next one.
@@ -41,7 +41,7 @@ struct Front {
 /// The first fragments that may be those of one call, by their control words: at least one.
 ///
 /// Fails with the fault of the first one's control word.
-fn front_of(interface: &Interface, frags: &[Frag]) -> Result<Front, WireFault>
+fn prefix_of(interface: &Interface, frags: &[Frag]) -> Result<Prefix, WireFault>
     requires some { 0 < length frags.now }
     ensures within { IfOk result (λ r. r.count ≤ length frags.now) }
     ensures group { IfOk result (λ r. Group (interface_of interface.now) r.msg.0 (take r.count frags.now)) }
@@ -57,7 +57,7 @@ fn front_of(interface: &Interface, frags: &[Frag]) -> Result<Front, WireFault>
     is_line(first);
     let msg = first.msg();
     let (others, next) = following(&frags[1..], msg);
-    Ok(Front {
+    Ok(Prefix {
         msg,
         count: 1 + others,
         next,
@@ -77,12 +77,12 @@ fn next_call(
     ensures begins { IfOk result (λ found. BeginsWell (interface_of interface.now) frags.now) }
     ensures wrong { IfErr result (IsNextFault plan (interface_of interface.now) frags.now) }
 {
-    let front = front_of(interface, frags)?;
-    let msg = front.msg;
+    let prefix = prefix_of(interface, frags)?;
+    let msg = prefix.msg;
     let types = arguments_of(interface, msg);
-    match read_whole(alloc, &frags[..front.count], plan, types) {
+    match read_whole(alloc, &frags[..prefix.count], plan, types) {
         Ok((args, many)) => Ok(Some((Call { msg, args }, many))),
-        Err(Stop::Short) => match front.next {
+        Err(Stop::Short) => match prefix.next {
             Some(fault) => Err(fault),
             None => Ok(None),
         },

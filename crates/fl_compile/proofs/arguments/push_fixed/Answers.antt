@@ -1,8 +1,8 @@
 use Rattle.std.proofs.Common.{◌≡◌, arith, ap, ◌∙◌}
 use Rattle.fl_check.specs.Interface.{type_of}
 use Rattle.fl_check.specs.Sizes.{align_of}
+use Rattle.fl_check.proofs.Aligned.{type_align}
 use Rattle.fl_compile.specs.Compiled.{start_at}
-use Rattle.fl_compile.proofs.Measures.{type_align}
 use Rattle.fl_compile.proofs.Near.{start_near}
 use Rattle.fl_compile.proofs.Blocks.{fixed_written}
 use Rattle.fl_compile.proofs.arguments.push_fixed.Goals as goal

@@ -21,4 +21,4 @@ in_order law program circuit t h calls more sound a fit e =
     }
 
 pub returns : goal.returns
-returns c = record { handles = in_order c.none_begins_with_another.ensures.front }
+returns c = record { handles = in_order c.none_begins_with_another.ensures.prefix }

@@ -1,6 +1,6 @@
 use Rattle.std.proofs.Common.{◌≡◌, ◌+◌, drop}
 use Rattle.std.specs.List.{prefix_len}
-use Rattle.fl_value.specs.CallText.{is_word_byte}
+use Rattle.fl_lex.specs.Words.{is_word_byte}
 use Rattle.fl_value.proofs.calls.count_word_bytes.Given as goal
 
 abbrev pub invariant-loop-count : goal.invariant-loop-count

@@ -1,6 +1,6 @@
 use Rattle.std.proofs.Common.{◌≡◌, ◌+◌, drop}
 use Rattle.std.specs.List.{prefix_len}
-use Rattle.fl_value.specs.CallText.{is_digit}
+use Rattle.fl_lex.specs.Words.{is_digit}
 use Rattle.fl_value.proofs.tokens.count_digits.Given as goal
 
 abbrev pub invariant-loop-count : goal.invariant-loop-count

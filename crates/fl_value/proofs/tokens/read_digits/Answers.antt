@@ -1,6 +1,6 @@
 use Rattle.std.proofs.Common.{◌≡◌, arith, subst, sym, take, true}
 use Rattle.std.specs.List.{list_all}
-use Rattle.fl_value.specs.CallText.{is_digit}
+use Rattle.fl_lex.specs.Words.{is_digit}
 use Rattle.fl_value.proofs.Scan.{digits_count, run_passes}
 use Rattle.fl_value.proofs.Reading.{counted_at}
 use Rattle.fl_value.proofs.tokens.read_digits.Goals.{then-count-eq0-via-then-count-eq0, then-count-eq0-via-else-count-eq0+then-count-gt20}

@@ -3,6 +3,7 @@ use Rattle.fl_check.specs.Places.{fixed_type_place, listed_place, count_places}
 use Rattle.fl_check.specs.Views.{before_of, list_of}
 use Rattle.fl_parse.specs.Tree.{field_of}
 use Rattle.fl_check.proofs.FirstFaults.{tells_past, tells_here, none_past, err_of, sound_at_end, fault_at_end}
+use Rattle.fl_check.proofs.Looks.{err_after, call_after}
 use Rattle.fl_check.proofs.declared.Declared.check_field.Goals as goal
 
 pub returns-in_err-add_listed_name-clause-fault : goal.returns-in_err-add_listed_name-clause-fault
@@ -36,3 +37,13 @@ returns-clause-fault c =
     let p = none_past one (two ∷ count_places f.count) c.in_ok-measured.ensures.sound in
     let q = none_past two (count_places f.count) c.in_ok-add_listed_name.ensures.sound in
     fault_at_end c.apply_count.result _ _ (rw (← c.len-counted_before.ensures.exact) (p ∙ q)) c.apply_count.ensures.fault
+
+pub returns-in_err-measured-clause-memory : goal.returns-in_err-measured-clause-memory
+returns-in_err-measured-clause-memory c =
+    err_after c.from_residual.result c.in_err-measured.field-0.0 _ c.from_residual.ensures.1 c.in_err-measured.ensures.memory
+
+pub returns-in_err-add_listed_name-clause-memory : goal.returns-in_err-add_listed_name-clause-memory
+returns-in_err-add_listed_name-clause-memory c = call_after c.from_residual-in_err-add_listed_name.result _ c.in_ok-measured.ensures.sound
+
+pub returns-clause-memory : goal.returns-clause-memory
+returns-clause-memory c = call_after c.apply_count.result _ c.in_ok-measured.ensures.sound

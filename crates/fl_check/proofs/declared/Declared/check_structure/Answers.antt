@@ -3,9 +3,11 @@ use Rattle.fl_check.specs.Views.{before_of, list_of}
 use Rattle.fl_check.specs.Interface.{TheType, structure, fields_from}
 use Rattle.fl_check.specs.Known.{field_type}
 use Rattle.fl_parse.specs.Tree.{field_of}
-use Rattle.fl_check.proofs.FirstFaults.{err_of}
+use Rattle.fl_check.proofs.FirstFaults.{err_of, first_sound}
 use Rattle.fl_check.proofs.Walks.{made_push, made_all, walk_on, walk_fault, walk_end}
 use Rattle.fl_check.proofs.Lists.{fields_left, field_here, after_field, fields_walk}
+use Rattle.fl_check.proofs.Looks.{err_after, call_after, field_looked, field_looked_on}
+use Rattle.fl_check.specs.declared.fault.CheckFault.TheVariants.{Memory}
 use Rattle.fl_check.proofs.declared.Declared.check_structure.Goals as goal
 
 pub returns-in_err-measured-clause-fault : goal.returns-in_err-measured-clause-fault
@@ -22,6 +24,7 @@ loop-field-preserved c =
       types = made_push field_of (field_type b) c.args.fields.now c.loop-field.field-index _ _ _ _ _ (omega arith) refl c.loop-field.invariant.types c.in_ok-push.ensures.more c.in_ok-measured.ensures.stands;
       same = omega (arith, c.in_ok-push.ensures.len, c.in_ok-measured.ensures.len);
       few = omega (arith, c.in_ok-push.ensures.len, c.in_ok-measured.ensures.few, c.loop-field.invariant.same);
+      looked = field_looked_on b (list_of c.loop-field.names) _ c.args.fields.now c.loop-field.field-index _ _ (omega arith) refl c.loop-field.invariant.looked c.in_ok-measured.ensures.sound;
     }
 
 pub returns-clause-sound : goal.returns-clause-sound
@@ -35,9 +38,23 @@ loop-field-init c = record {
   types = c.new-laid.ensures.none;
   same = rw (c.new-names.ensures.none, c.new-laid.ensures.len) refl;
   few = omega (arith, c.new-laid.ensures.len);
+  looked = (λ _. c.new-names.ensures.none, λ h. absurd (omega (arith, h)));
 }
 
 pub returns-clause-stands : goal.returns-clause-stands
 returns-clause-stands c =
     let made = made_all field_of (field_type (before_of c.args.self.now)) c.args.fields.now c.loop-field.field-index _ (omega arith) c.loop-field.invariant.types in
     c.into_struct.ensures.stands ∙ ap (λ (l : List TheType). structure (fields_from l)) made
+
+pub returns-in_err-measured-clause-memory : goal.returns-in_err-measured-clause-memory
+returns-in_err-measured-clause-memory c =
+    let b = before_of c.args.self.now in
+    err_after c.from_residual.result c.in_err-measured.field-0.0 _ c.from_residual.ensures.1
+    (field_looked b (list_of c.loop-field.names) c.in_err-measured.field-0.0 c.args.fields.now c.loop-field.field-index _ _ (omega arith) refl c.loop-field.invariant.looked c.in_err-measured.ensures.memory)
+
+pub returns-in_err-push-clause-memory : goal.returns-in_err-push-clause-memory
+returns-in_err-push-clause-memory c =
+    let b = before_of c.args.self.now in
+    call_after c.from_residual-in_err-push.result _
+    (field_looked b (list_of c.loop-field.names) Memory c.args.fields.now c.loop-field.field-index _ _ (omega arith) refl c.loop-field.invariant.looked
+    (first_sound _ c.in_ok-measured.ensures.sound))

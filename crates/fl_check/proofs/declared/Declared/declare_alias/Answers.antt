@@ -1,5 +1,6 @@
 use Rattle.std.proofs.Common.{◌∙◌}
 use Rattle.fl_check.proofs.FirstFaults.{tells_here, tells_past, none_past, err_of, sound_at_end, fault_at_end}
+use Rattle.fl_check.proofs.Looks.{err_after, call_after}
 use Rattle.fl_check.proofs.declared.Declared.declare_alias.Goals as goal
 
 pub returns-in_err-check_new_type-clause-fault : goal.returns-in_err-check_new_type-clause-fault
@@ -21,3 +22,14 @@ pub returns-clause-fault : goal.returns-clause-fault
 returns-clause-fault c =
     let k = c.in_ok-measured.ensures.stands in
     fault_at_end c.add_type.result _ _ (none_past _ _ c.in_ok-check_new_type.ensures.sound ∙ none_past _ _ c.in_ok-measured.ensures.sound) (rw k at c.add_type.ensures.fault)
+
+pub returns-in_err-check_new_type-clause-memory : goal.returns-in_err-check_new_type-clause-memory
+returns-in_err-check_new_type-clause-memory c =
+    err_after c.from_residual.result c.in_err-check_new_type.field-0.0 _ c.from_residual.ensures.1 c.in_err-check_new_type.ensures.memory
+
+pub returns-in_err-measured-clause-memory : goal.returns-in_err-measured-clause-memory
+returns-in_err-measured-clause-memory c =
+    call_after c.from_residual-in_err-measured.result _ c.in_ok-check_new_type.ensures.sound
+
+pub returns-clause-memory : goal.returns-clause-memory
+returns-clause-memory c = call_after c.add_type.result _ c.in_ok-check_new_type.ensures.sound

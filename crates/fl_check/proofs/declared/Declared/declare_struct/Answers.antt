@@ -1,7 +1,11 @@
-use Rattle.std.proofs.Common.{◌≡◌, map, ◌∙◌, nat_eq, length}
+use Rattle.std.proofs.Common.{◌≡◌, map, ◌∙◌, nat_eq, length, arith}
 use Rattle.std.proofs.lemmas.List.{length-map}
 use Rattle.fl_parse.specs.Tree.{field_of}
 use Rattle.fl_check.proofs.FirstFaults.{err_of, tells_after, tells_here, none_after, none_past, sound_at_end, fault_at_end}
+use Rattle.fl_parse.specs.Tree.{name_of}
+use Rattle.fl_check.specs.Views.{before_of}
+use Rattle.fl_check.specs.declared.fault.CheckFault.TheVariants.{Memory}
+use Rattle.fl_check.proofs.Looks.{err_after, call_after, some_fields, struct_after}
 use Rattle.fl_check.proofs.declared.Declared.declare_struct.Goals as goal
 
 pub returns-in_err-check_new_type-clause-fault : goal.returns-in_err-check_new_type-clause-fault
@@ -28,3 +32,27 @@ returns-clause-fault c =
     let t = rw q at c.in_ok-check_new_type.ensures.sound in
     let k = c.in_ok-measured.ensures.stands in
     fault_at_end c.add_type.result _ _ (none_after _ _ c.in_ok-measured.ensures.sound ∙ none_past _ _ t) (rw k at c.add_type.ensures.fault)
+
+pub returns-in_err-measured-clause-memory : goal.returns-in_err-measured-clause-memory
+returns-in_err-measured-clause-memory c =
+    let l = length-map c.args.fields.now field_of in
+    err_after c.from_residual.result c.in_err-measured.field-0.0 _ c.from_residual.ensures.1
+    (some_fields (before_of c.args.self.now) (map field_of c.args.fields.now) (name_of c.args.name.now) c.in_err-measured.field-0.0
+    (omega (arith, l, c.in_err-measured.ensures.some)) c.in_err-measured.ensures.memory)
+
+pub returns-in_err-check_new_type-clause-memory : goal.returns-in_err-check_new_type-clause-memory
+returns-in_err-check_new_type-clause-memory c =
+    let e = c.in_err-check_new_type.field-0.0 in
+    let l = length-map c.args.fields.now field_of in
+    let q : c.is_empty.result ≡ nat_eq (length (map field_of c.args.fields.now)) 0 = cc in
+    let t = rw q at c.in_err-check_new_type.ensures.memory in
+    err_after c.from_residual-in_err-check_new_type.result e _ c.from_residual-in_err-check_new_type.ensures.1
+    (struct_after (before_of c.args.self.now) (map field_of c.args.fields.now) (name_of c.args.name.now) e c.in_ok-measured.ensures.sound t)
+
+pub returns-clause-memory : goal.returns-clause-memory
+returns-clause-memory c =
+    let l = length-map c.args.fields.now field_of in
+    let q : c.is_empty.result ≡ nat_eq (length (map field_of c.args.fields.now)) 0 = cc in
+    let t = rw q at c.in_ok-check_new_type.ensures.sound in
+    call_after c.add_type.result _
+    (struct_after (before_of c.args.self.now) (map field_of c.args.fields.now) (name_of c.args.name.now) Memory c.in_ok-measured.ensures.sound t)

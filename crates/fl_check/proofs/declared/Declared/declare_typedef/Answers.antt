@@ -1,7 +1,8 @@
 use Rattle.std.proofs.Common.{◌∙◌, ap, option_map}
 use Rattle.fl_check.specs.Known.{counted}
 use Rattle.fl_parse.specs.Tree.{number_of}
-use Rattle.fl_check.proofs.FirstFaults.{tells_here, tells_past, tells_front, none_past, none_after, err_of, sound_at_end, fault_at_end}
+use Rattle.fl_check.proofs.FirstFaults.{tells_here, tells_past, tells_prefix, none_past, none_after, err_of, sound_at_end, fault_at_end}
+use Rattle.fl_check.proofs.Looks.{err_after, call_after}
 use Rattle.fl_check.proofs.declared.Declared.declare_typedef.Goals as goal
 
 pub returns-in_err-element-clause-fault : goal.returns-in_err-element-clause-fault
@@ -17,7 +18,7 @@ returns-in_err-check_new_type-clause-fault c =
 pub returns-in_err-measured-clause-fault : goal.returns-in_err-measured-clause-fault
 returns-in_err-measured-clause-fault c =
     let e = c.in_err-measured.field-0.0 in
-    err_of c.from_residual-in_err-measured.result e _ c.from_residual-in_err-measured.ensures.1 (tells_past e _ _ c.in_ok-element.ensures.sound (tells_past e _ _ c.in_ok-check_new_type.ensures.sound (tells_front e _ _ c.in_err-measured.ensures.fault)))
+    err_of c.from_residual-in_err-measured.result e _ c.from_residual-in_err-measured.ensures.1 (tells_past e _ _ c.in_ok-element.ensures.sound (tells_past e _ _ c.in_ok-check_new_type.ensures.sound (tells_prefix e _ _ c.in_err-measured.ensures.fault)))
 
 pub returns-clause-sound : goal.returns-clause-sound
 returns-clause-sound c =
@@ -28,3 +29,18 @@ pub returns-clause-fault : goal.returns-clause-fault
 returns-clause-fault c =
     let k = c.in_ok-measured.ensures.stands ∙ ap (counted (option_map number_of c.args.count)) c.in_ok-element.ensures.stands in
     fault_at_end c.add_type.result _ _ (none_past _ _ c.in_ok-element.ensures.sound ∙ none_past _ _ c.in_ok-check_new_type.ensures.sound ∙ none_after _ _ c.in_ok-measured.ensures.sound) (rw k at c.add_type.ensures.fault)
+
+pub returns-in_err-element-clause-memory : goal.returns-in_err-element-clause-memory
+returns-in_err-element-clause-memory c =
+    err_after c.from_residual.result c.in_err-element.field-0.0 _ c.from_residual.ensures.1 c.in_err-element.ensures.memory
+
+pub returns-in_err-check_new_type-clause-memory : goal.returns-in_err-check_new_type-clause-memory
+returns-in_err-check_new_type-clause-memory c =
+    call_after c.from_residual-in_err-check_new_type.result _ c.in_ok-element.ensures.sound
+
+pub returns-in_err-measured-clause-memory : goal.returns-in_err-measured-clause-memory
+returns-in_err-measured-clause-memory c =
+    call_after c.from_residual-in_err-measured.result _ c.in_ok-element.ensures.sound
+
+pub returns-clause-memory : goal.returns-clause-memory
+returns-clause-memory c = call_after c.add_type.result _ c.in_ok-element.ensures.sound

@@ -13,7 +13,7 @@ returns-in-Err-clause-stored c =
     let p = c.args.program.now in
     let n = c.args.begun.intake.count in
     let same : Same n c.args.self.now.tape.items c.go_on.new.tape
-    = record { front = c.in-Err.ensures.kept ∙ ap (take n) c.deref_mut.ensures.value; long = c.in-Err.ensures.long ∙ ap length c.deref_mut.ensures.value } in
+    = record { prefix = c.in-Err.ensures.kept ∙ ap (take n) c.deref_mut.ensures.value; long = c.in-Err.ensures.long ∙ ap length c.deref_mut.ensures.value } in
     let items : (with_items c.args.self.now.tape c.go_on.new.tape).items ≡ c.go_on.new.tape
     = with_items_is c.args.self.now.tape c.go_on.new.tape (omega (arith, c.in-Err.ensures.long, c.deref_mut.ensures.len)) in
     subst (λ (t : List ℕ). IsStored p.plan (interface_of p.interface) (with_tape t (stored_of c.args.self.now))) (sym items)
@@ -26,7 +26,7 @@ returns-in-Err-clause-feeds c =
     let n = c.args.begun.intake.count in
     let tape = c.args.self.now.tape.items in
     let same : Same n tape c.go_on.new.tape
-    = record { front = c.in-Err.ensures.kept ∙ ap (take n) c.deref_mut.ensures.value; long = c.in-Err.ensures.long ∙ ap length c.deref_mut.ensures.value } in
+    = record { prefix = c.in-Err.ensures.kept ∙ ap (take n) c.deref_mut.ensures.value; long = c.in-Err.ensures.long ∙ ap length c.deref_mut.ensures.value } in
     let items : (with_items c.args.self.now.tape c.go_on.new.tape).items ≡ c.go_on.new.tape
     = with_items_is c.args.self.now.tape c.go_on.new.tape (omega (arith, c.in-Err.ensures.long, c.deref_mut.ensures.len)) in
     let parts : parts_of p.plan i c.deref_mut.result.now c.args.begun ≡ (fed_of p.plan i tape c.args.self.now.stand).parts

@@ -1,10 +1,14 @@
--- Multiples of alignments.
-use Rattle.std.proofs.Common.{◌≡◌, ℕ, zero, suc, ◌+◌, ◌*◌, ◌%◌, ◌≤◌, ◌⊎◌, inl, inr, ⊎_elim, max, refl, sym, subst, arith}
-use Rattle.fl_check.specs.Sizes.{round_up}
+-- The alignments of types, and multiples of them.
+use Rattle.std.proofs.Common.{◌≡◌, ℕ, zero, suc, ◌+◌, ◌*◌, ◌%◌, ◌≤◌, inl, inr, ⊎_elim, max, refl, sym, subst, arith}
+use Rattle.fl_check.specs.declared.interface.Scalar.{Scalar}
+use Rattle.fl_check.specs.declared.interface.Scalar.TheVariants.{Uint8, Int8, Bool as BoolType, Char, Uint16, Int16, Uint32, Int32, Iref, Uint64}
+use Rattle.fl_check.specs.declared.interface.Scalar.TheVariants.{Int64, Uintptr, Intptr, Size, Errval}
+use Rattle.fl_check.specs.Interface.{TheType, scalar, enumeration, structure, array, TheTypes, no_more, field}
+use Rattle.fl_check.specs.Sizes.{size_of, align_of, greatest_align, end_after, round_up, scalar_size, IsAlign}
 
-abbrev pub IsAlign : ℕ → Type 0
-IsAlign a = (a ≡ 1) ⊎ ((a ≡ 2) ⊎ ((a ≡ 4) ⊎ (a ≡ 8)))
+-- ---- alignments
 
+-- what holds at 1, 2, 4 and 8 holds at an alignment
 pub by_align : (P : ℕ → Type 0) → P 1 → P 2 → P 4 → P 8 → (a : ℕ) → IsAlign a → P a
 by_align P one two four eight a is =
     ⊎_elim (λ (e : a ≡ 1). subst P (sym e) one)
@@ -26,14 +30,50 @@ align_eight = inr (inr (inr refl))
 pub greater_align : (a b : ℕ) → IsAlign a → IsAlign b → IsAlign (max a b)
 greater_align a b ha hb =
     by_align (λ a. (b : ℕ) → IsAlign b → IsAlign (max a b))
-    (λ b hb. by_align (λ b. IsAlign (max 1 b)) (inl refl) (inr (inl refl)) (inr (inr (inl refl))) (inr (inr (inr refl))) b hb)
-    (λ b hb. by_align (λ b. IsAlign (max 2 b)) (inr (inl refl)) (inr (inl refl)) (inr (inr (inl refl))) (inr (inr (inr refl))) b hb)
-    (λ b hb. by_align (λ b. IsAlign (max 4 b)) (inr (inr (inl refl))) (inr (inr (inl refl))) (inr (inr (inl refl))) (inr (inr (inr refl))) b hb)
-    (λ b hb. by_align (λ b. IsAlign (max 8 b)) (inr (inr (inr refl))) (inr (inr (inr refl))) (inr (inr (inr refl))) (inr (inr (inr refl))) b hb)
+    (λ b hb. by_align (λ b. IsAlign (max 1 b)) align_one align_two align_four align_eight b hb)
+    (λ b hb. by_align (λ b. IsAlign (max 2 b)) align_two align_two align_four align_eight b hb)
+    (λ b hb. by_align (λ b. IsAlign (max 4 b)) align_four align_four align_four align_eight b hb)
+    (λ b hb. by_align (λ b. IsAlign (max 8 b)) align_eight align_eight align_eight align_eight b hb)
     a ha b hb
 
 pub align_small : (a : ℕ) → IsAlign a → (1 ≤ a) × (a ≤ 8)
 align_small a h = by_align (λ a. (1 ≤ a) × (a ≤ 8)) (omega arith, omega arith) (omega arith, omega arith) (omega arith, omega arith) (omega arith, omega arith) a h
+
+pub scalar_align : (s : Scalar) → IsAlign (scalar_size s)
+scalar_align Uint8 = align_one
+scalar_align Int8 = align_one
+scalar_align BoolType = align_one
+scalar_align Char = align_one
+scalar_align Uint16 = align_two
+scalar_align Int16 = align_two
+scalar_align Uint32 = align_four
+scalar_align Int32 = align_four
+scalar_align Iref = align_four
+scalar_align Uint64 = align_eight
+scalar_align Int64 = align_eight
+scalar_align Uintptr = align_eight
+scalar_align Intptr = align_eight
+scalar_align Size = align_eight
+scalar_align Errval = align_eight
+
+mutual
+  pub type_align : (t : TheType) → IsAlign (align_of t)
+  type_align (scalar s) = scalar_align s
+  type_align (enumeration n) = align_four
+  type_align (structure ts) = types_align ts
+  type_align (array n t) = type_align t
+
+  pub types_align : (ts : TheTypes) → IsAlign (greatest_align ts)
+  types_align no_more = align_one
+  types_align (field t ts) = greater_align (align_of t) (greatest_align ts) (type_align t) (types_align ts)
+
+pub some_align : (t : TheType) → (1 ≤ align_of t) × (align_of t ≤ 8)
+some_align t = align_small (align_of t) (type_align t)
+
+pub some_greatest : (ts : TheTypes) → (1 ≤ greatest_align ts) × (greatest_align ts ≤ 8)
+some_greatest ts = align_small (greatest_align ts) (types_align ts)
+
+-- ---- multiples
 
 -- a multiple of an alignment
 abbrev pub IsMultiple : ℕ → ℕ → Type 0
@@ -82,3 +122,24 @@ multiple_of_less a b n ha hb r m =
     (λ b hb. by_align (λ b. 4 ≤ b → IsMultiple b n → IsMultiple 4 n) (λ r m. absurd (omega (arith, r))) (λ r m. absurd (omega (arith, r))) (λ r m. m) (λ r m. omega (arith, m)) b hb)
     (λ b hb. by_align (λ b. 8 ≤ b → IsMultiple b n → IsMultiple 8 n) (λ r m. absurd (omega (arith, r))) (λ r m. absurd (omega (arith, r))) (λ r m. absurd (omega (arith, r))) (λ r m. m) b hb)
     a ha b hb r m
+
+-- the size of a type is a multiple of its alignment
+pub size_multiple : (t : TheType) → IsMultiple (align_of t) (size_of t)
+size_multiple (scalar Uint8) = refl
+size_multiple (scalar Int8) = refl
+size_multiple (scalar BoolType) = refl
+size_multiple (scalar Char) = refl
+size_multiple (scalar Uint16) = refl
+size_multiple (scalar Int16) = refl
+size_multiple (scalar Uint32) = refl
+size_multiple (scalar Int32) = refl
+size_multiple (scalar Iref) = refl
+size_multiple (scalar Uint64) = refl
+size_multiple (scalar Int64) = refl
+size_multiple (scalar Uintptr) = refl
+size_multiple (scalar Intptr) = refl
+size_multiple (scalar Size) = refl
+size_multiple (scalar Errval) = refl
+size_multiple (enumeration n) = refl
+size_multiple (structure ts) = rounded (greatest_align ts) (end_after 0 ts) (types_align ts)
+size_multiple (array n t) = multiple_times (align_of t) n (size_of t) (type_align t) (size_multiple t)

@@ -1,11 +1,10 @@
--- Whether two messages have the same argument types.
+-- Whether two messages have the same argument types: a test of equality.
 use Rattle.std.specs.Prelude.{ℕ, ◌==◌, ◌&&◌, Bool, true, false, List, [], ◌∷◌}
 use Rattle.fl_check.specs.declared.interface.Scalar.{Scalar}
 use Rattle.fl_check.specs.declared.interface.Scalar.TheVariants.{Uint8, Int8, Bool as Flag, Char, Uint16}
 use Rattle.fl_check.specs.declared.interface.Scalar.TheVariants.{Int16, Uint32, Int32, Iref, Uint64, Int64}
 use Rattle.fl_check.specs.declared.interface.Scalar.TheVariants.{Uintptr, Intptr, Size, Errval}
-use Rattle.fl_check.specs.Interface.{TheType, scalar, enumeration, structure, array, TheTypes, no_more, field}
-use Rattle.fl_check.specs.Interface.{TheArgType, fixed, text, sized}
+use Rattle.fl_check.specs.Types.{TheType, scalar, enumeration, structure, array, TheTypes, no_more, field, TheArgType, fixed, text, sized}
 
 -- a number for each scalar type, and no number for two
 abbrev pub scalar_number : Scalar → ℕ
