@@ -1,0 +1,24 @@
+//! Script lines: what a line spells, the names that a script gives, what a line asks of the queue machine, and the
+//! texts of answers.
+//!
+//! Contract for the layer above: [`parse_line`] gives what a line is (`specs/Grammar.antt`, over the table of lines in
+//! `specs/Commands.antt`), a line is one thing ([`one_line`]), and what [`print_command`] writes reads as that command
+//! ([`printed_reads`]).
+//!
+//! - `word.rt`: a line's words, and the numbers that words write
+//! - `command.rt`: commands, and what a line is
+//! - `reader.rt`: lines read, row by row of the table
+//! - `printing.rt`: commands as text
+//! - `law.rt`: the laws
+#![tactic(auto)]
+
+mod command;
+mod law;
+mod printing;
+mod reader;
+mod word;
+
+pub use command::{BackEnd, Command, EndName, Line, Route};
+pub use law::{one_line, printed_reads, spelled_reads};
+pub use printing::print_command;
+pub use reader::parse_line;
