@@ -25,19 +25,23 @@ end_of word =
     else None
     else None
 
--- a piece, and then what the words behind it are
+-- a name, and then what the words behind it are
 abbrev pub name_then : {A : Type 0} → List ℕ → (List ℕ → List ℕ → Option A) → Option A
 name_then line f = if is_name (first_word line) then f (first_word line) (behind_word line) else None
 
-abbrev pub number_then : {A : Type 0} → List ℕ → (ℕ → List ℕ → Option A) → Option A
-number_then line f = given (number_of (first_word line)) None λ n. f n (behind_word line)
-
-abbrev pub end_then : {A : Type 0} → List ℕ → (EndName → List ℕ → Option A) → Option A
-end_then line f = given (end_of (first_word line)) None λ e. f e (behind_word line)
-
--- nothing more
+-- this, where no word is left
 abbrev pub at_last : {A : Type 0} → List ℕ → A → Option A
 at_last line x = if is_none (first_word line) then Some x else None
+
+abbrev pub one_number : List ℕ → Option ℕ
+one_number line = given (number_of (first_word line)) None λ n. at_last (behind_word line) n
+
+abbrev pub two_numbers : List ℕ → Option (ℕ × ℕ)
+two_numbers line =
+    given (number_of (first_word line)) None λ a. given (one_number (behind_word line)) None λ b. Some (a, b)
+
+abbrev pub one_end : List ℕ → Option EndName
+one_end line = given (end_of (first_word line)) None λ e. at_last (behind_word line) e
 
 -- all words of a line
 abbrev pub joins_word : ℕ → List ℕ → List (List ℕ) → List (List ℕ)
@@ -56,46 +60,42 @@ numbers_of (word ∷ words) = given (number_of word) None λ n. option_map (λ n
 
 -- ---- rows, behind the first word
 
-abbrev pub number_row : {A : Type 0} → (ℕ → A) → List ℕ → Option A
-number_row f line = number_then line λ n rest. at_last rest (f n)
-
-abbrev pub numbers_row : {A : Type 0} → (ℕ → ℕ → A) → List ℕ → Option A
-numbers_row f line = number_then line λ a rest. number_then rest λ b last. at_last last (f a b)
-
-abbrev pub end_row : {A : Type 0} → (EndName → A) → List ℕ → Option A
-end_row f line = end_then line λ e rest. at_last rest (f e)
-
 abbrev pub link_row : List ℕ → Option Command
-link_row line = number_then line λ a rest. numbers_row (link a) rest
+link_row line =
+    given (number_of (first_word line)) None λ a. given (two_numbers (behind_word line)) None λ p. Some (link a p.0 p.1)
 
 abbrev pub disp_row : List ℕ → Option Command
-disp_row line = name_then line λ d rest. number_row (disp d) rest
+disp_row line = name_then line λ d rest. given (one_number rest) None λ core. Some (disp d core)
 
 abbrev pub export_row : List ℕ → Option Command
 export_row line = name_then line λ s rest. name_then rest λ d more. name_then more λ i last. at_last last (export s d i)
 
 abbrev pub route_row : List ℕ → Option BackEnd
-route_row line = number_then line λ first rest. option_map (hop first) (numbers_of (words_of rest))
+route_row line =
+    given (number_of (first_word line)) None λ first. option_map (hop first) (numbers_of (words_of (behind_word line)))
 
 abbrev pub back_end_row : List ℕ → Option BackEnd
 back_end_row line =
-    if bytes_eq (first_word line) (codes "local") then number_row local (behind_word line)
-    else if bytes_eq (first_word line) (codes "ump") then number_row ump (behind_word line)
+    if bytes_eq (first_word line) (codes "local") then given (one_number (behind_word line)) None (λ n. Some (local n))
+    else if bytes_eq (first_word line) (codes "ump") then given (one_number (behind_word line)) None (λ n. Some (ump n))
     else if bytes_eq (first_word line) (codes "hop") then route_row (behind_word line)
     else None
 
 abbrev pub bind_row : List ℕ → Option Command
 bind_row line =
-    name_then line λ p r. name_then r λ d t. name_then t λ i u. name_then u λ s last. option_map (bind p d i s) (back_end_row last)
+    name_then line λ p a. name_then a λ d b. name_then b λ i c. name_then c λ s last.
+    given (back_end_row last) None λ back. Some (bind p d i s back)
 
 abbrev pub call_row : List ℕ → Option Command
-call_row line = end_then line λ e rest. Some (call e (without_blanks rest))
+call_row line = given (end_of (first_word line)) None λ e. Some (call e (without_blanks (behind_word line)))
 
 abbrev pub turn_row : List ℕ → Option Command
 turn_row line = name_then line λ d rest. at_last rest (turn d)
 
 abbrev pub reply_row : List ℕ → Option Command
-reply_row line = end_then line λ e rest. name_then rest λ m more. name_then more λ n last. at_last last (reply e m n)
+reply_row line =
+    given (end_of (first_word line)) None λ e.
+    name_then (behind_word line) λ m more. name_then more λ n last. at_last last (reply e m n)
 
 -- ---- the first word
 
@@ -120,23 +120,30 @@ verb_of word =
     else if bytes_eq word (codes "idl") then verb.Idl
     else verb.Unknown
 
+-- the commands that have an end alone, or two numbers alone, behind their first word
+abbrev pub with_end : (EndName → Command) → List ℕ → Option Command
+with_end f rest = given (one_end rest) None λ e. Some (f e)
+
+abbrev pub with_cores : (ℕ → ℕ → Command) → List ℕ → Option Command
+with_cores f rest = given (two_numbers rest) None λ p. Some (f p.0 p.1)
+
 abbrev pub command_by : Verb → List ℕ → Option Command
-command_by verb.Cores rest = number_row cores rest
+command_by verb.Cores rest = given (one_number rest) None λ n. Some (cores n)
 command_by verb.Link rest = link_row rest
 command_by verb.Disp rest = disp_row rest
 command_by verb.Export rest = export_row rest
 command_by verb.Bind rest = bind_row rest
 command_by verb.Call rest = call_row rest
-command_by verb.Show rest = end_row show rest
-command_by verb.Write rest = end_row write rest
+command_by verb.Show rest = with_end show rest
+command_by verb.Write rest = with_end write rest
 command_by verb.Turn rest = turn_row rest
-command_by verb.Ack rest = end_row ack rest
-command_by verb.Register rest = end_row register rest
-command_by verb.Deregister rest = end_row deregister rest
+command_by verb.Ack rest = with_end ack rest
+command_by verb.Register rest = with_end register rest
+command_by verb.Deregister rest = with_end deregister rest
 command_by verb.Reply rest = reply_row rest
-command_by verb.Mwrite rest = numbers_row mwrite rest
-command_by verb.Forward rest = numbers_row forward rest
-command_by verb.Mack rest = numbers_row mack rest
+command_by verb.Mwrite rest = with_cores mwrite rest
+command_by verb.Forward rest = with_cores forward rest
+command_by verb.Mack rest = with_cores mack rest
 command_by verb.Idl rest = None
 command_by verb.Unknown rest = None
 
