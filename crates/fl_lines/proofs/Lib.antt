@@ -1,2 +1,4 @@
 mod WordLemmas
 mod RouteLemmas
+mod PieceLemmas
+mod GrammarLemmas
