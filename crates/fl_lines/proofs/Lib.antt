@@ -2,3 +2,4 @@ mod WordLemmas
 mod RouteLemmas
 mod PieceLemmas
 mod GrammarLemmas
+mod PrintLemmas

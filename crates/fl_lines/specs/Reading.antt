@@ -1,6 +1,6 @@
 -- How a line is read, row by row of the table: what the parts of the code tell. That this is what the grammar says
 -- is proved; a reader may skip it.
-use Rattle.std.specs.Prelude.{ℕ, ◌-◌, if◌then◌else◌, List, [], ◌∷◌, length, take, drop, Option, Some, None, option_map, codes}
+use Rattle.std.specs.Prelude.{ℕ, ◌-◌, if◌then◌else◌, List, [], ◌∷◌, length, take, drop, Option, Some, None, option_map, unwrap_or, codes}
 use Rattle.std.specs.Str.{bytes_eq}
 use Rattle.fl_base.specs.declared.identity.Side.TheVariants.{Client, Server}
 use Rattle.fl_lex.specs.Words.{is_name}
@@ -57,6 +57,10 @@ words_of (b ∷ bytes) = if is_blank b then words_of bytes else joins_word b byt
 abbrev pub numbers_of : List (List ℕ) → Option (List ℕ)
 numbers_of [] = Some []
 numbers_of (word ∷ words) = given (number_of word) None λ n. option_map (λ ns. n ∷ ns) (numbers_of words)
+
+-- the numbers that a text writes, if all its words are numbers
+abbrev pub numbers_in : List ℕ → List ℕ
+numbers_in text = unwrap_or (numbers_of (words_of text)) []
 
 -- ---- rows, behind the first word
 

@@ -1,5 +1,4 @@
 -- What the code reads of a line, as the definitions have it.
-use Rattle.std.specs.Prelude.{ℕ, List, [], unwrap_or}
 use Rattle.fl_lines.specs.declared.command.EndName.{EndName as RustEndName}
 use Rattle.fl_lines.specs.declared.command.BackEnd.{BackEnd as RustBackEnd}
 use Rattle.fl_lines.specs.declared.command.BackEnd.TheVariants.{Local, Ump, Hop}
@@ -9,14 +8,10 @@ use Rattle.fl_lines.specs.declared.command.Line.{Line as RustLine}
 use Rattle.fl_lines.specs.declared.command.Line.TheVariants as line
 use Rattle.fl_lines.specs.Commands.{EndName, BackEnd, local, ump, hop, Command, cores, link, disp, export, bind, call, show, write, turn, ack, register, deregister, reply, mwrite, forward, mack}
 use Rattle.fl_lines.specs.Grammar.{Line, silent, heading, command, unread}
-use Rattle.fl_lines.specs.Reading.{words_of, numbers_of}
+use Rattle.fl_lines.specs.Reading.{numbers_in}
 
 abbrev pub end_name_of : RustEndName → EndName
 end_name_of e = record { binding = e.binding.now; side = e.side }
-
--- the numbers that a text writes, if all its words are numbers
-abbrev pub numbers_in : List ℕ → List ℕ
-numbers_in text = unwrap_or (numbers_of (words_of text)) []
 
 abbrev pub back_end_of : RustBackEnd → BackEnd
 back_end_of (Local slots) = local slots

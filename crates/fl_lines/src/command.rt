@@ -3,8 +3,10 @@
 ghost use Rattle.std.specs.Prelude.{◌≡◌, true, is_some};
 ghost use Rattle.fl_lines.specs.Reading.{words_of, numbers_of};
 
+use crate::word::{next_word, number};
 use fl_base::Side;
 use fl_value::PlanNo;
+use std::alloc::{AllocError, Global};
 
 /// An end as a script names it: a binding's name, and `.c` for the client's end or `.s` for the service's.
 #[derive(Clone, Copy, Debug)]
@@ -19,6 +21,28 @@ pub struct Route<'a> {
     pub first: u32,
     pub others: &'a [u8],
     pub ghost numbers: { is_some (numbers_of (words_of others.now)) ≡ true },
+}
+
+impl Route<'_> {
+    ghost use Rattle.std.specs.Prelude.{IfOk, ◌∷◌};
+    ghost use Rattle.fl_lines.specs.Reading.{numbers_in};
+
+    /// All cores of the route, in order.
+    pub fn cores(&self, alloc: Global) -> Result<Vec<u32>, AllocError>
+        ensures cores { IfOk result (λ v. v.items ≡ self.now.first ∷ numbers_in self.now.others.now) }
+    {
+        let mut cores = Vec::new(alloc);
+        cores.push(self.first)?;
+        let mut rest = self.others;
+        loop {
+            let (word, behind) = next_word(rest);
+            let Some(core) = number(word) else {
+                return Ok(cores);
+            };
+            cores.push(core)?;
+            rest = behind;
+        }
+    }
 }
 
 /// How a binding's two ends are to be joined.
