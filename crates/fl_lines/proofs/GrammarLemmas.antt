@@ -287,6 +287,7 @@ unread_at line loud e =
   where
     cc_heading : (plan : PlanNo) → heading plan ≡ unread → ⊥
     cc_heading plan e = cc
+
     cc_command : (c : Command) → command c ≡ unread → ⊥
     cc_command c e = cc
 

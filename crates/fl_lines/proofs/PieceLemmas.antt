@@ -1,6 +1,6 @@
 -- Pieces of lines: what is read stands there, and what stands there is read.
-use Rattle.std.proofs.Common.{◌≡◌, ◌⊎◌, inl, inr, ◌<◌, ◌≤◌, ℕ, ◌+◌, ◌-◌, ◌==◌, Bool, true, false, cond, if◌then◌else◌, List, [], ◌∷◌, ◌++◌, length, take, drop, map, Option, Some, None, option_map, is_some, refl, sym, ap, subst, ◌∙◌, arith, length-append, suc, zero}
-use Rattle.std.specs.Prelude.{codes}
+use Rattle.std.proofs.Common.{◌≡◌, ◌⊎◌, inl, inr, ◌<◌, ◌≤◌, ℕ, ◌+◌, ◌-◌, ◌==◌, Bool, true, false, cond, if◌then◌else◌, List, [], ◌∷◌, ◌++◌, length, take, drop, map, Option, Some, None, option_map, is_some, refl, sym, ap, subst, ◌∙◌, arith, length-append, append-nil, append_assoc, suc, zero}
+use Rattle.std.specs.Prelude.{codes, unwrap_or}
 use Rattle.std.specs.Str.{bytes_eq}
 use Rattle.std.proofs.Math.Seq.{take-append_seam, drop-append_seam}
 use Rattle.std.proofs.lemmas.Bool.Decides.{nat_tests}
@@ -13,8 +13,8 @@ use Rattle.fl_queues.specs.Given.{given}
 use Rattle.fl_lines.specs.Words.{first_word, behind_word, is_none, number_of}
 use Rattle.fl_lines.specs.Commands.{EndName, Piece, a_name, a_number, an_end, side_text, end_text}
 use Rattle.fl_lines.specs.Grammar.{Holds}
-use Rattle.fl_lines.specs.Reading.{name_before_end, end_of, name_then, at_last, one_number, two_numbers, one_end, words_of, numbers_of}
-use Rattle.fl_lines.proofs.WordLemmas.{words_step, no_words}
+use Rattle.fl_lines.specs.Reading.{name_before_end, end_of, name_then, at_last, one_number, two_numbers, one_end, words_of, numbers_of, numbers_in}
+use Rattle.fl_lines.proofs.WordLemmas.{words_step, no_words, behind_shorter}
 
 -- ---- what was read
 
@@ -188,3 +188,42 @@ numbers_stand (n ∷ ns) line h =
     step
     ∙ (by_given (number_of (first_word line)) n (λ m. option_map (λ ms. m ∷ ms) (numbers_of (words_of (behind_word line)))) h.0
     ∙ ap (option_map (λ ms. n ∷ ms)) (numbers_stand ns (behind_word line) h.1))
+
+-- ---- numbers, one after another
+
+cons_there : (o : Option (List ℕ)) (n : ℕ) (whole : Option (List ℕ)) → whole ≡ option_map (λ ns. n ∷ ns) o → is_some whole ≡ true
+    → (is_some o ≡ true) × (unwrap_or whole [] ≡ n ∷ unwrap_or o [])
+cons_there None n whole e h = let none : is_some whole ≡ false = ap is_some e in cc
+cons_there (Some ns) n whole e h = (refl, ap (λ (x : Option (List ℕ)). unwrap_or x []) e)
+
+numbers_first : (rest : List ℕ) (n : ℕ) → number_of (first_word rest) ≡ Some n
+    → numbers_of (words_of rest) ≡ option_map (λ ns. n ∷ ns) (numbers_of (words_of (behind_word rest)))
+numbers_first rest n e =
+    ap numbers_of (words_step rest (number_there (first_word rest) n e))
+    ∙ by_given (number_of (first_word rest)) n (λ m. option_map (λ ms. m ∷ ms) (numbers_of (words_of (behind_word rest)))) e
+
+-- one number more was taken
+pub one_more : (rest word behind taken after whole : List ℕ) (n : ℕ) → (is_some (numbers_of (words_of rest)) ≡ true) × (taken ++ numbers_in rest ≡ whole)
+    → word ≡ first_word rest → behind ≡ behind_word rest → number_of word ≡ Some n → after ≡ taken ++ n ∷ []
+    → (is_some (numbers_of (words_of behind)) ≡ true) × (after ++ numbers_in behind ≡ whole)
+one_more rest word behind taken after whole n h w b e a =
+    let k = cons_there (numbers_of (words_of (behind_word rest))) n (numbers_of (words_of rest)) (numbers_first rest n (ap number_of (sym w) ∙ e)) h.0 in
+    let joined : after ++ numbers_in behind ≡ taken ++ (n ∷ numbers_in (behind_word rest)) =
+    rw (a, b) (append_assoc taken (n ∷ []) (numbers_in (behind_word rest))) in
+    (ap (λ (x : List ℕ). is_some (numbers_of (words_of x))) b ∙ k.0, joined ∙ (ap (λ (x : List ℕ). taken ++ x) (sym k.1) ∙ h.1))
+
+-- no number is left
+pub none_more : (rest word taken whole : List ℕ) → (is_some (numbers_of (words_of rest)) ≡ true) × (taken ++ numbers_in rest ≡ whole)
+    → word ≡ first_word rest → number_of word ≡ None → taken ≡ whole
+none_more rest word taken whole h w e =
+    sym (append-nil taken) ∙ (ap (λ (x : List ℕ). taken ++ x) (sym (none_left (sized (first_word rest)))) ∙ h.1)
+  where
+    none_left : (0 < length (first_word rest)) ⊎ (length (first_word rest) ≡ 0) → numbers_in rest ≡ []
+    none_left (inl some) =
+        let none : numbers_of (words_of rest) ≡ None =
+        ap numbers_of (words_step rest some) ∙ ap (λ (o : Option ℕ). given o None λ m. option_map (λ ms. m ∷ ms) (numbers_of (words_of (behind_word rest)))) (ap number_of (sym w) ∙ e) in
+        let clash : is_some (numbers_of (words_of rest)) ≡ false = ap is_some none in cc
+    none_left (inr none) = ap (λ (ws : List (List ℕ)). unwrap_or (numbers_of ws) []) (no_words rest none)
+
+pub shorter : (rest word : List ℕ) (n : ℕ) → word ≡ first_word rest → number_of word ≡ Some n → length (behind_word rest) < length rest
+shorter rest word n w e = behind_shorter rest (number_there (first_word rest) n (ap number_of (sym w) ∙ e))

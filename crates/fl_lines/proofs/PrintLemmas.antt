@@ -180,9 +180,10 @@ behind_it pieces line e h = subst (Holds pieces) (sym e) h
 word_row : (word : List ℕ) (rest : Bool) → (nat_le 1 (length word) && list_all no_blank word && rest) ≡ true → Plain word × (rest ≡ true)
 word_row word rest h =
     let plain = first_so (nat_le 1 (length word) && list_all no_blank word) rest h in
-    let one = first_so (nat_le 1 (length word)) (list_all no_blank word) plain in
-    (record { some = grind (arith, nat_tests, one); all = second_so (nat_le 1 (length word)) (list_all no_blank word) plain },
-    second_so (nat_le 1 (length word) && list_all no_blank word) rest h)
+    let one = first_so (nat_le 1 (length word)) (list_all no_blank word) plain in (
+      record { some = grind (arith, nat_tests, one); all = second_so (nat_le 1 (length word)) (list_all no_blank word) plain },
+      second_so (nat_le 1 (length word) && list_all no_blank word) rest h,
+    )
 
 stands : (pieces : List Piece) → is_row pieces ≡ true → CanStand pieces → Holds pieces (printed_more pieces)
 stands [] r h = refl

@@ -21,9 +21,6 @@ none_first : (o : Option ℕ) (rest : Option (List ℕ)) → is_some o ≡ false
 none_first None rest h = refl
 none_first (Some n) rest h = cc
 
-
-
-
 pub numbers_end : (rest line : List ℕ) → is_some (numbers_of (words_of rest)) ≡ is_some (numbers_of (words_of line)) → length (first_word rest) ≡ 0
     → true ≡ is_some (numbers_of (words_of line))
 numbers_end rest line h none = sym (ap (λ (ws : List (List ℕ)). is_some (numbers_of ws)) (no_words rest none)) ∙ h

@@ -62,9 +62,16 @@ pub enum Command<'a> {
     /// The number of cores.
     Cores(u32),
     /// A link between two cores, a ring of so many slots each way.
-    Link { a: u32, b: u32, slots: u32 },
+    Link {
+        a: u32,
+        b: u32,
+        slots: u32,
+    },
     /// A dispatcher on a core.
-    Disp { name: &'a [u8], core: u32 },
+    Disp {
+        name: &'a [u8],
+        core: u32,
+    },
     /// A service of a dispatcher, under an interface.
     Export {
         name: &'a [u8],
@@ -94,11 +101,20 @@ pub enum Command<'a> {
         answer: &'a [u8],
     },
     /// The core's monitor writes its next message onto the link to the neighbour.
-    MonitorWrite { core: u32, neighbour: u32 },
+    MonitorWrite {
+        core: u32,
+        neighbour: u32,
+    },
     /// The core forwards what stands first on the link from the neighbour.
-    Forward { core: u32, neighbour: u32 },
+    Forward {
+        core: u32,
+        neighbour: u32,
+    },
     /// The core acknowledges what it has read on the link from the neighbour.
-    MonitorAck { core: u32, neighbour: u32 },
+    MonitorAck {
+        core: u32,
+        neighbour: u32,
+    },
 }
 
 /// What a line is.

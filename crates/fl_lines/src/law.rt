@@ -5,17 +5,14 @@ ghost use Rattle.fl_lines.specs.Grammar.{OneLine, PrintedReads, SpelledReads};
 /// A line is one thing; so it spells at most one command.
 pub fn one_line()
     ensures one { OneLine }
-{
-}
+{}
 
 /// A command that can be printed reads as itself, as [`crate::print_command`] writes it.
 pub fn printed_reads()
     ensures reads { PrintedReads }
-{
-}
+{}
 
 /// So does each command that some line spells.
 pub fn spelled_reads()
     ensures reads { SpelledReads }
-{
-}
+{}

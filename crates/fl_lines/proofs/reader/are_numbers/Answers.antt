@@ -11,8 +11,10 @@ returns-then-is_empty c =
 pub returns-then-not-is_number : goal.returns-then-not-is_number
 returns-then-not-is_number c =
     let some = some_there _ _ c.is_empty.ensures c.if-is_empty.false in
-    record { same = numbers_stop c.loop-word.rest.now c.args.line.now c.next_word.result.0.now c.loop-word.invariant
-    (subst (λ (w : List ℕ). 0 < length w) c.next_word.ensures.word some) c.next_word.ensures.word (sym c.is_number.ensures.same ∙ c.if-not-is_number.true) }
+    record {
+      same = numbers_stop c.loop-word.rest.now c.args.line.now c.next_word.result.0.now c.loop-word.invariant
+          (subst (λ (w : List ℕ). 0 < length w) c.next_word.ensures.word some) c.next_word.ensures.word (sym c.is_number.ensures.same ∙ c.if-not-is_number.true);
+    }
 
 pub loop-word-smaller : goal.loop-word-smaller
 loop-word-smaller c =

@@ -2,10 +2,10 @@ use Rattle.std.proofs.Common.{◌≡◌, ◌++◌, ◌∷◌, length, is_some, t
 use Rattle.fl_lines.specs.Reading.{words_of, numbers_of, numbers_in}
 use Rattle.fl_lines.proofs.command.Route.cores.Given as goal
 
-abbrev pub invariant-loop-word : goal.invariant-loop-word
-invariant-loop-word l =
+abbrev pub invariant-loop-core : goal.invariant-loop-core
+invariant-loop-core l =
     (is_some (numbers_of (words_of l.rest)) ≡ true)
     × (l.cores.items ++ numbers_in l.rest ≡ l.self.first ∷ numbers_in l.self.others.now)
 
-abbrev pub decreases-loop-word : goal.decreases-loop-word
-decreases-loop-word l = length l.rest
+abbrev pub decreases-loop-core : goal.decreases-loop-core
+decreases-loop-core l = length l.rest
