@@ -3,3 +3,8 @@ pub mod Commands
 pub mod Grammar
 pub mod Reading
 pub mod Views
+pub mod Names
+pub mod Asked
+pub mod Answers
+pub mod Tables
+pub mod Events

@@ -9,16 +9,22 @@
 //! - `command.rt`: commands, and what a line is
 //! - `reader.rt`: lines read, row by row of the table
 //! - `printing.rt`: commands as text
+//! - `answer.rt`: answers, and their texts
+//! - `table.rt`: lists of names that are asked by a map
 //! - `law.rt`: the laws
 #![tactic(auto)]
 
+mod answer;
 mod command;
 mod law;
 mod printing;
 mod reader;
+mod table;
 mod word;
 
+pub use answer::{Answer, print_answer, print_fault};
 pub use command::{BackEnd, Command, EndName, Line, Route};
 pub use law::{one_line, printed_reads, spelled_reads};
 pub use printing::print_command;
 pub use reader::parse_line;
+pub use table::NameTable;
