@@ -3,3 +3,4 @@ mod RouteLemmas
 mod PieceLemmas
 mod GrammarLemmas
 mod PrintLemmas
+mod TableLemmas

@@ -8,3 +8,5 @@ pub mod Asked
 pub mod Answers
 pub mod Tables
 pub mod Events
+pub mod Faults
+pub mod Told

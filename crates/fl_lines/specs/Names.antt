@@ -1,7 +1,7 @@
 -- The names that a script has given, in order of making: a thing's place in its list is the place by which the machine
 -- knows it. Interfaces, dispatchers and bindings are named apart from each other. Services aren't here: the machine
 -- itself knows them by their names.
-use Rattle.std.specs.Prelude.{ℕ, ◌==◌, Bool, List, [], ◌∷◌, ◌++◌, map, take, position, slice_get, Option, Some, None}
+use Rattle.std.specs.Prelude.{ℕ, ◌==◌, Bool, List, [], ◌∷◌, ◌++◌, map, position, slice_get, nat_lt, if◌then◌else◌, Option, Some, None}
 use Rattle.std.specs.List.{count_by}
 use Rattle.std.specs.Str.{bytes_eq}
 use Rattle.fl_base.specs.declared.identity.EndId.{EndId}
@@ -42,7 +42,7 @@ messages_at n e = given (slice_get n.spoken e.binding) [] λ i. given (slice_get
 
 -- the number of a message, which has 16 bits
 abbrev pub message_at : Names → EndId → List ℕ → Option ℕ
-message_at n e name = place_of name (take 65536 (messages_at n e))
+message_at n e name = given (place_of name (messages_at n e)) None λ k. if nat_lt k 65536 then Some k else None
 
 -- ---- a new name
 

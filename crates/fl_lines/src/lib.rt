@@ -11,12 +11,17 @@
 //! - `printing.rt`: commands as text
 //! - `answer.rt`: answers, and their texts
 //! - `table.rt`: lists of names that are asked by a map
+//! - `names.rt`: the names of a script, and what its commands ask by them
+//! - `event.rt`, `fault.rt`: what a command asks of the machine, and why it asks nothing
 //! - `law.rt`: the laws
 #![tactic(auto)]
 
 mod answer;
 mod command;
+mod event;
+mod fault;
 mod law;
+mod names;
 mod printing;
 mod reader;
 mod table;
@@ -24,7 +29,10 @@ mod word;
 
 pub use answer::{Answer, print_answer, print_fault};
 pub use command::{BackEnd, Command, EndName, Line, Route};
+pub use event::{Asked, DispatcherId, Event, Naming};
+pub use fault::LineFault;
 pub use law::{one_line, printed_reads, spelled_reads};
+pub use names::Names;
 pub use printing::print_command;
 pub use reader::parse_line;
 pub use table::NameTable;

@@ -1,0 +1,42 @@
+-- The names that the code keeps, and what it tells of a command.
+use Rattle.std.specs.Prelude.{◌≡◌, ℕ, None, Result, Ok, Err, map}
+use Rattle.fl_lines.specs.declared.event.Asked.{Asked as RustAsked}
+use Rattle.fl_lines.specs.declared.event.Naming.{Naming}
+use Rattle.fl_lines.specs.declared.event.Naming.TheVariants.{Nothing, Dispatcher, Binding}
+use Rattle.fl_lines.specs.declared.fault.LineFault.{LineFault}
+use Rattle.fl_lines.specs.declared.fault.LineFault.TheVariants.{NotACall, Name, NoSuchMessage, Memory}
+use Rattle.fl_lines.specs.declared.names.Names.{Names as RustNames}
+use Rattle.fl_lines.specs.Asked.{Asked, refuses, asks}
+use Rattle.fl_lines.specs.Events.{id_of, event_of}
+use Rattle.fl_lines.specs.Names.{Names, place_of, with_dispatcher, with_binding}
+use Rattle.fl_lines.specs.Tables.{table_of}
+
+abbrev pub names_of : RustNames → Names
+names_of n = record {
+  interfaces = table_of n.interfaces;
+  messages = map table_of n.messages.items;
+  dispatchers = table_of n.dispatchers;
+  placed = map id_of n.placed.items;
+  bindings = table_of n.bindings;
+  spoken = n.spoken.items;
+}
+
+-- the names behind a naming
+abbrev pub named : Names → Naming → Names
+named n Nothing = n
+named n (Dispatcher name core) = with_dispatcher n name.now core
+named n (Binding name interface) = with_binding n name.now interface
+
+-- its name isn't taken
+abbrev pub IsNew : Names → Naming → Type 0
+IsNew n Nothing = Unit {0}
+IsNew n (Dispatcher name core) = place_of name.now n.dispatchers ≡ None
+IsNew n (Binding name interface) = place_of name.now n.bindings ≡ None
+
+-- what a function returned tells what is asked, unless memory ran out
+abbrev pub Tells : Names → Result RustAsked LineFault → Asked → Type 0
+Tells n (Ok a) asked = asks (event_of a.event) (named n a.naming) ≡ asked
+Tells n (Err NotACall) asked = refuses 90 ≡ asked
+Tells n (Err Name) asked = refuses 92 ≡ asked
+Tells n (Err NoSuchMessage) asked = refuses 41 ≡ asked
+Tells n (Err Memory) asked = Unit {0}

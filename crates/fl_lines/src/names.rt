@@ -1,0 +1,226 @@
+//! The names that a script has given, and what its commands ask by them.
+
+ghost use Rattle.std.specs.Prelude.{◌≡◌, OnOk, IfOk, None, option_map, map, unwrap_or, []};
+ghost use Rattle.fl_value.specs.Value.{datum_of};
+ghost use Rattle.fl_lines.specs.Names.{no_names, dispatcher_at, end_at, messages_at, message_at, place_of};
+ghost use Rattle.fl_lines.specs.Asked.{Asked as TheAsked, Asks, asks_disp, asks_export, asks_bind, asks_turn, asks_reply, asks_call, kind_of};
+ghost use Rattle.fl_lines.specs.Events.{id_of};
+ghost use Rattle.fl_lines.specs.Tables.{table_of};
+ghost use Rattle.fl_lines.specs.Told.{names_of, named, IsNew, Tells};
+ghost use Rattle.fl_lines.specs.Views.{end_name_of, back_end_of, command_of};
+
+use crate::command::{BackEnd, Command, EndName};
+use crate::event::{Asked, DispatcherId, Event, Naming};
+use crate::fault::LineFault;
+use crate::table::NameTable;
+use fl_base::{EndId, MsgNo};
+use fl_value::{Call, CallText, ValueFault, read_call_text};
+use std::alloc::{AllocError, Global};
+
+/// All names that a script has given. A thing's place in its list is the place by which the machine knows it.
+#[derive(Drop)]
+pub struct Names {
+    pub alloc: Global,
+    pub interfaces: NameTable,
+    /// Of each interface, the names of its messages.
+    pub messages: Vec<NameTable>,
+    pub dispatchers: NameTable,
+    /// Of each dispatcher, where it is.
+    pub placed: Vec<DispatcherId>,
+    pub bindings: NameTable,
+    /// Of each binding, its interface.
+    pub spoken: Vec<usize>,
+}
+
+impl Names {
+    /// No names. Takes no memory.
+    pub fn new(alloc: Global) -> Names
+        ensures none { names_of result ≡ no_names }
+    {
+        Names {
+            alloc,
+            interfaces: NameTable::new(alloc),
+            messages: Vec::new(alloc),
+            dispatchers: NameTable::new(alloc),
+            placed: Vec::new(alloc),
+            bindings: NameTable::new(alloc),
+            spoken: Vec::new(alloc),
+        }
+    }
+
+    /// The dispatcher of a name.
+    pub fn dispatcher(&self, name: &[u8]) -> Option<DispatcherId>
+        ensures same { option_map id_of result ≡ dispatcher_at (names_of self.now) name.now }
+    {
+        let place = self.dispatchers.find(name)?;
+        match self.placed.get(place) {
+            None => None,
+            Some(id) => Some(*id),
+        }
+    }
+
+    /// The end of a name.
+    pub fn end(&self, name: EndName<'_>) -> Option<EndId>
+        ensures same { result ≡ end_at (names_of self.now) (end_name_of name.entry) }
+    {
+        let binding = self.bindings.find(name.binding)?;
+        Some(EndId {
+            binding,
+            side: name.side,
+        })
+    }
+
+    // The names of the messages of an end's interface.
+    fn messages(&self, end: EndId) -> Option<&NameTable>
+        ensures same { messages_at (names_of self.now) end ≡ unwrap_or (option_map (λ t. table_of t.now) result) [] }
+    {
+        let interface = self.spoken.get(end.binding)?;
+        self.messages.get(*interface)
+    }
+
+    /// The message of a name, at the interface of an end.
+    pub fn message(&self, end: EndId, name: &[u8]) -> Option<MsgNo>
+        ensures same { option_map (λ m. m.0) result ≡ message_at (names_of self.now) end name.now }
+    {
+        let Some(table) = self.messages(end) else {
+            return None;
+        };
+        let Some(place) = table.find(name) else {
+            return None;
+        };
+        if place >= 65_536 {
+            return None;
+        }
+        Some(MsgNo(place as u16))
+    }
+
+    fn ask_disp<'a>(&self, name: &'a [u8], core: u32) -> Result<Asked<'a>, LineFault>
+        ensures tells { Tells (names_of self.now) result (asks_disp (names_of self.now) name.now core) }
+        ensures new { IfOk result (λ a. IsNew (names_of self.now) a.naming) }
+    {
+        if self.dispatchers.find(name).is_some() {
+            return Err(LineFault::Name);
+        }
+        Ok(Asked {
+            event: Event::AddDispatcher(core),
+            naming: Naming::Dispatcher { name, core },
+        })
+    }
+
+    fn ask_export<'a>(
+        &self,
+        name: &'a [u8],
+        dispatcher: &[u8],
+        interface: &[u8],
+    ) -> Result<Asked<'a>, LineFault>
+        ensures tells { Tells (names_of self.now) result (asks_export (names_of self.now) name.now dispatcher.now interface.now) }
+        ensures new { IfOk result (λ a. IsNew (names_of self.now) a.naming) }
+    {
+        let Some(dispatcher) = self.dispatcher(dispatcher) else {
+            return Err(LineFault::Name);
+        };
+        let Some(interface) = self.interfaces.find(interface) else {
+            return Err(LineFault::Name);
+        };
+        Ok(Asked {
+            event: Event::Export {
+                name,
+                dispatcher,
+                interface,
+            },
+            naming: Naming::Nothing,
+        })
+    }
+
+    fn ask_bind<'a>(
+        &self,
+        name: &'a [u8],
+        client: &[u8],
+        interface: &[u8],
+        service: &'a [u8],
+        back_end: BackEnd<'a>,
+    ) -> Result<Asked<'a>, LineFault>
+        ensures tells { Tells (names_of self.now) result (asks_bind (names_of self.now) name.now client.now interface.now service.now (kind_of (back_end_of back_end.entry))) }
+        ensures new { IfOk result (λ a. IsNew (names_of self.now) a.naming) }
+    {
+        if self.bindings.find(name).is_some() {
+            return Err(LineFault::Name);
+        }
+        let Some(client) = self.dispatcher(client) else {
+            return Err(LineFault::Name);
+        };
+        let Some(interface) = self.interfaces.find(interface) else {
+            return Err(LineFault::Name);
+        };
+        Ok(Asked {
+            event: Event::Bind {
+                client,
+                interface,
+                service,
+                back_end,
+            },
+            naming: Naming::Binding { name, interface },
+        })
+    }
+
+    fn ask_turn(&self, dispatcher: &[u8]) -> Result<Asked<'static>, LineFault>
+        ensures tells { Tells (names_of self.now) result (asks_turn (names_of self.now) dispatcher.now) }
+        ensures new { IfOk result (λ a. IsNew (names_of self.now) a.naming) }
+    {
+        let Some(dispatcher) = self.dispatcher(dispatcher) else {
+            return Err(LineFault::Name);
+        };
+        Ok(Asked {
+            event: Event::Turn(dispatcher),
+            naming: Naming::Nothing,
+        })
+    }
+
+    fn ask_reply(
+        &self,
+        end: EndName<'_>,
+        message: &[u8],
+        answer: &[u8],
+    ) -> Result<Asked<'static>, LineFault>
+        ensures tells { Tells (names_of self.now) result (asks_reply (names_of self.now) (end_name_of end.entry) message.now answer.now) }
+        ensures new { IfOk result (λ a. IsNew (names_of self.now) a.naming) }
+    {
+        let Some(end) = self.end(end) else {
+            return Err(LineFault::Name);
+        };
+        let Some(message) = self.message(end, message) else {
+            return Err(LineFault::NoSuchMessage);
+        };
+        let Some(answer) = self.message(end, answer) else {
+            return Err(LineFault::NoSuchMessage);
+        };
+        Ok(Asked {
+            event: Event::Reply {
+                end,
+                message,
+                answer,
+            },
+            naming: Naming::Nothing,
+        })
+    }
+
+    fn ask_call(&self, end: EndName<'_>, text: CallText) -> Result<Asked<'static>, LineFault>
+        ensures tells { Tells (names_of self.now) result (asks_call (names_of self.now) (end_name_of end.entry) text.name.bytes.items (map datum_of text.args.items)) }
+        ensures new { IfOk result (λ a. IsNew (names_of self.now) a.naming) }
+    {
+        let Some(end) = self.end(end) else {
+            return Err(LineFault::Name);
+        };
+        let Some(msg) = self.message(end, &text.name.bytes) else {
+            return Err(LineFault::NoSuchMessage);
+        };
+        let call = Call {
+            msg,
+            args: text.args,
+        };
+        Ok(Asked {
+            event: Event::Call(end, call),
+            naming: Naming::Nothing,
+        })
+    }
+}
