@@ -4,3 +4,4 @@ mod PieceLemmas
 mod GrammarLemmas
 mod PrintLemmas
 mod TableLemmas
+mod AskedLemmas

@@ -1,12 +1,13 @@
 -- The names that the code keeps, and what it tells of a command.
-use Rattle.std.specs.Prelude.{◌≡◌, ℕ, None, Result, Ok, Err, map}
+use Rattle.std.specs.Prelude.{◌≡◌, ◌⊎◌, ℕ, None, Result, Ok, Err, map}
 use Rattle.fl_lines.specs.declared.event.Asked.{Asked as RustAsked}
 use Rattle.fl_lines.specs.declared.event.Naming.{Naming}
 use Rattle.fl_lines.specs.declared.event.Naming.TheVariants.{Nothing, Dispatcher, Binding}
 use Rattle.fl_lines.specs.declared.fault.LineFault.{LineFault}
 use Rattle.fl_lines.specs.declared.fault.LineFault.TheVariants.{NotACall, Name, NoSuchMessage, Memory}
 use Rattle.fl_lines.specs.declared.names.Names.{Names as RustNames}
-use Rattle.fl_lines.specs.Asked.{Asked, refuses, asks}
+use Rattle.fl_lines.specs.Asked.{Asked, refuses, asks, Asks}
+use Rattle.fl_lines.specs.Commands.{Command}
 use Rattle.fl_lines.specs.Events.{id_of, event_of}
 use Rattle.fl_lines.specs.Names.{Names, place_of, with_dispatcher, with_binding}
 use Rattle.fl_lines.specs.Tables.{table_of}
@@ -33,10 +34,20 @@ IsNew n Nothing = Unit {0}
 IsNew n (Dispatcher name core) = place_of name.now n.dispatchers ≡ None
 IsNew n (Binding name interface) = place_of name.now n.bindings ≡ None
 
--- what a function returned tells what is asked, unless memory ran out
+-- what a function returned tells what is asked; it says nothing where memory ran out
 abbrev pub Tells : Names → Result RustAsked LineFault → Asked → Type 0
 Tells n (Ok a) asked = asks (event_of a.event) (named n a.naming) ≡ asked
 Tells n (Err NotACall) asked = refuses 90 ≡ asked
 Tells n (Err Name) asked = refuses 92 ≡ asked
 Tells n (Err NoSuchMessage) asked = refuses 41 ≡ asked
 Tells n (Err Memory) asked = Unit {0}
+
+-- memory ran out, or the command asks something, and what a function returned tells it
+abbrev pub AsksAs : Names → Command → Result RustAsked LineFault → Type 0
+AsksAs n c result = (result ≡ Err Memory) ⊎ ((asked : Asked) × Asks n c asked × Tells n result asked)
+
+-- ---- the law
+
+-- a command asks one thing
+abbrev pub OneAsked : Type 0
+OneAsked = (n : Names) (c : Command) (x y : Asked) → Asks n c x → Asks n c y → x ≡ y

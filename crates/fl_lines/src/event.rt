@@ -22,7 +22,11 @@ pub enum Event<'a> {
     /// The number of cores.
     SetCores(u32),
     /// A link between two cores, a ring of so many slots each way.
-    AddLink { a: u32, b: u32, slots: u32 },
+    AddLink {
+        a: u32,
+        b: u32,
+        slots: u32,
+    },
     /// A dispatcher on a core.
     AddDispatcher(u32),
     /// A service of this name.
@@ -51,9 +55,18 @@ pub enum Event<'a> {
         message: MsgNo,
         answer: MsgNo,
     },
-    MonitorWrite { core: u32, neighbour: u32 },
-    Forward { core: u32, neighbour: u32 },
-    MonitorAcknowledge { core: u32, neighbour: u32 },
+    MonitorWrite {
+        core: u32,
+        neighbour: u32,
+    },
+    Forward {
+        core: u32,
+        neighbour: u32,
+    },
+    MonitorAcknowledge {
+        core: u32,
+        neighbour: u32,
+    },
 }
 
 /// The name that is given where an event is answered `ok`.

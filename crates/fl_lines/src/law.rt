@@ -1,6 +1,9 @@
 //! Laws of script lines.
 
 ghost use Rattle.fl_lines.specs.Grammar.{OneLine, PrintedReads, SpelledReads};
+ghost use Rattle.fl_lines.specs.Told.{OneAsked};
+
+use fl_value::one_reading;
 
 /// A line is one thing; so it spells at most one command.
 pub fn one_line()
@@ -16,3 +19,10 @@ pub fn printed_reads()
 pub fn spelled_reads()
     ensures reads { SpelledReads }
 {}
+
+/// A command asks one thing of the machine, by given names.
+pub fn one_asked()
+    ensures one { OneAsked }
+{
+    one_reading();
+}

@@ -31,7 +31,7 @@ pub use answer::{Answer, print_answer, print_fault};
 pub use command::{BackEnd, Command, EndName, Line, Route};
 pub use event::{Asked, DispatcherId, Event, Naming};
 pub use fault::LineFault;
-pub use law::{one_line, printed_reads, spelled_reads};
+pub use law::{one_asked, one_line, printed_reads, spelled_reads};
 pub use names::Names;
 pub use printing::print_command;
 pub use reader::parse_line;

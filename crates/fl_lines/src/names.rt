@@ -1,12 +1,15 @@
 //! The names that a script has given, and what its commands ask by them.
 
-ghost use Rattle.std.specs.Prelude.{◌≡◌, OnOk, IfOk, None, option_map, map, unwrap_or, []};
+ghost use Rattle.std.specs.Prelude.{◌≡◌, OnOk, OnErr, IfOk, None, option_map, map, unwrap_or, []};
+ghost use Rattle.std.specs.List.{count_by};
 ghost use Rattle.fl_value.specs.Value.{datum_of};
-ghost use Rattle.fl_lines.specs.Names.{no_names, dispatcher_at, end_at, messages_at, message_at, place_of};
-ghost use Rattle.fl_lines.specs.Asked.{Asked as TheAsked, Asks, asks_disp, asks_export, asks_bind, asks_turn, asks_reply, asks_call, kind_of};
-ghost use Rattle.fl_lines.specs.Events.{id_of};
+ghost use Rattle.fl_queues.specs.Events.{show, write, acknowledge, register, deregister};
+ghost use Rattle.fl_lines.specs.Commands.{call};
+ghost use Rattle.fl_lines.specs.Names.{with_dispatcher, with_binding, is_on, no_names, dispatcher_at, end_at, messages_at, message_at, place_of};
+ghost use Rattle.fl_lines.specs.Asked.{asks_disp, asks_export, asks_bind, asks_turn, asks_reply, asks_call, asks_end, asks, kind_of};
+ghost use Rattle.fl_lines.specs.Events.{id_of, event_of};
 ghost use Rattle.fl_lines.specs.Tables.{table_of};
-ghost use Rattle.fl_lines.specs.Told.{names_of, named, IsNew, Tells};
+ghost use Rattle.fl_lines.specs.Told.{names_of, named, IsNew, Tells, AsksAs};
 ghost use Rattle.fl_lines.specs.Views.{end_name_of, back_end_of, command_of};
 
 use crate::command::{BackEnd, Command, EndName};
@@ -92,6 +95,17 @@ impl Names {
             return None;
         }
         Some(MsgNo(place as u16))
+    }
+
+    // An event that needs no name and gives none.
+    fn asked<'a>(&self, event: Event<'a>) -> Result<Asked<'a>, LineFault>
+        ensures tells { Tells (names_of self.now) result (asks (event_of event.entry) (names_of self.now)) }
+        ensures new { IfOk result (λ a. IsNew (names_of self.now) a.naming) }
+    {
+        Ok(Asked {
+            event,
+            naming: Naming::Nothing,
+        })
     }
 
     fn ask_disp<'a>(&self, name: &'a [u8], core: u32) -> Result<Asked<'a>, LineFault>
@@ -223,4 +237,184 @@ impl Names {
             naming: Naming::Nothing,
         })
     }
+
+    fn ask_show(&self, end: EndName<'_>) -> Result<Asked<'static>, LineFault>
+        ensures tells { Tells (names_of self.now) result (asks_end (names_of self.now) show (end_name_of end.entry)) }
+        ensures new { IfOk result (λ a. IsNew (names_of self.now) a.naming) }
+    {
+        let Some(end) = self.end(end) else {
+            return Err(LineFault::Name);
+        };
+        Ok(Asked {
+            event: Event::Show(end),
+            naming: Naming::Nothing,
+        })
+    }
+
+    fn ask_write(&self, end: EndName<'_>) -> Result<Asked<'static>, LineFault>
+        ensures tells { Tells (names_of self.now) result (asks_end (names_of self.now) write (end_name_of end.entry)) }
+        ensures new { IfOk result (λ a. IsNew (names_of self.now) a.naming) }
+    {
+        let Some(end) = self.end(end) else {
+            return Err(LineFault::Name);
+        };
+        Ok(Asked {
+            event: Event::Write(end),
+            naming: Naming::Nothing,
+        })
+    }
+
+    fn ask_ack(&self, end: EndName<'_>) -> Result<Asked<'static>, LineFault>
+        ensures tells { Tells (names_of self.now) result (asks_end (names_of self.now) acknowledge (end_name_of end.entry)) }
+        ensures new { IfOk result (λ a. IsNew (names_of self.now) a.naming) }
+    {
+        let Some(end) = self.end(end) else {
+            return Err(LineFault::Name);
+        };
+        Ok(Asked {
+            event: Event::Acknowledge(end),
+            naming: Naming::Nothing,
+        })
+    }
+
+    fn ask_register(&self, end: EndName<'_>) -> Result<Asked<'static>, LineFault>
+        ensures tells { Tells (names_of self.now) result (asks_end (names_of self.now) register (end_name_of end.entry)) }
+        ensures new { IfOk result (λ a. IsNew (names_of self.now) a.naming) }
+    {
+        let Some(end) = self.end(end) else {
+            return Err(LineFault::Name);
+        };
+        Ok(Asked {
+            event: Event::Register(end),
+            naming: Naming::Nothing,
+        })
+    }
+
+    fn ask_deregister(&self, end: EndName<'_>) -> Result<Asked<'static>, LineFault>
+        ensures tells { Tells (names_of self.now) result (asks_end (names_of self.now) deregister (end_name_of end.entry)) }
+        ensures new { IfOk result (λ a. IsNew (names_of self.now) a.naming) }
+    {
+        let Some(end) = self.end(end) else {
+            return Err(LineFault::Name);
+        };
+        Ok(Asked {
+            event: Event::Deregister(end),
+            naming: Naming::Nothing,
+        })
+    }
+
+    // A call: its text is read first, then its end is looked up, then its message.
+    fn ask_text(&self, end: EndName<'_>, text: &[u8]) -> Result<Asked<'static>, LineFault>
+        ensures asks { AsksAs (names_of self.now) (call (end_name_of end.entry) text.now) result }
+        ensures new { IfOk result (λ a. IsNew (names_of self.now) a.naming) }
+    {
+        match read_call_text(self.alloc, text) {
+            Ok(spoken) => self.ask_call(end, spoken),
+            Err(ValueFault::NotACall) => Err(LineFault::NotACall),
+            Err(_) => Err(LineFault::Memory),
+        }
+    }
+
+    /// What a command asks of the machine by these names, and the name that is given where it is answered `ok`.
+    ///
+    /// # Errors
+    /// The first that applies, of: the text of a call is none (E90); a name is unknown or, of a dispatcher or a binding
+    /// that is to be made, taken (E92); the interface of the end has no such message (E41). Want of memory (E99).
+    pub fn ask<'a>(&self, command: Command<'a>) -> Result<Asked<'a>, LineFault>
+        ensures asks { AsksAs (names_of self.now) (command_of command.entry) result }
+        ensures new { IfOk result (λ a. IsNew (names_of self.now) a.naming) }
+    {
+        match command {
+            Command::Cores(n) => self.asked(Event::SetCores(n)),
+            Command::Link { a, b, slots } => self.asked(Event::AddLink { a, b, slots }),
+            Command::Disp { name, core } => self.ask_disp(name, core),
+            Command::Export {
+                name,
+                dispatcher,
+                interface,
+            } => self.ask_export(name, dispatcher, interface),
+            Command::Bind {
+                name,
+                client,
+                interface,
+                service,
+                back_end,
+            } => self.ask_bind(name, client, interface, service, back_end),
+            Command::Call(end, text) => self.ask_text(end, text),
+            Command::Show(end) => self.ask_show(end),
+            Command::Write(end) => self.ask_write(end),
+            Command::Turn(dispatcher) => self.ask_turn(dispatcher),
+            Command::Ack(end) => self.ask_ack(end),
+            Command::Register(end) => self.ask_register(end),
+            Command::Deregister(end) => self.ask_deregister(end),
+            Command::Reply {
+                end,
+                message,
+                answer,
+            } => self.ask_reply(end, message, answer),
+            Command::MonitorWrite { core, neighbour } => {
+                self.asked(Event::MonitorWrite { core, neighbour })
+            }
+            Command::Forward { core, neighbour } => self.asked(Event::Forward { core, neighbour }),
+            Command::MonitorAck { core, neighbour } => {
+                self.asked(Event::MonitorAcknowledge { core, neighbour })
+            }
+        }
+    }
+
+    fn add_dispatcher(&mut self, name: &[u8], core: u32) -> Result<(), AllocError>
+        requires { place_of name.now (table_of self.old.dispatchers) ≡ None }
+        ensures added { OnOk result (names_of self.new ≡ with_dispatcher (names_of self.old) name.now core) }
+        ensures kept { OnErr result (names_of self.new ≡ names_of self.old) }
+    {
+        let place = count_on(core, &self.placed);
+        self.placed.push(DispatcherId { core, place })?;
+        if let Err(error) = self.dispatchers.add(self.alloc, name) {
+            self.placed.pop();
+            return Err(error);
+        }
+        Ok(())
+    }
+
+    fn add_binding(&mut self, name: &[u8], interface: usize) -> Result<(), AllocError>
+        requires { place_of name.now (table_of self.old.bindings) ≡ None }
+        ensures added { OnOk result (names_of self.new ≡ with_binding (names_of self.old) name.now interface) }
+        ensures kept { OnErr result (names_of self.new ≡ names_of self.old) }
+    {
+        self.spoken.push(interface)?;
+        if let Err(error) = self.bindings.add(self.alloc, name) {
+            self.spoken.pop();
+            return Err(error);
+        }
+        Ok(())
+    }
+
+    /// Records the name that an event gave, once it was answered `ok`.
+    ///
+    /// # Errors
+    /// Want of memory; the names are as they were.
+    pub fn take_up(&mut self, naming: Naming<'_>) -> Result<(), AllocError>
+        requires { IsNew (names_of self.old) naming }
+        ensures taken { OnOk result (names_of self.new ≡ named (names_of self.old) naming.entry) }
+        ensures kept { OnErr result (names_of self.new ≡ names_of self.old) }
+    {
+        match naming {
+            Naming::Nothing => Ok(()),
+            Naming::Dispatcher { name, core } => self.add_dispatcher(name, core),
+            Naming::Binding { name, interface } => self.add_binding(name, interface),
+        }
+    }
+}
+
+// How many of these dispatchers are on a core.
+fn count_on(core: u32, ids: &[DispatcherId]) -> usize
+    ensures count { result ≡ count_by (is_on core) (map id_of ids.now) }
+{
+    let mut count = 0;
+    for id in ids {
+        if id.core == core {
+            count += 1;
+        }
+    }
+    count
 }
