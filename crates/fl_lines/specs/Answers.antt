@@ -1,5 +1,6 @@
 -- The text of an answer, without the line feed.
-use Rattle.std.specs.Prelude.{ℕ, ◌/◌, ◌%◌, false, List, [], ◌∷◌, ◌++◌, slice_get, Option, Some, None, unwrap_or, codes}
+use Rattle.std.specs.Prelude.{ℕ, ◌/◌, ◌%◌, false, List, [], ◌∷◌, ◌++◌, slice_get, Option, Some, None}
+use Rattle.std.specs.Prelude.{unwrap_or, codes}
 use Rattle.std.specs.List.{flat_map}
 use Rattle.std.specs.Int.{to_be_bytes, w64}
 use Rattle.std.specs.Fmt.{decimal, digit_glyph}
@@ -9,7 +10,8 @@ use Rattle.fl_check.specs.Interface.{TheInterface, TheMessage}
 use Rattle.fl_value.specs.Value.{TheCall}
 use Rattle.fl_value.specs.Printed.{printed_call}
 use Rattle.fl_queues.specs.Given.{given}
-use Rattle.fl_queues.specs.Events.{Answer, done, accepted, nothing, full, written, handle, part, ready, quiet, forwarded, opened, opening_refused, words, refused}
+use Rattle.fl_queues.specs.Events.{Answer, done, accepted, nothing, full, written, handle, part, ready, quiet}
+use Rattle.fl_queues.specs.Events.{forwarded, opened, opening_refused, words, refused}
 use Rattle.fl_lines.specs.Commands.{side_text}
 
 -- a byte as two lower-case hexadecimal digits

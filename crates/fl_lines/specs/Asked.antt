@@ -7,10 +7,14 @@ use Rattle.fl_value.specs.Value.{Datum}
 use Rattle.fl_value.specs.CallText.{SpellsCall}
 use Rattle.fl_value.specs.declared.value.PlanNo.{PlanNo}
 use Rattle.fl_queues.specs.Given.{given}
-use Rattle.fl_queues.specs.Events.{Kind, by_queues, by_ring, by_route, Event, add_interface, set_cores, add_link, add_dispatcher, monitor_write, monitor_acknowledge}
+use Rattle.fl_queues.specs.Events.{Kind, by_queues, by_ring, by_route, Event, add_interface, set_cores}
+use Rattle.fl_queues.specs.Events.{add_link, add_dispatcher, monitor_write, monitor_acknowledge}
 use Rattle.fl_queues.specs.Events as event
-use Rattle.fl_lines.specs.Commands.{EndName, BackEnd, local, ump, hop, Command, cores, link, disp, export, bind, call, show, write, turn, ack, register, deregister, reply, mwrite, forward, mack}
-use Rattle.fl_lines.specs.Names.{Names, place_of, dispatcher_at, end_at, message_at, with_interface, with_dispatcher, with_binding}
+use Rattle.fl_lines.specs.Commands.{EndName, BackEnd, local, ump, hop, Command, cores, link, disp, export}
+use Rattle.fl_lines.specs.Commands.{bind, call, show, write, turn, ack, register, deregister, reply, mwrite}
+use Rattle.fl_lines.specs.Commands.{forward, mack}
+use Rattle.fl_lines.specs.Names.{Names, place_of, dispatcher_at, end_at, message_at, with_interface}
+use Rattle.fl_lines.specs.Names.{with_dispatcher, with_binding}
 
 pub data Asked : Type 0 where
   -- refused with the fault's number
@@ -88,4 +92,6 @@ Asks n (mack core neighbour) asked = asked ≡ asks (monitor_acknowledge core ne
 
 -- a block whose text stands for an interface asks this
 abbrev pub asks_interface : Names → TheInterface → PlanNo → Asked
-asks_interface n i plan = asks (add_interface i plan) (with_interface n i)
+asks_interface n i plan =
+    if is_taken i.name n.interfaces then refuses 92
+    else asks (add_interface i plan) (with_interface n i)

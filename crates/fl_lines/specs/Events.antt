@@ -2,7 +2,10 @@
 use Rattle.std.specs.Prelude.{◌≡◌, ℕ, None, Result, Ok, Err, List, map}
 use Rattle.fl_check.specs.Interface.{interface_of}
 use Rattle.fl_value.specs.Value.{call_of}
-use Rattle.fl_queues.specs.Events.{DispatcherId, Event, add_interface, set_cores, add_link, add_dispatcher, monitor_write, monitor_acknowledge, Answer, done, accepted, nothing, full, written, handle, part, ready, quiet, forwarded, opened, opening_refused, words, refused}
+use Rattle.fl_queues.specs.Events.{DispatcherId, Event, add_interface, set_cores, add_link, add_dispatcher}
+use Rattle.fl_queues.specs.Events.{monitor_write, monitor_acknowledge, Answer, done, accepted, nothing, full}
+use Rattle.fl_queues.specs.Events.{written, handle, part, ready, quiet, forwarded, opened, opening_refused}
+use Rattle.fl_queues.specs.Events.{words, refused}
 use Rattle.fl_queues.specs.Events as machine
 use Rattle.fl_lines.specs.declared.answer.Answer.{Answer as RustAnswer}
 use Rattle.fl_lines.specs.declared.answer.Answer.TheVariants as answer

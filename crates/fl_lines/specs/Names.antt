@@ -1,7 +1,8 @@
 -- The names that a script has given, in order of making: a thing's place in its list is the place by which the machine
 -- knows it. Interfaces, dispatchers and bindings are named apart from each other. Services aren't here: the machine
 -- itself knows them by their names.
-use Rattle.std.specs.Prelude.{ℕ, ◌==◌, Bool, List, [], ◌∷◌, ◌++◌, map, position, slice_get, nat_lt, if◌then◌else◌, Option, Some, None}
+use Rattle.std.specs.Prelude.{ℕ, ◌==◌, Bool, List, [], ◌∷◌, ◌++◌, map, position, slice_get, nat_lt}
+use Rattle.std.specs.Prelude.{if◌then◌else◌, Option, Some, None}
 use Rattle.std.specs.List.{count_by}
 use Rattle.std.specs.Str.{bytes_eq}
 use Rattle.fl_base.specs.declared.identity.EndId.{EndId}
@@ -46,11 +47,15 @@ message_at n e name = given (place_of name (messages_at n e)) None λ k. if nat_
 
 -- ---- a new name
 
-abbrev pub with_interface : Names → TheInterface → Names
-with_interface n i = record n {
-  interfaces = n.interfaces ++ i.name ∷ [];
-  messages = n.messages ++ map (λ (m : TheMessage). m.name) i.messages ∷ [];
+-- an interface's name, and those of its messages
+abbrev pub with_names : Names → List ℕ → List (List ℕ) → Names
+with_names n name messages = record n {
+  interfaces = n.interfaces ++ name ∷ [];
+  messages = n.messages ++ messages ∷ [];
 }
+
+abbrev pub with_interface : Names → TheInterface → Names
+with_interface n i = with_names n i.name (map (λ (m : TheMessage). m.name) i.messages)
 
 abbrev pub is_on : ℕ → DispatcherId → Bool
 is_on core d = d.core == core

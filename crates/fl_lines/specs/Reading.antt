@@ -1,6 +1,7 @@
 -- How a line is read, row by row of the table: what the parts of the code tell. That this is what the grammar says
 -- is proved; a reader may skip it.
-use Rattle.std.specs.Prelude.{ℕ, ◌-◌, if◌then◌else◌, List, [], ◌∷◌, length, take, drop, Option, Some, None, option_map, unwrap_or, codes}
+use Rattle.std.specs.Prelude.{ℕ, ◌-◌, if◌then◌else◌, List, [], ◌∷◌, length, take, drop, Option, Some, None}
+use Rattle.std.specs.Prelude.{option_map, unwrap_or, codes}
 use Rattle.std.specs.Str.{bytes_eq}
 use Rattle.fl_base.specs.declared.identity.Side.TheVariants.{Client, Server}
 use Rattle.fl_lex.specs.Words.{is_name}
@@ -8,8 +9,11 @@ use Rattle.fl_value.specs.declared.value.PlanNo.TheVariants.{One, Two}
 use Rattle.fl_queues.specs.Given.{given}
 use Rattle.fl_lines.specs.declared.command.Verb.{Verb}
 use Rattle.fl_lines.specs.declared.command.Verb.TheVariants as verb
-use Rattle.fl_lines.specs.Words.{is_blank, without_blanks, first_word, behind_word, is_none, number_of, begins_comment}
-use Rattle.fl_lines.specs.Commands.{EndName, BackEnd, local, ump, hop, Command, cores, link, disp, export, bind, call, show, write, turn, ack, register, deregister, reply, mwrite, forward, mack}
+use Rattle.fl_lines.specs.Words.{is_blank, without_blanks, first_word, behind_word, is_none, number_of}
+use Rattle.fl_lines.specs.Words.{begins_comment}
+use Rattle.fl_lines.specs.Commands.{EndName, BackEnd, local, ump, hop, Command, cores, link, disp, export}
+use Rattle.fl_lines.specs.Commands.{bind, call, show, write, turn, ack, register, deregister, reply, mwrite}
+use Rattle.fl_lines.specs.Commands.{forward, mack}
 use Rattle.fl_lines.specs.Grammar.{Line, silent, heading, command, unread}
 
 -- ---- pieces

@@ -6,7 +6,9 @@ use Rattle.fl_lines.specs.declared.command.Command.{Command as RustCommand}
 use Rattle.fl_lines.specs.declared.command.Command.TheVariants as rust
 use Rattle.fl_lines.specs.declared.command.Line.{Line as RustLine}
 use Rattle.fl_lines.specs.declared.command.Line.TheVariants as line
-use Rattle.fl_lines.specs.Commands.{EndName, BackEnd, local, ump, hop, Command, cores, link, disp, export, bind, call, show, write, turn, ack, register, deregister, reply, mwrite, forward, mack}
+use Rattle.fl_lines.specs.Commands.{EndName, BackEnd, local, ump, hop, Command, cores, link, disp, export}
+use Rattle.fl_lines.specs.Commands.{bind, call, show, write, turn, ack, register, deregister, reply, mwrite}
+use Rattle.fl_lines.specs.Commands.{forward, mack}
 use Rattle.fl_lines.specs.Grammar.{Line, silent, heading, command, unread}
 use Rattle.fl_lines.specs.Reading.{numbers_in}
 

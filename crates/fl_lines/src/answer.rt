@@ -1,10 +1,12 @@
 //! Answers, and their texts.
 
-ghost use Rattle.std.specs.Prelude.{◌≡◌, ◌++◌, ◌<◌, OnOk, option_map, codes, false, slice_get, unwrap_or, [], map};
+ghost use Rattle.std.specs.Prelude.{◌≡◌, ◌++◌, ◌<◌, OnOk, option_map, codes, false, slice_get, unwrap_or, []};
+ghost use Rattle.std.specs.Prelude.{map};
 ghost use Rattle.std.specs.Fmt.{decimal, digit_glyph};
 ghost use Rattle.fl_check.specs.Interface.{interface_of};
 ghost use Rattle.fl_value.specs.Value.{call_of};
-ghost use Rattle.fl_lines.specs.Answers.{byte_hex, hex, frag_text, end_named, call_text_of, answer_text, fault_text};
+ghost use Rattle.fl_lines.specs.Answers.{byte_hex, hex, frag_text, end_named, call_text_of, answer_text};
+ghost use Rattle.fl_lines.specs.Answers.{fault_text};
 ghost use Rattle.fl_lines.specs.Events.{answer_of};
 ghost use Rattle.fl_lines.specs.Tables.{table_of};
 

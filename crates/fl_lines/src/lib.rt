@@ -32,7 +32,7 @@ pub use command::{BackEnd, Command, EndName, Line, Route};
 pub use event::{Asked, DispatcherId, Event, Naming};
 pub use fault::LineFault;
 pub use law::{one_asked, one_line, printed_reads, spelled_reads};
-pub use names::Names;
+pub use names::{InterfaceNames, Names, names_of_interface};
 pub use printing::print_command;
 pub use reader::parse_line;
 pub use table::NameTable;

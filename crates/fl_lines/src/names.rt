@@ -2,11 +2,17 @@
 
 ghost use Rattle.std.specs.Prelude.{◌≡◌, OnOk, OnErr, IfOk, None, option_map, map, unwrap_or, []};
 ghost use Rattle.std.specs.List.{count_by};
+ghost use Rattle.std.specs.Prelude.{true};
+ghost use Rattle.fl_check.specs.Checks.{are_distinct};
+ghost use Rattle.fl_check.specs.Interface.{interface_of};
 ghost use Rattle.fl_value.specs.Value.{datum_of};
 ghost use Rattle.fl_queues.specs.Events.{show, write, acknowledge, register, deregister};
 ghost use Rattle.fl_lines.specs.Commands.{call};
-ghost use Rattle.fl_lines.specs.Names.{with_dispatcher, with_binding, is_on, no_names, dispatcher_at, end_at, messages_at, message_at, place_of};
-ghost use Rattle.fl_lines.specs.Asked.{asks_disp, asks_export, asks_bind, asks_turn, asks_reply, asks_call, asks_end, asks, kind_of};
+ghost use Rattle.fl_lines.specs.Names.{with_names, with_dispatcher, with_binding, is_on, no_names};
+ghost use Rattle.fl_lines.specs.Names.{dispatcher_at, end_at};
+ghost use Rattle.fl_lines.specs.Names.{messages_at, message_at, place_of};
+ghost use Rattle.fl_lines.specs.Asked.{asks_disp, asks_export, asks_bind, asks_turn, asks_reply, asks_call};
+ghost use Rattle.fl_lines.specs.Asked.{asks_end, asks, kind_of};
 ghost use Rattle.fl_lines.specs.Events.{id_of, event_of};
 ghost use Rattle.fl_lines.specs.Tables.{table_of};
 ghost use Rattle.fl_lines.specs.Told.{names_of, named, IsNew, Tells, AsksAs};
@@ -17,6 +23,7 @@ use crate::event::{Asked, DispatcherId, Event, Naming};
 use crate::fault::LineFault;
 use crate::table::NameTable;
 use fl_base::{EndId, MsgNo};
+use fl_check::{Interface, Message};
 use fl_value::{Call, CallText, ValueFault, read_call_text};
 use std::alloc::{AllocError, Global};
 
@@ -33,6 +40,13 @@ pub struct Names {
     pub bindings: NameTable,
     /// Of each binding, its interface.
     pub spoken: Vec<usize>,
+}
+
+/// The names of an interface: its own, and those of its messages, by number.
+#[derive(Drop)]
+pub struct InterfaceNames {
+    pub name: Vec<u8>,
+    pub messages: NameTable,
 }
 
 impl Names {
@@ -154,7 +168,8 @@ impl Names {
         service: &'a [u8],
         back_end: BackEnd<'a>,
     ) -> Result<Asked<'a>, LineFault>
-        ensures tells { Tells (names_of self.now) result (asks_bind (names_of self.now) name.now client.now interface.now service.now (kind_of (back_end_of back_end.entry))) }
+        ensures tells { Tells (names_of self.now) result
+            (asks_bind (names_of self.now) name.now client.now interface.now service.now (kind_of (back_end_of back_end.entry))) }
         ensures new { IfOk result (λ a. IsNew (names_of self.now) a.naming) }
     {
         if self.bindings.find(name).is_some() {
@@ -219,7 +234,8 @@ impl Names {
     }
 
     fn ask_call(&self, end: EndName<'_>, text: CallText) -> Result<Asked<'static>, LineFault>
-        ensures tells { Tells (names_of self.now) result (asks_call (names_of self.now) (end_name_of end.entry) text.name.bytes.items (map datum_of text.args.items)) }
+        ensures tells { Tells (names_of self.now) result
+            (asks_call (names_of self.now) (end_name_of end.entry) text.name.bytes.items (map datum_of text.args.items)) }
         ensures new { IfOk result (λ a. IsNew (names_of self.now) a.naming) }
     {
         let Some(end) = self.end(end) else {
@@ -362,6 +378,24 @@ impl Names {
         }
     }
 
+    /// Records an interface's names, once the event that adds it was answered `ok`.
+    ///
+    /// # Errors
+    /// Want of memory; the names are as they were.
+    pub fn take_up_interface(&mut self, interface: InterfaceNames) -> Result<(), AllocError>
+        requires { place_of interface.name.items (table_of self.old.interfaces) ≡ None }
+        ensures taken { OnOk result (names_of self.new
+            ≡ with_names (names_of self.old) interface.name.items (table_of interface.messages)) }
+        ensures kept { OnErr result (names_of self.new ≡ names_of self.old) }
+    {
+        self.messages.push(interface.messages)?;
+        if let Err(error) = self.interfaces.add(self.alloc, &interface.name) {
+            self.messages.pop();
+            return Err(error);
+        }
+        Ok(())
+    }
+
     fn add_dispatcher(&mut self, name: &[u8], core: u32) -> Result<(), AllocError>
         requires { place_of name.now (table_of self.old.dispatchers) ≡ None }
         ensures added { OnOk result (names_of self.new ≡ with_dispatcher (names_of self.old) name.now core) }
@@ -404,6 +438,29 @@ impl Names {
             Naming::Binding { name, interface } => self.add_binding(name, interface),
         }
     }
+}
+
+// The names of these messages, in order.
+fn table_of_messages(alloc: Global, messages: &[Message]) -> Result<NameTable, AllocError>
+    requires { are_distinct (map (λ m. m.name.bytes.items) messages.now) ≡ true }
+    ensures names { IfOk result (λ t. table_of t ≡ map (λ m. m.name.bytes.items) messages.now) }
+{
+    let mut table = NameTable::new(alloc);
+    for message in messages {
+        table.add(alloc, &message.name.bytes)?;
+    }
+    Ok(table)
+}
+
+/// The names of an interface, taken before the event that adds it takes the interface itself.
+pub fn names_of_interface(alloc: Global, interface: &Interface) -> Result<InterfaceNames, AllocError>
+    ensures name { IfOk result (λ n. n.name.items ≡ (interface_of interface.now).name) }
+    ensures messages { IfOk result (λ n. table_of n.messages ≡ map (λ m. m.name) (interface_of interface.now).messages) }
+{
+    Ok(InterfaceNames {
+        name: Vec::from_slice(alloc, &interface.name.bytes)?,
+        messages: table_of_messages(alloc, &interface.messages)?,
+    })
 }
 
 // How many of these dispatchers are on a core.

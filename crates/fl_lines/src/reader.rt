@@ -6,7 +6,10 @@ ghost use Rattle.fl_queues.specs.Given.{given};
 ghost use Rattle.fl_lines.specs.Commands.{local, ump, mwrite, forward, mack};
 ghost use Rattle.fl_lines.specs.Grammar.{LineIs};
 ghost use Rattle.fl_lines.specs.Words.{is_none, first_word};
-ghost use Rattle.fl_lines.specs.Reading.{end_of, words_of, numbers_of, one_number, two_numbers, one_end, with_cores, link_row, disp_row, export_row, route_row, back_end_row, bind_row, call_row, turn_row, reply_row, verb_of, command_by, heading_by, line_by, read_line};
+ghost use Rattle.fl_lines.specs.Reading.{end_of, words_of, numbers_of, one_number, two_numbers, one_end};
+ghost use Rattle.fl_lines.specs.Reading.{with_cores, link_row, disp_row, export_row, route_row, back_end_row};
+ghost use Rattle.fl_lines.specs.Reading.{bind_row, call_row, turn_row, reply_row, verb_of, command_by};
+ghost use Rattle.fl_lines.specs.Reading.{heading_by, line_by, read_line};
 ghost use Rattle.fl_lines.specs.Views.{end_name_of, back_end_of, command_of, line_of};
 
 use crate::command::{BackEnd, Command, EndName, Line, Route, Verb};
