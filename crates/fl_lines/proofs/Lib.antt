@@ -5,3 +5,4 @@ mod GrammarLemmas
 mod PrintLemmas
 mod TableLemmas
 mod AskedLemmas
+mod ItemLemmas

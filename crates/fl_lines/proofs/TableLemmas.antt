@@ -125,6 +125,7 @@ next_is_new name messages k m word taken h at w t =
     length_named : {M : Type 0} (name : M → List ℕ) (messages : List M) → length (map name messages) ≡ length messages
     length_named name [] = refl
     length_named name (m ∷ messages) = ap suc (length_named name messages)
+
     taken_named : {M : Type 0} (name : M → List ℕ) (messages : List M) (k : ℕ) → map name (take k messages) ≡ take k (map name messages)
     taken_named name messages zero = refl
     taken_named name [] (suc k) = refl

@@ -1,6 +1,7 @@
 pub mod Words
 pub mod Commands
 pub mod Grammar
+pub mod Items
 pub mod Reading
 pub mod Views
 pub mod Names

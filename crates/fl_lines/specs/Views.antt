@@ -10,7 +10,10 @@ use Rattle.fl_lines.specs.Commands.{EndName, BackEnd, local, ump, hop, Command, 
 use Rattle.fl_lines.specs.Commands.{bind, call, show, write, turn, ack, register, deregister, reply, mwrite}
 use Rattle.fl_lines.specs.Commands.{forward, mack}
 use Rattle.fl_lines.specs.Grammar.{Line, silent, heading, command, unread}
+use Rattle.fl_lines.specs.Items.{Item, a_line, a_block, open_block}
 use Rattle.fl_lines.specs.Reading.{numbers_in}
+use Rattle.fl_lines.specs.declared.item.Item.{Item as RustItem}
+use Rattle.fl_lines.specs.declared.item.Item.TheVariants as item
 
 abbrev pub end_name_of : RustEndName → EndName
 end_name_of e = record { binding = e.binding.now; side = e.side }
@@ -44,3 +47,8 @@ line_of line.Silent = silent
 line_of (line.Heading plan) = heading plan
 line_of (line.Command c) = command (command_of c)
 line_of line.Unread = unread
+
+abbrev pub item_of : RustItem → Item
+item_of (item.Line l) = a_line (line_of l)
+item_of (item.Block plan text) = a_block plan text.now
+item_of item.OpenBlock = open_block

@@ -1,6 +1,7 @@
 //! Laws of script lines.
 
 ghost use Rattle.fl_lines.specs.Grammar.{OneLine, PrintedReads, SpelledReads};
+ghost use Rattle.fl_lines.specs.Items.{OneItems};
 ghost use Rattle.fl_lines.specs.Told.{OneAsked};
 
 use fl_value::one_reading;
@@ -26,3 +27,8 @@ pub fn one_asked()
 {
     one_reading();
 }
+
+/// A script has one list of items.
+pub fn one_items()
+    ensures one { OneItems }
+{}

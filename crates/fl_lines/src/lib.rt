@@ -8,6 +8,7 @@
 //! - `word.rt`: a line's words, and the numbers that words write
 //! - `command.rt`: commands, and what a line is
 //! - `reader.rt`: lines read, row by row of the table
+//! - `item.rt`: a script's lines, and its items: lines and blocks
 //! - `printing.rt`: commands as text
 //! - `answer.rt`: answers, and their texts
 //! - `table.rt`: lists of names that are asked by a map
@@ -20,6 +21,7 @@ mod answer;
 mod command;
 mod event;
 mod fault;
+mod item;
 mod law;
 mod names;
 mod printing;
@@ -31,7 +33,8 @@ pub use answer::{Answer, print_answer, print_fault};
 pub use command::{BackEnd, Command, EndName, Line, Route};
 pub use event::{Asked, DispatcherId, Event, Naming};
 pub use fault::LineFault;
-pub use law::{one_asked, one_line, printed_reads, spelled_reads};
+pub use item::{Item, next_item};
+pub use law::{one_asked, one_items, one_line, printed_reads, spelled_reads};
 pub use names::{InterfaceNames, Names, names_of_interface};
 pub use printing::print_command;
 pub use reader::parse_line;

@@ -453,7 +453,10 @@ fn table_of_messages(alloc: Global, messages: &[Message]) -> Result<NameTable, A
 }
 
 /// The names of an interface, taken before the event that adds it takes the interface itself.
-pub fn names_of_interface(alloc: Global, interface: &Interface) -> Result<InterfaceNames, AllocError>
+pub fn names_of_interface(
+    alloc: Global,
+    interface: &Interface,
+) -> Result<InterfaceNames, AllocError>
     ensures name { IfOk result (λ n. n.name.items ≡ (interface_of interface.now).name) }
     ensures messages { IfOk result (λ n. table_of n.messages ≡ map (λ m. m.name) (interface_of interface.now).messages) }
 {
