@@ -3,6 +3,7 @@
 //!
 //! - `grammar_tests.rt`: what lines spell, and which are not read
 //! - `asking_tests.rt`: what commands ask by the names so far, and in which order they are refused
+//! - `item_tests.rt`: a script's lines and blocks
 //! - `answer_tests.rt`: answers' texts
 #![tactic(auto)]
 
@@ -12,3 +13,5 @@ mod answer_tests;
 mod asking_tests;
 #[cfg(test)]
 mod grammar_tests;
+#[cfg(test)]
+mod item_tests;
