@@ -1,10 +1,9 @@
 -- A command asks one thing.
-use Rattle.std.proofs.Common.{◌≡◌, ◌⊎◌, inl, inr, ℕ, List, refl, sym, ap, ◌∙◌}
-use Rattle.fl_value.specs.Value.{Datum}
-use Rattle.fl_value.specs.CallText.{SpellsCall, OneSpelling}
-use Rattle.fl_lines.specs.Commands.{EndName, Command, cores, link, disp, export, bind, call, show, write, turn, ack, register, deregister, reply, mwrite, forward, mack}
+use Rattle.std.proofs.Common.{◌≡◌, inl, inr, ℕ, List, sym, ap, ◌∙◌}
+use Rattle.fl_value.specs.CallText.{OneSpelling}
+use Rattle.fl_lines.specs.Commands.{EndName, cores, link, disp, export, bind, call, show, write, turn, ack, register, deregister, reply, mwrite, forward, mack}
 use Rattle.fl_lines.specs.Names.{Names}
-use Rattle.fl_lines.specs.Asked.{Asked, Asks, CallAsks, asks_call}
+use Rattle.fl_lines.specs.Asked.{Asked, CallAsks, asks_call}
 use Rattle.fl_lines.specs.Told.{OneAsked}
 
 both : (x y z : Asked) → x ≡ z → y ≡ z → x ≡ y

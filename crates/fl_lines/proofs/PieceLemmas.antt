@@ -1,5 +1,5 @@
 -- Pieces of lines: what is read stands there, and what stands there is read.
-use Rattle.std.proofs.Common.{◌≡◌, ◌⊎◌, inl, inr, ◌<◌, ◌≤◌, ℕ, ◌+◌, ◌-◌, ◌==◌, Bool, true, false, cond, if◌then◌else◌, List, [], ◌∷◌, ◌++◌, length, take, drop, map, Option, Some, None, option_map, is_some, refl, sym, ap, subst, ◌∙◌, arith, length-append, append-nil, append_assoc, suc, zero}
+use Rattle.std.proofs.Common.{◌≡◌, ◌⊎◌, inl, inr, ◌<◌, ℕ, ◌-◌, Bool, true, false, if◌then◌else◌, List, [], ◌∷◌, ◌++◌, length, take, drop, map, Option, Some, None, option_map, is_some, refl, sym, ap, subst, ◌∙◌, arith, length-append, append-nil, append_assoc}
 use Rattle.std.specs.Prelude.{codes, unwrap_or}
 use Rattle.std.specs.Str.{bytes_eq}
 use Rattle.std.proofs.Math.Seq.{take-append_seam, drop-append_seam}
@@ -11,7 +11,7 @@ use Rattle.fl_base.specs.declared.identity.Side.TheVariants.{Client, Server}
 use Rattle.fl_lex.specs.Words.{is_name}
 use Rattle.fl_queues.specs.Given.{given}
 use Rattle.fl_lines.specs.Words.{first_word, behind_word, is_none, number_of}
-use Rattle.fl_lines.specs.Commands.{EndName, Piece, a_name, a_number, an_end, side_text, end_text}
+use Rattle.fl_lines.specs.Commands.{EndName, a_number, an_end, side_text, end_text}
 use Rattle.fl_lines.specs.Grammar.{Holds}
 use Rattle.fl_lines.specs.Reading.{name_before_end, end_of, name_then, at_last, one_number, two_numbers, one_end, words_of, numbers_of, numbers_in}
 use Rattle.fl_lines.proofs.WordLemmas.{words_step, no_words, behind_shorter}

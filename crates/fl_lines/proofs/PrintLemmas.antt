@@ -1,7 +1,7 @@
 -- What is printed reads as what was printed.
-use Rattle.std.proofs.Common.{◌≡◌, ◌<◌, ◌≤◌, ℕ, ◌+◌, ◌-◌, ◌*◌, ◌^◌, ◌==◌, ◌&&◌, ◌||◌, Bool, true, false, cond, not, if◌then◌else◌, List, [], ◌∷◌, ◌++◌, length, map, Option, Some, None, refl, sym, ap, subst, ◌∙◌, arith, append-nil, append_assoc}
-use Rattle.std.specs.Prelude.{codes, nat_le}
-use Rattle.std.specs.List.{list_all, flat_map}
+use Rattle.std.proofs.Common.{◌≡◌, ◌<◌, ◌≤◌, ℕ, ◌^◌, ◌&&◌, Bool, true, false, not, if◌then◌else◌, List, [], ◌∷◌, ◌++◌, length, map, Some, None, refl, sym, ap, subst, ◌∙◌, arith, append-nil}
+use Rattle.std.specs.Prelude.{nat_le}
+use Rattle.std.specs.List.{list_all}
 use Rattle.std.specs.Char.{digit_value}
 use Rattle.std.specs.Cmp.{first_so, second_so}
 use Rattle.std.specs.Fmt.{decimal}
@@ -15,7 +15,7 @@ use Rattle.fl_base.specs.declared.identity.Side.TheVariants.{Client, Server}
 use Rattle.fl_lex.specs.Words.{is_name, is_word, is_word_byte, is_letter, is_digit}
 use Rattle.fl_lines.specs.Words.{is_blank, without_blanks, to_blank, from_blank, first_word, behind_word, number_of}
 use Rattle.fl_lines.specs.Commands.{EndName, BackEnd, local, ump, hop, Command, cores, link, disp, export, bind, call, show, write, turn, ack, register, deregister, reply, mwrite, forward, mack, Piece, the_word, a_name, a_number, an_end, a_text, row_of, back_end_row, side_text, end_text}
-use Rattle.fl_lines.specs.Grammar.{Holds, Spells, printed_piece, printed_more, printed_row, printed_command, CanStand, PrintedReads, SpelledReads}
+use Rattle.fl_lines.specs.Grammar.{Holds, printed_more, printed_row, CanStand, PrintedReads, SpelledReads}
 
 -- ---- words without blanks
 

@@ -9,7 +9,6 @@ use Rattle.fl_base.specs.declared.identity.EndId.{EndId}
 use Rattle.fl_check.specs.Interface.{TheInterface, TheMessage}
 use Rattle.fl_value.specs.Value.{TheCall}
 use Rattle.fl_value.specs.Printed.{printed_call}
-use Rattle.fl_queues.specs.Given.{given}
 use Rattle.fl_queues.specs.Events.{Answer, done, accepted, nothing, full, written, handle, part, ready, quiet}
 use Rattle.fl_queues.specs.Events.{forwarded, opened, opening_refused, words, refused}
 use Rattle.fl_lines.specs.Commands.{side_text}

@@ -1,5 +1,4 @@
 -- Events and answers of the code, as the machine has them.
-use Rattle.std.specs.Prelude.{◌≡◌, ℕ, None, Result, Ok, Err, List, map}
 use Rattle.fl_check.specs.Interface.{interface_of}
 use Rattle.fl_value.specs.Value.{call_of}
 use Rattle.fl_queues.specs.Events.{DispatcherId, Event, add_interface, set_cores, add_link, add_dispatcher}

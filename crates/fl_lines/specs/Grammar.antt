@@ -1,11 +1,11 @@
 -- Which line spells which command.
-use Rattle.std.specs.Prelude.{◌≡◌, ◌<◌, ◌^◌, ℕ, Bool, true, false, List, [], ◌∷◌, ◌++◌, Some}
+use Rattle.std.specs.Prelude.{◌≡◌, ◌<◌, ◌^◌, ℕ, true, false, List, [], ◌∷◌, ◌++◌, Some}
 use Rattle.std.specs.List.{flat_map}
 use Rattle.std.specs.Fmt.{decimal}
 use Rattle.fl_lex.specs.Words.{is_name}
 use Rattle.fl_value.specs.declared.value.PlanNo.{PlanNo}
 use Rattle.fl_lines.specs.Words.{without_blanks, first_word, behind_word, number_of, is_silent}
-use Rattle.fl_lines.specs.Commands.{EndName, Command, Piece, the_word, a_name, a_number, an_end, a_text}
+use Rattle.fl_lines.specs.Commands.{Command, Piece, the_word, a_name, a_number, an_end, a_text}
 use Rattle.fl_lines.specs.Commands.{row_of, heading_row, end_text}
 
 -- the line is these pieces, one after another, and nothing more but blanks

@@ -1,5 +1,5 @@
 -- The names that the code keeps, and what it tells of a command.
-use Rattle.std.specs.Prelude.{◌≡◌, ◌⊎◌, ℕ, None, Result, Ok, Err, map}
+use Rattle.std.specs.Prelude.{◌≡◌, ◌⊎◌, None, Result, Ok, Err, map}
 use Rattle.fl_lines.specs.declared.event.Asked.{Asked as RustAsked}
 use Rattle.fl_lines.specs.declared.event.Naming.{Naming}
 use Rattle.fl_lines.specs.declared.event.Naming.TheVariants.{Nothing, Dispatcher, Binding}
