@@ -1,7 +1,9 @@
 -- The names that the code keeps, and what it tells of a command.
 use Rattle.std.specs.Prelude.{◌≡◌, ◌⊎◌, None, Result, Ok, Err, map}
 use Rattle.fl_lines.specs.declared.event.Asked.{Asked as RustAsked}
+use Rattle.fl_lines.specs.declared.event.Event.{Event as RustEvent}
 use Rattle.fl_lines.specs.declared.event.Naming.{Naming}
+use Rattle.fl_lines.specs.declared.names.InterfaceNames.{InterfaceNames}
 use Rattle.fl_lines.specs.declared.event.Naming.TheVariants.{Nothing, Dispatcher, Binding}
 use Rattle.fl_lines.specs.declared.fault.LineFault.{LineFault}
 use Rattle.fl_lines.specs.declared.fault.LineFault.TheVariants.{NotACall, Name, NoSuchMessage, Memory}
@@ -9,7 +11,7 @@ use Rattle.fl_lines.specs.declared.names.Names.{Names as RustNames}
 use Rattle.fl_lines.specs.Asked.{Asked, refuses, asks, Asks}
 use Rattle.fl_lines.specs.Commands.{Command}
 use Rattle.fl_lines.specs.Events.{id_of, event_of}
-use Rattle.fl_lines.specs.Names.{Names, place_of, with_dispatcher, with_binding}
+use Rattle.fl_lines.specs.Names.{Names, place_of, with_names, with_dispatcher, with_binding}
 use Rattle.fl_lines.specs.Tables.{table_of}
 
 abbrev pub names_of : RustNames → Names
@@ -41,6 +43,14 @@ Tells n (Err NotACall) asked = refuses 90 ≡ asked
 Tells n (Err Name) asked = refuses 92 ≡ asked
 Tells n (Err NoSuchMessage) asked = refuses 41 ≡ asked
 Tells n (Err Memory) asked = Unit {0}
+
+-- the same of a block's interface, whose names stand beside the event
+abbrev pub TellsInterface : Names → Result (RustEvent × InterfaceNames) LineFault → Asked → Type 0
+TellsInterface n (Ok (event, new)) asked = asks (event_of event) (with_names n new.name.items (table_of new.messages)) ≡ asked
+TellsInterface n (Err NotACall) asked = refuses 90 ≡ asked
+TellsInterface n (Err Name) asked = refuses 92 ≡ asked
+TellsInterface n (Err NoSuchMessage) asked = refuses 41 ≡ asked
+TellsInterface n (Err Memory) asked = Unit {0}
 
 -- memory ran out, or the command asks something, and what a function returned tells it
 abbrev pub AsksAs : Names → Command → Result RustAsked LineFault → Type 0

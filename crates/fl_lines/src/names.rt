@@ -12,10 +12,11 @@ ghost use Rattle.fl_lines.specs.Names.{with_names, with_dispatcher, with_binding
 ghost use Rattle.fl_lines.specs.Names.{dispatcher_at, end_at};
 ghost use Rattle.fl_lines.specs.Names.{messages_at, message_at, place_of};
 ghost use Rattle.fl_lines.specs.Asked.{asks_disp, asks_export, asks_bind, asks_turn, asks_reply, asks_call};
+ghost use Rattle.fl_lines.specs.Asked.{asks_interface};
 ghost use Rattle.fl_lines.specs.Asked.{asks_end, asks, kind_of};
 ghost use Rattle.fl_lines.specs.Events.{id_of, event_of};
 ghost use Rattle.fl_lines.specs.Tables.{table_of};
-ghost use Rattle.fl_lines.specs.Told.{names_of, named, IsNew, Tells, AsksAs};
+ghost use Rattle.fl_lines.specs.Told.{names_of, named, IsNew, Tells, AsksAs, TellsInterface};
 ghost use Rattle.fl_lines.specs.Views.{end_name_of, back_end_of, command_of};
 
 use crate::command::{BackEnd, Command, EndName};
@@ -24,7 +25,7 @@ use crate::fault::LineFault;
 use crate::table::NameTable;
 use fl_base::{EndId, MsgNo};
 use fl_check::{Interface, Message};
-use fl_value::{Call, CallText, ValueFault, read_call_text};
+use fl_value::{Call, CallText, PlanNo, ValueFault, read_call_text};
 use std::alloc::{AllocError, Global};
 
 /// All names that a script has given. A thing's place in its list is the place by which the machine knows it.
@@ -375,6 +376,28 @@ impl Names {
             Command::MonitorAck { core, neighbour } => {
                 self.asked(Event::MonitorAcknowledge { core, neighbour })
             }
+        }
+    }
+
+    /// What a block asks whose text stands for an interface: the event, and the names that are given where it is
+    /// answered `ok`.
+    ///
+    /// # Errors
+    /// The interface's name is taken (E92). Want of memory (E99).
+    pub fn ask_interface(
+        &self,
+        interface: Interface,
+        plan: PlanNo,
+    ) -> Result<(Event<'static>, InterfaceNames), LineFault>
+        ensures asks { TellsInterface (names_of self.now) result (asks_interface (names_of self.now) (interface_of interface) plan) }
+        ensures new { IfOk result (λ p. place_of p.1.name.items (table_of self.now.interfaces) ≡ None) }
+    {
+        if self.interfaces.find(&interface.name.bytes).is_some() {
+            return Err(LineFault::Name);
+        }
+        match names_of_interface(self.alloc, &interface) {
+            Err(_) => Err(LineFault::Memory),
+            Ok(names) => Ok((Event::AddInterface { interface, plan }, names)),
         }
     }
 

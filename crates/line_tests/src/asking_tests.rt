@@ -7,6 +7,7 @@ use fl_lines::{
     BackEnd, DispatcherId, Event, Line, LineFault, Names, names_of_interface, one_asked, parse_line,
 };
 use fl_parse::parse;
+use fl_value::PlanNo;
 use std::alloc::{AllocError, Global};
 use std::test::Fail;
 
@@ -206,6 +207,26 @@ fn commands_ask_by_names(rt: HostRuntime) -> Result<(), Fail> {
         assert_eq!(rt; (line, got.as_slice()), (line, words));
     }
     one_asked();
+    Ok(())
+}
+
+// The number of the fault of an interface's block.
+fn fault_of(names: &Names, interface: Interface) -> Option<u8> {
+    match names.ask_interface(interface, PlanNo::Two) {
+        Ok(_) => None,
+        Err(fault) => Some(fault.number()),
+    }
+}
+
+#[test]
+fn an_interface_is_named_once(rt: HostRuntime) -> Result<(), Fail> {
+    let none = Names::new(rt.alloc());
+    assert_eq!(rt; fault_of(&none, interface(rt.alloc(), TEXT)?), None);
+    let one = interface(rt.alloc(), TEXT)?;
+    let names = names_with(rt.alloc(), &one)?;
+    assert_eq!(rt; fault_of(&names, one), Some(92));
+    let other = interface(rt.alloc(), b"interface ii { }")?;
+    assert_eq!(rt; fault_of(&names, other), None);
     Ok(())
 }
 
