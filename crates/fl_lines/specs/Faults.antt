@@ -1,0 +1,10 @@
+-- The numbers of faults.
+use Rattle.std.specs.Prelude.{ℕ}
+use Rattle.fl_lines.specs.declared.fault.LineFault.{LineFault}
+use Rattle.fl_lines.specs.declared.fault.LineFault.TheVariants.{NotACall, Name, NoSuchMessage, Memory}
+
+abbrev pub number_of : LineFault → ℕ
+number_of NotACall = 90
+number_of Name = 92
+number_of NoSuchMessage = 41
+number_of Memory = 99

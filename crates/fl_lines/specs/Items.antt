@@ -1,0 +1,77 @@
+-- A script's lines, and its items: lines outside blocks, and blocks that hold an interface's text.
+use Rattle.std.specs.Prelude.{◌≡◌, ℕ, ◌-◌, ◌==◌, ◌&&◌, nat_lt, Bool, if◌then◌else◌, List, []}
+use Rattle.std.specs.Prelude.{◌∷◌}
+use Rattle.std.specs.Prelude.{◌++◌, length, slice_index, take, codes}
+use Rattle.std.specs.Bool.{MatchBool}
+use Rattle.std.specs.Str.{bytes_eq}
+use Rattle.fl_value.specs.declared.value.PlanNo.{PlanNo}
+use Rattle.fl_lines.specs.Grammar.{Line, silent, heading, command, unread, LineIs}
+
+-- ---- lines
+
+-- A line ends with its line feed; the last may lack it.
+abbrev pub put_first : ℕ → List (List ℕ) → List (List ℕ)
+put_first b [] = (b ∷ []) ∷ []
+put_first b (line ∷ lines) = if b == 10 then (b ∷ []) ∷ line ∷ lines else (b ∷ line) ∷ lines
+
+-- the lines of a text, each with its line end
+abbrev pub lines_of : List ℕ → List (List ℕ)
+lines_of [] = []
+lines_of (b ∷ bytes) = put_first b (lines_of bytes)
+
+-- a line without its line feed, and without one carriage return directly before that
+abbrev pub without_end : List ℕ → List ℕ
+without_end line =
+    let n = length line in
+    if nat_lt 0 n && (slice_index line (n - 1) == 10)
+    then (if nat_lt 1 n && (slice_index line (n - 2) == 13) then take (n - 2) line else take (n - 1) line)
+    else line
+
+-- ---- items
+
+pub data Item : Type 0 where
+  -- a line outside blocks, which isn't the head of one
+  a_line : Line → Item
+  -- a block: its plan, and its text with all line ends
+  a_block : PlanNo → List ℕ → Item
+  -- a block that the script's end leaves open
+  open_block : Item
+
+-- a block ends with a line that is `.` and nothing else
+abbrev pub ends_block : List ℕ → Bool
+ends_block line = bytes_eq (without_end line) (codes ".")
+
+-- outside of blocks, or within one: its plan, and its text so far
+pub data Mode : Type 0 where
+  outside : Mode
+  inside : PlanNo → List ℕ → Mode
+
+-- behind a line that was read outside of blocks, where this is what further lines are
+abbrev pub Behind : Line → (Mode → List Item → Type 0) → List Item → Type 0
+Behind (heading plan) further items = further (inside plan []) items
+Behind silent further items = (rest : List Item) × further outside rest × (items ≡ a_line silent ∷ rest)
+Behind (command c) further items = (rest : List Item) × further outside rest × (items ≡ a_line (command c) ∷ rest)
+Behind unread further items = (rest : List Item) × further outside rest × (items ≡ a_line unread ∷ rest)
+
+-- these lines are these items
+abbrev pub Items : List (List ℕ) → Mode → List Item → Type 0
+Items [] outside items = items ≡ []
+Items [] (inside plan text) items = items ≡ open_block ∷ []
+Items (line ∷ lines) outside items = (l : Line) × LineIs (without_end line) l × Behind l (Items lines) items
+Items (line ∷ lines) (inside plan text) items = MatchBool (ends_block line)
+    ((rest : List Item) × Items lines outside rest × (items ≡ a_block plan text ∷ rest))
+    (Items lines (inside plan (text ++ line)) items)
+
+-- the items of a script
+abbrev pub ItemsOf : List ℕ → List Item → Type 0
+ItemsOf bytes items = Items (lines_of bytes) outside items
+
+-- the items of a block's lines, its head left out
+abbrev pub BlockOf : PlanNo → List ℕ → List ℕ → List Item → Type 0
+BlockOf plan text bytes items = Items (lines_of bytes) (inside plan text) items
+
+-- ---- the law
+
+-- a script has one list of items
+abbrev pub OneItems : Type 0
+OneItems = (bytes : List ℕ) (xs ys : List Item) → ItemsOf bytes xs → ItemsOf bytes ys → xs ≡ ys

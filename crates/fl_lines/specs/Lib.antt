@@ -1,0 +1,13 @@
+pub mod Words
+pub mod Commands
+pub mod Grammar
+pub mod Items
+pub mod Reading
+pub mod Views
+pub mod Names
+pub mod Asked
+pub mod Answers
+pub mod Tables
+pub mod Events
+pub mod Faults
+pub mod Told

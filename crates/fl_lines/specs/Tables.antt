@@ -1,0 +1,6 @@
+-- A table's names, in order.
+use Rattle.std.specs.Prelude.{ℕ, List, map}
+use Rattle.fl_lines.specs.declared.table.NameTable.{NameTable}
+
+abbrev pub table_of : NameTable → List (List ℕ)
+table_of table = map (λ name. name.items) table.set.keys

@@ -1,0 +1,49 @@
+-- The words of a line, parted by spaces and tabs, and the numbers that words write.
+use Rattle.std.specs.Prelude.{ℕ, ◌==◌, ◌||◌, ◌&&◌, nat_le, Bool, true, if◌then◌else◌, List, [], ◌∷◌, length}
+use Rattle.std.specs.Prelude.{Option, Some, None}
+use Rattle.std.specs.List.{list_all}
+use Rattle.std.specs.Str.Parse.{digits_value}
+use Rattle.fl_lex.specs.Words.{is_digit}
+
+-- a space or a tab
+abbrev pub is_blank : ℕ → Bool
+is_blank b = (b == 32) || (b == 9)
+
+-- the bytes from the first on that isn't a blank
+abbrev pub without_blanks : List ℕ → List ℕ
+without_blanks [] = []
+without_blanks (b ∷ bytes) = if is_blank b then without_blanks bytes else b ∷ bytes
+
+-- the bytes up to the first blank
+abbrev pub to_blank : List ℕ → List ℕ
+to_blank [] = []
+to_blank (b ∷ bytes) = if is_blank b then [] else b ∷ to_blank bytes
+
+-- the bytes from the first blank on
+abbrev pub from_blank : List ℕ → List ℕ
+from_blank [] = []
+from_blank (b ∷ bytes) = if is_blank b then b ∷ bytes else from_blank bytes
+
+-- the first word of a line, empty where there is none, and what stands behind it
+abbrev pub first_word : List ℕ → List ℕ
+first_word line = to_blank (without_blanks line)
+
+abbrev pub behind_word : List ℕ → List ℕ
+behind_word line = from_blank (without_blanks line)
+
+-- nothing stands there
+abbrev pub is_none : List ℕ → Bool
+is_none word = length word == 0
+
+-- the number that a word of 1 to 9 digits writes
+abbrev pub number_of : List ℕ → Option ℕ
+number_of word =
+    if nat_le 1 (length word) && nat_le (length word) 9 && list_all is_digit word then Some (digits_value 10 word) else None
+
+-- a line without a word, or whose first word begins with `#`, has no answer
+abbrev pub begins_comment : List ℕ → Bool
+begins_comment [] = true
+begins_comment (b ∷ bytes) = b == 35
+
+abbrev pub is_silent : List ℕ → Bool
+is_silent line = begins_comment (first_word line)

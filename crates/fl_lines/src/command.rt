@@ -1,0 +1,153 @@
+//! Commands, and what a line is.
+
+ghost use Rattle.std.specs.Prelude.{◌≡◌, true, is_some};
+ghost use Rattle.fl_lines.specs.Reading.{words_of, numbers_of};
+
+use crate::word::{next_word, number};
+use fl_base::Side;
+use fl_value::PlanNo;
+use std::alloc::{AllocError, Global};
+
+/// An end as a script names it: a binding's name, and `.c` for the client's end or `.s` for the service's.
+#[derive(Clone, Copy, Debug)]
+pub struct EndName<'a> {
+    pub binding: &'a [u8],
+    pub side: Side,
+}
+
+/// The cores of a circuit's route, as a line has them: the first, and the text of the others, which are numbers.
+#[derive(Clone, Copy, Debug)]
+pub struct Route<'a> {
+    pub first: u32,
+    pub others: &'a [u8],
+    pub ghost numbers: { is_some (numbers_of (words_of others.now)) ≡ true },
+}
+
+impl Route<'_> {
+    ghost use Rattle.std.specs.Prelude.{IfOk, ◌∷◌};
+    ghost use Rattle.fl_lines.specs.Reading.{numbers_in};
+
+    /// All cores of the route, in order.
+    pub fn cores(&self, alloc: Global) -> Result<Vec<u32>, AllocError>
+        ensures cores { IfOk result (λ v. v.items ≡ self.now.first ∷ numbers_in self.now.others.now) }
+    {
+        let mut cores = Vec::new(alloc);
+        cores.push(self.first)?;
+        let mut rest = self.others;
+        loop {
+            let (word, behind) = next_word(rest);
+            let Some(core) = number(word) else {
+                return Ok(cores);
+            };
+            cores.push(core)?;
+            rest = behind;
+        }
+    }
+}
+
+/// How a binding's two ends are to be joined.
+#[derive(Clone, Copy, Debug)]
+pub enum BackEnd<'a> {
+    /// By queues of so many slots, on one core.
+    Local(u32),
+    /// By a ring of so many slots each way, on two cores.
+    Ump(u32),
+    /// By a circuit over these cores.
+    Hop(Route<'a>),
+}
+
+/// What a line asks for. Names are lent by the line.
+#[derive(Clone, Copy, Debug)]
+pub enum Command<'a> {
+    /// The number of cores.
+    Cores(u32),
+    /// A link between two cores, a ring of so many slots each way.
+    Link {
+        a: u32,
+        b: u32,
+        slots: u32,
+    },
+    /// A dispatcher on a core.
+    Disp {
+        name: &'a [u8],
+        core: u32,
+    },
+    /// A service of a dispatcher, under an interface.
+    Export {
+        name: &'a [u8],
+        dispatcher: &'a [u8],
+        interface: &'a [u8],
+    },
+    /// A binding of a client's dispatcher to a service, under an interface.
+    Bind {
+        name: &'a [u8],
+        client: &'a [u8],
+        interface: &'a [u8],
+        service: &'a [u8],
+        back_end: BackEnd<'a>,
+    },
+    /// An end makes a call, told by its text, which no one has read yet.
+    Call(EndName<'a>, &'a [u8]),
+    Show(EndName<'a>),
+    Write(EndName<'a>),
+    Turn(&'a [u8]),
+    Ack(EndName<'a>),
+    Register(EndName<'a>),
+    Deregister(EndName<'a>),
+    /// Where the end handles the first message, it makes the call of the second.
+    Reply {
+        end: EndName<'a>,
+        message: &'a [u8],
+        answer: &'a [u8],
+    },
+    /// The core's monitor writes its next message onto the link to the neighbour.
+    MonitorWrite {
+        core: u32,
+        neighbour: u32,
+    },
+    /// The core forwards what stands first on the link from the neighbour.
+    Forward {
+        core: u32,
+        neighbour: u32,
+    },
+    /// The core acknowledges what it has read on the link from the neighbour.
+    MonitorAck {
+        core: u32,
+        neighbour: u32,
+    },
+}
+
+/// What a line is.
+#[derive(Clone, Copy, Debug)]
+pub enum Line<'a> {
+    /// Blank or a comment: no answer.
+    Silent,
+    /// The head of a block that holds an interface's text, laid out by this plan.
+    Heading(PlanNo),
+    Command(Command<'a>),
+    /// Nothing that is read: `refused E90`.
+    Unread,
+}
+
+/// The first word of a command.
+#[derive(Clone, Copy, Debug, PartialEq, Eq)]
+pub enum Verb {
+    Idl,
+    Cores,
+    Link,
+    Disp,
+    Export,
+    Bind,
+    Call,
+    Show,
+    Write,
+    Turn,
+    Ack,
+    Register,
+    Deregister,
+    Reply,
+    Mwrite,
+    Forward,
+    Mack,
+    Unknown,
+}

@@ -1,0 +1,37 @@
+//! Why a command asks nothing of the machine.
+
+ghost use Rattle.std.specs.Prelude.{◌≡◌};
+ghost use Rattle.fl_lines.specs.Faults.{number_of};
+
+use thiserror::Error;
+
+/// Why a command asks nothing of the machine.
+#[derive(Clone, Copy, Debug, PartialEq, Eq, Drop, Error)]
+pub enum LineFault {
+    /// The text behind an end is no call's text (E90).
+    #[error("this is no call")]
+    NotACall,
+    /// A name is unknown, or taken (E92).
+    #[error("a name is unknown or taken")]
+    Name,
+    /// The interface of the end has no such message (E41).
+    #[error("there is no such message")]
+    NoSuchMessage,
+    /// Memory was refused (E99).
+    #[error("out of memory")]
+    Memory,
+}
+
+impl LineFault {
+    /// The fault's number.
+    pub fn number(self) -> u8
+        ensures number { result ≡ number_of self }
+    {
+        match self {
+            LineFault::NotACall => 90,
+            LineFault::Name => 92,
+            LineFault::NoSuchMessage => 41,
+            LineFault::Memory => 99,
+        }
+    }
+}

@@ -1,0 +1,41 @@
+//! Script lines: what a line spells, the names that a script gives, what a line asks of the queue machine, and the
+//! texts of answers.
+//!
+//! Contract for the layer above: [`parse_line`] gives what a line is (`specs/Grammar.antt`, over the table of lines in
+//! `specs/Commands.antt`), a line is one thing ([`one_line`]), and what [`print_command`] writes reads as that command
+//! ([`printed_reads`]).
+//!
+//! - `word.rt`: a line's words, and the numbers that words write
+//! - `command.rt`: commands, and what a line is
+//! - `reader.rt`: lines read, row by row of the table
+//! - `item.rt`: a script's lines, and its items: lines and blocks
+//! - `printing.rt`: commands as text
+//! - `answer.rt`: answers, and their texts
+//! - `table.rt`: lists of names that are asked by a map
+//! - `names.rt`: the names of a script, and what its commands ask by them
+//! - `event.rt`, `fault.rt`: what a command asks of the machine, and why it asks nothing
+//! - `law.rt`: the laws
+#![tactic(auto)]
+
+mod answer;
+mod command;
+mod event;
+mod fault;
+mod item;
+mod law;
+mod names;
+mod printing;
+mod reader;
+mod table;
+mod word;
+
+pub use answer::{Answer, print_answer, print_fault};
+pub use command::{BackEnd, Command, EndName, Line, Route};
+pub use event::{Asked, DispatcherId, Event, Naming};
+pub use fault::LineFault;
+pub use item::{Item, next_item};
+pub use law::{one_asked, one_items, one_line, printed_reads, spelled_reads};
+pub use names::{InterfaceNames, Names, names_of_interface};
+pub use printing::print_command;
+pub use reader::parse_line;
+pub use table::NameTable;

@@ -1,0 +1,376 @@
+//! Lines read: each function is a row of the table, behind the words before it.
+
+ghost use Rattle.std.specs.Prelude.{◌≡◌, option_map, is_some};
+ghost use Rattle.std.specs.Prelude.{None, Some};
+ghost use Rattle.fl_queues.specs.Given.{given};
+ghost use Rattle.fl_lines.specs.Commands.{local, ump, mwrite, forward, mack};
+ghost use Rattle.fl_lines.specs.Grammar.{LineIs};
+ghost use Rattle.fl_lines.specs.Words.{is_none, first_word};
+ghost use Rattle.fl_lines.specs.Reading.{end_of, words_of, numbers_of, one_number, two_numbers, one_end};
+ghost use Rattle.fl_lines.specs.Reading.{with_cores, link_row, disp_row, export_row, route_row, back_end_row};
+ghost use Rattle.fl_lines.specs.Reading.{bind_row, call_row, turn_row, reply_row, verb_of, command_by};
+ghost use Rattle.fl_lines.specs.Reading.{heading_by, line_by, read_line};
+ghost use Rattle.fl_lines.specs.Views.{end_name_of, back_end_of, command_of, line_of};
+
+use crate::command::{BackEnd, Command, EndName, Line, Route, Verb};
+use crate::word::{begins_comment, is_number, next_word, number, skip_blanks};
+use fl_base::Side;
+use fl_lex::is_name;
+use fl_value::PlanNo;
+
+fn end_name(word: &[u8]) -> Option<EndName<'_>>
+    ensures same { option_map end_name_of result ≡ end_of word.now }
+{
+    let at = word.len().saturating_sub(2);
+    let (name, side) = word.split_at(at);
+    if !is_name(name) {
+        return None;
+    }
+    if side == b".c".as_slice() {
+        return Some(EndName {
+            binding: name,
+            side: Side::Client,
+        });
+    }
+    if side == b".s".as_slice() {
+        return Some(EndName {
+            binding: name,
+            side: Side::Server,
+        });
+    }
+    None
+}
+
+// Whether no word is left.
+fn is_last(line: &[u8]) -> bool
+    ensures same { result ≡ is_none (first_word line.now) }
+{
+    let (word, _) = next_word(line);
+    word.is_empty()
+}
+
+fn one_number(line: &[u8]) -> Option<u32>
+    ensures same { result ≡ one_number line.now }
+{
+    let (word, rest) = next_word(line);
+    let Some(n) = number(word) else {
+        return None;
+    };
+    if !is_last(rest) {
+        return None;
+    }
+    Some(n)
+}
+
+fn two_numbers(line: &[u8]) -> Option<(u32, u32)>
+    ensures same { result ≡ two_numbers line.now }
+{
+    let (word, rest) = next_word(line);
+    let Some(a) = number(word) else {
+        return None;
+    };
+    let Some(b) = one_number(rest) else {
+        return None;
+    };
+    Some((a, b))
+}
+
+fn one_end(line: &[u8]) -> Option<EndName<'_>>
+    ensures same { option_map end_name_of result ≡ one_end line.now }
+{
+    let (word, rest) = next_word(line);
+    let Some(end) = end_name(word) else {
+        return None;
+    };
+    if !is_last(rest) {
+        return None;
+    }
+    Some(end)
+}
+
+fn link_row(line: &[u8]) -> Option<Command<'_>>
+    ensures same { option_map command_of result ≡ link_row line.now }
+{
+    let (word, rest) = next_word(line);
+    let Some(a) = number(word) else {
+        return None;
+    };
+    let Some((b, slots)) = two_numbers(rest) else {
+        return None;
+    };
+    Some(Command::Link { a, b, slots })
+}
+
+fn disp_row(line: &[u8]) -> Option<Command<'_>>
+    ensures same { option_map command_of result ≡ disp_row line.now }
+{
+    let (name, rest) = next_word(line);
+    if !is_name(name) {
+        return None;
+    }
+    let Some(core) = one_number(rest) else {
+        return None;
+    };
+    Some(Command::Disp { name, core })
+}
+
+fn export_row(line: &[u8]) -> Option<Command<'_>>
+    ensures same { option_map command_of result ≡ export_row line.now }
+{
+    let (name, rest) = next_word(line);
+    let (dispatcher, rest) = next_word(rest);
+    let (interface, rest) = next_word(rest);
+    if !is_name(name) || !is_name(dispatcher) || !is_name(interface) || !is_last(rest) {
+        return None;
+    }
+    Some(Command::Export {
+        name,
+        dispatcher,
+        interface,
+    })
+}
+
+// Whether each word is a number.
+fn are_numbers(line: &[u8]) -> bool
+    ensures same { result ≡ is_some (numbers_of (words_of line.now)) }
+{
+    let mut rest = line;
+    loop {
+        let (word, behind) = next_word(rest);
+        if word.is_empty() {
+            return true;
+        }
+        if !is_number(word) {
+            return false;
+        }
+        rest = behind;
+    }
+}
+
+fn route_row(line: &[u8]) -> Option<BackEnd<'_>>
+    ensures same { option_map back_end_of result ≡ route_row line.now }
+{
+    let (word, others) = next_word(line);
+    let Some(first) = number(word) else {
+        return None;
+    };
+    if !are_numbers(others) {
+        return None;
+    }
+    Some(BackEnd::Hop(Route { first, others }))
+}
+
+fn local_row(line: &[u8]) -> Option<BackEnd<'_>>
+    ensures same { option_map back_end_of result ≡ given (one_number line.now) None (λ n. Some (local n)) }
+{
+    Some(BackEnd::Local(one_number(line)?))
+}
+
+fn ump_row(line: &[u8]) -> Option<BackEnd<'_>>
+    ensures same { option_map back_end_of result ≡ given (one_number line.now) None (λ n. Some (ump n)) }
+{
+    Some(BackEnd::Ump(one_number(line)?))
+}
+
+fn back_end_row(line: &[u8]) -> Option<BackEnd<'_>>
+    ensures same { option_map back_end_of result ≡ back_end_row line.now }
+{
+    let (kind, rest) = next_word(line);
+    if kind == b"local".as_slice() {
+        return local_row(rest);
+    }
+    if kind == b"ump".as_slice() {
+        return ump_row(rest);
+    }
+    if kind == b"hop".as_slice() {
+        return route_row(rest);
+    }
+    None
+}
+
+fn bind_row(line: &[u8]) -> Option<Command<'_>>
+    ensures same { option_map command_of result ≡ bind_row line.now }
+{
+    let (name, rest) = next_word(line);
+    let (client, rest) = next_word(rest);
+    let (interface, rest) = next_word(rest);
+    let (service, rest) = next_word(rest);
+    if !is_name(name) || !is_name(client) || !is_name(interface) || !is_name(service) {
+        return None;
+    }
+    let Some(back_end) = back_end_row(rest) else {
+        return None;
+    };
+    Some(Command::Bind {
+        name,
+        client,
+        interface,
+        service,
+        back_end,
+    })
+}
+
+fn call_row(line: &[u8]) -> Option<Command<'_>>
+    ensures same { option_map command_of result ≡ call_row line.now }
+{
+    let (word, rest) = next_word(line);
+    let Some(end) = end_name(word) else {
+        return None;
+    };
+    Some(Command::Call(end, skip_blanks(rest)))
+}
+
+fn turn_row(line: &[u8]) -> Option<Command<'_>>
+    ensures same { option_map command_of result ≡ turn_row line.now }
+{
+    let (dispatcher, rest) = next_word(line);
+    if !is_name(dispatcher) || !is_last(rest) {
+        return None;
+    }
+    Some(Command::Turn(dispatcher))
+}
+
+fn reply_row(line: &[u8]) -> Option<Command<'_>>
+    ensures same { option_map command_of result ≡ reply_row line.now }
+{
+    let (word, rest) = next_word(line);
+    let Some(end) = end_name(word) else {
+        return None;
+    };
+    let (message, rest) = next_word(rest);
+    let (answer, rest) = next_word(rest);
+    if !is_name(message) || !is_name(answer) || !is_last(rest) {
+        return None;
+    }
+    Some(Command::Reply {
+        end,
+        message,
+        answer,
+    })
+}
+
+fn read_verb(word: &[u8]) -> Verb
+    ensures same { result ≡ verb_of word.now }
+{
+    if word == b"call".as_slice() {
+        Verb::Call
+    } else if word == b"write".as_slice() {
+        Verb::Write
+    } else if word == b"turn".as_slice() {
+        Verb::Turn
+    } else if word == b"ack".as_slice() {
+        Verb::Ack
+    } else if word == b"forward".as_slice() {
+        Verb::Forward
+    } else if word == b"mack".as_slice() {
+        Verb::Mack
+    } else if word == b"mwrite".as_slice() {
+        Verb::Mwrite
+    } else if word == b"show".as_slice() {
+        Verb::Show
+    } else if word == b"bind".as_slice() {
+        Verb::Bind
+    } else if word == b"disp".as_slice() {
+        Verb::Disp
+    } else if word == b"export".as_slice() {
+        Verb::Export
+    } else if word == b"link".as_slice() {
+        Verb::Link
+    } else if word == b"cores".as_slice() {
+        Verb::Cores
+    } else if word == b"register".as_slice() {
+        Verb::Register
+    } else if word == b"deregister".as_slice() {
+        Verb::Deregister
+    } else if word == b"reply".as_slice() {
+        Verb::Reply
+    } else if word == b"idl".as_slice() {
+        Verb::Idl
+    } else {
+        Verb::Unknown
+    }
+}
+
+fn mwrite_row(line: &[u8]) -> Option<Command<'_>>
+    ensures same { option_map command_of result ≡ with_cores mwrite line.now }
+{
+    let (core, neighbour) = two_numbers(line)?;
+    Some(Command::MonitorWrite { core, neighbour })
+}
+
+fn forward_row(line: &[u8]) -> Option<Command<'_>>
+    ensures same { option_map command_of result ≡ with_cores forward line.now }
+{
+    let (core, neighbour) = two_numbers(line)?;
+    Some(Command::Forward { core, neighbour })
+}
+
+fn mack_row(line: &[u8]) -> Option<Command<'_>>
+    ensures same { option_map command_of result ≡ with_cores mack line.now }
+{
+    let (core, neighbour) = two_numbers(line)?;
+    Some(Command::MonitorAck { core, neighbour })
+}
+
+// The command that begins with this word.
+fn read_command(verb: Verb, rest: &[u8]) -> Option<Command<'_>>
+    ensures same { option_map command_of result ≡ command_by verb rest.now }
+{
+    match verb {
+        Verb::Cores => Some(Command::Cores(one_number(rest)?)),
+        Verb::Link => link_row(rest),
+        Verb::Disp => disp_row(rest),
+        Verb::Export => export_row(rest),
+        Verb::Bind => bind_row(rest),
+        Verb::Call => call_row(rest),
+        Verb::Show => Some(Command::Show(one_end(rest)?)),
+        Verb::Write => Some(Command::Write(one_end(rest)?)),
+        Verb::Turn => turn_row(rest),
+        Verb::Ack => Some(Command::Ack(one_end(rest)?)),
+        Verb::Register => Some(Command::Register(one_end(rest)?)),
+        Verb::Deregister => Some(Command::Deregister(one_end(rest)?)),
+        Verb::Reply => reply_row(rest),
+        Verb::Mwrite => mwrite_row(rest),
+        Verb::Forward => forward_row(rest),
+        Verb::Mack => mack_row(rest),
+        Verb::Idl | Verb::Unknown => None,
+    }
+}
+
+// The line of an `idl`, from what stands behind it.
+fn read_heading(rest: &[u8]) -> Line<'static>
+    ensures same { line_of result ≡ heading_by rest.now }
+{
+    let (plan, rest) = next_word(rest);
+    if plan.is_empty() {
+        return Line::Heading(PlanNo::Two);
+    }
+    if plan == b"1".as_slice() && is_last(rest) {
+        return Line::Heading(PlanNo::One);
+    }
+    Line::Unread
+}
+
+fn read_line(line: &[u8]) -> Line<'_>
+    ensures same { line_of result ≡ read_line line.now }
+{
+    let (word, rest) = next_word(line);
+    if begins_comment(word) {
+        return Line::Silent;
+    }
+    let verb = read_verb(word);
+    if verb == Verb::Idl {
+        return read_heading(rest);
+    }
+    match read_command(verb, rest) {
+        None => Line::Unread,
+        Some(command) => Line::Command(command),
+    }
+}
+
+/// What a line, without its end, is. Takes no memory.
+pub fn parse_line(line: &[u8]) -> Line<'_>
+    ensures line { LineIs line.now (line_of result) }
+{
+    read_line(line)
+}

@@ -1,0 +1,56 @@
+//! A list of names that is asked by a map.
+
+ghost use Rattle.std.specs.Prelude.{◌≡◌, ◌++◌, ◌∷◌, [], OnOk, OnErr, None, option_map, slice_get};
+ghost use Rattle.fl_lines.specs.Names.{place_of};
+ghost use Rattle.fl_lines.specs.Tables.{table_of};
+
+use indexmap::IndexSet;
+use std::alloc::{AllocError, Global};
+
+/// Names in order of making, none twice. A look-up takes no memory, and no search.
+#[derive(Drop)]
+pub struct NameTable {
+    pub set: IndexSet<Vec<u8>>,
+}
+
+impl NameTable {
+    /// No names. Takes no memory.
+    pub fn new(alloc: Global) -> NameTable
+        ensures none { table_of result ≡ [] }
+    {
+        NameTable {
+            set: IndexSet::new(alloc),
+        }
+    }
+
+    /// The place of a name.
+    pub fn find(&self, name: &[u8]) -> Option<usize>
+        ensures place { result ≡ place_of name.now (table_of self.now) }
+    {
+        self.set.get_index_of(name)
+    }
+
+    /// The name at a place.
+    pub fn get(&self, place: usize) -> Option<&[u8]>
+        ensures name { option_map (λ n. n.now) result ≡ slice_get (table_of self.now) place }
+    {
+        match self.set.get_index(place) {
+            None => None,
+            Some(name) => Some(name.as_slice()),
+        }
+    }
+
+    /// Puts a new name at the end.
+    ///
+    /// # Errors
+    /// Want of memory; the table is as it was.
+    pub fn add(&mut self, alloc: Global, name: &[u8]) -> Result<(), AllocError>
+        requires { place_of name.now (table_of self.old) ≡ None }
+        ensures added { OnOk result (table_of self.new ≡ table_of self.old ++ name.now ∷ []) }
+        ensures kept { OnErr result (table_of self.new ≡ table_of self.old) }
+    {
+        let name = Vec::from_slice(alloc, name)?;
+        self.set.insert(name)?;
+        Ok(())
+    }
+}
