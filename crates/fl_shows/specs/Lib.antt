@@ -1,0 +1,5 @@
+pub mod Fragments
+pub mod Ends
+pub mod Queues
+pub mod Rings
+pub mod Cores

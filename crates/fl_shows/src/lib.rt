@@ -1,0 +1,3 @@
+//! Pictures: when what the system's parts show of themselves is the picture of a part of the queue machine's state
+//! (`specs/`), and the law for each event of a part that the picture goes on and the answers agree.
+#![tactic(auto)]
