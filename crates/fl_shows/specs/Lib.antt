@@ -3,3 +3,5 @@ pub mod Ends
 pub mod Queues
 pub mod Rings
 pub mod Cores
+pub mod EndLaws
+pub mod RingLaws

@@ -1,3 +1,10 @@
 //! Pictures: when what the system's parts show of themselves is the picture of a part of the queue machine's state
 //! (`specs/`), and the law for each event of a part that the picture goes on and the answers agree.
 #![tactic(auto)]
+
+mod ends;
+
+pub use ends::{
+    bound_shows, call_shows, fresh_shows, next_shows, others_stay, receive_shows, rule_shows,
+    take_shows, write_shows,
+};
