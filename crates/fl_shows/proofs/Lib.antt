@@ -6,3 +6,7 @@ pub mod Taking
 pub mod Receiving
 pub mod Rules
 pub mod Others
+pub mod Matching
+pub mod Facing
+pub mod Sides
+pub mod Standing

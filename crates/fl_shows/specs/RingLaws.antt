@@ -8,7 +8,7 @@ use Rattle.fl_link.specs.Cursor.{epoch_at}
 use Rattle.fl_link.specs.Looks.{Look, placed, no_room, spent, saw, saw_ack, found, found_ack, missed, told, kept}
 use Rattle.fl_link.specs.Queue.{TheQueue, QueuePuts, QueueTakes}
 use Rattle.fl_ring.specs.Duo.{TheDuo, DuoPuts, DuoTakes, side_of, got}
-use Rattle.fl_queues.specs.Rings.{Label, next_of, says, acknowledges, RingLabel, Ring, RingSide, read_by, first_for, looks, makes_sure, puts, takes, owes}
+use Rattle.fl_queues.specs.Rings.{Label, next_of, says, acknowledges, RingLabel, Ring, RingSide, written_by, read_by, first_for, looks, makes_sure, puts, takes, owes}
 use Rattle.fl_queues.specs.Rings.{Room, room, there_is_room, no_room as none_free, spent as used_up, for_data, for_acknowledgement, fresh_ring}
 use Rattle.fl_queues.specs.Ends.{Queue, joined_by, without_first, has_room, queue_room}
 use Rattle.fl_queues.specs.SoundRings.{RingCounts, RingFits}
@@ -74,7 +74,7 @@ PutAgrees streams side label r spent t = (room_for_data side r ≡ used_up) × R
 PutAgrees streams side label r look t = ⊥
 
 abbrev pub IsPutOf : Streams → Label → Look → Type 0
-IsPutOf streams label look = (f : Frag) → look ≡ placed f → frag_of streams label ≡ Some f
+IsPutOf streams label look = (f : Frag) → look ≡ placed f → frag_of streams label ≡ Some (bare f)
 
 abbrev pub RingPuts : Type 0
 RingPuts = (streams : Streams) (side : RingSide) (label : Label) (r : Ring) (s t : TheDuo) (look : Look)
@@ -113,7 +113,7 @@ RingStamps = (streams : Streams) (side : RingSide) (r : Ring) (s : TheDuo) → R
 -- once looked at, a ring isn't changed by another look
 abbrev pub LooksOnce : Type 0
 LooksOnce = (side : RingSide) (r : Ring) (l : RingLabel) → first_for side r ≡ Some l
-    → (Rattle.fl_queues.specs.Rings.written_by side r).known ≡ l.told → looks side r ≡ r
+    → (written_by side r).known ≡ l.told → looks side r ≡ r
 
 -- ---- queues
 

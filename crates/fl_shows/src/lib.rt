@@ -3,8 +3,12 @@
 #![tactic(auto)]
 
 mod ends;
+mod rings;
 
 pub use ends::{
     bound_shows, call_shows, fresh_shows, next_shows, others_stay, receive_shows, rule_shows,
     take_shows, write_shows,
+};
+pub use rings::{
+    looks_once, pictures_go_on, queue_puts, queue_takes, ring_puts, ring_stamps, ring_takes,
 };
