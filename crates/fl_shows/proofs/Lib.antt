@@ -10,3 +10,4 @@ pub mod Matching
 pub mod Facing
 pub mod Sides
 pub mod Standing
+pub mod Carried

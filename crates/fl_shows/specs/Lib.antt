@@ -5,3 +5,4 @@ pub mod Rings
 pub mod Cores
 pub mod EndLaws
 pub mod RingLaws
+pub mod FragmentLaws

@@ -3,12 +3,14 @@
 #![tactic(auto)]
 
 mod ends;
+mod labels;
 mod rings;
 
 pub use ends::{
     bound_shows, call_shows, fresh_shows, next_shows, others_stay, receive_shows, rule_shows,
     take_shows, write_shows,
 };
+pub use labels::{calls_are_carried, calls_go_on, labels_stay, messages_are_said};
 pub use rings::{
     looks_once, pictures_go_on, queue_puts, queue_takes, ring_puts, ring_stamps, ring_takes,
 };
