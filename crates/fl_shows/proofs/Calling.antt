@@ -19,14 +19,15 @@ use Rattle.fl_endpoint.specs.View.{TheEnd, TheOutgoing, interface_in, fresh, bou
 use Rattle.fl_endpoint.specs.Events.{Calls, Writes, ShowsNext, IsMessage}
 use Rattle.fl_endpoint.specs.Accounts.{Sound}
 use Rattle.fl_queues.specs.Calls.{Planned, total, last_count, whole_in, stream}
-use Rattle.fl_queues.specs.Events.{Answer, accepted, refused}
-use Rattle.fl_queues.specs.Ends.{Queue, Direction, written_of, last_station, is_busy, accepts, goes_on, passes, progress, End, is_bound, fresh_direction, unbound_end}
+use Rattle.fl_queues.specs.Events.{Answer, accepted, nothing, refused}
+use Rattle.fl_queues.specs.Rings.{Room, there_is_room, no_room as none_free, spent as used_up}
+use Rattle.fl_queues.specs.Ends.{Queue, Direction, written_of, last_station, is_busy, accepts, goes_on, passes, Wrote, writes, writes_by, End, is_bound, fresh_direction, unbound_end}
 use Rattle.fl_queues.specs.State.{State, Outcome, answers, change_out}
 use Rattle.fl_queues.specs.Sending.{makes_call, next_fragment}
 use Rattle.fl_queues.specs.SoundLabels.{IsCounted}
 use Rattle.fl_shows.specs.Ends.{planned_of, outgoing_of, parts_of, circuit_of, EndShows}
 use Rattle.fl_shows.specs.EndLaws.{with_out, CallAgrees, NextAgrees, WriteAgrees, HasMore}
-use Rattle.fl_shows.proofs.Tests.{else_is, lt_false, le_true, le_false}
+use Rattle.fl_shows.proofs.Tests.{then_is, else_is, lt_false, le_true, le_false}
 use Rattle.fl_shows.proofs.Streams.{frags}
 use Rattle.fl_shows.proofs.Sending.{same_outgoing, unwritten, each_frags, nothing_left, idle_nothing, busy_some, busy_by, idle_by, accepted_is, wrote_is, progress_is, first_of_drop, none_of_drop}
 
@@ -257,38 +258,47 @@ next_agrees epoch told i x peer s (Err fault) h a = absurd a
 
 -- ---- a write
 
+-- where the end is busy, the machine writes by the room
+writes_is : (i : Planned) (d : Direction) (r : Room) → is_busy i d ≡ true → writes i d r ≡ writes_by i d r
+writes_is i d r q = then_is (is_busy i d) (writes_by i d r) (record { direction = d; answer = nothing }) q
+
 pub write_agrees : {P : Type 0} (puts : P → Look → P → Type 0) (i : Planned) (x : End) (peer : Direction) (p q : P) (s t : TheEnd)
     (answer : Result WriteAnswer EndFault) → EndShows i x peer s → IsCounted i x.out → 1 ≤ length x.out.passed
     → Writes puts s p answer t q → WriteAgrees puts i x peer p answer t q
 write_agrees puts i x peer p q s t (Ok (Written number count)) h k n a =
-    let f = a.1.0 in
-    let rest = a.1.1 in
     let first : unwritten (circuit_of x) i x.out ≡ a.1.0 ∷ a.1.1 = sym (unwritten_is i x peer s h) ∙ a.1.2 in
+    let busy : is_busy i x.out ≡ true = busy_by (circuit_of x) i x.out a.1.0 a.1.1 first in
+    let now : writes i x.out there_is_room ≡ writes_by i x.out there_is_room = writes_is i x.out there_is_room busy in
     let many : count ≡ (outgoing_of (circuit_of x) i x.out).count = a.1.3 ∙ ap (λ (o : TheOutgoing). o.count) h.outgoing in
-    let sent : wrote a.1.1 s.outgoing ≡ outgoing_of (circuit_of x) i (goes_on i (passes 0 x.out))
-    = ap (wrote a.1.1) h.outgoing ∙ wrote_is (circuit_of x) i x.out a.1.0 a.1.1 n first in (
-      (bound_is i x peer s h a.0.0, busy_by (circuit_of x) i x.out a.1.0 a.1.1 first),
+    let sent : wrote a.1.1 s.outgoing ≡ outgoing_of (circuit_of x) i (writes i x.out there_is_room).direction
+    = ap (wrote a.1.1) h.outgoing ∙ wrote_is (circuit_of x) i x.out a.1.0 a.1.1 n first
+    ∙ ap (λ (w : Wrote). outgoing_of (circuit_of x) i w.direction) (sym now) in (
+      (bound_is i x peer s h a.0.0, busy),
       (a.1.0, next_is i x a.1.0 a.1.1 first, a.1.5),
-      progress_is (circuit_of x) i x.out a.1.0 a.1.1 number count k first many a.1.4,
-      subst (EndShows i (with_out (λ d. goes_on i (passes 0 d)) x) peer) (sym a.1.6)
-          (with_outgoing i x (goes_on i (passes 0 x.out)) peer s (wrote a.1.1 s.outgoing) h sent),
+      ap (λ (w : Wrote). w.answer) now ∙ progress_is (circuit_of x) i x.out a.1.0 a.1.1 number count k first many a.1.4,
+      subst (EndShows i (with_out (λ d. (writes i d there_is_room).direction) x) peer) (sym a.1.6)
+          (with_outgoing i x (writes i x.out there_is_room).direction peer s (wrote a.1.1 s.outgoing) h sent),
     )
-write_agrees puts i x peer p q s t (Ok Full) h k n a = (
-  (bound_is i x peer s h a.0.0, busy_is i x peer s h a.1),
-  a.2,
-  stays i x peer s t h a.3,
-)
+write_agrees puts i x peer p q s t (Ok Full) h k n a =
+    let busy : is_busy i x.out ≡ true = busy_is i x peer s h a.1 in (
+      (bound_is i x peer s h a.0.0, busy),
+      a.2,
+      ap (λ (w : Wrote). w.answer) (writes_is i x.out none_free busy),
+      stays i x peer s t h a.3,
+    )
 write_agrees puts i x peer p q s t (Ok Nothing) h k n a = (
   bound_is i x peer s h a.0.0,
   idle_is i x peer s h a.1,
   a.2,
   stays i x peer s t h a.3,
 )
-write_agrees puts i x peer p q s t (Err Spent) h k n a = (
-  (bound_is i x peer s h a.0.0, busy_is i x peer s h a.1),
-  a.2,
-  stays i x peer s t h a.3,
-)
+write_agrees puts i x peer p q s t (Err Spent) h k n a =
+    let busy : is_busy i x.out ≡ true = busy_is i x peer s h a.1 in (
+      (bound_is i x peer s h a.0.0, busy),
+      a.2,
+      ap (λ (w : Wrote). w.answer) (writes_is i x.out used_up busy),
+      stays i x peer s t h a.3,
+    )
 write_agrees puts i x peer p q s t (Err NotBound) h k n a = (unbound_is i x peer s h a.0, a.1, stays i x peer s t h a.2)
 write_agrees puts i x peer p q s t (Err Failed) h k n a = not_failed i x peer s h a.0.1
 write_agrees puts i x peer p q s t (Err fault) h k n a = absurd a

@@ -11,3 +11,6 @@ pub mod Facing
 pub mod Sides
 pub mod Standing
 pub mod Carried
+pub mod Names
+pub mod Boxes
+pub mod Hearing

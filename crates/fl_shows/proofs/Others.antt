@@ -5,7 +5,9 @@ use Rattle.fl_base.specs.declared.fragment.Frag.{Frag}
 use Rattle.fl_value.specs.Value.{TheCall}
 use Rattle.fl_queues.specs.Given.{given, changed_at}
 use Rattle.fl_queues.specs.Calls.{Planned, total, whole_in, stream}
-use Rattle.fl_queues.specs.Ends.{Direction, passes, taken_of, last_station, is_busy, accepts, accepts_or_waits, accepts_waiting, goes_on}
+use Rattle.fl_queues.specs.Ends.{Direction, passes, taken_of, last_station, is_busy, accepts, accepts_or_waits, accepts_waiting, goes_on, Wrote, writes_by}
+use Rattle.fl_queues.specs.Events.{nothing}
+use Rattle.fl_queues.specs.Rings.{Room, there_is_room, no_room, spent}
 use Rattle.fl_shows.specs.Ends.{parts_of}
 use Rattle.fl_shows.specs.EndLaws.{PartsStay}
 use Rattle.fl_shows.proofs.Tests.{either}
@@ -49,14 +51,24 @@ passing_is i station d h =
 
 pub parts_stay : (i : Planned) (d : Direction) → 2 ≤ length d.passed → taken_of d ≤ total i d.accepted → PartsStay i d
 parts_stay i d n h =
-    let first : 0 ≢ last_station d = λ (e : 0 ≡ last_station d). let k : 0 ≡ length d.passed - 1 = e in omega (arith, n, k) in
-    let same = taken_stays 0 d first in
     record {
       accepting = λ c. more_accepted i c d d.waiting h;
       replying = λ c. either (λ (e : Direction). parts_of i e ≡ parts_of i d) (is_busy i d) (record d { waiting = d.waiting ++ c ∷ [] }) (accepts c d)
           (λ q. refl) (λ q. more_accepted i c d d.waiting h);
-      writing = either (λ (e : Direction). parts_of i e ≡ parts_of i d) (is_busy i (passes 0 d)) (passes 0 d) (accepts_waiting d.waiting (passes 0 d))
-          (λ q. passing_is i 0 d first)
-          (λ q. next_accepted i (passes 0 d) d.waiting (omega (arith, same, h)) ∙ passing_is i 0 d first);
+      writing = λ room. either (λ (w : Wrote). parts_of i w.direction ≡ parts_of i d) (is_busy i d) (writes_by i d room)
+          (record { direction = d; answer = nothing }) (λ q. by_room room) (λ q. refl);
       passing = λ station e. passing_is i station d e;
     }
+  where
+    going_on : parts_of i (goes_on i (passes 0 d)) ≡ parts_of i d
+    going_on =
+        let first : 0 ≢ last_station d = λ (e : 0 ≡ last_station d). let k : 0 ≡ length d.passed - 1 = e in omega (arith, n, k) in
+        let same = taken_stays 0 d first in
+        either (λ (e : Direction). parts_of i e ≡ parts_of i d) (is_busy i (passes 0 d)) (passes 0 d) (accepts_waiting d.waiting (passes 0 d))
+        (λ q. passing_is i 0 d first)
+        (λ q. next_accepted i (passes 0 d) d.waiting (omega (arith, same, h)) ∙ passing_is i 0 d first)
+
+    by_room : (room : Room) → parts_of i (writes_by i d room).direction ≡ parts_of i d
+    by_room there_is_room = going_on
+    by_room no_room = refl
+    by_room spent = refl

@@ -260,9 +260,9 @@ sure_steps need side f s t p q o =
     }
 
 pub put_agrees : (streams : Streams) (side : RingSide) (label : Label) (r : Ring) (s t : TheDuo) (look : Look)
-    → RingShows streams r s → RingCounts r → RingFits r → AllCarried streams → IsPutOf streams label look
+    → RingShows streams r s → RingCounts r → RingFits r → IsPutOf streams label look
     → DuoPuts (which_of side) s look t → PutAgrees streams side label r look t
-put_agrees streams side label r s t (placed f) h c fits all is a =
+put_agrees streams side label r s t (placed f) h c fits is a =
     let (step, size) = put_step side s t (placed f) a in
     let sure = sure_shows streams for_data side r s h c fits step.1 in (
       sure_room streams for_data side r s h c fits step.1
@@ -270,26 +270,26 @@ put_agrees streams side label r s t (placed f) h c fits all is a =
       puts_shows streams side label f (sure_for_data side r) (sure_duo for_data side s) t sure (is f refl)
           (sure_steps for_data side f s t size step.3 step.4),
     )
-put_agrees streams side label r s t no_room h c fits all is a =
+put_agrees streams side label r s t no_room h c fits is a =
     let (step, size) = put_step side s t no_room a in
     let sure = sure_shows streams for_data side r s h c fits step.0 in (
       sure_room streams for_data side r s h c fits step.0
           ∙ else_is (nat_le 2 (free_slots s.size (own side s).sent (counted_by for_data side s))) there_is_room none_free (le_false 2 _ step.1),
       becomes streams side (sure_for_data side r) s t (counted_by for_data side s) sure size step.2 step.3,
     )
-put_agrees streams side label r s t spent h c fits all is a =
+put_agrees streams side label r s t spent h c fits is a =
     let (step, size) = put_step side s t spent a in
     let e = spent_sure streams for_data side r s h step.0 in (
       e.1,
       subst (λ (x : Ring). RingShows streams x t) (sym e.0) (subst (RingShows streams r) (sym (same_duo side s t size step.1 step.2)) h),
     )
-put_agrees streams side label r s t (saw f) h c fits all is a = absurd (put_step side s t (saw f) a).0
-put_agrees streams side label r s t saw_ack h c fits all is a = absurd (put_step side s t saw_ack a).0
-put_agrees streams side label r s t (found f) h c fits all is a = absurd (put_step side s t (found f) a).0
-put_agrees streams side label r s t found_ack h c fits all is a = absurd (put_step side s t found_ack a).0
-put_agrees streams side label r s t missed h c fits all is a = absurd (put_step side s t missed a).0
-put_agrees streams side label r s t told h c fits all is a = absurd (put_step side s t told a).0
-put_agrees streams side label r s t kept h c fits all is a = absurd (put_step side s t kept a).0
+put_agrees streams side label r s t (saw f) h c fits is a = absurd (put_step side s t (saw f) a).0
+put_agrees streams side label r s t saw_ack h c fits is a = absurd (put_step side s t saw_ack a).0
+put_agrees streams side label r s t (found f) h c fits is a = absurd (put_step side s t (found f) a).0
+put_agrees streams side label r s t found_ack h c fits is a = absurd (put_step side s t found_ack a).0
+put_agrees streams side label r s t missed h c fits is a = absurd (put_step side s t missed a).0
+put_agrees streams side label r s t told h c fits is a = absurd (put_step side s t told a).0
+put_agrees streams side label r s t kept h c fits is a = absurd (put_step side s t kept a).0
 
 -- ---- a look, a take and a tell
 

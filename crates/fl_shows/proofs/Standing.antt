@@ -58,9 +58,9 @@ bit streams q s h =
     omega (arith, one)
 
 pub queue_put_agrees : (streams : Streams) (label : Label) (q : Queue) (s t : TheQueue) (look : Look)
-    → QueueShows streams q s → AllCarried streams → IsPutOf streams label look
+    → QueueShows streams q s → IsPutOf streams label look
     → QueuePuts s look t → QueuePutAgrees streams label q look t
-queue_put_agrees streams label q s t (placed f) h all is a =
+queue_put_agrees streams label q s t (placed f) h is a =
     let slots = used_is streams q s h in
     let capacity = h.capacity in
     let room = a.1.0.1 in
@@ -74,21 +74,21 @@ queue_put_agrees streams label q s t (placed f) h all is a =
         sent = else_is s.acked (s.sent + 1) s.sent h.freed ∙ h.sent;
       }) a.1.1,
     )
-queue_put_agrees streams label q s t no_room h all is a =
+queue_put_agrees streams label q s t no_room h is a =
     let slots = used_is streams q s h in
     let capacity = h.capacity in
     let full = a.0.1 in (
       else_is (has_room q) there_is_room none_free (lt_false (length q.labels) q.capacity (omega (arith, slots, capacity, full))),
       same_queue streams q s t h a.1,
     )
-queue_put_agrees streams label q s t spent h all is a = let none = h.sent in let many : s.sent ≡ 2 ^ 62 = a.0 in absurd (omega (arith, none, many))
-queue_put_agrees streams label q s t (saw f) h all is a = absurd a
-queue_put_agrees streams label q s t saw_ack h all is a = absurd a
-queue_put_agrees streams label q s t (found f) h all is a = absurd a
-queue_put_agrees streams label q s t found_ack h all is a = absurd a
-queue_put_agrees streams label q s t missed h all is a = absurd a
-queue_put_agrees streams label q s t told h all is a = absurd a
-queue_put_agrees streams label q s t kept h all is a = absurd a
+queue_put_agrees streams label q s t spent h is a = let none = h.sent in let many : s.sent ≡ 2 ^ 62 = a.0 in absurd (omega (arith, none, many))
+queue_put_agrees streams label q s t (saw f) h is a = absurd a
+queue_put_agrees streams label q s t saw_ack h is a = absurd a
+queue_put_agrees streams label q s t (found f) h is a = absurd a
+queue_put_agrees streams label q s t found_ack h is a = absurd a
+queue_put_agrees streams label q s t missed h is a = absurd a
+queue_put_agrees streams label q s t told h is a = absurd a
+queue_put_agrees streams label q s t kept h is a = absurd a
 
 sees : (streams : Streams) (q : Queue) (s : TheQueue) (f : Frag) → QueueShows streams q s → front_of s.items ≡ saw f → StandsFirst streams q f
 sees streams q s f h e = cases s.items refl e where

@@ -18,9 +18,10 @@ use Rattle.fl_endpoint.specs.Faults.{fault_number}
 use Rattle.fl_endpoint.specs.View.{TheEnd, fresh, bound}
 use Rattle.fl_endpoint.specs.Events.{Calls, Writes, ShowsNext, TakesIn, Receives, SetsRule}
 use Rattle.fl_endpoint.specs.Accounts.{Sound}
-use Rattle.fl_queues.specs.Events.{accepted, written, refused}
+use Rattle.fl_queues.specs.Events.{accepted, full, written, refused}
+use Rattle.fl_queues.specs.Rings.{Room, there_is_room, no_room as none_free, spent as used_up}
 use Rattle.fl_queues.specs.Calls.{Planned, total, stream}
-use Rattle.fl_queues.specs.Ends.{Queue, Direction, last_station, taken_of, is_busy, accepts, goes_on, passes, progress, End, is_bound}
+use Rattle.fl_queues.specs.Ends.{Queue, Direction, last_station, taken_of, is_busy, accepts, passes, writes, End, is_bound}
 use Rattle.fl_queues.specs.Ends.{accepts_or_waits, fresh_direction, unbound_end, with_rule, holds_back, whole, a_part, takes_one}
 use Rattle.fl_queues.specs.Ends.{comes_to, replies}
 use Rattle.fl_queues.specs.State.{State, answers, change_out}
@@ -84,10 +85,13 @@ HasMore i x = (is_bound x ≡ true) × (is_busy i x.out ≡ true)
 abbrev pub WriteAgrees : {P : Type 0} → (P → Look → P → Type 0) → Planned → End → Direction → P → Result WriteAnswer EndFault → TheEnd → P → Type 0
 WriteAgrees puts i x peer p (Ok (Written number count)) t q =
     HasMore i x × ((f : Frag) × (next_fragment i x ≡ Some f) × puts p (placed f) q)
-    × (progress i x.out ≡ written number count) × EndShows i (with_out (λ d. goes_on i (passes 0 d)) x) peer t
-WriteAgrees puts i x peer p (Ok Full) t q = HasMore i x × puts p no_room q × EndShows i x peer t
+    × ((writes i x.out there_is_room).answer ≡ written number count)
+    × EndShows i (with_out (λ d. (writes i d there_is_room).direction) x) peer t
+WriteAgrees puts i x peer p (Ok Full) t q =
+    HasMore i x × puts p no_room q × ((writes i x.out none_free).answer ≡ full) × EndShows i x peer t
 WriteAgrees puts i x peer p (Ok Nothing) t q = (is_bound x ≡ true) × (is_busy i x.out ≡ false) × (q ≡ p) × EndShows i x peer t
-WriteAgrees puts i x peer p (Err Spent) t q = HasMore i x × puts p spent q × EndShows i x peer t
+WriteAgrees puts i x peer p (Err Spent) t q =
+    HasMore i x × puts p spent q × ((writes i x.out used_up).answer ≡ refused (fault_number Spent)) × EndShows i x peer t
 WriteAgrees puts i x peer p (Err NotBound) t q = (is_bound x ≡ false) × (q ≡ p) × EndShows i x peer t
 WriteAgrees puts i x peer p (Err fault) t q = ⊥
 
@@ -168,7 +172,7 @@ RuleShows = (i : Planned) (msg reply : ℕ) (x : End) (peer : Direction) (s t : 
 pub record PartsStay (i : Planned) (d : Direction) : Type 0 where
   pub accepting : (c : TheCall) → parts_of i (accepts c d) ≡ parts_of i d
   pub replying : (c : TheCall) → parts_of i (accepts_or_waits i c d) ≡ parts_of i d
-  pub writing : parts_of i (goes_on i (passes 0 d)) ≡ parts_of i d
+  pub writing : (room : Room) → parts_of i (writes i d room).direction ≡ parts_of i d
   pub passing : (station : ℕ) → station ≢ last_station d → parts_of i (passes station d) ≡ parts_of i d
 
 abbrev pub OthersStay : Type 0

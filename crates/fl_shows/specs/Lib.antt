@@ -6,3 +6,4 @@ pub mod Cores
 pub mod EndLaws
 pub mod RingLaws
 pub mod FragmentLaws
+pub mod CoreLaws

@@ -78,7 +78,7 @@ IsPutOf streams label look = (f : Frag) → look ≡ placed f → frag_of stream
 
 abbrev pub RingPuts : Type 0
 RingPuts = (streams : Streams) (side : RingSide) (label : Label) (r : Ring) (s t : TheDuo) (look : Look)
-    → RingShows streams r s → RingCounts r → RingFits r → AllCarried streams → IsPutOf streams label look
+    → RingShows streams r s → RingCounts r → RingFits r → IsPutOf streams label look
     → DuoPuts (which_of side) s look t → PutAgrees streams side label r look t
 
 -- a look, a take or a tell, by what it came to; a take knows what a look would have told it
@@ -125,7 +125,7 @@ QueuePutAgrees streams label q look t = ⊥
 
 abbrev pub QueuePutShows : Type 0
 QueuePutShows = (streams : Streams) (label : Label) (q : Queue) (s t : TheQueue) (look : Look)
-    → QueueShows streams q s → AllCarried streams → IsPutOf streams label look
+    → QueueShows streams q s → IsPutOf streams label look
     → QueuePuts s look t → QueuePutAgrees streams label q look t
 
 -- this label stands first, for this fragment

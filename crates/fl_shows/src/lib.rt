@@ -2,10 +2,12 @@
 //! (`specs/`), and the law for each event of a part that the picture goes on and the answers agree.
 #![tactic(auto)]
 
+mod cores;
 mod ends;
 mod labels;
 mod rings;
 
+pub use cores::{hears_agree, monitors_begin, names_are_shown, opens_agree, outboxes_are_shown};
 pub use ends::{
     bound_shows, call_shows, fresh_shows, next_shows, others_stay, receive_shows, rule_shows,
     take_shows, write_shows,
