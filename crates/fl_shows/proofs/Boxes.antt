@@ -1,19 +1,17 @@
 -- Outboxes: what waits for each link.
-use Rattle.std.proofs.Common.{◌≡◌, refl, sym, ◌∙◌, ap, subst, ℕ, zero, suc, ◌+◌, ◌<◌, nat_lt, Bool, true, false, if◌then◌else◌, List, [], ◌∷◌, ◌++◌, map, length, drop, slice_get, slice_set, Option, Some, None, arith}
+use Rattle.std.proofs.Common.{◌≡◌, refl, sym, ◌∙◌, ap, subst, ℕ, zero, suc, nat_lt, false, List, [], ◌∷◌, ◌++◌, map, length, drop, slice_get, slice_set, Option, Some, None}
 use Rattle.std.proofs.lemmas.Option.{same_Some}
 use Rattle.std.proofs.lemmas.List.{map_push, length-map}
 use Rattle.fl_base.specs.declared.fragment.Frag.{Frag}
-use Rattle.fl_base.specs.declared.identity.CoreId.{CoreId}
 use Rattle.fl_hop.specs.Table.{TheCircuits, with_link}
 use Rattle.fl_monitor.specs.declared.message.Message.{Message}
 use Rattle.fl_monitor.specs.Routing.{given as given_here}
 use Rattle.fl_monitor.specs.Outboxes.{IsFragOf, AreFragsOf}
-use Rattle.fl_monitor.specs.Monitors.{TheMonitor, fresh_monitor, has_room, waiting_for, without_first}
+use Rattle.fl_monitor.specs.Monitors.{TheMonitor, waiting_for}
 use Rattle.fl_monitor.specs.Monitors.{can_say as monitor_can_say, Said as HasSaid}
 use Rattle.fl_queues.specs.Given.{given, changed_at}
 use Rattle.fl_queues.specs.Rings.{Said, RingEnd}
-use Rattle.fl_queues.specs.Monitors.{Link, Core, fresh_core, outbox_room, can_say, says_more, with_said, with_circuits, link_id}
-use Rattle.fl_queues.specs.Forwarding.{without_first_said}
+use Rattle.fl_queues.specs.Monitors.{Link, Core, outbox_room, says_more, with_said, with_circuits, link_id}
 use Rattle.fl_shows.specs.Fragments.{message_of, said_frag}
 use Rattle.fl_shows.specs.Cores.{OutboxesShow, MonitorShows}
 use Rattle.fl_shows.specs.FragmentLaws.{MessagesAreSaid}

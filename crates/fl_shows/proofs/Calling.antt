@@ -1,5 +1,5 @@
 -- Ends: a new end, one that is bound, calls and writes.
-use Rattle.std.proofs.Common.{◌≡◌, ◌≢◌, refl, sym, ◌∙◌, ap, subst, ℕ, zero, suc, ◌+◌, ◌≤◌, ◌<◌, nat_le, not, Bool, true, false, if◌then◌else◌, List, [], ◌∷◌, ◌++◌, length, map, drop, slice_get, Option, Some, None, is_some, arith}
+use Rattle.std.proofs.Common.{◌≡◌, ◌≢◌, refl, sym, ◌∙◌, ap, subst, ℕ, zero, suc, ◌≤◌, ◌<◌, nat_le, not, Bool, true, false, if◌then◌else◌, List, [], ◌∷◌, length, map, drop, slice_get, Option, Some, None, is_some, arith}
 use Rattle.std.specs.Prelude.{unwrap_or, IsSome, Result, Ok, Err, replicate, slice_index, take}
 use Rattle.std.proofs.lemmas.Bool.{false≢true}
 use Rattle.fl_base.specs.declared.fragment.Frag.{Frag}
@@ -8,25 +8,24 @@ use Rattle.fl_check.specs.Interface.{TheMessage, TheInterface}
 use Rattle.fl_value.specs.Value.{Datum, TheCall}
 use Rattle.fl_value.specs.Fits.{fits_of, fit_message}
 use Rattle.fl_compile.specs.declared.program.Program.{Program}
-use Rattle.fl_compile.specs.Programs.{program_of}
 use Rattle.fl_wire.specs.Payload.{frags_on}
 use Rattle.fl_link.specs.Looks.{Look}
 use Rattle.fl_endpoint.specs.declared.fault.EndFault.{EndFault}
 use Rattle.fl_endpoint.specs.declared.fault.EndFault.TheVariants.{Spent, Busy, UnknownMessage, Misfit, NotBound, Failed, Wire, Memory}
 use Rattle.fl_endpoint.specs.declared.answer.WriteAnswer.{WriteAnswer}
 use Rattle.fl_endpoint.specs.declared.answer.WriteAnswer.TheVariants.{Written, Full, Nothing}
-use Rattle.fl_endpoint.specs.View.{TheEnd, TheOutgoing, interface_in, fresh, bound, bound_by, number_or_0, frags_from, with_call, with_written, queued, wrote, nothing_to_send}
+use Rattle.fl_endpoint.specs.View.{TheEnd, TheOutgoing, interface_in, fresh, bound, bound_by, number_or_0, frags_from, queued, wrote, nothing_to_send}
 use Rattle.fl_endpoint.specs.Events.{Calls, Writes, ShowsNext, IsMessage}
 use Rattle.fl_endpoint.specs.Accounts.{Sound}
 use Rattle.fl_queues.specs.Calls.{Planned, total, last_count, whole_in, stream}
-use Rattle.fl_queues.specs.Events.{Answer, accepted, nothing, refused}
+use Rattle.fl_queues.specs.Events.{accepted, nothing, refused}
 use Rattle.fl_queues.specs.Rings.{Room, there_is_room, no_room as none_free, spent as used_up}
-use Rattle.fl_queues.specs.Ends.{Queue, Direction, written_of, last_station, is_busy, accepts, goes_on, passes, Wrote, writes, writes_by, End, is_bound, fresh_direction, unbound_end}
+use Rattle.fl_queues.specs.Ends.{Queue, Direction, written_of, last_station, is_busy, accepts, Wrote, writes, writes_by, End, is_bound, fresh_direction, unbound_end}
 use Rattle.fl_queues.specs.State.{State, Outcome, answers, change_out}
-use Rattle.fl_queues.specs.Sending.{makes_call, next_fragment}
+use Rattle.fl_queues.specs.Sending.{next_fragment}
 use Rattle.fl_queues.specs.SoundLabels.{IsCounted}
-use Rattle.fl_shows.specs.Ends.{planned_of, outgoing_of, parts_of, circuit_of, EndShows}
-use Rattle.fl_shows.specs.EndLaws.{with_out, CallAgrees, NextAgrees, WriteAgrees, HasMore}
+use Rattle.fl_shows.specs.Ends.{planned_of, outgoing_of, circuit_of, EndShows}
+use Rattle.fl_shows.specs.EndLaws.{with_out, CallAgrees, NextAgrees, WriteAgrees}
 use Rattle.fl_shows.proofs.Tests.{then_is, else_is, lt_false, le_true, le_false}
 use Rattle.fl_shows.proofs.Streams.{frags}
 use Rattle.fl_shows.proofs.Sending.{same_outgoing, unwritten, each_frags, nothing_left, idle_nothing, busy_some, busy_by, idle_by, accepted_is, wrote_is, progress_is, first_of_drop, none_of_drop}

@@ -1,14 +1,11 @@
 -- What labels stand for: what monitors say, and calls' fragments.
-use Rattle.std.proofs.Common.{◌≡◌, refl, sym, ◌∙◌, ap, subst, ℕ, zero, suc, ◌+◌, ◌-◌, ◌*◌, ◌<◌, ◌^◌, ◌/◌, ◌%◌, ◌==◌, Bool, true, false, List, [], ◌∷◌, ◌++◌, map, length, slice_get, Option, Some, None, arith}
+use Rattle.std.proofs.Common.{◌≡◌, refl, sym, ◌∙◌, ap, subst, ℕ, zero, suc, ◌<◌, ◌^◌, ◌==◌, Bool, true, false, List, [], ◌∷◌, ◌++◌, map, length, slice_get, Option, Some, None, arith}
 use Rattle.std.specs.List.{range_with_len}
 use Rattle.std.specs.Option.{option_map}
-use Rattle.std.specs.Prelude.{All}
 use Rattle.std.proofs.lemmas.Option.{slice_get-map, same_Some}
-use Rattle.std.proofs.lemmas.List.Elements.{All-head, All-tail}
 use Rattle.fl_base.specs.declared.fragment.Frag.{Frag}
 use Rattle.fl_base.specs.declared.identity.EndId.{EndId}
-use Rattle.fl_base.specs.Control.{body, bare, is_ack_only, control_word, circuit_of, with_circuit}
-use Rattle.fl_base.specs.Prefix.{IsPrefix}
+use Rattle.fl_base.specs.Control.{body, bare, control_word, circuit_of, with_circuit}
 use Rattle.fl_check.specs.Checks.{is_within_limits}
 use Rattle.std.proofs.lemmas.Bool.{and_parts, leb-true, false≢true}
 use Rattle.fl_check.specs.Interface.{TheMessage, TheInterface}
@@ -16,25 +13,22 @@ use Rattle.fl_value.specs.Value.{Datum, TheCall}
 use Rattle.fl_value.specs.Fits.{fits_of, fit_message}
 use Rattle.fl_value.specs.declared.value.PlanNo.TheVariants.{One}
 use Rattle.fl_layout.specs.Places.{count}
-use Rattle.fl_wire.specs.Payload.{payload_of, frag_on, frags_on, frags_of}
+use Rattle.fl_wire.specs.Payload.{payload_of, frag_on, frags_of}
 use Rattle.fl_endpoint.specs.Laws.{OnAnotherCircuit}
-use Rattle.fl_monitor.specs.declared.message.Message.{Message}
-use Rattle.fl_monitor.specs.declared.message.Message.TheVariants.{OpenCircuit, CircuitOpened, CircuitRefused}
 use Rattle.fl_monitor.specs.Intermon.{intermon, call_for, HasWidths}
 use Rattle.fl_monitor.specs.Saying.{Says, FitsByWidths, EachTakesOneFragment, SaysNoOther, SaysWhatIsWritten, SaysTheSame, SaysAlone}
-use Rattle.fl_monitor.specs.Outboxes.{IsFragOf}
 use Rattle.fl_queues.specs.Given.{given}
 use Rattle.fl_queues.specs.Calls.{Planned, stream}
-use Rattle.fl_queues.specs.Rings.{Said, open_circuit, circuit_opened, circuit_refused, Label, next_of, says, acknowledges}
+use Rattle.fl_queues.specs.Rings.{Said, open_circuit, circuit_opened, circuit_refused, next_of, says, acknowledges}
 use Rattle.fl_queues.specs.State.{Route, over_route, Binding, State, binding_of, interface_of, end_in, number_between}
 use Rattle.fl_queues.specs.Forwarding.{route_of}
 use Rattle.fl_queues.specs.SoundCalls.{AllFit, CallsFit}
 use Rattle.fl_queues.specs.Standing.{Routed}
-use Rattle.fl_shows.specs.Fragments.{Streams, frag_of, said_frag, monitor_frag, message_of, calls_on, calls_off_links, calls_between}
-use Rattle.fl_shows.specs.RingLaws.{IsCarried, AllCarried, GoOn}
-use Rattle.fl_shows.specs.FragmentLaws.{IsSaid, InterfacesKeepLimits, NumbersAreSmall, CallsAreCarried, OffLinks, GoesFrom, GoesOn, KeepsBinding, KeepsCalls, SameFragments}
+use Rattle.fl_shows.specs.Fragments.{Streams, said_frag, message_of, calls_on, calls_off_links, calls_between}
+use Rattle.fl_shows.specs.RingLaws.{IsCarried, GoOn}
+use Rattle.fl_shows.specs.FragmentLaws.{IsSaid, InterfacesKeepLimits, NumbersAreSmall, CallsAreCarried, OffLinks, GoesOn, KeepsCalls, SameFragments}
 use Rattle.fl_shows.proofs.Streams.{frags, stream_append, all_fit}
-use Rattle.fl_shows.proofs.Matching.{data_control, monitor_data, same_heads}
+use Rattle.fl_shows.proofs.Matching.{data_control, same_heads}
 
 -- ---- control words
 

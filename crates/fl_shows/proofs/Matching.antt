@@ -1,22 +1,19 @@
 -- Labels and the fragments that stand for them, one for one.
-use Rattle.std.proofs.Common.{◌≡◌, refl, sym, ◌∙◌, ap, subst, ℕ, ◌+◌, ◌*◌, ◌<◌, ◌^◌, ◌/◌, ◌%◌, ◌==◌, ◌&&◌, Bool, true, false, List, [], ◌∷◌, ◌++◌, map, slice_get, Option, Some, None, arith}
+use Rattle.std.proofs.Common.{◌≡◌, refl, sym, ◌∙◌, ap, ℕ, ◌^◌, ◌/◌, ◌%◌, ◌==◌, ◌&&◌, Bool, true, false, List, [], ◌∷◌, ◌++◌, map, slice_get, Option, Some, None, arith}
 use Rattle.std.specs.List.{list_all}
 use Rattle.std.proofs.lemmas.List.{map_push}
 use Rattle.std.proofs.lemmas.Option.{same_Some}
 use Rattle.fl_base.specs.declared.fragment.Frag.{Frag}
 use Rattle.fl_base.specs.Control.{bare, told_of, is_ack_only, control_word}
-use Rattle.fl_wire.specs.Payload.{payload_of}
-use Rattle.fl_link.specs.Looks.{saw, saw_ack}
-use Rattle.fl_link.specs.Queue.{look_at}
-use Rattle.fl_link.proofs.Conserved.{bare-ack, sees_call, sees_ack}
+use Rattle.fl_link.proofs.Conserved.{bare-ack}
 use Rattle.fl_ring.specs.Duo.{acknowledgement}
 use Rattle.fl_value.specs.Value.{TheCall}
-use Rattle.fl_monitor.specs.Intermon.{intermon, call_for}
-use Rattle.fl_queues.specs.Rings.{Said, Label, next_of, says, acknowledges, RingLabel}
+use Rattle.fl_monitor.specs.Intermon.{call_for}
+use Rattle.fl_queues.specs.Rings.{Label, next_of, says, acknowledges, RingLabel}
 use Rattle.fl_queues.specs.Standing.{labels_of}
 use Rattle.fl_shows.specs.Fragments.{Streams, frag_of, standing, AreOf, said_frag, monitor_frag, message_of}
 use Rattle.fl_shows.specs.Rings.{numbers_told, numbers_due}
-use Rattle.fl_shows.specs.RingLaws.{IsCarried, AllCarried, is_data}
+use Rattle.fl_shows.specs.RingLaws.{AllCarried, is_data}
 
 pub same_heads : {A : Type 0} (x y : A) (xs ys : List A) → x ∷ xs ≡ y ∷ ys → x ≡ y
 same_heads x y xs ys h = cc

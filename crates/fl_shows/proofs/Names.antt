@@ -1,5 +1,5 @@
 -- The table of names: what look-ups find there.
-use Rattle.std.proofs.Common.{◌≡◌, refl, sym, ◌∙◌, ap, subst, ℕ, zero, suc, ◌+◌, ◌-◌, ◌≤◌, ◌<◌, ◌==◌, nat_lt, cond, Bool, true, false, if◌then◌else◌, List, [], ◌∷◌, ◌++◌, length, slice_get, Option, Some, None, arith}
+use Rattle.std.proofs.Common.{◌≡◌, refl, sym, ◌∙◌, ap, subst, ℕ, zero, suc, ◌+◌, ◌-◌, ◌<◌, ◌==◌, nat_lt, Bool, true, false, List, [], ◌∷◌, ◌++◌, length, slice_get, Some, None, arith}
 use Rattle.std.specs.Prelude.{find, bytes_eq}
 use Rattle.std.specs.List.{position_from}
 use Rattle.std.proofs.lemmas.Option.{same_Some}
@@ -10,7 +10,7 @@ use Rattle.fl_queues.specs.Monitors.{Service, service_of}
 use Rattle.fl_queues.specs.Binding.{place_of_service}
 use Rattle.fl_shows.specs.Cores.{offer_of, registered_from, NamesShow}
 use Rattle.fl_shows.specs.CoreLaws.{registration_of, NamesAgree}
-use Rattle.fl_shows.proofs.Tests.{by_test, then_is, else_is, lt_true, lt_false, true_lt}
+use Rattle.fl_shows.proofs.Tests.{by_test, then_is, else_is, lt_true, true_lt}
 
 same : (n m : ℕ) → n ≡ m → (n == m) ≡ true
 same n m h = grind (arith, nat_tests, h)

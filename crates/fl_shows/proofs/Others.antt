@@ -1,11 +1,11 @@
 -- What an end has taken of the other's calls, while the other goes on.
-use Rattle.std.proofs.Common.{◌≡◌, ◌≢◌, refl, sym, ◌∙◌, ap, subst, ℕ, zero, suc, ◌+◌, ◌-◌, ◌≤◌, List, [], ◌∷◌, ◌++◌, length, take, drop, slice_get, slice_set, slice_index, Option, Some, None, arith}
+use Rattle.std.proofs.Common.{◌≡◌, ◌≢◌, refl, sym, ◌∙◌, ap, ℕ, zero, suc, ◌+◌, ◌-◌, ◌≤◌, List, [], ◌∷◌, ◌++◌, length, take, drop, slice_get, slice_set, slice_index, Option, Some, None, arith}
 use Rattle.std.proofs.lemmas.List.{length-set}
 use Rattle.fl_base.specs.declared.fragment.Frag.{Frag}
 use Rattle.fl_value.specs.Value.{TheCall}
 use Rattle.fl_queues.specs.Given.{given, changed_at}
 use Rattle.fl_queues.specs.Calls.{Planned, total, whole_in, stream}
-use Rattle.fl_queues.specs.Ends.{Direction, passes, taken_of, last_station, is_busy, accepts, accepts_or_waits, accepts_waiting, goes_on, Wrote, writes_by}
+use Rattle.fl_queues.specs.Ends.{Direction, passes, taken_of, last_station, is_busy, accepts, accepts_waiting, goes_on, Wrote, writes_by}
 use Rattle.fl_queues.specs.Events.{nothing}
 use Rattle.fl_queues.specs.Rings.{Room, there_is_room, no_room, spent}
 use Rattle.fl_shows.specs.Ends.{parts_of}

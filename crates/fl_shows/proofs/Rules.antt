@@ -1,5 +1,5 @@
 -- Reply rules: whether two messages have the same argument types.
-use Rattle.std.proofs.Common.{◌≡◌, refl, sym, ◌∙◌, ap, subst, ℕ, zero, suc, ◌<◌, ◌==◌, ◌&&◌, nat_lt, Bool, true, false, List, [], ◌∷◌, Option, Some, None, is_some, slice_get, slice_set, length, arith}
+use Rattle.std.proofs.Common.{◌≡◌, refl, sym, ◌∙◌, ap, subst, ℕ, zero, suc, ◌<◌, ◌==◌, ◌&&◌, Bool, true, false, List, [], ◌∷◌, Option, Some, is_some, slice_get, slice_set, length, arith}
 use Rattle.std.specs.Prelude.{Result, Ok, Err}
 use Rattle.std.proofs.lemmas.Bool.{eqb-true}
 use Rattle.std.proofs.lemmas.Bool.Decides.{nat_tests}
@@ -8,18 +8,16 @@ use Rattle.fl_check.specs.declared.interface.Scalar.TheVariants.{Uint8, Int8, Bo
 use Rattle.fl_check.specs.declared.interface.Scalar.TheVariants.{Int16, Uint32, Int32, Iref, Uint64, Int64}
 use Rattle.fl_check.specs.declared.interface.Scalar.TheVariants.{Uintptr, Intptr, Size, Errval}
 use Rattle.fl_check.specs.Interface.{TheType, scalar, enumeration, structure, array, TheTypes, no_more, field}
-use Rattle.fl_check.specs.Interface.{TheArgType, fixed, text, sized, TheMessage, TheInterface}
-use Rattle.fl_value.specs.Tape.{types_of}
+use Rattle.fl_check.specs.Interface.{TheArgType, fixed, text, sized, TheInterface}
 use Rattle.fl_endpoint.specs.declared.fault.EndFault.{EndFault}
-use Rattle.fl_endpoint.specs.declared.fault.EndFault.TheVariants.{Spent, Busy, UnknownMessage, Misfit, NotBound, Failed, Wire, Memory}
+use Rattle.fl_endpoint.specs.declared.fault.EndFault.TheVariants.{UnknownMessage, Misfit}
 use Rattle.fl_endpoint.specs.View.{TheEnd, interface_in}
-use Rattle.fl_endpoint.specs.View.{with_rule as end_with_rule}
 use Rattle.fl_endpoint.specs.Events.{SetsRule, IsMessage, SameTypes}
 use Rattle.fl_queues.specs.Calls.{Planned}
 use Rattle.fl_queues.specs.SameTypes.{scalar_number, same_type, same_fields, same_argument, same_arguments}
 use Rattle.fl_queues.specs.Ends.{Direction, End, with_rule}
 use Rattle.fl_queues.specs.Taking.{has_message, arguments_of}
-use Rattle.fl_shows.specs.Ends.{circuit_of, EndShows}
+use Rattle.fl_shows.specs.Ends.{EndShows}
 use Rattle.fl_shows.specs.EndLaws.{are_messages, have_same_arguments, RuleAgrees}
 use Rattle.fl_shows.proofs.Tests.{lt_true, true_lt}
 use Rattle.fl_shows.proofs.Calling.{stays, same_interface, some_within}

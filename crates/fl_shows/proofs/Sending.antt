@@ -1,11 +1,10 @@
 -- What is to be sent of a direction's calls, as calls are accepted and fragments written.
-use Rattle.std.proofs.Common.{◌≡◌, ◌≢◌, refl, sym, ◌∙◌, ap, subst, ℕ, zero, suc, ◌+◌, ◌-◌, ◌≤◌, ◌<◌, nat_lt, Bool, true, false, if◌then◌else◌, List, [], ◌∷◌, ◌++◌, length, map, drop, slice_get, slice_index, Option, Some, None, arith}
-use Rattle.std.specs.Prelude.{unwrap_or}
+use Rattle.std.proofs.Common.{◌≡◌, ◌≢◌, refl, sym, ◌∙◌, ap, ℕ, zero, suc, ◌+◌, ◌-◌, ◌≤◌, nat_lt, true, false, if◌then◌else◌, List, [], ◌∷◌, ◌++◌, length, map, drop, slice_get, slice_index, Some, None, arith}
 use Rattle.std.proofs.lemmas.List.{drop_all, drop-drop, map_push, length-drop}
 use Rattle.fl_base.specs.declared.fragment.Frag.{Frag}
 use Rattle.fl_value.specs.Value.{TheCall}
 use Rattle.fl_wire.specs.Payload.{frags_on}
-use Rattle.fl_endpoint.specs.View.{TheOutgoing, nothing_to_send, begun, queued, queued_behind, wrote, number_or_0}
+use Rattle.fl_endpoint.specs.View.{TheOutgoing, begun, queued, queued_behind, wrote}
 use Rattle.fl_endpoint.specs.View.{goes_on as next_begun}
 use Rattle.fl_queues.specs.Given.{changed_at}
 use Rattle.fl_queues.specs.Events.{written}

@@ -1,15 +1,12 @@
 -- Rings, by the side that puts, looks, takes or tells.
-use Rattle.std.proofs.Common.{◌≡◌, ◌⊎◌, inl, inr, refl, sym, ◌∙◌, ap, subst, ℕ, zero, suc, ◌+◌, ◌-◌, ◌/◌, ◌%◌, ◌≤◌, ◌<◌, ◌^◌, ◌==◌, ◌||◌, nat_le, Bool, true, false, if◌then◌else◌, List, [], ◌∷◌, ◌++◌, length, map, drop, slice_get, Option, Some, None, arith}
+use Rattle.std.proofs.Common.{◌≡◌, ◌⊎◌, inl, inr, refl, sym, ◌∙◌, ap, subst, ℕ, ◌+◌, ◌-◌, ◌/◌, ◌%◌, ◌≤◌, ◌<◌, ◌^◌, ◌==◌, ◌||◌, nat_le, Bool, true, false, if◌then◌else◌, List, [], ◌∷◌, length, slice_get, Option, Some, None, arith}
 use Rattle.std.proofs.lemmas.Bool.{eqb-true}
 use Rattle.fl_base.specs.declared.fragment.Frag.{Frag}
-use Rattle.fl_base.specs.Control.{bare, is_ack_only}
-use Rattle.fl_link.specs.Cursor.{epoch_at}
+use Rattle.fl_base.specs.Control.{bare}
 use Rattle.fl_link.specs.Looks.{Look, placed, no_room, spent, saw, saw_ack, found, found_ack, missed, told, kept}
 use Rattle.fl_link.specs.Queue.{front_of}
 use Rattle.fl_link.proofs.Conserved.{sees_call, sees_ack}
-use Rattle.fl_ring.specs.declared.one_duo.Which.{Which}
-use Rattle.fl_ring.specs.declared.one_duo.Which.TheVariants.{One, Two}
-use Rattle.fl_ring.specs.Duo.{TheHalf, TheDuo, got, looked, with_known, with_written, with_arrived, counts_by, AtSide, HalfPuts, HalfTakes, DuoPuts, DuoTakes, side_of, across, knowing, acknowledgement}
+use Rattle.fl_ring.specs.Duo.{TheHalf, TheDuo, looked, with_known, with_written, with_arrived, counts_by, HalfPuts, HalfTakes, DuoPuts, DuoTakes, side_of, across, knowing, acknowledgement}
 use Rattle.fl_ring.specs.Duo.{written as written_frag, free as free_slots}
 use Rattle.fl_ring.specs.Duo.{with_taken}
 use Rattle.fl_queues.specs.Given.{given}
@@ -18,12 +15,11 @@ use Rattle.fl_queues.specs.Rings.{there_is_room, no_room as none_free, spent as 
 use Rattle.fl_queues.specs.Standing.{labels_of}
 use Rattle.fl_queues.specs.Making.{is_ring_size}
 use Rattle.fl_queues.specs.SoundRings.{HalfCounts, RingCounts, RingFits}
-use Rattle.fl_queues.specs.Sending.{epoch_next}
-use Rattle.fl_shows.specs.Fragments.{Streams, frag_of, AreOf}
+use Rattle.fl_shows.specs.Fragments.{Streams, frag_of}
 use Rattle.fl_shows.specs.Rings.{which_of, DirectionShows, RingShows}
-use Rattle.fl_shows.specs.RingLaws.{IsCarried, AllCarried, IsPutOf, is_data, IsFirst, IsAcknowledged, Stamps, PutAgrees, TakeAgrees, sure_for_data, sure_to_acknowledge, room_for_data, room_to_acknowledge}
-use Rattle.fl_shows.proofs.Tests.{by_test, then_is, else_is, le_true, le_false, true_le, false_le}
-use Rattle.fl_shows.proofs.Matching.{Meets, meets, none_by, data_label, ack_label, are_still}
+use Rattle.fl_shows.specs.RingLaws.{AllCarried, IsPutOf, IsFirst, IsAcknowledged, Stamps, PutAgrees, TakeAgrees, sure_for_data, sure_to_acknowledge, room_to_acknowledge}
+use Rattle.fl_shows.proofs.Tests.{by_test, then_is, else_is, le_true, le_false}
+use Rattle.fl_shows.proofs.Matching.{none_by, data_label, ack_label, are_still}
 use Rattle.fl_shows.proofs.Facing.{Facing, looked_is, first_meets, knowing_faces, put_faces, taken_from, take_faces}
 
 -- ---- by side

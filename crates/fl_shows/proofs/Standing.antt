@@ -1,5 +1,5 @@
 -- Queues: a put, a look and a take.
-use Rattle.std.proofs.Common.{◌≡◌, refl, sym, ◌∙◌, ap, subst, ℕ, zero, suc, ◌+◌, ◌≤◌, ◌<◌, ◌^◌, nat_lt, Bool, true, false, if◌then◌else◌, List, [], ◌∷◌, ◌++◌, length, map, drop, slice_get, Option, Some, None, arith}
+use Rattle.std.proofs.Common.{◌≡◌, refl, sym, ◌∙◌, ap, subst, ◌+◌, ◌<◌, ◌^◌, true, false, List, [], ◌∷◌, length, map, drop, slice_get, Some, None, arith}
 use Rattle.std.proofs.lemmas.List.{length-map}
 use Rattle.fl_base.specs.declared.fragment.Frag.{Frag}
 use Rattle.fl_base.specs.Control.{bare}
@@ -9,7 +9,7 @@ use Rattle.fl_link.proofs.Conserved.{sees_call, sees_ack}
 use Rattle.fl_link.proofs.Carried.{bare-stamped}
 use Rattle.fl_queues.specs.Rings.{Label, acknowledges}
 use Rattle.fl_queues.specs.Rings.{there_is_room, no_room as none_free}
-use Rattle.fl_queues.specs.Ends.{Queue, has_room, queue_room, joined_by, without_first}
+use Rattle.fl_queues.specs.Ends.{Queue, has_room, joined_by, without_first}
 use Rattle.fl_shows.specs.Fragments.{Streams, frag_of, standing, AreOf}
 use Rattle.fl_shows.specs.Queues.{QueueShows}
 use Rattle.fl_shows.specs.RingLaws.{AllCarried, IsPutOf, is_data, HoldsCalls, StandsFirst, QueuePutAgrees, QueueTakeAgrees}

@@ -1,29 +1,29 @@
 -- Ends that take the next fragment of the other end's calls.
-use Rattle.std.proofs.Common.{◌≡◌, ◌≢◌, refl, sym, ◌∙◌, ap, subst, ℕ, zero, suc, ◌+◌, ◌-◌, ◌≤◌, ◌<◌, min, Bool, true, false, List, [], ◌∷◌, ◌++◌, length, map, take, drop, slice_get, slice_index, slice_set, Option, Some, None, is_some, arith}
+use Rattle.std.proofs.Common.{◌≡◌, refl, sym, ◌∙◌, ap, subst, ℕ, zero, suc, ◌+◌, ◌-◌, ◌≤◌, ◌<◌, List, [], ◌∷◌, ◌++◌, length, take, drop, slice_get, slice_index, slice_set, Option, Some, None, arith}
 use Rattle.std.specs.Prelude.{Result, Ok, Err}
 use Rattle.std.specs.Option.{option_map}
-use Rattle.std.proofs.lemmas.List.{length-append, length-drop, length-take, take-append-drop, drop-append-le, drop_all, drop_at, drop_more, take_more, length_push, length-set}
+use Rattle.std.proofs.lemmas.List.{length-drop, length-take, take-append-drop, drop-append-le, drop_all, drop_at, drop_more, take_more, length_push, length-set}
 use Rattle.std.proofs.lemmas.Option.{slice_get_within, slice_get_past, get_or_from_slice_get}
 use Rattle.fl_base.specs.declared.fragment.Frag.{Frag}
 use Rattle.fl_base.specs.Control.{bare}
 use Rattle.fl_value.specs.Value.{TheCall, call_of}
 use Rattle.fl_compile.specs.Programs.{program_of}
 use Rattle.fl_endpoint.specs.declared.fault.EndFault.{EndFault}
-use Rattle.fl_endpoint.specs.declared.fault.EndFault.TheVariants.{Spent, Busy, UnknownMessage, Misfit, NotBound, Failed, Wire, Memory}
+use Rattle.fl_endpoint.specs.declared.fault.EndFault.TheVariants.{Wire, Memory}
 use Rattle.fl_endpoint.specs.declared.answer.ReceiveAnswer.{ReceiveAnswer}
 use Rattle.fl_endpoint.specs.declared.answer.ReceiveAnswer.TheVariants.{Handle, Part, Quiet, Empty, HeldBack}
-use Rattle.fl_endpoint.specs.View.{TheEnd, TheOutgoing, frags_from, queued, queued_if, with_part, with_handled, rule_in}
+use Rattle.fl_endpoint.specs.View.{TheEnd, TheOutgoing, frags_from, queued, queued_if, with_handled, rule_in}
 use Rattle.fl_endpoint.specs.Events.{TakesIn}
 use Rattle.fl_endpoint.specs.Accounts.{Sound}
 use Rattle.fl_endpoint.specs.Laws.{TakesInOrder, TakesNext}
 use Rattle.fl_queues.specs.Given.{given, changed_at}
 use Rattle.fl_queues.specs.Calls.{Planned, fragments, total, whole_in, stream}
-use Rattle.fl_queues.specs.Ends.{Direction, passes, taken_of, last_station, takes_one, handled, comes_to, Taken, whole, a_part, End, replies, rule_at, accepts_or_waits}
+use Rattle.fl_queues.specs.Ends.{Direction, taken_of, last_station, takes_one, handled, comes_to, whole, a_part, End, replies, rule_at, accepts_or_waits}
 use Rattle.fl_queues.specs.SoundLabels.{IsCounted}
 use Rattle.fl_queues.specs.SoundCalls.{AllFit}
 use Rattle.fl_shows.specs.Ends.{planned_of, outgoing_of, parts_of, circuit_of, EndShows}
 use Rattle.fl_shows.specs.EndLaws.{TakeAgrees}
-use Rattle.fl_shows.proofs.Streams.{frags, length_frags, length_stream, stream_append, total_push, Splits, splits, whole_append, whole_short, whole_one, all_fit, fit_behind}
+use Rattle.fl_shows.proofs.Streams.{length_frags, length_stream, stream_append, total_push, Splits, splits, whole_append, whole_short, whole_one, all_fit, fit_behind}
 use Rattle.fl_shows.proofs.Sending.{queued_is}
 use Rattle.fl_shows.proofs.Calling.{stays, same_frags}
 

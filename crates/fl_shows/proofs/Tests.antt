@@ -1,5 +1,5 @@
 -- Tests on numbers and chains of tests.
-use Rattle.std.proofs.Common.{◌≡◌, refl, sym, ◌∙◌, ap, ℕ, ◌<◌, ◌≤◌, nat_le, nat_lt, not, Bool, true, false, if◌then◌else◌, arith}
+use Rattle.std.proofs.Common.{◌≡◌, refl, ap, ℕ, ◌<◌, ◌≤◌, nat_le, nat_lt, not, Bool, true, false, if◌then◌else◌, arith}
 use Rattle.std.proofs.lemmas.Bool.Decides.{nat_tests}
 
 pub lt_true : (a b : ℕ) → a < b → nat_lt a b ≡ true

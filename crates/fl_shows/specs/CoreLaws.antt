@@ -1,7 +1,5 @@
 -- The laws of what else a core keeps: the table of names, outboxes, and what a monitor makes of a message.
-use Rattle.std.specs.Prelude.{ℕ, ◌≡◌, ◌≢◌, ◌+◌, true, List, [], ◌∷◌, ◌++◌, map, length, slice_get, Option, Some, None, Result, Ok, Err}
-use Rattle.fl_base.specs.declared.fragment.Frag.{Frag}
-use Rattle.fl_base.specs.declared.identity.LinkId.{LinkId}
+use Rattle.std.specs.Prelude.{ℕ, ◌≡◌, ◌≢◌, ◌+◌, List, [], ◌∷◌, ◌++◌, map, slice_get, Some, None, Result, Ok, Err}
 use Rattle.fl_base.specs.declared.identity.Circuit.{Circuit}
 use Rattle.fl_base.specs.declared.identity.CoreId.{CoreId}
 use Rattle.fl_hop.specs.Table.{with_link}
@@ -15,7 +13,6 @@ use Rattle.fl_monitor.specs.declared.fault.MonitorFault.TheVariants.{Astray, Out
 use Rattle.fl_monitor.specs.Fates.{Known}
 use Rattle.fl_monitor.specs.Hearing.{IsAstray}
 use Rattle.fl_monitor.specs.Monitors.{TheMonitor, fresh_monitor, waiting_for, without_first, Hears, Opens}
-use Rattle.fl_queues.specs.Events.{DispatcherId}
 use Rattle.fl_queues.specs.Rings.{Opening, Said, open_circuit, RingEnd}
 use Rattle.fl_queues.specs.Waits.{Dispatcher, has_places}
 use Rattle.fl_queues.specs.Monitors.{Link, Core, fresh_core, Service, service_of, link_to, next_on, hears, opens, link_id}
@@ -55,12 +52,21 @@ pub record SendsFirst (l : ℕ) (link : Link) (k : Core) (m : TheMonitor) : Type
 abbrev pub OutboxesAreShown : Type 0
 OutboxesAreShown = (l : ℕ) (link : Link) (k : Core) (m : TheMonitor) → MonitorShows k m → slice_get k.links l ≡ Some link → SendsFirst l link k m
 
--- the monitor of a new core, and one with one more link, whose ring is this
+-- a core with one more link, whose ring is this, and its monitor
+abbrev pub with_new_link : CoreId → RingEnd → Core → Core
+with_new_link neighbour ring k = record {
+  dispatchers = k.dispatchers;
+  circuits = with_link k.circuits neighbour;
+  links = k.links ++ record { ring = ring; outbox = [] } ∷ [];
+}
+
+abbrev pub with_empty_outbox : CoreId → TheMonitor → TheMonitor
+with_empty_outbox neighbour m = record { circuits = with_link m.circuits neighbour; outboxes = m.outboxes ++ [] ∷ [] }
+
 pub record MonitorsBegin : Type 0 where
   pub fresh : (core : ℕ) → MonitorShows (fresh_core core) (fresh_monitor core)
   pub linked : (k : Core) (m : TheMonitor) (neighbour : CoreId) (ring : RingEnd) → MonitorShows k m
-      → MonitorShows (record { dispatchers = k.dispatchers; circuits = with_link k.circuits neighbour; links = k.links ++ record { ring = ring; outbox = [] } ∷ [] })
-      (record { circuits = with_link m.circuits neighbour; outboxes = m.outboxes ++ [] ∷ [] })
+      → MonitorShows (with_new_link neighbour ring k) (with_empty_outbox neighbour m)
 
 -- ---- a circuit is opened
 

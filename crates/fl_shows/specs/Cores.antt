@@ -1,7 +1,6 @@
 -- When what else a core keeps is the picture of the machine's: circuits, outboxes, channels; and the table of names.
 use Rattle.std.specs.Prelude.{ℕ, ◌≡◌, ◌+◌, List, [], ◌∷◌, map}
 use Rattle.fl_base.specs.declared.fragment.Frag.{Frag}
-use Rattle.fl_lists.specs.ThreeLists.{ThreeLists}
 use Rattle.fl_nameserv.specs.declared.registration.Service.{Service as Offer}
 use Rattle.fl_nameserv.specs.Registrations.{TheRegistration}
 use Rattle.fl_monitor.specs.Outboxes.{AreFragsOf}

@@ -1,5 +1,5 @@
 -- The laws of what labels stand for: what monitors say, and calls' fragments from place to place.
-use Rattle.std.specs.Prelude.{ℕ, ◌≡◌, ◌<◌, ◌^◌, true, List, slice_get, Option, Some}
+use Rattle.std.specs.Prelude.{ℕ, ◌≡◌, ◌<◌, ◌^◌, true, slice_get, Option, Some}
 use Rattle.fl_base.specs.declared.fragment.Frag.{Frag}
 use Rattle.fl_base.specs.declared.identity.EndId.{EndId}
 use Rattle.fl_base.specs.Control.{bare, circuit_of, with_circuit}
@@ -11,11 +11,11 @@ use Rattle.fl_monitor.specs.Saying.{Says, IsAlone}
 use Rattle.fl_monitor.specs.Outboxes.{IsFragOf}
 use Rattle.fl_queues.specs.Calls.{Planned}
 use Rattle.fl_queues.specs.Rings.{Said}
-use Rattle.fl_queues.specs.State.{Route, Binding, State, binding_of, interface_of, end_in, number_between}
+use Rattle.fl_queues.specs.State.{Route, Binding, State, binding_of, end_in, number_between}
 use Rattle.fl_queues.specs.Forwarding.{route_of}
 use Rattle.fl_queues.specs.SoundCalls.{CallsFit}
 use Rattle.fl_queues.specs.Standing.{Routed}
-use Rattle.fl_shows.specs.Fragments.{said_frag, message_of, calls_on, calls_off_links, calls_between}
+use Rattle.fl_shows.specs.Fragments.{said_frag, message_of, calls_off_links, calls_between}
 use Rattle.fl_shows.specs.RingLaws.{IsCarried, AllCarried, GoOn}
 
 -- ---- what monitors say

@@ -1,6 +1,6 @@
 -- Which fragment a label stands for: where the machine has a label, the world has this fragment, in a round's
 -- epoch and telling a count.
-use Rattle.std.specs.Prelude.{ℕ, ◌≡◌, List, [], ◌∷◌, map, slice_get, Option, Some}
+use Rattle.std.specs.Prelude.{ℕ, ◌≡◌, List, [], map, slice_get, Option, Some}
 use Rattle.fl_base.specs.declared.fragment.Frag.{Frag}
 use Rattle.fl_base.specs.declared.identity.CoreId.{CoreId}
 use Rattle.fl_base.specs.declared.identity.Circuit.{Circuit}

@@ -1,5 +1,5 @@
 -- When a queue is the picture of the machine's: a fragment stands there for each label.
-use Rattle.std.specs.Prelude.{ℕ, ◌≡◌, false}
+use Rattle.std.specs.Prelude.{◌≡◌, false}
 use Rattle.fl_link.specs.Queue.{TheQueue}
 use Rattle.fl_queues.specs.Ends.{Queue}
 use Rattle.fl_shows.specs.Fragments.{Streams, AreOf}

@@ -1,6 +1,6 @@
 -- The laws of rings and queues: whatever a side of a ring, or a queue, comes to, where it was the picture of the
 -- machine's before, it is the picture of what the machine makes of that, which finds the same room and the same label.
-use Rattle.std.specs.Prelude.{ℕ, ◌≡◌, ◌≤◌, ◌⊎◌, ◌%◌, Bool, true, false, List, slice_get, Option, Some, None}
+use Rattle.std.specs.Prelude.{ℕ, ◌≡◌, ◌⊎◌, ◌%◌, Bool, true, false, slice_get, Some, None}
 use Rattle.fl_base.specs.declared.fragment.Frag.{Frag}
 use Rattle.fl_base.specs.declared.identity.EndId.{EndId}
 use Rattle.fl_base.specs.Control.{bare, is_ack_only}
@@ -8,9 +8,10 @@ use Rattle.fl_link.specs.Cursor.{epoch_at}
 use Rattle.fl_link.specs.Looks.{Look, placed, no_room, spent, saw, saw_ack, found, found_ack, missed, told, kept}
 use Rattle.fl_link.specs.Queue.{TheQueue, QueuePuts, QueueTakes}
 use Rattle.fl_ring.specs.Duo.{TheDuo, DuoPuts, DuoTakes, side_of, got}
-use Rattle.fl_queues.specs.Rings.{Label, next_of, says, acknowledges, RingLabel, Ring, RingSide, written_by, read_by, first_for, looks, makes_sure, puts, takes, owes}
-use Rattle.fl_queues.specs.Rings.{Room, room, there_is_room, no_room as none_free, spent as used_up, for_data, for_acknowledgement, fresh_ring}
-use Rattle.fl_queues.specs.Ends.{Queue, joined_by, without_first, has_room, queue_room}
+use Rattle.fl_queues.specs.Rings.{Label, next_of, says, acknowledges, RingLabel, Ring, RingSide, written_by, read_by}
+use Rattle.fl_queues.specs.Rings.{first_for, looks, makes_sure, puts, takes, owes}
+use Rattle.fl_queues.specs.Rings.{Room, room, there_is_room, no_room as none_free, spent as used_up, for_data, for_acknowledgement}
+use Rattle.fl_queues.specs.Ends.{Queue, joined_by, without_first, queue_room}
 use Rattle.fl_queues.specs.SoundRings.{RingCounts, RingFits}
 use Rattle.fl_queues.specs.Sending.{epoch_next}
 use Rattle.fl_shows.specs.Fragments.{Streams, frag_of}
