@@ -157,7 +157,7 @@ of_calls circuit s e k f q =
     let i = given_some (interface_of s b.0) (λ j. stream circuit j (end_in e.side b.0).out.accepted) k f b.2 in
     record { binding = b.0; binding_is = b.1; interface = i.0; interface_is = i.1; at = i.2 }
 
-calls_are : (circuit : ℕ) (s : State) (e : EndId) (x : Binding) (i : Planned) → binding_of s e ≡ Some x → interface_of s x ≡ Some i
+pub calls_are : (circuit : ℕ) (s : State) (e : EndId) (x : Binding) (i : Planned) → binding_of s e ≡ Some x → interface_of s x ≡ Some i
     → calls_on circuit s e ≡ stream circuit i (end_in e.side x).out.accepted
 calls_are circuit s e x i p q =
     ap (λ (o : Option Binding). given o [] λ y. given (interface_of s y) [] λ j. stream circuit j (end_in e.side y).out.accepted) p
@@ -179,7 +179,7 @@ of_link a b s e k f q =
     let n = given_some (number_between a b r.0) (λ c. calls_on c s e) k f r.2 in
     record { binding = x.0; binding_is = x.1; route = r.0; route_is = r.1; number = n.0; number_is = n.1; at = n.2 }
 
-link_calls_are : (a b : ℕ) (s : State) (e : EndId) (x : Binding) (route : Route) (n : ℕ) → binding_of s e ≡ Some x → route_of x.back ≡ Some route
+pub link_calls_are : (a b : ℕ) (s : State) (e : EndId) (x : Binding) (route : Route) (n : ℕ) → binding_of s e ≡ Some x → route_of x.back ≡ Some route
     → number_between a b route ≡ Some n → calls_between a b s e ≡ calls_on n s e
 link_calls_are a b s e x route n p q r =
     ap (λ (o : Option Binding). given o [] λ y. given (route_of y.back) [] λ w. given (number_between a b w) [] λ c. calls_on c s e) p

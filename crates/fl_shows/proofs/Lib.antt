@@ -14,3 +14,5 @@ pub mod Carried
 pub mod Names
 pub mod Boxes
 pub mod Hearing
+pub mod Turns
+pub mod Leaving

@@ -7,3 +7,4 @@ pub mod EndLaws
 pub mod RingLaws
 pub mod FragmentLaws
 pub mod CoreLaws
+pub mod StateLaws

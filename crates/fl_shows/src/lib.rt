@@ -6,6 +6,7 @@ mod cores;
 mod ends;
 mod labels;
 mod rings;
+mod states;
 
 pub use cores::{hears_agree, monitors_begin, names_are_shown, opens_agree, outboxes_are_shown};
 pub use ends::{
@@ -16,3 +17,4 @@ pub use labels::{calls_are_carried, calls_go_on, labels_stay, messages_are_said}
 pub use rings::{
     looks_once, pictures_go_on, queue_puts, queue_takes, ring_puts, ring_stamps, ring_takes,
 };
+pub use states::{first_is_in_turn, next_is_written};
