@@ -5,6 +5,7 @@ use Rattle.std.proofs.lemmas.List.{map_push, length-map}
 use Rattle.fl_base.specs.declared.fragment.Frag.{Frag}
 use Rattle.fl_hop.specs.Table.{TheCircuits, with_link}
 use Rattle.fl_monitor.specs.declared.message.Message.{Message}
+use Rattle.fl_monitor.specs.Intermon.{HasWidths}
 use Rattle.fl_monitor.specs.Routing.{given as given_here}
 use Rattle.fl_monitor.specs.Outboxes.{IsFragOf, AreFragsOf}
 use Rattle.fl_monitor.specs.Monitors.{TheMonitor, waiting_for}
@@ -45,6 +46,12 @@ first_frag law (f ∷ frags) (m ∷ ms) said a q =
     let is : IsFragOf f (message_of m) = a.0 in
     let same : m ≡ said = same_Some m said q in
     ap Some ((law m is.widths).written f is ∙ ap said_frag same)
+
+first_widths : (frags : List Frag) (outbox : List Said) (said : Said) → AreFragsOf frags (map message_of outbox)
+    → slice_get outbox 0 ≡ Some said → HasWidths (message_of said)
+first_widths frags [] said a q = absurd (cc)
+first_widths [] (m ∷ ms) said a q = absurd a
+first_widths (f ∷ frags) (m ∷ ms) said a q = subst (λ (n : Said). HasWidths (message_of n)) (same_Some m said q) a.0.widths
 
 none_left : (frags : List Frag) (outbox : List Said) → AreFragsOf frags (map message_of outbox) → slice_get outbox 0 ≡ None → slice_get frags 0 ≡ None
 none_left [] outbox a q = refl
@@ -109,6 +116,7 @@ sends_first law l link k m h q =
     let waits : waiting_for m.outboxes l ≡ at.0 = waits_is m.outboxes l at.0 at.1 in
     record {
       next = λ said r. ap (λ (fs : List Frag). slice_get fs 0) waits ∙ first_frag law at.0 link.outbox said at.2 r;
+      widths = λ said r. first_widths at.0 link.outbox said at.2 r;
       none = λ r. ap (λ (fs : List Frag). slice_get fs 0) waits ∙ none_left at.0 link.outbox at.2 r;
       gone = record {
         circuits = h.circuits;

@@ -12,8 +12,8 @@ use Rattle.fl_ring.proofs.Numbers.{count_named}
 use Rattle.fl_queues.specs.Rings.{Label, RingLabel, Half, knows, adds, tells_all, reads}
 use Rattle.fl_queues.specs.Standing.{labels_of}
 use Rattle.fl_queues.specs.SoundRings.{Rises, HalfCounts}
-use Rattle.fl_shows.specs.Fragments.{Streams, frag_of, AreOf}
-use Rattle.fl_shows.specs.Rings.{DirectionShows, numbers_told, numbers_due}
+use Rattle.fl_shows.specs.Fragments.{Streams, frag_of, AreOf, MayBeSaid}
+use Rattle.fl_shows.specs.Rings.{AllMayBeSaid, DirectionShows, numbers_told, numbers_due}
 use Rattle.fl_shows.proofs.Matching.{Meets, meets, are_more, numbers_more}
 
 -- one side and the other; of the machine, the half that the one writes, and the half that it reads
@@ -70,6 +70,7 @@ knowing_faces streams out inn a b n m e h = record {
     read = h.forth.read;
     frags = h.forth.frags;
     tells = h.forth.tells;
+    said = h.forth.said;
   };
   back = record {
     sent = h.back.sent;
@@ -78,8 +79,22 @@ knowing_faces streams out inn a b n m e h = record {
     read = h.back.read;
     frags = h.back.frags;
     tells = h.back.tells;
+    said = h.back.said;
   };
 }
+
+-- ---- what monitors say
+
+said_more : (ls : List RingLabel) (l : RingLabel) → AllMayBeSaid ls → MayBeSaid l.label → AllMayBeSaid (ls ++ l ∷ [])
+said_more [] l a h = (h, tt)
+said_more (m ∷ ls) l a h = (a.0, said_more ls l a.1 h)
+
+said_less : (ls : List RingLabel) → AllMayBeSaid ls → AllMayBeSaid (drop 1 ls)
+said_less [] a = tt
+said_less (l ∷ ls) a = a.1
+
+pub first_said : (ls rest : List RingLabel) (l : RingLabel) → ls ≡ l ∷ rest → AllMayBeSaid ls → MayBeSaid l.label
+first_said ls rest l e a = let b : AllMayBeSaid (l ∷ rest) = subst AllMayBeSaid e a in b.0
 
 -- ---- a put
 
@@ -87,9 +102,9 @@ bit : (n i : ℕ) → epoch_at n i < 2
 bit n i = omega arith
 
 pub put_faces : (streams : Streams) (size : ℕ) (label : Label) (f : Frag) (out inn : Half) (a b : TheHalf) → Facing streams out inn a b
-    → frag_of streams label ≡ Some (bare f)
+    → frag_of streams label ≡ Some (bare f) → MayBeSaid label
     → Facing streams (adds label inn.read out) (tells_all inn) (with_written a) (with_arrived b (written_frag size a f))
-put_faces streams size label f out inn a b h is =
+put_faces streams size label f out inn a b h is may =
     let g = written_frag size a f in
     let plain : bare (written_frag size a f) ≡ bare f = bare-stamped f (epoch_at size a.sent) (got a % 65536) (bit size a.sent) in
     let number : told_of (written_frag size a f).control ≡ got a % 65536
@@ -105,6 +120,7 @@ put_faces streams size label f out inn a b h is =
             (sym (map_push (λ (m : RingLabel). m.label) out.waiting l))
             (are_more streams (labels_of out.waiting) b.waiting label (written_frag size a f) h.forth.frags (is ∙ ap Some (sym plain)));
         tells = numbers_more b.waiting out.waiting (written_frag size a f) l h.forth.tells (number ∙ ap (λ (n : ℕ). n % 65536) h.back.read);
+        said = said_more out.waiting l h.forth.said may;
       };
       back = record {
         sent = h.back.sent;
@@ -113,6 +129,7 @@ put_faces streams size label f out inn a b h is =
         read = let e : got a ≡ inn.read = h.back.read in let z : got (with_written a) ≡ got a + 0 = refl in omega (arith, e, z);
         frags = h.back.frags;
         tells = h.back.tells;
+        said = h.back.said;
       };
     }
 
@@ -136,6 +153,7 @@ take_faces streams out inn a b f fs h m =
         read = h.forth.read;
         frags = h.forth.frags;
         tells = h.forth.tells;
+        said = h.forth.said;
       };
       back = record {
         sent = h.back.sent;
@@ -144,5 +162,6 @@ take_faces streams out inn a b f fs h m =
         read = omega (arith, longer, was);
         frags = subst (λ (ls : List RingLabel). AreOf streams (labels_of ls) fs) others m.others;
         tells = subst (λ (ls : List RingLabel). numbers_told fs ≡ numbers_due ls) others m.numbers;
+        said = said_less inn.waiting h.back.said;
       };
     }

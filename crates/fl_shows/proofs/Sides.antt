@@ -15,12 +15,12 @@ use Rattle.fl_queues.specs.Rings.{there_is_room, no_room as none_free, spent as 
 use Rattle.fl_queues.specs.Standing.{labels_of}
 use Rattle.fl_queues.specs.Making.{is_ring_size}
 use Rattle.fl_queues.specs.SoundRings.{HalfCounts, RingCounts, RingFits}
-use Rattle.fl_shows.specs.Fragments.{Streams, frag_of}
+use Rattle.fl_shows.specs.Fragments.{Streams, MayBeSaid, frag_of}
 use Rattle.fl_shows.specs.Rings.{which_of, DirectionShows, RingShows}
 use Rattle.fl_shows.specs.RingLaws.{AllCarried, IsPutOf, IsFirst, IsAcknowledged, Stamps, PutAgrees, TakeAgrees, sure_for_data, sure_to_acknowledge, room_to_acknowledge}
 use Rattle.fl_shows.proofs.Tests.{by_test, then_is, else_is, le_true, le_false}
 use Rattle.fl_shows.proofs.Matching.{none_by, data_label, ack_label, are_still}
-use Rattle.fl_shows.proofs.Facing.{Facing, looked_is, first_meets, knowing_faces, put_faces, taken_from, take_faces}
+use Rattle.fl_shows.proofs.Facing.{Facing, first_said, looked_is, first_meets, knowing_faces, put_faces, taken_from, take_faces}
 
 -- ---- by side
 
@@ -230,13 +230,13 @@ spent_sure streams need side r s h e =
 -- ---- a put
 
 puts_shows : (streams : Streams) (side : RingSide) (label : Label) (f : Frag) (r : Ring) (s t : TheDuo) → RingShows streams r s
-    → frag_of streams label ≡ Some (bare f)
+    → frag_of streams label ≡ Some (bare f) → MayBeSaid label
     → Steps side s t (with_written (own side s)) (with_arrived (opposite side s) (written_frag s.size (own side s) f))
     → RingShows streams (puts side label r) t
-puts_shows streams side label f r s t h is k =
+puts_shows streams side label f r s t h is may k =
     stepped streams side r s t (with_written (own side s)) (with_arrived (opposite side s) (written_frag s.size (own side s) f))
     (adds label (read_by side r).read (written_by side r)) (tells_all (read_by side r)) h.size k
-    (put_faces streams s.size label f (written_by side r) (read_by side r) (own side s) (opposite side s) (faces streams side r s h) is)
+    (put_faces streams s.size label f (written_by side r) (read_by side r) (own side s) (opposite side s) (faces streams side r s h) is may)
 
 -- with what was learned before
 sure_steps : (need : ℕ) (side : RingSide) (f : Frag) (s t : TheDuo) → t.size ≡ s.size
@@ -256,36 +256,36 @@ sure_steps need side f s t p q o =
     }
 
 pub put_agrees : (streams : Streams) (side : RingSide) (label : Label) (r : Ring) (s t : TheDuo) (look : Look)
-    → RingShows streams r s → RingCounts r → RingFits r → IsPutOf streams label look
+    → RingShows streams r s → RingCounts r → RingFits r → MayBeSaid label → IsPutOf streams label look
     → DuoPuts (which_of side) s look t → PutAgrees streams side label r look t
-put_agrees streams side label r s t (placed f) h c fits is a =
+put_agrees streams side label r s t (placed f) h c fits may is a =
     let (step, size) = put_step side s t (placed f) a in
     let sure = sure_shows streams for_data side r s h c fits step.1 in (
       sure_room streams for_data side r s h c fits step.1
           ∙ then_is (nat_le 2 (free_slots s.size (own side s).sent (counted_by for_data side s))) there_is_room none_free (le_true 2 _ step.2),
-      puts_shows streams side label f (sure_for_data side r) (sure_duo for_data side s) t sure (is f refl)
+      puts_shows streams side label f (sure_for_data side r) (sure_duo for_data side s) t sure (is f refl) may
           (sure_steps for_data side f s t size step.3 step.4),
     )
-put_agrees streams side label r s t no_room h c fits is a =
+put_agrees streams side label r s t no_room h c fits may is a =
     let (step, size) = put_step side s t no_room a in
     let sure = sure_shows streams for_data side r s h c fits step.0 in (
       sure_room streams for_data side r s h c fits step.0
           ∙ else_is (nat_le 2 (free_slots s.size (own side s).sent (counted_by for_data side s))) there_is_room none_free (le_false 2 _ step.1),
       becomes streams side (sure_for_data side r) s t (counted_by for_data side s) sure size step.2 step.3,
     )
-put_agrees streams side label r s t spent h c fits is a =
+put_agrees streams side label r s t spent h c fits may is a =
     let (step, size) = put_step side s t spent a in
     let e = spent_sure streams for_data side r s h step.0 in (
       e.1,
       subst (λ (x : Ring). RingShows streams x t) (sym e.0) (subst (RingShows streams r) (sym (same_duo side s t size step.1 step.2)) h),
     )
-put_agrees streams side label r s t (saw f) h c fits is a = absurd (put_step side s t (saw f) a).0
-put_agrees streams side label r s t saw_ack h c fits is a = absurd (put_step side s t saw_ack a).0
-put_agrees streams side label r s t (found f) h c fits is a = absurd (put_step side s t (found f) a).0
-put_agrees streams side label r s t found_ack h c fits is a = absurd (put_step side s t found_ack a).0
-put_agrees streams side label r s t missed h c fits is a = absurd (put_step side s t missed a).0
-put_agrees streams side label r s t told h c fits is a = absurd (put_step side s t told a).0
-put_agrees streams side label r s t kept h c fits is a = absurd (put_step side s t kept a).0
+put_agrees streams side label r s t (saw f) h c fits may is a = absurd (put_step side s t (saw f) a).0
+put_agrees streams side label r s t saw_ack h c fits may is a = absurd (put_step side s t saw_ack a).0
+put_agrees streams side label r s t (found f) h c fits may is a = absurd (put_step side s t (found f) a).0
+put_agrees streams side label r s t found_ack h c fits may is a = absurd (put_step side s t found_ack a).0
+put_agrees streams side label r s t missed h c fits may is a = absurd (put_step side s t missed a).0
+put_agrees streams side label r s t told h c fits may is a = absurd (put_step side s t told a).0
+put_agrees streams side label r s t kept h c fits may is a = absurd (put_step side s t kept a).0
 
 -- ---- a look, a take and a tell
 
@@ -303,6 +303,7 @@ sees streams side r s f h e = cases (own side s).waiting refl e where
         there = first_is (read_by side r).waiting m.rest m.first m.are;
         kind = data_label streams m.first.label g k.0 m.frag;
         frag = m.frag ∙ ap Some k.1;
+        said = first_said (read_by side r).waiting m.rest m.first m.are (faces streams side r s h).back.said;
       }
 
 sees_acknowledged : (streams : Streams) (side : RingSide) (r : Ring) (s : TheDuo) → AllCarried streams → RingShows streams r s
@@ -410,7 +411,7 @@ take_agrees streams side r s t told h c fits all a =
       sure_room streams for_acknowledgement side r s h c fits step.1
           ∙ then_is (nat_le 1 (free_slots s.size (own side s).sent (counted_by for_acknowledgement side s))) there_is_room none_free (le_true 1 _ step.2),
       puts_shows streams side acknowledges acknowledgement (sure_to_acknowledge side r) (sure_duo for_acknowledgement side s) t sure
-          (ap Some (sym plain_acknowledgement)) (sure_steps for_acknowledgement side acknowledgement s t size step.3 step.4),
+          (ap Some (sym plain_acknowledgement)) tt (sure_steps for_acknowledgement side acknowledgement s t size step.3 step.4),
     )
 take_agrees streams side r s t kept h c fits all a =
     let (step, size) = take_step side s t kept a in (
@@ -459,6 +460,7 @@ direction_still streams more h a b g d = record {
   read = d.read;
   frags = are_still streams more (labels_of h.waiting) b.waiting g d.frags;
   tells = d.tells;
+  said = d.said;
 }
 
 pub ring_still : (streams more : Streams) → ((label : Label) (f : Frag) → frag_of streams label ≡ Some f → frag_of more label ≡ Some f)

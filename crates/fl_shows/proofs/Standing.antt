@@ -12,7 +12,7 @@ use Rattle.fl_queues.specs.Rings.{there_is_room, no_room as none_free}
 use Rattle.fl_queues.specs.Ends.{Queue, has_room, joined_by, without_first}
 use Rattle.fl_shows.specs.Fragments.{Streams, frag_of, standing, AreOf}
 use Rattle.fl_shows.specs.Queues.{QueueShows}
-use Rattle.fl_shows.specs.RingLaws.{AllCarried, IsPutOf, is_data, HoldsCalls, StandsFirst, QueuePutAgrees, QueueTakeAgrees}
+use Rattle.fl_shows.specs.RingLaws.{NewShow, AllCarried, IsPutOf, is_data, HoldsCalls, StandsFirst, QueuePutAgrees, QueueTakeAgrees}
 use Rattle.fl_shows.proofs.Tests.{then_is, else_is, lt_true, lt_false}
 use Rattle.fl_shows.proofs.Matching.{same_heads, same_tails, data_label, ack_label, are_more, are_still}
 
@@ -152,4 +152,14 @@ queue_still streams more g q s h = record {
   freed = h.freed;
   untold = h.untold;
   sent = h.sent;
+}
+
+pub new_show : NewShow
+new_show = record {
+  ring = λ streams size. record {
+    size = refl;
+    forth = record { sent = refl; known = refl; told = refl; read = refl; frags = refl; tells = refl; said = tt };
+    back = record { sent = refl; known = refl; told = refl; read = refl; frags = refl; tells = refl; said = tt };
+  };
+  queue = λ streams capacity. record { frags = refl; capacity = refl; freed = refl; untold = refl; sent = refl };
 }

@@ -10,6 +10,7 @@ use Rattle.fl_monitor.specs.declared.fate.Here.{Here}
 use Rattle.fl_monitor.specs.declared.opening.Opening.{Opening as Asked}
 use Rattle.fl_monitor.specs.declared.fault.MonitorFault.{MonitorFault}
 use Rattle.fl_monitor.specs.declared.fault.MonitorFault.TheVariants.{Astray, OutboxFull, Memory}
+use Rattle.fl_monitor.specs.Intermon.{HasWidths}
 use Rattle.fl_monitor.specs.Fates.{Known}
 use Rattle.fl_monitor.specs.Hearing.{IsAstray}
 use Rattle.fl_monitor.specs.Monitors.{TheMonitor, fresh_monitor, waiting_for, without_first, Hears, Opens}
@@ -46,6 +47,7 @@ NamesAreShown = (services : List Service) (names : List TheRegistration) → Nam
 -- the first message that waits for a link is the machine's, and so are the others once it is gone
 pub record SendsFirst (l : ℕ) (link : Link) (k : Core) (m : TheMonitor) : Type 0 where
   pub next : (said : Said) → slice_get link.outbox 0 ≡ Some said → slice_get (waiting_for m.outboxes l) 0 ≡ Some (said_frag said)
+  pub widths : (said : Said) → slice_get link.outbox 0 ≡ Some said → HasWidths (message_of said)
   pub none : slice_get link.outbox 0 ≡ None → slice_get (waiting_for m.outboxes l) 0 ≡ None
   pub gone : MonitorShows (without_first_said l k) (without_first l m)
 

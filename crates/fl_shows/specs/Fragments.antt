@@ -13,7 +13,7 @@ use Rattle.fl_wire.specs.Payload.{payload_of, frag_on}
 use Rattle.fl_ring.specs.Duo.{acknowledgement}
 use Rattle.fl_monitor.specs.declared.message.Message.{Message}
 use Rattle.fl_monitor.specs.declared.message.Message.TheVariants.{OpenCircuit, CircuitOpened, CircuitRefused}
-use Rattle.fl_monitor.specs.Intermon.{intermon, call_for}
+use Rattle.fl_monitor.specs.Intermon.{intermon, call_for, HasWidths}
 use Rattle.fl_queues.specs.Given.{given}
 use Rattle.fl_queues.specs.Calls.{stream}
 use Rattle.fl_queues.specs.Rings.{Said, open_circuit, circuit_opened, circuit_refused, Label, next_of, says, acknowledges}
@@ -55,6 +55,11 @@ abbrev pub frag_of : Streams → Label → Option Frag
 frag_of streams (next_of e k) = slice_get (streams e) k
 frag_of streams (says m) = Some (said_frag m)
 frag_of streams acknowledges = Some acknowledgement
+
+-- what a monitor says has numbers of its message's widths
+abbrev pub MayBeSaid : Label → Type 0
+MayBeSaid (says m) = HasWidths (message_of m)
+MayBeSaid label = Unit {0}
 
 -- a fragment that stands in a queue or on a ring, without its epoch and the count that it tells
 abbrev pub standing : Frag → Option Frag

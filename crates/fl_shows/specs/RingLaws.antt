@@ -1,20 +1,20 @@
 -- The laws of rings and queues: whatever a side of a ring, or a queue, comes to, where it was the picture of the
 -- machine's before, it is the picture of what the machine makes of that, which finds the same room and the same label.
-use Rattle.std.specs.Prelude.{ℕ, ◌≡◌, ◌⊎◌, ◌%◌, Bool, true, false, slice_get, Some, None}
+use Rattle.std.specs.Prelude.{ℕ, ◌≡◌, ◌⊎◌, ◌%◌, Bool, true, false, [], slice_get, Some, None}
 use Rattle.fl_base.specs.declared.fragment.Frag.{Frag}
 use Rattle.fl_base.specs.declared.identity.EndId.{EndId}
 use Rattle.fl_base.specs.Control.{bare, is_ack_only}
 use Rattle.fl_link.specs.Cursor.{epoch_at}
 use Rattle.fl_link.specs.Looks.{Look, placed, no_room, spent, saw, saw_ack, found, found_ack, missed, told, kept}
 use Rattle.fl_link.specs.Queue.{TheQueue, QueuePuts, QueueTakes}
-use Rattle.fl_ring.specs.Duo.{TheDuo, DuoPuts, DuoTakes, side_of, got}
+use Rattle.fl_ring.specs.Duo.{TheDuo, DuoPuts, DuoTakes, side_of, got, new_half}
 use Rattle.fl_queues.specs.Rings.{Label, next_of, says, acknowledges, RingLabel, Ring, RingSide, written_by, read_by}
 use Rattle.fl_queues.specs.Rings.{first_for, looks, makes_sure, puts, takes, owes}
-use Rattle.fl_queues.specs.Rings.{Room, room, there_is_room, no_room as none_free, spent as used_up, for_data, for_acknowledgement}
-use Rattle.fl_queues.specs.Ends.{Queue, joined_by, without_first, queue_room}
+use Rattle.fl_queues.specs.Rings.{Room, room, there_is_room, no_room as none_free, spent as used_up, for_data, for_acknowledgement, fresh_ring}
+use Rattle.fl_queues.specs.Ends.{Queue, fresh_queue, joined_by, without_first, queue_room}
 use Rattle.fl_queues.specs.SoundRings.{RingCounts, RingFits}
 use Rattle.fl_queues.specs.Sending.{epoch_next}
-use Rattle.fl_shows.specs.Fragments.{Streams, frag_of}
+use Rattle.fl_shows.specs.Fragments.{Streams, frag_of, MayBeSaid}
 use Rattle.fl_shows.specs.Queues.{QueueShows}
 use Rattle.fl_shows.specs.Rings.{which_of, RingShows}
 
@@ -46,6 +46,7 @@ pub record IsFirst (streams : Streams) (side : RingSide) (r : Ring) (f : Frag) :
   pub there : first_for side r ≡ Some first
   pub kind : is_data first.label ≡ true
   pub frag : frag_of streams first.label ≡ Some f
+  pub said : MayBeSaid first.label
 
 -- a label that only acknowledges does
 pub record IsAcknowledged (side : RingSide) (r : Ring) : Type 0 where
@@ -79,7 +80,7 @@ IsPutOf streams label look = (f : Frag) → look ≡ placed f → frag_of stream
 
 abbrev pub RingPuts : Type 0
 RingPuts = (streams : Streams) (side : RingSide) (label : Label) (r : Ring) (s t : TheDuo) (look : Look)
-    → RingShows streams r s → RingCounts r → RingFits r → IsPutOf streams label look
+    → RingShows streams r s → RingCounts r → RingFits r → MayBeSaid label → IsPutOf streams label look
     → DuoPuts (which_of side) s look t → PutAgrees streams side label r look t
 
 -- a look, a take or a tell, by what it came to; a take knows what a look would have told it
@@ -151,6 +152,13 @@ abbrev pub QueueTakeShows : Type 0
 QueueTakeShows = (streams : Streams) (q : Queue) (s t : TheQueue) (look : Look)
     → QueueShows streams q s → AllCarried streams → HoldsCalls q
     → QueueTakes s look t → QueueTakeAgrees streams q look t
+
+-- ---- new rings and queues
+
+pub record NewShow : Type 0 where
+  pub ring : (streams : Streams) (size : ℕ) → RingShows streams (fresh_ring size) (record { size = size; one = new_half; two = new_half })
+  pub queue : (streams : Streams) (capacity : ℕ)
+      → QueueShows streams (fresh_queue capacity) (record { items = []; untold = 0; sent = 0; capacity = capacity; acked = false })
 
 -- ---- while calls are accepted
 

@@ -15,6 +15,7 @@ pub use ends::{
 };
 pub use labels::{calls_are_carried, calls_go_on, labels_stay, messages_are_said};
 pub use rings::{
-    looks_once, pictures_go_on, queue_puts, queue_takes, ring_puts, ring_stamps, ring_takes,
+    looks_once, new_ones_show, pictures_go_on, queue_puts, queue_takes, ring_puts, ring_stamps,
+    ring_takes,
 };
 pub use states::{first_is_in_turn, next_is_written};

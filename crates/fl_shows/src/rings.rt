@@ -8,6 +8,7 @@ ghost use Rattle.fl_shows.specs.RingLaws.{
   QueuePutShows,
   QueueTakeShows,
   PicturesGoOn,
+  NewShow,
 };
 
 /// A put of a label's fragment at a side of a ring finds room exactly where the machine does, once it has looked where it must,
@@ -45,4 +46,9 @@ pub fn queue_takes()
 /// Pictures of rings and queues stay so while ends accept more calls.
 pub fn pictures_go_on()
     ensures still { PicturesGoOn }
+{}
+
+/// A new ring and a new queue are pictures of new ones.
+pub fn new_ones_show()
+    ensures new { NewShow }
 {}
