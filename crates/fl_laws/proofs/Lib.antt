@@ -49,3 +49,4 @@ pub mod Arriving
 pub mod Seats
 pub mod SeatsStep
 pub mod Sitting
+pub mod CallsKept

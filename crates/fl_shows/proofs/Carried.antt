@@ -26,7 +26,8 @@ use Rattle.fl_queues.specs.SoundCalls.{AllFit, CallsFit}
 use Rattle.fl_queues.specs.Standing.{Routed}
 use Rattle.fl_shows.specs.Fragments.{Streams, said_frag, message_of, calls_on, calls_off_links, calls_between}
 use Rattle.fl_shows.specs.RingLaws.{IsCarried, GoOn}
-use Rattle.fl_shows.specs.FragmentLaws.{IsSaid, InterfacesKeepLimits, NumbersAreSmall, CallsAreCarried, OffLinks, GoesOn, KeepsCalls, SameFragments}
+use Rattle.fl_shows.specs.FragmentLaws.{IsSaid, InterfacesKeepLimits, NumbersAreSmall, CallsAreCarried, OffLinks, GoesOn, SameFragments}
+use Rattle.fl_queues.specs.Keeping.{KeepsCalls}
 use Rattle.fl_shows.proofs.Streams.{frags, stream_append, all_fit}
 use Rattle.fl_shows.proofs.Matching.{data_control, same_heads}
 

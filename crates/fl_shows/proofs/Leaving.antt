@@ -1,7 +1,7 @@
 -- What an end writes next, and what its label stands for where it goes.
-use Rattle.std.proofs.Common.{◌≡◌, ◌≢◌, refl, sym, ◌∙◌, ap, subst, ℕ, zero, suc, ◌+◌, ◌-◌, ◌≤◌, ◌<◌, ◌==◌, ◌&&◌, ◌||◌, min, not, cond, Bool, true, false, List, [], ◌∷◌, length, slice_get, slice_index, get_or, reverse, Option, Some, None, is_some, arith}
-use Rattle.std.specs.Prelude.{unwrap_or, position}
-use Rattle.std.specs.List.{position_from, list_any}
+use Rattle.std.proofs.Common.{◌≡◌, refl, sym, ◌∙◌, ap, subst, ℕ, zero, suc, ◌+◌, ◌-◌, ◌≤◌, ◌<◌, ◌==◌, ◌&&◌, ◌||◌, min, not, cond, Bool, true, false, List, [], ◌∷◌, length, slice_get, reverse, Option, Some, None, is_some, arith}
+use Rattle.std.specs.Prelude.{unwrap_or}
+use Rattle.std.specs.List.{position_from}
 use Rattle.std.proofs.lemmas.List.{length-reverse, get_or-reverse}
 use Rattle.std.proofs.lemmas.Option.{same_Some, slice_get_within, get_or_from_slice_get, slice_get-get_or}
 use Rattle.std.proofs.lemmas.Bool.{eqb-true}
@@ -15,13 +15,13 @@ use Rattle.fl_lists.specs.ThreeLists.{is_in}
 use Rattle.fl_queues.specs.Given.{given}
 use Rattle.fl_queues.specs.Calls.{Planned, stream}
 use Rattle.fl_queues.specs.Rings.{next_of}
-use Rattle.fl_queues.specs.Ends.{Direction, written_of, End, is_bound}
+use Rattle.fl_queues.specs.Ends.{written_of, End, is_bound}
 use Rattle.fl_queues.specs.Binding.{all_differ}
-use Rattle.fl_queues.specs.State.{Verdict, undecided, granted, denied, Route, Back, local, over_ring, over_route, Binding, State, interface_of, end_in, way_of, place_in, number_between}
+use Rattle.fl_queues.specs.State.{Verdict, undecided, granted, denied, Route, Back, local, over_ring, over_route, Binding, State, end_in, way_of, place_in, number_between}
 use Rattle.fl_queues.specs.Sending.{next_fragment}
 use Rattle.fl_queues.specs.Standing.{Routed, number_at}
 use Rattle.fl_queues.specs.SoundRoutes.{RoutesLead, NumbersGoAlongRoutes, VerdictsFit, VerdictFits, EndsAreBound, BoundBy, BoundWhere, BothBound, ClientBoundAfter}
-use Rattle.fl_shows.specs.Fragments.{frag_of, calls_on, calls_off_links, calls_between}
+use Rattle.fl_shows.specs.Fragments.{frag_of, calls_off_links}
 use Rattle.fl_shows.specs.StateLaws.{EndIn, StandsFor}
 use Rattle.fl_shows.proofs.Tests.{by_test}
 use Rattle.fl_shows.proofs.Carried.{calls_are, link_calls_are}

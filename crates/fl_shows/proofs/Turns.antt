@@ -1,5 +1,5 @@
 -- What stands first for an end: the fragment next in turn of the other end's calls.
-use Rattle.std.proofs.Common.{◌≡◌, refl, sym, ◌∙◌, ap, subst, ℕ, zero, suc, ◌+◌, ◌-◌, ◌≤◌, ◌<◌, ◌==◌, ◌&&◌, Bool, true, false, if◌then◌else◌, List, [], ◌∷◌, length, map, slice_get, slice_index, Option, Some, None, arith, reverse}
+use Rattle.std.proofs.Common.{◌≡◌, refl, sym, ◌∙◌, ap, subst, ℕ, zero, suc, ◌+◌, ◌-◌, ◌≤◌, ◌<◌, ◌==◌, ◌&&◌, Bool, true, false, if◌then◌else◌, List, [], ◌∷◌, length, slice_get, slice_index, Option, Some, None, arith}
 use Rattle.std.specs.Prelude.{Contains, IsSome}
 use Rattle.std.specs.List.{range_with_len, filter_map}
 use Rattle.std.proofs.lemmas.List.{length-reverse}
@@ -13,8 +13,8 @@ use Rattle.fl_base.specs.Ends.{peer, other}
 use Rattle.fl_queues.specs.Given.{given}
 use Rattle.fl_queues.specs.Calls.{Planned, total, stream}
 use Rattle.fl_queues.specs.Rings.{Label, next_of, says, acknowledges, RingLabel, Ring, RingEnd, RingSide, first_side, second_side, written_by, read_by, first_for}
-use Rattle.fl_queues.specs.Ends.{Queue, Direction, written_of, taken_of, last_station, End}
-use Rattle.fl_queues.specs.State.{Route, Back, local, over_ring, over_route, Binding, State, interface_of, end_in, end_of, own_ring, side_of, way_of}
+use Rattle.fl_queues.specs.Ends.{Queue, taken_of, last_station, End}
+use Rattle.fl_queues.specs.State.{Route, Back, local, over_ring, over_route, Binding, State, end_in, end_of, own_ring, side_of, way_of}
 use Rattle.fl_queues.specs.Runs.{same_end, same_side}
 use Rattle.fl_queues.specs.Standing.{Routed, labels_of, queue_of, ring_from, before_by, before_on, number_of, picked}
 use Rattle.fl_queues.specs.SoundPlaces.{EndsStand, EndStands, stations}

@@ -1,9 +1,8 @@
 -- The laws of what labels stand for: what monitors say, and calls' fragments from place to place.
-use Rattle.std.specs.Prelude.{ℕ, ◌≡◌, ◌<◌, ◌^◌, true, slice_get, Option, Some}
+use Rattle.std.specs.Prelude.{ℕ, ◌≡◌, ◌<◌, ◌^◌, true, slice_get, Some}
 use Rattle.fl_base.specs.declared.fragment.Frag.{Frag}
 use Rattle.fl_base.specs.declared.identity.EndId.{EndId}
 use Rattle.fl_base.specs.Control.{bare, circuit_of, with_circuit}
-use Rattle.fl_base.specs.Prefix.{IsPrefix}
 use Rattle.fl_check.specs.Checks.{is_within_limits}
 use Rattle.fl_monitor.specs.declared.message.Message.{Message}
 use Rattle.fl_monitor.specs.Intermon.{HasWidths}
@@ -11,9 +10,10 @@ use Rattle.fl_monitor.specs.Saying.{Says, IsAlone}
 use Rattle.fl_monitor.specs.Outboxes.{IsFragOf}
 use Rattle.fl_queues.specs.Calls.{Planned}
 use Rattle.fl_queues.specs.Rings.{Said}
-use Rattle.fl_queues.specs.State.{Route, Binding, State, binding_of, end_in, number_between}
+use Rattle.fl_queues.specs.State.{Route, Binding, State, binding_of, number_between}
 use Rattle.fl_queues.specs.Forwarding.{route_of}
 use Rattle.fl_queues.specs.SoundCalls.{CallsFit}
+use Rattle.fl_queues.specs.Keeping.{KeepsCalls}
 use Rattle.fl_queues.specs.Standing.{Routed}
 use Rattle.fl_shows.specs.Fragments.{said_frag, message_of, calls_off_links, calls_between}
 use Rattle.fl_shows.specs.RingLaws.{IsCarried, AllCarried, GoOn}
@@ -69,24 +69,7 @@ CallsGoOn = (s : State) → CallsFit s → InterfacesKeepLimits s → NumbersAre
 
 -- ---- while the state goes on
 
--- the numbers of its circuit, so far
-abbrev pub KeepsNumbers : Option Route → Option Route → Type 0
-KeepsNumbers before now = (route : Route) → before ≡ Some route
-    → (later : Route) × (now ≡ Some later) × ((a b n : ℕ) → number_between a b route ≡ Some n → number_between a b later ≡ Some n)
-
--- a binding keeps its interface, the numbers of its circuit so far, and the calls that each end has accepted so far
-pub record KeepsBinding (t : State) (e : EndId) (b : Binding) : Type 0 where
-  pub now : Binding
-  pub there : binding_of t e ≡ Some now
-  pub interface : now.interface ≡ b.interface
-  pub numbers : KeepsNumbers (route_of b.back) (route_of now.back)
-  pub accepted : IsPrefix (end_in e.side b).out.accepted (end_in e.side now).out.accepted
-
-pub record KeepsCalls (s t : State) : Type 0 where
-  pub interfaces : (n : ℕ) (i : Planned) → slice_get s.interfaces n ≡ Some i → slice_get t.interfaces n ≡ Some i
-  pub bindings : (e : EndId) (b : Binding) → binding_of s e ≡ Some b → KeepsBinding t e b
-
--- then each label stands for the same fragment still
+-- as each step keeps calls and numbers, each label stands for the same fragment still
 pub record SameFragments (s t : State) : Type 0 where
   pub off_links : GoOn (calls_off_links s) (calls_off_links t)
   pub between : (a b : ℕ) → GoOn (calls_between a b s) (calls_between a b t)

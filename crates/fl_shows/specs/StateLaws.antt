@@ -1,18 +1,18 @@
 -- The laws that tie the parts of a state: what stands first for an end is the fragment next in turn of the other's
 -- calls, and what an end writes next is what its label stands for where it goes.
-use Rattle.std.specs.Prelude.{ℕ, ◌≡◌, ◌≤◌, true, slice_get, Option, Some}
+use Rattle.std.specs.Prelude.{ℕ, ◌≡◌, ◌≤◌, true, slice_get, Some}
 use Rattle.fl_base.specs.declared.fragment.Frag.{Frag}
 use Rattle.fl_base.specs.declared.identity.EndId.{EndId}
 use Rattle.fl_base.specs.Ends.{peer}
 use Rattle.fl_queues.specs.Calls.{Planned, total, stream}
 use Rattle.fl_queues.specs.Rings.{next_of, Ring, RingEnd}
 use Rattle.fl_queues.specs.Ends.{Queue, Direction, written_of, taken_of, End, is_bound}
-use Rattle.fl_queues.specs.State.{Route, Back, local, over_ring, over_route, Binding, State, interface_of, end_in, own_ring, way_of}
+use Rattle.fl_queues.specs.State.{Back, over_route, Binding, State, interface_of, end_in, own_ring, way_of}
 use Rattle.fl_queues.specs.Sending.{next_fragment}
 use Rattle.fl_queues.specs.SoundPlaces.{EndsStand}
 use Rattle.fl_queues.specs.SoundRoutes.{RoutesLead, NumbersGoAlongRoutes, VerdictsFit, EndsAreBound}
 use Rattle.fl_queues.specs.SoundLabels.{LabelsFollow, LabelsKeepToTheirWays, WritesAreCounted}
-use Rattle.fl_shows.specs.Fragments.{Streams, frag_of, calls_off_links, calls_between}
+use Rattle.fl_shows.specs.Fragments.{frag_of, calls_off_links, calls_between}
 use Rattle.fl_shows.specs.RingLaws.{IsFirst, StandsFirst, HoldsCalls}
 
 -- an end of a binding, with the calls that it takes
