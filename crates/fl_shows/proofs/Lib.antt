@@ -16,3 +16,4 @@ pub mod Boxes
 pub mod Hearing
 pub mod Turns
 pub mod Leaving
+pub mod Small

@@ -9,10 +9,11 @@ use Rattle.fl_queues.specs.Rings.{next_of, Ring, RingEnd}
 use Rattle.fl_queues.specs.Ends.{Queue, Direction, written_of, taken_of, End, is_bound}
 use Rattle.fl_queues.specs.State.{Back, over_route, Binding, State, interface_of, end_in, own_ring, way_of}
 use Rattle.fl_queues.specs.Sending.{next_fragment}
-use Rattle.fl_queues.specs.SoundPlaces.{EndsStand}
-use Rattle.fl_queues.specs.SoundRoutes.{RoutesLead, NumbersGoAlongRoutes, VerdictsFit, EndsAreBound}
+use Rattle.fl_queues.specs.SoundPlaces.{CoresStand, EndsStand}
+use Rattle.fl_queues.specs.SoundRoutes.{RoutesLead, NumbersGoAlongRoutes, VerdictsFit, EndsAreBound, NumbersWereOpened}
 use Rattle.fl_queues.specs.SoundLabels.{LabelsFollow, LabelsKeepToTheirWays, WritesAreCounted}
 use Rattle.fl_shows.specs.Fragments.{frag_of, calls_off_links, calls_between}
+use Rattle.fl_shows.specs.FragmentLaws.{NumbersAreSmall}
 use Rattle.fl_shows.specs.RingLaws.{IsFirst, StandsFirst, HoldsCalls}
 
 -- an end of a binding, with the calls that it takes
@@ -55,3 +56,9 @@ StandsFor s e i x back = frag_of (calls_off_links s) (next_of e (written_of x.ou
 abbrev pub NextIsWritten : Type 0
 NextIsWritten = (s : State) (e : EndId) (b : Binding) (i : Planned) → RoutesLead s → NumbersGoAlongRoutes s → VerdictsFit s → EndsAreBound s
     → EndIn s e b i → is_bound (end_in e.side b) ≡ true → StandsFor s e i (end_in e.side b) b.back
+
+-- ---- numbers
+
+-- a circuit's numbers have 16 bits, since each was opened by a core, which opens at most 1,023 on a link
+abbrev pub SmallNumbers : Type 0
+SmallNumbers = (s : State) → CoresStand s → NumbersGoAlongRoutes s → NumbersWereOpened s → NumbersAreSmall s

@@ -18,4 +18,4 @@ pub use rings::{
     looks_once, new_ones_show, pictures_go_on, queue_puts, queue_takes, ring_puts, ring_stamps,
     ring_takes,
 };
-pub use states::{first_is_in_turn, next_is_written};
+pub use states::{first_is_in_turn, next_is_written, numbers_are_small};
