@@ -19,14 +19,15 @@ use Rattle.fl_monitor.specs.Intermon.{intermon, call_for, HasWidths}
 use Rattle.fl_monitor.specs.Saying.{Says, FitsByWidths, EachTakesOneFragment, SaysNoOther, SaysWhatIsWritten, SaysTheSame, SaysAlone}
 use Rattle.fl_queues.specs.Given.{given}
 use Rattle.fl_queues.specs.Calls.{Planned, stream}
-use Rattle.fl_queues.specs.Rings.{Said, open_circuit, circuit_opened, circuit_refused, next_of, says, acknowledges}
+use Rattle.fl_queues.specs.Rings.{Said, open_circuit, circuit_opened, circuit_refused, Label, next_of, says, acknowledges}
 use Rattle.fl_queues.specs.State.{Route, over_route, Binding, State, binding_of, interface_of, end_in, number_between}
 use Rattle.fl_queues.specs.Forwarding.{route_of}
 use Rattle.fl_queues.specs.SoundCalls.{AllFit, CallsFit}
 use Rattle.fl_queues.specs.Standing.{Routed}
-use Rattle.fl_shows.specs.Fragments.{Streams, said_frag, message_of, calls_on, calls_off_links, calls_between}
+use Rattle.fl_shows.specs.Fragments.{frag_of, Streams, said_frag, message_of, calls_on, calls_off_links, calls_between}
 use Rattle.fl_shows.specs.RingLaws.{IsCarried, GoOn}
-use Rattle.fl_shows.specs.FragmentLaws.{IsSaid, InterfacesKeepLimits, NumbersAreSmall, CallsAreCarried, OffLinks, GoesOn, SameFragments}
+use Rattle.fl_shows.specs.FragmentLaws.{IsSaid, InterfacesKeepLimits, NumbersAreSmall, CallsAreCarried, OffLinks, GoesOn, SameFragments, TellsKind}
+use Rattle.fl_ring.specs.Duo.{acknowledgement}
 use Rattle.fl_queues.specs.Keeping.{KeepsCalls}
 use Rattle.fl_shows.proofs.Streams.{frags, stream_append, all_fit}
 use Rattle.fl_shows.proofs.Matching.{data_control, same_heads}
@@ -213,7 +214,7 @@ calls_carried s fit keep small = record {
   off_links = λ e k f q. (carried_on 0 s (omega arith) fit keep e k f q).0;
   between = λ a b e k f q.
       let o = of_link a b s e k f q in
-      (carried_on o.number s (small e.binding o.route a b o.number (is_routed s e o.binding o.route o.binding_is o.route_is) o.number_is)
+      (carried_on o.number s (small e.binding o.route a b o.number (is_routed s e o.binding o.route o.binding_is o.route_is) o.number_is).1
       fit keep e k f o.at).0;
 }
 
@@ -235,7 +236,7 @@ goes_on law s fit keep small a b e k f x route p q g =
     let same_route : o.route ≡ route
     = same_Some o.route route (sym o.route_is ∙ ap (λ (y : Binding). route_of y.back) same_binding ∙ q) in
     let n : ℕ = o.number in
-    let less : o.number < 2 ^ 16 = small e.binding o.route a b o.number (is_routed s e o.binding o.route o.binding_is o.route_is) o.number_is in
+    let less : o.number < 2 ^ 16 = (small e.binding o.route a b o.number (is_routed s e o.binding o.route o.binding_is o.route_is) o.number_is).1 in
     record {
       carries = λ m r.
           (carried_on o.number s less fit keep e k f o.at).1
@@ -245,6 +246,30 @@ goes_on law s fit keep small a b e k f x route p q g =
           ap (λ (fs : List Frag). slice_get fs k) (link_calls_are c d s e x route m p q r)
           ∙ another law o.number m s less fit keep e k f o.at;
     }
+
+-- which it is
+said_circuit : (m : Said) → circuit_of (said_frag m).control ≡ 0
+said_circuit m = circuit_is true (call_for (message_of m)).msg 0 (small_said m) (omega arith)
+
+pub links_tell : (s : State) → CallsFit s → InterfacesKeepLimits s → NumbersAreSmall s → (a b : ℕ) (label : Label) (f : Frag)
+    → frag_of (calls_between a b s) label ≡ Some f → TellsKind a b s label f
+links_tell s fit keep small a b (next_of e k) f q =
+    let o = of_link a b s e k f q in
+    let fits = small e.binding o.route a b o.number (is_routed s e o.binding o.route o.binding_is o.route_is) o.number_is in
+    record {
+      binding = o.binding;
+      binding_is = o.binding_is;
+      route = o.route;
+      route_is = o.route_is;
+      number = o.number;
+      number_is = o.number_is;
+      some = fits.0;
+      circuit = (carried_on o.number s fits.1 fit keep e k f o.at).1;
+    }
+links_tell s fit keep small a b (says m) f q =
+    let is : said_frag m ≡ f = same_Some (said_frag m) f q in
+    (sym is, ap (λ (g : Frag). circuit_of g.control) (sym is) ∙ said_circuit m)
+links_tell s fit keep small a b acknowledges f q = sym (same_Some acknowledgement f q)
 
 -- ---- while the state goes on
 

@@ -61,9 +61,9 @@ counted s a b stand h = by_core (core_of s a) refl h where
   by_core None p r = absurd (false≢true r)
   by_core (Some k) p r = by_link k p (link_to b k) refl r
 
-small_by : (t : Bool) (k n : ℕ) → k < 1023 → n ≡ (if t then 2 * k + 1 else 2 * k + 2) → n < 2 ^ 16
-small_by true k n h e = omega (arith, h, e)
-small_by false k n h e = omega (arith, h, e)
+small_by : (t : Bool) (k n : ℕ) → k < 1023 → n ≡ (if t then 2 * k + 1 else 2 * k + 2) → (1 ≤ n) × (n < 2 ^ 16)
+small_by true k n h e = (omega (arith, h, e), omega (arith, h, e))
+small_by false k n h e = (omega (arith, h, e), omega (arith, h, e))
 
 pub small_numbers : (s : State) → CoresStand s → NumbersGoAlongRoutes s → NumbersWereOpened s → NumbersAreSmall s
 small_numbers s stand go open_ n route a b c routed h =

@@ -96,6 +96,15 @@ way_length : (side : Side) (route : Route) → length (way_of side route) ≡ le
 way_length Client route = refl
 way_length Server route = length-reverse route.cores
 
+same_last : (s : State) (e : EndId) (b : Binding) (xs ys : List Label) → xs ≡ ys → Last s e b ys → Last s e b xs
+same_last s e b xs ys h k = (k.0, ap (picked e) h ∙ k.1)
+
+before_last : (s : State) (e : EndId) (route : Route) (j : ℕ) → j ≡ length (way_of e.side route)
+    → before_by s e (over_route route) j ≡ queue_of s (peer e)
+before_last s e route j h =
+    let test : (j == length (way_of e.side route)) ≡ true = ap (λ (n : ℕ). j == n) (sym h) ∙ same_number j in
+    rw test refl
+
 -- for an end with a queue, that is what stands before the last station of the other's calls
 queue_last : (s : State) (e : EndId) (b : Binding) (q : Queue) → EndsStand s → RoutesLead s → LabelsFollow s → slice_get s.bindings e.binding ≡ Some b
     → (end_in e.side b).queue ≡ Some q → Last s (peer e) b (queue_of s e)
@@ -124,11 +133,10 @@ queue_last s e b q stand lead follow at has = by_back b.back refl where
       let j : ℕ = length route.cores - 1 in
       let last : suc (length route.cores - 1) ≡ length (way_of (peer e).side route) = omega (arith, some, way) in
       let k = last_of s (peer e) b (length route.cores - 1) follow at (omega (arith, some, wide)) in
-      let test : (suc (length route.cores - 1) == length (way_of (peer e).side route)) ≡ true
-      = ap (λ (m : ℕ). suc (length route.cores - 1) == m) (sym last) ∙ same_number (suc (length route.cores - 1)) in
-      let before : before_by s (peer e) (over_route route) (suc (length route.cores - 1)) ≡ queue_of s (peer (peer e))
-      = ap (λ (t : Bool). if t then queue_of s (peer (peer e)) else Rattle.fl_queues.specs.Standing.on_link s (slice_index (way_of (peer e).side route) (suc (length route.cores - 1) - 1)) (slice_index (way_of (peer e).side route) (suc (length route.cores - 1)))) test in
-      (k.0, ap (picked (peer e)) (sym same_queue ∙ sym before ∙ ap (λ (x : Back). before_by s (peer e) x (suc (length route.cores - 1))) (sym r)) ∙ k.1)
+      let before = before_last s (peer e) route (suc (length route.cores - 1)) last in
+      let back : before_by s (peer e) (over_route route) (suc (length route.cores - 1)) ≡ before_by s (peer e) b.back (suc (length route.cores - 1))
+      = ap (λ (x : Back). before_by s (peer e) x (suc (length route.cores - 1))) (sym r) in
+      same_last s (peer e) b _ _ (sym same_queue ∙ (sym before ∙ back)) k
 
 queue_is : (s : State) (e : EndId) (b : Binding) (q : Queue) → slice_get s.bindings e.binding ≡ Some b → (end_in e.side b).queue ≡ Some q → queue_of s e ≡ q.labels
 queue_is s e b q at has =

@@ -1,21 +1,22 @@
 -- The laws of what labels stand for: what monitors say, and calls' fragments from place to place.
-use Rattle.std.specs.Prelude.{ℕ, ◌≡◌, ◌<◌, ◌^◌, true, slice_get, Some}
+use Rattle.std.specs.Prelude.{ℕ, ◌≡◌, ◌≤◌, ◌<◌, ◌^◌, true, slice_get, Some}
 use Rattle.fl_base.specs.declared.fragment.Frag.{Frag}
 use Rattle.fl_base.specs.declared.identity.EndId.{EndId}
 use Rattle.fl_base.specs.Control.{bare, circuit_of, with_circuit}
 use Rattle.fl_check.specs.Checks.{is_within_limits}
+use Rattle.fl_ring.specs.Duo.{acknowledgement}
 use Rattle.fl_monitor.specs.declared.message.Message.{Message}
 use Rattle.fl_monitor.specs.Intermon.{HasWidths}
 use Rattle.fl_monitor.specs.Saying.{Says, IsAlone}
 use Rattle.fl_monitor.specs.Outboxes.{IsFragOf}
 use Rattle.fl_queues.specs.Calls.{Planned}
-use Rattle.fl_queues.specs.Rings.{Said}
+use Rattle.fl_queues.specs.Rings.{Said, Label, next_of, says, acknowledges}
 use Rattle.fl_queues.specs.State.{Route, Binding, State, binding_of, number_between}
 use Rattle.fl_queues.specs.Forwarding.{route_of}
 use Rattle.fl_queues.specs.SoundCalls.{CallsFit}
 use Rattle.fl_queues.specs.Keeping.{KeepsCalls}
 use Rattle.fl_queues.specs.Standing.{Routed}
-use Rattle.fl_shows.specs.Fragments.{said_frag, message_of, calls_off_links, calls_between}
+use Rattle.fl_shows.specs.Fragments.{frag_of, said_frag, message_of, calls_off_links, calls_between}
 use Rattle.fl_shows.specs.RingLaws.{IsCarried, AllCarried, GoOn}
 
 -- ---- what monitors say
@@ -38,9 +39,10 @@ MessagesAreSaid = (m : Said) → HasWidths (message_of m) → IsSaid m
 abbrev pub InterfacesKeepLimits : State → Type 0
 InterfacesKeepLimits s = (n : ℕ) (i : Planned) → slice_get s.interfaces n ≡ Some i → is_within_limits i.interface ≡ true
 
--- a circuit's numbers have 16 bits
+-- a circuit's numbers have 16 bits, and none is 0
 abbrev pub NumbersAreSmall : State → Type 0
-NumbersAreSmall s = (n : ℕ) (route : Route) (a b c : ℕ) → Routed s n route → number_between a b route ≡ Some c → c < 2 ^ 16
+NumbersAreSmall s = (n : ℕ) (route : Route) (a b c : ℕ) → Routed s n route → number_between a b route ≡ Some c
+    → (1 ≤ c) × (c < 2 ^ 16)
 
 pub record CallsAreCarried (s : State) : Type 0 where
   pub off_links : AllCarried (calls_off_links s)
@@ -66,6 +68,27 @@ GoesOn s = (a b : ℕ) (e : EndId) (k : ℕ) (f : Frag) (x : Binding) (route : R
 
 abbrev pub CallsGoOn : Type 0
 CallsGoOn = (s : State) → CallsFit s → InterfacesKeepLimits s → NumbersAreSmall s → OffLinks s × GoesOn s
+
+-- a call's fragment on the link between two cores: the end's binding has a circuit, whose number there it carries
+pub record IsOnLink (a b : ℕ) (s : State) (e : EndId) (f : Frag) : Type 0 where
+  pub binding : Binding
+  pub binding_is : binding_of s e ≡ Some binding
+  pub route : Route
+  pub route_is : route_of binding.back ≡ Some route
+  pub number : ℕ
+  pub number_is : number_between a b route ≡ Some number
+  pub some : 1 ≤ number
+  pub circuit : circuit_of f.control ≡ number
+
+-- so by its circuit a fragment on a link is told to be a call's, or what a monitor says
+abbrev pub TellsKind : ℕ → ℕ → State → Label → Frag → Type 0
+TellsKind a b s (next_of e k) f = IsOnLink a b s e f
+TellsKind a b s (says m) f = (f ≡ said_frag m) × (circuit_of f.control ≡ 0)
+TellsKind a b s acknowledges f = f ≡ acknowledgement
+
+abbrev pub LinksTell : Type 0
+LinksTell = (s : State) → CallsFit s → InterfacesKeepLimits s → NumbersAreSmall s → (a b : ℕ) (label : Label) (f : Frag)
+    → frag_of (calls_between a b s) label ≡ Some f → TellsKind a b s label f
 
 -- ---- while the state goes on
 

@@ -4,6 +4,7 @@ ghost use Rattle.fl_shows.specs.FragmentLaws.{
   MessagesAreSaid,
   CallsCarried,
   CallsGoOn,
+  LinksTell,
   LabelsStay,
 };
 
@@ -33,6 +34,12 @@ pub fn calls_go_on()
 {
     on_another_circuit();
 }
+
+/// By its circuit a fragment on a link is told to be a call's, which carries its circuit's number there, or a monitor's, which
+/// carries 0.
+pub fn links_tell()
+    ensures tell { LinksTell }
+{}
 
 /// Labels stand for the same fragments while ends accept more calls and circuits get more numbers.
 pub fn labels_stay()

@@ -12,7 +12,7 @@ pub fn next_is_written()
     ensures stands { NextIsWritten }
 {}
 
-/// The numbers of circuits have 16 bits.
+/// The numbers of circuits have 16 bits, and none is 0.
 pub fn numbers_are_small()
     ensures small { SmallNumbers }
 {}
