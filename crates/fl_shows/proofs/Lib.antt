@@ -17,3 +17,4 @@ pub mod Hearing
 pub mod Turns
 pub mod Leaving
 pub mod Small
+pub mod Aside

@@ -1,14 +1,13 @@
 -- The numbers of circuits have 16 bits.
-use Rattle.std.proofs.Common.{◌≡◌, refl, sym, ◌∙◌, ap, subst, ℕ, zero, suc, ◌+◌, ◌*◌, ◌<◌, ◌≤◌, ◌^◌, min, nat_lt, Bool, true, false, if◌then◌else◌, List, [], ◌∷◌, length, slice_get, slice_index, Option, Some, None, is_some, arith}
+use Rattle.std.proofs.Common.{◌≡◌, refl, sym, ◌∙◌, ap, ℕ, zero, suc, ◌+◌, ◌*◌, ◌<◌, ◌≤◌, ◌^◌, min, nat_lt, Bool, true, false, if◌then◌else◌, List, [], ◌∷◌, length, slice_get, Option, Some, None, is_some, arith}
 use Rattle.std.specs.Prelude.{IsSome}
 use Rattle.std.proofs.lemmas.Bool.{false≢true}
 use Rattle.std.proofs.lemmas.Option.{slice_get_within, get_or_from_slice_get}
 use Rattle.fl_hop.specs.declared.links.LinkState.{LinkState}
-use Rattle.fl_hop.specs.Numbers.{number}
 use Rattle.fl_queues.specs.Given.{given}
 use Rattle.fl_queues.specs.Monitors.{Core, Link, link_to}
 use Rattle.fl_queues.specs.State.{Route, State, core_of, link_between, place_in, number_between}
-use Rattle.fl_queues.specs.Standing.{Routed, core_at, number_at, link_state}
+use Rattle.fl_queues.specs.Standing.{core_at, number_at, link_state}
 use Rattle.fl_queues.specs.SoundPlaces.{CoresStand}
 use Rattle.fl_queues.specs.SoundRoutes.{NumbersGoAlongRoutes, NumbersWereOpened}
 use Rattle.fl_shows.specs.FragmentLaws.{NumbersAreSmall}

@@ -16,7 +16,7 @@ use Rattle.fl_queues.specs.Rings.{Label, next_of, says, acknowledges, RingLabel,
 use Rattle.fl_queues.specs.Ends.{Queue, taken_of, last_station, End}
 use Rattle.fl_queues.specs.State.{Route, Back, local, over_ring, over_route, Binding, State, end_in, end_of, own_ring, side_of, way_of}
 use Rattle.fl_queues.specs.Runs.{same_end, same_side}
-use Rattle.fl_queues.specs.Standing.{Routed, labels_of, queue_of, ring_from, before_by, before_on, number_of, picked}
+use Rattle.fl_queues.specs.Standing.{labels_of, queue_of, ring_from, before_by, number_of, picked}
 use Rattle.fl_queues.specs.SoundPlaces.{EndsStand, EndStands, stations}
 use Rattle.fl_queues.specs.SoundRoutes.{RoutesLead}
 use Rattle.fl_queues.specs.SoundLabels.{LabelsFollow, StandsBefore, LabelsKeepToTheirWays, MayStandFrom, WritesAreCounted}

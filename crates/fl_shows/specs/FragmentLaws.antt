@@ -80,6 +80,16 @@ pub record IsOnLink (a b : ℕ) (s : State) (e : EndId) (f : Frag) : Type 0 wher
   pub some : 1 ≤ number
   pub circuit : circuit_of f.control ≡ number
 
+-- a fragment as it stands keeps its circuit, and is the same fragment with another circuit, once its epoch and the count
+-- that it tells are set aside
+pub record IsSetAside (f : Frag) : Type 0 where
+  pub twice : bare (bare f) ≡ bare f
+  pub circuit : circuit_of (bare f).control ≡ circuit_of f.control
+  pub another : (n : ℕ) → n < 2 ^ 16 → bare (with_circuit n f) ≡ with_circuit n (bare f)
+
+abbrev pub SetsAside : Type 0
+SetsAside = (f : Frag) → IsSetAside f
+
 -- so by its circuit a fragment on a link is told to be a call's, or what a monitor says
 abbrev pub TellsKind : ℕ → ℕ → State → Label → Frag → Type 0
 TellsKind a b s (next_of e k) f = IsOnLink a b s e f

@@ -5,6 +5,7 @@ ghost use Rattle.fl_shows.specs.FragmentLaws.{
   CallsCarried,
   CallsGoOn,
   LinksTell,
+  SetsAside,
   LabelsStay,
 };
 
@@ -44,4 +45,9 @@ pub fn links_tell()
 /// Labels stand for the same fragments while ends accept more calls and circuits get more numbers.
 pub fn labels_stay()
     ensures stay { LabelsStay }
+{}
+
+/// What links write in a control word leaves the fragment's circuit alone, and doesn't stand in the way of another.
+pub fn links_set_aside()
+    ensures aside { SetsAside }
 {}

@@ -13,7 +13,9 @@ pub use ends::{
     bound_shows, call_shows, fresh_shows, next_shows, others_stay, receive_shows, rule_shows,
     take_shows, write_shows,
 };
-pub use labels::{calls_are_carried, calls_go_on, labels_stay, links_tell, messages_are_said};
+pub use labels::{
+    calls_are_carried, calls_go_on, labels_stay, links_set_aside, links_tell, messages_are_said,
+};
 pub use rings::{
     looks_once, new_ones_show, pictures_go_on, queue_puts, queue_takes, ring_puts, ring_stamps,
     ring_takes,
