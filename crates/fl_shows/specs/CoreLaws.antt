@@ -14,9 +14,10 @@ use Rattle.fl_monitor.specs.Intermon.{HasWidths}
 use Rattle.fl_monitor.specs.Fates.{Known}
 use Rattle.fl_monitor.specs.Hearing.{IsAstray}
 use Rattle.fl_monitor.specs.Monitors.{TheMonitor, fresh_monitor, waiting_for, without_first, Hears, Opens}
+use Rattle.fl_monitor.specs.Monitors.{can_say as monitor_can_say}
 use Rattle.fl_queues.specs.Rings.{Opening, Said, open_circuit, RingEnd}
 use Rattle.fl_queues.specs.Waits.{Dispatcher, has_places}
-use Rattle.fl_queues.specs.Monitors.{Link, Core, fresh_core, Service, service_of, link_to, next_on, hears, opens, link_id}
+use Rattle.fl_queues.specs.Monitors.{can_say, Link, Core, fresh_core, Service, service_of, link_to, next_on, hears, opens, link_id}
 use Rattle.fl_queues.specs.Monitors.{Heard as MachineHeard, no_outbox, opening_went_on, server_made, opening_failed, answer_went_on}
 use Rattle.fl_queues.specs.Monitors.{end_opened, end_refused}
 use Rattle.fl_queues.specs.Binding.{place_of_service}
@@ -69,6 +70,10 @@ pub record MonitorsBegin : Type 0 where
   pub fresh : (core : ℕ) → MonitorShows (fresh_core core) (fresh_monitor core)
   pub linked : (k : Core) (m : TheMonitor) (neighbour : CoreId) (ring : RingEnd) → MonitorShows k m
       → MonitorShows (with_new_link neighbour ring k) (with_empty_outbox neighbour m)
+
+-- an outbox has room where the machine's has
+abbrev pub RoomsAgree : Type 0
+RoomsAgree = (k : Core) (m : TheMonitor) (l : ℕ) → MonitorShows k m → monitor_can_say m.outboxes l ≡ can_say l k
 
 -- ---- a circuit is opened
 

@@ -4,6 +4,7 @@ ghost use Rattle.fl_shows.specs.CoreLaws.{
   NamesAreShown,
   OutboxesAreShown,
   MonitorsBegin,
+  RoomsAgree,
   OpensAgree,
   HearsAgree,
 };
@@ -25,6 +26,11 @@ pub fn outboxes_are_shown()
 /// The monitor of a new core has nothing to say, nor has one with a new link there.
 pub fn monitors_begin()
     ensures begin { MonitorsBegin }
+{}
+
+/// An outbox has room for one more message where the machine's has.
+pub fn rooms_agree()
+    ensures agree { RoomsAgree }
 {}
 
 /// A circuit that a monitor opens is the machine's, in its table and in the outbox.

@@ -8,7 +8,9 @@ mod labels;
 mod rings;
 mod states;
 
-pub use cores::{hears_agree, monitors_begin, names_are_shown, opens_agree, outboxes_are_shown};
+pub use cores::{
+    hears_agree, monitors_begin, names_are_shown, opens_agree, outboxes_are_shown, rooms_agree,
+};
 pub use ends::{
     bound_shows, call_shows, fresh_shows, next_shows, others_stay, receive_shows, rule_shows,
     take_shows, write_shows,
