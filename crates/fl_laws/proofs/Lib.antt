@@ -108,3 +108,4 @@ pub mod BoardLaw
 pub mod SoundSteps
 pub mod CoresKept
 pub mod CoresStep
+pub mod CallsKept

@@ -6,6 +6,7 @@ ghost use Rattle.fl_queues.specs.Events.{Event};
 ghost use Rattle.fl_queues.specs.State.{State, start};
 ghost use Rattle.fl_queues.specs.Step.{step};
 ghost use Rattle.fl_queues.specs.Runs.{reached};
+ghost use Rattle.fl_queues.specs.Keeping.{KeepsCalls};
 ghost use Rattle.fl_queues.specs.Sound.{Sound};
 ghost use Rattle.fl_queues.specs.SoundOpenings.{OpeningsGoInOrder, MessagesAreDue, AnswersComeOnce};
 ghost use Rattle.fl_queues.specs.SoundPlaces.{CoresStand, EndsStand, LinksArePaired, RingsHaveOneOwner, ServicesStand, SeatsAgree};
@@ -364,4 +365,8 @@ pub fn listed_ever_have_ends()
 /// each of its links.
 pub fn steps_keep_cores()
     ensures kept { (s : State) (v : Event) → Sound s → CoresStand (step s v).state }
+/// Each step keeps of each binding, whatever else the state holds, its interface, the numbers that its circuit has, and the
+/// calls that each end has accepted as the first of those that it has accepted then.
+pub fn steps_keep_calls()
+    ensures kept { (s : State) (v : Event) → KeepsCalls s (step s v).state }
 {}

@@ -26,3 +26,4 @@ pub mod Laws
 pub mod SoundCalls
 pub mod SoundLimits
 pub mod Worlds
+pub mod Keeping

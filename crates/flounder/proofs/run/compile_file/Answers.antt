@@ -1,4 +1,4 @@
-use Rattle.std.proofs.Common.{List, ℕ, refl, subst}
+use Rattle.std.proofs.Common.{◌∙◌, List, ℕ, refl, subst}
 use Rattle.fl_show.specs.Content.{IsRefusalOf}
 use Rattle.flounder.specs.Status.{status_of}
 use Rattle.flounder.proofs.Doing.{not_read, not_compiled, compiled, not_written}
@@ -16,7 +16,7 @@ returns-in-Err-compile_text g c = record {
   compiled =
       not_compiled (g.F.FileStore.deeds c.args.files.now) (g.F.FileStore.deeds c.read.new.self) c.args.file.now c.args.out.now c.in-Ok.content.items c.in-Err-compile_text.fault
       c.finish-in-Err-compile_text.result c.in-Ok.ensures.done
-      (subst (λ (t : List ℕ). IsRefusalOf t c.in-Err-compile_text.fault) c.deref.ensures.value c.in-Err-compile_text.ensures.refused) c.finish-in-Err-compile_text.ensures.fault;
+      (subst (λ (t : List ℕ). IsRefusalOf t c.in-Err-compile_text.fault) c.deref.ensures.value c.in-Err-compile_text.ensures.refused) (c.finish-in-Err-compile_text.ensures.fault ∙ c.refused.ensures.status);
 }
 
 pub returns-in-Ok-write : goal.returns-in-Ok-write

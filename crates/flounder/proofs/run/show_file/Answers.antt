@@ -1,4 +1,4 @@
-use Rattle.std.proofs.Common.{List, ℕ, refl, subst}
+use Rattle.std.proofs.Common.{◌∙◌, List, ℕ, refl, subst}
 use Rattle.fl_show.specs.Content.{Shows, IsRefusedAs}
 use Rattle.flounder.specs.Status.{status_of}
 use Rattle.flounder.specs.Streams.{output_of, PutsPrefix, Prints}
@@ -17,7 +17,7 @@ returns-in-Err-show_content g c = record {
   shown =
       not_shown (g.F.FileStore.deeds c.args.files.now) (g.F.FileStore.deeds c.read.new.self) c.args.file.now c.in-Ok.content.items (output_of g.W.Write.contents c.args.output.now c.args.output.now)
       c.in-Err-show_content.fault c.finish-in-Err-show_content.result c.in-Ok.ensures.done
-      (subst (λ (t : List ℕ). IsRefusedAs t c.in-Err-show_content.fault) c.deref.ensures.value c.in-Err-show_content.ensures.refused) refl c.finish-in-Err-show_content.ensures.fault;
+      (subst (λ (t : List ℕ). IsRefusedAs t c.in-Err-show_content.fault) c.deref.ensures.value c.in-Err-show_content.ensures.refused) refl (c.finish-in-Err-show_content.ensures.fault ∙ c.refused.ensures.status);
 }
 
 pub returns-in-Ok-put : goal.returns-in-Ok-put

@@ -1,0 +1,179 @@
+-- The laws of ends: whatever an end is asked, where it was the picture of the machine's end before, it is the
+-- picture of what the machine makes of that, and it answers as the machine does. No event of the machine is
+-- refused for want of memory: an end that is stays as it was.
+use Rattle.std.specs.Prelude.{ℕ, ◌≡◌, ◌≢◌, ◌≤◌, ◌&&◌, Bool, true, false, length, slice_get, Option, Some, None, Result, Ok, Err}
+use Rattle.fl_base.specs.declared.fragment.Frag.{Frag}
+use Rattle.fl_base.specs.declared.identity.EndId.{EndId}
+use Rattle.fl_base.specs.Control.{bare, stamped}
+use Rattle.fl_value.specs.Value.{TheCall, call_of}
+use Rattle.fl_compile.specs.declared.program.Program.{Program}
+use Rattle.fl_link.specs.Looks.{Look, placed, no_room, spent, saw, saw_ack, found, found_ack, missed}
+use Rattle.fl_endpoint.specs.declared.fault.EndFault.{EndFault}
+use Rattle.fl_endpoint.specs.declared.fault.EndFault.TheVariants.{Spent, NotBound, UnknownMessage, Misfit, Memory}
+use Rattle.fl_endpoint.specs.declared.answer.WriteAnswer.{WriteAnswer}
+use Rattle.fl_endpoint.specs.declared.answer.WriteAnswer.TheVariants.{Written, Full, Nothing}
+use Rattle.fl_endpoint.specs.declared.answer.ReceiveAnswer.{ReceiveAnswer}
+use Rattle.fl_endpoint.specs.declared.answer.ReceiveAnswer.TheVariants.{Handle, Part, Quiet, Empty, HeldBack}
+use Rattle.fl_endpoint.specs.Faults.{fault_number}
+use Rattle.fl_endpoint.specs.View.{TheEnd, fresh, bound}
+use Rattle.fl_endpoint.specs.Events.{Calls, Writes, ShowsNext, TakesIn, Receives, SetsRule}
+use Rattle.fl_endpoint.specs.Accounts.{Sound}
+use Rattle.fl_queues.specs.Events.{accepted, full, written, refused}
+use Rattle.fl_queues.specs.Rings.{Room, there_is_room, no_room as none_free, spent as used_up}
+use Rattle.fl_queues.specs.Calls.{Planned, total, stream}
+use Rattle.fl_queues.specs.Ends.{Queue, Direction, last_station, taken_of, is_busy, accepts, passes, writes, End, is_bound}
+use Rattle.fl_queues.specs.Ends.{accepts_or_waits, fresh_direction, unbound_end, with_rule, holds_back, whole, a_part, takes_one}
+use Rattle.fl_queues.specs.Ends.{comes_to, replies}
+use Rattle.fl_queues.specs.State.{State, answers, change_out}
+use Rattle.fl_queues.specs.Sending.{makes_call, next_fragment}
+use Rattle.fl_queues.specs.SameTypes.{same_arguments}
+use Rattle.fl_queues.specs.Taking.{has_message, arguments_of}
+use Rattle.fl_queues.specs.SoundLabels.{IsCounted}
+use Rattle.fl_queues.specs.SoundCalls.{AllFit}
+use Rattle.fl_shows.specs.Ends.{planned_of, parts_of, EndShows}
+
+-- the end with something done to its direction
+abbrev pub with_out : (Direction → Direction) → End → End
+with_out f x = record x { out = f x.out }
+
+-- ---- a new end
+
+-- a new end is the picture of one that isn't bound, before any call is accepted at either end
+abbrev pub FreshShows : Type 0
+FreshShows = (program : Program) (stations : ℕ) (queue : Option Queue) (i : Planned) → planned_of program ≡ i
+    → EndShows i (unbound_end (length i.interface.messages) stations queue) (fresh_direction stations) (fresh program None)
+
+-- an end that isn't bound has nothing to send, whatever its circuit will be
+abbrev pub BoundShows : Type 0
+BoundShows = (i : Planned) (x : End) (peer : Direction) (s : TheEnd) (circuit : ℕ) → EndShows i x peer s → Sound s
+    → x.circuit ≡ None → EndShows i (record x { circuit = Some circuit }) peer (bound s circuit)
+
+-- ---- a call
+
+abbrev pub CallAgrees : EndId → TheCall → Planned → End → Direction → Result (Unit {0}) EndFault → TheEnd → Type 0
+CallAgrees e c i x peer (Ok done) t =
+    ((z : State) → makes_call e c i x z ≡ answers (change_out e (accepts c) z) accepted)
+    × EndShows i (with_out (accepts c) x) peer t
+CallAgrees e c i x peer (Err Memory) t = EndShows i x peer t
+CallAgrees e c i x peer (Err fault) t =
+    ((z : State) → makes_call e c i x z ≡ answers z (refused (fault_number fault))) × EndShows i x peer t
+
+abbrev pub CallShows : Type 0
+CallShows = (e : EndId) (c : TheCall) (i : Planned) (x : End) (peer : Direction) (s t : TheEnd) (answer : Result (Unit {0}) EndFault)
+    → EndShows i x peer s → IsCounted i x.out → Calls s c answer t → CallAgrees e c i x peer answer t
+
+-- ---- the fragment that would be written next
+
+abbrev pub NextAgrees : ℕ → ℕ → Planned → End → Result (Option Frag) EndFault → Type 0
+NextAgrees epoch told i x (Ok (Some frag)) =
+    (is_bound x ≡ true) × ((f : Frag) × (next_fragment i x ≡ Some f) × (frag ≡ stamped f epoch told))
+NextAgrees epoch told i x (Ok None) = (is_bound x ≡ true) × (next_fragment i x ≡ None)
+NextAgrees epoch told i x (Err NotBound) = is_bound x ≡ false
+NextAgrees epoch told i x (Err fault) = ⊥
+
+abbrev pub NextShows : Type 0
+NextShows = (epoch told : ℕ) (i : Planned) (x : End) (peer : Direction) (s : TheEnd) (answer : Result (Option Frag) EndFault)
+    → EndShows i x peer s → ShowsNext epoch told s answer → NextAgrees epoch told i x answer
+
+-- ---- a write
+
+-- bound, and with a fragment to write
+abbrev pub HasMore : Planned → End → Type 0
+HasMore i x = (is_bound x ≡ true) × (is_busy i x.out ≡ true)
+
+-- what is put is the next fragment of all the end's calls; what is answered, the machine's number of how many
+abbrev pub WriteAgrees : {P : Type 0} → (P → Look → P → Type 0) → Planned → End → Direction → P → Result WriteAnswer EndFault → TheEnd → P → Type 0
+WriteAgrees puts i x peer p (Ok (Written number count)) t q =
+    HasMore i x × ((f : Frag) × (next_fragment i x ≡ Some f) × puts p (placed f) q)
+    × ((writes i x.out there_is_room).answer ≡ written number count)
+    × EndShows i (with_out (λ d. (writes i d there_is_room).direction) x) peer t
+WriteAgrees puts i x peer p (Ok Full) t q =
+    HasMore i x × puts p no_room q × ((writes i x.out none_free).answer ≡ full) × EndShows i x peer t
+WriteAgrees puts i x peer p (Ok Nothing) t q = (is_bound x ≡ true) × (is_busy i x.out ≡ false) × (q ≡ p) × EndShows i x peer t
+WriteAgrees puts i x peer p (Err Spent) t q =
+    HasMore i x × puts p spent q × ((writes i x.out used_up).answer ≡ refused (fault_number Spent)) × EndShows i x peer t
+WriteAgrees puts i x peer p (Err NotBound) t q = (is_bound x ≡ false) × (q ≡ p) × EndShows i x peer t
+WriteAgrees puts i x peer p (Err fault) t q = ⊥
+
+abbrev pub WriteShows : {P : Type 0} → (P → Look → P → Type 0) → Type 0
+WriteShows {P} puts = (i : Planned) (x : End) (peer : Direction) (p q : P) (s t : TheEnd) (answer : Result WriteAnswer EndFault)
+    → EndShows i x peer s → IsCounted i x.out → 1 ≤ length x.out.passed
+    → Writes puts s p answer t q → WriteAgrees puts i x peer p answer t q
+
+-- ---- a fragment is taken
+
+-- by the fragment next in turn of the other end's calls; none is ever a wire fault
+abbrev pub TakeAgrees : Planned → End → Direction → Result ReceiveAnswer EndFault → TheEnd → Type 0
+TakeAgrees i x peer (Ok Part) t = (comes_to i peer ≡ a_part) × EndShows i x (takes_one peer) t
+TakeAgrees i x peer (Ok (Handle call)) t =
+    (comes_to i peer ≡ whole (call_of call)) × EndShows i (replies i (whole (call_of call)) x) (takes_one peer) t
+TakeAgrees i x peer (Err Memory) t = EndShows i x peer t
+TakeAgrees i x peer answer t = ⊥
+
+abbrev pub TakeShows : Type 0
+TakeShows = (i : Planned) (x : End) (peer : Direction) (f : Frag) (s t : TheEnd) (answer : Result ReceiveAnswer EndFault)
+    → EndShows i x peer s → Sound s → IsCounted i x.out → AllFit i peer.accepted → 1 ≤ length peer.passed
+    → bare f ≡ f → slice_get (stream 0 i peer.accepted) (taken_of peer) ≡ Some f
+    → TakesIn s f answer t → TakeAgrees i x peer answer t
+
+-- what stands first at the side from which the end takes, where a fragment of a call does, is the one next in turn
+abbrev pub IsNextAt : {T : Type 0} → (T → Look → T → Type 0) → Planned → Direction → T → Type 0
+IsNextAt {T} takes i peer p = (f : Frag) (q : T) → takes p (saw f) q → slice_get (stream 0 i peer.accepted) (taken_of peer) ≡ Some f
+
+-- bound, and it takes fragments
+abbrev pub TakesFragments : End → Type 0
+TakesFragments x = (is_bound x ≡ true) × (holds_back x ≡ false)
+
+abbrev pub ReceiveAgrees : {T : Type 0} → (T → Look → T → Type 0) → Planned → End → Direction → T → Result ReceiveAnswer EndFault → TheEnd → T → Type 0
+ReceiveAgrees {T} takes i x peer p (Ok Part) t q =
+    TakesFragments x × ((f : Frag) × (m : T) × takes p (saw f) m × takes m (found f) q) × TakeAgrees i x peer (Ok Part) t
+ReceiveAgrees {T} takes i x peer p (Ok (Handle call)) t q =
+    TakesFragments x × ((f : Frag) × (m : T) × takes p (saw f) m × takes m (found f) q) × TakeAgrees i x peer (Ok (Handle call)) t
+ReceiveAgrees {T} takes i x peer p (Ok Quiet) t q =
+    TakesFragments x × ((m : T) × takes p saw_ack m × takes m found_ack q) × EndShows i x peer t
+ReceiveAgrees takes i x peer p (Ok Empty) t q = TakesFragments x × takes p missed q × EndShows i x peer t
+ReceiveAgrees takes i x peer p (Ok HeldBack) t q = (is_bound x ≡ true) × (holds_back x ≡ true) × (q ≡ p) × EndShows i x peer t
+ReceiveAgrees takes i x peer p (Err Memory) t q = TakesFragments x × ((f : Frag) × takes p (saw f) q) × EndShows i x peer t
+ReceiveAgrees takes i x peer p (Err NotBound) t q = (is_bound x ≡ false) × (q ≡ p) × EndShows i x peer t
+ReceiveAgrees takes i x peer p (Err fault) t q = ⊥
+
+abbrev pub ReceiveShows : {T : Type 0} → (T → Look → T → Type 0) → Type 0
+ReceiveShows {T} takes = (i : Planned) (x : End) (peer : Direction) (p q : T) (s t : TheEnd) (answer : Result ReceiveAnswer EndFault)
+    → EndShows i x peer s → Sound s → IsCounted i x.out → length x.out.waiting ≤ 16
+    → AllFit i peer.accepted → 1 ≤ length peer.passed → IsNextAt takes i peer p
+    → Receives takes s p answer t q → ReceiveAgrees takes i x peer p answer t q
+
+-- ---- a reply rule
+
+-- both messages are there
+abbrev pub are_messages : Planned → ℕ → ℕ → Bool
+are_messages i msg reply = has_message msg i && has_message reply i
+
+-- and have the same argument types
+abbrev pub have_same_arguments : Planned → ℕ → ℕ → Bool
+have_same_arguments i msg reply = same_arguments (arguments_of msg i) (arguments_of reply i)
+
+abbrev pub RuleAgrees : Planned → ℕ → ℕ → End → Direction → Result (Unit {0}) EndFault → TheEnd → Type 0
+RuleAgrees i msg reply x peer (Ok done) t =
+    (are_messages i msg reply ≡ true) × (have_same_arguments i msg reply ≡ true) × EndShows i (with_rule msg reply x) peer t
+RuleAgrees i msg reply x peer (Err UnknownMessage) t = (are_messages i msg reply ≡ false) × EndShows i x peer t
+RuleAgrees i msg reply x peer (Err Misfit) t =
+    (are_messages i msg reply ≡ true) × (have_same_arguments i msg reply ≡ false) × EndShows i x peer t
+RuleAgrees i msg reply x peer (Err fault) t = ⊥
+
+abbrev pub RuleShows : Type 0
+RuleShows = (i : Planned) (msg reply : ℕ) (x : End) (peer : Direction) (s t : TheEnd) (answer : Result (Unit {0}) EndFault)
+    → EndShows i x peer s → SetsRule s msg reply answer t → RuleAgrees i msg reply x peer answer t
+
+-- ---- the other end
+
+-- what an end has taken of the other's calls doesn't change when the other accepts a call, writes a fragment, or
+-- when a fragment passes a station on the way
+pub record PartsStay (i : Planned) (d : Direction) : Type 0 where
+  pub accepting : (c : TheCall) → parts_of i (accepts c d) ≡ parts_of i d
+  pub replying : (c : TheCall) → parts_of i (accepts_or_waits i c d) ≡ parts_of i d
+  pub writing : (room : Room) → parts_of i (writes i d room).direction ≡ parts_of i d
+  pub passing : (station : ℕ) → station ≢ last_station d → parts_of i (passes station d) ≡ parts_of i d
+
+abbrev pub OthersStay : Type 0
+OthersStay = (i : Planned) (d : Direction) → 2 ≤ length d.passed → taken_of d ≤ total i d.accepted → PartsStay i d
