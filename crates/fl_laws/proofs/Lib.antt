@@ -106,5 +106,6 @@ pub mod BoardBacks
 pub mod BoardLinks
 pub mod BoardLaw
 pub mod SoundSteps
+pub mod AskedCalls
 pub mod CoresKept
 pub mod CoresStep

@@ -12,7 +12,7 @@ ghost use Rattle.fl_queues.specs.SoundPlaces.{CoresStand, EndsStand, LinksArePai
 ghost use Rattle.fl_queues.specs.SoundRoutes.{RoutesLead, NumbersGoAlongRoutes, VerdictsFit, EndsAreBound, NumbersWereOpened, NumbersAreOnce};
 ghost use Rattle.fl_queues.specs.SoundLabels.{LabelsKeepToTheirWays, WritesAreCounted, LabelsFollow, NothingBeforeTheOpening};
 ghost use Rattle.fl_queues.specs.SoundRings.{RingsCount, RingsFit};
-ghost use Rattle.fl_queues.specs.Worlds.{WorldsAreSound, EverInOrder, EverFewWait, ListedHaveEnds, WritesUnderstand, ShowsUnderstand, TurnsGiveTheNext, EverSound, EverOnceBothWays, EverFits, EverHaveEnds};
+ghost use Rattle.fl_queues.specs.Worlds.{WorldsAreSound, EverInOrder, EverFewWait, ListedHaveEnds, WritesUnderstand, ShowsUnderstand, TurnsGiveTheNext, EverSound, EverOnceBothWays, EverFits, EverHaveEnds, AskedCallsFit};
 ghost use Rattle.fl_queues.specs.SoundCalls.{CallsFit, RulesSuit};
 ghost use Rattle.fl_queues.specs.SoundLists.{FewRepliesWait, RepliesWaitWhereBusy, QueuesHaveRoom, OutboxesHaveRoom, BareUntilCoresAreSet, WaitsetsStand, ListedAreBound, PendingQueuesHold, PendingRingsWereLookedAt};
 ghost use Rattle.fl_queues.specs.Laws.{RingsCountInOrder, FewWaitAndOnlyWhereBusy, AllAccepted, PassedFalls, HandledIsCounted, HandledIsAPrefix, RefusalsChangeNothing, TablesGoOn, RunsAreSound, ChannelsAreOnce, PendingHasAFragment, TurnsUnderstand, ForwardsUnderstand, StepsAreSound, NumbersAreGivenOnce};
@@ -353,6 +353,12 @@ pub fn numbers_are_once_both_ways()
 /// In every run from a world of 1 to 16 cores, each call that an end accepted, and each reply that waits there, fits the interface.
 pub fn calls_ever_fit()
     ensures fit { EverFits }
+{}
+
+/// Each call that an end was asked to make over a run and that was accepted fits the interface, however many cores the
+/// world began with.
+pub fn asked_calls_fit()
+    ensures fit { AskedCallsFit }
 {}
 
 /// In every run from a world of 1 to 16 cores, a channel that stands in a list of its dispatcher has an end, and that a binding.
