@@ -1,7 +1,7 @@
 -- Each call that an end was asked for and that was accepted fits the interface: it fitted when it was accepted, and a binding keeps
 -- its interface.
-use Rattle.std.proofs.Common.{◌≡◌, refl, sym, ◌∙◌, subst, zero, suc, Bool, true, false, not, nat_le}
-use Rattle.std.proofs.Common.{List, [], ◌∷◌, ◌++◌, if◌then◌else◌, length, Some}
+use Rattle.std.proofs.Common.{◌≡◌, refl, sym, ◌∙◌, subst, Bool, true, false, not, nat_le}
+use Rattle.std.proofs.Common.{List, [], ◌∷◌, if◌then◌else◌, length, Some}
 use Rattle.fl_base.specs.declared.identity.EndId.{EndId}
 use Rattle.fl_value.specs.Value.{TheCall}
 use Rattle.fl_value.specs.Fits.{fits_of}
@@ -14,11 +14,11 @@ use Rattle.fl_queues.specs.SoundCalls.{AllFit}
 use Rattle.fl_queues.specs.Step.{step}
 use Rattle.fl_queues.specs.Runs.{same_end, accepted_in, run, reached, calls_accepted}
 use Rattle.fl_queues.specs.Worlds.{start_with, AskedCallsFit}
-use Rattle.fl_laws.proofs.Cases.{Each, either, by_given, none_at_end, each_tail, each_push}
+use Rattle.fl_laws.proofs.Cases.{Each, either, by_given, none_at_end, each_push}
 use Rattle.fl_laws.proofs.Walk.{At, run_keeps}
 use Rattle.fl_laws.proofs.Ends.{same_end_true}
-use Rattle.fl_laws.proofs.EndsStep.{is_not}
 use Rattle.fl_laws.proofs.BindingsStep.{IsBoundTo, bound_keep, bindings_keep}
+use Rattle.fl_laws.proofs.Small.{is_not, each_join}
 
 -- the call fits the interface of the end's binding
 record FitsAt (e : EndId) (s : State) (c : TheCall) : Type 0 where
@@ -53,11 +53,6 @@ asked_fits e (call f c) s =
 asked_fits e v s = none_at_end (FitsAt e s)
 
 -- ---- a run
-
-each_join : {X : Type 0} (P : X → Type 0) (xs ys : List X) → Each P xs → Each P ys → Each P (xs ++ ys)
-each_join P [] ys h k n y q = k n y q
-each_join P (x ∷ xs) ys h k zero y q = h zero y q
-each_join P (x ∷ xs) ys h k (suc n) y q = each_join P xs ys (each_tail P x xs h) k n y q
 
 fits_later : (e : EndId) (vs : List Event) (z : State) (b : Binding) (i : Planned) (c : TheCall) → binding_of (reached z vs) e ≡ Some b
     → interface_of (reached z vs) b ≡ Some i → FitsAt e z c → fits_of i.interface c ≡ true

@@ -9,6 +9,7 @@ use Rattle.fl_queues.specs.Ends.{End}
 use Rattle.fl_queues.specs.State.{Binding, State, end_in, end_of, with_end_in, change_end}
 use Rattle.fl_queues.specs.Runs.{same_side, same_end}
 use Rattle.fl_laws.proofs.Cases.{by_given}
+use Rattle.fl_laws.proofs.Small.{both_are}
 
 -- ---- lists
 
@@ -63,13 +64,9 @@ side_true Client Server h = absurd (cc)
 side_true Server Client h = absurd (cc)
 side_true Server Server h = refl
 
-and_both : (a b : Bool) → (a && b) ≡ true → (a ≡ true) × (b ≡ true)
-and_both true b h = (refl, h)
-and_both false b h = absurd (cc)
-
 pub same_end_true : (e f : EndId) → same_end e f ≡ true → e ≡ f
 same_end_true e f h =
-    let both = and_both (e.binding == f.binding) (same_side e.side f.side) h in
+    let both = both_are (e.binding == f.binding) (same_side e.side f.side) h in
     let first : e ≡ record { binding = f.binding; side = e.side } =
     subst (λ (n : ℕ). e ≡ record { binding = n; side = e.side }) (eqb-true e.binding f.binding both.0) refl in
     subst (λ (x : Side). e ≡ record { binding = f.binding; side = x }) (side_true e.side f.side both.1) first

@@ -15,9 +15,9 @@ use Rattle.fl_queues.specs.Binding.{Wanted, end_id, with_new_binding}
 use Rattle.fl_queues.specs.SoundPlaces.{SeatsAgree}
 use Rattle.fl_laws.proofs.Cases.{by_given}
 use Rattle.fl_laws.proofs.BindingWalk.{given_there, end_there}
-use Rattle.fl_laws.proofs.EndsStanding.{get_push}
 use Rattle.fl_laws.proofs.Ready.{get_last}
 use Rattle.fl_laws.proofs.Seating.{changed_was, changed_here, dispatcher_here, dispatcher_was}
+use Rattle.fl_laws.proofs.Small.{get_push}
 
 -- ---- views of one element
 
