@@ -33,9 +33,9 @@ use Rattle.fl_laws.proofs.EndsStanding.{there_is}
 use Rattle.fl_laws.proofs.Seating.{Ready}
 use Rattle.fl_laws.proofs.WaitsetsStep.{HeardFits, places_of}
 use Rattle.fl_laws.proofs.WaitsetsKept.{step_keeps_waitsets}
-use Rattle.fl_laws.proofs.Hearing.{some_same, LinkThere, link_there, is_under_way, opened_ready}
+use Rattle.fl_laws.proofs.Hearing.{LinkThere, link_there, is_under_way, opened_ready}
 use Rattle.fl_laws.proofs.Walk.{IsHere}
-use Rattle.fl_laws.proofs.Small.{less}
+use Rattle.fl_laws.proofs.Small.{less, some_same}
 
 -- ---- the core behind the last
 

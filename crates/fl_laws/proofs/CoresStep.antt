@@ -39,12 +39,11 @@ use Rattle.fl_laws.proofs.EndsStanding.{there_is as stands_there}
 use Rattle.fl_laws.proofs.ListingKept.{some_there}
 use Rattle.fl_laws.proofs.Replies.{length_changed}
 use Rattle.fl_laws.proofs.Seating.{changed_was}
-use Rattle.fl_laws.proofs.Seats.{some_same}
 use Rattle.fl_laws.proofs.Start.{empty_table}
 use Rattle.fl_laws.proofs.TablesKept.{Fresh, opened_sound, leads_range, linked_sound}
 use Rattle.fl_laws.proofs.WaitsetsKept.{looks_same, sure_same, first_same}
 use Rattle.fl_laws.proofs.Walk.{KeepsFrom, BeginsRoute, step_leads, with_ring}
-use Rattle.fl_laws.proofs.Small.{is_not}
+use Rattle.fl_laws.proofs.Small.{is_not, some_same}
 
 -- ---- what is known
 

@@ -37,7 +37,7 @@ use Rattle.fl_queues.specs.State.{Binding, Route, change_out, change_channel, wi
 use Rattle.fl_queues.specs.Ends.{accepts, writes, with_rule, passes, takes_one, replies, unbound_end}
 use Rattle.fl_laws.proofs.Cases.{Each, each_changed}
 use Rattle.fl_laws.proofs.Walk.{At, with_ring, Keeps, run_keeps}
-use Rattle.fl_laws.proofs.Small.{get_push, is_not, same_interface, interface_side}
+use Rattle.fl_laws.proofs.Small.{get_push, is_not, same_interface, interface_side, changed_here}
 
 -- ---- what is to be shown
 
@@ -79,15 +79,6 @@ at_least n h = grind (arith, nat_tests, h)
 pub long_route : (cores : List ℕ) (client service : ℕ) (s : State) → is_route cores client service s ≡ true → 2 ≤ length cores + 1
 long_route cores client service s h =
     at_least (length cores) (and_left _ _ (and_left _ _ (and_left _ _ (and_left _ _ (and_left _ _ h)))))
-
-set_here : {X : Type 0} (xs : List X) (n : ℕ) (x y : X) → slice_get xs n ≡ Some x → slice_get (slice_set xs n y) n ≡ Some y
-set_here [] n x y q = absurd (cc)
-set_here (z ∷ xs) zero x y q = refl
-set_here (z ∷ xs) (suc n) x y q = set_here xs n x y q
-
-changed_here : {X : Type 0} (xs : List X) (n : ℕ) (f : X → X) (x : X) → slice_get xs n ≡ Some x → slice_get (changed_at n f xs) n ≡ Some (f x)
-changed_here {X} xs n f x q =
-    subst (λ (o : Option X). slice_get (given o xs (λ y. slice_set xs n (f y))) n ≡ Some (f x)) (sym q) (set_here xs n x (f x) q)
 
 queue_open : (f : Queue → Queue) (x : End) → holds_back x ≡ false → holds_back (in_queue f x) ≡ false
 queue_open f x h = by_given (λ (y : End). holds_back y ≡ false) x.queue x _ h (λ q r. h)

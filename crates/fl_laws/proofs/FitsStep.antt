@@ -55,7 +55,7 @@ use Rattle.fl_queues.specs.SoundCalls.{AllFit, DirectionFits, CallsFit, RuleSuit
 use Rattle.fl_laws.proofs.Cases.{either, each_tail}
 use Rattle.fl_laws.proofs.SameTypes.{reply_fits}
 use Rattle.fl_laws.proofs.Walk.{At, Fitting, Suiting, PassedAt, KeepsUnder, with_ring, step_leads_under}
-use Rattle.fl_laws.proofs.Small.{get_push, is_not, less, both_are, same_interface, interface_side}
+use Rattle.fl_laws.proofs.Small.{get_push, is_not, less, both_are, same_interface, interface_side, first_of}
 
 -- ---- one end
 
@@ -406,10 +406,6 @@ fits_keep = record {
 
 -- ---- the law
 
-first_in : (ls : List Label) (l : Label) → slice_get ls 0 ≡ Some l → Contains ls l
-first_in [] l h = absurd (cc)
-first_in (x ∷ ls) l h = (0, (let a : 0 < suc (length ls) = omega arith in a), (let e : x ≡ l = cc in e))
-
 of_own : (e : EndId) (l : Label) → IsOf e l → OwnLabel e l
 of_own e l h = subst (OwnLabel e) (sym h.1) refl
 
@@ -451,13 +447,13 @@ firsts_are_own s h = record {
       let is : queue_of s e ≡ q.labels =
       ap (λ (o : Option Binding). given (given o None λ x. Some (end_in e.side x)) [] λ x. given x.queue [] λ y. y.labels) u
       ∙ ap (λ (o : Option Queue). given o [] λ y. y.labels) v in
-      of_own (peer e) label (h.queues e label (subst (λ (ls : List Label). Contains ls label) (sym is) (first_in q.labels label w)));
+      of_own (peer e) label (h.queues e label (subst (λ (ls : List Label). Contains ls label) (sym is) (first_of q.labels 0 label w)));
   rings = λ e b at first u v w.
       let own = ring_own e.side b.back at v in
       let first_is : given (slice_get s.rings at.ring) None (first_for (side_of e.side)) ≡ Some first =
       subst (λ (side : RingSide). given (slice_get s.rings at.ring) None (first_for side) ≡ Some first) own.1 w in
       from_own (peer e) first.label
-      (h.rings (peer e) b at.ring first.label u own.0 (first_in _ first.label (stands_first s.rings at.ring e.side first first_is)));
+      (h.rings (peer e) b at.ring first.label u own.0 (first_of _ 0 first.label (stands_first s.rings at.ring e.side first first_is)));
 }
 
 all_fitting : (s : State) → EndsStand s → CallsFit s → RulesSuit s → AllFitting s

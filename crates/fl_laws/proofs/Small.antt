@@ -1,10 +1,11 @@
 -- Small facts on lists, tests and ends, each of which several files use.
 use Rattle.std.proofs.Common.{◌≡◌, refl, sym, ◌∙◌, subst, ℕ, zero, suc, ◌<◌, nat_lt, ◌&&◌, not, Bool, true, false}
-use Rattle.std.proofs.Common.{List, [], ◌∷◌, ◌++◌, length, replicate, drop, slice_get, slice_set, Some, arith}
+use Rattle.std.proofs.Common.{List, [], ◌∷◌, ◌++◌, length, replicate, drop, slice_get, slice_set, Option, Some, arith}
 use Rattle.std.specs.Prelude.{Contains, slice_index_or}
 use Rattle.std.proofs.lemmas.Bool.Decides.{nat_tests}
 use Rattle.fl_base.specs.declared.identity.Side.{Side}
 use Rattle.fl_base.specs.declared.identity.Side.TheVariants.{Client, Server}
+use Rattle.fl_queues.specs.Given.{given, changed_at}
 use Rattle.fl_queues.specs.Calls.{Planned}
 use Rattle.fl_queues.specs.Rings.{Label}
 use Rattle.fl_queues.specs.Ends.{End, Taken, whole, a_part, replies, rule_at}
@@ -30,6 +31,18 @@ pub get_push : {X : Type 0} (xs : List X) (n : ℕ) (x y : X) → slice_get xs n
 get_push [] n x y q = absurd (cc)
 get_push (z ∷ xs) zero x y q = q
 get_push (z ∷ xs) (suc n) x y q = get_push xs n x y q
+
+pub some_same : {X : Type 0} (a b : X) → Some a ≡ Some b → a ≡ b
+some_same a b h = cc
+
+pub set_here : {X : Type 0} (xs : List X) (n : ℕ) (x y : X) → slice_get xs n ≡ Some x → slice_get (slice_set xs n y) n ≡ Some y
+set_here [] n x y q = absurd (cc)
+set_here (z ∷ xs) zero x y q = refl
+set_here (z ∷ xs) (suc n) x y q = set_here xs n x y q
+
+pub changed_here : {X : Type 0} (xs : List X) (n : ℕ) (f : X → X) (x : X) → slice_get xs n ≡ Some x → slice_get (changed_at n f xs) n ≡ Some (f x)
+changed_here {X} xs n f x q =
+    subst (λ (o : Option X). slice_get (given o xs (λ y. slice_set xs n (f y))) n ≡ Some (f x)) (sym q) (set_here xs n x (f x) q)
 
 pub length_set : {X : Type 0} (xs : List X) (n : ℕ) (y : X) → length (slice_set xs n y) ≡ length xs
 length_set [] n y = refl
