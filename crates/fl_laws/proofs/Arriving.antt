@@ -33,8 +33,9 @@ use Rattle.fl_laws.proofs.EndsStanding.{there_is}
 use Rattle.fl_laws.proofs.Seating.{Ready}
 use Rattle.fl_laws.proofs.WaitsetsStep.{HeardFits, places_of}
 use Rattle.fl_laws.proofs.WaitsetsKept.{step_keeps_waitsets}
-use Rattle.fl_laws.proofs.Hearing.{some_same, LinkThere, link_there, is_under_way, opened_ready}
+use Rattle.fl_laws.proofs.Hearing.{LinkThere, link_there, is_under_way, opened_ready}
 use Rattle.fl_laws.proofs.Walk.{IsHere}
+use Rattle.fl_laws.proofs.Small.{less, some_same}
 
 -- ---- the core behind the last
 
@@ -63,9 +64,6 @@ place_is (y ∷ xs) (suc t) x a e d =
 
 pub less_true : (m n : ℕ) → m < n → nat_lt m n ≡ true
 less_true m n h = grind (arith, nat_tests, h)
-
-less : (m n : ℕ) → nat_lt m n ≡ true → m < n
-less m n h = grind (arith, nat_tests, h)
 
 not_less : (m n : ℕ) → nat_lt m n ≡ false → n ≤ m
 not_less m n h = grind (arith, nat_tests, h)

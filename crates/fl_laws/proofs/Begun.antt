@@ -30,7 +30,7 @@ use Rattle.fl_queues.specs.SoundPlaces.{stations}
 use Rattle.fl_queues.specs.Sound.{Sound}
 use Rattle.fl_laws.proofs.Cases.{Each, each_changed, each_push, either, by_given}
 use Rattle.fl_laws.proofs.BindingWalk.{new_binding}
-use Rattle.fl_laws.proofs.EndsStep.{is_not, queue_out, station_some, long_route}
+use Rattle.fl_laws.proofs.EndsStep.{queue_out, station_some, long_route}
 use Rattle.fl_laws.proofs.Flows.{index_else}
 use Rattle.fl_laws.proofs.Hearing.{LinkThere, link_there, is_under_way}
 use Rattle.fl_laws.proofs.LabelsMoved.{replies_passed, IsShaped, goes_on_passed}
@@ -40,6 +40,7 @@ use Rattle.fl_laws.proofs.Replies.{length_changed}
 use Rattle.fl_laws.proofs.Sitting.{OpensFor, opens_for}
 use Rattle.fl_laws.proofs.Walk.{KeepsFrom, IsHere, with_ring, step_leads}
 use Rattle.fl_laws.proofs.WaitsetsKept.{looks_same, sure_same, first_same}
+use Rattle.fl_laws.proofs.Small.{is_not}
 
 -- ---- one binding
 

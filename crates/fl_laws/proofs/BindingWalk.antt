@@ -1,6 +1,6 @@
 -- The walk for what holds of each binding alone, with the interfaces and the number of rings: what changes a binding, each once.
 use Rattle.std.proofs.Common.{◌≡◌, refl, sym, ◌∙◌, ap, subst, ℕ, zero, suc, ◌+◌, ◌≤◌, Bool, true, false, if◌then◌else◌}
-use Rattle.std.proofs.Common.{List, [], ◌∷◌, ◌++◌, length, slice_get, slice_set, Option, Some, None, arith}
+use Rattle.std.proofs.Common.{List, [], ◌∷◌, ◌++◌, length, slice_get, Option, Some, None, arith}
 use Rattle.std.proofs.lemmas.List.{length-append}
 use Rattle.fl_base.specs.declared.identity.EndId.{EndId}
 use Rattle.fl_base.specs.declared.identity.Side.{Side}
@@ -28,6 +28,7 @@ use Rattle.fl_laws.proofs.CoreWalk.{EachAt, each_at_changed}
 use Rattle.fl_hop.specs.declared.entry.Hop.{Hop}
 use Rattle.fl_lists.specs.declared.place.Place.TheVariants.{Polled}
 use Rattle.fl_laws.proofs.Walk.{Keeps, IsArriving, with_ring}
+use Rattle.fl_laws.proofs.Small.{length_set}
 
 -- ---- changes of ends that leave queues, rules and stations as they are
 
@@ -41,11 +42,6 @@ with_out f x = record x { out = f x.out }
 
 out_quiet : (f : Direction → Direction) → ((d : Direction) → length (f d).passed ≡ length d.passed) → IsQuiet (with_out f)
 out_quiet f same = record { queue = λ x. refl; rules = λ x. refl; passed = λ x. same x.out }
-
-length_set : {X : Type 0} (xs : List X) (n : ℕ) (y : X) → length (slice_set xs n y) ≡ length xs
-length_set [] n y = refl
-length_set (x ∷ xs) zero y = omega arith
-length_set (x ∷ xs) (suc n) y = let ih : length (slice_set xs n y) ≡ length xs = length_set xs n y in omega arith
 
 rule_quiet : (msg answer : ℕ) → IsQuiet (with_rule msg answer)
 rule_quiet msg answer = record { queue = λ x. refl; rules = λ x. length_set x.rules msg (Some answer); passed = λ x. refl }

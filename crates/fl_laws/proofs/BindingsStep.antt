@@ -42,11 +42,11 @@ use Rattle.fl_queues.specs.Events.{nothing}
 use Rattle.fl_queues.specs.State.{over_route, undecided}
 use Rattle.fl_laws.proofs.Cases.{either}
 use Rattle.fl_laws.proofs.Replies.{length_changed}
-use Rattle.fl_laws.proofs.EndsStep.{queue_out, long_route, is_not, get_push, interface_side}
-use Rattle.fl_laws.proofs.RepliesStep.{length_replicate}
+use Rattle.fl_laws.proofs.EndsStep.{queue_out, long_route}
 use Rattle.fl_queues.specs.State.{in_route}
 use Rattle.fl_queues.specs.Ends.{joined_by, Direction}
 use Rattle.std.proofs.Common.{ap, ◌∙◌, sym, replicate}
+use Rattle.fl_laws.proofs.Small.{get_push, is_not, length_replicate, interface_side}
 
 abbrev pub KeepsStations : (End → End) → Type 0
 KeepsStations f = (x : End) → length (f x).out.passed ≡ length x.out.passed

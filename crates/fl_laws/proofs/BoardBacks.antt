@@ -24,7 +24,7 @@ use Rattle.fl_laws.proofs.Cases.{by_given}
 use Rattle.fl_laws.proofs.Views.{Part, part_of, view}
 use Rattle.fl_laws.proofs.Quiet.{quiet_binds}
 use Rattle.fl_laws.proofs.Walk.{IsHere}
-use Rattle.fl_laws.proofs.Hearing.{some_same, OpenedDue, opened_due}
+use Rattle.fl_laws.proofs.Hearing.{OpenedDue, opened_due}
 use Rattle.fl_laws.proofs.Boards.{Says, IsRoute, Stands, message, some_is}
 use Rattle.fl_laws.proofs.BoardSteps.{next_place}
 use Rattle.fl_laws.proofs.BoardViews.{place_in, route_in, board}
@@ -33,6 +33,7 @@ use Rattle.fl_laws.proofs.BoardHears.{Whole, HeardAt, heard_view}
 use Rattle.fl_laws.proofs.BoardAnswers.{AnswersAt, opened_part, opened_fits, refused_part, refused_fits, opened_on, opened_on_fits, refused_on, refused_on_fits}
 use Rattle.fl_laws.proofs.BoardQuiet.{After}
 use Rattle.fl_laws.proofs.BoardHeard.{Hearer, hearer, HearFits, taken_view, left_view, said_or_left, has_head, opening_heard}
+use Rattle.fl_laws.proofs.Small.{some_same}
 
 -- ---- what an answer comes to
 

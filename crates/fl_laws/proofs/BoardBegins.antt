@@ -20,7 +20,6 @@ use Rattle.fl_queues.specs.SoundEntries.{near_key, to_this}
 use Rattle.fl_laws.proofs.Views.{View, Part, part_of, sides_of, back_of, view, made, map_changed}
 use Rattle.fl_laws.proofs.Quiet.{quiet_seats}
 use Rattle.fl_laws.proofs.Walk.{BeginsRoute}
-use Rattle.fl_laws.proofs.EndsStep.{is_not}
 use Rattle.fl_laws.proofs.PlacesStep.{opening_counted}
 use Rattle.fl_laws.proofs.OpeningsKept.{part_opens}
 use Rattle.fl_laws.proofs.Lanes.{names}
@@ -33,6 +32,7 @@ use Rattle.fl_laws.proofs.BoardCores.{set_part, own_key, set_at, came_at, was_th
 use Rattle.fl_laws.proofs.BoardHears.{Whole, is_added, slot_within, next_free}
 use Rattle.fl_laws.proofs.BoardOpenings.{slot_key}
 use Rattle.fl_laws.proofs.BoardQuiet.{After, changed_to}
+use Rattle.fl_laws.proofs.Small.{is_not}
 
 -- ---- one binding more
 

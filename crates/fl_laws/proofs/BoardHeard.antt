@@ -23,7 +23,7 @@ use Rattle.fl_laws.proofs.Quiet.{drop_said, quiet_seats, quiet_binds}
 use Rattle.fl_laws.proofs.Walk.{IsHere}
 use Rattle.fl_laws.proofs.PlacesStep.{given_some}
 use Rattle.fl_laws.proofs.OpeningsHeard.{set_parts}
-use Rattle.fl_laws.proofs.Hearing.{LinkThere, link_there, some_same}
+use Rattle.fl_laws.proofs.Hearing.{LinkThere, link_there}
 use Rattle.fl_laws.proofs.Arriving.{is_last, place_is, less_true, same_opening, not_opened, not_refused, said_same}
 use Rattle.fl_laws.proofs.Boards.{Has, IsRoute, message, some_is}
 use Rattle.fl_laws.proofs.BoardViews.{part_line, side_said, board, core_part}
@@ -32,6 +32,7 @@ use Rattle.fl_laws.proofs.BoardSaid.{takes_first}
 use Rattle.fl_laws.proofs.BoardHears.{Whole, HeardAt, heard_view, is_taken}
 use Rattle.fl_laws.proofs.BoardOpenings.{OpenAt, passed_part, passed_fits, arrived_part, arrived_fits, failed_part, failed_fits}
 use Rattle.fl_laws.proofs.BoardQuiet.{After}
+use Rattle.fl_laws.proofs.Small.{some_same}
 
 -- ---- what is known where a message is heard
 

@@ -12,7 +12,7 @@ use Rattle.fl_queues.specs.SoundRoutes.{VerdictFits, OneNumber}
 use Rattle.fl_queues.specs.SoundEntries.{Key, Leads}
 use Rattle.fl_laws.proofs.Boards.{Has, has_none, Board, StandOn, message, MessageDue, Fits, Known, some_is, Changes, Own, says_on, due_on}
 use Rattle.fl_laws.proofs.Boards.{Stands, stand_kept, due_kept, wait_kept, Takes, Puts, taken_left, taken_once, put_has, put_once}
-use Rattle.fl_laws.proofs.Hearing.{some_same}
+use Rattle.fl_laws.proofs.Small.{some_same}
 
 -- ---- an answer under way
 

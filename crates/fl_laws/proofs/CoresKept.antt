@@ -38,10 +38,10 @@ use Rattle.fl_laws.proofs.ForwardsTold.{got_at, place_there, first_unread, first
 use Rattle.fl_laws.proofs.Hearing.{LinkThere, link_there, is_under_way}
 use Rattle.fl_laws.proofs.ListingKept.{some_there}
 use Rattle.fl_laws.proofs.Replies.{length_changed}
-use Rattle.fl_laws.proofs.Seats.{some_same}
 use Rattle.fl_laws.proofs.TablesKept.{Fresh, arrived_sound, passed_sound, answered_sound, removed_sound, taking_counted, leads_range}
 use Rattle.fl_laws.proofs.Walk.{IsHere}
 use Rattle.std.proofs.lemmas.List.Quantifiers.{position-Some}
+use Rattle.fl_laws.proofs.Small.{some_same}
 
 -- ---- a core's links by their neighbours
 

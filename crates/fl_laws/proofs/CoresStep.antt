@@ -39,12 +39,11 @@ use Rattle.fl_laws.proofs.EndsStanding.{there_is as stands_there}
 use Rattle.fl_laws.proofs.ListingKept.{some_there}
 use Rattle.fl_laws.proofs.Replies.{length_changed}
 use Rattle.fl_laws.proofs.Seating.{changed_was}
-use Rattle.fl_laws.proofs.Seats.{some_same}
-use Rattle.fl_laws.proofs.Services.{is_not}
 use Rattle.fl_laws.proofs.Start.{empty_table}
 use Rattle.fl_laws.proofs.TablesKept.{Fresh, opened_sound, leads_range, linked_sound}
 use Rattle.fl_laws.proofs.WaitsetsKept.{looks_same, sure_same, first_same}
 use Rattle.fl_laws.proofs.Walk.{KeepsFrom, BeginsRoute, step_leads, with_ring}
+use Rattle.fl_laws.proofs.Small.{is_not, some_same}
 
 -- ---- what is known
 
@@ -168,7 +167,7 @@ StandsWith core k n x = CoreStands n x × (n ≡ core → x.circuits ≡ k.circu
 
 begun_kept : (w : Wanted) (cores : List ℕ) (k : Core) (l c : ℕ) (o : Opening) (s t : State) → BeginsRoute w cores k l c s → t.cores ≡ s.cores
     → o.binding ≡ length s.bindings → MayStand s → CoresStand (change_core w.client.core (opens l c o) (seats w.client (end_id (length s.bindings) Client) t))
-begun_kept w cores k l c o s t begins same binding h =
+begun_kept w way k l c o s t begins same binding h =
     let all : EachAt (StandsWith w.client.core k) t.cores =
     subst (EachAt (StandsWith w.client.core k)) (sym same)
     (λ n x q. (h.stand n x q, λ e. ap (λ (y : Core). y.circuits) (some_same x k (sym q ∙ ap (core_of s) e ∙ begins.core)))) in

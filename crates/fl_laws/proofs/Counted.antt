@@ -9,9 +9,9 @@ use Rattle.fl_queues.specs.State.{start}
 use Rattle.fl_queues.specs.Runs.{reached}
 use Rattle.fl_queues.specs.SoundLabels.{IsCounted, WritesAreCounted}
 use Rattle.fl_laws.proofs.Cases.{either, by_given}
-use Rattle.fl_laws.proofs.Replies.{length_changed, written_stays, written_grows, total_push, less, at_most}
-use Rattle.fl_laws.proofs.RepliesStep.{length_replicate}
+use Rattle.fl_laws.proofs.Replies.{length_changed, written_stays, written_grows, total_push, at_most}
 use Rattle.fl_laws.proofs.EndsStep.{EndKeeps, ends_reached}
+use Rattle.fl_laws.proofs.Small.{less, length_replicate}
 
 pub record DirectionOk (i : Planned) (d : Direction) : Type 0 where
   pub stations : 2 ≤ length d.passed
@@ -92,7 +92,7 @@ zero_first (suc n) = refl
 
 fresh_ok : (i : Planned) (messages stations : ℕ) (q : Option Queue) → 2 ≤ stations → CountedOk i (unbound_end messages stations q)
 fresh_ok i messages stations q a =
-    let long = length_replicate stations 0 in
+    let long = length_replicate {X = ℕ} stations 0 in
     let none = zero_first stations in
     record { stations = omega arith; counted = record { before = omega arith; most = omega arith } }
 

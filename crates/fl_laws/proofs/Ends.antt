@@ -1,5 +1,5 @@
 -- One end among all: what a change of some end makes of it.
-use Rattle.std.proofs.Common.{◌≡◌, ◌≢◌, refl, sym, ◌∙◌, ap, subst, ℕ, zero, suc, ◌==◌, ◌&&◌, Bool, true, false, List, [], ◌∷◌, ◌++◌, slice_get, slice_set, Option, Some, None, is_some}
+use Rattle.std.proofs.Common.{◌≡◌, refl, sym, ◌∙◌, ap, subst, ℕ, zero, suc, ◌==◌, ◌&&◌, Bool, true, false, List, [], ◌∷◌, ◌++◌, slice_get, slice_set, Option, Some, None, is_some}
 use Rattle.std.proofs.lemmas.Bool.{eqb-true, eqb-false}
 use Rattle.fl_base.specs.declared.identity.Side.{Side}
 use Rattle.fl_base.specs.declared.identity.Side.TheVariants.{Client, Server}
@@ -9,6 +9,8 @@ use Rattle.fl_queues.specs.Ends.{End}
 use Rattle.fl_queues.specs.State.{Binding, State, end_in, end_of, with_end_in, change_end}
 use Rattle.fl_queues.specs.Runs.{same_side, same_end}
 use Rattle.fl_laws.proofs.Cases.{by_given}
+use Rattle.fl_laws.proofs.Small.{both_are, changed_here}
+use Rattle.fl_laws.proofs.Places.{changed_other}
 
 -- ---- lists
 
@@ -34,27 +36,6 @@ pushed_alike G [] (suc n) y e = refl
 pushed_alike G (x ∷ xs) zero y e = refl
 pushed_alike G (x ∷ xs) (suc n) y e = pushed_alike G xs n y e
 
-set_other : {X : Type 0} (xs : List X) (i j : ℕ) (y : X) → j ≢ i → slice_get (slice_set xs i y) j ≡ slice_get xs j
-set_other [] i j y h = refl
-set_other (z ∷ xs) zero zero y h = absurd (h refl)
-set_other (z ∷ xs) zero (suc j) y h = refl
-set_other (z ∷ xs) (suc i) zero y h = refl
-set_other (z ∷ xs) (suc i) (suc j) y h = set_other xs i j y (λ q. h (ap suc q))
-
-changed_other : {X : Type 0} (xs : List X) (i j : ℕ) (f : X → X) → j ≢ i → slice_get (changed_at i f xs) j ≡ slice_get xs j
-changed_other {X} xs i j f h =
-    by_given (λ (ys : List X). slice_get ys j ≡ slice_get xs j) (slice_get xs i) xs (λ x. slice_set xs i (f x)) refl
-    (λ x q. set_other xs i j (f x) h)
-
-set_here : {X : Type 0} (xs : List X) (n : ℕ) (x y : X) → slice_get xs n ≡ Some x → slice_get (slice_set xs n y) n ≡ Some y
-set_here [] n x y q = absurd (cc)
-set_here (z ∷ xs) zero x y q = refl
-set_here (z ∷ xs) (suc n) x y q = set_here xs n x y q
-
-pub changed_here : {X : Type 0} (xs : List X) (n : ℕ) (f : X → X) (x : X) → slice_get xs n ≡ Some x → slice_get (changed_at n f xs) n ≡ Some (f x)
-changed_here {X} xs n f x q =
-    subst (λ (o : Option X). slice_get (given o xs (λ y. slice_set xs n (f y))) n ≡ Some (f x)) (sym q) (set_here xs n x (f x) q)
-
 -- ---- an end
 
 side_true : (x y : Side) → same_side x y ≡ true → x ≡ y
@@ -63,13 +44,9 @@ side_true Client Server h = absurd (cc)
 side_true Server Client h = absurd (cc)
 side_true Server Server h = refl
 
-and_both : (a b : Bool) → (a && b) ≡ true → (a ≡ true) × (b ≡ true)
-and_both true b h = (refl, h)
-and_both false b h = absurd (cc)
-
 pub same_end_true : (e f : EndId) → same_end e f ≡ true → e ≡ f
 same_end_true e f h =
-    let both = and_both (e.binding == f.binding) (same_side e.side f.side) h in
+    let both = both_are (e.binding == f.binding) (same_side e.side f.side) h in
     let first : e ≡ record { binding = f.binding; side = e.side } =
     subst (λ (n : ℕ). e ≡ record { binding = n; side = e.side }) (eqb-true e.binding f.binding both.0) refl in
     subst (λ (x : Side). e ≡ record { binding = f.binding; side = x }) (side_true e.side f.side both.1) first

@@ -1,6 +1,6 @@
 -- Each end's binding has its interface, its direction all its stations, and there is what it takes from.
 use Rattle.std.proofs.Common.{◌≡◌, refl, sym, ◌∙◌, ap, subst, ℕ, zero, suc, ◌+◌, ◌≤◌, true, false}
-use Rattle.std.proofs.Common.{List, [], ◌∷◌, ◌++◌, length, replicate, slice_get, Option, Some, None, arith}
+use Rattle.std.proofs.Common.{List, [], ◌∷◌, length, slice_get, Option, Some, None, arith}
 use Rattle.std.specs.Prelude.{IsSome, IsNone}
 use Rattle.fl_base.specs.declared.identity.EndId.{EndId}
 use Rattle.fl_base.specs.declared.identity.Side.{Side}
@@ -16,6 +16,7 @@ use Rattle.fl_queues.specs.SoundPlaces.{TakesFrom, stations, EndStands, EndsStan
 use Rattle.fl_laws.proofs.Cases.{by_given}
 use Rattle.fl_laws.proofs.BindingWalk.{IsQuiet, IsSameRoute, IsFresh, by_queue, on_ring, on_route, KeepsBindings, Bindings, bindings_keep, end_there}
 use Rattle.fl_laws.proofs.Walk.{step_keeps}
+use Rattle.fl_laws.proofs.Small.{get_push, length_replicate, same_interface}
 
 abbrev From : ℕ → Back → Option Queue → Type 0
 From rs local q = IsSome q
@@ -73,15 +74,6 @@ from_grown rs more (over_route route) q a h = h
 grown_stands : (i : Planned) (rs more : ℕ) (back : Back) (x : End) → rs ≤ more → Stands i rs back x → Stands i more back x
 grown_stands i rs more back x a h = record { rules = h.rules; passed = h.passed; queue = from_grown rs more back x.queue a h.queue }
 
-pub get_push : {X : Type 0} (xs : List X) (n : ℕ) (x y : X) → slice_get xs n ≡ Some x → slice_get (xs ++ y ∷ []) n ≡ Some x
-get_push [] n x y q = absurd (cc)
-get_push (z ∷ xs) zero x y q = q
-get_push (z ∷ xs) (suc n) x y q = get_push xs n x y q
-
-length_replicate : {X : Type 0} (n : ℕ) (x : X) → length (replicate n x) ≡ n
-length_replicate zero x = refl
-length_replicate (suc n) x = let ih : length (replicate n x) ≡ n = length_replicate n x in omega arith
-
 fresh_stands : (rs : ℕ) (w : Wanted) (i : Planned) (back : Back) (n : ℕ) (q : Option Queue) → w.messages ≡ length i.interface.messages
     → IsFresh rs back n q → Stands i rs back (unbound_end w.messages n q)
 fresh_stands rs w i back n q e (by_queue r slots) =
@@ -127,9 +119,6 @@ takes_of : (s : State) (back : Back) (x : End) → From (length s.rings) back x.
 takes_of s local x h = h
 takes_of s (over_ring n) x h = (h.0, there_is s.rings n h.1)
 takes_of s (over_route route) x h = h
-
-same_interface : (is : List Planned) (n : ℕ) (i j : Planned) → slice_get is n ≡ Some i → slice_get is n ≡ Some j → i ≡ j
-same_interface is n i j p q = let e : Some i ≡ Some j = sym p ∙ q in cc
 
 abbrev OneStands : State → Binding → End → Type 0
 OneStands s b x = (i : Planned) × (slice_get s.interfaces b.interface ≡ Some i) × Stands i (length s.rings) b.back x

@@ -1,6 +1,6 @@
 -- What is said of each end of a binding, whatever it is: each event keeps it where the few changes of an end's calls do.
 use Rattle.std.proofs.Common.{◌≡◌, refl, sym, ◌∙◌, subst, ℕ, ◌+◌, ◌≤◌, ◌&&◌, nat_le, not}
-use Rattle.std.proofs.Common.{Bool, true, false, List, [], ◌∷◌, ◌++◌, length, slice_get}
+use Rattle.std.proofs.Common.{Bool, true, false, List, [], ◌∷◌, length, slice_get}
 use Rattle.std.proofs.Common.{Option, Some, None, arith}
 use Rattle.fl_base.specs.declared.identity.EndId.{EndId}
 use Rattle.fl_base.specs.declared.identity.Side.TheVariants.{Client, Server}
@@ -37,6 +37,7 @@ use Rattle.fl_queues.specs.State.{Binding, Route, change_out, change_channel, wi
 use Rattle.fl_queues.specs.Ends.{accepts, writes, with_rule, passes, takes_one, replies, unbound_end}
 use Rattle.fl_laws.proofs.Cases.{Each, each_changed}
 use Rattle.fl_laws.proofs.Walk.{At, with_ring, Keeps, run_keeps}
+use Rattle.fl_laws.proofs.Small.{get_push, is_not, same_interface, interface_side, changed_here}
 
 -- ---- what is to be shown
 
@@ -63,16 +64,8 @@ AllOk Q s = Each (BindingOk Q s.interfaces) s.bindings
 
 -- ---- lists, and sides of a binding
 
-same_interface : (interfaces : List Planned) (n : ℕ) (i j : Planned) → slice_get interfaces n ≡ Some i → slice_get interfaces n ≡ Some j → i ≡ j
-same_interface interfaces n i j p q = let e : Some i ≡ Some j = sym p ∙ q in cc
-
 pub queue_out : (x : End) (f : Queue → Queue) → (in_queue f x).out ≡ x.out
 queue_out x f = by_given (λ (y : End). y.out ≡ x.out) x.queue x _ refl (λ q r. refl)
-
-pub get_push : {X : Type 0} (xs : List X) (n : ℕ) (x y : X) → slice_get xs n ≡ Some x → slice_get (xs ++ y ∷ []) n ≡ Some x
-get_push [] n x y q = absurd (cc)
-get_push (z ∷ xs) zero x y q = q
-get_push (z ∷ xs) (suc n) x y q = get_push xs n x y q
 
 -- ---- fields
 
@@ -86,15 +79,6 @@ at_least n h = grind (arith, nat_tests, h)
 pub long_route : (cores : List ℕ) (client service : ℕ) (s : State) → is_route cores client service s ≡ true → 2 ≤ length cores + 1
 long_route cores client service s h =
     at_least (length cores) (and_left _ _ (and_left _ _ (and_left _ _ (and_left _ _ (and_left _ _ h)))))
-
-set_here : {X : Type 0} (xs : List X) (n : ℕ) (x y : X) → slice_get xs n ≡ Some x → slice_get (slice_set xs n y) n ≡ Some y
-set_here [] n x y q = absurd (cc)
-set_here (z ∷ xs) zero x y q = refl
-set_here (z ∷ xs) (suc n) x y q = set_here xs n x y q
-
-changed_here : {X : Type 0} (xs : List X) (n : ℕ) (f : X → X) (x : X) → slice_get xs n ≡ Some x → slice_get (changed_at n f xs) n ≡ Some (f x)
-changed_here {X} xs n f x q =
-    subst (λ (o : Option X). slice_get (given o xs (λ y. slice_set xs n (f y))) n ≡ Some (f x)) (sym q) (set_here xs n x (f x) q)
 
 queue_open : (f : Queue → Queue) (x : End) → holds_back x ≡ false → holds_back (in_queue f x) ≡ false
 queue_open f x h = by_given (λ (y : End). holds_back y ≡ false) x.queue x _ h (λ q r. h)
@@ -126,10 +110,6 @@ open_side Client Server b h = h
 open_side Server Client b h = h
 open_side Server Server b h = h
 
-pub interface_side : (by : Side) (f : End → End) (b : Binding) → (with_end_in by f b).interface ≡ b.interface
-interface_side Client f b = refl
-interface_side Server f b = refl
-
 pub record OpenAt (interfaces : List Planned) (i : Planned) (side : Side) (b : Binding) : Type 0 where
   pub open_is : holds_back (end_in side b) ≡ false
   pub there : slice_get interfaces b.interface ≡ Some i
@@ -150,10 +130,6 @@ open_at s e i b at q w r =
 pub station_some : (o : Option ℕ) (n : ℕ) → given o None (λ j. Some (j + 1)) ≡ Some n → 1 ≤ n
 station_some None n h = absurd (cc)
 station_some (Some j) n h = let e : j + 1 ≡ n = cc in omega arith
-
-pub is_not : (b : Bool) → not b ≡ false → b ≡ true
-is_not true h = refl
-is_not false h = absurd (cc)
 
 -- ---- each event
 

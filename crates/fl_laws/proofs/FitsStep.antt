@@ -1,6 +1,6 @@
 -- Each step keeps that calls fit their interfaces and that reply rules keep to types, where labels keep to their ways.
-use Rattle.std.proofs.Common.{◌≡◌, refl, sym, ◌∙◌, subst, ℕ, ◌+◌, ◌&&◌, nat_le, not}
-use Rattle.std.proofs.Common.{Bool, true, false, List, [], ◌∷◌, ◌++◌, length, slice_get}
+use Rattle.std.proofs.Common.{◌≡◌, refl, sym, ◌∙◌, subst, ℕ, ◌+◌, nat_le}
+use Rattle.std.proofs.Common.{true, List, [], ◌∷◌, length, slice_get}
 use Rattle.std.proofs.Common.{Option, Some, None, arith}
 use Rattle.fl_base.specs.declared.identity.EndId.{EndId}
 use Rattle.fl_base.specs.declared.identity.Side.TheVariants.{Client, Server}
@@ -25,7 +25,6 @@ use Rattle.fl_queues.specs.Forwarding.{follows, takes_said, label_of}
 use Rattle.fl_queues.specs.Given.{given}
 use Rattle.fl_laws.proofs.Cases.{by_given, each_push, none_at_end}
 use Rattle.std.proofs.Common.{replicate, slice_set, zero}
-use Rattle.std.proofs.lemmas.Bool.Decides.{nat_tests}
 use Rattle.fl_base.specs.declared.identity.Side.{Side}
 use Rattle.fl_queues.specs.Given.{given, changed_at}
 use Rattle.fl_queues.specs.Monitors.{Hearing}
@@ -35,7 +34,7 @@ use Rattle.fl_queues.specs.State.{binds_end}
 use Rattle.fl_queues.specs.State.{Binding, Route, change_out, change_channel, with_end_in}
 use Rattle.fl_queues.specs.Ends.{accepts, writes, with_rule, passes, takes_one, replies, unbound_end}
 use Rattle.fl_laws.proofs.Cases.{Each, each_changed}
-use Rattle.std.proofs.Common.{ap, ◌<◌, ◌-◌, ◌||◌, replicate, is_some, nat_lt}
+use Rattle.std.proofs.Common.{ap, ◌<◌, ◌-◌, ◌||◌, replicate, is_some}
 use Rattle.std.specs.Prelude.{Contains}
 use Rattle.fl_base.specs.Ends.{other}
 use Rattle.fl_value.specs.Fits.{fits_of}
@@ -56,6 +55,7 @@ use Rattle.fl_queues.specs.SoundCalls.{AllFit, DirectionFits, CallsFit, RuleSuit
 use Rattle.fl_laws.proofs.Cases.{either, each_tail}
 use Rattle.fl_laws.proofs.SameTypes.{reply_fits}
 use Rattle.fl_laws.proofs.Walk.{At, Fitting, Suiting, PassedAt, KeepsUnder, with_ring, step_leads_under}
+use Rattle.fl_laws.proofs.Small.{get_push, is_not, less, both_are, same_interface, interface_side, first_of}
 
 -- ---- one end
 
@@ -132,9 +132,6 @@ pub record BindingFits (interfaces : List Planned) (b : Binding) : Type 0 where
 abbrev pub AllFitting : State → Type 0
 AllFitting s = Each (BindingFits s.interfaces) s.bindings
 
-same_interface : (interfaces : List Planned) (n : ℕ) (i j : Planned) → slice_get interfaces n ≡ Some i → slice_get interfaces n ≡ Some j → i ≡ j
-same_interface interfaces n i j p q = let e : Some i ≡ Some j = sym p ∙ q in cc
-
 side_changed : (interfaces : List Planned) (side : Side) (f : End → End) (b : Binding)
     → ((i : Planned) → slice_get interfaces b.interface ≡ Some i → EndFits i (end_in side b) → EndFits i (f (end_in side b)))
     → BindingFits interfaces b → BindingFits interfaces (with_end_in side f b)
@@ -196,11 +193,6 @@ new_kept : (w : Wanted) (i : Planned) (back : Back) (stations : ℕ) (q : Option
 new_kept w i back stations q s there h =
     each_push (BindingFits s.interfaces) s.bindings _ h
     (record { interface = i; there = there; client = fresh_fits i w.messages stations q; server = fresh_fits i w.messages stations q })
-
-get_push : {X : Type 0} (xs : List X) (n : ℕ) (x y : X) → slice_get xs n ≡ Some x → slice_get (xs ++ y ∷ []) n ≡ Some x
-get_push [] n x y q = absurd (cc)
-get_push (z ∷ xs) zero x y q = q
-get_push (z ∷ xs) (suc n) x y q = get_push xs n x y q
 
 route_changed : (n : ℕ) (f : Route → Route) (s : State) → AllFitting s → AllFitting (change_route n f s)
 route_changed n f s h =
@@ -264,10 +256,6 @@ at_changed : {X : Type 0} (P : X → Type 0) (xs : List X) (m n : ℕ) (f : X �
 at_changed {X} P xs m n f h k =
     by_given (λ (ys : List X). (z : X) → slice_get ys m ≡ Some z → P z) (slice_get xs n) xs (λ x. slice_set xs n (f x)) h
     (λ x q. at_set P xs m n x (f x) q h (k x))
-
-interface_side : (by : Side) (f : End → End) (b : Binding) → (with_end_in by f b).interface ≡ b.interface
-interface_side Client f b = refl
-interface_side Server f b = refl
 
 -- the end's binding, and the end in it
 end_there : (side : Side) (o : Option Binding) (y : End) → given o None (λ b. Some (end_in side b)) ≡ Some y
@@ -351,17 +339,6 @@ own_after f by s k h = record {
 abbrev pub FitsSo : State → Type 0
 FitsSo s = AllFitting s × FirstAreOwn s
 
-is_not : (b : Bool) → not b ≡ false → b ≡ true
-is_not true h = refl
-is_not false h = absurd (cc)
-
-both_are : (a b : Bool) → (a && b) ≡ true → (a ≡ true) × (b ≡ true)
-both_are true b h = (refl, h)
-both_are false b h = absurd (cc)
-
-less : (a b : ℕ) → nat_lt a b ≡ true → a < b
-less a b h = grind (arith, nat_tests, h)
-
 message_there : {X : Type 0} (xs : List X) (n : ℕ) → n < length xs → is_some (slice_get xs n) ≡ true
 message_there [] n h = absurd (omega arith)
 message_there (x ∷ xs) zero h = refl
@@ -429,10 +406,6 @@ fits_keep = record {
 
 -- ---- the law
 
-first_in : (ls : List Label) (l : Label) → slice_get ls 0 ≡ Some l → Contains ls l
-first_in [] l h = absurd (cc)
-first_in (x ∷ ls) l h = (0, (let a : 0 < suc (length ls) = omega arith in a), (let e : x ≡ l = cc in e))
-
 of_own : (e : EndId) (l : Label) → IsOf e l → OwnLabel e l
 of_own e l h = subst (OwnLabel e) (sym h.1) refl
 
@@ -474,13 +447,13 @@ firsts_are_own s h = record {
       let is : queue_of s e ≡ q.labels =
       ap (λ (o : Option Binding). given (given o None λ x. Some (end_in e.side x)) [] λ x. given x.queue [] λ y. y.labels) u
       ∙ ap (λ (o : Option Queue). given o [] λ y. y.labels) v in
-      of_own (peer e) label (h.queues e label (subst (λ (ls : List Label). Contains ls label) (sym is) (first_in q.labels label w)));
+      of_own (peer e) label (h.queues e label (subst (λ (ls : List Label). Contains ls label) (sym is) (first_of q.labels 0 label w)));
   rings = λ e b at first u v w.
       let own = ring_own e.side b.back at v in
       let first_is : given (slice_get s.rings at.ring) None (first_for (side_of e.side)) ≡ Some first =
       subst (λ (side : RingSide). given (slice_get s.rings at.ring) None (first_for side) ≡ Some first) own.1 w in
       from_own (peer e) first.label
-      (h.rings (peer e) b at.ring first.label u own.0 (first_in _ first.label (stands_first s.rings at.ring e.side first first_is)));
+      (h.rings (peer e) b at.ring first.label u own.0 (first_of _ 0 first.label (stands_first s.rings at.ring e.side first first_is)));
 }
 
 all_fitting : (s : State) → EndsStand s → CallsFit s → RulesSuit s → AllFitting s

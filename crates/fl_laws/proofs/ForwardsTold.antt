@@ -35,13 +35,13 @@ use Rattle.fl_laws.proofs.BindingWalk.{given_there}
 use Rattle.fl_laws.proofs.EndsStanding.{there_is as stands_there}
 use Rattle.fl_laws.proofs.Arriving.{place_is, less_true}
 use Rattle.fl_laws.proofs.Hearing.{LinkThere, link_there, is_under_way}
-use Rattle.fl_laws.proofs.Seats.{some_same}
 use Rattle.fl_laws.proofs.ListingStep.{end_at}
 use Rattle.fl_laws.proofs.ListingKept.{some_there}
 use Rattle.fl_laws.proofs.TurnsTold.{there_is, Tells, picked_first, way_length, takes_from}
 use Rattle.fl_laws.proofs.WritesTold.{get_at, get_back}
 use Rattle.fl_queues.specs.Binding.{all_differ}
 use Rattle.fl_base.specs.Ends.{peer}
+use Rattle.fl_laws.proofs.Small.{some_same}
 
 -- ---- what stands first on the link
 

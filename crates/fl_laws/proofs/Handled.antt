@@ -38,6 +38,7 @@ use Rattle.fl_laws.proofs.Alike.{ReadsCalls, delivered_alike}
 use Rattle.fl_laws.proofs.Telling.{TellsCalls, tells_of, passed_at}
 use Rattle.fl_laws.proofs.BindingsStep.{AllShaped, Shaped, StationsOf, all_shaped, bindings_keep, IsBoundTo, bound_keep}
 use Rattle.fl_laws.proofs.Whole.{added, whole_prefix, whole_more, whole_grows, taken_stays, taken_grows, none_taken}
+use Rattle.fl_laws.proofs.Small.{first_of}
 
 -- ---- what is read off an end
 
@@ -280,10 +281,6 @@ passing_alike e here p first route hop s t k h q =
 
 -- ---- labels keep to their ways
 
-first_in : {X : Type 0} (xs : List X) (x : X) → slice_get xs 0 ≡ Some x → Contains xs x
-first_in [] x q = absurd (cc)
-first_in (y ∷ ys) x q = (0, omega arith, (let e : y ≡ x = cc in e))
-
 first_label : (ls : List RingLabel) (l : RingLabel) → slice_get ls 0 ≡ Some l → Contains (labels_of ls) l.label
 first_label [] l q = absurd (cc)
 first_label (k ∷ ls) l q = (0, omega arith, (let e : k ≡ l = cc in ap (λ (m : RingLabel). m.label) e))
@@ -309,7 +306,7 @@ queue_at z f b q r k =
 queue_keeps : (z : State) (f : EndId) (b : Binding) (q : Queue) (l : Label) → LabelsKeepToTheirWays z → binding_of z f ≡ Some b
     → (end_in f.side b).queue ≡ Some q → slice_get q.labels 0 ≡ Some l → IsFrom f l
 queue_keeps z f b q l ways r k m =
-    from_queue_label f l (ways.queues f l (subst (λ (ls : List Label). Contains ls l) (sym (queue_at z f b q r k)) (first_in q.labels l m)))
+    from_queue_label f l (ways.queues f l (subst (λ (ls : List Label). Contains ls l) (sym (queue_at z f b q r k)) (first_of q.labels 0 l m)))
 
 ring_by : (z : State) (f : EndId) (b : Binding) (back : Back) (at : RingEnd) (first : RingLabel) → LabelsKeepToTheirWays z → binding_of z f ≡ Some b → b.back ≡ back
     → own_ring f.side back ≡ Some at → first_on at z ≡ Some first → IsFrom f first.label

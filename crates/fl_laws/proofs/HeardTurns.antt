@@ -29,13 +29,13 @@ use Rattle.fl_queues.specs.SoundEntries.{behind, SaysWay, EntryAt, near_key, Ent
 use Rattle.fl_queues.specs.Sound.{Sound}
 use Rattle.fl_laws.proofs.Cases.{either, by_given}
 use Rattle.fl_laws.proofs.Arriving.{place_is, less_true, is_last, same_opening, not_opened, not_refused, said_same}
-use Rattle.fl_laws.proofs.Hearing.{some_same, LinkThere, link_there, is_under_way}
+use Rattle.fl_laws.proofs.Hearing.{LinkThere, link_there, is_under_way}
 use Rattle.fl_laws.proofs.WaitsetsStep.{told_same}
 use Rattle.fl_laws.proofs.Walk.{IsHere}
 use Rattle.fl_laws.proofs.Faces.{look, cores_changed, CoreGrows}
 use Rattle.fl_laws.proofs.Growing.{taking_grown, went_core, went_grows, new_number}
-use Rattle.fl_laws.proofs.Seating.{changed_here}
 use Rattle.fl_laws.proofs.Turned.{IsNew, HasFurther}
+use Rattle.fl_laws.proofs.Small.{some_same, changed_here}
 
 -- ---- what is known of the binding
 

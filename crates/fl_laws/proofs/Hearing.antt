@@ -30,6 +30,7 @@ use Rattle.fl_laws.proofs.BindingWalk.{given_there}
 use Rattle.fl_laws.proofs.Seating.{Ready}
 use Rattle.fl_laws.proofs.WaitsetsStep.{seat_its}
 use Rattle.fl_laws.proofs.Walk.{IsHere}
+use Rattle.fl_laws.proofs.Small.{some_same}
 
 -- ---- a core's link
 
@@ -91,9 +92,6 @@ pub record OpenedDue (route : Route) (m : Message) (c : ℕ) : Type 0 where
   pub from : m.from ≡ core_at route (suc waiting)
   pub to : m.to ≡ core_at route waiting
   pub number : c ≡ number_at route waiting
-
-pub some_same : {X : Type 0} (a b : X) → Some a ≡ Some b → a ≡ b
-some_same a b h = cc
 
 not_open : (o : Opening) (m : Said) → open_circuit o ≡ m → {c : ℕ} → m ≡ circuit_opened c → ⊥
 not_open o m h {c} e = let x : open_circuit o ≡ circuit_opened c = h ∙ e in absurd (cc)

@@ -13,8 +13,6 @@ use Rattle.fl_queues.specs.Standing.{picked, number_of}
 use Rattle.fl_queues.specs.SoundPlaces.{Owner, stations}
 use Rattle.fl_queues.specs.SoundLabels.{IsOf}
 use Rattle.fl_laws.proofs.Cases.{Each, each_push, either, by_given}
-use Rattle.fl_laws.proofs.Ends.{changed_here}
-use Rattle.fl_laws.proofs.LabelQueues.{each_drop}
 use Rattle.fl_laws.proofs.Flows.{first_passes, Follows}
 use Rattle.fl_laws.proofs.Places.{Linked, ring_of, turned, changed_other}
 use Rattle.fl_laws.proofs.PlacesStep.{plan_of}
@@ -26,6 +24,7 @@ use Rattle.fl_laws.proofs.Ways.{Once}
 use Rattle.fl_queues.specs.Events.{nothing}
 use Rattle.fl_value.specs.Value.{TheCall}
 use Rattle.fl_laws.proofs.ScenesSaid.{flow_at}
+use Rattle.fl_laws.proofs.Small.{each_drop, changed_here}
 
 -- ---- a binding's ends change
 

@@ -18,7 +18,6 @@ use Rattle.fl_queues.specs.SoundPlaces.{Owner, core_to, this_end}
 use Rattle.fl_laws.proofs.Cases.{by_given, Each, each_push}
 use Rattle.fl_laws.proofs.BindingWalk.{new_binding}
 use Rattle.fl_laws.proofs.Ends.{changed_alike}
-use Rattle.fl_laws.proofs.LabelQueues.{each_drop}
 use Rattle.fl_laws.proofs.Places.{Linked, ring_of, turned, none_same, with_none, with_joined, joined_stays, joined_comes}
 use Rattle.fl_laws.proofs.PlacesStep.{plan_of, plan_route, plan_quiet, end_planned, joined_push, three, length_push}
 use Rattle.fl_laws.proofs.Quiet.{quiet_core, quiet_end, quiet_channel, quiet_seats}
@@ -28,6 +27,7 @@ use Rattle.fl_laws.proofs.Scenes.{joint_of, flow_of, Flow, Sight, sight_of, flow
 use Rattle.fl_laws.proofs.ScenesKept.{quiet_good, NewOne, new_good, picked_same, picked_without}
 use Rattle.fl_laws.proofs.ReadsKept.{PutOn, TakenOff, put_cases, take_cases, first_read, OneMore}
 use Rattle.fl_laws.proofs.Walk.{with_ring}
+use Rattle.fl_laws.proofs.Small.{each_drop}
 
 abbrev pub GoodIn : State → Type 0
 GoodIn s = Good (reads s) (sights s)

@@ -20,7 +20,6 @@ use Rattle.fl_queues.specs.Step.{step}
 use Rattle.fl_queues.specs.SoundLists.{IsBare, BareUntilCoresAreSet}
 use Rattle.fl_queues.specs.SoundPlaces.{Owner, core_to, this_end}
 use Rattle.fl_laws.proofs.Cases.{Each}
-use Rattle.fl_laws.proofs.EndsStep.{is_not}
 use Rattle.fl_laws.proofs.Hearing.{LinkThere, link_there}
 use Rattle.fl_laws.proofs.LabelsForward.{Onward, goes_good, arrived_good, link_is}
 use Rattle.fl_laws.proofs.LabelsMoved.{IsShaped}
@@ -37,6 +36,7 @@ use Rattle.fl_laws.proofs.Services.{ring_bare}
 use Rattle.fl_laws.proofs.Walk.{KeepsUnder, CalledAt, RuledAt, IsHere, IsPassing, IsGoingOn, with_ring, step_leads_under}
 use Rattle.fl_laws.proofs.WaitsetsKept.{looks_same, sure_same, first_same}
 use Rattle.fl_queues.specs.Standing.{picked}
+use Rattle.fl_laws.proofs.Small.{is_not}
 
 pub record MayLabel (s : State) : Type 0 where
   pub linked : Linked (plan_of s)

@@ -19,7 +19,6 @@ use Rattle.fl_queues.specs.SoundLabels.{IsOf, MayStandFrom}
 use Rattle.fl_laws.proofs.Cases.{Each}
 use Rattle.fl_laws.proofs.EndsStep.{queue_out}
 use Rattle.fl_laws.proofs.Flows.{Passes}
-use Rattle.fl_laws.proofs.LabelQueues.{each_drop, replies_queue}
 use Rattle.fl_laws.proofs.LabelsMoved.{EndsWere, ends_begin, ends_change, ends_same, replies_passed, take_suits, take_others, own_each, HasQueue, IsShaped, number_passes}
 use Rattle.fl_laws.proofs.LabelsPass.{Moved, moved_good, queue_is, end_own, end_back, end_else, joint_kept, emptied_queue, over_passes, take_passes, before_last, reader}
 use Rattle.fl_laws.proofs.LabelsQuiet.{GoodIn, quiet, quiet_at_dispatcher, quiet_take, no_call_told}
@@ -30,6 +29,7 @@ use Rattle.fl_laws.proofs.ReadsKept.{TakenOff, take_reads, first_read}
 use Rattle.fl_laws.proofs.Scenes.{by_queue, by_one_ring, over, joint_of, queued, seen, sights, reads, labels_at, way_on, Suits, queue_at, before}
 use Rattle.fl_laws.proofs.ScenesKept.{twice, number_other, picked_first}
 use Rattle.fl_laws.proofs.Ways.{way_long}
+use Rattle.fl_laws.proofs.Small.{each_drop, replies_queue}
 
 abbrev taken_end : End → End
 taken_end x = record x { out = takes_one x.out }

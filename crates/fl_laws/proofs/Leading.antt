@@ -18,10 +18,10 @@ use Rattle.fl_queues.specs.Taking.{goes_back}
 use Rattle.fl_queues.specs.Forwarding.{LinkEnd, Passing, label_of, monitor_writes_by, after_hearing}
 use Rattle.fl_queues.specs.Step.{step}
 use Rattle.fl_laws.proofs.RingsKept.{first_put, first_looked}
-use Rattle.fl_laws.proofs.EndsStep.{is_not}
 use Rattle.fl_laws.proofs.Views.{View, view}
 use Rattle.fl_laws.proofs.Quiet.{quiet_ring, quiet_core, quiet_end, quiet_channel, quiet_both, quiet_taken, quiet_put, quiet_looked, quiet_label, quiet_written, quiet_found, quiet_delivers, sure_sides, first_delivered}
 use Rattle.fl_laws.proofs.Walk.{IsWanted, BeginsRoute, IsHere, with_ring, KeepsFrom, step_leads}
+use Rattle.fl_laws.proofs.Small.{is_not}
 
 -- what is to be shown
 pub record Leads (B Q : View → Type 0) : Type 0 where

@@ -1,4 +1,5 @@
 pub mod Cases
+pub mod Small
 pub mod Views
 pub mod Rings
 pub mod RingsKept
@@ -44,7 +45,6 @@ pub mod WaitsetsKept
 pub mod Listing
 pub mod ListingEnds
 pub mod Hearing
-pub mod LabelQueues
 pub mod Refusals
 pub mod SameTypes
 pub mod FitsStep
@@ -106,6 +106,7 @@ pub mod BoardBacks
 pub mod BoardLinks
 pub mod BoardLaw
 pub mod SoundSteps
+pub mod AskedCalls
 pub mod CoresKept
 pub mod CoresStep
 pub mod CallsKept

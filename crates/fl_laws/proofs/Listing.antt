@@ -21,10 +21,10 @@ use Rattle.fl_queues.specs.State.{Binding, State, core_of, dispatcher_of, own_ri
 use Rattle.fl_queues.specs.SoundLists.{IsOfCall}
 use Rattle.fl_laws.proofs.Cases.{either}
 use Rattle.fl_laws.proofs.Ends.{Has}
-use Rattle.fl_laws.proofs.EndsStanding.{get_push}
 use Rattle.fl_laws.proofs.Seating.{dispatcher_here, dispatcher_was}
-use Rattle.fl_laws.proofs.Seats.{view_same, some_same, Agree, seat_of, at_channel, ends_at}
+use Rattle.fl_laws.proofs.Seats.{view_same, Agree, seat_of, at_channel, ends_at}
 use Rattle.fl_laws.proofs.Waitsets.{pushed_from}
+use Rattle.fl_laws.proofs.Small.{get_push, some_same}
 
 -- ---- what is said
 

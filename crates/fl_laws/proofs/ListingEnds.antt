@@ -18,11 +18,11 @@ use Rattle.fl_queues.specs.SoundLists.{IsOfCall}
 use Rattle.fl_laws.proofs.Cases.{either, by_given, Each, each_changed}
 use Rattle.fl_laws.proofs.Ends.{Has, has_kept, same_end_true, elsewhere}
 use Rattle.fl_laws.proofs.BindingWalk.{end_there}
-use Rattle.fl_laws.proofs.EndsStanding.{get_push}
-use Rattle.fl_laws.proofs.Seats.{view_same, some_same, Agree, seat_of, at_channel, ends_at, end_kept, changed_now}
+use Rattle.fl_laws.proofs.Seats.{view_same, Agree, seat_of, at_channel, ends_at, end_kept, changed_now}
 use Rattle.fl_laws.proofs.Listing.{WasLooked, LookedAt, Suits, Holds, FitEnd, ring_of, FitAt, Listing, ListedFit, listing_weaker, listing_with_end, listing_registers, listing_triggers, listing_deregisters}
 use Rattle.fl_queues.specs.Monitors.{Core}
 use Rattle.fl_laws.proofs.Ready.{end_done}
+use Rattle.fl_laws.proofs.Small.{get_push, some_same}
 
 -- ---- rings
 

@@ -25,11 +25,12 @@ use Rattle.fl_queues.specs.Sound.{Sound}
 use Rattle.fl_queues.specs.Step.{step}
 use Rattle.fl_laws.proofs.BindingWalk.{given_there, end_there}
 use Rattle.fl_laws.proofs.Hearing.{LinkThere, link_there}
-use Rattle.fl_laws.proofs.Seats.{some_same, agree_of}
+use Rattle.fl_laws.proofs.Seats.{agree_of}
 use Rattle.fl_laws.proofs.Sitting.{sit_fits}
 use Rattle.fl_laws.proofs.Listing.{LookedAt, Suits, Holds, FitEnd, ring_of, FitAt, HasSuch, ListedFit}
 use Rattle.fl_laws.proofs.ListingEnds.{OneOf, AllOne}
 use Rattle.fl_laws.proofs.ListingStep.{OwnAlone, OwnCalls, MayList, step_keeps_listed}
+use Rattle.fl_laws.proofs.Small.{some_same}
 
 pub some_there : {X : Type 0} (o : Option X) → IsSome o → (x : X) × (o ≡ Some x)
 some_there None h = absurd (let u : false ≡ true = h in cc)

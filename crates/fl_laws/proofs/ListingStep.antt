@@ -33,9 +33,9 @@ use Rattle.fl_laws.proofs.CoreWalk.{each_at_fresh}
 use Rattle.fl_laws.proofs.BindingWalk.{given_there, new_binding}
 use Rattle.fl_laws.proofs.Ends.{here}
 use Rattle.fl_laws.proofs.Ready.{get_last}
-use Rattle.fl_laws.proofs.Services.{hears_leaves, is_not}
-use Rattle.fl_laws.proofs.Seating.{changed_here, changed_was}
-use Rattle.fl_laws.proofs.Seats.{some_same, push_was, Agree, Unseated, seating_kept, new_kept, end_kept, route_kept, bound_kept, core_kept, ends_in}
+use Rattle.fl_laws.proofs.Services.{hears_leaves}
+use Rattle.fl_laws.proofs.Seating.{changed_was}
+use Rattle.fl_laws.proofs.Seats.{push_was, Agree, Unseated, seating_kept, new_kept, end_kept, route_kept, bound_kept, core_kept, ends_in}
 use Rattle.fl_laws.proofs.SeatsStep.{server_free, route_free, SitFits, AllSitFits, fits_alike}
 use Rattle.fl_laws.proofs.Waitsets.{empty_none}
 use Rattle.fl_laws.proofs.WaitsetsStep.{first_pending, first_polled}
@@ -43,6 +43,7 @@ use Rattle.fl_laws.proofs.WaitsetsKept.{looks_same, sure_same, first_same}
 use Rattle.fl_laws.proofs.Listing.{LookedAt, FitEnd, ring_of, FitAt, HasSuch, Listing, ListedFit, listing_core, listing_puts_off}
 use Rattle.fl_laws.proofs.ListingEnds.{looked_now, put_quiet, look_quiet, sure_quiet, fit_takes, taken_other, taken_quiet, ring_end, fit_elsewhere, end_quiet, route_quiet, binding_quiet, new_ring_quiet, OneOf, AllOne, one_at, ones_end, ones_route, ones_seats, ones_binds, ones_queue, fit_waits, relisted, seat_quiet, registered_fit, deregistered_fit, bound_fit, delivered_fit}
 use Rattle.fl_laws.proofs.Walk.{CalledAt, RuledAt, PassedAt, MadeIn, At, IsTurn, IsHere, IsWithout, FindsNone, in_queue_none, on_ring_none, KeepsWithin, step_leads_within, with_ring}
+use Rattle.fl_laws.proofs.Small.{is_not, replies_queue, some_same, changed_here}
 
 -- ---- what is known
 
@@ -159,10 +160,6 @@ ring_one w n stations Client = inr refl
 ring_one w n stations Server = inr refl
 
 -- ---- labels
-
-replies_queue : (i : Planned) (t : Taken) (x : End) → (replies i t x).queue ≡ x.queue
-replies_queue i a_part x = refl
-replies_queue i (whole c) x = by_given (λ (y : End). y.queue ≡ x.queue) (rule_at x.rules c.msg) x _ refl (λ m q. refl)
 
 replies_circuit : (i : Planned) (t : Taken) (x : End) → (replies i t x).circuit ≡ x.circuit
 replies_circuit i a_part x = refl

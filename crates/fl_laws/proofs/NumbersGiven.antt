@@ -20,6 +20,7 @@ use Rattle.fl_laws.proofs.Arriving.{in_at, not_true}
 use Rattle.fl_laws.proofs.Faces.{look, counts_at, counts_grown, counted_at, more_cores}
 use Rattle.fl_laws.proofs.Turned.{IsNew, Turns, Goes, Begins, Turned, stays, joins, begins, goes, arrives, fails, passes, opens, OneTurns, Comes}
 use Rattle.fl_laws.proofs.Routed.{same_route, no_binding, turned_at}
+use Rattle.fl_laws.proofs.Small.{some_same}
 
 -- ---- where a number comes from
 
@@ -126,9 +127,6 @@ numbers_from s t k n route j r less = elim (same_or n k.place) [
 ]
 
 -- ---- numbers were opened
-
-some_same : {X : Type 0} (a b : X) → Some a ≡ Some b → a ≡ b
-some_same a b h = cc
 
 -- a number that was there is one of those that its core had opened before
 was_among : (s : State) (n : ℕ) (route : Route) (j : ℕ) → NumbersGoAlongRoutes s → NumbersWereOpened s → WasThere s n route j

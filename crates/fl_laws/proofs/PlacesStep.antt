@@ -1,7 +1,6 @@
 -- Each event keeps that links are paired and that each side of a ring has one owner.
-use Rattle.std.proofs.Common.{◌≡◌, refl, sym, ◌∙◌, ap, subst, ℕ, zero, suc, ◌+◌, ◌<◌, ◌==◌, ◌||◌, ◌&&◌, nat_lt, not, Bool, true, false, if◌then◌else◌, List, [], ◌∷◌, ◌++◌, length, map, slice_get, slice_set, Option, Some, None, is_some, arith}
+use Rattle.std.proofs.Common.{◌≡◌, refl, sym, ◌∙◌, ap, subst, ℕ, zero, suc, ◌+◌, ◌<◌, ◌==◌, ◌||◌, ◌&&◌, not, Bool, true, false, if◌then◌else◌, List, [], ◌∷◌, ◌++◌, length, map, slice_get, slice_set, Option, Some, None, is_some, arith}
 use Rattle.std.proofs.lemmas.Bool.{eqb-false}
-use Rattle.std.proofs.lemmas.Bool.Decides.{nat_tests}
 use Rattle.std.proofs.lemmas.List.{length-append, length-map, map-append}
 use Rattle.std.specs.List.{range_with_len}
 use Rattle.fl_base.specs.declared.identity.EndId.{EndId}
@@ -39,6 +38,7 @@ use Rattle.fl_queues.specs.Step.{step}
 use Rattle.fl_queues.specs.State.{start}
 use Rattle.fl_queues.specs.Runs.{reached}
 use Rattle.fl_laws.proofs.Start.{start_is_sound}
+use Rattle.fl_laws.proofs.Small.{less}
 
 -- ---- the plan of a state
 
@@ -362,9 +362,6 @@ parts false y z w h = absurd (cc)
 parts true false z w h = absurd (cc)
 parts true true true w h = absurd (cc)
 parts true true false true h = absurd (cc)
-
-less : (a b : ℕ) → nat_lt a b ≡ true → a < b
-less a b h = grind (arith, nat_tests, h)
 
 no_link : (a b : ℕ) (s : State) → has_link a b s ≡ false → ring_of (plan_of s) (core_to a b) ≡ None
 no_link a b s h = link_planned s a b ∙ ap ring_behind (by (core_of s a) h)

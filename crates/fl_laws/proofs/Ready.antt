@@ -11,7 +11,8 @@ use Rattle.fl_queues.specs.Waits.{Dispatcher, with_end}
 use Rattle.fl_queues.specs.State.{Route, Binding, State, dispatcher_of, binding_of, end_of, end_in, with_end_in, in_route, change_dispatcher, change_end, change_route, seats}
 use Rattle.fl_laws.proofs.BindingWalk.{end_there}
 use Rattle.fl_laws.proofs.Waitsets.{next_free}
-use Rattle.fl_laws.proofs.Seating.{changed_here, changed_was, dispatcher_here, dispatcher_was, AllStand, stands_at, IsReady, Ready}
+use Rattle.fl_laws.proofs.Seating.{changed_was, dispatcher_here, dispatcher_was, AllStand, stands_at, IsReady, Ready}
+use Rattle.fl_laws.proofs.Small.{changed_here}
 
 -- ---- ends after a change
 

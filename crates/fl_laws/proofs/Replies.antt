@@ -11,6 +11,7 @@ use Rattle.fl_queues.specs.Rings.{there_is_room}
 use Rattle.fl_queues.specs.Events.{nothing}
 use Rattle.fl_queues.specs.Ends.{Direction, End, passes, is_busy, accepts, accepts_or_waits, accepts_waiting, goes_on, Wrote, writes_by, writes, has_rules, holds_back, rule_at, Taken, whole, a_part, takes_one, last_station, replies, written_of}
 use Rattle.fl_laws.proofs.Cases.{either, by_given}
+use Rattle.fl_laws.proofs.Small.{less, length_set}
 
 -- ---- one end
 
@@ -18,11 +19,6 @@ pub record EndOk (i : Planned) (x : End) : Type 0 where
   pub stations : 2 ≤ length x.out.passed
   pub busy : x.out.waiting ≢ [] → is_busy i x.out ≡ true
   pub few : length x.out.waiting ≤ 16
-
-length_set : {X : Type 0} (xs : List X) (n : ℕ) (y : X) → length (slice_set xs n y) ≡ length xs
-length_set [] n y = refl
-length_set (x ∷ xs) zero y = omega arith
-length_set (x ∷ xs) (suc n) y = let ih : length (slice_set xs n y) ≡ length xs = length_set xs n y in omega arith
 
 pub length_changed : {X : Type 0} (xs : List X) (n : ℕ) (f : X → X) → length (changed_at n f xs) ≡ length xs
 length_changed {X} xs n f =
@@ -82,9 +78,6 @@ some_fragments i c = at_least_one _
 
 busy_true : (a b : ℕ) → a < b → nat_lt a b ≡ true
 busy_true a b h = grind (arith, nat_tests, h)
-
-pub less : (a b : ℕ) → nat_lt a b ≡ true → a < b
-less a b h = grind (arith, nat_tests, h)
 
 pub at_most : (a b : ℕ) → nat_lt a b ≡ false → b ≤ a
 at_most a b h = grind (arith, nat_tests, h)

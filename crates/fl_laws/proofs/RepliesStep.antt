@@ -1,11 +1,12 @@
 -- Each event keeps what is said of the replies that wait.
-use Rattle.std.proofs.Common.{◌≡◌, refl, sym, subst, ℕ, zero, suc, ◌≤◌, true, [], length, replicate, Option, arith}
+use Rattle.std.proofs.Common.{◌≡◌, refl, sym, subst, ℕ, ◌≤◌, true, [], length, Option, arith}
 use Rattle.fl_queues.specs.Calls.{Planned}
 use Rattle.fl_queues.specs.Ends.{Queue, End, Direction, is_busy, unbound_end}
 use Rattle.fl_queues.specs.Laws.{FewWaitAndOnlyWhereBusy}
 use Rattle.fl_queues.specs.State.{end_in}
 use Rattle.fl_laws.proofs.Replies.{EndOk, station_ok, taken_ok, written_ok, called_ok, replied_ok}
 use Rattle.fl_laws.proofs.EndsStep.{EndKeeps, ends_reached}
+use Rattle.fl_laws.proofs.Small.{length_replicate}
 
 pub same_out : (i : Planned) (x y : End) → y.out ≡ x.out → EndOk i x → EndOk i y
 same_out i x y e ok = record {
@@ -14,13 +15,9 @@ same_out i x y e ok = record {
   few = subst (λ (d : Direction). length d.waiting ≤ 16) (sym e) ok.few;
 }
 
-pub length_replicate : (n x : ℕ) → length (replicate n x) ≡ n
-length_replicate zero x = refl
-length_replicate (suc n) x = let ih : length (replicate n x) ≡ n = length_replicate n x in omega arith
-
 fresh_ok : (i : Planned) (messages stations : ℕ) (q : Option Queue) → 2 ≤ stations → EndOk i (unbound_end messages stations q)
 fresh_ok i messages stations q a =
-    let long = length_replicate stations 0 in
+    let long = length_replicate {X = ℕ} stations 0 in
     record { stations = omega arith; busy = λ w. absurd (w refl); few = omega arith }
 
 pub replies_keep : EndKeeps EndOk

@@ -13,12 +13,12 @@ use Rattle.fl_queues.specs.Standing.{labels_of, unread, on_link, queue_of, ring_
 use Rattle.fl_queues.specs.SoundPlaces.{Owner, core_to, this_end}
 use Rattle.fl_queues.specs.SoundLabels.{StandsBefore, LabelsFollow, GoesOver, MayStandOn, MayStandFrom, IsOf, LabelsKeepToTheirWays}
 use Rattle.fl_laws.proofs.Cases.{Each}
-use Rattle.fl_laws.proofs.LabelQueues.{first_of, each_said}
 use Rattle.fl_laws.proofs.Places.{ring_of}
 use Rattle.fl_laws.proofs.PlacesStep.{plan_of, link_planned, end_planned, ring_behind, planned_owner, own_back}
 use Rattle.fl_laws.proofs.Flows.{Follows}
 use Rattle.fl_laws.proofs.Scenes.{over, joint_of, Flow, flow_of, Sight, sight_of, flow_in, seen, sights, labels_at, reads, way_on, Goes, MayGo, Suits, queue_at, before, Good}
 use Rattle.fl_laws.proofs.ScenesKept.{twice}
+use Rattle.fl_laws.proofs.Small.{first_of, each_said}
 
 -- ---- what stands where
 

@@ -1,6 +1,6 @@
 -- Where ends and dispatchers are after a change, and an end whose channel may be registered: its dispatcher has it for this
 -- end, in no list.
-use Rattle.std.proofs.Common.{◌≡◌, refl, sym, ◌∙◌, ap, subst, ℕ, zero, suc, ◌+◌, ◌≤◌, ◌⊎◌, inl, inr}
+use Rattle.std.proofs.Common.{◌≡◌, refl, sym, ◌∙◌, ap, ℕ, zero, suc, ◌+◌, ◌≤◌, ◌⊎◌, inl, inr}
 use Rattle.std.proofs.Common.{List, [], ◌∷◌, length, slice_get, slice_set, Option, Some, None}
 use Rattle.std.specs.Prelude.{is_some}
 use Rattle.fl_base.specs.declared.identity.EndId.{EndId}
@@ -14,17 +14,9 @@ use Rattle.fl_queues.specs.SoundLists.{ListsStand, WaitsetsStand}
 use Rattle.fl_laws.proofs.Cases.{by_given, Each, each_changed}
 use Rattle.fl_laws.proofs.BindingWalk.{given_there}
 use Rattle.fl_laws.proofs.Waitsets.{IsFree, registers_stands, deregisters_stands, triggers_stands, with_end_stands}
+use Rattle.fl_laws.proofs.Small.{changed_here}
 
 -- ---- one element changed
-
-set_here : {X : Type 0} (xs : List X) (n : ℕ) (x y : X) → slice_get xs n ≡ Some x → slice_get (slice_set xs n y) n ≡ Some y
-set_here [] n x y q = absurd (cc)
-set_here (z ∷ xs) zero x y q = refl
-set_here (z ∷ xs) (suc n) x y q = set_here xs n x y q
-
-pub changed_here : {X : Type 0} (xs : List X) (n : ℕ) (f : X → X) (x : X) → slice_get xs n ≡ Some x → slice_get (changed_at n f xs) n ≡ Some (f x)
-changed_here {X} xs n f x q =
-    subst (λ (o : Option X). slice_get (given o xs (λ y. slice_set xs n (f y))) n ≡ Some (f x)) (sym q) (set_here xs n x (f x) q)
 
 -- what stands at a place after a change stood there, or is what was changed
 abbrev Was : {X : Type 0} → List X → ℕ → (X → X) → ℕ → X → Type 0

@@ -15,9 +15,9 @@ use Rattle.fl_queues.specs.Binding.{Wanted, end_id, with_new_binding}
 use Rattle.fl_queues.specs.SoundPlaces.{SeatsAgree}
 use Rattle.fl_laws.proofs.Cases.{by_given}
 use Rattle.fl_laws.proofs.BindingWalk.{given_there, end_there}
-use Rattle.fl_laws.proofs.EndsStanding.{get_push}
 use Rattle.fl_laws.proofs.Ready.{get_last}
-use Rattle.fl_laws.proofs.Seating.{changed_was, changed_here, dispatcher_here, dispatcher_was}
+use Rattle.fl_laws.proofs.Seating.{changed_was, dispatcher_here, dispatcher_was}
+use Rattle.fl_laws.proofs.Small.{get_push, some_same, changed_here}
 
 -- ---- views of one element
 
@@ -134,9 +134,6 @@ added_kept core s h =
 
 abbrev pub Unseated : EndId → State → Type 0
 Unseated e s = (b : Binding) × (slice_get s.bindings e.binding ≡ Some b) × ((end_in e.side b).seat ≡ None)
-
-pub some_same : {X : Type 0} (a b : X) → Some a ≡ Some b → a ≡ b
-some_same a b h = cc
 
 pub given_elem : {X Y : Type 0} (o : Option X) (f : X → List Y) (c : ℕ) (y : Y) → slice_get (given o [] f) c ≡ Some y
     → (x : X) × (o ≡ Some x) × (slice_get (f x) c ≡ Some y)

@@ -28,11 +28,11 @@ use Rattle.fl_laws.proofs.Bare.{none_of}
 use Rattle.fl_laws.proofs.CoreWalk.{each_at_fresh}
 use Rattle.fl_laws.proofs.BindingWalk.{given_there, new_binding}
 use Rattle.fl_laws.proofs.Ready.{get_last}
-use Rattle.fl_laws.proofs.Services.{hears_leaves, is_not, ring_bare}
-use Rattle.fl_laws.proofs.Seating.{changed_here}
-use Rattle.fl_laws.proofs.Seats.{given_elem, some_same, ends_in, Agree, Unseated, end_kept, route_kept, core_kept, dispatcher_kept, channel_kept, bound_kept, new_kept, added_kept, seating_kept, agree_of, seats_of}
+use Rattle.fl_laws.proofs.Services.{hears_leaves, ring_bare}
+use Rattle.fl_laws.proofs.Seats.{given_elem, ends_in, Agree, Unseated, end_kept, route_kept, core_kept, dispatcher_kept, channel_kept, bound_kept, new_kept, added_kept, seating_kept, agree_of, seats_of}
 use Rattle.fl_laws.proofs.WaitsetsKept.{looks_same, sure_same, first_same}
 use Rattle.fl_laws.proofs.Walk.{KeepsFrom, IsHere, step_leads, with_ring}
+use Rattle.fl_laws.proofs.Small.{is_not, some_same, changed_here}
 
 -- ---- what leaves seats
 

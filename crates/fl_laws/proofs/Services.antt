@@ -1,5 +1,5 @@
 -- The dispatcher and the interface of each service are there: dispatchers only come, and so do interfaces.
-use Rattle.std.proofs.Common.{◌≡◌, refl, sym, ◌∙◌, ap, ℕ, zero, suc, ◌+◌, ◌≤◌, not, Bool, true, false}
+use Rattle.std.proofs.Common.{◌≡◌, refl, sym, ◌∙◌, ap, ℕ, zero, suc, ◌+◌, ◌≤◌}
 use Rattle.std.proofs.Common.{List, [], ◌∷◌, ◌++◌, length, slice_get, slice_set, Option, Some, None, arith}
 use Rattle.std.specs.Prelude.{IsSome}
 use Rattle.std.proofs.lemmas.List.{length-append}
@@ -34,6 +34,7 @@ use Rattle.fl_laws.proofs.Replies.{length_changed}
 use Rattle.fl_laws.proofs.EndsStanding.{in_range, there_is}
 use Rattle.fl_laws.proofs.Bare.{none_of}
 use Rattle.fl_laws.proofs.Walk.{KeepsFrom, step_leads, with_ring}
+use Rattle.fl_laws.proofs.Small.{is_not}
 
 -- ---- what a core hears leaves its dispatchers
 
@@ -154,10 +155,6 @@ some_push xs n y h =
     let there : suc n ≤ length xs = in_range xs n h in
     let longer : length (xs ++ y ∷ []) ≡ length xs + 1 = length-append xs (y ∷ []) in
     there_is (xs ++ y ∷ []) n (omega arith)
-
-pub is_not : (b : Bool) → not b ≡ false → b ≡ true
-is_not true h = refl
-is_not false h = absurd (cc)
 
 -- ---- the walk
 

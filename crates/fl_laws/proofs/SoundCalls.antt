@@ -1,5 +1,5 @@
--- What soundness says of calls is kept by each step; and the laws of calls, of runs whose states are sound.
-use Rattle.std.proofs.Common.{◌≡◌, refl, sym, ◌∙◌, ap, subst, ℕ, suc, ◌≤◌, ◌<◌, slice_index, length, slice_get, Option, Some, None, arith}
+-- What soundness says of calls is kept by each step: how far they are written, and replies that wait.
+use Rattle.std.proofs.Common.{◌≡◌, refl, sym, ◌∙◌, ap, subst, ℕ, ◌≤◌, length, slice_get, Option, Some, None, arith}
 use Rattle.fl_base.specs.declared.identity.Side.{Side}
 use Rattle.fl_base.specs.declared.identity.Side.TheVariants.{Client, Server}
 use Rattle.fl_base.specs.declared.identity.EndId.{EndId}
@@ -9,21 +9,16 @@ use Rattle.fl_queues.specs.Ends.{End}
 use Rattle.fl_queues.specs.State.{Back, local, over_ring, over_route, Binding, State, end_in, interface_of}
 use Rattle.fl_queues.specs.Binding.{end_id}
 use Rattle.fl_queues.specs.Step.{step}
-use Rattle.fl_queues.specs.Runs.{reached}
 use Rattle.fl_queues.specs.SoundPlaces.{EndsStand, EndStands, stations}
 use Rattle.fl_queues.specs.SoundRoutes.{RoutesLead}
 use Rattle.fl_queues.specs.SoundLabels.{WritesAreCounted}
 use Rattle.fl_queues.specs.SoundLists.{FewRepliesWait, RepliesWaitWhereBusy}
-use Rattle.fl_queues.specs.Sound.{Sound}
-use Rattle.fl_queues.specs.Laws.{RunsAreSound, PassedFalls, HandledIsCounted, HandledIsAPrefix}
-use Rattle.fl_queues.specs.State.{start}
 use Rattle.fl_laws.proofs.Walk.{step_keeps}
 use Rattle.fl_laws.proofs.Replies.{EndOk}
 use Rattle.fl_laws.proofs.RepliesStep.{replies_keep}
 use Rattle.fl_laws.proofs.Counted.{CountedOk, counts_keep}
 use Rattle.fl_laws.proofs.EndsStep.{AllOk, BindingOk, EndKeeps, all_keep, end_ok}
 use Rattle.fl_laws.proofs.Ends.{end_at}
-use Rattle.fl_laws.proofs.Handled.{handled_is_counted, handled_is_a_prefix}
 
 -- ---- an end of a sound state
 
@@ -93,22 +88,3 @@ waiting_after s v ends routes few busy =
     (λ e b i q r two. record { stations = two; busy = busy e b i q r; few = few e (end_in e.side b) (ap (end_at e.side) q) }) in
     let all : AllOk EndOk t = step_keeps (AllOk EndOk) (all_keep EndOk replies_keep) s v before in
     ((λ e x q. few_by (slice_get t.bindings e.binding) t e x refl q all), (λ e b i q r. (said_after EndOk replies_keep s v before e b i q r).busy))
-
--- ---- the laws of calls, of runs whose states are sound
-
-falls_by : (o : Option Binding) (s : State) (e : EndId) (x : End) (j : ℕ) → Sound s → slice_get s.bindings e.binding ≡ o → end_at e.side o ≡ Some x
-    → suc j < length x.out.passed → slice_index x.out.passed (suc j) ≤ slice_index x.out.passed j
-falls_by None s e x j h q r a = absurd (cc)
-falls_by (Some b) s e x j h q r a =
-    let is : end_in e.side b ≡ x = let u : Some (end_in e.side b) ≡ Some x = r in cc in
-    subst (λ (y : End). suc j < length y.out.passed → slice_index y.out.passed (suc j) ≤ slice_index y.out.passed j) is
-    (λ k. (h.labels e b j q k).falls) a
-
-pub passed_falls : RunsAreSound → PassedFalls
-passed_falls h vs e x j q a = falls_by (slice_get (reached start vs).bindings e.binding) (reached start vs) e x j (h vs) refl q a
-
-pub sound_is_counted : RunsAreSound → HandledIsCounted
-sound_is_counted h = handled_is_counted (λ vs. (h vs).ways) (passed_falls h)
-
-pub sound_is_a_prefix : RunsAreSound → HandledIsAPrefix
-sound_is_a_prefix h = handled_is_a_prefix (λ vs. (h vs).ways) (passed_falls h)

@@ -23,12 +23,11 @@ use Rattle.fl_queues.specs.Step.{step}
 use Rattle.fl_queues.specs.Laws.{TablesGoOn}
 use Rattle.fl_laws.proofs.CoreWalk.{each_at_changed, each_at_fresh, Cores, IsApartFromChannels, dispatcher_kept, channel_kept, seat_kept, both_kept, delivered_kept, written_kept, label_taken, found_kept, follows_kept, said_kept}
 use Rattle.fl_laws.proofs.Faces.{Look}
-use Rattle.fl_laws.proofs.Hearing.{some_same}
-use Rattle.fl_laws.proofs.Services.{is_not}
 use Rattle.fl_laws.proofs.TablesHeard.{opens_later, hears_later}
 use Rattle.fl_laws.proofs.Turning.{IsLike, like_looked, like_here, like_core}
 use Rattle.fl_laws.proofs.Walk.{KeepsFrom, IsHere, BeginsRoute, step_leads, with_ring}
 use Rattle.fl_laws.proofs.WaitsetsKept.{looks_same, sure_same}
+use Rattle.fl_laws.proofs.Small.{is_not, some_same}
 
 -- a table with no links keeps nothing
 later_empty : (t u : TheCircuits) → t.links ≡ [] → u.core ≡ t.core → Later t u

@@ -32,10 +32,11 @@ use Rattle.fl_laws.proofs.Cases.{either, by_given}
 use Rattle.fl_laws.proofs.BindingWalk.{given_there}
 use Rattle.fl_laws.proofs.Faces.{counts_at, counted_at}
 use Rattle.fl_laws.proofs.Growing.{opening_grown, taking_grown}
-use Rattle.fl_laws.proofs.Hearing.{some_same, LinkThere, link_there, head_said}
+use Rattle.fl_laws.proofs.Hearing.{LinkThere, link_there, head_said}
 use Rattle.fl_laws.proofs.OpeningsMoves.{names_to}
 use Rattle.fl_laws.proofs.TablesLater.{IsUngiven, later_grown, later_entered, later_answered}
 use Rattle.fl_laws.proofs.Walk.{IsHere}
+use Rattle.fl_laws.proofs.Small.{some_same}
 
 -- ---- numbers that nobody gave
 

@@ -19,7 +19,7 @@ use Rattle.fl_hop.proofs.Cells.{slot_once, same_link, same_circuit, less_is, is_
 use Rattle.fl_hop.proofs.Lists.{set_cases, set_here, push_cases, within}
 use Rattle.fl_hop.proofs.Numbering.{small}
 use Rattle.fl_hop.proofs.Counting.{Grown, opened_stays, taken_stays, client_stays, server_stays, grown_set, grown_push, Next, Due, counted_opening, counted_taking, never_next, never_due, next_stays}
-use Rattle.fl_laws.proofs.Seats.{some_same}
+use Rattle.fl_laws.proofs.Small.{some_same}
 
 -- ---- what stands at a number after something was put at a way's own
 

@@ -17,18 +17,16 @@ use Rattle.fl_queues.specs.Forwarding.{LinkEnd, link_end, without_first_said, la
 use Rattle.fl_queues.specs.SoundLists.{IsBare}
 use Rattle.fl_queues.specs.Sound.{Sound}
 use Rattle.fl_queues.specs.Step.{step}
-use Rattle.fl_laws.proofs.EndsStanding.{get_push}
 use Rattle.fl_laws.proofs.Replies.{length_changed}
-use Rattle.fl_laws.proofs.Services.{is_not}
 use Rattle.fl_laws.proofs.WaitsetsStep.{places}
 use Rattle.fl_laws.proofs.WaitsetsKept.{looks_same, sure_same, first_same}
 use Rattle.fl_laws.proofs.Walk.{KeepsFrom, IsHere, step_leads, with_ring}
-use Rattle.fl_laws.proofs.Hearing.{some_same}
 use Rattle.fl_laws.proofs.Faces.{Look, look, CoreGrows, CoresGrow, ServicesStay, Stays, core_same, same_face, grown_same, stays_same, stays_on, cores_changed, stays_core, stays_end, stays_dispatcher, stays_channel, queue_calm, stays_delivered, stays_out, stays_written, stays_taken, stays_found}
 use Rattle.fl_laws.proofs.Growing.{hears_grows, linked_grows}
 use Rattle.fl_laws.proofs.HeardTurns.{HeardTurns, HearingTurns, heard_turns}
 use Rattle.fl_laws.proofs.Turned.{Comes, IsNew, comes_stays}
 use Rattle.fl_laws.proofs.TurnsStep.{both_come, route_comes, heard_comes}
+use Rattle.fl_laws.proofs.Small.{get_push, is_not, some_same}
 
 -- ---- a state that is like another but for what rings count
 

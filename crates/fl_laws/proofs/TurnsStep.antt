@@ -25,14 +25,13 @@ use Rattle.fl_queues.specs.Standing.{Routed, number_at}
 use Rattle.fl_queues.specs.SoundRoutes.{BoundWhere}
 use Rattle.fl_laws.proofs.Cases.{by_given}
 use Rattle.fl_laws.proofs.BindingWalk.{new_binding}
-use Rattle.fl_laws.proofs.Seating.{changed_here}
 use Rattle.fl_laws.proofs.WaitsetsStep.{seated_there}
-use Rattle.fl_laws.proofs.Services.{is_not}
 use Rattle.fl_laws.proofs.Walk.{IsWanted, BeginsRoute}
 use Rattle.fl_laws.proofs.Faces.{look, CoresGrow, ServicesStay, core_on, same_face, SameEnds, stays_same, cores_on, cores_changed, stays_dispatcher, stays_channel}
 use Rattle.fl_laws.proofs.Growing.{opens_grows, new_number}
 use Rattle.fl_laws.proofs.HeardTurns.{ArrivesFor, PassesFor, HeardTurns}
 use Rattle.fl_laws.proofs.Turned.{IsNew, new_on, Turns, Turned, joins, begins, goes, arrives, fails, passes, opens, Comes, comes_stays, OnlyAt, only_on, only_changed, only_pushed, comes_at}
+use Rattle.fl_laws.proofs.Small.{is_not, changed_here}
 
 -- ---- an end is seated, and bound
 

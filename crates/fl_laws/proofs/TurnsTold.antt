@@ -30,11 +30,11 @@ use Rattle.fl_queues.specs.Worlds.{IsGiven, TurnsGiveTheNext}
 use Rattle.fl_laws.proofs.Cases.{either, by_given, by_given_or}
 use Rattle.fl_laws.proofs.BindingWalk.{given_there}
 use Rattle.fl_laws.proofs.Ends.{Has, has_kept}
-use Rattle.fl_laws.proofs.Seats.{some_same}
 use Rattle.fl_laws.proofs.WaitsetsStep.{first_pending, first_polled}
 use Rattle.fl_laws.proofs.ListingStep.{first_in, first_none, end_at}
 use Rattle.fl_laws.proofs.ListingKept.{IsListed, listed_of, own_over, reads_other, own_first}
 use Rattle.std.proofs.lemmas.List.{length-reverse}
+use Rattle.fl_laws.proofs.Small.{some_same}
 
 -- ---- what is there
 

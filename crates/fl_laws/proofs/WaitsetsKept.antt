@@ -19,11 +19,12 @@ use Rattle.fl_queues.specs.Step.{step}
 use Rattle.fl_queues.specs.SoundLists.{ListsStand, WaitsetsStand}
 use Rattle.fl_laws.proofs.Cases.{either, by_given, Each, none_at_end, each_push, each_changed}
 use Rattle.fl_laws.proofs.CoreWalk.{each_at_fresh}
-use Rattle.fl_laws.proofs.Services.{hears_leaves, is_not}
+use Rattle.fl_laws.proofs.Services.{hears_leaves}
 use Rattle.fl_laws.proofs.Waitsets.{fresh_stands}
 use Rattle.fl_laws.proofs.Seating.{AllStand, all_of, waitsets_of, registered_kept, triggered_kept, deregistered_kept, seat_kept}
 use Rattle.fl_laws.proofs.WaitsetsStep.{back_kept, off_kept, label_taken, found_kept, written_kept, places, places_of, both_kept, ready_unlisted, HeardFits, told_same, fits_told, heard_kept, MayWait}
 use Rattle.fl_laws.proofs.Walk.{KeepsFrom, step_leads, with_ring}
+use Rattle.fl_laws.proofs.Small.{is_not}
 
 -- ---- what looks at rings leaves what stands first
 

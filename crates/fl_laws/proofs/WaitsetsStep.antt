@@ -29,14 +29,14 @@ use Rattle.fl_queues.specs.SoundLists.{ListsStand, WaitsetsStand}
 use Rattle.fl_queues.specs.SoundPlaces.{SeatsAgree}
 use Rattle.fl_laws.proofs.Cases.{by_given}
 use Rattle.fl_laws.proofs.BindingWalk.{end_there}
-use Rattle.fl_laws.proofs.EndsStanding.{get_push}
 use Rattle.std.proofs.lemmas.List.{length-append}
 use Rattle.fl_laws.proofs.Replies.{length_changed}
-use Rattle.fl_laws.proofs.Services.{is_not, changed_stays}
+use Rattle.fl_laws.proofs.Services.{changed_stays}
 use Rattle.fl_laws.proofs.Waitsets.{IsFree, pushed_from, puts_off_stands}
 use Rattle.fl_laws.proofs.Seating.{changed_was, dispatcher_was, AllStand, one_changed, IsReady, Ready, registered_kept, triggered_kept, seat_kept}
 use Rattle.fl_laws.proofs.Ready.{ready_end, ready_dispatcher, ready_route, ready_seated}
 use Rattle.fl_laws.proofs.Walk.{IsTurn, IsHere}
+use Rattle.fl_laws.proofs.Small.{get_push, is_not}
 
 -- ---- a turn
 

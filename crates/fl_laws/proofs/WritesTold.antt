@@ -1,10 +1,9 @@
 -- In a sound state a write answers `nothing`, and nothing is shown, only where all of the end's calls is written.
-use Rattle.std.proofs.Common.{◌≡◌, ◌≢◌, refl, sym, ◌∙◌, ap, subst, ℕ, zero, suc, ◌+◌, ◌-◌, ◌<◌, ◌≤◌, nat_lt, not, Bool, true, false}
+use Rattle.std.proofs.Common.{◌≡◌, ◌≢◌, refl, sym, ◌∙◌, ap, subst, ℕ, zero, suc, ◌+◌, ◌-◌, ◌<◌, ◌≤◌, not, Bool, true, false}
 use Rattle.std.proofs.Common.{List, [], ◌∷◌, ◌++◌, length, reverse, slice_get, slice_index, Option, Some, None, arith}
 use Rattle.std.specs.Prelude.{IsSome, is_some, unwrap_or}
 use Rattle.std.specs.List.{range_with_len}
 use Rattle.std.proofs.lemmas.Bool.{true≢false}
-use Rattle.std.proofs.lemmas.Bool.Decides.{nat_tests}
 use Rattle.std.proofs.lemmas.List.{length-append, length-reverse, length-map, get_or-reverse}
 use Rattle.std.proofs.lemmas.List.FromFn.{length-range_with_len}
 use Rattle.fl_base.specs.declared.fragment.Frag.{Frag}
@@ -29,9 +28,9 @@ use Rattle.fl_queues.specs.Step.{step}
 use Rattle.fl_queues.specs.Worlds.{WritesUnderstand, ShowsUnderstand}
 use Rattle.fl_laws.proofs.Cases.{either}
 use Rattle.fl_laws.proofs.EndsStanding.{there_is as stands_there}
-use Rattle.fl_laws.proofs.Services.{is_not}
 use Rattle.fl_laws.proofs.ListingKept.{some_there}
 use Rattle.fl_laws.proofs.TurnsTold.{there_is, Tells}
+use Rattle.fl_laws.proofs.Small.{is_not, less}
 
 -- ---- places on a way
 
@@ -138,9 +137,6 @@ length_stream circuit i (c ∷ cs) =
     ≡ length (frags_on circuit i.plan i.interface c) + length (stream circuit i cs) =
     length-append (frags_on circuit i.plan i.interface c) (stream circuit i cs) in
     omega arith
-
-less : (m n : ℕ) → nat_lt m n ≡ true → m < n
-less m n h = grind (arith, nat_tests, h)
 
 next_there : (i : Planned) (x : End) → is_busy i x.out ≡ true → (f : Frag) × (next_fragment i x ≡ Some f)
 next_there i x busy =

@@ -9,79 +9,66 @@ ghost use Rattle.fl_queues.specs.Runs.{reached};
 ghost use Rattle.fl_queues.specs.Keeping.{KeepsCalls};
 ghost use Rattle.fl_queues.specs.Sound.{Sound};
 ghost use Rattle.fl_queues.specs.SoundOpenings.{OpeningsGoInOrder, MessagesAreDue, AnswersComeOnce};
-ghost use Rattle.fl_queues.specs.SoundPlaces.{CoresStand, EndsStand, LinksArePaired, RingsHaveOneOwner, ServicesStand, SeatsAgree};
-ghost use Rattle.fl_queues.specs.SoundRoutes.{RoutesLead, NumbersGoAlongRoutes, VerdictsFit, EndsAreBound, NumbersWereOpened, NumbersAreOnce};
-ghost use Rattle.fl_queues.specs.SoundLabels.{LabelsKeepToTheirWays, WritesAreCounted, LabelsFollow, NothingBeforeTheOpening};
+ghost use Rattle.fl_queues.specs.SoundPlaces.{CoresStand, EndsStand, LinksArePaired, RingsHaveOneOwner};
+ghost use Rattle.fl_queues.specs.SoundPlaces.{ServicesStand, SeatsAgree};
+ghost use Rattle.fl_queues.specs.SoundRoutes.{RoutesLead, NumbersGoAlongRoutes, VerdictsFit, EndsAreBound};
+ghost use Rattle.fl_queues.specs.SoundRoutes.{NumbersWereOpened, NumbersAreOnce};
+ghost use Rattle.fl_queues.specs.SoundLabels.{LabelsKeepToTheirWays, WritesAreCounted, LabelsFollow};
+ghost use Rattle.fl_queues.specs.SoundLabels.{NothingBeforeTheOpening};
 ghost use Rattle.fl_queues.specs.SoundRings.{RingsCount, RingsFit};
-ghost use Rattle.fl_queues.specs.Worlds.{WorldsAreSound, EverInOrder, EverFewWait, ListedHaveEnds, WritesUnderstand, ShowsUnderstand, TurnsGiveTheNext, EverSound, EverOnceBothWays, EverFits, EverHaveEnds};
+ghost use Rattle.fl_queues.specs.Worlds.{WorldsAreSound, EverInOrder, EverFewWait, ListedHaveEnds};
+ghost use Rattle.fl_queues.specs.Worlds.{WritesUnderstand, ShowsUnderstand, TurnsGiveTheNext, EverSound};
+ghost use Rattle.fl_queues.specs.Worlds.{EverOnceBothWays, EverFits, EverHaveEnds, AskedCallsFit};
 ghost use Rattle.fl_queues.specs.SoundCalls.{CallsFit, RulesSuit};
-ghost use Rattle.fl_queues.specs.SoundLists.{FewRepliesWait, RepliesWaitWhereBusy, QueuesHaveRoom, OutboxesHaveRoom, BareUntilCoresAreSet, WaitsetsStand, ListedAreBound, PendingQueuesHold, PendingRingsWereLookedAt};
-ghost use Rattle.fl_queues.specs.Laws.{RingsCountInOrder, FewWaitAndOnlyWhereBusy, AllAccepted, PassedFalls, HandledIsCounted, HandledIsAPrefix, RefusalsChangeNothing, TablesGoOn, RunsAreSound, ChannelsAreOnce, PendingHasAFragment, TurnsUnderstand, ForwardsUnderstand, StepsAreSound, NumbersAreGivenOnce};
-ghost use Rattle.fl_queues.specs.SoundLimits.{RoutesKeepToCores, NumbersAreOnceBothWays, CoresAreFew, InterfacesAreFew, ServicesAreFew, BindingsAreFew};
+ghost use Rattle.fl_queues.specs.SoundLists.{FewRepliesWait, RepliesWaitWhereBusy, QueuesHaveRoom};
+ghost use Rattle.fl_queues.specs.SoundLists.{OutboxesHaveRoom, BareUntilCoresAreSet, WaitsetsStand};
+ghost use Rattle.fl_queues.specs.SoundLists.{ListedAreBound, PendingQueuesHold, PendingRingsWereLookedAt};
+ghost use Rattle.fl_queues.specs.Laws.{RingsCountInOrder, FewWaitAndOnlyWhereBusy, AllAccepted, PassedFalls};
+ghost use Rattle.fl_queues.specs.Laws.{HandledIsCounted, HandledIsAPrefix, RefusalsChangeNothing, TablesGoOn};
+ghost use Rattle.fl_queues.specs.Laws.{RunsAreSound, ChannelsAreOnce, PendingHasAFragment, TurnsUnderstand};
+ghost use Rattle.fl_queues.specs.Laws.{ForwardsUnderstand, StepsAreSound, NumbersAreGivenOnce};
+ghost use Rattle.fl_queues.specs.SoundLimits.{RoutesKeepToCores, NumbersAreOnceBothWays, CoresAreFew};
+ghost use Rattle.fl_queues.specs.SoundLimits.{InterfacesAreFew, ServicesAreFew, BindingsAreFew};
 ghost use Rattle.fl_queues.specs.SoundEntries.{EntriesStand, EntriesAreDue, AnswersAreAwaited};
+
+// ---- Runs and sound states
+
+/// Each step of a sound state leads to a sound state.
+pub fn steps_are_sound()
+    ensures sound { StepsAreSound }
+{}
+
+/// Every state that a run reaches is sound, from one core.
+pub fn runs_are_sound()
+    ensures sound { RunsAreSound }
+{}
+
+/// Every state that a run reaches is sound, from a world of 1 to 16 cores.
+pub fn worlds_stay_sound()
+    ensures sound { EverSound }
+{}
 
 /// The start is a sound state.
 pub fn start_is_sound()
     ensures sound { Sound start }
 {}
 
-/// Each step keeps the counts of all rings, whatever else the state holds: what a writer knows, what waiting labels tell,
-/// what was told and what was read never fall from one to the next, and no more is sent than is known to be read and a
-/// ring holds.
-pub fn steps_keep_counts()
-    ensures kept { (s : State) (v : Event) → RingsCount s → RingsFit s → RingsCount (step s v).state × RingsFit (step s v).state }
+/// A world that is booted with 1 to 16 cores is a sound state.
+pub fn worlds_are_sound()
+    ensures sound { WorldsAreSound }
 {}
 
-/// In every state that a run reaches, on each direction of each ring: known, told and sent don't fall, no more is sent
-/// than what is known and the ring's size; so a number of 16 bits names one count from known to sent.
-pub fn rings_count_in_order()
-    ensures counts { RingsCountInOrder }
+// ---- Calls
+
+/// The calls that an end handled over a run are a prefix of those that were accepted at the other end, in order, with equal
+/// arguments: over every route and back end.
+pub fn handled_is_a_prefix()
+    ensures prefix { HandledIsAPrefix }
 {}
 
-/// In every state that a run reaches, at most 16 replies wait at an end, and they wait only while the end is busy.
-pub fn few_replies_wait()
-    ensures few { FewWaitAndOnlyWhereBusy }
-{}
-
-/// Each step keeps every link there both ways, over the two sides of one ring, and one owner for each side of a ring.
-pub fn steps_keep_links()
-    ensures kept { (s : State) (v : Event) → CoresStand s → EndsStand s → LinksArePaired s → RingsHaveOneOwner s
-        → LinksArePaired (step s v).state × RingsHaveOneOwner (step s v).state }
-{}
-
-/// In every state that a run reaches, each link is there both ways, and each side of a ring has one owner.
-pub fn links_are_paired()
-    ensures paired { (vs : List Event) → LinksArePaired (reached start vs) × RingsHaveOneOwner (reached start vs) }
-{}
-
-/// Each step keeps the openings of circuits that are under way on each link in order: those that one core has counted and
-/// the other hasn't.
-pub fn steps_keep_openings()
-    ensures kept { (s : State) (v : Event) → CoresStand s → EndsStand s → LinksArePaired s → RingsHaveOneOwner s → OpeningsGoInOrder s
-        → OpeningsGoInOrder (step s v).state }
-{}
-
-/// In every state that a run reaches, the openings under way on each link are in order.
-pub fn openings_go_in_order()
-    ensures order { (vs : List Event) → OpeningsGoInOrder (reached start vs) }
-{}
-
-/// In every state that a run reaches, all calls of an end but the last are written, and no more fragments than its calls have.
-pub fn writes_are_counted()
-    ensures counted { (vs : List Event) → WritesAreCounted (reached start vs) }
-{}
-
-/// Each step keeps the counts of all writes, where ends stand and routes lead: all calls of an end but the last are written,
-/// and no more fragments than its calls have.
-pub fn steps_keep_writes_counted()
-    ensures kept { (s : State) (v : Event) → EndsStand s → RoutesLead s → WritesAreCounted s → WritesAreCounted (step s v).state }
-{}
-
-/// Each step keeps what is said of replies that wait, where ends stand and routes lead: at most 16 wait at an end, and they
-/// wait only while the end is busy.
-pub fn steps_keep_waiting_replies()
-    ensures kept { (s : State) (v : Event) → EndsStand s → RoutesLead s → FewRepliesWait s → RepliesWaitWhereBusy s
-        → FewRepliesWait (step s v).state × RepliesWaitWhereBusy (step s v).state }
+/// The calls that an end handled over a run are those that the fragments taken make whole.
+pub fn handled_is_counted()
+    ensures counted { HandledIsCounted }
 {}
 
 /// What an end accepted over a run is the calls that it was asked for and that were accepted, and its replies by rule, merged
@@ -90,26 +77,160 @@ pub fn all_accepted()
     ensures accepted { AllAccepted }
 {}
 
-/// Each step keeps the limit of all outboxes, whatever else the state holds: a monitor has at most 64 messages still to
-/// say on a link.
-pub fn steps_keep_outboxes()
-    ensures kept { (s : State) (v : Event) → OutboxesHaveRoom s → OutboxesHaveRoom (step s v).state }
+/// Each call that an end was asked to make over a run and that was accepted fits the interface, however many cores the
+/// world began with.
+pub fn asked_calls_fit()
+    ensures fit { AskedCallsFit }
 {}
 
-/// Each step keeps the limit of all queues, whatever else the state holds: a queue holds no more labels than it has slots.
-pub fn steps_keep_queues()
-    ensures kept { (s : State) (v : Event) → QueuesHaveRoom s → QueuesHaveRoom (step s v).state }
+/// In every run from a world of 1 to 16 cores, each call that an end accepted, and each reply that waits there, fits the interface.
+pub fn calls_ever_fit()
+    ensures fit { EverFits }
 {}
 
-/// Each step keeps how ends stand, whatever else the state holds: an end's binding has its interface, its direction all
-/// its stations, its rules one for each message, and it has a queue or its binding's ring.
-pub fn steps_keep_ends()
-    ensures kept { (s : State) (v : Event) → EndsStand s → EndsStand (step s v).state }
+/// In every state that a run reaches, at most 16 replies wait at an end, and they wait only while the end is busy.
+pub fn few_replies_wait()
+    ensures few { FewWaitAndOnlyWhereBusy }
+{}
+
+/// Replies that wait, as in `few_replies_wait`, in every run from a world of 1 to 16 cores.
+pub fn few_replies_ever_wait()
+    ensures few { EverFewWait }
+{}
+
+/// In every state that a run reaches, all calls of an end but the last are written, and no more fragments than its calls have.
+pub fn writes_are_counted()
+    ensures counted { (vs : List Event) → WritesAreCounted (reached start vs) }
+{}
+
+/// In every state that a run reaches, no more fragments of a direction have passed a station than the one before it.
+pub fn passed_falls()
+    ensures falls { PassedFalls }
+{}
+
+/// In a sound state, a write answers `nothing` only where all fragments of the end's calls are written.
+pub fn writes_are_understood()
+    ensures understood { WritesUnderstand }
+{}
+
+/// In a sound state, nothing is shown only where all fragments of the end's calls are written.
+pub fn shows_are_understood()
+    ensures understood { ShowsUnderstand }
+{}
+
+// ---- Waitsets
+
+/// In every state that a run reaches, no channel stands twice in a waitset's lists.
+pub fn channels_are_once()
+    ensures once { ChannelsAreOnce }
+{}
+
+/// In every state that a run reaches, a pending channel has a fragment, and where that is a ring's it was looked at.
+pub fn pending_has_a_fragment()
+    ensures has { PendingHasAFragment }
+{}
+
+/// In every run from a world of 1 to 16 cores, a channel that stands in a list of its dispatcher has an end, and that a binding.
+pub fn listed_ever_have_ends()
+    ensures ends { EverHaveEnds }
+{}
+
+/// In a sound state, a channel that stands in a list of its dispatcher has an end, and that a binding.
+pub fn listed_have_ends_in_sound_states()
+    ensures ends { (s : State) → Sound s → ListedHaveEnds s }
+{}
+
+/// In a sound state, a turn answers `nothing` only where no channel of the dispatcher is pending or polled.
+pub fn turns_are_understood()
+    ensures understood { TurnsUnderstand }
+{}
+
+/// In a sound state, a turn of a dispatcher with a pending channel gives the first one's end the other end's next fragment, or
+/// holds that back.
+pub fn turns_give_the_next_fragment()
+    ensures next { TurnsGiveTheNext }
+{}
+
+// ---- Rings
+
+/// In every state that a run reaches, on each direction of each ring: known, told and sent don't fall, no more is sent
+/// than what is known and the ring's size; so a number of 16 bits names one count from known to sent.
+pub fn rings_count_in_order()
+    ensures counts { RingsCountInOrder }
+{}
+
+/// The counts of rings, as in `rings_count_in_order`, in every run from a world of 1 to 16 cores.
+pub fn rings_ever_count_in_order()
+    ensures counts { EverInOrder }
+{}
+
+// ---- Links and circuits
+
+/// In every state that a run reaches, each link is there both ways, and each side of a ring has one owner.
+pub fn links_are_paired()
+    ensures paired { (vs : List Event) → LinksArePaired (reached start vs) × RingsHaveOneOwner (reached start vs) }
+{}
+
+/// In every state that a run reaches, the openings under way on each link are in order.
+pub fn openings_go_in_order()
+    ensures order { (vs : List Event) → OpeningsGoInOrder (reached start vs) }
+{}
+
+/// A circuit's number on a link is given once: in every state that a run reaches, where two routes have one number on the link
+/// from one core to the next, they are one binding's.
+pub fn numbers_are_given_once()
+    ensures once { NumbersAreGivenOnce }
+{}
+
+/// The same in both directions of a link, in every run from a world of 1 to 16 cores: whichever of the two cores gave the number.
+pub fn numbers_are_once_both_ways()
+    ensures once { EverOnceBothWays }
+{}
+
+/// Each step of a sound state keeps each core's table: numbers that were given stay given, and at a number that was given no
+/// other entry ever comes.
+pub fn tables_go_on()
+    ensures kept { TablesGoOn }
+{}
+
+/// In a sound state, a forward answers `nothing` only where nothing stands on the link: for each call's fragment, and each
+/// answer to an opening, an entry stands.
+pub fn forwards_are_understood()
+    ensures understood { ForwardsUnderstand }
+{}
+
+// ---- Refusals
+
+/// An event that is refused changes nothing, in any state at all.
+pub fn refusals_change_nothing()
+    ensures same { RefusalsChangeNothing }
+{}
+
+// ---- Each part of being sound, step by step
+
+/// Each step keeps the limits of a world, whatever else the state holds: at most 16 cores, 64 interfaces, 256 services and
+/// 1,024 bindings.
+pub fn steps_keep_limits()
+    ensures kept { (s : State) (v : Event) → CoresAreFew s → InterfacesAreFew s → ServicesAreFew s → BindingsAreFew s
+        → CoresAreFew (step s v).state × InterfacesAreFew (step s v).state × ServicesAreFew (step s v).state
+        × BindingsAreFew (step s v).state }
 {}
 
 /// Each step keeps what is there while the number of cores may be set: nothing but cores and interfaces.
 pub fn steps_keep_bare()
     ensures kept { (s : State) (v : Event) → BareUntilCoresAreSet s → BareUntilCoresAreSet (step s v).state }
+{}
+
+/// Each step of a sound state keeps the cores: each core's table of circuits is its own and sound, with a link of the monitor for
+/// each of its links.
+pub fn steps_keep_cores()
+    ensures kept { (s : State) (v : Event) → Sound s → CoresStand (step s v).state }
+{}
+
+/// Each step keeps every link there both ways, over the two sides of one ring, and one owner for each side of a ring.
+pub fn steps_keep_links()
+    ensures kept { (s : State) (v : Event) → CoresStand s → EndsStand s → LinksArePaired s → RingsHaveOneOwner s
+        → LinksArePaired (step s v).state × RingsHaveOneOwner (step s v).state }
 {}
 
 /// Each step keeps the dispatcher and the interface of each service there, where nothing but cores and interfaces is
@@ -118,38 +239,10 @@ pub fn steps_keep_services()
     ensures kept { (s : State) (v : Event) → BareUntilCoresAreSet s → ServicesStand s → ServicesStand (step s v).state }
 {}
 
-/// An event that is refused changes nothing, in any state at all.
-pub fn refusals_change_nothing()
-    ensures same { RefusalsChangeNothing }
-{}
-
-/// A world that is booted with 1 to 16 cores is a sound state.
-pub fn worlds_are_sound()
-    ensures sound { WorldsAreSound }
-{}
-
-/// The counts of rings, as in `rings_count_in_order`, in every run from a world of 1 to 16 cores.
-pub fn rings_ever_count_in_order()
-    ensures counts { EverInOrder }
-{}
-
-/// Replies that wait, as in `few_replies_wait`, in every run from a world of 1 to 16 cores.
-pub fn few_replies_ever_wait()
-    ensures few { EverFewWait }
-{}
-
-/// Each step keeps that every call that an end accepted, and every reply that waits there, fits the interface, and
-/// that reply rules lead from a message to one with the same argument types: where each end has its binding and its
-/// interface, and labels keep to their ways (both are parts of a sound state).
-pub fn steps_keep_fitting()
-    ensures kept { (s : State) (v : Event) → EndsStand s → LabelsKeepToTheirWays s → CallsFit s → RulesSuit s
-        → CallsFit (step s v).state × RulesSuit (step s v).state }
-{}
-
-/// Each step of a sound state keeps the waitsets: no channel is twice in a dispatcher's lists, each there is an end's, and no
-/// dispatcher has more than 1,024 ends.
-pub fn steps_keep_waitsets()
-    ensures kept { (s : State) (v : Event) → Sound s → WaitsetsStand (step s v).state }
+/// Each step keeps how ends stand, whatever else the state holds: an end's binding has its interface, its direction all
+/// its stations, its rules one for each message, and it has a queue or its binding's ring.
+pub fn steps_keep_ends()
+    ensures kept { (s : State) (v : Event) → EndsStand s → EndsStand (step s v).state }
 {}
 
 /// Each step of a sound state keeps the seats: an end's channel is its dispatcher's channel for it, and no other's.
@@ -161,6 +254,11 @@ pub fn steps_keep_seats()
 /// of the service's, where the server's end is once it is made.
 pub fn steps_keep_routes()
     ensures kept { (s : State) (v : Event) → Sound s → RoutesLead (step s v).state }
+{}
+
+/// Each step of a sound state keeps routes to the cores of the world.
+pub fn steps_keep_routes_within()
+    ensures kept { (s : State) (v : Event) → Sound s → RoutesKeepToCores (step s v).state }
 {}
 
 /// Each step of a sound state keeps a circuit's numbers along its route: one on the first link, at most one on each, and these
@@ -192,21 +290,17 @@ pub fn steps_keep_numbers_once()
     ensures kept { (s : State) (v : Event) → Sound s → NumbersAreOnce (step s v).state }
 {}
 
-/// Each step of a sound state keeps routes to the cores of the world.
-pub fn steps_keep_routes_within()
-    ensures kept { (s : State) (v : Event) → Sound s → RoutesKeepToCores (step s v).state }
-{}
-
 /// Each step of a sound state keeps that a number means the same in both directions of its link: where one route has it on the
 /// way forth and another on the way back, they are one binding's.
 pub fn steps_keep_numbers_once_back()
     ensures kept { (s : State) (v : Event) → Sound s → NumbersAreOnceBothWays (step s v).state }
 {}
 
-/// Each step of a sound state keeps each core's table: numbers that were given stay given, and at a number that was given no
-/// other entry ever comes.
-pub fn tables_go_on()
-    ensures kept { TablesGoOn }
+/// Each step keeps the openings of circuits that are under way on each link in order: those that one core has counted and
+/// the other hasn't.
+pub fn steps_keep_openings()
+    ensures kept { (s : State) (v : Event) → CoresStand s → EndsStand s → LinksArePaired s → RingsHaveOneOwner s → OpeningsGoInOrder s
+        → OpeningsGoInOrder (step s v).state }
 {}
 
 /// Each step of a sound state keeps the monitors' messages due: each that is under way is the one that is due for a binding,
@@ -252,12 +346,23 @@ pub fn steps_keep_the_unopened_unwritten()
     ensures kept { (s : State) (v : Event) → Sound s → NothingBeforeTheOpening (step s v).state }
 {}
 
-/// Each step keeps the limits of a world, whatever else the state holds: at most 16 cores, 64 interfaces, 256 services and
-/// 1,024 bindings.
-pub fn steps_keep_limits()
-    ensures kept { (s : State) (v : Event) → CoresAreFew s → InterfacesAreFew s → ServicesAreFew s → BindingsAreFew s
-        → CoresAreFew (step s v).state × InterfacesAreFew (step s v).state × ServicesAreFew (step s v).state
-        × BindingsAreFew (step s v).state }
+/// Each step keeps the counts of all writes, where ends stand and routes lead: all calls of an end but the last are written,
+/// and no more fragments than its calls have.
+pub fn steps_keep_writes_counted()
+    ensures kept { (s : State) (v : Event) → EndsStand s → RoutesLead s → WritesAreCounted s → WritesAreCounted (step s v).state }
+{}
+
+/// Each step keeps the counts of all rings, whatever else the state holds: what a writer knows, what waiting labels tell,
+/// what was told and what was read never fall from one to the next, and no more is sent than is known to be read and a
+/// ring holds.
+pub fn steps_keep_counts()
+    ensures kept { (s : State) (v : Event) → RingsCount s → RingsFit s → RingsCount (step s v).state × RingsFit (step s v).state }
+{}
+
+/// Each step of a sound state keeps the waitsets: no channel is twice in a dispatcher's lists, each there is an end's, and no
+/// dispatcher has more than 1,024 ends.
+pub fn steps_keep_waitsets()
+    ensures kept { (s : State) (v : Event) → Sound s → WaitsetsStand (step s v).state }
 {}
 
 /// Each step of a sound state keeps what is said of registered channels: the end of each is bound and of the kind of its list,
@@ -267,20 +372,22 @@ pub fn steps_keep_listed()
         → ListedAreBound (step s v).state × PendingQueuesHold (step s v).state × PendingRingsWereLookedAt (step s v).state }
 {}
 
-/// In a sound state, a channel that stands in a list of its dispatcher has an end, and that a binding.
-pub fn listed_have_ends_in_sound_states()
-    ensures ends { (s : State) → Sound s → ListedHaveEnds s }
+/// Each step keeps what is said of replies that wait, where ends stand and routes lead: at most 16 wait at an end, and they
+/// wait only while the end is busy.
+pub fn steps_keep_waiting_replies()
+    ensures kept { (s : State) (v : Event) → EndsStand s → RoutesLead s → FewRepliesWait s → RepliesWaitWhereBusy s
+        → FewRepliesWait (step s v).state × RepliesWaitWhereBusy (step s v).state }
 {}
 
-/// In a sound state, a turn answers `nothing` only where no channel of the dispatcher is pending or polled.
-pub fn turns_are_understood()
-    ensures understood { TurnsUnderstand }
+/// Each step keeps the limit of all queues, whatever else the state holds: a queue holds no more labels than it has slots.
+pub fn steps_keep_queues()
+    ensures kept { (s : State) (v : Event) → QueuesHaveRoom s → QueuesHaveRoom (step s v).state }
 {}
 
-/// In a sound state, a turn of a dispatcher with a pending channel gives the first one's end the other end's next fragment, or
-/// holds that back.
-pub fn turns_give_the_next_fragment()
-    ensures next { TurnsGiveTheNext }
+/// Each step keeps the limit of all outboxes, whatever else the state holds: a monitor has at most 64 messages still to
+/// say on a link.
+pub fn steps_keep_outboxes()
+    ensures kept { (s : State) (v : Event) → OutboxesHaveRoom s → OutboxesHaveRoom (step s v).state }
 {}
 
 /// In a sound state, a write answers `nothing` only where all fragments of the end's calls are written.
@@ -369,4 +476,10 @@ pub fn steps_keep_cores()
 /// calls that each end has accepted as the first of those that it has accepted then.
 pub fn steps_keep_calls()
     ensures kept { (s : State) (v : Event) → KeepsCalls s (step s v).state }
+/// Each step keeps that every call that an end accepted, and every reply that waits there, fits the interface, and
+/// that reply rules lead from a message to one with the same argument types: where each end has its binding and its
+/// interface, and labels keep to their ways (both are parts of a sound state).
+pub fn steps_keep_fitting()
+    ensures kept { (s : State) (v : Event) → EndsStand s → LabelsKeepToTheirWays s → CallsFit s → RulesSuit s
+        → CallsFit (step s v).state × RulesSuit (step s v).state }
 {}
