@@ -1,12 +1,12 @@
 //! The laws of the queue machine: what holds of every run, each the contract of a function that does nothing.
 #![tactic(auto)]
 
+ghost use Rattle.fl_queues.specs.Keeping.{KeepsCalls};
 ghost use Rattle.std.specs.Prelude.{◌≡◌, List};
 ghost use Rattle.fl_queues.specs.Events.{Event};
 ghost use Rattle.fl_queues.specs.State.{State, start};
 ghost use Rattle.fl_queues.specs.Step.{step};
 ghost use Rattle.fl_queues.specs.Runs.{reached};
-ghost use Rattle.fl_queues.specs.Keeping.{KeepsCalls};
 ghost use Rattle.fl_queues.specs.Sound.{Sound};
 ghost use Rattle.fl_queues.specs.SoundOpenings.{OpeningsGoInOrder, MessagesAreDue, AnswersComeOnce};
 ghost use Rattle.fl_queues.specs.SoundPlaces.{CoresStand, EndsStand, LinksArePaired, RingsHaveOneOwner};
@@ -390,96 +390,16 @@ pub fn steps_keep_outboxes()
     ensures kept { (s : State) (v : Event) → OutboxesHaveRoom s → OutboxesHaveRoom (step s v).state }
 {}
 
-/// In a sound state, a write answers `nothing` only where all fragments of the end's calls are written.
-pub fn writes_are_understood()
-    ensures understood { WritesUnderstand }
-{}
-
-/// In a sound state, nothing is shown only where all fragments of the end's calls are written.
-pub fn shows_are_understood()
-    ensures understood { ShowsUnderstand }
-{}
-
-/// In a sound state, a forward answers `nothing` only where nothing stands on the link: for each call's fragment, and each
-/// answer to an opening, an entry stands.
-pub fn forwards_are_understood()
-    ensures understood { ForwardsUnderstand }
-{}
-
-/// Each step of a sound state leads to a sound state.
-pub fn steps_are_sound()
-    ensures sound { StepsAreSound }
-{}
-
-/// Every state that a run reaches is sound, from one core.
-pub fn runs_are_sound()
-    ensures sound { RunsAreSound }
-{}
-
-/// Every state that a run reaches is sound, from a world of 1 to 16 cores.
-pub fn worlds_stay_sound()
-    ensures sound { EverSound }
-{}
-
-/// In every state that a run reaches, no more fragments of a direction have passed a station than the one before it.
-pub fn passed_falls()
-    ensures falls { PassedFalls }
-{}
-
-/// The calls that an end handled over a run are those that the fragments taken make whole.
-pub fn handled_is_counted()
-    ensures counted { HandledIsCounted }
-{}
-
-/// The calls that an end handled over a run are a prefix of those that were accepted at the other end, in order, with equal
-/// arguments: over every route and back end.
-pub fn handled_is_a_prefix()
-    ensures prefix { HandledIsAPrefix }
-{}
-
-/// In every state that a run reaches, no channel stands twice in a waitset's lists.
-pub fn channels_are_once()
-    ensures once { ChannelsAreOnce }
-{}
-
-/// In every state that a run reaches, a pending channel has a fragment, and where that is a ring's it was looked at.
-pub fn pending_has_a_fragment()
-    ensures has { PendingHasAFragment }
-{}
-
-/// A circuit's number on a link is given once: in every state that a run reaches, where two routes have one number on the link
-/// from one core to the next, they are one binding's.
-pub fn numbers_are_given_once()
-    ensures once { NumbersAreGivenOnce }
-{}
-
-/// The same in both directions of a link, in every run from a world of 1 to 16 cores: whichever of the two cores gave the number.
-pub fn numbers_are_once_both_ways()
-    ensures once { EverOnceBothWays }
-{}
-
-/// In every run from a world of 1 to 16 cores, each call that an end accepted, and each reply that waits there, fits the interface.
-pub fn calls_ever_fit()
-    ensures fit { EverFits }
-{}
-
-/// In every run from a world of 1 to 16 cores, a channel that stands in a list of its dispatcher has an end, and that a binding.
-pub fn listed_ever_have_ends()
-    ensures ends { EverHaveEnds }
-{}
-
-/// Each step of a sound state keeps the cores: each core's table of circuits is its own and sound, with a link of the monitor for
-/// each of its links.
-pub fn steps_keep_cores()
-    ensures kept { (s : State) (v : Event) → Sound s → CoresStand (step s v).state }
-/// Each step keeps of each binding, whatever else the state holds, its interface, the numbers that its circuit has, and the
-/// calls that each end has accepted as the first of those that it has accepted then.
-pub fn steps_keep_calls()
-    ensures kept { (s : State) (v : Event) → KeepsCalls s (step s v).state }
 /// Each step keeps that every call that an end accepted, and every reply that waits there, fits the interface, and
 /// that reply rules lead from a message to one with the same argument types: where each end has its binding and its
 /// interface, and labels keep to their ways (both are parts of a sound state).
 pub fn steps_keep_fitting()
     ensures kept { (s : State) (v : Event) → EndsStand s → LabelsKeepToTheirWays s → CallsFit s → RulesSuit s
         → CallsFit (step s v).state × RulesSuit (step s v).state }
+{}
+
+/// Each step keeps of each binding, whatever else the state holds, its interface, the numbers that its circuit has, and the
+/// calls that each end has accepted as the first of those that it has accepted then.
+pub fn steps_keep_calls()
+    ensures kept { (s : State) (v : Event) → KeepsCalls s (step s v).state }
 {}

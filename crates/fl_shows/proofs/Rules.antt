@@ -14,7 +14,7 @@ use Rattle.fl_endpoint.specs.declared.fault.EndFault.TheVariants.{UnknownMessage
 use Rattle.fl_endpoint.specs.View.{TheEnd, interface_in}
 use Rattle.fl_endpoint.specs.Events.{SetsRule, IsMessage, SameTypes}
 use Rattle.fl_queues.specs.Calls.{Planned}
-use Rattle.fl_queues.specs.SameTypes.{scalar_number, same_type, same_fields, same_argument, same_arguments}
+use Rattle.fl_check.specs.SameTypes.{scalar_number, same_type, same_fields, same_argument, same_arguments}
 use Rattle.fl_queues.specs.Ends.{Direction, End, with_rule}
 use Rattle.fl_queues.specs.Taking.{has_message, arguments_of}
 use Rattle.fl_shows.specs.Ends.{EndShows}
