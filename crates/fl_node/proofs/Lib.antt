@@ -1,0 +1,11 @@
+pub mod Seated
+pub mod Kept
+pub mod Named
+pub mod Ported
+pub mod Acting
+pub mod Room
+pub mod Begun
+pub mod Monitoring
+pub mod Writing
+pub mod Making
+pub mod Fresh
