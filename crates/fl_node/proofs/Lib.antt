@@ -4,6 +4,9 @@ pub mod Named
 pub mod Ported
 pub mod Acting
 pub mod Room
+pub mod Leaving
+pub mod Arrivals
+pub mod Binding
 pub mod Begun
 pub mod Monitoring
 pub mod Writing

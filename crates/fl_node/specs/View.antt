@@ -22,6 +22,7 @@ use Rattle.fl_node.specs.declared.wire.Inlet.{Inlet}
 use Rattle.fl_node.specs.declared.wire.Inlet.TheVariants as inlet
 use Rattle.fl_node.specs.declared.wire.Port.{Port}
 use Rattle.fl_node.specs.declared.wire.Lane.{Lane}
+use Rattle.fl_node.specs.declared.wire.Arriving.{Arriving}
 
 -- ---- a core
 
@@ -125,11 +126,6 @@ inlet_of k e = given (slice_get k.ports e) None λ p. Some (inlet_by p.wire)
 
 abbrev pub arrivals_of : TheCore → ℕ → Option ℕ
 arrivals_of k e = given (slice_get k.ports e) None λ p. arrivals_by p.wire
-
--- an end of a circuit: its place, and that of its arrival queue
-pub record Arriving : Type 0 where
-  pub end : ℕ
-  pub queue : ℕ
 
 abbrev pub arriving : ℕ → ℕ → Arriving
 arriving e a = record { end = e; queue = a }

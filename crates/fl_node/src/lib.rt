@@ -26,6 +26,7 @@
 mod answer;
 mod ends;
 mod fault;
+mod hearing;
 mod links;
 mod makers;
 mod one_core;
@@ -35,5 +36,6 @@ mod wire;
 
 pub use answer::{Ahead, MonitorAnswer, MonitorWrite};
 pub use fault::{LinkFault, OpenFault};
+pub use hearing::Offered;
 pub use one_core::Core;
-pub use wire::{Inlet, Lane, Outlet, Port, Wire};
+pub use wire::{Arriving, Inlet, Lane, Outlet, Port, Wire};

@@ -17,7 +17,7 @@ use fl_hop::{First, HopFault, Outcome, Way, deliver};
 use fl_link::{PutFault, PutSide, TakeSide, Told};
 
 // What comes on a link has failed.
-fn fail(lanes: &mut Vec<Lane>, link: LinkId)
+pub(crate) fn fail(lanes: &mut Vec<Lane>, link: LinkId)
     ensures failed { lanes.new.items ≡ failed_at lanes.old.items link.0 }
 {
     let place = usize::from(link.0);
@@ -102,13 +102,13 @@ impl Core {
         requires call { is_ack_only (with_circuit 0 frag.now) ≡ false }
         ensures arrives { ArrivesAt T.takes link.0 frag.now name self.old from.old result self.new from.new }
     {
-        let Some((e, a)) = self.arriving_at(name) else {
+        let Some(at) = self.arriving_at(name) else {
             fail(&mut self.lanes, link);
             return Err(LinkFault::Astray);
         };
-        let outcome = deliver(from, &mut self.arrivals[a], frag);
+        let outcome = deliver(from, &mut self.arrivals[at.queue], frag);
         if let Outcome::Moved = outcome {
-            self.board.trigger(e);
+            self.board.trigger(at.end);
         }
         Ok(outcome)
     }

@@ -1,14 +1,14 @@
 //! A whole core, and where things are in it.
 
-ghost use Rattle.std.specs.Prelude.{◌≡◌, ◌<◌, ℕ, length, slice_get, Some, None, IfOk, IfSome, option_map};
+ghost use Rattle.std.specs.Prelude.{◌≡◌, ◌<◌, length, slice_get, Some, None, IfOk, IfSome};
 ghost use Rattle.fl_core.specs.Sound.{IsBoard};
 ghost use Rattle.fl_monitor.specs.Monitors.{HasOutboxes};
-ghost use Rattle.fl_node.specs.View.{TheCore, fresh_core, place_of, outlet_by, outlet_of, inlet_by, inlet_of, arrivals_by, arrivals_of, side_of_link, joined_by};
-ghost use Rattle.fl_node.specs.View.{arriving, arriving_at, joined_to};
+ghost use Rattle.fl_node.specs.View.{fresh_core, place_of, outlet_of, inlet_by, inlet_of, arrivals_by, arrivals_of, side_of_link};
+ghost use Rattle.fl_node.specs.View.{arriving_at, joined_to};
 ghost use Rattle.fl_node.specs.Sound.{IsCore};
 
 use crate::places::{NAMES, place_in};
-use crate::wire::{Inlet, Lane, Outlet, Port, Wire};
+use crate::wire::{Arriving, Inlet, Lane, Outlet, Port, Wire};
 use fl_base::{CoreId, EndId, LinkId};
 use fl_core::Board;
 use fl_link::QueueLink;
@@ -178,16 +178,16 @@ impl Core {
     }
 
     // Where fragments for the end of a name arrive: its place, and that of its arrival queue.
-    pub(crate) fn arriving_at(&self, name: EndId) -> Option<(usize, usize)>
-        ensures at { option_map (λ (p : ℕ × ℕ). arriving p.0 p.1) result ≡ arriving_at self.now name }
-        ensures end { IfSome result (λ p. p.0 < length self.now.board.seats) }
-        ensures queue { IfSome result (λ p. p.1 < length self.now.arrivals) }
+    pub(crate) fn arriving_at(&self, name: EndId) -> Option<Arriving>
+        ensures at { result ≡ arriving_at self.now name }
+        ensures end { IfSome result (λ p. p.end < length self.now.board.seats) }
+        ensures queue { IfSome result (λ p. p.queue < length self.now.arrivals) }
     {
         match self.place(name) {
             None => None,
             Some(e) => match self.arrivals_of(e) {
                 None => None,
-                Some(a) => Some((e, a)),
+                Some(a) => Some(Arriving { end: e, queue: a }),
             },
         }
     }

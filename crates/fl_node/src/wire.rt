@@ -48,3 +48,12 @@ pub struct Lane {
     /// Whether a fragment came there that can't be: then no more is looked at (E64).
     pub failed: bool,
 }
+
+/// Where fragments for an end of a circuit arrive.
+#[derive(Clone, Copy, Debug, PartialEq, Eq)]
+pub struct Arriving {
+    /// The end's place.
+    pub end: usize,
+    /// The place of its arrival queue, among those of the core.
+    pub queue: usize,
+}
