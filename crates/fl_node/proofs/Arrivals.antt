@@ -1,5 +1,5 @@
 -- A fragment arrives for an end: k is the core before, and base the same by its fields.
-use Rattle.std.proofs.Common.{◌≡◌, refl, sym, ap, ◌∙◌, subst, ℕ, ◌<◌, length, slice_get, slice_set, slice_index_or, Option, Some, None}
+use Rattle.std.proofs.Common.{◌≡◌, refl, sym, ap, ◌∙◌, subst, ℕ, ◌<◌, length, slice_set, slice_index_or, Some, None}
 use Rattle.std.proofs.lemmas.Option.{slice_get_read}
 use Rattle.fl_base.specs.declared.fragment.Frag.{Frag}
 use Rattle.fl_base.specs.declared.identity.EndId.{EndId}

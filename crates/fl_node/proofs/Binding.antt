@@ -1,5 +1,5 @@
 -- An end is made for a message, or bound: k is the core before, and base the same by its fields.
-use Rattle.std.proofs.Common.{◌≡◌, refl, sym, ap, ◌∙◌, subst, ℕ, ◌<◌, List, length, slice_get, slice_set, slice_index_or, Option, Some, None, Result, Ok, Err}
+use Rattle.std.proofs.Common.{◌≡◌, refl, sym, ap, ◌∙◌, subst, ℕ, ◌<◌, List, length, slice_get, slice_set, slice_index_or, Option, Some, Result, Ok}
 use Rattle.std.proofs.lemmas.Option.{slice_get_read}
 use Rattle.fl_base.specs.declared.identity.Circuit.{Circuit}
 use Rattle.fl_compile.specs.declared.program.Program.{Program}

@@ -1,5 +1,5 @@
 -- Registering over a queue leaves it as it is.
-use Rattle.std.proofs.Common.{◌≡◌, refl, ℕ, ◌⊎◌, inl, inr, Result, Ok, Err}
+use Rattle.std.proofs.Common.{◌≡◌, ℕ, inl, inr, Result, Ok, Err}
 use Rattle.fl_lists.specs.declared.place.Place.{Place}
 use Rattle.fl_lists.specs.declared.place.Place.TheVariants as place
 use Rattle.fl_lists.specs.ThreeLists.{ThreeLists}
@@ -10,7 +10,7 @@ use Rattle.fl_core.specs.declared.fault.BoardFault.{BoardFault}
 use Rattle.fl_core.specs.declared.fault.BoardFault.TheVariants.{NotBound, Registered, NotRegistered, TooManyEnds, Failed, Memory}
 use Rattle.fl_core.specs.View.{TheSeat, TheBoard}
 use Rattle.fl_core.specs.Turns.{WaitsIn, lent}
-use Rattle.fl_core.specs.Events.{Registers, ChangesLists}
+use Rattle.fl_core.specs.Events.{Registers}
 use Rattle.fl_node.specs.Ends.{RegistersAt}
 
 waits_leave : (k : Kind) (p q : TheQueue) (to : Place) → WaitsIn QueueTakes k p to q → q ≡ p

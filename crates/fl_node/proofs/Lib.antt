@@ -5,6 +5,9 @@ pub mod Ported
 pub mod Acting
 pub mod Room
 pub mod Leaving
+pub mod Served
+pub mod Hearsay
+pub mod Offers
 pub mod Arrivals
 pub mod Binding
 pub mod Begun
