@@ -1,0 +1,142 @@
+-- A message is heard: k is the core before, and base the same by its fields.
+use Rattle.std.proofs.Common.{◌≡◌, refl, sym, ap, ◌∙◌, subst, true, ℕ, ◌<◌, List, length, length-set, slice_get, slice_set, Option, Some, None, Result, Ok, Err}
+use Rattle.fl_base.specs.declared.identity.LinkId.{LinkId}
+use Rattle.fl_compile.specs.declared.program.Program.{Program}
+use Rattle.fl_compile.specs.Programs.{TheProgram, program_of}
+use Rattle.fl_link.specs.Queue.{TheQueue}
+use Rattle.fl_hop.specs.Table.{TheCircuits}
+use Rattle.fl_endpoint.specs.View.{fresh}
+use Rattle.fl_core.specs.declared.kind.Kind.TheVariants.{Queue}
+use Rattle.fl_core.specs.View.{TheBoard}
+use Rattle.fl_core.specs.Events.{Adds}
+use Rattle.fl_monitor.specs.declared.fate.Here.{Here}
+use Rattle.fl_monitor.specs.declared.heard.Heard.{Heard}
+use Rattle.fl_monitor.specs.declared.heard.Heard.TheVariants as heard
+use Rattle.fl_monitor.specs.declared.message.Message.{Message}
+use Rattle.fl_monitor.specs.declared.fault.MonitorFault.{MonitorFault}
+use Rattle.fl_monitor.specs.declared.fault.MonitorFault.TheVariants as fault
+use Rattle.fl_monitor.specs.Fates.{Known}
+use Rattle.fl_monitor.specs.Hearing.{ComesTo, circuit_in}
+use Rattle.fl_monitor.specs.Monitors.{TheMonitor, Hears}
+use Rattle.fl_monitor.proofs.Tables.{table_length}
+use Rattle.fl_node.specs.declared.wire.Port.{Port}
+use Rattle.fl_node.specs.declared.wire.Lane.{Lane}
+use Rattle.fl_node.specs.declared.hearing.Made.{Made}
+use Rattle.fl_node.specs.declared.hearing.Offered.{Offered}
+use Rattle.fl_node.specs.declared.answer.MonitorAnswer.{MonitorAnswer}
+use Rattle.fl_node.specs.declared.answer.MonitorAnswer.TheVariants.{Full, Done, Opened, OpeningRefused}
+use Rattle.fl_node.specs.declared.fault.LinkFault.{LinkFault}
+use Rattle.fl_node.specs.View.{TheCore, with_monitor, server_of, place_of}
+use Rattle.fl_node.specs.Sound.{IsCore, kinds_seated}
+use Rattle.fl_node.specs.Hearing.{Offers, here_for, known_for, offer_for, Follows, MakesServer, HearsAll, HearsMessage}
+use Rattle.fl_node.specs.Inside.{server_in, LeadsTo, EndFor, HearsWith, Unheard}
+use Rattle.fl_monitor.specs.Routing.{given}
+use Rattle.fl_node.proofs.Kept.{parts_kept}
+use Rattle.fl_node.proofs.Offers.{offer_found, offer_leads, made_for, made_new}
+
+-- ---- what isn't heard
+
+pub hears_kept : (kn : Known) (l : LinkId) (m : Message) (n n2 : TheMonitor) (f : MonitorFault) → Hears kn l m n (Err f) n2 → n2 ≡ n
+hears_kept kn l m n n2 fault.Astray h = h.1
+hears_kept kn l m n n2 fault.OutboxFull h = h.3
+hears_kept kn l m n n2 fault.Memory h = h.3
+hears_kept kn l m n n2 fault.Differs h = absurd h
+hears_kept kn l m n n2 fault.NoRoute h = absurd h
+hears_kept kn l m n n2 fault.UsedUp h = absurd h
+hears_kept kn l m n n2 fault.PlansDiffer h = absurd h
+
+pub with_kept : (kn : Known) (l : LinkId) (m : Message) (source : TheProgram) (b b2 : TheBoard) (n n2 : TheMonitor) (f : MonitorFault) → HearsWith kn l m source b n (Err f) b2 n2 → (b2 ≡ b) × (n2 ≡ n)
+with_kept kn l m source b b2 n n2 fault.Memory h = h
+with_kept kn l m source b b2 n n2 fault.Astray h = (h.1, h.2)
+with_kept kn l m source b b2 n n2 fault.OutboxFull h = (h.1, h.2)
+with_kept kn l m source b b2 n n2 fault.Differs h = (h.1, h.2)
+with_kept kn l m source b b2 n n2 fault.NoRoute h = (h.1, h.2)
+with_kept kn l m source b b2 n n2 fault.UsedUp h = (h.1, h.2)
+with_kept kn l m source b b2 n n2 fault.PlansDiffer h = (h.1, h.2)
+
+failed_length : (lanes : List Lane) (l : ℕ) (x : Option Lane) → length (given x lanes λ lane. slice_set lanes l (record { side = lane.side; failed = true })) ≡ length lanes
+failed_length lanes l None = refl
+failed_length lanes l (Some lane) = length-set lanes l (record { side = lane.side; failed = true })
+
+pub unheard_length : (l : LinkId) (f : MonitorFault) (lanes lanes2 : List Lane) (answer : Result MonitorAnswer LinkFault) → Unheard l f lanes answer lanes2 → length lanes2 ≡ length lanes
+unheard_length l fault.Astray lanes lanes2 answer h = ap length h.1 ∙ failed_length lanes l.0 (slice_get lanes l.0)
+unheard_length l fault.OutboxFull lanes lanes2 answer h = ap length h.1
+unheard_length l fault.Memory lanes lanes2 answer h = ap length h.1
+unheard_length l fault.Differs lanes lanes2 answer h = ap length h.1
+unheard_length l fault.NoRoute lanes lanes2 answer h = ap length h.1
+unheard_length l fault.UsedUp lanes lanes2 answer h = ap length h.1
+unheard_length l fault.PlansDiffer lanes lanes2 answer h = ap length h.1
+
+-- ---- what is heard
+
+pub hears_length : (kn : Known) (l : LinkId) (m : Message) (n n2 : TheMonitor) (h : Heard) → Hears kn l m n (Ok h) n2 → length n2.circuits.links ≡ length n.circuits.links
+hears_length kn l m n n2 h hears = ap (λ (t : TheCircuits). length t.links) hears.2 ∙ table_length n.circuits l m h
+
+-- room that was made changes nothing
+pub roomy_kept : (k : TheCore) (b : TheBoard) (m : TheMonitor) (lanes : List Lane) (ports : List Port) (arrivals : List TheQueue) → IsCore k → kinds_seated b.seats ≡ kinds_seated k.board.seats
+    → length m.circuits.links ≡ length k.monitor.circuits.links → length lanes ≡ length k.lanes → ports ≡ k.ports → arrivals ≡ k.arrivals
+    → IsCore (record { board = b; monitor = m; ports = ports; places = k.places; lanes = lanes; arrivals = arrivals })
+roomy_kept k b m lanes ports arrivals sound kinds links lanes_are ports_are arrivals_are =
+    subst (λ (ps : List Port). IsCore (record { board = b; monitor = m; ports = ps; places = k.places; lanes = lanes; arrivals = arrivals })) (sym ports_are)
+    (parts_kept k b m lanes arrivals sound kinds links lanes_are (ap length arrivals_are))
+
+full_follows : (programs : List Program) (offer : Option Offered) (l : LinkId) (h : Heard) (k k2 : TheCore) → Follows programs offer l h k Full k2 → ⊥
+full_follows programs offer l (heard.ServerMade b d c) k k2 f = absurd (cc (f.0))
+full_follows programs offer l (heard.EndOpened e c) k k2 f = absurd (cc (f.0))
+full_follows programs offer l (heard.EndRefused e reason) k k2 f = absurd (cc (f.0))
+full_follows programs offer l (heard.OpeningWentOn b n c) k k2 f = absurd (cc (f.0))
+full_follows programs offer l (heard.OpeningFailed b reason) k k2 f = absurd (cc (f.0))
+full_follows programs offer l (heard.AnswerWentOn b n c) k k2 f = absurd (cc (f.0))
+
+not_full : (o : Offers) (l : LinkId) (m : Message) (k k2 : TheCore) (told : MonitorAnswer) → HearsAll o l m k told k2 → HearsMessage o l m k (Ok told) k2
+not_full o l m k k2 Full h = absurd (full_follows o.programs (offer_for o k m) l h.heard (with_monitor k h.monitor) k2 h.follows)
+not_full o l m k k2 Done h = h
+not_full o l m k k2 (Opened e) h = h
+not_full o l m k k2 (OpeningRefused e reason) h = h
+
+module _ (o : Offers) (l : LinkId) (m : Message) (k base : TheCore) (same : base ≡ k) (here : Here) (here_is : here ≡ here_for o k m) where
+  at_base : here ≡ here_for o base m
+  at_base = subst (λ (x : TheCore). here ≡ here_for o x m) (sym same) here_is
+
+  pub leads_so : (offer : Offered) → offer_for o k m ≡ Some offer → LeadsTo (record { names = o.names; here = here }) base.monitor.circuits l m offer.dispatcher (circuit_in m)
+  leads_so offer is h made comes makes =
+      let f = offer_found o base m offer (subst (λ (x : TheCore). offer_for o x m ≡ Some offer) (sym same) is) in
+      offer_leads o base l m offer f h made (subst (λ (x : Here). ComesTo (record { names = o.names; here = x }) base.monitor.circuits l m h) at_base comes) makes
+
+  pub all_heard : (n2 : TheMonitor) (h : Heard) (told : MonitorAnswer) (k2 : TheCore) → Hears (record { names = o.names; here = here }) l m base.monitor (Ok h) n2
+      → Follows o.programs (offer_for o base m) l h (with_monitor base n2) told k2 → HearsAll o l m k told k2
+  all_heard n2 h told k2 hears follows = subst (λ (x : TheCore). HearsAll o l m x told k2) same (record {
+    heard = h;
+    monitor = n2;
+    hears = subst (λ (x : Here). Hears (record { names = o.names; here = x }) l m base.monitor (Ok h) n2) at_base hears;
+    follows = follows;
+  })
+
+  pub message_heard : (n2 : TheMonitor) (h : Heard) (told : MonitorAnswer) (k2 : TheCore) → Hears (record { names = o.names; here = here }) l m base.monitor (Ok h) n2
+      → Follows o.programs (offer_for o base m) l h (with_monitor base n2) told k2 → HearsMessage o l m k (Ok told) k2
+  message_heard n2 h told k2 hears follows = not_full o l m k k2 told (all_heard n2 h told k2 hears follows)
+
+  -- the end that is made has a number in range, and a new name
+  pub new_name : (h : Heard) (made : Made) → ComesTo (record { names = o.names; here = here }) base.monitor.circuits l m h → server_in h ≡ Some made
+      → (made.binding < 1024) × (place_of base (server_of made.binding) ≡ None)
+  new_name h made comes makes =
+      made_new o base m made (made_for (known_for o base m) base.monitor.circuits l m h made (subst (λ (x : Here). ComesTo (record { names = o.names; here = x }) base.monitor.circuits l m h) at_base comes) makes)
+
+pub follows_server : (programs : List Program) (offer : Option Offered) (l : LinkId) (h : Heard) (made : Made) (k k2 : TheCore) → server_in h ≡ Some made
+    → MakesServer programs offer l made.binding made.dispatcher made.circuit k k2 → Follows programs offer l h k (Opened (server_of made.binding)) k2
+follows_server programs offer l (heard.ServerMade b d c) made k k2 is h =
+    let same : made ≡ (let x : Made = record { binding = b; dispatcher = d; circuit = c } in x) = cc (is) in
+    (ap (λ (x : Made). Opened (server_of x.binding)) same, subst (λ (x : Made). MakesServer programs offer l x.binding x.dispatcher x.circuit k k2) same h)
+follows_server programs offer l (heard.EndOpened e c) made k k2 is h = absurd (cc (is))
+follows_server programs offer l (heard.EndRefused e reason) made k k2 is h = absurd (cc (is))
+follows_server programs offer l (heard.OpeningWentOn b n c) made k k2 is h = absurd (cc (is))
+follows_server programs offer l (heard.OpeningFailed b reason) made k k2 is h = absurd (cc (is))
+follows_server programs offer l (heard.AnswerWentOn b n c) made k k2 is h = absurd (cc (is))
+
+-- no end was made, or this one
+pub end_none : (source : TheProgram) (place : ℕ) (s : Option Made) (b b2 : TheBoard) → s ≡ None → EndFor source place s b b2 → b2 ≡ b
+end_none source place s b b2 is h = let g : EndFor source place None b b2 = subst (λ (x : Option Made). EndFor source place x b b2) is h in g
+
+pub end_some : (source : TheProgram) (place : ℕ) (s : Option Made) (made : Made) (b b2 : TheBoard) → s ≡ Some made → EndFor source place s b b2
+    → (program : Program) × (program_of program ≡ source) × Adds b made.dispatcher (fresh program (Some made.circuit.0)) Queue (Ok place) b2
+end_some source place s made b b2 is h = subst (λ (x : Option Made). EndFor source place x b b2) is h

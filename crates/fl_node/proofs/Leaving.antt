@@ -1,0 +1,35 @@
+-- Registering over a queue leaves it as it is.
+use Rattle.std.proofs.Common.{◌≡◌, ℕ, inl, inr, Result, Ok, Err}
+use Rattle.fl_lists.specs.declared.place.Place.{Place}
+use Rattle.fl_lists.specs.declared.place.Place.TheVariants as place
+use Rattle.fl_lists.specs.ThreeLists.{ThreeLists}
+use Rattle.fl_link.specs.Queue.{TheQueue, QueueTakes}
+use Rattle.fl_core.specs.declared.kind.Kind.{Kind}
+use Rattle.fl_core.specs.declared.kind.Kind.TheVariants as kind
+use Rattle.fl_core.specs.declared.fault.BoardFault.{BoardFault}
+use Rattle.fl_core.specs.declared.fault.BoardFault.TheVariants.{NotBound, Registered, NotRegistered, TooManyEnds, Failed, Memory}
+use Rattle.fl_core.specs.View.{TheSeat, TheBoard}
+use Rattle.fl_core.specs.Turns.{WaitsIn, lent}
+use Rattle.fl_core.specs.Events.{Registers}
+use Rattle.fl_node.specs.Ends.{RegistersAt}
+
+waits_leave : (k : Kind) (p q : TheQueue) (to : Place) → WaitsIn QueueTakes k p to q → q ≡ p
+waits_leave kind.Ring p q place.Polled h = h
+waits_leave kind.Ring p q place.Pending h = absurd h
+waits_leave kind.Ring p q place.Idle h = absurd h
+waits_leave kind.Queue p q place.Pending (inl (f, saw)) = saw.1
+waits_leave kind.Queue p q place.Pending (inr saw) = saw.1
+waits_leave kind.Queue p q place.Idle h = h.1
+waits_leave kind.Queue p q place.Polled h = absurd h
+
+registers_leave : (s : TheSeat) (w v : ThreeLists) (p q : TheQueue) (r : Result (Unit {0}) BoardFault) → Registers QueueTakes s (lent w p) r (lent v q) → q ≡ p
+registers_leave s w v p q (Ok done) (ready, (free, (to, waits, lists))) = waits_leave s.kind p q to waits
+registers_leave s w v p q (Err Registered) (ready, (is, side, lists)) = side
+registers_leave s w v p q (Err NotBound) (unbound, side, lists) = side
+registers_leave s w v p q (Err Failed) (failed, side, lists) = side
+registers_leave s w v p q (Err NotRegistered) h = absurd h
+registers_leave s w v p q (Err TooManyEnds) h = absurd h
+registers_leave s w v p q (Err Memory) h = absurd h
+
+pub registering_leaves : (e : ℕ) (r : Result (Unit {0}) BoardFault) (b c : TheBoard) (p q : TheQueue) → RegistersAt QueueTakes e r b p c q → q ≡ p
+registering_leaves e r b c p q h = registers_leave h.seat h.dispatcher.lists h.lists p q r h.event

@@ -1,0 +1,17 @@
+pub mod Seated
+pub mod Kept
+pub mod Named
+pub mod Ported
+pub mod Acting
+pub mod Room
+pub mod Leaving
+pub mod Served
+pub mod Hearsay
+pub mod Offers
+pub mod Arrivals
+pub mod Binding
+pub mod Begun
+pub mod Monitoring
+pub mod Writing
+pub mod Making
+pub mod Fresh

@@ -1,0 +1,12 @@
+use Rattle.std.proofs.Common.{sym, ◌∙◌, refl, subst, Option, ℕ}
+use Rattle.fl_hop.specs.declared.forward.Outcome.{Outcome}
+use Rattle.fl_node.specs.Ends.{TriggersIf}
+use Rattle.fl_node.specs.Links.{reached}
+use Rattle.fl_node.proofs.Arrivals.{not_moved, arrives_done}
+use Rattle.fl_node.proofs.one_core.Core.arrive.Goals as goal
+
+pub returns-in-Moved : goal.returns-in-Moved
+returns-in-Moved g c = record { arrives = arrives_done g.T.TakeSide.takes c.args.self.now _ c.self.view_is c.args.frag.now c.args.name c.in-Some.at c.args.from.now c.deliver-outcome.new.from c.deliver-outcome.result _ _ c.deliver-outcome.new.queue c.trigger.new.self (sym c.arriving_at.ensures.at ∙ c.in-Some.is) c.in-Some.ensures.queue c.index_mut.ensures.value refl c.deliver-outcome.ensures.put c.deliver-outcome.ensures.left (subst (λ (o : Outcome). TriggersIf (reached c.in-Some.at.end o) c.self.inside.board c.trigger.new.self) (sym c.in-Moved.is) c.trigger.ensures.triggers) }
+
+pub returns-in_default-outcome : goal.returns-in_default-outcome
+returns-in_default-outcome g c = record { arrives = arrives_done g.T.TakeSide.takes c.args.self.now _ c.self.view_is c.args.frag.now c.args.name c.in-Some.at c.args.from.now c.deliver-outcome.new.from c.deliver-outcome.result _ _ c.deliver-outcome.new.queue c.self.inside.board (sym c.arriving_at.ensures.at ∙ c.in-Some.is) c.in-Some.ensures.queue c.index_mut.ensures.value refl c.deliver-outcome.ensures.put c.deliver-outcome.ensures.left (subst (λ (o : Option ℕ). TriggersIf o c.self.inside.board c.self.inside.board) (sym (not_moved c.in-Some.at.end c.deliver-outcome.result c.in_default-outcome.not-Moved)) refl) }

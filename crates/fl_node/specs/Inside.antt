@@ -1,0 +1,75 @@
+-- A working file, on which no public promise rests by itself.
+use Rattle.std.specs.Prelude.{◌≡◌, ℕ, List, Option, Some, None, Result, Ok, Err}
+use Rattle.fl_base.specs.declared.identity.LinkId.{LinkId}
+use Rattle.fl_base.specs.declared.identity.Circuit.{Circuit}
+use Rattle.fl_compile.specs.declared.program.Program.{Program}
+use Rattle.fl_compile.specs.Programs.{TheProgram, program_of}
+use Rattle.fl_endpoint.specs.View.{fresh}
+use Rattle.fl_core.specs.declared.kind.Kind.TheVariants.{Queue}
+use Rattle.fl_core.specs.View.{TheBoard}
+use Rattle.fl_core.specs.Events.{Adds}
+use Rattle.fl_hop.specs.Table.{TheCircuits}
+use Rattle.fl_monitor.specs.declared.message.Message.{Message}
+use Rattle.fl_monitor.specs.declared.heard.Heard.{Heard}
+use Rattle.fl_monitor.specs.declared.heard.Heard.TheVariants as heard
+use Rattle.fl_monitor.specs.declared.fault.MonitorFault.{MonitorFault}
+use Rattle.fl_monitor.specs.declared.fault.MonitorFault.TheVariants.{Memory, Astray as OutOfPlace, OutboxFull}
+use Rattle.fl_monitor.specs.Fates.{Known}
+use Rattle.fl_monitor.specs.Hearing.{ComesTo}
+use Rattle.fl_monitor.specs.Monitors.{TheMonitor, Hears}
+use Rattle.fl_node.specs.declared.wire.Lane.{Lane}
+use Rattle.fl_node.specs.declared.answer.MonitorAnswer.{MonitorAnswer}
+use Rattle.fl_node.specs.declared.answer.MonitorAnswer.TheVariants.{Full}
+use Rattle.fl_node.specs.View.{failed_at}
+use Rattle.fl_node.specs.declared.hearing.Made.{Made}
+use Rattle.fl_node.specs.declared.hearing.Joined.{Joined}
+use Rattle.fl_hop.specs.declared.fault.HopFault.{HopFault}
+use Rattle.fl_hop.specs.declared.fault.HopFault.TheVariants as hop
+use Rattle.fl_node.specs.declared.fault.LinkFault.{LinkFault}
+use Rattle.fl_node.specs.declared.fault.LinkFault.TheVariants.{Marked, Astray, Memory as NoMemory}
+
+-- why a look fails, and what is answered then
+abbrev pub FailsFor : HopFault → LinkFault → Type 0
+FailsFor hop.Marked fault = fault ≡ Marked
+FailsFor hop.Astray fault = fault ≡ Astray
+FailsFor other fault = Unit {0}
+
+-- ---- the parts of hearing a message
+
+-- the server's end that a message makes, if it makes one
+abbrev pub server_in : Heard → Option Made
+server_in (heard.ServerMade binding dispatcher c) = Some (record { binding = binding; dispatcher = dispatcher; circuit = c })
+server_in (heard.OpeningWentOn binding n c) = None
+server_in (heard.OpeningFailed binding reason) = None
+server_in (heard.AnswerWentOn binding n c) = None
+server_in (heard.EndOpened e c) = None
+server_in (heard.EndRefused e reason) = None
+
+-- wherever the message makes a server's end, it is at this dispatcher and on this circuit
+abbrev pub LeadsTo : Known → TheCircuits → LinkId → Message → ℕ → Circuit → Type 0
+LeadsTo k t l m dispatcher c = (h : Heard) (made : Made) → ComesTo k t l m h → server_in h ≡ Some made → (made.dispatcher ≡ dispatcher) × (made.circuit ≡ c)
+
+-- the board with the end that was made, which has a copy of the program; or as it was
+abbrev pub EndFor : TheProgram → ℕ → Option Made → TheBoard → TheBoard → Type 0
+EndFor source place None b b2 = b2 ≡ b
+EndFor source place (Some made) b b2 =
+    (program : Program) × (program_of program ≡ source) × Adds b made.dispatcher (fresh program (Some made.circuit.0)) Queue (Ok place) b2
+
+-- a message is heard while an end is ready for it
+abbrev pub HearsWith : Known → LinkId → Message → TheProgram → TheBoard → TheMonitor → Result Joined MonitorFault → TheBoard → TheMonitor → Type 0
+HearsWith k l m source b n (Ok j) b2 n2 = Hears k l m n (Ok j.heard) n2 × EndFor source j.place (server_in j.heard) b b2
+HearsWith k l m source b n (Err Memory) b2 n2 = (b2 ≡ b) × (n2 ≡ n)
+HearsWith k l m source b n (Err fault) b2 n2 = Hears k l m n (Err fault) n × (b2 ≡ b) × (n2 ≡ n)
+
+-- why a message wasn't heard, and what is answered then; what comes there has failed where the message was out of place
+abbrev pub Unheard : LinkId → MonitorFault → List Lane → Result MonitorAnswer LinkFault → List Lane → Type 0
+Unheard l OutOfPlace lanes answer lanes2 = (answer ≡ Err Astray) × (lanes2 ≡ failed_at lanes l.0)
+Unheard l OutboxFull lanes answer lanes2 = (answer ≡ Ok Full) × (lanes2 ≡ lanes)
+Unheard l fault lanes answer lanes2 = (answer ≡ Err NoMemory) × (lanes2 ≡ lanes)
+
+-- the faults that a message that is heard may have
+abbrev pub MayRefuse : MonitorFault → Type 0
+MayRefuse OutOfPlace = Unit {0}
+MayRefuse OutboxFull = Unit {0}
+MayRefuse Memory = Unit {0}
+MayRefuse fault = ⊥

@@ -1,0 +1,76 @@
+-- What making something at a core comes to, by cases on the answer, exactly.
+use Rattle.std.specs.Prelude.{ℕ, ◌≡◌, ◌<◌, false, [], ◌∷◌, ◌++◌, length, slice_get, Some, None, Result, Ok, Err}
+use Rattle.fl_base.specs.declared.identity.CoreId.{CoreId}
+use Rattle.fl_base.specs.declared.identity.LinkId.{LinkId}
+use Rattle.fl_base.specs.declared.identity.Circuit.{Circuit}
+use Rattle.fl_compile.specs.declared.program.Program.{Program}
+use Rattle.fl_endpoint.specs.View.{TheEnd, fresh}
+use Rattle.fl_hop.specs.Table.{with_link}
+use Rattle.fl_core.specs.declared.kind.Kind.{Kind}
+use Rattle.fl_core.specs.declared.kind.Kind.TheVariants.{Queue}
+use Rattle.fl_core.specs.declared.fault.BoardFault.{BoardFault}
+use Rattle.fl_core.specs.View.{TheDispatcher, TheBoard}
+use Rattle.fl_core.specs.Events.{Adds}
+use Rattle.fl_monitor.specs.declared.opening.Opening.{Opening}
+use Rattle.fl_monitor.specs.Monitors.{TheMonitor, Opens}
+use Rattle.fl_node.specs.declared.wire.Port.{Port}
+use Rattle.fl_node.specs.declared.fault.OpenFault.{OpenFault}
+use Rattle.fl_node.specs.declared.fault.OpenFault.TheVariants.{Board, Monitor}
+use Rattle.fl_node.specs.View.{TheCore, kind_of, client_of, with_port, with_circuit_port}
+
+-- ---- a link
+
+-- the core with one link more, to this neighbour, over a side of a ring
+abbrev pub linked : TheCore → CoreId → ℕ → TheCore
+linked k neighbour side = record k {
+  monitor = record {
+    circuits = with_link k.monitor.circuits neighbour;
+    outboxes = k.monitor.outboxes ++ [] ∷ [];
+  };
+  lanes = k.lanes ++ record { side = side; failed = false } ∷ [];
+}
+
+-- ---- an end on a queue or a ring
+
+-- the dispatcher has a place for one more end
+abbrev pub HasPlace : TheBoard → ℕ → Type 0
+HasPlace b n = (d : TheDispatcher) × (slice_get b.dispatchers n ≡ Some d) × (length d.ends < 1024)
+
+-- why the dispatcher gets no other end: it has 1,024, or there is no memory for one
+abbrev pub HasNoPlace : TheBoard → ℕ → BoardFault → Type 0
+HasNoPlace b n fault = (s : TheEnd) (kind : Kind) → Adds b n s kind (Err fault) b
+
+-- the end is added at dispatcher n, with its name and its wire; where it is refused nothing has changed
+abbrev pub AddsPort : ℕ → TheEnd → Port → TheCore → Result ℕ BoardFault → TheCore → Type 0
+AddsPort n s p k (Ok e) k2 = Adds k.board n s (kind_of p.wire) (Ok e) k2.board × (k2 ≡ with_port k k2.board e p)
+AddsPort n s p k (Err fault) k2 = Adds k.board n s (kind_of p.wire) (Err fault) k.board × (k2 ≡ k)
+
+-- ---- the client's end of a circuit
+
+-- what is asked for: the client's dispatcher and program, the link on which the route begins, and the opening
+pub record Asked : Type 0 where
+  pub dispatcher : ℕ
+  pub program : Program
+  pub link : LinkId
+  pub opening : Opening
+
+abbrev pub asked : ℕ → Program → LinkId → Opening → Asked
+asked dispatcher program link opening = record { dispatcher = dispatcher; program = program; link = link; opening = opening }
+
+-- the end is added and the circuit begun, or neither
+abbrev pub BeginsOn : Asked → TheBoard → TheMonitor → Result ℕ OpenFault → TheBoard → TheMonitor → Type 0
+BeginsOn a b m (Ok e) b2 m2 = Adds b a.dispatcher (fresh a.program None) Queue (Ok e) b2 × ((c : Circuit) × Opens a.link a.opening m (Ok c) m2)
+BeginsOn a b m (Err (Board fault)) b2 m2 = Adds b a.dispatcher (fresh a.program None) Queue (Err fault) b × (b2 ≡ b) × (m2 ≡ m)
+BeginsOn a b m (Err (Monitor fault)) b2 m2 = Opens a.link a.opening m (Err fault) m × (b2 ≡ b) × (m2 ≡ m)
+
+-- the client's end is there, not bound, with an arrival queue; its entry is made, and the opening is to be said
+pub record Begins (a : Asked) (k : TheCore) (e : ℕ) (k2 : TheCore) : Type 0 where
+  pub adds : Adds k.board a.dispatcher (fresh a.program None) Queue (Ok e) k2.board
+  pub circuit : Circuit
+  pub opens : Opens a.link a.opening k.monitor (Ok circuit) k2.monitor
+  pub rest : k2 ≡ record (with_circuit_port k k2.board e (client_of a.opening.binding) a.link) { monitor = k2.monitor }
+
+abbrev pub Asks : Asked → TheCore → Result ℕ OpenFault → TheCore → Type 0
+Asks a k (Ok e) k2 = Begins a k e k2
+Asks a k (Err (Board fault)) k2 = Adds k.board a.dispatcher (fresh a.program None) Queue (Err fault) k.board × (k2 ≡ k)
+Asks a k (Err (Monitor fault)) k2 = HasPlace k.board a.dispatcher × Opens a.link a.opening k.monitor (Err fault) k.monitor × (k2 ≡ k)

@@ -1,0 +1,196 @@
+//! Links, dispatchers and ends of a core. Each takes all its memory first, and then makes the change.
+
+ghost use Rattle.std.specs.Prelude.{◌≡◌, ◌<◌, ◌++◌, ◌∷◌, [], length, slice_set, Some, None, IfOk, IfErr, OnOk, OnErr, vec_len};
+ghost use Rattle.std.specs.Vec.{vec_capacity};
+ghost use Rattle.fl_hop.specs.Table.{link_fault};
+ghost use Rattle.fl_endpoint.specs.View.{fresh};
+ghost use Rattle.fl_core.specs.declared.kind.Kind.TheVariants.{Queue};
+ghost use Rattle.fl_core.specs.View.{with_dispatcher};
+ghost use Rattle.fl_core.specs.Events.{Adds};
+ghost use Rattle.fl_node.specs.View.{with_board, kind_of, arrivals_by, place_of, slot_of, new_arrivals, circuit_port, number_in};
+ghost use Rattle.fl_node.specs.Making.{linked, HasPlace, HasNoPlace, AddsPort};
+
+use crate::one_core::Core;
+use crate::places::put_place;
+use crate::wire::{Lane, Port, Wire};
+use fl_base::{Circuit, CoreId, EndId, LinkId, MAX_CHANNELS};
+use fl_compile::Program;
+use fl_core::{Board, BoardFault, Kind};
+use fl_endpoint::End;
+use fl_hop::HopFault;
+use fl_link::QueueLink;
+use std::alloc::{AllocError, Global};
+
+// How many slots an arrival queue has.
+const ARRIVALS: usize = 16;
+
+// How fragments come to an end with this wire.
+fn kind_of(wire: Wire) -> Kind
+    ensures kind { result ≡ kind_of wire }
+{
+    match wire {
+        Wire::Queues { .. } | Wire::Circuit { .. } => Kind::Queue,
+        Wire::Ring(_) => Kind::Ring,
+    }
+}
+
+// Room for one port more, where the dispatcher has a place for an end.
+pub(crate) fn make_room(
+    board: &Board,
+    dispatcher: usize,
+    ports: &mut Vec<Port>,
+) -> Result<(), BoardFault>
+    requires { dispatcher < length board.now.dispatchers }
+    ensures ports { ports.new.items ≡ ports.old.items }
+    ensures room { OnOk result (vec_len ports.new < vec_capacity ports.new) }
+    ensures place { OnOk result (HasPlace board.now dispatcher) }
+    ensures refused { IfErr result (HasNoPlace board.now dispatcher) }
+{
+    board.sound();
+    if board.ends_at(dispatcher) >= MAX_CHANNELS {
+        return Err(BoardFault::TooManyEnds);
+    }
+    let Ok(()) = ports.reserve(1) else {
+        return Err(BoardFault::Memory);
+    };
+    Ok(())
+}
+
+// An arrival queue for an end more, and room for it and for the end's port, where the dispatcher has a place for an end.
+pub(crate) fn make_arrivals(
+    alloc: Global,
+    board: &Board,
+    dispatcher: usize,
+    ports: &mut Vec<Port>,
+    arrivals: &mut Vec<QueueLink>,
+) -> Result<QueueLink, BoardFault>
+    requires { dispatcher < length board.now.dispatchers }
+    ensures ports { ports.new.items ≡ ports.old.items }
+    ensures arrivals { arrivals.new.items ≡ arrivals.old.items }
+    ensures room_for_port { OnOk result (vec_len ports.new < vec_capacity ports.new) }
+    ensures room_for_queue { OnOk result (vec_len arrivals.new < vec_capacity arrivals.new) }
+    ensures queue { IfOk result (λ q. q ≡ new_arrivals) }
+    ensures place { OnOk result (HasPlace board.now dispatcher) }
+    ensures refused { IfErr result (HasNoPlace board.now dispatcher) }
+{
+    if let Err(fault) = make_room(board, dispatcher, ports) {
+        return Err(fault);
+    }
+    let Ok(()) = arrivals.reserve(1) else {
+        return Err(BoardFault::Memory);
+    };
+    let Ok(queue) = QueueLink::local(alloc, ARRIVALS) else {
+        return Err(BoardFault::Memory);
+    };
+    Ok(queue)
+}
+
+// An end that is bound to a circuit, or isn't bound, added at a dispatcher that has a place for it.
+pub(crate) fn add_circuit_end(
+    alloc: Global,
+    board: &mut Board,
+    dispatcher: usize,
+    program: Program,
+    circuit: Option<Circuit>,
+) -> Result<usize, BoardFault>
+    requires there { dispatcher < length board.old.dispatchers }
+    requires place { HasPlace board.old dispatcher }
+    ensures adds { Adds board.old dispatcher (fresh program (number_in circuit)) Queue result board.new }
+{
+    let made = match circuit {
+        Some(circuit) => End::new(alloc, program, circuit),
+        None => End::unbound(alloc, program),
+    };
+    let Ok(end) = made else {
+        return Err(BoardFault::Memory);
+    };
+    board.add_end(dispatcher, end, Kind::Queue)
+}
+
+/// Notes the port of a new end of a circuit on a link, with its arrival queue.
+pub(crate) fn put_circuit_port(
+    ports: &mut Vec<Port>,
+    places: &mut Vec<Option<usize>>,
+    arrivals: &mut Vec<QueueLink>,
+    queue: QueueLink,
+    port: (EndId, LinkId, usize),
+)
+    requires room_for_port { vec_len ports.old < vec_capacity ports.old }
+    requires room_for_queue { vec_len arrivals.old < vec_capacity arrivals.old }
+    requires few { port.0.binding < 1024 }
+    requires all { length places.old.items ≡ 2048 }
+    ensures ports { ports.new.items ≡ ports.old.items ++ circuit_port port.0 port.1 (length arrivals.old.items) ∷ [] }
+    ensures places { places.new.items ≡ slice_set places.old.items (slot_of port.0) (Some port.2) }
+    ensures arrivals { arrivals.new.items ≡ arrivals.old.items ++ queue ∷ [] }
+{
+    let (name, link, place) = port;
+    let count = arrivals.as_slice().len();
+    ports.push_reserved(Port {
+        name,
+        wire: Wire::Circuit {
+            link,
+            arrivals: count,
+        },
+    });
+    arrivals.push_reserved(queue);
+    put_place(places, name, place);
+}
+
+impl Core {
+    /// One dispatcher more, without ends: its place.
+    ///
+    /// # Errors
+    /// Out of memory (E99). The core is as it was then.
+    pub fn add_dispatcher(&mut self) -> Result<usize, AllocError>
+        ensures place { IfOk result (λ n. n ≡ length self.old.board.dispatchers) }
+        ensures added { OnOk result (self.new ≡ with_board self.old (with_dispatcher self.old.board)) }
+        ensures kept { OnErr result (self.new ≡ self.old) }
+    {
+        self.board.add_dispatcher()
+    }
+
+    /// One link more, to another core, over this side of a ring.
+    ///
+    /// # Errors
+    /// The link would go to the core itself, or to one that a link goes to already (E73); there are 15 links (E94); want of memory (E99). The core is as it
+    /// was then.
+    pub fn add_link(&mut self, neighbour: CoreId, side: usize) -> Result<LinkId, HopFault>
+        ensures link { IfOk result (λ link. link.0 ≡ length self.old.lanes) }
+        ensures linked { OnOk result (self.new ≡ linked self.old neighbour side) }
+        ensures may { OnOk result (link_fault self.old.monitor.circuits neighbour.0 ≡ None) }
+        ensures kept { OnErr result (self.new ≡ self.old) }
+    {
+        self.lanes.reserve(1)?;
+        let link = self.monitor.add_link(neighbour)?;
+        self.lanes.push_reserved(Lane {
+            side,
+            failed: false,
+        });
+        Ok(link)
+    }
+
+    /// One end more, at a dispatcher, bound off links; it isn't registered yet. It is joined by a queue or by a ring; of a binding within one core the
+    /// client's end is added first. Its place is the answer.
+    ///
+    /// # Errors
+    /// The dispatcher has 1,024 ends (E54); out of memory (E99). The core is as it was then.
+    pub fn add_end(&mut self, dispatcher: usize, end: End, port: Port) -> Result<usize, BoardFault>
+        requires dispatcher { dispatcher < length self.old.board.dispatchers }
+        requires few { port.name.binding < 1024 }
+        requires new { place_of self.old port.name ≡ None }
+        requires wire { arrivals_by port.wire ≡ None }
+        ensures adds { AddsPort dispatcher end port self.old result self.new }
+    {
+        match make_room(&self.board, dispatcher, &mut self.ports) {
+            Err(fault) => Err(fault),
+            Ok(()) => match self.board.add_end(dispatcher, end, kind_of(port.wire)) {
+                Err(fault) => Err(fault),
+                Ok(place) => {
+                    self.ports.push_reserved(port);
+                    put_place(&mut self.places, port.name, place);
+                    Ok(place)
+                }
+            },
+        }
+    }
+}
