@@ -1,5 +1,6 @@
 -- What a core makes of a monitors' message that stands first on a link.
-use Rattle.std.specs.Prelude.{ℕ, ◌≡◌, ◌==◌, ◌&&◌, ◌||◌, nat_lt, Bool, false, List, length, is_some, slice_get, Option, Some, None, Result, Ok, Err, if◌then◌else◌}
+use Rattle.std.specs.Prelude.{ℕ, ◌≡◌, ◌==◌, ◌&&◌, ◌||◌, nat_lt, Bool, false, List, length, is_some, slice_get}
+use Rattle.std.specs.Prelude.{Option, Some, None, Result, Ok, Err, if◌then◌else◌}
 use Rattle.fl_base.specs.declared.fragment.Frag.{Frag}
 use Rattle.fl_base.specs.declared.identity.LinkId.{LinkId}
 use Rattle.fl_base.specs.declared.identity.Circuit.{Circuit}
@@ -114,7 +115,8 @@ BindsIf (Some at) c k k2 = Binds at c k k2
 
 -- what the core does when its monitor has heard the message, and what it answers
 abbrev pub Follows : List Program → Option Offered → LinkId → Heard → TheCore → MonitorAnswer → TheCore → Type 0
-Follows programs offer l (heard.ServerMade binding dispatcher c) k told k2 = (told ≡ Opened (server_of binding)) × MakesServer programs offer l binding dispatcher c k k2
+Follows programs offer l (heard.ServerMade binding dispatcher c) k told k2 =
+    (told ≡ Opened (server_of binding)) × MakesServer programs offer l binding dispatcher c k k2
 Follows programs offer l (heard.EndOpened e c) k told k2 = (told ≡ Opened e) × BindsIf (arriving_at k e) c k k2
 Follows programs offer l (heard.EndRefused e reason) k told k2 = (told ≡ OpeningRefused e reason) × (k2 ≡ k)
 Follows programs offer l (heard.OpeningWentOn binding n c) k told k2 = (told ≡ Done) × (k2 ≡ k)

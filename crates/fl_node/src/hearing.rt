@@ -112,7 +112,8 @@ fn hear_with_end(
     requires there { dispatcher < length board.old.dispatchers }
     requires place { HasPlace board.old dispatcher }
     requires leads { LeadsTo (record { names = names.now; here = here }) monitor.old.circuits link message.now dispatcher (circuit_in message.now) }
-    ensures hears { HearsWith (record { names = names.now; here = here }) link message.now (program_of program.now) board.old monitor.old result board.new monitor.new }
+    ensures hears { HearsWith (record { names = names.now; here = here }) link message.now (program_of program.now)
+        board.old monitor.old result board.new monitor.new }
 {
     let Ok(copy) = program.duplicate(alloc) else {
         return Err(MonitorFault::Memory);
@@ -348,9 +349,11 @@ impl Core {
         }
     }
 
-    /// Hears the monitors' message of a fragment that was seen to stand first on a link ([`Core::look`]), and takes it. The core lends its monitor what it knows
-    /// of ends and places; then an opening that ends here makes the server's end at the service's dispatcher, with an arrival queue, bound and registered; and the
-    /// word that a circuit is open binds the client's end and registers it. `programs` are those of the interfaces of the services, by their places there.
+    /// Hears the monitors' message of a fragment that was seen to stand first on a link ([`Core::look`]), and takes
+    /// it. The core lends its monitor what it knows of ends and places; then an opening that ends here makes the
+    /// server's end at the service's dispatcher, with an arrival queue, bound and registered; and the word that a
+    /// circuit is open binds the client's end and registers it. `programs` are those of the interfaces of the
+    /// services, by their places there.
     ///
     /// # Errors
     /// The fragment says no monitors' message (E60 to E63, E66), or one that is out of its place (E67): it is left, and what comes on the link has failed for

@@ -14,6 +14,7 @@
 //!
 //! - `one_core.rt`: `Core`, and where things are
 //! - `makers.rt`: links, dispatchers and ends
+//! - `opening.rt`: the client's end of a circuit
 //! - `ends.rt`: events of an end, and turns
 //! - `links.rt`: events of a link
 //! - `hearing.rt`: what a monitors' message comes to
