@@ -46,6 +46,7 @@ pub mod Listing
 pub mod ListingEnds
 pub mod Hearing
 pub mod Refusals
+pub mod WireFaults
 pub mod SameTypes
 pub mod FitsStep
 pub mod WorldReplies

@@ -25,6 +25,7 @@ ghost use Rattle.fl_queues.specs.SoundLists.{OutboxesHaveRoom, BareUntilCoresAre
 ghost use Rattle.fl_queues.specs.SoundLists.{ListedAreBound, PendingQueuesHold, PendingRingsWereLookedAt};
 ghost use Rattle.fl_queues.specs.Laws.{RingsCountInOrder, FewWaitAndOnlyWhereBusy, AllAccepted, PassedFalls};
 ghost use Rattle.fl_queues.specs.Laws.{HandledIsCounted, HandledIsAPrefix, RefusalsChangeNothing, TablesGoOn};
+ghost use Rattle.fl_queues.specs.Faults.{NoWireFaults};
 ghost use Rattle.fl_queues.specs.Laws.{RunsAreSound, ChannelsAreOnce, PendingHasAFragment, TurnsUnderstand};
 ghost use Rattle.fl_queues.specs.Laws.{ForwardsUnderstand, StepsAreSound, NumbersAreGivenOnce};
 ghost use Rattle.fl_queues.specs.SoundLimits.{RoutesKeepToCores, NumbersAreOnceBothWays, CoresAreFew};
@@ -204,6 +205,11 @@ pub fn forwards_are_understood()
 /// An event that is refused changes nothing, in any state at all.
 pub fn refusals_change_nothing()
     ensures same { RefusalsChangeNothing }
+{}
+
+/// No event is refused with a fault of a received fragment, or of a circuit without an entry, in any state at all.
+pub fn no_wire_faults()
+    ensures none { NoWireFaults }
 {}
 
 // ---- Each part of being sound, step by step

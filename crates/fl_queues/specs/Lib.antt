@@ -23,6 +23,7 @@ pub mod SoundRings
 pub mod SoundLists
 pub mod Sound
 pub mod Laws
+pub mod Faults
 pub mod SoundCalls
 pub mod SoundLimits
 pub mod Worlds
