@@ -107,7 +107,7 @@ link_stands n neighbour ring side k c here there ne none others =
           absurd (let u : None ≡ Some f.place = sym none ∙ f.found in cc));
     }
 
-or_parts : (x y z : Bool) → x || y || z ≡ false → (x ≡ false) × (y ≡ false) × (z ≡ false)
+pub or_parts : (x y z : Bool) → x || y || z ≡ false → (x ≡ false) × (y ≡ false) × (z ≡ false)
 or_parts false false false h = (refl, refl, refl)
 or_parts true y z h = absurd (cc)
 or_parts false true z h = absurd (cc)

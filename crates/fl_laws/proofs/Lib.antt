@@ -87,6 +87,7 @@ pub mod ForwardsTold
 pub mod ListingLaws
 pub mod TablesHeard
 pub mod TablesGoOn
+pub mod TablesFollow
 pub mod Begun
 pub mod SoundRuns
 pub mod Boards

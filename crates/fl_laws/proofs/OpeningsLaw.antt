@@ -142,7 +142,7 @@ follows_parts (answer_went_on n) t = refl
 follows_parts (end_opened e c) t = ap (λ (v : View). v.parts) (quiet_binds e c (change_route e.binding passes_word t))
 follows_parts (end_refused e fault) t = refl
 
-follows_rings : (x : Heard) (t : State) → (follows x t).state.rings ≡ t.rings
+pub follows_rings : (x : Heard) (t : State) → (follows x t).state.rings ≡ t.rings
 follows_rings no_outbox t = refl
 follows_rings astray t = refl
 follows_rings (opening_went_on n c) t = refl

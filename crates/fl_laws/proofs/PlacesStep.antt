@@ -183,7 +183,7 @@ follows_plan (end_refused e fault) s = plan_route e.binding _ s
 pub same_some : {X : Type 0} (o : Option X) (x y : X) → o ≡ Some x → o ≡ Some y → x ≡ y
 same_some o x y p q = let e : Some x ≡ Some y = sym p ∙ q in cc
 
-heard_plan : (here : LinkEnd) (m : Said) (k : Core) (s : State) → core_of s here.core ≡ Some k → plan_of (after_hearing here (hears s.services here.link m k) s).state ≡ plan_of s
+pub heard_plan : (here : LinkEnd) (m : Said) (k : Core) (s : State) → core_of s here.core ≡ Some k → plan_of (after_hearing here (hears s.services here.link m k) s).state ≡ plan_of s
 heard_plan here m k s q =
     let x : Hearing = hears s.services here.link m k in
     let told : State = change_core here.core (λ y. x.core) s in

@@ -25,7 +25,7 @@ ghost use Rattle.fl_queues.specs.SoundLists.{OutboxesHaveRoom, BareUntilCoresAre
 ghost use Rattle.fl_queues.specs.SoundLists.{ListedAreBound, PendingQueuesHold, PendingRingsWereLookedAt};
 ghost use Rattle.fl_queues.specs.Laws.{RingsCountInOrder, FewWaitAndOnlyWhereBusy, AllAccepted, PassedFalls};
 ghost use Rattle.fl_queues.specs.Laws.{HandledIsCounted, HandledIsAPrefix, RefusalsChangeNothing, TablesGoOn};
-ghost use Rattle.fl_queues.specs.Faults.{NoWireFaults};
+ghost use Rattle.fl_queues.specs.Faults.{NoWireFaults, TablesFollowMessages};
 ghost use Rattle.fl_queues.specs.Laws.{RunsAreSound, ChannelsAreOnce, PendingHasAFragment, TurnsUnderstand};
 ghost use Rattle.fl_queues.specs.Laws.{ForwardsUnderstand, StepsAreSound, NumbersAreGivenOnce};
 ghost use Rattle.fl_queues.specs.SoundLimits.{RoutesKeepToCores, NumbersAreOnceBothWays, CoresAreFew};
@@ -192,6 +192,12 @@ pub fn numbers_are_once_both_ways()
 /// other entry ever comes.
 pub fn tables_go_on()
     ensures kept { TablesGoOn }
+{}
+
+/// Each step of a sound state leaves a core's table of circuits as it is, adds a link, makes the entry of the core's own opening,
+/// or makes of it what hearing the message that stands first on one of its links comes to; that message is then taken.
+pub fn tables_follow_messages()
+    ensures follows { TablesFollowMessages }
 {}
 
 /// In a sound state, a forward answers `nothing` only where nothing stands on the link: for each call's fragment, and each
