@@ -5,7 +5,8 @@ use Rattle.fl_endpoint.specs.View.{TheEnd}
 use Rattle.fl_endpoint.specs.Events.{IsReady}
 use Rattle.fl_core.specs.View.{TheSeat, TheBoard, with_end}
 use Rattle.fl_core.specs.Sound.{IsBoard}
-use Rattle.fl_core.specs.Events.{ChangesEnd}
+use Rattle.fl_core.specs.Events.{ChangesEnd, Holds}
+use Rattle.fl_core.proofs.Places.{one_stands}
 use Rattle.fl_core.proofs.Kept.{end_kept, seated_ready}
 
 module _ (k base : TheBoard) (same : base ≡ k) (e : ℕ) (below : e < length k.seats) (s read : TheSeat) (value : read ≡ slice_index_or base.seats e read) (view : s ≡ read) where
@@ -18,6 +19,10 @@ module _ (k base : TheBoard) (same : base ≡ k) (e : ℕ) (below : e < length k
   -- so it does on the board before
   pub reads_before : slice_get k.seats e ≡ Some s
   reads_before = subst (λ (x : TheBoard). slice_get x.seats e ≡ Some s) same reads
+
+  -- and what is known of what sits there is known of it
+  pub holds_here : (Fact : TheSeat → Type 0) → Holds k e Fact → Fact s
+  holds_here Fact h = subst Fact (one_stands k.seats e h.0 s h.1 reads_before) h.2
 
   pub end_event : (Event : TheEnd → TheEnd → Type 0) (t : TheEnd) → Event s.end t → ChangesEnd k e Event (with_end base e s t)
   end_event Event t event = record {

@@ -3,8 +3,8 @@
 ghost use Rattle.std.specs.Prelude.{◌≡◌, ◌<◌, ℕ, [], length, slice_get, Some, IfOk, IfErr, OnOk, OnErr, vec_len};
 ghost use Rattle.std.specs.Vec.{vec_capacity};
 ghost use Rattle.fl_value.specs.Value.{call_of};
-ghost use Rattle.fl_endpoint.specs.View.{TheEnd, bound};
-ghost use Rattle.fl_endpoint.specs.Events.{Calls, Writes, ShowsNext, SetsRule};
+ghost use Rattle.fl_endpoint.specs.View.{TheEnd, interface_in, bound};
+ghost use Rattle.fl_endpoint.specs.Events.{Calls, Writes, ShowsNext, SetsRule, Exchanges};
 ghost use Rattle.fl_core.specs.Sound.{IsBoard};
 ghost use Rattle.fl_core.specs.View.{TheDispatcher, TheBoard, with_dispatcher, with_new_end};
 ghost use Rattle.fl_core.specs.declared.kind.Kind.{Kind};
@@ -199,6 +199,17 @@ impl Board {
     {
         let seat = &mut self.seats[e];
         seat.end.reply_rule(msg, reply)
+    }
+
+    /// An end exchanges its reply rules with another of the same interface, which sits nowhere ([`End::exchange_rules`]). Takes
+    /// no memory.
+    pub fn exchange_rules(&mut self, e: usize, other: &mut End)
+        requires there { e < length self.old.seats }
+        requires interface { Holds self.old e (λ s. interface_in s.end ≡ interface_in other.old) }
+        ensures exchanges { ChangesEnd self.old e (λ s t. Exchanges s other.old t other.new) self.new }
+    {
+        let seat = &mut self.seats[e];
+        seat.end.exchange_rules(other);
     }
 
     /// Makes a call at an end ([`End::call`]).

@@ -11,7 +11,7 @@ use Rattle.fl_wire.specs.Payload.{frags_on}
 use Rattle.fl_compile.specs.declared.program.Program.{Program}
 use Rattle.fl_compile.specs.Programs.{TheProgram, program_of}
 use Rattle.fl_machine.specs.Receiving.{TheHeld, TheReceiving}
-use Rattle.fl_endpoint.specs.View.{TheEnd, TheOutgoing, number_or_0, queued, queued_if, wrote, reply_to, rule_at, holds_back, with_call, with_written, with_handled, with_failed}
+use Rattle.fl_endpoint.specs.View.{TheEnd, TheOutgoing, interface_in, number_or_0, queued, queued_if, wrote, reply_to, rule_at, holds_back, with_call, with_written, with_handled, with_failed}
 use Rattle.fl_endpoint.specs.Accounts.{IsRule, Sound}
 use Rattle.fl_endpoint.specs.Rules.{rules_of}
 use Rattle.fl_endpoint.specs.declared.outgoing.Queued.{Queued}
@@ -21,7 +21,7 @@ use Rattle.fl_endpoint.specs.declared.rules.Rules.{Rules}
 use Rattle.fl_endpoint.specs.declared.end.End.TheInside.{Inside}
 use Rattle.fl_endpoint.specs.Stored.{queued_frags, sending_frags, outgoing_of, IsOwn, IsQueued, AreQueued, Queues, QueuesReply, IsInTransmission, IsOutgoing}
 use Rattle.fl_endpoint.specs.Inside.{circuit_of, program_in, end_of, IsEnd}
-use Rattle.fl_endpoint.proofs.Sounds.{has_room}
+use Rattle.fl_endpoint.proofs.Sounds.{has_room, sound_exchanged}
 
 -- ---- the calls that are to be sent
 
@@ -176,6 +176,15 @@ ruled_is_end e after msg reply old is sound = record {
   plan = old.plan;
   outgoing = old.outgoing;
   sound = subst (λ (s : TheEnd). Sound s) (sym (ruled_view e after msg reply is)) sound;
+}
+
+-- an end with the rules of another of the same interface
+pub exchanged_is_end : (e f : Inside) → IsEnd e → interface_in (end_of e) ≡ interface_in (end_of f) → Sound (end_of f) → IsEnd (with_rules e f.rules)
+exchanged_is_end e f old same other = record {
+  interface = old.interface;
+  plan = old.plan;
+  outgoing = old.outgoing;
+  sound = sound_exchanged (end_of e) (end_of f) same old.sound other;
 }
 
 -- two messages that are found, with the same arguments' types

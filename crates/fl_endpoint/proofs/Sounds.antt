@@ -235,17 +235,27 @@ set_rule i rules msg reply each new a b e = ⊎_elim
     (λ (h : rule_at rules a ≡ Some b). each a b h)
     (rule_set rules msg reply a b e)
 
-pub sound_rule : (s : TheEnd) (msg reply : ℕ) → IsRule (interface_in s) msg reply → Sound s → Sound (record s { rules = slice_set s.rules msg (Some reply) })
-sound_rule s msg reply new sound = record {
+-- other rules for the same interface
+pub sound_ruled : (s : TheEnd) (rules : List (Option ℕ)) → AreRules (interface_in s) rules → Sound s → Sound (record s { rules = rules })
+sound_ruled s rules are sound = record {
   within = sound.within;
   words = sound.words;
-  rules = record { places = set_length s.rules msg (Some reply) ∙ sound.rules.places; each = set_rule (interface_in s) s.rules msg reply sound.rules.each new };
+  rules = are;
   circuit = sound.circuit;
   unbound = λ e. let idle = sound.unbound e in record { outgoing = idle.outgoing; parts = idle.parts; failed = idle.failed };
   sends = record { calls = sound.sends.calls; fit = sound.sends.fit; number = sound.sends.number; left = sound.sends.left; few = sound.sends.few };
   part = sound.part;
   plain = sound.plain;
 }
+
+-- the rules of another end of the same interface
+pub sound_exchanged : (s t : TheEnd) → interface_in s ≡ interface_in t → Sound s → Sound t → Sound (record s { rules = t.rules })
+sound_exchanged s t same sound other = sound_ruled s t.rules (subst (λ (i : TheInterface). AreRules i t.rules) (sym same) other.rules) sound
+
+pub sound_rule : (s : TheEnd) (msg reply : ℕ) → IsRule (interface_in s) msg reply → Sound s → Sound (record s { rules = slice_set s.rules msg (Some reply) })
+sound_rule s msg reply new sound =
+    sound_ruled s (slice_set s.rules msg (Some reply))
+    (record { places = set_length s.rules msg (Some reply) ∙ sound.rules.places; each = set_rule (interface_in s) s.rules msg reply sound.rules.each new }) sound
 
 -- ---- a call that is whole
 

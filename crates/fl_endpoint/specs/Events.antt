@@ -18,7 +18,7 @@ use Rattle.fl_endpoint.specs.declared.answer.WriteAnswer.{WriteAnswer}
 use Rattle.fl_endpoint.specs.declared.answer.WriteAnswer.TheVariants.{Written, Full, Nothing}
 use Rattle.fl_endpoint.specs.declared.answer.ReceiveAnswer.{ReceiveAnswer}
 use Rattle.fl_endpoint.specs.declared.answer.ReceiveAnswer.TheVariants.{Handle, Part, Quiet, Empty, HeldBack}
-use Rattle.fl_endpoint.specs.View.{TheEnd, interface_in, plan_in, holds_back, with_call, with_written, with_part, with_handled, with_failed, with_rule}
+use Rattle.fl_endpoint.specs.View.{TheEnd, interface_in, plan_in, holds_back, with_call, with_written, with_part, with_handled, with_failed, with_rule, with_rules_of}
 
 -- ---- what refuses before anything is looked at
 
@@ -144,3 +144,7 @@ SetsRule s msg reply (Err UnknownMessage) t = ((IsMessage (interface_in s) msg �
 SetsRule s msg reply (Err Misfit) t =
     IsMessage (interface_in s) msg × IsMessage (interface_in s) reply × (SameTypes (interface_in s) msg reply → ⊥) × (t ≡ s)
 SetsRule s msg reply (Err fault) t = ⊥
+
+-- two ends, s and o, exchange their rules, and nothing else
+abbrev pub Exchanges : TheEnd → TheEnd → TheEnd → TheEnd → Type 0
+Exchanges s o t p = (t ≡ with_rules_of s o) × (p ≡ with_rules_of o s)

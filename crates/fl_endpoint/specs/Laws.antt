@@ -15,7 +15,7 @@ use Rattle.fl_endpoint.specs.declared.fault.EndFault.{EndFault}
 use Rattle.fl_endpoint.specs.declared.answer.WriteAnswer.{WriteAnswer}
 use Rattle.fl_endpoint.specs.declared.answer.ReceiveAnswer.{ReceiveAnswer}
 use Rattle.fl_endpoint.specs.declared.answer.ReceiveAnswer.TheVariants.{Handle}
-use Rattle.fl_endpoint.specs.View.{TheEnd, fresh, interface_in, plan_in, bound, reply_to}
+use Rattle.fl_endpoint.specs.View.{TheEnd, fresh, interface_in, plan_in, bound, reply_to, with_rules_of}
 use Rattle.fl_endpoint.specs.Events.{AreCall, Calls, Writes, Receives, SetsRule}
 use Rattle.fl_endpoint.specs.Accounts.{Sound, Accepted, asked, calls_in, replies_in, followed, stream, stream_from, streams_from, Stretch, no_event, joined}
 use Rattle.fl_endpoint.specs.Accounts.{Account, Replies}
@@ -95,6 +95,9 @@ BindAccounts = (s : TheEnd) (circuit : ℕ) → circuit < 2 ^ 16 → Sound s →
 
 abbrev pub RuleAccounts : Type 0
 RuleAccounts = (s t : TheEnd) (msg reply : ℕ) (answer : Result (Unit {0}) EndFault) → Sound s → SetsRule s msg reply answer t → AddsNothing s t
+
+abbrev pub ExchangeAccounts : Type 0
+ExchangeAccounts = (s t : TheEnd) → interface_in s ≡ interface_in t → Sound s → Sound t → AddsNothing s (with_rules_of s t)
 
 -- ---- what an end did since it was made
 

@@ -169,3 +169,7 @@ with_failed s = record s { failed = true }
 -- with a rule for a message, in place of an earlier one
 abbrev pub with_rule : TheEnd → ℕ → ℕ → TheEnd
 with_rule s msg reply = record s { rules = slice_set s.rules msg (Some reply) }
+
+-- with the rules of another end, in place of its own
+abbrev pub with_rules_of : TheEnd → TheEnd → TheEnd
+with_rules_of s t = record s { rules = t.rules }

@@ -7,8 +7,8 @@ ghost use Rattle.fl_endpoint.specs.Accounts.{Sound};
 ghost use Rattle.fl_endpoint.specs.Rules.{rule_of};
 ghost use Rattle.fl_endpoint.specs.Stored.{IsOwn};
 ghost use Rattle.fl_endpoint.specs.Inside.{circuit_of};
-ghost use Rattle.fl_endpoint.specs.View.{fresh, bound, is_circuit, is_busy, rule_at, has_rules, holds_back};
-ghost use Rattle.fl_endpoint.specs.Events.{Readies, Admits, Calls, Writes, ShowsNext, TakesIn, Receives, SetsRule};
+ghost use Rattle.fl_endpoint.specs.View.{interface_in, fresh, bound, is_circuit, is_busy, rule_at, has_rules, holds_back};
+ghost use Rattle.fl_endpoint.specs.Events.{Readies, Admits, Calls, Writes, ShowsNext, TakesIn, Receives, SetsRule, Exchanges};
 
 use crate::answer::{ReceiveAnswer, WriteAnswer};
 use crate::fault::EndFault;
@@ -24,6 +24,7 @@ use fl_value::{Call, fits};
 use fl_wire::one_reading;
 use std::alloc::{AllocError, Global};
 use std::marker::Model;
+use std::mem;
 
 /// One end of a binding. It sends calls, one at a time, by the side that a write is lent, and handles those that come by
 /// the side that a receive is lent.
@@ -183,6 +184,17 @@ impl End {
         }
         self.rules.set(msg, reply);
         Ok(())
+    }
+
+    /// The two ends exchange their reply rules, and nothing else. Takes no memory.
+    ///
+    /// So the rules of an end that can't be made yet are set at another end of the same interface, and it gets them once it
+    /// is made.
+    pub fn exchange_rules(&mut self, other: &mut End)
+        requires interface { interface_in self.old ≡ interface_in other.old }
+        ensures exchanges { Exchanges self.old other.old self.new other.new }
+    {
+        mem::swap(&mut self.rules, &mut other.rules);
     }
 
     // The circuit of an end that is bound and has not failed.

@@ -8,6 +8,7 @@ ghost use Rattle.fl_endpoint.specs.Laws.{
   ReceiveAccounts,
   BindAccounts,
   RuleAccounts,
+  ExchangeAccounts,
   SinceMade,
   OnAnotherCircuit,
   HandlesInOrder,
@@ -51,6 +52,11 @@ pub fn bind_accounts()
 /// Setting a rule adds nothing.
 pub fn rule_accounts()
     ensures account { RuleAccounts }
+{}
+
+/// Exchanging rules with an end of the same interface adds nothing.
+pub fn exchange_accounts()
+    ensures account { ExchangeAccounts }
 {}
 
 /// Since an end was made: what it put is a prefix of its accepted calls' fragments, and what it took reads as

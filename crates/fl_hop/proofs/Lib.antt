@@ -14,3 +14,4 @@ pub mod Limits
 pub mod Standing
 pub mod Opening
 pub mod Answering
+pub mod Retaking

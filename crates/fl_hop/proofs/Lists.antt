@@ -1,5 +1,5 @@
 -- Lists: what stands at a place after a write or a push.
-use Rattle.std.proofs.Common.{◌≡◌, ◌≢◌, refl, sym, ap, ◌∙◌, ℕ, zero, suc, ◌<◌, ◌≤◌, ◌⊎◌, inl, inr, List, [], ◌∷◌, ◌++◌, length, map, take, replicate, slice_get, slice_set, slice_index_or, Option, Some, arith}
+use Rattle.std.proofs.Common.{◌≡◌, ◌≢◌, refl, sym, ap, ◌∙◌, ℕ, zero, suc, ◌-◌, ◌<◌, ◌≤◌, ◌⊎◌, inl, inr, List, [], ◌∷◌, ◌++◌, length, map, take, replicate, slice_get, slice_set, slice_index_or, Option, Some, length-append, arith}
 
 -- what stands at a place after a write is what was written there, or what stood there before
 pub set_cases : {X : Type 0} (xs : List X) (i : ℕ) (x : X) (j : ℕ) (y : X) → slice_get (slice_set xs i x) j ≡ Some y → ((j ≡ i) × (y ≡ x)) ⊎ ((j ≢ i) × (slice_get xs j ≡ Some y))
@@ -109,3 +109,35 @@ take_past [] zero l = refl
 take_past [] (suc n) l = refl
 take_past (x ∷ xs) zero l = absurd (omega arith)
 take_past (x ∷ xs) (suc n) l = ap (λ ys. x ∷ ys) (take_past xs n (omega arith))
+
+-- the first elements of a list stand in it
+pub take_within : {X : Type 0} (xs : List X) (n i : ℕ) (x : X) → slice_get (take n xs) i ≡ Some x → slice_get xs i ≡ Some x
+take_within [] zero i x e = e
+take_within [] (suc n) i x e = e
+take_within (y ∷ xs) zero i x e = absurd (cc)
+take_within (y ∷ xs) (suc n) zero x e = e
+take_within (y ∷ xs) (suc n) (suc i) x e = take_within xs n i x e
+
+pub take_there : {X : Type 0} (xs : List X) (n i : ℕ) (x : X) → i < n → slice_get xs i ≡ Some x → slice_get (take n xs) i ≡ Some x
+take_there xs zero i x l e = absurd (omega (arith, l))
+take_there [] (suc n) i x l e = e
+take_there (y ∷ xs) (suc n) zero x l e = e
+take_there (y ∷ xs) (suc n) (suc i) x l e = take_there xs n i x (omega (arith, l)) e
+
+pub take_map : {X Y : Type 0} (f : X → Y) (n : ℕ) (xs : List X) → map f (take n xs) ≡ take n (map f xs)
+take_map f zero xs = refl
+take_map f (suc n) [] = refl
+take_map f (suc n) (x ∷ xs) = ap (λ ys. f x ∷ ys) (take_map f n xs)
+
+-- all but what was added last
+pub take_front : {X : Type 0} (xs ys : List X) (n : ℕ) → n ≡ length xs → take n (xs ++ ys) ≡ xs
+take_front [] ys zero e = refl
+take_front [] ys (suc n) e = absurd (omega (arith, e))
+take_front (x ∷ xs) ys zero e = absurd (omega (arith, e))
+take_front (x ∷ xs) ys (suc n) e = let same : n ≡ length xs = omega (arith, e) in ap (λ zs. x ∷ zs) (take_front xs ys n same)
+
+-- a list without its last element, which it is told
+pub pop_front : {X : Type 0} (all xs front : List X) (x : X) (many : ℕ) → many ≡ length all → front ≡ take (many - 1) all → all ≡ xs ++ x ∷ [] → front ≡ xs
+pop_front all xs front x many many_is front_is are =
+    let few : many - 1 ≡ length xs = omega (arith, many_is, ap length are, length-append xs (x ∷ [])) in
+    front_is ∙ ap (take (many - 1)) are ∙ take_front xs (x ∷ []) (many - 1) few

@@ -1,5 +1,5 @@
 -- One core's table of circuits: its links, and where each circuit number on each link leads.
-use Rattle.std.specs.Prelude.{ℕ, ◌+◌, ◌*◌, ◌==◌, nat_lt, Bool, false, if◌then◌else◌, Option, Some, None, is_some}
+use Rattle.std.specs.Prelude.{ℕ, ◌≡◌, ◌+◌, ◌*◌, ◌==◌, nat_lt, Bool, false, if◌then◌else◌, Option, Some, None, is_some}
 use Rattle.std.specs.Prelude.{List, [], ◌∷◌, ◌++◌, length, replicate, position, slice_set, slice_index_or}
 use Rattle.std.specs.List.{list_any}
 use Rattle.fl_base.specs.declared.identity.CoreId.{CoreId}
@@ -92,3 +92,9 @@ with_link t core = record {
   links = t.links ++ record { neighbour = core; opened = 0; taken = 0 } ∷ [];
   hops = t.hops ++ replicate numbers None;
 }
+
+-- a table to which a link was added, with nothing else since
+pub record IsLinked (t : TheCircuits) : Type 0 where
+  pub before : TheCircuits
+  pub neighbour : CoreId
+  pub table : t ≡ with_link before neighbour

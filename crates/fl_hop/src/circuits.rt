@@ -6,7 +6,7 @@ ghost use Rattle.fl_base.specs.declared.identity.LinkId.{LinkId};
 ghost use Rattle.fl_base.specs.declared.identity.CoreId.{CoreId};
 ghost use Rattle.fl_base.specs.declared.identity.Circuit.{Circuit};
 ghost use Rattle.fl_hop.specs.declared.links.LinkState.{LinkState};
-ghost use Rattle.fl_hop.specs.Table.{hop_at, stands, link_of, link_fault, with_link};
+ghost use Rattle.fl_hop.specs.Table.{TheCircuits, IsLinked, hop_at, stands, link_of, link_fault, with_link};
 ghost use Rattle.fl_hop.specs.Numbers.{next_own, next_due, OpenedHere};
 ghost use Rattle.fl_hop.specs.Openings.{IsRefusal};
 ghost use Rattle.fl_hop.specs.Later.{Later, way_at};
@@ -15,7 +15,7 @@ ghost use Rattle.fl_hop.specs.Forward.{IsOther};
 use crate::entry::{Cell, Entry, Hop, Way, add_cells, cell_at, is_kept};
 use crate::fault::HopFault;
 use crate::links::{LinkState, place_of};
-use crate::numbers::{MAX_LINKS, is_among, next_number};
+use crate::numbers::{MAX_LINKS, NUMBERS, is_among, next_number};
 use fl_base::{Circuit, CoreId, LinkId};
 use slab::Slab;
 use std::alloc::Global;
@@ -118,6 +118,17 @@ impl Circuits {
             taken: 0,
         });
         Ok(LinkId(count as u16))
+    }
+
+    /// Takes back the link that was added last, where nothing else has happened since: the table is as it was before. So a link
+    /// that two cores get leaves the first as it was where the second has no memory for it. Takes no memory.
+    pub fn take_back_link(&mut self)
+        requires { IsLinked self.old }
+        ensures before { (t : TheCircuits) (neighbour : CoreId) → self.old ≡ with_link t neighbour → self.new ≡ t }
+    {
+        self.links.pop();
+        let links = self.links.as_slice().len();
+        self.cells.truncate(NUMBERS * links);
     }
 
     /// The number that this core's next opening on a link has; `None` after 1,023, and where there is no such link.

@@ -9,3 +9,4 @@ pub mod Taken
 pub mod Boxes
 pub mod Tables
 pub mod Outcomes
+pub mod Retaking

@@ -6,7 +6,7 @@ use Rattle.fl_base.specs.declared.identity.CoreId.{CoreId}
 use Rattle.fl_base.specs.declared.identity.LinkId.{LinkId}
 use Rattle.fl_base.specs.declared.identity.Circuit.{Circuit}
 use Rattle.fl_hop.specs.declared.fault.HopFault.TheVariants.{NoLink, UsedUp as NoNumber, Astray as IsHere}
-use Rattle.fl_hop.specs.Table.{TheCircuits, link_of}
+use Rattle.fl_hop.specs.Table.{TheCircuits, link_of, with_link}
 use Rattle.fl_hop.specs.Numbers.{next_own}
 use Rattle.fl_hop.specs.Openings.{open_fault, opened}
 use Rattle.fl_compile.specs.declared.program.Program.{Program}
@@ -35,6 +35,18 @@ HasOutboxes m = length m.outboxes ≡ length m.circuits.links
 -- the monitor of a core without links
 abbrev pub fresh_monitor : ℕ → TheMonitor
 fresh_monitor core = record { circuits = record { core = core; links = []; hops = [] }; outboxes = [] }
+
+-- ---- links
+
+-- with one link more, to this core, and its outbox, in which nothing waits
+abbrev pub with_new_link : TheMonitor → CoreId → TheMonitor
+with_new_link m neighbour = record { circuits = with_link m.circuits neighbour; outboxes = m.outboxes ++ [] ∷ [] }
+
+-- a monitor to which a link was added, with nothing else since
+pub record IsLinked (m : TheMonitor) : Type 0 where
+  pub before : TheMonitor
+  pub neighbour : CoreId
+  pub monitor : m ≡ with_new_link before neighbour
 
 -- ---- outboxes
 

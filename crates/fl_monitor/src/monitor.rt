@@ -7,9 +7,10 @@ ghost use Rattle.fl_hop.specs.Openings.{IsRefusal, open_fault};
 ghost use Rattle.fl_hop.specs.Later.{Later};
 ghost use Rattle.fl_hop.specs.Numbers.{next_own};
 ghost use Rattle.fl_base.specs.declared.identity.LinkId.{LinkId};
+ghost use Rattle.fl_base.specs.declared.identity.CoreId.{CoreId};
 ghost use Rattle.fl_base.specs.Control.{bare, is_ack_only};
 ghost use Rattle.fl_monitor.specs.Outboxes.{IsFragOf};
-ghost use Rattle.fl_monitor.specs.Monitors.{fresh_monitor, HasOutboxes, can_say, Said, Hears, wanted, first_link, MayOpen};
+ghost use Rattle.fl_monitor.specs.Monitors.{TheMonitor, fresh_monitor, HasOutboxes, with_new_link, IsLinked, can_say, Said, Hears, wanted, first_link, MayOpen};
 ghost use Rattle.fl_monitor.specs.Monitors.{asks, RefusesOpening, Opens, waiting_for, without_first};
 
 use crate::fate::Here;
@@ -135,6 +136,16 @@ impl Monitor {
         let link = self.circuits.add_link(neighbour)?;
         self.outboxes.push_reserved(outbox);
         Ok(link)
+    }
+
+    /// Takes back the link that was added last, where nothing else has happened since: the monitor is as it was before. Takes
+    /// no memory.
+    pub fn take_back_link(&mut self)
+        requires { IsLinked self.old }
+        ensures before { (m : TheMonitor) (neighbour : CoreId) → self.old ≡ with_new_link m neighbour → self.new ≡ m }
+    {
+        self.circuits.take_back_link();
+        self.outboxes.pop();
     }
 
     /// Whether a circuit may be asked for: on which link the route begins.

@@ -15,3 +15,6 @@ pub mod Monitoring
 pub mod Writing
 pub mod Making
 pub mod Fresh
+pub mod Unmoved
+pub mod Retaking
+pub mod Pairing

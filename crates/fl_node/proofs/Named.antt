@@ -1,5 +1,5 @@
 -- Names of ends, and their slots in the table of places.
-use Rattle.std.proofs.Common.{◌≡◌, ◌≢◌, refl, ap, ◌∙◌, ℕ, ◌<◌, ◌≤◌, ◌⊎◌, inl, inr, nat_lt, Bool, true, false, if◌then◌else◌, List, length, slice_set, slice_index_or, Option, None, arith}
+use Rattle.std.proofs.Common.{◌≡◌, ◌≢◌, refl, sym, ap, ◌∙◌, [], ◌∷◌, zero, suc, ℕ, ◌<◌, ◌≤◌, ◌⊎◌, inl, inr, nat_lt, Bool, true, false, if◌then◌else◌, List, length, slice_set, slice_index_or, Option, None, arith}
 use Rattle.std.proofs.lemmas.List.{get_or-set_same, get_or-set_other}
 use Rattle.fl_base.specs.declared.identity.Side.{Side}
 use Rattle.fl_base.specs.declared.identity.Side.TheVariants.{Client, Server}
@@ -52,3 +52,13 @@ here_or_not a b = elim (same_or (slot_of a) (slot_of b)) [
   | inl same ↦ inl (same_name a b same)
   | inr other ↦ inr other
 ]
+
+none_set : (places : List (Option ℕ)) (i : ℕ) → slice_index_or places i None ≡ None → slice_set places i None ≡ places
+none_set [] i h = refl
+none_set (x ∷ places) zero h = ap (λ (y : Option ℕ). y ∷ places) (sym h)
+none_set (x ∷ places) (suc i) h = ap (λ (ys : List (Option ℕ)). x ∷ ys) (none_set places i h)
+
+-- where a name has no place, clearing its slot changes nothing
+pub cleared : (places : List (Option ℕ)) (a : EndId) → a.binding < 1024 → place_in places a ≡ None → slice_set places (slot_of a) None ≡ places
+cleared places a few none =
+    none_set places (slot_of a) (sym (if_true (nat_lt a.binding 1024) (slice_index_or places (slot_of a) None) None (less_is a.binding 1024 few)) ∙ none)

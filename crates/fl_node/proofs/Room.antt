@@ -1,9 +1,10 @@
 -- Whether a dispatcher has a place for one more end.
-use Rattle.std.proofs.Common.{◌≡◌, refl, ℕ, zero, suc, ◌<◌, ◌≤◌, List, [], ◌∷◌, length, slice_get, Some, arith}
+use Rattle.std.proofs.Common.{◌≡◌, refl, sym, ap, ◌∙◌, nat_le, false, Option, ◌+◌, ℕ, zero, suc, ◌<◌, ◌≤◌, List, [], ◌∷◌, length, slice_get, Some, arith}
 use Rattle.fl_core.specs.declared.fault.BoardFault.TheVariants.{TooManyEnds, Memory}
 use Rattle.fl_core.specs.View.{TheDispatcher, TheBoard}
 use Rattle.fl_core.specs.Sound.{IsBoard}
-use Rattle.fl_node.specs.Making.{HasPlace, HasNoPlace}
+use Rattle.fl_node.specs.Making.{HasPlace, HasNoPlace, has_places}
+use Rattle.fl_monitor.specs.Routing.{given}
 
 -- something stands at each place of a list
 pub at_place : {X : Type 0} (xs : List X) (n : ℕ) → n < length xs → (x : X) × (slice_get xs n ≡ Some x)
@@ -30,3 +31,17 @@ module _ (b : TheBoard) (sound : IsBoard b) (n : ℕ) (below : n < length b.disp
 
   pub no_memory : count < 1024 → HasNoPlace b n Memory
   no_memory few s kind = (place_there few, refl)
+
+  pub ends_few : count ≤ 1024
+  ends_few =
+      let it = at_place b.dispatchers n below in
+      let same = count_is it.0 it.1 in
+      let most = (sound.dispatchers n it.0 it.1).few in
+      omega (arith, same, most)
+
+  pub places_told : (more : ℕ) → nat_le (count + more) 1024 ≡ has_places more b n
+  places_told more =
+      let it = at_place b.dispatchers n below in
+      let found : has_places more b n ≡ nat_le (length it.0.ends + more) 1024
+      = ap (λ (o : Option TheDispatcher). given o false (λ d. nat_le (length d.ends + more) 1024)) it.1 in
+      ap (λ (k : ℕ). nat_le (k + more) 1024) (count_is it.0 it.1) ∙ sym found

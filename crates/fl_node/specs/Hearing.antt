@@ -8,6 +8,7 @@ use Rattle.fl_base.specs.Control.{bare}
 use Rattle.fl_compile.specs.declared.program.Program.{Program}
 use Rattle.fl_compile.specs.Programs.{program_of}
 use Rattle.fl_endpoint.specs.View.{fresh, bound}
+use Rattle.fl_wire.specs.declared.fault.WireFault.TheVariants as wire
 use Rattle.fl_link.specs.Looks.{Look, found}
 use Rattle.fl_link.specs.Queue.{TheQueue, QueueTakes}
 use Rattle.fl_nameserv.specs.Registrations.{TheRegistration, by_iref}
@@ -147,6 +148,7 @@ TakesHeard takes frag p (Err fault) q = q ≡ p
 
 -- the fragment, which was seen to stand first on link l, says a message, which is heard; or it says none, and what comes there has failed
 abbrev pub HearsFrag : Offers → LinkId → Frag → TheCore → Result MonitorAnswer LinkFault → TheCore → Type 0
+HearsFrag o l frag k (Err (Wire wire.Memory)) k2 = ⊥
 HearsFrag o l frag k (Err (Wire fault)) k2 = Refuses frag fault × (k2 ≡ with_failed k l.0)
 HearsFrag o l frag k (Err Memory) k2 = k2 ≡ k
 HearsFrag o l frag k answer k2 = (m : Message) × Says frag m × HearsMessage o l m k answer k2

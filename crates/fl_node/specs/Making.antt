@@ -1,34 +1,45 @@
 -- What making something at a core comes to, by cases on the answer, exactly.
-use Rattle.std.specs.Prelude.{ℕ, ◌≡◌, ◌<◌, false, [], ◌∷◌, ◌++◌, length, slice_get, Some, None, Result, Ok, Err}
+use Rattle.std.specs.Prelude.{ℕ, ◌≡◌, ◌<◌, ◌+◌, ◌==◌, ◌&&◌, nat_le, Bool, true, false, if◌then◌else◌, [], ◌∷◌, ◌++◌, length, slice_get, Some, None, Result, Ok, Err}
 use Rattle.fl_base.specs.declared.identity.CoreId.{CoreId}
 use Rattle.fl_base.specs.declared.identity.LinkId.{LinkId}
 use Rattle.fl_base.specs.declared.identity.Circuit.{Circuit}
 use Rattle.fl_compile.specs.declared.program.Program.{Program}
 use Rattle.fl_endpoint.specs.View.{TheEnd, fresh}
-use Rattle.fl_hop.specs.Table.{with_link}
 use Rattle.fl_core.specs.declared.kind.Kind.{Kind}
 use Rattle.fl_core.specs.declared.kind.Kind.TheVariants.{Queue}
 use Rattle.fl_core.specs.declared.fault.BoardFault.{BoardFault}
+use Rattle.fl_core.specs.declared.fault.BoardFault.TheVariants.{TooManyEnds, Memory}
+use Rattle.fl_core.specs.Sound.{IsBoard}
 use Rattle.fl_core.specs.View.{TheDispatcher, TheBoard}
 use Rattle.fl_core.specs.Events.{Adds}
 use Rattle.fl_monitor.specs.declared.opening.Opening.{Opening}
-use Rattle.fl_monitor.specs.Monitors.{TheMonitor, Opens}
+use Rattle.fl_monitor.specs.Monitors.{TheMonitor, with_new_link, Opens}
+use Rattle.fl_monitor.specs.Routing.{given}
 use Rattle.fl_node.specs.declared.wire.Port.{Port}
+use Rattle.fl_node.specs.declared.wire.Wire.TheVariants.{Queues}
+use Rattle.fl_node.specs.declared.joining.Joining.{Joining}
+use Rattle.fl_node.specs.declared.joining.BothEnds.{BothEnds}
 use Rattle.fl_node.specs.declared.fault.OpenFault.{OpenFault}
 use Rattle.fl_node.specs.declared.fault.OpenFault.TheVariants.{Board, Monitor}
-use Rattle.fl_node.specs.View.{TheCore, kind_of, client_of, with_port, with_circuit_port}
+use Rattle.fl_node.specs.View.{TheCore, kind_of, client_of, server_of, place_of, with_port, with_circuit_port}
+use Rattle.fl_node.specs.Sound.{IsCore}
 
 -- ---- a link
 
 -- the core with one link more, to this neighbour, over a side of a ring
 abbrev pub linked : TheCore → CoreId → ℕ → TheCore
 linked k neighbour side = record k {
-  monitor = record {
-    circuits = with_link k.monitor.circuits neighbour;
-    outboxes = k.monitor.outboxes ++ [] ∷ [];
-  };
+  monitor = with_new_link k.monitor neighbour;
   lanes = k.lanes ++ record { side = side; failed = false } ∷ [];
 }
+
+-- a core to which a link was added, with nothing else since
+pub record IsLinked (k : TheCore) : Type 0 where
+  pub before : TheCore
+  pub sound : IsCore before
+  pub neighbour : CoreId
+  pub side : ℕ
+  pub core : k ≡ linked before neighbour side
 
 -- ---- an end on a queue or a ring
 
@@ -44,6 +55,54 @@ HasNoPlace b n fault = (s : TheEnd) (kind : Kind) → Adds b n s kind (Err fault
 abbrev pub AddsPort : ℕ → TheEnd → Port → TheCore → Result ℕ BoardFault → TheCore → Type 0
 AddsPort n s p k (Ok e) k2 = Adds k.board n s (kind_of p.wire) (Ok e) k2.board × (k2 ≡ with_port k k2.board e p)
 AddsPort n s p k (Err fault) k2 = Adds k.board n s (kind_of p.wire) (Err fault) k.board × (k2 ≡ k)
+
+-- a core to which an end was added, with nothing else since
+pub record HasNewEnd (k : TheCore) : Type 0 where
+  pub before : TheCore
+  pub sound : IsCore before
+  pub board : IsBoard before.board
+  pub dispatcher : ℕ
+  pub end : TheEnd
+  pub port : Port
+  pub few : port.name.binding < 1024
+  pub new : place_of before port.name ≡ None
+  pub place : ℕ
+  pub adds : AddsPort dispatcher end port before (Ok place) k
+
+-- whatever core an end was added to, so that it came to k, is there again
+abbrev pub TakesBackEnd : TheCore → TheCore → Type 0
+TakesBackEnd k k2 = (before : TheCore) (n : ℕ) (s : TheEnd) (p : Port) (e : ℕ) → p.name.binding < 1024 → place_of before p.name ≡ None
+    → AddsPort n s p before (Ok e) k → k2 ≡ before
+
+-- ---- both ends of a binding within the core
+
+-- the dispatcher has places for so many more ends
+abbrev pub has_places : ℕ → TheBoard → ℕ → Bool
+has_places count b n = given (slice_get b.dispatchers n) false λ d. nat_le (length d.ends + count) 1024
+
+-- there are places for one end at each of two dispatchers; where they are one, it needs two
+abbrev pub has_both_places : TheBoard → ℕ → ℕ → Bool
+has_both_places b n m = if n == m then has_places 2 b n else has_places 1 b n && has_places 1 b m
+
+-- the ports of the two: what one puts to a queue the other takes from it
+abbrev pub client_port : Joining → Port
+client_port j = record { name = client_of j.binding; wire = Queues j.to_server j.to_client }
+
+abbrev pub server_port : Joining → Port
+server_port j = record { name = server_of j.binding; wire = Queues j.to_client j.to_server }
+
+-- both are added, the client's end first
+pub record JoinsBoth (j : Joining) (k : TheCore) (both : BothEnds) (k2 : TheCore) : Type 0 where
+  pub between : TheCore
+  pub client : AddsPort j.client.dispatcher j.client.end (client_port j) k (Ok both.client) between
+  pub server : AddsPort j.server.dispatcher j.server.end (server_port j) between (Ok both.server) k2
+
+-- both, or neither: there aren't places for both, or there is no memory
+abbrev pub Joins : Joining → TheCore → Result BothEnds BoardFault → TheCore → Type 0
+Joins j k (Ok both) k2 = JoinsBoth j k both k2
+Joins j k (Err TooManyEnds) k2 = (has_both_places k.board j.client.dispatcher j.server.dispatcher ≡ false) × (k2 ≡ k)
+Joins j k (Err Memory) k2 = (has_both_places k.board j.client.dispatcher j.server.dispatcher ≡ true) × (k2 ≡ k)
+Joins j k (Err fault) k2 = ⊥
 
 -- ---- the client's end of a circuit
 

@@ -3,7 +3,8 @@
 ghost use Rattle.std.specs.Prelude.{◌≡◌, ◌<◌, length, Some, None, IsSome, Ok, OnErr};
 ghost use Rattle.fl_value.specs.Value.{call_of};
 ghost use Rattle.fl_link.specs.Queue.{QueueTakes};
-ghost use Rattle.fl_endpoint.specs.Events.{Calls, ShowsNext, SetsRule};
+ghost use Rattle.fl_endpoint.specs.View.{interface_in};
+ghost use Rattle.fl_endpoint.specs.Events.{Calls, ShowsNext, SetsRule, Exchanges};
 ghost use Rattle.fl_core.specs.View.{due};
 ghost use Rattle.fl_core.specs.Events.{ChangesEnd, ChangesLists, Holds, Deregisters, Acks};
 ghost use Rattle.fl_core.specs.Turns.{Turns, over};
@@ -13,7 +14,7 @@ ghost use Rattle.fl_node.specs.Ends.{OnBoard, OverArrivals, RegistersAt, Trigger
 use crate::one_core::Core;
 use fl_base::{Frag, MsgNo};
 use fl_core::{AckAnswer, BoardFault, TurnAnswer};
-use fl_endpoint::{EndFault, WriteAnswer};
+use fl_endpoint::{End, EndFault, WriteAnswer};
 use fl_link::{PutSide, TakeSide};
 use fl_value::Call;
 use std::alloc::AllocError;
@@ -41,6 +42,16 @@ impl Core {
         ensures kept { OnErr result (self.new ≡ self.old) }
     {
         self.board.reply_rule(e, msg, reply)
+    }
+
+    /// An end exchanges its reply rules with another of the same interface, which is at no core ([`fl_endpoint::End::exchange_rules`]). So an end that is made
+    /// late gets the rules that were set before. Takes no memory.
+    pub fn exchange_rules(&mut self, e: usize, other: &mut End)
+        requires there { e < length self.old.board.seats }
+        requires interface { Holds self.old.board e (λ s. interface_in s.end ≡ interface_in other.old) }
+        ensures exchanges { OnBoard self.old (λ b c. ChangesEnd b e (λ s t. Exchanges s other.old t other.new) c) self.new }
+    {
+        self.board.exchange_rules(e, other);
     }
 
     /// The fragment that a write at an end would put next, over the end's outlet ([`Core::outlet`]); none where no call is in transmission.
@@ -119,6 +130,7 @@ impl Core {
     pub fn register_arrivals(&mut self, e: usize) -> Result<(), BoardFault>
         requires { IsSome (arrivals_of self.old e) }
         ensures registers { OverArrivals self.old e (λ b p c q. RegistersAt QueueTakes e result b p c q) self.new }
+        ensures kept { OnErr result (self.new ≡ self.old) }
     {
         let Some(a) = self.arrivals_of(e) else {
             unreachable!();
@@ -167,6 +179,7 @@ impl Core {
         requires due { due self.old.board dispatcher ≡ Some e }
         requires own { IsSome (arrivals_of self.old e) }
         ensures turns { OverArrivals self.old e (λ b p c q. Turns QueueTakes dispatcher e (over b p) result (over c q)) self.new }
+        ensures kept { OnErr result (self.new ≡ self.old) }
     {
         let Some(a) = self.arrivals_of(e) else {
             unreachable!();

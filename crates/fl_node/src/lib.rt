@@ -14,6 +14,7 @@
 //!
 //! - `one_core.rt`: `Core`, and where things are
 //! - `makers.rt`: links, dispatchers and ends
+//! - `joining.rt`: both ends of a binding within one core
 //! - `opening.rt`: the client's end of a circuit
 //! - `ends.rt`: events of an end, and turns
 //! - `links.rt`: events of a link
@@ -28,6 +29,7 @@ mod answer;
 mod ends;
 mod fault;
 mod hearing;
+mod joining;
 mod links;
 mod makers;
 mod one_core;
@@ -38,5 +40,6 @@ mod wire;
 pub use answer::{Ahead, MonitorAnswer, MonitorWrite};
 pub use fault::{LinkFault, OpenFault};
 pub use hearing::Offered;
+pub use joining::{BothEnds, Joining, Newcomer};
 pub use one_core::Core;
 pub use wire::{Arriving, Inlet, Lane, Outlet, Port, Wire};

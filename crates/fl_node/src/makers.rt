@@ -1,6 +1,6 @@
 //! Links, dispatchers and ends of a core. Each takes all its memory first, and then makes the change.
 
-ghost use Rattle.std.specs.Prelude.{◌≡◌, ◌<◌, ◌++◌, ◌∷◌, [], length, slice_set, Some, None, IfOk, IfErr, OnOk, OnErr, vec_len};
+ghost use Rattle.std.specs.Prelude.{◌≡◌, ◌<◌, ◌++◌, ◌∷◌, [], ℕ, length, slice_set, Some, None, IfOk, IfErr, OnOk, OnErr, vec_len};
 ghost use Rattle.std.specs.Vec.{vec_capacity};
 ghost use Rattle.fl_hop.specs.Table.{link_fault};
 ghost use Rattle.fl_endpoint.specs.View.{fresh};
@@ -8,10 +8,12 @@ ghost use Rattle.fl_core.specs.declared.kind.Kind.TheVariants.{Queue};
 ghost use Rattle.fl_core.specs.View.{with_dispatcher};
 ghost use Rattle.fl_core.specs.Events.{Adds};
 ghost use Rattle.fl_node.specs.View.{with_board, kind_of, arrivals_by, place_of, slot_of, new_arrivals, circuit_port, number_in};
-ghost use Rattle.fl_node.specs.Making.{linked, HasPlace, HasNoPlace, AddsPort};
+ghost use Rattle.fl_node.specs.View.{TheCore};
+ghost use Rattle.fl_base.specs.declared.identity.CoreId.{CoreId};
+ghost use Rattle.fl_node.specs.Making.{linked, IsLinked, HasPlace, HasNoPlace, AddsPort, HasNewEnd, TakesBackEnd};
 
 use crate::one_core::Core;
-use crate::places::put_place;
+use crate::places::{clear_place, put_place};
 use crate::wire::{Lane, Port, Wire};
 use fl_base::{Circuit, CoreId, EndId, LinkId, MAX_CHANNELS};
 use fl_compile::Program;
@@ -169,6 +171,16 @@ impl Core {
         Ok(link)
     }
 
+    /// Takes back the link that was added last, where nothing else has happened since: the core is as it was before. So a link of two cores leaves the first as
+    /// it was where there is no memory for it at the second. Takes no memory.
+    pub fn take_back_link(&mut self)
+        requires { IsLinked self.old }
+        ensures before { (k : TheCore) (neighbour : CoreId) (side : ℕ) → self.old ≡ linked k neighbour side → self.new ≡ k }
+    {
+        self.monitor.take_back_link();
+        self.lanes.pop();
+    }
+
     /// One end more, at a dispatcher, bound off links; it isn't registered yet. It is joined by a queue or by a ring; of a binding within one core the
     /// client's end is added first. Its place is the answer.
     ///
@@ -192,5 +204,18 @@ impl Core {
                 }
             },
         }
+    }
+
+    /// Takes back the end that was added last by [`Core::add_end`], where nothing else has happened since: the core is as it was before. So a binding of two
+    /// cores leaves the first as it was where there is no memory at the second. Takes no memory.
+    pub fn take_back_end(&mut self)
+        requires { HasNewEnd self.old }
+        ensures before { TakesBackEnd self.old self.new }
+    {
+        self.board.take_back();
+        let Some(port) = self.ports.pop() else {
+            unreachable!();
+        };
+        clear_place(&mut self.places, port.name);
     }
 }

@@ -1,6 +1,6 @@
 //! Where ends are on the board, by their names.
 
-ghost use Rattle.std.specs.Prelude.{◌≡◌, ◌<◌, ◌≤◌, Some, length, slice_set};
+ghost use Rattle.std.specs.Prelude.{◌≡◌, ◌<◌, ◌≤◌, Some, None, length, slice_set};
 ghost use Rattle.fl_node.specs.View.{side_number, slot_of, place_in};
 
 use fl_base::{EndId, Side};
@@ -42,4 +42,13 @@ pub(crate) fn put_place(places: &mut Vec<Option<usize>>, name: EndId, place: usi
     ensures put { places.new.items ≡ slice_set places.old.items (slot_of name) (Some place) }
 {
     places[2 * name.binding + side_number(name.side)] = Some(place);
+}
+
+/// Notes that the end of a name isn't here.
+pub(crate) fn clear_place(places: &mut Vec<Option<usize>>, name: EndId)
+    requires few { name.binding < 1024 }
+    requires all { length places.old.items ≡ 2048 }
+    ensures clear { places.new.items ≡ slice_set places.old.items (slot_of name) None }
+{
+    places[2 * name.binding + side_number(name.side)] = None;
 }
