@@ -12,7 +12,8 @@ use Rattle.fl_lines.specs.declared.command.Verb.TheVariants as verb
 use Rattle.fl_lines.specs.Words.{without_blanks, first_word, behind_word, is_none, number_of, begins_comment, is_silent}
 use Rattle.fl_lines.specs.Commands.{EndName, BackEnd, local, ump, hop, Command, cores, link, disp, export, bind, call, show, write, turn, ack, register, deregister, reply, mwrite, forward, mack, a_number, an_end, back_end_row as row_of_back_end}
 use Rattle.fl_lines.specs.Grammar.{Holds, Spells, Heads, Line, silent, heading, command, unread, LineIs, OneLine}
-use Rattle.fl_lines.specs.Reading.{end_of, name_then, at_last, one_number, two_numbers, one_end, words_of, numbers_of, link_row, disp_row, export_row, route_row, back_end_row, bind_row, call_row, turn_row, reply_row, verb_of, with_end, with_cores, command_by, line_with, heading_by, line_by, read_line}
+use Rattle.fl_lines.specs.Words.{words_of, numbers_of}
+use Rattle.fl_lines.specs.Reading.{end_of, name_then, at_last, one_number, two_numbers, one_end, link_row, disp_row, export_row, route_row, back_end_row, bind_row, call_row, turn_row, reply_row, verb_of, with_end, with_cores, command_by, line_with, heading_by, line_by, read_line}
 use Rattle.fl_lines.proofs.PieceLemmas.{given_some, same_some, none_is, name_some, last_some, number_some, numbers_some, end_some, one_end_some, all_numbers, by_given, last_reads, name_reads, number_reads, numbers_read, end_reads, one_end_reads, numbers_stand}
 
 -- ---- what is read is spelled

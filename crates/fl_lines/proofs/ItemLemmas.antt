@@ -1,14 +1,19 @@
 -- The lines of a script and of its blocks, one after another.
-use Rattle.std.proofs.Common.{◌≡◌, ◌≢◌, ◌<◌, ℕ, ◌+◌, Bool, true, false, List, [], ◌∷◌, ◌++◌, length, take, drop, get_or, refl, sym, ap, subst, ◌∙◌, arith, suc, zero, append_assoc, length-append}
-use Rattle.std.proofs.lemmas.Bool.Decides.{nat_tests}
+use Rattle.std.proofs.Common.{◌≡◌, ◌≢◌, ◌<◌, inl, inr, ℕ, ◌+◌, Bool, true, false, List, [], ◌∷◌, ◌++◌, length, take, drop, get_or, refl, sym, ap, subst, ◌∙◌, arith, suc, zero, append_assoc, length-append}
+use Rattle.std.proofs.lemmas.Bool.{false≢true}
+use Rattle.std.proofs.lemmas.Bool.Decides.{nat_tests, not_from_Decides}
 use Rattle.std.proofs.lemmas.List.{take_all, drop_all, length-take-le}
 use Rattle.std.specs.Prelude.{nat_eq}
-use Rattle.std.specs.Bool.{MatchBool}
+use Rattle.std.specs.Prelude.{codes}
+use Rattle.std.specs.Str.{bytes_eq}
+use Rattle.std.proofs.lemmas.Slice.Eq.{bytes_eq-Decides}
 use Rattle.fl_value.specs.declared.value.PlanNo.{PlanNo}
 use Rattle.fl_lines.specs.Commands.{Command}
 use Rattle.fl_lines.specs.Grammar.{Line, silent, heading, command, unread, LineIs}
-use Rattle.fl_lines.specs.Items.{put_first, lines_of, without_end, Item, a_line, a_block, open_block, ends_block, Mode, outside, inside, Behind, Items, ItemsOf, BlockOf, OneItems}
-use Rattle.fl_lines.proofs.GrammarLemmas.{one_line_is}
+use Rattle.fl_lines.specs.Items.{put_first, lines_of, WithoutEnd, Item, a_line, a_block, open_block, EndsBlock, Mode, outside, inside, Behind, Items, ItemsOf, BlockOf, SomeItems, OneItems}
+use Rattle.fl_lines.specs.Reading.{read_line}
+use Rattle.fl_lines.proofs.GrammarLemmas.{one_line_is, line_is_read}
+use Rattle.fl_lines.proofs.LineEnds.{some_text, one_text}
 
 -- a line feed ends a line
 feed_first : (ls : List (List ℕ)) → put_first 10 ls ≡ (10 ∷ []) ∷ ls
@@ -66,16 +71,16 @@ pub record Within (bytes rest : List ℕ) (taken : ℕ) : Type 0 where
 pub within_first : (bytes : List ℕ) → Within bytes bytes 0
 within_first bytes = record { items = λ plan items h. h; whole = refl; long = omega arith }
 
-goes_on : (plan : PlanNo) (text line : List ℕ) (lines : List (List ℕ)) (items : List Item) → ends_block line ≡ false
+goes_on : (plan : PlanNo) (text line : List ℕ) (lines : List (List ℕ)) (items : List Item) → (EndsBlock line → ⊥)
     → Items lines (inside plan (text ++ line)) items → Items (line ∷ lines) (inside plan text) items
-goes_on plan text line lines items e h = rw e h
+goes_on plan text line lines items e h = inr (e, h)
 
-stops : (plan : PlanNo) (text line : List ℕ) (lines : List (List ℕ)) (items : List Item) → ends_block line ≡ true
+stops : (plan : PlanNo) (text line : List ℕ) (lines : List (List ℕ)) (items : List Item) → EndsBlock line
     → Items lines outside items → Items (line ∷ lines) (inside plan text) (a_block plan text ∷ items)
-stops plan text line lines items e h = rw e (items, h, refl)
+stops plan text line lines items e h = inl (e, items, h, refl)
 
 pub within_more : (bytes rest line behind : List ℕ) (taken : ℕ) → Within bytes rest taken
-    → lines_of rest ≡ line ∷ lines_of behind → rest ≡ line ++ behind → ends_block line ≡ false → Within bytes behind (taken + length line)
+    → lines_of rest ≡ line ∷ lines_of behind → rest ≡ line ++ behind → (EndsBlock line → ⊥) → Within bytes behind (taken + length line)
 within_more bytes rest line behind taken w lines split e =
     let more = taken_more bytes rest line behind taken w.whole w.long split in
     let sizes : length rest ≡ length line + length behind = ap (λ (z : List ℕ). length z) split ∙ length-append line behind in
@@ -87,7 +92,7 @@ within_more bytes rest line behind taken w lines split e =
       long = let size = w.long in omega (arith, size, sizes);
     }
 
-pub within_end : (bytes rest line behind : List ℕ) (taken : ℕ) → Within bytes rest taken → lines_of rest ≡ line ∷ lines_of behind → ends_block line ≡ true
+pub within_end : (bytes rest line behind : List ℕ) (taken : ℕ) → Within bytes rest taken → lines_of rest ≡ line ∷ lines_of behind → EndsBlock line
     → (plan : PlanNo) (items : List Item) → ItemsOf behind items → BlockOf plan [] bytes (a_block plan (take taken bytes) ∷ items)
 within_end bytes rest line behind taken w lines e plan items h =
     w.items plan (a_block plan (take taken bytes) ∷ items)
@@ -100,34 +105,81 @@ within_open bytes (b ∷ rest) taken w e plan = absurd (omega (arith, e))
 
 -- ---- items
 
-first_line : (bytes line behind : List ℕ) (l : Line) (items : List Item) → lines_of bytes ≡ line ∷ lines_of behind → LineIs (without_end line) l
-    → Behind l (Items (lines_of behind)) items → ItemsOf bytes items
-first_line bytes line behind l items lines is h = subst (λ (ls : List (List ℕ)). Items ls outside items) (sym lines) (l, is, h)
+first_line : (bytes line bare behind : List ℕ) (l : Line) (items : List Item) → lines_of bytes ≡ line ∷ lines_of behind → WithoutEnd line bare
+    → LineIs bare l → Behind l (Items (lines_of behind)) items → ItemsOf bytes items
+first_line bytes line bare behind l items lines end is h = subst (λ (ls : List (List ℕ)). Items ls outside items) (sym lines) (bare, l, end, is, h)
 
-pub silent_first : (bytes line behind : List ℕ) → lines_of bytes ≡ line ∷ lines_of behind → LineIs (without_end line) silent
+pub silent_first : (bytes line bare behind : List ℕ) → lines_of bytes ≡ line ∷ lines_of behind → WithoutEnd line bare → LineIs bare silent
     → (items : List Item) → ItemsOf behind items → ItemsOf bytes (a_line silent ∷ items)
-silent_first bytes line behind lines is items h = first_line bytes line behind silent (a_line silent ∷ items) lines is (items, h, refl)
+silent_first bytes line bare behind lines end is items h = first_line bytes line bare behind silent (a_line silent ∷ items) lines end is (items, h, refl)
 
-pub command_first : (bytes line behind : List ℕ) (c : Command) → lines_of bytes ≡ line ∷ lines_of behind → LineIs (without_end line) (command c)
-    → (items : List Item) → ItemsOf behind items → ItemsOf bytes (a_line (command c) ∷ items)
-command_first bytes line behind c lines is items h = first_line bytes line behind (command c) (a_line (command c) ∷ items) lines is (items, h, refl)
+pub command_first : (bytes line bare behind : List ℕ) (c : Command) → lines_of bytes ≡ line ∷ lines_of behind → WithoutEnd line bare
+    → LineIs bare (command c) → (items : List Item) → ItemsOf behind items → ItemsOf bytes (a_line (command c) ∷ items)
+command_first bytes line bare behind c lines end is items h =
+    first_line bytes line bare behind (command c) (a_line (command c) ∷ items) lines end is (items, h, refl)
 
-pub unread_first : (bytes line behind : List ℕ) → lines_of bytes ≡ line ∷ lines_of behind → LineIs (without_end line) unread
+pub unread_first : (bytes line bare behind : List ℕ) → lines_of bytes ≡ line ∷ lines_of behind → WithoutEnd line bare → LineIs bare unread
     → (items : List Item) → ItemsOf behind items → ItemsOf bytes (a_line unread ∷ items)
-unread_first bytes line behind lines is items h = first_line bytes line behind unread (a_line unread ∷ items) lines is (items, h, refl)
+unread_first bytes line bare behind lines end is items h = first_line bytes line bare behind unread (a_line unread ∷ items) lines end is (items, h, refl)
 
-pub block_first : (bytes line behind last text : List ℕ) (plan : PlanNo) → lines_of bytes ≡ line ∷ lines_of behind → LineIs (without_end line) (heading plan)
-    → ((items : List Item) → ItemsOf last items → BlockOf plan [] behind (a_block plan text ∷ items))
+pub block_first : (bytes line bare behind last text : List ℕ) (plan : PlanNo) → lines_of bytes ≡ line ∷ lines_of behind → WithoutEnd line bare
+    → LineIs bare (heading plan) → ((items : List Item) → ItemsOf last items → BlockOf plan [] behind (a_block plan text ∷ items))
     → (items : List Item) → ItemsOf last items → ItemsOf bytes (a_block plan text ∷ items)
-block_first bytes line behind last text plan lines is f items h =
-    first_line bytes line behind (heading plan) (a_block plan text ∷ items) lines is (f items h)
+block_first bytes line bare behind last text plan lines end is f items h =
+    first_line bytes line bare behind (heading plan) (a_block plan text ∷ items) lines end is (f items h)
 
-pub open_first : (bytes line behind last : List ℕ) (plan : PlanNo) → lines_of bytes ≡ line ∷ lines_of behind → LineIs (without_end line) (heading plan)
-    → BlockOf plan [] behind (open_block ∷ []) → last ≡ [] → (items : List Item) → ItemsOf last items → ItemsOf bytes (open_block ∷ items)
-open_first bytes line behind last plan lines is f e items h =
+pub open_first : (bytes line bare behind last : List ℕ) (plan : PlanNo) → lines_of bytes ≡ line ∷ lines_of behind → WithoutEnd line bare
+    → LineIs bare (heading plan) → BlockOf plan [] behind (open_block ∷ []) → last ≡ []
+    → (items : List Item) → ItemsOf last items → ItemsOf bytes (open_block ∷ items)
+open_first bytes line bare behind last plan lines end is f e items h =
     let none : items ≡ [] = subst (λ (z : List ℕ). ItemsOf z items) e h in
-    first_line bytes line behind (heading plan) (open_block ∷ items) lines is
+    first_line bytes line bare behind (heading plan) (open_block ∷ items) lines end is
     (subst (λ (xs : List Item). Items (lines_of behind) (inside plan []) (open_block ∷ xs)) (sym none) f)
+
+-- ---- some list of items
+
+-- whether a line ends a block
+pub ends_where : (line bare : List ℕ) → WithoutEnd line bare → bare ≡ codes "." → EndsBlock line
+ends_where line bare end e = subst (λ (z : List ℕ). WithoutEnd line z) e end
+
+pub ends_nowhere : (line bare : List ℕ) → WithoutEnd line bare → (bare ≡ codes "." → ⊥) → EndsBlock line → ⊥
+ends_nowhere line bare end n h = n (one_text line bare (codes ".") end h)
+
+pub other_text : (r : Bool) (a p q : List ℕ) → r ≡ bytes_eq a p → p ≡ q → r ≡ false → a ≡ q → ⊥
+other_text r a p q is e f same =
+    let yes = (bytes_eq-Decides a p).1 (same ∙ sym e) in
+    absurd (false≢true (sym f ∙ (is ∙ yes)))
+
+has_ended : (plan : PlanNo) (text line bare : List ℕ) (lines : List (List ℕ)) → WithoutEnd line bare → (t : Bool) → bytes_eq bare (codes ".") ≡ t
+    → ((mode : Mode) → (items : List Item) × Items lines mode items) → (items : List Item) × Items (line ∷ lines) (inside plan text) items
+has_ended plan text line bare lines end true t more =
+    let rest = more outside in
+    (a_block plan text ∷ rest.0, stops plan text line lines rest.0 (ends_where line bare end ((bytes_eq-Decides bare (codes ".")).0 t)) rest.1)
+has_ended plan text line bare lines end false t more =
+    let rest = more (inside plan (text ++ line)) in
+    let is = bytes_eq-Decides bare (codes ".") in
+    (rest.0, goes_on plan text line lines rest.0 (ends_nowhere line bare end (not_from_Decides (bytes_eq bare (codes ".")) is t)) rest.1)
+
+has_behind : (l : Line) (lines : List (List ℕ)) → ((mode : Mode) → (items : List Item) × Items lines mode items)
+    → (items : List Item) × Behind l (Items lines) items
+has_behind (heading plan) lines more = more (inside plan [])
+has_behind silent lines more = let rest = more outside in (a_line silent ∷ rest.0, (rest.0, rest.1, refl))
+has_behind (command c) lines more = let rest = more outside in (a_line (command c) ∷ rest.0, (rest.0, rest.1, refl))
+has_behind unread lines more = let rest = more outside in (a_line unread ∷ rest.0, (rest.0, rest.1, refl))
+
+has_items : (lines : List (List ℕ)) (mode : Mode) → (items : List Item) × Items lines mode items
+has_items [] outside = ([], refl)
+has_items [] (inside plan text) = (open_block ∷ [], refl)
+has_items (line ∷ lines) outside =
+    let text = some_text line in
+    let found = has_behind (read_line text.0) lines (has_items lines) in
+    (found.0, (text.0, read_line text.0, text.1, line_is_read text.0, found.1))
+has_items (line ∷ lines) (inside plan block) =
+    let text = some_text line in
+    has_ended plan block line text.0 lines text.1 (bytes_eq text.0 (codes ".")) refl (has_items lines)
+
+pub some_items_is : SomeItems
+some_items_is bytes = has_items (lines_of bytes) outside
 
 -- ---- one list of items
 
@@ -144,22 +196,18 @@ behind_once lines once silent xs ys h k = same_first (a_line silent) xs ys h.0 k
 behind_once lines once (command c) xs ys h k = same_first (a_line (command c)) xs ys h.0 k.0 h.2 k.2 (once outside h.0 k.0 h.1 k.1)
 behind_once lines once unread xs ys h k = same_first (a_line unread) xs ys h.0 k.0 h.2 k.2 (once outside h.0 k.0 h.1 k.1)
 
-end_once : (lines : List (List ℕ)) (plan : PlanNo) (text line : List ℕ) → Once lines → (b : Bool) (xs ys : List Item)
-    → MatchBool b ((rest : List Item) × Items lines outside rest × (xs ≡ a_block plan text ∷ rest)) (Items lines (inside plan (text ++ line)) xs)
-    → MatchBool b ((rest : List Item) × Items lines outside rest × (ys ≡ a_block plan text ∷ rest)) (Items lines (inside plan (text ++ line)) ys)
-    → xs ≡ ys
-unfolding Once
-end_once lines plan text line once true xs ys h k = same_first (a_block plan text) xs ys h.0 k.0 h.2 k.2 (once outside h.0 k.0 h.1 k.1)
-end_once lines plan text line once false xs ys h k = once (inside plan (text ++ line)) xs ys h k
-
 items_once : (lines : List (List ℕ)) → Once lines
 unfolding Once
 items_once [] outside xs ys h k = h ∙ sym k
 items_once [] (inside plan text) xs ys h k = h ∙ sym k
-items_once (line ∷ lines) outside xs ys h k =
-    let same : h.0 ≡ k.0 = one_line_is (without_end line) h.0 k.0 h.1 k.1 in
-    behind_once lines (items_once lines) k.0 xs ys (subst (λ (l : Line). Behind l (Items lines) xs) same h.2) k.2
-items_once (line ∷ lines) (inside plan text) xs ys h k = end_once lines plan text line (items_once lines) (ends_block line) xs ys h k
+items_once (line ∷ lines) outside xs ys (a, x, ea, ix, h) (b, y, eb, iy, k) =
+    let text : a ≡ b = one_text line a b ea eb in
+    let same : x ≡ y = one_line_is b x y (subst (λ (z : List ℕ). LineIs z x) text ix) iy in
+    behind_once lines (items_once lines) y xs ys (subst (λ (l : Line). Behind l (Items lines) xs) same h) k
+items_once (line ∷ lines) (inside plan text) xs ys (inl h) (inl k) = same_first (a_block plan text) xs ys h.1 k.1 h.3 k.3 (items_once lines outside h.1 k.1 h.2 k.2)
+items_once (line ∷ lines) (inside plan text) xs ys (inl h) (inr k) = absurd (k.0 h.0)
+items_once (line ∷ lines) (inside plan text) xs ys (inr h) (inl k) = absurd (h.0 k.0)
+items_once (line ∷ lines) (inside plan text) xs ys (inr h) (inr k) = items_once lines (inside plan (text ++ line)) xs ys h.1 k.1
 
 pub one_items_is : OneItems
 unfolding Once

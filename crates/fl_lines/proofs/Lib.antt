@@ -4,5 +4,6 @@ mod PieceLemmas
 mod GrammarLemmas
 mod PrintLemmas
 mod TableLemmas
-mod AskedLemmas
-mod ItemLemmas
+pub mod AskedLemmas
+mod LineEnds
+pub mod ItemLemmas

@@ -13,7 +13,8 @@ use Rattle.fl_queues.specs.Given.{given}
 use Rattle.fl_lines.specs.Words.{first_word, behind_word, is_none, number_of}
 use Rattle.fl_lines.specs.Commands.{EndName, a_number, an_end, side_text, end_text}
 use Rattle.fl_lines.specs.Grammar.{Holds}
-use Rattle.fl_lines.specs.Reading.{name_before_end, end_of, name_then, at_last, one_number, two_numbers, one_end, words_of, numbers_of, numbers_in}
+use Rattle.fl_lines.specs.Reading.{name_before_end, end_of, name_then, at_last, one_number, two_numbers, one_end}
+use Rattle.fl_lines.specs.Words.{words_of, numbers_of, numbers_in}
 use Rattle.fl_lines.proofs.WordLemmas.{words_step, no_words, behind_shorter}
 
 -- ---- what was read

@@ -2,8 +2,7 @@
 use Rattle.std.proofs.Common.{◌≡◌, ◌<◌, ℕ, true, false, List, [], ◌∷◌, length, Option, Some, None, option_map, is_some, refl, sym, ap, ◌∙◌}
 use Rattle.std.specs.Prelude.{unwrap_or}
 use Rattle.fl_queues.specs.Given.{given}
-use Rattle.fl_lines.specs.Words.{first_word, behind_word, number_of}
-use Rattle.fl_lines.specs.Reading.{words_of, numbers_of}
+use Rattle.fl_lines.specs.Words.{first_word, behind_word, number_of, words_of, numbers_of}
 use Rattle.fl_lines.proofs.WordLemmas.{words_step, no_words}
 
 pub some_mapped : {A B : Type 0} (f : A → B) (o : Option A) → is_some (option_map f o) ≡ is_some o

@@ -1,17 +1,16 @@
 -- The text of an answer, without the line feed.
-use Rattle.std.specs.Prelude.{ℕ, ◌/◌, ◌%◌, false, List, [], ◌∷◌, ◌++◌, slice_get, Option, Some, None}
-use Rattle.std.specs.Prelude.{unwrap_or, codes}
+use Rattle.std.specs.Prelude.{ℕ, ◌/◌, ◌%◌, false, List, [], ◌∷◌, ◌++◌, slice_get, unwrap_or, codes}
 use Rattle.std.specs.List.{flat_map}
 use Rattle.std.specs.Int.{to_be_bytes, w64}
 use Rattle.std.specs.Fmt.{decimal, digit_glyph}
 use Rattle.fl_base.specs.declared.fragment.Frag.{Frag}
 use Rattle.fl_base.specs.declared.identity.EndId.{EndId}
-use Rattle.fl_check.specs.Interface.{TheInterface, TheMessage}
 use Rattle.fl_value.specs.Value.{TheCall}
 use Rattle.fl_value.specs.Printed.{printed_call}
 use Rattle.fl_queues.specs.Events.{Answer, done, accepted, nothing, full, written, handle, part, ready, quiet}
 use Rattle.fl_queues.specs.Events.{forwarded, opened, opening_refused, words, refused}
 use Rattle.fl_lines.specs.Commands.{side_text}
+use Rattle.fl_lines.specs.Names.{Names, message_name}
 
 -- a byte as two lower-case hexadecimal digits
 abbrev pub byte_hex : ℕ → List ℕ
@@ -25,35 +24,29 @@ hex word = flat_map byte_hex (to_be_bytes w64 word)
 abbrev pub frag_text : Frag → List ℕ
 frag_text frag = flat_map (λ word. hex word ++ codes " ") frag.words ++ hex frag.control
 
--- an end, by the names of bindings in order; no end of another binding is ever answered
-abbrev pub end_named : List (List ℕ) → EndId → List ℕ
-end_named bindings e = unwrap_or (slice_get bindings e.binding) [] ++ side_text e.side
+-- an end; none of a binding without a name is ever answered
+abbrev pub end_named : Names → EndId → List ℕ
+end_named n e = unwrap_or (slice_get n.bindings e.binding) [] ++ side_text e.side
 
--- a call, by the interface that it is a call of
-abbrev pub message_name : Option TheMessage → List ℕ
-message_name None = []
-message_name (Some m) = m.name
+-- a call at an end
+abbrev pub call_at : Names → EndId → TheCall → List ℕ
+call_at n e c = printed_call (message_name n e c.msg) c.args
 
-abbrev pub call_text_of : Option TheInterface → TheCall → List ℕ
-call_text_of None c = []
-call_text_of (Some i) c = printed_call (message_name (slice_get i.messages c.msg)) c.args
-
--- what is written for an answer: the names of bindings in order, and the interface of the end that it tells a call of
-abbrev pub answer_text : List (List ℕ) → Option TheInterface → Answer → List ℕ
-answer_text bindings i done = codes "ok"
-answer_text bindings i accepted = codes "accepted"
-answer_text bindings i nothing = codes "nothing"
-answer_text bindings i full = codes "full"
-answer_text bindings i (written k n) = codes "written " ++ decimal k ++ codes " of " ++ decimal n
-answer_text bindings i (handle e c) = codes "handle " ++ end_named bindings e ++ codes " " ++ call_text_of i c
-answer_text bindings i (part e) = codes "part " ++ end_named bindings e
-answer_text bindings i (ready e) = codes "ready " ++ end_named bindings e
-answer_text bindings i (quiet e) = codes "quiet " ++ end_named bindings e
-answer_text bindings i forwarded = codes "forwarded"
-answer_text bindings i (opened e) = codes "opened " ++ end_named bindings e
-answer_text bindings i (opening_refused n e) = codes "refused E" ++ decimal n ++ codes " " ++ end_named bindings e
-answer_text bindings i (words frag) = frag_text frag
-answer_text bindings i (refused n) = codes "refused E" ++ decimal n
+abbrev pub answer_text : Names → Answer → List ℕ
+answer_text n done = codes "ok"
+answer_text n accepted = codes "accepted"
+answer_text n nothing = codes "nothing"
+answer_text n full = codes "full"
+answer_text n (written k of) = codes "written " ++ decimal k ++ codes " of " ++ decimal of
+answer_text n (handle e c) = codes "handle " ++ end_named n e ++ codes " " ++ call_at n e c
+answer_text n (part e) = codes "part " ++ end_named n e
+answer_text n (ready e) = codes "ready " ++ end_named n e
+answer_text n (quiet e) = codes "quiet " ++ end_named n e
+answer_text n forwarded = codes "forwarded"
+answer_text n (opened e) = codes "opened " ++ end_named n e
+answer_text n (opening_refused fault e) = codes "refused E" ++ decimal fault ++ codes " " ++ end_named n e
+answer_text n (words frag) = frag_text frag
+answer_text n (refused fault) = codes "refused E" ++ decimal fault
 
 -- a fault of an interface's text, and where it stands
 abbrev pub fault_text : ℕ → ℕ → List ℕ

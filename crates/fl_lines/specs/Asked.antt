@@ -1,6 +1,6 @@
 -- What a command asks: it is refused for its names, or it asks the machine an event. The refusals stand in the order in
 -- which they are answered; those that the machine finds come behind them.
-use Rattle.std.specs.Prelude.{◌≡◌, ◌⊎◌, ℕ, Bool, if◌then◌else◌, List, ◌∷◌, is_some}
+use Rattle.std.specs.Prelude.{◌≡◌, ◌⊎◌, ℕ, Bool, true, false, if◌then◌else◌, List, ◌∷◌, is_some}
 use Rattle.fl_base.specs.declared.identity.EndId.{EndId}
 use Rattle.fl_check.specs.Interface.{TheInterface}
 use Rattle.fl_value.specs.Value.{Datum}
@@ -8,7 +8,7 @@ use Rattle.fl_value.specs.CallText.{SpellsCall}
 use Rattle.fl_value.specs.declared.value.PlanNo.{PlanNo}
 use Rattle.fl_queues.specs.Given.{given}
 use Rattle.fl_queues.specs.Events.{Kind, by_queues, by_ring, by_route, Event, add_interface, set_cores}
-use Rattle.fl_queues.specs.Events.{add_link, add_dispatcher, monitor_write, monitor_acknowledge}
+use Rattle.fl_queues.specs.Events.{add_link, add_dispatcher, monitor_write, monitor_acknowledge, Answer, done}
 use Rattle.fl_queues.specs.Events as event
 use Rattle.fl_lines.specs.Commands.{EndName, BackEnd, local, ump, hop, Command, cores, link, disp, export}
 use Rattle.fl_lines.specs.Commands.{bind, call, show, write, turn, ack, register, deregister, reply, mwrite}
@@ -21,6 +21,14 @@ pub data Asked : Type 0 where
   refuses : ℕ → Asked
   -- an event, and the names behind it where it is answered `ok`
   asks : Event → Names → Asked
+
+abbrev pub is_done : Answer → Bool
+is_done done = true
+is_done answer = false
+
+-- the names behind an event: the new ones that it gives, if it was answered `ok`
+abbrev pub names_after : Names → Names → Answer → Names
+names_after old new answer = if is_done answer then new else old
 
 abbrev pub kind_of : BackEnd → Kind
 kind_of (local slots) = by_queues slots

@@ -1,9 +1,5 @@
 -- A script's lines, and its items: lines outside blocks, and blocks that hold an interface's text.
-use Rattle.std.specs.Prelude.{◌≡◌, ℕ, ◌-◌, ◌==◌, ◌&&◌, nat_lt, Bool, if◌then◌else◌, List, []}
-use Rattle.std.specs.Prelude.{◌∷◌}
-use Rattle.std.specs.Prelude.{◌++◌, length, slice_index, take, codes}
-use Rattle.std.specs.Bool.{MatchBool}
-use Rattle.std.specs.Str.{bytes_eq}
+use Rattle.std.specs.Prelude.{◌≡◌, ◌⊎◌, ℕ, ◌==◌, if◌then◌else◌, List, [], ◌∷◌, ◌++◌, codes}
 use Rattle.fl_value.specs.declared.value.PlanNo.{PlanNo}
 use Rattle.fl_lines.specs.Grammar.{Line, silent, heading, command, unread, LineIs}
 
@@ -19,13 +15,16 @@ abbrev pub lines_of : List ℕ → List (List ℕ)
 lines_of [] = []
 lines_of (b ∷ bytes) = put_first b (lines_of bytes)
 
--- a line without its line feed, and without one carriage return directly before that
-abbrev pub without_end : List ℕ → List ℕ
-without_end line =
-    let n = length line in
-    if nat_lt 0 n && (slice_index line (n - 1) == 10)
-    then (if nat_lt 1 n && (slice_index line (n - 2) == 13) then take (n - 2) line else take (n - 1) line)
-    else line
+-- the bytes don't end with this one
+abbrev pub EndsNotWith : ℕ → List ℕ → Type 0
+EndsNotWith b bytes = (front : List ℕ) → bytes ≡ front ++ b ∷ [] → ⊥
+
+-- the text is the line without its end: a line feed, with the one carriage return directly before it if there is one
+abbrev pub WithoutEnd : List ℕ → List ℕ → Type 0
+WithoutEnd line text =
+    (line ≡ text ++ 13 ∷ 10 ∷ [])
+    ⊎ ((line ≡ text ++ 10 ∷ []) × EndsNotWith 13 text)
+    ⊎ ((line ≡ text) × EndsNotWith 10 text)
 
 -- ---- items
 
@@ -38,8 +37,8 @@ pub data Item : Type 0 where
   open_block : Item
 
 -- a block ends with a line that is `.` and nothing else
-abbrev pub ends_block : List ℕ → Bool
-ends_block line = bytes_eq (without_end line) (codes ".")
+abbrev pub EndsBlock : List ℕ → Type 0
+EndsBlock line = WithoutEnd line (codes ".")
 
 -- outside of blocks, or within one: its plan, and its text so far
 pub data Mode : Type 0 where
@@ -57,10 +56,11 @@ Behind unread further items = (rest : List Item) × further outside rest × (ite
 abbrev pub Items : List (List ℕ) → Mode → List Item → Type 0
 Items [] outside items = items ≡ []
 Items [] (inside plan text) items = items ≡ open_block ∷ []
-Items (line ∷ lines) outside items = (l : Line) × LineIs (without_end line) l × Behind l (Items lines) items
-Items (line ∷ lines) (inside plan text) items = MatchBool (ends_block line)
-    ((rest : List Item) × Items lines outside rest × (items ≡ a_block plan text ∷ rest))
-    (Items lines (inside plan (text ++ line)) items)
+Items (line ∷ lines) outside items =
+    (bare : List ℕ) × (l : Line) × WithoutEnd line bare × LineIs bare l × Behind l (Items lines) items
+Items (line ∷ lines) (inside plan text) items =
+    (EndsBlock line × (rest : List Item) × Items lines outside rest × (items ≡ a_block plan text ∷ rest))
+    ⊎ ((EndsBlock line → ⊥) × Items lines (inside plan (text ++ line)) items)
 
 -- the items of a script
 abbrev pub ItemsOf : List ℕ → List Item → Type 0
@@ -70,8 +70,12 @@ ItemsOf bytes items = Items (lines_of bytes) outside items
 abbrev pub BlockOf : PlanNo → List ℕ → List ℕ → List Item → Type 0
 BlockOf plan text bytes items = Items (lines_of bytes) (inside plan text) items
 
--- ---- the law
+-- ---- the laws
 
--- a script has one list of items
+-- a script has a list of items
+abbrev pub SomeItems : Type 0
+SomeItems = (bytes : List ℕ) → (items : List Item) × ItemsOf bytes items
+
+-- and no other
 abbrev pub OneItems : Type 0
 OneItems = (bytes : List ℕ) (xs ys : List Item) → ItemsOf bytes xs → ItemsOf bytes ys → xs ≡ ys

@@ -2,7 +2,7 @@
 -- knows it. Interfaces, dispatchers and bindings are named apart from each other. Services aren't here: the machine
 -- itself knows them by their names.
 use Rattle.std.specs.Prelude.{ℕ, ◌==◌, Bool, List, [], ◌∷◌, ◌++◌, map, position, slice_get, nat_lt}
-use Rattle.std.specs.Prelude.{if◌then◌else◌, Option, Some, None}
+use Rattle.std.specs.Prelude.{if◌then◌else◌, Option, Some, None, unwrap_or}
 use Rattle.std.specs.List.{count_by}
 use Rattle.std.specs.Str.{bytes_eq}
 use Rattle.fl_base.specs.declared.identity.EndId.{EndId}
@@ -44,6 +44,10 @@ messages_at n e = given (slice_get n.spoken e.binding) [] λ i. given (slice_get
 -- the number of a message, which has 16 bits
 abbrev pub message_at : Names → EndId → List ℕ → Option ℕ
 message_at n e name = given (place_of name (messages_at n e)) None λ k. if nat_lt k 65536 then Some k else None
+
+-- a message's name, by its number
+abbrev pub message_name : Names → EndId → ℕ → List ℕ
+message_name n e k = unwrap_or (slice_get (messages_at n e) k) []
 
 -- ---- a new name
 

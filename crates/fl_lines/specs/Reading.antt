@@ -1,7 +1,7 @@
 -- How a line is read, row by row of the table: what the parts of the code tell. That this is what the grammar says
 -- is proved; a reader may skip it.
-use Rattle.std.specs.Prelude.{ℕ, ◌-◌, if◌then◌else◌, List, [], ◌∷◌, length, take, drop, Option, Some, None}
-use Rattle.std.specs.Prelude.{option_map, unwrap_or, codes}
+use Rattle.std.specs.Prelude.{ℕ, ◌-◌, if◌then◌else◌, List, length, take, drop}
+use Rattle.std.specs.Prelude.{Option, Some, None, option_map, codes}
 use Rattle.std.specs.Str.{bytes_eq}
 use Rattle.fl_base.specs.declared.identity.Side.TheVariants.{Client, Server}
 use Rattle.fl_lex.specs.Words.{is_name}
@@ -9,8 +9,8 @@ use Rattle.fl_value.specs.declared.value.PlanNo.TheVariants.{One, Two}
 use Rattle.fl_queues.specs.Given.{given}
 use Rattle.fl_lines.specs.declared.command.Verb.{Verb}
 use Rattle.fl_lines.specs.declared.command.Verb.TheVariants as verb
-use Rattle.fl_lines.specs.Words.{is_blank, without_blanks, first_word, behind_word, is_none, number_of}
-use Rattle.fl_lines.specs.Words.{begins_comment}
+use Rattle.fl_lines.specs.Words.{without_blanks, first_word, behind_word, is_none, number_of}
+use Rattle.fl_lines.specs.Words.{begins_comment, words_of, numbers_of}
 use Rattle.fl_lines.specs.Commands.{EndName, BackEnd, local, ump, hop, Command, cores, link, disp, export}
 use Rattle.fl_lines.specs.Commands.{bind, call, show, write, turn, ack, register, deregister, reply, mwrite}
 use Rattle.fl_lines.specs.Commands.{forward, mack}
@@ -46,25 +46,6 @@ two_numbers line =
 
 abbrev pub one_end : List ℕ → Option EndName
 one_end line = given (end_of (first_word line)) None λ e. at_last (behind_word line) e
-
--- all words of a line
-abbrev pub joins_word : ℕ → List ℕ → List (List ℕ) → List (List ℕ)
-joins_word b [] words = (b ∷ []) ∷ words
-joins_word b (c ∷ bytes) [] = (b ∷ []) ∷ []
-joins_word b (c ∷ bytes) (word ∷ words) = if is_blank c then (b ∷ []) ∷ word ∷ words else (b ∷ word) ∷ words
-
-abbrev pub words_of : List ℕ → List (List ℕ)
-words_of [] = []
-words_of (b ∷ bytes) = if is_blank b then words_of bytes else joins_word b bytes (words_of bytes)
-
--- the numbers that words write, if each of them writes one
-abbrev pub numbers_of : List (List ℕ) → Option (List ℕ)
-numbers_of [] = Some []
-numbers_of (word ∷ words) = given (number_of word) None λ n. option_map (λ ns. n ∷ ns) (numbers_of words)
-
--- the numbers that a text writes, if all its words are numbers
-abbrev pub numbers_in : List ℕ → List ℕ
-numbers_in text = unwrap_or (numbers_of (words_of text)) []
 
 -- ---- rows, behind the first word
 

@@ -11,7 +11,7 @@ use Rattle.fl_lines.specs.Commands.{bind, call, show, write, turn, ack, register
 use Rattle.fl_lines.specs.Commands.{forward, mack}
 use Rattle.fl_lines.specs.Grammar.{Line, silent, heading, command, unread}
 use Rattle.fl_lines.specs.Items.{Item, a_line, a_block, open_block}
-use Rattle.fl_lines.specs.Reading.{numbers_in}
+use Rattle.fl_lines.specs.Words.{numbers_in}
 use Rattle.fl_lines.specs.declared.item.Item.{Item as RustItem}
 use Rattle.fl_lines.specs.declared.item.Item.TheVariants as item
 

@@ -1,13 +1,11 @@
 -- The words of a line, parted by spaces and tabs, and the numbers that words write.
-use Rattle.std.specs.Prelude.{ℕ, ◌==◌, ◌||◌, ◌&&◌, nat_le, Bool, true, if◌then◌else◌, List, [], ◌∷◌, length}
-use Rattle.std.specs.Prelude.{Option, Some, None}
+use Rattle.std.specs.Prelude.{ℕ, ◌==◌, ◌&&◌, nat_le, Bool, true, if◌then◌else◌, List, [], ◌∷◌, length}
+use Rattle.std.specs.Prelude.{Option, Some, None, option_map, unwrap_or}
 use Rattle.std.specs.List.{list_all}
 use Rattle.std.specs.Str.Parse.{digits_value}
 use Rattle.fl_lex.specs.Words.{is_digit}
-
--- a space or a tab
-abbrev pub is_blank : ℕ → Bool
-is_blank b = (b == 32) || (b == 9)
+use Rattle.fl_value.specs.CallText.{is_blank}
+use Rattle.fl_queues.specs.Given.{given}
 
 -- the bytes from the first on that isn't a blank
 abbrev pub without_blanks : List ℕ → List ℕ
@@ -47,3 +45,23 @@ begins_comment (b ∷ bytes) = b == 35
 
 abbrev pub is_silent : List ℕ → Bool
 is_silent line = begins_comment (first_word line)
+
+-- ---- all words of a line
+
+abbrev pub joins_word : ℕ → List ℕ → List (List ℕ) → List (List ℕ)
+joins_word b [] words = (b ∷ []) ∷ words
+joins_word b (c ∷ bytes) [] = (b ∷ []) ∷ []
+joins_word b (c ∷ bytes) (word ∷ words) = if is_blank c then (b ∷ []) ∷ word ∷ words else (b ∷ word) ∷ words
+
+abbrev pub words_of : List ℕ → List (List ℕ)
+words_of [] = []
+words_of (b ∷ bytes) = if is_blank b then words_of bytes else joins_word b bytes (words_of bytes)
+
+-- the numbers that words write, if each of them writes one
+abbrev pub numbers_of : List (List ℕ) → Option (List ℕ)
+numbers_of [] = Some []
+numbers_of (word ∷ words) = given (number_of word) None λ n. option_map (λ ns. n ∷ ns) (numbers_of words)
+
+-- the numbers that a text writes, if all its words are numbers
+abbrev pub numbers_in : List ℕ → List ℕ
+numbers_in text = unwrap_or (numbers_of (words_of text)) []

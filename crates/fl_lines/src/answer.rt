@@ -1,18 +1,15 @@
 //! Answers, and their texts.
 
-ghost use Rattle.std.specs.Prelude.{◌≡◌, ◌++◌, ◌<◌, OnOk, option_map, codes, false, slice_get, unwrap_or, []};
-ghost use Rattle.std.specs.Prelude.{map};
+ghost use Rattle.std.specs.Prelude.{◌≡◌, ◌++◌, ◌<◌, OnOk, codes, false};
 ghost use Rattle.std.specs.Fmt.{decimal, digit_glyph};
-ghost use Rattle.fl_check.specs.Interface.{interface_of};
 ghost use Rattle.fl_value.specs.Value.{call_of};
-ghost use Rattle.fl_lines.specs.Answers.{byte_hex, hex, frag_text, end_named, call_text_of, answer_text};
-ghost use Rattle.fl_lines.specs.Answers.{fault_text};
+ghost use Rattle.fl_lines.specs.Answers.{byte_hex, hex, frag_text, end_named, call_at, answer_text, fault_text};
+ghost use Rattle.fl_lines.specs.Asked.{is_done};
 ghost use Rattle.fl_lines.specs.Events.{answer_of};
-ghost use Rattle.fl_lines.specs.Tables.{table_of};
+ghost use Rattle.fl_lines.specs.Told.{names_of};
 
-use crate::table::NameTable;
+use crate::names::Names;
 use fl_base::{EndId, Frag, Side};
-use fl_check::Interface;
 use fl_value::{Call, print_call};
 use std::alloc::{AllocError, Global};
 
@@ -36,17 +33,31 @@ pub enum Answer {
     Forwarded,
     /// An end of a circuit is bound.
     Opened(EndId),
-    /// The opening of a circuit was refused, with the fault's number.
-    OpeningRefused { number: u8, end: EndId },
+    /// The opening of a circuit was refused, with the fault's number: whatever the other monitor gave.
+    OpeningRefused { number: u32, end: EndId },
     /// The fragment that would be written next.
     Words(Frag),
     /// The event is refused, with the fault's number.
     Refused(u8),
 }
 
+impl Answer {
+    /// Whether it is `ok`.
+    pub fn is_done(&self) -> bool
+        ensures done { result ≡ is_done (answer_of self.now) }
+    {
+        matches!(self, Answer::Done)
+    }
+}
+
+// A number; one of a single digit, as most are, without a text of its own.
 fn put_number(alloc: Global, out: &mut Vec<u8>, number: usize) -> Result<(), AllocError>
     ensures ok { OnOk result (out.new.items ≡ out.old.items ++ decimal number) }
 {
+    if number < 10 {
+        out.push(b'0' + number as u8)?;
+        return Ok(());
+    }
     let digits = number.to_string(alloc)?;
     out.extend_from_slice(digits.as_bytes())
 }
@@ -92,10 +103,10 @@ fn put_frag(out: &mut Vec<u8>, frag: &Frag) -> Result<(), AllocError>
 }
 
 // An end: its binding's name, and `.c` or `.s`.
-fn put_end(out: &mut Vec<u8>, bindings: &NameTable, end: EndId) -> Result<(), AllocError>
-    ensures ok { OnOk result (out.new.items ≡ out.old.items ++ end_named (table_of bindings.now) end) }
+fn put_end(out: &mut Vec<u8>, names: &Names, end: EndId) -> Result<(), AllocError>
+    ensures ok { OnOk result (out.new.items ≡ out.old.items ++ end_named (names_of names.now) end) }
 {
-    out.extend_from_slice(bindings.get(end.binding).unwrap_or(&[]))?;
+    out.extend_from_slice(names.bindings.get(end.binding).unwrap_or(&[]))?;
     match end.side {
         Side::Client => out.extend_from_slice(b".c"),
         Side::Server => out.extend_from_slice(b".s"),
@@ -103,16 +114,11 @@ fn put_end(out: &mut Vec<u8>, bindings: &NameTable, end: EndId) -> Result<(), Al
 }
 
 // A word, a space and an end.
-fn put_of_end(
-    out: &mut Vec<u8>,
-    word: &[u8],
-    bindings: &NameTable,
-    end: EndId,
-) -> Result<(), AllocError>
-    ensures ok { OnOk result (out.new.items ≡ out.old.items ++ (word.now ++ end_named (table_of bindings.now) end)) }
+fn put_of_end(out: &mut Vec<u8>, word: &[u8], names: &Names, end: EndId) -> Result<(), AllocError>
+    ensures ok { OnOk result (out.new.items ≡ out.old.items ++ (word.now ++ end_named (names_of names.now) end)) }
 {
     out.extend_from_slice(word)?;
-    put_end(out, bindings, end)
+    put_end(out, names, end)
 }
 
 fn put_written(alloc: Global, out: &mut Vec<u8>, k: usize, n: usize) -> Result<(), AllocError>
@@ -124,45 +130,37 @@ fn put_written(alloc: Global, out: &mut Vec<u8>, k: usize, n: usize) -> Result<(
     put_number(alloc, out, n)
 }
 
-fn put_refused(alloc: Global, out: &mut Vec<u8>, number: u8) -> Result<(), AllocError>
+fn put_refused(alloc: Global, out: &mut Vec<u8>, number: usize) -> Result<(), AllocError>
     ensures ok { OnOk result (out.new.items ≡ out.old.items ++ (codes "refused E" ++ decimal number)) }
 {
     out.extend_from_slice(b"refused E")?;
-    put_number(alloc, out, usize::from(number))
+    put_number(alloc, out, number)
 }
 
-// A call, by the interface that it is a call of.
+// A call that was handled at an end.
 fn put_call(
     alloc: Global,
     out: &mut Vec<u8>,
-    interface: Option<&Interface>,
+    names: &Names,
+    end: EndId,
     call: &Call,
 ) -> Result<(), AllocError>
-    ensures ok { OnOk result (out.new.items ≡ out.old.items ++ call_text_of (option_map (λ i. interface_of i.now) interface.entry) (call_of call.now)) }
+    ensures ok { OnOk result (out.new.items ≡ out.old.items ++ call_at (names_of names.now) end (call_of call.now)) }
 {
-    let Some(interface) = interface else {
-        return Ok(());
-    };
-    match interface.messages.get(usize::from(call.msg.0)) {
-        None => print_call(alloc, out, &[], &call.args),
-        Some(message) => print_call(alloc, out, &message.name.bytes, &call.args),
-    }
+    print_call(alloc, out, names.message_name(end, call.msg), &call.args)
 }
 
-/// Appends the text of an answer, without a line feed. `bindings` are the names of bindings, in order; `interface` is
-/// that of the end at which a call was handled, where the answer tells of one.
+/// Appends the text of an answer, without a line feed, by the names that the script has given.
 ///
 /// # Errors
 /// Want of memory; `out` may then have a part of the text at its end.
 pub fn print_answer(
     alloc: Global,
     out: &mut Vec<u8>,
-    bindings: &NameTable,
-    interface: Option<&Interface>,
+    names: &Names,
     answer: &Answer,
 ) -> Result<(), AllocError>
-    ensures printed { OnOk result (out.new.items ≡ out.old.items
-        ++ answer_text (table_of bindings.now) (option_map (λ i. interface_of i.now) interface.entry) (answer_of answer.now)) }
+    ensures printed { OnOk result (out.new.items ≡ out.old.items ++ answer_text (names_of names.now) (answer_of answer.now)) }
 {
     match answer {
         Answer::Done => out.extend_from_slice(b"ok"),
@@ -171,21 +169,21 @@ pub fn print_answer(
         Answer::Full => out.extend_from_slice(b"full"),
         Answer::Written { k, n } => put_written(alloc, out, *k, *n),
         Answer::Handle { end, call } => {
-            put_of_end(out, b"handle ", bindings, *end)?;
+            put_of_end(out, b"handle ", names, *end)?;
             out.extend_from_slice(b" ")?;
-            put_call(alloc, out, interface, call)
+            put_call(alloc, out, names, *end, call)
         }
-        Answer::Part(end) => put_of_end(out, b"part ", bindings, *end),
-        Answer::Ready(end) => put_of_end(out, b"ready ", bindings, *end),
-        Answer::Quiet(end) => put_of_end(out, b"quiet ", bindings, *end),
+        Answer::Part(end) => put_of_end(out, b"part ", names, *end),
+        Answer::Ready(end) => put_of_end(out, b"ready ", names, *end),
+        Answer::Quiet(end) => put_of_end(out, b"quiet ", names, *end),
         Answer::Forwarded => out.extend_from_slice(b"forwarded"),
-        Answer::Opened(end) => put_of_end(out, b"opened ", bindings, *end),
+        Answer::Opened(end) => put_of_end(out, b"opened ", names, *end),
         Answer::OpeningRefused { number, end } => {
-            put_refused(alloc, out, *number)?;
-            put_of_end(out, b" ", bindings, *end)
+            put_refused(alloc, out, *number as usize)?;
+            put_of_end(out, b" ", names, *end)
         }
         Answer::Words(frag) => put_frag(out, frag),
-        Answer::Refused(number) => put_refused(alloc, out, *number),
+        Answer::Refused(number) => put_refused(alloc, out, usize::from(*number)),
     }
 }
 
@@ -201,7 +199,7 @@ pub fn print_fault(
 ) -> Result<(), AllocError>
     ensures printed { OnOk result (out.new.items ≡ out.old.items ++ fault_text number offset) }
 {
-    put_refused(alloc, out, number)?;
+    put_refused(alloc, out, usize::from(number))?;
     out.extend_from_slice(b" at ")?;
     put_number(alloc, out, offset)
 }

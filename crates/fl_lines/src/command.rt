@@ -1,7 +1,7 @@
 //! Commands, and what a line is.
 
 ghost use Rattle.std.specs.Prelude.{◌≡◌, true, is_some};
-ghost use Rattle.fl_lines.specs.Reading.{words_of, numbers_of};
+ghost use Rattle.fl_lines.specs.Words.{words_of, numbers_of};
 
 use crate::word::{next_word, number};
 use fl_base::Side;
@@ -25,7 +25,7 @@ pub struct Route<'a> {
 
 impl Route<'_> {
     ghost use Rattle.std.specs.Prelude.{IfOk, ◌∷◌};
-    ghost use Rattle.fl_lines.specs.Reading.{numbers_in};
+    ghost use Rattle.fl_lines.specs.Words.{numbers_in};
 
     /// All cores of the route, in order.
     pub fn cores(&self, alloc: Global) -> Result<Vec<u32>, AllocError>

@@ -1,6 +1,7 @@
 //! What a command asks of the machine.
 
 use crate::command::BackEnd;
+use crate::table::InterfaceNames;
 use fl_base::{EndId, MsgNo};
 use fl_check::Interface;
 use fl_value::{Call, PlanNo};
@@ -70,11 +71,12 @@ pub enum Event<'a> {
 }
 
 /// The name that is given where an event is answered `ok`.
-#[derive(Clone, Copy, Debug)]
+#[derive(Drop)]
 pub enum Naming<'a> {
     Nothing,
     Dispatcher { name: &'a [u8], core: u32 },
     Binding { name: &'a [u8], interface: usize },
+    Interface(InterfaceNames),
 }
 
 /// An event, and the name that is given where it is answered `ok`.

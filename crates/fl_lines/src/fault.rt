@@ -1,7 +1,7 @@
 //! Why a command asks nothing of the machine.
 
 ghost use Rattle.std.specs.Prelude.{◌≡◌};
-ghost use Rattle.fl_lines.specs.Faults.{number_of};
+ghost use Rattle.fl_lines.specs.Faults.{number_of, refusal_of};
 
 use thiserror::Error;
 
@@ -32,6 +32,16 @@ impl LineFault {
             LineFault::Name => 92,
             LineFault::NoSuchMessage => 41,
             LineFault::Memory => 99,
+        }
+    }
+
+    /// The number with which a command is refused for it: none where memory ran out.
+    pub fn refusal(self) -> Option<u8>
+        ensures number { result ≡ refusal_of self }
+    {
+        match self {
+            LineFault::Memory => None,
+            fault => Some(fault.number()),
         }
     }
 }

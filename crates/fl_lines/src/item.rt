@@ -1,9 +1,9 @@
 //! A script's lines and items: a line outside blocks, a whole `idl` block, or one that the script's end leaves open.
 
-ghost use Rattle.std.specs.Prelude.{◌≡◌, ◌++◌, ◌∷◌, [], ◌<◌, List, length, IfSome, MatchOption};
+ghost use Rattle.std.specs.Prelude.{◌≡◌, ◌++◌, ◌∷◌, [], ◌<◌, List, length, true, false, IfSome, MatchOption};
 ghost use Rattle.fl_value.specs.declared.value.PlanNo.{PlanNo as Plan};
-ghost use Rattle.fl_lines.specs.Items.{Item as TheItem, lines_of, without_end, ends_block, ItemsOf, BlockOf};
-ghost use Rattle.fl_lines.specs.Items.{a_block, open_block};
+ghost use Rattle.fl_lines.specs.Items.{Item as TheItem, lines_of, WithoutEnd, EndsBlock, ItemsOf};
+ghost use Rattle.fl_lines.specs.Items.{BlockOf, a_block, open_block};
 ghost use Rattle.fl_lines.specs.Views.{item_of};
 
 use crate::command::Line;
@@ -38,23 +38,21 @@ fn next_line(bytes: &[u8]) -> (&[u8], &[u8])
 
 // A line without its line feed, and without one carriage return directly before that.
 fn without_end(line: &[u8]) -> &[u8]
-    ensures { result.now ≡ without_end line.now }
+    ensures text { WithoutEnd line.now result.now }
 {
-    let n = line.len();
-    if n > 0 && line[n - 1] == b'\n' {
-        if n > 1 && line[n - 2] == b'\r' {
-            &line[..n - 2]
-        } else {
-            &line[..n - 1]
-        }
-    } else {
-        line
+    if let Some(text) = line.strip_suffix(b"\r\n".as_slice()) {
+        return text;
     }
+    if let Some(text) = line.strip_suffix(b"\n".as_slice()) {
+        return text;
+    }
+    line
 }
 
 // Whether a line ends a block: it is `.` and nothing else.
 fn ends_block(line: &[u8]) -> bool
-    ensures { result ≡ ends_block line.now }
+    ensures yes { result ≡ true → EndsBlock line.now }
+    ensures no { result ≡ false → EndsBlock line.now → ⊥ }
 {
     without_end(line) == b".".as_slice()
 }

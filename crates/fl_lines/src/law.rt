@@ -1,7 +1,7 @@
 //! Laws of script lines.
 
 ghost use Rattle.fl_lines.specs.Grammar.{OneLine, PrintedReads, SpelledReads};
-ghost use Rattle.fl_lines.specs.Items.{OneItems};
+ghost use Rattle.fl_lines.specs.Items.{SomeItems, OneItems};
 ghost use Rattle.fl_lines.specs.Told.{OneAsked};
 
 use fl_value::one_reading;
@@ -27,6 +27,11 @@ pub fn one_asked()
 {
     one_reading();
 }
+
+/// A script has a list of items.
+pub fn some_items()
+    ensures some { SomeItems }
+{}
 
 /// A script has one list of items.
 pub fn one_items()

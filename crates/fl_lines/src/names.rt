@@ -1,6 +1,6 @@
 //! The names that a script has given, and what its commands ask by them.
 
-ghost use Rattle.std.specs.Prelude.{◌≡◌, OnOk, OnErr, IfOk, None, option_map, map, unwrap_or, []};
+ghost use Rattle.std.specs.Prelude.{◌≡◌, ◌⊎◌, OnOk, OnErr, IfOk, Err, None, option_map, map, unwrap_or, []};
 ghost use Rattle.std.specs.List.{count_by};
 ghost use Rattle.std.specs.Prelude.{true};
 ghost use Rattle.fl_check.specs.Checks.{are_distinct};
@@ -10,19 +10,20 @@ ghost use Rattle.fl_queues.specs.Events.{show, write, acknowledge, register, der
 ghost use Rattle.fl_lines.specs.Commands.{call};
 ghost use Rattle.fl_lines.specs.Names.{with_names, with_dispatcher, with_binding, is_on, no_names};
 ghost use Rattle.fl_lines.specs.Names.{dispatcher_at, end_at};
-ghost use Rattle.fl_lines.specs.Names.{messages_at, message_at, place_of};
+ghost use Rattle.fl_lines.specs.Names.{messages_at, message_at, message_name, place_of};
 ghost use Rattle.fl_lines.specs.Asked.{asks_disp, asks_export, asks_bind, asks_turn, asks_reply, asks_call};
 ghost use Rattle.fl_lines.specs.Asked.{asks_interface};
-ghost use Rattle.fl_lines.specs.Asked.{asks_end, asks, kind_of};
-ghost use Rattle.fl_lines.specs.Events.{id_of, event_of};
+ghost use Rattle.fl_lines.specs.Asked.{asks_end, asks, kind_of, names_after};
+ghost use Rattle.fl_lines.specs.Events.{id_of, event_of, answer_of};
 ghost use Rattle.fl_lines.specs.Tables.{table_of};
-ghost use Rattle.fl_lines.specs.Told.{names_of, named, IsNew, Tells, AsksAs, TellsInterface};
+ghost use Rattle.fl_lines.specs.Told.{names_of, named, IsNew, Tells, AsksAs};
 ghost use Rattle.fl_lines.specs.Views.{end_name_of, back_end_of, command_of};
 
+use crate::answer::Answer;
 use crate::command::{BackEnd, Command, EndName};
 use crate::event::{Asked, DispatcherId, Event, Naming};
 use crate::fault::LineFault;
-use crate::table::NameTable;
+use crate::table::{InterfaceNames, NameTable};
 use fl_base::{EndId, MsgNo};
 use fl_check::{Interface, Message};
 use fl_value::{Call, CallText, PlanNo, ValueFault, read_call_text};
@@ -41,13 +42,6 @@ pub struct Names {
     pub bindings: NameTable,
     /// Of each binding, its interface.
     pub spoken: Vec<usize>,
-}
-
-/// The names of an interface: its own, and those of its messages, by number.
-#[derive(Drop)]
-pub struct InterfaceNames {
-    pub name: Vec<u8>,
-    pub messages: NameTable,
 }
 
 impl Names {
@@ -110,6 +104,16 @@ impl Names {
             return None;
         }
         Some(MsgNo(place as u16))
+    }
+
+    /// The name of a message at the interface of an end; empty where there is none.
+    pub fn message_name(&self, end: EndId, msg: MsgNo) -> &[u8]
+        ensures name { result.now ≡ message_name (names_of self.now) end msg.0 }
+    {
+        let Some(table) = self.messages(end) else {
+            return &[];
+        };
+        table.get(usize::from(msg.0)).unwrap_or(&[])
     }
 
     // An event that needs no name and gives none.
@@ -379,8 +383,7 @@ impl Names {
         }
     }
 
-    /// What a block asks whose text stands for an interface: the event, and the names that are given where it is
-    /// answered `ok`.
+    /// What a block asks whose text stands for an interface.
     ///
     /// # Errors
     /// The interface's name is taken (E92). Want of memory (E99).
@@ -388,26 +391,26 @@ impl Names {
         &self,
         interface: Interface,
         plan: PlanNo,
-    ) -> Result<(Event<'static>, InterfaceNames), LineFault>
-        ensures asks { TellsInterface (names_of self.now) result (asks_interface (names_of self.now) (interface_of interface) plan) }
-        ensures new { IfOk result (λ p. place_of p.1.name.items (table_of self.now.interfaces) ≡ None) }
+    ) -> Result<Asked<'static>, LineFault>
+        ensures asks { (result ≡ Err LineFault.Memory)
+            ⊎ Tells (names_of self.now) result (asks_interface (names_of self.now) (interface_of interface) plan) }
+        ensures new { IfOk result (λ a. IsNew (names_of self.now) a.naming) }
     {
         if self.interfaces.find(&interface.name.bytes).is_some() {
             return Err(LineFault::Name);
         }
         match names_of_interface(self.alloc, &interface) {
             Err(_) => Err(LineFault::Memory),
-            Ok(names) => Ok((Event::AddInterface { interface, plan }, names)),
+            Ok(names) => Ok(Asked {
+                event: Event::AddInterface { interface, plan },
+                naming: Naming::Interface(names),
+            }),
         }
     }
 
-    /// Records an interface's names, once the event that adds it was answered `ok`.
-    ///
-    /// # Errors
-    /// Want of memory; the names are as they were.
-    pub fn take_up_interface(&mut self, interface: InterfaceNames) -> Result<(), AllocError>
+    fn add_interface(&mut self, interface: InterfaceNames) -> Result<(), AllocError>
         requires { place_of interface.name.items (table_of self.old.interfaces) ≡ None }
-        ensures taken { OnOk result (names_of self.new
+        ensures added { OnOk result (names_of self.new
             ≡ with_names (names_of self.old) interface.name.items (table_of interface.messages)) }
         ensures kept { OnErr result (names_of self.new ≡ names_of self.old) }
     {
@@ -446,20 +449,33 @@ impl Names {
         Ok(())
     }
 
-    /// Records the name that an event gave, once it was answered `ok`.
-    ///
-    /// # Errors
-    /// Want of memory; the names are as they were.
-    pub fn take_up(&mut self, naming: Naming<'_>) -> Result<(), AllocError>
+    fn add(&mut self, naming: Naming<'_>) -> Result<(), AllocError>
         requires { IsNew (names_of self.old) naming }
-        ensures taken { OnOk result (names_of self.new ≡ named (names_of self.old) naming.entry) }
+        ensures added { OnOk result (names_of self.new ≡ named (names_of self.old) naming.entry) }
         ensures kept { OnErr result (names_of self.new ≡ names_of self.old) }
     {
         match naming {
             Naming::Nothing => Ok(()),
             Naming::Dispatcher { name, core } => self.add_dispatcher(name, core),
             Naming::Binding { name, interface } => self.add_binding(name, interface),
+            Naming::Interface(interface) => self.add_interface(interface),
         }
+    }
+
+    /// Records the name that an event gives, if it was answered `ok`.
+    ///
+    /// # Errors
+    /// Want of memory; the names are as they were.
+    pub fn take_up(&mut self, naming: Naming<'_>, answer: &Answer) -> Result<(), AllocError>
+        requires { IsNew (names_of self.old) naming }
+        ensures taken { OnOk result (names_of self.new
+            ≡ names_after (names_of self.old) (named (names_of self.old) naming.entry) (answer_of answer.now)) }
+        ensures kept { OnErr result (names_of self.new ≡ names_of self.old) }
+    {
+        if answer.is_done() {
+            return self.add(naming);
+        }
+        Ok(())
     }
 }
 

@@ -54,3 +54,10 @@ impl NameTable {
         Ok(())
     }
 }
+
+/// The names of an interface: its own, and those of its messages, by number.
+#[derive(Drop)]
+pub struct InterfaceNames {
+    pub name: Vec<u8>,
+    pub messages: NameTable,
+}

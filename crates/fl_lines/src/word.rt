@@ -2,7 +2,8 @@
 
 ghost use Rattle.std.specs.Prelude.{◌≡◌, ◌||◌, ◌==◌, is_some};
 ghost use Rattle.std.specs.List.{list_all};
-ghost use Rattle.fl_lines.specs.Words.{is_blank, without_blanks, first_word, behind_word, begins_comment};
+ghost use Rattle.fl_value.specs.CallText.{is_blank};
+ghost use Rattle.fl_lines.specs.Words.{without_blanks, first_word, behind_word, begins_comment};
 ghost use Rattle.fl_lines.specs.Words.{number_of};
 
 use fl_lex::is_digit;

@@ -1,5 +1,5 @@
 use Rattle.std.proofs.Common.{◌≡◌, length, is_some}
-use Rattle.fl_lines.specs.Reading.{words_of, numbers_of}
+use Rattle.fl_lines.specs.Words.{words_of, numbers_of}
 use Rattle.fl_lines.proofs.reader.are_numbers.Given as goal
 
 abbrev pub invariant-loop-word : goal.invariant-loop-word

@@ -1,5 +1,5 @@
 use Rattle.std.proofs.Common.{◌≡◌, ◌<◌, ℕ, get_or, false}
-use Rattle.fl_lines.specs.Words.{is_blank}
+use Rattle.fl_value.specs.CallText.{is_blank}
 use Rattle.fl_lines.proofs.word.next_word.Given as goal
 
 abbrev pub invariant-loop-i : goal.invariant-loop-i

@@ -1,5 +1,5 @@
 use Rattle.std.proofs.Common.{◌∙◌, sym}
-use Rattle.fl_lines.specs.Reading.{numbers_in}
+use Rattle.fl_lines.specs.Words.{numbers_in}
 use Rattle.std.proofs.Common.{◌∷◌}
 use Rattle.fl_lines.proofs.PieceLemmas.{one_more, none_more, shorter}
 use Rattle.fl_lines.proofs.command.Route.cores.Goals as goal

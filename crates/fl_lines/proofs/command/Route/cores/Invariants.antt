@@ -1,5 +1,5 @@
 use Rattle.std.proofs.Common.{◌≡◌, ◌++◌, ◌∷◌, length, is_some, true}
-use Rattle.fl_lines.specs.Reading.{words_of, numbers_of, numbers_in}
+use Rattle.fl_lines.specs.Words.{words_of, numbers_of, numbers_in}
 use Rattle.fl_lines.proofs.command.Route.cores.Given as goal
 
 abbrev pub invariant-loop-core : goal.invariant-loop-core
