@@ -1,0 +1,12 @@
+-- The public promises rest on View and Picture, and on the relations of events: Making, Binding, Sending, Taking, Linking, Step.
+pub mod View
+pub mod Picture
+pub mod Lending
+pub mod Making
+pub mod Binding
+pub mod Sending
+pub mod Taking
+pub mod Linking
+pub mod Step
+pub mod Laws
+pub mod Hearing

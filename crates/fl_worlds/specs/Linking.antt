@@ -1,0 +1,214 @@
+-- What it comes to, at a core's end of a link, that the core's monitor writes, that the core acknowledges, and that it forwards what stands first there.
+use Rattle.std.specs.Prelude.{ℕ, ◌≡◌, ◌≢◌, ◌⊎◌, nat_lt, slice_get, Option, Some, None, Result, Ok, Err, if◌then◌else◌}
+use Rattle.fl_base.specs.declared.fragment.Frag.{Frag}
+use Rattle.fl_base.specs.declared.identity.EndId.{EndId}
+use Rattle.fl_base.specs.declared.identity.LinkId.{LinkId}
+use Rattle.fl_base.specs.declared.identity.Side.{Side}
+use Rattle.fl_base.specs.declared.identity.Side.TheVariants.{Client, Server}
+use Rattle.fl_base.specs.declared.identity.Circuit.{Circuit}
+use Rattle.fl_base.specs.Control.{bare, with_circuit}
+use Rattle.fl_hop.specs.Table.{link_of}
+use Rattle.fl_hop.specs.declared.forward.Outcome.{Outcome}
+use Rattle.fl_hop.specs.declared.forward.Outcome.TheVariants as outcome
+use Rattle.fl_hop.specs.Forward.{put_label, Leaves}
+use Rattle.fl_ring.specs.Duo.{TheDuo}
+use Rattle.fl_ring.specs.Side.{SidePuts, SideTakes}
+use Rattle.fl_ring.specs.declared.duo_side.DuoSide.{DuoSide}
+use Rattle.fl_endpoint.specs.View.{TheEnd, interface_in}
+use Rattle.fl_core.specs.declared.answer.AckAnswer.{AckAnswer}
+use Rattle.fl_core.specs.declared.answer.AckAnswer.TheVariants as ack
+use Rattle.fl_core.specs.View.{TheSeat}
+use Rattle.fl_core.specs.Events.{ChangesEnd}
+use Rattle.fl_node.specs.declared.answer.Ahead.{Ahead}
+use Rattle.fl_node.specs.declared.answer.Ahead.TheVariants.{Nothing, Acknowledged, Message, Onward, Arrival}
+use Rattle.fl_node.specs.declared.answer.MonitorAnswer.{MonitorAnswer}
+use Rattle.fl_node.specs.declared.answer.MonitorAnswer.TheVariants as told
+use Rattle.fl_node.specs.declared.answer.MonitorWrite.{MonitorWrite}
+use Rattle.fl_node.specs.declared.answer.MonitorWrite.TheVariants as write
+use Rattle.fl_node.specs.declared.fault.LinkFault.{LinkFault}
+use Rattle.fl_node.specs.declared.fault.LinkFault.TheVariants.{Memory}
+use Rattle.fl_node.specs.Faults.{link_number}
+use Rattle.fl_node.specs.View.{TheCore, side_of_link}
+use Rattle.fl_node.specs.Ends.{OnBoard}
+use Rattle.fl_node.specs.Hearing.{Offers, HearsFrag, TakesHeard}
+use Rattle.fl_node.specs.Links.{MonitorWrites, LooksAhead, ArrivesAt, Acknowledges}
+use Rattle.fl_queues.specs.Given.{given}
+use Rattle.fl_queues.specs.Events.{Answer, done, nothing, full, written, forwarded, opened, opening_refused, refused}
+use Rattle.fl_worlds.specs.declared.binding.Binding.{Binding}
+use Rattle.fl_worlds.specs.View.{Given, TheWorld, ring_at, IsWhole, Spot, made, spot_of, with_core, with_ring, with_binding}
+use Rattle.fl_worlds.specs.Lending.{Refuses, DoesNothing, OverSide, IsLent, front_for, IsStray}
+
+-- a core's end of a link: the link there, and the core's side of its ring
+pub record LinkEnd : Type 0 where
+  pub link : ℕ
+  pub side : ℕ
+
+-- that of its link to a neighbour
+abbrev pub lane_to : TheWorld → ℕ → ℕ → Option LinkEnd
+lane_to w core neighbour =
+    if nat_lt neighbour 256
+    then (given (slice_get w.cores core) None λ k.
+    given (link_of k.monitor.circuits neighbour) None λ l.
+    given (side_of_link k.lanes l) None λ m.
+    Some (record { link = l; side = m }))
+    else None
+
+-- ---- the monitor writes
+
+abbrev pub write_answer : MonitorWrite → Answer
+write_answer write.Written = written 1 1
+write_answer write.Full = full
+write_answer write.Spent = full
+write_answer write.Nothing = nothing
+
+abbrev pub MonitorWritesWith : ℕ → Answer → TheCore → DuoSide → TheCore → DuoSide → Type 0
+MonitorWritesWith l a k p k2 q = (r : MonitorWrite) × MonitorWrites SidePuts l k p r k2 q × (a ≡ write_answer r)
+
+abbrev pub WritesMessage : ℕ → ℕ → TheWorld → Answer → TheWorld → Type 0
+WritesMessage core neighbour w a w2 =
+    Given (lane_to w core neighbour) (Refuses 73 w a w2) λ at.
+    OverSide w core at.side (MonitorWritesWith at.link a) w2 ⊎ IsStray w.rings (ring_at at.side) w a w2
+
+-- ---- the core acknowledges
+
+abbrev pub ack_answer : AckAnswer → Answer
+ack_answer ack.Done = done
+ack_answer ack.Nothing = nothing
+ack_answer ack.Full = full
+
+abbrev pub AcksLinkWith : Answer → TheCore → DuoSide → TheCore → DuoSide → Type 0
+AcksLinkWith a k p k2 q = (r : AckAnswer) × Acknowledges SideTakes p r q × (k2 ≡ k) × (a ≡ ack_answer r)
+
+abbrev pub AcksLink : ℕ → ℕ → TheWorld → Answer → TheWorld → Type 0
+AcksLink core neighbour w a w2 =
+    Given (lane_to w core neighbour) (Refuses 73 w a w2) λ at.
+    OverSide w core at.side (AcksLinkWith a) w2 ⊎ IsStray w.rings (ring_at at.side) w a w2
+
+-- ---- a message is heard
+
+-- what is answered; want of memory isn't an answer
+abbrev pub IsHeard : Result MonitorAnswer LinkFault → Answer → Type 0
+IsHeard (Ok told.Full) a = a ≡ full
+IsHeard (Ok told.Done) a = a ≡ done
+IsHeard (Ok (told.Opened e)) a = a ≡ opened e
+IsHeard (Ok (told.OpeningRefused e reason)) a = a ≡ opening_refused reason e
+IsHeard (Err Memory) a = ⊥
+IsHeard (Err fault) a = a ≡ refused (link_number fault)
+
+-- the fragment says a message, of which this is told
+abbrev pub HearsWith : Offers → LinkId → Frag → Result MonitorAnswer LinkFault → TheCore → DuoSide → TheCore → DuoSide → Type 0
+HearsWith o l frag r k p k2 q = HearsFrag o l frag k r k2 × TakesHeard SideTakes frag p r q
+
+-- the end at a place of core n has just been made for a binding, which keeps one for it
+pub record HasRules (w : TheWorld) (n place binding : ℕ) : Type 0 where
+  pub core : TheCore
+  pub core_is : slice_get w.cores n ≡ Some core
+  pub made : TheSeat
+  pub made_is : slice_get core.board.seats place ≡ Some made
+  pub kept : Binding
+  pub kept_is : slice_get w.bindings binding ≡ Some kept
+  pub end : TheEnd
+  pub end_is : kept.unmade ≡ Some end
+
+-- an end with the rules of another, where the two are of one interface
+abbrev pub WithRules : TheEnd → TheEnd → TheEnd → Type 0
+WithRules s o t =
+    ((interface_in s ≡ interface_in o) × (t ≡ record s { rules = o.rules })) ⊎ ((interface_in s ≢ interface_in o) × (t ≡ s))
+
+-- it gets that end's rules, and the binding keeps none any more
+pub record TakesRules (w : TheWorld) (n place binding : ℕ) (w2 : TheWorld) : Type 0 where
+  pub has : HasRules w n place binding
+  pub whole : IsWhole has.core
+  pub end : TheEnd
+  pub with_rules : WithRules has.made.end has.end end
+  pub after : TheCore
+  pub still : IsWhole after
+  pub on_board : OnBoard has.core (λ b c. ChangesEnd b place (λ s t. t ≡ end) c) after
+  pub rest : w2 ≡ with_binding (with_core w n after) binding (record has.kept { unmade = None })
+
+-- a server's end that was made gets the rules that were set for it before
+abbrev pub BringsRules : Spot → Side → ℕ → TheWorld → TheWorld → Type 0
+BringsRules (made n place) Server b w w2 = TakesRules w n place b w2 ⊎ ((HasRules w n place b → ⊥) × (w2 ≡ w))
+BringsRules spot side b w w2 = w2 ≡ w
+
+abbrev pub ThenRules : Result MonitorAnswer LinkFault → TheWorld → TheWorld → Type 0
+ThenRules (Ok (told.Opened e)) w w2 = BringsRules (spot_of w e) e.side e.binding w w2
+ThenRules r w w2 = w2 ≡ w
+
+abbrev pub offers_in : TheWorld → Offers
+offers_in w = record { names = w.names; programs = w.programs }
+
+abbrev pub link_id : ℕ → LinkId
+link_id l = record { 0 = l }
+
+-- a core hears what stands first on a link
+pub record HearsFirst (core : ℕ) (at : LinkEnd) (frag : Frag) (w : TheWorld) (a : Answer) (w2 : TheWorld) : Type 0 where
+  pub told : Result MonitorAnswer LinkFault
+  pub heard : TheWorld
+  pub hears : OverSide w core at.side (HearsWith (offers_in w) (link_id at.link) frag told) heard
+  pub answer : IsHeard told a
+  pub rules : ThenRules told heard w2
+
+-- ---- a call's fragment goes on, or arrives
+
+abbrev pub moved_answer : Outcome → Answer
+moved_answer outcome.Moved = forwarded
+moved_answer outcome.Full = full
+moved_answer outcome.Spent = full
+
+-- from one side to another, with this circuit's number
+pub record MovesOn (from onto : ℕ) (frag : Frag) (circuit : Circuit) (w : TheWorld) (a : Answer) (w2 : TheWorld) : Type 0 where
+  pub apart : ring_at from ≢ ring_at onto
+  pub ring : TheDuo
+  pub ring_is : slice_get w.rings (ring_at from) ≡ Some ring
+  pub side : DuoSide
+  pub lent : IsLent from ring side
+  pub next : TheDuo
+  pub next_is : slice_get w.rings (ring_at onto) ≡ Some next
+  pub next_side : DuoSide
+  pub next_lent : IsLent onto next next_side
+  pub outcome : Outcome
+  pub put_side : DuoSide
+  pub puts : SidePuts next_side (put_label outcome (bare (with_circuit circuit.0 frag))) put_side
+  pub left_side : DuoSide
+  pub left : Leaves SideTakes outcome (bare frag) (record { before = side; after = left_side })
+  pub answer : a ≡ moved_answer outcome
+  pub rest : w2 ≡ with_ring (with_ring w (ring_at from) left_side.duo.now) (ring_at onto) put_side.duo.now
+
+-- as in no world that shows a state: it would go back onto the ring that it comes from, or to none
+abbrev pub IsNoWay : ℕ → ℕ → TheWorld → Type 0
+IsNoWay from onto w = (ring_at from ≡ ring_at onto) ⊎ (slice_get w.rings (ring_at from) ≡ None) ⊎ (slice_get w.rings (ring_at onto) ≡ None)
+
+abbrev pub IsMoved : Result Outcome LinkFault → Answer → Type 0
+IsMoved (Ok outcome) a = a ≡ moved_answer outcome
+IsMoved (Err fault) a = a ≡ refused (link_number fault)
+
+abbrev pub ArrivesWith : ℕ → Frag → EndId → Answer → TheCore → DuoSide → TheCore → DuoSide → Type 0
+ArrivesWith l frag e a k p k2 q = (r : Result Outcome LinkFault) × ArrivesAt SideTakes l frag e k p r k2 q × IsMoved r a
+
+abbrev pub LooksWith : ℕ → Result Ahead LinkFault → TheCore → DuoSide → TheCore → DuoSide → Type 0
+LooksWith l ahead k p k2 q = LooksAhead SideTakes front_for l k p ahead k2 q
+
+-- ---- a core forwards
+
+-- by what stands first
+abbrev pub ForwardsBy : Result Ahead LinkFault → ℕ → LinkEnd → TheWorld → Answer → TheWorld → Type 0
+ForwardsBy (Ok Nothing) core at w a w2 = DoesNothing w a w2
+ForwardsBy (Ok Acknowledged) core at w a w2 = (a ≡ done) × (w2 ≡ w)
+ForwardsBy (Ok (Message frag)) core at w a w2 = HearsFirst core at frag w a w2
+ForwardsBy (Ok (Onward frag side circuit)) core at w a w2 =
+    MovesOn at.side side frag circuit w a w2 ⊎ (IsNoWay at.side side w × DoesNothing w a w2)
+ForwardsBy (Ok (Arrival frag e)) core at w a w2 = OverSide w core at.side (ArrivesWith at.link frag e a) w2
+ForwardsBy (Err fault) core at w a w2 = Refuses (link_number fault) w a w2
+
+-- the link is looked at, and then what stands first there is followed
+pub record ForwardsFirst (core : ℕ) (at : LinkEnd) (w : TheWorld) (a : Answer) (w2 : TheWorld) : Type 0 where
+  pub ahead : Result Ahead LinkFault
+  pub looked : TheWorld
+  pub looks : OverSide w core at.side (LooksWith at.link ahead) looked
+  pub follows : ForwardsBy ahead core at looked a w2
+
+abbrev pub Forwards : ℕ → ℕ → TheWorld → Answer → TheWorld → Type 0
+Forwards core neighbour w a w2 =
+    Given (lane_to w core neighbour) (Refuses 73 w a w2) λ at.
+    ForwardsFirst core at w a w2 ⊎ IsStray w.rings (ring_at at.side) w a w2

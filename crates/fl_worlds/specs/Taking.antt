@@ -1,0 +1,169 @@
+-- What it comes to, by where the end is, that a dispatcher has a turn, and that an end acknowledges, registers or
+-- deregisters its channel, or gets a reply rule.
+use Rattle.std.specs.Prelude.{ℕ, ◌≡◌, ◌⊎◌, not, slice_get, Option, Some, None, IsSome, Result, Ok, Err}
+use Rattle.fl_base.specs.declared.identity.EndId.{EndId}
+use Rattle.fl_value.specs.Value.{call_of}
+use Rattle.fl_link.specs.Looks.{Look}
+use Rattle.fl_link.specs.Queue.{QueueTakes}
+use Rattle.fl_ring.specs.Side.{SideTakes}
+use Rattle.fl_ring.specs.declared.duo_side.DuoSide.{DuoSide}
+use Rattle.fl_endpoint.specs.declared.fault.EndFault.{EndFault}
+use Rattle.fl_endpoint.specs.Accounts.{Sound}
+use Rattle.fl_endpoint.specs.Faults.{fault_number}
+use Rattle.fl_endpoint.specs.Events.{SetsRule, IsUnbound}
+use Rattle.fl_endpoint.specs.View.{TheEnd}
+use Rattle.fl_core.specs.declared.answer.AckAnswer.{AckAnswer}
+use Rattle.fl_core.specs.declared.answer.AckAnswer.TheVariants as ack
+use Rattle.fl_core.specs.declared.answer.TurnAnswer.{TurnAnswer}
+use Rattle.fl_core.specs.declared.answer.TurnAnswer.TheVariants as turn
+use Rattle.fl_core.specs.declared.fault.BoardFault.{BoardFault}
+use Rattle.fl_core.specs.Faults.{fault_number as board_number}
+use Rattle.fl_core.specs.View.{due}
+use Rattle.fl_core.specs.Events.{ChangesEnd, ChangesLists, Holds, Deregisters, Acks}
+use Rattle.fl_core.specs.Turns.{Turns, over}
+use Rattle.fl_wire.specs.Fault.{number_of as wire_number}
+use Rattle.fl_node.specs.declared.wire.Inlet.{Inlet}
+use Rattle.fl_node.specs.declared.wire.Inlet.TheVariants as inlet
+use Rattle.fl_node.specs.View.{TheCore, place_of, inlet_of}
+use Rattle.fl_node.specs.Ends.{OnBoard, OverArrivals, RegistersAt}
+use Rattle.fl_queues.specs.Events.{DispatcherId, Answer, done, nothing, full, handle, part, ready, quiet, refused}
+use Rattle.fl_queues.specs.Given.{given}
+use Rattle.fl_worlds.specs.View.{Given, If, TheWorld, has_dispatcher, ring_at, Spot, nowhere, unmade, made, spot_of}
+use Rattle.fl_worlds.specs.Lending.{Refuses, DoesNothing, AtCore, OverQueue, OverSide, AtUnmade, KeepsNone, IsStray}
+
+-- ---- a turn
+
+-- what is answered of the end of this name
+abbrev pub turn_answer : EndId → TurnAnswer → Answer
+turn_answer e (turn.Handle call) = handle e (call_of call)
+turn_answer e turn.Part = part e
+turn_answer e turn.Ready = ready e
+turn_answer e turn.Quiet = quiet e
+turn_answer e turn.Full = full
+turn_answer e turn.Nothing = nothing
+turn_answer e (turn.Refused fault) = refused (wire_number fault)
+
+-- the end that is due at a dispatcher: its place, its name, and where it takes from
+pub record IsDue (w : TheWorld) (d : DispatcherId) (e : ℕ) (name : EndId) (i : Inlet) : Type 0 where
+  pub core : TheCore
+  pub core_is : slice_get w.cores d.core ≡ Some core
+  pub due_is : due core.board d.place ≡ Some e
+  pub name_is : place_of core name ≡ Some e
+  pub inlet_is : inlet_of core e ≡ Some i
+
+abbrev pub TurnsWith : {T : Type 0} → (T → Look → T → Type 0) → ℕ → ℕ → EndId → Answer → TheCore → T → TheCore → T → Type 0
+TurnsWith takes n e name a k p k2 q =
+    (r : TurnAnswer) × Holds k.board e (λ s. Sound s.end) × OnBoard k (λ b c. Turns takes n e (over b p) (Ok r) (over c q)) k2
+    × (a ≡ turn_answer name r)
+
+abbrev pub TurnsArrivals : ℕ → ℕ → EndId → Answer → TheCore → TheCore → Type 0
+TurnsArrivals n e name a k k2 =
+    (r : TurnAnswer) × Holds k.board e (λ s. Sound s.end)
+    × OverArrivals k e (λ b p c q. Turns QueueTakes n e (over b p) (Ok r) (over c q)) k2 × (a ≡ turn_answer name r)
+
+abbrev pub TurnsOver : Inlet → DispatcherId → ℕ → EndId → TheWorld → Answer → TheWorld → Type 0
+TurnsOver (inlet.Queue q) d e name w a w2 = OverQueue w d.core q (TurnsWith QueueTakes d.place e name a) w2 ⊎ IsStray w.queues q w a w2
+TurnsOver (inlet.Side m) d e name w a w2 = OverSide w d.core m (TurnsWith SideTakes d.place e name a) w2 ⊎ IsStray w.rings (ring_at m) w a w2
+TurnsOver inlet.Arrivals d e name w a w2 = AtCore w d.core (TurnsArrivals d.place e name a) w2
+
+-- the end that is due at a dispatcher has the turn
+abbrev pub TurnsAt : DispatcherId → ℕ → TheWorld → Answer → TheWorld → Type 0
+TurnsAt d e w a w2 = (name : EndId) × (i : Inlet) × IsDue w d e name i × TurnsOver i d e name w a w2
+
+abbrev pub due_at : TheWorld → DispatcherId → Option ℕ
+due_at w d = given (slice_get w.cores d.core) None λ k. due k.board d.place
+
+abbrev pub HasTurn : DispatcherId → TheWorld → Answer → TheWorld → Type 0
+HasTurn d w a w2 =
+    If (not (has_dispatcher w d)) (Refuses 92 w a w2)
+    (Given (due_at w d) (DoesNothing w a w2) λ e. TurnsAt d e w a w2)
+
+-- ---- an end acknowledges
+
+abbrev pub IsAcked : Result AckAnswer BoardFault → Answer → Type 0
+IsAcked (Ok ack.Done) a = a ≡ done
+IsAcked (Ok ack.Nothing) a = a ≡ nothing
+IsAcked (Ok ack.Full) a = a ≡ full
+IsAcked (Err fault) a = a ≡ refused (board_number fault)
+
+abbrev pub AcksWith : ℕ → Answer → TheCore → DuoSide → TheCore → DuoSide → Type 0
+AcksWith place a k p k2 q = (r : Result AckAnswer BoardFault) × Holds k.board place (λ s. Acks SideTakes s.kind s.end p r q) × (k2 ≡ k) × IsAcked r a
+
+-- where it takes from a queue it has nothing to tell
+abbrev pub TellsNothing : TheEnd → Answer → Type 0
+TellsNothing s a = (IsUnbound s × (a ≡ refused 43)) ⊎ (IsSome s.circuit × (a ≡ nothing))
+
+-- the core is there, and where the end takes from
+pub record HasInlet (w : TheWorld) (n place : ℕ) (i : Inlet) : Type 0 where
+  pub core : TheCore
+  pub core_is : slice_get w.cores n ≡ Some core
+  pub inlet_is : inlet_of core place ≡ Some i
+
+abbrev pub AcksOver : Inlet → TheCore → ℕ → ℕ → TheWorld → Answer → TheWorld → Type 0
+AcksOver (inlet.Side m) k n place w a w2 = OverSide w n m (AcksWith place a) w2 ⊎ IsStray w.rings (ring_at m) w a w2
+AcksOver (inlet.Queue q) k n place w a w2 = Holds k.board place (λ s. TellsNothing s.end a) × (w2 ≡ w)
+AcksOver inlet.Arrivals k n place w a w2 = Holds k.board place (λ s. TellsNothing s.end a) × (w2 ≡ w)
+
+abbrev pub AcksAt : Spot → TheWorld → Answer → TheWorld → Type 0
+AcksAt nowhere w a w2 = Refuses 92 w a w2
+AcksAt unmade w a w2 = Refuses 43 w a w2
+AcksAt (made n place) w a w2 = (i : Inlet) × ((h : HasInlet w n place i) × AcksOver i h.core n place w a w2)
+
+abbrev pub Acknowledges : EndId → TheWorld → Answer → TheWorld → Type 0
+Acknowledges e w a w2 = AcksAt (spot_of w e) w a w2
+
+-- ---- a channel is registered, or deregistered
+
+abbrev pub IsRegistered : Result (Unit {0}) BoardFault → Answer → Type 0
+IsRegistered (Ok unit) a = a ≡ done
+IsRegistered (Err fault) a = a ≡ refused (board_number fault)
+
+abbrev pub RegistersWith : {T : Type 0} → (T → Look → T → Type 0) → ℕ → Answer → TheCore → T → TheCore → T → Type 0
+RegistersWith takes place a k p k2 q =
+    (r : Result (Unit {0}) BoardFault) × OnBoard k (λ b c. RegistersAt takes place r b p c q) k2 × IsRegistered r a
+
+abbrev pub RegistersArrivals : ℕ → Answer → TheCore → TheCore → Type 0
+RegistersArrivals place a k k2 =
+    (r : Result (Unit {0}) BoardFault) × OverArrivals k place (λ b p c q. RegistersAt QueueTakes place r b p c q) k2 × IsRegistered r a
+
+abbrev pub RegistersOver : Inlet → ℕ → ℕ → TheWorld → Answer → TheWorld → Type 0
+RegistersOver (inlet.Queue q) n place w a w2 = OverQueue w n q (RegistersWith QueueTakes place a) w2 ⊎ IsStray w.queues q w a w2
+RegistersOver (inlet.Side m) n place w a w2 = OverSide w n m (RegistersWith SideTakes place a) w2 ⊎ IsStray w.rings (ring_at m) w a w2
+RegistersOver inlet.Arrivals n place w a w2 = AtCore w n (RegistersArrivals place a) w2
+
+abbrev pub RegistersBy : Spot → TheWorld → Answer → TheWorld → Type 0
+RegistersBy nowhere w a w2 = Refuses 92 w a w2
+RegistersBy unmade w a w2 = Refuses 43 w a w2
+RegistersBy (made n place) w a w2 = (i : Inlet) × HasInlet w n place i × RegistersOver i n place w a w2
+
+abbrev pub RegistersChannel : EndId → TheWorld → Answer → TheWorld → Type 0
+RegistersChannel e w a w2 = RegistersBy (spot_of w e) w a w2
+
+abbrev pub DeregistersIn : ℕ → Answer → TheCore → TheCore → Type 0
+DeregistersIn place a k k2 =
+    (r : Result (Unit {0}) BoardFault) × OnBoard k (λ b c. ChangesLists b place (λ s w v. Deregisters s w r v) c) k2 × IsRegistered r a
+
+abbrev pub DeregistersBy : Spot → TheWorld → Answer → TheWorld → Type 0
+DeregistersBy nowhere w a w2 = Refuses 92 w a w2
+DeregistersBy unmade w a w2 = Refuses 43 w a w2
+DeregistersBy (made n place) w a w2 = AtCore w n (DeregistersIn place a) w2
+
+abbrev pub DeregistersChannel : EndId → TheWorld → Answer → TheWorld → Type 0
+DeregistersChannel e w a w2 = DeregistersBy (spot_of w e) w a w2
+
+-- ---- a reply rule
+
+abbrev pub IsRuled : Result (Unit {0}) EndFault → Answer → Type 0
+IsRuled (Ok unit) a = a ≡ done
+IsRuled (Err fault) a = a ≡ refused (fault_number fault)
+
+abbrev pub RulesAt : Spot → EndId → ℕ → ℕ → TheWorld → Answer → TheWorld → Type 0
+RulesAt nowhere e msg reply w a w2 = Refuses 92 w a w2
+RulesAt unmade e msg reply w a w2 =
+    (AtUnmade w e.binding (λ s t. (r : Result (Unit {0}) EndFault) × SetsRule s msg reply r t × IsRuled r a) w2)
+    ⊎ (KeepsNone w e.binding × Refuses 92 w a w2)
+RulesAt (made n place) e msg reply w a w2 =
+    AtCore w n (λ k k2. (r : Result (Unit {0}) EndFault) × OnBoard k (λ b c. ChangesEnd b place (λ s t. SetsRule s msg reply r t) c) k2 × IsRuled r a) w2
+
+abbrev pub SetsReply : EndId → ℕ → ℕ → TheWorld → Answer → TheWorld → Type 0
+SetsReply e msg reply w a w2 = RulesAt (spot_of w e) e msg reply w a w2

@@ -1,0 +1,120 @@
+-- A world, as contracts see it: its parts' own views, and what it keeps beside them. It stores no history.
+use Rattle.std.specs.Prelude.{ℕ, ◌+◌, ◌*◌, ◌/◌, ◌%◌, ◌==◌, nat_lt, Bool, true}
+use Rattle.std.specs.Prelude.{false, if◌then◌else◌, List, length, slice_get, slice_set, Option, Some, None}
+use Rattle.fl_base.specs.declared.identity.Side.{Side}
+use Rattle.fl_base.specs.declared.identity.Side.TheVariants.{Client, Server}
+use Rattle.fl_base.specs.declared.identity.EndId.{EndId}
+use Rattle.fl_compile.specs.declared.program.Program.{Program}
+use Rattle.fl_link.specs.Queue.{TheQueue}
+use Rattle.fl_ring.specs.Duo.{TheDuo}
+use Rattle.fl_ring.specs.declared.one_duo.Which.{Which}
+use Rattle.fl_endpoint.specs.View.{TheEnd}
+use Rattle.fl_nameserv.specs.Registrations.{TheRegistration}
+use Rattle.fl_core.specs.Sound.{IsBoard}
+use Rattle.fl_monitor.specs.Monitors.{HasOutboxes}
+use Rattle.fl_node.specs.View.{TheCore, place_of}
+use Rattle.fl_node.specs.Sound.{IsCore}
+use Rattle.fl_queues.specs.Given.{given}
+use Rattle.fl_queues.specs.Events.{DispatcherId}
+use Rattle.fl_queues.specs.Rings.{RingSide, first_side, second_side, RingEnd}
+use Rattle.fl_shows.specs.Rings.{which_of}
+use Rattle.fl_worlds.specs.declared.binding.Binding.{Binding}
+
+-- ---- what is to be shown, by cases
+
+-- where there is no x, the first; where x is `Some y`, the second with y
+abbrev pub Given : {X : Type 0} → Option X → Type 0 → (X → Type 0) → Type 0
+Given None Otherwise Then = Otherwise
+Given (Some y) Otherwise Then = Then y
+
+-- where the condition holds, the first, and else the second
+abbrev pub If : Bool → Type 0 → Type 0 → Type 0
+If true Then Else = Then
+If false Then Else = Else
+
+-- ---- a world
+
+pub record TheWorld : Type 0 where
+  -- no event but those that add interfaces was accepted yet
+  pub may_set_cores : Bool
+  pub cores : List TheCore
+  -- how many dispatchers there are at all cores
+  pub dispatchers : ℕ
+  pub rings : List TheDuo
+  -- the queues of bindings within a core, two for each
+  pub queues : List TheQueue
+  pub programs : List Program
+  pub names : List TheRegistration
+  pub bindings : List Binding
+
+-- a ring's two sides are numbered one after the other
+abbrev pub number_in : RingSide → ℕ
+number_in first_side = 0
+number_in second_side = 1
+
+abbrev pub side_number : RingEnd → ℕ
+side_number at = 2 * at.ring + number_in at.side
+
+-- and the side of a number: its ring, and which of the two it is
+abbrev pub ring_at : ℕ → ℕ
+ring_at n = n / 2
+
+abbrev pub side_in : ℕ → RingSide
+side_in n = if n % 2 == 0 then first_side else second_side
+
+abbrev pub side_at : ℕ → RingEnd
+side_at n = record { ring = ring_at n; side = side_in n }
+
+abbrev pub which_at : ℕ → Which
+which_at n = which_of (side_in n)
+
+-- what is known of a core at any time
+pub record IsWhole (k : TheCore) : Type 0 where
+  pub core : IsCore k
+  pub board : IsBoard k.board
+  pub outboxes : HasOutboxes k.monitor
+
+-- ---- where things are
+
+-- there is such a dispatcher
+abbrev pub has_dispatcher : TheWorld → DispatcherId → Bool
+has_dispatcher w d = given (slice_get w.cores d.core) false λ k. nat_lt d.place (length k.board.dispatchers)
+
+pub data Spot : Type 0 where
+  -- there is no such binding
+  nowhere : Spot
+  -- the server's end of a circuit, before it is made
+  unmade : Spot
+  -- at this core, at this place of its board
+  made : ℕ → ℕ → Spot
+
+abbrev pub core_in : Side → Binding → ℕ
+core_in Client b = b.client
+core_in Server b = b.server
+
+abbrev pub spot_at : List TheCore → ℕ → EndId → Spot
+spot_at cores n e =
+    given (slice_get cores n) unmade λ k.
+    given (place_of k e) unmade λ place.
+    made n place
+
+abbrev pub spot_of : TheWorld → EndId → Spot
+spot_of w e = given (slice_get w.bindings e.binding) nowhere λ b. spot_at w.cores (core_in e.side b) e
+
+-- ---- one thing changed
+
+abbrev pub with_core : TheWorld → ℕ → TheCore → TheWorld
+with_core w n k = record w { cores = slice_set w.cores n k }
+
+abbrev pub with_ring : TheWorld → ℕ → TheDuo → TheWorld
+with_ring w n r = record w { rings = slice_set w.rings n r }
+
+abbrev pub with_queue : TheWorld → ℕ → TheQueue → TheWorld
+with_queue w n q = record w { queues = slice_set w.queues n q }
+
+abbrev pub with_binding : TheWorld → ℕ → Binding → TheWorld
+with_binding w n b = record w { bindings = slice_set w.bindings n b }
+
+-- the binding with another end kept for its server
+abbrev pub keeping : Binding → TheEnd → Binding
+keeping b t = record b { unmade = Some t }
