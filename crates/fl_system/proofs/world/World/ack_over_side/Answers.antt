@@ -1,0 +1,6 @@
+use Rattle.std.proofs.Common.{refl, arith, inl}
+use Rattle.fl_system.proofs.Lifts.{core_read, over_side_alone}
+use Rattle.fl_system.proofs.world.World.ack_over_side.Goals as goal
+
+pub returns : goal.returns
+returns c = record { acks = λ k. inl (over_side_alone c.args.self.now _ c.self.view_is c.args.n c.args.m _ c.ring_at.ensures.ring (core_read c.args.self.now _ c.self.view_is c.args.n c.args.place c.requires.end) (omega (arith, c.in-Some.ensures.variant.0 refl, c.self.inside.rings.ok.0)) _ _ c.index.ensures refl _ _ c.in-Some.ensures.value refl _ _ c.ack_by_ring.ensures.acks) }

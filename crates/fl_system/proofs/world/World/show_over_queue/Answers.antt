@@ -1,0 +1,13 @@
+use Rattle.std.proofs.Common.{◌≡◌, refl, subst, List, slice_get, Some}
+use Rattle.fl_link.specs.Queue.{TheQueue}
+use Rattle.fl_worlds.specs.View.{TheWorld}
+use Rattle.fl_system.proofs.Lifts.{stands, core_is_read, queue_previews}
+use Rattle.fl_system.proofs.world.World.show_over_queue.Goals as goal
+
+pub returns-in-Some : goal.returns-in-Some
+returns-in-Some c =
+    let t = c.in-Some.queue.now in
+    let lent : slice_get c.deref.result.now c.args.q ≡ Some t = stands c.deref.result.now c.args.q t t c.in-Some.ensures.lookup.3.0 c.in-Some.ensures.lookup.1 refl in
+    let there : slice_get c.args.self.now.queues c.args.q ≡ Some t
+    = subst (λ (x : TheWorld). slice_get x.queues c.args.q ≡ Some t) c.self.view_is (subst (λ (xs : List TheQueue). slice_get xs c.args.q ≡ Some t) c.deref.ensures.value lent) in
+    record { shows = λ k is. queue_previews c.args.self.now c.args.place c.args.q t _ c.index.result.now k (core_is_read c.args.self.now _ c.self.view_is c.args.n c.args.place c.requires.end c.index.result.now c.index.ensures k is) there c.show_by_queue.ensures.shows }

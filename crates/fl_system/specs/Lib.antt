@@ -1,0 +1,5 @@
+-- The public promises rest on fl_worlds; these say the same of the parts of a world that an event touches.
+pub mod Places
+pub mod Parts
+pub mod Passing
+pub mod Following

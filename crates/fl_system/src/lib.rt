@@ -1,0 +1,28 @@
+//! The whole system, one event at a time: all cores, and the rings and queues between them.
+//!
+//! Contract for the layers above: a [`World`] is the record of `fl_worlds/specs/View.antt`. One event is one step of its relations: what is
+//! answered and what the world is then, exactly. Where memory is refused the world is as it was. By the laws of `fl_worlds` each is then a step of the
+//! queue machine. Bindings are not made here yet, and no call does whatever event it is given: both wait in `wip/`.
+//!
+//! - `world.rt`: `World`, and what contracts see of it
+//! - `places.rt`: where ends and links are
+//! - `lending.rt`: sides of rings, lent
+//! - `sending.rt`: calls and writes of ends
+//! - `taking.rt`: turns, and what ends say of themselves
+//! - `linking.rt`: events of links
+//! - `moving.rt`: what stands first on a link is looked at, and moves
+//! - `forwarding.rt`: what was seen there is followed
+//! - `making.rt`: interfaces, cores, links, dispatchers and services
+#![tactic(auto)]
+
+mod forwarding;
+mod lending;
+mod linking;
+mod making;
+mod moving;
+mod places;
+mod sending;
+mod taking;
+mod world;
+
+pub use world::World;

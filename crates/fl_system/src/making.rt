@@ -1,0 +1,284 @@
+//! Interfaces, cores, links, dispatchers and services are made.
+
+ghost use Rattle.std.specs.Prelude.{ℕ, ◌≡◌, ◌≢◌, ◌≤◌, ◌<◌, ◌-◌, ◌^◌, ◌⊎◌, length, IfOk, OnOk, OnErr, bytes_eq};
+ghost use Rattle.fl_base.specs.declared.identity.CoreId.{CoreId};
+ghost use Rattle.fl_check.specs.Interface.{interface_of};
+ghost use Rattle.fl_compile.specs.Programs.{program_of};
+ghost use Rattle.fl_ring.specs.Duo.{MayHaveSlots};
+ghost use Rattle.fl_node.specs.View.{TheCore};
+ghost use Rattle.fl_node.specs.Making.{linked, IsLinked};
+ghost use Rattle.fl_queues.specs.Events.{done};
+ghost use Rattle.fl_worlds.specs.View.{IsWhole};
+ghost use Rattle.fl_worlds.specs.Making.{has_program, has_link, new_duo, WithProgram, AddsInterface, fresh_cores, SetsCores, AddsLink, AddsDispatcher, Exports};
+ghost use Rattle.fl_worlds.specs.Making as making;
+ghost use Rattle.fl_lines.specs.Events.{answer_of, id_of};
+ghost use Rattle.fl_worlds.specs.Step.{fresh_world};
+ghost use Rattle.fl_system.specs.Parts.{LinksBoth, is_no_pair};
+
+use crate::lending::whole;
+use crate::world::World;
+use fl_base::CoreId;
+use fl_check::Interface;
+use fl_compile::{Program, compile};
+use fl_lines::{Answer, DispatcherId};
+use fl_nameserv::{Names, Service};
+use fl_node::Core;
+use fl_ring::{OneDuo, RingFault};
+use fl_value::PlanNo;
+use std::alloc::{AllocError, Global};
+
+// How many interfaces, dispatchers and services a world has at most.
+const MAX_INTERFACES: usize = 64;
+
+const MAX_DISPATCHERS: usize = 256;
+
+const MAX_SERVICES: usize = 256;
+
+// How many cores.
+const MAX_CORES: u32 = 16;
+
+// So many cores with nothing on them.
+fn fresh_cores(alloc: Global, n: u32) -> Result<Vec<Core>, AllocError>
+    requires { n ≤ 16 }
+    ensures { IfOk result (λ cores. cores.items ≡ fresh_cores n) }
+{
+    let mut cores = Vec::new(alloc);
+    for core in 0..n {
+        let core = Core::new(alloc, CoreId(core as u8))?;
+        cores.push(core)?;
+    }
+    Ok(cores)
+}
+
+// Whether a program's interface has this name.
+fn has_name(program: &Program, name: &[u8]) -> bool
+    ensures has { result ≡ bytes_eq name.now (program_of program.now).interface.name }
+{
+    name == program.interface().name.bytes.as_slice()
+}
+
+// Adds a link to a core, over this side of a ring.
+fn link(core: &mut Core, neighbour: CoreId, side: usize) -> Result<(), AllocError>
+    ensures whole { IsWhole core.old }
+    ensures links { OnOk result (core.new ≡ linked core.old neighbour side) }
+    ensures kept { OnErr result (core.new ≡ core.old) }
+{
+    whole(core);
+    match core.add_link(neighbour, side) {
+        Ok(_) => Ok(()),
+        Err(_) => Err(AllocError),
+    }
+}
+
+// Takes back the link that a core has just got.
+fn unlink(core: &mut Core)
+    requires { IsLinked core.old }
+    ensures before { (k : TheCore) (neighbour : CoreId) (side : ℕ) → core.old ≡ linked k neighbour side → core.new ≡ k }
+{
+    core.take_back_link()
+}
+
+// A link between two cores, over a ring whose first side is this one.
+fn link_both(cores: &mut [Core], a: usize, b: usize, side: usize) -> Result<(), AllocError>
+    requires few { length cores.old ≤ 16 }
+    requires a { a < length cores.old }
+    requires b { b < length cores.old }
+    requires apart { a ≢ b }
+    requires side { side < 2 ^ 64 - 1 }
+    ensures links { OnOk result (LinksBoth a b side cores.old cores.new) }
+    ensures kept { OnErr result (cores.new ≡ cores.old) }
+{
+    link(&mut cores[a], CoreId(b as u8), side)?;
+    if let Err(error) = link(&mut cores[b], CoreId(a as u8), side + 1) {
+        unlink(&mut cores[a]);
+        return Err(error);
+    }
+    Ok(())
+}
+
+impl World {
+    /// A world of one core, with nothing on it.
+    ///
+    /// # Errors
+    /// Want of memory.
+    pub fn new(alloc: Global) -> Result<World, AllocError>
+        ensures fresh { IfOk result (λ w. w ≡ fresh_world 1) }
+    {
+        let cores = fresh_cores(alloc, 1)?;
+        Ok(World {
+            alloc,
+            may_set_cores: true,
+            cores,
+            dispatchers: 0,
+            rings: Vec::new(alloc),
+            queues: Vec::new(alloc),
+            programs: Vec::new(alloc),
+            names: Names::new(alloc),
+            bindings: Vec::new(alloc),
+        })
+    }
+
+    // Whether an interface of this name is there.
+    fn has_program(&self, name: &[u8]) -> bool
+        ensures has { result ≡ has_program name.now self.now }
+    {
+        self.programs.iter().any(|program| has_name(program, name))
+    }
+
+    /// An interface under a plan. No two have one name (E92), and there are at most 64 (E94).
+    ///
+    /// # Errors
+    /// Want of memory.
+    pub fn add_interface(
+        &mut self,
+        interface: &Interface,
+        plan: PlanNo,
+    ) -> Result<Answer, AllocError>
+        ensures adds { IfOk result (λ a. AddsInterface (interface_of interface.now) plan self.old (answer_of a) self.new) }
+        ensures kept { OnErr result (self.new ≡ self.old) }
+    {
+        if self.has_program(interface.name.bytes.as_slice()) {
+            return Ok(Answer::Refused(92));
+        }
+        if self.programs.len() >= MAX_INTERFACES {
+            return Ok(Answer::Refused(94));
+        }
+        self.with_program(interface, plan)
+    }
+
+    // An interface's program behind the others.
+    fn with_program(&mut self, interface: &Interface, plan: PlanNo) -> Result<Answer, AllocError>
+        ensures adds { IfOk result (λ a. WithProgram (record { interface = interface_of interface.now; plan = plan }) self.old (answer_of a) self.new) }
+        ensures kept { OnErr result (self.new ≡ self.old) }
+    {
+        let program = compile(self.alloc, interface, plan)?;
+        self.programs.push(program)?;
+        Ok(Answer::Done)
+    }
+
+    /// The number of cores, before anything else is made (E93); 1 to 16 (E94).
+    ///
+    /// # Errors
+    /// Want of memory.
+    pub fn set_cores(&mut self, n: u32) -> Result<Answer, AllocError>
+        ensures sets { IfOk result (λ a. SetsCores n self.old (answer_of a) self.new) }
+        ensures kept { OnErr result (self.new ≡ self.old) }
+    {
+        if !self.may_set_cores {
+            return Ok(Answer::Refused(93));
+        }
+        if n < 1 || n > MAX_CORES {
+            return Ok(Answer::Refused(94));
+        }
+        self.cores = fresh_cores(self.alloc, n)?;
+        Ok(Answer::Done)
+    }
+
+    /// A dispatcher on a core (E73). There are at most 256 (E94).
+    ///
+    /// # Errors
+    /// Want of memory.
+    pub fn add_dispatcher(&mut self, core: u32) -> Result<Answer, AllocError>
+        ensures adds { IfOk result (λ a. AddsDispatcher core self.old (answer_of a) self.new) }
+        ensures kept { OnErr result (self.new ≡ self.old) }
+    {
+        if self.dispatchers >= MAX_DISPATCHERS {
+            return Ok(Answer::Refused(94));
+        }
+        match self.cores.get_mut(core as usize) {
+            None => Ok(Answer::Refused(73)),
+            Some(core) => {
+                core.add_dispatcher()?;
+                self.dispatchers += 1;
+                Ok(Answer::Done)
+            }
+        }
+    }
+
+    /// A service of a dispatcher and an interface that are there (E92), under a name of its own (E71). There are at most 256 (E94).
+    ///
+    /// # Errors
+    /// Want of memory.
+    pub fn export(
+        &mut self,
+        name: &[u8],
+        d: DispatcherId,
+        interface: usize,
+    ) -> Result<Answer, AllocError>
+        ensures exports { IfOk result (λ a. Exports name.now (id_of d) interface self.old (answer_of a) self.new) }
+        ensures kept { OnErr result (self.new ≡ self.old) }
+    {
+        if !self.has_dispatcher(d) || self.programs.len() <= interface {
+            return Ok(Answer::Refused(92));
+        }
+        if self.names.lookup(name).is_ok() {
+            return Ok(Answer::Refused(71));
+        }
+        if self.names.list().len() >= MAX_SERVICES {
+            return Ok(Answer::Refused(94));
+        }
+        let service = Service {
+            core: CoreId(d.core as u8),
+            dispatcher: d.place,
+            interface,
+        };
+        match self.names.register(name, service) {
+            Ok(_) => Ok(Answer::Done),
+            Err(_) => Err(AllocError),
+        }
+    }
+
+    // Whether a core has a link to a neighbour that is there.
+    fn has_link(&self, a: usize, b: usize) -> bool
+        requires { b < length self.now.cores }
+        ensures has { result ≡ has_link a b self.now }
+    {
+        match self.cores.get(a) {
+            None => false,
+            Some(core) => core.monitor().circuits().link_to(CoreId(b as u8)).is_some(),
+        }
+    }
+
+    // Whether two cores can't be linked: one isn't there, they are one, or they are linked already.
+    fn is_no_pair(&self, a: usize, b: usize) -> bool
+        ensures no_pair { result ≡ is_no_pair a b self.now }
+    {
+        let count = self.cores.as_slice().len();
+        !(a < count && b < count) || a == b || self.has_link(a, b)
+    }
+
+    // A link between two cores, over this ring.
+    fn join(&mut self, a: usize, b: usize, ring: OneDuo) -> Result<Answer, AllocError>
+        requires a { a < length self.old.cores }
+        requires b { b < length self.old.cores }
+        requires apart { a ≢ b }
+        requires sized { MayHaveSlots ring.size }
+        requires new { ring ≡ new_duo ring.size }
+        ensures joins { IfOk result (λ answer. (answer_of answer ≡ done) × making.IsLinked a b ring.size self.old self.new) }
+        ensures kept { OnErr result (self.new ≡ self.old) }
+    {
+        self.rings.reserve(1)?;
+        let side = 2 * self.rings.as_slice().len();
+        link_both(self.cores.as_mut_slice(), a, b, side)?;
+        self.rings.push_reserved(ring);
+        Ok(Answer::Done)
+    }
+
+    /// A link between two cores that are there and have none yet (E73), over a ring of so many slots (E32).
+    ///
+    /// # Errors
+    /// Want of memory.
+    pub fn add_link(&mut self, a: u32, b: u32, slots: u32) -> Result<Answer, AllocError>
+        ensures adds { IfOk result (λ answer. AddsLink a b slots self.old (answer_of answer) self.new) }
+        ensures kept { OnErr result (self.new ≡ self.old) }
+    {
+        if self.is_no_pair(a as usize, b as usize) {
+            return Ok(Answer::Refused(73));
+        }
+        match OneDuo::new(self.alloc, slots as usize) {
+            Ok(ring) => self.join(a as usize, b as usize, ring),
+            Err(RingFault::BadSize) => Ok(Answer::Refused(32)),
+            Err(_) => Err(AllocError),
+        }
+    }
+}
