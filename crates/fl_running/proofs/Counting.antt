@@ -1,0 +1,58 @@
+-- Turns add up, and what is told of them.
+use Rattle.std.proofs.Common.{◌≡◌, refl, sym, ℕ, zero, suc, subst, List, Some, Result, Ok}
+use Rattle.std.specs.declared.alloc.AllocError.{AllocError}
+use Rattle.fl_base.specs.declared.identity.EndId.{EndId}
+use Rattle.fl_core.specs.declared.answer.TurnAnswer.{TurnAnswer}
+use Rattle.fl_core.specs.View.{due}
+use Rattle.fl_node.specs.declared.wire.Inlet.{Inlet}
+use Rattle.fl_node.specs.View.{place_of}
+use Rattle.fl_tally.specs.Tally.{with_finish}
+use Rattle.fl_tally.specs.Seats.{TheSeat, knowing}
+use Rattle.fl_running.specs.declared.job.Job.{Job}
+use Rattle.fl_running.specs.declared.plan.Plan.{Plan}
+use Rattle.fl_running.specs.declared.run.End.{End}
+use Rattle.fl_running.specs.declared.run.End.TheVariants.{Finished, Unfinished, Told}
+use Rattle.fl_running.specs.declared.run.Part.{Part}
+use Rattle.fl_running.specs.declared.word.Word.{Word}
+use Rattle.fl_running.specs.Run.{Ways, TheRun}
+use Rattle.fl_running.specs.Deeds.{TurnsOver, turned, Does}
+use Rattle.fl_running.specs.Turn.{OneTurn, Turned}
+use Rattle.fl_running.specs.Words.{SaidNothing, stock}
+use Rattle.fl_running.specs.Ran.{Task, Moment, moment, Counted, TellsEnd, SomeTurns, GoesOn, CoreRan}
+use Rattle.fl_running.proofs.Stock.{quiet}
+
+pub no_turns : {S : Type 0} (w : Ways S) (plan : Plan) (jobs : List Job) (s : TheRun S) → SomeTurns w plan jobs s s
+no_turns w plan jobs s = (zero, refl)
+
+pub some_more : {S : Type 0} (w : Ways S) (plan : Plan) (jobs : List Job) (s m t : TheRun S) → SomeTurns w plan jobs s m → OneTurn w plan jobs m t → SomeTurns w plan jobs s t
+some_more w plan jobs s m t some one = (suc some.0, (m, some.1, one))
+
+-- a turn that was answered
+pub turn_done : {S : Type 0} (w : Ways S) (d e : ℕ) (name : EndId) (from : Inlet) (result : Result TurnAnswer AllocError) (answer : TurnAnswer) (s t : TheRun S)
+    → TurnsOver w d e from result s t → result ≡ Ok answer → place_of s.core name ≡ Some e → due s.core.board d ≡ Some e → Does w (turned d name from answer) s t
+turn_done w d e name from result answer s t turns is place due_is =
+    (e, place, due_is, subst (λ (r : Result TurnAnswer AllocError). TurnsOver w d e from r s t) is turns)
+
+module _ {S : Type 0} (w : Ways S) (t : Task) (a b : Moment S) (part : Part) (u : TheSeat) (counted : Counted w t a part b) where
+  -- a core that reached its limit
+  pub ran_unfinished : part.end ≡ Unfinished → u ≡ knowing b.ticket.seat (with_finish b.ticket.seat.knows) → CoreRan w t a part (moment b.run (stock b.ticket.words u))
+  ran_unfinished is told = record {
+    middle = b;
+    counted = counted;
+    told = u;
+    tells = subst (λ (e : End). TellsEnd e b.ticket.seat u) (sym is) told;
+    goes_on = subst (λ (e : End). GoesOn w t e b.run b.run) (sym is) refl;
+    after = quiet u;
+  }
+
+  -- a core that finished, and went on
+  pub ran_finished : (r : TheRun S) (words : List Word) (v : TheSeat) → part.end ≡ Finished → u ≡ knowing b.ticket.seat (with_finish b.ticket.seat.knows)
+      → SomeTurns w t.plan t.jobs b.run r → SaidNothing u v → CoreRan w t a part (moment r (stock words v))
+  ran_finished r words v is told more after = record {
+    middle = b;
+    counted = counted;
+    told = u;
+    tells = subst (λ (e : End). TellsEnd e b.ticket.seat u) (sym is) told;
+    goes_on = subst (λ (e : End). GoesOn w t e b.run r) (sym is) more;
+    after = after;
+  }

@@ -1,0 +1,12 @@
+pub mod Lanes
+pub mod Foreseen
+pub mod Inlets
+pub mod Wordings
+pub mod Stock
+pub mod Counting
+pub mod Logging
+pub mod Handling
+pub mod Turning
+pub mod Aside
+pub mod Looking
+pub mod Copying

@@ -1,0 +1,60 @@
+-- Words and the seat, once round.
+use Rattle.std.proofs.Common.{◌≡◌, refl, sym, ◌∙◌, ℕ, zero, suc, ◌<◌, ◌&&◌, Bool, true, false, subst, nat_lt, List, length, slice_get, slice_set, Some, arith}
+use Rattle.std.proofs.lemmas.Bool.{ltb-true, ltb-false}
+use Rattle.std.proofs.lemmas.List.{length-set}
+use Rattle.fl_base.specs.declared.identity.EndId.{EndId}
+use Rattle.fl_tally.specs.declared.board.View.{View}
+use Rattle.fl_tally.specs.Tally.{with_seen}
+use Rattle.fl_tally.specs.Seats.{TheSeat, knowing}
+use Rattle.fl_running.specs.declared.word.Word.{Word}
+use Rattle.fl_running.specs.declared.word.Word.TheVariants.{Silent, Tells, Hears, Refused}
+use Rattle.fl_running.specs.Run.{TheRun}
+use Rattle.fl_running.specs.Words.{MayUse, AreWords, SaidNothing}
+use Rattle.fl_running.specs.Finished.{is_done, all_done}
+
+pub quiet : (v : TheSeat) → SaidNothing v v
+quiet v = record { table = refl; seats = refl; cores = refl; finished = refl; stopped = refl }
+
+pub quiet_then : (v u t : TheSeat) → SaidNothing v u → SaidNothing u t → SaidNothing v t
+quiet_then v u t a b = record {
+  table = b.table ∙ a.table;
+  seats = b.seats ∙ a.seats;
+  cores = b.cores ∙ a.cores;
+  finished = b.finished ∙ a.finished;
+  stopped = b.stopped ∙ a.stopped;
+}
+
+pub seen_quiet : (v u : TheSeat) (count : ℕ) → u ≡ knowing v (with_seen v.knows count) → SaidNothing v u
+seen_quiet v u count same = subst (λ (x : TheSeat). SaidNothing v x) (sym same) (record { table = refl; seats = refl; cores = refl; finished = refl; stopped = refl })
+
+seen_may : (x : Word) (v : View) (count : ℕ) → MayUse x v → MayUse x (with_seen v count)
+seen_may Silent v count h = h
+seen_may (Tells i) v count h = h
+seen_may (Hears i) v count h = h
+seen_may (Refused i) v count h = h
+
+-- a look at the counter leaves words usable
+pub seen_words : (words : List Word) (v : View) (count : ℕ) → AreWords words v → AreWords words (with_seen v count)
+seen_words words v count h = record { may = λ k x at. seen_may x v count (h.may k x at); apart = h.apart }
+
+both_false : (a b : Bool) → a ≡ false → (a && b) ≡ false
+both_false true b h = absurd (cc)
+both_false false b h = refl
+
+second_false : (a b : Bool) → b ≡ false → (a && b) ≡ false
+second_false true b h = h
+second_false false b h = refl
+
+-- where something is left to do at one of the first, not all of them are done
+module _ {S : Type 0} (s : TheRun S) (ends : List EndId) (words : List Word) (k : ℕ) (left : is_done s ends words k ≡ false) where
+  by_place : (n : ℕ) (b : Bool) → nat_lt k n ≡ b → k < suc n → (k < n → all_done s ends words n ≡ false)
+      → (all_done s ends words n && is_done s ends words n) ≡ false
+  by_place n true is below before = both_false (all_done s ends words n) (is_done s ends words n) (before (ltb-true k n is))
+  by_place n false is below before =
+      let past = ltb-false k n is in
+      let same : k ≡ n = omega (arith, past, below) in
+      second_false (all_done s ends words n) (is_done s ends words n) (subst (λ (i : ℕ). is_done s ends words i ≡ false) same left)
+
+  pub not_all_done : (n : ℕ) → k < n → all_done s ends words n ≡ false
+  not_all_done zero below = absurd (omega (arith, below))
+  not_all_done (suc n) below = by_place n (nat_lt k n) refl below (not_all_done n)

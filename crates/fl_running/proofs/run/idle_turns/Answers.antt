@@ -1,0 +1,11 @@
+use Rattle.fl_running.proofs.Counting.{some_more}
+use Rattle.fl_running.proofs.Stock.{quiet_then, seen_quiet}
+use Rattle.fl_running.proofs.run.idle_turns.Goals as goal
+
+pub loop-preserved : goal.loop-preserved
+loop-preserved g c = (
+  tt,
+  tt,
+  some_more _ _ _ _ _ _ c.loop.invariant.2 c.in_ok-turn.ensures.turn,
+  quiet_then _ _ _ c.loop.invariant.3 (seen_quiet c.loop.ticket.seat c.ended-ended.new.self c.ended-ended.result c.ended-ended.ensures.seen),
+)

@@ -1,0 +1,188 @@
+-- One event at a core, with its answer: what a core's log is made of. By each the core and one of its sides go from how they are to how they are
+-- then, as the core's own contract says; nothing else changes.
+use Rattle.std.specs.Prelude.{ℕ, ◌≡◌, List, [], ◌∷◌, slice_get, slice_set, Option, Some, None, Result, Ok, Err}
+use Rattle.std.specs.declared.alloc.AllocError.{AllocError}
+use Rattle.fl_base.specs.declared.fragment.Frag.{Frag}
+use Rattle.fl_base.specs.declared.identity.EndId.{EndId}
+use Rattle.fl_base.specs.declared.identity.LinkId.{LinkId}
+use Rattle.fl_base.specs.declared.identity.Circuit.{Circuit}
+use Rattle.fl_compile.specs.declared.program.Program.{Program}
+use Rattle.fl_compile.specs.Programs.{program_of}
+use Rattle.fl_value.specs.Value.{TheCall}
+use Rattle.fl_base.specs.Control.{with_circuit, bare}
+use Rattle.fl_link.specs.Looks.{Look, placed, no_room, spent, found}
+use Rattle.fl_link.specs.Queue.{TheQueue, QueuePuts, QueueTakes}
+use Rattle.fl_endpoint.specs.declared.fault.EndFault.{EndFault}
+use Rattle.fl_endpoint.specs.declared.answer.WriteAnswer.{WriteAnswer}
+use Rattle.fl_endpoint.specs.Events.{Calls}
+use Rattle.fl_hop.specs.declared.forward.Outcome.{Outcome}
+use Rattle.fl_hop.specs.declared.forward.Outcome.TheVariants.{Moved, Full, Spent}
+use Rattle.fl_core.specs.declared.answer.TurnAnswer.{TurnAnswer}
+use Rattle.fl_core.specs.declared.answer.TurnAnswer.TheVariants.{Handle}
+use Rattle.fl_core.specs.declared.answer.AckAnswer.{AckAnswer}
+use Rattle.fl_core.specs.declared.fault.BoardFault.{BoardFault}
+use Rattle.fl_core.specs.View.{due}
+use Rattle.fl_core.specs.Events.{ChangesEnd, Holds, Acks}
+use Rattle.fl_core.specs.Turns.{Turns, over}
+use Rattle.fl_node.specs.declared.answer.Ahead.{Ahead}
+use Rattle.fl_node.specs.declared.answer.MonitorWrite.{MonitorWrite}
+use Rattle.fl_node.specs.declared.answer.MonitorAnswer.{MonitorAnswer}
+use Rattle.fl_node.specs.declared.answer.MonitorAnswer.TheVariants.{OpeningRefused}
+use Rattle.fl_node.specs.declared.fault.LinkFault.{LinkFault}
+use Rattle.fl_node.specs.declared.fault.OpenFault.{OpenFault}
+use Rattle.fl_node.specs.declared.fault.OpenFault.TheVariants.{Monitor}
+use Rattle.fl_node.specs.Faults.{open_number}
+use Rattle.fl_monitor.specs.declared.fault.MonitorFault.TheVariants.{OutboxFull}
+use Rattle.fl_node.specs.declared.wire.Outlet.{Outlet}
+use Rattle.fl_node.specs.declared.wire.Outlet.TheVariants as outlet
+use Rattle.fl_node.specs.declared.wire.Inlet.{Inlet}
+use Rattle.fl_node.specs.declared.wire.Inlet.TheVariants as inlet
+use Rattle.fl_node.specs.View.{TheCore, place_of}
+use Rattle.fl_node.specs.Making.{asked, Asks}
+use Rattle.fl_node.specs.Ends.{OnBoard, OverArrivals, WritesAt}
+use Rattle.fl_node.specs.Links.{MonitorWrites, LooksAhead, ArrivesAt, Acknowledges}
+use Rattle.fl_node.specs.Hearing.{HearsFrag, TakesHeard}
+use Rattle.fl_running.specs.declared.job.Wish.{Wish}
+use Rattle.fl_running.specs.Desks.{advanced, with_handled, with_refusal}
+use Rattle.fl_running.specs.Run.{Ways, TheRun, AtDesk}
+
+pub data Deed : Type 0 where
+  -- over side n, of a link: what stands first there was looked at
+  looked : ℕ → LinkId → Result Ahead LinkFault → Deed
+  -- a fragment was to pass on from one side to another, under a circuit's number there
+  passed : ℕ → ℕ → Frag → Circuit → Outcome → Deed
+  -- a fragment arrived for an end
+  arrived : ℕ → LinkId → Frag → EndId → Result Outcome LinkFault → Deed
+  -- a monitors' message was heard
+  heard : ℕ → LinkId → Frag → Result MonitorAnswer LinkFault → Deed
+  -- the monitor wrote
+  said : ℕ → LinkId → MonitorWrite → Deed
+  -- what was taken was told
+  told : ℕ → LinkId → AckAnswer → Deed
+  -- a circuit was asked for, for the client's end of this name
+  opened : EndId → Wish → Result ℕ OpenFault → Deed
+  -- at an end, of this name: a call was made; a fragment was written, to where the end puts; what was taken was told, over side n
+  called : EndId → TheCall → Result (Unit {0}) EndFault → Deed
+  wrote : EndId → Outlet → Result WriteAnswer EndFault → Deed
+  acked : EndId → ℕ → Result AckAnswer BoardFault → Deed
+  -- a dispatcher had a turn, at the end that was due, over where that end takes from
+  turned : ℕ → EndId → Inlet → TurnAnswer → Deed
+
+-- ---- where an event happens
+
+-- at the core and side n of a ring
+pub record OnRing {S : Type 0} (n : ℕ) (s : TheRun S) (Event : TheCore → S → TheCore → S → Type 0) (t : TheRun S) : Type 0 where
+  pub before : S
+  pub before_is : slice_get s.rings n ≡ Some before
+  pub after : S
+  pub event : Event s.core before t.core after
+  pub rest : t ≡ record s { core = t.core; rings = slice_set s.rings n after }
+
+-- at the core and queue n
+pub record OnQueue {S : Type 0} (n : ℕ) (s : TheRun S) (Event : TheCore → TheQueue → TheCore → TheQueue → Type 0) (t : TheRun S) : Type 0 where
+  pub before : TheQueue
+  pub before_is : slice_get s.queues n ≡ Some before
+  pub after : TheQueue
+  pub event : Event s.core before t.core after
+  pub rest : t ≡ record s { core = t.core; queues = slice_set s.queues n after }
+
+-- at the core alone
+pub record OnCore {S : Type 0} (s : TheRun S) (Event : TheCore → TheCore → Type 0) (t : TheRun S) : Type 0 where
+  pub event : Event s.core t.core
+  pub rest : t ≡ record s { core = t.core }
+
+-- the end of this name is at place e
+abbrev pub IsAt : {S : Type 0} → TheRun S → EndId → ℕ → Type 0
+IsAt s name e = place_of s.core name ≡ Some e
+
+-- ---- parts of events
+
+-- a put at side n alone, and a take there
+abbrev pub PutsAt : {S : Type 0} → Ways S → ℕ → Look → TheRun S → TheRun S → Type 0
+PutsAt w n look s t = OnRing n s (λ k p k2 q. w.puts p look q × (k2 ≡ k)) t
+
+abbrev pub TakesAt : {S : Type 0} → Ways S → ℕ → Look → TheRun S → TheRun S → Type 0
+TakesAt w n look s t = OnRing n s (λ k p k2 q. w.takes p look q × (k2 ≡ k)) t
+
+-- a fragment passes on from side n to side m, with a circuit's number; where there is no room it is left
+abbrev pub PassesOn : {S : Type 0} → Ways S → ℕ → ℕ → Frag → Circuit → Outcome → TheRun S → TheRun S → Type 0
+PassesOn {S} w n m frag c Moved s t =
+    (mid : TheRun S) × PutsAt w m (placed (bare (with_circuit c.0 frag))) s mid × TakesAt w n (found (bare frag)) mid t
+PassesOn w n m frag c Full s t = PutsAt w m no_room s t
+PassesOn w n m frag c Spent s t = PutsAt w m spent s t
+
+-- a copy of the program at a place
+pub record IsCopyOf (programs : List Program) (n : ℕ) (program : Program) : Type 0 where
+  pub source : Program
+  pub source_is : slice_get programs n ≡ Some source
+  pub same : program_of program ≡ program_of source
+
+-- a circuit is asked for, for an end that has a copy of the program that is wished
+pub record AsksFor (programs : List Program) (wish : Wish) (k : TheCore) (answer : Result ℕ OpenFault) (k2 : TheCore) : Type 0 where
+  pub program : Program
+  pub copy : IsCopyOf programs wish.interface program
+  pub asks : Asks (asked wish.dispatcher program wish.link wish.opening) k answer k2
+
+-- a turn at the end at place e
+abbrev pub TurnsOver : {S : Type 0} → Ways S → ℕ → ℕ → Inlet → Result TurnAnswer AllocError → TheRun S → TheRun S → Type 0
+TurnsOver w d e (inlet.Queue n) answer s t =
+    OnQueue n s (λ k p k2 q. OnBoard k (λ b c. Turns QueueTakes d e (over b p) answer (over c q)) k2) t
+TurnsOver w d e (inlet.Side n) answer s t =
+    OnRing n s (λ k p k2 q. OnBoard k (λ b c. Turns w.takes d e (over b p) answer (over c q)) k2) t
+TurnsOver w d e inlet.Arrivals answer s t =
+    OnCore s (λ k k2. OverArrivals k e (λ b p c q. Turns QueueTakes d e (over b p) answer (over c q)) k2) t
+
+-- a write of the end at place e
+abbrev pub WritesOver : {S : Type 0} → Ways S → ℕ → Outlet → Result WriteAnswer EndFault → TheRun S → TheRun S → Type 0
+WritesOver w e (outlet.Queue n) answer s t = OnQueue n s (λ k p k2 q. WritesAt QueuePuts e k p answer k2 q) t
+WritesOver w e (outlet.Side n) answer s t = OnRing n s (λ k p k2 q. WritesAt w.puts e k p answer k2 q) t
+
+-- ---- one event: of what does it, and of the desks
+
+abbrev pub Does : {S : Type 0} → Ways S → Deed → TheRun S → TheRun S → Type 0
+Does w (looked n l answer) s t = OnRing n s (λ k p k2 q. LooksAhead w.takes w.front l.0 k p answer k2 q) t
+Does w (passed n m frag c outcome) s t = PassesOn w n m frag c outcome s t
+Does w (arrived n l frag e answer) s t = OnRing n s (λ k p k2 q. ArrivesAt w.takes l.0 frag e k p answer k2 q) t
+Does w (heard n l frag answer) s t = OnRing n s (λ k p k2 q. HearsFrag s.offers l frag k answer k2 × TakesHeard w.takes frag p answer q) t
+Does w (said n l answer) s t = OnRing n s (λ k p k2 q. MonitorWrites w.puts l.0 k p answer k2 q) t
+Does w (told n l answer) s t = OnRing n s (λ k p k2 q. Acknowledges w.takes p answer q × (k2 ≡ k)) t
+Does w (opened name wish answer) s t = OnCore s (λ k k2. AsksFor s.offers.programs wish k answer k2) t
+Does w (called name c answer) s t =
+    (e : ℕ) × IsAt s name e × OnCore s (λ k k2. OnBoard k (λ b b2. ChangesEnd b e (λ x y. Calls x c answer y) b2) k2) t
+Does w (wrote name out answer) s t = (e : ℕ) × IsAt s name e × WritesOver w e out answer s t
+Does w (acked name n answer) s t =
+    (e : ℕ) × IsAt s name e × OnRing n s (λ k p k2 q. Holds k.board e (λ x. Acks w.takes x.kind x.end p answer q) × (k2 ≡ k)) t
+Does w (turned d name from answer) s t =
+    (e : ℕ) × IsAt s name e × (due s.core.board d ≡ Some e) × TurnsOver w d e from (Ok answer) s t
+
+-- what is noted at the desk of the client's end: that its opening is refused
+abbrev pub NotesHeard : {S : Type 0} → Result MonitorAnswer LinkFault → TheRun S → TheRun S → Type 0
+NotesHeard (Ok (OpeningRefused e reason)) s t = AtDesk e (with_refusal reason) s t
+NotesHeard answer s t = t ≡ s
+
+-- that a circuit was asked for; one that was refused here is asked for no more, and where the outbox is full the job waits
+abbrev pub NotesOpened : {S : Type 0} → EndId → Result ℕ OpenFault → TheRun S → TheRun S → Type 0
+NotesOpened name (Ok e) s t = AtDesk name advanced s t
+NotesOpened name (Err (Monitor OutboxFull)) s t = t ≡ s
+NotesOpened name (Err fault) s t = AtDesk name (λ d. advanced (with_refusal (open_number fault) d)) s t
+
+-- that a call was made; one that was refused waits
+abbrev pub NotesCalled : {S : Type 0} → EndId → Result (Unit {0}) EndFault → TheRun S → TheRun S → Type 0
+NotesCalled name (Ok done) s t = AtDesk name advanced s t
+NotesCalled name (Err fault) s t = t ≡ s
+
+-- that a call was handled
+abbrev pub NotesTurned : {S : Type 0} → EndId → TurnAnswer → TheRun S → TheRun S → Type 0
+NotesTurned name (Handle call) s t = AtDesk name (with_handled call) s t
+NotesTurned name answer s t = t ≡ s
+
+abbrev pub Notes : {S : Type 0} → Deed → TheRun S → TheRun S → Type 0
+Notes (heard n l frag answer) s t = NotesHeard answer s t
+Notes (opened name wish answer) s t = NotesOpened name answer s t
+Notes (called name c answer) s t = NotesCalled name answer s t
+Notes (turned d name from answer) s t = NotesTurned name answer s t
+Notes deed s t = t ≡ s
+
+-- it is done, and noted
+abbrev pub Happens : {S : Type 0} → Ways S → Deed → TheRun S → TheRun S → Type 0
+Happens {S} w deed s t = (m : TheRun S) × Does w deed s m × Notes deed m t

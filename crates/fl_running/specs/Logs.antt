@@ -1,0 +1,85 @@
+-- A core's log: what happened there, event by event. Laws.
+use Rattle.std.specs.Prelude.{ℕ, ◌≡◌, ◌+◌, ◌≤◌, ◌==◌, if◌then◌else◌, List, [], ◌∷◌, ◌++◌, slice_get, Option, Some, None, IsSome}
+use Rattle.fl_base.specs.declared.identity.EndId.{EndId}
+use Rattle.fl_value.specs.declared.value.Call.{Call}
+use Rattle.fl_core.specs.declared.answer.TurnAnswer.{TurnAnswer}
+use Rattle.fl_core.specs.declared.answer.TurnAnswer.TheVariants.{Handle}
+use Rattle.fl_link.specs.Looks.{Look, Looks, LinkStep}
+use Rattle.fl_hop.specs.Stretch.{same_end}
+use Rattle.fl_monitor.specs.Routing.{given}
+use Rattle.fl_running.specs.declared.job.Job.{Job}
+use Rattle.fl_running.specs.declared.plan.Plan.{Plan}
+use Rattle.fl_running.specs.Desks.{TheDesk, desk_place}
+use Rattle.fl_running.specs.Run.{Ways, TheRun}
+use Rattle.fl_running.specs.Deeds.{Deed, turned, Happens}
+use Rattle.fl_running.specs.Turn.{Turned}
+
+-- the events of a log, one after another
+abbrev pub Goes : {S : Type 0} → Ways S → TheRun S → List Deed → TheRun S → Type 0
+Goes w s [] t = t ≡ s
+Goes {S} w s (deed ∷ log) t = (m : TheRun S) × Happens w deed s m × Goes w m log t
+
+-- how many calls the dispatcher of a place handled by one event, and in a log
+abbrev pub handled_by : ℕ → TurnAnswer → ℕ
+handled_by one (Handle call) = one
+handled_by one answer = 0
+
+abbrev pub handles_in : ℕ → Deed → ℕ
+handles_in d (turned e name from answer) = if e == d then handled_by 1 answer else 0
+handles_in d deed = 0
+
+abbrev pub handles : ℕ → List Deed → ℕ
+handles d [] = 0
+handles d (deed ∷ log) = handles_in d deed + handles d log
+
+-- what happened from one moment to another, where no dispatcher handled more calls than this
+pub record Logged {S : Type 0} (w : Ways S) (most : ℕ → ℕ) (s t : TheRun S) : Type 0 where
+  pub log : List Deed
+  pub goes : Goes w s log t
+  pub few : (d : ℕ) → handles d log ≤ most d
+
+-- all that changes a core in its turns is in a log, and no dispatcher handles more calls than turns were taken
+abbrev pub TurnsAreLogged : {S : Type 0} → Ways S → Type 0
+TurnsAreLogged {S} w = (plan : Plan) (jobs : List Job) (k : ℕ) (s t : TheRun S) → Turned w plan jobs k s t → Logged w (λ d. k) s t
+
+-- ---- what came of it at the desks
+
+-- the calls that the end of a name handled by one event, and in a log
+abbrev pub call_in : TurnAnswer → List Call
+call_in (Handle call) = call ∷ []
+call_in answer = []
+
+abbrev pub handled_in : EndId → Deed → List Call
+handled_in name (turned d e from answer) = if same_end e name then call_in answer else []
+handled_in name deed = []
+
+abbrev pub handled_at : EndId → List Deed → List Call
+handled_at name [] = []
+handled_at name (deed ∷ log) = handled_in name deed ++ handled_at name log
+
+-- the calls that its desk has as handled
+abbrev pub in_desk : Option TheDesk → List Call
+in_desk None = []
+in_desk (Some desk) = desk.handled
+
+abbrev pub handled_of : {S : Type 0} → TheRun S → EndId → List Call
+handled_of s name = given (desk_place s.desks name) [] λ n. in_desk (slice_get s.desks n)
+
+-- what a desk has as handled is just what its end handled
+abbrev pub DesksTellHandled : {S : Type 0} → Ways S → Type 0
+DesksTellHandled {S} w = (s t : TheRun S) (log : List Deed) (name : EndId) → IsSome (desk_place s.desks name) → Goes w s log t
+    → handled_of t name ≡ handled_of s name ++ handled_at name log
+
+-- ---- sides
+
+-- looks, puts and takes led from one state of a side to another
+abbrev pub Looked : {S : Type 0} → (S → Look → S → Type 0) → (S → Look → S → Type 0) → S → S → Type 0
+Looked puts takes p q = (looks : List Look) × Looks (LinkStep puts takes) p looks q
+
+-- each of these sides stands at its place afterwards, and changed by looks, puts and takes alone
+abbrev pub SidesGo : {S : Type 0} → (S → Look → S → Type 0) → (S → Look → S → Type 0) → List S → List S → Type 0
+SidesGo {S} puts takes ps qs = (n : ℕ) (p : S) → slice_get ps n ≡ Some p → (q : S) × (slice_get qs n ≡ Some q) × Looked puts takes p q
+
+-- whatever happens at a core, its sides of rings change so
+abbrev pub LogsLook : {S : Type 0} → Ways S → Type 0
+LogsLook {S} w = (s t : TheRun S) (log : List Deed) → Goes w s log t → SidesGo w.puts w.takes s.rings t.rings

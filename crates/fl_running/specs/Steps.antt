@@ -1,0 +1,120 @@
+-- What a core does once for each of its links, ends and dispatchers in a turn: an event or two. Where the side that it needs isn't lent,
+-- nothing happens.
+use Rattle.std.specs.Prelude.{ℕ, ◌≡◌, ◌⊎◌, ◌≤◌, ◌&&◌, not, nat_lt, Bool, true, false, List, length, is_some}
+use Rattle.std.specs.Prelude.{Option, Some, None, Result, Ok, Err}
+use Rattle.fl_base.specs.declared.identity.EndId.{EndId}
+use Rattle.fl_base.specs.declared.identity.LinkId.{LinkId}
+use Rattle.fl_value.specs.declared.value.Call.{Call as AnyCall}
+use Rattle.fl_value.specs.Value.{call_of}
+use Rattle.fl_endpoint.specs.declared.fault.EndFault.{EndFault}
+use Rattle.fl_endpoint.specs.declared.answer.WriteAnswer.{WriteAnswer}
+use Rattle.fl_hop.specs.declared.forward.Outcome.{Outcome}
+use Rattle.fl_core.specs.declared.answer.TurnAnswer.{TurnAnswer}
+use Rattle.fl_core.specs.declared.answer.AckAnswer.{AckAnswer}
+use Rattle.fl_core.specs.declared.fault.BoardFault.{BoardFault}
+use Rattle.fl_monitor.specs.Monitors.{can_say}
+use Rattle.fl_node.specs.declared.answer.Ahead.{Ahead}
+use Rattle.fl_node.specs.declared.answer.Ahead.TheVariants.{Message, Onward, Arrival}
+use Rattle.fl_node.specs.declared.answer.MonitorWrite.{MonitorWrite}
+use Rattle.fl_node.specs.declared.answer.MonitorAnswer.{MonitorAnswer}
+use Rattle.fl_node.specs.declared.fault.LinkFault.{LinkFault}
+use Rattle.fl_node.specs.declared.fault.OpenFault.{OpenFault}
+use Rattle.fl_node.specs.View.{place_of, client_of, most_bindings}
+use Rattle.fl_running.specs.declared.job.Wish.{Wish}
+use Rattle.fl_running.specs.declared.job.Job.{Job}
+use Rattle.fl_running.specs.declared.job.Job.TheVariants as job
+use Rattle.fl_running.specs.declared.lent.Due.{Due}
+use Rattle.fl_running.specs.declared.lent.Post.{Post}
+use Rattle.fl_running.specs.declared.lent.Berth.{Berth}
+use Rattle.fl_running.specs.Run.{Ways, TheRun, next_job, lent_lane, lent_post, lent_due, lent_berth}
+use Rattle.fl_running.specs.Deeds.{looked, passed, arrived, heard, said, told, opened, called, wrote, acked, turned, Happens}
+
+-- ---- for a link
+
+-- what a look found is heard, passed on, or brought to an end
+abbrev pub Deals : {S : Type 0} → Ways S → ℕ → LinkId → Result Ahead LinkFault → TheRun S → TheRun S → Type 0
+Deals w n l (Ok (Message frag)) s t =
+    (answer : Result MonitorAnswer LinkFault) × Happens w (heard n l frag answer) s t
+Deals w n l (Ok (Onward frag to c)) s t =
+    ((outcome : Outcome) × Happens w (passed n to frag c outcome) s t) ⊎ (((n ≡ to) ⊎ (length s.rings ≤ to)) × (t ≡ s))
+Deals w n l (Ok (Arrival frag e)) s t = (answer : Result Outcome LinkFault) × Happens w (arrived n l frag e answer) s t
+Deals w n l found s t = t ≡ s
+
+abbrev pub ForwardsOver : {S : Type 0} → Ways S → LinkId → Option ℕ → TheRun S → TheRun S → Type 0
+ForwardsOver w l None s t = t ≡ s
+ForwardsOver {S} w l (Some n) s t =
+    (found : Result Ahead LinkFault) × (m : TheRun S) × Happens w (looked n l found) s m × Deals w n l found m t
+
+-- one forward
+abbrev pub Forwards : {S : Type 0} → Ways S → LinkId → TheRun S → TheRun S → Type 0
+Forwards w l s t = ForwardsOver w l (lent_lane s l) s t
+
+-- one monitor write
+abbrev pub SaysOver : {S : Type 0} → Ways S → LinkId → Option ℕ → TheRun S → TheRun S → Type 0
+SaysOver w l None s t = t ≡ s
+SaysOver w l (Some n) s t = (answer : MonitorWrite) × Happens w (said n l answer) s t
+
+abbrev pub Says : {S : Type 0} → Ways S → LinkId → TheRun S → TheRun S → Type 0
+Says w l s t = SaysOver w l (lent_lane s l) s t
+
+-- one acknowledgement
+abbrev pub TellsOver : {S : Type 0} → Ways S → LinkId → Option ℕ → TheRun S → TheRun S → Type 0
+TellsOver w l None s t = t ≡ s
+TellsOver w l (Some n) s t = (answer : AckAnswer) × Happens w (told n l answer) s t
+
+abbrev pub Tells : {S : Type 0} → Ways S → LinkId → TheRun S → TheRun S → Type 0
+Tells w l s t = TellsOver w l (lent_lane s l) s t
+
+-- ---- for an end: its next job, and a write
+
+-- a circuit can be asked for: its dispatcher and program are there, the client's end isn't there yet, and the outbox has room
+abbrev pub may_ask : {S : Type 0} → TheRun S → Wish → Bool
+may_ask s wish =
+    nat_lt wish.dispatcher (length s.core.board.dispatchers) && nat_lt wish.interface (length s.offers.programs)
+    && nat_lt wish.opening.binding most_bindings && not (is_some (place_of s.core (client_of wish.opening.binding)))
+    && can_say s.core.monitor.outboxes wish.link.0
+
+-- else the job waits
+abbrev pub OpensIf : {S : Type 0} → Ways S → Bool → EndId → Wish → TheRun S → TheRun S → Type 0
+OpensIf w false name wish s t = t ≡ s
+OpensIf w true name wish s t =
+    (answer : Result ℕ OpenFault) × Happens w (opened name wish answer) s t
+
+-- a call is tried where its end is there, and waits where that refuses it
+abbrev pub CallsAt : {S : Type 0} → Ways S → EndId → AnyCall → Option ℕ → TheRun S → TheRun S → Type 0
+CallsAt w name call None s t = t ≡ s
+CallsAt w name call (Some e) s t =
+    (answer : Result (Unit {0}) EndFault) × Happens w (called name (call_of call) answer) s t
+
+-- by the job; reply rules are set before the run
+abbrev pub Tries : {S : Type 0} → Ways S → EndId → Option Job → TheRun S → TheRun S → Type 0
+Tries w name None s t = t ≡ s
+Tries w name (Some (job.Open wish)) s t = OpensIf w (may_ask s wish) name wish s t
+Tries w name (Some (job.Call e call)) s t = CallsAt w name call (place_of s.core name) s t
+Tries w name (Some (job.Reply e msg reply)) s t = t ≡ s
+
+abbrev pub WritesFrom : {S : Type 0} → Ways S → EndId → Option Post → TheRun S → TheRun S → Type 0
+WritesFrom w name None s t = t ≡ s
+WritesFrom w name (Some post) s t = (answer : Result WriteAnswer EndFault) × Happens w (wrote name post.outlet answer) s t
+
+-- its next job, where that can be done, and then one write
+abbrev pub Serves : {S : Type 0} → Ways S → List Job → EndId → TheRun S → TheRun S → Type 0
+Serves {S} w jobs name s t = (m : TheRun S) × Tries w name (next_job jobs s name) s m × WritesFrom w name (lent_post m name) m t
+
+-- one acknowledgement, where the end is a ring's
+abbrev pub AcksFrom : {S : Type 0} → Ways S → EndId → Option Berth → TheRun S → TheRun S → Type 0
+AcksFrom w name None s t = t ≡ s
+AcksFrom w name (Some berth) s t = (answer : Result AckAnswer BoardFault) × Happens w (acked name berth.side answer) s t
+
+abbrev pub Acknowledges : {S : Type 0} → Ways S → EndId → TheRun S → TheRun S → Type 0
+Acknowledges w name s t = AcksFrom w name (lent_berth s name) s t
+
+-- ---- for a dispatcher: a turn
+
+abbrev pub TurnsAt : {S : Type 0} → Ways S → ℕ → Option Due → TheRun S → TheRun S → Type 0
+TurnsAt w d None s t = t ≡ s
+TurnsAt w d (Some due) s t =
+    (name : EndId) × (answer : TurnAnswer) × Happens w (turned d name due.inlet answer) s t
+
+abbrev pub TakesTurn : {S : Type 0} → Ways S → ℕ → TheRun S → TheRun S → Type 0
+TakesTurn w d s t = TurnsAt w d (lent_due s d) s t

@@ -1,0 +1,106 @@
+//! What is done for a dispatcher: a turn.
+
+ghost use Rattle.std.specs.Prelude.{◌≡◌, ◌<◌, true, length, Some, IfOk, OnOk};
+ghost use Rattle.fl_core.specs.View.{due};
+ghost use Rattle.fl_node.specs.View.{place_of, inlet_of};
+ghost use Rattle.fl_running.specs.Run.{ways, run_of, lends_in};
+ghost use Rattle.fl_running.specs.Deeds.{TurnsOver, turned, Does, NotesTurned};
+ghost use Rattle.fl_running.specs.Steps.{TakesTurn};
+ghost use Rattle.fl_running.specs.Turn.{Swept};
+
+use crate::desk::find;
+use crate::lent::lent_due;
+use crate::running::Running;
+use fl_base::EndId;
+use fl_core::TurnAnswer;
+use fl_link::{PutSide, TakeSide};
+use fl_node::Inlet;
+use std::alloc::AllocError;
+
+// A turn of a dispatcher at the end that is due, over where it takes from.
+fn turn_over<S: PutSide + TakeSide + Drop>(
+    run: &mut Running<S>,
+    dispatcher: usize,
+    e: usize,
+    inlet: Inlet,
+) -> Result<TurnAnswer, AllocError>
+    requires there { dispatcher < length run.old.core.board.dispatchers }
+    requires due { due run.old.core.board dispatcher ≡ Some e }
+    requires inlet { inlet_of run.old.core e ≡ Some inlet }
+    requires lent { lends_in (run_of run.old) inlet ≡ true }
+    ensures turns { TurnsOver (ways S.puts S.takes S.front) dispatcher e inlet result (run_of run.old) (run_of run.new) }
+{
+    match inlet {
+        Inlet::Queue(n) => run.core.turn(dispatcher, e, &mut run.queues[n]),
+        Inlet::Side(n) => run.core.turn(dispatcher, e, &mut run.rings[n]),
+        Inlet::Arrivals => run.core.turn_arrivals(dispatcher, e),
+    }
+}
+
+// The same, where the end has this name.
+#[tactic(auto, using(crate::proofs::Counting::turn_done))]
+fn turn_named<S: PutSide + TakeSide + Drop>(
+    run: &mut Running<S>,
+    dispatcher: usize,
+    name: EndId,
+    e: usize,
+    inlet: Inlet,
+) -> Result<TurnAnswer, AllocError>
+    requires there { dispatcher < length run.old.core.board.dispatchers }
+    requires place { place_of run.old.core name ≡ Some e }
+    requires due { due run.old.core.board dispatcher ≡ Some e }
+    requires inlet { inlet_of run.old.core e ≡ Some inlet }
+    requires lent { lends_in (run_of run.old) inlet ≡ true }
+    ensures turned { IfOk result (λ answer. Does (ways S.puts S.takes S.front) (turned dispatcher name inlet answer) (run_of run.old) (run_of run.new)) }
+{
+    let answer = turn_over(run, dispatcher, e, inlet)?;
+    Ok(answer)
+}
+
+// Notes a call that was handled.
+fn note<S>(run: &mut Running<S>, name: EndId, answer: TurnAnswer) -> Result<(), AllocError>
+    ensures notes { OnOk result (NotesTurned name answer (run_of run.old) (run_of run.new)) }
+{
+    match answer {
+        TurnAnswer::Handle(call) => match find(&run.desks, name) {
+            None => Ok(()),
+            Some(place) => run.desks[place].take(call),
+        },
+        TurnAnswer::Part
+        | TurnAnswer::Ready
+        | TurnAnswer::Quiet
+        | TurnAnswer::Full
+        | TurnAnswer::Nothing
+        | TurnAnswer::Refused(_) => Ok(()),
+    }
+}
+
+// One turn of a dispatcher.
+fn turn<S: PutSide + TakeSide + Drop>(
+    run: &mut Running<S>,
+    dispatcher: usize,
+) -> Result<(), AllocError>
+    ensures turns { OnOk result (TakesTurn (ways S.puts S.takes S.front) dispatcher (run_of run.old) (run_of run.new)) }
+{
+    match lent_due(run, dispatcher) {
+        None => Ok(()),
+        Some(due) => {
+            let name = run.core.name(due.end);
+            let answer = turn_named(run, dispatcher, name, due.end, due.inlet)?;
+            note(run, name, answer)
+        }
+    }
+}
+
+/// A turn for each dispatcher.
+pub(crate) fn turn_all<S: PutSide + TakeSide + Drop>(
+    run: &mut Running<S>,
+    dispatchers: usize,
+) -> Result<(), AllocError>
+    ensures turns { OnOk result (Swept (TakesTurn (ways S.puts S.takes S.front)) dispatchers (run_of run.old) (run_of run.new)) }
+{
+    for dispatcher in 0..dispatchers {
+        turn(run, dispatcher)?;
+    }
+    Ok(())
+}

@@ -1,0 +1,210 @@
+//! What is done for an end: its next job, a write, an acknowledgement.
+
+ghost use Rattle.std.specs.Prelude.{◌≡◌, ◌<◌, true, length, Some, Ok, IfOk, IfSome, IfNone, OnOk, None};
+ghost use Rattle.fl_value.specs.Value.{call_of};
+ghost use Rattle.fl_node.specs.View.{place_of, inlet_of};
+ghost use Rattle.fl_node.specs.declared.wire.Inlet.TheVariants.{Side};
+ghost use Rattle.fl_running.specs.Run.{ways, run_of, AtDesk, lends_out, lent_post, next_job};
+ghost use Rattle.fl_running.specs.Desks.{advanced};
+ghost use Rattle.fl_running.specs.Inside.{HasNext};
+ghost use Rattle.fl_running.specs.Deeds.{called, wrote, acked, Does};
+ghost use Rattle.fl_running.specs.Steps.{Tries, WritesFrom, Serves, Acknowledges, CallsAt};
+ghost use Rattle.fl_running.specs.Turn.{ForEach};
+
+use crate::desk::find;
+use crate::job::Job;
+use crate::lent::{lent_berth, lent_post};
+use crate::opening::open;
+use crate::running::Running;
+use fl_base::EndId;
+use fl_core::{AckAnswer, BoardFault};
+use fl_endpoint::{EndFault, WriteAnswer};
+use fl_link::{PutSide, TakeSide};
+use fl_node::Outlet;
+use fl_value::Call;
+use std::alloc::AllocError;
+
+// ---- jobs
+
+// The job that is next at an end.
+fn next_job<'a, S>(run: &Running<S>, jobs: &'a [Job], name: EndId) -> Option<&'a Job>
+    ensures next { IfSome result (λ job. next_job jobs.now (run_of run.now) name ≡ Some job.now) }
+    ensures none { IfNone result (next_job jobs.now (run_of run.now) name ≡ None) }
+    ensures left { IfSome result (λ _. HasNext name (run_of run.now)) }
+{
+    let Some(place) = find(&run.desks, name) else {
+        return None;
+    };
+    match run.desks[place].next() {
+        None => None,
+        Some(job) => jobs.get(job),
+    }
+}
+
+// Makes a call at an end.
+fn call<S: PutSide + TakeSide + Drop>(
+    run: &mut Running<S>,
+    name: EndId,
+    e: usize,
+    call: &Call,
+) -> Result<Result<(), EndFault>, AllocError>
+    requires there { e < length run.old.core.board.seats }
+    requires place { place_of run.old.core name ≡ Some e }
+    ensures called { IfOk result (λ answer. Does (ways S.puts S.takes S.front) (called name (call_of call.now) answer) (run_of run.old) (run_of run.new)) }
+    ensures left { HasNext name (run_of run.old) → HasNext name (run_of run.new) }
+{
+    match run.core.call(e, call) {
+        Err(EndFault::Memory) => Err(AllocError),
+        answer => Ok(answer),
+    }
+}
+
+// The next job of an end is done.
+pub(crate) fn advance<S>(run: &mut Running<S>, name: EndId)
+    requires left { HasNext name (run_of run.old) }
+    ensures advanced { AtDesk name advanced (run_of run.old) (run_of run.new) }
+{
+    if let Some(place) = find(&run.desks, name) {
+        run.desks[place].advance();
+    }
+}
+
+// Tries to make the next call of an end.
+fn try_call<S: PutSide + TakeSide + Drop>(
+    run: &mut Running<S>,
+    name: EndId,
+    next: &Call,
+) -> Result<(), AllocError>
+    requires left { HasNext name (run_of run.old) }
+    ensures calls { OnOk result (CallsAt (ways S.puts S.takes S.front) name next.now (place_of run.old.core name) (run_of run.old) (run_of run.new)) }
+{
+    match run.core.place(name) {
+        None => Ok(()),
+        Some(e) => {
+            let answer = call(run, name, e, next)?;
+            match answer {
+                Ok(()) => {
+                    advance(run, name);
+                    Ok(())
+                }
+                Err(_) => Ok(()),
+            }
+        }
+    }
+}
+
+// Tries the next job of an end.
+fn try_job<S: PutSide + TakeSide + Drop>(
+    run: &mut Running<S>,
+    jobs: &[Job],
+    name: EndId,
+) -> Result<(), AllocError>
+    ensures tries { OnOk result (Tries (ways S.puts S.takes S.front) name (next_job jobs.now (run_of run.old) name) (run_of run.old) (run_of run.new)) }
+{
+    match next_job(run, jobs, name) {
+        None => Ok(()),
+        Some(job) => match job {
+            Job::Open(wish) => open(run, name, wish),
+            Job::Call { call, .. } => try_call(run, name, call),
+            Job::Reply { .. } => Ok(()),
+        },
+    }
+}
+
+// ---- writes
+
+// Writes a fragment of an end to where it puts.
+fn write_to<S: PutSide + TakeSide + Drop>(
+    run: &mut Running<S>,
+    name: EndId,
+    e: usize,
+    outlet: Outlet,
+) -> Result<WriteAnswer, EndFault>
+    requires there { e < length run.old.core.board.seats }
+    requires place { place_of run.old.core name ≡ Some e }
+    requires lent { lends_out (run_of run.old) outlet ≡ true }
+    ensures wrote { Does (ways S.puts S.takes S.front) (wrote name outlet result) (run_of run.old) (run_of run.new) }
+{
+    match outlet {
+        Outlet::Queue(n) => run.core.write(e, &mut run.queues[n]),
+        Outlet::Side(n) => run.core.write(e, &mut run.rings[n]),
+    }
+}
+
+// One write of an end.
+fn write<S: PutSide + TakeSide + Drop>(run: &mut Running<S>, name: EndId)
+    ensures writes { WritesFrom (ways S.puts S.takes S.front) name (lent_post (run_of run.old) name) (run_of run.old) (run_of run.new) }
+{
+    match lent_post(run, name) {
+        None => (),
+        Some(post) => {
+            let _ = write_to(run, name, post.end, post.outlet);
+        }
+    }
+}
+
+// Its next job, where that can be done, and one write.
+fn serve<S: PutSide + TakeSide + Drop>(
+    run: &mut Running<S>,
+    name: EndId,
+    jobs: &[Job],
+) -> Result<(), AllocError>
+    ensures serves { OnOk result (Serves (ways S.puts S.takes S.front) jobs.now name (run_of run.old) (run_of run.new)) }
+{
+    try_job(run, jobs, name)?;
+    write(run, name);
+    Ok(())
+}
+
+/// For each end its next job, where that can be done, and one write.
+pub(crate) fn serve_all<S: PutSide + TakeSide + Drop>(
+    run: &mut Running<S>,
+    ends: &[EndId],
+    jobs: &[Job],
+) -> Result<(), AllocError>
+    ensures serves { OnOk result (ForEach ends.now (Serves (ways S.puts S.takes S.front) jobs.now) (run_of run.old) (run_of run.new)) }
+{
+    for k in 0..ends.len() {
+        serve(run, ends[k], jobs)?;
+    }
+    Ok(())
+}
+
+// ---- acknowledgements
+
+// Tells what was taken at an end of a ring.
+fn ack_over<S: PutSide + TakeSide + Drop>(
+    run: &mut Running<S>,
+    name: EndId,
+    e: usize,
+    n: usize,
+) -> Result<AckAnswer, BoardFault>
+    requires there { e < length run.old.core.board.seats }
+    requires place { place_of run.old.core name ≡ Some e }
+    requires inlet { inlet_of run.old.core e ≡ Some (Side n) }
+    requires side { n < length run.old.rings.items }
+    ensures acked { Does (ways S.puts S.takes S.front) (acked name n result) (run_of run.old) (run_of run.new) }
+{
+    run.core.ack(e, &mut run.rings[n])
+}
+
+// One acknowledgement of an end, where it is a ring's.
+fn ack<S: PutSide + TakeSide + Drop>(run: &mut Running<S>, name: EndId)
+    ensures acks { Acknowledges (ways S.puts S.takes S.front) name (run_of run.old) (run_of run.new) }
+{
+    match lent_berth(run, name) {
+        None => (),
+        Some(berth) => {
+            let _ = ack_over(run, name, berth.end, berth.side);
+        }
+    }
+}
+
+/// An acknowledgement for each end of a ring.
+pub(crate) fn ack_all<S: PutSide + TakeSide + Drop>(run: &mut Running<S>, ends: &[EndId])
+    ensures acks { ForEach ends.now (Acknowledges (ways S.puts S.takes S.front)) (run_of run.old) (run_of run.new) }
+{
+    for k in 0..ends.len() {
+        ack(run, ends[k]);
+    }
+}

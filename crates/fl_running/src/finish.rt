@@ -1,0 +1,68 @@
+//! When a core has nothing left to do.
+
+ghost use Rattle.std.specs.Prelude.{◌≡◌, ◌<◌, length};
+ghost use Rattle.fl_running.specs.Run.{run_of};
+ghost use Rattle.fl_running.specs.Finished.{is_at_rest, is_desk_clear, is_done_at, is_done, is_finished};
+
+use crate::desk::find;
+use crate::running::Running;
+use crate::word::Word;
+use fl_base::EndId;
+
+// Whether an end is bound and has written all that it accepted, where it is at this core.
+fn is_at_rest<S>(run: &Running<S>, name: EndId) -> bool
+    ensures rest { result ≡ is_at_rest run.now.core name }
+{
+    match run.core.place(name) {
+        None => true,
+        Some(e) => {
+            let end = run.core.board().end(e);
+            end.is_bound() && !end.is_busy()
+        }
+    }
+}
+
+// Whether all jobs at an end are done, and all calls for it handled.
+fn is_desk_clear<S>(run: &Running<S>, name: EndId) -> bool
+    ensures clear { result ≡ is_desk_clear (run_of run.now) name }
+{
+    match find(&run.desks, name) {
+        None => true,
+        Some(place) => run.desks[place].is_clear(),
+    }
+}
+
+// Whether nothing is left to do at an end.
+fn is_done_at<S>(run: &Running<S>, name: EndId, word: Word) -> bool
+    ensures done { result ≡ is_done_at (run_of run.now) name word }
+{
+    match word {
+        Word::Refused(_) => true,
+        Word::Silent => is_desk_clear(run, name) && is_at_rest(run, name),
+        Word::Tells(_) => is_desk_clear(run, name) && is_at_rest(run, name),
+        Word::Hears(_) => is_desk_clear(run, name) && is_at_rest(run, name),
+    }
+}
+
+// Whether that is so at the end of a place of the list.
+fn is_done<S>(run: &Running<S>, ends: &[EndId], words: &[Word], k: usize) -> bool
+    requires end { k < length ends.now }
+    requires word { k < length words.now }
+    ensures done { result ≡ is_done (run_of run.now) ends.now words.now k }
+{
+    is_done_at(run, ends[k], words[k])
+}
+
+/// Whether nothing is left to do.
+#[tactic(auto, using(crate::proofs::Stock::not_all_done))]
+pub(crate) fn is_finished<S>(run: &Running<S>, ends: &[EndId], words: &[Word]) -> bool
+    requires { length words.now ≡ length ends.now }
+    ensures finished { result ≡ is_finished (run_of run.now) ends.now words.now }
+{
+    for k in 0..ends.len() {
+        if !is_done(run, ends, words, k) {
+            return false;
+        }
+    }
+    true
+}

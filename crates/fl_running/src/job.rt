@@ -1,0 +1,36 @@
+//! What a core is to do at its ends.
+
+use fl_base::{EndId, LinkId, MsgNo};
+use fl_monitor::Opening;
+use fl_value::Call;
+
+/// A circuit that is to be asked for, by the core of its client's end.
+#[derive(Clone, Copy, Debug, PartialEq, Eq)]
+pub struct Wish {
+    /// The client's dispatcher, by its place at the core.
+    pub dispatcher: usize,
+    /// The client's program, by its interface's place.
+    pub interface: usize,
+    /// The link on which the route begins ([`fl_monitor::Monitor::may_open`]).
+    pub link: LinkId,
+    /// What is asked for.
+    pub opening: Opening,
+}
+
+/// A job at an end.
+#[derive(Debug, Drop)]
+pub enum Job {
+    /// A circuit is asked for, and with it the client's end is made.
+    Open(Wish),
+    /// A reply rule. It is set before the core runs.
+    Reply {
+        end: EndId,
+        msg: MsgNo,
+        reply: MsgNo,
+    },
+    /// A call is made.
+    Call {
+        end: EndId,
+        call: Call,
+    },
+}

@@ -1,0 +1,124 @@
+//! Which sides are lent.
+
+ghost use Rattle.std.specs.Prelude.{◌≡◌, ◌<◌, length, true, Some, IfSome};
+ghost use Rattle.fl_core.specs.View.{due};
+ghost use Rattle.fl_node.specs.View.{place_of, inlet_of, outlet_of};
+ghost use Rattle.fl_node.specs.declared.wire.Inlet.TheVariants.{Side};
+ghost use Rattle.fl_running.specs.Run.{run_of, lent_lane, lends_out, lends_in, lent_post, lent_due, lent_berth};
+
+use crate::running::Running;
+use fl_base::{EndId, LinkId};
+use fl_node::{Inlet, Outlet};
+
+/// The place of an end, and where it puts.
+#[derive(Clone, Copy, Debug, PartialEq, Eq)]
+pub(crate) struct Post {
+    pub(crate) end: usize,
+    pub(crate) outlet: Outlet,
+}
+
+/// The place of an end that is due, and where it takes from.
+#[derive(Clone, Copy, Debug, PartialEq, Eq)]
+pub(crate) struct Due {
+    pub(crate) end: usize,
+    pub(crate) inlet: Inlet,
+}
+
+/// The place of an end of a ring, and its side.
+#[derive(Clone, Copy, Debug, PartialEq, Eq)]
+pub(crate) struct Berth {
+    pub(crate) end: usize,
+    pub(crate) side: usize,
+}
+
+/// The side of a link.
+pub(crate) fn lent_lane<S>(run: &Running<S>, link: LinkId) -> Option<usize>
+    ensures lane { result ≡ lent_lane (run_of run.now) link }
+    ensures side { IfSome result (λ n. n < length run.now.rings.items) }
+    ensures link { IfSome result (λ _. link.0 < length run.now.core.lanes) }
+{
+    match run.core.side(link) {
+        Some(side) if side < run.rings.len() => Some(side),
+        _ => None,
+    }
+}
+
+// Whether what an end puts to is lent.
+fn lends_out<S>(run: &Running<S>, outlet: Outlet) -> bool
+    ensures lends { result ≡ lends_out (run_of run.now) outlet }
+{
+    match outlet {
+        Outlet::Queue(n) => n < run.queues.len(),
+        Outlet::Side(n) => n < run.rings.len(),
+    }
+}
+
+// Whether what an end takes from is lent.
+fn lends_in<S>(run: &Running<S>, inlet: Inlet) -> bool
+    ensures lends { result ≡ lends_in (run_of run.now) inlet }
+{
+    match inlet {
+        Inlet::Queue(n) => n < run.queues.len(),
+        Inlet::Side(n) => n < run.rings.len(),
+        Inlet::Arrivals => true,
+    }
+}
+
+/// Where an end is, and where it puts.
+pub(crate) fn lent_post<S>(run: &Running<S>, name: EndId) -> Option<Post>
+    ensures post { result ≡ lent_post (run_of run.now) name }
+    ensures there { IfSome result (λ p. p.end < length run.now.core.board.seats) }
+    ensures place { IfSome result (λ p. place_of run.now.core name ≡ Some p.end) }
+    ensures lent { IfSome result (λ p. lends_out (run_of run.now) p.outlet ≡ true) }
+{
+    let Some(end) = run.core.place(name) else {
+        return None;
+    };
+    let outlet = run.core.outlet(end);
+    if !lends_out(run, outlet) {
+        return None;
+    }
+    Some(Post { end, outlet })
+}
+
+/// At which end a dispatcher's turn looks, and where that takes from.
+pub(crate) fn lent_due<S>(run: &Running<S>, dispatcher: usize) -> Option<Due>
+    ensures due { result ≡ lent_due (run_of run.now) dispatcher }
+    ensures there { IfSome result (λ p. p.end < length run.now.core.board.seats) }
+    ensures dispatcher { IfSome result (λ _. dispatcher < length run.now.core.board.dispatchers) }
+    ensures is_due { IfSome result (λ p. due run.now.core.board dispatcher ≡ Some p.end) }
+    ensures inlet { IfSome result (λ p. inlet_of run.now.core p.end ≡ Some p.inlet) }
+    ensures lent { IfSome result (λ p. lends_in (run_of run.now) p.inlet ≡ true) }
+{
+    if dispatcher >= run.core.board().dispatchers() {
+        return None;
+    }
+    let Some(end) = run.core.board().due(dispatcher) else {
+        return None;
+    };
+    let inlet = run.core.inlet(end);
+    if !lends_in(run, inlet) {
+        return None;
+    }
+    Some(Due { end, inlet })
+}
+
+/// Where an end of a ring is, and its side.
+pub(crate) fn lent_berth<S>(run: &Running<S>, name: EndId) -> Option<Berth>
+    ensures berth { result ≡ lent_berth (run_of run.now) name }
+    ensures there { IfSome result (λ b. b.end < length run.now.core.board.seats) }
+    ensures place { IfSome result (λ b. place_of run.now.core name ≡ Some b.end) }
+    ensures inlet { IfSome result (λ b. inlet_of run.now.core b.end ≡ Some (Side b.side)) }
+    ensures lent { IfSome result (λ b. b.side < length run.now.rings.items) }
+{
+    let Some(end) = run.core.place(name) else {
+        return None;
+    };
+    let Inlet::Side(side) = run.core.inlet(end) else {
+        return None;
+    };
+    if side >= run.rings.len() {
+        return None;
+    }
+    Some(Berth { end, side })
+}

@@ -1,0 +1,52 @@
+//! One running core: its turns.
+//!
+//! A [`Running`] is a core with the sides of rings and the local queues that it is lent, and a desk for each end, where the end's jobs lie. In a turn
+//! ([`Running::turn`]) it forwards for each link, lets its monitor write on each, does each end's next job and one write, gives each dispatcher a turn,
+//! and acknowledges what was taken. [`core_run`] is the core's whole run: turns that are counted, until nothing is left to do or a limit is
+//! reached, and then turns that aren't, until all cores have ended. What cores tell each other of that goes by the run's table (`fl_tally`).
+//!
+//! Contract for the layers above: each event is the core's own (`specs/Deeds.antt`: what a core's log is made of); which
+//! events come in a turn, and in which order, stands in `specs/Steps.antt` and `specs/Turn.antt`; when a core has nothing left to do in
+//! `specs/Finished.antt`, what it tells of refused openings in `specs/Words.antt`, and the whole run in `specs/Ran.antt`.
+//!
+//! - `running.rt`: `Running`, and turns
+//! - `links.rt`: what is done for a link
+//! - `ends.rt`: what is done for an end
+//! - `opening.rt`: a job that opens a circuit
+//! - `dispatchers.rt`: what is done for a dispatcher
+//! - `lent.rt`: which sides are lent
+//! - `desk.rt`: desks
+//! - `job.rt`, `plan.rt`: jobs, and what a turn goes over
+//! - `word.rt`, `ticket.rt`: what is told of refused openings
+//! - `finish.rt`: when nothing is left to do
+//! - `run.rt`, `gate.rt`, `fault.rt`: the whole run
+//! - `law.rt`: what holds of turns
+#![tactic(auto)]
+
+mod desk;
+mod dispatchers;
+mod ends;
+mod fault;
+mod finish;
+mod gate;
+mod job;
+mod law;
+mod lent;
+mod links;
+mod opening;
+mod plan;
+mod run;
+mod running;
+mod ticket;
+mod word;
+
+pub use desk::Desk;
+pub use fault::CoresFault;
+pub use gate::Gate;
+pub use job::{Job, Wish};
+pub use law::{sides_go, turns_are_logged};
+pub use plan::Plan;
+pub use run::{End, Part, core_run};
+pub use running::Running;
+pub use ticket::Ticket;
+pub use word::Word;

@@ -1,0 +1,269 @@
+//! What is done for a link: a forward, a monitor write, an acknowledgement.
+
+ghost use Rattle.std.specs.Prelude.{◌≡◌, ◌≢◌, ◌<◌, false, ℕ, length, slice_get, Some, Ok, IfOk, OnOk};
+ghost use Rattle.fl_base.specs.Control.{is_ack_only, with_circuit, bare};
+ghost use Rattle.fl_link.specs.Looks.{saw, found};
+ghost use Rattle.fl_running.specs.Run.{ways, run_of};
+ghost use Rattle.fl_running.specs.Deeds.{PutsAt, TakesAt, looked, passed, arrived, heard, said, told, Does, NotesHeard};
+ghost use Rattle.fl_running.specs.Steps.{Deals, Forwards, Says, Tells};
+ghost use Rattle.fl_running.specs.Turn.{ForEach};
+ghost use Rattle.fl_running.specs.Inside.{Fronts, Foresees, put_label};
+
+use crate::desk::find;
+use crate::lent::lent_lane;
+use crate::running::Running;
+use fl_base::{Circuit, EndId, Frag, LinkId};
+use fl_core::AckAnswer;
+use fl_hop::Outcome;
+use fl_link::{PutFault, PutSide, TakeSide};
+use fl_node::{Ahead, LinkFault, MonitorAnswer, MonitorWrite};
+use std::alloc::AllocError;
+
+// ---- forwards
+
+// Looks at what stands first on a link.
+fn look<S: PutSide + TakeSide + Drop>(
+    run: &mut Running<S>,
+    n: usize,
+    link: LinkId,
+) -> Result<Ahead, LinkFault>
+    requires side { n < length run.old.rings.items }
+    requires link { link.0 < length run.old.core.lanes }
+    ensures looked { Does (ways S.puts S.takes S.front) (looked n link result) (run_of run.old) (run_of run.new) }
+    ensures foreseen { Foresees (ways S.puts S.takes S.front) n result (run_of run.new) }
+    ensures side { n < length run.new.rings.items }
+    ensures link { link.0 < length run.new.core.lanes }
+{
+    run.core.look(link, &mut run.rings[n])
+}
+
+// Hears the monitors' message that was seen to stand first.
+fn hear<S: PutSide + TakeSide + Drop>(
+    run: &mut Running<S>,
+    n: usize,
+    link: LinkId,
+    frag: &Frag,
+) -> Result<Result<MonitorAnswer, LinkFault>, AllocError>
+    requires side { n < length run.old.rings.items }
+    requires link { link.0 < length run.old.core.lanes }
+    requires seen { (p : S) → slice_get run.old.rings.items n ≡ Some p → S.front p ≡ saw (bare frag.now) }
+    ensures heard { IfOk result (λ answer. Does (ways S.puts S.takes S.front) (heard n link frag.now answer) (run_of run.old) (run_of run.new)) }
+{
+    let answer = run
+        .core
+        .hear(link, &mut run.rings[n], frag, &run.names, &run.programs);
+    match answer {
+        Err(LinkFault::Memory) => Err(AllocError),
+        answer => Ok(answer),
+    }
+}
+
+// Notes the word that an opening is refused.
+fn note<S>(run: &mut Running<S>, answer: Result<MonitorAnswer, LinkFault>)
+    ensures notes { NotesHeard answer (run_of run.old) (run_of run.new) }
+{
+    let Ok(MonitorAnswer::OpeningRefused(end, reason)) = answer else {
+        return;
+    };
+    if let Some(place) = find(&run.desks, end) {
+        run.desks[place].refuse(reason);
+    }
+}
+
+// Puts a fragment at a side.
+fn put_at<S: PutSide + TakeSide + Drop>(
+    run: &mut Running<S>,
+    n: usize,
+    frag: &Frag,
+) -> Result<(), PutFault>
+    requires side { n < length run.old.rings.items }
+    requires call { is_ack_only frag.now ≡ false }
+    ensures puts { PutsAt (ways S.puts S.takes S.front) n (put_label frag.now result) (run_of run.old) (run_of run.new) }
+{
+    run.rings[n].put(frag)
+}
+
+// Takes a fragment that was seen to stand first at a side.
+fn take_at<S: PutSide + TakeSide + Drop>(run: &mut Running<S>, n: usize, frag: &Frag)
+    requires side { n < length run.old.rings.items }
+    requires seen { Fronts (ways S.puts S.takes S.front) n frag.now (run_of run.old) }
+    ensures takes { TakesAt (ways S.puts S.takes S.front) n (found (bare frag.now)) (run_of run.old) (run_of run.new) }
+{
+    let _ = run.rings[n].take();
+}
+
+// Passes on a fragment that was seen to stand first on one side, over another.
+#[tactic(auto, using(crate::proofs::Foreseen::stands_elsewhere))]
+fn cross<S: PutSide + TakeSide + Drop>(
+    run: &mut Running<S>,
+    from: usize,
+    to: usize,
+    frag: &Frag,
+    circuit: Circuit,
+) -> Outcome
+    requires from { from < length run.old.rings.items }
+    requires to { to < length run.old.rings.items }
+    requires two { from ≢ to }
+    requires seen { Fronts (ways S.puts S.takes S.front) from frag.now (run_of run.old) }
+    requires call { is_ack_only (with_circuit circuit.0 frag.now) ≡ false }
+    ensures passed { Does (ways S.puts S.takes S.front) (passed from to frag.now circuit result) (run_of run.old) (run_of run.new) }
+{
+    let sent = frag.with_circuit(circuit);
+    match put_at(run, to, &sent) {
+        Err(PutFault::Full) => Outcome::Full,
+        Err(PutFault::Spent) => Outcome::Spent,
+        Ok(()) => {
+            take_at(run, from, frag);
+            Outcome::Moved
+        }
+    }
+}
+
+// Brings a fragment that was seen to stand first to an end.
+fn arrive<S: PutSide + TakeSide + Drop>(
+    run: &mut Running<S>,
+    n: usize,
+    link: LinkId,
+    frag: &Frag,
+    end: EndId,
+) -> Result<Outcome, LinkFault>
+    requires side { n < length run.old.rings.items }
+    requires link { link.0 < length run.old.core.lanes }
+    requires seen { (p : S) → slice_get run.old.rings.items n ≡ Some p → S.front p ≡ saw (bare frag.now) }
+    requires call { is_ack_only (with_circuit 0 frag.now) ≡ false }
+    ensures arrived { Does (ways S.puts S.takes S.front) (arrived n link frag.now end result) (run_of run.old) (run_of run.new) }
+{
+    run.core.arrive(link, &mut run.rings[n], frag, end)
+}
+
+// Deals with what a look found.
+fn deal<S: PutSide + TakeSide + Drop>(
+    run: &mut Running<S>,
+    n: usize,
+    link: LinkId,
+    found: Result<Ahead, LinkFault>,
+) -> Result<(), AllocError>
+    requires side { n < length run.old.rings.items }
+    requires link { link.0 < length run.old.core.lanes }
+    requires foreseen { Foresees (ways S.puts S.takes S.front) n found (run_of run.old) }
+    ensures deals { OnOk result (Deals (ways S.puts S.takes S.front) n link found (run_of run.old) (run_of run.new)) }
+{
+    match found {
+        Ok(Ahead::Nothing) | Ok(Ahead::Acknowledged) | Err(_) => Ok(()),
+        Ok(Ahead::Message(frag)) => {
+            let answer = hear(run, n, link, &frag)?;
+            note(run, answer);
+            Ok(())
+        }
+        Ok(Ahead::Onward(frag, to, circuit)) => {
+            if to != n && to < run.rings.len() {
+                let _ = cross(run, n, to, &frag, circuit);
+            }
+            Ok(())
+        }
+        Ok(Ahead::Arrival(frag, end)) => {
+            let _ = arrive(run, n, link, &frag, end);
+            Ok(())
+        }
+    }
+}
+
+/// One forward.
+fn forward<S: PutSide + TakeSide + Drop>(
+    run: &mut Running<S>,
+    link: LinkId,
+) -> Result<(), AllocError>
+    ensures forwards { OnOk result (Forwards (ways S.puts S.takes S.front) link (run_of run.old) (run_of run.new)) }
+{
+    match lent_lane(run, link) {
+        None => Ok(()),
+        Some(n) => {
+            let found = look(run, n, link);
+            deal(run, n, link, found)
+        }
+    }
+}
+
+/// A forward for each link.
+pub(crate) fn forward_all<S: PutSide + TakeSide + Drop>(
+    run: &mut Running<S>,
+    links: &[LinkId],
+) -> Result<(), AllocError>
+    ensures forwards { OnOk result (ForEach links.now (Forwards (ways S.puts S.takes S.front)) (run_of run.old) (run_of run.new)) }
+{
+    for k in 0..links.len() {
+        forward(run, links[k])?;
+    }
+    Ok(())
+}
+
+// ---- monitor writes
+
+// The monitor writes over a side.
+fn say_over<S: PutSide + TakeSide + Drop>(
+    run: &mut Running<S>,
+    n: usize,
+    link: LinkId,
+) -> MonitorWrite
+    requires side { n < length run.old.rings.items }
+    ensures said { Does (ways S.puts S.takes S.front) (said n link result) (run_of run.old) (run_of run.new) }
+{
+    run.core.monitor_write(link, &mut run.rings[n])
+}
+
+// One monitor write.
+fn say<S: PutSide + TakeSide + Drop>(run: &mut Running<S>, link: LinkId)
+    ensures says { Says (ways S.puts S.takes S.front) link (run_of run.old) (run_of run.new) }
+{
+    match lent_lane(run, link) {
+        None => (),
+        Some(n) => {
+            let _ = say_over(run, n, link);
+        }
+    }
+}
+
+/// A monitor write for each link.
+pub(crate) fn say_all<S: PutSide + TakeSide + Drop>(run: &mut Running<S>, links: &[LinkId])
+    ensures says { ForEach links.now (Says (ways S.puts S.takes S.front)) (run_of run.old) (run_of run.new) }
+{
+    for k in 0..links.len() {
+        say(run, links[k]);
+    }
+}
+
+// ---- acknowledgements
+
+// Tells what was taken over a side.
+fn tell_over<S: PutSide + TakeSide + Drop>(
+    run: &mut Running<S>,
+    n: usize,
+    link: LinkId,
+) -> AckAnswer
+    requires side { n < length run.old.rings.items }
+    requires link { link.0 < length run.old.core.lanes }
+    ensures told { Does (ways S.puts S.takes S.front) (told n link result) (run_of run.old) (run_of run.new) }
+{
+    run.core.monitor_ack(link, &mut run.rings[n])
+}
+
+// One acknowledgement.
+fn tell<S: PutSide + TakeSide + Drop>(run: &mut Running<S>, link: LinkId)
+    ensures tells { Tells (ways S.puts S.takes S.front) link (run_of run.old) (run_of run.new) }
+{
+    match lent_lane(run, link) {
+        None => (),
+        Some(n) => {
+            let _ = tell_over(run, n, link);
+        }
+    }
+}
+
+/// An acknowledgement for each link.
+pub(crate) fn tell_all<S: PutSide + TakeSide + Drop>(run: &mut Running<S>, links: &[LinkId])
+    ensures tells { ForEach links.now (Tells (ways S.puts S.takes S.front)) (run_of run.old) (run_of run.new) }
+{
+    for k in 0..links.len() {
+        tell(run, links[k]);
+    }
+}

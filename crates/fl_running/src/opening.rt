@@ -1,0 +1,144 @@
+//! A job that opens a circuit.
+
+ghost use Rattle.std.specs.Prelude.{◌≡◌, ◌<◌, true, length, None, Ok, IfOk, OnOk};
+ghost use Rattle.fl_monitor.specs.Monitors.{can_say};
+ghost use Rattle.fl_node.specs.View.{place_of, client_of};
+ghost use Rattle.fl_running.specs.Run.{ways, run_of, AtDesk};
+ghost use Rattle.fl_running.specs.Desks.{advanced, with_refusal};
+ghost use Rattle.fl_running.specs.Deeds.{IsCopyOf, opened, NotesOpened, Does};
+ghost use Rattle.fl_running.specs.Steps.{may_ask, OpensIf};
+ghost use Rattle.fl_running.specs.Inside.{HasNext};
+
+use crate::desk::find;
+use crate::ends::advance;
+use crate::job::Wish;
+use crate::running::Running;
+use fl_base::{EndId, LinkId, Side};
+use fl_compile::Program;
+use fl_core::BoardFault;
+use fl_link::{PutSide, TakeSide};
+use fl_monitor::{Monitor, MonitorFault};
+use fl_node::OpenFault;
+use std::alloc::AllocError;
+
+// Bindings are numbered below this.
+const MAX_BINDINGS: usize = 1_024;
+
+// Whether the outbox of a link has room.
+fn can_say(monitor: &Monitor, link: LinkId) -> bool
+    ensures room { result ≡ can_say monitor.now.outboxes link.0 }
+{
+    match monitor.outbox(link) {
+        None => false,
+        Some(outbox) => {
+            outbox.sound();
+            !outbox.is_full()
+        }
+    }
+}
+
+// Whether a circuit can be asked for.
+fn may_ask<S>(run: &Running<S>, wish: &Wish) -> bool
+    ensures may { result ≡ may_ask (run_of run.now) wish.now }
+{
+    let client = EndId {
+        binding: wish.opening.binding as usize,
+        side: Side::Client,
+    };
+    wish.dispatcher < run.core.board().dispatchers()
+        && wish.interface < run.programs.len()
+        && (wish.opening.binding as usize) < MAX_BINDINGS
+        && !run.core.place(client).is_some()
+        && can_say(run.core.monitor(), wish.link)
+}
+
+// A copy of the program at a place.
+fn copy<S>(run: &Running<S>, n: usize) -> Result<Program, AllocError>
+    requires { n < length run.now.programs.items }
+    ensures copy { IfOk result (λ p. IsCopyOf run.now.programs.items n p) }
+{
+    match run.programs.get(n) {
+        None => unreachable!(),
+        Some(source) => {
+            let program = source.duplicate(run.alloc)?;
+            Ok(program)
+        }
+    }
+}
+
+// Whether memory was refused.
+fn is_memory(fault: OpenFault) -> bool {
+    match fault {
+        OpenFault::Board(fault) => matches!(fault, BoardFault::Memory),
+        OpenFault::Monitor(fault) => matches!(fault, MonitorFault::Memory),
+    }
+}
+
+// Asks for a circuit.
+fn ask<S: PutSide + TakeSide + Drop>(
+    run: &mut Running<S>,
+    name: EndId,
+    wish: &Wish,
+) -> Result<Result<usize, OpenFault>, AllocError>
+    requires dispatcher { wish.now.dispatcher < length run.old.core.board.dispatchers }
+    requires program { wish.now.interface < length run.old.programs.items }
+    requires few { wish.now.opening.binding < 1024 }
+    requires new { place_of run.old.core (client_of wish.now.opening.binding) ≡ None }
+    ensures opened { IfOk result (λ answer. Does (ways S.puts S.takes S.front) (opened name wish.now answer) (run_of run.old) (run_of run.new)) }
+    ensures left { HasNext name (run_of run.old) → HasNext name (run_of run.new) }
+{
+    let program = copy(run, wish.interface)?;
+    match run
+        .core
+        .open(wish.dispatcher, program, wish.link, &wish.opening)
+    {
+        Ok(e) => Ok(Ok(e)),
+        Err(fault) => {
+            if is_memory(fault) {
+                return Err(AllocError);
+            }
+            Ok(Err(fault))
+        }
+    }
+}
+
+// Notes that an opening is refused, and with it its job is done.
+fn refuse<S>(run: &mut Running<S>, name: EndId, number: u32)
+    requires left { HasNext name (run_of run.old) }
+    ensures refused { AtDesk name (λ d. advanced (with_refusal number d)) (run_of run.old) (run_of run.new) }
+{
+    if let Some(place) = find(&run.desks, name) {
+        let desk = &mut run.desks[place];
+        desk.refuse(number);
+        desk.advance();
+    }
+}
+
+// Notes what came of asking.
+fn note<S>(run: &mut Running<S>, name: EndId, answer: Result<usize, OpenFault>)
+    requires left { HasNext name (run_of run.old) }
+    ensures notes { NotesOpened name answer (run_of run.old) (run_of run.new) }
+{
+    match answer {
+        Ok(_) => advance(run, name),
+        Err(OpenFault::Monitor(MonitorFault::OutboxFull)) => (),
+        Err(fault) => refuse(run, name, u32::from(fault.number())),
+    }
+}
+
+/// Asks for a circuit for an end whose next job that is, where it can be asked for; else the job waits.
+pub(crate) fn open<S: PutSide + TakeSide + Drop>(
+    run: &mut Running<S>,
+    name: EndId,
+    wish: &Wish,
+) -> Result<(), AllocError>
+    requires left { HasNext name (run_of run.old) }
+    ensures opens { OnOk result (OpensIf (ways S.puts S.takes S.front) (may_ask (run_of run.old) wish.now) name wish.now (run_of run.old) (run_of run.new)) }
+{
+    if !may_ask(run, wish) {
+        return Ok(());
+    }
+    let answer = ask(run, name, wish)?;
+    note(run, name, answer);
+    Ok(())
+}

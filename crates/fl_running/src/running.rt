@@ -1,0 +1,54 @@
+//! A core that runs.
+
+ghost use Rattle.std.specs.Prelude.{◌≡◌, ◌<◌, length, OnOk};
+ghost use Rattle.fl_running.specs.Run.{ways, run_of};
+ghost use Rattle.fl_running.specs.Turn.{OneTurn};
+
+use crate::desk::Desk;
+use crate::dispatchers::turn_all;
+use crate::ends::{ack_all, serve_all};
+use crate::job::Job;
+use crate::links::{forward_all, say_all, tell_all};
+use crate::plan::Plan;
+use fl_compile::Program;
+use fl_link::{PutSide, QueueLink, TakeSide};
+use fl_nameserv::Names;
+use fl_node::Core;
+use std::alloc::{AllocError, Global};
+
+/// A core with all that its thread works on.
+#[derive(Drop)]
+pub struct Running<S> {
+    pub alloc: Global,
+    pub core: Core,
+    /// Its sides of rings, by the numbers by which the core names them.
+    pub rings: Vec<S>,
+    /// Its local queues, likewise.
+    pub queues: Vec<QueueLink>,
+    /// The desk of each end, by name: that of the client of binding b at 2 b, that of its server at 2 b + 1.
+    pub desks: Vec<Desk>,
+    /// The core's copy of the table of names.
+    pub names: Names,
+    /// The programs of the services' interfaces, by their places.
+    pub programs: Vec<Program>,
+}
+
+impl<S: PutSide + TakeSide + Drop> Running<S> {
+    /// One turn: a forward for each link, a monitor write for each link, for each end its next job where that can be done and one write, a turn for
+    /// each dispatcher, an acknowledgement for each link and each end of a ring. It takes no memory but where a call becomes whole or a circuit is asked for
+    /// or opened.
+    ///
+    /// # Errors
+    /// Out of memory. The turn wasn't finished then, and the core can take no other.
+    pub fn turn(&mut self, plan: &Plan, jobs: &[Job]) -> Result<(), AllocError>
+        ensures turn { OnOk result (OneTurn (ways S.puts S.takes S.front) plan.now jobs.now (run_of self.old) (run_of self.new)) }
+    {
+        forward_all(self, &plan.links)?;
+        say_all(self, &plan.links);
+        serve_all(self, &plan.ends, jobs)?;
+        turn_all(self, plan.dispatchers)?;
+        tell_all(self, &plan.links);
+        ack_all(self, &plan.ends);
+        Ok(())
+    }
+}
