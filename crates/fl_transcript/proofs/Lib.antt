@@ -1,0 +1,9 @@
+mod CallTexts
+mod Doing
+mod Asking
+mod Firsts
+mod Views
+mod Making
+mod Naming
+mod ExecLemmas
+mod TextLemmas

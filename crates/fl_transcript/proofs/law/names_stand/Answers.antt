@@ -1,0 +1,5 @@
+use Rattle.fl_transcript.proofs.Naming as lemmas
+use Rattle.fl_transcript.proofs.law.names_stand.Goals as goal
+
+pub returns : goal.returns
+returns c = record { stand = lemmas.names_stand }

@@ -1,0 +1,10 @@
+pub mod Text
+pub mod Texts
+pub mod Transcript
+pub mod CutShort
+pub mod Steps
+pub mod Shown
+pub mod Reading
+pub mod Written
+pub mod Handled
+pub mod Standing

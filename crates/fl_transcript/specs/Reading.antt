@@ -1,0 +1,33 @@
+-- Parts of a run of a script.
+use Rattle.std.specs.Prelude.{◌≡◌, ◌<◌, ℕ, List, ◌++◌, length, true, ⊤}
+use Rattle.std.specs.Bool.{MatchBool}
+use Rattle.fl_transcript.specs.declared.running.ExecFault.{ExecFault}
+use Rattle.fl_transcript.specs.declared.running.ExecFault.TheVariants.{Memory, Read, Write}
+use Rattle.fl_transcript.specs.CutShort.{SomeAnswers, PartOfAnswers}
+use Rattle.fl_transcript.specs.Transcript.{Script, Effect, Runs, is_too_long}
+
+-- the status with which a program ends that met the fault
+abbrev pub status_of : ExecFault → ℕ
+status_of Memory = 3
+status_of Read = 4
+status_of Write = 4
+
+-- the text is all of the input, or both are too long for a script
+abbrev pub ReadsWhole : List ℕ → List ℕ → Type 0
+ReadsWhole input text = MatchBool (is_too_long text) (is_too_long input ≡ true) (text ≡ input)
+
+-- an input can be left unread for that: memory is refused for bytes that were read, so there are some
+abbrev pub CanBeUnread : ExecFault → List ℕ → Type 0
+CanBeUnread Memory input = 0 < length input
+CanBeUnread Read input = ⊤
+CanBeUnread Write input = ⊥
+
+-- what is written of a script's bytes where a fault ends the run of its items; no read is among what can fail
+abbrev pub Stops : ExecFault → Script → List ℕ → List ℕ → Type 0
+Stops Memory s bytes out = SomeAnswers s bytes out
+Stops Read s bytes out = ⊥
+Stops Write s bytes out = PartOfAnswers s bytes out
+
+-- what was done, and then what the rest does, is what the whole script does
+pub record GoesOn (first : Script) (whole : List ℕ) (now : Script) (rest : List ℕ) (done : List Effect) : Type 0 where
+  pub runs : (more : List Effect) → Runs now rest more → Runs first whole (done ++ more)

@@ -1,0 +1,106 @@
+-- The transcript of a script: what the queue machine answers from its start, item by item.
+use Rattle.std.specs.Prelude.{◌≡◌, ℕ, nat_lt, Bool, List, [], ◌∷◌, ◌++◌, length, codes}
+use Rattle.std.specs.Bool.{MatchBool}
+use Rattle.std.specs.List.{flat_map}
+use Rattle.fl_value.specs.declared.value.PlanNo.{PlanNo}
+use Rattle.fl_queues.specs.Events.{Event, refused}
+use Rattle.fl_queues.specs.State.{State, Outcome, start}
+use Rattle.fl_queues.specs.Step.{step}
+use Rattle.fl_queues.specs.Runs.{Exchange}
+use Rattle.fl_lines.specs.Grammar.{silent, heading, command, unread}
+use Rattle.fl_lines.specs.Items.{Item, a_line, a_block, open_block, ItemsOf}
+use Rattle.fl_lines.specs.Names.{Names, no_names}
+use Rattle.fl_lines.specs.Asked.{Asked, refuses, asks, names_after, Asks, asks_interface}
+use Rattle.fl_lines.specs.Answers.{answer_text, fault_text}
+use Rattle.fl_transcript.specs.Text.{TextOutcome, stands_for, text_fault, TextMeans}
+
+-- where a script is: the names that it has given, and the machine's state
+pub record Script : Type 0 where
+  pub names : Names
+  pub state : State
+
+abbrev pub beginning : Script
+beginning = record { names = no_names; state = start }
+
+-- what an item does: the text that is written for it, what it asks of the machine, and where the script is behind it
+pub record Effect : Type 0 where
+  pub text : List ℕ
+  pub asked : List Exchange
+  pub after : Script
+
+abbrev pub line : List ℕ → List ℕ
+line text = text ++ 10 ∷ []
+
+-- ---- an item
+
+-- this is written, and nothing is asked
+abbrev pub says : Script → List ℕ → Effect
+says s text = record { text = text; asked = []; after = s }
+
+abbrev pub refuses_by : Script → ℕ → Effect
+refuses_by s fault = says s (line (answer_text s.names (refused fault)))
+
+-- an event is asked, and the machine's answer is written
+abbrev pub answered : Event → Names → Outcome → Effect
+answered event names o = record {
+  text = line (answer_text names o.answer);
+  asked = record { event = event; answer = o.answer } ∷ [];
+  after = record { names = names; state = o.state };
+}
+
+abbrev pub steps : Script → Event → Names → Outcome → Effect
+steps s event new o = answered event (names_after s.names new o.answer) o
+
+abbrev pub does : Script → Asked → Effect
+does s (refuses fault) = refuses_by s fault
+does s (asks event new) = steps s event new (step s.state event)
+
+-- a block whose text has this outcome
+abbrev pub block_does : Script → PlanNo → TextOutcome → Effect
+block_does s plan (text_fault number offset) = says s (line (fault_text number offset))
+block_does s plan (stands_for i) = does s (asks_interface s.names i plan)
+
+-- what an item does (the head of a block is no item of its own)
+abbrev pub Does : Script → Item → Effect → Type 0
+Does s (a_line silent) effect = effect ≡ says s []
+Does s (a_line (command c)) effect = (asked : Asked) × Asks s.names c asked × (effect ≡ does s asked)
+Does s (a_line unread) effect = effect ≡ refuses_by s 90
+Does s (a_line (heading plan)) effect = effect ≡ refuses_by s 90
+Does s open_block effect = effect ≡ refuses_by s 90
+Does s (a_block plan text) effect = (outcome : TextOutcome) × TextMeans text outcome × (effect ≡ block_does s plan outcome)
+
+-- ---- a script
+
+-- what items do, one after another
+abbrev pub AllDo : Script → List Item → List Effect → Type 0
+AllDo s [] effects = effects ≡ []
+AllDo s (item ∷ items) effects =
+    (first : Effect) × (others : List Effect) × Does s item first × AllDo first.after items others × (effects ≡ first ∷ others)
+
+-- what the bytes of a script do, or of its rest
+abbrev pub Runs : Script → List ℕ → List Effect → Type 0
+Runs s bytes effects = (items : List Item) × ItemsOf bytes items × AllDo s items effects
+
+abbrev pub text_of : List Effect → List ℕ
+text_of effects = flat_map Effect.text effects
+
+abbrev pub asked_in : List Effect → List Exchange
+asked_in effects = flat_map Effect.asked effects
+
+-- a script of more than 1,048,576 bytes is refused whole
+abbrev pub is_too_long : List ℕ → Bool
+is_too_long bytes = nat_lt 1048576 (length bytes)
+
+abbrev pub Transcript : List ℕ → List ℕ → Type 0
+Transcript bytes out = MatchBool (is_too_long bytes) (out ≡ line (codes "refused E91"))
+    ((effects : List Effect) × Runs beginning bytes effects × (out ≡ text_of effects))
+
+-- ---- the laws
+
+-- each byte string has a transcript, also one that is no script
+abbrev pub HasTranscript : Type 0
+HasTranscript = (bytes : List ℕ) → (out : List ℕ) × Transcript bytes out
+
+-- and no other
+abbrev pub OneTranscript : Type 0
+OneTranscript = (bytes a b : List ℕ) → Transcript bytes a → Transcript bytes b → a ≡ b

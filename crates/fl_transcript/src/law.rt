@@ -1,0 +1,37 @@
+//! The laws: a script has a transcript, and one alone, and what `exec` leaves on a fault is a front of it.
+
+ghost use Rattle.fl_transcript.specs.Transcript.{HasTranscript, OneTranscript};
+ghost use Rattle.fl_transcript.specs.CutShort.{LeavesAFront};
+ghost use Rattle.fl_transcript.specs.Handled.{ScriptsHandlePrefixes};
+ghost use Rattle.fl_transcript.specs.Standing.{ScriptsNameWhatStands};
+
+/// Each byte string has a transcript, also one that is no script.
+pub fn has_transcript()
+    ensures some { HasTranscript }
+{}
+
+/// And no other: interfaces' texts and calls' texts are told by relations, and none of them leaves a choice. So what
+/// `exec` writes is the transcript.
+pub fn one_transcript()
+    ensures one { OneTranscript }
+{}
+
+/// What [`exec`](crate::exec) leaves written on a fault is a front of the script's transcript.
+pub fn front_of_the_transcript()
+    ensures front { LeavesAFront }
+{}
+
+/// What a script's items ask of the machine is a run of it, and the handlers that run at each end run a prefix of the calls
+/// accepted at the other. (A script over the limit asks nothing: its transcript is one line.)
+pub fn handlers_run_a_prefix()
+    ensures handled { ScriptsHandlePrefixes }
+{
+    fl_laws::handled_is_a_prefix();
+    fl_laws::all_accepted();
+}
+
+/// The names that a script has given are those of the machine's things: wherever it gets to, each name stands for the thing
+/// at its place, and each thing that can be named has a name.
+pub fn names_stand()
+    ensures stand { ScriptsNameWhatStands }
+{}

@@ -1,0 +1,25 @@
+//! Transcripts: what a script's items do, and `exec`.
+//!
+//! Contract for the program: what [`exec`] writes is the transcript of what it read (`specs/Transcript.antt`), on whatever
+//! does what the queue machine does ([`QueueMachine`]). A script has a transcript ([`has_transcript`]), and one alone
+//! ([`one_transcript`]); what `exec` leaves on a fault is a front of it (`specs/CutShort.antt`). The handlers that run are a
+//! prefix of the calls accepted ([`handlers_run_a_prefix`]), and names are those of the machine's things ([`names_stand`]).
+//!
+//! - `running.rt`: `exec`, which reads a script whole, runs it, and writes item by item
+//! - `script.rt`: a running script; each item's answer
+//! - `machine.rt`: what a script runs on
+//! - `text.rt`: interfaces' texts
+//! - `law.rt`: the laws
+#![tactic(auto)]
+
+mod law;
+mod machine;
+mod running;
+mod script;
+mod text;
+
+pub use law::{
+    front_of_the_transcript, handlers_run_a_prefix, has_transcript, names_stand, one_transcript,
+};
+pub use machine::QueueMachine;
+pub use running::{ExecFault, MAX_SCRIPT, exec};

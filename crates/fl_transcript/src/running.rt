@@ -1,0 +1,159 @@
+//! `exec`: reads a script whole, runs it item by item, and writes each answer as it comes.
+
+ghost use Rattle.std.specs.Prelude.{◌≡◌, ◌≢◌, List, ℕ, Err, IfOk, IfErr, OnOk, OnErr, IfSome};
+ghost use Rattle.std.specs.Io.KnownBytes.{Appends};
+ghost use Rattle.fl_transcript.specs.declared.running.ExecFault.TheVariants.{Memory};
+ghost use Rattle.fl_transcript.specs.Transcript.{Script as TheScript};
+ghost use Rattle.fl_transcript.specs.CutShort.{IsProperFront};
+ghost use Rattle.fl_transcript.specs.Shown.{IsAt};
+ghost use Rattle.fl_transcript.specs.Reading.{status_of, ReadsWhole, CanBeUnread};
+ghost use Rattle.fl_transcript.specs.Written.{WritesTranscript, WritesFront, WritesAnswers, WritesUntil};
+
+use crate::machine::QueueMachine;
+use crate::script::Script;
+use fl_lines::next_item;
+use std::alloc::{AllocError, AllocFailed, Global};
+use std::io::{Read, Write};
+use thiserror::Error;
+
+/// Bytes of the longest script; a longer one has the transcript `refused E91`.
+pub const MAX_SCRIPT: usize = 1_048_576;
+
+/// Why a script was not run to its end. What was written until then is a front of its transcript.
+#[derive(Clone, Copy, Debug, PartialEq, Eq, Error)]
+pub enum ExecFault {
+    /// Memory was refused. Some items' answers are written, each of them whole, and an item is left.
+    #[error("out of memory")]
+    Memory,
+    /// A read failed. Nothing is written.
+    #[error("the script could not be read")]
+    Read,
+    /// A write failed, or took no byte. A byte of the transcript is left, or more.
+    #[error("the transcript could not be written")]
+    Write,
+}
+
+impl ExecFault {
+    /// The status with which a program ends that met it.
+    pub fn number(self) -> u8
+        ensures status { result ≡ status_of self }
+    {
+        match self {
+            ExecFault::Memory => 3,
+            ExecFault::Read => 4,
+            ExecFault::Write => 4,
+        }
+    }
+}
+
+impl From<AllocError> for ExecFault {
+    ghost from_gives = { λ _ e. e ≡ Memory };
+
+    fn from(_e: AllocError) -> ExecFault {
+        ExecFault::Memory
+    }
+}
+
+// Reads all there is, or more than a script may have.
+fn read_script<R: Read>(alloc: Global, reader: &mut R) -> Result<Vec<u8>, ExecFault>
+    ensures whole { IfOk result (λ text. IfSome (R.remaining reader.old) (λ input. ReadsWhole input text.items)) }
+    ensures err { IfErr result (λ fault. IfSome (R.remaining reader.old) (λ input. CanBeUnread fault input)) }
+{
+    let mut text = Vec::new(alloc);
+    let mut chunk = [0; 4096];
+    for _turn in 0..1_048_578_usize {
+        let Ok(n) = reader.read(&mut chunk) else {
+            return Err(ExecFault::Read);
+        };
+        if n == 0 {
+            return Ok(text);
+        }
+        text.extend_from_slice(&chunk[..n])?;
+        if text.len() > MAX_SCRIPT {
+            return Ok(text);
+        }
+    }
+    Ok(text)
+}
+
+// Writes all of a text, by as many writes as it takes.
+fn put_all<W: Write>(writer: &mut W, text: &[u8]) -> Result<(), ExecFault>
+    ensures ok { OnOk result (Appends (W.contents writer.old) (W.contents writer.new) text.now) }
+    ensures err { OnErr result ((front : List ℕ) × IsProperFront front text.now
+        × Appends (W.contents writer.old) (W.contents writer.new) front) }
+    ensures fault { IfErr result (λ f. f ≡ ExecFault.Write) }
+{
+    let mut rest = text;
+    while !rest.is_empty() {
+        let Ok(n) = writer.write(rest) else {
+            return Err(ExecFault::Write);
+        };
+        if n == 0 {
+            return Err(ExecFault::Write);
+        }
+        rest = &rest[n..];
+    }
+    Ok(())
+}
+
+// Runs a script's items one after another, and writes each one's answer; one buffer serves all.
+fn run<M: QueueMachine, W: Write>(
+    script: &mut Script<M>,
+    text: &[u8],
+    writer: &mut W,
+) -> Result<(), ExecFault>
+    ensures ok { OnOk result ((s : TheScript) → IsAt M.shows script.old s
+        → WritesAnswers s text.now (W.contents writer.old) (W.contents writer.new)) }
+    ensures err { IfErr result (λ fault. (s : TheScript) → IsAt M.shows script.old s
+        → WritesUntil fault s text.now (W.contents writer.old) (W.contents writer.new)) }
+    ensures fault { result ≢ Err ExecFault.Read }
+{
+    let mut out = Vec::new(script.alloc);
+    let mut rest = text;
+    while !rest.is_empty() {
+        let (item, behind) = next_item(rest);
+        out.clear();
+        let Ok(()) = script.item(item, &mut out) else {
+            return Err(ExecFault::Memory);
+        };
+        if let Err(fault) = put_all(writer, &out) {
+            return Err(fault);
+        }
+        rest = behind;
+    }
+    Ok(())
+}
+
+/// Reads a script and writes its transcript.
+///
+/// Reads to the end first (at most 1,048,578 reads), then writes line by line with as many writes as
+/// it takes; a write that takes no byte is a fault.
+///
+/// # Errors
+/// [`ExecFault`]: memory was refused, or a read or a write failed. What was written then is a front of
+/// the transcript: whole answers after want of memory, not all of it after a failed write, and nothing after
+/// a failed read (`specs/CutShort.antt`).
+pub fn exec<M: QueueMachine + Drop, R: Read, W: Write>(
+    alloc: Global,
+    reader: &mut R,
+    writer: &mut W,
+) -> Result<(), ExecFault>
+    ensures ok { OnOk result (WritesTranscript (R.remaining reader.old) (W.contents writer.old) (W.contents writer.new)) }
+    ensures err { IfErr result (λ fault. WritesFront fault (R.remaining reader.old) (W.contents writer.old) (W.contents writer.new)) }
+    ensures unread { result ≡ Err ExecFault.Read → writer.new ≡ writer.old }
+{
+    let text = match read_script(alloc, reader) {
+        Ok(text) => text,
+        Err(fault) => return Err(fault),
+    };
+    if text.len() > MAX_SCRIPT {
+        return put_all(writer, b"refused E91\n");
+    }
+    if text.is_empty() {
+        return Ok(());
+    }
+    let Ok(mut script) = Script::<M>::new(alloc) else {
+        return Err(ExecFault::Memory);
+    };
+    run(&mut script, &text, writer)
+}

@@ -1,0 +1,15 @@
+//! Tests of `exec`, over the public calls of `fl_transcript` alone, on a system that does no event: scripts all of whose
+//! lines are answered before the machine is asked. They stand here and not in `fl_transcript`, since a crate with tests is
+//! proved twice.
+//!
+//! - `still.rt`: the system, for which each event is out of memory
+//! - `refusals.rt`: what is refused for a line, a name or an interface's text, and in which order
+//! - `streams.rt`: readers and writers that give and take little, or fail, and memory that is refused
+#![tactic(auto)]
+
+#[cfg(test)]
+mod refusals;
+#[cfg(test)]
+mod still;
+#[cfg(test)]
+mod streams;
