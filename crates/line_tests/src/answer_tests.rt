@@ -3,7 +3,7 @@
 use fl_base::{EndId, Frag, MsgNo, Side};
 use fl_check::{Interface, TextFault, check};
 use fl_lex::lex;
-use fl_lines::{Answer, NameTable, print_answer, print_fault};
+use fl_lines::{Answer, Names, Naming, names_of_interface, print_answer, print_fault};
 use fl_parse::parse;
 use fl_value::{Call, Value};
 use std::alloc::{AllocError, Global};
@@ -17,13 +17,21 @@ fn interface(alloc: Global, text: &[u8]) -> Result<Interface, TextFault> {
     Ok(check(alloc, &tree)?)
 }
 
-// Binding 0 is p, binding 1 is q2.
-fn bindings(alloc: Global) -> Result<NameTable, AllocError> {
-    let mut names = NameTable::new(alloc);
-    names.add(alloc, b"p")?;
-    if names.find(b"q2").is_none() {
-        names.add(alloc, b"q2")?;
+// Takes up a binding of the interface, if its name is new.
+fn bind(names: &mut Names, name: &[u8]) -> Result<(), AllocError> {
+    if names.bindings.find(name).is_none() {
+        names.take_up(Naming::Binding { name, interface: 0 }, &Answer::Done)?;
     }
+    Ok(())
+}
+
+// The interface, and two bindings of it: p, and q2.
+fn names(alloc: Global, interface: &Interface) -> Result<Names, AllocError> {
+    let mut names = Names::new(alloc);
+    let of_interface = names_of_interface(alloc, interface)?;
+    names.take_up(Naming::Interface(of_interface), &Answer::Done)?;
+    bind(&mut names, b"p")?;
+    bind(&mut names, b"q2")?;
     Ok(names)
 }
 
@@ -88,24 +96,19 @@ fn answer(alloc: Global, number: usize) -> Result<(Answer, &'static [u8]), Alloc
     })
 }
 
-fn text_of(
-    alloc: Global,
-    bindings: &NameTable,
-    interface: &Interface,
-    answer: &Answer,
-) -> Result<Vec<u8>, AllocError> {
+fn text_of(alloc: Global, names: &Names, answer: &Answer) -> Result<Vec<u8>, AllocError> {
     let mut out = Vec::new(alloc);
-    print_answer(alloc, &mut out, bindings, Some(interface), answer)?;
+    print_answer(alloc, &mut out, names, answer)?;
     Ok(out)
 }
 
 #[test]
 fn answers_have_their_texts(rt: HostRuntime) -> Result<(), Fail> {
     let one = interface(rt.alloc(), PING)?;
-    let names = bindings(rt.alloc())?;
+    let names = names(rt.alloc(), &one)?;
     for number in 0..14 {
         let (answer, wanted) = answer(rt.alloc(), number)?;
-        let got = text_of(rt.alloc(), &names, &one, &answer)?;
+        let got = text_of(rt.alloc(), &names, &answer)?;
         assert_eq!(rt; got.as_slice(), wanted);
     }
     Ok(())

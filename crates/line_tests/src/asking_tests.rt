@@ -4,7 +4,8 @@ use fl_base::{EndId, Side};
 use fl_check::{Interface, TextFault, check};
 use fl_lex::lex;
 use fl_lines::{
-    BackEnd, DispatcherId, Event, Line, LineFault, Names, names_of_interface, one_asked, parse_line,
+    Answer, BackEnd, DispatcherId, Event, Line, LineFault, Names, Naming, names_of_interface,
+    one_asked, parse_line,
 };
 use fl_parse::parse;
 use fl_value::PlanNo;
@@ -185,7 +186,7 @@ fn told(alloc: Global, names: &mut Names, line: &[u8]) -> Result<Vec<u8>, AllocE
         Err(fault) => say(alloc, b"refused", &[usize::from(fault.number())]),
         Ok(asked) => {
             let words = event_words(alloc, &asked.event)?;
-            names.take_up(asked.naming)?;
+            names.take_up(asked.naming, &Answer::Done)?;
             Ok(words)
         }
     }
@@ -194,7 +195,7 @@ fn told(alloc: Global, names: &mut Names, line: &[u8]) -> Result<Vec<u8>, AllocE
 fn names_with(alloc: Global, interface: &Interface) -> Result<Names, AllocError> {
     let mut names = Names::new(alloc);
     let new = names_of_interface(alloc, interface)?;
-    names.take_up_interface(new)?;
+    names.take_up(Naming::Interface(new), &Answer::Done)?;
     Ok(names)
 }
 
