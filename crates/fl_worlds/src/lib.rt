@@ -18,7 +18,5 @@ pub use ends::{
 pub use fragments::{turns_agree, writes_agree};
 pub use joining::binds_agree;
 pub use links::{forwards_agree, monitor_acks_agree, monitor_writes_agree};
-pub use making::{
-    cores_agree, dispatchers_agree, exports_agree, interfaces_agree, links_agree,
-};
+pub use making::{cores_agree, dispatchers_agree, exports_agree, interfaces_agree, links_agree};
 pub use steps::{fresh_shows, steps_agree};

@@ -9,9 +9,7 @@ use crate::ends::{
 use crate::fragments::{turns_agree, writes_agree};
 use crate::joining::binds_agree;
 use crate::links::{forwards_agree, monitor_acks_agree, monitor_writes_agree};
-use crate::making::{
-    cores_agree, dispatchers_agree, exports_agree, interfaces_agree, links_agree,
-};
+use crate::making::{cores_agree, dispatchers_agree, exports_agree, interfaces_agree, links_agree};
 
 /// A world of 1 to 16 cores, before any event, shows the machine's start with so many.
 pub fn fresh_shows()
