@@ -3,3 +3,4 @@ pub mod Places
 pub mod Parts
 pub mod Passing
 pub mod Following
+pub mod Wishes
