@@ -1,5 +1,5 @@
 -- Both ends of a binding are added to a core and registered over their queues, and the world with them.
-use Rattle.std.proofs.Common.{◌≡◌, ◌≢◌, ◌≤◌, ◌||◌, not, nat_lt, true, false, ◌<◌, ◌+◌, ◌⊎◌, refl, sym, ap, ap₂, ◌∙◌, subst, ℕ, zero, suc, length, map, slice_get, slice_set, slice_index_or, List, [], ◌∷◌, ◌++◌, Option, Some, None, Result, Ok, Err, IfOk, inl, inr, arith}
+use Rattle.std.proofs.Common.{◌≡◌, ◌≢◌, ◌≤◌, ◌||◌, not, nat_lt, true, false, ◌<◌, ◌+◌, ◌⊎◌, refl, sym, ap, ap₂, ◌∙◌, subst, ℕ, zero, suc, length, length-set, map, slice_get, slice_set, slice_index_or, List, [], ◌∷◌, ◌++◌, Option, Some, None, Result, Ok, Err, IfOk, inl, inr, arith}
 use Rattle.std.proofs.lemmas.Bool.{lt-ltb, le-ltb, eq-eqb, ne_eqb}
 use Rattle.std.proofs.lemmas.List.{length_push, length-map}
 use Rattle.std.proofs.lemmas.Option.{slice_get_within, same_Some}
@@ -146,6 +146,10 @@ not_added j k k2 fault.Failed h = absurd h
 
 -- ---- among all cores
 
+pub as_many_cores : (n : ℕ) (j : Joining) (forth back : TheQueue) (cores cores2 : List TheCore) → JoinsAt n j forth back cores cores2
+    → length cores2 ≡ length cores
+as_many_cores n j forth back cores cores2 h = ap length h.rest ∙ length-set cores n h.after
+
 pub may_join : (n : ℕ) (j : Joining) (cores : List TheCore) → MayJoinAt n j cores → (k : TheCore) → slice_get cores n ≡ Some k → MayJoin j k
 may_join n j cores (k, is, may) x there = subst (λ (y : TheCore). MayJoin j y) (same_Some k x (sym is ∙ there)) may
 
@@ -213,7 +217,7 @@ module _ (x : Wish) (w base : TheWorld) (same : base ≡ w) (j : Joining) (made 
       (subst (λ (cs : List TheCore). MayJoinAt x.client.core (joining x (length base.bindings) (length base.queues) made.client made.server) cs) (sym all) in_base)
 
   module _ (slots : ℕ) (forth back : TheQueue) (new_forth : forth ≡ new_queue slots) (new_back : back ≡ new_queue slots)
-      (cores : List TheCore) (h : JoinsAt x.client.core j forth back read cores)
+      (cores held : List TheCore) (h : JoinsAt x.client.core j forth back read cores) (left : held ≡ cores)
       (forth2 back2 : TheQueue) (same_forth : forth2 ≡ forth) (same_back : back2 ≡ back)
       (queues : List TheQueue) (all_queues : queues ≡ base.queues ++ forth2 ∷ back2 ∷ [])
       (bindings : List Binding)
@@ -229,12 +233,12 @@ module _ (x : Wish) (w base : TheWorld) (same : base ≡ w) (j : Joining) (made 
     queues_are : queues ≡ base.queues ++ new_queue slots ∷ new_queue slots ∷ []
     queues_are = all_queues ∙ ap₂ (λ (f b : TheQueue). base.queues ++ f ∷ b ∷ []) (same_forth ∙ new_forth) (same_back ∙ new_back)
 
-    cores_are : cores ≡ slice_set base.cores x.client.core h.after
-    cores_are = h.rest ∙ ap (λ (cs : List TheCore). slice_set cs x.client.core h.after) all
+    cores_are : held ≡ slice_set base.cores x.client.core h.after
+    cores_are = left ∙ h.rest ∙ ap (λ (cs : List TheCore). slice_set cs x.client.core h.after) all
 
-    pub joins_by_queues : OfWish x w (λ r. JoinsByQueues r slots w (record base { cores = cores; queues = queues; bindings = bindings }))
+    pub joins_by_queues : OfWish x w (λ r. JoinsByQueues r slots w (record base { cores = held; queues = queues; bindings = bindings }))
     joins_by_queues p is =
-        subst (λ (v : TheWorld). JoinsByQueues (request x p) slots v (record base { cores = cores; queues = queues; bindings = bindings })) same (record {
+        subst (λ (v : TheWorld). JoinsByQueues (request x p) slots v (record base { cores = held; queues = queues; bindings = bindings })) same (record {
           core = h.core;
           core_is = subst (λ (cs : List TheCore). slice_get cs x.client.core ≡ Some h.core) all h.core_is;
           whole = h.joins.whole;
