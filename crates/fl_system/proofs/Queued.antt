@@ -1,15 +1,14 @@
 -- Both ends of a binding are added to a core and registered over their queues, and the world with them.
-use Rattle.std.proofs.Common.{◌≡◌, ◌≢◌, ◌≤◌, ◌||◌, not, nat_lt, true, false, ◌<◌, ◌+◌, ◌⊎◌, refl, sym, ap, ap₂, ◌∙◌, subst, ℕ, zero, suc, length, length-set, map, slice_get, slice_set, slice_index_or, List, [], ◌∷◌, ◌++◌, Option, Some, None, Result, Ok, Err, IfOk, inl, inr, arith}
+use Rattle.std.proofs.Common.{◌≡◌, ◌≢◌, ◌≤◌, ◌||◌, not, nat_lt, true, false, ◌<◌, ◌+◌, refl, sym, ap, ap₂, ◌∙◌, subst, ℕ, zero, suc, length, length-set, slice_get, slice_set, List, [], ◌∷◌, ◌++◌, Option, Some, None, Result, Ok, Err, inl, inr, arith}
 use Rattle.std.proofs.lemmas.Bool.{lt-ltb, le-ltb, eq-eqb, ne_eqb}
 use Rattle.std.proofs.lemmas.List.{length_push, length-map}
 use Rattle.std.proofs.lemmas.Option.{slice_get_within, same_Some}
-use Rattle.std.proofs.lemmas.Result.{IfOk-weaker}
 use Rattle.fl_compile.specs.declared.program.Program.{Program}
 use Rattle.fl_lists.specs.declared.place.Place.{Place}
 use Rattle.fl_lists.specs.declared.place.Place.TheVariants as place
 use Rattle.fl_lists.specs.ThreeLists.{ThreeLists}
 use Rattle.fl_link.specs.Queue.{TheQueue, QueueTakes}
-use Rattle.fl_endpoint.specs.View.{TheEnd, fresh}
+use Rattle.fl_endpoint.specs.View.{TheEnd}
 use Rattle.fl_core.specs.declared.kind.Kind.{Kind}
 use Rattle.fl_core.specs.declared.kind.Kind.TheVariants as kind
 use Rattle.fl_core.specs.declared.fault.BoardFault.{BoardFault}
@@ -31,10 +30,8 @@ use Rattle.fl_worlds.specs.declared.binding.Binding.{Binding}
 use Rattle.fl_worlds.specs.View.{TheWorld, IsWhole}
 use Rattle.fl_worlds.specs.Binding.{IsJoined, JoinsByQueues, BindsByQueues, new_queue}
 use Rattle.fl_system.specs.declared.binding.Wish.{Wish}
-use Rattle.fl_system.specs.Parts.{InCore}
-use Rattle.fl_system.specs.Queued.{IsOnQueue, Lists, ListsBoth, JoinsIn, MayJoin, MayJoinAt, JoinsAt, joining, IsJoining, JoinsOrNot}
-use Rattle.fl_system.specs.Wishes.{request, OfWish, IsNewIn, IsNewAt, HasDispatcher, IsNewEnd, both_places}
-use Rattle.fl_system.proofs.Lifts.{stands, put_back}
+use Rattle.fl_system.specs.Queued.{IsOnQueue, Lists, JoinsIn, MayJoin, MayJoinAt, JoinsAt, joining, IsJoining, JoinsOrNot}
+use Rattle.fl_system.specs.Wishes.{request, OfWish, IsNewAt, HasDispatcher, IsNewEnd, both_places}
 use Rattle.fl_system.proofs.Wished.{if_true, if_false}
 
 -- ---- a channel is registered, and nothing is taken
@@ -208,7 +205,7 @@ module _ (x : Wish) (w base : TheWorld) (same : base ≡ w) (j : Joining) (made 
   may_join_at together client server few new =
       let its_server : x.server.place < length client.core.board.dispatchers
       = subst (λ (k : TheCore). x.server.place < length k.board.dispatchers)
-        (same_Some server.core client.core (sym server.core_is ∙ ap (slice_get w.cores) (sym together) ∙ client.core_is)) server.there in
+      (same_Some server.core client.core (sym server.core_is ∙ ap (slice_get w.cores) (sym together) ∙ client.core_is)) server.there in
       let in_w : MayJoinAt x.client.core (joining x (length w.bindings) (length w.queues) made.client made.server) w.cores
       = (client.core, client.core_is, record { client = client.there; server = its_server; few = few; new = new client.core client.core_is }) in
       let in_base : MayJoinAt x.client.core (joining x (length base.bindings) (length base.queues) made.client made.server) base.cores
@@ -226,7 +223,7 @@ module _ (x : Wish) (w base : TheWorld) (same : base ≡ w) (j : Joining) (made 
         → IsJoined (request x p) (length base.bindings) (length base.queues) h.core (new_queue slots) (new_queue slots) h.after
     joined p is =
         let over = is_joined x (length base.bindings) (length base.queues) base made.client made.server made.new_client made.new_server p is forth back h.core h.after
-            (subst (λ (i : Joining). JoinsIn i forth back h.core h.after) made.is h.joins.event) in
+        (subst (λ (i : Joining). JoinsIn i forth back h.core h.after) made.is h.joins.event) in
         subst (λ (f : TheQueue). IsJoined (request x p) (length base.bindings) (length base.queues) h.core f (new_queue slots) h.after) new_forth
         (subst (λ (b : TheQueue). IsJoined (request x p) (length base.bindings) (length base.queues) h.core forth b h.after) new_back over)
 

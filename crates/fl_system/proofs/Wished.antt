@@ -1,5 +1,5 @@
 -- What is looked at before a binding is made, from the facts of the code; and what is asked for, from the names.
-use Rattle.std.proofs.Common.{◌≡◌, ◌≢◌, ◌≤◌, ◌<◌, ◌+◌, ◌⊎◌, ◌&&◌, ◌||◌, ◌==◌, not, nat_le, refl, sym, ap, ap₂, ◌∙◌, subst, ℕ, zero, suc, Bool, true, false, if◌then◌else◌, List, [], ◌∷◌, length, slice_get, slice_index_or, Option, Some, None, is_some, IsSome, Result, Ok, Err, inl, inr, arith}
+use Rattle.std.proofs.Common.{◌≡◌, ◌≢◌, ◌≤◌, ◌<◌, ◌+◌, ◌&&◌, ◌||◌, ◌==◌, not, nat_le, refl, sym, ap, ap₂, ◌∙◌, subst, ℕ, zero, suc, Bool, true, false, if◌then◌else◌, List, [], ◌∷◌, length, slice_get, slice_index_or, Option, Some, None, is_some, Ok, Err, arith}
 use Rattle.std.proofs.lemmas.Bool.{eqb-true, ne_eqb, eq-eqb, le-leb, lt-leb, or_cases, and_parts}
 use Rattle.std.proofs.lemmas.Option.{slice_get_within, slice_get_past, same_Some}
 use Rattle.fl_compile.specs.declared.program.Program.{Program}
@@ -7,21 +7,19 @@ use Rattle.fl_compile.specs.Programs.{program_of}
 use Rattle.fl_nameserv.specs.declared.registration.Registration.{Registration}
 use Rattle.fl_nameserv.specs.Lent.{registration_of}
 use Rattle.fl_nameserv.specs.Registrations.{TheRegistration, by_name}
-use Rattle.fl_endpoint.specs.View.{TheEnd, fresh}
 use Rattle.fl_core.specs.View.{TheDispatcher, TheBoard}
 use Rattle.fl_core.specs.Sound.{IsBoard}
 use Rattle.fl_node.specs.View.{TheCore, place_of, client_of, server_of}
 use Rattle.fl_queues.specs.Given.{given}
-use Rattle.fl_queues.specs.Events.{DispatcherId, Kind, Answer}
+use Rattle.fl_queues.specs.Events.{DispatcherId}
 use Rattle.fl_queues.specs.Binding.{same_dispatcher}
 use Rattle.fl_lines.specs.declared.event.DispatcherId.{DispatcherId as RustDispatcherId}
 use Rattle.fl_lines.specs.Events.{id_of}
 use Rattle.fl_worlds.specs.declared.binding.Binding.{Binding}
 use Rattle.fl_worlds.specs.View.{Given, If, TheWorld, has_dispatcher}
-use Rattle.fl_worlds.specs.Lending.{Refuses}
-use Rattle.fl_worlds.specs.Binding.{Request, HasEndOf, has_places, BindsBy, wanted_from, Binds}
+use Rattle.fl_worlds.specs.Binding.{Request, HasEndOf, has_places, BindsBy, wanted_from}
 use Rattle.fl_system.specs.declared.binding.Wish.{Wish}
-use Rattle.fl_system.specs.Wishes.{request, OfWish, IsWish, has_end_in, has_end_of, IsNewIn, IsNewAt, HasDispatcher, places_in, both_places, IsCopyOf, IsNewEnd}
+use Rattle.fl_system.specs.Wishes.{request, IsWish, has_end_in, has_end_of, IsNewAt, HasDispatcher, places_in, both_places, IsCopyOf}
 use Rattle.fl_system.proofs.Lifts.{stands}
 
 -- ---- tests

@@ -1,5 +1,5 @@
 -- A binding within a core is made, at the parts of a world that it touches: a core, and the two queues.
-use Rattle.std.specs.Prelude.{ℕ, ◌≡◌, ◌<◌, ◌+◌, ◌⊎◌, List, length, slice_get, slice_set, Option, Some, None, Result}
+use Rattle.std.specs.Prelude.{ℕ, ◌≡◌, ◌<◌, ◌+◌, ◌⊎◌, List, length, slice_get, slice_set, Some, None, Result}
 use Rattle.fl_link.specs.Queue.{TheQueue, QueueTakes}
 use Rattle.fl_endpoint.specs.View.{TheEnd}
 use Rattle.fl_core.specs.declared.fault.BoardFault.{BoardFault}
@@ -9,7 +9,6 @@ use Rattle.fl_node.specs.View.{TheCore, arrivals_of}
 use Rattle.fl_node.specs.Ends.{OnBoard, RegistersAt}
 use Rattle.fl_node.specs.Making.{JoinsBoth}
 use Rattle.fl_queues.specs.Events.{Answer, done}
-use Rattle.fl_lines.specs.Events.{id_of}
 use Rattle.fl_worlds.specs.View.{TheWorld}
 use Rattle.fl_worlds.specs.Lending.{DoesNothing}
 use Rattle.fl_worlds.specs.Binding.{HasEndOf, JoinsByQueues}

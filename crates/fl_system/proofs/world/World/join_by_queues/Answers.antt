@@ -19,11 +19,10 @@ returns-clause-joins c =
     let same = same_world _ c.args.self.now c.self.view_is c.reserve.new.self.items c.reserve-2.new.self.items c.reserve.ensures.items c.reserve-2.ensures.items in
     let many = as_many_cores _ _ _ _ _ _ c.in_ok-join_at.ensures.joins in
     let left : (with_items c.self.inside.cores c.join_at.new.cores).items ≡ c.join_at.new.cores
-    = with_items_is c.self.inside.cores c.join_at.new.cores (omega (arith, many, c.as_mut_slice.ensures.len)) in
-    (
+    = with_items_is c.self.inside.cores c.join_at.new.cores (omega (arith, many, c.as_mut_slice.ensures.len)) in (
       refl,
       joins_by_queues c.args.want c.args.self.now _ same c.in_ok-both.both c.in_ok-both.ensures.joining c.as_mut_slice.result.now c.as_mut_slice.ensures.value
-      c.args.slots c.in_ok-forth.forth c.in_ok-back.back c.in_ok-forth.ensures.fresh c.in_ok-back.ensures.fresh
-      c.join_at.new.cores _ c.in_ok-join_at.ensures.joins left c.join_at.new.forth c.join_at.new.back c.join_at.ensures.forth c.join_at.ensures.back
-      c.push_both.new.queues.items c.push_both.ensures.both c.push_reserved.new.self.items c.push_reserved.ensures.items,
+          c.args.slots c.in_ok-forth.forth c.in_ok-back.back c.in_ok-forth.ensures.fresh c.in_ok-back.ensures.fresh
+          c.join_at.new.cores _ c.in_ok-join_at.ensures.joins left c.join_at.new.forth c.join_at.new.back c.join_at.ensures.forth c.join_at.ensures.back
+          c.push_both.new.queues.items c.push_both.ensures.both c.push_reserved.new.self.items c.push_reserved.ensures.items,
     )
