@@ -3,3 +3,5 @@ pub mod Places
 pub mod Parts
 pub mod Passing
 pub mod Following
+pub mod Wishes
+pub mod Queued

@@ -13,8 +13,13 @@
 //! - `moving.rt`: what stands first on a link is looked at, and moves
 //! - `forwarding.rt`: what was seen there is followed
 //! - `making.rt`: interfaces, cores, links, dispatchers and services
+//! - `binding.rt`: bindings; `by_queues.rt`, `by_ring.rt` and `by_route.rt`: the three ways to make one
 #![tactic(auto)]
 
+mod binding;
+mod by_queues;
+mod by_ring;
+mod by_route;
 mod forwarding;
 mod lending;
 mod linking;
