@@ -5,3 +5,5 @@ pub mod Made
 pub mod Makes
 pub mod Following
 pub mod Splitting
+pub mod Wished
+pub mod RingEnds
