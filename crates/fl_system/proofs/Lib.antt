@@ -7,3 +7,4 @@ pub mod Following
 pub mod Splitting
 pub mod Wished
 pub mod RingEnds
+pub mod Queued

@@ -5,3 +5,4 @@ pub mod Passing
 pub mod Following
 pub mod Wishes
 pub mod RingEnds
+pub mod Queued
