@@ -1,6 +1,6 @@
 //! A binding between two cores is made, with its ring.
 
-ghost use Rattle.std.specs.Prelude.{◌≡◌, ◌≢◌, ◌<◌, ◌⊎◌, length, true, false, None, IfOk, OnOk, OnErr};
+ghost use Rattle.std.specs.Prelude.{◌≡◌, ◌≢◌, ◌≤◌, ◌<◌, ◌⊎◌, length, true, false, None, IfOk, OnOk, OnErr};
 ghost use Rattle.fl_queues.specs.Events.{done};
 ghost use Rattle.fl_node.specs.View.{place_of};
 ghost use Rattle.fl_lines.specs.Events.{id_of, answer_of};
@@ -88,10 +88,11 @@ fn join_both(
     client: Joiner,
     server: Joiner,
 ) -> Result<(), AllocError>
+    requires few { length cores.old ≤ 16 }
     requires client { HasRoom cores.old (id_of client.at) client.name }
     requires server { HasRoom cores.old (id_of server.at) server.name }
-    requires few_clients { client.name.binding < 1024 }
-    requires few_servers { server.name.binding < 1024 }
+    requires client_few { client.name.binding < 1024 }
+    requires server_few { server.name.binding < 1024 }
     requires apart { client.at.core ≢ server.at.core }
     ensures joins { OnOk result (JoinsBoth client server ring.old cores.old cores.new) }
     ensures kept { OnErr result (cores.new ≡ cores.old) }
@@ -144,6 +145,7 @@ impl World {
     }
 
     // Both ends are joined by this ring.
+    #[tactic(none)]
     fn join_over(&mut self, want: Wish, ring: OneDuo) -> Result<Answer, AllocError>
         requires few { length self.old.bindings < 1024 }
         requires program { want.interface < length self.old.programs }
