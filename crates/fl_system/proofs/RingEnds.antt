@@ -4,6 +4,7 @@ use Rattle.std.proofs.Common.{List, [], ◌∷◌, ◌++◌, length, map, slice_
 use Rattle.std.proofs.lemmas.Bool.{ne_eqb, eq-eqb}
 use Rattle.std.proofs.lemmas.List.{length-map, get_or-set_other, get_or-set_same, set-set}
 use Rattle.std.proofs.lemmas.Option.{slice_get_read, slice_get_within}
+use Rattle.std.proofs.lemmas.Result.{IfOk-weaker}
 use Rattle.std.specs.declared.alloc.AllocError.{AllocError}
 use Rattle.fl_base.specs.declared.identity.EndId.{EndId}
 use Rattle.fl_hop.proofs.Lists.{set_swap}
@@ -30,15 +31,16 @@ use Rattle.fl_node.specs.View.{TheCore, arrivals_by, arrivals_of, place_of, clie
 use Rattle.fl_node.specs.Sound.{IsCore}
 use Rattle.fl_node.specs.Ends.{OnBoard, RegistersAt}
 use Rattle.fl_node.specs.Making.{HasNewEnd, TakesBackEnd}
-use Rattle.fl_queues.specs.Events.{Answer, DispatcherId, refused}
+use Rattle.fl_queues.specs.Events.{Answer, DispatcherId, done, nothing, refused}
 use Rattle.fl_lines.specs.declared.event.DispatcherId.{DispatcherId as RustDispatcherId}
-use Rattle.fl_lines.specs.Events.{id_of}
+use Rattle.fl_lines.specs.declared.answer.Answer.{Answer as RustAnswer}
+use Rattle.fl_lines.specs.Events.{id_of, answer_of}
 use Rattle.fl_worlds.specs.declared.binding.Binding.{Binding}
 use Rattle.fl_worlds.specs.View.{If, TheWorld, IsWhole}
 use Rattle.fl_worlds.specs.Lending.{IsLent, Refuses}
 use Rattle.fl_worlds.specs.Taking.{RegistersWith}
 use Rattle.fl_worlds.specs.Making.{new_duo}
-use Rattle.fl_worlds.specs.Binding.{Request, JoinsSide, JoinsByRing, BindsByRing}
+use Rattle.fl_worlds.specs.Binding.{Request, HasEndOf, JoinsSide, JoinsByRing, BindsByRing}
 use Rattle.fl_system.specs.declared.binding.Wish.{Wish}
 use Rattle.fl_system.specs.declared.by_ring.Joiner.{Joiner}
 use Rattle.fl_system.specs.Parts.{InCore, ByRing}
@@ -280,17 +282,28 @@ joins_over want w x y x_is y_is ring ring2 fresh_ring same cores h w2 w2_is p th
 
 -- ---- what is answered
 
+pub begun : (want : Wish) (size : ℕ) (w : TheWorld) → HasEndOf (length w.bindings) want.client.core w ⊎ HasEndOf (length w.bindings) want.server.core w
+    → OfWish want w (λ r. JoinsOrNot r size w nothing w)
+begun want size w h p there = inr (h, (refl, refl))
+
+pub joined_or_not : (want : Wish) (size : ℕ) (w w2 : TheWorld) (o : Result RustAnswer AllocError)
+    → IfOk o (λ a. (answer_of a ≡ done) × OfWish want w (λ r. JoinsByRing r size w w2)) → IfOk o (λ a. OfWish want w (λ r. JoinsOrNot r size w (answer_of a) w2))
+joined_or_not want size w w2 o h =
+    IfOk-weaker o (λ a. (answer_of a ≡ done) × OfWish want w (λ r. JoinsByRing r size w w2)) (λ a. OfWish want w (λ r. JoinsOrNot r size w (answer_of a) w2))
+    (λ a g p there. inl (g.0, g.1 p there)) h
+
 pub no_places : (want : Wish) (size : ℕ) (w : TheWorld) → false ≡ both_places (id_of want.client) (id_of want.server) w
     → OfWish want w (λ r. JoinsIfPlaces r size w (refused 54) w)
 no_places want size w is p there =
     subst (λ (b : Bool). If (not b) (Refuses 54 w (refused 54) w) (JoinsOrNot (request want p) size w (refused 54) w)) is (refl, refl)
 
-pub some_places : (want : Wish) (size : ℕ) (w w2 : TheWorld) (a : Answer) → true ≡ both_places (id_of want.client) (id_of want.server) w
-    → OfWish want w (λ r. JoinsOrNot r size w a w2) → OfWish want w (λ r. JoinsIfPlaces r size w a w2)
-some_places want size w w2 a is h p there =
-    subst (λ (b : Bool). If (not b) (Refuses 54 w a w2) (JoinsOrNot (request want p) size w a w2)) is (h p there)
+pub some_places : (want : Wish) (size : ℕ) (w w2 : TheWorld) → true ≡ both_places (id_of want.client) (id_of want.server) w → (o : Result RustAnswer AllocError)
+    → IfOk o (λ a. OfWish want w (λ r. JoinsOrNot r size w (answer_of a) w2)) → IfOk o (λ a. OfWish want w (λ r. JoinsIfPlaces r size w (answer_of a) w2))
+some_places want size w w2 is o h =
+    IfOk-weaker o (λ a. OfWish want w (λ r. JoinsOrNot r size w (answer_of a) w2)) (λ a. OfWish want w (λ r. JoinsIfPlaces r size w (answer_of a) w2))
+    (λ a g p there. subst (λ (b : Bool). If (not b) (Refuses 54 w (answer_of a) w2) (JoinsOrNot (request want p) size w (answer_of a) w2)) is (g p there)) h
 
--- what is left of the event where the two are at one core, or at two
+-- what is left of the event where the ends are at two cores
 abbrev AtTwo : Request → ℕ → TheWorld → Answer → TheWorld → Type 0
 AtTwo r size w a w2 = ((MayHaveSlots size → ⊥) × Refuses 32 w a w2) ⊎ (MayHaveSlots size × JoinsIfPlaces r size w a w2)
 
@@ -308,6 +321,8 @@ pub bad_size : (want : Wish) (size : ℕ) (w : TheWorld) → want.client.core �
     → OfWish want w (λ r. BindsByRing r size w (refused 32) w)
 bad_size want size w apart bad = at_two want size w w (refused 32) apart (λ p there. inl (bad, (refl, refl)))
 
-pub good_size : (want : Wish) (size : ℕ) (w w2 : TheWorld) (a : Answer) → want.client.core ≢ want.server.core → MayHaveSlots size
-    → OfWish want w (λ r. JoinsIfPlaces r size w a w2) → OfWish want w (λ r. BindsByRing r size w a w2)
-good_size want size w w2 a apart sized h = at_two want size w w2 a apart (λ p there. inr (sized, h p there))
+pub good_size : (want : Wish) (size n : ℕ) (w w2 : TheWorld) → want.client.core ≢ want.server.core → MayHaveSlots size → n ≡ size → (o : Result RustAnswer AllocError)
+    → IfOk o (λ a. OfWish want w (λ r. JoinsIfPlaces r n w (answer_of a) w2)) → IfOk o (λ a. OfWish want w (λ r. BindsByRing r size w (answer_of a) w2))
+good_size want size n w w2 apart sized same o h =
+    IfOk-weaker o (λ a. OfWish want w (λ r. JoinsIfPlaces r n w (answer_of a) w2)) (λ a. OfWish want w (λ r. BindsByRing r size w (answer_of a) w2))
+    (λ a g. at_two want size w w2 (answer_of a) apart (λ p there. inr (sized, subst (λ (m : ℕ). JoinsIfPlaces (request want p) m w (answer_of a) w2) same (g p there)))) h
