@@ -1,5 +1,6 @@
 -- Both ends of a binding are added to a core and registered over their queues, and the world with them.
-use Rattle.std.proofs.Common.{◌≡◌, ◌<◌, ◌+◌, ◌⊎◌, refl, sym, ap, ap₂, ◌∙◌, subst, ℕ, zero, suc, length, map, slice_get, slice_set, slice_index_or, List, [], ◌∷◌, ◌++◌, Option, Some, None, Result, Ok, Err, IfOk, inl, inr, arith}
+use Rattle.std.proofs.Common.{◌≡◌, ◌≢◌, ◌≤◌, ◌||◌, not, nat_lt, true, false, ◌<◌, ◌+◌, ◌⊎◌, refl, sym, ap, ap₂, ◌∙◌, subst, ℕ, zero, suc, length, map, slice_get, slice_set, slice_index_or, List, [], ◌∷◌, ◌++◌, Option, Some, None, Result, Ok, Err, IfOk, inl, inr, arith}
+use Rattle.std.proofs.lemmas.Bool.{lt-ltb, le-ltb, eq-eqb, ne_eqb}
 use Rattle.std.proofs.lemmas.List.{length_push, length-map}
 use Rattle.std.proofs.lemmas.Option.{slice_get_within, same_Some}
 use Rattle.std.proofs.lemmas.Result.{IfOk-weaker}
@@ -24,15 +25,17 @@ use Rattle.fl_node.specs.View.{TheCore, arrivals_by, arrivals_of}
 use Rattle.fl_node.specs.Ends.{OnBoard, RegistersAt}
 use Rattle.fl_node.specs.Sound.{IsCore}
 use Rattle.fl_node.specs.Making.{AddsPort, client_port, server_port, JoinsBoth, Joins}
+use Rattle.fl_queues.specs.Events.{Answer, refused}
 use Rattle.fl_lines.specs.Events.{id_of}
 use Rattle.fl_worlds.specs.declared.binding.Binding.{Binding}
 use Rattle.fl_worlds.specs.View.{TheWorld, IsWhole}
-use Rattle.fl_worlds.specs.Binding.{IsJoined, JoinsByQueues, new_queue}
+use Rattle.fl_worlds.specs.Binding.{IsJoined, JoinsByQueues, BindsByQueues, new_queue}
 use Rattle.fl_system.specs.declared.binding.Wish.{Wish}
 use Rattle.fl_system.specs.Parts.{InCore}
-use Rattle.fl_system.specs.Queued.{IsOnQueue, Lists, ListsBoth, JoinsIn, MayJoin, MayJoinAt, JoinsAt, joining}
-use Rattle.fl_system.specs.Wishes.{request, OfWish, IsNewIn, IsNewAt, HasDispatcher, IsNewEnd}
-use Rattle.fl_system.proofs.Lifts.{stands}
+use Rattle.fl_system.specs.Queued.{IsOnQueue, Lists, ListsBoth, JoinsIn, MayJoin, MayJoinAt, JoinsAt, joining, JoinsOrNot}
+use Rattle.fl_system.specs.Wishes.{request, OfWish, IsNewIn, IsNewAt, HasDispatcher, IsNewEnd, both_places}
+use Rattle.fl_system.proofs.Lifts.{stands, put_back}
+use Rattle.fl_system.proofs.Wished.{if_true, if_false}
 
 -- ---- a channel is registered, and nothing is taken
 
@@ -180,7 +183,7 @@ joins_by_queues x slots w base same s t one other forth back new_forth new_back 
     let new = new_queue slots in
     let joined = is_joined x (length base.bindings) (length base.queues) w s t one other p is forth back h.core h.after h.joins.event in
     let over_new = subst (λ (f : TheQueue). IsJoined (request x p) (length base.bindings) (length base.queues) h.core f new h.after) new_forth
-        (subst (λ (b : TheQueue). IsJoined (request x p) (length base.bindings) (length base.queues) h.core forth b h.after) new_back joined) in
+    (subst (λ (b : TheQueue). IsJoined (request x p) (length base.bindings) (length base.queues) h.core forth b h.after) new_back joined) in
     subst (λ (v : TheWorld). JoinsByQueues (request x p) slots v (record base { cores = cores; queues = queues; bindings = bindings })) same (record {
       core = h.core;
       core_is = h.core_is;
@@ -190,9 +193,42 @@ joins_by_queues x slots w base same s t one other forth back new_forth new_back 
       joined = over_new;
       rest = ap (λ (xs : List TheCore). record base { cores = xs; queues = queues; bindings = bindings }) h.rest
           ∙ ap (λ (qs : List TheQueue). record base { cores = slice_set base.cores x.client.core h.after; queues = qs; bindings = bindings })
-            (all_queues ∙ ap₂ (λ (f b : TheQueue). base.queues ++ f ∷ b ∷ []) new_forth new_back)
+          (all_queues ∙ ap₂ (λ (f b : TheQueue). base.queues ++ f ∷ b ∷ []) new_forth new_back)
           ∙ ap (λ (bs : List Binding). record base { cores = slice_set base.cores x.client.core h.after; queues = base.queues ++ new ∷ new ∷ []; bindings = bs }) all_bindings;
     })
+
+-- ---- whether it may be
+
+module _ (x : Wish) (slots : ℕ) (w : TheWorld) where
+  pub two_cores : x.client.core ≢ x.server.core → OfWish x w (λ r. BindsByQueues r slots w (refused 73) w)
+  two_cores other p is = if_true _ _ _ (ap not (ne_eqb x.client.core x.server.core other)) (refl, refl)
+
+  module _ (together : x.client.core ≡ x.server.core) where
+    pub too_few : slots < 1 → OfWish x w (λ r. BindsByQueues r slots w (refused 32) w)
+    too_few few p is =
+        if_false _ _ _ (ap not (eq-eqb x.client.core x.server.core together))
+        (if_true _ _ _ (ap (λ b. b || nat_lt 1024 slots) (lt-ltb slots 1 few)) (refl, refl))
+
+    module _ (some : 1 ≤ slots) where
+      pub too_many : 1024 < slots → OfWish x w (λ r. BindsByQueues r slots w (refused 32) w)
+      too_many many p is =
+          if_false _ _ _ (ap not (eq-eqb x.client.core x.server.core together))
+          (if_true _ _ _ (ap₂ (λ b c. b || c) (le-ltb slots 1 some) (lt-ltb 1024 slots many)) (refl, refl))
+
+      module _ (few : slots ≤ 1024) where
+        right_slots : (nat_lt slots 1 || nat_lt 1024 slots) ≡ false
+        right_slots = ap₂ (λ b c. b || c) (le-ltb slots 1 some) (le-ltb 1024 slots few)
+
+        pub no_places : both_places (id_of x.client) (id_of x.server) w ≡ false → OfWish x w (λ r. BindsByQueues r slots w (refused 54) w)
+        no_places none p is =
+            if_false _ _ _ (ap not (eq-eqb x.client.core x.server.core together))
+            (if_false _ _ _ right_slots (if_true _ _ _ (ap not none) (refl, refl)))
+
+        pub may_bind : both_places (id_of x.client) (id_of x.server) w ≡ true → (a : Answer) (w2 : TheWorld) → JoinsOrNot x slots w a w2
+            → OfWish x w (λ r. BindsByQueues r slots w a w2)
+        may_bind room a w2 h p is =
+            if_false _ _ _ (ap not (eq-eqb x.client.core x.server.core together))
+            (if_false _ _ _ right_slots (if_false _ _ _ (ap not room) (h p is)))
 
 -- what the core has to be like for that
 pub may_join_at : (x : Wish) (w base : TheWorld) → base ≡ w → x.client.core ≡ x.server.core → HasDispatcher w.cores (id_of x.client) → HasDispatcher w.cores (id_of x.server)

@@ -1,6 +1,6 @@
 -- What is looked at before a binding is made, from the facts of the code; and what is asked for, from the names.
 use Rattle.std.proofs.Common.{◌≡◌, ◌≢◌, ◌≤◌, ◌<◌, ◌+◌, ◌⊎◌, ◌&&◌, ◌||◌, ◌==◌, not, nat_le, refl, sym, ap, ap₂, ◌∙◌, subst, ℕ, zero, suc, Bool, true, false, if◌then◌else◌, List, [], ◌∷◌, length, slice_get, slice_index_or, Option, Some, None, is_some, IsSome, Result, Ok, Err, inl, inr, arith}
-use Rattle.std.proofs.lemmas.Bool.{eqb-true, ltb-false, ne_eqb, eq-eqb}
+use Rattle.std.proofs.lemmas.Bool.{eqb-true, ne_eqb, eq-eqb, le-leb, lt-leb, or_cases, and_parts}
 use Rattle.std.proofs.lemmas.Option.{slice_get_within, slice_get_past, same_Some}
 use Rattle.fl_compile.specs.declared.program.Program.{Program}
 use Rattle.fl_compile.specs.Programs.{program_of}
@@ -15,42 +15,34 @@ use Rattle.fl_queues.specs.Binding.{same_dispatcher}
 use Rattle.fl_lines.specs.Events.{id_of}
 use Rattle.fl_worlds.specs.View.{Given, If, TheWorld, has_dispatcher}
 use Rattle.fl_worlds.specs.Lending.{Refuses}
-use Rattle.fl_worlds.specs.Binding.{HasEndOf, has_places, BindsBy, wanted_from, Binds}
+use Rattle.fl_worlds.specs.Binding.{Request, HasEndOf, has_places, BindsBy, wanted_from, Binds}
 use Rattle.fl_system.specs.declared.binding.Wish.{Wish}
-use Rattle.fl_system.specs.Wishes.{OfWish, IsWish, has_end_in, has_end_of, IsNewIn, IsNewAt, HasDispatcher, places_in, both_places, IsCopyOf, IsNewEnd}
+use Rattle.fl_system.specs.Wishes.{request, OfWish, IsWish, has_end_in, has_end_of, IsNewIn, IsNewAt, HasDispatcher, places_in, both_places, IsCopyOf, IsNewEnd}
 use Rattle.fl_system.proofs.Lifts.{stands}
 
 -- ---- tests
-
-or_true : (a b : Bool) → (a || b) ≡ true → (a ≡ true) ⊎ (b ≡ true)
-or_true true b h = inl refl
-or_true false b h = inr h
 
 or_false : (a b : Bool) → (a || b) ≡ false → (a ≡ false) × (b ≡ false)
 or_false true b h = absurd (cc)
 or_false false b h = (refl, h)
 
-and_true : (a b : Bool) → (a && b) ≡ true → (a ≡ true) × (b ≡ true)
-and_true true b h = (refl, h)
-and_true false b h = absurd (cc)
-
 is_none : {X : Type 0} (o : Option X) → is_some o ≡ false → o ≡ None
 is_none None h = refl
 is_none (Some x) h = absurd (cc)
 
-if_true : (Then Else : Type 0) (b : Bool) → b ≡ true → Then → If b Then Else
+pub if_true : (Then Else : Type 0) (b : Bool) → b ≡ true → Then → If b Then Else
 if_true Then Else true h t = t
 if_true Then Else false h t = absurd (cc)
 
-if_false : (Then Else : Type 0) (b : Bool) → b ≡ false → Else → If b Then Else
+pub if_false : (Then Else : Type 0) (b : Bool) → b ≡ false → Else → If b Then Else
 if_false Then Else true h t = absurd (cc)
 if_false Then Else false h t = t
 
-given_none : {X : Type 0} (Otherwise : Type 0) (Then : X → Type 0) (o : Option X) → o ≡ None → Otherwise → Given o Otherwise Then
+pub given_none : {X : Type 0} (Otherwise : Type 0) (Then : X → Type 0) (o : Option X) → o ≡ None → Otherwise → Given o Otherwise Then
 given_none Otherwise Then None h t = t
 given_none Otherwise Then (Some x) h t = absurd (cc)
 
-given_some : {X : Type 0} (Otherwise : Type 0) (Then : X → Type 0) (o : Option X) (x : X) → o ≡ Some x → Then x → Given o Otherwise Then
+pub given_some : {X : Type 0} (Otherwise : Type 0) (Then : X → Type 0) (o : Option X) (x : X) → o ≡ Some x → Then x → Given o Otherwise Then
 given_some Otherwise Then None x h t = absurd (cc)
 given_some Otherwise Then (Some y) x h t = subst Then (sym (same_Some y x h)) t
 
@@ -66,7 +58,7 @@ end_there n core w h = by (slice_get w.cores core) refl h
   where
     by : (o : Option TheCore) → slice_get w.cores core ≡ o → given o false (has_end_in n) ≡ true → HasEndOf n core w
     by None is e = absurd (cc)
-    by (Some k) is e = (k, is, or_true (is_some (place_of k (client_of n))) (is_some (place_of k (server_of n))) e)
+    by (Some k) is e = (k, is, or_cases (is_some (place_of k (client_of n))) (is_some (place_of k (server_of n))) e)
 
 pub none_there : (n core : ℕ) (w : TheWorld) → has_end_of n core w ≡ false → IsNewAt n core w
 none_there n core w h k is =
@@ -110,7 +102,7 @@ with_places d n w h = by (slice_get w.cores d.core) refl h
 
 same_of : (c d : DispatcherId) → same_dispatcher c d ≡ true → c ≡ d
 same_of c d h =
-    let both = and_true (c.core == d.core) (c.place == d.place) h in
+    let both = and_parts (c.core == d.core) (c.place == d.place) h in
     ap₂ (λ (x y : ℕ). the_id x y) (eqb-true c.core d.core both.0) (eqb-true c.place d.place both.1)
   where
     the_id : ℕ → ℕ → DispatcherId
@@ -127,7 +119,7 @@ module _ (client server : DispatcherId) (w : TheWorld) where
           let it = with_places client 2 w e in
           (it, subst (λ (d : DispatcherId). HasDispatcher w.cores d) (same_of client server same) it)
       by false other e =
-          let both = and_true (has_places client 1 w) (has_places server 1 w) e in
+          let both = and_parts (has_places client 1 w) (has_places server 1 w) e in
           (with_places client 1 w both.0, with_places server 1 w both.1)
 
   pub client_there : both_places client server w ≡ true → HasDispatcher w.cores client
@@ -157,28 +149,30 @@ module _ (client : DispatcherId) (i : ℕ) (name : List ℕ) (w : TheWorld) wher
     no_program past kind a w2 r = if_false _ _ _ (ap not there) (given_none _ _ _ (slice_get_past w.programs i past) r)
 
     module _ (below : i < length w.programs) where
-      pub too_many : nat_le 1024 (length w.bindings) ≡ true → IsWish client i name w (Err 94)
+      pub too_many : 1024 ≤ length w.bindings → IsWish client i name w (Err 94)
       too_many many kind a w2 r =
           let it = at_place w.programs i below in
-          if_false _ _ _ (ap not there) (given_some _ _ _ it.0 it.1 (if_true _ _ _ many r))
+          if_false _ _ _ (ap not there) (given_some _ _ _ it.0 it.1 (if_true _ _ _ (le-leb 1024 (length w.bindings) many) r))
 
-      module _ (few : nat_le 1024 (length w.bindings) ≡ false) where
+      module _ (few : length w.bindings < 1024) where
         pub no_service : by_name name w.names ≡ None → IsWish client i name w (Err 70)
         no_service none kind a w2 r =
             let it = at_place w.programs i below in
-            if_false _ _ _ (ap not there) (given_some _ _ _ it.0 it.1 (if_false _ _ _ few (given_none _ _ _ none r)))
+            if_false _ _ _ (ap not there) (given_some _ _ _ it.0 it.1 (if_false _ _ _ (lt-leb 1024 (length w.bindings) few) (given_none _ _ _ none r)))
 
         module _ (s : TheRegistration) (found : by_name name w.names ≡ Some s) where
-          pub other_interface : (s.service.interface == i) ≡ false → IsWish client i name w (Err 72)
+          pub other_interface : s.service.interface ≢ i → IsWish client i name w (Err 72)
           other_interface other kind a w2 r =
               let it = at_place w.programs i below in
-              if_false _ _ _ (ap not there) (given_some _ _ _ it.0 it.1 (if_false _ _ _ few (given_some _ _ _ s found (if_true _ _ _ (ap not other) r))))
+              if_false _ _ _ (ap not there) (given_some _ _ _ it.0 it.1
+              (if_false _ _ _ (lt-leb 1024 (length w.bindings) few) (given_some _ _ _ s found (if_true _ _ _ (ap not (ne_eqb s.service.interface i other)) r))))
 
-          pub wished : (s.service.interface == i) ≡ true → (x : Wish)
-              → ((p : Program) → wanted_from client i p s ≡ record { client = id_of x.client; interface = x.interface; program = p; server = id_of x.server; iref = x.iref.0 })
-              → x.interface ≡ i → IsWish client i name w (Ok x)
-          wished one x asks here kind a w2 h =
+          -- the wish x is what these names come to
+          pub wished : s.service.interface ≡ i → (x : Wish) → x.interface ≡ i
+              → ((p : Program) → wanted_from client i p s ≡ request x p) → IsWish client i name w (Ok x)
+          wished one x here asks kind a w2 h =
               let it = at_place w.programs i below in
               let joins : BindsBy (wanted_from client i it.0 s) kind w a w2
-              = subst (λ r. BindsBy r kind w a w2) (sym (asks it.0)) (h it.0 (subst (λ (n : ℕ). slice_get w.programs n ≡ Some it.0) (sym here) it.1)) in
-              if_false _ _ _ (ap not there) (given_some _ _ _ it.0 it.1 (if_false _ _ _ few (given_some _ _ _ s found (if_false _ _ _ (ap not one) joins))))
+              = subst (λ (r : Request). BindsBy r kind w a w2) (sym (asks it.0)) (h it.0 (subst (λ (n : ℕ). slice_get w.programs n ≡ Some it.0) (sym here) it.1)) in
+              if_false _ _ _ (ap not there) (given_some _ _ _ it.0 it.1
+              (if_false _ _ _ (lt-leb 1024 (length w.bindings) few) (given_some _ _ _ s found (if_false _ _ _ (ap not (eq-eqb s.service.interface i one)) joins))))

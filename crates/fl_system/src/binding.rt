@@ -57,16 +57,23 @@ fn has_places(board: &Board, place: usize, count: usize) -> bool
 }
 
 impl World {
+    // Whether an end of this binding is at a core.
+    fn finds_end_of(&self, binding: usize, core: usize) -> bool
+        ensures has { result ≡ has_end_of binding core self.now }
+    {
+        match self.cores.get(core) {
+            None => false,
+            Some(core) => has_end(core, binding),
+        }
+    }
+
     /// Whether an end of this binding is at a core already, as in no world that comes of events.
     pub(crate) fn has_end_of(&self, binding: usize, core: usize) -> bool
         ensures has { result ≡ has_end_of binding core self.now }
         ensures there { result ≡ true → HasEndOf binding core self.now }
         ensures new { result ≡ false → IsNewAt binding core self.now }
     {
-        match self.cores.get(core) {
-            None => false,
-            Some(core) => has_end(core, binding),
-        }
+        self.finds_end_of(binding, core)
     }
 
     // Whether a dispatcher has places for so many ends more.
@@ -80,17 +87,24 @@ impl World {
         }
     }
 
-    /// Whether two dispatchers have places for an end each; where they are one, for two.
-    pub(crate) fn has_both_places(&self, client: DispatcherId, server: DispatcherId) -> bool
+    // Whether two dispatchers have places for an end each; where they are one, for two.
+    fn finds_both_places(&self, client: DispatcherId, server: DispatcherId) -> bool
         ensures places { result ≡ both_places (id_of client) (id_of server) self.now }
-        ensures client { result ≡ true → HasDispatcher self.now.cores (id_of client) }
-        ensures server { result ≡ true → HasDispatcher self.now.cores (id_of server) }
     {
         if client.core == server.core && client.place == server.place {
             self.has_places(client, 2)
         } else {
             self.has_places(client, 1) && self.has_places(server, 1)
         }
+    }
+
+    /// Whether there are places for both ends of a binding at these dispatchers, which are there then.
+    pub(crate) fn has_both_places(&self, client: DispatcherId, server: DispatcherId) -> bool
+        ensures places { result ≡ both_places (id_of client) (id_of server) self.now }
+        ensures client { result ≡ true → HasDispatcher self.now.cores (id_of client) }
+        ensures server { result ≡ true → HasDispatcher self.now.cores (id_of server) }
+    {
+        self.finds_both_places(client, server)
     }
 
     /// A copy of the program of an interface.

@@ -51,7 +51,12 @@ fn register_both(core: &mut Core, ends: BothEnds, forth: &mut QueueLink, back: &
 }
 
 // Both ends are added to a core and registered; or there is no memory for them.
-fn join(core: &mut Core, both: Joining, forth: &mut QueueLink, back: &mut QueueLink) -> Result<(), AllocError>
+fn join(
+    core: &mut Core,
+    both: Joining,
+    forth: &mut QueueLink,
+    back: &mut QueueLink,
+) -> Result<(), AllocError>
     requires may { MayJoin both core.old }
     ensures joins { OnOk result (InCore (JoinsIn both forth.old back.old) core.old core.new) }
     ensures forth { forth.new ≡ forth.old }
@@ -68,7 +73,13 @@ fn join(core: &mut Core, both: Joining, forth: &mut QueueLink, back: &mut QueueL
 }
 
 // The same at core n.
-fn join_at(cores: &mut [Core], n: usize, both: Joining, forth: &mut QueueLink, back: &mut QueueLink) -> Result<(), AllocError>
+fn join_at(
+    cores: &mut [Core],
+    n: usize,
+    both: Joining,
+    forth: &mut QueueLink,
+    back: &mut QueueLink,
+) -> Result<(), AllocError>
     requires there { n < length cores.old }
     requires may { MayJoinAt n both cores.old }
     ensures joins { OnOk result (JoinsAt n both forth.old back.old cores.old cores.new) }
@@ -90,7 +101,7 @@ fn push_both(queues: &mut Vec<QueueLink>, forth: QueueLink, back: QueueLink)
 
 impl World {
     // The two ends with their queues; or there is no memory for them.
-    fn join(&mut self, want: Wish, slots: u32) -> Result<Answer, AllocError>
+    fn join_by_queues(&mut self, want: Wish, slots: u32) -> Result<Answer, AllocError>
         requires few { length self.old.bindings < 1024 }
         requires together { want.client.core ≡ want.server.core }
         requires client { HasDispatcher self.old.cores (id_of want.client) }
@@ -133,7 +144,7 @@ impl World {
     }
 
     // The same where the core may have an end of the binding already: nothing is done then.
-    fn join_new(&mut self, want: Wish, slots: u32) -> Result<Answer, AllocError>
+    fn join_if_new(&mut self, want: Wish, slots: u32) -> Result<Answer, AllocError>
         requires few { length self.old.bindings < 1024 }
         requires together { want.client.core ≡ want.server.core }
         requires client { HasDispatcher self.old.cores (id_of want.client) }
@@ -146,7 +157,7 @@ impl World {
         if self.has_end_of(binding, want.client.core as usize) {
             return Ok(Answer::Nothing);
         }
-        self.join(want, slots)
+        self.join_by_queues(want, slots)
     }
 
     /// The ends of a binding are joined by two queues of so many slots. They are to be on one core (E73), the queues to have 1 to 1,024 slots (E32),
@@ -170,6 +181,6 @@ impl World {
         if !self.has_both_places(want.client, want.server) {
             return Ok(Answer::Refused(54));
         }
-        self.join_new(want, slots)
+        self.join_if_new(want, slots)
     }
 }
