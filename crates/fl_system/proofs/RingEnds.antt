@@ -1,12 +1,13 @@
 -- The ends of a binding over a new ring, from what cores say of them.
 use Rattle.std.proofs.Common.{◌≡◌, ◌≢◌, ◌<◌, ◌+◌, ◌*◌, ◌⊎◌, refl, sym, ap, ap₂, ◌∙◌, subst, inl, inr, ℕ, Bool, true, false, not, ◌==◌}
-use Rattle.std.proofs.Common.{List, [], ◌∷◌, ◌++◌, length, map, slice_get, slice_set, slice_index_or, Option, Some, None, Result, Ok, Err, IfOk, arith}
+use Rattle.std.proofs.Common.{List, [], ◌∷◌, ◌++◌, length, length-set, slice_get, slice_set, slice_index_or, Option, Some, None, Result, Ok, Err, IfOk, arith}
 use Rattle.std.proofs.lemmas.Bool.{ne_eqb, eq-eqb}
 use Rattle.std.proofs.lemmas.List.{length-map, get_or-set_other, get_or-set_same, set-set}
 use Rattle.std.proofs.lemmas.Option.{slice_get_read, slice_get_within}
 use Rattle.std.proofs.lemmas.Result.{IfOk-weaker}
 use Rattle.std.specs.declared.alloc.AllocError.{AllocError}
 use Rattle.fl_base.specs.declared.identity.EndId.{EndId}
+use Rattle.fl_base.specs.declared.identity.Side.{Side}
 use Rattle.fl_hop.proofs.Lists.{set_swap}
 use Rattle.fl_lists.specs.declared.place.Place.{Place}
 use Rattle.fl_lists.specs.declared.place.Place.TheVariants as place
@@ -45,7 +46,7 @@ use Rattle.fl_system.specs.declared.binding.Wish.{Wish}
 use Rattle.fl_system.specs.declared.by_ring.Joiner.{Joiner}
 use Rattle.fl_system.specs.Parts.{InCore, ByRing}
 use Rattle.fl_system.specs.Wishes.{OfWish, request, HasDispatcher, IsNewAt, IsNewEnd, both_places}
-use Rattle.fl_system.specs.RingEnds.{HasRoom, AddsEnd, TakesFromRing, RegistersOver, Joins, JoinsBoth, IsJoiner, JoinsOrNot, JoinsIfPlaces}
+use Rattle.fl_system.specs.RingEnds.{HasRoom, AddsEnd, TakesFromRing, RegistersOver, Joins, JoinsBoth, IsJoiner, JoinsIn, JoinsOrNot, JoinsIfPlaces}
 use Rattle.fl_system.proofs.Lifts.{one_value}
 use Rattle.fl_system.proofs.Makes.{still_there, taken_back}
 
@@ -253,16 +254,43 @@ binding_of want = record { interface = want.interface; client = want.client.core
 abbrev joined : Wish → TheWorld → List TheCore → TheDuo → TheWorld
 joined want w cores ring = record w { cores = cores; rings = w.rings ++ ring ∷ []; bindings = w.bindings ++ binding_of want ∷ [] }
 
+pub as_many_joined : (x y : Joiner) (ring : TheDuo) (xs ys : List TheCore) → JoinsBoth x y ring xs ys → length ys ≡ length xs
+as_many_joined x y ring xs ys h =
+    ap length h.rest ∙ length-set (slice_set xs x.at.core h.first_after) y.at.core h.second_after ∙ length-set xs x.at.core h.first_after
+
+pub joins_in : (x y : Joiner) (ring : TheDuo) (b : Binding) (w base : TheWorld) → base ≡ w → (xs ys cores : List TheCore) → xs ≡ base.cores → cores ≡ ys
+    → JoinsBoth x y ring xs ys → (rings : List TheDuo) → rings ≡ base.rings ++ ring ∷ [] → (bindings : List Binding) → bindings ≡ base.bindings ++ b ∷ []
+    → JoinsIn x y ring b w (record base { cores = cores; rings = rings; bindings = bindings })
+joins_in x y ring b w base same xs ys cores xs_is cores_is both rings rings_is bindings bindings_is =
+    subst (λ (z : TheWorld). JoinsIn x y ring b z (record base { cores = cores; rings = rings; bindings = bindings })) same (record {
+      cores = cores;
+      both = subst (λ (zs : List TheCore). JoinsBoth x y ring zs cores) xs_is (subst (λ (zs : List TheCore). JoinsBoth x y ring xs zs) (sym cores_is) both);
+      rest = ap₂ (λ (rs : List TheDuo) (bs : List Binding). record base { cores = cores; rings = rs; bindings = bs }) rings_is bindings_is;
+    })
+
+-- where an end may be made, by the fields of the world
+pub lent_room : (w base : TheWorld) → base ≡ w → (xs : List TheCore) → xs ≡ base.cores → (d : DispatcherId) (name : EndId) → HasRoom w.cores d name → HasRoom xs d name
+lent_room w base same xs xs_is d name h =
+    subst (λ (zs : List TheCore). HasRoom zs d name) (sym (xs_is ∙ ap (λ (z : TheWorld). z.cores) same)) h
+
+-- what the code makes of what is asked for
+abbrev made_joiner : RustDispatcherId → Side → ℕ → TheEnd → ℕ → Joiner
+made_joiner at side m s n = record { at = at; name = record { binding = n; side = side }; side = m; end = s }
+
+pub is_joiner : (w : TheWorld) (i : ℕ) (at : RustDispatcherId) (side : Side) (m : ℕ) (s : TheEnd) → IsNewEnd i w s → (n : ℕ) → n ≡ length w.bindings
+    → IsJoiner w i at (record { binding = length w.bindings; side = side }) m (made_joiner at side m s n)
+is_joiner w i at side m s new n is = record { end = s; new = new; joiner = ap (made_joiner at side m s) is }
+
 pub joins_over : (want : Wish) (w : TheWorld) (x y : Joiner)
     → IsJoiner w want.interface want.client (client_of (length w.bindings)) (2 * length w.rings) x
     → IsJoiner w want.interface want.server (server_of (length w.bindings)) (2 * length w.rings + 1) y
-    → (ring ring2 : TheDuo) → ring ≡ new_duo ring.size → ring2 ≡ ring → (cores : List TheCore) → JoinsBoth x y ring w.cores cores
-    → (w2 : TheWorld) → w2 ≡ joined want w cores ring2 → OfWish want w (λ r. JoinsByRing r ring.size w w2)
-joins_over want w x y x_is y_is ring ring2 fresh_ring same cores h w2 w2_is p there =
+    → (ring : TheDuo) → ring ≡ new_duo ring.size → (w2 : TheWorld) → JoinsIn x y ring (binding_of want) w w2
+    → OfWish want w (λ r. JoinsByRing r ring.size w w2)
+joins_over want w x y x_is y_is ring fresh_ring w2 h p there =
     let one : Joiner = record { at = want.client; name = client_of (length w.bindings); side = 2 * length w.rings; end = x_is.end } in
     let other : Joiner = record { at = want.server; name = server_of (length w.bindings); side = 2 * length w.rings + 1; end = y_is.end } in
-    let g : JoinsBoth one other ring w.cores cores
-    = subst (λ (z : Joiner). JoinsBoth one z ring w.cores cores) y_is.joiner (subst (λ (z : Joiner). JoinsBoth z y ring w.cores cores) x_is.joiner h) in
+    let g : JoinsBoth one other ring w.cores h.cores
+    = subst (λ (z : Joiner). JoinsBoth one z ring w.cores h.cores) y_is.joiner (subst (λ (z : Joiner). JoinsBoth z y ring w.cores h.cores) x_is.joiner h.both) in
     record {
       first = g.first;
       first_is = g.first_is;
@@ -276,9 +304,21 @@ joins_over want w x y x_is y_is ring ring2 fresh_ring same cores h w2 w2_is p th
       second_after = g.second_after;
       second_still = g.server.still;
       server = joins_side want w p there want.server (server_of (length w.bindings)) (2 * length w.rings + 1) y_is.end y_is.new ring fresh_ring g.second g.second_after g.server.event;
-      rest = w2_is ∙ ap (λ (cs : List TheCore). joined want w cs ring2) g.rest
-          ∙ ap (joined want w (slice_set (slice_set w.cores want.client.core g.first_after) want.server.core g.second_after)) (same ∙ fresh_ring);
+      rest = h.rest ∙ ap (λ (cs : List TheCore). joined want w cs ring) g.rest
+          ∙ ap (joined want w (slice_set (slice_set w.cores want.client.core g.first_after) want.server.core g.second_after)) fresh_ring;
     }
+
+-- the same, where each number is known by an equation
+pub joined_by : (want : Wish) (w : TheWorld) (side : ℕ) → side ≡ 2 * length w.rings → (x y : Joiner) → IsJoiner w want.interface want.client (client_of (length w.bindings)) side x
+    → IsJoiner w want.interface want.server (server_of (length w.bindings)) (side + 1) y → (ring : TheDuo) → ring ≡ new_duo ring.size → (w2 : TheWorld)
+    → (o : Result RustAnswer AllocError) → IfOk o (λ a. (answer_of a ≡ done) × JoinsIn x y ring (binding_of want) w w2)
+    → IfOk o (λ a. (answer_of a ≡ done) × OfWish want w (λ r. JoinsByRing r ring.size w w2))
+joined_by want w side side_is x y x_is y_is ring fresh_ring w2 o h =
+    let one = subst (λ (m : ℕ). IsJoiner w want.interface want.client (client_of (length w.bindings)) m x) side_is x_is in
+    let other = subst (λ (m : ℕ). IsJoiner w want.interface want.server (server_of (length w.bindings)) (m + 1) y) side_is y_is in
+    IfOk-weaker o (λ a. (answer_of a ≡ done) × JoinsIn x y ring (binding_of want) w w2)
+    (λ a. (answer_of a ≡ done) × OfWish want w (λ r. JoinsByRing r ring.size w w2))
+    (λ a g. (g.0, joins_over want w x y one other ring fresh_ring w2 g.1)) h
 
 -- ---- what is answered
 

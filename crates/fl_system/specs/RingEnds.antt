@@ -1,5 +1,5 @@
 -- What comes of a binding over a new ring: at a core, at the cores of its two ends, and in the world.
-use Rattle.std.specs.Prelude.{ℕ, ◌≡◌, ◌<◌, ◌⊎◌, not, List, length, slice_get, slice_set, Some, None, Result, Ok}
+use Rattle.std.specs.Prelude.{ℕ, ◌≡◌, ◌<◌, ◌⊎◌, not, List, [], ◌∷◌, ◌++◌, length, slice_get, slice_set, Some, None, Result, Ok}
 use Rattle.fl_base.specs.declared.identity.EndId.{EndId}
 use Rattle.fl_ring.specs.Duo.{TheDuo}
 use Rattle.fl_ring.specs.Side.{SideTakes}
@@ -14,6 +14,7 @@ use Rattle.fl_node.specs.Ends.{OnBoard, RegistersAt}
 use Rattle.fl_node.specs.Making.{AddsPort}
 use Rattle.fl_lines.specs.declared.event.DispatcherId.{DispatcherId as RustDispatcherId}
 use Rattle.fl_queues.specs.Events.{DispatcherId, Answer, done}
+use Rattle.fl_worlds.specs.declared.binding.Binding.{Binding}
 use Rattle.fl_worlds.specs.View.{If, TheWorld}
 use Rattle.fl_worlds.specs.Lending.{IsLent, Refuses, DoesNothing}
 use Rattle.fl_worlds.specs.Binding.{Request, has_both_places, HasEndOf, JoinsByRing}
@@ -75,6 +76,12 @@ pub record IsJoiner (w : TheWorld) (interface : ℕ) (at : RustDispatcherId) (na
   pub end : TheEnd
   pub new : IsNewEnd interface w end
   pub joiner : x ≡ record { at = at; name = name; side = side; end = end }
+
+-- two ends are joined by a ring that is new in the world, for this binding
+pub record JoinsIn (x y : Joiner) (ring : TheDuo) (b : Binding) (w w2 : TheWorld) : Type 0 where
+  pub cores : List TheCore
+  pub both : JoinsBoth x y ring w.cores cores
+  pub rest : w2 ≡ record w { cores = cores; rings = w.rings ++ ring ∷ []; bindings = w.bindings ++ b ∷ [] }
 
 -- both ends are joined, unless there is an end of the binding already
 abbrev pub JoinsOrNot : Request → ℕ → TheWorld → Answer → TheWorld → Type 0

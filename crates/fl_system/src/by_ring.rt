@@ -1,6 +1,7 @@
 //! A binding between two cores is made, with its ring.
 
-ghost use Rattle.std.specs.Prelude.{◌≡◌, ◌≢◌, ◌≤◌, ◌<◌, ◌⊎◌, length, true, false, None, IfOk, OnOk, OnErr};
+ghost use Rattle.std.specs.Prelude.{◌≡◌, ◌≢◌, ◌≤◌, ◌<◌, ◌⊎◌, ◌*◌, ◌-◌, ◌^◌, [], ◌∷◌, ◌++◌, length, true, false, None, IfOk, OnOk, OnErr, vec_len};
+ghost use Rattle.std.specs.Vec.{vec_capacity};
 ghost use Rattle.fl_queues.specs.Events.{done};
 ghost use Rattle.fl_node.specs.View.{place_of};
 ghost use Rattle.fl_lines.specs.Events.{id_of, answer_of};
@@ -8,7 +9,8 @@ ghost use Rattle.fl_worlds.specs.Making.{new_duo};
 ghost use Rattle.fl_worlds.specs.Binding.{BindsByRing, HasEndOf, JoinsByRing};
 ghost use Rattle.fl_worlds.specs.View.{has_dispatcher, IsWhole};
 ghost use Rattle.fl_system.specs.Parts.{InCore};
-ghost use Rattle.fl_system.specs.RingEnds.{HasRoom, AddsEnd, TakesFromRing, RegistersOver, Joins, JoinsBoth, IsJoiner, JoinsOrNot, JoinsIfPlaces};
+ghost use Rattle.fl_system.specs.RingEnds.{HasRoom, AddsEnd, TakesFromRing, RegistersOver, Joins, JoinsBoth};
+ghost use Rattle.fl_system.specs.RingEnds.{IsJoiner, JoinsIn, JoinsOrNot, JoinsIfPlaces};
 ghost use Rattle.fl_system.specs.Wishes.{OfWish, IsNewAt, HasDispatcher};
 
 use crate::binding::Wish;
@@ -109,25 +111,84 @@ fn join_both(
     Ok(())
 }
 
+// Room for one ring more and one binding.
+fn reserve_both(rings: &mut Vec<OneDuo>, bindings: &mut Vec<Binding>) -> Result<(), AllocError>
+    ensures rings { rings.new.items ≡ rings.old.items }
+    ensures bindings { bindings.new.items ≡ bindings.old.items }
+    ensures room_for_ring { OnOk result (vec_len rings.new < vec_capacity rings.new) }
+    ensures room_for_binding { OnOk result (vec_len bindings.new < vec_capacity bindings.new) }
+{
+    rings.reserve(1)?;
+    bindings.reserve(1)?;
+    Ok(())
+}
+
+// Both ends are made, with their ring and their binding behind the others, or none of these.
+fn join_parts(
+    cores: &mut [Core],
+    rings: &mut Vec<OneDuo>,
+    bindings: &mut Vec<Binding>,
+    ring: OneDuo,
+    binding: Binding,
+    client: Joiner,
+    server: Joiner,
+) -> Result<(), AllocError>
+    requires few { length cores.old ≤ 16 }
+    requires client { HasRoom cores.old (id_of client.at) client.name }
+    requires server { HasRoom cores.old (id_of server.at) server.name }
+    requires client_few { client.name.binding < 1024 }
+    requires server_few { server.name.binding < 1024 }
+    requires apart { client.at.core ≢ server.at.core }
+    ensures joins { OnOk result (JoinsBoth client server ring cores.old cores.new) }
+    ensures rings { OnOk result (rings.new.items ≡ rings.old.items ++ ring ∷ []) }
+    ensures bindings { OnOk result (bindings.new.items ≡ bindings.old.items ++ binding ∷ []) }
+    ensures kept { OnErr result (cores.new ≡ cores.old) }
+    ensures kept_rings { OnErr result (rings.new.items ≡ rings.old.items) }
+    ensures kept_bindings { OnErr result (bindings.new.items ≡ bindings.old.items) }
+{
+    reserve_both(rings, bindings)?;
+    let mut ring = ring;
+    join_both(cores, &mut ring, client, server)?;
+    rings.push_reserved(ring);
+    bindings.push_reserved(binding);
+    Ok(())
+}
+
 // ---- the world
 
 impl World {
-    // An end that is to be made, of the interface at a place.
+    // The number of the binding that is to be.
+    fn next_binding(&self) -> usize
+        ensures next { result ≡ length self.now.bindings }
+    {
+        self.bindings.as_slice().len()
+    }
+
+    // The first side of the ring that is to be.
+    fn next_side(&self) -> usize
+        ensures next { result ≡ 2 * length self.now.rings }
+        ensures few { result < 2 ^ 64 - 1 }
+    {
+        2 * self.rings.as_slice().len()
+    }
+
+    // An end of the binding that is to be, of the interface at a place.
     fn joiner(
         &self,
         interface: usize,
         at: DispatcherId,
-        name: EndId,
-        side: usize,
+        side: Side,
+        ring_side: usize,
     ) -> Result<Joiner, AllocError>
         requires program { interface < length self.now.programs }
-        ensures joiner { IfOk result (λ x. IsJoiner self.now interface at name side x) }
+        ensures joiner { IfOk result (λ x. IsJoiner self.now interface at (record { binding = length self.now.bindings; side = side }) ring_side x) }
     {
+        let binding = self.next_binding();
         let end = self.new_end(interface)?;
         Ok(Joiner {
             at,
-            name,
-            side,
+            name: EndId { binding, side },
+            side: ring_side,
             end,
         })
     }
@@ -139,13 +200,40 @@ impl World {
         ensures client { result ≡ false → IsNewAt (length self.now.bindings) want.client.core self.now }
         ensures server { result ≡ false → IsNewAt (length self.now.bindings) want.server.core self.now }
     {
-        let binding = self.bindings.as_slice().len();
+        let binding = self.next_binding();
         self.has_end_of(binding, want.client.core as usize)
             || self.has_end_of(binding, want.server.core as usize)
     }
 
-    // Both ends are joined by this ring.
-    #[tactic(none)]
+    // Two ends are joined by this ring, for this binding.
+    fn join_ends(
+        &mut self,
+        ring: OneDuo,
+        binding: Binding,
+        client: Joiner,
+        server: Joiner,
+    ) -> Result<Answer, AllocError>
+        requires client { HasRoom self.old.cores (id_of client.at) client.name }
+        requires server { HasRoom self.old.cores (id_of server.at) server.name }
+        requires client_few { client.name.binding < 1024 }
+        requires server_few { server.name.binding < 1024 }
+        requires apart { client.at.core ≢ server.at.core }
+        ensures joins { IfOk result (λ a. (answer_of a ≡ done) × JoinsIn client server ring binding self.old self.new) }
+        ensures kept { OnErr result (self.new ≡ self.old) }
+    {
+        join_parts(
+            self.cores.as_mut_slice(),
+            &mut self.rings,
+            &mut self.bindings,
+            ring,
+            binding,
+            client,
+            server,
+        )?;
+        Ok(Answer::Done)
+    }
+
+    // The ends of what is asked for are joined by this ring.
     fn join_over(&mut self, want: Wish, ring: OneDuo) -> Result<Answer, AllocError>
         requires few { length self.old.bindings < 1024 }
         requires program { want.interface < length self.old.programs }
@@ -158,32 +246,16 @@ impl World {
         ensures joins { IfOk result (λ a. (answer_of a ≡ done) × OfWish want self.old (λ r. JoinsByRing r ring.size self.old self.new)) }
         ensures kept { OnErr result (self.new ≡ self.old) }
     {
-        self.rings.reserve(1)?;
-        self.bindings.reserve(1)?;
-        let binding = self.bindings.as_slice().len();
-        let side = 2 * self.rings.as_slice().len();
-        let (one, other) = (
-            EndId {
-                binding,
-                side: Side::Client,
-            },
-            EndId {
-                binding,
-                side: Side::Server,
-            },
-        );
-        let client = self.joiner(want.interface, want.client, one, side)?;
-        let server = self.joiner(want.interface, want.server, other, side + 1)?;
-        let mut ring = ring;
-        join_both(self.cores.as_mut_slice(), &mut ring, client, server)?;
-        self.rings.push_reserved(ring);
-        self.bindings.push_reserved(Binding {
+        let side = self.next_side();
+        let client = self.joiner(want.interface, want.client, Side::Client, side)?;
+        let server = self.joiner(want.interface, want.server, Side::Server, side + 1)?;
+        let binding = Binding {
             interface: want.interface,
             client: want.client.core as usize,
             server: want.server.core as usize,
             unmade: None,
-        });
-        Ok(Answer::Done)
+        };
+        self.join_ends(ring, binding, client, server)
     }
 
     // The same, unless an end of the binding is at one of the cores already.
