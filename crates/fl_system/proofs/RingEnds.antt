@@ -1,7 +1,7 @@
 -- The ends of a binding over a new ring, from what cores say of them.
 use Rattle.std.proofs.Common.{◌≡◌, ◌≢◌, ◌<◌, ◌+◌, ◌*◌, ◌⊎◌, refl, sym, ap, ap₂, ◌∙◌, subst, inl, inr, ℕ, Bool, true, false, not, ◌==◌}
 use Rattle.std.proofs.Common.{List, [], ◌∷◌, ◌++◌, length, length-set, slice_get, slice_set, slice_index_or, Option, Some, None, Result, Ok, Err, IfOk, arith}
-use Rattle.std.proofs.lemmas.Bool.{ne_eqb, eq-eqb}
+use Rattle.std.proofs.lemmas.Bool.{ne_eqb}
 use Rattle.std.proofs.lemmas.List.{length-map, get_or-set_other, get_or-set_same, set-set}
 use Rattle.std.proofs.lemmas.Option.{slice_get_read, slice_get_within}
 use Rattle.std.proofs.lemmas.Result.{IfOk-weaker}
@@ -32,7 +32,7 @@ use Rattle.fl_node.specs.View.{TheCore, arrivals_by, arrivals_of, place_of, clie
 use Rattle.fl_node.specs.Sound.{IsCore}
 use Rattle.fl_node.specs.Ends.{OnBoard, RegistersAt}
 use Rattle.fl_node.specs.Making.{HasNewEnd, TakesBackEnd}
-use Rattle.fl_queues.specs.Events.{Answer, DispatcherId, done, nothing, refused}
+use Rattle.fl_queues.specs.Events.{Answer, DispatcherId, done}
 use Rattle.fl_lines.specs.declared.event.DispatcherId.{DispatcherId as RustDispatcherId}
 use Rattle.fl_lines.specs.declared.answer.Answer.{Answer as RustAnswer}
 use Rattle.fl_lines.specs.Events.{id_of, answer_of}
@@ -41,7 +41,7 @@ use Rattle.fl_worlds.specs.View.{If, TheWorld, IsWhole}
 use Rattle.fl_worlds.specs.Lending.{IsLent, Refuses}
 use Rattle.fl_worlds.specs.Taking.{RegistersWith}
 use Rattle.fl_worlds.specs.Making.{new_duo}
-use Rattle.fl_worlds.specs.Binding.{Request, HasEndOf, JoinsSide, JoinsByRing, BindsByRing}
+use Rattle.fl_worlds.specs.Binding.{Request, JoinsSide, JoinsByRing, BindsByRing}
 use Rattle.fl_system.specs.declared.binding.Wish.{Wish}
 use Rattle.fl_system.specs.declared.by_ring.Joiner.{Joiner}
 use Rattle.fl_system.specs.Parts.{InCore, ByRing}
@@ -322,20 +322,11 @@ joined_by want w side side_is x y x_is y_is ring fresh_ring w2 o h =
 
 -- ---- what is answered
 
-pub begun : (want : Wish) (size : ℕ) (w : TheWorld) → HasEndOf (length w.bindings) want.client.core w ⊎ HasEndOf (length w.bindings) want.server.core w
-    → OfWish want w (λ r. JoinsOrNot r size w nothing w)
-begun want size w h p there = inr (h, (refl, refl))
-
 pub joined_or_not : (want : Wish) (size : ℕ) (w w2 : TheWorld) (o : Result RustAnswer AllocError)
     → IfOk o (λ a. (answer_of a ≡ done) × OfWish want w (λ r. JoinsByRing r size w w2)) → IfOk o (λ a. OfWish want w (λ r. JoinsOrNot r size w (answer_of a) w2))
 joined_or_not want size w w2 o h =
     IfOk-weaker o (λ a. (answer_of a ≡ done) × OfWish want w (λ r. JoinsByRing r size w w2)) (λ a. OfWish want w (λ r. JoinsOrNot r size w (answer_of a) w2))
     (λ a g p there. inl (g.0, g.1 p there)) h
-
-pub no_places : (want : Wish) (size : ℕ) (w : TheWorld) → false ≡ both_places (id_of want.client) (id_of want.server) w
-    → OfWish want w (λ r. JoinsIfPlaces r size w (refused 54) w)
-no_places want size w is p there =
-    subst (λ (b : Bool). If (not b) (Refuses 54 w (refused 54) w) (JoinsOrNot (request want p) size w (refused 54) w)) is (refl, refl)
 
 pub some_places : (want : Wish) (size : ℕ) (w w2 : TheWorld) → true ≡ both_places (id_of want.client) (id_of want.server) w → (o : Result RustAnswer AllocError)
     → IfOk o (λ a. OfWish want w (λ r. JoinsOrNot r size w (answer_of a) w2)) → IfOk o (λ a. OfWish want w (λ r. JoinsIfPlaces r size w (answer_of a) w2))
@@ -347,22 +338,11 @@ some_places want size w w2 is o h =
 abbrev AtTwo : Request → ℕ → TheWorld → Answer → TheWorld → Type 0
 AtTwo r size w a w2 = ((MayHaveSlots size → ⊥) × Refuses 32 w a w2) ⊎ (MayHaveSlots size × JoinsIfPlaces r size w a w2)
 
-pub at_one : (want : Wish) (size : ℕ) (w : TheWorld) → want.client.core ≡ want.server.core → OfWish want w (λ r. BindsByRing r size w (refused 73) w)
-at_one want size w same p there =
-    subst (λ (b : Bool). If b (Refuses 73 w (refused 73) w) (AtTwo (request want p) size w (refused 73) w))
-    (sym (eq-eqb want.client.core want.server.core same)) (refl, refl)
-
-at_two : (want : Wish) (size : ℕ) (w w2 : TheWorld) (a : Answer) → want.client.core ≢ want.server.core → OfWish want w (λ r. AtTwo r size w a w2)
-    → OfWish want w (λ r. BindsByRing r size w a w2)
-at_two want size w w2 a apart h p there =
-    subst (λ (b : Bool). If b (Refuses 73 w a w2) (AtTwo (request want p) size w a w2)) (sym (ne_eqb want.client.core want.server.core apart)) (h p there)
-
-pub bad_size : (want : Wish) (size : ℕ) (w : TheWorld) → want.client.core ≢ want.server.core → (MayHaveSlots size → ⊥)
-    → OfWish want w (λ r. BindsByRing r size w (refused 32) w)
-bad_size want size w apart bad = at_two want size w w (refused 32) apart (λ p there. inl (bad, (refl, refl)))
-
-pub good_size : (want : Wish) (size n : ℕ) (w w2 : TheWorld) → want.client.core ≢ want.server.core → MayHaveSlots size → n ≡ size → (o : Result RustAnswer AllocError)
+-- over a ring of a good size
+pub at_two_cores : (want : Wish) (size n : ℕ) (w w2 : TheWorld) → want.client.core ≢ want.server.core → MayHaveSlots size → n ≡ size → (o : Result RustAnswer AllocError)
     → IfOk o (λ a. OfWish want w (λ r. JoinsIfPlaces r n w (answer_of a) w2)) → IfOk o (λ a. OfWish want w (λ r. BindsByRing r size w (answer_of a) w2))
-good_size want size n w w2 apart sized same o h =
+at_two_cores want size n w w2 apart sized same o h =
     IfOk-weaker o (λ a. OfWish want w (λ r. JoinsIfPlaces r n w (answer_of a) w2)) (λ a. OfWish want w (λ r. BindsByRing r size w (answer_of a) w2))
-    (λ a g. at_two want size w w2 (answer_of a) apart (λ p there. inr (sized, subst (λ (m : ℕ). JoinsIfPlaces (request want p) m w (answer_of a) w2) same (g p there)))) h
+    (λ a g p there. subst (λ (b : Bool). If b (Refuses 73 w (answer_of a) w2) (AtTwo (request want p) size w (answer_of a) w2))
+        (sym (ne_eqb want.client.core want.server.core apart))
+        (inr (sized, subst (λ (m : ℕ). JoinsIfPlaces (request want p) m w (answer_of a) w2) same (g p there)))) h
