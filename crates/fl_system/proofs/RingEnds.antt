@@ -147,7 +147,6 @@ module _ (xs : List TheCore) (d : DispatcherId) (name : EndId) (room : HasRoom x
 module _ (x y : Joiner) (ring : TheDuo) (xs : List TheCore) (first : HasRoom xs (id_of x.at) x.name) (second : HasRoom xs (id_of y.at) y.name)
     (apart : x.at.core ≢ y.at.core) (k k1 l : TheCore) (k_is : k ≡ slice_index_or xs x.at.core k) (whole : IsWhole k)
     (e : ℕ) (adds : AddsEnd x k e k1) (l_is : l ≡ slice_index_or (slice_set xs x.at.core k1) y.at.core l) where
-
   elsewhere : l ≡ slice_index_or xs y.at.core l
   elsewhere = l_is ∙ get_or-set_other xs x.at.core y.at.core k1 l (λ e. apart (sym e))
 
@@ -344,5 +343,5 @@ pub at_two_cores : (want : Wish) (size n : ℕ) (w w2 : TheWorld) → want.clien
 at_two_cores want size n w w2 apart sized same o h =
     IfOk-weaker o (λ a. OfWish want w (λ r. JoinsIfPlaces r n w (answer_of a) w2)) (λ a. OfWish want w (λ r. BindsByRing r size w (answer_of a) w2))
     (λ a g p there. subst (λ (b : Bool). If b (Refuses 73 w (answer_of a) w2) (AtTwo (request want p) size w (answer_of a) w2))
-        (sym (ne_eqb want.client.core want.server.core apart))
-        (inr (sized, subst (λ (m : ℕ). JoinsIfPlaces (request want p) m w (answer_of a) w2) same (g p there)))) h
+    (sym (ne_eqb want.client.core want.server.core apart))
+    (inr (sized, subst (λ (m : ℕ). JoinsIfPlaces (request want p) m w (answer_of a) w2) same (g p there)))) h

@@ -18,6 +18,8 @@ returns-clause-joins c =
     let joins = c.in_ok-join_parts.ensures.joins in
     let many = as_many_joined c.args.client c.args.server c.args.ring c.as_mut_slice.result.now c.join_parts.new.cores joins in
     let left : (with_items c.self.inside.cores c.join_parts.new.cores).items ≡ c.join_parts.new.cores =
-    with_items_is c.self.inside.cores c.join_parts.new.cores (omega (arith, many, c.as_mut_slice.ensures.len)) in
-    (refl, joins_in c.args.client c.args.server c.args.ring c.args.binding c.args.self.now _ c.self.view_is c.as_mut_slice.result.now c.join_parts.new.cores _
-    c.as_mut_slice.ensures.value left joins _ c.in_ok-join_parts.ensures.rings _ c.in_ok-join_parts.ensures.bindings)
+    with_items_is c.self.inside.cores c.join_parts.new.cores (omega (arith, many, c.as_mut_slice.ensures.len)) in (
+      refl,
+      joins_in c.args.client c.args.server c.args.ring c.args.binding c.args.self.now _ c.self.view_is c.as_mut_slice.result.now c.join_parts.new.cores _
+          c.as_mut_slice.ensures.value left joins _ c.in_ok-join_parts.ensures.rings _ c.in_ok-join_parts.ensures.bindings,
+    )
