@@ -1,6 +1,6 @@
 -- What is asked for when a binding is made, in the code's own words for it; and what is looked at before one is.
-use Rattle.std.specs.Prelude.{ℕ, ◌≡◌, ◌<◌, ◌+◌, ◌&&◌, ◌||◌, nat_le, Bool, true, false, if◌then◌else◌, List, length}
-use Rattle.std.specs.Prelude.{slice_get, Option, Some, None, is_some, Result, Ok, Err}
+use Rattle.std.specs.Prelude.{ℕ, ◌≡◌, ◌<◌, ◌+◌, ◌&&◌, ◌||◌, nat_le, Bool, false, if◌then◌else◌, List, length}
+use Rattle.std.specs.Prelude.{slice_get, Some, None, is_some, Result, Ok, Err}
 use Rattle.fl_compile.specs.declared.program.Program.{Program}
 use Rattle.fl_compile.specs.Programs.{program_of}
 use Rattle.fl_endpoint.specs.View.{TheEnd, fresh}
