@@ -1,6 +1,6 @@
 -- The ends of a binding over a new ring, from what cores say of them.
-use Rattle.std.proofs.Common.{◌≡◌, ◌≢◌, ◌<◌, ◌+◌, ◌*◌, ◌⊎◌, refl, sym, ap, ap₂, ◌∙◌, subst, inl, inr, ℕ, Bool, true, false, not, ◌==◌}
-use Rattle.std.proofs.Common.{List, [], ◌∷◌, ◌++◌, length, length-set, slice_get, slice_set, slice_index_or, Option, Some, None, Result, Ok, Err, IfOk, arith}
+use Rattle.std.proofs.Common.{◌≡◌, ◌≢◌, ◌<◌, ◌+◌, ◌*◌, ◌⊎◌, refl, sym, ap, ap₂, ◌∙◌, subst, inl, inr, ℕ, Bool, true, not}
+use Rattle.std.proofs.Common.{List, [], ◌∷◌, ◌++◌, length, length-set, slice_get, slice_set, slice_index_or, Option, Some, None, Result, Ok, Err, IfOk}
 use Rattle.std.proofs.lemmas.Bool.{ne_eqb}
 use Rattle.std.proofs.lemmas.List.{length-map, get_or-set_other, get_or-set_same, set-set}
 use Rattle.std.proofs.lemmas.Option.{slice_get_read, slice_get_within}
@@ -22,13 +22,13 @@ use Rattle.fl_core.specs.declared.kind.Kind.{Kind}
 use Rattle.fl_core.specs.declared.kind.Kind.TheVariants.{Ring as RingKind}
 use Rattle.fl_core.specs.declared.fault.BoardFault.{BoardFault}
 use Rattle.fl_core.specs.declared.fault.BoardFault.TheVariants as fault
-use Rattle.fl_core.specs.View.{TheSeat, TheDispatcher, TheBoard}
+use Rattle.fl_core.specs.View.{TheSeat, TheBoard}
 use Rattle.fl_core.specs.Turns.{WaitsIn, lent}
 use Rattle.fl_core.specs.Events.{Registers}
 use Rattle.fl_monitor.specs.Routing.{given}
 use Rattle.fl_node.specs.declared.wire.Port.{Port}
 use Rattle.fl_node.specs.declared.wire.Wire.TheVariants.{Ring}
-use Rattle.fl_node.specs.View.{TheCore, arrivals_by, arrivals_of, place_of, client_of, server_of}
+use Rattle.fl_node.specs.View.{TheCore, arrivals_by, place_of, client_of, server_of}
 use Rattle.fl_node.specs.Sound.{IsCore}
 use Rattle.fl_node.specs.Ends.{OnBoard, RegistersAt}
 use Rattle.fl_node.specs.Making.{HasNewEnd, TakesBackEnd}
@@ -38,7 +38,7 @@ use Rattle.fl_lines.specs.declared.answer.Answer.{Answer as RustAnswer}
 use Rattle.fl_lines.specs.Events.{id_of, answer_of}
 use Rattle.fl_worlds.specs.declared.binding.Binding.{Binding}
 use Rattle.fl_worlds.specs.View.{If, TheWorld, IsWhole}
-use Rattle.fl_worlds.specs.Lending.{IsLent, Refuses}
+use Rattle.fl_worlds.specs.Lending.{Refuses}
 use Rattle.fl_worlds.specs.Taking.{RegistersWith}
 use Rattle.fl_worlds.specs.Making.{new_duo}
 use Rattle.fl_worlds.specs.Binding.{Request, JoinsSide, JoinsByRing, BindsByRing}
@@ -48,7 +48,7 @@ use Rattle.fl_system.specs.Parts.{InCore, ByRing}
 use Rattle.fl_system.specs.Wishes.{OfWish, request, HasDispatcher, IsNewAt, IsNewEnd, both_places}
 use Rattle.fl_system.specs.RingEnds.{HasRoom, AddsEnd, TakesFromRing, RegistersOver, Joins, JoinsBoth, IsJoiner, JoinsIn, JoinsOrNot, JoinsIfPlaces}
 use Rattle.fl_system.proofs.Lifts.{one_value}
-use Rattle.fl_system.proofs.Makes.{still_there, taken_back}
+use Rattle.fl_system.proofs.Makes.{taken_back}
 
 -- ---- an end is added
 
