@@ -6,4 +6,5 @@ pub mod Makes
 pub mod Following
 pub mod Splitting
 pub mod Wished
+pub mod RingEnds
 pub mod Queued

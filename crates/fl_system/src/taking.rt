@@ -381,7 +381,7 @@ fn register_by_side(core: &mut Core, place: usize, side: &mut DuoSide<'_>) -> An
 }
 
 // The same over side m of a ring.
-fn register_by_ring(core: &mut Core, place: usize, ring: &mut OneDuo, m: usize) -> Answer
+pub(crate) fn register_by_ring(core: &mut Core, place: usize, ring: &mut OneDuo, m: usize) -> Answer
     requires place { place < length core.old.board.seats }
     requires lent { arrivals_of core.old place ≡ None }
     ensures registers { ByRing m (RegistersWith SideTakes place (answer_of result)) core.old ring.old core.new ring.new }
