@@ -4,3 +4,4 @@ pub mod Parts
 pub mod Passing
 pub mod Following
 pub mod Wishes
+pub mod Routes

@@ -1,0 +1,221 @@
+-- A binding by a route: from the parts of a world to the world.
+use Rattle.std.proofs.Common.{◌≡◌, ◌⊎◌, ◌∙◌, refl, sym, ap, ap₂, subst, ℕ, ◌<◌, ◌≤◌, Bool, true, false, not, nat_lt, nat_le, List, [], ◌∷◌, ◌++◌, length, map, slice_get, slice_set, slice_index_or, Option, Some, None, Result, Ok, Err, IfOk, inl, inr, arith}
+use Rattle.std.specs.Prelude.{◌&&◌, ◌||◌, IsSome, is_some}
+use Rattle.std.specs.List.{list_all}
+use Rattle.std.specs.declared.alloc.AllocError.{AllocError}
+use Rattle.std.proofs.lemmas.Bool.{and_parts, ltb-true, lt-ltb, leb-true}
+use Rattle.std.proofs.lemmas.List.{set-get_or}
+use Rattle.std.proofs.lemmas.Option.{slice_get_within, get_or_from_slice_get}
+use Rattle.std.proofs.lemmas.Result.{IfOk-weaker}
+use Rattle.fl_base.specs.declared.identity.CoreId.{CoreId}
+use Rattle.fl_base.specs.declared.identity.LinkId.{LinkId}
+use Rattle.fl_compile.specs.declared.program.Program.{Program}
+use Rattle.fl_core.specs.declared.fault.BoardFault.TheVariants as board
+use Rattle.fl_lines.specs.declared.answer.Answer.{Answer as RustAnswer}
+use Rattle.fl_lines.specs.Events.{answer_of}
+use Rattle.fl_monitor.specs.declared.fault.MonitorFault.{MonitorFault}
+use Rattle.fl_monitor.specs.declared.fault.MonitorFault.TheVariants as monitor
+use Rattle.fl_monitor.specs.Faults.{fault_number}
+use Rattle.fl_monitor.specs.Monitors.{MayOpen, wanted}
+use Rattle.fl_node.specs.declared.fault.OpenFault.{OpenFault}
+use Rattle.fl_node.specs.declared.fault.OpenFault.TheVariants as fault
+use Rattle.fl_node.specs.Making.{asked, Asks}
+use Rattle.fl_node.specs.View.{TheCore, place_of, client_of, server_of}
+use Rattle.fl_queues.specs.Binding.{all_differ}
+use Rattle.fl_queues.specs.Events.{DispatcherId, Answer, nothing, refused}
+use Rattle.fl_queues.specs.Given.{given}
+use Rattle.fl_worlds.specs.declared.binding.Binding.{Binding}
+use Rattle.fl_worlds.specs.Binding.{may_be_route, BindsByRoute, OpensFrom, OpensBy, OpensOn, AsksBy, HasEndOf}
+use Rattle.fl_worlds.specs.Lending.{Refuses}
+use Rattle.fl_worlds.specs.Making.{is_core, core_id}
+use Rattle.fl_worlds.specs.View.{If, TheWorld, has_dispatcher, IsWhole}
+use Rattle.fl_system.specs.declared.binding.Wish.{Wish}
+use Rattle.fl_system.specs.declared.by_route.Begun.{Begun}
+use Rattle.fl_system.specs.declared.by_route.Begun.TheVariants as begun
+use Rattle.fl_system.specs.Parts.{InCore}
+use Rattle.fl_system.specs.Wishes.{request, OfWish}
+use Rattle.fl_system.specs.Routes.{IsNumberOf, BeginsIn, AtOne, HasDispatcher, IsCopyAt, Keeps, opening_along, unmade_binding, MayOpenFrom, OpensOnLink, OpensAlong}
+use Rattle.fl_system.proofs.Lifts.{one_value, stands}
+
+-- ---- a route
+
+pub all_small : (cores : List ℕ) (count : ℕ) → count ≤ 16 → list_all (λ n. nat_lt n count) cores ≡ true → list_all (λ n. nat_lt n 256) cores ≡ true
+all_small [] count few h = refl
+all_small (c ∷ cs) count few h =
+    let (first, others) = and_parts (nat_lt c count) (list_all (λ n. nat_lt n count) cs) h in
+    let below = ltb-true c count first in
+    ap₂ (λ (a b : Bool). a && b) (lt-ltb c 256 (omega (arith, below, few))) (all_small cs count few others)
+
+-- what the test tells
+module _ (cores : List ℕ) (w : TheWorld) (may : may_be_route cores w ≡ true) where
+  all_but_last : (nat_le 2 (length cores) && nat_le (length cores) 16 && list_all (λ n. is_core n w) cores) ≡ true
+  all_but_last = (and_parts _ (all_differ cores) may).0
+
+  pub are_cores : list_all (λ n. is_core n w) cores ≡ true
+  are_cores = (and_parts (nat_le 2 (length cores) && nat_le (length cores) 16) _ all_but_last).1
+
+  pub few_cores : length cores ≤ 16
+  few_cores = leb-true (length cores) 16 (and_parts (nat_le 2 (length cores)) _ (and_parts _ (list_all (λ n. is_core n w) cores) all_but_last).0).1
+
+-- ---- the client's core
+
+pub its_dispatcher : (w : TheWorld) (d : DispatcherId) → has_dispatcher w d ≡ true → HasDispatcher w.cores d.core d.place
+its_dispatcher w d h = cases (slice_get w.cores d.core) refl where
+  test : Option TheCore → Bool
+  test o = given o false λ k. nat_lt d.place (length k.board.dispatchers)
+  cases : (o : Option TheCore) → slice_get w.cores d.core ≡ o → HasDispatcher w.cores d.core d.place
+  cases None is = let wrong : false ≡ true = sym (ap test is) ∙ h in absurd (cc)
+  cases (Some k) is = record { core = k; core_is = is; within = ltb-true d.place (length k.board.dispatchers) (sym (ap test is) ∙ h) }
+
+pub core_below : (cores : List TheCore) (n d : ℕ) → HasDispatcher cores n d → n < length cores
+core_below cores n d h = slice_get_within cores n h.core h.core_is
+
+pub dispatcher_below : (cores : List TheCore) (n d : ℕ) → HasDispatcher cores n d → (read : TheCore) → read ≡ slice_index_or cores n read
+    → d < length read.board.dispatchers
+dispatcher_below cores n d h read value =
+    let same = one_value h.core read (sym h.core_is ∙ stands cores n read read (core_below cores n d h) value refl) in
+    subst (λ (k : TheCore). d < length k.board.dispatchers) same h.within
+
+-- there is no end of the binding, so its client's isn't there
+pub no_client : (o p : Option ℕ) → (is_some o || is_some p) ≡ false → o ≡ None
+no_client None p h = refl
+no_client (Some n) p h = absurd (cc)
+
+either_end : (o p : Option ℕ) → (is_some o || is_some p) ≡ true → IsSome o ⊎ IsSome p
+either_end (Some n) p h = inl refl
+either_end None (Some m) h = inr refl
+either_end None None h = absurd (cc)
+
+-- among all cores
+pub at_one : (cores : List TheCore) (n : ℕ) → n < length cores → (read : TheCore) → read ≡ slice_index_or cores n read
+    → (Event : Begun → TheCore → TheCore → Type 0) (k2 : TheCore) (r : Result Begun AllocError) → IfOk r (λ o. InCore (Event o) read k2)
+    → IfOk r (λ o. AtOne cores n (Event o) (slice_set cores n k2))
+at_one cores n below read value Event k2 (Ok o) h =
+    record { before = read; before_is = stands cores n read read below value refl; after = k2; event = h; rest = refl }
+at_one cores n below read value Event k2 (Err e) h = tt
+
+-- ---- a circuit is begun
+
+set_same : (cores : List TheCore) (n : ℕ) (k : TheCore) → slice_get cores n ≡ Some k → slice_set cores n k ≡ cores
+set_same cores n k is = ap (slice_set cores n) (sym (get_or_from_slice_get cores n k k is)) ∙ set-get_or cores n k
+
+abbrev world_of : TheWorld → List TheCore → List Binding → TheWorld
+world_of w cores bindings = record w { cores = cores; bindings = bindings }
+
+as_it_was : (w : TheWorld) (n : ℕ) (k k2 : TheCore) (cores2 : List TheCore) (bindings2 : List Binding) → slice_get w.cores n ≡ Some k → k2 ≡ k
+    → cores2 ≡ slice_set w.cores n k2 → bindings2 ≡ w.bindings → world_of w cores2 bindings2 ≡ w
+as_it_was w n k k2 cores2 bindings2 is same cores bindings =
+    ap₂ (world_of w) (cores ∙ ap (slice_set w.cores n) same ∙ set_same w.cores n k is) bindings
+
+-- a refused opening left the core as it was
+still_same : (x : Wish) (copy : Program) (l : LinkId) (n : ℕ) (path : List CoreId) (f : OpenFault) (k k2 : TheCore)
+    → Asks (asked x.client.place copy l (opening_along x n path)) k (Err f) k2 → k2 ≡ k
+still_same x copy l n path (fault.Board f) k k2 h = h.1
+still_same x copy l n path (fault.Monitor f) k k2 h = h.2
+
+-- its number is the answer
+its_number : (x : Wish) (p : Program) (f : OpenFault) (n : ℕ) (w : TheWorld) (k : TheCore) (a : Answer) (w2 : TheWorld) → IsNumberOf f n
+    → Refuses n w a w2 → AsksBy (request x p) (Err f) w k a w2
+its_number x p (fault.Board board.NotBound) n w k a w2 is h = subst (λ m. Refuses m w a w2) is h
+its_number x p (fault.Board board.Registered) n w k a w2 is h = subst (λ m. Refuses m w a w2) is h
+its_number x p (fault.Board board.NotRegistered) n w k a w2 is h = subst (λ m. Refuses m w a w2) is h
+its_number x p (fault.Board board.TooManyEnds) n w k a w2 is h = subst (λ m. Refuses m w a w2) is h
+its_number x p (fault.Board board.Failed) n w k a w2 is h = subst (λ m. Refuses m w a w2) is h
+its_number x p (fault.Board board.Memory) n w k a w2 is h = is
+its_number x p (fault.Monitor monitor.Astray) n w k a w2 is h = subst (λ m. Refuses m w a w2) is h
+its_number x p (fault.Monitor monitor.Differs) n w k a w2 is h = subst (λ m. Refuses m w a w2) is h
+its_number x p (fault.Monitor monitor.NoRoute) n w k a w2 is h = subst (λ m. Refuses m w a w2) is h
+its_number x p (fault.Monitor monitor.UsedUp) n w k a w2 is h = subst (λ m. Refuses m w a w2) is h
+its_number x p (fault.Monitor monitor.OutboxFull) n w k a w2 is h = subst (λ m. Refuses m w a w2) is h
+its_number x p (fault.Monitor monitor.PlansDiffer) n w k a w2 is h = subst (λ m. Refuses m w a w2) is h
+its_number x p (fault.Monitor monitor.Memory) n w k a w2 is h = is
+
+module _ (w : TheWorld) (x : Wish) (l : LinkId) (own kept : Program) (a : Answer) (cores2 : List TheCore) (bindings2 : List Binding)
+    (own_is : IsCopyAt w.programs x.interface own) (kept_is : IsCopyAt w.programs x.interface kept) where
+  Begins : List CoreId → Begun → Type 0
+  Begins path o = AtOne w.cores x.client.core (BeginsIn (asked x.client.place own l (opening_along x (length w.bindings) path)) o) cores2
+
+  -- at the core as it was before
+  by_begun : (o : Begun) (cores : List ℕ) (h : Begins (map core_id cores) o) → Keeps o (unmade_binding x kept) w.bindings a bindings2
+      → (p : Program) → slice_get w.programs x.interface ≡ Some p → OpensBy (Ok l) (request x p) cores h.before w a (world_of w cores2 bindings2)
+  by_begun begun.There cores h keeps p is =
+      let (there, same) = h.event.event in
+      let ends = either_end (place_of h.before (client_of (length w.bindings))) (place_of h.before (server_of (length w.bindings))) there in
+      inr ((h.before, h.before_is, ends), keeps.0, as_it_was w x.client.core h.before h.after cores2 bindings2 h.before_is same h.rest keeps.1)
+  by_begun (begun.Refused n) cores h keeps p is =
+      let (f, asks, number) = h.event.event in
+      let same = still_same x own l (length w.bindings) (map core_id cores) f h.before h.after asks in
+      let kept_world = as_it_was w x.client.core h.before h.after cores2 bindings2 h.before_is same h.rest keeps.1 in
+      inl (record {
+        program = own;
+        copy = own_is p is;
+        result = Err f;
+        after = h.after;
+        still = h.event.still;
+        asks = asks;
+        follows = its_number x p f n w h.after a (world_of w cores2 bindings2) number (keeps.0, kept_world);
+      })
+  by_begun begun.Waits cores h keeps p is =
+      let (e, asks) = h.event.event in
+      inl (record {
+        program = own;
+        copy = own_is p is;
+        result = Ok e;
+        after = h.after;
+        still = h.event.still;
+        asks = asks;
+        follows = (keeps.0, record { program = kept; copy = kept_is p is; rest = ap₂ (world_of w) h.rest keeps.1 });
+      })
+
+  pub opens_on_link : (path : List CoreId) (o : Begun) → Begins path o → Keeps o (unmade_binding x kept) w.bindings a bindings2
+      → OpensOnLink x l path w a (world_of w cores2 bindings2)
+  opens_on_link path o h keeps = λ p k cores is core_is along.
+      let it = subst (λ (q : List CoreId). Begins q o) along h in
+      let same = one_value it.before k (sym it.before_is ∙ core_is) in
+      subst (λ (c : TheCore). OpensBy (Ok l) (request x p) cores c w a (world_of w cores2 bindings2)) same (by_begun o cores it keeps p is)
+
+-- ---- the whole
+
+pub may_open_from : (w : TheWorld) (x : Wish) (path : List CoreId) (may : Result LinkId MonitorFault) (k : TheCore) → slice_get w.cores x.client.core ≡ Some k
+    → IsWhole k → (q : Program) → slice_get w.programs x.interface ≡ Some q
+    → MayOpen (wanted q q (core_id x.server.core) path (length w.cores)) k.monitor.circuits may → MayOpenFrom x path w may
+may_open_from w x path may k is whole q there h = record {
+  core = k;
+  core_is = is;
+  whole = whole;
+  may_open = λ p p_is. subst (λ (r : Program). MayOpen (wanted r r (core_id x.server.core) path (length w.cores)) k.monitor.circuits may)
+      (one_program q p (sym there ∙ p_is)) h;
+} where
+  one_program : (q p : Program) → Some q ≡ Some p → q ≡ p
+  one_program q p e = one_value q p e
+
+pub not_opened : (w : TheWorld) (x : Wish) (path : List CoreId) (f : MonitorFault) (a : Answer) → MayOpenFrom x path w (Err f) → a ≡ refused (fault_number f)
+    → OpensAlong x path w a w
+not_opened w x path f a h is = λ p cores there along. record {
+  core = h.core;
+  core_is = h.core_is;
+  whole = h.whole;
+  may = Err f;
+  may_open = subst (λ (q : List CoreId). MayOpen (wanted p p (core_id x.server.core) q (length w.cores)) h.core.monitor.circuits (Err f)) along (h.may_open p there);
+  opens = (is, refl);
+}
+
+pub opened : (w w2 : TheWorld) (x : Wish) (path : List CoreId) (l : LinkId) → MayOpenFrom x path w (Ok l)
+    → (r : Result RustAnswer AllocError) → IfOk r (λ a. OpensOnLink x l path w (answer_of a) w2) → IfOk r (λ a. OpensAlong x path w (answer_of a) w2)
+opened w w2 x path l h r opens = IfOk-weaker r (λ a. OpensOnLink x l path w (answer_of a) w2) (λ a. OpensAlong x path w (answer_of a) w2)
+    (λ a on. λ p cores there along. record {
+      core = h.core;
+      core_is = h.core_is;
+      whole = h.whole;
+      may = Ok l;
+      may_open = subst (λ (q : List CoreId). MayOpen (wanted p p (core_id x.server.core) q (length w.cores)) h.core.monitor.circuits (Ok l)) along (h.may_open p there);
+      opens = on p h.core cores there h.core_is along;
+    }) opens
+
+pub binds : (w w2 : TheWorld) (x : Wish) (path : List CoreId) (cores : List ℕ) → may_be_route cores w ≡ true → path ≡ map core_id cores
+    → (r : Result RustAnswer AllocError) → IfOk r (λ a. OpensAlong x path w (answer_of a) w2)
+    → IfOk r (λ a. OfWish x w (λ q. BindsByRoute q cores w (answer_of a) w2))
+binds w w2 x path cores may along r opens =
+    IfOk-weaker r (λ a. OpensAlong x path w (answer_of a) w2) (λ a. OfWish x w (λ q. BindsByRoute q cores w (answer_of a) w2))
+    (λ a on. λ p there. subst (λ (b : Bool). If (not b) (Refuses 73 w (answer_of a) w2) (OpensFrom (request x p) cores w (answer_of a) w2)) (sym may)
+    (on p cores there along)) opens
