@@ -184,10 +184,8 @@ may_open_from w x path may k is whole q there h = record {
   core_is = is;
   whole = whole;
   may_open = λ p p_is. subst (λ (r : Program). MayOpen (wanted r r (core_id x.server.core) path (length w.cores)) k.monitor.circuits may)
-      (one_program q p (sym there ∙ p_is)) h;
-} where
-  one_program : (q p : Program) → Some q ≡ Some p → q ≡ p
-  one_program q p e = one_value q p e
+      (one_value q p (sym there ∙ p_is)) h;
+}
 
 pub not_opened : (w : TheWorld) (x : Wish) (path : List CoreId) (f : MonitorFault) (a : Answer) → MayOpenFrom x path w (Err f) → a ≡ refused (fault_number f)
     → OpensAlong x path w a w
