@@ -39,7 +39,7 @@ use Rattle.fl_system.proofs.Lifts.{one_value, stands}
 
 -- ---- a route
 
-pub all_small : (cores : List ℕ) (count : ℕ) → count ≤ 16 → list_all (λ n. nat_lt n count) cores ≡ true → list_all (λ n. nat_lt n 256) cores ≡ true
+all_small : (cores : List ℕ) (count : ℕ) → count ≤ 16 → list_all (λ n. nat_lt n count) cores ≡ true → list_all (λ n. nat_lt n 256) cores ≡ true
 all_small [] count few h = refl
 all_small (c ∷ cs) count few h =
     let (first, others) = and_parts (nat_lt c count) (list_all (λ n. nat_lt n count) cs) h in
@@ -51,11 +51,16 @@ module _ (cores : List ℕ) (w : TheWorld) (may : may_be_route cores w ≡ true)
   all_but_last : (nat_le 2 (length cores) && nat_le (length cores) 16 && list_all (λ n. is_core n w) cores) ≡ true
   all_but_last = (and_parts _ (all_differ cores) may).0
 
-  pub are_cores : list_all (λ n. is_core n w) cores ≡ true
+  are_cores : list_all (λ n. is_core n w) cores ≡ true
   are_cores = (and_parts (nat_le 2 (length cores) && nat_le (length cores) 16) _ all_but_last).1
 
   pub few_cores : length cores ≤ 16
   few_cores = leb-true (length cores) 16 (and_parts (nat_le 2 (length cores)) _ (and_parts _ (list_all (λ n. is_core n w) cores) all_but_last).0).1
+
+pub small_route : (w base : TheWorld) → base ≡ w → (cores : List ℕ) → length base.cores ≤ 16 → may_be_route cores w ≡ true
+    → list_all (λ n. nat_lt n 256) cores ≡ true
+small_route w base same cores few may =
+    all_small cores (length w.cores) (subst (λ (v : TheWorld). length v.cores ≤ 16) same few) (are_cores cores w may)
 
 -- ---- the client's core
 
@@ -167,25 +172,44 @@ module _ (w : TheWorld) (x : Wish) (l : LinkId) (own kept : Program) (a : Answer
         follows = (keeps.0, record { program = kept; copy = kept_is p is; rest = ap₂ (world_of w) h.rest keeps.1 });
       })
 
-  pub opens_on_link : (path : List CoreId) (o : Begun) → Begins path o → Keeps o (unmade_binding x kept) w.bindings a bindings2
+  opens_on_link : (path : List CoreId) (o : Begun) → Begins path o → Keeps o (unmade_binding x kept) w.bindings a bindings2
       → OpensOnLink x l path w a (world_of w cores2 bindings2)
   opens_on_link path o h keeps = λ p k cores is core_is along.
       let it = subst (λ (q : List CoreId). Begins q o) along h in
       let same = one_value it.before k (sym it.before_is ∙ core_is) in
       subst (λ (c : TheCore). OpensBy (Ok l) (request x p) cores c w a (world_of w cores2 bindings2)) same (by_begun o cores it keeps p is)
 
+pub opened_on_link : (w base : TheWorld) → base ≡ w → (x : Wish) (l : LinkId) (path : List CoreId) (own kept : Program)
+    → IsCopyAt base.programs x.interface own → IsCopyAt base.programs x.interface kept → (bindings : List Binding) → bindings ≡ base.bindings
+    → (b : Binding) → b ≡ unmade_binding x kept → (n : ℕ) → n ≡ length base.bindings → (o : Begun) (cores2 : List TheCore)
+    → AtOne base.cores x.client.core (BeginsIn (asked x.client.place own l (opening_along x n path)) o) cores2
+    → (a : Answer) (bindings2 : List Binding) → Keeps o b bindings a bindings2 → OpensOnLink x l path w a (world_of base cores2 bindings2)
+opened_on_link w base same x l path own kept own_is kept_is bindings reserved b b_is n n_is o cores2 h a bindings2 keeps =
+    let begins = subst (λ (i : ℕ). AtOne base.cores x.client.core (BeginsIn (asked x.client.place own l (opening_along x i path)) o) cores2) n_is h in
+    let follows = subst (λ (c : Binding). Keeps o c base.bindings a bindings2) b_is
+        (subst (λ (bs : List Binding). Keeps o b bs a bindings2) reserved keeps) in
+    subst (λ (v : TheWorld). OpensOnLink x l path v a (world_of base cores2 bindings2)) same
+    (opens_on_link base x l own kept a cores2 bindings2 own_is kept_is path o begins follows)
+
 -- ---- the whole
 
-pub may_open_from : (w : TheWorld) (x : Wish) (path : List CoreId) (may : Result LinkId MonitorFault) (k : TheCore) → slice_get w.cores x.client.core ≡ Some k
-    → IsWhole k → (q : Program) → slice_get w.programs x.interface ≡ Some q
-    → MayOpen (wanted q q (core_id x.server.core) path (length w.cores)) k.monitor.circuits may → MayOpenFrom x path w may
-may_open_from w x path may k is whole q there h = record {
-  core = k;
-  core_is = is;
-  whole = whole;
-  may_open = λ p p_is. subst (λ (r : Program). MayOpen (wanted r r (core_id x.server.core) path (length w.cores)) k.monitor.circuits may)
-      (one_value q p (sym there ∙ p_is)) h;
-}
+pub may_open_from : (w base : TheWorld) → base ≡ w → (x : Wish) (path : List CoreId) (may : Result LinkId MonitorFault)
+    → HasDispatcher w.cores x.client.core x.client.place → (k : TheCore) → k ≡ slice_index_or base.cores x.client.core k → IsWhole k
+    → x.interface < length w.programs → (p : Program) → p ≡ slice_index_or base.programs x.interface p → (n : ℕ) → n ≡ length base.cores
+    → MayOpen (wanted p p (core_id x.server.core) path n) k.monitor.circuits may → MayOpenFrom x path w may
+may_open_from w base same x path may there k value whole within p p_value n count h =
+    let below = core_below base.cores x.client.core x.client.place
+        (subst (λ (v : TheWorld). HasDispatcher v.cores x.client.core x.client.place) (sym same) there) in
+    let p_below = subst (λ (v : TheWorld). x.interface < length v.programs) (sym same) within in
+    let p_is = stands base.programs x.interface p p p_below p_value refl in
+    subst (λ (v : TheWorld). MayOpenFrom x path v may) same (record {
+      core = k;
+      core_is = stands base.cores x.client.core k k below value refl;
+      whole = whole;
+      may_open = λ q q_is. subst (λ (r : Program). MayOpen (wanted r r (core_id x.server.core) path (length base.cores)) k.monitor.circuits may)
+          (one_value p q (sym p_is ∙ q_is))
+          (subst (λ (i : ℕ). MayOpen (wanted p p (core_id x.server.core) path i) k.monitor.circuits may) count h);
+    })
 
 pub not_opened : (w : TheWorld) (x : Wish) (path : List CoreId) (f : MonitorFault) (a : Answer) → MayOpenFrom x path w (Err f) → a ≡ refused (fault_number f)
     → OpensAlong x path w a w

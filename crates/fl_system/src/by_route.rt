@@ -8,17 +8,17 @@ ghost use Rattle.fl_core.specs.declared.fault.BoardFault.{BoardFault};
 ghost use Rattle.fl_lines.specs.Events.{id_of, answer_of};
 ghost use Rattle.fl_lists.specs.ThreeLists.{is_in};
 ghost use Rattle.fl_monitor.specs.declared.fault.MonitorFault.{MonitorFault};
-ghost use Rattle.fl_monitor.specs.Faults.{fault_number};
+ghost use Rattle.fl_monitor.specs.Monitors.{MayOpen, wanted};
 ghost use Rattle.fl_node.specs.declared.fault.OpenFault.{OpenFault};
 ghost use Rattle.fl_node.specs.Making.{asked};
 ghost use Rattle.fl_node.specs.View.{client_of, place_of};
 ghost use Rattle.fl_queues.specs.Binding.{all_differ};
 ghost use Rattle.fl_worlds.specs.Binding.{BindsByRoute, may_be_route};
 ghost use Rattle.fl_worlds.specs.Making.{core_id};
-ghost use Rattle.fl_worlds.specs.View.{has_dispatcher};
+ghost use Rattle.fl_worlds.specs.View.{has_dispatcher, IsWhole};
 ghost use Rattle.fl_system.specs.Parts.{InCore};
 ghost use Rattle.fl_system.specs.Wishes.{OfWish};
-ghost use Rattle.fl_system.specs.Routes.{has_end, IsNumberOf, BeginsIn, AtOne, HasDispatcher, IsCopyAt, Keeps, opening_along, unmade_binding};
+ghost use Rattle.fl_system.specs.Routes.{has_end, IsNumberOf, BeginsIn, AtOne, HasDispatcher, IsCopyAt, Keeps, unmade_binding};
 ghost use Rattle.fl_system.specs.Routes.{MayOpenFrom, OpensOnLink, OpensAlong};
 
 use crate::binding::Wish;
@@ -101,6 +101,22 @@ fn path_over(alloc: Global, cores: &[u32]) -> Result<Path, AllocError>
 }
 
 // ---- at a core
+
+// On which link a circuit may be opened along a route, of so many cores in all, to a service of the client's own program.
+fn may_open_in(
+    core: &Core,
+    program: &Program,
+    server: CoreId,
+    path: &Path,
+    count: usize,
+) -> Result<LinkId, MonitorFault>
+    ensures whole { IsWhole core.now }
+    ensures may { MayOpen (wanted program.now program.now server path.now count) core.now.monitor.circuits result }
+{
+    whole(core);
+    core.monitor()
+        .may_open(program, program, server, path.cores(), count)
+}
 
 // The number of a fault that isn't for want of memory.
 fn number_of(fault: OpenFault) -> Result<u8, AllocError>
@@ -262,14 +278,7 @@ impl World {
         let core = &self.cores[want.client.core as usize];
         let program = &self.programs[want.interface];
         let server = CoreId(want.server.core as u8);
-        whole(core);
-        core.monitor().may_open(
-            program,
-            program,
-            server,
-            path.cores(),
-            self.cores.as_slice().len(),
-        )
+        may_open_in(core, program, server, path, self.cores.as_slice().len())
     }
 
     // A circuit is begun on this link. The server's end is kept until it is made.
