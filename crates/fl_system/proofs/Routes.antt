@@ -137,7 +137,7 @@ its_number x p (fault.Monitor monitor.Memory) n w k a w2 is h = is
 
 module _ (w : TheWorld) (x : Wish) (l : LinkId) (own kept : Program) (a : Answer) (cores2 : List TheCore) (bindings2 : List Binding)
     (own_is : IsCopyAt w.programs x.interface own) (kept_is : IsCopyAt w.programs x.interface kept) where
-  Begins : List CoreId → Begun → Type 0
+  abbrev Begins : List CoreId → Begun → Type 0
   Begins path o = AtOne w.cores x.client.core (BeginsIn (asked x.client.place own l (opening_along x (length w.bindings) path)) o) cores2
 
   -- at the core as it was before
@@ -180,16 +180,21 @@ module _ (w : TheWorld) (x : Wish) (l : LinkId) (own kept : Program) (a : Answer
       subst (λ (c : TheCore). OpensBy (Ok l) (request x p) cores c w a (world_of w cores2 bindings2)) same (by_begun o cores it keeps p is)
 
 pub opened_on_link : (w base : TheWorld) → base ≡ w → (x : Wish) (l : LinkId) (path : List CoreId) (own kept : Program)
-    → IsCopyAt base.programs x.interface own → IsCopyAt base.programs x.interface kept → (bindings : List Binding) → bindings ≡ base.bindings
-    → (b : Binding) → b ≡ unmade_binding x kept → (n : ℕ) → n ≡ length base.bindings → (o : Begun) (cores2 : List TheCore)
-    → AtOne base.cores x.client.core (BeginsIn (asked x.client.place own l (opening_along x n path)) o) cores2
+    → (ps : List Program) → ps ≡ base.programs → IsCopyAt ps x.interface own → (qs : List Program) → qs ≡ base.programs → IsCopyAt qs x.interface kept
+    → (bindings : List Binding) → bindings ≡ base.bindings → (b : Binding) → b ≡ unmade_binding x kept → (n : ℕ) → n ≡ length base.bindings
+    → (o : Begun) (cores cores2 : List TheCore) → cores ≡ base.cores
+    → AtOne cores x.client.core (BeginsIn (asked x.client.place own l (opening_along x n path)) o) cores2
     → (a : Answer) (bindings2 : List Binding) → Keeps o b bindings a bindings2 → OpensOnLink x l path w a (world_of base cores2 bindings2)
-opened_on_link w base same x l path own kept own_is kept_is bindings reserved b b_is n n_is o cores2 h a bindings2 keeps =
-    let begins = subst (λ (i : ℕ). AtOne base.cores x.client.core (BeginsIn (asked x.client.place own l (opening_along x i path)) o) cores2) n_is h in
+opened_on_link w base same x l path own kept ps ps_are own_is qs qs_are kept_is bindings reserved b b_is n n_is o cores cores2 cores_are h a bindings2 keeps =
+    let opening = subst (λ (i : ℕ). AtOne cores x.client.core (BeginsIn (asked x.client.place own l (opening_along x i path)) o) cores2) n_is h in
+    let begins = subst (λ (ks : List TheCore). AtOne ks x.client.core (BeginsIn (asked x.client.place own l (opening_along x (length base.bindings) path)) o) cores2)
+        cores_are opening in
     let follows = subst (λ (c : Binding). Keeps o c base.bindings a bindings2) b_is
         (subst (λ (bs : List Binding). Keeps o b bs a bindings2) reserved keeps) in
+    let own_copy = subst (λ (rs : List Program). IsCopyAt rs x.interface own) ps_are own_is in
+    let kept_copy = subst (λ (rs : List Program). IsCopyAt rs x.interface kept) qs_are kept_is in
     subst (λ (v : TheWorld). OpensOnLink x l path v a (world_of base cores2 bindings2)) same
-    (opens_on_link base x l own kept a cores2 bindings2 own_is kept_is path o begins follows)
+    (opens_on_link base x l own kept a cores2 bindings2 own_copy kept_copy path o begins follows)
 
 -- ---- the whole
 
