@@ -1,5 +1,5 @@
 -- A binding by a route: from the parts of a world to the world.
-use Rattle.std.proofs.Common.{◌≡◌, ◌⊎◌, ◌∙◌, refl, sym, ap, ap₂, subst, ℕ, ◌<◌, ◌≤◌, Bool, true, false, not, nat_lt, nat_le, List, [], ◌∷◌, ◌++◌, length, map, slice_get, slice_set, slice_index_or, Option, Some, None, Result, Ok, Err, IfOk, inl, inr, arith}
+use Rattle.std.proofs.Common.{◌≡◌, ◌⊎◌, ◌∙◌, refl, sym, ap, ap₂, subst, ℕ, ◌<◌, ◌≤◌, Bool, true, false, not, nat_lt, nat_le, List, [], ◌∷◌, ◌++◌, length, length-set, map, slice_get, slice_set, slice_index_or, Option, Some, None, Result, Ok, Err, IfOk, inl, inr, arith}
 use Rattle.std.specs.Prelude.{◌&&◌, ◌||◌, IsSome, is_some}
 use Rattle.std.specs.List.{list_all}
 use Rattle.std.specs.declared.alloc.AllocError.{AllocError}
@@ -99,6 +99,10 @@ at_one cores n below read value Event k2 (Ok o) h =
     record { before = read; before_is = stands cores n read read below value refl; after = k2; event = h; rest = refl }
 at_one cores n below read value Event k2 (Err e) h = tt
 
+-- none has come or gone
+pub as_many : (cores cores2 : List TheCore) (n : ℕ) (Event : TheCore → TheCore → Type 0) → AtOne cores n Event cores2 → length cores2 ≡ length cores
+as_many cores cores2 n Event h = ap length h.rest ∙ length-set cores n h.after
+
 -- ---- a circuit is begun
 
 set_same : (cores : List TheCore) (n : ℕ) (k : TheCore) → slice_get cores n ≡ Some k → slice_set cores n k ≡ cores
@@ -146,7 +150,7 @@ module _ (w : TheWorld) (x : Wish) (l : LinkId) (own kept : Program) (a : Answer
   by_begun begun.There cores h keeps p is =
       let (there, same) = h.event.event in
       let ends = either_end (place_of h.before (client_of (length w.bindings))) (place_of h.before (server_of (length w.bindings))) there in
-      inr ((h.before, h.before_is, ends), keeps.0, as_it_was w x.client.core h.before h.after cores2 bindings2 h.before_is same h.rest keeps.1)
+      inr ((h.before, h.before_is, ends), (keeps.0, as_it_was w x.client.core h.before h.after cores2 bindings2 h.before_is same h.rest keeps.1))
   by_begun (begun.Refused n) cores h keeps p is =
       let (f, asks, number) = h.event.event in
       let same = still_same x own l (length w.bindings) (map core_id cores) f h.before h.after asks in
@@ -184,8 +188,9 @@ pub opened_on_link : (w base : TheWorld) → base ≡ w → (x : Wish) (l : Link
     → (bindings : List Binding) → bindings ≡ base.bindings → (b : Binding) → b ≡ unmade_binding x kept → (n : ℕ) → n ≡ length base.bindings
     → (o : Begun) (cores cores2 : List TheCore) → cores ≡ base.cores
     → AtOne cores x.client.core (BeginsIn (asked x.client.place own l (opening_along x n path)) o) cores2
-    → (a : Answer) (bindings2 : List Binding) → Keeps o b bindings a bindings2 → OpensOnLink x l path w a (world_of base cores2 bindings2)
-opened_on_link w base same x l path own kept ps ps_are own_is qs qs_are kept_is bindings reserved b b_is n n_is o cores cores2 cores_are h a bindings2 keeps =
+    → (a : Answer) (bindings2 : List Binding) → Keeps o b bindings a bindings2 → (cores3 : List TheCore) → cores3 ≡ cores2
+    → OpensOnLink x l path w a (world_of base cores3 bindings2)
+opened_on_link w base same x l path own kept ps ps_are own_is qs qs_are kept_is bindings reserved b b_is n n_is o cores cores2 cores_are h a bindings2 keeps cores3 written =
     let opening = subst (λ (i : ℕ). AtOne cores x.client.core (BeginsIn (asked x.client.place own l (opening_along x i path)) o) cores2) n_is h in
     let begins = subst (λ (ks : List TheCore). AtOne ks x.client.core (BeginsIn (asked x.client.place own l (opening_along x (length base.bindings) path)) o) cores2)
         cores_are opening in
@@ -193,8 +198,9 @@ opened_on_link w base same x l path own kept ps ps_are own_is qs qs_are kept_is 
         (subst (λ (bs : List Binding). Keeps o b bs a bindings2) reserved keeps) in
     let own_copy = subst (λ (rs : List Program). IsCopyAt rs x.interface own) ps_are own_is in
     let kept_copy = subst (λ (rs : List Program). IsCopyAt rs x.interface kept) qs_are kept_is in
-    subst (λ (v : TheWorld). OpensOnLink x l path v a (world_of base cores2 bindings2)) same
-    (opens_on_link base x l own kept a cores2 bindings2 own_copy kept_copy path o begins follows)
+    subst (λ (v : TheWorld). OpensOnLink x l path v a (world_of base cores3 bindings2)) same
+    (subst (λ (ks : List TheCore). OpensOnLink x l path base a (world_of base ks bindings2)) (sym written)
+    (opens_on_link base x l own kept a cores2 bindings2 own_copy kept_copy path o begins follows))
 
 -- ---- the whole
 
