@@ -5,4 +5,6 @@ pub mod Made
 pub mod Makes
 pub mod Following
 pub mod Splitting
+pub mod Wished
+pub mod Queued
 pub mod Routes

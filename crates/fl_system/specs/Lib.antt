@@ -4,4 +4,5 @@ pub mod Parts
 pub mod Passing
 pub mod Following
 pub mod Wishes
+pub mod Queued
 pub mod Routes

@@ -1,9 +1,18 @@
--- What is asked for when a binding is made, in the code's own words for it.
-use Rattle.std.specs.Prelude.{ℕ, ◌≡◌, slice_get, Some}
+-- What is asked for when a binding is made, in the code's own words for it; and what is looked at before one is.
+use Rattle.std.specs.Prelude.{ℕ, ◌≡◌, ◌<◌, ◌+◌, ◌&&◌, ◌||◌, nat_le, Bool, true, false, if◌then◌else◌, List, length}
+use Rattle.std.specs.Prelude.{slice_get, Option, Some, None, is_some, Result, Ok, Err}
 use Rattle.fl_compile.specs.declared.program.Program.{Program}
+use Rattle.fl_compile.specs.Programs.{program_of}
+use Rattle.fl_endpoint.specs.View.{TheEnd, fresh}
+use Rattle.fl_core.specs.View.{TheBoard}
+use Rattle.fl_node.specs.View.{TheCore, place_of, client_of, server_of}
+use Rattle.fl_queues.specs.Given.{given}
+use Rattle.fl_queues.specs.Events.{DispatcherId, Kind, Answer}
+use Rattle.fl_queues.specs.Binding.{same_dispatcher}
 use Rattle.fl_lines.specs.Events.{id_of}
-use Rattle.fl_worlds.specs.Binding.{Request}
 use Rattle.fl_worlds.specs.View.{TheWorld}
+use Rattle.fl_worlds.specs.Lending.{Refuses}
+use Rattle.fl_worlds.specs.Binding.{Request, has_places, BindsBy, Binds}
 use Rattle.fl_system.specs.declared.binding.Wish.{Wish}
 
 -- what is asked for, with the program of its interface
@@ -13,3 +22,56 @@ request x p = record { client = id_of x.client; interface = x.interface; program
 -- so it is of what is asked for, with the program that stands there
 abbrev pub OfWish : Wish → TheWorld → (Request → Type 0) → Type 0
 OfWish x w Event = (p : Program) → slice_get w.programs x.interface ≡ Some p → Event (request x p)
+
+-- what these names ask for, of which the event is made; or the number by which it is refused, whatever joins the ends
+abbrev pub IsWish : DispatcherId → ℕ → List ℕ → TheWorld → Result Wish ℕ → Type 0
+IsWish client i name w (Ok x) =
+    (kind : Kind) (a : Answer) (w2 : TheWorld) → OfWish x w (λ r. BindsBy r kind w a w2) → Binds client i name kind w a w2
+IsWish client i name w (Err fault) = (kind : Kind) (a : Answer) (w2 : TheWorld) → Refuses fault w a w2 → Binds client i name kind w a w2
+
+-- ---- ends that are there
+
+-- an end of binding n is at the core
+abbrev pub has_end_in : ℕ → TheCore → Bool
+has_end_in n k = is_some (place_of k (client_of n)) || is_some (place_of k (server_of n))
+
+abbrev pub has_end_of : ℕ → ℕ → TheWorld → Bool
+has_end_of n core w = given (slice_get w.cores core) false (has_end_in n)
+
+-- neither of its ends is
+pub record IsNewIn (n : ℕ) (k : TheCore) : Type 0 where
+  pub client : place_of k (client_of n) ≡ None
+  pub server : place_of k (server_of n) ≡ None
+
+abbrev pub IsNewAt : ℕ → ℕ → TheWorld → Type 0
+IsNewAt n core w = (k : TheCore) → slice_get w.cores core ≡ Some k → IsNewIn n k
+
+-- ---- places at dispatchers
+
+-- there is such a dispatcher
+pub record HasDispatcher (cores : List TheCore) (d : DispatcherId) : Type 0 where
+  pub core : TheCore
+  pub core_is : slice_get cores d.core ≡ Some core
+  pub there : d.place < length core.board.dispatchers
+
+-- a dispatcher of a board has places for so many ends more
+abbrev pub places_in : TheBoard → ℕ → ℕ → Bool
+places_in b place n = given (slice_get b.dispatchers place) false λ x. nat_le (length x.ends + n) 1024
+
+-- there are places for both ends of a binding
+abbrev pub both_places : DispatcherId → DispatcherId → TheWorld → Bool
+both_places client server w =
+    if same_dispatcher client server then has_places client 2 w
+    else has_places client 1 w && has_places server 1 w
+
+-- ---- ends that are made
+
+-- a copy of the program that stands at a place
+abbrev pub IsCopyOf : ℕ → TheWorld → Program → Type 0
+IsCopyOf i w copy = (p : Program) → slice_get w.programs i ≡ Some p → program_of copy ≡ program_of p
+
+-- a new end with such a copy, bound to circuit 0
+pub record IsNewEnd (i : ℕ) (w : TheWorld) (s : TheEnd) : Type 0 where
+  pub program : Program
+  pub copy : IsCopyOf i w program
+  pub end : s ≡ fresh program (Some 0)

@@ -1,14 +1,21 @@
-//! Bindings are made.
+//! Bindings are made: what is asked for, and what each of the three ways to join two ends looks at first.
 
-ghost use Rattle.std.specs.Prelude.{◌≡◌, IfOk, OnErr};
+ghost use Rattle.std.specs.Prelude.{◌≡◌, ◌<◌, length, true, false, IfOk, OnOk, OnErr};
 ghost use Rattle.fl_lines.specs.Asked.{kind_of};
 ghost use Rattle.fl_lines.specs.Events.{id_of, answer_of};
 ghost use Rattle.fl_lines.specs.Views.{back_end_of};
-ghost use Rattle.fl_worlds.specs.Binding.{Binds};
+ghost use Rattle.fl_worlds.specs.View.{has_dispatcher};
+ghost use Rattle.fl_worlds.specs.Binding.{has_places, HasEndOf, BindsBy, Binds};
+ghost use Rattle.fl_system.specs.Wishes.{OfWish, IsWish, has_end_in, has_end_of, IsNewAt, HasDispatcher, places_in, both_places};
+ghost use Rattle.fl_system.specs.Wishes.{IsCopyOf, IsNewEnd};
 
 use crate::world::World;
-use fl_base::IRef;
+use fl_base::{Circuit, EndId, IRef, MAX_BINDINGS, MAX_CHANNELS, Side};
+use fl_compile::Program;
+use fl_core::Board;
+use fl_endpoint::End;
 use fl_lines::{Answer, BackEnd, DispatcherId};
+use fl_node::Core;
 use std::alloc::AllocError;
 
 /// What is asked for, once its names are known.
@@ -20,8 +27,164 @@ pub(crate) struct Wish {
     pub(crate) iref: IRef,
 }
 
+// ---- what is looked at first
+
+// Whether an end of a binding is at a core.
+pub(crate) fn has_end(core: &Core, binding: usize) -> bool
+    ensures has { result ≡ has_end_in binding core.now }
+{
+    let client = EndId {
+        binding,
+        side: Side::Client,
+    };
+    let server = EndId {
+        binding,
+        side: Side::Server,
+    };
+    core.place(client).is_some() || core.place(server).is_some()
+}
+
+// Whether a dispatcher of a board has places for so many ends more.
+fn has_places(board: &Board, place: usize, count: usize) -> bool
+    requires few { count < 3 }
+    ensures places { result ≡ places_in board.now place count }
+{
+    if place >= board.dispatchers() {
+        return false;
+    }
+    board.sound();
+    board.ends_at(place) + count <= MAX_CHANNELS
+}
+
 impl World {
-    /// A binding of a client to a service, by queues within a core, by a ring between two, or by a circuit along a route.
+    // Whether an end of this binding is at a core.
+    fn finds_end_of(&self, binding: usize, core: usize) -> bool
+        ensures has { result ≡ has_end_of binding core self.now }
+    {
+        match self.cores.get(core) {
+            None => false,
+            Some(core) => has_end(core, binding),
+        }
+    }
+
+    /// Whether an end of this binding is at a core already, as in no world that comes of events.
+    pub(crate) fn has_end_of(&self, binding: usize, core: usize) -> bool
+        ensures has { result ≡ has_end_of binding core self.now }
+        ensures there { result ≡ true → HasEndOf binding core self.now }
+        ensures new { result ≡ false → IsNewAt binding core self.now }
+    {
+        self.finds_end_of(binding, core)
+    }
+
+    // Whether a dispatcher has places for so many ends more.
+    fn has_places(&self, d: DispatcherId, count: usize) -> bool
+        requires few { count < 3 }
+        ensures places { result ≡ has_places (id_of d) count self.now }
+    {
+        match self.cores.get(d.core as usize) {
+            None => false,
+            Some(core) => has_places(core.board(), d.place, count),
+        }
+    }
+
+    // Whether two dispatchers have places for an end each; where they are one, for two.
+    fn finds_both_places(&self, client: DispatcherId, server: DispatcherId) -> bool
+        ensures places { result ≡ both_places (id_of client) (id_of server) self.now }
+    {
+        if client.core == server.core && client.place == server.place {
+            self.has_places(client, 2)
+        } else {
+            self.has_places(client, 1) && self.has_places(server, 1)
+        }
+    }
+
+    /// Whether there are places for both ends of a binding at these dispatchers, which are there then.
+    pub(crate) fn has_both_places(&self, client: DispatcherId, server: DispatcherId) -> bool
+        ensures places { result ≡ both_places (id_of client) (id_of server) self.now }
+        ensures client { result ≡ true → HasDispatcher self.now.cores (id_of client) }
+        ensures server { result ≡ true → HasDispatcher self.now.cores (id_of server) }
+    {
+        self.finds_both_places(client, server)
+    }
+
+    /// A copy of the program of an interface.
+    ///
+    /// # Errors
+    /// Want of memory.
+    pub(crate) fn copy_of(&self, interface: usize) -> Result<Program, AllocError>
+        requires { interface < length self.now.programs }
+        ensures copy { IfOk result (λ copy. IsCopyOf interface self.now copy) }
+    {
+        self.programs[interface].duplicate(self.alloc)
+    }
+
+    /// An end of an interface, that nothing happened to; it is bound.
+    ///
+    /// # Errors
+    /// Want of memory.
+    pub(crate) fn new_end(&self, interface: usize) -> Result<End, AllocError>
+        requires { interface < length self.now.programs }
+        ensures end { IfOk result (λ s. IsNewEnd interface self.now s) }
+    {
+        let program = self.copy_of(interface)?;
+        End::new(self.alloc, program, Circuit(0))
+    }
+
+    // ---- the event
+
+    // What is asked for by these names, or the number by which it is refused.
+    fn wish(&self, client: DispatcherId, interface: usize, service: &[u8]) -> Result<Wish, u8>
+        ensures wish { IsWish (id_of client) interface service.now self.now result }
+        ensures few { OnOk result (length self.now.bindings < 1024) }
+        ensures client { IfOk result (λ x. has_dispatcher self.now (id_of x.client) ≡ true) }
+        ensures program { IfOk result (λ x. x.interface < length self.now.programs) }
+    {
+        if !self.has_dispatcher(client) || self.programs.as_slice().len() <= interface {
+            return Err(92);
+        }
+        if self.bindings.as_slice().len() >= MAX_BINDINGS {
+            return Err(94);
+        }
+        let Ok(found) = self.names.lookup(service) else {
+            return Err(70);
+        };
+        let offered = found.service;
+        if offered.interface != interface {
+            return Err(72);
+        }
+        let server = DispatcherId {
+            core: u32::from(offered.core.0),
+            place: offered.dispatcher,
+        };
+        Ok(Wish {
+            client,
+            interface,
+            server,
+            iref: found.iref,
+        })
+    }
+
+    // The ends are joined as it is asked for.
+    fn bind_by(&mut self, want: Wish, back_end: BackEnd<'_>) -> Result<Answer, AllocError>
+        requires few { length self.old.bindings < 1024 }
+        requires client { has_dispatcher self.old (id_of want.client) ≡ true }
+        requires program { want.interface < length self.old.programs }
+        ensures binds { IfOk result (λ a. OfWish want self.old (λ r. BindsBy r (kind_of (back_end_of back_end.entry)) self.old (answer_of a) self.new)) }
+        ensures kept { OnErr result (self.new ≡ self.old) }
+    {
+        match back_end {
+            BackEnd::Local(slots) => self.bind_by_queues(want, slots),
+            BackEnd::Ump(slots) => self.bind_by_ring(want, slots),
+            BackEnd::Hop(route) => {
+                let cores = route.cores(self.alloc)?;
+                self.bind_by_route(want, cores.as_slice())
+            }
+        }
+    }
+
+    /// A binding of a client to a service, by queues within a core, by a ring between two, or by a circuit along a route. The names are looked
+    /// up first: there is no such dispatcher or interface (E92); there are 1,024 bindings (E94); there is no such service (E70), or it is of
+    /// another interface (E72).
     ///
     /// # Errors
     /// Want of memory.
@@ -35,6 +198,9 @@ impl World {
         ensures binds { IfOk result (λ a. Binds (id_of client) interface service.now (kind_of (back_end_of back_end.entry)) self.old (answer_of a) self.new) }
         ensures kept { OnErr result (self.new ≡ self.old) }
     {
-        Err(AllocError)
+        match self.wish(client, interface, service) {
+            Err(fault) => Ok(Answer::Refused(fault)),
+            Ok(want) => self.bind_by(want, back_end),
+        }
     }
 }
