@@ -3,7 +3,7 @@ use Rattle.std.proofs.Common.{◌≡◌, ◌⊎◌, ◌∙◌, refl, sym, ap, ap
 use Rattle.std.specs.Prelude.{◌&&◌, ◌||◌, IsSome, is_some}
 use Rattle.std.specs.List.{list_all}
 use Rattle.std.specs.declared.alloc.AllocError.{AllocError}
-use Rattle.std.proofs.lemmas.Bool.{and_parts, ltb-true, lt-ltb, leb-true}
+use Rattle.std.proofs.lemmas.Bool.{and_parts, or_cases, ltb-true, lt-ltb, leb-true}
 use Rattle.std.proofs.lemmas.List.{set-get_or}
 use Rattle.std.proofs.lemmas.Option.{slice_get_within, get_or_from_slice_get}
 use Rattle.std.proofs.lemmas.Result.{IfOk-weaker}
@@ -12,7 +12,7 @@ use Rattle.fl_base.specs.declared.identity.LinkId.{LinkId}
 use Rattle.fl_compile.specs.declared.program.Program.{Program}
 use Rattle.fl_core.specs.declared.fault.BoardFault.TheVariants as board
 use Rattle.fl_lines.specs.declared.answer.Answer.{Answer as RustAnswer}
-use Rattle.fl_lines.specs.Events.{answer_of}
+use Rattle.fl_lines.specs.Events.{id_of}
 use Rattle.fl_monitor.specs.declared.fault.MonitorFault.{MonitorFault}
 use Rattle.fl_monitor.specs.declared.fault.MonitorFault.TheVariants as monitor
 use Rattle.fl_monitor.specs.Faults.{fault_number}
@@ -33,8 +33,8 @@ use Rattle.fl_system.specs.declared.binding.Wish.{Wish}
 use Rattle.fl_system.specs.declared.by_route.Begun.{Begun}
 use Rattle.fl_system.specs.declared.by_route.Begun.TheVariants as begun
 use Rattle.fl_system.specs.Parts.{InCore}
-use Rattle.fl_system.specs.Wishes.{request, OfWish}
-use Rattle.fl_system.specs.Routes.{IsNumberOf, BeginsIn, AtOne, HasDispatcher, IsCopyAt, Keeps, opening_along, unmade_binding, MayOpenFrom, OpensOnLink, OpensAlong}
+use Rattle.fl_system.specs.Wishes.{request, HasDispatcher, IsCopyOf}
+use Rattle.fl_system.specs.Routes.{IsNumberOf, BeginsIn, AtOne, Keeps, opening_along, unmade_binding, MayOpenFrom, OpensOnLink}
 use Rattle.fl_system.proofs.Lifts.{one_value, stands}
 
 -- ---- a route
@@ -54,9 +54,6 @@ module _ (cores : List ℕ) (w : TheWorld) (may : may_be_route cores w ≡ true)
   are_cores : list_all (λ n. is_core n w) cores ≡ true
   are_cores = (and_parts (nat_le 2 (length cores) && nat_le (length cores) 16) _ all_but_last).1
 
-  pub few_cores : length cores ≤ 16
-  few_cores = leb-true (length cores) 16 (and_parts (nat_le 2 (length cores)) _ (and_parts _ (list_all (λ n. is_core n w) cores) all_but_last).0).1
-
 pub small_route : (w base : TheWorld) → base ≡ w → (cores : List ℕ) → length base.cores ≤ 16 → may_be_route cores w ≡ true
     → list_all (λ n. nat_lt n 256) cores ≡ true
 small_route w base same cores few may =
@@ -64,32 +61,8 @@ small_route w base same cores few may =
 
 -- ---- the client's core
 
-pub its_dispatcher : (w : TheWorld) (d : DispatcherId) → has_dispatcher w d ≡ true → HasDispatcher w.cores d.core d.place
-its_dispatcher w d h = cases (slice_get w.cores d.core) refl where
-  test : Option TheCore → Bool
-  test o = given o false λ k. nat_lt d.place (length k.board.dispatchers)
-  cases : (o : Option TheCore) → slice_get w.cores d.core ≡ o → HasDispatcher w.cores d.core d.place
-  cases None is = let wrong : false ≡ true = sym (ap test is) ∙ h in absurd (cc)
-  cases (Some k) is = record { core = k; core_is = is; within = ltb-true d.place (length k.board.dispatchers) (sym (ap test is) ∙ h) }
-
-pub core_below : (cores : List TheCore) (n d : ℕ) → HasDispatcher cores n d → n < length cores
-core_below cores n d h = slice_get_within cores n h.core h.core_is
-
-pub dispatcher_below : (cores : List TheCore) (n d : ℕ) → HasDispatcher cores n d → (read : TheCore) → read ≡ slice_index_or cores n read
-    → d < length read.board.dispatchers
-dispatcher_below cores n d h read value =
-    let same = one_value h.core read (sym h.core_is ∙ stands cores n read read (core_below cores n d h) value refl) in
-    subst (λ (k : TheCore). d < length k.board.dispatchers) same h.within
-
--- there is no end of the binding, so its client's isn't there
-pub no_client : (o p : Option ℕ) → (is_some o || is_some p) ≡ false → o ≡ None
-no_client None p h = refl
-no_client (Some n) p h = absurd (cc)
-
-either_end : (o p : Option ℕ) → (is_some o || is_some p) ≡ true → IsSome o ⊎ IsSome p
-either_end (Some n) p h = inl refl
-either_end None (Some m) h = inr refl
-either_end None None h = absurd (cc)
+pub core_below : (cores : List TheCore) (d : DispatcherId) → HasDispatcher cores d → d.core < length cores
+core_below cores d h = slice_get_within cores d.core h.core h.core_is
 
 -- among all cores
 pub at_one : (cores : List TheCore) (n : ℕ) → n < length cores → (read : TheCore) → read ≡ slice_index_or cores n read
@@ -140,7 +113,7 @@ its_number x p (fault.Monitor monitor.PlansDiffer) n w k a w2 is h = subst (λ m
 its_number x p (fault.Monitor monitor.Memory) n w k a w2 is h = is
 
 module _ (w : TheWorld) (x : Wish) (l : LinkId) (own kept : Program) (a : Answer) (cores2 : List TheCore) (bindings2 : List Binding)
-    (own_is : IsCopyAt w.programs x.interface own) (kept_is : IsCopyAt w.programs x.interface kept) where
+    (own_is : IsCopyOf x.interface w own) (kept_is : IsCopyOf x.interface w kept) where
   abbrev Begins : List CoreId → Begun → Type 0
   Begins path o = AtOne w.cores x.client.core (BeginsIn (asked x.client.place own l (opening_along x (length w.bindings) path)) o) cores2
 
@@ -149,7 +122,7 @@ module _ (w : TheWorld) (x : Wish) (l : LinkId) (own kept : Program) (a : Answer
       → (p : Program) → slice_get w.programs x.interface ≡ Some p → OpensBy (Ok l) (request x p) cores h.before w a (world_of w cores2 bindings2)
   by_begun begun.There cores h keeps p is =
       let (there, same) = h.event.event in
-      let ends = either_end (place_of h.before (client_of (length w.bindings))) (place_of h.before (server_of (length w.bindings))) there in
+      let ends = or_cases (is_some (place_of h.before (client_of (length w.bindings)))) (is_some (place_of h.before (server_of (length w.bindings)))) there in
       inr ((h.before, h.before_is, ends), (keeps.0, as_it_was w x.client.core h.before h.after cores2 bindings2 h.before_is same h.rest keeps.1))
   by_begun (begun.Refused n) cores h keeps p is =
       let (f, asks, number) = h.event.event in
@@ -184,33 +157,32 @@ module _ (w : TheWorld) (x : Wish) (l : LinkId) (own kept : Program) (a : Answer
       subst (λ (c : TheCore). OpensBy (Ok l) (request x p) cores c w a (world_of w cores2 bindings2)) same (by_begun o cores it keeps p is)
 
 pub opened_on_link : (w base : TheWorld) → base ≡ w → (x : Wish) (l : LinkId) (path : List CoreId) (own kept : Program)
-    → (ps : List Program) → ps ≡ base.programs → IsCopyAt ps x.interface own → (qs : List Program) → qs ≡ base.programs → IsCopyAt qs x.interface kept
+    → IsCopyOf x.interface w own → IsCopyOf x.interface w kept
     → (bindings : List Binding) → bindings ≡ base.bindings → (b : Binding) → b ≡ unmade_binding x kept → (n : ℕ) → n ≡ length base.bindings
     → (o : Begun) (cores cores2 : List TheCore) → cores ≡ base.cores
     → AtOne cores x.client.core (BeginsIn (asked x.client.place own l (opening_along x n path)) o) cores2
     → (a : Answer) (bindings2 : List Binding) → Keeps o b bindings a bindings2 → (cores3 : List TheCore) → cores3 ≡ cores2
     → OpensOnLink x l path w a (world_of base cores3 bindings2)
-opened_on_link w base same x l path own kept ps ps_are own_is qs qs_are kept_is bindings reserved b b_is n n_is o cores cores2 cores_are h a bindings2 keeps cores3 written =
+opened_on_link w base same x l path own kept own_is kept_is bindings reserved b b_is n n_is o cores cores2 cores_are h a bindings2 keeps cores3 written =
     let opening = subst (λ (i : ℕ). AtOne cores x.client.core (BeginsIn (asked x.client.place own l (opening_along x i path)) o) cores2) n_is h in
     let begins = subst (λ (ks : List TheCore). AtOne ks x.client.core (BeginsIn (asked x.client.place own l (opening_along x (length base.bindings) path)) o) cores2)
         cores_are opening in
     let follows = subst (λ (c : Binding). Keeps o c base.bindings a bindings2) b_is
         (subst (λ (bs : List Binding). Keeps o b bs a bindings2) reserved keeps) in
-    let own_copy = subst (λ (rs : List Program). IsCopyAt rs x.interface own) ps_are own_is in
-    let kept_copy = subst (λ (rs : List Program). IsCopyAt rs x.interface kept) qs_are kept_is in
+    let own_copy = subst (λ (v : TheWorld). IsCopyOf x.interface v own) (sym same) own_is in
+    let kept_copy = subst (λ (v : TheWorld). IsCopyOf x.interface v kept) (sym same) kept_is in
     subst (λ (v : TheWorld). OpensOnLink x l path v a (world_of base cores3 bindings2)) same
     (subst (λ (ks : List TheCore). OpensOnLink x l path base a (world_of base ks bindings2)) (sym written)
     (opens_on_link base x l own kept a cores2 bindings2 own_copy kept_copy path o begins follows))
 
--- ---- the whole
+-- ---- where a circuit may be begun
 
 pub may_open_from : (w base : TheWorld) → base ≡ w → (x : Wish) (path : List CoreId) (may : Result LinkId MonitorFault)
-    → HasDispatcher w.cores x.client.core x.client.place → (k : TheCore) → k ≡ slice_index_or base.cores x.client.core k → IsWhole k
+    → HasDispatcher w.cores (id_of x.client) → (k : TheCore) → k ≡ slice_index_or base.cores x.client.core k → IsWhole k
     → x.interface < length w.programs → (p : Program) → p ≡ slice_index_or base.programs x.interface p → (n : ℕ) → n ≡ length base.cores
     → MayOpen (wanted p p (core_id x.server.core) path n) k.monitor.circuits may → MayOpenFrom x path w may
 may_open_from w base same x path may there k value whole within p p_value n count h =
-    let below = core_below base.cores x.client.core x.client.place
-        (subst (λ (v : TheWorld). HasDispatcher v.cores x.client.core x.client.place) (sym same) there) in
+    let below = core_below base.cores (id_of x.client) (subst (λ (v : TheWorld). HasDispatcher v.cores (id_of x.client)) (sym same) there) in
     let p_below = subst (λ (v : TheWorld). x.interface < length v.programs) (sym same) within in
     let p_is = stands base.programs x.interface p p p_below p_value refl in
     subst (λ (v : TheWorld). MayOpenFrom x path v may) same (record {
@@ -221,34 +193,3 @@ may_open_from w base same x path may there k value whole within p p_value n coun
           (one_value p q (sym p_is ∙ q_is))
           (subst (λ (i : ℕ). MayOpen (wanted p p (core_id x.server.core) path i) k.monitor.circuits may) count h);
     })
-
-pub not_opened : (w : TheWorld) (x : Wish) (path : List CoreId) (f : MonitorFault) (a : Answer) → MayOpenFrom x path w (Err f) → a ≡ refused (fault_number f)
-    → OpensAlong x path w a w
-not_opened w x path f a h is = λ p cores there along. record {
-  core = h.core;
-  core_is = h.core_is;
-  whole = h.whole;
-  may = Err f;
-  may_open = subst (λ (q : List CoreId). MayOpen (wanted p p (core_id x.server.core) q (length w.cores)) h.core.monitor.circuits (Err f)) along (h.may_open p there);
-  opens = (is, refl);
-}
-
-pub opened : (w w2 : TheWorld) (x : Wish) (path : List CoreId) (l : LinkId) → MayOpenFrom x path w (Ok l)
-    → (r : Result RustAnswer AllocError) → IfOk r (λ a. OpensOnLink x l path w (answer_of a) w2) → IfOk r (λ a. OpensAlong x path w (answer_of a) w2)
-opened w w2 x path l h r opens = IfOk-weaker r (λ a. OpensOnLink x l path w (answer_of a) w2) (λ a. OpensAlong x path w (answer_of a) w2)
-    (λ a on. λ p cores there along. record {
-      core = h.core;
-      core_is = h.core_is;
-      whole = h.whole;
-      may = Ok l;
-      may_open = subst (λ (q : List CoreId). MayOpen (wanted p p (core_id x.server.core) q (length w.cores)) h.core.monitor.circuits (Ok l)) along (h.may_open p there);
-      opens = on p h.core cores there h.core_is along;
-    }) opens
-
-pub binds : (w w2 : TheWorld) (x : Wish) (path : List CoreId) (cores : List ℕ) → may_be_route cores w ≡ true → path ≡ map core_id cores
-    → (r : Result RustAnswer AllocError) → IfOk r (λ a. OpensAlong x path w (answer_of a) w2)
-    → IfOk r (λ a. OfWish x w (λ q. BindsByRoute q cores w (answer_of a) w2))
-binds w w2 x path cores may along r opens =
-    IfOk-weaker r (λ a. OpensAlong x path w (answer_of a) w2) (λ a. OfWish x w (λ q. BindsByRoute q cores w (answer_of a) w2))
-    (λ a on. λ p there. subst (λ (b : Bool). If (not b) (Refuses 73 w (answer_of a) w2) (OpensFrom (request x p) cores w (answer_of a) w2)) (sym may)
-    (on p cores there along)) opens

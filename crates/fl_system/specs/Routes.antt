@@ -1,9 +1,8 @@
 -- A binding by a route, at the parts of a world that it touches: the client's core, and the list of bindings.
-use Rattle.std.specs.Prelude.{ℕ, ◌≡◌, ◌<◌, ◌||◌, Bool, true, List, [], ◌∷◌, ◌++◌, length, map, slice_get, slice_set, Some, None, is_some, Result, Ok, Err}
+use Rattle.std.specs.Prelude.{ℕ, ◌≡◌, true, List, [], ◌∷◌, ◌++◌, length, map, slice_get, slice_set, Some, None, Result, Ok, Err}
 use Rattle.fl_base.specs.declared.identity.CoreId.{CoreId}
 use Rattle.fl_base.specs.declared.identity.LinkId.{LinkId}
 use Rattle.fl_compile.specs.declared.program.Program.{Program}
-use Rattle.fl_compile.specs.Programs.{program_of}
 use Rattle.fl_core.specs.declared.fault.BoardFault.TheVariants as board
 use Rattle.fl_endpoint.specs.View.{fresh}
 use Rattle.fl_monitor.specs.declared.fault.MonitorFault.{MonitorFault}
@@ -14,7 +13,7 @@ use Rattle.fl_node.specs.declared.fault.OpenFault.{OpenFault}
 use Rattle.fl_node.specs.declared.fault.OpenFault.TheVariants as fault
 use Rattle.fl_node.specs.Faults.{open_number}
 use Rattle.fl_node.specs.Making.{Asked, asked, Asks}
-use Rattle.fl_node.specs.View.{TheCore, place_of, client_of, server_of}
+use Rattle.fl_node.specs.View.{TheCore}
 use Rattle.fl_queues.specs.Events.{Answer, done, nothing, refused}
 use Rattle.fl_worlds.specs.declared.binding.Binding.{Binding}
 use Rattle.fl_worlds.specs.Binding.{OpensBy, OpensFrom}
@@ -24,13 +23,9 @@ use Rattle.fl_system.specs.declared.binding.Wish.{Wish}
 use Rattle.fl_system.specs.declared.by_route.Begun.{Begun}
 use Rattle.fl_system.specs.declared.by_route.Begun.TheVariants as begun
 use Rattle.fl_system.specs.Parts.{InCore}
-use Rattle.fl_system.specs.Wishes.{request}
+use Rattle.fl_system.specs.Wishes.{request, has_end_in}
 
 -- ---- at a core
-
--- an end of binding n is here already
-abbrev pub has_end : ℕ → TheCore → Bool
-has_end n k = is_some (place_of k (client_of n)) || is_some (place_of k (server_of n))
 
 -- the number of a fault for which a circuit is refused; want of memory isn't an answer
 abbrev pub IsNumberOf : OpenFault → ℕ → Type 0
@@ -40,7 +35,7 @@ IsNumberOf other n = n ≡ open_number other
 
 -- what a core makes of an opening
 abbrev pub BeginsIn : Asked → Begun → TheCore → TheCore → Type 0
-BeginsIn a begun.There k k2 = (has_end a.opening.binding k ≡ true) × (k2 ≡ k)
+BeginsIn a begun.There k k2 = (has_end_in a.opening.binding k ≡ true) × (k2 ≡ k)
 BeginsIn a (begun.Refused n) k k2 = (f : OpenFault) × Asks a k (Err f) k2 × IsNumberOf f n
 BeginsIn a begun.Waits k k2 = (e : ℕ) × Asks a k (Ok e) k2
 
@@ -52,17 +47,7 @@ pub record AtOne (cores : List TheCore) (n : ℕ) (Event : TheCore → TheCore �
   pub event : InCore Event before after
   pub rest : cores2 ≡ slice_set cores n after
 
--- there is a core n, and it has a dispatcher d
-pub record HasDispatcher (cores : List TheCore) (n d : ℕ) : Type 0 where
-  pub core : TheCore
-  pub core_is : slice_get cores n ≡ Some core
-  pub within : d < length core.board.dispatchers
-
 -- ---- among the bindings
-
--- a program equal to the one at place i
-abbrev pub IsCopyAt : List Program → ℕ → Program → Type 0
-IsCopyAt programs i copy = (p : Program) → slice_get programs i ≡ Some p → program_of copy ≡ program_of p
 
 -- the binding that is asked for, with the server's end kept until it is made
 abbrev pub unmade_binding : Wish → Program → Binding

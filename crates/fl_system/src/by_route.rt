@@ -1,9 +1,8 @@
 //! A binding is begun whose fragments go along a circuit.
 
-ghost use Rattle.std.specs.Prelude.{ℕ, ◌≡◌, ◌<◌, ◌≤◌, ◌⊎◌, ◌++◌, length, map, nat_lt, slice_get, true, Some, None, IfOk, OnOk, OnErr, vec_len};
+ghost use Rattle.std.specs.Prelude.{ℕ, ◌≡◌, ◌<◌, ◌≤◌, ◌⊎◌, ◌++◌, length, map, nat_lt, true, None, IfOk, OnOk, OnErr, vec_len};
 ghost use Rattle.std.specs.List.{list_all};
 ghost use Rattle.std.specs.Vec.{vec_capacity};
-ghost use Rattle.fl_compile.specs.Programs.{program_of};
 ghost use Rattle.fl_core.specs.declared.fault.BoardFault.{BoardFault};
 ghost use Rattle.fl_lines.specs.Events.{id_of, answer_of};
 ghost use Rattle.fl_lists.specs.ThreeLists.{is_in};
@@ -17,14 +16,14 @@ ghost use Rattle.fl_worlds.specs.Binding.{BindsByRoute, may_be_route};
 ghost use Rattle.fl_worlds.specs.Making.{core_id};
 ghost use Rattle.fl_worlds.specs.View.{has_dispatcher, IsWhole};
 ghost use Rattle.fl_system.specs.Parts.{InCore};
-ghost use Rattle.fl_system.specs.Wishes.{OfWish};
-ghost use Rattle.fl_system.specs.Routes.{has_end, IsNumberOf, BeginsIn, AtOne, HasDispatcher, IsCopyAt, Keeps, unmade_binding};
+ghost use Rattle.fl_system.specs.Wishes.{OfWish, HasDispatcher};
+ghost use Rattle.fl_system.specs.Routes.{IsNumberOf, BeginsIn, AtOne, Keeps, unmade_binding};
 ghost use Rattle.fl_system.specs.Routes.{MayOpenFrom, OpensOnLink, OpensAlong};
 
-use crate::binding::Wish;
+use crate::binding::{Wish, has_end};
 use crate::lending::whole;
 use crate::world::World;
-use fl_base::{CoreId, EndId, LinkId, Side};
+use fl_base::{CoreId, LinkId};
 use fl_compile::Program;
 use fl_core::BoardFault;
 use fl_endpoint::End;
@@ -130,21 +129,6 @@ fn number_of(fault: OpenFault) -> Result<u8, AllocError>
     }
 }
 
-// Whether a core has an end of this binding.
-fn has_end(core: &Core, binding: usize) -> bool
-    ensures has { result ≡ has_end binding core.now }
-{
-    let client = EndId {
-        binding,
-        side: Side::Client,
-    };
-    let server = EndId {
-        binding,
-        side: Side::Server,
-    };
-    core.place(client).is_some() || core.place(server).is_some()
-}
-
 // A core begins a circuit for a binding of which it has no end.
 fn open_in(
     core: &mut Core,
@@ -196,7 +180,7 @@ fn begin_at(
     link: LinkId,
     opening: &Opening,
 ) -> Result<Begun, AllocError>
-    requires client { HasDispatcher cores.old client.core client.place }
+    requires client { HasDispatcher cores.old (id_of client) }
     requires few { opening.now.binding < 1024 }
     ensures begins { IfOk result (λ o. AtOne cores.old client.core (BeginsIn (asked client.place program link opening.now) o) cores.new) }
     ensures kept { OnErr result (cores.new ≡ cores.old) }
@@ -211,14 +195,6 @@ fn begin_at(
 }
 
 // ---- among the bindings
-
-// A copy of a program.
-fn copy_at(alloc: Global, programs: &[Program], i: usize) -> Result<Program, AllocError>
-    requires there { i < length programs.now }
-    ensures copy { IfOk result (λ copy. IsCopyAt programs.now i copy) }
-{
-    programs[i].duplicate(alloc)
-}
 
 // The binding that is asked for, with an end for its server until it is made there.
 fn unmade_binding(alloc: Global, want: Wish, program: Program) -> Result<Binding, AllocError>
@@ -270,7 +246,7 @@ impl World {
 
     // On which link a circuit along this route may be opened.
     fn may_open(&self, want: Wish, path: &Path) -> Result<LinkId, MonitorFault>
-        requires client { HasDispatcher self.now.cores want.client.core want.client.place }
+        requires client { HasDispatcher self.now.cores (id_of want.client) }
         requires program { want.interface < length self.now.programs }
         requires server { want.server.core < 256 }
         ensures may { MayOpenFrom want path.now self.now result }
@@ -284,15 +260,15 @@ impl World {
     // A circuit is begun on this link. The server's end is kept until it is made.
     fn open_on_link(&mut self, want: Wish, link: LinkId, path: Path) -> Result<Answer, AllocError>
         requires few { length self.old.bindings < 1024 }
-        requires client { HasDispatcher self.old.cores want.client.core want.client.place }
+        requires client { HasDispatcher self.old.cores (id_of want.client) }
         requires program { want.interface < length self.old.programs }
         ensures opens { IfOk result (λ a. OpensOnLink want link path self.old (answer_of a) self.new) }
         ensures kept { OnErr result (self.new ≡ self.old) }
     {
-        self.bindings.reserve(1)?;
-        let own = copy_at(self.alloc, self.programs.as_slice(), want.interface)?;
-        let kept = copy_at(self.alloc, self.programs.as_slice(), want.interface)?;
+        let own = self.copy_of(want.interface)?;
+        let kept = self.copy_of(want.interface)?;
         let binding = unmade_binding(self.alloc, want, kept)?;
+        self.bindings.reserve(1)?;
         let opening = Opening {
             binding: self.bindings.as_slice().len() as u32,
             service: want.iref,
@@ -311,7 +287,7 @@ impl World {
     // A circuit is begun along this route, where it may be.
     fn open_along(&mut self, want: Wish, path: Path) -> Result<Answer, AllocError>
         requires few { length self.old.bindings < 1024 }
-        requires client { HasDispatcher self.old.cores want.client.core want.client.place }
+        requires client { HasDispatcher self.old.cores (id_of want.client) }
         requires program { want.interface < length self.old.programs }
         requires server { want.server.core < 256 }
         ensures opens { IfOk result (λ a. OpensAlong want path self.old (answer_of a) self.new) }
