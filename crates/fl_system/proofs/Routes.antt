@@ -1,34 +1,30 @@
 -- A binding by a route: from the parts of a world to the world.
-use Rattle.std.proofs.Common.{◌≡◌, ◌⊎◌, ◌∙◌, refl, sym, ap, ap₂, subst, ℕ, ◌<◌, ◌≤◌, Bool, true, false, not, nat_lt, nat_le, List, [], ◌∷◌, ◌++◌, length, length-set, map, slice_get, slice_set, slice_index_or, Option, Some, None, Result, Ok, Err, IfOk, inl, inr, arith}
-use Rattle.std.specs.Prelude.{◌&&◌, ◌||◌, IsSome, is_some}
+use Rattle.std.proofs.Common.{◌≡◌, ◌∙◌, refl, sym, ap, ap₂, subst, ℕ, ◌<◌, ◌≤◌, Bool, true, nat_lt, nat_le, List, [], ◌∷◌, length, length-set, map, slice_get, slice_set, slice_index_or, Some, Result, Ok, Err, IfOk, inl, inr, arith}
+use Rattle.std.specs.Prelude.{◌&&◌, is_some}
 use Rattle.std.specs.List.{list_all}
 use Rattle.std.specs.declared.alloc.AllocError.{AllocError}
-use Rattle.std.proofs.lemmas.Bool.{and_parts, or_cases, ltb-true, lt-ltb, leb-true}
+use Rattle.std.proofs.lemmas.Bool.{and_parts, or_cases, ltb-true, lt-ltb}
 use Rattle.std.proofs.lemmas.List.{set-get_or}
 use Rattle.std.proofs.lemmas.Option.{slice_get_within, get_or_from_slice_get}
-use Rattle.std.proofs.lemmas.Result.{IfOk-weaker}
 use Rattle.fl_base.specs.declared.identity.CoreId.{CoreId}
 use Rattle.fl_base.specs.declared.identity.LinkId.{LinkId}
 use Rattle.fl_compile.specs.declared.program.Program.{Program}
 use Rattle.fl_core.specs.declared.fault.BoardFault.TheVariants as board
-use Rattle.fl_lines.specs.declared.answer.Answer.{Answer as RustAnswer}
 use Rattle.fl_lines.specs.Events.{id_of}
 use Rattle.fl_monitor.specs.declared.fault.MonitorFault.{MonitorFault}
 use Rattle.fl_monitor.specs.declared.fault.MonitorFault.TheVariants as monitor
-use Rattle.fl_monitor.specs.Faults.{fault_number}
 use Rattle.fl_monitor.specs.Monitors.{MayOpen, wanted}
 use Rattle.fl_node.specs.declared.fault.OpenFault.{OpenFault}
 use Rattle.fl_node.specs.declared.fault.OpenFault.TheVariants as fault
 use Rattle.fl_node.specs.Making.{asked, Asks}
 use Rattle.fl_node.specs.View.{TheCore, place_of, client_of, server_of}
 use Rattle.fl_queues.specs.Binding.{all_differ}
-use Rattle.fl_queues.specs.Events.{DispatcherId, Answer, nothing, refused}
-use Rattle.fl_queues.specs.Given.{given}
+use Rattle.fl_queues.specs.Events.{DispatcherId, Answer}
 use Rattle.fl_worlds.specs.declared.binding.Binding.{Binding}
-use Rattle.fl_worlds.specs.Binding.{may_be_route, BindsByRoute, OpensFrom, OpensBy, OpensOn, AsksBy, HasEndOf}
+use Rattle.fl_worlds.specs.Binding.{may_be_route, OpensBy, AsksBy}
 use Rattle.fl_worlds.specs.Lending.{Refuses}
 use Rattle.fl_worlds.specs.Making.{is_core, core_id}
-use Rattle.fl_worlds.specs.View.{If, TheWorld, has_dispatcher, IsWhole}
+use Rattle.fl_worlds.specs.View.{TheWorld, IsWhole}
 use Rattle.fl_system.specs.declared.binding.Wish.{Wish}
 use Rattle.fl_system.specs.declared.by_route.Begun.{Begun}
 use Rattle.fl_system.specs.declared.by_route.Begun.TheVariants as begun
@@ -166,9 +162,9 @@ pub opened_on_link : (w base : TheWorld) → base ≡ w → (x : Wish) (l : Link
 opened_on_link w base same x l path own kept own_is kept_is bindings reserved b b_is n n_is o cores cores2 cores_are h a bindings2 keeps cores3 written =
     let opening = subst (λ (i : ℕ). AtOne cores x.client.core (BeginsIn (asked x.client.place own l (opening_along x i path)) o) cores2) n_is h in
     let begins = subst (λ (ks : List TheCore). AtOne ks x.client.core (BeginsIn (asked x.client.place own l (opening_along x (length base.bindings) path)) o) cores2)
-        cores_are opening in
+    cores_are opening in
     let follows = subst (λ (c : Binding). Keeps o c base.bindings a bindings2) b_is
-        (subst (λ (bs : List Binding). Keeps o b bs a bindings2) reserved keeps) in
+    (subst (λ (bs : List Binding). Keeps o b bs a bindings2) reserved keeps) in
     let own_copy = subst (λ (v : TheWorld). IsCopyOf x.interface v own) (sym same) own_is in
     let kept_copy = subst (λ (v : TheWorld). IsCopyOf x.interface v kept) (sym same) kept_is in
     subst (λ (v : TheWorld). OpensOnLink x l path v a (world_of base cores3 bindings2)) same

@@ -12,7 +12,7 @@ use Rattle.fl_monitor.specs.Monitors.{MayOpen, wanted}
 use Rattle.fl_node.specs.declared.fault.OpenFault.{OpenFault}
 use Rattle.fl_node.specs.declared.fault.OpenFault.TheVariants as fault
 use Rattle.fl_node.specs.Faults.{open_number}
-use Rattle.fl_node.specs.Making.{Asked, asked, Asks}
+use Rattle.fl_node.specs.Making.{Asked, Asks}
 use Rattle.fl_node.specs.View.{TheCore}
 use Rattle.fl_queues.specs.Events.{Answer, done, nothing, refused}
 use Rattle.fl_worlds.specs.declared.binding.Binding.{Binding}

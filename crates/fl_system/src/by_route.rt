@@ -56,7 +56,7 @@ fn is_in(core: u32, cores: &[u32]) -> bool
     cores.iter().any(|one| *one == core)
 }
 
-// Whether none stands twice.
+// Whether none of these stands twice.
 fn all_differ(cores: &[u32]) -> bool
     ensures differ { result ≡ all_differ cores.now }
 {
@@ -274,13 +274,7 @@ impl World {
             service: want.iref,
             path,
         };
-        let begun = begin_at(
-            self.cores.as_mut_slice(),
-            want.client,
-            own,
-            link,
-            &opening,
-        )?;
+        let begun = begin_at(self.cores.as_mut_slice(), want.client, own, link, &opening)?;
         Ok(keep(&mut self.bindings, begun, binding))
     }
 
@@ -299,12 +293,14 @@ impl World {
         }
     }
 
-    /// A circuit along these cores is opened.
-    pub(crate) fn bind_by_route(
-        &mut self,
-        want: Wish,
-        cores: &[u32],
-    ) -> Result<Answer, AllocError>
+    /// A circuit along these cores is begun: the client's end is made, and the server's is kept until the opening has come to its core. In this order it
+    /// is refused where these aren't 2 to 16 of the world's cores, none twice, from the client's to the service's, or there is no link to the second (E73);
+    /// the client's dispatcher has 1,024 ends (E54); an entry of the binding stands on the link (E67); 1,023 circuits were opened there (E74); 64 messages
+    /// wait there (E75).
+    ///
+    /// # Errors
+    /// Want of memory.
+    pub(crate) fn bind_by_route(&mut self, want: Wish, cores: &[u32]) -> Result<Answer, AllocError>
         requires few { length self.old.bindings < 1024 }
         requires client { has_dispatcher self.old (id_of want.client) ≡ true }
         requires program { want.interface < length self.old.programs }
