@@ -1,5 +1,5 @@
 -- Both ends of a binding are added to a core and registered over their queues, and the world with them.
-use Rattle.std.proofs.Common.{◌≡◌, ◌≢◌, ◌≤◌, ◌||◌, not, nat_lt, true, false, ◌<◌, ◌+◌, ◌⊎◌, refl, sym, ap, ap₂, ◌∙◌, subst, ℕ, zero, suc, length, map, slice_get, slice_set, slice_index_or, List, [], ◌∷◌, ◌++◌, Option, Some, None, Result, Ok, Err, IfOk, inl, inr, arith}
+use Rattle.std.proofs.Common.{◌≡◌, ◌≢◌, ◌≤◌, ◌||◌, not, nat_lt, true, false, ◌<◌, ◌+◌, ◌⊎◌, refl, sym, ap, ap₂, ◌∙◌, subst, ℕ, zero, suc, length, length-set, map, slice_get, slice_set, slice_index_or, List, [], ◌∷◌, ◌++◌, Option, Some, None, Result, Ok, Err, IfOk, inl, inr, arith}
 use Rattle.std.proofs.lemmas.Bool.{lt-ltb, le-ltb, eq-eqb, ne_eqb}
 use Rattle.std.proofs.lemmas.List.{length_push, length-map}
 use Rattle.std.proofs.lemmas.Option.{slice_get_within, same_Some}
@@ -32,7 +32,7 @@ use Rattle.fl_worlds.specs.View.{TheWorld, IsWhole}
 use Rattle.fl_worlds.specs.Binding.{IsJoined, JoinsByQueues, BindsByQueues, new_queue}
 use Rattle.fl_system.specs.declared.binding.Wish.{Wish}
 use Rattle.fl_system.specs.Parts.{InCore}
-use Rattle.fl_system.specs.Queued.{IsOnQueue, Lists, ListsBoth, JoinsIn, MayJoin, MayJoinAt, JoinsAt, joining, JoinsOrNot}
+use Rattle.fl_system.specs.Queued.{IsOnQueue, Lists, ListsBoth, JoinsIn, MayJoin, MayJoinAt, JoinsAt, joining, IsJoining, JoinsOrNot}
 use Rattle.fl_system.specs.Wishes.{request, OfWish, IsNewIn, IsNewAt, HasDispatcher, IsNewEnd, both_places}
 use Rattle.fl_system.proofs.Lifts.{stands, put_back}
 use Rattle.fl_system.proofs.Wished.{if_true, if_false}
@@ -49,10 +49,10 @@ waits kind.Queue place.Pending p q (inr h) = h.1
 waits kind.Queue place.Idle p q h = h.1
 
 takes_nothing : (s : TheSeat) (w v : ThreeLists) (p q : TheQueue) (r : Result (Unit {0}) BoardFault) → Registers QueueTakes s (lent w p) r (lent v q) → q ≡ p
-takes_nothing s w v p q (Ok done) (ready, (free, (to, (wait, lists)))) = waits s.kind to p q wait
-takes_nothing s w v p q (Err fault.Registered) (ready, (held, (side, lists))) = side
-takes_nothing s w v p q (Err fault.NotBound) (unbound, (side, lists)) = side
-takes_nothing s w v p q (Err fault.Failed) (failed, (side, lists)) = side
+takes_nothing s w v p q (Ok done) (ready, (free, (to, wait, lists))) = waits s.kind to p q wait
+takes_nothing s w v p q (Err fault.Registered) (ready, (held, side, lists)) = side
+takes_nothing s w v p q (Err fault.NotBound) (unbound, side, lists) = side
+takes_nothing s w v p q (Err fault.Failed) (failed, side, lists) = side
 takes_nothing s w v p q (Err fault.NotRegistered) h = absurd h
 takes_nothing s w v p q (Err fault.TooManyEnds) h = absurd h
 takes_nothing s w v p q (Err fault.Memory) h = absurd h
@@ -146,6 +146,10 @@ not_added j k k2 fault.Failed h = absurd h
 
 -- ---- among all cores
 
+pub as_many_cores : (n : ℕ) (j : Joining) (forth back : TheQueue) (cores cores2 : List TheCore) → JoinsAt n j forth back cores cores2
+    → length cores2 ≡ length cores
+as_many_cores n j forth back cores cores2 h = ap length h.rest ∙ length-set cores n h.after
+
 pub may_join : (n : ℕ) (j : Joining) (cores : List TheCore) → MayJoinAt n j cores → (k : TheCore) → slice_get cores n ≡ Some k → MayJoin j k
 may_join n j cores (k, is, may) x there = subst (λ (y : TheCore). MayJoin j y) (same_Some k x (sym is ∙ there)) may
 
@@ -172,30 +176,83 @@ module _ (x : Wish) (n q : ℕ) (w : TheWorld) (s t : TheEnd) (one : IsNewEnd x.
     registers_server = h.listed.server.1;
   }
 
-pub joins_by_queues : (x : Wish) (slots : ℕ) (w base : TheWorld) → base ≡ w → (s t : TheEnd) → IsNewEnd x.interface w s → IsNewEnd x.interface w t
-    → (forth back : TheQueue) → forth ≡ new_queue slots → back ≡ new_queue slots → (cores : List TheCore)
-    → JoinsAt x.client.core (joining x (length base.bindings) (length base.queues) s t) forth back base.cores cores
-    → (queues : List TheQueue) → queues ≡ base.queues ++ forth ∷ back ∷ []
-    → (bindings : List Binding)
-    → bindings ≡ base.bindings ++ record { interface = x.interface; client = x.client.core; server = x.server.core; unmade = None } ∷ []
-    → OfWish x w (λ r. JoinsByQueues r slots w (record base { cores = cores; queues = queues; bindings = bindings }))
-joins_by_queues x slots w base same s t one other forth back new_forth new_back cores h queues all_queues bindings all_bindings p is =
-    let new = new_queue slots in
-    let joined = is_joined x (length base.bindings) (length base.queues) w s t one other p is forth back h.core h.after h.joins.event in
-    let over_new = subst (λ (f : TheQueue). IsJoined (request x p) (length base.bindings) (length base.queues) h.core f new h.after) new_forth
-    (subst (λ (b : TheQueue). IsJoined (request x p) (length base.bindings) (length base.queues) h.core forth b h.after) new_back joined) in
-    subst (λ (v : TheWorld). JoinsByQueues (request x p) slots v (record base { cores = cores; queues = queues; bindings = bindings })) same (record {
-      core = h.core;
-      core_is = h.core_is;
-      whole = h.joins.whole;
-      after = h.after;
-      still = h.joins.still;
-      joined = over_new;
-      rest = ap (λ (xs : List TheCore). record base { cores = xs; queues = queues; bindings = bindings }) h.rest
-          ∙ ap (λ (qs : List TheQueue). record base { cores = slice_set base.cores x.client.core h.after; queues = qs; bindings = bindings })
-          (all_queues ∙ ap₂ (λ (f b : TheQueue). base.queues ++ f ∷ b ∷ []) new_forth new_back)
-          ∙ ap (λ (bs : List Binding). record base { cores = slice_set base.cores x.client.core h.after; queues = base.queues ++ new ∷ new ∷ []; bindings = bs }) all_bindings;
-    })
+-- the world with room for more
+pub same_world : (v w : TheWorld) → v ≡ w → (queues : List TheQueue) (bindings : List Binding) → queues ≡ v.queues → bindings ≡ v.bindings
+    → record v { queues = queues; bindings = bindings } ≡ w
+same_world v w same queues bindings qs bs =
+    ap₂ (λ (x : List TheQueue) (y : List Binding). record v { queues = x; bindings = y }) qs bs ∙ same
+
+pub made_joining : (x : Wish) (w base : TheWorld) → base ≡ w → (bindings : List Binding) → bindings ≡ base.bindings → (queues : List TheQueue)
+    → queues ≡ base.queues → (s t : TheEnd) → IsNewEnd x.interface w s → IsNewEnd x.interface w t
+    → IsJoining x w (joining x (length bindings) (length queues) s t)
+made_joining x w base same bindings bs queues qs s t one other = record {
+  client = s;
+  new_client = one;
+  server = t;
+  new_server = other;
+  is = ap₂ (λ (n q : ℕ). joining x n q s t)
+      (ap length bs ∙ ap (λ (v : TheWorld). length v.bindings) same) (ap length qs ∙ ap (λ (v : TheWorld). length v.queues) same);
+}
+
+-- base is the world when the ends are made, and read its cores
+module _ (x : Wish) (w base : TheWorld) (same : base ≡ w) (j : Joining) (made : IsJoining x base j) (read : List TheCore) (all : read ≡ base.cores) where
+  pub core_there : HasDispatcher w.cores (id_of x.client) → x.client.core < length read
+  core_there h =
+      let below : x.client.core < length base.cores
+      = subst (λ (v : TheWorld). x.client.core < length v.cores) (sym same) (slice_get_within w.cores x.client.core h.core h.core_is) in
+      subst (λ (cs : List TheCore). x.client.core < length cs) (sym all) below
+
+  -- what the core has to be like
+  pub may_join_at : x.client.core ≡ x.server.core → HasDispatcher w.cores (id_of x.client) → HasDispatcher w.cores (id_of x.server)
+      → length w.bindings < 1024 → IsNewAt (length w.bindings) x.client.core w → MayJoinAt x.client.core j read
+  may_join_at together client server few new =
+      let its_server : x.server.place < length client.core.board.dispatchers
+      = subst (λ (k : TheCore). x.server.place < length k.board.dispatchers)
+        (same_Some server.core client.core (sym server.core_is ∙ ap (slice_get w.cores) (sym together) ∙ client.core_is)) server.there in
+      let in_w : MayJoinAt x.client.core (joining x (length w.bindings) (length w.queues) made.client made.server) w.cores
+      = (client.core, client.core_is, record { client = client.there; server = its_server; few = few; new = new client.core client.core_is }) in
+      let in_base : MayJoinAt x.client.core (joining x (length base.bindings) (length base.queues) made.client made.server) base.cores
+      = subst (λ (v : TheWorld). MayJoinAt x.client.core (joining x (length v.bindings) (length v.queues) made.client made.server) v.cores) (sym same) in_w in
+      subst (λ (i : Joining). MayJoinAt x.client.core i read) (sym made.is)
+      (subst (λ (cs : List TheCore). MayJoinAt x.client.core (joining x (length base.bindings) (length base.queues) made.client made.server) cs) (sym all) in_base)
+
+  module _ (slots : ℕ) (forth back : TheQueue) (new_forth : forth ≡ new_queue slots) (new_back : back ≡ new_queue slots)
+      (cores held : List TheCore) (h : JoinsAt x.client.core j forth back read cores) (left : held ≡ cores)
+      (forth2 back2 : TheQueue) (same_forth : forth2 ≡ forth) (same_back : back2 ≡ back)
+      (queues : List TheQueue) (all_queues : queues ≡ base.queues ++ forth2 ∷ back2 ∷ [])
+      (bindings : List Binding)
+      (all_bindings : bindings ≡ base.bindings ++ record { interface = x.interface; client = x.client.core; server = x.server.core; unmade = None } ∷ []) where
+    joined : (p : Program) → slice_get base.programs x.interface ≡ Some p
+        → IsJoined (request x p) (length base.bindings) (length base.queues) h.core (new_queue slots) (new_queue slots) h.after
+    joined p is =
+        let over = is_joined x (length base.bindings) (length base.queues) base made.client made.server made.new_client made.new_server p is forth back h.core h.after
+            (subst (λ (i : Joining). JoinsIn i forth back h.core h.after) made.is h.joins.event) in
+        subst (λ (f : TheQueue). IsJoined (request x p) (length base.bindings) (length base.queues) h.core f (new_queue slots) h.after) new_forth
+        (subst (λ (b : TheQueue). IsJoined (request x p) (length base.bindings) (length base.queues) h.core forth b h.after) new_back over)
+
+    queues_are : queues ≡ base.queues ++ new_queue slots ∷ new_queue slots ∷ []
+    queues_are = all_queues ∙ ap₂ (λ (f b : TheQueue). base.queues ++ f ∷ b ∷ []) (same_forth ∙ new_forth) (same_back ∙ new_back)
+
+    cores_are : held ≡ slice_set base.cores x.client.core h.after
+    cores_are = left ∙ h.rest ∙ ap (λ (cs : List TheCore). slice_set cs x.client.core h.after) all
+
+    pub joins_by_queues : OfWish x w (λ r. JoinsByQueues r slots w (record base { cores = held; queues = queues; bindings = bindings }))
+    joins_by_queues p is =
+        subst (λ (v : TheWorld). JoinsByQueues (request x p) slots v (record base { cores = held; queues = queues; bindings = bindings })) same (record {
+          core = h.core;
+          core_is = subst (λ (cs : List TheCore). slice_get cs x.client.core ≡ Some h.core) all h.core_is;
+          whole = h.joins.whole;
+          after = h.after;
+          still = h.joins.still;
+          joined = joined p (subst (λ (v : TheWorld). slice_get v.programs x.interface ≡ Some p) (sym same) is);
+          rest = ap (λ (cs : List TheCore). record base { cores = cs; queues = queues; bindings = bindings }) cores_are
+              ∙ ap (λ (qs : List TheQueue). record base { cores = slice_set base.cores x.client.core h.after; queues = qs; bindings = bindings }) queues_are
+              ∙ ap (λ (bs : List Binding). record base {
+                cores = slice_set base.cores x.client.core h.after;
+                queues = base.queues ++ new_queue slots ∷ new_queue slots ∷ [];
+                bindings = bs;
+              }) all_bindings;
+        })
 
 -- ---- whether it may be
 
@@ -229,22 +286,3 @@ module _ (x : Wish) (slots : ℕ) (w : TheWorld) where
         may_bind room a w2 h p is =
             if_false _ _ _ (ap not (eq-eqb x.client.core x.server.core together))
             (if_false _ _ _ right_slots (if_false _ _ _ (ap not room) (h p is)))
-
--- what the core has to be like for that
-pub may_join_at : (x : Wish) (w base : TheWorld) → base ≡ w → x.client.core ≡ x.server.core → HasDispatcher w.cores (id_of x.client) → HasDispatcher w.cores (id_of x.server)
-    → length w.bindings < 1024 → IsNewAt (length w.bindings) x.client.core w → (s t : TheEnd)
-    → MayJoinAt x.client.core (joining x (length base.bindings) (length base.queues) s t) base.cores
-may_join_at x w base same together client server few new s t =
-    subst (λ (v : TheWorld). MayJoinAt x.client.core (joining x (length v.bindings) (length v.queues) s t) v.cores) (sym same) (
-      client.core,
-      client.core_is,
-      record {
-        client = client.there;
-        server = subst (λ (k : TheCore). x.server.place < length k.board.dispatchers) (same_Some server.core client.core (sym server.core_is ∙ ap (slice_get w.cores) (sym together) ∙ client.core_is)) server.there;
-        few = few;
-        new = new client.core client.core_is;
-      },
-    )
-
-pub core_there : (x : Wish) (w base : TheWorld) → base ≡ w → HasDispatcher w.cores (id_of x.client) → x.client.core < length base.cores
-core_there x w base same h = subst (λ (v : TheWorld). x.client.core < length v.cores) (sym same) (slice_get_within w.cores x.client.core h.core h.core_is)

@@ -4,6 +4,8 @@ use Rattle.std.proofs.lemmas.Bool.{eqb-true, ne_eqb, eq-eqb, le-leb, lt-leb, or_
 use Rattle.std.proofs.lemmas.Option.{slice_get_within, slice_get_past, same_Some}
 use Rattle.fl_compile.specs.declared.program.Program.{Program}
 use Rattle.fl_compile.specs.Programs.{program_of}
+use Rattle.fl_nameserv.specs.declared.registration.Registration.{Registration}
+use Rattle.fl_nameserv.specs.Lent.{registration_of}
 use Rattle.fl_nameserv.specs.Registrations.{TheRegistration, by_name}
 use Rattle.fl_endpoint.specs.View.{TheEnd, fresh}
 use Rattle.fl_core.specs.View.{TheDispatcher, TheBoard}
@@ -12,7 +14,9 @@ use Rattle.fl_node.specs.View.{TheCore, place_of, client_of, server_of}
 use Rattle.fl_queues.specs.Given.{given}
 use Rattle.fl_queues.specs.Events.{DispatcherId, Kind, Answer}
 use Rattle.fl_queues.specs.Binding.{same_dispatcher}
+use Rattle.fl_lines.specs.declared.event.DispatcherId.{DispatcherId as RustDispatcherId}
 use Rattle.fl_lines.specs.Events.{id_of}
+use Rattle.fl_worlds.specs.declared.binding.Binding.{Binding}
 use Rattle.fl_worlds.specs.View.{Given, If, TheWorld, has_dispatcher}
 use Rattle.fl_worlds.specs.Lending.{Refuses}
 use Rattle.fl_worlds.specs.Binding.{Request, HasEndOf, has_places, BindsBy, wanted_from, Binds}
@@ -176,3 +180,28 @@ module _ (client : DispatcherId) (i : ℕ) (name : List ℕ) (w : TheWorld) wher
               = subst (λ (r : Request). BindsBy r kind w a w2) (sym (asks it.0)) (h it.0 (subst (λ (n : ℕ). slice_get w.programs n ≡ Some it.0) (sym here) it.1)) in
               if_false _ _ _ (ap not there) (given_some _ _ _ it.0 it.1
               (if_false _ _ _ (lt-leb 1024 (length w.bindings) few) (given_some _ _ _ s found (if_false _ _ _ (ap not (eq-eqb s.service.interface i one)) joins))))
+
+-- the same from the facts of the code, once a service of this name is found
+module _ (w base : TheWorld) (same : base ≡ w) (c : RustDispatcherId) (i : ℕ) (name : List ℕ) (there : has_dispatcher w (id_of c) ≡ true)
+    (ps : List Program) (all : ps ≡ base.programs) (below : i < length ps) (bs : List Binding) (known : bs ≡ base.bindings) (few : length bs < 1024)
+    (found : Registration) (is : by_name name base.names ≡ Some (registration_of found)) where
+  below_then : i < length w.programs
+  below_then = subst (λ (x : TheWorld). i < length x.programs) same (subst (λ (qs : List Program). i < length qs) all below)
+
+  few_then : length w.bindings < 1024
+  few_then = subst (λ (x : TheWorld). length x.bindings < 1024) same (subst (λ (cs : List Binding). length cs < 1024) known few)
+
+  named : by_name name w.names ≡ Some (registration_of found)
+  named = subst (λ (x : TheWorld). by_name name x.names ≡ Some (registration_of found)) same is
+
+  abbrev wish_at : ℕ → Wish
+  wish_at n = record { client = c; interface = i; server = record { core = n; place = found.service.dispatcher }; iref = found.iref }
+
+  pub not_offered : found.service.interface ≢ i → IsWish (id_of c) i name w (Err 72)
+  not_offered other = other_interface (id_of c) i name w there below_then few_then (registration_of found) named other
+
+  pub is_wished : found.service.interface ≡ i → (core : ℕ) → core ≡ found.service.core.0
+      → IsWish (id_of c) i name w (Ok (record { client = c; interface = i; server = record { core = core; place = found.service.dispatcher }; iref = found.iref }))
+  is_wished one core here =
+      wished (id_of c) i name w there below_then few_then (registration_of found) named one (wish_at core) refl
+      (λ p. ap (λ (n : ℕ). request (wish_at n) p) (sym here))

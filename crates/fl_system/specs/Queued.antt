@@ -15,7 +15,7 @@ use Rattle.fl_worlds.specs.Lending.{DoesNothing}
 use Rattle.fl_worlds.specs.Binding.{HasEndOf, JoinsByQueues}
 use Rattle.fl_system.specs.declared.binding.Wish.{Wish}
 use Rattle.fl_system.specs.Parts.{InCore}
-use Rattle.fl_system.specs.Wishes.{OfWish, IsNewIn}
+use Rattle.fl_system.specs.Wishes.{OfWish, IsNewIn, IsNewEnd}
 
 -- ---- a core's ends
 
@@ -71,6 +71,14 @@ joining x n q s t = record {
   to_server = q;
   to_client = q + 1;
 }
+
+-- these are they, with a binding and two queues behind those of the world
+pub record IsJoining (x : Wish) (w : TheWorld) (j : Joining) : Type 0 where
+  pub client : TheEnd
+  pub new_client : IsNewEnd x.interface w client
+  pub server : TheEnd
+  pub new_server : IsNewEnd x.interface w server
+  pub is : j ≡ joining x (length w.bindings) (length w.queues) client server
 
 -- the binding is made; or its core has an end of it, and nothing is done
 abbrev pub JoinsOrNot : Wish → ℕ → TheWorld → Answer → TheWorld → Type 0

@@ -1,12 +1,12 @@
 //! A binding within a core is made, with its two queues.
 
-ghost use Rattle.std.specs.Prelude.{◌≡◌, ◌<◌, ◌≤◌, ◌++◌, [], ◌∷◌, length, true, IfOk, OnOk, OnErr, vec_len, vec_capacity};
+ghost use Rattle.std.specs.Prelude.{◌≡◌, ◌<◌, ◌≤◌, ◌+◌, ◌++◌, [], ◌∷◌, length, true, IfOk, OnOk, OnErr, vec_len, vec_capacity};
 ghost use Rattle.fl_queues.specs.Events.{done};
 ghost use Rattle.fl_lines.specs.Events.{id_of, answer_of};
 ghost use Rattle.fl_worlds.specs.View.{has_dispatcher};
 ghost use Rattle.fl_worlds.specs.Binding.{BindsByQueues, JoinsByQueues, new_queue};
 ghost use Rattle.fl_system.specs.Parts.{InCore};
-ghost use Rattle.fl_system.specs.Queued.{IsOnQueue, Lists, ListsBoth, MayJoin, JoinsIn, MayJoinAt, JoinsAt, JoinsOrNot};
+ghost use Rattle.fl_system.specs.Queued.{IsOnQueue, Lists, ListsBoth, MayJoin, JoinsIn, MayJoinAt, JoinsAt, IsJoining, JoinsOrNot};
 ghost use Rattle.fl_system.specs.Wishes.{OfWish, HasDispatcher, IsNewAt};
 
 use crate::binding::Wish;
@@ -100,25 +100,15 @@ fn push_both(queues: &mut Vec<QueueLink>, forth: QueueLink, back: QueueLink)
 }
 
 impl World {
-    // The two ends with their queues; or there is no memory for them.
-    fn join_by_queues(&mut self, want: Wish, slots: u32) -> Result<Answer, AllocError>
-        requires few { length self.old.bindings < 1024 }
-        requires together { want.client.core ≡ want.server.core }
-        requires client { HasDispatcher self.old.cores (id_of want.client) }
-        requires server { HasDispatcher self.old.cores (id_of want.server) }
-        requires program { want.interface < length self.old.programs }
-        requires new { IsNewAt (length self.old.bindings) want.client.core self.old }
-        ensures joins { IfOk result (λ a. (answer_of a ≡ done) × OfWish want self.old (λ r. JoinsByQueues r slots self.old self.new)) }
-        ensures kept { OnErr result (self.new ≡ self.old) }
+    // The two ends that are asked for, over the two queues behind the others.
+    fn joining(&self, want: Wish) -> Result<Joining, AllocError>
+        requires program { want.interface < length self.now.programs }
+        ensures joining { IfOk result (λ both. IsJoining want self.now both) }
     {
         let client = self.new_end(want.interface)?;
         let server = self.new_end(want.interface)?;
-        let mut forth = new_queue(self.alloc, slots)?;
-        let mut back = new_queue(self.alloc, slots)?;
-        self.queues.reserve(2)?;
-        self.bindings.reserve(1)?;
         let to_server = self.queues.as_slice().len();
-        let both = Joining {
+        Ok(Joining {
             binding: self.bindings.as_slice().len(),
             client: Newcomer {
                 dispatcher: want.client.place,
@@ -130,7 +120,25 @@ impl World {
             },
             to_server,
             to_client: to_server + 1,
-        };
+        })
+    }
+
+    // The two ends are joined by their queues; or there is no memory for them.
+    fn join_by_queues(&mut self, want: Wish, slots: u32) -> Result<Answer, AllocError>
+        requires few { length self.old.bindings < 1024 }
+        requires together { want.client.core ≡ want.server.core }
+        requires client { HasDispatcher self.old.cores (id_of want.client) }
+        requires server { HasDispatcher self.old.cores (id_of want.server) }
+        requires program { want.interface < length self.old.programs }
+        requires new { IsNewAt (length self.old.bindings) want.client.core self.old }
+        ensures joins { IfOk result (λ a. (answer_of a ≡ done) × OfWish want self.old (λ r. JoinsByQueues r slots self.old self.new)) }
+        ensures kept { OnErr result (self.new ≡ self.old) }
+    {
+        self.queues.reserve(2)?;
+        self.bindings.reserve(1)?;
+        let mut forth = new_queue(self.alloc, slots)?;
+        let mut back = new_queue(self.alloc, slots)?;
+        let both = self.joining(want)?;
         let core = want.client.core as usize;
         join_at(self.cores.as_mut_slice(), core, both, &mut forth, &mut back)?;
         push_both(&mut self.queues, forth, back);

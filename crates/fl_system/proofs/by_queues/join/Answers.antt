@@ -17,7 +17,7 @@ register_both-requires c = record {
 }
 
 pub returns-in_default-clause-kept : goal.returns-in_default-clause-kept
-returns-in_default-clause-kept c = not_added _ _ _ c.in_default.field-0 c.in_default.ensures.joins
+returns-in_default-clause-kept c = not_added c.args.both c.args.core.now c.add_both.new.self c.in_default.field-0 c.in_default.ensures.joins
 
 pub returns-clause-joins : goal.returns-clause-joins
 returns-clause-joins c = record {

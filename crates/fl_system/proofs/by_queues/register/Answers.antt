@@ -3,6 +3,6 @@ use Rattle.fl_system.proofs.by_queues.register.Goals as goal
 
 pub returns : goal.returns
 returns c = record {
-  lists = lists _ _ _ _ _ _ c.register-_answer.ensures.registers;
-  queue = queue_stays _ _ _ _ _ _ c.register-_answer.ensures.registers;
+  lists = lists _ _ _ _ _ _ c.register-answer.ensures.registers;
+  queue = queue_stays _ _ _ _ _ _ c.register-answer.ensures.registers;
 }
