@@ -35,7 +35,8 @@ use Rattle.fl_system.proofs.Lifts.{one_value, stands}
 
 -- ---- a route
 
-all_small : (cores : List ℕ) (count : ℕ) → count ≤ 16 → list_all (λ n. nat_lt n count) cores ≡ true → list_all (λ n. nat_lt n 256) cores ≡ true
+all_small : (cores : List ℕ) (count : ℕ) → count ≤ 16 → list_all (λ n. nat_lt n count) cores ≡ true
+    → list_all (λ n. nat_lt n 256) cores ≡ true
 all_small [] count few h = refl
 all_small (c ∷ cs) count few h =
     let (first, others) = and_parts (nat_lt c count) (list_all (λ n. nat_lt n count) cs) h in
@@ -160,9 +161,9 @@ pub opened_on_link : (w base : TheWorld) → base ≡ w → (x : Wish) (l : Link
     → (a : Answer) (bindings2 : List Binding) → Keeps o b bindings a bindings2 → (cores3 : List TheCore) → cores3 ≡ cores2
     → OpensOnLink x l path w a (world_of base cores3 bindings2)
 opened_on_link w base same x l path own kept own_is kept_is bindings reserved b b_is n n_is o cores cores2 cores_are h a bindings2 keeps cores3 written =
-    let opening = subst (λ (i : ℕ). AtOne cores x.client.core (BeginsIn (asked x.client.place own l (opening_along x i path)) o) cores2) n_is h in
-    let begins = subst (λ (ks : List TheCore). AtOne ks x.client.core (BeginsIn (asked x.client.place own l (opening_along x (length base.bindings) path)) o) cores2)
-    cores_are opening in
+    let opening = opening_along x (length base.bindings) path in
+    let numbered = subst (λ (i : ℕ). AtOne cores x.client.core (BeginsIn (asked x.client.place own l (opening_along x i path)) o) cores2) n_is h in
+    let begins = subst (λ (ks : List TheCore). AtOne ks x.client.core (BeginsIn (asked x.client.place own l opening) o) cores2) cores_are numbered in
     let follows = subst (λ (c : Binding). Keeps o c base.bindings a bindings2) b_is
     (subst (λ (bs : List Binding). Keeps o b bs a bindings2) reserved keeps) in
     let own_copy = subst (λ (v : TheWorld). IsCopyOf x.interface v own) (sym same) own_is in
