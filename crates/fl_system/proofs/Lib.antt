@@ -8,3 +8,4 @@ pub mod Splitting
 pub mod Wished
 pub mod RingEnds
 pub mod Queued
+pub mod Routes

@@ -6,3 +6,4 @@ pub mod Following
 pub mod Wishes
 pub mod RingEnds
 pub mod Queued
+pub mod Routes

@@ -138,6 +138,7 @@ impl World {
         ensures few { OnOk result (length self.now.bindings < 1024) }
         ensures client { IfOk result (λ x. has_dispatcher self.now (id_of x.client) ≡ true) }
         ensures program { IfOk result (λ x. x.interface < length self.now.programs) }
+        ensures server { IfOk result (λ x. x.server.core < 256) }
     {
         if !self.has_dispatcher(client) || self.programs.as_slice().len() <= interface {
             return Err(92);
@@ -169,6 +170,7 @@ impl World {
         requires few { length self.old.bindings < 1024 }
         requires client { has_dispatcher self.old (id_of want.client) ≡ true }
         requires program { want.interface < length self.old.programs }
+        requires server { want.server.core < 256 }
         ensures binds { IfOk result (λ a. OfWish want self.old (λ r. BindsBy r (kind_of (back_end_of back_end.entry)) self.old (answer_of a) self.new)) }
         ensures kept { OnErr result (self.new ≡ self.old) }
     {

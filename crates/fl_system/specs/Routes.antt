@@ -1,0 +1,85 @@
+-- A binding by a route, at the parts of a world that it touches: the client's core, and the list of bindings.
+use Rattle.std.specs.Prelude.{ℕ, ◌≡◌, true, List, [], ◌∷◌, ◌++◌, length, map, slice_get, slice_set, Some, None, Result, Ok, Err}
+use Rattle.fl_base.specs.declared.identity.CoreId.{CoreId}
+use Rattle.fl_base.specs.declared.identity.LinkId.{LinkId}
+use Rattle.fl_compile.specs.declared.program.Program.{Program}
+use Rattle.fl_core.specs.declared.fault.BoardFault.TheVariants as board
+use Rattle.fl_endpoint.specs.View.{fresh}
+use Rattle.fl_monitor.specs.declared.fault.MonitorFault.{MonitorFault}
+use Rattle.fl_monitor.specs.declared.fault.MonitorFault.TheVariants as monitor
+use Rattle.fl_monitor.specs.declared.opening.Opening.{Opening}
+use Rattle.fl_monitor.specs.Monitors.{MayOpen, wanted}
+use Rattle.fl_node.specs.declared.fault.OpenFault.{OpenFault}
+use Rattle.fl_node.specs.declared.fault.OpenFault.TheVariants as fault
+use Rattle.fl_node.specs.Faults.{open_number}
+use Rattle.fl_node.specs.Making.{Asked, Asks}
+use Rattle.fl_node.specs.View.{TheCore}
+use Rattle.fl_queues.specs.Events.{Answer, done, nothing, refused}
+use Rattle.fl_worlds.specs.declared.binding.Binding.{Binding}
+use Rattle.fl_worlds.specs.Binding.{OpensBy, OpensFrom}
+use Rattle.fl_worlds.specs.Making.{core_id}
+use Rattle.fl_worlds.specs.View.{TheWorld, IsWhole}
+use Rattle.fl_system.specs.declared.binding.Wish.{Wish}
+use Rattle.fl_system.specs.declared.by_route.Begun.{Begun}
+use Rattle.fl_system.specs.declared.by_route.Begun.TheVariants as begun
+use Rattle.fl_system.specs.Parts.{InCore}
+use Rattle.fl_system.specs.Wishes.{request, has_end_in}
+
+-- ---- at a core
+
+-- the number of a fault for which a circuit is refused; want of memory isn't an answer
+abbrev pub IsNumberOf : OpenFault → ℕ → Type 0
+IsNumberOf (fault.Board board.Memory) n = ⊥
+IsNumberOf (fault.Monitor monitor.Memory) n = ⊥
+IsNumberOf other n = n ≡ open_number other
+
+-- what a core makes of an opening
+abbrev pub BeginsIn : Asked → Begun → TheCore → TheCore → Type 0
+BeginsIn a begun.There k k2 = (has_end_in a.opening.binding k ≡ true) × (k2 ≡ k)
+BeginsIn a (begun.Refused n) k k2 = (f : OpenFault) × Asks a k (Err f) k2 × IsNumberOf f n
+BeginsIn a begun.Waits k k2 = (e : ℕ) × Asks a k (Ok e) k2
+
+-- among all cores, core n alone has changed
+pub record AtOne (cores : List TheCore) (n : ℕ) (Event : TheCore → TheCore → Type 0) (cores2 : List TheCore) : Type 0 where
+  pub before : TheCore
+  pub before_is : slice_get cores n ≡ Some before
+  pub after : TheCore
+  pub event : InCore Event before after
+  pub rest : cores2 ≡ slice_set cores n after
+
+-- ---- among the bindings
+
+-- the binding that is asked for, with the server's end kept until it is made
+abbrev pub unmade_binding : Wish → Program → Binding
+unmade_binding x p =
+    record { interface = x.interface; client = x.client.core; server = x.server.core; unmade = Some (fresh p None) }
+
+-- what follows from what the core made of it
+abbrev pub Keeps : Begun → Binding → List Binding → Answer → List Binding → Type 0
+Keeps begun.There b bindings a bindings2 = (a ≡ nothing) × (bindings2 ≡ bindings)
+Keeps (begun.Refused n) b bindings a bindings2 = (a ≡ refused n) × (bindings2 ≡ bindings)
+Keeps begun.Waits b bindings a bindings2 = (a ≡ done) × (bindings2 ≡ bindings ++ b ∷ [])
+
+-- ---- in the world
+
+-- the opening of the next binding
+abbrev pub opening_along : Wish → ℕ → List CoreId → Opening
+opening_along x n path = record { binding = n; service = x.iref; path = path }
+
+-- whether a circuit may be opened along these cores from the client's core, whatever program stands there
+pub record MayOpenFrom (x : Wish) (path : List CoreId) (w : TheWorld) (may : Result LinkId MonitorFault) : Type 0 where
+  pub core : TheCore
+  pub core_is : slice_get w.cores x.client.core ≡ Some core
+  pub whole : IsWhole core
+  pub may_open : (p : Program) → slice_get w.programs x.interface ≡ Some p
+      → MayOpen (wanted p p (core_id x.server.core) path (length w.cores)) core.monitor.circuits may
+
+-- a circuit is opened on link l, whatever program and core stand there
+abbrev pub OpensOnLink : Wish → LinkId → List CoreId → TheWorld → Answer → TheWorld → Type 0
+OpensOnLink x l path w a w2 = (p : Program) (k : TheCore) (cores : List ℕ) → slice_get w.programs x.interface ≡ Some p
+    → slice_get w.cores x.client.core ≡ Some k → path ≡ map core_id cores → OpensBy (Ok l) (request x p) cores k w a w2
+
+-- a circuit is opened, or not, whatever program stands there
+abbrev pub OpensAlong : Wish → List CoreId → TheWorld → Answer → TheWorld → Type 0
+OpensAlong x path w a w2 = (p : Program) (cores : List ℕ) → slice_get w.programs x.interface ≡ Some p → path ≡ map core_id cores
+    → OpensFrom (request x p) cores w a w2
