@@ -5,3 +5,4 @@ pub mod Made
 pub mod Makes
 pub mod Following
 pub mod Splitting
+pub mod Runs

@@ -4,3 +4,6 @@ pub mod Parts
 pub mod Passing
 pub mod Following
 pub mod Wishes
+pub mod Stepping
+pub mod Booting
+pub mod Apart

@@ -17,17 +17,23 @@
 #![tactic(auto)]
 
 mod binding;
+mod booting;
 mod by_queues;
 mod by_ring;
 mod by_route;
 mod forwarding;
 mod lending;
 mod linking;
+mod machine;
 mod making;
 mod moving;
+mod parts;
 mod places;
 mod sending;
+mod step;
 mod taking;
 mod world;
 
+pub use booting::{BootFault, Config};
+pub use parts::Parts;
 pub use world::World;
