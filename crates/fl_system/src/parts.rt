@@ -26,8 +26,8 @@ pub struct Parts {
 impl World {
     /// The world's parts, before anything was put on a ring: so each ring may be any other that is new and of its size.
     pub fn into_parts(self) -> Parts
-        requires unused { AllUnused self.entry.rings }
-        ensures parts { AreParts self.entry result }
+        requires unused { AllUnused self.rings }
+        ensures parts { AreParts self result }
         ensures unused { AllUnused result.rings.items }
     {
         let World {

@@ -5,7 +5,7 @@ ghost use Rattle.fl_lines.specs.Events.{event_of, answer_of};
 ghost use Rattle.fl_queues.specs.State.{State};
 ghost use Rattle.fl_worlds.specs.Picture.{Shows};
 ghost use Rattle.fl_worlds.specs.Step.{Does, settled, Steps};
-ghost use Rattle.fl_system.specs.Stepping.{StepsAlike, fault_in, is_interface, RunsAlike, ShowsAfterSome};
+ghost use Rattle.fl_system.specs.Stepping.{StepsAlike, fault_in, is_interface, leaves_cores_open, RunsAlike, ShowsAfterSome};
 
 use crate::world::World;
 use fl_lines::{Answer, Event};
@@ -26,6 +26,13 @@ fn is_refused(answer: &Answer) -> bool
     matches!(answer, Answer::Refused(_))
 }
 
+// Whether the number of cores may still be set after the event, where it could be before.
+fn leaves_cores_open(event: &Event<'_>, answer: &Answer) -> bool
+    ensures open { result ≡ leaves_cores_open (event_of event.now) (answer_of answer.now) }
+{
+    is_interface(event) || is_refused(answer)
+}
+
 impl World {
     // What the event does.
     fn does(&mut self, event: &Event<'_>) -> Result<Answer, AllocError>
@@ -41,13 +48,13 @@ impl World {
                 name,
                 dispatcher,
                 interface,
-            } => self.export(*name, *dispatcher, *interface),
+            } => self.export(name, *dispatcher, *interface),
             Event::Bind {
                 client,
                 interface,
                 service,
                 back_end,
-            } => self.bind(*client, *interface, *service, *back_end),
+            } => self.bind(*client, *interface, service, *back_end),
             Event::Call(end, call) => self.call(*end, call),
             Event::Show(end) => Ok(self.show(*end)),
             Event::Write(end) => Ok(self.write(*end)),
@@ -72,7 +79,7 @@ impl World {
     fn settle(&mut self, event: &Event<'_>, answer: &Answer)
         ensures settled { self.new ≡ settled (event_of event.now) (answer_of answer.now) self.old }
     {
-        if is_interface(event) || is_refused(answer) {
+        if leaves_cores_open(event, answer) {
             return;
         }
         self.may_set_cores = false;

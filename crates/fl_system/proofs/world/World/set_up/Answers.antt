@@ -1,0 +1,18 @@
+use Rattle.fl_system.proofs.Runs.{set_up_begins, set_up_turn, set_up_ends, set_up_stops}
+use Rattle.fl_system.proofs.world.World.set_up.Goals as goal
+
+pub loop-k-init : goal.loop-k-init
+loop-k-init c = λ s h. set_up_begins s c.args.events.now _ h
+
+pub loop-k-preserved : goal.loop-k-preserved
+loop-k-preserved c = λ s h.
+    let i = c.loop-k.invariant s h in
+    set_up_turn s c.args.events.now c.loop-k.k _ _ _ _ c.loop-k-test.true c.index-events-k.is i (c.in_default.ensures.passes i.state i.shown)
+
+pub returns-clause-stands : goal.returns-clause-stands
+returns-clause-stands c = λ s h. set_up_ends s c.args.events.now c.loop-k.k _ c.loop-k-test.false (c.loop-k.invariant s h)
+
+pub returns-in-Err-clause-refused : goal.returns-in-Err-clause-refused
+returns-in-Err-clause-refused c = λ s h.
+    let i = c.loop-k.invariant s h in
+    set_up_stops s c.args.events.now c.loop-k.k _ _ _ c.in-Err.fault c.loop-k-test.true c.index-events-k.is i (c.in-Err.ensures.stops i.state i.shown)
