@@ -6,3 +6,4 @@ pub mod Makes
 pub mod Following
 pub mod Splitting
 pub mod Runs
+pub mod Unused

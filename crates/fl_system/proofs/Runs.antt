@@ -161,7 +161,7 @@ runs_on s vs v said a w w2 h k = record {
 }
 
 -- the first k + 1 of a list
-mapped_more : {X Y : Type 0} (f : X → Y) (xs : List X) (k : ℕ) (x d : X) → k < length xs → x ≡ get_or xs k d
+pub mapped_more : {X Y : Type 0} (f : X → Y) (xs : List X) (k : ℕ) (x d : X) → k < length xs → x ≡ get_or xs k d
     → map f (take (k + 1) xs) ≡ map f (take k xs) ++ f x ∷ []
 mapped_more f xs k x d below is =
     ap (map f) (take_more xs k d below) ∙ map-append f (take k xs) (get_or xs k d ∷ [])

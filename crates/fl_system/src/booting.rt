@@ -1,10 +1,12 @@
 //! A world is booted: so many cores, and a set-up.
 
-ghost use Rattle.std.specs.Prelude.{◌≡◌, List, map, IfOk, IfErr, OnOk};
+ghost use Rattle.std.specs.Prelude.{◌≡◌, true, List, [], ◌∷◌, map, IfOk, IfErr, OnOk};
+ghost use Rattle.std.specs.List.{list_all};
 ghost use Rattle.fl_lines.specs.Events.{event_of, answer_of};
 ghost use Rattle.fl_queues.specs.State.{State};
 ghost use Rattle.fl_queues.specs.Step.{step};
 ghost use Rattle.fl_worlds.specs.Picture.{Shows};
+ghost use Rattle.fl_system.specs.Apart.{AllUnused, is_making, KeepsUnused};
 ghost use Rattle.fl_system.specs.Booting.{config_of, boots, sets_up, Stands, IsFaultOf, Passes, StopsAt};
 ghost use Rattle.fl_system.specs.Stepping.{fault_in};
 
@@ -50,6 +52,7 @@ impl World {
     fn set_up_one(&mut self, event: &Event<'_>, place: usize) -> Result<(), BootFault>
         ensures passes { OnOk result ((s : State) → Shows self.old s → Passes (step s (event_of event.now)) self.new) }
         ensures stops { IfErr result (λ fault. (s : State) → Shows self.old s → StopsAt place (step s (event_of event.now)) fault) }
+        ensures unused { OnOk result (KeepsUnused (event_of event.now ∷ []) self.old self.new) }
     {
         let Ok(answer) = self.replay(event) else {
             return Err(BootFault::Memory);
@@ -64,6 +67,7 @@ impl World {
     fn set_up(&mut self, events: &[Event<'_>]) -> Result<(), BootFault>
         ensures stands { OnOk result ((s : State) → Shows self.old s → Stands (sets_up s 1 (map event_of events.now)) self.new) }
         ensures refused { IfErr result (λ fault. (s : State) → Shows self.old s → IsFaultOf (sets_up s 1 (map event_of events.now)) fault) }
+        ensures unused { OnOk result (KeepsUnused (map event_of events.now) self.old self.new) }
     {
         for (k, event) in events.iter().enumerate() {
             if let Err(fault) = self.set_up_one(event, k + 1) {
@@ -73,13 +77,14 @@ impl World {
         Ok(())
     }
 
-    /// A world of so many cores, after a set-up.
+    /// A world of so many cores, after a set-up. If that only makes things, but no circuit, the world may be taken apart ([`World::into_parts`]).
     ///
     /// # Errors
     /// [`BootFault`]: 94 at place 0 where the number of cores isn't 1 to 16; else the first event that is refused; or want of memory.
     pub fn boot(alloc: Global, config: &Config<'_>) -> Result<World, BootFault>
         ensures stands { IfOk result (λ w. Stands (boots (config_of config.now)) w) }
         ensures refused { IfErr result (λ fault. IsFaultOf (boots (config_of config.now)) fault) }
+        ensures unused { IfOk result (λ w. list_all is_making (config_of config.now).setup ≡ true → AllUnused w.rings) }
     {
         let cores = u32::from(config.cores);
         if cores < 1 || cores > MAX_CORES {
