@@ -1,19 +1,21 @@
 -- Rings on which nothing was put stay so while things are made.
 use Rattle.std.proofs.Common.{◌≡◌, ◌∙◌, ◌⊎◌, inl, inr, refl, sym, ap, subst, ℕ, zero, suc, ◌+◌, ◌<◌, ◌≤◌, ◌&&◌, Bool, true, false, Option, Some, None, List, [], ◌∷◌, ◌++◌, length, map, take, get_or, slice_get}
+use Rattle.std.specs.Prelude.{◌==◌, ◌||◌, not, nat_le, nat_lt, is_some}
 use Rattle.std.specs.List.{list_all}
 use Rattle.std.proofs.lemmas.List.{take_all}
 use Rattle.std.proofs.lemmas.List.Folds.{list_all-append}
 use Rattle.fl_check.specs.Interface.{TheInterface}
 use Rattle.fl_value.specs.declared.value.PlanNo.{PlanNo}
 use Rattle.fl_ring.specs.Duo.{TheDuo}
+use Rattle.fl_nameserv.specs.Registrations.{by_name}
 use Rattle.fl_queues.specs.Events.{DispatcherId, Kind, by_queues, by_ring, by_route, Event, add_interface, set_cores, add_link, add_dispatcher, export, bind, call, show, write}
 use Rattle.fl_queues.specs.Events.{turn, acknowledge, register, deregister, reply, monitor_write, forward, monitor_acknowledge, Answer}
 use Rattle.fl_lines.specs.Events.{event_of}
 use Rattle.fl_lines.specs.declared.event.Event.{Event as RustEvent}
-use Rattle.fl_worlds.specs.View.{TheWorld, If, Given}
+use Rattle.fl_worlds.specs.View.{TheWorld, If, Given, has_dispatcher}
 use Rattle.fl_worlds.specs.Lending.{Refuses, DoesNothing}
-use Rattle.fl_worlds.specs.Making.{new_duo, AddsInterface, SetsCores, AddsLink, AddsDispatcher, Exports}
-use Rattle.fl_worlds.specs.Binding.{Request, wanted_from, Binds, BindsBy, BindsByQueues, BindsByRing}
+use Rattle.fl_worlds.specs.Making.{new_duo, has_program, is_core, has_link, AddsInterface, SetsCores, AddsLink, AddsDispatcher, Exports}
+use Rattle.fl_worlds.specs.Binding.{Request, has_both_places, wanted_from, Binds, BindsBy, BindsByQueues, BindsByRing}
 use Rattle.fl_worlds.specs.Step.{Does, Steps, settled, fresh_world}
 use Rattle.fl_system.specs.Stepping.{leaves_cores_open}
 use Rattle.fl_system.specs.Apart.{AllUnused, is_making, KeepsUnused}
@@ -28,14 +30,14 @@ unused_more [] size h (suc n) r is = absurd (cc)
 unused_more (x ∷ xs) size h zero r is = h 0 r is
 unused_more (x ∷ xs) size h (suc n) r is = unused_more xs size (λ k. h (suc k)) n r is
 
-Grows : TheWorld → TheWorld → Type 0
+abbrev Grows : TheWorld → TheWorld → Type 0
 Grows w w2 = (w2.rings ≡ w.rings) ⊎ ((size : ℕ) × (w2.rings ≡ w.rings ++ new_duo size ∷ []))
 
 unused_after : (w w2 : TheWorld) → Grows w w2 → AllUnused w.rings → AllUnused w2.rings
 unused_after w w2 (inl same) h = subst AllUnused (sym same) h
 unused_after w w2 (inr more) h = subst AllUnused (sym more.1) (unused_more w.rings more.0 h)
 
-rings_of : TheWorld → List TheDuo
+abbrev rings_of : TheWorld → List TheDuo
 rings_of w = w.rings
 
 -- ---- by cases
@@ -63,16 +65,16 @@ module _ (w : TheWorld) (a : Answer) (w2 : TheWorld) where
 
   joins_queues : (want : Request) (slots : ℕ) → BindsByQueues want slots w a w2 → Grows w w2
   joins_queues want slots h =
-      by_if _ h (refuses 73) λ h1.
-      by_if _ h1 (refuses 32) λ h2.
-      by_if _ h2 (refuses 54) λ h3.
+      by_if (not (want.client.core == want.server.core)) h (refuses 73) λ h1.
+      by_if (nat_lt slots 1 || nat_lt 1024 slots) h1 (refuses 32) λ h2.
+      by_if (not (has_both_places want w)) h2 (refuses 54) λ h3.
       by_sum h3 (λ j. inl (ap rings_of j.1.rest)) (λ n. nothing_done n.1)
 
   joins_ring : (want : Request) (size : ℕ) → BindsByRing want size w a w2 → Grows w w2
   joins_ring want size h =
-      by_if _ h (refuses 73) λ h1.
+      by_if (want.client.core == want.server.core) h (refuses 73) λ h1.
       by_sum h1 (λ r. refuses 32 r.1) λ h2.
-      by_if _ h2.1 (refuses 54) λ h3.
+      by_if (not (has_both_places want w)) h2.1 (refuses 54) λ h3.
       by_sum h3 (λ j. inr (size, ap rings_of j.1.rest)) (λ n. nothing_done n.1)
 
   binds_kind : (want : Request) (client : DispatcherId) (i : ℕ) (name : List ℕ) (kind : Kind) → is_making (bind client i name kind) ≡ true
@@ -84,42 +86,42 @@ module _ (w : TheWorld) (a : Answer) (w2 : TheWorld) where
   binds_grows : (client : DispatcherId) (i : ℕ) (name : List ℕ) (kind : Kind) → is_making (bind client i name kind) ≡ true
       → Binds client i name kind w a w2 → Grows w w2
   binds_grows client i name kind makes h =
-      by_if _ h (refuses 92) λ h1.
-      by_given _ h1 (refuses 92) λ p h2.
-      by_if _ h2 (refuses 94) λ h3.
-      by_given _ h3 (refuses 70) λ r h4.
-      by_if _ h4 (refuses 72) λ h5.
+      by_if (not (has_dispatcher w client)) h (refuses 92) λ h1.
+      by_given (slice_get w.programs i) h1 (refuses 92) λ p h2.
+      by_if (nat_le 1024 (length w.bindings)) h2 (refuses 94) λ h3.
+      by_given (by_name name w.names) h3 (refuses 70) λ r h4.
+      by_if (not (r.service.interface == i)) h4 (refuses 72) λ h5.
       binds_kind (wanted_from client i p r) client i name kind makes h5
 
   interface_grows : (i : TheInterface) (plan : PlanNo) → AddsInterface i plan w a w2 → Grows w w2
   interface_grows i plan h =
-      by_if _ h (refuses 92) λ h1.
-      by_if _ h1 (refuses 94) λ p.
+      by_if (has_program i.name w) h (refuses 92) λ h1.
+      by_if (nat_le 64 (length w.programs)) h1 (refuses 94) λ p.
       inl (ap rings_of p.rest)
 
   cores_grow : (n : ℕ) → SetsCores n w a w2 → Grows w w2
   cores_grow n h =
-      by_if _ h (refuses 93) λ h1.
-      by_if _ h1 (refuses 94) λ p.
+      by_if (not w.may_set_cores) h (refuses 93) λ h1.
+      by_if (nat_lt n 1 || nat_lt 16 n) h1 (refuses 94) λ p.
       inl (ap rings_of p.1)
 
   links_grow : (x y size : ℕ) → AddsLink x y size w a w2 → Grows w w2
   links_grow x y size h =
-      by_if _ h (refuses 73) λ h1.
+      by_if (not (is_core x w && is_core y w) || (x == y) || has_link x y w) h (refuses 73) λ h1.
       by_sum h1 (λ r. refuses 32 r.1) λ p.
       inr (size, ap rings_of p.1.rest)
 
   dispatchers_grow : (core : ℕ) → AddsDispatcher core w a w2 → Grows w w2
   dispatchers_grow core h =
-      by_if _ h (refuses 94) λ h1.
-      by_given _ h1 (refuses 73) λ k p.
+      by_if (nat_le 256 w.dispatchers) h (refuses 94) λ h1.
+      by_given (slice_get w.cores core) h1 (refuses 73) λ k p.
       inl (ap rings_of p.1)
 
   exports_grow : (name : List ℕ) (d : DispatcherId) (i : ℕ) → Exports name d i w a w2 → Grows w w2
   exports_grow name d i h =
-      by_if _ h (refuses 92) λ h1.
-      by_if _ h1 (refuses 71) λ h2.
-      by_if _ h2 (refuses 94) λ p.
+      by_if (not (has_dispatcher w d) || nat_le (length w.programs) i) h (refuses 92) λ h1.
+      by_if (is_some (by_name name w.names)) h1 (refuses 71) λ h2.
+      by_if (nat_le 256 (length w.names)) h2 (refuses 94) λ p.
       inl (ap rings_of p.1)
 
   grows : (v : Event) → is_making v ≡ true → Does v w a w2 → Grows w w2

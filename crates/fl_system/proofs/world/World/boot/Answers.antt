@@ -17,4 +17,5 @@ returns-in-Err-clause-refused c =
 
 pub returns-in-Ok-set_up-clause-unused : goal.returns-in-Ok-set_up-clause-unused
 returns-in-Ok-set_up-clause-unused c = λ makes.
-    fresh_unused c.from-cores.result _ _ _ _ c.in-Ok.ensures.fresh (ap (map event_of) c.as_slice.ensures.value) c.in-Ok-set_up.ensures.unused makes
+    fresh_unused c.from-cores.result (map event_of c.as_slice.result.now) (map event_of c.args.config.now.setup.items) c.in-Ok.world c.set_up.new.self
+    c.in-Ok.ensures.fresh (ap (map event_of) c.as_slice.ensures.value) c.in-Ok-set_up.ensures.unused makes
