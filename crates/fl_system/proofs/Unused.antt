@@ -169,7 +169,7 @@ pub unused_turn : (xs : List RustEvent) (k : ℕ) (x d : RustEvent) (w0 w w2 : T
     → KeepsUnused (map event_of (take k xs)) w0 w → KeepsUnused (event_of x ∷ []) w w2 → KeepsUnused (map event_of (take (k + 1) xs)) w0 w2
 unused_turn xs k x d w0 w w2 below is h one makes unused =
     let all = both_of (list_all is_making (map event_of (take k xs))) (list_all is_making (event_of x ∷ []))
-        (sym (ap (list_all is_making) (mapped_more event_of xs k x d below is) ∙ list_all-append is_making (map event_of (take k xs)) (event_of x ∷ [])) ∙ makes) in
+    (sym (ap (list_all is_making) (mapped_more event_of xs k x d below is) ∙ list_all-append is_making (map event_of (take k xs)) (event_of x ∷ [])) ∙ makes) in
     one all.1 (h all.0 unused)
 
 pub unused_ends : (xs : List RustEvent) (k : ℕ) (w w2 : TheWorld) → length xs ≤ k → KeepsUnused (map event_of (take k xs)) w w2

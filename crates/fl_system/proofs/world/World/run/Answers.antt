@@ -22,5 +22,5 @@ pub returns-in_err-push-clause-stops : goal.returns-in_err-push-clause-stops
 returns-in_err-push-clause-stops c = whichever _ c.from_residual-in_err-push.result (λ s h.
     let i = c.loop-event.invariant s h in
     let done = run_turn s c.args.events.now c.loop-event.event-index _ _ _ _ _ _ _ c.loop-event-test.true c.event-item.is refl i
-        (c.in_ok-answer.ensures.agrees _ i.shown) in
+    (c.in_ok-answer.ensures.agrees _ i.shown) in
     run_stops s c.args.events.now _ _ _ refl done.shown)
