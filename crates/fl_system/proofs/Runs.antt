@@ -25,7 +25,7 @@ use Rattle.fl_system.specs.declared.booting.Config.{Config}
 use Rattle.fl_system.specs.declared.booting.BootFault.{BootFault}
 use Rattle.fl_system.specs.declared.booting.BootFault.TheVariants.{Refused, Memory}
 use Rattle.fl_system.specs.Stepping.{StepsAlike, fault_in, is_interface, leaves_cores_open, RunsAlike, ShowsAfterSome}
-use Rattle.fl_system.specs.Booting.{TheConfig, config_of, boots, SetUp, stands, refused_at, sets_up, Stands, IsFaultOf, Passes, StopsAt}
+use Rattle.fl_system.specs.Booting.{TheConfig, config_of, boots, SetUp, refused_at, sets_up, Stands, IsFaultOf, Passes, StopsAt}
 
 -- ---- whether the number of cores stands
 

@@ -1,7 +1,7 @@
 -- What a world is booted with, and what the machine makes of that.
 use Rattle.std.specs.Prelude.{ℕ, ◌≡◌, ◌+◌, ◌||◌, nat_lt, if◌then◌else◌, List, [], ◌∷◌, map, is_some, false}
 use Rattle.fl_queues.specs.Given.{given}
-use Rattle.fl_queues.specs.Events.{Event, Answer, refused}
+use Rattle.fl_queues.specs.Events.{Event, refused}
 use Rattle.fl_queues.specs.State.{State, Outcome}
 use Rattle.fl_queues.specs.Making.{most_cores}
 use Rattle.fl_queues.specs.Step.{step}

@@ -1,5 +1,5 @@
 -- What a world makes of events, beside what the machine makes of them in each state that the world shows.
-use Rattle.std.specs.Prelude.{ℕ, ◌≡◌, ◌||◌, ◌++◌, not, Bool, true, false, List, Option, Some, None, is_some}
+use Rattle.std.specs.Prelude.{ℕ, ◌≡◌, ◌||◌, ◌++◌, Bool, true, false, List, Option, Some, None, is_some}
 use Rattle.fl_queues.specs.Events.{Event, add_interface, Answer, refused}
 use Rattle.fl_queues.specs.State.{State}
 use Rattle.fl_queues.specs.Runs.{answers_to, reached}
