@@ -9,3 +9,5 @@ pub mod Wished
 pub mod RingEnds
 pub mod Queued
 pub mod Routes
+pub mod Runs
+pub mod Unused

@@ -1,4 +1,5 @@
--- The public promises rest on fl_worlds; these say the same of the parts of a world that an event touches.
+-- What a world makes of any event, of many, and of a set-up (`Stepping`, `Booting`), and its parts (`Apart`), are public promises. The others say what
+-- fl_worlds says of a world of the parts that an event touches.
 pub mod Places
 pub mod Parts
 pub mod Passing
@@ -7,3 +8,6 @@ pub mod Wishes
 pub mod RingEnds
 pub mod Queued
 pub mod Routes
+pub mod Stepping
+pub mod Booting
+pub mod Apart

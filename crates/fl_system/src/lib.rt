@@ -1,10 +1,15 @@
 //! The whole system, one event at a time: all cores, and the rings and queues between them.
 //!
 //! Contract for the layers above: a [`World`] is the record of `fl_worlds/specs/View.antt`. One event is one step of its relations: what is
-//! answered and what the world is then, exactly. Where memory is refused the world is as it was. By the laws of `fl_worlds` each is then a step of the
-//! queue machine. Bindings are not made here yet, and no call does whatever event it is given: both wait in `wip/`.
+//! answered and what the world is then, exactly ([`World::step`]). Where memory is refused the world is as it was. By the laws of `fl_worlds` each is then a
+//! step of the queue machine: a world is what scripts run on (`fl_transcript::QueueMachine`), it does lists of events ([`World::run`]), it is booted
+//! by a set-up ([`World::boot`], `specs/Booting.antt`), and taken apart before it was used ([`World::into_parts`], `specs/Apart.antt`).
 //!
 //! - `world.rt`: `World`, and what contracts see of it
+//! - `step.rt`: whatever event is asked, and many
+//! - `machine.rt`: scripts run on a world
+//! - `booting.rt`: a world after a set-up
+//! - `parts.rt`: a world taken apart
 //! - `places.rt`: where ends and links are
 //! - `lending.rt`: sides of rings, lent
 //! - `sending.rt`: calls and writes of ends
@@ -17,17 +22,23 @@
 #![tactic(auto)]
 
 mod binding;
+mod booting;
 mod by_queues;
 mod by_ring;
 mod by_route;
 mod forwarding;
 mod lending;
 mod linking;
+mod machine;
 mod making;
 mod moving;
+mod parts;
 mod places;
 mod sending;
+mod step;
 mod taking;
 mod world;
 
+pub use booting::{BootFault, Config};
+pub use parts::Parts;
 pub use world::World;

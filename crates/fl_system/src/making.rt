@@ -35,7 +35,7 @@ const MAX_DISPATCHERS: usize = 256;
 const MAX_SERVICES: usize = 256;
 
 // How many cores.
-const MAX_CORES: u32 = 16;
+pub(crate) const MAX_CORES: u32 = 16;
 
 // So many cores with nothing on them.
 fn fresh_cores(alloc: Global, n: u32) -> Result<Vec<Core>, AllocError>
@@ -104,7 +104,15 @@ impl World {
     pub fn new(alloc: Global) -> Result<World, AllocError>
         ensures fresh { IfOk result (λ w. w ≡ fresh_world 1) }
     {
-        let cores = fresh_cores(alloc, 1)?;
+        World::with_cores(alloc, 1)
+    }
+
+    // A world of so many cores, with nothing on them.
+    pub(crate) fn with_cores(alloc: Global, n: u32) -> Result<World, AllocError>
+        requires few { n ≤ 16 }
+        ensures fresh { IfOk result (λ w. w ≡ fresh_world n) }
+    {
+        let cores = fresh_cores(alloc, n)?;
         Ok(World {
             alloc,
             may_set_cores: true,

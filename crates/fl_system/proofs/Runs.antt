@@ -1,0 +1,293 @@
+-- Events one after another: what stands after one more, and what is left of a set-up.
+use Rattle.std.proofs.Common.{◌≡◌, ◌∙◌, refl, sym, ap, subst, ℕ, ◌+◌, ◌<◌, ◌≤◌, ◌||◌, Bool, true, false, Option, Some, None, List, [], ◌∷◌, ◌++◌, length, map, take, drop, get_or, Result, Ok, Err, IfOk, OnErr, arith}
+use Rattle.std.specs.Prelude.{is_some, nat_lt, if◌then◌else◌}
+use Rattle.std.specs.declared.alloc.AllocError.{AllocError}
+use Rattle.std.proofs.lemmas.Bool.{le-ltb}
+use Rattle.std.proofs.lemmas.List.{take_more, drop_more, map-append, take_all, drop_all, take-append-drop}
+use Rattle.fl_queues.specs.Given.{given}
+use Rattle.fl_queues.specs.Events.{Event, add_interface, set_cores, add_link, add_dispatcher, export, bind, call, show, write}
+use Rattle.fl_queues.specs.Events.{turn, acknowledge, register, deregister, reply, monitor_write, forward, monitor_acknowledge}
+use Rattle.fl_queues.specs.Events.{Answer, done, accepted, nothing, full, written, handle, part, ready, quiet, forwarded, opened, opening_refused, words, refused}
+use Rattle.fl_queues.specs.State.{State, start}
+use Rattle.fl_queues.specs.Making.{most_cores}
+use Rattle.fl_queues.specs.Worlds.{start_with}
+use Rattle.fl_queues.specs.Step.{step}
+use Rattle.fl_queues.specs.Runs.{answers_to, reached}
+use Rattle.fl_lines.specs.Events.{event_of, answer_of}
+use Rattle.fl_lines.specs.declared.answer.Answer.{Answer as RustAnswer}
+use Rattle.fl_lines.specs.declared.event.Event.{Event as RustEvent}
+use Rattle.fl_worlds.specs.View.{TheWorld}
+use Rattle.fl_worlds.specs.Picture.{Shows}
+use Rattle.fl_worlds.specs.Laws.{StepAgrees, FreshShows}
+use Rattle.fl_worlds.specs.Step.{settled, settled_by, fresh_world}
+use Rattle.fl_transcript.specs.Steps as machine
+use Rattle.fl_system.specs.declared.booting.Config.{Config}
+use Rattle.fl_system.specs.declared.booting.BootFault.{BootFault}
+use Rattle.fl_system.specs.declared.booting.BootFault.TheVariants.{Refused, Memory}
+use Rattle.fl_system.specs.Stepping.{StepsAlike, fault_in, is_interface, leaves_cores_open, RunsAlike, ShowsAfterSome}
+use Rattle.fl_system.specs.Booting.{TheConfig, config_of, boots, SetUp, refused_at, sets_up, Stands, IsFaultOf, Passes, StopsAt}
+
+-- ---- whether the number of cores stands
+
+stands_by : (a : Answer) (w : TheWorld) → is_some (fault_in a) ≡ false → settled_by a w ≡ record w { may_set_cores = false }
+stands_by done w h = refl
+stands_by accepted w h = refl
+stands_by nothing w h = refl
+stands_by full w h = refl
+stands_by (written k n) w h = refl
+stands_by (handle e c) w h = refl
+stands_by (part e) w h = refl
+stands_by (ready e) w h = refl
+stands_by (quiet e) w h = refl
+stands_by forwarded w h = refl
+stands_by (opened e) w h = refl
+stands_by (opening_refused n e) w h = refl
+stands_by (words frag) w h = refl
+stands_by (refused fault) w h = absurd (cc)
+
+open_by : (a : Answer) (w : TheWorld) → is_some (fault_in a) ≡ true → settled_by a w ≡ w
+open_by done w h = absurd (cc)
+open_by accepted w h = absurd (cc)
+open_by nothing w h = absurd (cc)
+open_by full w h = absurd (cc)
+open_by (written k n) w h = absurd (cc)
+open_by (handle e c) w h = absurd (cc)
+open_by (part e) w h = absurd (cc)
+open_by (ready e) w h = absurd (cc)
+open_by (quiet e) w h = absurd (cc)
+open_by forwarded w h = absurd (cc)
+open_by (opened e) w h = absurd (cc)
+open_by (opening_refused n e) w h = absurd (cc)
+open_by (words frag) w h = absurd (cc)
+open_by (refused fault) w h = refl
+
+-- an event that adds no interface
+by_answer : (v : Event) (a : Answer) (w : TheWorld) → is_interface v ≡ false → settled v a w ≡ settled_by a w
+by_answer (add_interface i plan) a w h = absurd (cc)
+by_answer (set_cores n) a w h = refl
+by_answer (add_link x y size) a w h = refl
+by_answer (add_dispatcher core) a w h = refl
+by_answer (export name d i) a w h = refl
+by_answer (bind client i name kind) a w h = refl
+by_answer (call e c) a w h = refl
+by_answer (show e) a w h = refl
+by_answer (write e) a w h = refl
+by_answer (turn d) a w h = refl
+by_answer (acknowledge e) a w h = refl
+by_answer (register e) a w h = refl
+by_answer (deregister e) a w h = refl
+by_answer (reply e msg answer) a w h = refl
+by_answer (monitor_write core neighbour) a w h = refl
+by_answer (forward core neighbour) a w h = refl
+by_answer (monitor_acknowledge core neighbour) a w h = refl
+
+of_interface : (v : Event) (a : Answer) (w : TheWorld) → is_interface v ≡ true → settled v a w ≡ w
+of_interface (add_interface i plan) a w h = refl
+of_interface (set_cores n) a w h = absurd (cc)
+of_interface (add_link x y size) a w h = absurd (cc)
+of_interface (add_dispatcher core) a w h = absurd (cc)
+of_interface (export name d i) a w h = absurd (cc)
+of_interface (bind client i name kind) a w h = absurd (cc)
+of_interface (call e c) a w h = absurd (cc)
+of_interface (show e) a w h = absurd (cc)
+of_interface (write e) a w h = absurd (cc)
+of_interface (turn d) a w h = absurd (cc)
+of_interface (acknowledge e) a w h = absurd (cc)
+of_interface (register e) a w h = absurd (cc)
+of_interface (deregister e) a w h = absurd (cc)
+of_interface (reply e msg answer) a w h = absurd (cc)
+of_interface (monitor_write core neighbour) a w h = absurd (cc)
+of_interface (forward core neighbour) a w h = absurd (cc)
+of_interface (monitor_acknowledge core neighbour) a w h = absurd (cc)
+
+-- it stays open
+pub stays_open : (v : Event) (a : Answer) (w : TheWorld) → leaves_cores_open v a ≡ true → settled v a w ≡ w
+stays_open v a w h = by (is_interface v) refl
+  where
+    by : (b : Bool) → is_interface v ≡ b → settled v a w ≡ w
+    by true is = of_interface v a w is
+    by false is = by_answer v a w is ∙ open_by a w (sym (ap (λ (x : Bool). x || is_some (fault_in a)) is) ∙ h)
+
+-- it stands
+pub closes : (v : Event) (a : Answer) (w : TheWorld) → leaves_cores_open v a ≡ false → settled v a w ≡ record w { may_set_cores = false }
+closes v a w h = by (is_interface v) refl
+  where
+    by : (b : Bool) → is_interface v ≡ b → settled v a w ≡ record w { may_set_cores = false }
+    by true is = absurd (cc)
+    by false is = by_answer v a w is ∙ stands_by a w (sym (ap (λ (x : Bool). x || is_some (fault_in a)) is) ∙ h)
+
+-- the same by the fields of the world before
+pub closed : (v : Event) (a : Answer) (w base : TheWorld) → base ≡ w → leaves_cores_open v a ≡ false
+    → record base { may_set_cores = false } ≡ settled v a w
+closed v a w base same h = ap (λ (x : TheWorld). record x { may_set_cores = false }) same ∙ sym (closes v a w h)
+
+-- ---- what holds of an outcome
+
+-- what holds after want of memory
+pub whichever : {X E : Type 0} (P : Type 0) (r : Result X E) → P → OnErr r P
+whichever P (Ok x) h = tt
+whichever P (Err e) h = h
+
+-- ---- the machine that a script runs on
+
+pub steps_as : (v : Event) (w w2 : TheWorld) (r : Result RustAnswer AllocError) → IfOk r (λ a. StepsAlike v w (answer_of a) w2)
+    → IfOk r (λ a. machine.Steps Shows w w2 v (answer_of a))
+steps_as v w w2 (Err e) h = tt
+steps_as v w w2 (Ok a) h = record { shown = λ s is. (h s is).shows; answered = λ s is. sym (h s is).answer }
+
+pub shows_still : {X E : Type 0} (r : Result X E) (w w2 : TheWorld) → OnErr r (w2 ≡ w) → OnErr r ((s : State) → Shows w s → Shows w2 s)
+shows_still (Ok x) w w2 h = tt
+shows_still (Err e) w w2 h = λ s is. subst (λ (x : TheWorld). Shows x s) (sym h) is
+
+pub starts : (law : FreshShows) (r : Result TheWorld AllocError) → IfOk r (λ w. w ≡ fresh_world 1) → IfOk r (λ w. Shows w start)
+starts law (Err e) h = tt
+starts law (Ok w) h = subst (λ (x : TheWorld). Shows x start) (sym h) (law 1 (omega arith) (omega arith))
+
+-- ---- one event more
+
+reached_more : (s : State) (vs : List Event) (v : Event) → reached s (vs ++ v ∷ []) ≡ (step (reached s vs) v).state
+reached_more s [] v = refl
+reached_more s (x ∷ vs) v = reached_more (step s x).state vs v
+
+answered_more : (s : State) (vs : List Event) (v : Event) → answers_to s (vs ++ v ∷ []) ≡ answers_to s vs ++ (step (reached s vs) v).answer ∷ []
+answered_more s [] v = refl
+answered_more s (x ∷ vs) v = ap (λ (said : List Answer). (step s x).answer ∷ said) (answered_more (step s x).state vs v)
+
+runs_on : (s : State) (vs : List Event) (v : Event) (said : List Answer) (a : Answer) (w w2 : TheWorld) → RunsAlike s vs said w
+    → StepAgrees v (reached s vs) a w2 → RunsAlike s (vs ++ v ∷ []) (said ++ a ∷ []) w2
+runs_on s vs v said a w w2 h k = record {
+  answered = ap (λ (l : List Answer). l ++ a ∷ []) h.answered ∙ ap (λ (x : Answer). answers_to s vs ++ x ∷ []) (sym k.answer) ∙ sym (answered_more s vs v);
+  shown = subst (λ (t : State). Shows w2 t) (sym (reached_more s vs v)) k.shows;
+}
+
+-- the first k + 1 of a list
+pub mapped_more : {X Y : Type 0} (f : X → Y) (xs : List X) (k : ℕ) (x d : X) → k < length xs → x ≡ get_or xs k d
+    → map f (take (k + 1) xs) ≡ map f (take k xs) ++ f x ∷ []
+mapped_more f xs k x d below is =
+    ap (map f) (take_more xs k d below) ∙ map-append f (take k xs) (get_or xs k d ∷ [])
+    ∙ ap (λ y. map f (take k xs) ++ f y ∷ []) (sym is)
+
+-- a turn of the loop over events
+pub run_turn : (s : State) (xs : List RustEvent) (k : ℕ) (x d : RustEvent) (said later : List RustAnswer) (a : RustAnswer) (w w2 : TheWorld)
+    → k < length xs → x ≡ get_or xs k d → later ≡ said ++ a ∷ [] → RunsAlike s (map event_of (take k xs)) (map answer_of said) w
+    → StepAgrees (event_of x) (reached s (map event_of (take k xs))) (answer_of a) w2
+    → RunsAlike s (map event_of (take (k + 1) xs)) (map answer_of later) w2
+run_turn s xs k x d said later a w w2 below is more h one =
+    subst (λ (vs : List Event). RunsAlike s vs (map answer_of later) w2) (sym (mapped_more event_of xs k x d below is))
+    (subst (λ (l : List Answer). RunsAlike s (map event_of (take k xs) ++ event_of x ∷ []) l w2)
+    (sym (ap (map answer_of) more ∙ map-append answer_of said (a ∷ [])))
+    (runs_on s (map event_of (take k xs)) (event_of x) (map answer_of said) (answer_of a) w w2 h one))
+
+pub run_begins : (s : State) (xs : List RustEvent) (said : List RustAnswer) (w : TheWorld) → said ≡ [] → Shows w s
+    → RunsAlike s (map event_of (take 0 xs)) (map answer_of said) w
+run_begins s xs said w none h = record { answered = ap (map answer_of) none; shown = h }
+
+pub run_ends : (s : State) (xs : List RustEvent) (k : ℕ) (said : List RustAnswer) (w : TheWorld) → length xs ≤ k
+    → RunsAlike s (map event_of (take k xs)) (map answer_of said) w → RunsAlike s (map event_of xs) (map answer_of said) w
+run_ends s xs k said w past h = subst (λ (l : List RustEvent). RunsAlike s (map event_of l) (map answer_of said) w) (take_all k xs past) h
+
+-- it stops before event k
+pub run_stops : (s : State) (xs : List RustEvent) (k : ℕ) (w w2 : TheWorld) → w2 ≡ w → Shows w (reached s (map event_of (take k xs)))
+    → ShowsAfterSome s (map event_of xs) w2
+run_stops s xs k w w2 same h = record {
+  done = map event_of (take k xs);
+  left = map event_of (drop k xs);
+  events_are = ap (map event_of) (sym (take-append-drop k xs)) ∙ map-append event_of (take k xs) (drop k xs);
+  shown = subst (λ (x : TheWorld). Shows x (reached s (map event_of (take k xs)))) (sym same) h;
+}
+
+-- ---- a set-up
+
+-- what event k and those behind it make of a state that is shown is what all make
+pub record IsLeft (s : State) (xs : List RustEvent) (k : ℕ) (w : TheWorld) : Type 0 where
+  pub state : State
+  pub same : sets_up s 1 (map event_of xs) ≡ sets_up state (k + 1) (map event_of (drop k xs))
+  pub shown : Shows w state
+
+pub set_up_begins : (s : State) (xs : List RustEvent) (w : TheWorld) → Shows w s → IsLeft s xs 0 w
+set_up_begins s xs w h = record { state = s; same = refl; shown = h }
+
+-- without a fault the rest is what is left
+unrefused : {X : Type 0} (o : Option ℕ) (x : X) (f : ℕ → X) → is_some o ≡ false → given o x f ≡ x
+unrefused None x f h = refl
+unrefused (Some n) x f h = absurd (cc)
+
+passes_on : (t : State) (place : ℕ) (v : Event) (vs : List Event) → is_some (fault_in (step t v).answer) ≡ false
+    → sets_up t place (v ∷ vs) ≡ sets_up (step t v).state (place + 1) vs
+passes_on t place v vs h =
+    unrefused (fault_in (step t v).answer) (sets_up (step t v).state (place + 1) vs) (λ fault. refused_at fault place) h
+
+stops_there : (t : State) (place n : ℕ) (v : Event) (vs : List Event) → (step t v).answer ≡ refused n → sets_up t place (v ∷ vs) ≡ refused_at n place
+stops_there t place n v vs h =
+    ap (λ (a : Answer). given (fault_in a) (sets_up (step t v).state (place + 1) vs) (λ fault. refused_at fault place)) h
+
+-- event k and those behind it
+from_there : (xs : List RustEvent) (k : ℕ) (x d : RustEvent) → k < length xs → x ≡ get_or xs k d
+    → map event_of (drop k xs) ≡ event_of x ∷ map event_of (drop (k + 1) xs)
+from_there xs k x d below is =
+    ap (map event_of) (drop_more xs k d below) ∙ ap (λ (y : RustEvent). event_of y ∷ map event_of (drop (k + 1) xs)) (sym is)
+
+-- a turn of the loop over a set-up's events
+pub set_up_turn : (s : State) (xs : List RustEvent) (k : ℕ) (x d : RustEvent) (w w2 : TheWorld) → k < length xs → x ≡ get_or xs k d
+    → (h : IsLeft s xs k w) → Passes (step h.state (event_of x)) w2 → IsLeft s xs (k + 1) w2
+set_up_turn s xs k x d w w2 below is h p = record {
+  state = (step h.state (event_of x)).state;
+  same = h.same ∙ ap (sets_up h.state (k + 1)) (from_there xs k x d below is)
+      ∙ passes_on h.state (k + 1) (event_of x) (map event_of (drop (k + 1) xs)) p.passed;
+  shown = p.shown;
+}
+
+pub set_up_stops : (s : State) (xs : List RustEvent) (k : ℕ) (x d : RustEvent) (w : TheWorld) (fault : BootFault) → k < length xs → x ≡ get_or xs k d
+    → (h : IsLeft s xs k w) → StopsAt (k + 1) (step h.state (event_of x)) fault → IsFaultOf (sets_up s 1 (map event_of xs)) fault
+set_up_stops s xs k x d w Memory below is h stops = tt
+set_up_stops s xs k x d w (Refused number place) below is h stops =
+    h.same ∙ ap (sets_up h.state (k + 1)) (from_there xs k x d below is)
+    ∙ stops_there h.state (k + 1) number (event_of x) (map event_of (drop (k + 1) xs)) stops.0
+    ∙ ap (refused_at number) (sym stops.1)
+
+pub set_up_ends : (s : State) (xs : List RustEvent) (k : ℕ) (w : TheWorld) → length xs ≤ k → IsLeft s xs k w
+    → Stands (sets_up s 1 (map event_of xs)) w
+set_up_ends s xs k w past h = record {
+  state = h.state;
+  state_is = h.same ∙ ap (λ (l : List RustEvent). sets_up h.state (k + 1) (map event_of l)) (drop_all k xs past);
+  shown = h.shown;
+}
+
+-- ---- a boot
+
+pub boots_with : (c : TheConfig) → 1 ≤ c.cores → c.cores ≤ most_cores → boots c ≡ sets_up (start_with c.cores) 1 c.setup
+boots_with c one few =
+    ap (λ (b : Bool). if b || nat_lt most_cores c.cores then refused_at 94 0 else sets_up (start_with c.cores) 1 c.setup) (le-ltb c.cores 1 one)
+    ∙ ap (λ (b : Bool). if b then refused_at 94 0 else sets_up (start_with c.cores) 1 c.setup) (le-ltb most_cores c.cores few)
+
+-- what holds of all that a set-up makes holds of what a configuration comes to
+pub boots_by : (P : SetUp → Type 0) (law : FreshShows) (c : Config) (n : ℕ) (vs : List RustEvent) (w : TheWorld) → n ≡ c.cores → 1 ≤ n → n ≤ most_cores
+    → vs ≡ c.setup.items → w ≡ fresh_world n → ((s : State) → Shows w s → P (sets_up s 1 (map event_of vs))) → P (boots (config_of c))
+boots_by P law c n vs w same one few lent fresh h =
+    let shown : Shows w (start_with n) = subst (λ (x : TheWorld). Shows x (start_with n)) (sym fresh) (law n one few) in
+    subst P
+    (ap (λ (l : List RustEvent). sets_up (start_with n) 1 (map event_of l)) lent
+    ∙ ap (λ (m : ℕ). sets_up (start_with m) 1 (map event_of c.setup.items)) same
+    ∙ sym (boots_with (config_of c) (subst (λ (m : ℕ). 1 ≤ m) same one) (subst (λ (m : ℕ). m ≤ most_cores) same few)))
+    (h (start_with n) shown)
+
+-- ---- faults of answers
+
+pub by_none : (a b : Answer) → a ≡ b → fault_in b ≡ None → is_some (fault_in a) ≡ false
+by_none a b same h = ap (λ (x : Answer). is_some (fault_in x)) same ∙ ap is_some h
+
+pub by_some : (a : Answer) (n : ℕ) → fault_in a ≡ Some n → a ≡ refused n
+by_some (refused m) n h = cc
+by_some done n h = absurd (cc)
+by_some accepted n h = absurd (cc)
+by_some nothing n h = absurd (cc)
+by_some full n h = absurd (cc)
+by_some (written i j) n h = absurd (cc)
+by_some (handle e c) n h = absurd (cc)
+by_some (part e) n h = absurd (cc)
+by_some (ready e) n h = absurd (cc)
+by_some (quiet e) n h = absurd (cc)
+by_some forwarded n h = absurd (cc)
+by_some (opened e) n h = absurd (cc)
+by_some (opening_refused i e) n h = absurd (cc)
+by_some (words frag) n h = absurd (cc)

@@ -1,0 +1,21 @@
+use Rattle.std.proofs.Common.{ap, map}
+use Rattle.fl_lines.specs.Events.{event_of}
+use Rattle.fl_system.specs.Booting.{SetUp, Stands, IsFaultOf}
+use Rattle.fl_system.proofs.Runs.{boots_by}
+use Rattle.fl_system.proofs.Unused.{fresh_unused}
+use Rattle.fl_system.proofs.world.World.boot.Goals as goal
+
+pub returns-in-Ok-set_up-clause-stands : goal.returns-in-Ok-set_up-clause-stands
+returns-in-Ok-set_up-clause-stands c =
+    boots_by (λ (o : SetUp). Stands o c.set_up.new.self) c.fresh_shows.ensures.shows c.args.config.now c.from-cores.result c.as_slice.result.now c.in-Ok.world
+    c.from-cores.ensures c.if-cores-lt1.false c.if-cores-gt-MAX_CORES.false c.as_slice.ensures.value c.in-Ok.ensures.fresh c.in-Ok-set_up.ensures.stands
+
+pub returns-in-Err-clause-refused : goal.returns-in-Err-clause-refused
+returns-in-Err-clause-refused c =
+    boots_by (λ (o : SetUp). IsFaultOf o c.in-Err.fault) c.fresh_shows.ensures.shows c.args.config.now c.from-cores.result c.as_slice.result.now c.in-Ok.world
+    c.from-cores.ensures c.if-cores-lt1.false c.if-cores-gt-MAX_CORES.false c.as_slice.ensures.value c.in-Ok.ensures.fresh c.in-Err.ensures.refused
+
+pub returns-in-Ok-set_up-clause-unused : goal.returns-in-Ok-set_up-clause-unused
+returns-in-Ok-set_up-clause-unused c = λ makes.
+    fresh_unused c.from-cores.result (map event_of c.as_slice.result.now) (map event_of c.args.config.now.setup.items) c.in-Ok.world c.set_up.new.self
+    c.in-Ok.ensures.fresh (ap (map event_of) c.as_slice.ensures.value) c.in-Ok-set_up.ensures.unused makes

@@ -1,0 +1,105 @@
+//! A world is booted: so many cores, and a set-up.
+
+ghost use Rattle.std.specs.Prelude.{◌≡◌, true, List, [], ◌∷◌, map, IfOk, IfErr, OnOk};
+ghost use Rattle.std.specs.List.{list_all};
+ghost use Rattle.fl_lines.specs.Events.{event_of, answer_of};
+ghost use Rattle.fl_queues.specs.State.{State};
+ghost use Rattle.fl_queues.specs.Step.{step};
+ghost use Rattle.fl_worlds.specs.Picture.{Shows};
+ghost use Rattle.fl_system.specs.Apart.{AllUnused, is_making, KeepsUnused};
+ghost use Rattle.fl_system.specs.Booting.{config_of, boots, sets_up, Stands, IsFaultOf, Passes, StopsAt};
+ghost use Rattle.fl_system.specs.Stepping.{fault_in};
+
+use crate::making::MAX_CORES;
+use crate::world::World;
+use fl_lines::{Answer, Event};
+use fl_worlds::fresh_shows;
+use std::alloc::Global;
+use thiserror::Error;
+
+/// What a world is booted with.
+#[derive(Drop)]
+pub struct Config<'a> {
+    /// How many cores there are at the start. The set-up may still set the number.
+    pub cores: u8,
+    /// What is done first, in order.
+    pub setup: Vec<Event<'a>>,
+}
+
+/// Why there is no world.
+#[derive(Clone, Copy, Debug, PartialEq, Eq, Error)]
+pub enum BootFault {
+    /// The event at this place, from 1, is refused, with the fault's number; at place 0 the number of cores.
+    #[error("the set-up is refused")]
+    Refused { number: u8, place: usize },
+    /// Memory was refused.
+    #[error("out of memory")]
+    Memory,
+}
+
+// The fault for which an event was refused.
+fn fault_in(answer: &Answer) -> Option<u8>
+    ensures fault { result ≡ fault_in (answer_of answer.now) }
+{
+    match answer {
+        Answer::Refused(number) => Some(*number),
+        _ => None,
+    }
+}
+
+impl World {
+    // Does the event of a set-up that has this place.
+    fn set_up_one(&mut self, event: &Event<'_>, place: usize) -> Result<(), BootFault>
+        ensures passes { OnOk result ((s : State) → Shows self.old s → Passes (step s (event_of event.now)) self.new) }
+        ensures stops { IfErr result (λ fault. (s : State) → Shows self.old s → StopsAt place (step s (event_of event.now)) fault) }
+        ensures unused { OnOk result (KeepsUnused (event_of event.now ∷ []) self.old self.new) }
+    {
+        let Ok(answer) = self.replay(event) else {
+            return Err(BootFault::Memory);
+        };
+        match fault_in(&answer) {
+            Some(number) => Err(BootFault::Refused { number, place }),
+            None => Ok(()),
+        }
+    }
+
+    // Does the events of a set-up, until one is refused.
+    fn set_up(&mut self, events: &[Event<'_>]) -> Result<(), BootFault>
+        ensures stands { OnOk result ((s : State) → Shows self.old s → Stands (sets_up s 1 (map event_of events.now)) self.new) }
+        ensures refused { IfErr result (λ fault. (s : State) → Shows self.old s → IsFaultOf (sets_up s 1 (map event_of events.now)) fault) }
+        ensures unused { OnOk result (KeepsUnused (map event_of events.now) self.old self.new) }
+    {
+        for (k, event) in events.iter().enumerate() {
+            if let Err(fault) = self.set_up_one(event, k + 1) {
+                return Err(fault);
+            }
+        }
+        Ok(())
+    }
+
+    /// A world of so many cores, after a set-up. If that only makes things, but no circuit, the world may be taken apart ([`World::into_parts`]).
+    ///
+    /// # Errors
+    /// [`BootFault`]: 94 at place 0 where the number of cores isn't 1 to 16; else the first event that is refused; or want of memory.
+    pub fn boot(alloc: Global, config: &Config<'_>) -> Result<World, BootFault>
+        ensures stands { IfOk result (λ w. Stands (boots (config_of config.now)) w) }
+        ensures refused { IfErr result (λ fault. IsFaultOf (boots (config_of config.now)) fault) }
+        ensures unused { IfOk result (λ w. list_all is_making (config_of config.now).setup ≡ true → AllUnused w.rings) }
+    {
+        let cores = u32::from(config.cores);
+        if cores < 1 || cores > MAX_CORES {
+            return Err(BootFault::Refused {
+                number: 94,
+                place: 0,
+            });
+        }
+        fresh_shows();
+        let Ok(mut world) = World::with_cores(alloc, cores) else {
+            return Err(BootFault::Memory);
+        };
+        match world.set_up(config.setup.as_slice()) {
+            Ok(()) => Ok(world),
+            Err(fault) => Err(fault),
+        }
+    }
+}

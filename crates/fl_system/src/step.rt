@@ -1,0 +1,131 @@
+//! Whatever event is asked: one step of the machine, and many.
+
+ghost use Rattle.std.specs.Prelude.{◌≡◌, List, map, is_some, IfOk, OnErr};
+ghost use Rattle.fl_lines.specs.Events.{event_of, answer_of};
+ghost use Rattle.fl_queues.specs.State.{State};
+ghost use Rattle.fl_worlds.specs.Picture.{Shows};
+ghost use Rattle.fl_worlds.specs.Step.{Does, settled, Steps};
+ghost use Rattle.fl_system.specs.Stepping.{StepsAlike, fault_in, is_interface, leaves_cores_open, RunsAlike, ShowsAfterSome};
+
+use crate::world::World;
+use fl_lines::{Answer, Event};
+use fl_worlds::steps_agree;
+use std::alloc::AllocError;
+
+// Whether the event adds an interface.
+fn is_interface(event: &Event<'_>) -> bool
+    ensures interface { result ≡ is_interface (event_of event.now) }
+{
+    matches!(event, Event::AddInterface { .. })
+}
+
+// Whether the event was refused.
+fn is_refused(answer: &Answer) -> bool
+    ensures refused { result ≡ is_some (fault_in (answer_of answer.now)) }
+{
+    matches!(answer, Answer::Refused(_))
+}
+
+// Whether the number of cores may still be set after the event, where it could be before.
+fn leaves_cores_open(event: &Event<'_>, answer: &Answer) -> bool
+    ensures open { result ≡ leaves_cores_open (event_of event.now) (answer_of answer.now) }
+{
+    is_interface(event) || is_refused(answer)
+}
+
+impl World {
+    // What the event does.
+    fn does(&mut self, event: &Event<'_>) -> Result<Answer, AllocError>
+        ensures does { IfOk result (λ a. Does (event_of event.now) self.old (answer_of a) self.new) }
+        ensures kept { OnErr result (self.new ≡ self.old) }
+    {
+        match event {
+            Event::AddInterface { interface, plan } => self.add_interface(interface, *plan),
+            Event::SetCores(n) => self.set_cores(*n),
+            Event::AddLink { a, b, slots } => self.add_link(*a, *b, *slots),
+            Event::AddDispatcher(core) => self.add_dispatcher(*core),
+            Event::Export {
+                name,
+                dispatcher,
+                interface,
+            } => self.export(name, *dispatcher, *interface),
+            Event::Bind {
+                client,
+                interface,
+                service,
+                back_end,
+            } => self.bind(*client, *interface, service, *back_end),
+            Event::Call(end, call) => self.call(*end, call),
+            Event::Show(end) => Ok(self.show(*end)),
+            Event::Write(end) => Ok(self.write(*end)),
+            Event::Turn(dispatcher) => self.turn(*dispatcher),
+            Event::Acknowledge(end) => Ok(self.acknowledge(*end)),
+            Event::Register(end) => Ok(self.register(*end)),
+            Event::Deregister(end) => Ok(self.deregister(*end)),
+            Event::Reply {
+                end,
+                message,
+                answer,
+            } => Ok(self.reply(*end, *message, *answer)),
+            Event::MonitorWrite { core, neighbour } => Ok(self.monitor_write(*core, *neighbour)),
+            Event::Forward { core, neighbour } => self.forward(*core, *neighbour),
+            Event::MonitorAcknowledge { core, neighbour } => {
+                Ok(self.monitor_acknowledge(*core, *neighbour))
+            }
+        }
+    }
+
+    // After any answer but a refusal the number of cores stands; but interfaces may be added before it is set.
+    fn settle(&mut self, event: &Event<'_>, answer: &Answer)
+        ensures settled { self.new ≡ settled (event_of event.now) (answer_of answer.now) self.old }
+    {
+        if leaves_cores_open(event, answer) {
+            return;
+        }
+        self.may_set_cores = false;
+    }
+
+    /// Does one event, which is lent: nothing of it is copied but what the world keeps.
+    ///
+    /// # Errors
+    /// Want of memory. Nothing has changed.
+    pub fn replay(&mut self, event: &Event<'_>) -> Result<Answer, AllocError>
+        ensures steps { IfOk result (λ a. Steps (event_of event.now) self.old (answer_of a) self.new) }
+        ensures agrees { IfOk result (λ a. StepsAlike (event_of event.now) self.old (answer_of a) self.new) }
+        ensures kept { OnErr result (self.new ≡ self.old) }
+    {
+        steps_agree();
+        let answer = self.does(event)?;
+        self.settle(event, &answer);
+        Ok(answer)
+    }
+
+    /// Does one event: a step of the machine.
+    ///
+    /// # Errors
+    /// Want of memory. Nothing has changed.
+    pub fn step(&mut self, event: Event<'_>) -> Result<Answer, AllocError>
+        ensures steps { IfOk result (λ a. Steps (event_of event.entry) self.old (answer_of a) self.new) }
+        ensures agrees { IfOk result (λ a. StepsAlike (event_of event.entry) self.old (answer_of a) self.new) }
+        ensures kept { OnErr result (self.new ≡ self.old) }
+    {
+        self.replay(&event)
+    }
+
+    /// Does events in order, and gives their answers.
+    ///
+    /// # Errors
+    /// Want of memory. The first events were done, and no others.
+    pub fn run(&mut self, events: &[Event<'_>]) -> Result<Vec<Answer>, AllocError>
+        ensures runs { IfOk result (λ answers. (s : State) → Shows self.old s
+            → RunsAlike s (map event_of events.now) (map answer_of answers.items) self.new) }
+        ensures stops { OnErr result ((s : State) → Shows self.old s → ShowsAfterSome s (map event_of events.now) self.new) }
+    {
+        let mut answers = Vec::new(self.alloc);
+        for event in events {
+            let answer = self.replay(event)?;
+            answers.push(answer)?;
+        }
+        Ok(answers)
+    }
+}
