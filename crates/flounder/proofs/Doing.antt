@@ -11,10 +11,10 @@ use Rattle.clap.specs.declared.error.kind.ErrorKind.TheVariants.{DisplayHelp}
 use Rattle.fl_base.specs.Prefix.{IsPrefix}
 use Rattle.fl_check.specs.Interface.{TheInterface}
 use Rattle.fl_value.specs.declared.value.PlanNo.TheVariants.{Two}
-use Rattle.fl_script.specs.declared.running.ExecFault.{ExecFault}
-use Rattle.fl_script.specs.Transcript.{Transcript}
-use Rattle.fl_script.specs.CutShort.{Leaves}
-use Rattle.fl_script.specs.Runs as script
+use Rattle.fl_transcript.specs.declared.running.ExecFault.{ExecFault}
+use Rattle.fl_transcript.specs.Transcript.{Transcript}
+use Rattle.fl_transcript.specs.CutShort.{Leaves}
+use Rattle.fl_transcript.specs.Reading as script
 use Rattle.fl_show.specs.declared.fault.ShowFault.{ShowFault}
 use Rattle.fl_show.specs.Content.{StandsFor, IsImageOf, IsRefusalOf, Shows, IsRefusedAs, status_of}
 use Rattle.flounder.specs.declared.fault.Fault.{Fault}
