@@ -3,7 +3,7 @@
 ghost use Rattle.std.specs.Prelude.{◌≡◌, ◌++◌, ◌<◌, OnOk, codes, false};
 ghost use Rattle.std.specs.Fmt.{decimal, digit_glyph};
 ghost use Rattle.fl_value.specs.Value.{call_of};
-ghost use Rattle.fl_lines.specs.Answers.{byte_hex, hex, frag_text, end_named, call_at, answer_text, fault_text};
+ghost use Rattle.fl_lines.specs.Answers.{hex, frag_text, end_named, call_at, answer_text, fault_text};
 ghost use Rattle.fl_lines.specs.Asked.{is_done};
 ghost use Rattle.fl_lines.specs.Events.{answer_of};
 ghost use Rattle.fl_lines.specs.Told.{names_of};
@@ -73,22 +73,36 @@ fn digit(value: u8) -> u8
     }
 }
 
-fn put_byte_hex(out: &mut Vec<u8>, byte: u8) -> Result<(), AllocError>
-    ensures ok { OnOk result (out.new.items ≡ out.old.items ++ byte_hex byte) }
+// A word's 16 digits.
+fn hex_digits(word: u64) -> [u8; 16]
+    ensures { result ≡ hex word }
 {
-    out.push(digit(byte / 16))?;
-    out.push(digit(byte % 16))?;
-    Ok(())
+    let [a, b, c, d, e, f, g, h] = word.to_be_bytes();
+    [
+        digit(a / 16),
+        digit(a % 16),
+        digit(b / 16),
+        digit(b % 16),
+        digit(c / 16),
+        digit(c % 16),
+        digit(d / 16),
+        digit(d % 16),
+        digit(e / 16),
+        digit(e % 16),
+        digit(f / 16),
+        digit(f % 16),
+        digit(g / 16),
+        digit(g % 16),
+        digit(h / 16),
+        digit(h % 16),
+    ]
 }
 
 fn put_hex(out: &mut Vec<u8>, word: u64) -> Result<(), AllocError>
     ensures ok { OnOk result (out.new.items ≡ out.old.items ++ hex word) }
 {
-    let bytes = word.to_be_bytes();
-    for byte in bytes {
-        put_byte_hex(out, byte)?;
-    }
-    Ok(())
+    let digits = hex_digits(word);
+    out.extend_from_slice(digits.as_slice())
 }
 
 // Eight words in hexadecimal, the control word last.
