@@ -1,6 +1,7 @@
 //! Tests of what the program is made of, by the public calls of `fl_system`, `fl_transcript` and `fl_show`. They stand here
 //! and not in those crates, since a crate with tests is proved twice.
 //!
+//! - `examples.rt`: the scripts of `examples/`
 //! - `rows.rt`: worked examples, and their transcripts
 //! - `transcripts.rt`: lines that ask nothing, and the longest script
 //! - `limits.rt`: one thing more than a world holds
@@ -11,6 +12,8 @@
 //! others end with out of memory. Readers and writers that give and take little, or fail, are tested in `transcript_tests`.
 #![tactic(auto)]
 
+#[cfg(test)]
+mod examples;
 #[cfg(test)]
 mod limits;
 #[cfg(test)]

@@ -107,12 +107,16 @@ const OPENING: &str = "mwrite 0 1\nforward 1 0\nmack 1 0\nmwrite 1 0\nforward 0 
 fn one_opening_too_many(rt: HostRuntime) -> Result<(), Fail> {
     let mut script = String::new(rt.alloc());
     let mut wanted = String::new(rt.alloc());
-    script.push_str("idl\ninterface i { message m(); }\n.\ncores 2\nlink 0 1 4\ndisp d 0\ndisp e 1\nexport s e i\n")?;
+    script.push_str(
+        "idl\ninterface i { message m(); }\n.\ncores 2\nlink 0 1 4\ndisp d 0\ndisp e 1\nexport s e i\n",
+    )?;
     wanted.push_str("ok\nok\nok\nok\nok\nok\n")?;
     for n in 0..1023u32 {
         let line = format!(in rt.alloc(); "bind p{n} d i s hop 0 1\n{OPENING}")?;
         script.push_str(&line)?;
-        let answers = format!(in rt.alloc(); "ok\nwritten 1 of 1\nopened p{n}.s\nnothing\nwritten 1 of 1\nopened p{n}.c\nnothing\n")?;
+        let answers = format!(in rt.alloc();
+            "ok\nwritten 1 of 1\nopened p{n}.s\nnothing\nwritten 1 of 1\nopened p{n}.c\nnothing\n"
+        )?;
         wanted.push_str(&answers)?;
     }
     script.push_str("bind q d i s hop 0 1\n")?;
@@ -126,16 +130,12 @@ fn one_opening_too_many(rt: HostRuntime) -> Result<(), Fail> {
 #[test]
 fn one_message_too_many(rt: HostRuntime) -> Result<(), Fail> {
     let mut script = String::new(rt.alloc());
-    script.push_str("idl\ninterface i { message m(); }\n.\ncores 2\nlink 0 1 4\ndisp d 0\ndisp e 1\nexport s e i\n")?;
+    script.push_str(
+        "idl\ninterface i { message m(); }\n.\ncores 2\nlink 0 1 4\ndisp d 0\ndisp e 1\nexport s e i\n",
+    )?;
     for n in 0..65u32 {
         let line = format!(in rt.alloc(); "bind p{n} d i s hop 0 1\n")?;
         script.push_str(&line)?;
     }
-    expect_last(
-        &rt,
-        rt.alloc(),
-        script.as_bytes(),
-        6 + 64,
-        b"refused E75\n",
-    )
+    expect_last(&rt, rt.alloc(), script.as_bytes(), 6 + 64, b"refused E75\n")
 }
