@@ -80,7 +80,7 @@ first_items s (item ∷ items) (d ∷ done) others (first, rest, does, h, e) =
     (item ∷ firsts, (first, done, does, k, ap (λ (x : Effect). x ∷ done) same))
 
 pub begun : (bytes : List ℕ) (done : List Effect) → Begins bytes done → (firsts : List Item) × AllDo beginning firsts done
-begun bytes done (others, items, i, h) = first_items beginning items done others h
+begun bytes done (others, r) = let (items, i, h) = r in first_items beginning items done others h
 
 pub handlers : HandledIsAPrefix → AllAccepted → ScriptsHandlePrefixes
 handlers prefix all bytes done b =

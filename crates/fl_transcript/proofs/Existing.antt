@@ -22,7 +22,7 @@ use Rattle.fl_lines.specs.Asked.{Asked, refuses, asks, is_taken, asks_end, asks_
 use Rattle.fl_transcript.specs.Text.{TextOutcome, stands_for, text_fault}
 use Rattle.fl_transcript.specs.Transcript.{Script, beginning, Effect, effect_of, block_effect, Does, AllDo, Begins, last_of}
 use Rattle.fl_transcript.specs.Standing.{message_names, HasDispatcher, HasInterface, HasEnd, HasMessage, IsOfWhatStands, ScriptsAskOfWhatStands}
-use Rattle.fl_transcript.proofs.Asking.{begun}
+use Rattle.fl_transcript.proofs.Asking.{asked_once, begun}
 use Rattle.fl_transcript.proofs.Once.{place_within}
 use Rattle.fl_transcript.proofs.Naming.{Fits, After, one_of, dispatcher_there, map_length, item_after, fits_first}
 use Rattle.fl_transcript.proofs.Views.{view, interface_in}
@@ -88,7 +88,7 @@ module _ (s : Script) (h : After s) where
       by_interface b at None q less = absurd (omega (arith, less))
       by_interface b at (Some i) q less =
           let as_many = map_length (λ (y : TheMessage). y.name) i.interface.messages in
-          (b, (i, (at, (q, omega (arith, less, as_many)))))
+          (b, i, at, q, omega (arith, less, as_many))
 
       by_binding : (o : Option Binding) → slice_get s.state.bindings x.binding ≡ o
           → m < length (given (option_map interface_in o) [] λ i. given (slice_get (map message_names s.state.interfaces) i) [] λ names. names)
@@ -170,8 +170,8 @@ module _ (s : Script) (h : After s) where
   none_stand n x e = absurd (cc)
 
   asked_stand : (asked : Asked) → Stands asked → AllStand s (effect_of s asked).asked
-  asked_stand (refuses fault) t = none_stand
-  asked_stand (asks v new) t zero x e = subst (λ (y : Exchange). IsOfWhatStands s.state y.event) (let same : _ ≡ x = cc in same) t
+  asked_stand (refuses fault) t n x e = none_stand n x e
+  asked_stand (asks v new) t zero x e = let same : asked_once s.state v ≡ x = cc in subst (λ (y : Exchange). IsOfWhatStands s.state y.event) same t
   asked_stand (asks v new) t (suc n) x e = absurd (cc)
 
   block_stands : (plan : PlanNo) (outcome : TextOutcome) → AllStand s (block_effect s plan outcome).asked

@@ -1,5 +1,5 @@
 -- The names that a script has given are those of the machine's things.
-use Rattle.std.proofs.Common.{◌≡◌, ◌≢◌, ◌∙◌, inl, inr, refl, sym, ap, subst, ℕ, zero, suc, ◌+◌, ◌<◌, ◌≤◌, ◌==◌, cond, Bool, true, false, List, [], ◌∷◌, ◌++◌, length, map, slice_get, Option, Some, None, option_map, length-append, arith}
+use Rattle.std.proofs.Common.{◌≡◌, ◌≢◌, ◌∙◌, inl, inr, refl, sym, ap, ap₂, subst, ℕ, zero, suc, ◌+◌, ◌<◌, ◌≤◌, ◌==◌, cond, Bool, true, false, List, [], ◌∷◌, ◌++◌, length, map, slice_get, Option, Some, None, option_map, length-append, arith}
 use Rattle.std.specs.List.{count_by, range_with_len}
 use Rattle.std.proofs.lemmas.List.{map-append}
 use Rattle.std.proofs.lemmas.List.Sums.{sum_by_push}
@@ -176,6 +176,12 @@ before [] x y k e = absurd (cc)
 before (z ∷ xs) x y zero e = e
 before (z ∷ xs) x y (suc k) e = before xs x y k e
 
+abbrev the_id : ℕ → ℕ → DispatcherId
+the_id core place = record { core = core; place = place }
+
+same_id : (x y : DispatcherId) → x.core ≡ y.core → x.place ≡ y.place → x ≡ y
+same_id x y a b = ap₂ the_id a b
+
 named_by : (n : Names) (v : View) (core : ℕ) (d : DispatcherId) (t : Bool) → (core == d.core) ≡ t → core < length v.counts
     → count_by (is_on core) n.placed ≡ count_at core v.counts
     → ((d : DispatcherId) → d.place < count_at d.core v.counts → (k : ℕ) × (slice_get n.placed k ≡ Some d))
@@ -201,9 +207,6 @@ named_by n v core d true e there as_many each less = old_or_new (nat_lt d.place 
         let place : count_by (is_on core) n.placed ≡ d.place = omega (arith, as_many, many, most, here, less) in
         (length n.placed, subst (λ (x : DispatcherId). slice_get (n.placed ++ new_id n core ∷ []) (length n.placed) ≡ Some x)
         (same_id (new_id n core) d is place) (behind n.placed (new_id n core)))
-
-    same_id : (x y : DispatcherId) → x.core ≡ y.core → x.place ≡ y.place → x ≡ y
-    same_id x y a b = cc
 
 fits_dispatcher : (n : Names) (v : View) (name : List ℕ) (core : ℕ) → is_taken name n.dispatchers ≡ false → core < length v.counts → Fits n v
     → Fits (with_dispatcher n name core) (settled (one_dispatcher core v))

@@ -30,13 +30,14 @@ differ_push {X} xs x new h j k y a b = both (at_push xs x y j a) (at_push xs x y
 
 missed : {X : Type 0} (p : X → Bool) (xs : List X) → length xs ≤ position_or_len p xs → (j : ℕ) (x : X) → slice_get xs j ≡ Some x → p x ≡ false
 missed p [] h j x e = absurd (cc)
-missed {X} p (z ∷ xs) h j x e = by_first (p z) refl j e
+missed {X} p (z ∷ xs) h j x e = by_first (p z) refl (λ less k q. missed p xs less k x q) j e
   where
-    by_first : (b : Bool) → p z ≡ b → (j : ℕ) → slice_get (z ∷ xs) j ≡ Some x → p x ≡ false
-    by_first true t j e = let n : position_or_len p (z ∷ xs) ≡ 0 = rw t refl in absurd (omega (arith, h, n))
-    by_first false t zero e = let s : z ≡ x = cc in ap p (sym s) ∙ t
-    by_first false t (suc j) e =
-        let n : position_or_len p (z ∷ xs) ≡ 1 + position_or_len p xs = rw t refl in missed p xs (omega (arith, h, n)) j x e
+    by_first : (b : Bool) → p z ≡ b → (length xs ≤ position_or_len p xs → (k : ℕ) → slice_get xs k ≡ Some x → p x ≡ false)
+        → (k : ℕ) → slice_get (z ∷ xs) k ≡ Some x → p x ≡ false
+    by_first true t rest k q = let n : position_or_len p (z ∷ xs) ≡ 0 = rw t refl in absurd (omega (arith, h, n))
+    by_first false t rest zero q = let s : z ≡ x = cc in ap p (sym s) ∙ t
+    by_first false t rest (suc k) q =
+        let n : position_or_len p (z ∷ xs) ≡ 1 + position_or_len p xs = rw t refl in rest (omega (arith, h, n)) k q
 
 -- a name that isn't found is none of these
 pub not_among : (name : List ℕ) (names : List (List ℕ)) → is_some (place_of name names) ≡ false → (j : ℕ) → slice_get names j ≡ Some name → ⊥
