@@ -50,16 +50,17 @@ impl Answer {
     }
 }
 
-// A number; one of a single digit, as most are, without a text of its own.
-fn put_number(alloc: Global, out: &mut Vec<u8>, number: usize) -> Result<(), AllocError>
+// A number, digit by digit.
+fn put_number(out: &mut Vec<u8>, number: usize) -> Result<(), AllocError>
     ensures ok { OnOk result (out.new.items ≡ out.old.items ++ decimal number) }
 {
     if number < 10 {
         out.push(b'0' + number as u8)?;
         return Ok(());
     }
-    let digits = number.to_string(alloc)?;
-    out.extend_from_slice(digits.as_bytes())
+    put_number(out, number / 10)?;
+    out.push(b'0' + (number % 10) as u8)?;
+    Ok(())
 }
 
 fn digit(value: u8) -> u8
@@ -135,20 +136,20 @@ fn put_of_end(out: &mut Vec<u8>, word: &[u8], names: &Names, end: EndId) -> Resu
     put_end(out, names, end)
 }
 
-fn put_written(alloc: Global, out: &mut Vec<u8>, k: usize, n: usize) -> Result<(), AllocError>
+fn put_written(out: &mut Vec<u8>, k: usize, n: usize) -> Result<(), AllocError>
     ensures ok { OnOk result (out.new.items ≡ out.old.items ++ (codes "written " ++ decimal k ++ codes " of " ++ decimal n)) }
 {
     out.extend_from_slice(b"written ")?;
-    put_number(alloc, out, k)?;
+    put_number(out, k)?;
     out.extend_from_slice(b" of ")?;
-    put_number(alloc, out, n)
+    put_number(out, n)
 }
 
-fn put_refused(alloc: Global, out: &mut Vec<u8>, number: usize) -> Result<(), AllocError>
+fn put_refused(out: &mut Vec<u8>, number: usize) -> Result<(), AllocError>
     ensures ok { OnOk result (out.new.items ≡ out.old.items ++ (codes "refused E" ++ decimal number)) }
 {
     out.extend_from_slice(b"refused E")?;
-    put_number(alloc, out, number)
+    put_number(out, number)
 }
 
 // A call that was handled at an end.
@@ -181,7 +182,7 @@ pub fn print_answer(
         Answer::Accepted => out.extend_from_slice(b"accepted"),
         Answer::Nothing => out.extend_from_slice(b"nothing"),
         Answer::Full => out.extend_from_slice(b"full"),
-        Answer::Written { k, n } => put_written(alloc, out, *k, *n),
+        Answer::Written { k, n } => put_written(out, *k, *n),
         Answer::Handle { end, call } => {
             put_of_end(out, b"handle ", names, *end)?;
             out.extend_from_slice(b" ")?;
@@ -193,11 +194,11 @@ pub fn print_answer(
         Answer::Forwarded => out.extend_from_slice(b"forwarded"),
         Answer::Opened(end) => put_of_end(out, b"opened ", names, *end),
         Answer::OpeningRefused { number, end } => {
-            put_refused(alloc, out, *number as usize)?;
+            put_refused(out, *number as usize)?;
             put_of_end(out, b" ", names, *end)
         }
         Answer::Words(frag) => put_frag(out, frag),
-        Answer::Refused(number) => put_refused(alloc, out, usize::from(*number)),
+        Answer::Refused(number) => put_refused(out, usize::from(*number)),
     }
 }
 
@@ -206,14 +207,13 @@ pub fn print_answer(
 /// # Errors
 /// Want of memory; `out` may then have a part of the text at its end.
 pub fn print_fault(
-    alloc: Global,
     out: &mut Vec<u8>,
     number: u8,
     offset: usize,
 ) -> Result<(), AllocError>
     ensures printed { OnOk result (out.new.items ≡ out.old.items ++ fault_text number offset) }
 {
-    put_refused(alloc, out, usize::from(number))?;
+    put_refused(out, usize::from(number))?;
     out.extend_from_slice(b" at ")?;
-    put_number(alloc, out, offset)
+    put_number(out, offset)
 }

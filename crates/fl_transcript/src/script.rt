@@ -110,7 +110,7 @@ impl<M: QueueMachine> Script<M> {
         ensures ok { OnOk result ((plan : PlanNo) → AnswersBy M.shows self.old self.new out.old.items out.new.items
             (λ s. block_effect s plan (text_fault number offset))) }
     {
-        print_fault(self.alloc, out, number, offset)?;
+        print_fault(out, number, offset)?;
         out.push(b'\n')?;
         Ok(())
     }
