@@ -206,11 +206,7 @@ pub fn print_answer(
 ///
 /// # Errors
 /// Want of memory; `out` may then have a part of the text at its end.
-pub fn print_fault(
-    out: &mut Vec<u8>,
-    number: u8,
-    offset: usize,
-) -> Result<(), AllocError>
+pub fn print_fault(out: &mut Vec<u8>, number: u8, offset: usize) -> Result<(), AllocError>
     ensures printed { OnOk result (out.new.items ≡ out.old.items ++ fault_text number offset) }
 {
     put_refused(out, usize::from(number))?;
