@@ -590,8 +590,8 @@ handle p.c input(13)
 const STUCK: (&[u8], &[u8]) = (
     b"\
 # A circuit with calls both ways that sticks, since its links have only four slots and both ends call without waiting.
-# With eight slots the same lines go through: give a link more slots than fragments can be under way on it in one direction,
-# those of all its circuits together and an acknowledgement or two; or have each end wait until its last call was answered.
+# With eight slots the same lines go through: give a link more than twice as many slots as fragments can be under way on it in
+# one direction, those of all its circuits together; or have each end wait until its last call was answered.
 idl
 interface chat \"two sides that both talk\" {
     message say(uint32 n);
