@@ -317,7 +317,7 @@ part p.s
 written 2 of 2
 handle p.s limits(1, 2, 3, 4, 5, 6, 7, 8)
 nothing
-refused E90
+nothing
 ",
 );
 
