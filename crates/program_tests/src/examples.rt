@@ -1,6 +1,9 @@
 //! The scripts of `examples/` and their transcripts, as they stand there: `examples/check` tells where they differ.
 
 use crate::rows::transcript;
+use fl_transcript::ExecFault;
+use std::alloc::Global;
+use std::process::Abort;
 use std::test::Fail;
 
 const CIRCUIT: (&[u8], &[u8]) = (
@@ -721,13 +724,56 @@ full
 ",
 );
 
-const EXAMPLES: &[(&[u8], &[u8])] = &[CIRCUIT, ECHO, HELLO, MEMORY, NAMES, REFUSED, RING, STUCK];
+fn expect(rt: &impl Abort, alloc: Global, script: &[u8], wanted: &[u8]) -> Result<(), ExecFault> {
+    let got = transcript(alloc, script)?;
+    assert_eq!(rt; got.as_slice(), wanted);
+    Ok(())
+}
 
 #[test]
-fn examples_are_answered(rt: HostRuntime) -> Result<(), Fail> {
-    for (script, wanted) in EXAMPLES {
-        let got = transcript(rt.alloc(), script)?;
-        assert_eq!(rt; (*script, got.as_slice()), (*script, *wanted));
-    }
+fn circuit(rt: HostRuntime) -> Result<(), Fail> {
+    expect(&rt, rt.alloc(), CIRCUIT.0, CIRCUIT.1)?;
+    Ok(())
+}
+
+#[test]
+fn echo(rt: HostRuntime) -> Result<(), Fail> {
+    expect(&rt, rt.alloc(), ECHO.0, ECHO.1)?;
+    Ok(())
+}
+
+#[test]
+fn hello(rt: HostRuntime) -> Result<(), Fail> {
+    expect(&rt, rt.alloc(), HELLO.0, HELLO.1)?;
+    Ok(())
+}
+
+#[test]
+fn memory(rt: HostRuntime) -> Result<(), Fail> {
+    expect(&rt, rt.alloc(), MEMORY.0, MEMORY.1)?;
+    Ok(())
+}
+
+#[test]
+fn names(rt: HostRuntime) -> Result<(), Fail> {
+    expect(&rt, rt.alloc(), NAMES.0, NAMES.1)?;
+    Ok(())
+}
+
+#[test]
+fn refused(rt: HostRuntime) -> Result<(), Fail> {
+    expect(&rt, rt.alloc(), REFUSED.0, REFUSED.1)?;
+    Ok(())
+}
+
+#[test]
+fn ring(rt: HostRuntime) -> Result<(), Fail> {
+    expect(&rt, rt.alloc(), RING.0, RING.1)?;
+    Ok(())
+}
+
+#[test]
+fn stuck(rt: HostRuntime) -> Result<(), Fail> {
+    expect(&rt, rt.alloc(), STUCK.0, STUCK.1)?;
     Ok(())
 }
