@@ -3,7 +3,7 @@
 ghost use Rattle.std.specs.Prelude.{◌≡◌, ◌++◌, ◌<◌, OnOk, codes, false};
 ghost use Rattle.std.specs.Fmt.{decimal, digit_glyph};
 ghost use Rattle.fl_value.specs.Value.{call_of};
-ghost use Rattle.fl_lines.specs.Answers.{byte_hex, hex, frag_text, end_named, call_at, answer_text, fault_text};
+ghost use Rattle.fl_lines.specs.Answers.{hex, frag_text, end_named, call_at, answer_text, fault_text};
 ghost use Rattle.fl_lines.specs.Asked.{is_done};
 ghost use Rattle.fl_lines.specs.Events.{answer_of};
 ghost use Rattle.fl_lines.specs.Told.{names_of};
@@ -50,16 +50,17 @@ impl Answer {
     }
 }
 
-// A number; one of a single digit, as most are, without a text of its own.
-fn put_number(alloc: Global, out: &mut Vec<u8>, number: usize) -> Result<(), AllocError>
+// A number, digit by digit.
+fn put_number(out: &mut Vec<u8>, number: usize) -> Result<(), AllocError>
     ensures ok { OnOk result (out.new.items ≡ out.old.items ++ decimal number) }
 {
     if number < 10 {
         out.push(b'0' + number as u8)?;
         return Ok(());
     }
-    let digits = number.to_string(alloc)?;
-    out.extend_from_slice(digits.as_bytes())
+    put_number(out, number / 10)?;
+    out.push(b'0' + (number % 10) as u8)?;
+    Ok(())
 }
 
 fn digit(value: u8) -> u8
@@ -73,22 +74,36 @@ fn digit(value: u8) -> u8
     }
 }
 
-fn put_byte_hex(out: &mut Vec<u8>, byte: u8) -> Result<(), AllocError>
-    ensures ok { OnOk result (out.new.items ≡ out.old.items ++ byte_hex byte) }
+// A word's 16 digits.
+fn hex_digits(word: u64) -> [u8; 16]
+    ensures { result ≡ hex word }
 {
-    out.push(digit(byte / 16))?;
-    out.push(digit(byte % 16))?;
-    Ok(())
+    let [a, b, c, d, e, f, g, h] = word.to_be_bytes();
+    [
+        digit(a / 16),
+        digit(a % 16),
+        digit(b / 16),
+        digit(b % 16),
+        digit(c / 16),
+        digit(c % 16),
+        digit(d / 16),
+        digit(d % 16),
+        digit(e / 16),
+        digit(e % 16),
+        digit(f / 16),
+        digit(f % 16),
+        digit(g / 16),
+        digit(g % 16),
+        digit(h / 16),
+        digit(h % 16),
+    ]
 }
 
 fn put_hex(out: &mut Vec<u8>, word: u64) -> Result<(), AllocError>
     ensures ok { OnOk result (out.new.items ≡ out.old.items ++ hex word) }
 {
-    let bytes = word.to_be_bytes();
-    for byte in bytes {
-        put_byte_hex(out, byte)?;
-    }
-    Ok(())
+    let digits = hex_digits(word);
+    out.extend_from_slice(digits.as_slice())
 }
 
 // Eight words in hexadecimal, the control word last.
@@ -121,20 +136,20 @@ fn put_of_end(out: &mut Vec<u8>, word: &[u8], names: &Names, end: EndId) -> Resu
     put_end(out, names, end)
 }
 
-fn put_written(alloc: Global, out: &mut Vec<u8>, k: usize, n: usize) -> Result<(), AllocError>
+fn put_written(out: &mut Vec<u8>, k: usize, n: usize) -> Result<(), AllocError>
     ensures ok { OnOk result (out.new.items ≡ out.old.items ++ (codes "written " ++ decimal k ++ codes " of " ++ decimal n)) }
 {
     out.extend_from_slice(b"written ")?;
-    put_number(alloc, out, k)?;
+    put_number(out, k)?;
     out.extend_from_slice(b" of ")?;
-    put_number(alloc, out, n)
+    put_number(out, n)
 }
 
-fn put_refused(alloc: Global, out: &mut Vec<u8>, number: usize) -> Result<(), AllocError>
+fn put_refused(out: &mut Vec<u8>, number: usize) -> Result<(), AllocError>
     ensures ok { OnOk result (out.new.items ≡ out.old.items ++ (codes "refused E" ++ decimal number)) }
 {
     out.extend_from_slice(b"refused E")?;
-    put_number(alloc, out, number)
+    put_number(out, number)
 }
 
 // A call that was handled at an end.
@@ -167,7 +182,7 @@ pub fn print_answer(
         Answer::Accepted => out.extend_from_slice(b"accepted"),
         Answer::Nothing => out.extend_from_slice(b"nothing"),
         Answer::Full => out.extend_from_slice(b"full"),
-        Answer::Written { k, n } => put_written(alloc, out, *k, *n),
+        Answer::Written { k, n } => put_written(out, *k, *n),
         Answer::Handle { end, call } => {
             put_of_end(out, b"handle ", names, *end)?;
             out.extend_from_slice(b" ")?;
@@ -179,11 +194,11 @@ pub fn print_answer(
         Answer::Forwarded => out.extend_from_slice(b"forwarded"),
         Answer::Opened(end) => put_of_end(out, b"opened ", names, *end),
         Answer::OpeningRefused { number, end } => {
-            put_refused(alloc, out, *number as usize)?;
+            put_refused(out, *number as usize)?;
             put_of_end(out, b" ", names, *end)
         }
         Answer::Words(frag) => put_frag(out, frag),
-        Answer::Refused(number) => put_refused(alloc, out, usize::from(*number)),
+        Answer::Refused(number) => put_refused(out, usize::from(*number)),
     }
 }
 
@@ -191,15 +206,10 @@ pub fn print_answer(
 ///
 /// # Errors
 /// Want of memory; `out` may then have a part of the text at its end.
-pub fn print_fault(
-    alloc: Global,
-    out: &mut Vec<u8>,
-    number: u8,
-    offset: usize,
-) -> Result<(), AllocError>
+pub fn print_fault(out: &mut Vec<u8>, number: u8, offset: usize) -> Result<(), AllocError>
     ensures printed { OnOk result (out.new.items ≡ out.old.items ++ fault_text number offset) }
 {
-    put_refused(alloc, out, usize::from(number))?;
+    put_refused(out, usize::from(number))?;
     out.extend_from_slice(b" at ")?;
-    put_number(alloc, out, offset)
+    put_number(out, offset)
 }

@@ -17,7 +17,7 @@ use Rattle.fl_lines.specs.Asked.{Asked, Asks, CallAsks, asks_call, refuses}
 use Rattle.fl_lines.proofs.AskedLemmas.{one_asked_is}
 use Rattle.fl_lines.proofs.ItemLemmas.{some_items_is, one_items_is}
 use Rattle.fl_transcript.specs.Text.{TextOutcome, text_fault, checked_as, ParsedMeans, LexedMeans, TextMeans}
-use Rattle.fl_transcript.specs.Transcript.{Script, beginning, Effect, line, does, block_does, Does, AllDo, Runs, text_of, is_too_long, Transcript}
+use Rattle.fl_transcript.specs.Transcript.{Script, beginning, Effect, line, effect_of, block_effect, Does, AllDo, Runs, text_of, is_too_long, Transcript}
 use Rattle.fl_transcript.proofs.CallTexts.{CallAt, call_at}
 
 -- ---- what a command asks
@@ -80,19 +80,19 @@ one_text text a b (f, lf, mf) (g, lg, mg) =
 
 pub some_effect : (s : Script) (item : Item) → (effect : Effect) × Does s item effect
 some_effect s (a_line silent) = (_, refl)
-some_effect s (a_line (command c)) = let (asked, h) = some_asked s.names c in (does s asked, (asked, h, refl))
+some_effect s (a_line (command c)) = let (asked, h) = some_asked s.names c in (effect_of s asked, (asked, h, refl))
 some_effect s (a_line unread) = (_, refl)
 some_effect s (a_line (heading plan)) = (_, refl)
 some_effect s open_block = (_, refl)
-some_effect s (a_block plan text) = let (outcome, h) = some_text text in (block_does s plan outcome, (outcome, h, refl))
+some_effect s (a_block plan text) = let (outcome, h) = some_text text in (block_effect s plan outcome, (outcome, h, refl))
 
 pub one_effect : (s : Script) (item : Item) (x y : Effect) → Does s item x → Does s item y → x ≡ y
 one_effect s (a_line silent) x y p q = p ∙ sym q
-one_effect s (a_line (command c)) x y (a, ca, p) (b, cb, q) = p ∙ (ap (does s) (one_asked_is call_once s.names c a b ca cb) ∙ sym q)
+one_effect s (a_line (command c)) x y (a, ca, p) (b, cb, q) = p ∙ (ap (effect_of s) (one_asked_is call_once s.names c a b ca cb) ∙ sym q)
 one_effect s (a_line unread) x y p q = p ∙ sym q
 one_effect s (a_line (heading plan)) x y p q = p ∙ sym q
 one_effect s open_block x y p q = p ∙ sym q
-one_effect s (a_block plan text) x y (a, ma, p) (b, mb, q) = p ∙ (ap (block_does s plan) (one_text text a b ma mb) ∙ sym q)
+one_effect s (a_block plan text) x y (a, ma, p) (b, mb, q) = p ∙ (ap (block_effect s plan) (one_text text a b ma mb) ∙ sym q)
 
 -- ---- what a script does
 

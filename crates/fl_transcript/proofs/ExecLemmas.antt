@@ -13,8 +13,9 @@ use Rattle.fl_transcript.specs.declared.running.ExecFault.TheVariants.{Memory, R
 use Rattle.fl_transcript.specs.declared.script.Script.{Script as RustScript}
 use Rattle.fl_queues.specs.State.{State}
 use Rattle.fl_transcript.specs.Shown.{IsAt}
-use Rattle.fl_transcript.specs.Reading.{ReadsWhole, CanBeUnread, Stops, GoesOn}
-use Rattle.fl_transcript.specs.CutShort.{IsFront, IsProperFront, SomeAnswers, PartOfAnswers, Leaves}
+use Rattle.fl_transcript.specs.Reading.{ReadsWhole, CanBeUnread, StopsWith, GoesOn}
+use Rattle.fl_base.specs.Prefix.{IsPrefix}
+use Rattle.fl_transcript.specs.CutShort.{IsProperPrefix, SomeAnswers, PartOfAnswers, LeavesWritten}
 use Rattle.fl_transcript.specs.Transcript.{Script, Effect, Does, AllDo, Runs, text_of, Transcript, is_too_long, beginning, line}
 use Rattle.fl_transcript.proofs.Doing.{some_effect, some_run, one_run, one_transcript}
 use Rattle.fl_transcript.proofs.Firsts.{HasItem, has_item}
@@ -38,12 +39,12 @@ consumes_then (Some xs) (Some ys) None a b x y = y
 consumes_then (Some xs) (Some ys) (Some zs) a b x y = x ∙ (ap (λ (t : List ℕ). a ++ t) y ∙ sym (append_assoc a b zs))
 
 -- a part more of a text is written
-pub written_more : (u v w : Option (List ℕ)) (text rest front : List ℕ) (n : ℕ) → text ≡ front ++ rest → Appends u v front → Appends v w (take n rest)
+pub written_more : (u v w : Option (List ℕ)) (text rest prefix : List ℕ) (n : ℕ) → text ≡ prefix ++ rest → Appends u v prefix → Appends v w (take n rest)
     → (more : List ℕ) × (text ≡ more ++ drop n rest) × Appends u w more
-written_more u v w text rest front n split x y = (
-  front ++ take n rest,
-  split ∙ (ap (λ (t : List ℕ). front ++ t) (sym (take-append-drop n rest)) ∙ sym (append_assoc front (take n rest) (drop n rest))),
-  appends_then u v w front (take n rest) x y,
+written_more u v w text rest prefix n split x y = (
+  prefix ++ take n rest,
+  split ∙ (ap (λ (t : List ℕ). prefix ++ t) (sym (take-append-drop n rest)) ∙ sym (append_assoc prefix (take n rest) (drop n rest))),
+  appends_then u v w prefix (take n rest) x y,
 )
 
 appends_kept : (u v w : Option (List ℕ)) (a : List ℕ) → Appends u v a → Keeps v w → Appends u w a
@@ -53,10 +54,10 @@ appends_kept (Some xs) (Some ys) None a x y = absurd y
 appends_kept (Some xs) (Some ys) (Some zs) a x y = y ∙ x
 
 -- a write failed where some of the text is left
-pub stopped : (u v w : Option (List ℕ)) (text rest front : List ℕ) → text ≡ front ++ rest → 0 < length rest → Appends u v front → Keeps v w
-    → (out : List ℕ) × IsProperFront out text × Appends u w out
-stopped u v w text [] front split left x y = absurd (omega (arith, left))
-stopped u v w text (b ∷ rest) front split left x y = (front, (b, rest, split), appends_kept u v w front x y)
+pub stopped : (u v w : Option (List ℕ)) (text rest prefix : List ℕ) → text ≡ prefix ++ rest → 0 < length rest → Appends u v prefix → Keeps v w
+    → (out : List ℕ) × IsProperPrefix out text × Appends u w out
+stopped u v w text [] prefix split left x y = absurd (omega (arith, left))
+stopped u v w text (b ∷ rest) prefix split left x y = (prefix, (b, rest, split), appends_kept u v w prefix x y)
 
 keeps_none : (v w : Option (List ℕ)) (n : ℕ) (rest : List ℕ) → n ≡ 0 → Appends v w (take n rest) → Keeps v w
 keeps_none None w n rest e a = tt
@@ -65,9 +66,9 @@ keeps_none (Some xs) (Some ys) n rest e a =
     a ∙ (ap (λ k. xs ++ take k rest) e ∙ append-nil xs)
 
 -- or took no byte
-pub stalled : (u v w : Option (List ℕ)) (text rest front : List ℕ) (n : ℕ) → text ≡ front ++ rest → 0 < length rest → Appends u v front → n ≡ 0 → Appends v w (take n rest)
-    → (out : List ℕ) × IsProperFront out text × Appends u w out
-stalled u v w text rest front n split left x e y = stopped u v w text rest front split left x (keeps_none v w n rest e y)
+pub stalled : (u v w : Option (List ℕ)) (text rest prefix : List ℕ) (n : ℕ) → text ≡ prefix ++ rest → 0 < length rest → Appends u v prefix → n ≡ 0 → Appends v w (take n rest)
+    → (out : List ℕ) × IsProperPrefix out text × Appends u w out
+stalled u v w text rest prefix n split left x e y = stopped u v w text rest prefix split left x (keeps_none v w n rest e y)
 
 -- What was read.
 
@@ -161,34 +162,34 @@ some_answers s now whole rest behind item done g first =
     (done, effect, others, r, refl)
 
 -- a write failed while an item's answer was written
-front_within : (done others : List Effect) (effect : Effect) (front : List ℕ) → IsProperFront front effect.text
-    → IsProperFront (text_of done ++ front) (text_of (done ++ effect ∷ others))
-front_within done others effect front (next, more, e) = (
+prefix_within : (done others : List Effect) (effect : Effect) (prefix : List ℕ) → IsProperPrefix prefix effect.text
+    → IsProperPrefix (text_of done ++ prefix) (text_of (done ++ effect ∷ others))
+prefix_within done others effect prefix (next, more, e) = (
   next,
   more ++ text_of others,
   flat_map-append Effect.text done (effect ∷ others)
       ∙ (ap (λ (t : List ℕ). text_of done ++ (t ++ text_of others)) e
-      ∙ (ap (λ (t : List ℕ). text_of done ++ t) (append_assoc front (next ∷ more) (text_of others))
-      ∙ sym (append_assoc (text_of done) front (next ∷ more ++ text_of others)))),
+      ∙ (ap (λ (t : List ℕ). text_of done ++ t) (append_assoc prefix (next ∷ more) (text_of others))
+      ∙ sym (append_assoc (text_of done) prefix (next ∷ more ++ text_of others)))),
 )
 
-part_of_answers : (s now : Script) (whole rest behind front : List ℕ) (item : Item) (effect : Effect) (done : List Effect) → GoesOn s whole now rest done
-    → Leads rest behind item → Does now item effect → IsProperFront front effect.text → PartOfAnswers s whole (text_of done ++ front)
-part_of_answers s now whole rest behind front item effect done g first d is =
+part_of_answers : (s now : Script) (whole rest behind prefix : List ℕ) (item : Item) (effect : Effect) (done : List Effect) → GoesOn s whole now rest done
+    → Leads rest behind item → Does now item effect → IsProperPrefix prefix effect.text → PartOfAnswers s whole (text_of done ++ prefix)
+part_of_answers s now whole rest behind prefix item effect done g first d is =
     let (others, r) = after_item s now whole rest behind item effect done g first d in
-    (done ++ effect ∷ others, r, front_within done others effect front is)
+    (done ++ effect ∷ others, r, prefix_within done others effect prefix is)
 
-to_write : (fault : ExecFault) (s : Script) (bytes out : List ℕ) → fault ≡ Write → PartOfAnswers s bytes out → Stops fault s bytes out
-to_write fault s bytes out e p = subst (λ (f : ExecFault). Stops f s bytes out) (sym e) p
+to_write : (fault : ExecFault) (s : Script) (bytes out : List ℕ) → fault ≡ Write → PartOfAnswers s bytes out → StopsWith fault s bytes out
+to_write fault s bytes out e p = subst (λ (f : ExecFault). StopsWith f s bytes out) (sym e) p
 
 pub run_fault : (fault : ExecFault) (u v w : Option (List ℕ)) (s now : Script) (whole rest behind text : List ℕ) (item : Item) (effect : Effect)
     (done : List Effect) → fault ≡ Write → GoesOn s whole now rest done → Appends u v (text_of done) → Leads rest behind item → Does now item effect
-    → text ≡ effect.text → (front : List ℕ) × IsProperFront front text × Appends v w front
-    → (out : List ℕ) × Stops fault s whole out × Appends u w out
-run_fault fault u v w s now whole rest behind text item effect done is g a first d e (front, (next, more, split), b) = (
-  text_of done ++ front,
-  to_write fault s whole (text_of done ++ front) is (part_of_answers s now whole rest behind front item effect done g first d (next, more, sym e ∙ split)),
-  appends_then u v w (text_of done) front a b,
+    → text ≡ effect.text → (prefix : List ℕ) × IsProperPrefix prefix text × Appends v w prefix
+    → (out : List ℕ) × StopsWith fault s whole out × Appends u w out
+run_fault fault u v w s now whole rest behind text item effect done is g a first d e (prefix, (next, more, split), b) = (
+  text_of done ++ prefix,
+  to_write fault s whole (text_of done ++ prefix) is (part_of_answers s now whole rest behind prefix item effect done g first d (next, more, sym e ∙ split)),
+  appends_then u v w (text_of done) prefix a b,
 )
 
 pub run_more : {M : Type 0} (shows : M → State → Type 0) (u v w : Option (List ℕ)) (r : RustScript M) (s now : Script) (whole rest behind text : List ℕ)
@@ -251,27 +252,27 @@ transcript_all (Some input) v w text h short (effects, r, a) =
     let (same, few) = short_whole input text h short in
     (text_of effects, at_short input (text_of effects) few (effects, subst (λ (t : List ℕ). Runs beginning t effects) same r, refl), a)
 
-leaves_short : (fault : ExecFault) (input out : List ℕ) → is_too_long input ≡ false → Stops fault beginning input out → Leaves fault input out
+leaves_short : (fault : ExecFault) (input out : List ℕ) → is_too_long input ≡ false → StopsWith fault beginning input out → LeavesWritten fault input out
 leaves_short Memory input out f w = to_false (out ≡ []) (SomeAnswers beginning input out) (is_too_long input) f w
 leaves_short Read input out f w = absurd w
 leaves_short Write input out f (effects, r, is) = (text_of effects, at_short input (text_of effects) f (effects, r, refl), is)
 
 leaves_part : (fault : ExecFault) (u : Option (List ℕ)) (v w : Option (List ℕ)) (text : List ℕ) → IfSome u (λ input. ReadsWhole input text) → length text ≤ 1048576
-    → (out : List ℕ) × Stops fault beginning text out × Appends v w out
-    → IfSome u (λ input. (out : List ℕ) × Leaves fault input out × Appends v w out)
+    → (out : List ℕ) × StopsWith fault beginning text out × Appends v w out
+    → IfSome u (λ input. (out : List ℕ) × LeavesWritten fault input out × Appends v w out)
 leaves_part fault None v w text h short x = tt
 leaves_part fault (Some input) v w text h short (out, stops, a) =
     let (same, few) = short_whole input text h short in
-    (out, leaves_short fault input out few (subst (λ (t : List ℕ). Stops fault beginning t out) same stops), a)
+    (out, leaves_short fault input out few (subst (λ (t : List ℕ). StopsWith fault beginning t out) same stops), a)
 
 pub leaves_run : {A M : Type 0} (shows : M → State → Type 0) (r : Result A ExecFault) (script : RustScript M) (u : Option (List ℕ)) (v w : Option (List ℕ))
     (text bytes : List ℕ) → IfSome u (λ input. ReadsWhole input text) → length text ≤ 1048576 → IsAt shows script beginning → bytes ≡ text
-    → IfErr r (λ fault. (s : Script) → IsAt shows script s → (out : List ℕ) × Stops fault s bytes out × Appends v w out)
-    → IfErr r (λ fault. IfSome u (λ input. (out : List ℕ) × Leaves fault input out × Appends v w out))
+    → IfErr r (λ fault. (s : Script) → IsAt shows script s → (out : List ℕ) × StopsWith fault s bytes out × Appends v w out)
+    → IfErr r (λ fault. IfSome u (λ input. (out : List ℕ) × LeavesWritten fault input out × Appends v w out))
 leaves_run shows (Ok x) script u v w text bytes h short at e stops = tt
 leaves_run shows (Err fault) script u v w text bytes h short at e stops =
     leaves_part fault u v w text h short
-    (subst (λ (t : List ℕ). (out : List ℕ) × Stops fault beginning t out × Appends v w out) e (stops beginning at))
+    (subst (λ (t : List ℕ). (out : List ℕ) × StopsWith fault beginning t out × Appends v w out) e (stops beginning at))
 
 -- a script that is too long
 pub transcript_long : (u : Option (List ℕ)) (v w : Option (List ℕ)) (text : List ℕ) → IfSome u (λ input. ReadsWhole input text) → 1048576 < length text
@@ -282,19 +283,19 @@ transcript_long (Some input) v w text h long a =
     (line (codes "refused E91"), at_long input _ (long_input input text h most) refl, a)
 
 long_write : (u : Option (List ℕ)) (v w : Option (List ℕ)) (text : List ℕ) → IfSome u (λ input. ReadsWhole input text) → 1048576 < length text
-    → (front : List ℕ) × IsProperFront front (line (codes "refused E91")) × Appends v w front
-    → IfSome u (λ input. (out : List ℕ) × Leaves Write input out × Appends v w out)
+    → (prefix : List ℕ) × IsProperPrefix prefix (line (codes "refused E91")) × Appends v w prefix
+    → IfSome u (λ input. (out : List ℕ) × LeavesWritten Write input out × Appends v w out)
 long_write None v w text h long x = tt
-long_write (Some input) v w text h long (front, is, a) =
+long_write (Some input) v w text h long (prefix, is, a) =
     let most : is_too_long text ≡ true = grind (arith, nat_tests, long) in
-    (front, (line (codes "refused E91"), at_long input _ (long_input input text h most) refl, is), a)
+    (prefix, (line (codes "refused E91"), at_long input _ (long_input input text h most) refl, is), a)
 
 pub leaves_long : {A : Type 0} (r : Result A ExecFault) (u : Option (List ℕ)) (v w : Option (List ℕ)) (text : List ℕ) → IfSome u (λ input. ReadsWhole input text) → 1048576 < length text
-    → OnErr r ((front : List ℕ) × IsProperFront front (line (codes "refused E91")) × Appends v w front) → IfErr r (λ fault. fault ≡ Write)
-    → IfErr r (λ fault. IfSome u (λ input. (out : List ℕ) × Leaves fault input out × Appends v w out))
+    → OnErr r ((prefix : List ℕ) × IsProperPrefix prefix (line (codes "refused E91")) × Appends v w prefix) → IfErr r (λ fault. fault ≡ Write)
+    → IfErr r (λ fault. IfSome u (λ input. (out : List ℕ) × LeavesWritten fault input out × Appends v w out))
 leaves_long (Ok x) u v w text h long part is = tt
 leaves_long (Err fault) u v w text h long part is =
-    subst (λ (f : ExecFault). IfSome u (λ input. (out : List ℕ) × Leaves f input out × Appends v w out)) (sym is) (long_write u v w text h long part)
+    subst (λ (f : ExecFault). IfSome u (λ input. (out : List ℕ) × LeavesWritten f input out × Appends v w out)) (sym is) (long_write u v w text h long part)
 
 -- ---- Nothing was written yet
 
@@ -310,24 +311,24 @@ none_yet input some =
     let (effects, (items, i, h)) = some_run beginning input in
     none_by input items effects i (has_item input items some i) h
 
-no_answer : (input out : List ℕ) → out ≡ [] → 0 < length input → Leaves Memory input out
+no_answer : (input out : List ℕ) → out ≡ [] → 0 < length input → LeavesWritten Memory input out
 no_answer input out e some =
     at_test (is_too_long input) (out ≡ []) (SomeAnswers beginning input out)
     (λ _. e) (λ _. subst (SomeAnswers beginning input) (sym e) (none_yet input some))
 
-leaves_none : (fault : ExecFault) (input : List ℕ) → CanBeUnread fault input → Leaves fault input []
+leaves_none : (fault : ExecFault) (input : List ℕ) → CanBeUnread fault input → LeavesWritten fault input []
 leaves_none Memory input some = no_answer input [] refl some
 leaves_none Read input some = refl
 leaves_none Write input some = absurd some
 
 pub leaves_unread : (fault : ExecFault) (u : Option (List ℕ)) (v : Option (List ℕ)) → IfSome u (λ input. CanBeUnread fault input)
-    → IfSome u (λ input. (out : List ℕ) × Leaves fault input out × Appends v v out)
+    → IfSome u (λ input. (out : List ℕ) × LeavesWritten fault input out × Appends v v out)
 leaves_unread fault None v h = tt
 leaves_unread fault (Some input) v h = ([], leaves_none fault input h, appends_nothing v)
 
 -- memory ran out before the first item
 pub leaves_unstarted : (u : Option (List ℕ)) (v : Option (List ℕ)) (text : List ℕ) → IfSome u (λ input. ReadsWhole input text) → length text ≤ 1048576
-    → 0 < length text → IfSome u (λ input. (out : List ℕ) × Leaves Memory input out × Appends v v out)
+    → 0 < length text → IfSome u (λ input. (out : List ℕ) × LeavesWritten Memory input out × Appends v v out)
 leaves_unstarted None v text h short some = tt
 leaves_unstarted (Some input) v text h short some =
     let (same, few) = short_whole input text h short in
@@ -350,21 +351,21 @@ no_more n r e t = let h : (n == 0) ≡ true = sym e ∙ t in grind (arith, nat_t
 pub more_left : (n : ℕ) (r : Bool) → r ≡ (n == 0) → r ≡ false → 0 < n
 more_left n r e f = let h : (n == 0) ≡ false = sym e ∙ f in grind (arith, nat_tests, h)
 
--- ---- What is left is a front
+-- ---- What is left is a prefix
 
-front_of_some : (bytes front whole : List ℕ) → SomeAnswers beginning bytes front → Answers bytes whole → IsFront front whole
-front_of_some bytes front whole (done, next, others, r, e) (effects, q, f) =
+prefix_of_some : (bytes prefix whole : List ℕ) → SomeAnswers beginning bytes prefix → Answers bytes whole → IsPrefix prefix whole
+prefix_of_some bytes prefix whole (done, next, others, r, e) (effects, q, f) =
     let same : effects ≡ done ++ next ∷ others = one_run beginning bytes effects (done ++ next ∷ others) q r in (
       text_of (next ∷ others),
       f ∙ (ap text_of same ∙ (flat_map-append Effect.text done (next ∷ others) ∙ ap (λ (t : List ℕ). t ++ text_of (next ∷ others)) (sym e))),
     )
 
-front_of_memory : (t : Bool) (bytes front whole : List ℕ) → MatchBool t (front ≡ []) (SomeAnswers beginning bytes front)
-    → MatchBool t (whole ≡ line (codes "refused E91")) (Answers bytes whole) → IsFront front whole
-front_of_memory true bytes front whole x y = (whole, ap (λ (t : List ℕ). t ++ whole) (sym x))
-front_of_memory false bytes front whole x y = front_of_some bytes front whole x y
+prefix_of_memory : (t : Bool) (bytes prefix whole : List ℕ) → MatchBool t (prefix ≡ []) (SomeAnswers beginning bytes prefix)
+    → MatchBool t (whole ≡ line (codes "refused E91")) (Answers bytes whole) → IsPrefix prefix whole
+prefix_of_memory true bytes prefix whole x y = (whole, ap (λ (t : List ℕ). t ++ whole) (sym x))
+prefix_of_memory false bytes prefix whole x y = prefix_of_some bytes prefix whole x y
 
-pub front_of_leavings : (fault : ExecFault) (bytes front whole : List ℕ) → Leaves fault bytes front → Transcript bytes whole → IsFront front whole
-front_of_leavings Memory bytes front whole x y = front_of_memory (is_too_long bytes) bytes front whole x y
-front_of_leavings Read bytes front whole x y = (whole, ap (λ (t : List ℕ). t ++ whole) (sym x))
-front_of_leavings Write bytes front whole (all, t, (next, more, e)) y = (next ∷ more, one_transcript bytes whole all y t ∙ e)
+pub prefix_of_leavings : (fault : ExecFault) (bytes prefix whole : List ℕ) → LeavesWritten fault bytes prefix → Transcript bytes whole → IsPrefix prefix whole
+prefix_of_leavings Memory bytes prefix whole x y = prefix_of_memory (is_too_long bytes) bytes prefix whole x y
+prefix_of_leavings Read bytes prefix whole x y = (whole, ap (λ (t : List ℕ). t ++ whole) (sym x))
+prefix_of_leavings Write bytes prefix whole (all, t, (next, more, e)) y = (next ∷ more, one_transcript bytes whole all y t ∙ e)

@@ -4,6 +4,8 @@ mod Asking
 mod Firsts
 mod Views
 mod Making
+mod Once
 mod Naming
+mod Existing
 mod ExecLemmas
 mod TextLemmas

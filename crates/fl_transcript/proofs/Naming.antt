@@ -1,5 +1,5 @@
 -- The names that a script has given are those of the machine's things.
-use Rattle.std.proofs.Common.{◌≡◌, ◌≢◌, ◌∙◌, inl, inr, refl, sym, ap, subst, ℕ, zero, suc, ◌+◌, ◌<◌, ◌==◌, cond, Bool, true, false, List, [], ◌∷◌, ◌++◌, length, map, slice_get, Option, Some, None, option_map, length-append, arith}
+use Rattle.std.proofs.Common.{◌≡◌, ◌≢◌, ◌∙◌, inl, inr, refl, sym, ap, ap₂, subst, ℕ, zero, suc, ◌+◌, ◌<◌, ◌≤◌, ◌==◌, cond, Bool, true, false, List, [], ◌∷◌, ◌++◌, length, map, slice_get, Option, Some, None, option_map, length-append, arith}
 use Rattle.std.specs.List.{count_by, range_with_len}
 use Rattle.std.proofs.lemmas.List.{map-append}
 use Rattle.std.proofs.lemmas.List.Sums.{sum_by_push}
@@ -27,8 +27,14 @@ use Rattle.fl_lines.specs.Items.{Item, a_line, a_block, open_block}
 use Rattle.fl_lines.specs.Names.{Names, is_on, place_of, dispatcher_at, end_at, message_at, with_interface, with_dispatcher, with_binding}
 use Rattle.fl_lines.specs.Asked.{Asked, asks, is_done, names_after, is_taken, kind_of, asks_end, asks_call, CallAsks, Asks}
 use Rattle.fl_transcript.specs.Text.{TextOutcome, stands_for, text_fault}
-use Rattle.fl_transcript.specs.Transcript.{Script, beginning, Effect, does, block_does, Does, AllDo}
-use Rattle.fl_transcript.specs.Standing.{name_of, message_names, NamesStand, last_of, ScriptsNameWhatStands}
+use Rattle.fl_transcript.specs.Transcript.{Script, beginning, Effect, effect_of, block_effect, Does, AllDo, Begins, last_of}
+use Rattle.fl_transcript.specs.Standing.{AllDiffer, name_of, message_names, NamesStand, ScriptsNameWhatStands}
+use Rattle.fl_queues.specs.Laws.{RunsAreSound}
+use Rattle.fl_queues.specs.SoundPlaces.{ServicesStand}
+use Rattle.std.specs.Prelude.{nat_lt}
+use Rattle.std.proofs.lemmas.Option.{slice_get_within}
+use Rattle.fl_transcript.proofs.Asking.{begun, all_run}
+use Rattle.fl_transcript.proofs.Once.{differ_push, not_among}
 use Rattle.fl_transcript.proofs.Views
 use Rattle.fl_transcript.proofs.Views.{View, view, Same, Stays, count_in}
 use Rattle.fl_transcript.proofs.Making.{one_interface, one_dispatcher, one_binding, planned, fresh_counts, settled, settled_done, settled_or, interface_made, cores_made, dispatcher_made, binding_made}
@@ -47,6 +53,11 @@ pub record Fits (n : Names) (v : View) : Type 0 where
   pub bindings : length n.bindings ≡ length n.spoken
   pub spoken : n.spoken ≡ v.spoken
   pub bare : v.may ≡ true → n.placed ≡ []
+  pub interfaces_differ : AllDiffer n.interfaces
+  pub dispatchers_differ : AllDiffer n.dispatchers
+  pub bindings_differ : AllDiffer n.bindings
+  pub places_differ : AllDiffer n.placed
+  pub named : (d : DispatcherId) → d.place < count_at d.core v.counts → (k : ℕ) × (slice_get n.placed k ≡ Some d)
 
 fits_same : (n : Names) (v w : View) → w ≡ v → Fits n v → Fits n w
 fits_same n v w e h = subst (λ (x : View). Fits n x) (sym e) h
@@ -61,12 +72,17 @@ fits_settled n v h = record {
   bindings = h.bindings;
   spoken = h.spoken;
   bare = λ e. absurd (false≢true e);
+  interfaces_differ = h.interfaces_differ;
+  dispatchers_differ = h.dispatchers_differ;
+  bindings_differ = h.bindings_differ;
+  places_differ = h.places_differ;
+  named = h.named;
 }
 
 -- ---- what is made
 
-fits_interface : (n : Names) (v : View) (i : TheInterface) (plan : PlanNo) → Fits n v → Fits (with_interface n i) (one_interface (planned i plan) v)
-fits_interface n v i plan h = record {
+fits_interface : (n : Names) (v : View) (i : TheInterface) (plan : PlanNo) → is_taken i.name n.interfaces ≡ false → Fits n v → Fits (with_interface n i) (one_interface (planned i plan) v)
+fits_interface n v i plan new h = record {
   interfaces = ap (λ (x : List (List ℕ)). x ++ i.name ∷ []) h.interfaces ∙ sym (map-append name_of v.interfaces (planned i plan ∷ []));
   messages = ap (λ (x : List (List (List ℕ))). x ++ message_names (planned i plan) ∷ []) h.messages ∙ sym (map-append message_names v.interfaces (planned i plan ∷ []));
   dispatchers = h.dispatchers;
@@ -75,13 +91,18 @@ fits_interface n v i plan h = record {
   bindings = h.bindings;
   spoken = h.spoken;
   bare = h.bare;
+  interfaces_differ = differ_push n.interfaces i.name (not_among i.name n.interfaces new) h.interfaces_differ;
+  dispatchers_differ = h.dispatchers_differ;
+  bindings_differ = h.bindings_differ;
+  places_differ = h.places_differ;
+  named = h.named;
 }
 
 push_length : {X Y : Type 0} (xs : List X) (ys : List Y) (x : X) (y : Y) → length xs ≡ length ys → length (xs ++ x ∷ []) ≡ length (ys ++ y ∷ [])
 push_length xs ys x y e = length-append xs (x ∷ []) ∙ (ap (λ m. m + 1) e ∙ sym (length-append ys (y ∷ [])))
 
-fits_binding : (n : Names) (v : View) (name : List ℕ) (i : ℕ) → Fits n v → Fits (with_binding n name i) (one_binding i v)
-fits_binding n v name i h = record {
+fits_binding : (n : Names) (v : View) (name : List ℕ) (i : ℕ) → is_taken name n.bindings ≡ false → Fits n v → Fits (with_binding n name i) (one_binding i v)
+fits_binding n v name i new h = record {
   interfaces = h.interfaces;
   messages = h.messages;
   dispatchers = h.dispatchers;
@@ -90,6 +111,11 @@ fits_binding n v name i h = record {
   bindings = push_length n.bindings n.spoken name i h.bindings;
   spoken = ap (λ (x : List ℕ). x ++ i ∷ []) h.spoken;
   bare = h.bare;
+  interfaces_differ = h.interfaces_differ;
+  dispatchers_differ = h.dispatchers_differ;
+  bindings_differ = differ_push n.bindings name (not_among name n.bindings new) h.bindings_differ;
+  places_differ = h.places_differ;
+  named = h.named;
 }
 
 -- one dispatcher more on a core
@@ -132,9 +158,59 @@ grows_by counts core c false e there m less =
     let same = count_elsewhere counts core c isnt in
     omega (arith, less, same)
 
-fits_dispatcher : (n : Names) (v : View) (name : List ℕ) (core : ℕ) → core < length v.counts → Fits n v
+-- its place is new, since those before it are lower
+fresh_place : (n : Names) (v : View) (core : ℕ) → ((c : ℕ) → count_by (is_on c) n.placed ≡ count_at c v.counts)
+    → ((k : ℕ) (d : DispatcherId) → slice_get n.placed k ≡ Some d → d.place < count_at d.core v.counts)
+    → (j : ℕ) → slice_get n.placed j ≡ Some (new_id n core) → ⊥
+fresh_place n v core placed within j e =
+    let less = within j (new_id n core) e in
+    let as_many = placed core in
+    omega (arith, less, as_many)
+
+behind : {X : Type 0} (xs : List X) (x : X) → slice_get (xs ++ x ∷ []) (length xs) ≡ Some x
+behind [] x = refl
+behind (z ∷ xs) x = behind xs x
+
+before : {X : Type 0} (xs : List X) (x y : X) (k : ℕ) → slice_get xs k ≡ Some y → slice_get (xs ++ x ∷ []) k ≡ Some y
+before [] x y k e = absurd (cc)
+before (z ∷ xs) x y zero e = e
+before (z ∷ xs) x y (suc k) e = before xs x y k e
+
+abbrev the_id : ℕ → ℕ → DispatcherId
+the_id core place = record { core = core; place = place }
+
+same_id : (x y : DispatcherId) → x.core ≡ y.core → x.place ≡ y.place → x ≡ y
+same_id x y a b = ap₂ the_id a b
+
+named_by : (n : Names) (v : View) (core : ℕ) (d : DispatcherId) (t : Bool) → (core == d.core) ≡ t → core < length v.counts
+    → count_by (is_on core) n.placed ≡ count_at core v.counts
+    → ((d : DispatcherId) → d.place < count_at d.core v.counts → (k : ℕ) × (slice_get n.placed k ≡ Some d))
+    → d.place < count_at d.core (changed_at core (λ m. m + 1) v.counts) → (k : ℕ) × (slice_get (n.placed ++ new_id n core ∷ []) k ≡ Some d)
+named_by n v core d false e there as_many each less =
+    let isnt : d.core ≢ core = λ q. let same : core ≡ d.core = sym q in absurd (grind (arith, nat_tests, e, same)) in
+    let (k, q) = each d (subst (λ m. d.place < m) (count_elsewhere v.counts core d.core isnt) less) in
+    (k, before n.placed (new_id n core) d k q)
+named_by n v core d true e there as_many each less = old_or_new (nat_lt d.place (count_at d.core v.counts)) refl
+  where
+    is : core ≡ d.core
+    is = grind (arith, nat_tests, e)
+
+    old_or_new : (b : Bool) → nat_lt d.place (count_at d.core v.counts) ≡ b → (k : ℕ) × (slice_get (n.placed ++ new_id n core ∷ []) k ≡ Some d)
+    old_or_new true t =
+        let (k, q) = each d (grind (arith, nat_tests, t)) in
+        (k, before n.placed (new_id n core) d k q)
+    old_or_new false t =
+        let here : count_at d.core (changed_at core (λ m. m + 1) v.counts) ≡ count_at d.core v.counts + 1
+        = subst (λ x. count_at x (changed_at core (λ m. m + 1) v.counts) ≡ count_at x v.counts + 1) is (count_here v.counts core there) in
+        let most : count_at d.core v.counts ≤ d.place = grind (arith, nat_tests, t) in
+        let many : count_at core v.counts ≡ count_at d.core v.counts = ap (λ x. count_at x v.counts) is in
+        let place : count_by (is_on core) n.placed ≡ d.place = omega (arith, as_many, many, most, here, less) in
+        (length n.placed, subst (λ (x : DispatcherId). slice_get (n.placed ++ new_id n core ∷ []) (length n.placed) ≡ Some x)
+        (same_id (new_id n core) d is place) (behind n.placed (new_id n core)))
+
+fits_dispatcher : (n : Names) (v : View) (name : List ℕ) (core : ℕ) → is_taken name n.dispatchers ≡ false → core < length v.counts → Fits n v
     → Fits (with_dispatcher n name core) (settled (one_dispatcher core v))
-fits_dispatcher n v name core there h = record {
+fits_dispatcher n v name core new there h = record {
   interfaces = h.interfaces;
   messages = h.messages;
   dispatchers = push_length n.dispatchers n.placed name (new_id n core) h.dispatchers;
@@ -146,6 +222,11 @@ fits_dispatcher n v name core there h = record {
   bindings = h.bindings;
   spoken = h.spoken;
   bare = λ e. absurd (false≢true e);
+  interfaces_differ = h.interfaces_differ;
+  dispatchers_differ = differ_push n.dispatchers name (not_among name n.dispatchers new) h.dispatchers_differ;
+  bindings_differ = h.bindings_differ;
+  places_differ = differ_push n.placed (new_id n core) (fresh_place n v core h.placed h.within) h.places_differ;
+  named = λ d less. named_by n v core d (core == d.core) refl there (h.placed core) h.named less;
 }
 
 -- the number of cores is set before there are dispatchers
@@ -168,6 +249,11 @@ fits_cores n v k may h = record {
   bindings = h.bindings;
   spoken = h.spoken;
   bare = h.bare;
+  interfaces_differ = h.interfaces_differ;
+  dispatchers_differ = h.dispatchers_differ;
+  bindings_differ = h.bindings_differ;
+  places_differ = h.places_differ;
+  named = λ d less. let none = fresh_none (range_with_len 0 k) d.core in absurd (omega (arith, less, none));
 }
 
 -- ---- events
@@ -192,16 +278,16 @@ named n new a v f g = either (λ (m : Names). Fits m v) (is_done a) new n f g
 opposite : {b : Bool} {X : Type 0} → b ≡ true → b ≡ false → X
 opposite t f = absurd (true≢false (sym t ∙ f))
 
-interface_after : (s : Script) (i : TheInterface) (plan : PlanNo) → After s → After (does s (asks (add_interface i plan) (with_interface s.names i))).after
-interface_after s i plan h =
+interface_after : (s : Script) (i : TheInterface) (plan : PlanNo) → is_taken i.name s.names.interfaces ≡ false → After s → After (effect_of s (asks (add_interface i plan) (with_interface s.names i))).after
+interface_after s i plan new h =
     let o = adds_interface i plan s.state in
     elim (interface_made i plan s.state) [
       | inl p ↦ named s.names (with_interface s.names i) o.answer (view o.state)
-          (λ t. fits_same _ _ (view o.state) p.1 (fits_interface s.names (view s.state) i plan h)) (λ f. opposite p.0 f)
+          (λ t. fits_same _ _ (view o.state) p.1 (fits_interface s.names (view s.state) i plan new h)) (λ f. opposite p.0 f)
       | inr p ↦ named s.names (with_interface s.names i) o.answer (view o.state) (λ t. opposite t p.0) (λ f. fits_same s.names _ (view o.state) p.1 h)
     ]
 
-cores_after : (s : Script) (k : ℕ) → After s → After (does s (asks (set_cores k) s.names)).after
+cores_after : (s : Script) (k : ℕ) → After s → After (effect_of s (asks (set_cores k) s.names)).after
 cores_after s k h =
     let o = sets_cores k s.state in
     elim (cores_made k s.state) [
@@ -209,29 +295,29 @@ cores_after s k h =
       | inr p ↦ plain s.names s.state o p.1 h
     ]
 
-map_length : {X Y : Type 0} (f : X → Y) (xs : List X) → length (map f xs) ≡ length xs
+pub map_length : {X Y : Type 0} (f : X → Y) (xs : List X) → length (map f xs) ≡ length xs
 map_length f [] = refl
 map_length f (x ∷ xs) = ap (λ m. suc m) (map_length f xs)
 
-dispatcher_after : (s : Script) (name : List ℕ) (core : ℕ) → After s → After (does s (asks (add_dispatcher core) (with_dispatcher s.names name core))).after
-dispatcher_after s name core h =
+dispatcher_after : (s : Script) (name : List ℕ) (core : ℕ) → is_taken name s.names.dispatchers ≡ false → After s → After (effect_of s (asks (add_dispatcher core) (with_dispatcher s.names name core))).after
+dispatcher_after s name core new h =
     let o = adds_dispatcher core s.state in
     elim (dispatcher_made core s.state) [
       | inl p ↦ named s.names (with_dispatcher s.names name core) o.answer (view (settles_by o.answer o.state))
           (λ t. fits_same _ _ _ (settled_done o.answer o.state t ∙ ap settled p.2)
-          (fits_dispatcher s.names (view s.state) name core (let n = map_length count_in s.state.cores in let less = p.1 in omega (arith, n, less)) h))
+          (fits_dispatcher s.names (view s.state) name core new (let n = map_length count_in s.state.cores in let less = p.1 in omega (arith, n, less)) h))
           (λ f. opposite p.0 f)
       | inr p ↦ named s.names (with_dispatcher s.names name core) o.answer (view (settles_by o.answer o.state)) (λ t. opposite t p.0)
           (λ f. fits_after s.names o.answer o.state (fits_same s.names _ (view o.state) p.1 h))
     ]
 
-binding_after : (s : Script) (p : List ℕ) (d : DispatcherId) (i : ℕ) (service : List ℕ) (kind : Kind) → After s
-    → After (does s (asks (event.bind d i service kind) (with_binding s.names p i))).after
-binding_after s name d i service kind h =
+binding_after : (s : Script) (p : List ℕ) (d : DispatcherId) (i : ℕ) (service : List ℕ) (kind : Kind) → is_taken p s.names.bindings ≡ false → After s
+    → After (effect_of s (asks (event.bind d i service kind) (with_binding s.names p i))).after
+binding_after s name d i service kind new h =
     let o = binds d i service kind s.state in
     elim (binding_made d i service kind s.state) [
       | inl p ↦ named s.names (with_binding s.names name i) o.answer (view (settles_by o.answer o.state))
-          (λ t. fits_after _ o.answer o.state (fits_same _ _ (view o.state) p.1 (fits_binding s.names (view s.state) name i h)))
+          (λ t. fits_after _ o.answer o.state (fits_same _ _ (view o.state) p.1 (fits_binding s.names (view s.state) name i new h)))
           (λ f. opposite p.0 f)
       | inr p ↦ named s.names (with_binding s.names name i) o.answer (view (settles_by o.answer o.state)) (λ t. opposite t p.0)
           (λ f. fits_after s.names o.answer o.state (fits_same s.names _ (view o.state) p.1 h))
@@ -240,7 +326,7 @@ binding_after s name d i service kind h =
 -- ---- commands
 
 abbrev pub Done : Script → Asked → Type 0
-Done s asked = After (does s asked).after
+Done s asked = After (effect_of s asked).after
 
 end_after : (s : Script) (f : EndId → Event) (e : EndName) → After s → ((x : EndId) → Done s (asks (f x) s.names)) → Done s (asks_end s.names f e)
 end_after s f e h each = by_given (Done s) (end_at s.names e) _ _ h (λ x q. each x)
@@ -259,7 +345,7 @@ command_after : (s : Script) (c : Command) (asked : Asked) → Asks s.names c as
 command_after s (cores k) asked e h = subst (Done s) (sym e) (cores_after s k h)
 command_after s (link a b slots) asked e h = subst (Done s) (sym e) (plain s.names s.state _ (Views.links_stay a b slots s.state) h)
 command_after s (disp name core) asked e h =
-    subst (Done s) (sym e) (either (Done s) (is_taken name s.names.dispatchers) _ _ (λ q. h) (λ q. dispatcher_after s name core h))
+    subst (Done s) (sym e) (either (Done s) (is_taken name s.names.dispatchers) _ _ (λ q. h) (λ q. dispatcher_after s name core q h))
 command_after s (export service d i) asked e h =
     subst (Done s) (sym e)
     (by_given (Done s) (dispatcher_at s.names d) _ _ h
@@ -268,7 +354,7 @@ command_after s (bind p d i service back) asked e h =
     subst (Done s) (sym e)
     (either (Done s) (is_taken p s.names.bindings) _ _ (λ q. h)
     (λ q. by_given (Done s) (dispatcher_at s.names d) _ _ h
-    (λ x r. by_given (Done s) (place_of i s.names.interfaces) _ _ h (λ y t. binding_after s p x y service (kind_of back) h))))
+    (λ x r. by_given (Done s) (place_of i s.names.interfaces) _ _ h (λ y t. binding_after s p x y service (kind_of back) q h))))
 command_after s (call e text) asked a h = called_after s e text asked a h
 command_after s (show e) asked a h = subst (Done s) (sym a) (end_after s event.show e h (λ x. plain s.names s.state _ (Views.shows_stay x s.state) h))
 command_after s (write e) asked a h = subst (Done s) (sym a) (end_after s event.write e h (λ x. plain s.names s.state _ (Views.writes_stay x s.state) h))
@@ -289,20 +375,20 @@ command_after s (mack core neighbour) asked a h = subst (Done s) (sym a) (plain 
 
 -- ---- items, and the script
 
-block_after : (s : Script) (plan : PlanNo) (outcome : TextOutcome) → After s → After (block_does s plan outcome).after
+block_after : (s : Script) (plan : PlanNo) (outcome : TextOutcome) → After s → After (block_effect s plan outcome).after
 block_after s plan (text_fault number offset) h = h
-block_after s plan (stands_for i) h = either (Done s) (is_taken i.name s.names.interfaces) _ _ (λ q. h) (λ q. interface_after s i plan h)
+block_after s plan (stands_for i) h = either (Done s) (is_taken i.name s.names.interfaces) _ _ (λ q. h) (λ q. interface_after s i plan q h)
 
 at_effect : (x y : Effect) → x ≡ y → After y.after → After x.after
 at_effect x y e h = subst (λ (z : Effect). After z.after) (sym e) h
 
-item_after : (s : Script) (item : Item) (effect : Effect) → Does s item effect → After s → After effect.after
+pub item_after : (s : Script) (item : Item) (effect : Effect) → Does s item effect → After s → After effect.after
 item_after s (a_line silent) effect e h = at_effect effect _ e h
-item_after s (a_line (command c)) effect (asked, a, e) h = at_effect effect (does s asked) e (command_after s c asked a h)
+item_after s (a_line (command c)) effect (asked, a, e) h = at_effect effect (effect_of s asked) e (command_after s c asked a h)
 item_after s (a_line unread) effect e h = at_effect effect _ e h
 item_after s (a_line (heading plan)) effect e h = at_effect effect _ e h
 item_after s open_block effect e h = at_effect effect _ e h
-item_after s (a_block plan text) effect (outcome, m, e) h = at_effect effect (block_does s plan outcome) e (block_after s plan outcome h)
+item_after s (a_block plan text) effect (outcome, m, e) h = at_effect effect (block_effect s plan outcome) e (block_after s plan outcome h)
 
 all_after : (s : Script) (items : List Item) (effects : List Effect) → AllDo s items effects → After s → After (last_of s effects)
 all_after s [] effects e h = subst (λ (es : List Effect). After (last_of s es)) (sym e) h
@@ -313,7 +399,7 @@ first_counts : (core : ℕ) → 0 ≡ count_at core (0 ∷ [])
 first_counts zero = refl
 first_counts (suc core) = refl
 
-fits_first : After beginning
+pub fits_first : After beginning
 fits_first = record {
   interfaces = refl;
   messages = refl;
@@ -323,32 +409,52 @@ fits_first = record {
   bindings = refl;
   spoken = refl;
   bare = λ e. refl;
+  interfaces_differ = λ j k x a b. absurd (cc);
+  dispatchers_differ = λ j k x a b. absurd (cc);
+  bindings_differ = λ j k x a b. absurd (cc);
+  places_differ = λ j k x a b. absurd (cc);
+  named = λ d less. let none = first_counts d.core in absurd (omega (arith, less, none));
 }
 
 -- ---- what that says of the state
 
-one_of : {X : Type 0} (xs : List X) (n : ℕ) → n < length xs → (x : X) × (slice_get xs n ≡ Some x)
+pub one_of : {X : Type 0} (xs : List X) (n : ℕ) → n < length xs → (x : X) × (slice_get xs n ≡ Some x)
 one_of [] n h = absurd (omega (arith, h))
 one_of (x ∷ xs) zero h = (x, refl)
 one_of (x ∷ xs) (suc n) h = one_of xs n (omega (arith, h))
 
-dispatcher_there : (ks : List Core) (core place : ℕ) → place < count_at core (map count_in ks)
+pub dispatcher_there : (ks : List Core) (core place : ℕ) → place < count_at core (map count_in ks)
     → (x : Dispatcher) × ((given (slice_get ks core) None λ k. slice_get k.dispatchers place) ≡ Some x)
 dispatcher_there [] core place h = absurd (omega (arith, h))
 dispatcher_there (k ∷ ks) zero place h = one_of k.dispatchers place h
 dispatcher_there (k ∷ ks) (suc core) place h = dispatcher_there ks core place h
 
-stands : (n : Names) (s : State) → Fits n (view s) → NamesStand n s
-stands n s h = record {
+-- a dispatcher that is there is one of its core's
+place_there : (ks : List Core) (core place : ℕ) (x : Dispatcher) → (given (slice_get ks core) None λ k. slice_get k.dispatchers place) ≡ Some x
+    → place < count_at core (map count_in ks)
+place_there [] core place x e = absurd (cc)
+place_there (k ∷ ks) zero place x e = slice_get_within k.dispatchers place x e
+place_there (k ∷ ks) (suc core) place x e = place_there ks core place x e
+
+stands : (n : Names) (s : State) → Fits n (view s) → ServicesStand s → NamesStand n s
+stands n s h services = record {
   interfaces = h.interfaces;
   messages = h.messages;
+  interfaces_differ = h.interfaces_differ;
   dispatchers = h.dispatchers;
-  placed = λ core. h.placed core ∙ given_map count_in 0 (λ m. m) s.cores core;
+  dispatchers_differ = h.dispatchers_differ;
+  places_differ = h.places_differ;
   there = λ k d q. dispatcher_there s.cores d.core d.place (h.within k d q);
+  named = λ d x q. h.named d (place_there s.cores d.core d.place x q);
   bindings = h.bindings;
+  bindings_differ = h.bindings_differ;
   spoken = h.spoken;
+  services = services;
 }
 
-pub names_stand : ScriptsNameWhatStands
-names_stand bytes effects (items, i, d) =
-    stands (last_of beginning effects).names (last_of beginning effects).state (all_after beginning items effects d fits_first)
+pub names_stand : RunsAreSound → ScriptsNameWhatStands
+names_stand sound bytes done b =
+    let (firsts, h) = begun bytes done b in
+    let (vs, e, r) = all_run beginning firsts done h in
+    let s = last_of beginning done in
+    stands s.names s.state (all_after beginning firsts done h fits_first) (subst ServicesStand (sym r) (sound vs).services)

@@ -1,36 +1,33 @@
--- What is written of a script that `exec` leaves with a fault: a front of its transcript, and for each fault which.
+-- What is written of a script that `exec` leaves with a fault: a prefix of its transcript, and for each fault which.
 use Rattle.std.specs.Prelude.{◌≡◌, ℕ, List, [], ◌∷◌, ◌++◌}
 use Rattle.std.specs.Bool.{MatchBool}
+use Rattle.fl_base.specs.Prefix.{IsPrefix}
 use Rattle.fl_transcript.specs.declared.running.ExecFault.{ExecFault}
 use Rattle.fl_transcript.specs.declared.running.ExecFault.TheVariants.{Memory, Read, Write}
 use Rattle.fl_transcript.specs.Transcript.{Script, beginning, Effect, Runs, text_of, is_too_long, Transcript}
 
--- the second list begins with the first
-abbrev pub IsFront : List ℕ → List ℕ → Type 0
-IsFront front whole = (more : List ℕ) × (whole ≡ front ++ more)
-
 -- the second list begins with the first, and is longer
-abbrev pub IsProperFront : List ℕ → List ℕ → Type 0
-IsProperFront front whole = (next : ℕ) × (more : List ℕ) × (whole ≡ front ++ next ∷ more)
+abbrev pub IsProperPrefix : List ℕ → List ℕ → Type 0
+IsProperPrefix prefix whole = (next : ℕ) × (more : List ℕ) × (whole ≡ prefix ++ next ∷ more)
 
 -- the answers of the first items of a script, each of them whole; at least one item stands behind these
 abbrev pub SomeAnswers : Script → List ℕ → List ℕ → Type 0
 SomeAnswers s bytes out =
     (done : List Effect) × (next : Effect) × (others : List Effect) × Runs s bytes (done ++ next ∷ others) × (out ≡ text_of done)
 
--- a proper front of all answers
+-- a proper prefix of all answers
 abbrev pub PartOfAnswers : Script → List ℕ → List ℕ → Type 0
-PartOfAnswers s bytes out = (effects : List Effect) × Runs s bytes effects × IsProperFront out (text_of effects)
+PartOfAnswers s bytes out = (effects : List Effect) × Runs s bytes effects × IsProperPrefix out (text_of effects)
 
 -- Memory is refused between two answers, while an item is still to be answered; a read fails before anything is written; a
 -- write fails while a byte is still to be written.
-abbrev pub Leaves : ExecFault → List ℕ → List ℕ → Type 0
-Leaves Memory bytes out = MatchBool (is_too_long bytes) (out ≡ []) (SomeAnswers beginning bytes out)
-Leaves Read bytes out = out ≡ []
-Leaves Write bytes out = (whole : List ℕ) × Transcript bytes whole × IsProperFront out whole
+abbrev pub LeavesWritten : ExecFault → List ℕ → List ℕ → Type 0
+LeavesWritten Memory bytes out = MatchBool (is_too_long bytes) (out ≡ []) (SomeAnswers beginning bytes out)
+LeavesWritten Read bytes out = out ≡ []
+LeavesWritten Write bytes out = (whole : List ℕ) × Transcript bytes whole × IsProperPrefix out whole
 
 -- ---- the law
 
--- what a fault leaves is a front of the transcript
-abbrev pub LeavesAFront : Type 0
-LeavesAFront = (fault : ExecFault) (bytes front whole : List ℕ) → Leaves fault bytes front → Transcript bytes whole → IsFront front whole
+-- what a fault leaves is a prefix of the transcript
+abbrev pub LeavesAPrefix : Type 0
+LeavesAPrefix = (fault : ExecFault) (bytes prefix whole : List ℕ) → LeavesWritten fault bytes prefix → Transcript bytes whole → IsPrefix prefix whole

@@ -7,7 +7,7 @@ use Rattle.fl_queues.specs.Events.{Event}
 use Rattle.fl_queues.specs.State.{start}
 use Rattle.fl_queues.specs.Runs.{Exchange, run, reached, calls_handled}
 use Rattle.fl_queues.specs.Laws.{accepted_by, AcceptedIsMerged}
-use Rattle.fl_transcript.specs.Transcript.{Effect, beginning, Runs, asked_in}
+use Rattle.fl_transcript.specs.Transcript.{Effect, Begins, asked_in}
 
 -- what was asked is a run of the machine from its start. In it the calls handled at each end are a prefix of those that were
 -- accepted at the other, in order, with equal arguments; and these are the calls that were answered `accepted`, and
@@ -18,6 +18,6 @@ pub record HandlersRunAPrefix (asked : List Exchange) : Type 0 where
   pub handled : (e : EndId) → IsPrefix (calls_handled e asked) (accepted_by (reached start events) (peer e))
   pub accepted : (e : EndId) → AcceptedIsMerged events e
 
--- so it is in each script
+-- so it is in each script, however far it is run
 abbrev pub ScriptsHandlePrefixes : Type 0
-ScriptsHandlePrefixes = (bytes : List ℕ) (effects : List Effect) → Runs beginning bytes effects → HandlersRunAPrefix (asked_in effects)
+ScriptsHandlePrefixes = (bytes : List ℕ) (done : List Effect) → Begins bytes done → HandlersRunAPrefix (asked_in done)

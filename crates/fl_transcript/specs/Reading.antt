@@ -23,10 +23,10 @@ CanBeUnread Read input = ⊤
 CanBeUnread Write input = ⊥
 
 -- what is written of a script's bytes where a fault ends the run of its items; no read is among what can fail
-abbrev pub Stops : ExecFault → Script → List ℕ → List ℕ → Type 0
-Stops Memory s bytes out = SomeAnswers s bytes out
-Stops Read s bytes out = ⊥
-Stops Write s bytes out = PartOfAnswers s bytes out
+abbrev pub StopsWith : ExecFault → Script → List ℕ → List ℕ → Type 0
+StopsWith Memory s bytes out = SomeAnswers s bytes out
+StopsWith Read s bytes out = ⊥
+StopsWith Write s bytes out = PartOfAnswers s bytes out
 
 -- what was done, and then what the rest does, is what the whole script does
 pub record GoesOn (first : Script) (whole : List ℕ) (now : Script) (rest : List ℕ) (done : List Effect) : Type 0 where

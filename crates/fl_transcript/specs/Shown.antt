@@ -6,7 +6,7 @@ use Rattle.fl_lines.specs.declared.fault.LineFault.{LineFault}
 use Rattle.fl_lines.specs.Asked.{Asked}
 use Rattle.fl_lines.specs.Told.{names_of, Tells}
 use Rattle.fl_transcript.specs.declared.script.Script.{Script as RustScript}
-use Rattle.fl_transcript.specs.Transcript.{Script, Effect, does}
+use Rattle.fl_transcript.specs.Transcript.{Script, Effect, effect_of}
 
 -- the running script's names are those, and its system shows that state
 pub record IsAt {M : Type 0} (shows : M → State → Type 0) (r : RustScript M) (s : Script) : Type 0 where
@@ -31,4 +31,4 @@ AnswersBy shows old new before after f = (s : Script) → IsAt shows old s → A
 abbrev pub AnswersTold : {M : Type 0} → (M → State → Type 0) → RustScript M → RustScript M → List ℕ → List ℕ
     → Result RustAsked LineFault → Type 0
 AnswersTold shows old new before after told =
-    (s : Script) → IsAt shows old s → (asked : Asked) → Tells s.names told asked → Answered shows new before after (does s asked)
+    (s : Script) → IsAt shows old s → (asked : Asked) → Tells s.names told asked → Answered shows new before after (effect_of s asked)

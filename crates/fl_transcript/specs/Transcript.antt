@@ -34,40 +34,40 @@ line text = text ++ 10 ∷ []
 -- ---- an item
 
 -- this is written, and nothing is asked
-abbrev pub says : Script → List ℕ → Effect
-says s text = record { text = text; asked = []; after = s }
+abbrev pub writes_only : Script → List ℕ → Effect
+writes_only s text = record { text = text; asked = []; after = s }
 
-abbrev pub refuses_by : Script → ℕ → Effect
-refuses_by s fault = says s (line (answer_text s.names (refused fault)))
+abbrev pub writes_refusal : Script → ℕ → Effect
+writes_refusal s fault = writes_only s (line (answer_text s.names (refused fault)))
 
 -- an event is asked, and the machine's answer is written
-abbrev pub answered : Event → Names → Outcome → Effect
-answered event names o = record {
+abbrev pub writes_answer : Event → Names → Outcome → Effect
+writes_answer event names o = record {
   text = line (answer_text names o.answer);
   asked = record { event = event; answer = o.answer } ∷ [];
   after = record { names = names; state = o.state };
 }
 
-abbrev pub steps : Script → Event → Names → Outcome → Effect
-steps s event new o = answered event (names_after s.names new o.answer) o
+abbrev pub asks_event : Script → Event → Names → Outcome → Effect
+asks_event s event new o = writes_answer event (names_after s.names new o.answer) o
 
-abbrev pub does : Script → Asked → Effect
-does s (refuses fault) = refuses_by s fault
-does s (asks event new) = steps s event new (step s.state event)
+abbrev pub effect_of : Script → Asked → Effect
+effect_of s (refuses fault) = writes_refusal s fault
+effect_of s (asks event new) = asks_event s event new (step s.state event)
 
 -- a block whose text has this outcome
-abbrev pub block_does : Script → PlanNo → TextOutcome → Effect
-block_does s plan (text_fault number offset) = says s (line (fault_text number offset))
-block_does s plan (stands_for i) = does s (asks_interface s.names i plan)
+abbrev pub block_effect : Script → PlanNo → TextOutcome → Effect
+block_effect s plan (text_fault number offset) = writes_only s (line (fault_text number offset))
+block_effect s plan (stands_for i) = effect_of s (asks_interface s.names i plan)
 
 -- what an item does (the head of a block is no item of its own)
 abbrev pub Does : Script → Item → Effect → Type 0
-Does s (a_line silent) effect = effect ≡ says s []
-Does s (a_line (command c)) effect = (asked : Asked) × Asks s.names c asked × (effect ≡ does s asked)
-Does s (a_line unread) effect = effect ≡ refuses_by s 90
-Does s (a_line (heading plan)) effect = effect ≡ refuses_by s 90
-Does s open_block effect = effect ≡ refuses_by s 90
-Does s (a_block plan text) effect = (outcome : TextOutcome) × TextMeans text outcome × (effect ≡ block_does s plan outcome)
+Does s (a_line silent) effect = effect ≡ writes_only s []
+Does s (a_line (command c)) effect = (asked : Asked) × Asks s.names c asked × (effect ≡ effect_of s asked)
+Does s (a_line unread) effect = effect ≡ writes_refusal s 90
+Does s (a_line (heading plan)) effect = effect ≡ writes_refusal s 90
+Does s open_block effect = effect ≡ writes_refusal s 90
+Does s (a_block plan text) effect = (outcome : TextOutcome) × TextMeans text outcome × (effect ≡ block_effect s plan outcome)
 
 -- ---- a script
 
@@ -80,6 +80,15 @@ AllDo s (item ∷ items) effects =
 -- what the bytes of a script do, or of its rest
 abbrev pub Runs : Script → List ℕ → List Effect → Type 0
 Runs s bytes effects = (items : List Item) × ItemsOf bytes items × AllDo s items effects
+
+-- the first items of a script do this, however far it is run
+abbrev pub Begins : List ℕ → List Effect → Type 0
+Begins bytes done = (others : List Effect) × Runs beginning bytes (done ++ others)
+
+-- where a script is behind these
+abbrev pub last_of : Script → List Effect → Script
+last_of s [] = s
+last_of s (effect ∷ effects) = last_of effect.after effects
 
 abbrev pub text_of : List Effect → List ℕ
 text_of effects = flat_map Effect.text effects

@@ -1,9 +1,9 @@
-//! The laws: a script has a transcript, and one alone, and what `exec` leaves on a fault is a front of it.
+//! The laws: a script has a transcript, and one alone, and what `exec` leaves on a fault is a prefix of it.
 
 ghost use Rattle.fl_transcript.specs.Transcript.{HasTranscript, OneTranscript};
-ghost use Rattle.fl_transcript.specs.CutShort.{LeavesAFront};
+ghost use Rattle.fl_transcript.specs.CutShort.{LeavesAPrefix};
 ghost use Rattle.fl_transcript.specs.Handled.{ScriptsHandlePrefixes};
-ghost use Rattle.fl_transcript.specs.Standing.{ScriptsNameWhatStands};
+ghost use Rattle.fl_transcript.specs.Standing.{ScriptsNameWhatStands, ScriptsAskOfWhatStands};
 
 /// Each byte string has a transcript, also one that is no script.
 pub fn has_transcript()
@@ -16,13 +16,13 @@ pub fn one_transcript()
     ensures one { OneTranscript }
 {}
 
-/// What [`exec`](crate::exec) leaves written on a fault is a front of the script's transcript.
-pub fn front_of_the_transcript()
-    ensures front { LeavesAFront }
+/// What [`exec`](crate::exec) leaves written on a fault is a prefix of the script's transcript.
+pub fn prefix_of_the_transcript()
+    ensures prefix { LeavesAPrefix }
 {}
 
 /// What a script's items ask of the machine is a run of it, and the handlers that run at each end run a prefix of the calls
-/// accepted at the other. (A script over the limit asks nothing: its transcript is one line.)
+/// accepted at the other, however far the script is run. (A script over the limit asks nothing: its transcript is one line.)
 pub fn handlers_run_a_prefix()
     ensures handled { ScriptsHandlePrefixes }
 {
@@ -31,7 +31,14 @@ pub fn handlers_run_a_prefix()
 }
 
 /// The names that a script has given are those of the machine's things: wherever it gets to, each name stands for the thing
-/// at its place, and each thing that can be named has a name.
+/// at its place, no two names of a kind are the same, and each thing that can be named has a name.
 pub fn names_stand()
     ensures stand { ScriptsNameWhatStands }
+{
+    fl_laws::runs_are_sound();
+}
+
+/// Whatever an item asks of the machine, the dispatchers, interfaces, ends and messages that it asks it of are there.
+pub fn names_are_there()
+    ensures there { ScriptsAskOfWhatStands }
 {}

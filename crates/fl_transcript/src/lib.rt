@@ -2,8 +2,9 @@
 //!
 //! Contract for the program: what [`exec`] writes is the transcript of what it read (`specs/Transcript.antt`), on whatever
 //! does what the queue machine does ([`QueueMachine`]). A script has a transcript ([`has_transcript`]), and one alone
-//! ([`one_transcript`]); what `exec` leaves on a fault is a front of it (`specs/CutShort.antt`). The handlers that run are a
-//! prefix of the calls accepted ([`handlers_run_a_prefix`]), and names are those of the machine's things ([`names_stand`]).
+//! ([`one_transcript`]); what `exec` leaves on a fault is a prefix of it (`specs/CutShort.antt`). The handlers that run are a
+//! prefix of the calls accepted ([`handlers_run_a_prefix`]), names are those of the machine's things ([`names_stand`]), and
+//! whatever a script asks, it asks of what is there ([`names_are_there`]); all three however far a script is run.
 //!
 //! - `running.rt`: `exec`, which reads a script whole, runs it, and writes item by item
 //! - `script.rt`: a running script; each item's answer
@@ -19,7 +20,8 @@ mod script;
 mod text;
 
 pub use law::{
-    front_of_the_transcript, handlers_run_a_prefix, has_transcript, names_stand, one_transcript,
+    handlers_run_a_prefix, has_transcript, names_are_there, names_stand, one_transcript,
+    prefix_of_the_transcript,
 };
 pub use machine::QueueMachine;
 pub use running::{ExecFault, MAX_SCRIPT, exec};

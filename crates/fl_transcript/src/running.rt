@@ -4,10 +4,10 @@ ghost use Rattle.std.specs.Prelude.{◌≡◌, ◌≢◌, List, ℕ, Err, IfOk, 
 ghost use Rattle.std.specs.Io.KnownBytes.{Appends};
 ghost use Rattle.fl_transcript.specs.declared.running.ExecFault.TheVariants.{Memory};
 ghost use Rattle.fl_transcript.specs.Transcript.{Script as TheScript};
-ghost use Rattle.fl_transcript.specs.CutShort.{IsProperFront};
+ghost use Rattle.fl_transcript.specs.CutShort.{IsProperPrefix};
 ghost use Rattle.fl_transcript.specs.Shown.{IsAt};
 ghost use Rattle.fl_transcript.specs.Reading.{status_of, ReadsWhole, CanBeUnread};
-ghost use Rattle.fl_transcript.specs.Written.{WritesTranscript, WritesFront, WritesAnswers, WritesUntil};
+ghost use Rattle.fl_transcript.specs.Written.{WritesTranscript, WritesPrefix, WritesAnswers, WritesUntil};
 
 use crate::machine::QueueMachine;
 use crate::script::Script;
@@ -19,7 +19,7 @@ use thiserror::Error;
 /// Bytes of the longest script; a longer one has the transcript `refused E91`.
 pub const MAX_SCRIPT: usize = 1_048_576;
 
-/// Why a script was not run to its end. What was written until then is a front of its transcript.
+/// Why a script was not run to its end. What was written until then is a prefix of its transcript.
 #[derive(Clone, Copy, Debug, PartialEq, Eq, Error)]
 pub enum ExecFault {
     /// Memory was refused. Some items' answers are written, each of them whole, and an item is left.
@@ -79,8 +79,8 @@ fn read_script<R: Read>(alloc: Global, reader: &mut R) -> Result<Vec<u8>, ExecFa
 // Writes all of a text, by as many writes as it takes.
 fn put_all<W: Write>(writer: &mut W, text: &[u8]) -> Result<(), ExecFault>
     ensures ok { OnOk result (Appends (W.contents writer.old) (W.contents writer.new) text.now) }
-    ensures err { OnErr result ((front : List ℕ) × IsProperFront front text.now
-        × Appends (W.contents writer.old) (W.contents writer.new) front) }
+    ensures err { OnErr result ((prefix : List ℕ) × IsProperPrefix prefix text.now
+        × Appends (W.contents writer.old) (W.contents writer.new) prefix) }
     ensures fault { IfErr result (λ f. f ≡ ExecFault.Write) }
 {
     let mut rest = text;
@@ -130,7 +130,7 @@ fn run<M: QueueMachine, W: Write>(
 /// it takes; a write that takes no byte is a fault.
 ///
 /// # Errors
-/// [`ExecFault`]: memory was refused, or a read or a write failed. What was written then is a front of
+/// [`ExecFault`]: memory was refused, or a read or a write failed. What was written then is a prefix of
 /// the transcript: whole answers after want of memory, not all of it after a failed write, and nothing after
 /// a failed read (`specs/CutShort.antt`).
 pub fn exec<M: QueueMachine + Drop, R: Read, W: Write>(
@@ -139,7 +139,7 @@ pub fn exec<M: QueueMachine + Drop, R: Read, W: Write>(
     writer: &mut W,
 ) -> Result<(), ExecFault>
     ensures ok { OnOk result (WritesTranscript (R.remaining reader.old) (W.contents writer.old) (W.contents writer.new)) }
-    ensures err { IfErr result (λ fault. WritesFront fault (R.remaining reader.old) (W.contents writer.old) (W.contents writer.new)) }
+    ensures err { IfErr result (λ fault. WritesPrefix fault (R.remaining reader.old) (W.contents writer.old) (W.contents writer.new)) }
     ensures unread { result ≡ Err ExecFault.Read → writer.new ≡ writer.old }
 {
     let text = match read_script(alloc, reader) {

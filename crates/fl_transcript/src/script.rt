@@ -1,6 +1,6 @@
 //! A running script: the names that it has given, and the system that its lines act on. Each item is answered here.
 
-ghost use Rattle.std.specs.Prelude.{◌≡◌, ◌∷◌, ◌++◌, [], Err, IfOk, OnOk};
+ghost use Rattle.std.specs.Prelude.{◌≡◌, ◌∷◌, ◌++◌, [], Err, IfOk, OnOk, OnErr};
 ghost use Rattle.fl_check.specs.Interface.{interface_of};
 ghost use Rattle.fl_lines.specs.declared.fault.LineFault.TheVariants.{Memory};
 ghost use Rattle.fl_lines.specs.Asked.{asks};
@@ -11,8 +11,8 @@ ghost use Rattle.fl_lines.specs.Items.{a_line, a_block};
 ghost use Rattle.fl_lines.specs.Told.{names_of, named, IsNew};
 ghost use Rattle.fl_lines.specs.Views.{command_of, line_of, item_of};
 ghost use Rattle.fl_transcript.specs.Shown.{IsAt, Answers, AnswersBy, AnswersTold};
-ghost use Rattle.fl_transcript.specs.Transcript.{beginning, says, does, refuses_by};
-ghost use Rattle.fl_transcript.specs.Transcript.{block_does, Does};
+ghost use Rattle.fl_transcript.specs.Transcript.{beginning, writes_only, effect_of, writes_refusal};
+ghost use Rattle.fl_transcript.specs.Transcript.{block_effect, Does};
 ghost use Rattle.fl_transcript.specs.Text.{stands_for, text_fault};
 
 use crate::machine::QueueMachine;
@@ -49,7 +49,7 @@ impl<M: QueueMachine> Script<M> {
     fn step(&mut self, asked: Asked<'_>, out: &mut Vec<u8>) -> Result<(), AllocError>
         requires { IsNew (names_of self.old.names) asked.naming }
         ensures ok { OnOk result (AnswersBy M.shows self.old self.new out.old.items out.new.items
-            (λ s. does s (asks (event_of asked.entry.event) (named s.names asked.entry.naming)))) }
+            (λ s. effect_of s (asks (event_of asked.entry.event) (named s.names asked.entry.naming)))) }
     {
         let naming = asked.naming;
         let answer = self.machine.step(asked.event)?;
@@ -62,7 +62,7 @@ impl<M: QueueMachine> Script<M> {
     // Writes `refused En`.
     fn refuse(&mut self, number: u8, out: &mut Vec<u8>) -> Result<(), AllocError>
         ensures ok { OnOk result (AnswersBy M.shows self.old self.new out.old.items out.new.items
-            (λ s. refuses_by s number)) }
+            (λ s. writes_refusal s number)) }
     {
         print_answer(self.alloc, out, &self.names, &Answer::Refused(number))?;
         out.push(b'\n')?;
@@ -72,7 +72,7 @@ impl<M: QueueMachine> Script<M> {
     // Refuses what asks nothing of the system.
     fn refuse_by(&mut self, fault: LineFault, out: &mut Vec<u8>) -> Result<(), AllocError>
         ensures ok { OnOk result (AnswersBy M.shows self.old self.new out.old.items out.new.items
-            (λ s. refuses_by s (number_of fault))) }
+            (λ s. writes_refusal s (number_of fault))) }
         ensures memory { fault ≡ Memory → OnOk result ⊥ }
     {
         let Some(number) = fault.refusal() else {
@@ -108,9 +108,9 @@ impl<M: QueueMachine> Script<M> {
     // Writes a fault of an interface's text.
     fn fault(&mut self, number: u8, offset: usize, out: &mut Vec<u8>) -> Result<(), AllocError>
         ensures ok { OnOk result ((plan : PlanNo) → AnswersBy M.shows self.old self.new out.old.items out.new.items
-            (λ s. block_does s plan (text_fault number offset))) }
+            (λ s. block_effect s plan (text_fault number offset))) }
     {
-        print_fault(self.alloc, out, number, offset)?;
+        print_fault(out, number, offset)?;
         out.push(b'\n')?;
         Ok(())
     }
@@ -122,7 +122,7 @@ impl<M: QueueMachine> Script<M> {
         out: &mut Vec<u8>,
     ) -> Result<(), AllocError>
         ensures ok { OnOk result (AnswersBy M.shows self.old self.new out.old.items out.new.items
-            (λ s. block_does s plan (stands_for (interface_of interface)))) }
+            (λ s. block_effect s plan (stands_for (interface_of interface)))) }
     {
         let asked = self.names.ask_interface(interface, plan);
         self.answer(asked, out)
@@ -138,9 +138,10 @@ impl<M: QueueMachine> Script<M> {
         }
     }
 
-    // A line without an answer.
+    // A line without an answer. Takes no memory.
     fn silent(&mut self, _out: &mut Vec<u8>) -> Result<(), AllocError>
-        ensures ok { OnOk result (AnswersBy M.shows self.old self.new _out.old.items _out.new.items (λ s. says s [])) }
+        ensures ok { OnOk result (AnswersBy M.shows self.old self.new _out.old.items _out.new.items (λ s. writes_only s [])) }
+        ensures done { OnErr result ⊥ }
     {
         Ok(())
     }

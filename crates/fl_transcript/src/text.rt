@@ -1,6 +1,6 @@
 //! An interface's text, as a script's block has it.
 
-ghost use Rattle.std.specs.Prelude.{IfOk, ◌≡◌, ℕ, Some};
+ghost use Rattle.std.specs.Prelude.{IfOk, OnErr, ◌≡◌, ℕ, Some, None};
 ghost use Rattle.fl_lex.specs.Token.{tokens_of};
 ghost use Rattle.fl_parse.specs.Tree.{tree_of};
 ghost use Rattle.fl_parse.specs.Grammar.{parsed};
@@ -23,6 +23,7 @@ pub enum TextRead {
 // A fault at a place; without one it is want of memory.
 fn fault_read(number: u8, offset: Option<usize>) -> Result<TextRead, AllocError>
     ensures fault { IfOk result (λ r. (at : ℕ) × (offset ≡ Some at) × (outcome_of r ≡ text_fault number at)) }
+    ensures memory { OnErr result (offset ≡ None) }
 {
     match offset {
         None => Err(AllocError),

@@ -11,10 +11,10 @@ use Rattle.clap.specs.declared.error.kind.ErrorKind.TheVariants.{DisplayHelp}
 use Rattle.fl_base.specs.Prefix.{IsPrefix}
 use Rattle.fl_check.specs.Interface.{TheInterface}
 use Rattle.fl_value.specs.declared.value.PlanNo.TheVariants.{Two}
-use Rattle.fl_script.specs.declared.running.ExecFault.{ExecFault}
-use Rattle.fl_script.specs.Transcript.{Transcript}
-use Rattle.fl_script.specs.CutShort.{Leaves}
-use Rattle.fl_script.specs.Runs as script
+use Rattle.fl_transcript.specs.declared.running.ExecFault.{ExecFault}
+use Rattle.fl_transcript.specs.Transcript.{Transcript}
+use Rattle.fl_transcript.specs.CutShort.{LeavesWritten}
+use Rattle.fl_transcript.specs.Reading as script
 use Rattle.fl_show.specs.declared.fault.ShowFault.{ShowFault}
 use Rattle.fl_show.specs.Content.{StandsFor, IsImageOf, IsRefusalOf, Shows, IsRefusedAs, status_of}
 use Rattle.flounder.specs.declared.fault.Fault.{Fault}
@@ -217,7 +217,7 @@ not_flushed io v status t k z = inr (inr record {
     at_input (Some bytes) (out, is, a) = (out, is, puts_kept io.output.before v io.output.put out a k)
 
 pub cut_short : (io : Streams) (v : Option (List ℕ)) (fault : ExecFault) (status : ℕ)
-    → IfSome io.input (λ bytes. (out : List ℕ) × Leaves fault bytes out × Appends io.output.before v out)
+    → IfSome io.input (λ bytes. (out : List ℕ) × LeavesWritten fault bytes out × Appends io.output.before v out)
     → Keeps v io.output.put → status ≡ script.status_of fault → Execs io status
 cut_short io v fault status t k z = inr (inl record {
   fault = fault;
@@ -225,8 +225,8 @@ cut_short io v fault status t k z = inr (inl record {
   ends = z;
 })
   where
-    at_input : (i : Option (List ℕ)) → IfSome i (λ bytes. (out : List ℕ) × Leaves fault bytes out × Appends io.output.before v out)
-        → IfSome i (λ bytes. (out : List ℕ) × Leaves fault bytes out × Puts io.output out)
+    at_input : (i : Option (List ℕ)) → IfSome i (λ bytes. (out : List ℕ) × LeavesWritten fault bytes out × Appends io.output.before v out)
+        → IfSome i (λ bytes. (out : List ℕ) × LeavesWritten fault bytes out × Puts io.output out)
     at_input None t = tt
     at_input (Some bytes) (out, is, a) = (out, is, puts_kept io.output.before v io.output.put out a k)
 

@@ -8,10 +8,10 @@ use Rattle.clap.specs.declared.error.kind.ErrorKind.TheVariants.{DisplayHelp, Ou
 use Rattle.clap.specs.Words.{IsAmong, Text}
 use Rattle.fl_check.specs.Interface.{TheInterface}
 use Rattle.fl_value.specs.declared.value.PlanNo.TheVariants.{Two}
-use Rattle.fl_script.specs.declared.running.ExecFault.{ExecFault}
-use Rattle.fl_script.specs.Transcript.{Transcript}
-use Rattle.fl_script.specs.CutShort.{Leaves}
-use Rattle.fl_script.specs.Runs as script
+use Rattle.fl_transcript.specs.declared.running.ExecFault.{ExecFault}
+use Rattle.fl_transcript.specs.Transcript.{Transcript}
+use Rattle.fl_transcript.specs.CutShort.{LeavesWritten}
+use Rattle.fl_transcript.specs.Reading as script
 use Rattle.fl_show.specs.declared.fault.ShowFault.{ShowFault}
 use Rattle.fl_show.specs.Content as content
 use Rattle.fl_show.specs.Content.{StandsFor, IsImageOf, IsRefusalOf, Shows, IsRefusedAs}
@@ -112,7 +112,7 @@ pub record Ran (io : Streams) (status : ℕ) : Type 0 where
 -- memory was refused (3), or a read or a write failed (4): a prefix of the transcript was put, and for each fault which
 pub record CutShort (io : Streams) (status : ℕ) : Type 0 where
   pub fault : ExecFault
-  pub prefix : IfSome io.input (λ bytes. (out : List ℕ) × Leaves fault bytes out × Puts io.output out)
+  pub prefix : IfSome io.input (λ bytes. (out : List ℕ) × LeavesWritten fault bytes out × Puts io.output out)
   pub ends : status ≡ script.status_of fault
 
 -- the whole transcript was put, and what the buffer kept back couldn't be written out

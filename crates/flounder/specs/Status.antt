@@ -1,6 +1,6 @@
 -- The statuses with which the program ends.
 use Rattle.std.specs.Prelude.{ℕ}
-use Rattle.fl_script.specs.Runs as script
+use Rattle.fl_transcript.specs.Reading as script
 use Rattle.fl_show.specs.Content as shown
 use Rattle.flounder.specs.declared.fault.Fault.{Fault}
 use Rattle.flounder.specs.declared.fault.Fault.TheVariants.{Usage, Words, Unread, Show, Unmade, Exec, Unwritten, Memory}

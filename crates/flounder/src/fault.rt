@@ -4,7 +4,7 @@ ghost use Rattle.std.specs.Prelude.{◌≡◌};
 ghost use Rattle.flounder.specs.Status.{status_of};
 
 use crate::told::RefusedFile;
-use fl_script::ExecFault;
+use fl_transcript::ExecFault;
 use std::io;
 use thiserror::Error;
 

@@ -18,8 +18,9 @@ use crate::files::FileStore;
 use crate::told::RefusedFile;
 use crate::words::{Request, read_words};
 use clap::error::ErrorKind;
-use fl_script::{ExecFault, exec};
 use fl_show::{ShowFault, compile_text, show_content};
+use fl_system::World;
+use fl_transcript::{ExecFault, exec};
 use std::alloc::Global;
 use std::convert::AsStr;
 use std::io;
@@ -90,7 +91,7 @@ pub fn run_script<R: Read, W: Write + Drop, E: Write>(
 ) -> u8
     ensures ran { Execs (streams_of R.remaining W.contents input.old input.new output.old output.new) result }
 {
-    let outcome = exec(alloc, input, output);
+    let outcome = exec::<World, _, _>(alloc, input, output);
     let flushed = output.flush();
     match outcome {
         Err(fault) => finish(Err(Fault::Exec(fault)), errors),

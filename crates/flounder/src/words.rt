@@ -52,8 +52,8 @@ const ABOUT_EXEC: &str =
     "Runs the script on standard input and writes its transcript to standard output";
 
 const AFTER_EXEC: &str = "\
-The transcript has one answer line for each command. A script makes interfaces, dispatchers and bindings,
-and sends messages over them:
+The transcript has one answer line for each command. A script makes interfaces, cores, links, dispatchers and
+bindings, and sends messages over them:
 
   idl
   interface i { message ping(uint32 v); }
@@ -104,8 +104,9 @@ FILE is always read as a text, and read whole first; OUT is made, or replaced, o
 A text that is refused has status 2, and standard error tells its first fault, as
 
   E14 at 24
-  line 1, column 25: messages carry no capabilities
+  block.if:1:25: messages carry no capabilities
   found there: cap c); }
+  help: leave the argument out
 
 Where OUT can't be written the status is 4, and OUT may then hold only the beginning of the image, which is no
 image.";

@@ -117,7 +117,7 @@ fn answers_have_their_texts(rt: HostRuntime) -> Result<(), Fail> {
 #[test]
 fn faults_stand_at_an_offset(rt: HostRuntime) -> Result<(), Fail> {
     let mut out = Vec::new(rt.alloc());
-    print_fault(rt.alloc(), &mut out, 14, 24)?;
+    print_fault(&mut out, 14, 24)?;
     assert_eq!(rt; out.as_slice(), b"refused E14 at 24".as_slice());
     Ok(())
 }

@@ -1,17 +1,10 @@
-//! Scripts from outside, with their transcripts, and the longest script.
+//! Lines that ask nothing, words that are no command, and the longest script.
 
-use fl_script::{ExecFault, exec};
+use crate::rows::transcript;
+use fl_transcript::ExecFault;
 use std::alloc::Global;
 use std::process::Abort;
 use std::test::Fail;
-
-// A script's transcript.
-pub fn transcript(alloc: Global, script: &[u8]) -> Result<Vec<u8>, ExecFault> {
-    let mut reader = script;
-    let mut out = Vec::new(alloc);
-    exec(alloc, &mut reader, &mut out)?;
-    Ok(out)
-}
 
 fn expect_transcript(
     rt: &impl Abort,
@@ -21,54 +14,6 @@ fn expect_transcript(
 ) -> Result<(), ExecFault> {
     let out = transcript(alloc, script)?;
     assert_eq!(rt; out.as_slice(), wanted);
-    Ok(())
-}
-
-// A call of no arguments is one fragment of zeros.
-#[test]
-fn a_call_without_arguments(rt: HostRuntime) -> Result<(), Fail> {
-    expect_transcript(
-        &rt,
-        rt.alloc(),
-        b"idl\ninterface i { message nop(); }\n.\ndisp d 0\ndisp e 0\nexport s e i\nbind p d i s local 1\ncall p.c nop()\nshow p.c\nwrite p.c\nturn e\n",
-        b"ok\nok\nok\nok\nok\naccepted\n0000000000000000 0000000000000000 0000000000000000 0000000000000000 0000000000000000 0000000000000000 0000000000000000 0000000000000003\nwritten 1 of 1\nhandle p.s nop()\n",
-    )?;
-    Ok(())
-}
-
-// Refusals come in the stated order: an unread call before an unknown end.
-#[test]
-fn refused_calls(rt: HostRuntime) -> Result<(), Fail> {
-    expect_transcript(
-        &rt,
-        rt.alloc(),
-        b"idl\ninterface i { message ping(uint32 v); }\n.\ndisp d 0\ndisp e 0\nexport s e i\nbind p d i s local 1\ncall p.c ping(4294967296)\ncall p.c ping(\"x\")\ncall p.c pong(1)\ncall p.c ping(7\ncall q.c ping(1)\nwrite p.c\n",
-        b"ok\nok\nok\nok\nok\nrefused E42\nrefused E42\nrefused E41\nrefused E90\nrefused E92\nnothing\n",
-    )?;
-    Ok(())
-}
-
-// A call of two fragments over a queue of one slot.
-#[test]
-fn two_fragments(rt: HostRuntime) -> Result<(), Fail> {
-    expect_transcript(
-        &rt,
-        rt.alloc(),
-        b"idl\ninterface i { message m(uint64 a, uint64 b, uint64 c, uint64 d, uint64 e, uint64 f, uint64 g, uint64 h); }\n.\ndisp d 0\ndisp e 0\nexport s e i\nbind p d i s local 1\ncall p.c m(1, 2, 3, 4, 5, 6, 7, 8)\nwrite p.c\nshow p.c\nwrite p.c\nturn e\nwrite p.c\nturn e\n",
-        b"ok\nok\nok\nok\nok\naccepted\nwritten 1 of 2\n0000000000000008 0000000000000000 0000000000000000 0000000000000000 0000000000000000 0000000000000000 0000000000000000 0000000000000001\nfull\npart p.s\nwritten 2 of 2\nhandle p.s m(1, 2, 3, 4, 5, 6, 7, 8)\n",
-    )?;
-    Ok(())
-}
-
-// Plan 2 puts the wider argument first.
-#[test]
-fn falling_alignment(rt: HostRuntime) -> Result<(), Fail> {
-    expect_transcript(
-        &rt,
-        rt.alloc(),
-        b"idl\ninterface i { message m(uint8 a, uint64 b); }\n.\ndisp d 0\ndisp e 0\nexport s e i\nbind p d i s local 4\ncall p.c m(1, 2)\nshow p.c\n",
-        b"ok\nok\nok\nok\nok\naccepted\n0000000000000002 0000000000000001 0000000000000000 0000000000000000 0000000000000000 0000000000000000 0000000000000000 0000000000000003\n",
-    )?;
     Ok(())
 }
 

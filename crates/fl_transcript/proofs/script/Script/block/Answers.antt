@@ -2,7 +2,7 @@ use Rattle.std.proofs.Common.{refl}
 use Rattle.std.proofs.lemmas.Result.{on_ok_weaker}
 use Rattle.fl_check.specs.Interface.{interface_of}
 use Rattle.fl_transcript.specs.Text.{stands_for, text_fault}
-use Rattle.fl_transcript.specs.Transcript.{block_does}
+use Rattle.fl_transcript.specs.Transcript.{block_effect}
 use Rattle.fl_transcript.proofs.script.Script.block.Goals as goal
 
 pub returns-in-Fault : goal.returns-in-Fault
@@ -10,7 +10,7 @@ returns-in-Fault g c =
     let means = rw c.in-Fault.is at c.in_ok-number.ensures.means in
     record {
       ok = on_ok_weaker c.fault.result (λ f. λ s h. (
-        block_does s c.args.plan (text_fault c.in-Fault.number c.in-Fault.offset),
+        block_effect s c.args.plan (text_fault c.in-Fault.number c.in-Fault.offset),
         (text_fault c.in-Fault.number c.in-Fault.offset, means, refl),
         f c.args.plan s h,
       )) c.fault.ensures.ok;
@@ -21,7 +21,7 @@ returns-in-Interface g c =
     let means = rw c.in-Interface.is at c.in_ok-number.ensures.means in
     record {
       ok = on_ok_weaker c.interface.result (λ f. λ s h. (
-        block_does s c.args.plan (stands_for (interface_of c.in-Interface.interface)),
+        block_effect s c.args.plan (stands_for (interface_of c.in-Interface.interface)),
         (stands_for (interface_of c.in-Interface.interface), means, refl),
         f s h,
       )) c.interface.ensures.ok;

@@ -1,4 +1,0 @@
-pub mod Laws
-mod Counts
-mod Times
-mod Waiting

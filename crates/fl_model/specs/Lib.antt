@@ -1,4 +1,0 @@
-pub mod Machine
-pub mod Step
-pub mod Runs
-pub mod Waitsets

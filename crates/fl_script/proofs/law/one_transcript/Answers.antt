@@ -1,5 +1,0 @@
-use Rattle.fl_script.proofs.OneTranscript.{from_laws}
-use Rattle.fl_script.proofs.law.one_transcript.Goals as goal
-
-pub returns : goal.returns
-returns c = record { one = from_laws c.one_outcome.ensures.one c.one_outcome-2.ensures.outcome c.one_outcome-3.ensures.unique c.one_reading.ensures.reading }

@@ -1,7 +1,0 @@
-use Rattle.std.proofs.Common.{◌≤◌, length}
-use Rattle.std.specs.Io.KnownBytes.{Consumes}
-use Rattle.fl_script.proofs.running.read_script.Given as goal
-
-abbrev pub invariant-loop-turn : goal.invariant-loop-turn
-invariant-loop-turn g l =
-    Consumes (g.R.Read.remaining l.fn.reader) (g.R.Read.remaining l.reader) l.text.items × (l._turn ≤ length l.text.items)

@@ -1,6 +1,0 @@
-mod Lists
-mod Outcomes
-mod Streams
-mod Taking
-mod Stepping
-mod Turning

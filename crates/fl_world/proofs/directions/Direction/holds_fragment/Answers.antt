@@ -1,5 +1,0 @@
-use Rattle.std.proofs.Common.{rules}
-use Rattle.fl_world.proofs.directions.Direction.holds_fragment.Goals as goal
-
-pub returns : goal.returns
-returns c = search rules

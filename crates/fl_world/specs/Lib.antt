@@ -1,4 +1,0 @@
-pub mod Exchange
-pub mod Contents
-pub mod Moves
-pub mod Shows
