@@ -119,7 +119,7 @@ module _ (s : Script) (h : After s) where
   Stands (asks v new) = IsOfWhatStands s.state v
 
   nothing : Unit {0}
-  nothing = record { }
+  nothing = record {}
 
   end_stands : (f : EndId → Event) (e : EndName) → ((x : EndId) → HasEnd s.state x → IsOfWhatStands s.state (f x)) → Stands (asks_end s.names f e)
   end_stands f e each = by_given Stands (end_at s.names e) _ _ nothing (λ x q. each x (end_found e x q))

@@ -204,9 +204,11 @@ named_by n v core d true e there as_many each less = old_or_new (nat_lt d.place 
         = subst (λ x. count_at x (changed_at core (λ m. m + 1) v.counts) ≡ count_at x v.counts + 1) is (count_here v.counts core there) in
         let most : count_at d.core v.counts ≤ d.place = grind (arith, nat_tests, t) in
         let many : count_at core v.counts ≡ count_at d.core v.counts = ap (λ x. count_at x v.counts) is in
-        let place : count_by (is_on core) n.placed ≡ d.place = omega (arith, as_many, many, most, here, less) in
-        (length n.placed, subst (λ (x : DispatcherId). slice_get (n.placed ++ new_id n core ∷ []) (length n.placed) ≡ Some x)
-        (same_id (new_id n core) d is place) (behind n.placed (new_id n core)))
+        let place : count_by (is_on core) n.placed ≡ d.place = omega (arith, as_many, many, most, here, less) in (
+          length n.placed,
+          subst (λ (x : DispatcherId). slice_get (n.placed ++ new_id n core ∷ []) (length n.placed) ≡ Some x)
+              (same_id (new_id n core) d is place) (behind n.placed (new_id n core)),
+        )
 
 fits_dispatcher : (n : Names) (v : View) (name : List ℕ) (core : ℕ) → is_taken name n.dispatchers ≡ false → core < length v.counts → Fits n v
     → Fits (with_dispatcher n name core) (settled (one_dispatcher core v))
