@@ -20,14 +20,13 @@ use Rattle.fl_queues.specs.Binding.{binds}
 use Rattle.fl_queues.specs.Step.{settles_by}
 use Rattle.fl_laws.proofs.Cases.{either, by_given, each_push}
 use Rattle.fl_laws.proofs.Places.{changed_other, changed_same}
-use Rattle.fl_laws.proofs.Views.{given_map}
 use Rattle.fl_lines.specs.Commands.{EndName, Command, cores, link, disp, export, bind, call, show, write, turn, ack, register, deregister, reply, mwrite, forward, mack}
 use Rattle.fl_lines.specs.Grammar.{silent, heading, command, unread}
 use Rattle.fl_lines.specs.Items.{Item, a_line, a_block, open_block}
 use Rattle.fl_lines.specs.Names.{Names, is_on, place_of, dispatcher_at, end_at, message_at, with_interface, with_dispatcher, with_binding}
 use Rattle.fl_lines.specs.Asked.{Asked, asks, is_done, names_after, is_taken, kind_of, asks_end, asks_call, CallAsks, Asks}
 use Rattle.fl_transcript.specs.Text.{TextOutcome, stands_for, text_fault}
-use Rattle.fl_transcript.specs.Transcript.{Script, beginning, Effect, effect_of, block_effect, Does, AllDo, Begins, last_of}
+use Rattle.fl_transcript.specs.Transcript.{Script, beginning, Effect, effect_of, block_effect, Does, AllDo, last_of}
 use Rattle.fl_transcript.specs.Standing.{AllDiffer, name_of, message_names, NamesStand, ScriptsNameWhatStands}
 use Rattle.fl_queues.specs.Laws.{RunsAreSound}
 use Rattle.fl_queues.specs.SoundPlaces.{ServicesStand}
@@ -204,9 +203,11 @@ named_by n v core d true e there as_many each less = old_or_new (nat_lt d.place 
         = subst (λ x. count_at x (changed_at core (λ m. m + 1) v.counts) ≡ count_at x v.counts + 1) is (count_here v.counts core there) in
         let most : count_at d.core v.counts ≤ d.place = grind (arith, nat_tests, t) in
         let many : count_at core v.counts ≡ count_at d.core v.counts = ap (λ x. count_at x v.counts) is in
-        let place : count_by (is_on core) n.placed ≡ d.place = omega (arith, as_many, many, most, here, less) in
-        (length n.placed, subst (λ (x : DispatcherId). slice_get (n.placed ++ new_id n core ∷ []) (length n.placed) ≡ Some x)
-        (same_id (new_id n core) d is place) (behind n.placed (new_id n core)))
+        let place : count_by (is_on core) n.placed ≡ d.place = omega (arith, as_many, many, most, here, less) in (
+          length n.placed,
+          subst (λ (x : DispatcherId). slice_get (n.placed ++ new_id n core ∷ []) (length n.placed) ≡ Some x)
+              (same_id (new_id n core) d is place) (behind n.placed (new_id n core)),
+        )
 
 fits_dispatcher : (n : Names) (v : View) (name : List ℕ) (core : ℕ) → is_taken name n.dispatchers ≡ false → core < length v.counts → Fits n v
     → Fits (with_dispatcher n name core) (settled (one_dispatcher core v))
