@@ -1,10 +1,10 @@
 -- What a script's items ask for is there.
-use Rattle.std.proofs.Common.{◌≡◌, ◌∙◌, ◌⊎◌, inl, inr, refl, sym, ap, subst, ℕ, zero, suc, ◌<◌, Bool, true, false, List, [], ◌∷◌, ◌++◌, length, map, slice_get, Option, Some, None, option_map, if◌then◌else◌, arith}
+use Rattle.std.proofs.Common.{◌≡◌, ◌∙◌, inl, inr, refl, sym, ap, subst, ℕ, zero, suc, ◌<◌, Bool, true, false, List, [], ◌∷◌, ◌++◌, length, map, slice_get, Option, Some, None, option_map, if◌then◌else◌, arith}
 use Rattle.std.specs.Prelude.{nat_lt, is_some, IsSome}
 use Rattle.std.specs.Str.{bytes_eq}
 use Rattle.std.proofs.lemmas.Option.{slice_get-map}
 use Rattle.fl_base.specs.declared.identity.EndId.{EndId}
-use Rattle.fl_check.specs.Interface.{TheMessage, TheInterface}
+use Rattle.fl_check.specs.Interface.{TheMessage}
 use Rattle.fl_value.specs.Value.{Datum}
 use Rattle.fl_value.specs.declared.value.PlanNo.{PlanNo}
 use Rattle.fl_queues.specs.Given.{given}
@@ -12,20 +12,20 @@ use Rattle.fl_queues.specs.Calls.{Planned}
 use Rattle.fl_queues.specs.Events.{DispatcherId, Event, add_interface, set_cores, add_link, add_dispatcher, monitor_write, monitor_acknowledge}
 use Rattle.fl_queues.specs.Events as event
 use Rattle.fl_queues.specs.Runs.{Exchange}
-use Rattle.fl_queues.specs.State.{Binding, State}
+use Rattle.fl_queues.specs.State.{Binding}
 use Rattle.fl_laws.proofs.Cases.{either, by_given}
 use Rattle.fl_lines.specs.Commands.{EndName, Command, cores, link, disp, export, bind, call, show, write, turn, ack, register, deregister, reply, mwrite, forward, mack}
 use Rattle.fl_lines.specs.Grammar.{silent, heading, command, unread}
 use Rattle.fl_lines.specs.Items.{Item, a_line, a_block, open_block}
-use Rattle.fl_lines.specs.Names.{Names, place_of, dispatcher_at, end_at, message_at, messages_at, with_interface}
+use Rattle.fl_lines.specs.Names.{place_of, dispatcher_at, end_at, message_at, messages_at}
 use Rattle.fl_lines.specs.Asked.{Asked, refuses, asks, is_taken, asks_end, asks_call, asks_interface, CallAsks, Asks}
 use Rattle.fl_transcript.specs.Text.{TextOutcome, stands_for, text_fault}
-use Rattle.fl_transcript.specs.Transcript.{Script, beginning, Effect, effect_of, block_effect, Does, AllDo, Begins, last_of}
+use Rattle.fl_transcript.specs.Transcript.{Script, beginning, Effect, effect_of, block_effect, Does, AllDo, last_of}
 use Rattle.fl_transcript.specs.Standing.{message_names, HasDispatcher, HasInterface, HasEnd, HasMessage, IsOfWhatStands, ScriptsAskOfWhatStands}
 use Rattle.fl_transcript.proofs.Asking.{asked_once, begun}
 use Rattle.fl_transcript.proofs.Once.{place_within}
-use Rattle.fl_transcript.proofs.Naming.{Fits, After, one_of, dispatcher_there, map_length, item_after, fits_first}
-use Rattle.fl_transcript.proofs.Views.{view, interface_in}
+use Rattle.fl_transcript.proofs.Naming.{After, one_of, dispatcher_there, map_length, item_after, fits_first}
+use Rattle.fl_transcript.proofs.Views.{interface_in}
 
 is_there : {X : Type 0} (o : Option X) → (x : X) × (o ≡ Some x) → IsSome o
 is_there o (x, e) = ap is_some e
