@@ -2,7 +2,7 @@
 //! and not in those crates, since a crate with tests is proved twice.
 //!
 //! - `examples.rt`: the scripts of `examples/`
-//! - `rows.rt`: worked examples, and their transcripts
+//! - `rows.rt`, `core_rows.rt`: worked examples of one core and of several, and their transcripts
 //! - `transcripts.rt`: lines that ask nothing, and the longest script
 //! - `limits.rt`: one thing more than a world holds
 //! - `memory.rt`: memory that is refused
@@ -12,6 +12,8 @@
 //! others end with out of memory. Readers and writers that give and take little, or fail, are tested in `transcript_tests`.
 #![tactic(auto)]
 
+#[cfg(test)]
+mod core_rows;
 #[cfg(test)]
 mod examples;
 #[cfg(test)]
