@@ -2,7 +2,7 @@
 //! refuse what the proved cores refuse of what happens here; their circuits are entered by hand and not by monitors.
 
 use crate::calls::{Call, Frag, Value};
-use crate::machine::{Run, Stub, flatten};
+use crate::plain::{Run, Stub, flatten};
 use crate::receiver::{Fed, Taking, sum_of_call, unflatten};
 use crate::ring::{Duo, Sight};
 use std::collections::VecDeque;
@@ -276,12 +276,12 @@ impl<'a> Core<'a> {
 
     /// A forward of what stands first on a link to another link.
     #[inline(never)]
-    pub fn pass(&self, link: usize, near: &mut Duo, far: &mut Duo) {
-        if let Sight::Data(frag) = near.peek(1) {
+    pub fn pass(&self, link: usize, rings: &mut [Duo]) {
+        if let Sight::Data(frag) = rings[link].peek(1) {
             let circuit = (frag.control >> 32) as u16;
-            if let Some(Way::Link(_, number)) = self.routes[link][usize::from(circuit)] {
-                if far.put(0, &with_circuit(&frag, number)) {
-                    near.take(1);
+            if let Some(Way::Link(next, number)) = self.routes[link][usize::from(circuit)] {
+                if rings[next].put(0, &with_circuit(&frag, number)) {
+                    rings[link].take(1);
                 }
             }
         }
@@ -382,18 +382,20 @@ pub fn onward(_: &Stub, shape: Shape, rounds: u64) -> u64 {
     for k in 0..shape.bindings {
         core.routes[0][usize::from(number(k))] = Some(Way::Link(1, number(k)));
     }
-    let (mut near, mut far) = (Duo::new(shape.slots), Duo::new(shape.slots));
+    let mut rings = rings(shape, 2);
     let mut sum: u64 = 0;
     for round in 0..rounds {
         for k in 0..shape.bindings {
             let frag = Frag { words: [round; 7], control: 2 + (u64::from(number(k)) << 32) };
-            near.put(0, &frag);
-            core.pass(0, &mut near, &mut far);
-            sum = sum.wrapping_add(sum_of_sight(far.take(1)));
-            near.tell(1);
-            far.tell(1);
-            near.take(0);
-            far.take(0);
+            rings[0].put(0, &frag);
+            core.pass(0, &mut rings);
+            sum = sum.wrapping_add(sum_of_sight(rings[1].take(1)));
+            for ring in &mut rings {
+                ring.tell(1);
+            }
+            for ring in &mut rings {
+                ring.take(0);
+            }
         }
     }
     sum

@@ -6,9 +6,9 @@
 #[allow(dead_code)]
 #[path = "../../calls/src/plain.rs"]
 mod calls;
+mod cores;
 #[allow(dead_code)]
 #[path = "../../stubs/src/plain.rs"]
-mod machine;
 mod plain;
 #[allow(dead_code)]
 #[path = "../../stubs/src/receiver.rs"]
@@ -16,8 +16,8 @@ mod receiver;
 mod ring;
 
 use calls::{ArgType, Call, Interface, Scalar, Type, Value};
-use machine::{Op, Stub};
-use plain::Shape;
+use cores::Shape;
+use plain::{Op, Stub};
 use receiver::TakeOp;
 use std::env;
 use std::ffi::c_void;
@@ -67,10 +67,10 @@ struct Work {
 }
 
 const WORK: [Work; 4] = [
-    Work { name: "rings: call, write, two turns, ack, turn", number: 0, plain: plain::by_rings, events: 6 },
-    Work { name: "circuits: call, write, forward, mack, forward, turn", number: 2, plain: plain::by_circuits, events: 6 },
-    Work { name: "onward: a fragment passed on", number: 3, plain: plain::onward, events: 1 },
-    Work { name: "quiet: a turn that finds nothing", number: 1, plain: plain::quietly, events: 1 },
+    Work { name: "rings: call, write, two turns, ack, turn", number: 0, plain: cores::by_rings, events: 6 },
+    Work { name: "circuits: call, write, forward, mack, forward, turn", number: 2, plain: cores::by_circuits, events: 6 },
+    Work { name: "onward: a fragment passed on", number: 3, plain: cores::onward, events: 1 },
+    Work { name: "quiet: a turn that finds nothing", number: 1, plain: cores::quietly, events: 1 },
 ];
 
 // Bindings and dispatchers.
