@@ -288,10 +288,11 @@ impl<'a> Core<'a> {
     }
 }
 
-/// How many bindings there are, at how many dispatchers of each core, and how many slots a ring has.
+/// How many bindings there are, the first that makes calls, at how many dispatchers of each core they are, and how many slots a ring has.
 #[derive(Clone, Copy)]
 pub struct Shape {
     pub bindings: usize,
+    pub first: usize,
     pub dispatchers: usize,
     pub slots: usize,
 }
@@ -315,7 +316,7 @@ pub fn by_rings(stub: &Stub, shape: Shape, rounds: u64) -> u64 {
     let ([mut one, mut two], mut rings) = bound(stub, shape);
     let mut sum: u64 = 0;
     for _ in 0..rounds {
-        for k in 0..shape.bindings {
+        for k in shape.first..shape.bindings {
             let dispatcher = k % shape.dispatchers;
             one.call(k, &stub.value);
             one.write(k, &mut rings);
@@ -333,7 +334,7 @@ pub fn by_rings(stub: &Stub, shape: Shape, rounds: u64) -> u64 {
 pub fn quietly(stub: &Stub, shape: Shape, rounds: u64) -> u64 {
     let ([mut one, _], mut rings) = bound(stub, shape);
     for _ in 0..rounds {
-        for k in 0..shape.bindings {
+        for k in shape.first..shape.bindings {
             one.turn(k % shape.dispatchers, &mut rings);
         }
     }
@@ -357,7 +358,7 @@ pub fn by_circuits(stub: &Stub, shape: Shape, rounds: u64) -> u64 {
     let mut rings = rings(shape, 1);
     let mut sum: u64 = 0;
     for _ in 0..rounds {
-        for k in 0..shape.bindings {
+        for k in shape.first..shape.bindings {
             one.call(k, &stub.value);
             one.write(k, &mut rings);
             two.arrive(0, &mut rings[0], 1);
@@ -385,7 +386,7 @@ pub fn onward(_: &Stub, shape: Shape, rounds: u64) -> u64 {
     let mut rings = rings(shape, 2);
     let mut sum: u64 = 0;
     for round in 0..rounds {
-        for k in 0..shape.bindings {
+        for k in shape.first..shape.bindings {
             let frag = Frag { words: [round; 7], control: 2 + (u64::from(number(k)) << 32) };
             rings[0].put(0, &frag);
             core.pass(0, &mut rings);

@@ -10,7 +10,7 @@ use fl_ring::Which;
 use std::alloc::{AllocError, Global};
 
 /// A way of messages between two cores next to each other: from the first core on, on to the last, and back.
-#[derive(Clone, Copy, Debug, PartialEq, Eq)]
+#[derive(Clone, Copy)]
 pub enum Leg {
     Out,
     On,
@@ -19,14 +19,14 @@ pub enum Leg {
 }
 
 /// One of the two cores at which ends are.
-#[derive(Clone, Copy, Debug, PartialEq, Eq)]
+#[derive(Clone, Copy)]
 pub enum At {
     First,
     Last,
 }
 
 /// A step.
-#[derive(Clone, Copy, Debug, PartialEq, Eq)]
+#[derive(Clone, Copy)]
 pub enum Step {
     /// The first core begins the circuit of a binding.
     Open(u32),

@@ -302,10 +302,12 @@ fn exchanged_once(alloc: Global, core: &mut Core) -> Result<[Option<MsgNo>; 2], 
 }
 
 fn exchanged(alloc: Global, core: &mut Core) -> Result<[Option<MsgNo>; 2], AllocError> {
-    match exchanged_once(alloc, core) {
-        Ok([Some(rule), none]) => Ok([Some(rule), none]),
-        _ => exchanged_once(alloc, core),
+    if let Ok(rules) = exchanged_once(alloc, core) {
+        if rules[0].is_some() {
+            return Ok(rules);
+        }
     }
+    exchanged_once(alloc, core)
 }
 
 #[test]

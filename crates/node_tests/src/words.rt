@@ -35,7 +35,7 @@ pub fn refused(number: u8) -> Word {
 }
 
 /// What is compared of a core: how many ends it has, and which is due; what waits for its links, its own next numbers there and the neighbours'.
-#[derive(Clone, Copy, Debug, PartialEq, Eq)]
+#[derive(Clone, Copy, PartialEq, Eq)]
 pub struct State {
     ends: usize,
     due: Option<usize>,
