@@ -6,6 +6,7 @@ use std::{env, fs, path::PathBuf, process::Command};
 fn sources(package: &str) -> &'static [&'static str] {
     match package {
         "calls-bench" => &["calls_bench"],
+        "cores-bench" => &["cores_bench"],
         "interfaces-bench" => &["interfaces_bench"],
         "lists-bench" => &["flounder_bench"],
         "rings-bench" => &["flounder_bench", "flounder_threads"],
