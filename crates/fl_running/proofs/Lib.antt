@@ -10,3 +10,4 @@ pub mod Turning
 pub mod Aside
 pub mod Looking
 pub mod Copying
+pub mod Counted

@@ -44,6 +44,7 @@ use Rattle.fl_node.specs.declared.fault.LinkFault.{LinkFault}
 use Rattle.fl_node.specs.declared.fault.LinkFault.TheVariants as link
 use Rattle.fl_node.specs.declared.wire.Outlet.TheVariants as outlet
 use Rattle.fl_node.specs.declared.wire.Inlet.TheVariants as inlet
+use Rattle.fl_running.specs.declared.job.Job.{Job}
 use Rattle.fl_running.specs.Run.{Ways, TheRun, AtDesk}
 use Rattle.fl_running.specs.Deeds.{Deed, looked, passed, arrived, heard, said, told, opened, called, wrote, acked, turned, OnRing, Does, Notes, Happens}
 use Rattle.fl_running.specs.Logs.{Goes, Looked, SidesGo}
@@ -260,13 +261,13 @@ module _ {S : Type 0} (w : Ways S) where
       ring_goes n s m _ h.3 (turn_looks w.puts w.takes h.3.event.event.picked h.3.event.event.seat.kind _ (Ok answer) _ h.3.event.event.looks)
   does_look (turned d name inlet.Arrivals answer) s m h = rings_stay s m (ap (λ (x : TheRun S). x.rings) h.3.rest)
 
-  log_looks : (log : List Deed) (s t : TheRun S) → Goes w s log t → SidesGo w.puts w.takes s.rings t.rings
-  log_looks [] s t h = rings_stay s t (ap (λ (x : TheRun S). x.rings) h)
-  log_looks (deed ∷ log) s t h =
+  log_looks : (jobs : List Job) (log : List Deed) (s t : TheRun S) → Goes w jobs s log t → SidesGo w.puts w.takes s.rings t.rings
+  log_looks jobs [] s t h = rings_stay s t (ap (λ (x : TheRun S). x.rings) h)
+  log_looks jobs (deed ∷ log) s t h =
       let noted : SidesGo w.puts w.takes h.1.0.rings h.0.rings = rings_stay h.1.0 h.0 (rings_aside h.1.0 h.0 deed h.1.2) in
       go_then w.puts w.takes s.rings h.0.rings t.rings
       (go_then w.puts w.takes s.rings h.1.0.rings h.0.rings (does_look deed s h.1.0 h.1.1) noted)
-      (log_looks log h.0 t h.2)
+      (log_looks jobs log h.0 t h.3)
 
-pub logs_look : {S : Type 0} (w : Ways S) (s t : TheRun S) (log : List Deed) → Goes w s log t → SidesGo w.puts w.takes s.rings t.rings
-logs_look w s t log h = log_looks w log s t h
+pub logs_look : {S : Type 0} (w : Ways S) (jobs : List Job) (s t : TheRun S) (log : List Deed) → Goes w jobs s log t → SidesGo w.puts w.takes s.rings t.rings
+logs_look w jobs s t log h = log_looks w jobs log s t h

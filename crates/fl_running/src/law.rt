@@ -1,6 +1,7 @@
 //! What holds of turns, whatever the sides: laws, as the contracts of functions that do nothing.
 
 ghost use Rattle.fl_running.specs.Run.{ways};
+ghost use Rattle.fl_running.specs.Ran.{CountedAreTurns};
 ghost use Rattle.fl_running.specs.Logs.{TurnsAreLogged, DesksTellHandled, LogsLook};
 
 use fl_link::{PutSide, TakeSide};
@@ -15,4 +16,9 @@ pub fn turns_are_logged<S: PutSide + TakeSide>()
 /// Whatever happens at a core, each of its sides of rings changes by looks, puts and takes alone.
 pub fn sides_go<S: PutSide + TakeSide>()
     ensures goes { LogsLook (ways S.puts S.takes S.front) }
+{}
+
+/// The turns that a core counts are turns, so many.
+pub fn counted_are_turns<S: PutSide + TakeSide>()
+    ensures turns { CountedAreTurns (ways S.puts S.takes S.front) }
 {}
