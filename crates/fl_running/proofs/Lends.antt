@@ -128,7 +128,7 @@ there_is (x ∷ xs) zero below = (x, refl)
 there_is (x ∷ xs) (suc n) below = there_is xs n (omega (arith, below))
 
 is_there : {X : Type 0} (o : Option X) (x : X) → o ≡ Some x → IsSome o
-is_there o x is = subst (λ (u : Option _). IsSome u) (sym is) tt
+is_there o x is = subst (λ (u : Option _). IsSome u) (sym is) refl
 
 if_true : {X : Type 0} (b : Bool) (x y : X) → b ≡ true → (if b then x else y) ≡ x
 if_true true x y h = refl

@@ -11,3 +11,10 @@ pub mod Aside
 pub mod Looking
 pub mod Copying
 pub mod Counted
+pub mod Doing
+pub mod Growing
+pub mod Lends
+pub mod EndGoing
+pub mod Seating
+pub mod Carrying
+pub mod Queueing

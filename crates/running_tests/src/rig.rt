@@ -89,7 +89,7 @@ pub struct Rig {
 }
 
 // A core that runs alone, or with others, over these sides and queues.
-fn rig(
+fn running(
     alloc: Global,
     core: Core,
     rings: Vec<SharedSide>,
@@ -150,7 +150,7 @@ pub fn local(alloc: Global, calls: usize) -> Result<Rig, Fail> {
     let mut ends = Vec::new(alloc);
     ends.push(name(Side::Client))?;
     ends.push(name(Side::Server))?;
-    rig(alloc, core, Vec::new(alloc), queues, ends, calls)
+    running(alloc, core, Vec::new(alloc), queues, ends, calls)
 }
 
 /// The client of a binding over a ring, whose other side is somewhere else.
@@ -164,5 +164,5 @@ pub fn client(alloc: Global, side: SharedSide, calls: usize) -> Result<Rig, Fail
     rings.push(side)?;
     let mut ends = Vec::new(alloc);
     ends.push(name(Side::Client))?;
-    rig(alloc, core, rings, Vec::new(alloc), ends, calls)
+    running(alloc, core, rings, Vec::new(alloc), ends, calls)
 }
