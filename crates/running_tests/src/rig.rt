@@ -1,11 +1,15 @@
 //! Cores with one binding, their jobs and their tickets.
 
+ghost use Rattle.std.specs.Prelude.{◌≡◌, None, length, IfOk};
+ghost use Rattle.fl_node.specs.View.{arrivals_by};
+ghost use Rattle.running_tests.specs.Tickets.{IsNew};
+
 use fl_base::{Circuit, CoreId, EndId, MsgNo, Side};
 use fl_check::{Interface, TextFault, check};
 use fl_compile::{Program, compile};
 use fl_endpoint::End;
 use fl_lex::lex;
-use fl_link::QueueLink;
+use fl_link::{QueueLink, TakeSide};
 use fl_nameserv::Names;
 use fl_node::{Core, Port, Wire};
 use fl_parse::parse;
@@ -43,16 +47,6 @@ pub fn name(side: Side) -> EndId {
     EndId { binding: 0, side }
 }
 
-// The only end of the core so far, or its second, at the dispatcher of its place.
-fn add(alloc: Global, core: &mut Core, dispatcher: usize, side: Side, wire: Wire) -> Result<usize, Fail> {
-    let end = End::new(alloc, program(alloc)?, Circuit(0))?;
-    let port = Port {
-        name: name(side),
-        wire,
-    };
-    Ok(core.add_end(dispatcher, end, port)?)
-}
-
 /// So many calls at the client: `ping(1)`, `ping(2)` and so on.
 pub fn pings(alloc: Global, count: usize) -> Result<Vec<Job>, AllocError> {
     let mut jobs = Vec::new(alloc);
@@ -80,15 +74,37 @@ fn desk(alloc: Global, jobs: usize, due: usize) -> Result<Desk, AllocError> {
     Ok(Desk::new(alloc, places, due))
 }
 
-/// A core's run, what its turns go over, and its ticket.
+// The desks of both ends: so many calls are to be made by the client, and handled by the server.
+fn desks(alloc: Global, calls: usize) -> Result<Vec<Desk>, AllocError> {
+    let mut desks = Vec::new(alloc);
+    desks.push(desk(alloc, calls, 0)?)?;
+    desks.push(desk(alloc, 0, calls)?)?;
+    Ok(desks)
+}
+
+/// The ticket of a core that runs alone, for so many ends, no opening of which is asked for.
+#[tactic(auto, using(crate::proofs::Silence::silent))]
+pub fn ticket(alloc: Global, ends: usize) -> Result<Ticket, AllocError>
+    ensures new { IfOk result (λ t. IsNew ends t) }
+{
+    let words = vec![in alloc; Word::Silent; ends]?;
+    let plan = fl_tally::Plan {
+        cores: 1,
+        owners: Vec::new(alloc),
+    };
+    let mut all = EndSeat::new(alloc, plan)?;
+    let seat = all.split()?;
+    Ok(Ticket { seat, words })
+}
+
+/// What a core's turns go over, and what it works on.
 #[derive(Drop)]
 pub struct Rig {
     pub run: Running<SharedSide>,
     pub plan: Plan,
-    pub ticket: Ticket,
 }
 
-// A core that runs alone, or with others, over these sides and queues.
+// A core without links.
 fn running(
     alloc: Global,
     core: Core,
@@ -96,30 +112,15 @@ fn running(
     queues: Vec<QueueLink>,
     ends: Vec<EndId>,
     calls: usize,
-) -> Result<Rig, Fail> {
+) -> Result<Rig, AllocError> {
     let dispatchers = core.board().dispatchers();
-    let mut desks = Vec::new(alloc);
-    desks.push(desk(alloc, calls, 0)?)?;
-    desks.push(desk(alloc, 0, calls)?)?;
-    let mut words = Vec::new(alloc);
-    for _ in 0..ends.len() {
-        words.push(Word::Silent)?;
-    }
-    let mut seat = EndSeat::new(
-        alloc,
-        fl_tally::Plan {
-            cores: 1,
-            owners: Vec::new(alloc),
-        },
-    )?;
-    let own = seat.split()?;
     Ok(Rig {
         run: Running {
             alloc,
             core,
             rings,
             queues,
-            desks,
+            desks: desks(alloc, calls)?,
             names: Names::new(alloc),
             programs: Vec::new(alloc),
         },
@@ -129,8 +130,34 @@ fn running(
             dispatchers,
             cores: 1,
         },
-        ticket: Ticket { seat: own, words },
     })
+}
+
+// An end of the binding at a dispatcher, which is registered over what it takes from.
+#[tactic(auto, using(crate::proofs::Places::last_place))]
+fn add<T: TakeSide>(
+    core: &mut Core,
+    dispatcher: usize,
+    end: End,
+    port: Port,
+    from: &mut T,
+) -> Result<(), Fail>
+    requires { arrivals_by port.wire ≡ None }
+{
+    core.sound();
+    if dispatcher >= core.board().dispatchers()
+        || port.name.binding >= 1_024
+        || core.place(port.name).is_some()
+    {
+        return Err(Fail::new("no such end"));
+    }
+    let e = core.add_end(dispatcher, end, port)?;
+    Ok(core.register(e, from)?)
+}
+
+// An end that isn't at a core yet.
+fn end(alloc: Global) -> Result<End, AllocError> {
+    End::new(alloc, program(alloc)?, Circuit(0))
 }
 
 /// A binding within one core, of queues of four slots.
@@ -140,17 +167,23 @@ pub fn local(alloc: Global, calls: usize) -> Result<Rig, Fail> {
     core.add_dispatcher()?;
     let mut there = QueueLink::local(alloc, 4)?;
     let mut back = QueueLink::local(alloc, 4)?;
-    let client = add(alloc, &mut core, 0, Side::Client, Wire::Queues { out: 0, from: 1 })?;
-    let server = add(alloc, &mut core, 1, Side::Server, Wire::Queues { out: 1, from: 0 })?;
-    core.register(client, &mut back)?;
-    core.register(server, &mut there)?;
+    let client = Port {
+        name: name(Side::Client),
+        wire: Wire::Queues { out: 0, from: 1 },
+    };
+    let server = Port {
+        name: name(Side::Server),
+        wire: Wire::Queues { out: 1, from: 0 },
+    };
+    add(&mut core, 0, end(alloc)?, client, &mut back)?;
+    add(&mut core, 1, end(alloc)?, server, &mut there)?;
     let mut queues = Vec::new(alloc);
     queues.push(there)?;
     queues.push(back)?;
     let mut ends = Vec::new(alloc);
     ends.push(name(Side::Client))?;
     ends.push(name(Side::Server))?;
-    running(alloc, core, Vec::new(alloc), queues, ends, calls)
+    Ok(running(alloc, core, Vec::new(alloc), queues, ends, calls)?)
 }
 
 /// The client of a binding over a ring, whose other side is somewhere else.
@@ -158,11 +191,14 @@ pub fn client(alloc: Global, side: SharedSide, calls: usize) -> Result<Rig, Fail
     let mut core = Core::new(alloc, CoreId(0))?;
     core.add_dispatcher()?;
     let mut side = side;
-    let client = add(alloc, &mut core, 0, Side::Client, Wire::Ring(0))?;
-    core.register(client, &mut side)?;
+    let port = Port {
+        name: name(Side::Client),
+        wire: Wire::Ring(0),
+    };
+    add(&mut core, 0, end(alloc)?, port, &mut side)?;
     let mut rings = Vec::new(alloc);
     rings.push(side)?;
     let mut ends = Vec::new(alloc);
     ends.push(name(Side::Client))?;
-    running(alloc, core, rings, Vec::new(alloc), ends, calls)
+    Ok(running(alloc, core, rings, Vec::new(alloc), ends, calls)?)
 }

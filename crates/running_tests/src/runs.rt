@@ -1,15 +1,29 @@
 //! Whole runs of one core.
 
-use crate::rig::{Open, client, local, pings};
+use crate::rig::{Open, Rig, client, local, pings, ticket};
 use fl_link::Sight;
 use fl_ring::{SharedSide, duo};
-use fl_running::{End, core_run};
+use fl_running::{End, Job, Part, core_run};
 use std::test::Fail;
+
+// A run of a core alone.
+fn run(rt: &HostRuntime, rig: &mut Rig, jobs: &[Job], limit: u64) -> Result<Part, Fail> {
+    let mut ticket = ticket(rt.alloc(), rig.plan.ends.as_slice().len())?;
+    Ok(core_run(rt, &mut rig.run, &rig.plan, jobs, limit, &mut ticket, &Open)?)
+}
+
+// How many calls were handled at the desk of a place.
+fn handled(rig: &Rig, desk: usize) -> usize {
+    match rig.run.desks.get(desk) {
+        Some(desk) => desk.handled().len(),
+        None => 0,
+    }
+}
 
 // A limit of 2 leaves one of three calls; with 3 turns nothing is left.
 #[test]
 fn three_calls_within_a_core(rt: HostRuntime) -> Result<(), Fail> {
-    for (limit, turns, end, handled) in [
+    for (limit, turns, end, calls) in [
         (0, 0, End::Unfinished, 0),
         (2, 2, End::Unfinished, 2),
         (3, 3, End::Finished, 3),
@@ -17,9 +31,8 @@ fn three_calls_within_a_core(rt: HostRuntime) -> Result<(), Fail> {
     ] {
         let jobs = pings(rt.alloc(), 3)?;
         let mut rig = local(rt.alloc(), 3)?;
-        let part = core_run(&rt, &mut rig.run, &rig.plan, &jobs, limit, &mut rig.ticket, &Open)?;
-        assert_eq!(rt; (part.turns, part.end), (turns, end));
-        assert_eq!(rt; rig.run.desks[1].handled().len(), handled);
+        let part = run(&rt, &mut rig, &jobs, limit)?;
+        assert_eq!(rt; (part.turns, part.end, handled(&rig, 1)), (turns, end, calls));
     }
     Ok(())
 }
@@ -38,14 +51,13 @@ fn five_calls_over_a_ring(rt: HostRuntime) -> Result<(), Fail> {
     let (side, mut other) = duo(rt.alloc(), 4)?;
     let jobs = pings(rt.alloc(), 5)?;
     let mut rig = client(rt.alloc(), side, 5)?;
-    let part = core_run(&rt, &mut rig.run, &rig.plan, &jobs, 8, &mut rig.ticket, &Open)?;
+    let part = run(&rt, &mut rig, &jobs, 8)?;
     assert_eq!(rt; (part.turns, part.end), (8, End::Unfinished));
     for word in [Some(1), Some(2), Some(3), None] {
         assert_eq!(rt; next_word(&mut other), word);
     }
     let _ = other.tell();
-    rig.ticket = client(rt.alloc(), duo(rt.alloc(), 4)?.0, 0)?.ticket;
-    let part = core_run(&rt, &mut rig.run, &rig.plan, &jobs, 8, &mut rig.ticket, &Open)?;
+    let part = run(&rt, &mut rig, &jobs, 8)?;
     assert_eq!(rt; part.end, End::Finished);
     for word in [Some(4), Some(5), None] {
         assert_eq!(rt; next_word(&mut other), word);
