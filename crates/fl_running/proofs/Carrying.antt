@@ -49,7 +49,6 @@ use Rattle.fl_node.specs.declared.fault.LinkFault.{LinkFault}
 use Rattle.fl_node.specs.declared.fault.LinkFault.TheVariants as link
 use Rattle.fl_node.specs.declared.fault.OpenFault.{OpenFault}
 use Rattle.fl_node.specs.declared.fault.OpenFault.TheVariants as opening
-use Rattle.fl_node.specs.declared.hearing.Made.{Made}
 use Rattle.fl_node.specs.declared.wire.Arriving.{Arriving}
 use Rattle.fl_node.specs.declared.wire.Outlet.TheVariants as outlet
 use Rattle.fl_node.specs.declared.wire.Inlet.{Inlet}
@@ -162,7 +161,8 @@ module _ (name : EndId) (e : ℕ) (x : TheEnd) (k : TheCore) (here : IsHere name
         let eq : at.end ≡ e = same_number at.end e is in
         let there : slice_get k.board.seats e ≡ Some h.binds.seat = subst (λ (i : ℕ). slice_get k.board.seats i ≡ Some h.binds.seat) eq h.binds.seat_is in
         let was : h.binds.seat.end ≡ x = one_end_there k.board e h.binds.seat x there here.has in
-        let own = set_own k.board e h.binds.seat h.binds.end h.bound_board there (subst (λ (i : ℕ). h.bound_board ≡ with_end k.board i h.binds.seat h.binds.end) eq h.binds.board) in
+        let made : h.bound_board ≡ with_end k.board e h.binds.seat h.binds.end = subst (λ (i : ℕ). h.bound_board ≡ with_end k.board i h.binds.seat h.binds.end) eq h.binds.board in
+        let own = set_own k.board e h.binds.seat h.binds.end h.bound_board there (ap (λ (b : TheBoard). b.seats) made) in
         record {
           end = h.binds.end;
           has = lists_same h.bound_board k2.board at.end e h.binds.end _ h.registers own;
@@ -171,24 +171,23 @@ module _ (name : EndId) (e : ℕ) (x : TheEnd) (k : TheCore) (here : IsHere name
         }
     by false is =
         let ne : e ≢ at.end = λ same. other_number at.end e is (sym same) in
-        let has = set_other k.board at.end e h.binds.seat h.binds.end x h.bound_board h.binds.board ne here.has in
+        let has = set_other k.board at.end e h.binds.seat h.binds.end x h.bound_board (ap (λ (b : TheBoard). b.seats) h.binds.board) ne here.has in
         still k2 (lists_same h.bound_board k2.board at.end e x _ h.registers has) sits
 
-  follows_go : (o : Offers) (l : LinkId) (msg : Message) (m : TheMonitor) (h : Heard) (told : MonitorAnswer) (k2 : TheCore) → ComesTo (known_for o k msg) k.monitor.circuits l msg h
-      → Follows o.programs (offer_for o k msg) l h (with_monitor k m) told k2 → WentOn name e [] [] x k2
-  follows_go o l msg m (outcome.ServerMade binding dispatcher c) told k2 comes f =
-      let made : Made = record { binding = binding; dispatcher = dispatcher; circuit = c } in
-      let new = made_new o k msg made (made_for (known_for o k msg) k.monitor.circuits l msg (outcome.ServerMade binding dispatcher c) made comes refl) in
+  follows_go : (o : Offers) (l : LinkId) (msg : Message) (m : TheMonitor) (h : Heard) (answered : MonitorAnswer) (k2 : TheCore) → ComesTo (known_for o k msg) k.monitor.circuits l msg h
+      → Follows o.programs (offer_for o k msg) l h (with_monitor k m) answered k2 → WentOn name e [] [] x k2
+  follows_go o l msg m (outcome.ServerMade binding dispatcher c) answered k2 comes f =
+      let new = made_new o k msg _ (made_for (known_for o k msg) k.monitor.circuits l msg (outcome.ServerMade binding dispatcher c) _ comes refl) in
       let has = added_same k.board f.1.added dispatcher e f.1.end _ x _ f.1.adds here.has in
       one_more k2 f.1.end (server_of binding) (lists_same f.1.added k2.board f.1.end e x _ f.1.joins.1 has) f.1.adds.0 new.0 new.1 (ap (λ (y : TheCore). y.places) f.1.rest)
-  follows_go o l msg m (outcome.EndOpened n c) told k2 comes f = binds_go m (arriving_at (with_monitor k m) n) c k2 f.1
-  follows_go o l msg m (outcome.EndRefused n reason) told k2 comes f = untouched k2 (ap (λ (y : TheCore). y.board) f.1) (ap (λ (y : TheCore). y.places) f.1)
-  follows_go o l msg m (outcome.OpeningWentOn binding n c) told k2 comes f = untouched k2 (ap (λ (y : TheCore). y.board) f.1) (ap (λ (y : TheCore). y.places) f.1)
-  follows_go o l msg m (outcome.OpeningFailed binding reason) told k2 comes f = untouched k2 (ap (λ (y : TheCore). y.board) f.1) (ap (λ (y : TheCore). y.places) f.1)
-  follows_go o l msg m (outcome.AnswerWentOn binding n c) told k2 comes f = untouched k2 (ap (λ (y : TheCore). y.board) f.1) (ap (λ (y : TheCore). y.places) f.1)
+  follows_go o l msg m (outcome.EndOpened n c) answered k2 comes f = binds_go m (arriving_at (with_monitor k m) n) c k2 f.1
+  follows_go o l msg m (outcome.EndRefused n reason) answered k2 comes f = untouched k2 (ap (λ (y : TheCore). y.board) f.1) (ap (λ (y : TheCore). y.places) f.1)
+  follows_go o l msg m (outcome.OpeningWentOn binding n c) answered k2 comes f = untouched k2 (ap (λ (y : TheCore). y.board) f.1) (ap (λ (y : TheCore). y.places) f.1)
+  follows_go o l msg m (outcome.OpeningFailed binding reason) answered k2 comes f = untouched k2 (ap (λ (y : TheCore). y.board) f.1) (ap (λ (y : TheCore). y.places) f.1)
+  follows_go o l msg m (outcome.AnswerWentOn binding n c) answered k2 comes f = untouched k2 (ap (λ (y : TheCore). y.board) f.1) (ap (λ (y : TheCore). y.places) f.1)
 
-  all_go : (o : Offers) (l : LinkId) (msg : Message) (told : MonitorAnswer) (k2 : TheCore) → HearsAll o l msg k told k2 → WentOn name e [] [] x k2
-  all_go o l msg told k2 h = follows_go o l msg h.monitor h.heard told k2 h.hears.0 h.follows
+  all_go : (o : Offers) (l : LinkId) (msg : Message) (answered : MonitorAnswer) (k2 : TheCore) → HearsAll o l msg k answered k2 → WentOn name e [] [] x k2
+  all_go o l msg answered k2 h = follows_go o l msg h.monitor h.heard answered k2 h.hears.0 h.follows
 
   message_goes : (o : Offers) (l : LinkId) (msg : Message) (answer : Result MonitorAnswer LinkFault) (k2 : TheCore) → HearsMessage o l msg k answer k2 → WentOn name e [] [] x k2
   message_goes o l msg (Ok heard_as.Full) k2 h = alike k2 h.1
@@ -213,7 +212,7 @@ module _ (name : EndId) (e : ℕ) (x : TheEnd) (k : TheCore) (here : IsHere name
   hears_go o l frag (Err link.Failed) k2 h = message_goes o l h.0 (Err link.Failed) k2 h.2
   hears_go o l frag (Err link.Astray) k2 h = message_goes o l h.0 (Err link.Astray) k2 h.2
   hears_go o l frag (Err link.Marked) k2 h = message_goes o l h.0 (Err link.Marked) k2 h.2
-  hears_go o l frag (Ok told) k2 h = message_goes o l h.0 (Ok told) k2 h.2
+  hears_go o l frag (Ok answered) k2 h = message_goes o l h.0 (Ok answered) k2 h.2
 
   -- ---- a circuit is asked for
 
@@ -228,7 +227,7 @@ module _ (name : EndId) (e : ℕ) (x : TheEnd) (k : TheCore) (here : IsHere name
   module _ {S : Type 0} (w : Ways S) (laws : EndLaws w) (n : EndId) (f : ℕ) (at : place_of k n ≡ Some f) where
     -- the end of a name changes: this one, or another
     by_name : (b : Bool) (sent handled : List TheCall) (k2 : TheCore) (c : TheBoard) (seat : TheSeat) (y : TheEnd) → same_end n name ≡ b
-        → slice_get k.board.seats f ≡ Some seat → c ≡ with_end k.board f seat y
+        → slice_get k.board.seats f ≡ Some seat → c.seats ≡ (with_end k.board f seat y).seats
         → ((z : TheEnd) → HasEnd c e z → HasEnd k2.board e z) → k2.places ≡ k.places → (seat.end ≡ x → EndGoes sent handled x y)
         → WentOn name e (if b then sent else []) (if b then handled else []) x k2
     by_name true sent handled k2 c seat y one there is after places goes =
@@ -236,7 +235,7 @@ module _ (name : EndId) (e : ℕ) (x : TheEnd) (k : TheCore) (here : IsHere name
         let stood : slice_get k.board.seats e ≡ Some seat = subst (λ (i : ℕ). slice_get k.board.seats i ≡ Some seat) eq there in
         record {
           end = y;
-          has = after y (set_own k.board e seat y c stood (subst (λ (i : ℕ). c ≡ with_end k.board i seat y) eq is));
+          has = after y (set_own k.board e seat y c stood (subst (λ (i : ℕ). c.seats ≡ (with_end k.board i seat y).seats) eq is));
           sits = sits_same k.places k2.places name e places here.sits;
           goes = goes (one_end_there k.board e seat x stood here.has);
         }
@@ -247,14 +246,14 @@ module _ (name : EndId) (e : ℕ) (x : TheEnd) (k : TheCore) (here : IsHere name
         → OnBoard k (λ b b2. ChangesEnd b f (λ s t. Calls s c answer t) b2) k2
         → WentOn name e (if same_end n name then made_by c answer else []) (if same_end n name then [] else []) x k2
     calls_at c answer k2 h =
-        by_name (same_end n name) (made_by c answer) [] k2 k2.board h.event.seat h.event.end refl h.event.seat_is h.event.board (λ z has. has) (ap (λ (y : TheCore). y.places) h.rest)
+        by_name (same_end n name) (made_by c answer) [] k2 k2.board h.event.seat h.event.end refl h.event.seat_is (ap (λ (b : TheBoard). b.seats) h.event.board) (λ z has. has) (ap (λ (y : TheCore). y.places) h.rest)
         (λ was. calls_go laws.calls x c answer h.event.end here.sound
             (subst (λ (s : TheEnd). Calls s c answer h.event.end) was h.event.event))
 
     writes_at : {P : Type 0} (puts : P → Look → P → Type 0) (law : WriteAccounts puts) (p q : P) (answer : Result WriteAnswer EndFault) (k2 : TheCore) → WritesAt puts f k p answer k2 q
         → WentOn name e (if same_end n name then [] else []) (if same_end n name then [] else []) x k2
     writes_at puts law p q answer k2 h =
-        by_name (same_end n name) [] [] k2 h.wrote h.writes.seat h.writes.end refl h.writes.seat_is h.writes.board (λ z has. triggers_same _ h.wrote k2.board e z h.triggers has)
+        by_name (same_end n name) [] [] k2 h.wrote h.writes.seat h.writes.end refl h.writes.seat_is (ap (λ (b : TheBoard). b.seats) h.writes.board) (λ z has. triggers_same _ h.wrote k2.board e z h.triggers has)
         (ap (λ (y : TheCore). y.places) h.rest)
         (λ was. writes_go puts law x p answer h.writes.end q here.sound
             (subst (λ (s : TheEnd). Writes puts s p answer h.writes.end q) was h.writes.event))
@@ -264,7 +263,7 @@ module _ (name : EndId) (e : ℕ) (x : TheEnd) (k : TheCore) (here : IsHere name
         → WentOn name e (if same_end n name then reply_in x.rules answer else []) (if same_end n name then map call_of (call_in answer) else []) x k2
     turns_at takes law d p q answer c k2 h board places =
         by_name (same_end n name) (reply_in x.rules answer) (map call_of (call_in answer)) k2 c h.seat h.end refl h.seat_is
-        (h.board ∙ refl) (λ z has. subst (λ (b : TheBoard). HasEnd b e z) board has) places
+        (ap (λ (b : TheBoard). b.seats) h.board) (λ z has. subst (λ (b : TheBoard). HasEnd b e z) board has) places
         (λ was. subst (λ (s : TheEnd). EndGoes (reply_in s.rules answer) (map call_of (call_in answer)) s h.end) was
             (turn_goes takes law h.picked h.seat.kind _ answer _ (subst (λ (s : TheEnd). Sound s) (sym was) here.sound) h.looks))
 

@@ -61,8 +61,7 @@ queued_by : (o : TheOutgoing) (us frags : List Frag) → o.unwritten ≡ us → 
 queued_by o [] frags is none =
     let empty : o ≡ nothing_to_send = none refl in
     subst (λ (x : TheOutgoing). frags ++ all x.waiting ≡ left_to_put x ++ frags) (sym empty) (append-nil frags)
-queued_by o (u ∷ us) frags is none =
-    behind o.waiting (u ∷ us) frags ∙ ap (λ (xs : List Frag). (xs ++ all o.waiting) ++ frags) (sym is)
+queued_by o (u ∷ us) frags is none = behind o.waiting o.unwritten frags
 
 queued_left : (s : TheEnd) (frags : List Frag) → Sound s → left_to_put (queued s.outgoing frags) ≡ left_to_put s.outgoing ++ frags
 queued_left s frags sound = queued_by s.outgoing s.outgoing.unwritten frags refl (λ none. idle s sound none)

@@ -49,20 +49,20 @@ use Rattle.fl_running.specs.Deeds.{Deed, looked, passed, arrived, heard, said, t
 use Rattle.fl_running.specs.Logs.{Looked, SidesGo}
 use Rattle.fl_running.proofs.Looking.{stay, put_one, go_same, go_then, go_one, turn_looks}
 
-abbrev IsCircuit : Wire → Type 0
+abbrev pub IsCircuit : Wire → Type 0
 IsCircuit (Circuit l a) = Unit {0}
 IsCircuit other = ⊥
 
 -- its arrival queues
-abbrev QueuesGo : List TheQueue → List TheQueue → Type 0
+abbrev pub QueuesGo : List TheQueue → List TheQueue → Type 0
 QueuesGo ps qs = SidesGo QueuePuts QueueTakes ps qs
 
 -- of lanes: each has the side that it had
-abbrev LanesStay : List Lane → List Lane → Type 0
+abbrev pub LanesStay : List Lane → List Lane → Type 0
 LanesStay xs ys = (l : ℕ) (lane : Lane) → slice_get ys l ≡ Some lane → (before : Lane) × (slice_get xs l ≡ Some before) × (lane.side ≡ before.side)
 
 -- of ports: each is one of before, or a circuit's
-abbrev PortsGrow : List Port → List Port → Type 0
+abbrev pub PortsGrow : List Port → List Port → Type 0
 PortsGrow xs ys = (e : ℕ) (p : Port) → slice_get ys e ≡ Some p → (slice_get xs e ≡ Some p) ⊎ IsCircuit p.wire
 
 pub record Grows (k k2 : TheCore) : Type 0 where
@@ -176,7 +176,7 @@ ahead_grows w l k p (Err link.Memory) k2 q h = absurd h
 
 arrives_grows : {S : Type 0} (w : Ways S) (l : ℕ) (frag : Frag) (e : EndId) (k : TheCore) (p : S) (answer : Result Outcome LinkFault) (k2 : TheCore) (q : S)
     → ArrivesAt w.takes l frag e k p answer k2 q → Grows k k2
-arrives_grows w l frag e k p (Ok outcome) k2 q h = subst (λ (x : TheCore). Grows k x) (sym h.rest) (record {
+arrives_grows w l frag e k p (Ok result) k2 q h = subst (λ (x : TheCore). Grows k x) (sym h.rest) (record {
   lanes = lanes_same k.lanes k.lanes refl;
   ports = ports_same k.ports k.ports refl;
   arrivals = go_one QueuePuts QueueTakes k.arrivals h.queue h.before h.after h.before_is (put_one QueuePuts QueueTakes h.before h.after _ h.puts);
@@ -191,19 +191,19 @@ binds_grow : (o : Option Arriving) (c : Number) (k k2 : TheCore) → BindsIf o c
 binds_grow None c k k2 h = grows_same k k2 h
 binds_grow (Some at) c k k2 h = grows_board k k2 k2.board h.rest
 
-follows_grow : (programs : List Program) (offer : Option Offered) (l : LinkId) (heard : Heard) (k : TheCore) (told : MonitorAnswer) (k2 : TheCore)
-    → Follows programs offer l heard k told k2 → Grows k k2
-follows_grow programs offer l (outcome.ServerMade binding dispatcher c) k told k2 h = grows_port k k2 k2.board k.monitor h.1.end _ l h.1.rest
-follows_grow programs offer l (outcome.EndOpened e c) k told k2 h = binds_grow (arriving_at k e) c k k2 h.1
-follows_grow programs offer l (outcome.EndRefused e reason) k told k2 h = grows_same k k2 h.1
-follows_grow programs offer l (outcome.OpeningWentOn binding n c) k told k2 h = grows_same k k2 h.1
-follows_grow programs offer l (outcome.OpeningFailed binding reason) k told k2 h = grows_same k k2 h.1
-follows_grow programs offer l (outcome.AnswerWentOn binding n c) k told k2 h = grows_same k k2 h.1
+follows_grow : (programs : List Program) (offer : Option Offered) (l : LinkId) (heard : Heard) (k : TheCore) (answered : MonitorAnswer) (k2 : TheCore)
+    → Follows programs offer l heard k answered k2 → Grows k k2
+follows_grow programs offer l (outcome.ServerMade binding dispatcher c) k answered k2 h = grows_port k k2 k2.board k.monitor h.1.end _ l h.1.rest
+follows_grow programs offer l (outcome.EndOpened e c) k answered k2 h = binds_grow (arriving_at k e) c k k2 h.1
+follows_grow programs offer l (outcome.EndRefused e reason) k answered k2 h = grows_same k k2 h.1
+follows_grow programs offer l (outcome.OpeningWentOn binding n c) k answered k2 h = grows_same k k2 h.1
+follows_grow programs offer l (outcome.OpeningFailed binding reason) k answered k2 h = grows_same k k2 h.1
+follows_grow programs offer l (outcome.AnswerWentOn binding n c) k answered k2 h = grows_same k k2 h.1
 
-all_grow : (o : Offers) (l : LinkId) (m : Message) (k : TheCore) (told : MonitorAnswer) (k2 : TheCore) → HearsAll o l m k told k2 → Grows k k2
-all_grow o l m k told k2 h =
+all_grow : (o : Offers) (l : LinkId) (m : Message) (k : TheCore) (answered : MonitorAnswer) (k2 : TheCore) → HearsAll o l m k answered k2 → Grows k k2
+all_grow o l m k answered k2 h =
     grows_then k (with_monitor k h.monitor) k2 (grows_monitor k (with_monitor k h.monitor) h.monitor refl)
-    (follows_grow o.programs _ l h.heard (with_monitor k h.monitor) told k2 h.follows)
+    (follows_grow o.programs _ l h.heard (with_monitor k h.monitor) answered k2 h.follows)
 
 message_grows : (o : Offers) (l : LinkId) (m : Message) (k : TheCore) (answer : Result MonitorAnswer LinkFault) (k2 : TheCore) → HearsMessage o l m k answer k2 → Grows k k2
 message_grows o l m k (Ok heard_as.Full) k2 h = grows_same k k2 h.1
@@ -228,7 +228,7 @@ hears_grow o l frag k (Err link.Memory) k2 h = grows_same k k2 h
 hears_grow o l frag k (Err link.Failed) k2 h = message_grows o l h.0 k (Err link.Failed) k2 h.2
 hears_grow o l frag k (Err link.Astray) k2 h = message_grows o l h.0 k (Err link.Astray) k2 h.2
 hears_grow o l frag k (Err link.Marked) k2 h = message_grows o l h.0 k (Err link.Marked) k2 h.2
-hears_grow o l frag k (Ok told) k2 h = message_grows o l h.0 k (Ok told) k2 h.2
+hears_grow o l frag k (Ok answered) k2 h = message_grows o l h.0 k (Ok answered) k2 h.2
 
 says_grow : {S : Type 0} (w : Ways S) (l : ℕ) (k : TheCore) (p : S) (answer : MonitorWrite) (k2 : TheCore) (q : S) → MonitorWrites w.puts l k p answer k2 q → Grows k k2
 says_grow w l k p said_as.Written k2 q h = grows_monitor k k2 _ h.4

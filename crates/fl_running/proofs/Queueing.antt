@@ -65,8 +65,8 @@ module _ {S : Type 0} (w : Ways S) where
 
 carried : QueueLaw → (ps qs : List TheQueue) → QueuesGo ps qs → QueuesCarry ps qs
 carried law ps qs go n p at =
-    let (q, there, looked) = go n p at in
-    (q, there, (looked.0, law p q looked.0 looked.1))
+    let (q, there, went) = go n p at in
+    (q, there, (went.0, law p q went.0 went.1))
 
 pub queues_carry : {S : Type 0} (w : Ways S) → QueueLaw → (jobs : List Job) (s t : TheRun S) (log : List Deed) → Goes w jobs s log t
     → QueuesCarry s.queues t.queues × QueuesCarry s.core.arrivals t.core.arrivals

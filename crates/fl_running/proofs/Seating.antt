@@ -41,18 +41,18 @@ triggers_same None b c e x h has = seats_same b c e x (ap (λ (d : TheBoard). d.
 triggers_same (Some f) b c e x h has = lists_same b c f e x _ h has
 
 -- another end changes
-pub set_other : (b : TheBoard) (f e : ℕ) (seat : TheSeat) (y x : TheEnd) (c : TheBoard) → c ≡ with_end b f seat y → e ≢ f → HasEnd b e x → HasEnd c e x
+pub set_other : (b : TheBoard) (f e : ℕ) (seat : TheSeat) (y x : TheEnd) (c : TheBoard) → c.seats ≡ (with_end b f seat y).seats → e ≢ f → HasEnd b e x → HasEnd c e x
 set_other b f e seat y x c is other has = record {
   seat = has.seat;
-  seat_is = ap (λ (d : TheBoard). slice_get d.seats e) is ∙ set_elsewhere b.seats f e _ other ∙ has.seat_is;
+  seat_is = ap (λ (xs : List TheSeat). slice_get xs e) is ∙ set_elsewhere b.seats f e _ other ∙ has.seat_is;
   end_is = has.end_is;
 }
 
 -- this end does
-pub set_own : (b : TheBoard) (e : ℕ) (seat : TheSeat) (y : TheEnd) (c : TheBoard) → slice_get b.seats e ≡ Some seat → c ≡ with_end b e seat y → HasEnd c e y
+pub set_own : (b : TheBoard) (e : ℕ) (seat : TheSeat) (y : TheEnd) (c : TheBoard) → slice_get b.seats e ≡ Some seat → c.seats ≡ (with_end b e seat y).seats → HasEnd c e y
 set_own b e seat y c there is = record {
   seat = record { end = y; dispatcher = seat.dispatcher; channel = seat.channel; kind = seat.kind };
-  seat_is = ap (λ (d : TheBoard). slice_get d.seats e) is ∙ set_here b.seats e seat _ there;
+  seat_is = ap (λ (xs : List TheSeat). slice_get xs e) is ∙ set_here b.seats e seat _ there;
   end_is = refl;
 }
 

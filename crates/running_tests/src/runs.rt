@@ -4,11 +4,13 @@ use crate::rig::{Open, Rig, client, local, pings, ticket};
 use fl_link::Sight;
 use fl_ring::{SharedSide, duo};
 use fl_running::{End, Job, Part, core_run};
+use std::alloc::Global;
+use std::sync::Wait;
 use std::test::Fail;
 
 // A run of a core alone.
-fn run(rt: &HostRuntime, rig: &mut Rig, jobs: &[Job], limit: u64) -> Result<Part, Fail> {
-    let mut ticket = ticket(rt.alloc(), rig.plan.ends.as_slice().len())?;
+fn run<R: Wait>(rt: &R, alloc: Global, rig: &mut Rig, jobs: &[Job], limit: u64) -> Result<Part, Fail> {
+    let mut ticket = ticket(alloc, rig.plan.ends.as_slice().len())?;
     Ok(core_run(rt, &mut rig.run, &rig.plan, jobs, limit, &mut ticket, &Open)?)
 }
 
@@ -31,7 +33,7 @@ fn three_calls_within_a_core(rt: HostRuntime) -> Result<(), Fail> {
     ] {
         let jobs = pings(rt.alloc(), 3)?;
         let mut rig = local(rt.alloc(), 3)?;
-        let part = run(&rt, &mut rig, &jobs, limit)?;
+        let part = run(&rt, rt.alloc(), &mut rig, &jobs, limit)?;
         assert_eq!(rt; (part.turns, part.end, handled(&rig, 1)), (turns, end, calls));
     }
     Ok(())
@@ -51,13 +53,13 @@ fn five_calls_over_a_ring(rt: HostRuntime) -> Result<(), Fail> {
     let (side, mut other) = duo(rt.alloc(), 4)?;
     let jobs = pings(rt.alloc(), 5)?;
     let mut rig = client(rt.alloc(), side, 5)?;
-    let part = run(&rt, &mut rig, &jobs, 8)?;
+    let part = run(&rt, rt.alloc(), &mut rig, &jobs, 8)?;
     assert_eq!(rt; (part.turns, part.end), (8, End::Unfinished));
     for word in [Some(1), Some(2), Some(3), None] {
         assert_eq!(rt; next_word(&mut other), word);
     }
     let _ = other.tell();
-    let part = run(&rt, &mut rig, &jobs, 8)?;
+    let part = run(&rt, rt.alloc(), &mut rig, &jobs, 8)?;
     assert_eq!(rt; part.end, End::Finished);
     for word in [Some(4), Some(5), None] {
         assert_eq!(rt; next_word(&mut other), word);
