@@ -18,3 +18,4 @@ pub mod EndGoing
 pub mod Seating
 pub mod Carrying
 pub mod Queueing
+pub mod Sending

@@ -1,5 +1,5 @@
 -- What a core carries: through its queues, and at its ends. Laws.
-use Rattle.std.specs.Prelude.{ℕ, ◌≡◌, if◌then◌else◌, List, [], ◌∷◌, ◌++◌, map, slice_get, Option, Some, IsSome}
+use Rattle.std.specs.Prelude.{ℕ, ◌≡◌, false, if◌then◌else◌, List, [], ◌∷◌, ◌++◌, map, slice_get, Option, Some, IsSome}
 use Rattle.std.specs.List.{flat_map}
 use Rattle.fl_base.specs.declared.fragment.Frag.{Frag}
 use Rattle.fl_base.specs.declared.identity.EndId.{EndId}
@@ -9,8 +9,8 @@ use Rattle.fl_compile.specs.Programs.{program_of}
 use Rattle.fl_link.specs.Looks.{Look}
 use Rattle.fl_link.specs.Laws.{QueueConserves}
 use Rattle.fl_link.specs.Queue.{TheQueue}
-use Rattle.fl_endpoint.specs.View.{TheEnd, TheOutgoing, reply_to}
-use Rattle.fl_endpoint.specs.Accounts.{Sound, followed, stream, stream_from}
+use Rattle.fl_endpoint.specs.View.{TheEnd, TheOutgoing, has_rules, reply_to}
+use Rattle.fl_endpoint.specs.Accounts.{Sound, followed, replies_by, stream, stream_from}
 use Rattle.fl_core.specs.View.{TheSeat}
 use Rattle.fl_core.specs.declared.answer.TurnAnswer.{TurnAnswer}
 use Rattle.fl_core.specs.declared.answer.TurnAnswer.TheVariants.{Handle}
@@ -21,7 +21,7 @@ use Rattle.fl_running.specs.declared.job.Job.{Job}
 use Rattle.fl_running.specs.Run.{Ways, TheRun}
 use Rattle.fl_running.specs.Deeds.{Deed, called, turned}
 use Rattle.fl_running.specs.Logs.{Goes, handled_at}
-use Rattle.fl_running.specs.Made.{made_by}
+use Rattle.fl_running.specs.Made.{made_by, made_at}
 
 -- ---- queues
 
@@ -85,3 +85,12 @@ abbrev pub LogsCarryEnds : {S : Type 0} → Ways S → Type 0
 LogsCarryEnds {S} w = (jobs : List Job) (s t : TheRun S) (log : List Deed) (name : EndId) (e : ℕ) (seat : TheSeat) → IsCore s.core
     → place_of s.core name ≡ Some e → slice_get s.core.board.seats e ≡ Some seat → Sound seat.end → IsSome seat.end.circuit
     → Goes w jobs s log t → EndCarries name log seat t.core.board.seats e
+
+-- what is sent are the calls that were made, where the end has no rules
+abbrev pub SentAreMade : Type 0
+SentAreMade = (name : EndId) (rules : List (Option ℕ)) (log : List Deed) → has_rules rules ≡ false → sent_at name rules log ≡ made_at name log
+
+-- and the replies by its rules to the calls that it handled, where it made none
+abbrev pub SentAreReplies : Type 0
+SentAreReplies = (name : EndId) (rules : List (Option ℕ)) (log : List Deed) → made_at name log ≡ []
+    → sent_at name rules log ≡ replies_by rules (calls_handled name log)

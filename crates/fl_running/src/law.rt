@@ -5,7 +5,7 @@ ghost use Rattle.fl_running.specs.Ran.{CountedAreTurns};
 ghost use Rattle.fl_running.specs.Logs.{TurnsAreLogged, DesksTellHandled, LogsLook};
 ghost use Rattle.fl_running.specs.Made.{LogsMakeJobs, DoneAreFirst};
 ghost use Rattle.fl_running.specs.Lending.{StaysLent, LentServes};
-ghost use Rattle.fl_running.specs.Carried.{LogsCarryQueues, LogsCarryEnds};
+ghost use Rattle.fl_running.specs.Carried.{LogsCarryQueues, LogsCarryEnds, SentAreMade, SentAreReplies};
 
 use fl_endpoint::{call_accounts, receive_accounts, write_accounts};
 use fl_link::{PutSide, QueueLink, TakeSide, queue_conserves};
@@ -36,9 +36,12 @@ pub fn queues_carry<S: PutSide + TakeSide>()
 }
 
 /// What an end put are the fragments of the calls that it made, and of the replies by its rules to those that it handled, in order, up to what is left to put;
-/// what it took reads as the calls that it handled, and a rest.
+/// what it took reads as the calls that it handled, and a rest. An end without rules sends the calls that it made alone; one that made none sends the replies
+/// alone.
 pub fn ends_carry<S: PutSide + TakeSide>()
     ensures ends { LogsCarryEnds (ways S.puts S.takes S.front) }
+    ensures made { SentAreMade }
+    ensures replies { SentAreReplies }
 {
     call_accounts();
     write_accounts::<S>();

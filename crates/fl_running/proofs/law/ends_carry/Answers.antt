@@ -1,5 +1,6 @@
 use Rattle.fl_running.specs.Run.{ways}
 use Rattle.fl_running.proofs.Carrying.{ends_carry}
+use Rattle.fl_running.proofs.Sending.{sent_made, sent_replies}
 use Rattle.fl_running.proofs.law.ends_carry.Goals as goal
 
 pub returns : goal.returns
@@ -11,4 +12,6 @@ returns g c = record {
     receives = c.receive_accounts.ensures.account;
     receives_queue = c.receive_accounts-2.ensures.account;
   });
+  made = sent_made;
+  replies = sent_replies;
 }
