@@ -1,5 +1,5 @@
 -- Counted turns, and how they come to an end.
-use Rattle.std.proofs.Common.{◌≡◌, refl, sym, ap, subst, ℕ, zero, suc, ◌<◌, ◌≤◌, true, false, List}
+use Rattle.std.proofs.Common.{◌≡◌, refl, sym, ap, subst, ℕ, zero, suc, ◌+◌, ◌<◌, ◌≤◌, true, false, List, arith}
 use Rattle.fl_tally.specs.Tally.{with_seen}
 use Rattle.fl_tally.specs.Seats.{TheSeat, knowing}
 use Rattle.fl_running.specs.declared.job.Job.{Job}
@@ -18,6 +18,14 @@ pub counted_turn : {S : Type 0} (w : Ways S) (t : Task) (a : Moment S) (words : 
     → u ≡ knowing v (with_seen v.knows count) → OneTurn w t.plan t.jobs a.run r → CountedTurn w t a (moment r (stock words u))
 counted_turn w t a words v u count r exchanges left few seen turn =
     record { stock = stock words v; left = (exchanges, left); count = count; sees = (refl, seen); no_stop = few; turn = turn }
+
+pub one_turn_more : {S : Type 0} (w : Ways S) (t : Task) (a m b : Moment S) (turns : ℕ) → Swept (λ n. CountedTurn w t) turns a m → CountedTurn w t m b
+    → Swept (λ n. CountedTurn w t) (turns + 1) a b
+one_turn_more w t a m b turns s h = let e : suc turns ≡ turns + 1 = omega arith in subst (λ (k : ℕ). Swept (λ n. CountedTurn w t) k a b) e (m, s, h)
+
+pub at_limit : {S : Type 0} (w : Ways S) (t : Task) (a b : Moment S) (turns limit : ℕ) → Swept (λ n. CountedTurn w t) turns a b → turns ≤ limit → limit ≤ turns
+    → Swept (λ n. CountedTurn w t) limit a b
+at_limit w t a b turns limit s few past = let e : turns ≡ limit = omega (arith, few, past) in subst (λ (k : ℕ). Swept (λ n. CountedTurn w t) k a b) e s
 
 module _ {S : Type 0} (w : Ways S) (t : Task) (a : Moment S) (r : TheRun S) (c : Stock) (turns : ℕ) (words : List Word) (v : TheSeat)
     (swept : Swept (λ n. CountedTurn w t) turns a (moment r c)) (few : turns ≤ t.limit) (exchanges : ExchangesAll r t.plan.ends.items c (stock words v)) where

@@ -53,7 +53,7 @@ fn take_stock<S>(run: &Running<S>, plan: &Plan, ticket: &mut Ticket) -> bool
 }
 
 // Turns that are counted: until nothing is left to do, or the limit is reached, or another core stopped.
-#[tactic(auto, using(crate::proofs::Stock::seen_words, crate::proofs::Stock::seen_quiet, crate::proofs::Stock::quiet_then, crate::proofs::Counted::counted_turn, crate::proofs::Counted::counted_finished, crate::proofs::Counted::counted_unfinished, crate::proofs::Counted::counted_told))]
+#[tactic(auto, using(crate::proofs::Stock::seen_words, crate::proofs::Stock::quiet_then))]
 fn counted_turns<S: PutSide + TakeSide + Drop, G: Gate>(
     run: &mut Running<S>,
     plan: &Plan,
