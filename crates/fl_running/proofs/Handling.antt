@@ -23,6 +23,7 @@ use Rattle.fl_node.specs.declared.fault.OpenFault.TheVariants as opening
 use Rattle.fl_node.specs.declared.wire.Outlet.TheVariants as outlet
 use Rattle.fl_node.specs.declared.wire.Inlet.TheVariants as inlet
 use Rattle.fl_node.specs.View.{most_bindings, side_number, slot_of}
+use Rattle.fl_running.specs.declared.job.Job.{Job}
 use Rattle.fl_running.specs.Desks.{TheDesk, desk_place, advanced, with_handled, with_refusal, ChangesDesk, ChangesIf}
 use Rattle.fl_running.specs.Run.{Ways, TheRun, AtDesk}
 use Rattle.fl_running.specs.Deeds.{Deed, looked, passed, arrived, heard, said, told, opened, called, wrote, acked, turned, Does, NotesHeard, NotesOpened, NotesCalled, NotesTurned, Notes, Happens}
@@ -30,7 +31,7 @@ use Rattle.fl_running.specs.Logs.{Goes, call_in, handled_in, handled_at, in_desk
 
 -- ---- events of a core leave the desks
 
-desks_stay : {S : Type 0} (w : Ways S) (deed : Deed) (s m : TheRun S) → Does w deed s m → m.desks ≡ s.desks
+pub desks_stay : {S : Type 0} (w : Ways S) (deed : Deed) (s m : TheRun S) → Does w deed s m → m.desks ≡ s.desks
 desks_stay w (looked n l answer) s m h = ap (λ (x : TheRun _). x.desks) h.rest
 desks_stay w (passed n k frag c Moved) s m h = ap (λ (x : TheRun _). x.desks) h.2.rest ∙ ap (λ (x : TheRun _). x.desks) h.1.rest
 desks_stay w (passed n k frag c Full) s m h = ap (λ (x : TheRun _). x.desks) h.rest
@@ -57,7 +58,7 @@ has desks name = given (desk_place desks name) [] λ n. in_desk (slice_get desks
 place_by : ℕ → EndId → Option ℕ
 place_by k e = if nat_lt e.binding most_bindings then (if nat_lt (slot_of e) k then Some (slot_of e) else None) else None
 
-same_place : (xs ys : List TheDesk) (e : EndId) → length ys ≡ length xs → desk_place ys e ≡ desk_place xs e
+pub same_place : (xs ys : List TheDesk) (e : EndId) → length ys ≡ length xs → desk_place ys e ≡ desk_place xs e
 same_place xs ys e same = ap (λ (k : ℕ). if nat_lt e.binding most_bindings then (if nat_lt (slot_of e) k then Some (slot_of e) else None) else None) same
 
 -- an end with a desk has it at its slot
@@ -66,7 +67,7 @@ slot_from e k n true true is = let same : slot_of e ≡ n = cc in sym same
 slot_from e k n true false is = absurd (cc)
 slot_from e k n false b is = absurd (cc)
 
-at_slot : (desks : List TheDesk) (e : EndId) (n : ℕ) → desk_place desks e ≡ Some n → n ≡ slot_of e
+pub at_slot : (desks : List TheDesk) (e : EndId) (n : ℕ) → desk_place desks e ≡ Some n → n ≡ slot_of e
 at_slot desks e n is = slot_from e (length desks) n (nat_lt e.binding most_bindings) (nat_lt (slot_of e) (length desks)) is
 
 -- two ends are one exactly where their slots are
@@ -97,7 +98,7 @@ slots_by p q m n x y true true same sides = let s = sides_same x y sides in grin
 slots_by p q m n x y true false same sides = let s = sides_differ x y sides in grind (arith, nat_tests, same, s)
 slots_by p q m n x y false b same sides = let s = few x in let t = few y in grind (arith, nat_tests, same, s, t)
 
-slots : (e name : EndId) → (slot_of e == slot_of name) ≡ same_end e name
+pub slots : (e name : EndId) → (slot_of e == slot_of name) ≡ same_end e name
 slots e name = slots_by e.binding name.binding 0 0 e.side name.side (e.binding == name.binding) (same_side e.side name.side) refl refl
 
 -- ---- one desk changes
@@ -126,7 +127,7 @@ one_end_by e name true true same sides is =
 one_end_by e name true false same sides is = absurd (cc)
 one_end_by e name false b same sides is = absurd (cc)
 
-one_end : (e name : EndId) → same_end e name ≡ true → e ≡ name
+pub one_end : (e name : EndId) → same_end e name ≡ true → e ≡ name
 one_end e name is = one_end_by e name (e.binding == name.binding) (same_side e.side name.side) refl refl is
 
 module _ {S : Type 0} (e name : EndId) (change : TheDesk → TheDesk) (extra : List Call) (adds : (d : TheDesk) → (change d).handled ≡ d.handled ++ extra)
@@ -164,7 +165,7 @@ same_by true extra is = is
 same_by false extra is = refl
 
 -- there are as many desks as before
-as_many : (o : Option ℕ) (xs ys : List TheDesk) (change : TheDesk → TheDesk) → ChangesIf o xs change ys → length ys ≡ length xs
+pub as_many : (o : Option ℕ) (xs ys : List TheDesk) (change : TheDesk → TheDesk) → ChangesIf o xs change ys → length ys ≡ length xs
 as_many None xs ys change h = ap length h
 as_many (Some n) xs ys change h = ap length h.rest ∙ length-set xs n (change h.desk)
 
@@ -243,23 +244,23 @@ module _ {S : Type 0} (w : Ways S) (name : EndId) where
       let after = noted name h.0 t p there deed h.2 in
       (after.0 ∙ ap (λ (xs : List TheDesk). has xs name ++ handled_in name deed) stay, same_place h.0.desks t.desks name after.1 ∙ there)
 
-  handled_by_log : (log : List Deed) (s t : TheRun S) (p : ℕ) → desk_place s.desks name ≡ Some p → Goes w s log t
+  handled_by_log : (jobs : List Job) (log : List Deed) (s t : TheRun S) (p : ℕ) → desk_place s.desks name ≡ Some p → Goes w jobs s log t
       → handled_of t name ≡ handled_of s name ++ handled_at name log
-  handled_by_log [] s t p at h = ap (λ (x : TheRun S). handled_of x name) h ∙ sym (append-nil (handled_of s name))
-  handled_by_log (deed ∷ log) s t p at h =
+  handled_by_log jobs [] s t p at h = ap (λ (x : TheRun S). handled_of x name) h ∙ sym (append-nil (handled_of s name))
+  handled_by_log jobs (deed ∷ log) s t p at h =
       let one = happened deed s h.0 p at h.1 in
-      handled_by_log log h.0 t p one.1 h.2 ∙ ap (λ (xs : List Call). xs ++ handled_at name log) one.0
+      handled_by_log jobs log h.0 t p one.1 h.3 ∙ ap (λ (xs : List Call). xs ++ handled_at name log) one.0
       ∙ append_assoc (handled_of s name) (handled_in name deed) (handled_at name log)
 
-  handled_from : (o : Option ℕ) (log : List Deed) (s t : TheRun S) → desk_place s.desks name ≡ o → IsSome o → Goes w s log t
+  handled_from : (jobs : List Job) (o : Option ℕ) (log : List Deed) (s t : TheRun S) → desk_place s.desks name ≡ o → IsSome o → Goes w jobs s log t
       → handled_of t name ≡ handled_of s name ++ handled_at name log
-  handled_from None log s t at some h = absurd (search (rules, some))
-  handled_from (Some p) log s t at some h = handled_by_log log s t p at h
+  handled_from jobs None log s t at some h = absurd (search (rules, some))
+  handled_from jobs (Some p) log s t at some h = handled_by_log jobs log s t p at h
 
-  pub tells_handled : (s t : TheRun S) (log : List Deed) → IsSome (desk_place s.desks name) → Goes w s log t
+  pub tells_handled : (jobs : List Job) (s t : TheRun S) (log : List Deed) → IsSome (desk_place s.desks name) → Goes w jobs s log t
       → handled_of t name ≡ handled_of s name ++ handled_at name log
-  tells_handled s t log some h = handled_from (desk_place s.desks name) log s t refl some h
+  tells_handled jobs s t log some h = handled_from jobs (desk_place s.desks name) log s t refl some h
 
-pub desks_tell : {S : Type 0} (w : Ways S) (s t : TheRun S) (log : List Deed) (name : EndId) → IsSome (desk_place s.desks name) → Goes w s log t
+pub desks_tell : {S : Type 0} (w : Ways S) (jobs : List Job) (s t : TheRun S) (log : List Deed) (name : EndId) → IsSome (desk_place s.desks name) → Goes w jobs s log t
     → handled_of t name ≡ handled_of s name ++ handled_at name log
-desks_tell w s t log name some h = tells_handled w name s t log some h
+desks_tell w jobs s t log name some h = tells_handled w name jobs s t log some h

@@ -10,3 +10,12 @@ pub mod Turning
 pub mod Aside
 pub mod Looking
 pub mod Copying
+pub mod Counted
+pub mod Doing
+pub mod Growing
+pub mod Lends
+pub mod EndGoing
+pub mod Seating
+pub mod Carrying
+pub mod Queueing
+pub mod Sending

@@ -23,111 +23,116 @@ use Rattle.fl_running.specs.Run.{Ways, TheRun, next_job, lent_lane, lent_post, l
 use Rattle.fl_running.specs.Deeds.{Deed, looked, passed, arrived, heard, said, told, opened, called, wrote, acked, turned, Happens}
 use Rattle.fl_running.specs.Steps.{Deals, ForwardsOver, Forwards, SaysOver, Says, TellsOver, Tells, may_ask, OpensIf, CallsAt, Tries, WritesFrom, Serves, AcksFrom, Acknowledges, TurnsAt, TakesTurn}
 use Rattle.fl_running.specs.Turn.{Swept, At, ForEach, OneTurn, Turned}
-use Rattle.fl_running.specs.Logs.{Goes, handled_by, handles_in, handles, Logged}
+use Rattle.fl_running.specs.Logs.{calls_of_job, ByJob, Goes, handled_by, handles_in, handles, Logged}
 
 -- ---- logs join
 
 abbrev none : ℕ → ℕ
 none d = 0
 
-goes_join : {S : Type 0} (w : Ways S) (xs ys : List Deed) (s m t : TheRun S) → Goes w s xs m → Goes w m ys t → Goes w s (xs ++ ys) t
-goes_join w [] ys s m t a b = subst (λ (x : TheRun _). Goes w x ys t) a b
-goes_join w (d ∷ xs) ys s m t a b = (a.0, a.1, goes_join w xs ys a.0 m t a.2 b)
+goes_join : {S : Type 0} (w : Ways S) (jobs : List Job) (xs ys : List Deed) (s m t : TheRun S) → Goes w jobs s xs m → Goes w jobs m ys t → Goes w jobs s (xs ++ ys) t
+goes_join w jobs [] ys s m t a b = subst (λ (x : TheRun _). Goes w jobs x ys t) a b
+goes_join w jobs (d ∷ xs) ys s m t a b = (a.0, a.1, a.2, goes_join w jobs xs ys a.0 m t a.3 b)
 
 handles_join : (d : ℕ) (xs ys : List Deed) → handles d (xs ++ ys) ≡ handles d xs + handles d ys
 handles_join d [] ys = omega arith
 handles_join d (x ∷ xs) ys = let rest = handles_join d xs ys in omega (arith, rest)
 
-pub logged_then : {S : Type 0} (w : Ways S) (f g h : ℕ → ℕ) (s m t : TheRun S) → ((d : ℕ) → f d + g d ≤ h d) → Logged w f s m → Logged w g m t → Logged w h s t
-logged_then w f g h s m t sum a b = record {
+pub logged_then : {S : Type 0} (w : Ways S) (jobs : List Job) (f g h : ℕ → ℕ) (s m t : TheRun S) → ((d : ℕ) → f d + g d ≤ h d)
+    → Logged w jobs f s m → Logged w jobs g m t → Logged w jobs h s t
+logged_then w jobs f g h s m t sum a b = record {
   log = a.log ++ b.log;
-  goes = goes_join w a.log b.log s m t a.goes b.goes;
+  goes = goes_join w jobs a.log b.log s m t a.goes b.goes;
   few = λ d. let one = a.few d in let two = b.few d in let both = handles_join d a.log b.log in let all = sum d in omega (arith, one, two, both, all);
 }
 
 -- with no calls handled
-abbrev Plain : {S : Type 0} → Ways S → TheRun S → TheRun S → Type 0
-Plain w s t = Logged w none s t
+abbrev Plain : {S : Type 0} → Ways S → List Job → TheRun S → TheRun S → Type 0
+Plain w jobs s t = Logged w jobs none s t
 
-plain_then : {S : Type 0} (w : Ways S) (s m t : TheRun S) → Plain w s m → Plain w m t → Plain w s t
-plain_then w s m t a b = logged_then w none none none s m t (λ d. omega arith) a b
+plain_then : {S : Type 0} (w : Ways S) (jobs : List Job) (s m t : TheRun S) → Plain w jobs s m → Plain w jobs m t → Plain w jobs s t
+plain_then w jobs s m t a b = logged_then w jobs none none none s m t (λ d. omega arith) a b
 
-nothing : {S : Type 0} (w : Ways S) (s t : TheRun S) → t ≡ s → Plain w s t
-nothing w s t same = record { log = []; goes = same; few = λ d. omega arith }
+nothing : {S : Type 0} (w : Ways S) (jobs : List Job) (s t : TheRun S) → t ≡ s → Plain w jobs s t
+nothing w jobs s t same = record { log = []; goes = same; few = λ d. omega arith }
 
-one : {S : Type 0} (w : Ways S) (deed : Deed) (s t : TheRun S) → ((d : ℕ) → handles_in d deed ≡ 0) → Happens w deed s t → Plain w s t
-one w deed s t nobody h = record { log = deed ∷ []; goes = (t, h, refl); few = λ d. let zero_of = nobody d in omega (arith, zero_of) }
+one_by : {S : Type 0} (w : Ways S) (jobs : List Job) (deed : Deed) (s t : TheRun S) → ((d : ℕ) → handles_in d deed ≡ 0) → ByJob jobs s deed → Happens w deed s t → Plain w jobs s t
+one_by w jobs deed s t nobody by h =
+    record { log = deed ∷ []; goes = (t, h, by, refl); few = λ d. let zero_of = nobody d in omega (arith, zero_of) }
 
 -- ---- for each link
 
-module _ {S : Type 0} (w : Ways S) where
-  deals : (n : ℕ) (l : LinkId) (found : Result Ahead LinkFault) (s t : TheRun S) → Deals w n l found s t → Plain w s t
-  deals n l (Ok ahead.Nothing) s t h = nothing w s t h
-  deals n l (Ok ahead.Acknowledged) s t h = nothing w s t h
-  deals n l (Ok (ahead.Message frag)) s t h = one w (heard n l frag h.0) s t (λ d. refl) h.1
-  deals n l (Ok (ahead.Onward frag to c)) s t (inl h) = one w (passed n to frag c h.0) s t (λ d. refl) h.1
-  deals n l (Ok (ahead.Onward frag to c)) s t (inr h) = nothing w s t h.1
-  deals n l (Ok (ahead.Arrival frag e)) s t h = one w (arrived n l frag e h.0) s t (λ d. refl) h.1
-  deals n l (Err fault) s t h = nothing w s t h
+module _ {S : Type 0} (w : Ways S) (jobs : List Job) where
+  one : (deed : Deed) (s t : TheRun S) → ((d : ℕ) → handles_in d deed ≡ 0) → ByJob jobs s deed → Happens w deed s t → Plain w jobs s t
+  one deed s t nobody by h = one_by w jobs deed s t nobody by h
 
-  forwards_over : (l : LinkId) (o : Option ℕ) (s t : TheRun S) → ForwardsOver w l o s t → Plain w s t
-  forwards_over l None s t h = nothing w s t h
-  forwards_over l (Some n) s t h = plain_then w s h.1 t (one w (looked n l h.0) s h.1 (λ d. refl) h.2) (deals n l h.0 h.1 t h.3)
+  deals : (n : ℕ) (l : LinkId) (found : Result Ahead LinkFault) (s t : TheRun S) → Deals w n l found s t → Plain w jobs s t
+  deals n l (Ok ahead.Nothing) s t h = nothing w jobs s t h
+  deals n l (Ok ahead.Acknowledged) s t h = nothing w jobs s t h
+  deals n l (Ok (ahead.Message frag)) s t h = one (heard n l frag h.0) s t (λ d. refl) tt h.1
+  deals n l (Ok (ahead.Onward frag to c)) s t (inl h) = one (passed n to frag c h.0) s t (λ d. refl) tt h.1
+  deals n l (Ok (ahead.Onward frag to c)) s t (inr h) = nothing w jobs s t h.1
+  deals n l (Ok (ahead.Arrival frag e)) s t h = one (arrived n l frag e h.0) s t (λ d. refl) tt h.1
+  deals n l (Err fault) s t h = nothing w jobs s t h
 
-  forwards : (l : LinkId) (s t : TheRun S) → Forwards w l s t → Plain w s t
+  forwards_over : (l : LinkId) (o : Option ℕ) (s t : TheRun S) → ForwardsOver w l o s t → Plain w jobs s t
+  forwards_over l None s t h = nothing w jobs s t h
+  forwards_over l (Some n) s t h = plain_then w jobs s h.1 t (one (looked n l h.0) s h.1 (λ d. refl) tt h.2) (deals n l h.0 h.1 t h.3)
+
+  forwards : (l : LinkId) (s t : TheRun S) → Forwards w l s t → Plain w jobs s t
   forwards l s t h = forwards_over l (lent_lane s l) s t h
 
-  says_over : (l : LinkId) (o : Option ℕ) (s t : TheRun S) → SaysOver w l o s t → Plain w s t
-  says_over l None s t h = nothing w s t h
-  says_over l (Some n) s t h = one w (said n l h.0) s t (λ d. refl) h.1
+  says_over : (l : LinkId) (o : Option ℕ) (s t : TheRun S) → SaysOver w l o s t → Plain w jobs s t
+  says_over l None s t h = nothing w jobs s t h
+  says_over l (Some n) s t h = one (said n l h.0) s t (λ d. refl) tt h.1
 
-  says : (l : LinkId) (s t : TheRun S) → Says w l s t → Plain w s t
+  says : (l : LinkId) (s t : TheRun S) → Says w l s t → Plain w jobs s t
   says l s t h = says_over l (lent_lane s l) s t h
 
-  tells_over : (l : LinkId) (o : Option ℕ) (s t : TheRun S) → TellsOver w l o s t → Plain w s t
-  tells_over l None s t h = nothing w s t h
-  tells_over l (Some n) s t h = one w (told n l h.0) s t (λ d. refl) h.1
+  tells_over : (l : LinkId) (o : Option ℕ) (s t : TheRun S) → TellsOver w l o s t → Plain w jobs s t
+  tells_over l None s t h = nothing w jobs s t h
+  tells_over l (Some n) s t h = one (told n l h.0) s t (λ d. refl) tt h.1
 
-  tells : (l : LinkId) (s t : TheRun S) → Tells w l s t → Plain w s t
+  tells : (l : LinkId) (s t : TheRun S) → Tells w l s t → Plain w jobs s t
   tells l s t h = tells_over l (lent_lane s l) s t h
 
   -- ---- for each end
 
-  opens : (b : Bool) (name : EndId) (wish : Wish) (s t : TheRun S) → OpensIf w b name wish s t → Plain w s t
-  opens false name wish s t h = nothing w s t h
-  opens true name wish s t h = one w (opened name wish h.0) s t (λ d. refl) h.1
+  opens : (b : Bool) (name : EndId) (wish : Wish) (s t : TheRun S) → next_job jobs s name ≡ Some (job.Open wish) → may_ask s wish ≡ b → OpensIf w b name wish s t → Plain w jobs s t
+  opens false name wish s t next may h = nothing w jobs s t h
+  opens true name wish s t next may h = one (opened name wish h.0) s t (λ d. refl) (next, may) h.1
 
-  calls : (name : EndId) (call : AnyCall) (o : Option ℕ) (s t : TheRun S) → CallsAt w name call o s t → Plain w s t
-  calls name call None s t h = nothing w s t h
-  calls name call (Some e) s t h = one w (called name (call_of call) h.0) s t (λ d. refl) h.1
+  calls : (name : EndId) (e : EndId) (call : AnyCall) (o : Option ℕ) (s t : TheRun S) → next_job jobs s name ≡ Some (job.Call e call) → CallsAt w name call o s t → Plain w jobs s t
+  calls name e call None s t next h = nothing w jobs s t h
+  calls name e call (Some place) s t next h = one (called name (call_of call) h.0) s t (λ d. refl) (ap calls_of_job next) h.1
 
-  tries : (name : EndId) (o : Option Job) (s t : TheRun S) → Tries w name o s t → Plain w s t
-  tries name None s t h = nothing w s t h
-  tries name (Some (job.Open wish)) s t h = opens (may_ask s wish) name wish s t h
-  tries name (Some (job.Call e call)) s t h = calls name call (place_of s.core name) s t h
-  tries name (Some (job.Reply e msg reply)) s t h = nothing w s t h
+  tries : (name : EndId) (o : Option Job) (s t : TheRun S) → next_job jobs s name ≡ o → Tries w name o s t → Plain w jobs s t
+  tries name None s t next h = nothing w jobs s t h
+  tries name (Some (job.Open wish)) s t next h = opens (may_ask s wish) name wish s t next refl h
+  tries name (Some (job.Call e call)) s t next h = calls name e call (place_of s.core name) s t next h
+  tries name (Some (job.Reply e msg reply)) s t next h = nothing w jobs s t h
 
-  writes : (name : EndId) (o : Option Post) (s t : TheRun S) → WritesFrom w name o s t → Plain w s t
-  writes name None s t h = nothing w s t h
-  writes name (Some post) s t h = one w (wrote name post.outlet h.0) s t (λ d. refl) h.1
+  writes : (name : EndId) (o : Option Post) (s t : TheRun S) → WritesFrom w name o s t → Plain w jobs s t
+  writes name None s t h = nothing w jobs s t h
+  writes name (Some post) s t h = one (wrote name post.outlet h.0) s t (λ d. refl) tt h.1
 
-  serves : (jobs : List Job) (name : EndId) (s t : TheRun S) → Serves w jobs name s t → Plain w s t
-  serves jobs name s t h =
-      plain_then w s h.0 t (tries name (next_job jobs s name) s h.0 h.1) (writes name (lent_post h.0 name) h.0 t h.2)
+  serves : (name : EndId) (s t : TheRun S) → Serves w jobs name s t → Plain w jobs s t
+  serves name s t h =
+      plain_then w jobs s h.0 t (tries name (next_job jobs s name) s h.0 refl h.1) (writes name (lent_post h.0 name) h.0 t h.2)
 
-  acks_from : (name : EndId) (o : Option Berth) (s t : TheRun S) → AcksFrom w name o s t → Plain w s t
-  acks_from name None s t h = nothing w s t h
-  acks_from name (Some berth) s t h = one w (acked name berth.side h.0) s t (λ d. refl) h.1
+  acks_from : (name : EndId) (o : Option Berth) (s t : TheRun S) → AcksFrom w name o s t → Plain w jobs s t
+  acks_from name None s t h = nothing w jobs s t h
+  acks_from name (Some berth) s t h = one (acked name berth.side h.0) s t (λ d. refl) tt h.1
 
-  acks : (name : EndId) (s t : TheRun S) → Acknowledges w name s t → Plain w s t
+  acks : (name : EndId) (s t : TheRun S) → Acknowledges w name s t → Plain w jobs s t
   acks name s t h = acks_from name (lent_berth s name) s t h
 
   -- ---- sweeps
 
-  swept : {X : Type 0} (xs : List X) (step : X → TheRun S → TheRun S → Type 0) → ((x : X) (s t : TheRun S) → step x s t → Plain w s t)
-      → (k : ℕ) (s t : TheRun S) → Swept (At xs step) k s t → Plain w s t
-  swept xs step each zero s t h = nothing w s t h
-  swept xs step each (suc k) s t h = plain_then w s h.0 t (swept xs step each k s h.0 h.1) (each h.2.0 h.0 t h.2.2)
+  swept : {X : Type 0} (xs : List X) (step : X → TheRun S → TheRun S → Type 0) → ((x : X) (s t : TheRun S) → step x s t → Plain w jobs s t)
+      → (k : ℕ) (s t : TheRun S) → Swept (At xs step) k s t → Plain w jobs s t
+  swept xs step each zero s t h = nothing w jobs s t h
+  swept xs step each (suc k) s t h = plain_then w jobs s h.0 t (swept xs step each k s h.0 h.1) (each h.2.0 h.0 t h.2.2)
 
   -- ---- turns of dispatchers
 
@@ -142,18 +147,18 @@ module _ {S : Type 0} (w : Ways S) where
   at_most e d (Refused fault) true = omega arith
   at_most e d answer false = omega arith
 
-  weaker : (f g : ℕ → ℕ) (s t : TheRun S) → ((d : ℕ) → f d ≤ g d) → Logged w f s t → Logged w g s t
+  weaker : (f g : ℕ → ℕ) (s t : TheRun S) → ((d : ℕ) → f d ≤ g d) → Logged w jobs f s t → Logged w jobs g s t
   weaker f g s t more h = record { log = h.log; goes = h.goes; few = λ d. let one_of = h.few d in let all = more d in omega (arith, one_of, all) }
 
   least : (b : Bool) → 0 ≤ (if b then 1 else 0)
   least true = omega arith
   least false = omega arith
 
-  takes_turn : (e : ℕ) (o : Option Due) (s t : TheRun S) → TurnsAt w e o s t → Logged w (λ d. if e == d then 1 else 0) s t
+  takes_turn : (e : ℕ) (o : Option Due) (s t : TheRun S) → TurnsAt w e o s t → Logged w jobs (λ d. if e == d then 1 else 0) s t
   takes_turn e None s t h = record { log = []; goes = h; few = λ d. least (e == d) }
   takes_turn e (Some due) s t h = record {
     log = turned e h.0 due.inlet h.1 ∷ [];
-    goes = (t, h.2, refl);
+    goes = (t, h.2, tt, refl);
     few = λ d. let most = at_most e d h.1 (e == d) in omega (arith, most);
   }
 
@@ -168,10 +173,10 @@ module _ {S : Type 0} (w : Ways S) where
   below : (k d : ℕ) → (if nat_lt d k then 1 else 0) + (if k == d then 1 else 0) ≤ (if nat_lt d (suc k) then 1 else 0)
   below k d = below_by k d (nat_lt d k) (k == d) (nat_lt d (suc k)) refl refl refl
 
-  turns : (k : ℕ) (s t : TheRun S) → Swept (TakesTurn w) k s t → Logged w (λ d. if nat_lt d k then 1 else 0) s t
+  turns : (k : ℕ) (s t : TheRun S) → Swept (TakesTurn w) k s t → Logged w jobs (λ d. if nat_lt d k then 1 else 0) s t
   turns zero s t h = record { log = []; goes = h; few = λ d. least (nat_lt d 0) }
   turns (suc k) s t h =
-      logged_then w (λ d. if nat_lt d k then 1 else 0) (λ d. if k == d then 1 else 0) (λ d. if nat_lt d (suc k) then 1 else 0) s h.0 t (below k)
+      logged_then w jobs (λ d. if nat_lt d k then 1 else 0) (λ d. if k == d then 1 else 0) (λ d. if nat_lt d (suc k) then 1 else 0) s h.0 t (below k)
       (turns k s h.0 h.1) (takes_turn k (lent_due h.0 k) h.0 t h.2)
 
   -- ---- turns of the core
@@ -180,20 +185,24 @@ module _ {S : Type 0} (w : Ways S) where
   at_most_one true = omega arith
   at_most_one false = omega arith
 
-  turn : (plan : Plan) (jobs : List Job) (s t : TheRun S) → OneTurn w plan jobs s t → Logged w (λ d. 1) s t
-  turn plan jobs s t h =
-      let a : Plain w s h.forwarded = swept plan.links.items (Forwards w) forwards (length plan.links.items) s h.forwarded h.forwards in
-      let b : Plain w h.forwarded h.said = swept plan.links.items (Says w) says (length plan.links.items) h.forwarded h.said h.says in
-      let c : Plain w h.said h.served = swept plan.ends.items (Serves w jobs) (serves jobs) (length plan.ends.items) h.said h.served h.serves in
-      let e : Plain w h.turned h.told = swept plan.links.items (Tells w) tells (length plan.links.items) h.turned h.told h.tells in
-      let f : Plain w h.told t = swept plan.ends.items (Acknowledges w) acks (length plan.ends.items) h.told t h.acks in
-      let before : Plain w s h.served = plain_then w s h.said h.served (plain_then w s h.forwarded h.said a b) c in
-      let after : Plain w h.turned t = plain_then w h.turned h.told t e f in
-      let mid : Logged w (λ d. if nat_lt d plan.dispatchers then 1 else 0) s h.turned =
-      logged_then w none (λ d. if nat_lt d plan.dispatchers then 1 else 0) (λ d. if nat_lt d plan.dispatchers then 1 else 0) s h.served h.turned (λ d. omega arith) before
+  turn : (plan : Plan) (s t : TheRun S) → OneTurn w plan jobs s t → Logged w jobs (λ d. 1) s t
+  turn plan s t h =
+      let a : Plain w jobs s h.forwarded = swept plan.links.items (Forwards w) forwards (length plan.links.items) s h.forwarded h.forwards in
+      let b : Plain w jobs h.forwarded h.said = swept plan.links.items (Says w) says (length plan.links.items) h.forwarded h.said h.says in
+      let c : Plain w jobs h.said h.served = swept plan.ends.items (Serves w jobs) serves (length plan.ends.items) h.said h.served h.serves in
+      let e : Plain w jobs h.turned h.told = swept plan.links.items (Tells w) tells (length plan.links.items) h.turned h.told h.tells in
+      let f : Plain w jobs h.told t = swept plan.ends.items (Acknowledges w) acks (length plan.ends.items) h.told t h.acks in
+      let before : Plain w jobs s h.served = plain_then w jobs s h.said h.served (plain_then w jobs s h.forwarded h.said a b) c in
+      let after : Plain w jobs h.turned t = plain_then w jobs h.turned h.told t e f in
+      let mid : Logged w jobs (λ d. if nat_lt d plan.dispatchers then 1 else 0) s h.turned =
+      logged_then w jobs none (λ d. if nat_lt d plan.dispatchers then 1 else 0) (λ d. if nat_lt d plan.dispatchers then 1 else 0) s h.served h.turned (λ d. omega arith) before
       (turns plan.dispatchers h.served h.turned h.turns) in
-      logged_then w (λ d. if nat_lt d plan.dispatchers then 1 else 0) none (λ d. 1) s h.turned t (λ d. at_most_one (nat_lt d plan.dispatchers)) mid after
+      logged_then w jobs (λ d. if nat_lt d plan.dispatchers then 1 else 0) none (λ d. 1) s h.turned t (λ d. at_most_one (nat_lt d plan.dispatchers)) mid after
 
-  pub all_turns : (plan : Plan) (jobs : List Job) (k : ℕ) (s t : TheRun S) → Turned w plan jobs k s t → Logged w (λ d. k) s t
-  all_turns plan jobs zero s t h = nothing w s t h
-  all_turns plan jobs (suc k) s t h = logged_then w (λ d. k) (λ d. 1) (λ d. suc k) s h.0 t (λ d. omega arith) (all_turns plan jobs k s h.0 h.1) (turn plan jobs h.0 t h.2)
+  pub all_turns : (plan : Plan) (k : ℕ) (s t : TheRun S) → Turned w plan jobs k s t → Logged w jobs (λ d. k) s t
+  all_turns plan zero s t h = nothing w jobs s t h
+  all_turns plan (suc k) s t h =
+      logged_then w jobs (λ d. k) (λ d. 1) (λ d. suc k) s h.0 t (λ d. omega arith) (all_turns plan k s h.0 h.1) (turn plan h.0 t h.2)
+
+pub turns_logged : {S : Type 0} (w : Ways S) (plan : Plan) (jobs : List Job) (k : ℕ) (s t : TheRun S) → Turned w plan jobs k s t → Logged w jobs (λ d. k) s t
+turns_logged w plan jobs k s t h = all_turns w jobs plan k s t h

@@ -44,16 +44,17 @@ use Rattle.fl_node.specs.declared.fault.LinkFault.{LinkFault}
 use Rattle.fl_node.specs.declared.fault.LinkFault.TheVariants as link
 use Rattle.fl_node.specs.declared.wire.Outlet.TheVariants as outlet
 use Rattle.fl_node.specs.declared.wire.Inlet.TheVariants as inlet
+use Rattle.fl_running.specs.declared.job.Job.{Job}
 use Rattle.fl_running.specs.Run.{Ways, TheRun, AtDesk}
 use Rattle.fl_running.specs.Deeds.{Deed, looked, passed, arrived, heard, said, told, opened, called, wrote, acked, turned, OnRing, Does, Notes, Happens}
 use Rattle.fl_running.specs.Logs.{Goes, Looked, SidesGo}
 use Rattle.fl_running.proofs.Aside.{rings_aside}
 
 module _ {S : Type 0} (puts takes : S → Look → S → Type 0) where
-  stay : (p q : S) → q ≡ p → Looked puts takes p q
+  pub stay : (p q : S) → q ≡ p → Looked puts takes p q
   stay p q same = ([], sym same)
 
-  put_one : (p q : S) (look : Look) → puts p look q → Looked puts takes p q
+  pub put_one : (p q : S) (look : Look) → puts p look q → Looked puts takes p q
   put_one p q look h = (look ∷ [], (q, inl h, refl))
 
   take_one : (p q : S) (look : Look) → takes p look q → Looked puts takes p q
@@ -66,7 +67,7 @@ module _ {S : Type 0} (puts takes : S → Look → S → Type 0) where
   join [] ys p m q g h = subst (λ (x : S). Looks (LinkStep puts takes) x ys q) (sym g) h
   join (x ∷ xs) ys p m q g h = (g.0, g.1, join xs ys g.0 m q g.2 h)
 
-  looked_then : (p m q : S) → Looked puts takes p m → Looked puts takes m q → Looked puts takes p q
+  pub looked_then : (p m q : S) → Looked puts takes p m → Looked puts takes m q → Looked puts takes p q
   looked_then p m q g h = (g.0 ++ h.0, join g.0 h.0 p m q g.1 h.1)
 
   -- ---- parts of events
@@ -131,7 +132,7 @@ module _ {S : Type 0} (puts takes : S → Look → S → Type 0) where
   acks_looks kind.Ring s p (Err board.Failed) q h = absurd h
   acks_looks kind.Ring s p (Err board.Memory) q h = absurd h
 
-  writes_looks : (s : TheEnd) (p : S) (answer : Result WriteAnswer EndFault) (t : TheEnd) (q : S) → Writes puts s p answer t q → Looked puts takes p q
+  pub writes_looks : (s : TheEnd) (p : S) (answer : Result WriteAnswer EndFault) (t : TheEnd) (q : S) → Writes puts s p answer t q → Looked puts takes p q
   writes_looks s p (Ok (write.Written number count)) t q h = put_one p q _ h.1.5
   writes_looks s p (Ok write.Full) t q h = put_one p q _ h.2
   writes_looks s p (Ok write.Nothing) t q h = stay p q h.2
@@ -195,16 +196,16 @@ module _ {S : Type 0} (puts takes : S → Look → S → Type 0) where
   examines_looks c a (Ok (turn.Refused f)) b h = absurd h
   examines_looks c a (Err e) b h = absurd h
 
-  turn_looks : (picked : Pick) (kind : Kind) (a : Moment S) (answer : Result TurnAnswer AllocError) (b : Moment S) → LooksAt takes picked kind a answer b → Looked puts takes a.side b.side
+  pub turn_looks : (picked : Pick) (kind : Kind) (a : Moment S) (answer : Result TurnAnswer AllocError) (b : Moment S) → LooksAt takes picked kind a answer b → Looked puts takes a.side b.side
   turn_looks (pick.Pending c) kind a answer b h = gives_looks kind c.0 a answer b h
   turn_looks (pick.Polled c) kind a answer b h = examines_looks c.0 (record { lists = a.lists; side = a.side }) answer (record { lists = b.lists; side = b.side }) h.0
 
   -- ---- a list of sides
 
-  go_same : (ps qs : List S) → qs ≡ ps → SidesGo puts takes ps qs
+  pub go_same : (ps qs : List S) → qs ≡ ps → SidesGo puts takes ps qs
   go_same ps qs same n p at = (p, ap (λ (xs : List S). slice_get xs n) same ∙ at, stay p p refl)
 
-  go_then : (ps ms qs : List S) → SidesGo puts takes ps ms → SidesGo puts takes ms qs → SidesGo puts takes ps qs
+  pub go_then : (ps ms qs : List S) → SidesGo puts takes ps ms → SidesGo puts takes ms qs → SidesGo puts takes ps qs
   go_then ps ms qs g h n p at =
       let (m, there, one) = g n p at in
       let (q, after, two) = h n m there in
@@ -221,7 +222,7 @@ module _ {S : Type 0} (puts takes : S → Look → S → Type 0) where
       let ne : n ≢ i = λ e. absurd (grind (arith, nat_tests, same, e)) in
       (p, set_elsewhere ps i n after ne ∙ at, stay p p refl)
 
-  go_one : (ps : List S) (i : ℕ) (before after : S) → slice_get ps i ≡ Some before → Looked puts takes before after → SidesGo puts takes ps (slice_set ps i after)
+  pub go_one : (ps : List S) (i : ℕ) (before after : S) → slice_get ps i ≡ Some before → Looked puts takes before after → SidesGo puts takes ps (slice_set ps i after)
   go_one ps i before after there h n p at = go_at ps i before after there h n p (i == n) refl at
 
 -- ---- events
@@ -260,13 +261,13 @@ module _ {S : Type 0} (w : Ways S) where
       ring_goes n s m _ h.3 (turn_looks w.puts w.takes h.3.event.event.picked h.3.event.event.seat.kind _ (Ok answer) _ h.3.event.event.looks)
   does_look (turned d name inlet.Arrivals answer) s m h = rings_stay s m (ap (λ (x : TheRun S). x.rings) h.3.rest)
 
-  log_looks : (log : List Deed) (s t : TheRun S) → Goes w s log t → SidesGo w.puts w.takes s.rings t.rings
-  log_looks [] s t h = rings_stay s t (ap (λ (x : TheRun S). x.rings) h)
-  log_looks (deed ∷ log) s t h =
+  log_looks : (jobs : List Job) (log : List Deed) (s t : TheRun S) → Goes w jobs s log t → SidesGo w.puts w.takes s.rings t.rings
+  log_looks jobs [] s t h = rings_stay s t (ap (λ (x : TheRun S). x.rings) h)
+  log_looks jobs (deed ∷ log) s t h =
       let noted : SidesGo w.puts w.takes h.1.0.rings h.0.rings = rings_stay h.1.0 h.0 (rings_aside h.1.0 h.0 deed h.1.2) in
       go_then w.puts w.takes s.rings h.0.rings t.rings
       (go_then w.puts w.takes s.rings h.1.0.rings h.0.rings (does_look deed s h.1.0 h.1.1) noted)
-      (log_looks log h.0 t h.2)
+      (log_looks jobs log h.0 t h.3)
 
-pub logs_look : {S : Type 0} (w : Ways S) (s t : TheRun S) (log : List Deed) → Goes w s log t → SidesGo w.puts w.takes s.rings t.rings
-logs_look w s t log h = log_looks w log s t h
+pub logs_look : {S : Type 0} (w : Ways S) (jobs : List Job) (s t : TheRun S) (log : List Deed) → Goes w jobs s log t → SidesGo w.puts w.takes s.rings t.rings
+logs_look w jobs s t log h = log_looks w jobs log s t h

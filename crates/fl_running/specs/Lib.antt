@@ -8,5 +8,8 @@ pub mod Words
 pub mod Finished
 pub mod Ran
 pub mod Logs
+pub mod Made
+pub mod Lending
+pub mod Carried
 -- This one only the proofs need.
 pub mod Inside

@@ -1,23 +1,37 @@
 -- A core's log: what happened there, event by event. Laws.
-use Rattle.std.specs.Prelude.{ℕ, ◌≡◌, ◌+◌, ◌≤◌, ◌==◌, if◌then◌else◌, List, [], ◌∷◌, ◌++◌, slice_get, Option, Some, None, IsSome}
+use Rattle.std.specs.Prelude.{ℕ, ◌≡◌, ◌+◌, ◌≤◌, ◌==◌, if◌then◌else◌, true, List, [], ◌∷◌, ◌++◌, slice_get, Option, Some, None, IsSome}
 use Rattle.fl_base.specs.declared.identity.EndId.{EndId}
 use Rattle.fl_value.specs.declared.value.Call.{Call}
+use Rattle.fl_value.specs.Value.{TheCall, call_of}
 use Rattle.fl_core.specs.declared.answer.TurnAnswer.{TurnAnswer}
 use Rattle.fl_core.specs.declared.answer.TurnAnswer.TheVariants.{Handle}
 use Rattle.fl_link.specs.Looks.{Look, Looks, LinkStep}
 use Rattle.fl_hop.specs.Stretch.{same_end}
 use Rattle.fl_monitor.specs.Routing.{given}
 use Rattle.fl_running.specs.declared.job.Job.{Job}
+use Rattle.fl_running.specs.declared.job.Job.TheVariants as job
 use Rattle.fl_running.specs.declared.plan.Plan.{Plan}
 use Rattle.fl_running.specs.Desks.{TheDesk, desk_place}
-use Rattle.fl_running.specs.Run.{Ways, TheRun}
-use Rattle.fl_running.specs.Deeds.{Deed, turned, Happens}
+use Rattle.fl_running.specs.Run.{Ways, TheRun, next_job}
+use Rattle.fl_running.specs.Deeds.{Deed, opened, called, turned, Happens}
+use Rattle.fl_running.specs.Steps.{may_ask}
 use Rattle.fl_running.specs.Turn.{Turned}
 
+-- the call of a job that is one
+abbrev pub calls_of_job : Option Job → List TheCall
+calls_of_job (Some (job.Call e call)) = call_of call ∷ []
+calls_of_job other = []
+
+-- what is done for a job is done for the next one of its end
+abbrev pub ByJob : {S : Type 0} → List Job → TheRun S → Deed → Type 0
+ByJob jobs s (called name c answer) = calls_of_job (next_job jobs s name) ≡ c ∷ []
+ByJob jobs s (opened name wish answer) = (next_job jobs s name ≡ Some (job.Open wish)) × (may_ask s wish ≡ true)
+ByJob jobs s deed = Unit {0}
+
 -- the events of a log, one after another
-abbrev pub Goes : {S : Type 0} → Ways S → TheRun S → List Deed → TheRun S → Type 0
-Goes w s [] t = t ≡ s
-Goes {S} w s (deed ∷ log) t = (m : TheRun S) × Happens w deed s m × Goes w m log t
+abbrev pub Goes : {S : Type 0} → Ways S → List Job → TheRun S → List Deed → TheRun S → Type 0
+Goes w jobs s [] t = t ≡ s
+Goes {S} w jobs s (deed ∷ log) t = (m : TheRun S) × Happens w deed s m × ByJob jobs s deed × Goes w jobs m log t
 
 -- how many calls the dispatcher of a place handled by one event, and in a log
 abbrev pub handled_by : ℕ → TurnAnswer → ℕ
@@ -33,14 +47,14 @@ handles d [] = 0
 handles d (deed ∷ log) = handles_in d deed + handles d log
 
 -- what happened from one moment to another, where no dispatcher handled more calls than this
-pub record Logged {S : Type 0} (w : Ways S) (most : ℕ → ℕ) (s t : TheRun S) : Type 0 where
+pub record Logged {S : Type 0} (w : Ways S) (jobs : List Job) (most : ℕ → ℕ) (s t : TheRun S) : Type 0 where
   pub log : List Deed
-  pub goes : Goes w s log t
+  pub goes : Goes w jobs s log t
   pub few : (d : ℕ) → handles d log ≤ most d
 
 -- all that changes a core in its turns is in a log, and no dispatcher handles more calls than turns were taken
 abbrev pub TurnsAreLogged : {S : Type 0} → Ways S → Type 0
-TurnsAreLogged {S} w = (plan : Plan) (jobs : List Job) (k : ℕ) (s t : TheRun S) → Turned w plan jobs k s t → Logged w (λ d. k) s t
+TurnsAreLogged {S} w = (plan : Plan) (jobs : List Job) (k : ℕ) (s t : TheRun S) → Turned w plan jobs k s t → Logged w jobs (λ d. k) s t
 
 -- ---- what came of it at the desks
 
@@ -67,8 +81,8 @@ handled_of s name = given (desk_place s.desks name) [] λ n. in_desk (slice_get 
 
 -- what a desk has as handled is just what its end handled
 abbrev pub DesksTellHandled : {S : Type 0} → Ways S → Type 0
-DesksTellHandled {S} w = (s t : TheRun S) (log : List Deed) (name : EndId) → IsSome (desk_place s.desks name) → Goes w s log t
-    → handled_of t name ≡ handled_of s name ++ handled_at name log
+DesksTellHandled {S} w = (jobs : List Job) (s t : TheRun S) (log : List Deed) (name : EndId) → IsSome (desk_place s.desks name)
+    → Goes w jobs s log t → handled_of t name ≡ handled_of s name ++ handled_at name log
 
 -- ---- sides
 
@@ -82,4 +96,4 @@ SidesGo {S} puts takes ps qs = (n : ℕ) (p : S) → slice_get ps n ≡ Some p �
 
 -- whatever happens at a core, its sides of rings change so
 abbrev pub LogsLook : {S : Type 0} → Ways S → Type 0
-LogsLook {S} w = (s t : TheRun S) (log : List Deed) → Goes w s log t → SidesGo w.puts w.takes s.rings t.rings
+LogsLook {S} w = (jobs : List Job) (s t : TheRun S) (log : List Deed) → Goes w jobs s log t → SidesGo w.puts w.takes s.rings t.rings

@@ -1,7 +1,7 @@
 -- A core's whole run: turns that are counted, and then turns that aren't.
 use Rattle.std.specs.Prelude.{ℕ, ◌≡◌, ◌+◌, ◌<◌, ◌≤◌, Bool, true, false, List}
 use Rattle.fl_tally.specs.declared.board.View.{View}
-use Rattle.fl_tally.specs.Tally.{with_finish, with_stop}
+use Rattle.fl_tally.specs.Tally.{with_finish, with_seen}
 use Rattle.fl_tally.specs.Seats.{TheSeat, knowing}
 use Rattle.fl_running.specs.declared.job.Job.{Job}
 use Rattle.fl_running.specs.declared.plan.Plan.{Plan}
@@ -10,8 +10,8 @@ use Rattle.fl_running.specs.declared.run.End.{End}
 use Rattle.fl_running.specs.declared.run.End.TheVariants.{Finished, Unfinished, Told}
 use Rattle.fl_running.specs.declared.run.Part.{Part}
 use Rattle.fl_running.specs.Run.{Ways, TheRun}
-use Rattle.fl_running.specs.Turn.{Turned}
-use Rattle.fl_running.specs.Words.{Stock, SaidNothing}
+use Rattle.fl_running.specs.Turn.{Swept, OneTurn, Turned}
+use Rattle.fl_running.specs.Words.{Stock, ExchangesAll, SaidNothing}
 use Rattle.fl_running.specs.Finished.{is_finished}
 
 abbrev pub ticket_of : Ticket → Stock
@@ -34,20 +34,41 @@ pub record Moment (S : Type 0) : Type 0 where
 abbrev pub moment : {S : Type 0} → TheRun S → Stock → Moment S
 moment run ticket = record { run = run; ticket = ticket }
 
--- ---- the parts of a run
+-- ---- counted turns
 
--- how counted turns came to an end: with nothing left to do; at the limit, with something left; or by a stop that was seen
-abbrev pub EndsAs : {S : Type 0} → Plan → ℕ → ℕ → End → Moment S → Type 0
-EndsAs plan limit turns Finished b = is_finished b.run plan.ends.items b.ticket.words ≡ true
-EndsAs plan limit turns Unfinished b = (turns ≡ limit) × (is_finished b.run plan.ends.items b.ticket.words ≡ false)
-EndsAs plan limit turns Told b = 16 < b.ticket.seat.knows.seen
+-- refusals are told and learned, and then something is left to do, or nothing is
+abbrev pub TakesStock : {S : Type 0} → Plan → Moment S → Stock → Bool → Type 0
+TakesStock plan a c finished = ExchangesAll a.run plan.ends.items a.ticket c × (is_finished a.run plan.ends.items c.words ≡ finished)
 
--- so many turns, no more than the limit
+-- the counter was looked at, and showed this
+abbrev pub Sees : Stock → ℕ → Stock → Type 0
+Sees c count d = (d.words ≡ c.words) × (d.seat ≡ knowing c.seat (with_seen c.seat.knows count))
+
+-- a turn that is counted: something was left to do, and no stop was seen
+pub record CountedTurn {S : Type 0} (w : Ways S) (t : Task) (a b : Moment S) : Type 0 where
+  pub stock : Stock
+  pub left : TakesStock t.plan a stock false
+  pub count : ℕ
+  pub sees : Sees stock count b.ticket
+  pub no_stop : count < 17
+  pub turn : OneTurn w t.plan t.jobs a.run b.run
+
+-- how they came to an end, after so many: with nothing left to do; at the limit, with something left; or by a stop that was seen
+abbrev pub EndsAs : {S : Type 0} → Task → ℕ → End → Moment S → Stock → Type 0
+EndsAs t turns Finished a c = TakesStock t.plan a c true
+EndsAs t turns Unfinished a c = (turns ≡ t.limit) × TakesStock t.plan a c false
+EndsAs t turns Told a d = (c : Stock) × (count : ℕ) × TakesStock t.plan a c false × Sees c count d × (16 < count)
+
+-- so many turns, no more than the limit; afterwards the core rests
 pub record Counted {S : Type 0} (w : Ways S) (t : Task) (a : Moment S) (part : Part) (b : Moment S) : Type 0 where
-  pub turned : Turned w t.plan t.jobs part.turns a.run b.run
+  pub after : Moment S
+  pub turns : Swept (λ n. CountedTurn w t) part.turns a after
   pub few : part.turns ≤ t.limit
-  pub ends : EndsAs t.plan t.limit part.turns part.end b
+  pub ends : EndsAs t part.turns part.end after b.ticket
+  pub rests : b.run ≡ after.run
   pub seat : SaidNothing a.ticket.seat b.ticket.seat
+
+-- ---- what follows
 
 -- what is told of the end: a core that finished or reached its limit counts 1
 abbrev pub TellsEnd : End → TheSeat → TheSeat → Type 0
@@ -73,3 +94,9 @@ pub record CoreRan {S : Type 0} (w : Ways S) (t : Task) (a : Moment S) (part : P
   pub tells : TellsEnd part.end middle.ticket.seat told
   pub goes_on : GoesOn w t part.end middle.run b.run
   pub after : SaidNothing told b.ticket.seat
+
+-- ---- law
+
+-- counted turns are turns
+abbrev pub CountedAreTurns : {S : Type 0} → Ways S → Type 0
+CountedAreTurns {S} w = (t : Task) (a b : Moment S) (part : Part) → Counted w t a part b → Turned w t.plan t.jobs part.turns a.run b.run

@@ -1,9 +1,14 @@
 //! What holds of turns, whatever the sides: laws, as the contracts of functions that do nothing.
 
 ghost use Rattle.fl_running.specs.Run.{ways};
+ghost use Rattle.fl_running.specs.Ran.{CountedAreTurns};
 ghost use Rattle.fl_running.specs.Logs.{TurnsAreLogged, DesksTellHandled, LogsLook};
+ghost use Rattle.fl_running.specs.Made.{LogsMakeJobs, DoneAreFirst};
+ghost use Rattle.fl_running.specs.Lending.{StaysLent, LentServes};
+ghost use Rattle.fl_running.specs.Carried.{LogsCarryQueues, LogsCarryEnds, SentAreMade, SentAreReplies};
 
-use fl_link::{PutSide, TakeSide};
+use fl_endpoint::{call_accounts, receive_accounts, write_accounts};
+use fl_link::{PutSide, QueueLink, TakeSide, queue_conserves};
 
 /// Whatever changes a core in its turns is an event of its log; and no dispatcher handles more calls than the core took turns. What a desk has as handled are
 /// just the calls that its end handled, in order.
@@ -12,7 +17,46 @@ pub fn turns_are_logged<S: PutSide + TakeSide>()
     ensures handled { DesksTellHandled (ways S.puts S.takes S.front) }
 {}
 
+/// The calls that an end made are those of its jobs, in order: just those that its desk has as done, which are the first of all that were handed in.
+pub fn jobs_are_made<S: PutSide + TakeSide>()
+    ensures made { LogsMakeJobs (ways S.puts S.takes S.front) }
+    ensures first { DoneAreFirst (ways S.puts S.takes S.front) }
+{}
+
 /// Whatever happens at a core, each of its sides of rings changes by looks, puts and takes alone.
 pub fn sides_go<S: PutSide + TakeSide>()
     ensures goes { LogsLook (ways S.puts S.takes S.front) }
+{}
+
+/// What came out through each queue of a core, local or of arrivals, is what went in, in order, up to what stands there.
+pub fn queues_carry<S: PutSide + TakeSide>()
+    ensures queues { LogsCarryQueues (ways S.puts S.takes S.front) }
+{
+    queue_conserves();
+}
+
+/// What an end put are the fragments of the calls that it made, and of the replies by its rules to those that it handled, in order, up to what is left to put;
+/// what it took reads as the calls that it handled, and a rest. An end without rules sends the calls that it made alone; one that made none sends the replies
+/// alone.
+pub fn ends_carry<S: PutSide + TakeSide>()
+    ensures ends { LogsCarryEnds (ways S.puts S.takes S.front) }
+    ensures made { SentAreMade }
+    ensures replies { SentAreReplies }
+{
+    call_accounts();
+    write_accounts::<S>();
+    write_accounts::<QueueLink>();
+    receive_accounts::<S>();
+    receive_accounts::<QueueLink>();
+}
+
+/// Where all sides and queues that a core's links and ends name are lent, they stay lent; and then no step is left out for want of one.
+pub fn sides_stay_lent<S: PutSide + TakeSide>()
+    ensures stay { StaysLent (ways S.puts S.takes S.front) }
+    ensures serve { LentServes (ways S.puts S.takes S.front) }
+{}
+
+/// The turns that a core counts are turns, so many.
+pub fn counted_are_turns<S: PutSide + TakeSide>()
+    ensures turns { CountedAreTurns (ways S.puts S.takes S.front) }
 {}

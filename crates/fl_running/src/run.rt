@@ -2,7 +2,7 @@
 
 ghost use Rattle.std.specs.Prelude.{◌≡◌, ◌+◌, ◌<◌, ◌≤◌, length, OnOk, IfOk, OnErr};
 ghost use Rattle.fl_running.specs.Run.{ways, run_of};
-ghost use Rattle.fl_running.specs.Words.{AreWords, SaidNothing};
+ghost use Rattle.fl_running.specs.Words.{AreWords, ExchangesAll, SaidNothing};
 ghost use Rattle.fl_running.specs.Finished.{is_finished};
 ghost use Rattle.fl_running.specs.Ran.{ticket_of, task, moment, Counted, SomeTurns, CoreRan};
 
@@ -43,6 +43,7 @@ fn take_stock<S>(run: &Running<S>, plan: &Plan, ticket: &mut Ticket) -> bool
     requires as_many { length ticket.old.words.items ≡ length plan.now.ends.items }
     requires may { AreWords ticket.old.words.items ticket.old.seat.knows }
     ensures finished { result ≡ is_finished (run_of run.now) plan.now.ends.items ticket.new.words.items }
+    ensures exchanges { ExchangesAll (run_of run.now) plan.now.ends.items (ticket_of ticket.old) (ticket_of ticket.new) }
     ensures seat { SaidNothing ticket.old.seat ticket.new.seat }
     ensures as_many { length ticket.new.words.items ≡ length plan.now.ends.items }
     ensures may { AreWords ticket.new.words.items ticket.new.seat.knows }
@@ -84,12 +85,16 @@ fn counted_turns<S: PutSide + TakeSide + Drop, G: Gate>(
         gate.before_turn(core);
         run.turn(plan, jobs)?;
     }
-    let end = if take_stock(run, plan, ticket) {
-        End::Finished
-    } else {
-        End::Unfinished
-    };
-    Ok(Part { turns: limit, end })
+    if take_stock(run, plan, ticket) {
+        return Ok(Part {
+            turns: limit,
+            end: End::Finished,
+        });
+    }
+    Ok(Part {
+        turns: limit,
+        end: End::Unfinished,
+    })
 }
 
 // Turns that aren't counted: until all cores have ended, or one stopped.

@@ -1,0 +1,62 @@
+use Rattle.std.proofs.Common.{refl, sym, subst, ◌∙◌, arith}
+use Rattle.fl_tally.specs.Seats.{TheSeat}
+use Rattle.fl_running.specs.Run.{ways, run_of}
+use Rattle.fl_running.specs.Words.{AreWords}
+use Rattle.fl_running.specs.Ran.{ticket_of, task, moment}
+use Rattle.fl_running.proofs.Stock.{seen_words, seen_quiet, quiet_then}
+use Rattle.fl_running.proofs.Counted.{counted_turn, one_turn_more, at_limit, counted_finished, counted_unfinished, counted_told}
+use Rattle.fl_running.proofs.run.counted_turns.Goals as goal
+
+pub loop-turns-preserved : goal.loop-turns-preserved
+loop-turns-preserved g c =
+    let w = ways g.S.PutSide.puts g.S.TakeSide.takes g.S.TakeSide.front in
+    let t = task c.args.plan.now c.args.jobs.now c.args.limit in
+    let first = moment (run_of c.args.run.now) (ticket_of c.args.ticket.now) in
+    let before = moment (run_of c.loop-turns.run) (ticket_of c.loop-turns.ticket) in
+    let few = c.if-ended-ge-STOP.false in
+    let below = c.loop-turns-test.true in
+    (
+      one_turn_more w t first before _ c.loop-turns.turns c.loop-turns.invariant.0
+          (counted_turn w t before c.take_stock.new.ticket.words.items c.take_stock.new.ticket.seat c.ended.new.self c.ended.result (run_of c.turn.new.self)
+          c.take_stock.ensures.exchanges (sym c.take_stock.ensures.finished ∙ c.if-take_stock.false) (omega (arith, few)) c.ended.ensures.seen c.in_ok-turn.ensures.turn),
+      c.take_stock.ensures.as_many,
+      subst (λ (s : TheSeat). AreWords c.take_stock.new.ticket.words.items s.knows) (sym c.ended.ensures.seen) (seen_words _ _ c.ended.result c.take_stock.ensures.may),
+      quiet_then _ _ _ (quiet_then _ _ _ c.loop-turns.invariant.3 c.take_stock.ensures.seat) (seen_quiet c.take_stock.new.ticket.seat c.ended.new.self c.ended.result c.ended.ensures.seen),
+      omega (arith, below),
+    )
+
+pub returns-then-take_stock-clause-counted : goal.returns-then-take_stock-clause-counted
+returns-then-take_stock-clause-counted g c =
+    counted_finished (ways g.S.PutSide.puts g.S.TakeSide.takes g.S.TakeSide.front) (task c.args.plan.now c.args.jobs.now c.args.limit)
+    (moment (run_of c.args.run.now) (ticket_of c.args.ticket.now)) (run_of c.loop-turns.run) (ticket_of c.loop-turns.ticket) c.loop-turns.turns
+    c.take_stock.new.ticket.words.items c.take_stock.new.ticket.seat c.loop-turns.invariant.0 c.loop-turns.invariant.4 c.take_stock.ensures.exchanges
+    (sym c.take_stock.ensures.finished ∙ c.if-take_stock.true) (quiet_then _ _ _ c.loop-turns.invariant.3 c.take_stock.ensures.seat)
+
+pub returns-then-ended-ge-STOP-clause-counted : goal.returns-then-ended-ge-STOP-clause-counted
+returns-then-ended-ge-STOP-clause-counted g c =
+    let stop = c.if-ended-ge-STOP.true in
+    counted_told (ways g.S.PutSide.puts g.S.TakeSide.takes g.S.TakeSide.front) (task c.args.plan.now c.args.jobs.now c.args.limit)
+    (moment (run_of c.args.run.now) (ticket_of c.args.ticket.now)) (run_of c.loop-turns.run) (ticket_of c.loop-turns.ticket) c.loop-turns.turns
+    c.take_stock.new.ticket.words.items c.take_stock.new.ticket.seat c.loop-turns.invariant.0 c.loop-turns.invariant.4 c.take_stock.ensures.exchanges
+    c.ended.new.self c.ended.result (sym c.take_stock.ensures.finished ∙ c.if-take_stock.false) (omega (arith, stop)) c.ended.ensures.seen
+    (quiet_then _ _ _ (quiet_then _ _ _ c.loop-turns.invariant.3 c.take_stock.ensures.seat) (seen_quiet c.take_stock.new.ticket.seat c.ended.new.self c.ended.result c.ended.ensures.seen))
+
+pub returns-then-take_stock-2-clause-counted : goal.returns-then-take_stock-2-clause-counted
+returns-then-take_stock-2-clause-counted g c =
+    let w = ways g.S.PutSide.puts g.S.TakeSide.takes g.S.TakeSide.front in
+    let t = task c.args.plan.now c.args.jobs.now c.args.limit in
+    let first = moment (run_of c.args.run.now) (ticket_of c.args.ticket.now) in
+    let past = c.loop-turns-test.false in
+    counted_finished w t first (run_of c.loop-turns.run) (ticket_of c.loop-turns.ticket) c.args.limit c.take_stock-2.new.ticket.words.items c.take_stock-2.new.ticket.seat
+    (at_limit w t first _ c.loop-turns.turns c.args.limit c.loop-turns.invariant.0 c.loop-turns.invariant.4 (omega (arith, past))) (omega arith) c.take_stock-2.ensures.exchanges
+    (sym c.take_stock-2.ensures.finished ∙ c.if-take_stock-2.true) (quiet_then _ _ _ c.loop-turns.invariant.3 c.take_stock-2.ensures.seat)
+
+pub returns-clause-counted : goal.returns-clause-counted
+returns-clause-counted g c =
+    let w = ways g.S.PutSide.puts g.S.TakeSide.takes g.S.TakeSide.front in
+    let t = task c.args.plan.now c.args.jobs.now c.args.limit in
+    let first = moment (run_of c.args.run.now) (ticket_of c.args.ticket.now) in
+    let past = c.loop-turns-test.false in
+    counted_unfinished w t first (run_of c.loop-turns.run) (ticket_of c.loop-turns.ticket) c.args.limit c.take_stock-2.new.ticket.words.items c.take_stock-2.new.ticket.seat
+    (at_limit w t first _ c.loop-turns.turns c.args.limit c.loop-turns.invariant.0 c.loop-turns.invariant.4 (omega (arith, past))) (omega arith) c.take_stock-2.ensures.exchanges
+    (sym c.take_stock-2.ensures.finished ∙ c.if-take_stock-2.false) refl (quiet_then _ _ _ c.loop-turns.invariant.3 c.take_stock-2.ensures.seat)
