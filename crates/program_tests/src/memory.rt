@@ -112,8 +112,8 @@ fn memory_is_refused(rt: HostRuntime) -> Result<(), Fail> {
     let mut writer = page.as_mut_slice();
     let room = writer.len();
     let outcome = exec::<World, _, _>(rt.alloc(), &mut reader, &mut writer);
-    let count = room - writer.len();
-    let written = &page[..count];
+    let count = room.saturating_sub(writer.len());
+    let written = page.get(..count).unwrap_or(b"");
     match outcome {
         Ok(()) => assert!(rt; written == TRANSCRIPT),
         Err(fault) => {
