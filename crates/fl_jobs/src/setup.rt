@@ -1,0 +1,125 @@
+//! Lines that set up interfaces, cores, links, dispatchers and services.
+
+ghost use Rattle.std.specs.Prelude.{◌≡◌};
+ghost use Rattle.fl_check.specs.Interface.{interface_of};
+ghost use Rattle.fl_queues.specs.Making.{is_ring_size};
+ghost use Rattle.fl_lines.specs.Events.{id_of};
+ghost use Rattle.fl_jobs.specs.Draft.{adds_interface, sets_cores, has_link, adds_link, adds_dispatcher, exports};
+ghost use Rattle.fl_jobs.specs.Verdicts.{Comes};
+ghost use Rattle.fl_jobs.specs.Views.{draft_of};
+
+use crate::draft::{Draft, Joint, Offer, Planned};
+use crate::stop::Stop;
+use fl_check::Interface;
+use fl_lines::{DispatcherId, Event};
+use fl_value::PlanNo;
+
+const MAX_CORES: u32 = 16;
+const MAX_INTERFACES: usize = 64;
+const MAX_DISPATCHERS: usize = 256;
+const MAX_SERVICES: usize = 256;
+
+// The sizes that rings can have.
+const RING_SIZES: [u32; 9] = [4, 8, 16, 32, 64, 128, 256, 512, 1024];
+
+// Whether a ring can have so many slots.
+pub(crate) fn is_ring_size(slots: u32) -> bool
+    ensures same { result ≡ is_ring_size slots }
+{
+    RING_SIZES.iter().any(|size| slots == *size)
+}
+
+impl<'a> Draft<'a> {
+    pub(crate) fn add_interface(&mut self, interface: Interface, plan: PlanNo) -> Result<(), Stop>
+        ensures comes { Comes result (draft_of self.new) (adds_interface (interface_of interface.entry) plan (draft_of self.old)) }
+    {
+        if self.interfaces.as_slice().len() >= MAX_INTERFACES {
+            return Err(Stop::Refused(94));
+        }
+        let kept = interface.duplicate(self.alloc)?;
+        self.interfaces.push(Planned {
+            interface: kept,
+            plan,
+        })?;
+        self.setup.push(Event::AddInterface { interface, plan })?;
+        Ok(())
+    }
+
+    pub(crate) fn set_cores(&mut self, n: u32) -> Result<(), Stop>
+        ensures comes { Comes result (draft_of self.new) (sets_cores n (draft_of self.old)) }
+    {
+        if self.settled {
+            return Err(Stop::Refused(93));
+        }
+        if n < 1 || n > MAX_CORES {
+            return Err(Stop::Refused(94));
+        }
+        self.settled = true;
+        self.cores = n;
+        Ok(())
+    }
+
+    // Whether a link joins two cores.
+    pub(crate) fn has_link(&self, a: u32, b: u32) -> bool
+        ensures same { result ≡ has_link a b (draft_of self.now) }
+    {
+        self.links.iter().any(|joint| {
+            joint.first == a && joint.second == b || joint.first == b && joint.second == a
+        })
+    }
+
+    pub(crate) fn add_link(&mut self, a: u32, b: u32, slots: u32) -> Result<(), Stop>
+        ensures comes { Comes result (draft_of self.new) (adds_link a b slots (draft_of self.old)) }
+    {
+        if !(self.is_core(a) && self.is_core(b)) || a == b || self.has_link(a, b) {
+            return Err(Stop::Refused(73));
+        }
+        if !is_ring_size(slots) {
+            return Err(Stop::Refused(32));
+        }
+        self.links.push(Joint {
+            first: a,
+            second: b,
+        })?;
+        self.put_event(Event::AddLink { a, b, slots })
+    }
+
+    pub(crate) fn add_dispatcher(&mut self, core: u32) -> Result<(), Stop>
+        ensures comes { Comes result (draft_of self.new) (adds_dispatcher core (draft_of self.old)) }
+    {
+        if self.dispatchers >= MAX_DISPATCHERS {
+            return Err(Stop::Refused(94));
+        }
+        if !self.is_core(core) {
+            return Err(Stop::Refused(73));
+        }
+        self.dispatchers += 1;
+        self.put_event(Event::AddDispatcher(core))
+    }
+
+    pub(crate) fn export(
+        &mut self,
+        name: &'a [u8],
+        dispatcher: DispatcherId,
+        interface: usize,
+    ) -> Result<(), Stop>
+        ensures comes { Comes result (draft_of self.new) (exports name.now (id_of dispatcher) interface (draft_of self.old)) }
+    {
+        if self.services.find(name).is_some() {
+            return Err(Stop::Refused(71));
+        }
+        if self.offers.as_slice().len() >= MAX_SERVICES {
+            return Err(Stop::Refused(94));
+        }
+        self.services.add(self.alloc, name)?;
+        self.offers.push(Offer {
+            dispatcher,
+            interface,
+        })?;
+        self.put_event(Event::Export {
+            name,
+            dispatcher,
+            interface,
+        })
+    }
+}
