@@ -139,5 +139,9 @@ Follows (item ∷ items) line r o = (v : Verdict Reading) × Does r item v × Be
 abbrev pub is_too_long : List ℕ → Bool
 is_too_long bytes = nat_lt 1048576 (length bytes)
 
+-- what the rest of a text comes to, which begins at this line
+abbrev pub ReadsFrom : Reading → ℕ → List ℕ → Outcome → Type 0
+ReadsFrom r line bytes o = (items : List Item) × ItemsOf bytes items × Follows items line r o
+
 abbrev pub Reads : List ℕ → Outcome → Type 0
-Reads bytes o = MatchBool (is_too_long bytes) (o ≡ refused_at 1 91) ((items : List Item) × ItemsOf bytes items × Follows items 1 beginning o)
+Reads bytes o = MatchBool (is_too_long bytes) (o ≡ refused_at 1 91) (ReadsFrom beginning 1 bytes o)

@@ -5,3 +5,5 @@ pub mod CoresFile
 pub mod Report
 pub mod Printed
 pub mod Views
+pub mod Files
+pub mod Reports

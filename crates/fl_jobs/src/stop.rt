@@ -6,7 +6,7 @@ ghost use Rattle.fl_jobs.specs.declared.stop.Stop.TheVariants.{Memory as OutOfMe
 ghost use Rattle.fl_jobs.specs.Verdicts.{stop_of};
 
 use fl_lines::LineFault;
-use std::alloc::AllocError;
+use std::alloc::{AllocError, AllocFailed};
 use thiserror::Error;
 
 /// Why the reading of a cores file stops at a line.
@@ -24,6 +24,14 @@ impl From<AllocError> for Stop {
     ghost from_gives = { λ _ e. e ≡ OutOfMemory };
 
     fn from(_e: AllocError) -> Stop {
+        Stop::Memory
+    }
+}
+
+impl<T: Drop> From<AllocFailed<T>> for Stop {
+    ghost from_gives = { λ _ e. e ≡ OutOfMemory };
+
+    fn from(_e: AllocFailed<T>) -> Stop {
         Stop::Memory
     }
 }
