@@ -145,3 +145,9 @@ ReadsFrom r line bytes o = (items : List Item) × ItemsOf bytes items × Follows
 
 abbrev pub Reads : List ℕ → Outcome → Type 0
 Reads bytes o = MatchBool (is_too_long bytes) (o ≡ refused_at 1 91) (ReadsFrom beginning 1 bytes o)
+
+-- ---- the law
+
+-- a text comes to one thing alone
+abbrev pub OneOutcome : Type 0
+OneOutcome = (bytes : List ℕ) (a b : Outcome) → Reads bytes a → Reads bytes b → a ≡ b

@@ -1,7 +1,7 @@
 -- What the lines of a cores file come to, so far: the cores and what is set up on them, and the jobs. What each line asks
 -- is refused, or joins them. The refusals stand in the order in which they are answered.
 use Rattle.std.specs.Prelude.{ℕ, ◌+◌, ◌-◌, ◌==◌, ◌||◌, ◌&&◌, nat_le, nat_lt, not, Bool, true, false, if◌then◌else◌}
-use Rattle.std.specs.Prelude.{List, [], ◌∷◌, ◌++◌, length, slice_get, slice_index, Option, Some, None}
+use Rattle.std.specs.Prelude.{List, [], ◌∷◌, ◌++◌, length, slice_get, slice_index, Option, Some, None, bytes_eq}
 use Rattle.std.specs.List.{count_by, list_all, list_any}
 use Rattle.fl_base.specs.declared.identity.EndId.{EndId}
 use Rattle.fl_base.specs.declared.identity.Side.{Side}
@@ -57,8 +57,8 @@ pub record Draft : Type 0 where
   pub cores : ℕ
   pub interfaces : List Planned
   pub links : List Joint
-  -- how many dispatchers there are
-  pub dispatchers : ℕ
+  -- the core of each dispatcher
+  pub dispatchers : List ℕ
   -- services by name, and who offers each
   pub services : List (List ℕ)
   pub offers : List Offer
@@ -76,7 +76,7 @@ nothing_yet = record {
   cores = 1;
   interfaces = [];
   links = [];
-  dispatchers = 0;
+  dispatchers = [];
   services = [];
   offers = [];
   seats = [];
@@ -95,9 +95,13 @@ with_job job d = record d { settled = true; jobs = d.jobs ++ job ∷ [] }
 
 -- ---- interfaces, cores, links, dispatchers, services
 
+abbrev pub has_interface : List ℕ → Draft → Bool
+has_interface name d = list_any (λ (i : Planned). bytes_eq name i.interface.name) d.interfaces
+
 abbrev pub adds_interface : TheInterface → PlanNo → Draft → Verdict Draft
 adds_interface i plan d =
-    if nat_le most_interfaces (length d.interfaces) then stops 94
+    if has_interface i.name d then stops 92
+    else if nat_le most_interfaces (length d.interfaces) then stops 94
     else goes_on (record d {
       interfaces = d.interfaces ++ record { interface = i; plan = plan } ∷ [];
       setup = d.setup ++ add_interface i plan ∷ [];
@@ -127,16 +131,24 @@ adds_link a b size d =
 
 abbrev pub adds_dispatcher : ℕ → Draft → Verdict Draft
 adds_dispatcher core d =
-    if nat_le most_dispatchers d.dispatchers then stops 94
+    if nat_le most_dispatchers (length d.dispatchers) then stops 94
     else if not (is_core core d) then stops 73
-    else goes_on (with_event (add_dispatcher core) (record d { dispatchers = d.dispatchers + 1 }))
+    else goes_on (with_event (add_dispatcher core) (record d { dispatchers = d.dispatchers ++ core ∷ [] }))
+
+-- there is such a dispatcher: those of a core have the places from 0
+abbrev pub is_dispatcher : DispatcherId → Draft → Bool
+is_dispatcher x d = nat_lt x.place (count_by (λ core. core == x.core) d.dispatchers)
+
+abbrev pub is_interface : ℕ → Draft → Bool
+is_interface i d = nat_lt i (length d.interfaces)
 
 abbrev pub with_offer : List ℕ → Offer → Draft → Draft
 with_offer name offer d = record d { services = d.services ++ name ∷ []; offers = d.offers ++ offer ∷ [] }
 
 abbrev pub exports : List ℕ → DispatcherId → ℕ → Draft → Verdict Draft
 exports name dispatcher i d =
-    if is_taken name d.services then stops 71
+    if not (is_dispatcher dispatcher d && is_interface i d) then stops 92
+    else if is_taken name d.services then stops 71
     else if nat_le most_services (length d.offers) then stops 94
     else
     let offer : Offer = record { dispatcher = dispatcher; interface = i } in
@@ -211,7 +223,8 @@ offer_of name d = given (place_of name d.services) None λ place. slice_get d.of
 
 abbrev pub binds : DispatcherId → ℕ → List ℕ → Kind → Draft → Verdict Draft
 binds client i name kind d =
-    if nat_le most_bindings (length d.bindings) then stops 94
+    if not (is_dispatcher client d && is_interface i d) then stops 92
+    else if nat_le most_bindings (length d.bindings) then stops 94
     else given (offer_of name d) (stops 70) λ offer.
     if not (offer.interface == i) then stops 72
     else binds_by (record { client = client; server = offer.dispatcher; interface = i; service = name }) kind d

@@ -89,7 +89,7 @@ impl<'a> Draft<'a> {
 
     // Whether there are places for both ends.
     fn has_both_places(&self, want: Wanted<'a>) -> bool
-        ensures same { result ≡ has_both_places (wanted_of want) (draft_of self.now) }
+        ensures same { result ≡ has_both_places (wanted_of want.entry) (draft_of self.now) }
     {
         if is_same(want.client, want.server) {
             return self.has_places(2, want.client);
@@ -112,7 +112,7 @@ impl<'a> Draft<'a> {
     // A binding more before the cores run.
     fn set_up(&mut self, want: Wanted<'a>, back_end: BackEnd<'a>) -> Result<(), Stop>
         ensures set_up { Comes result (draft_of self.new)
-            (goes_on (with_set_up (wanted_of want) (kind_of (back_end_of back_end)) (draft_of self.old))) }
+            (goes_on (with_set_up (wanted_of want.entry) (kind_of (back_end_of back_end.entry)) (draft_of self.old))) }
     {
         self.seats.push(want.client)?;
         self.seats.push(want.server)?;
@@ -126,7 +126,7 @@ impl<'a> Draft<'a> {
     }
 
     fn bind_by_queues(&mut self, want: Wanted<'a>, slots: u32) -> Result<(), Stop>
-        ensures comes { Comes result (draft_of self.new) (binds_by_queues (wanted_of want) slots (draft_of self.old)) }
+        ensures comes { Comes result (draft_of self.new) (binds_by_queues (wanted_of want.entry) slots (draft_of self.old)) }
     {
         if want.client.core != want.server.core {
             return Err(Stop::Refused(73));
@@ -141,7 +141,7 @@ impl<'a> Draft<'a> {
     }
 
     fn bind_by_ring(&mut self, want: Wanted<'a>, slots: u32) -> Result<(), Stop>
-        ensures comes { Comes result (draft_of self.new) (binds_by_ring (wanted_of want) slots (draft_of self.old)) }
+        ensures comes { Comes result (draft_of self.new) (binds_by_ring (wanted_of want.entry) slots (draft_of self.old)) }
     {
         if want.client.core == want.server.core {
             return Err(Stop::Refused(73));
@@ -157,7 +157,7 @@ impl<'a> Draft<'a> {
 
     // Whether a circuit can go along these cores, as far as its first link.
     fn is_route(&self, want: Wanted<'a>, route: &[u32]) -> bool
-        ensures same { result ≡ is_route (wanted_of want) route.now (draft_of self.now) }
+        ensures same { result ≡ is_route (wanted_of want.entry) route.now (draft_of self.now) }
     {
         let count = route.len();
         count >= 2
@@ -170,7 +170,7 @@ impl<'a> Draft<'a> {
     }
 
     fn bind_by_route(&mut self, want: Wanted<'a>, route: Vec<u32>) -> Result<(), Stop>
-        ensures comes { Comes result (draft_of self.new) (binds_by_route (wanted_of want) route.items (draft_of self.old)) }
+        ensures comes { Comes result (draft_of self.new) (binds_by_route (wanted_of want.entry) route.items (draft_of self.old)) }
     {
         if !self.is_route(want, &route) {
             return Err(Stop::Refused(73));
@@ -186,7 +186,7 @@ impl<'a> Draft<'a> {
 
     fn bind_by_hops(&mut self, want: Wanted<'a>, route: Route<'a>) -> Result<(), Stop>
         ensures comes { Comes result (draft_of self.new)
-            (binds_by_route (wanted_of want) (route.first ∷ numbers_in route.others.now) (draft_of self.old)) }
+            (binds_by_route (wanted_of want.entry) (route.entry.first ∷ numbers_in route.entry.others.now) (draft_of self.old)) }
     {
         let cores = route.cores(self.alloc)?;
         self.bind_by_route(want, cores)
@@ -194,7 +194,7 @@ impl<'a> Draft<'a> {
 
     fn bind_by(&mut self, want: Wanted<'a>, back_end: BackEnd<'a>) -> Result<(), Stop>
         ensures comes { Comes result (draft_of self.new)
-            (binds_by (wanted_of want) (kind_of (back_end_of back_end)) (draft_of self.old)) }
+            (binds_by (wanted_of want.entry) (kind_of (back_end_of back_end.entry)) (draft_of self.old)) }
     {
         match back_end {
             BackEnd::Local(slots) => self.bind_by_queues(want, slots),
@@ -224,8 +224,11 @@ impl<'a> Draft<'a> {
         back_end: BackEnd<'a>,
     ) -> Result<(), Stop>
         ensures comes { Comes result (draft_of self.new)
-            (binds (id_of client) interface service.now (kind_of (back_end_of back_end)) (draft_of self.old)) }
+            (binds (id_of client) interface service.now (kind_of (back_end_of back_end.entry)) (draft_of self.old)) }
     {
+        if !(self.is_dispatcher(client) && self.is_interface(interface)) {
+            return Err(Stop::Refused(92));
+        }
         if self.bindings.as_slice().len() >= MAX_BINDINGS {
             return Err(Stop::Refused(94));
         }

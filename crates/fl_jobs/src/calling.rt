@@ -126,7 +126,7 @@ impl<'a> Draft<'a> {
     }
 
     pub(crate) fn call(&mut self, end: EndId, call: Call) -> Result<(), Stop>
-        ensures comes { Comes result (draft_of self.new) (makes_call end (call_of call.entry) (draft_of self.old)) }
+        ensures comes { Comes result (draft_of self.new) (makes_call end (call_of call) (draft_of self.old)) }
     {
         if let Some(number) = self.call_fault(end, &call) {
             return Err(Stop::Refused(number));

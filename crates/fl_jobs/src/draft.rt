@@ -61,8 +61,8 @@ pub struct Draft<'a> {
     pub cores: u32,
     pub interfaces: Vec<Planned>,
     pub links: Vec<Joint>,
-    /// How many dispatchers there are.
-    pub dispatchers: usize,
+    /// The core of each dispatcher.
+    pub dispatchers: Vec<u32>,
     pub services: NameTable,
     /// Of each service, who offers it.
     pub offers: Vec<Offer>,
@@ -87,7 +87,7 @@ impl<'a> Draft<'a> {
             cores: 1,
             interfaces: Vec::new(alloc),
             links: Vec::new(alloc),
-            dispatchers: 0,
+            dispatchers: Vec::new(alloc),
             services: NameTable::new(alloc),
             offers: Vec::new(alloc),
             seats: Vec::new(alloc),

@@ -1,6 +1,6 @@
 //! A cores file that was read.
 
-ghost use Rattle.std.specs.Prelude.{◌≡◌, map, IfOk};
+ghost use Rattle.std.specs.Prelude.{◌≡◌, ◌≤◌, count_by, length, not, map, IfOk};
 ghost use Rattle.fl_jobs.specs.CoresFile.{which_opened, numbers_of, numbered, end_by, job_by, file_of};
 ghost use Rattle.fl_jobs.specs.Files.{file_from, reading_of};
 ghost use Rattle.fl_jobs.specs.Views.{bound_of, job_of};

@@ -1,7 +1,7 @@
 //! Cores files: what the lines of one set up and hand in, and the report of its run.
 //!
 //! Contract for the layer above: [`read_cores_text`] gives what a text comes to (`specs/CoresFile.antt`): how many cores run, what is asked for before
-//! they do, and their jobs; or the first line that is refused. [`print_report`] writes the text of a report (`specs/Printed.antt`), which is honest or
+//! they do, and their jobs; or the first line that is refused. A text comes to one thing alone ([`one_outcome`]). [`print_report`] writes the text of a report (`specs/Printed.antt`), which is honest or
 //! not by `specs/Report.antt`.
 //!
 //! - `job.rt`: jobs
@@ -11,6 +11,7 @@
 //! - `report.rt`: reports
 //! - `printing.rt`: what is printed
 //! - `stop.rt`: why the reading stops
+//! - `law.rt`: the law
 #![tactic(auto)]
 
 mod binding;
@@ -18,6 +19,7 @@ mod calling;
 mod draft;
 mod file;
 mod job;
+mod law;
 mod printing;
 mod reading;
 mod report;
@@ -28,6 +30,7 @@ pub use binding::Wanted;
 pub use draft::{Bound, Draft, Joint, Offer, Planned, Use};
 pub use file::{CoresFile, CoresText, numbered};
 pub use job::{Job, Wish};
+pub use law::one_outcome;
 pub use printing::{print_refusal, print_report};
 pub use reading::{MAX_TEXT, Reading, read_cores_text};
 pub use report::{BothEnds, Ending, Report};

@@ -91,7 +91,7 @@ impl<'a> Reading<'a> {
     }
 
     fn command(&mut self, command: Command<'a>) -> Result<(), Stop>
-        ensures comes { ComesTo result (reading_of self.new) (DoesCommand (reading_of self.old) (command_of command)) }
+        ensures comes { ComesTo result (reading_of self.new) (DoesCommand (reading_of self.old) (command_of command.entry)) }
     {
         if !belongs(&command) {
             return Err(Stop::Refused(90));
@@ -101,7 +101,7 @@ impl<'a> Reading<'a> {
     }
 
     fn interface(&mut self, interface: Interface, plan: PlanNo) -> Result<(), Stop>
-        ensures comes { Comes result (reading_of self.new) (does_block (reading_of self.old) plan (stands_for (interface_of interface.entry))) }
+        ensures comes { Comes result (reading_of self.new) (does_block (reading_of self.old) plan (stands_for (interface_of interface))) }
     {
         let asked = self.names.ask_interface(interface, plan);
         self.take_asked(asked)
@@ -117,7 +117,7 @@ impl<'a> Reading<'a> {
     }
 
     fn line(&mut self, line: Line<'a>) -> Result<(), Stop>
-        ensures comes { ComesTo result (reading_of self.new) (Does (reading_of self.old) (a_line (line_of line))) }
+        ensures comes { ComesTo result (reading_of self.new) (Does (reading_of self.old) (a_line (line_of line.entry))) }
     {
         match line {
             Line::Silent => Ok(()),
@@ -131,7 +131,7 @@ impl<'a> Reading<'a> {
     /// # Errors
     /// The item is refused, or memory was refused; nothing is told of the reading then.
     pub fn item(&mut self, item: Item<'a>) -> Result<(), Stop>
-        ensures comes { ComesTo result (reading_of self.new) (Does (reading_of self.old) (item_of item)) }
+        ensures comes { ComesTo result (reading_of self.new) (Does (reading_of self.old) (item_of item.entry)) }
     {
         match item {
             Item::Line(line) => self.line(line),

@@ -1,10 +1,12 @@
 //! Lines that set up interfaces, cores, links, dispatchers and services.
 
-ghost use Rattle.std.specs.Prelude.{◌≡◌};
+ghost use Rattle.std.specs.Prelude.{◌≡◌, ◌==◌};
+ghost use Rattle.std.specs.List.{count_by};
 ghost use Rattle.fl_check.specs.Interface.{interface_of};
 ghost use Rattle.fl_queues.specs.Making.{is_ring_size};
 ghost use Rattle.fl_lines.specs.Events.{id_of};
-ghost use Rattle.fl_jobs.specs.Draft.{adds_interface, sets_cores, has_link, adds_link, adds_dispatcher, exports};
+ghost use Rattle.fl_jobs.specs.Draft.{has_interface, is_dispatcher, is_interface, adds_interface, sets_cores};
+ghost use Rattle.fl_jobs.specs.Draft.{has_link, adds_link, adds_dispatcher, exports};
 ghost use Rattle.fl_jobs.specs.Verdicts.{Comes};
 ghost use Rattle.fl_jobs.specs.Views.{draft_of};
 
@@ -29,10 +31,49 @@ pub(crate) fn is_ring_size(slots: u32) -> bool
     RING_SIZES.iter().any(|size| slots == *size)
 }
 
+// How many of these are the core.
+fn count_core(core: u32, cores: &[u32]) -> usize
+    ensures count { result ≡ count_by (λ one. one == core) cores.now }
+{
+    let mut count = 0;
+    for one in cores {
+        if *one == core {
+            count += 1;
+        }
+    }
+    count
+}
+
 impl<'a> Draft<'a> {
-    pub(crate) fn add_interface(&mut self, interface: Interface, plan: PlanNo) -> Result<(), Stop>
-        ensures comes { Comes result (draft_of self.new) (adds_interface (interface_of interface.entry) plan (draft_of self.old)) }
+    // Whether there is an interface of a name.
+    fn has_interface(&self, name: &[u8]) -> bool
+        ensures same { result ≡ has_interface name.now (draft_of self.now) }
     {
+        self.interfaces
+            .iter()
+            .any(|planned| name == planned.interface.name.bytes.as_slice())
+    }
+
+    // Whether there is such a dispatcher.
+    pub(crate) fn is_dispatcher(&self, dispatcher: DispatcherId) -> bool
+        ensures same { result ≡ is_dispatcher (id_of dispatcher) (draft_of self.now) }
+    {
+        dispatcher.place < count_core(dispatcher.core, &self.dispatchers)
+    }
+
+    // Whether there is an interface at a place.
+    pub(crate) fn is_interface(&self, place: usize) -> bool
+        ensures same { result ≡ is_interface place (draft_of self.now) }
+    {
+        place < self.interfaces.as_slice().len()
+    }
+
+    pub(crate) fn add_interface(&mut self, interface: Interface, plan: PlanNo) -> Result<(), Stop>
+        ensures comes { Comes result (draft_of self.new) (adds_interface (interface_of interface) plan (draft_of self.old)) }
+    {
+        if self.has_interface(&interface.name.bytes) {
+            return Err(Stop::Refused(92));
+        }
         if self.interfaces.as_slice().len() >= MAX_INTERFACES {
             return Err(Stop::Refused(94));
         }
@@ -87,13 +128,13 @@ impl<'a> Draft<'a> {
     pub(crate) fn add_dispatcher(&mut self, core: u32) -> Result<(), Stop>
         ensures comes { Comes result (draft_of self.new) (adds_dispatcher core (draft_of self.old)) }
     {
-        if self.dispatchers >= MAX_DISPATCHERS {
+        if self.dispatchers.as_slice().len() >= MAX_DISPATCHERS {
             return Err(Stop::Refused(94));
         }
         if !self.is_core(core) {
             return Err(Stop::Refused(73));
         }
-        self.dispatchers += 1;
+        self.dispatchers.push(core)?;
         self.put_event(Event::AddDispatcher(core))
     }
 
@@ -105,6 +146,9 @@ impl<'a> Draft<'a> {
     ) -> Result<(), Stop>
         ensures comes { Comes result (draft_of self.new) (exports name.now (id_of dispatcher) interface (draft_of self.old)) }
     {
+        if !(self.is_dispatcher(dispatcher) && self.is_interface(interface)) {
+            return Err(Stop::Refused(92));
+        }
         if self.services.find(name).is_some() {
             return Err(Stop::Refused(71));
         }

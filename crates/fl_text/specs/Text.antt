@@ -25,3 +25,13 @@ LexedMeans (lexed tokens) outcome = (found : ParseOutcome) × Parses tokens foun
 
 abbrev pub TextMeans : List ℕ → TextOutcome → Type 0
 TextMeans bytes outcome = (found : LexOutcome) × Lexes bytes found × LexedMeans found outcome
+
+-- ---- the laws
+
+-- each byte string stands for an interface or has a fault
+abbrev pub SomeText : Type 0
+SomeText = (bytes : List ℕ) → (outcome : TextOutcome) × TextMeans bytes outcome
+
+-- and it is one of these alone
+abbrev pub OneText : Type 0
+OneText = (bytes : List ℕ) (a b : TextOutcome) → TextMeans bytes a → TextMeans bytes b → a ≡ b

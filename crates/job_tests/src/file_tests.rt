@@ -85,9 +85,7 @@ fn told(alloc: Global, text: &[u8]) -> Result<Option<(u32, Vec<u8>, Vec<usize>)>
 // p and r are set up, so they are bindings 0 and 1; q and t are opened, 2 and 3.
 #[test]
 fn bindings_that_are_set_up_come_first(rt: HostRuntime) -> Result<(), Fail> {
-    let Some((cores, out, numbers)) = told(rt.alloc(), MIXED)? else {
-        return Err(Fail);
-    };
+    let (cores, out, numbers) = told(rt.alloc(), MIXED)?.ok_or("a line is refused")?;
     assert_eq!(rt; cores, 2);
     assert_eq!(rt; out.as_slice(), b"ilddebb os os r1s c2c c1c c3s".as_slice());
     assert_eq!(rt; numbers.as_slice(), [0, 2, 1, 3].as_slice());
@@ -96,9 +94,7 @@ fn bindings_that_are_set_up_come_first(rt: HostRuntime) -> Result<(), Fail> {
 
 #[test]
 fn a_text_without_lines_is_one_core(rt: HostRuntime) -> Result<(), Fail> {
-    let Some((cores, out, numbers)) = told(rt.alloc(), b"# nothing\n")? else {
-        return Err(Fail);
-    };
+    let (cores, out, numbers) = told(rt.alloc(), b"# nothing\n")?.ok_or("a line is refused")?;
     assert_eq!(rt; cores, 1);
     assert_eq!(rt; (out.len(), numbers.len()), (0, 0));
     Ok(())

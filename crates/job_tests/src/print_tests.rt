@@ -85,9 +85,7 @@ fn printed(alloc: Global, text: &[u8], report: &Report) -> Result<Option<Vec<u8>
 #[test]
 fn a_report_goes_by_names(rt: HostRuntime) -> Result<(), Fail> {
     let report = report(rt.alloc(), Ending::Complete)?;
-    let Some(out) = printed(rt.alloc(), FILE, &report)? else {
-        return Err(Fail);
-    };
+    let out = printed(rt.alloc(), FILE, &report)?.ok_or("a line is refused")?;
     assert_eq!(rt; out.as_slice(), WANTED);
     Ok(())
 }
@@ -95,9 +93,7 @@ fn a_report_goes_by_names(rt: HostRuntime) -> Result<(), Fail> {
 #[test]
 fn a_report_of_nothing_tells_its_end(rt: HostRuntime) -> Result<(), Fail> {
     let report = report(rt.alloc(), Ending::TurnsOut)?;
-    let Some(out) = printed(rt.alloc(), b"", &report)? else {
-        return Err(Fail);
-    };
+    let out = printed(rt.alloc(), b"", &report)?.ok_or("a line is refused")?;
     assert_eq!(rt; out.as_slice(), b"turns out\n".as_slice());
     Ok(())
 }
