@@ -1,11 +1,18 @@
 -- How many lines the items of a text have; and what the rest of a text comes to.
-use Rattle.std.proofs.Common.{◌≡◌, ◌≤◌, ◌+◌, ◌*◌, ◌==◌, ◌++◌, ℕ, Bool, true, false, if◌then◌else◌, List, [], ◌∷◌, length, inl, inr, refl, sym, subst, arith, cond}
+use Rattle.std.proofs.Common.{◌≡◌, ◌≤◌, ◌+◌, ◌*◌, ◌==◌, ◌++◌, ℕ, Bool, true, false, ◌∙◌, ap, if◌then◌else◌, List, [], ◌∷◌, length, inl, inr, refl, sym, subst, arith, cond}
+use Rattle.std.specs.Prelude.{IfOk, Result, Ok, Err}
+use Rattle.std.specs.declared.alloc.AllocError.{AllocError}
+use Rattle.std.specs.Bool.{MatchBool}
 use Rattle.std.specs.List.{count_by}
 use Rattle.std.proofs.lemmas.List.Sums.{sum_by-cons, sum_by-append}
 use Rattle.fl_lines.specs.Grammar.{Line, silent, heading, command, unread}
 use Rattle.fl_lines.specs.Items.{Item, a_line, a_block, open_block, put_first, lines_of, Mode, outside, inside, Behind, Items, ItemsOf, SomeItems}
-use Rattle.fl_jobs.specs.CoresFile.{Reading, Outcome, refused_at, is_file, file_of, lines_in, Does, Follows, ReadsFrom}
-use Rattle.fl_jobs.specs.Verdicts.{Verdict, stops, goes_on}
+use Rattle.fl_jobs.specs.declared.stop.Stop.{Stop}
+use Rattle.fl_jobs.specs.declared.stop.Stop.TheVariants.{Refused, Memory}
+use Rattle.fl_jobs.specs.declared.file.CoresText.{CoresText}
+use Rattle.fl_jobs.specs.CoresFile.{Reading, beginning, CoresFile, Outcome, refused_at, is_file, file_of, lines_in, Does, ReadsFrom, is_too_long, Reads}
+use Rattle.fl_jobs.specs.Files.{outcome_of}
+use Rattle.fl_jobs.specs.Verdicts.{stops, goes_on, ComesTo}
 
 -- line feeds
 abbrev pub feeds : List ℕ → ℕ
@@ -86,3 +93,31 @@ read_stop r line fault bytes rest item some joins does =
 pub read_end : (r : Reading) (line : ℕ) (bytes : List ℕ) → length bytes ≡ 0 → ReadsFrom r line bytes (is_file (file_of r))
 read_end r line [] e = ([], refl, refl)
 read_end r line (b ∷ bytes) e = absurd (omega (arith, e))
+
+-- ---- what a stop and an end tell
+
+reads_by : (text : List ℕ) (o : Outcome) → is_too_long text ≡ false → ReadsFrom beginning 1 text o → Reads text o
+reads_by text o short h = by (is_too_long text) short h where
+  by : (t : Bool) → t ≡ false → ReadsFrom beginning 1 text o → MatchBool t (o ≡ refused_at 1 91) (ReadsFrom beginning 1 text o)
+  by true e k = absurd (cc)
+  by false e k = k
+
+pub refused_there : (r : Reading) (after : Reading) (line : ℕ) (bytes rest text : List ℕ) (item : Item) (stop : Stop) (result : Result CoresText AllocError)
+    → SomeItems → ((items : List Item) → ItemsOf rest items → ItemsOf bytes (item ∷ items)) → ComesTo {T = Unit {0}} (Err stop) after (Does r item)
+    → ((o : Outcome) → ReadsFrom r line bytes o → ReadsFrom beginning 1 text o)
+    → IfOk result (λ t. (number : ℕ) × (stop ≡ Refused number) × (outcome_of t ≡ refused_at line number))
+    → is_too_long text ≡ false → IfOk result (λ t. Reads text (outcome_of t))
+refused_there r after line bytes rest text item (Refused n) (Err e) some joins does whole h short = tt
+refused_there r after line bytes rest text item Memory (Err e) some joins does whole h short = tt
+refused_there r after line bytes rest text item Memory (Ok t) some joins does whole h short = absurd (let e : Memory ≡ Refused h.0 = h.1 in cc)
+refused_there r after line bytes rest text item (Refused n) (Ok t) some joins does whole h short =
+    let e : Refused n ≡ Refused h.0 = h.1 in
+    let same : n ≡ h.0 = cc in
+    let there = read_stop r line n bytes rest item some joins does in
+    let told : outcome_of t ≡ refused_at line n = h.2 ∙ ap (refused_at line) (sym same) in
+    reads_by text (outcome_of t) short (subst (λ (o : Outcome). ReadsFrom beginning 1 text o) (sym told) (whole (refused_at line n) there))
+
+pub read_to_end : (r : Reading) (line : ℕ) (rest text : List ℕ) (file : CoresFile) → length rest ≡ 0 → file ≡ file_of r
+    → ((o : Outcome) → ReadsFrom r line rest o → ReadsFrom beginning 1 text o) → is_too_long text ≡ false → Reads text (is_file file)
+read_to_end r line rest text file none is whole short =
+    reads_by text (is_file file) short (subst (λ (f : CoresFile). ReadsFrom beginning 1 text (is_file f)) (sym is) (whole (is_file (file_of r)) (read_end r line rest none)))

@@ -75,8 +75,12 @@ numbers_from next_set_up next_opened (true ∷ bindings) = next_opened ∷ numbe
 abbrev pub which_opened : List Bound → List Bool
 which_opened bindings = map (λ (b : Bound). b.is_opened) bindings
 
+-- how many of these are set up
+abbrev pub count_set_up : List Bool → ℕ
+count_set_up bindings = count_by not bindings
+
 abbrev pub numbers_of : List Bool → List ℕ
-numbers_of bindings = numbers_from 0 (count_by not bindings) bindings
+numbers_of bindings = numbers_from 0 (count_set_up bindings) bindings
 
 abbrev pub numbered : List ℕ → ℕ → ℕ
 numbered numbers place = unwrap_or (slice_get numbers place) place

@@ -1,6 +1,7 @@
 //! Lines that hand in calls and set reply rules.
 
-ghost use Rattle.std.specs.Prelude.{◌≡◌};
+ghost use Rattle.std.specs.Prelude.{◌≡◌, map};
+ghost use Rattle.fl_queues.specs.Given.{changed_at};
 ghost use Rattle.fl_value.specs.Value.{call_of};
 ghost use Rattle.fl_jobs.specs.Draft.{use_at, with_use, change_use, is_for_calls, is_for_rules};
 ghost use Rattle.fl_jobs.specs.Draft.{call_fault, rule_fault, fault_at, makes_call, sets_rule};
@@ -90,13 +91,20 @@ fn rule_fault(
     None
 }
 
+#[tactic(auto, using(crate::proofs::Lists::map_put, crate::proofs::Lists::map_past))]
+fn put_use_at(bindings: &mut Vec<Bound>, end: EndId, what: Use)
+    ensures put { map bound_of bindings.new.items ≡ changed_at end.binding (with_use end.side (use_from what)) (map bound_of bindings.old.items) }
+{
+    if let Some(binding) = bindings.get_mut(end.binding) {
+        binding.put_use(end.side, what);
+    }
+}
+
 impl<'a> Draft<'a> {
     fn put_use(&mut self, end: EndId, what: Use)
         ensures put { draft_of self.new ≡ change_use end (use_from what) (draft_of self.old) }
     {
-        if let Some(binding) = self.bindings.get_mut(end.binding) {
-            binding.put_use(end.side, what);
-        }
+        put_use_at(&mut self.bindings, end, what);
     }
 
     // The fault for which a call is refused.

@@ -1,7 +1,7 @@
 //! A cores file that was read.
 
-ghost use Rattle.std.specs.Prelude.{◌≡◌, ◌≤◌, count_by, length, not, map, IfOk};
-ghost use Rattle.fl_jobs.specs.CoresFile.{which_opened, numbers_of, numbered, end_by, job_by, file_of};
+ghost use Rattle.std.specs.Prelude.{◌≡◌, ◌≤◌, length, map, IfOk};
+ghost use Rattle.fl_jobs.specs.CoresFile.{which_opened, count_set_up, numbers_of, numbered, end_by, job_by, file_of};
 ghost use Rattle.fl_jobs.specs.Files.{file_from, reading_of};
 ghost use Rattle.fl_jobs.specs.Views.{bound_of, job_of};
 
@@ -40,7 +40,7 @@ pub enum CoresText<'a> {
 
 // How many of these bindings are set up.
 fn count_set_up(bindings: &[Bound]) -> usize
-    ensures count { result ≡ count_by not (which_opened (map bound_of bindings.now)) }
+    ensures count { result ≡ count_set_up (which_opened (map bound_of bindings.now)) }
     ensures few { result ≤ length bindings.now }
 {
     let mut count = 0;

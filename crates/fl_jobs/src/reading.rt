@@ -1,6 +1,6 @@
 //! A cores file read line by line.
 
-ghost use Rattle.std.specs.Prelude.{◌≡◌, ◌≤◌, ◌==◌, Err, IfOk, false, length};
+ghost use Rattle.std.specs.Prelude.{ℕ, ◌≡◌, ◌≤◌, ◌==◌, Err, IfOk, false, length};
 ghost use Rattle.std.specs.List.{count_by};
 ghost use Rattle.fl_check.specs.Interface.{interface_of};
 ghost use Rattle.fl_lines.specs.Asked.{Asked as TheAsked, asks};
@@ -9,7 +9,8 @@ ghost use Rattle.fl_lines.specs.Items.{a_line, a_block};
 ghost use Rattle.fl_lines.specs.Told.{names_of, named, IsNew, Tells};
 ghost use Rattle.fl_lines.specs.Views.{command_of, line_of, item_of};
 ghost use Rattle.fl_text.specs.Text.{stands_for};
-ghost use Rattle.fl_jobs.specs.CoresFile.{beginning, belongs, Does, does, does_block, DoesCommand, lines_in, is_too_long, Reads};
+ghost use Rattle.fl_jobs.specs.CoresFile.{beginning, belongs, Does, does, does_block, DoesCommand, lines_in};
+ghost use Rattle.fl_jobs.specs.CoresFile.{refused_at, is_too_long, Reads};
 ghost use Rattle.fl_jobs.specs.Files.{reading_of, outcome_of};
 ghost use Rattle.fl_jobs.specs.Verdicts.{Comes, ComesTo};
 
@@ -73,7 +74,9 @@ impl<'a> Reading<'a> {
         ensures comes { Comes result (reading_of self.new)
             (does (reading_of self.old) (asks (event_of asked.entry.event) (named (names_of self.old.names) asked.entry.naming))) }
     {
-        self.draft.take(asked.event)?;
+        if let Err(stop) = self.draft.take(asked.event) {
+            return Err(stop);
+        }
         self.names.take_up(asked.naming, &Answer::Done)?;
         Ok(())
     }
@@ -90,6 +93,7 @@ impl<'a> Reading<'a> {
         }
     }
 
+    #[tactic(auto, using(crate::proofs::Comings::command_comes))]
     fn command(&mut self, command: Command<'a>) -> Result<(), Stop>
         ensures comes { ComesTo result (reading_of self.new) (DoesCommand (reading_of self.old) (command_of command.entry)) }
     {
@@ -100,6 +104,7 @@ impl<'a> Reading<'a> {
         self.take_asked(asked)
     }
 
+    #[tactic(auto, using(crate::proofs::Comings::interface_comes))]
     fn interface(&mut self, interface: Interface, plan: PlanNo) -> Result<(), Stop>
         ensures comes { Comes result (reading_of self.new) (does_block (reading_of self.old) plan (stands_for (interface_of interface))) }
     {
@@ -107,6 +112,7 @@ impl<'a> Reading<'a> {
         self.take_asked(asked)
     }
 
+    #[tactic(auto, using(crate::proofs::Comings::block_comes))]
     fn block(&mut self, plan: PlanNo, text: &[u8]) -> Result<(), Stop>
         ensures comes { ComesTo result (reading_of self.new) (Does (reading_of self.old) (a_block plan text.now)) }
     {
@@ -165,6 +171,16 @@ fn lines_in(item: &Item<'_>) -> usize
     }
 }
 
+// A line that is refused; without a number it is want of memory.
+fn refuse<'a>(line: usize, stop: Stop) -> Result<CoresText<'a>, AllocError>
+    ensures refused { IfOk result (λ t. (number : ℕ) × (stop ≡ Stop.Refused number) × (outcome_of t ≡ refused_at line number)) }
+{
+    match stop {
+        Stop::Refused(number) => Ok(CoresText::Refused { line, number }),
+        Stop::Memory => Err(AllocError),
+    }
+}
+
 // Reads items to the end, or to the first that is refused.
 fn read_items<'a>(alloc: Global, text: &'a [u8]) -> Result<CoresText<'a>, AllocError>
     requires short { is_too_long text.now ≡ false }
@@ -177,10 +193,8 @@ fn read_items<'a>(alloc: Global, text: &'a [u8]) -> Result<CoresText<'a>, AllocE
     while !rest.is_empty() {
         let (item, behind) = next_item(rest);
         let lines = lines_in(&item);
-        match reading.item(item) {
-            Ok(()) => {}
-            Err(Stop::Refused(number)) => return Ok(CoresText::Refused { line, number }),
-            Err(Stop::Memory) => return Err(AllocError),
+        if let Err(stop) = reading.item(item) {
+            return refuse(line, stop);
         }
         line += lines;
         rest = behind;

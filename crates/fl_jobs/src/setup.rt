@@ -1,14 +1,14 @@
 //! Lines that set up interfaces, cores, links, dispatchers and services.
 
-ghost use Rattle.std.specs.Prelude.{◌≡◌, ◌==◌};
-ghost use Rattle.std.specs.List.{count_by};
+ghost use Rattle.std.specs.Prelude.{◌≡◌, ◌==◌, bytes_eq};
+ghost use Rattle.std.specs.List.{count_by, list_any};
 ghost use Rattle.fl_check.specs.Interface.{interface_of};
 ghost use Rattle.fl_queues.specs.Making.{is_ring_size};
 ghost use Rattle.fl_lines.specs.Events.{id_of};
 ghost use Rattle.fl_jobs.specs.Draft.{has_interface, is_dispatcher, is_interface, adds_interface, sets_cores};
-ghost use Rattle.fl_jobs.specs.Draft.{has_link, adds_link, adds_dispatcher, exports};
+ghost use Rattle.fl_jobs.specs.Draft.{joins, has_link, adds_link, adds_dispatcher, exports};
 ghost use Rattle.fl_jobs.specs.Verdicts.{Comes};
-ghost use Rattle.fl_jobs.specs.Views.{draft_of};
+ghost use Rattle.fl_jobs.specs.Views.{planned_of, joint_of, draft_of};
 
 use crate::draft::{Draft, Joint, Offer, Planned};
 use crate::stop::Stop;
@@ -21,14 +21,43 @@ const MAX_INTERFACES: usize = 64;
 const MAX_DISPATCHERS: usize = 256;
 const MAX_SERVICES: usize = 256;
 
-// The sizes that rings can have.
-const RING_SIZES: [u32; 9] = [4, 8, 16, 32, 64, 128, 256, 512, 1024];
+// Whether a number is among these.
+fn is_among(number: u32, sizes: &[u32]) -> bool
+    ensures any { result ≡ list_any (λ size. number == size) sizes.now }
+{
+    sizes.iter().any(|size| number == *size)
+}
 
 // Whether a ring can have so many slots.
 pub(crate) fn is_ring_size(slots: u32) -> bool
     ensures same { result ≡ is_ring_size slots }
 {
-    RING_SIZES.iter().any(|size| slots == *size)
+    is_among(slots, &[4, 8, 16, 32, 64, 128, 256, 512, 1024])
+}
+
+// Whether a link is of these two cores.
+fn joins(joint: &Joint, a: u32, b: u32) -> bool
+    ensures same { result ≡ joins a b (joint_of joint.now) }
+{
+    joint.first == a && joint.second == b || joint.first == b && joint.second == a
+}
+
+fn any_joins(links: &[Joint], a: u32, b: u32) -> bool
+    ensures any { result ≡ list_any (λ joint. joins a b (joint_of joint)) links.now }
+{
+    links.iter().any(|joint| joins(joint, a, b))
+}
+
+fn is_named(planned: &Planned, name: &[u8]) -> bool
+    ensures same { result ≡ bytes_eq name.now (planned_of planned.now).interface.name }
+{
+    name == planned.interface.name.bytes.as_slice()
+}
+
+fn any_named(interfaces: &[Planned], name: &[u8]) -> bool
+    ensures any { result ≡ list_any (λ planned. bytes_eq name.now (planned_of planned).interface.name) interfaces.now }
+{
+    interfaces.iter().any(|planned| is_named(planned, name))
 }
 
 // How many of these are the core.
@@ -46,12 +75,11 @@ fn count_core(core: u32, cores: &[u32]) -> usize
 
 impl<'a> Draft<'a> {
     // Whether there is an interface of a name.
+    #[tactic(auto, using(crate::proofs::Lists::any_map))]
     fn has_interface(&self, name: &[u8]) -> bool
         ensures same { result ≡ has_interface name.now (draft_of self.now) }
     {
-        self.interfaces
-            .iter()
-            .any(|planned| name == planned.interface.name.bytes.as_slice())
+        any_named(&self.interfaces, name)
     }
 
     // Whether there is such a dispatcher.
@@ -101,12 +129,11 @@ impl<'a> Draft<'a> {
     }
 
     // Whether a link joins two cores.
+    #[tactic(auto, using(crate::proofs::Lists::any_map))]
     pub(crate) fn has_link(&self, a: u32, b: u32) -> bool
         ensures same { result ≡ has_link a b (draft_of self.now) }
     {
-        self.links.iter().any(|joint| {
-            joint.first == a && joint.second == b || joint.first == b && joint.second == a
-        })
+        any_joins(&self.links, a, b)
     }
 
     pub(crate) fn add_link(&mut self, a: u32, b: u32, slots: u32) -> Result<(), Stop>

@@ -1,5 +1,4 @@
-use Rattle.std.proofs.Common.{◌≡◌, ◌≤◌, ◌+◌, ◌++◌, length, map, not, take, drop}
-use Rattle.std.specs.List.{count_by}
+use Rattle.std.proofs.Common.{◌≡◌, ◌≤◌, ◌+◌, ◌++◌, length, map, drop}
 use Rattle.fl_jobs.specs.CoresFile.{which_opened, numbers_from, numbers_of}
 use Rattle.fl_jobs.specs.Views.{bound_of}
 use Rattle.fl_jobs.proofs.file.number_bindings.Given as goal
