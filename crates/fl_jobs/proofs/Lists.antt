@@ -2,6 +2,7 @@
 use Rattle.std.proofs.Common.{◌≡◌, ◌∙◌, refl, sym, ap, ℕ, zero, suc, ◌||◌, Bool, List, [], ◌∷◌, map, slice_get, slice_set, Option, Some, None}
 use Rattle.std.specs.List.{list_any}
 use Rattle.fl_queues.specs.Given.{given, changed_at}
+use Rattle.fl_jobs.specs.CoresFile.{Reading, CoresFile, which_opened, numbers_of, job_by, file_by, file_of}
 
 pub any_map : {X Y : Type 0} (p : Y → Bool) (f : X → Y) (xs : List X) → list_any p (map f xs) ≡ list_any (λ x. p (f x)) xs
 any_map p f [] = refl
@@ -24,3 +25,11 @@ pub map_past : {X Y : Type 0} (v : X → Y) (f : Y → Y) (xs : List X) (n : ℕ
 map_past v f [] n e = refl
 map_past v f (z ∷ xs) zero e = absurd (cc)
 map_past v f (z ∷ xs) (suc n) e = ap (λ ys. v z ∷ ys) (map_past v f xs n e) ∙ sym (later f (v z) (map v xs) n (slice_get (map v xs) n))
+
+-- ---- a file, with bindings numbered
+
+pub file_as : (r : Reading) (f : CoresFile) → f.cores ≡ r.draft.cores → f.setup ≡ r.draft.setup → f.jobs ≡ map (job_by f.numbers) r.draft.jobs
+    → f.names ≡ r.names → f.numbers ≡ numbers_of (which_opened r.draft.bindings) → f ≡ file_of r
+file_as r f c s j n m =
+    let same : f ≡ file_by f.numbers r = cc in
+    same ∙ ap (λ (ns : List ℕ). file_by ns r) m

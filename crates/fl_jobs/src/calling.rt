@@ -1,6 +1,6 @@
 //! Lines that hand in calls and set reply rules.
 
-ghost use Rattle.std.specs.Prelude.{◌≡◌, map};
+ghost use Rattle.std.specs.Prelude.{◌≡◌, ◌<◌, length, map, slice_set};
 ghost use Rattle.fl_queues.specs.Given.{changed_at};
 ghost use Rattle.fl_value.specs.Value.{call_of};
 ghost use Rattle.fl_jobs.specs.Draft.{use_at, with_use, change_use, is_for_calls, is_for_rules};
@@ -39,12 +39,18 @@ impl Bound {
         }
     }
 
-    fn put_use(&mut self, side: Side, what: Use)
-        ensures put { bound_of self.new ≡ with_use side (use_from what) (bound_of self.old) }
+    fn with_use(self, side: Side, what: Use) -> Bound
+        ensures put { bound_of result ≡ with_use side (use_from what) (bound_of self) }
     {
         match side {
-            Side::Client => self.client = what,
-            Side::Server => self.server = what,
+            Side::Client => Bound {
+                client: what,
+                ..self
+            },
+            Side::Server => Bound {
+                server: what,
+                ..self
+            },
         }
     }
 }
@@ -91,12 +97,20 @@ fn rule_fault(
     None
 }
 
+fn set_bound(bindings: &mut Vec<Bound>, place: usize, bound: Bound)
+    requires within { place < length bindings.old.items }
+    ensures set { bindings.new.items ≡ slice_set bindings.old.items place bound }
+{
+    bindings[place] = bound;
+}
+
 #[tactic(auto, using(crate::proofs::Lists::map_put, crate::proofs::Lists::map_past))]
 fn put_use_at(bindings: &mut Vec<Bound>, end: EndId, what: Use)
     ensures put { map bound_of bindings.new.items ≡ changed_at end.binding (with_use end.side (use_from what)) (map bound_of bindings.old.items) }
 {
-    if let Some(binding) = bindings.get_mut(end.binding) {
-        binding.put_use(end.side, what);
+    match bindings.get(end.binding).copied() {
+        None => {}
+        Some(bound) => set_bound(bindings, end.binding, bound.with_use(end.side, what)),
     }
 }
 
