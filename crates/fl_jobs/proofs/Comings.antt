@@ -7,17 +7,16 @@ use Rattle.fl_text.specs.Text.{TextOutcome, stands_for, TextMeans}
 use Rattle.fl_value.specs.declared.value.PlanNo.{PlanNo}
 use Rattle.fl_lines.specs.declared.event.Asked.{Asked as RustAsked}
 use Rattle.fl_lines.specs.declared.fault.LineFault.{LineFault}
-use Rattle.fl_lines.specs.declared.fault.LineFault.TheVariants.{NotACall, Name, NoSuchMessage, Memory as NoMemory}
+use Rattle.fl_lines.specs.declared.fault.LineFault.TheVariants.{Memory as NoMemory}
 use Rattle.fl_lines.specs.Asked.{Asked, asks, Asks, asks_interface}
 use Rattle.fl_lines.specs.Commands.{Command}
 use Rattle.fl_lines.specs.Events.{event_of}
-use Rattle.fl_lines.specs.Faults.{refusal_of}
 use Rattle.fl_lines.specs.Items.{a_block}
 use Rattle.fl_lines.specs.Told.{named, Tells, AsksAs}
 use Rattle.fl_jobs.specs.declared.stop.Stop.{Stop}
 use Rattle.fl_jobs.specs.declared.stop.Stop.TheVariants.{Refused, Memory}
 use Rattle.fl_jobs.specs.CoresFile.{Reading, belongs, does, does_block, DoesCommand, Does}
-use Rattle.fl_jobs.specs.Verdicts.{Verdict, stops, goes_on, Comes, ComesTo, stop_of}
+use Rattle.fl_jobs.specs.Verdicts.{Verdict, stops, goes_on, Comes, ComesTo}
 
 pub comes_to : {A T : Type 0} (result : Result T Stop) (left : A) (P : Verdict A → Type 0) (v : Verdict A) → P v → Comes result left v → ComesTo result left P
 comes_to (Ok x) left P v p h = subst P h p
@@ -56,10 +55,3 @@ block_comes r plan text result new outcome means h = comes_to result new (Does r
 pub asked_told : {T : Type 0} (r : Reading) (a : RustAsked) (result : Result T Stop) (new : Reading)
     → Comes result new (does r (asks (event_of a.event) (named r.names a.naming))) → (x : Asked) → Tells r.names (Ok a) x → Comes result new (does r x)
 asked_told r a result new h x told = subst (λ (y : Asked). Comes result new (does r y)) told h
-
-pub stop_told : {T : Type 0} (r : Reading) (fault : LineFault) (new : Reading) (x : Asked) → Tells r.names (Err fault) x
-    → Comes {T = T} (Err (stop_of (refusal_of fault))) new (does r x)
-stop_told {T} r NotACall new x told = subst (λ (y : Asked). Comes {T = T} (Err (Refused 90)) new (does r y)) told refl
-stop_told {T} r Name new x told = subst (λ (y : Asked). Comes {T = T} (Err (Refused 92)) new (does r y)) told refl
-stop_told {T} r NoSuchMessage new x told = subst (λ (y : Asked). Comes {T = T} (Err (Refused 41)) new (does r y)) told refl
-stop_told r NoMemory new x told = tt

@@ -4,6 +4,7 @@ use Rattle.std.specs.Prelude.{IfOk, Result, Ok, Err}
 use Rattle.std.specs.declared.alloc.AllocError.{AllocError}
 use Rattle.std.specs.Bool.{MatchBool}
 use Rattle.std.specs.List.{count_by}
+use Rattle.std.proofs.lemmas.Bool.Decides.{nat_tests}
 use Rattle.std.proofs.lemmas.List.Sums.{sum_by-cons, sum_by-append}
 use Rattle.fl_lines.specs.Grammar.{Line, silent, heading, command, unread}
 use Rattle.fl_lines.specs.Items.{Item, a_line, a_block, open_block, put_first, lines_of, Mode, outside, inside, Behind, Items, ItemsOf, SomeItems}
@@ -82,13 +83,13 @@ few_lines bytes items h = let k = few (lines_of bytes) outside items h in let w 
 pub read_more : (r r2 : Reading) (line : ℕ) (bytes rest : List ℕ) (item : Item) (o : Outcome)
     → ((items : List Item) → ItemsOf rest items → ItemsOf bytes (item ∷ items)) → Does r item (goes_on r2)
     → ReadsFrom r2 (line + lines_in item) rest o → ReadsFrom r line bytes o
-read_more r r2 line bytes rest item o joins does (items, h, f) = (item ∷ items, joins items h, goes_on r2, does, f)
+read_more r r2 line bytes rest item o joins does (items, h, f) = (item ∷ items, joins items h, (goes_on r2, does, f))
 
 pub read_stop : (r : Reading) (line fault : ℕ) (bytes rest : List ℕ) (item : Item) → SomeItems
     → ((items : List Item) → ItemsOf rest items → ItemsOf bytes (item ∷ items)) → Does r item (stops fault)
     → ReadsFrom r line bytes (refused_at line fault)
 read_stop r line fault bytes rest item some joins does =
-    let h = some rest in (item ∷ h.0, joins h.0 h.1, stops fault, does, refl)
+    let h = some rest in (item ∷ h.0, joins h.0 h.1, (stops fault, does, refl))
 
 pub read_end : (r : Reading) (line : ℕ) (bytes : List ℕ) → length bytes ≡ 0 → ReadsFrom r line bytes (is_file (file_of r))
 read_end r line [] e = ([], refl, refl)
@@ -102,15 +103,15 @@ reads_by text o short h = by (is_too_long text) short h where
   by true e k = absurd (cc)
   by false e k = k
 
-pub refused_there : (r : Reading) (after : Reading) (line : ℕ) (bytes rest text : List ℕ) (item : Item) (stop : Stop) (result : Result CoresText AllocError)
-    → SomeItems → ((items : List Item) → ItemsOf rest items → ItemsOf bytes (item ∷ items)) → ComesTo {T = Unit {0}} (Err stop) after (Does r item)
+pub refused_there : (T : Type 0) (r : Reading) (after : Reading) (line : ℕ) (bytes rest text : List ℕ) (item : Item) (stop : Stop) (result : Result CoresText AllocError)
+    → SomeItems → ((items : List Item) → ItemsOf rest items → ItemsOf bytes (item ∷ items)) → ComesTo {T = T} (Err stop) after (Does r item)
     → ((o : Outcome) → ReadsFrom r line bytes o → ReadsFrom beginning 1 text o)
     → IfOk result (λ t. (number : ℕ) × (stop ≡ Refused number) × (outcome_of t ≡ refused_at line number))
     → is_too_long text ≡ false → IfOk result (λ t. Reads text (outcome_of t))
-refused_there r after line bytes rest text item (Refused n) (Err e) some joins does whole h short = tt
-refused_there r after line bytes rest text item Memory (Err e) some joins does whole h short = tt
-refused_there r after line bytes rest text item Memory (Ok t) some joins does whole h short = absurd (let e : Memory ≡ Refused h.0 = h.1 in cc)
-refused_there r after line bytes rest text item (Refused n) (Ok t) some joins does whole h short =
+refused_there T r after line bytes rest text item (Refused n) (Err e) some joins does whole h short = tt
+refused_there T r after line bytes rest text item Memory (Err e) some joins does whole h short = tt
+refused_there T r after line bytes rest text item Memory (Ok t) some joins does whole h short = absurd (let e : Memory ≡ Refused h.0 = h.1 in cc)
+refused_there T r after line bytes rest text item (Refused n) (Ok t) some joins does whole h short =
     let e : Refused n ≡ Refused h.0 = h.1 in
     let same : n ≡ h.0 = cc in
     let there = read_stop r line n bytes rest item some joins does in
@@ -121,3 +122,28 @@ pub read_to_end : (r : Reading) (line : ℕ) (rest text : List ℕ) (file : Core
     → ((o : Outcome) → ReadsFrom r line rest o → ReadsFrom beginning 1 text o) → is_too_long text ≡ false → Reads text (is_file file)
 read_to_end r line rest text file none is whole short =
     reads_by text (is_file file) short (subst (λ (f : CoresFile). ReadsFrom beginning 1 text (is_file f)) (sym is) (whole (is_file (file_of r)) (read_end r line rest none)))
+
+-- ---- the number of a line
+
+short_text : (text : List ℕ) → is_too_long text ≡ false → length text ≤ 1048576
+short_text text e = grind (arith, nat_tests, e)
+
+pub line_more : (line lines : ℕ) (text bytes rest : List ℕ) (item : Item) → ((items : List Item) → ItemsOf bytes items → line + total items ≤ 1 + 2 * length text)
+    → ((items : List Item) → ItemsOf rest items → ItemsOf bytes (item ∷ items)) → lines ≡ lines_in item
+    → (items : List Item) → ItemsOf rest items → line + lines + total items ≤ 1 + 2 * length text
+line_more line lines text bytes rest item most joins e items h = let k = most (item ∷ items) (joins items h) in omega (arith, k, e)
+
+pub line_fits : (line lines : ℕ) (text bytes rest : List ℕ) (item : Item) → SomeItems → is_too_long text ≡ false
+    → ((items : List Item) → ItemsOf bytes items → line + total items ≤ 1 + 2 * length text)
+    → ((items : List Item) → ItemsOf rest items → ItemsOf bytes (item ∷ items)) → lines ≡ lines_in item → line + lines ≤ 2097153
+line_fits line lines text bytes rest item some short most joins e =
+    let h = some rest in
+    let k = line_more line lines text bytes rest item most joins e h.0 h.1 in
+    let s = short_text text short in
+    omega (arith, k, s)
+
+pub read_line : (r r2 : Reading) (line lines : ℕ) (bytes rest text : List ℕ) (item : Item) → ((o : Outcome) → ReadsFrom r line bytes o → ReadsFrom beginning 1 text o)
+    → ((items : List Item) → ItemsOf rest items → ItemsOf bytes (item ∷ items)) → Does r item (goes_on r2) → lines ≡ lines_in item
+    → (o : Outcome) → ReadsFrom r2 (line + lines) rest o → ReadsFrom beginning 1 text o
+read_line r r2 line lines bytes rest text item whole joins does e o h =
+    whole o (read_more r r2 line bytes rest item o joins does (subst (λ (n : ℕ). ReadsFrom r2 (line + n) rest o) e h))

@@ -1,8 +1,13 @@
 -- Lists seen by a function of their elements.
-use Rattle.std.proofs.Common.{◌≡◌, ◌∙◌, refl, sym, ap, ℕ, zero, suc, ◌||◌, Bool, List, [], ◌∷◌, map, slice_get, slice_set, Option, Some, None}
-use Rattle.std.specs.List.{list_any}
+use Rattle.std.proofs.Common.{◌≡◌, ◌∙◌, refl, sym, ap, ℕ, zero, suc, ◌+◌, ◌||◌, ◌++◌, arith, Bool, List, [], ◌∷◌, map, slice_get, slice_set, Option, Some, None}
+use Rattle.std.specs.List.{list_any, flat_map, range_with_len}
+use Rattle.std.proofs.lemmas.List.{append-nil}
+use Rattle.std.proofs.lemmas.List.Concat.{flat_map-append, flat_map-cons}
+use Rattle.std.proofs.lemmas.List.Folds.{flat_map-map}
+use Rattle.std.proofs.lemmas.List.FromFn.{map-range_with_len_more}
 use Rattle.fl_queues.specs.Given.{given, changed_at}
 use Rattle.fl_jobs.specs.CoresFile.{Reading, CoresFile, which_opened, numbers_of, job_by, file_by, file_of}
+use Rattle.fl_jobs.specs.Jobs.{Job}
 
 pub any_map : {X Y : Type 0} (p : Y → Bool) (f : X → Y) (xs : List X) → list_any p (map f xs) ≡ list_any (λ x. p (f x)) xs
 any_map p f [] = refl
@@ -28,8 +33,20 @@ map_past v f (z ∷ xs) (suc n) e = ap (λ ys. v z ∷ ys) (map_past v f xs n e)
 
 -- ---- a file, with bindings numbered
 
-pub file_as : (r : Reading) (f : CoresFile) → f.cores ≡ r.draft.cores → f.setup ≡ r.draft.setup → f.jobs ≡ map (job_by f.numbers) r.draft.jobs
-    → f.names ≡ r.names → f.numbers ≡ numbers_of (which_opened r.draft.bindings) → f ≡ file_of r
-file_as r f c s j n m =
-    let same : f ≡ file_by f.numbers r = cc in
-    same ∙ ap (λ (ns : List ℕ). file_by ns r) m
+abbrev pub with_parts : Reading → List Job → List ℕ → CoresFile
+with_parts r jobs numbers = record { cores = r.draft.cores; setup = r.draft.setup; jobs = jobs; names = r.names; numbers = numbers }
+
+pub file_is : (r : Reading) (numbers : List ℕ) (jobs : List Job) → numbers ≡ numbers_of (which_opened r.draft.bindings)
+    → jobs ≡ map (job_by numbers) r.draft.jobs → with_parts r jobs numbers ≡ file_of r
+file_is r numbers jobs e h = ap (λ (js : List Job). with_parts r js numbers) h ∙ ap (λ (ns : List ℕ). file_by ns r) e
+
+-- ---- one rank more
+
+pub one_rank_more : (f : ℕ → List ℕ) (n : ℕ) → flat_map f (range_with_len 0 (n + 1)) ≡ flat_map f (range_with_len 0 n) ++ f n
+one_rank_more f n =
+    let g : List ℕ → List ℕ = λ t. t in
+    let last : flat_map g (f n ∷ []) ≡ f n = flat_map-cons g (f n) [] ∙ append-nil (f n) in
+    sym (flat_map-map g f (range_with_len 0 (n + 1)))
+    ∙ (ap (flat_map g) (map-range_with_len_more f 0 n n (omega arith))
+    ∙ (flat_map-append g (map f (range_with_len 0 n)) (f n ∷ [])
+    ∙ (ap (λ (t : List ℕ). t ++ flat_map g (f n ∷ [])) (flat_map-map g f (range_with_len 0 n)) ∙ ap (λ (t : List ℕ). flat_map f (range_with_len 0 n) ++ t) last)))

@@ -1,5 +1,5 @@
 -- What is printed of a cores file: the line that is refused, or the report of its run.
-use Rattle.std.specs.Prelude.{ℕ, ◌==◌, nat_lt, Bool, true, false, if◌then◌else◌, List, [], ◌∷◌, ◌++◌, length, slice_get}
+use Rattle.std.specs.Prelude.{ℕ, ◌==◌, nat_lt, Bool, true, false, if◌then◌else◌, List, [], ◌∷◌, ◌++◌, map, length, slice_get}
 use Rattle.std.specs.Prelude.{position, Option, codes}
 use Rattle.std.specs.List.{count_by, flat_map, range_with_len}
 use Rattle.std.specs.Fmt.{decimal}
@@ -33,9 +33,12 @@ comes_before (x ∷ xs) (y ∷ ys) = if x == y then comes_before xs ys else nat_
 abbrev pub rank_of : List (List ℕ) → List ℕ → ℕ
 rank_of names name = count_by (λ other. comes_before other name) names
 
+abbrev pub ranks_of : List (List ℕ) → List ℕ
+ranks_of names = map (rank_of names) names
+
 -- the place of the name before which so many come
 abbrev pub place_at_rank : List (List ℕ) → ℕ → Option ℕ
-place_at_rank names rank = position (λ name. rank_of names name == rank) names
+place_at_rank names rank = position (λ one. one == rank) (ranks_of names)
 
 -- ---- a report
 

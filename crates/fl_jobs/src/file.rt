@@ -128,7 +128,6 @@ fn jobs_by<'a>(
 
 impl<'a> CoresFile<'a> {
     // What was read, with bindings numbered.
-    #[tactic(auto, using(crate::proofs::Lists::file_as))]
     pub(crate) fn new(alloc: Global, reading: Reading<'a>) -> Result<CoresFile<'a>, AllocError>
         ensures file { IfOk result (λ f. file_from f ≡ file_of (reading_of reading.entry)) }
     {

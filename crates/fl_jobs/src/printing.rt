@@ -1,6 +1,6 @@
 //! What is printed of a cores file: the line that is refused, or the report of its run.
 
-ghost use Rattle.std.specs.Prelude.{◌≡◌, ◌≤◌, ◌++◌, OnOk, IfOk, map, length};
+ghost use Rattle.std.specs.Prelude.{◌≡◌, ◌≤◌, ◌++◌, ◌==◌, OnOk, IfOk, map, length, position};
 ghost use Rattle.std.specs.List.{flat_map, range_with_len};
 ghost use Rattle.fl_base.specs.declared.identity.Side.TheVariants.{Client, Server};
 ghost use Rattle.fl_value.specs.Value.{call_of};
@@ -9,7 +9,7 @@ ghost use Rattle.fl_lines.specs.Answers.{answer_text, end_named};
 ghost use Rattle.fl_lines.specs.Tables.{table_of};
 ghost use Rattle.fl_lines.specs.Told.{names_of};
 ghost use Rattle.fl_jobs.specs.Files.{file_from};
-ghost use Rattle.fl_jobs.specs.Printed.{line, refusal_text, comes_before, rank_of, end_at, handled_text};
+ghost use Rattle.fl_jobs.specs.Printed.{line, refusal_text, comes_before, rank_of, ranks_of, end_at, handled_text};
 ghost use Rattle.fl_jobs.specs.Printed.{binding_text, text_at_rank, ending_text, report_text};
 ghost use Rattle.fl_jobs.specs.Report.{at_end, refusal_of};
 ghost use Rattle.fl_jobs.specs.Reports.{both_of, ending_of, report_of};
@@ -217,6 +217,13 @@ fn put_binding(
     }
 }
 
+// The place of a rank.
+fn find(ranks: &[usize], rank: usize) -> Option<usize>
+    ensures place { result ≡ position (λ one. one == rank) ranks.now }
+{
+    ranks.iter().position(|one| *one == rank)
+}
+
 // The binding before whose name so many come.
 fn put_rank(
     alloc: Global,
@@ -226,15 +233,16 @@ fn put_rank(
     ranks: &[usize],
     rank: usize,
 ) -> Result<(), AllocError>
-    requires ranks { ranks.now ≡ map (rank_of (table_of file.now.names.bindings)) (table_of file.now.names.bindings) }
+    requires ranks { ranks.now ≡ ranks_of (table_of file.now.names.bindings) }
     ensures ok { OnOk result (out.new.items ≡ out.old.items ++ text_at_rank (file_from file.now) (report_of report.now) rank) }
 {
-    match ranks.iter().position(|one| *one == rank) {
+    match find(ranks, rank) {
         None => Ok(()),
         Some(place) => put_binding(alloc, out, file, report, place),
     }
 }
 
+#[tactic(auto, using(crate::proofs::Lists::one_rank_more))]
 fn put_bindings(
     alloc: Global,
     out: &mut Vec<u8>,
@@ -242,7 +250,7 @@ fn put_bindings(
     report: &Report,
     ranks: &[usize],
 ) -> Result<(), AllocError>
-    requires ranks { ranks.now ≡ map (rank_of (table_of file.now.names.bindings)) (table_of file.now.names.bindings) }
+    requires ranks { ranks.now ≡ ranks_of (table_of file.now.names.bindings) }
     ensures ok { OnOk result (out.new.items ≡ out.old.items
         ++ flat_map (text_at_rank (file_from file.now) (report_of report.now)) (range_with_len 0 (length (table_of file.now.names.bindings)))) }
 {

@@ -82,7 +82,7 @@ impl<'a> Reading<'a> {
     }
 
     // Takes it up, or stops.
-    #[tactic(auto, using(crate::proofs::Comings::asked_told, crate::proofs::Comings::stop_told))]
+    #[tactic(auto, using(crate::proofs::Comings::asked_told))]
     fn take_asked(&mut self, asked: Result<Asked<'a>, LineFault>) -> Result<(), Stop>
         requires { IfOk asked (λ a. IsNew (names_of self.old.names) a.naming) }
         ensures comes { (x : TheAsked) → Tells (names_of self.old.names) asked.entry x → Comes result (reading_of self.new) (does (reading_of self.old) x) }
