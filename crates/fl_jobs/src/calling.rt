@@ -1,6 +1,6 @@
 //! Lines that hand in calls and set reply rules.
 
-ghost use Rattle.std.specs.Prelude.{◌≡◌, ◌<◌, length, map, slice_set};
+ghost use Rattle.std.specs.Prelude.{◌≡◌, ◌<◌, IfSome, length, map, slice_get, slice_set};
 ghost use Rattle.fl_queues.specs.Given.{changed_at};
 ghost use Rattle.fl_value.specs.Value.{call_of};
 ghost use Rattle.fl_jobs.specs.Draft.{use_at, with_use, change_use, is_for_calls, is_for_rules};
@@ -97,6 +97,16 @@ fn rule_fault(
     None
 }
 
+fn bound_at(bindings: &Vec<Bound>, place: usize) -> Option<Bound>
+    ensures bound { result ≡ slice_get bindings.now.items place }
+    ensures within { IfSome result (λ bound. place < length bindings.now.items) }
+{
+    match bindings.get(place) {
+        None => None,
+        Some(bound) => Some(*bound),
+    }
+}
+
 fn set_bound(bindings: &mut Vec<Bound>, place: usize, bound: Bound)
     requires within { place < length bindings.old.items }
     ensures set { bindings.new.items ≡ slice_set bindings.old.items place bound }
@@ -108,7 +118,7 @@ fn set_bound(bindings: &mut Vec<Bound>, place: usize, bound: Bound)
 fn put_use_at(bindings: &mut Vec<Bound>, end: EndId, what: Use)
     ensures put { map bound_of bindings.new.items ≡ changed_at end.binding (with_use end.side (use_from what)) (map bound_of bindings.old.items) }
 {
-    match bindings.get(end.binding).copied() {
+    match bound_at(bindings, end.binding) {
         None => {}
         Some(bound) => set_bound(bindings, end.binding, bound.with_use(end.side, what)),
     }

@@ -242,7 +242,6 @@ fn put_rank(
     }
 }
 
-#[tactic(auto, using(crate::proofs::Lists::one_rank_more))]
 fn put_bindings(
     alloc: Global,
     out: &mut Vec<u8>,

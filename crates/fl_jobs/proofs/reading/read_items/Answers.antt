@@ -10,7 +10,7 @@ loop-rest-init c = (λ o h. subst (λ (r : Reading). ReadsFrom r 1 c.args.text.n
 
 pub returns-in-Err : goal.returns-in-Err
 returns-in-Err c = record {
-  reads = refused_there _ (reading_of c.loop-rest.reading) (reading_of c.item.new.self) c.loop-rest.line c.loop-rest.rest.now c.next_item.result.1.now
+  reads = refused_there (Unit {0}) (reading_of c.loop-rest.reading) (reading_of c.item.new.self) c.loop-rest.line c.loop-rest.rest.now c.next_item.result.1.now
       c.args.text.now (item_of c.next_item.result.0) c.in-Err.stop c.refuse.result c.some_items.ensures.some c.next_item.ensures.items
       c.in-Err.ensures.comes c.loop-rest.invariant.0 c.refuse.ensures.refused c.requires.short;
 }
