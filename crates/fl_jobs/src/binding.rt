@@ -20,8 +20,11 @@ use crate::stop::Stop;
 use fl_lines::{BackEnd, DispatcherId, Event, Route};
 
 const MAX_BINDINGS: usize = 1_024;
+
 const MAX_ENDS: usize = 1_024;
+
 const MAX_ROUTE: usize = 16;
+
 const MAX_QUEUE: u32 = 1_024;
 
 /// What a binding is asked for, once its service is known.

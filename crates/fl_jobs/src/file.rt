@@ -32,10 +32,7 @@ pub struct CoresFile<'a> {
 pub enum CoresText<'a> {
     File(CoresFile<'a>),
     /// The line, from 1, and the fault's number.
-    Refused {
-        line: usize,
-        number: u8,
-    },
+    Refused { line: usize, number: u8 },
 }
 
 // How many of these bindings are set up.

@@ -28,5 +28,8 @@ pub enum Job<'a> {
         answer: MsgNo,
     },
     /// An end makes a call.
-    Call { end: EndId, call: Call },
+    Call {
+        end: EndId,
+        call: Call,
+    },
 }

@@ -1,8 +1,8 @@
 //! Cores files: what the lines of one set up and hand in, and the report of its run.
 //!
-//! Contract for the layer above: [`read_cores_text`] gives what a text comes to (`specs/CoresFile.antt`): how many cores run, what is asked for before
-//! they do, and their jobs; or the first line that is refused. A text comes to one thing alone ([`one_outcome`]). [`print_report`] writes the text of a report (`specs/Printed.antt`), which is honest or
-//! not by `specs/Report.antt`.
+//! Contract for the layer above: [`read_cores_text`] gives what a text comes to (`specs/CoresFile.antt`): how many cores run, what is
+//! asked for before they do, and their jobs; or the first line that is refused. A text comes to one thing alone ([`one_outcome`]).
+//! [`print_report`] writes the text of a report (`specs/Printed.antt`); when one is honest stands in `specs/Report.antt`.
 //!
 //! - `job.rt`: jobs
 //! - `draft.rt`: what lines come to; `setup.rt`, `binding.rt` and `calling.rt`: each kind of line

@@ -25,7 +25,12 @@ use std::alloc::{AllocError, Global};
 ///
 /// # Errors
 /// Want of memory; `out` may then have a part of the text at its end.
-pub fn print_refusal(alloc: Global, out: &mut Vec<u8>, line: usize, number: u8) -> Result<(), AllocError>
+pub fn print_refusal(
+    alloc: Global,
+    out: &mut Vec<u8>,
+    line: usize,
+    number: u8,
+) -> Result<(), AllocError>
     ensures printed { OnOk result (out.new.items ≡ out.old.items ++ refusal_text line number) }
 {
     let text = format!(in alloc; "line {line} refused E{number}\n")?;

@@ -17,8 +17,11 @@ use fl_lines::{DispatcherId, Event};
 use fl_value::PlanNo;
 
 const MAX_CORES: u32 = 16;
+
 const MAX_INTERFACES: usize = 64;
+
 const MAX_DISPATCHERS: usize = 256;
+
 const MAX_SERVICES: usize = 256;
 
 // Whether a number is among these.

@@ -7,7 +7,8 @@ use std::alloc::{AllocError, Global};
 use std::test::Fail;
 
 // A binding that is opened stands before one that is set up, and between two others.
-const MIXED: &[u8] = b"idl\ninterface i { message a(uint32 v); }\n.\ncores 2\nlink 0 1 4\ndisp d 0\ndisp e 1\nexport s e i\n\
+const MIXED: &[u8] =
+    b"idl\ninterface i { message a(uint32 v); }\n.\ncores 2\nlink 0 1 4\ndisp d 0\ndisp e 1\nexport s e i\n\
     bind p d i s ump 8\nbind q d i s hop 0 1\nbind r d i s ump 4\nbind t d i s hop 0 1\n\
     reply r.s a a\ncall q.c a(7)\ncall r.c a(8)\ncall t.s a(9)\n";
 

@@ -6,11 +6,13 @@ use fl_value::{Call, Value};
 use std::alloc::{AllocError, Global};
 use std::test::Fail;
 
-const FILE: &[u8] = b"idl\ninterface i { message a(uint32 v); message b(string s); }\n.\ncores 2\nlink 0 1 4\ndisp d 0\ndisp e 1\n\
+const FILE: &[u8] =
+    b"idl\ninterface i { message a(uint32 v); message b(string s); }\n.\ncores 2\nlink 0 1 4\ndisp d 0\ndisp e 1\n\
     export s e i\nbind p d i s hop 0 1\nbind b d i s ump 4\nbind ab d i s ump 4\nbind a d i s hop 0 1\nbind B d i s ump 4\n";
 
 // In byte order: B, a, ab, b, p. The numbers are b 0, ab 1, B 2, p 3, a 4.
-const WANTED: &[u8] = b"handle B.s a(2)\nrefused E74 a.c\nhandle ab.c a(1)\nhandle ab.c a(10)\nhandle ab.s a(11)\n\
+const WANTED: &[u8] =
+    b"handle B.s a(2)\nrefused E74 a.c\nhandle ab.c a(1)\nhandle ab.c a(10)\nhandle ab.s a(11)\n\
     handle b.s a(0)\nhandle p.c b(\"x\\\"\\xff\")\ncomplete\n";
 
 fn number_call(alloc: Global, number: i128) -> Result<Call, AllocError> {

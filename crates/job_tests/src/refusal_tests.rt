@@ -38,7 +38,11 @@ const BEHIND_LOCAL: [(&[u8], usize, u8); 22] = [
     (b"bind q d i s ump 4\n", 9, 73),
     // blank lines and comments count, and blocks all their lines
     (b"\n# x\n\t \nwhat\n", 12, 90),
-    (b"idl\ninterface j { }\n.\nidl\ninterface i { }\n.\n", 12, 92),
+    (
+        b"idl\ninterface j { }\n.\nidl\ninterface i { }\n.\n",
+        12,
+        92,
+    ),
 ];
 
 // Five lines more, on three cores with a link.

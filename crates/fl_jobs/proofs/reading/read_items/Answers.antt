@@ -18,7 +18,7 @@ returns-in-Err c = record {
 pub overflow_add-line : goal.overflow_add-line
 overflow_add-line c =
     let h = line_fits c.loop-rest.line c.lines_in-lines.result c.args.text.now c.loop-rest.rest.now c.next_item.result.1.now (item_of c.next_item.result.0)
-        c.some_items.ensures.some c.requires.short c.loop-rest.invariant.1 c.next_item.ensures.items c.lines_in-lines.ensures.lines in
+    c.some_items.ensures.some c.requires.short c.loop-rest.invariant.1 c.next_item.ensures.items c.lines_in-lines.ensures.lines in
     omega (arith, h)
 
 pub loop-rest-preserved : goal.loop-rest-preserved
