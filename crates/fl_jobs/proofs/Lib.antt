@@ -1,0 +1,4 @@
+mod Lists
+mod LineLemmas
+mod Comings
+mod Firsts

@@ -1,0 +1,15 @@
+use Rattle.std.proofs.Common.{ℕ, List, ◌++◌, ◌∙◌, sym, ap, append_assoc}
+use Rattle.std.specs.List.{flat_map, range_with_len}
+use Rattle.fl_jobs.specs.Files.{file_from}
+use Rattle.fl_jobs.specs.Printed.{text_at_rank}
+use Rattle.fl_jobs.specs.Reports.{report_of}
+use Rattle.fl_jobs.proofs.Lists.{one_rank_more}
+use Rattle.fl_jobs.proofs.printing.put_bindings.Goals as goal
+
+pub loop-rank-preserved : goal.loop-rank-preserved
+loop-rank-preserved c =
+    let text : ℕ → List ℕ = text_at_rank (file_from c.args.file.now) (report_of c.args.report.now) in
+    let so_far : List ℕ = flat_map text (range_with_len 0 c.loop-rank.rank) in
+    c.in_ok-put_rank.ensures.ok
+    ∙ (ap (λ (t : List ℕ). t ++ text c.loop-rank.rank) c.loop-rank.invariant
+    ∙ (append_assoc c.args.out.now.items so_far (text c.loop-rank.rank) ∙ ap (λ (t : List ℕ). c.args.out.now.items ++ t) (sym (one_rank_more text c.loop-rank.rank))))

@@ -1,0 +1,9 @@
+pub mod Verdicts
+pub mod Jobs
+pub mod Draft
+pub mod CoresFile
+pub mod Report
+pub mod Printed
+pub mod Views
+pub mod Files
+pub mod Reports

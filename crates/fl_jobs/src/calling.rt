@@ -1,0 +1,183 @@
+//! Lines that hand in calls and set reply rules.
+
+ghost use Rattle.std.specs.Prelude.{◌≡◌, ◌<◌, IfSome, length, map, slice_get, slice_set};
+ghost use Rattle.fl_queues.specs.Given.{changed_at};
+ghost use Rattle.fl_value.specs.Value.{call_of};
+ghost use Rattle.fl_jobs.specs.Draft.{use_at, with_use, change_use, is_for_calls, is_for_rules};
+ghost use Rattle.fl_jobs.specs.Draft.{call_fault, rule_fault, fault_at, makes_call, sets_rule};
+ghost use Rattle.fl_jobs.specs.Verdicts.{Comes};
+ghost use Rattle.fl_jobs.specs.Views.{use_from, bound_of, planned_of, draft_of};
+
+use crate::draft::{Bound, Draft, Planned, Use};
+use crate::job::Job;
+use crate::stop::Stop;
+use fl_base::{EndId, MsgNo, Side};
+use fl_check::same_args;
+use fl_value::{Call, fits};
+
+impl Use {
+    fn is_for_calls(self) -> bool
+        ensures same { result ≡ is_for_calls (use_from self) }
+    {
+        matches!(self, Use::Calls)
+    }
+
+    fn is_for_rules(self) -> bool
+        ensures same { result ≡ is_for_rules (use_from self) }
+    {
+        matches!(self, Use::Rules)
+    }
+}
+
+impl Bound {
+    fn use_at(&self, side: Side) -> Use
+        ensures same { use_from result ≡ use_at side (bound_of self.now) }
+    {
+        match side {
+            Side::Client => self.client,
+            Side::Server => self.server,
+        }
+    }
+
+    fn with_use(self, side: Side, what: Use) -> Bound
+        ensures put { bound_of result ≡ with_use side (use_from what) (bound_of self) }
+    {
+        match side {
+            Side::Client => Bound {
+                client: what,
+                ..self
+            },
+            Side::Server => Bound {
+                server: what,
+                ..self
+            },
+        }
+    }
+}
+
+// The fault for which a call is refused at an end of a binding of an interface.
+fn call_fault(side: Side, call: &Call, binding: &Bound, planned: &Planned) -> Option<u8>
+    ensures same { result ≡ call_fault side (call_of call.now) (bound_of binding.now) (planned_of planned.now) }
+{
+    if usize::from(call.msg.0) >= planned.interface.messages.as_slice().len() {
+        return Some(41);
+    }
+    if !fits(call, &planned.interface) {
+        return Some(42);
+    }
+    if binding.use_at(side).is_for_rules() {
+        return Some(44);
+    }
+    None
+}
+
+// The fault for which a reply rule is refused there.
+fn rule_fault(
+    side: Side,
+    message: MsgNo,
+    answer: MsgNo,
+    binding: &Bound,
+    planned: &Planned,
+) -> Option<u8>
+    ensures same { result ≡ rule_fault side message.0 answer.0 (bound_of binding.now) (planned_of planned.now) }
+{
+    let messages = planned.interface.messages.as_slice();
+    let Some(one) = messages.get(usize::from(message.0)) else {
+        return Some(41);
+    };
+    let Some(other) = messages.get(usize::from(answer.0)) else {
+        return Some(41);
+    };
+    if !same_args(&one.args, &other.args) {
+        return Some(42);
+    }
+    if binding.use_at(side).is_for_calls() || binding.use_at(side.other()).is_for_rules() {
+        return Some(44);
+    }
+    None
+}
+
+fn bound_at(bindings: &Vec<Bound>, place: usize) -> Option<Bound>
+    ensures bound { result ≡ slice_get bindings.now.items place }
+    ensures within { IfSome result (λ bound. place < length bindings.now.items) }
+{
+    match bindings.get(place) {
+        None => None,
+        Some(bound) => Some(*bound),
+    }
+}
+
+fn set_bound(bindings: &mut Vec<Bound>, place: usize, bound: Bound)
+    requires within { place < length bindings.old.items }
+    ensures set { bindings.new.items ≡ slice_set bindings.old.items place bound }
+{
+    bindings[place] = bound;
+}
+
+#[tactic(auto, using(crate::proofs::Lists::map_put, crate::proofs::Lists::map_past))]
+fn put_use_at(bindings: &mut Vec<Bound>, end: EndId, what: Use)
+    ensures put { map bound_of bindings.new.items ≡ changed_at end.binding (with_use end.side (use_from what)) (map bound_of bindings.old.items) }
+{
+    match bound_at(bindings, end.binding) {
+        None => {}
+        Some(bound) => set_bound(bindings, end.binding, bound.with_use(end.side, what)),
+    }
+}
+
+impl<'a> Draft<'a> {
+    fn put_use(&mut self, end: EndId, what: Use)
+        ensures put { draft_of self.new ≡ change_use end (use_from what) (draft_of self.old) }
+    {
+        put_use_at(&mut self.bindings, end, what);
+    }
+
+    // The fault for which a call is refused.
+    fn call_fault(&self, end: EndId, call: &Call) -> Option<u8>
+        ensures same { result ≡ fault_at end (call_fault end.side (call_of call.now)) (draft_of self.now) }
+    {
+        let Some(binding) = self.bindings.get(end.binding) else {
+            return Some(92);
+        };
+        let Some(planned) = self.interfaces.get(binding.interface) else {
+            return Some(92);
+        };
+        call_fault(end.side, call, binding, planned)
+    }
+
+    // The fault for which a reply rule is refused.
+    fn rule_fault(&self, end: EndId, message: MsgNo, answer: MsgNo) -> Option<u8>
+        ensures same { result ≡ fault_at end (rule_fault end.side message.0 answer.0) (draft_of self.now) }
+    {
+        let Some(binding) = self.bindings.get(end.binding) else {
+            return Some(92);
+        };
+        let Some(planned) = self.interfaces.get(binding.interface) else {
+            return Some(92);
+        };
+        rule_fault(end.side, message, answer, binding, planned)
+    }
+
+    pub(crate) fn call(&mut self, end: EndId, call: Call) -> Result<(), Stop>
+        ensures comes { Comes result (draft_of self.new) (makes_call end (call_of call) (draft_of self.old)) }
+    {
+        if let Some(number) = self.call_fault(end, &call) {
+            return Err(Stop::Refused(number));
+        }
+        self.put_use(end, Use::Calls);
+        self.put_job(Job::Call { end, call })
+    }
+
+    pub(crate) fn reply(&mut self, end: EndId, message: MsgNo, answer: MsgNo) -> Result<(), Stop>
+        ensures comes { Comes result (draft_of self.new) (sets_rule end message.0 answer.0 (draft_of self.old)) }
+    {
+        if let Some(number) = self.rule_fault(end, message, answer) {
+            return Err(Stop::Refused(number));
+        }
+        self.put_use(end, Use::Rules);
+        self.put_job(Job::Reply {
+            end,
+            message,
+            answer,
+        })
+    }
+}

@@ -1,0 +1,165 @@
+//! What the lines of a cores file come to, so far.
+
+ghost use Rattle.std.specs.Prelude.{◌≡◌};
+ghost use Rattle.fl_lines.specs.Events.{event_of};
+ghost use Rattle.fl_jobs.specs.Draft.{nothing_yet, with_event, with_job, is_core, takes};
+ghost use Rattle.fl_jobs.specs.Verdicts.{Comes, goes_on};
+ghost use Rattle.fl_jobs.specs.Views.{draft_of, job_of};
+
+use crate::job::Job;
+use crate::stop::Stop;
+use fl_check::Interface;
+use fl_lines::{DispatcherId, Event, NameTable};
+use fl_value::PlanNo;
+use std::alloc::Global;
+
+/// An interface, and the plan by which its calls are laid out.
+#[derive(Debug, Drop)]
+pub struct Planned {
+    pub interface: Interface,
+    pub plan: PlanNo,
+}
+
+/// A link, by its two cores.
+#[derive(Clone, Copy, Debug, PartialEq, Eq)]
+pub struct Joint {
+    pub first: u32,
+    pub second: u32,
+}
+
+/// Who offers a service, and under which interface.
+#[derive(Clone, Copy, Debug, PartialEq, Eq)]
+pub struct Offer {
+    pub dispatcher: DispatcherId,
+    pub interface: usize,
+}
+
+/// What the jobs at an end are so far.
+#[derive(Clone, Copy, Debug, PartialEq, Eq)]
+pub enum Use {
+    Free,
+    Calls,
+    Rules,
+}
+
+/// A binding.
+#[derive(Clone, Copy, Debug, PartialEq, Eq)]
+pub struct Bound {
+    /// Whether it is opened while the cores run; else it is set up before.
+    pub opened: bool,
+    pub interface: usize,
+    pub client: Use,
+    pub server: Use,
+}
+
+/// The cores, what is set up on them, and the jobs.
+#[derive(Drop)]
+pub struct Draft<'a> {
+    pub alloc: Global,
+    /// A line other than an interface's was accepted, so the number of cores stands.
+    pub settled: bool,
+    pub cores: u32,
+    pub interfaces: Vec<Planned>,
+    pub links: Vec<Joint>,
+    /// The core of each dispatcher.
+    pub dispatchers: Vec<u32>,
+    pub services: NameTable,
+    /// Of each service, who offers it.
+    pub offers: Vec<Offer>,
+    /// The dispatchers of the ends of bindings that are set up.
+    pub seats: Vec<DispatcherId>,
+    /// In the order of their lines.
+    pub bindings: Vec<Bound>,
+    /// What is asked for before the cores run.
+    pub setup: Vec<Event<'a>>,
+    /// What the cores are to do. Here an end names its binding by the place of its line.
+    pub jobs: Vec<Job<'a>>,
+}
+
+impl<'a> Draft<'a> {
+    /// One core, and nothing on it. Takes no memory.
+    pub fn new(alloc: Global) -> Draft<'a>
+        ensures nothing { draft_of result ≡ nothing_yet }
+    {
+        Draft {
+            alloc,
+            settled: false,
+            cores: 1,
+            interfaces: Vec::new(alloc),
+            links: Vec::new(alloc),
+            dispatchers: Vec::new(alloc),
+            services: NameTable::new(alloc),
+            offers: Vec::new(alloc),
+            seats: Vec::new(alloc),
+            bindings: Vec::new(alloc),
+            setup: Vec::new(alloc),
+            jobs: Vec::new(alloc),
+        }
+    }
+
+    // One event more before the cores run.
+    pub(crate) fn put_event(&mut self, event: Event<'a>) -> Result<(), Stop>
+        ensures put { Comes result (draft_of self.new) (goes_on (with_event (event_of event.entry) (draft_of self.old))) }
+    {
+        self.settled = true;
+        self.setup.push(event)?;
+        Ok(())
+    }
+
+    // One job more.
+    pub(crate) fn put_job(&mut self, job: Job<'a>) -> Result<(), Stop>
+        ensures put { Comes result (draft_of self.new) (goes_on (with_job (job_of job.entry) (draft_of self.old))) }
+    {
+        self.settled = true;
+        self.jobs.push(job)?;
+        Ok(())
+    }
+
+    // Whether there is such a core.
+    pub(crate) fn is_core(&self, core: u32) -> bool
+        ensures same { result ≡ is_core core (draft_of self.now) }
+    {
+        core < self.cores
+    }
+
+    /// Takes up what a line asks.
+    ///
+    /// # Errors
+    /// The line is refused, or memory was refused; nothing is told of the draft then.
+    pub fn take(&mut self, event: Event<'a>) -> Result<(), Stop>
+        ensures comes { Comes result (draft_of self.new) (takes (event_of event.entry) (draft_of self.old)) }
+    {
+        match event {
+            Event::AddInterface { interface, plan } => self.add_interface(interface, plan),
+            Event::SetCores(n) => self.set_cores(n),
+            Event::AddLink { a, b, slots } => self.add_link(a, b, slots),
+            Event::AddDispatcher(core) => self.add_dispatcher(core),
+            Event::Export {
+                name,
+                dispatcher,
+                interface,
+            } => self.export(name, dispatcher, interface),
+            Event::Bind {
+                client,
+                interface,
+                service,
+                back_end,
+            } => self.bind(client, interface, service, back_end),
+            Event::Call(end, call) => self.call(end, call),
+            Event::Reply {
+                end,
+                message,
+                answer,
+            } => self.reply(end, message, answer),
+            Event::Show(_)
+            | Event::Write(_)
+            | Event::Turn(_)
+            | Event::Acknowledge(_)
+            | Event::Register(_)
+            | Event::Deregister(_)
+            | Event::MonitorWrite { .. }
+            | Event::Forward { .. }
+            | Event::MonitorAcknowledge { .. } => Err(Stop::Refused(90)),
+        }
+    }
+}

@@ -1,0 +1,220 @@
+//! A cores file read line by line.
+
+ghost use Rattle.std.specs.Prelude.{ℕ, ◌≡◌, ◌≤◌, ◌==◌, Err, IfOk, false, length};
+ghost use Rattle.std.specs.List.{count_by};
+ghost use Rattle.fl_check.specs.Interface.{interface_of};
+ghost use Rattle.fl_lines.specs.Asked.{Asked as TheAsked, asks};
+ghost use Rattle.fl_lines.specs.Events.{event_of};
+ghost use Rattle.fl_lines.specs.Items.{a_line, a_block};
+ghost use Rattle.fl_lines.specs.Told.{names_of, named, IsNew, Tells};
+ghost use Rattle.fl_lines.specs.Views.{command_of, line_of, item_of};
+ghost use Rattle.fl_text.specs.Text.{stands_for};
+ghost use Rattle.fl_jobs.specs.CoresFile.{beginning, belongs, Does, does, does_block, DoesCommand, lines_in};
+ghost use Rattle.fl_jobs.specs.CoresFile.{refused_at, is_too_long, Reads};
+ghost use Rattle.fl_jobs.specs.Files.{reading_of, outcome_of};
+ghost use Rattle.fl_jobs.specs.Verdicts.{Comes, ComesTo};
+
+use crate::draft::Draft;
+use crate::file::{CoresFile, CoresText};
+use crate::stop::{Stop, stop_by};
+use fl_check::Interface;
+use fl_lines::{Answer, Asked, Command, Item, Line, LineFault, Names, next_item, some_items};
+use fl_text::{TextRead, read_text};
+use fl_value::PlanNo;
+use std::alloc::{AllocError, Global};
+
+/// Bytes of the longest cores file; of a longer one line 1 is refused (E91).
+pub const MAX_TEXT: usize = 1_048_576;
+
+/// How far a cores file is read: the names that its lines gave, and what they come to.
+#[derive(Drop)]
+pub struct Reading<'a> {
+    pub names: Names,
+    pub draft: Draft<'a>,
+}
+
+// Whether a command may stand in a cores file.
+fn belongs(command: &Command<'_>) -> bool
+    ensures same { result ≡ belongs (command_of command.now) }
+{
+    match command {
+        Command::Cores(_)
+        | Command::Link { .. }
+        | Command::Disp { .. }
+        | Command::Export { .. }
+        | Command::Bind { .. }
+        | Command::Call(_, _)
+        | Command::Reply { .. } => true,
+        Command::Show(_)
+        | Command::Write(_)
+        | Command::Turn(_)
+        | Command::Ack(_)
+        | Command::Register(_)
+        | Command::Deregister(_)
+        | Command::MonitorWrite { .. }
+        | Command::Forward { .. }
+        | Command::MonitorAck { .. } => false,
+    }
+}
+
+impl<'a> Reading<'a> {
+    /// Nothing is read yet. Takes no memory.
+    pub fn new(alloc: Global) -> Reading<'a>
+        ensures beginning { reading_of result ≡ beginning }
+    {
+        Reading {
+            names: Names::new(alloc),
+            draft: Draft::new(alloc),
+        }
+    }
+
+    // Takes up what is asked, and the name that it gives.
+    fn take(&mut self, asked: Asked<'a>) -> Result<(), Stop>
+        requires { IsNew (names_of self.old.names) asked.naming }
+        ensures comes { Comes result (reading_of self.new)
+            (does (reading_of self.old) (asks (event_of asked.entry.event) (named (names_of self.old.names) asked.entry.naming))) }
+    {
+        if let Err(stop) = self.draft.take(asked.event) {
+            return Err(stop);
+        }
+        self.names.take_up(asked.naming, &Answer::Done)?;
+        Ok(())
+    }
+
+    // Takes it up, or stops.
+    #[tactic(auto, using(crate::proofs::Comings::asked_told))]
+    fn take_asked(&mut self, asked: Result<Asked<'a>, LineFault>) -> Result<(), Stop>
+        requires { IfOk asked (λ a. IsNew (names_of self.old.names) a.naming) }
+        ensures comes { (x : TheAsked) → Tells (names_of self.old.names) asked.entry x → Comes result (reading_of self.new) (does (reading_of self.old) x) }
+        ensures memory { asked.entry ≡ Err LineFault.Memory → result ≡ Err Stop.Memory }
+    {
+        match asked {
+            Ok(asked) => self.take(asked),
+            Err(fault) => Err(stop_by(fault)),
+        }
+    }
+
+    #[tactic(auto, using(crate::proofs::Comings::command_comes))]
+    fn command(&mut self, command: Command<'a>) -> Result<(), Stop>
+        ensures comes { ComesTo result (reading_of self.new) (DoesCommand (reading_of self.old) (command_of command.entry)) }
+    {
+        if !belongs(&command) {
+            return Err(Stop::Refused(90));
+        }
+        let asked = self.names.ask(command);
+        self.take_asked(asked)
+    }
+
+    #[tactic(auto, using(crate::proofs::Comings::interface_comes))]
+    fn interface(&mut self, interface: Interface, plan: PlanNo) -> Result<(), Stop>
+        ensures comes { Comes result (reading_of self.new) (does_block (reading_of self.old) plan (stands_for (interface_of interface))) }
+    {
+        let asked = self.names.ask_interface(interface, plan);
+        self.take_asked(asked)
+    }
+
+    #[tactic(auto, using(crate::proofs::Comings::block_comes))]
+    fn block(&mut self, plan: PlanNo, text: &[u8]) -> Result<(), Stop>
+        ensures comes { ComesTo result (reading_of self.new) (Does (reading_of self.old) (a_block plan text.now)) }
+    {
+        match read_text(self.draft.alloc, text)? {
+            TextRead::Fault { number, .. } => Err(Stop::Refused(number)),
+            TextRead::Interface(interface) => self.interface(interface, plan),
+        }
+    }
+
+    fn line(&mut self, line: Line<'a>) -> Result<(), Stop>
+        ensures comes { ComesTo result (reading_of self.new) (Does (reading_of self.old) (a_line (line_of line.entry))) }
+    {
+        match line {
+            Line::Silent => Ok(()),
+            Line::Command(command) => self.command(command),
+            Line::Heading(_) | Line::Unread => Err(Stop::Refused(90)),
+        }
+    }
+
+    /// Takes up an item.
+    ///
+    /// # Errors
+    /// The item is refused, or memory was refused; nothing is told of the reading then.
+    pub fn item(&mut self, item: Item<'a>) -> Result<(), Stop>
+        ensures comes { ComesTo result (reading_of self.new) (Does (reading_of self.old) (item_of item.entry)) }
+    {
+        match item {
+            Item::Line(line) => self.line(line),
+            Item::Block(plan, text) => self.block(plan, text),
+            Item::OpenBlock => Err(Stop::Refused(90)),
+        }
+    }
+}
+
+// How many line feeds a text has.
+fn count_lines(text: &[u8]) -> usize
+    ensures count { result ≡ count_by (λ b. b == 10) text.now }
+    ensures few { result ≤ length text.now }
+{
+    let mut count = 0;
+    for byte in text {
+        if *byte == b'\n' {
+            count += 1;
+        }
+    }
+    count
+}
+
+// How many lines an item has.
+fn lines_in(item: &Item<'_>) -> usize
+    ensures lines { result ≡ lines_in (item_of item.now) }
+{
+    match item {
+        Item::Line(_) | Item::OpenBlock => 1,
+        Item::Block(_, text) => 2 + count_lines(text),
+    }
+}
+
+// A line that is refused; without a number it is want of memory.
+fn refuse<'a>(line: usize, stop: Stop) -> Result<CoresText<'a>, AllocError>
+    ensures refused { IfOk result (λ t. (number : ℕ) × (stop ≡ Stop.Refused number) × (outcome_of t ≡ refused_at line number)) }
+{
+    match stop {
+        Stop::Refused(number) => Ok(CoresText::Refused { line, number }),
+        Stop::Memory => Err(AllocError),
+    }
+}
+
+// Reads items to the end, or to the first that is refused.
+fn read_items<'a>(alloc: Global, text: &'a [u8]) -> Result<CoresText<'a>, AllocError>
+    requires short { is_too_long text.now ≡ false }
+    ensures reads { IfOk result (λ t. Reads text.now (outcome_of t)) }
+{
+    some_items();
+    let mut reading = Reading::new(alloc);
+    let mut rest = text;
+    let mut line = 1;
+    while !rest.is_empty() {
+        let (item, behind) = next_item(rest);
+        let lines = lines_in(&item);
+        if let Err(stop) = reading.item(item) {
+            return refuse(line, stop);
+        }
+        line += lines;
+        rest = behind;
+    }
+    Ok(CoresText::File(CoresFile::new(alloc, reading)?))
+}
+
+/// Reads a cores file: what it sets up and hands in, or its first line that is refused.
+///
+/// # Errors
+/// Want of memory alone: a refused line is a result.
+pub fn read_cores_text<'a>(alloc: Global, text: &'a [u8]) -> Result<CoresText<'a>, AllocError>
+    ensures reads { IfOk result (λ t. Reads text.now (outcome_of t)) }
+{
+    if text.len() > MAX_TEXT {
+        return Ok(CoresText::Refused {
+            line: 1,
+            number: 91,
+        });
+    }
+    read_items(alloc, text)
+}

@@ -1,0 +1,199 @@
+//! Lines that set up interfaces, cores, links, dispatchers and services.
+
+ghost use Rattle.std.specs.Prelude.{◌≡◌, ◌==◌, bytes_eq};
+ghost use Rattle.std.specs.List.{count_by, list_any};
+ghost use Rattle.fl_check.specs.Interface.{interface_of};
+ghost use Rattle.fl_queues.specs.Making.{is_ring_size};
+ghost use Rattle.fl_lines.specs.Events.{id_of};
+ghost use Rattle.fl_jobs.specs.Draft.{has_interface, is_dispatcher, is_interface, adds_interface, sets_cores};
+ghost use Rattle.fl_jobs.specs.Draft.{joins, has_link, adds_link, adds_dispatcher, exports};
+ghost use Rattle.fl_jobs.specs.Verdicts.{Comes};
+ghost use Rattle.fl_jobs.specs.Views.{planned_of, joint_of, draft_of};
+
+use crate::draft::{Draft, Joint, Offer, Planned};
+use crate::stop::Stop;
+use fl_check::Interface;
+use fl_lines::{DispatcherId, Event};
+use fl_value::PlanNo;
+
+const MAX_CORES: u32 = 16;
+
+const MAX_INTERFACES: usize = 64;
+
+const MAX_DISPATCHERS: usize = 256;
+
+const MAX_SERVICES: usize = 256;
+
+// Whether a number is among these.
+fn is_among(number: u32, sizes: &[u32]) -> bool
+    ensures any { result ≡ list_any (λ size. number == size) sizes.now }
+{
+    sizes.iter().any(|size| number == *size)
+}
+
+// Whether a ring can have so many slots.
+pub(crate) fn is_ring_size(slots: u32) -> bool
+    ensures same { result ≡ is_ring_size slots }
+{
+    is_among(slots, &[4, 8, 16, 32, 64, 128, 256, 512, 1024])
+}
+
+// Whether a link is of these two cores.
+fn joins(joint: &Joint, a: u32, b: u32) -> bool
+    ensures same { result ≡ joins a b (joint_of joint.now) }
+{
+    joint.first == a && joint.second == b || joint.first == b && joint.second == a
+}
+
+fn any_joins(links: &[Joint], a: u32, b: u32) -> bool
+    ensures any { result ≡ list_any (λ joint. joins a b (joint_of joint)) links.now }
+{
+    links.iter().any(|joint| joins(joint, a, b))
+}
+
+fn is_named(planned: &Planned, name: &[u8]) -> bool
+    ensures same { result ≡ bytes_eq name.now (planned_of planned.now).interface.name }
+{
+    name == planned.interface.name.bytes.as_slice()
+}
+
+fn any_named(interfaces: &[Planned], name: &[u8]) -> bool
+    ensures any { result ≡ list_any (λ planned. bytes_eq name.now (planned_of planned).interface.name) interfaces.now }
+{
+    interfaces.iter().any(|planned| is_named(planned, name))
+}
+
+// How many of these are the core.
+fn count_core(core: u32, cores: &[u32]) -> usize
+    ensures count { result ≡ count_by (λ one. one == core) cores.now }
+{
+    let mut count = 0;
+    for one in cores {
+        if *one == core {
+            count += 1;
+        }
+    }
+    count
+}
+
+impl<'a> Draft<'a> {
+    // Whether there is an interface of a name.
+    #[tactic(auto, using(crate::proofs::Lists::any_map))]
+    fn has_interface(&self, name: &[u8]) -> bool
+        ensures same { result ≡ has_interface name.now (draft_of self.now) }
+    {
+        any_named(&self.interfaces, name)
+    }
+
+    // Whether there is such a dispatcher.
+    pub(crate) fn is_dispatcher(&self, dispatcher: DispatcherId) -> bool
+        ensures same { result ≡ is_dispatcher (id_of dispatcher) (draft_of self.now) }
+    {
+        dispatcher.place < count_core(dispatcher.core, &self.dispatchers)
+    }
+
+    // Whether there is an interface at a place.
+    pub(crate) fn is_interface(&self, place: usize) -> bool
+        ensures same { result ≡ is_interface place (draft_of self.now) }
+    {
+        place < self.interfaces.as_slice().len()
+    }
+
+    pub(crate) fn add_interface(&mut self, interface: Interface, plan: PlanNo) -> Result<(), Stop>
+        ensures comes { Comes result (draft_of self.new) (adds_interface (interface_of interface) plan (draft_of self.old)) }
+    {
+        if self.has_interface(&interface.name.bytes) {
+            return Err(Stop::Refused(92));
+        }
+        if self.interfaces.as_slice().len() >= MAX_INTERFACES {
+            return Err(Stop::Refused(94));
+        }
+        let kept = interface.duplicate(self.alloc)?;
+        self.interfaces.push(Planned {
+            interface: kept,
+            plan,
+        })?;
+        self.setup.push(Event::AddInterface { interface, plan })?;
+        Ok(())
+    }
+
+    pub(crate) fn set_cores(&mut self, n: u32) -> Result<(), Stop>
+        ensures comes { Comes result (draft_of self.new) (sets_cores n (draft_of self.old)) }
+    {
+        if self.settled {
+            return Err(Stop::Refused(93));
+        }
+        if n < 1 || n > MAX_CORES {
+            return Err(Stop::Refused(94));
+        }
+        self.settled = true;
+        self.cores = n;
+        Ok(())
+    }
+
+    // Whether a link joins two cores.
+    #[tactic(auto, using(crate::proofs::Lists::any_map))]
+    pub(crate) fn has_link(&self, a: u32, b: u32) -> bool
+        ensures same { result ≡ has_link a b (draft_of self.now) }
+    {
+        any_joins(&self.links, a, b)
+    }
+
+    pub(crate) fn add_link(&mut self, a: u32, b: u32, slots: u32) -> Result<(), Stop>
+        ensures comes { Comes result (draft_of self.new) (adds_link a b slots (draft_of self.old)) }
+    {
+        if !(self.is_core(a) && self.is_core(b)) || a == b || self.has_link(a, b) {
+            return Err(Stop::Refused(73));
+        }
+        if !is_ring_size(slots) {
+            return Err(Stop::Refused(32));
+        }
+        self.links.push(Joint {
+            first: a,
+            second: b,
+        })?;
+        self.put_event(Event::AddLink { a, b, slots })
+    }
+
+    pub(crate) fn add_dispatcher(&mut self, core: u32) -> Result<(), Stop>
+        ensures comes { Comes result (draft_of self.new) (adds_dispatcher core (draft_of self.old)) }
+    {
+        if self.dispatchers.as_slice().len() >= MAX_DISPATCHERS {
+            return Err(Stop::Refused(94));
+        }
+        if !self.is_core(core) {
+            return Err(Stop::Refused(73));
+        }
+        self.dispatchers.push(core)?;
+        self.put_event(Event::AddDispatcher(core))
+    }
+
+    pub(crate) fn export(
+        &mut self,
+        name: &'a [u8],
+        dispatcher: DispatcherId,
+        interface: usize,
+    ) -> Result<(), Stop>
+        ensures comes { Comes result (draft_of self.new) (exports name.now (id_of dispatcher) interface (draft_of self.old)) }
+    {
+        if !(self.is_dispatcher(dispatcher) && self.is_interface(interface)) {
+            return Err(Stop::Refused(92));
+        }
+        if self.services.find(name).is_some() {
+            return Err(Stop::Refused(71));
+        }
+        if self.offers.as_slice().len() >= MAX_SERVICES {
+            return Err(Stop::Refused(94));
+        }
+        self.services.add(self.alloc, name)?;
+        self.offers.push(Offer {
+            dispatcher,
+            interface,
+        })?;
+        self.put_event(Event::Export {
+            name,
+            dispatcher,
+            interface,
+        })
+    }
+}
