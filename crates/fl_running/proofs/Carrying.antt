@@ -248,7 +248,7 @@ module _ (name : EndId) (e : ℕ) (x : TheEnd) (k : TheCore) (here : IsHere name
     calls_at c answer k2 h =
         by_name (same_end n name) (made_by c answer) [] k2 k2.board h.event.seat h.event.end refl h.event.seat_is (ap (λ (b : TheBoard). b.seats) h.event.board) (λ z has. has) (ap (λ (y : TheCore). y.places) h.rest)
         (λ was. calls_go laws.calls x c answer h.event.end here.sound
-            (subst (λ (s : TheEnd). Calls s c answer h.event.end) was h.event.event))
+        (subst (λ (s : TheEnd). Calls s c answer h.event.end) was h.event.event))
 
     writes_at : {P : Type 0} (puts : P → Look → P → Type 0) (law : WriteAccounts puts) (p q : P) (answer : Result WriteAnswer EndFault) (k2 : TheCore) → WritesAt puts f k p answer k2 q
         → WentOn name e (if same_end n name then [] else []) (if same_end n name then [] else []) x k2
@@ -256,7 +256,7 @@ module _ (name : EndId) (e : ℕ) (x : TheEnd) (k : TheCore) (here : IsHere name
         by_name (same_end n name) [] [] k2 h.wrote h.writes.seat h.writes.end refl h.writes.seat_is (ap (λ (b : TheBoard). b.seats) h.writes.board) (λ z has. triggers_same _ h.wrote k2.board e z h.triggers has)
         (ap (λ (y : TheCore). y.places) h.rest)
         (λ was. writes_go puts law x p answer h.writes.end q here.sound
-            (subst (λ (s : TheEnd). Writes puts s p answer h.writes.end q) was h.writes.event))
+        (subst (λ (s : TheEnd). Writes puts s p answer h.writes.end q) was h.writes.event))
 
     turns_at : {T : Type 0} (takes : T → Look → T → Type 0) (law : ReceiveAccounts takes) (d : ℕ) (p q : T) (answer : TurnAnswer) (c : TheBoard) (k2 : TheCore)
         → Turns takes d f (over k.board p) (Ok answer) (over c q) → c ≡ k2.board → k2.places ≡ k.places
@@ -265,7 +265,7 @@ module _ (name : EndId) (e : ℕ) (x : TheEnd) (k : TheCore) (here : IsHere name
         by_name (same_end n name) (reply_in x.rules answer) (map call_of (call_in answer)) k2 c h.seat h.end refl h.seat_is
         (ap (λ (b : TheBoard). b.seats) h.board) (λ z has. subst (λ (b : TheBoard). HasEnd b e z) board has) places
         (λ was. subst (λ (s : TheEnd). EndGoes (reply_in s.rules answer) (map call_of (call_in answer)) s h.end) was
-            (turn_goes takes law h.picked h.seat.kind _ answer _ (subst (λ (s : TheEnd). Sound s) (sym was) here.sound) h.looks))
+        (turn_goes takes law h.picked h.seat.kind _ answer _ (subst (λ (s : TheEnd). Sound s) (sym was) here.sound) h.looks))
 
 -- ---- one event
 

@@ -192,15 +192,15 @@ module _ {S : Type 0} (s : TheRun S) (sound : IsCore s.core) (lent : IsLent s) w
       (ap (λ (o : Option ℕ). given o None (λ (i : ℕ). given (inlet_of s.core i) None (λ (x : Inlet). if lends_in s x then Some (let r : Due = record { end = i; inlet = x } in r) else None))) is
       ∙ ap (λ (o : Option Inlet). given o None (λ (x : Inlet). if lends_in s x then Some (let r : Due = record { end = e; inlet = x } in r) else None)) (from_port e p at)
       ∙ if_true (lends_in s (inlet_by p.wire)) _ None (takes_from e p p.wire at refl)) where
-    picked : (x : TheDispatcher) (r : Result Pick WaitFault) → slice_get s.core.board.dispatchers d ≡ Some x → end_picked x.ends r ≡ Some e → e < length s.core.board.seats
-    picked x (Ok pick) there ends =
-        let channel = (board.dispatchers d x there).ends (channel_of pick) e ends in
-        slice_get_within s.core.board.seats e channel.seat channel.seat_is
-    picked x (Err fault) there ends = absurd (cc)
+        picked : (x : TheDispatcher) (r : Result Pick WaitFault) → slice_get s.core.board.dispatchers d ≡ Some x → end_picked x.ends r ≡ Some e → e < length s.core.board.seats
+        picked x (Ok pick) there ends =
+            let channel = (board.dispatchers d x there).ends (channel_of pick) e ends in
+            slice_get_within s.core.board.seats e channel.seat channel.seat_is
+        picked x (Err fault) there ends = absurd (cc)
 
-    seated : (o : Option TheDispatcher) → slice_get s.core.board.dispatchers d ≡ o → due_in o ≡ Some e → e < length s.core.board.seats
-    seated None there is_due = absurd (cc)
-    seated (Some x) there is_due = picked x (next_pick x.lists) there is_due
+        seated : (o : Option TheDispatcher) → slice_get s.core.board.dispatchers d ≡ o → due_in o ≡ Some e → e < length s.core.board.seats
+        seated None there is_due = absurd (cc)
+        seated (Some x) there is_due = picked x (next_pick x.lists) there is_due
 
   berth : (name : EndId) (e n : ℕ) → place_of s.core name ≡ Some e → inlet_of s.core e ≡ Some (inlet.Side n) → IsSome (lent_berth s name)
   berth name e n at from =

@@ -60,7 +60,7 @@ module _ {S : Type 0} (w : Ways S) where
   log_arrivals jobs (deed ∷ log) s t h =
       go_then QueuePuts QueueTakes s.core.arrivals h.0.core.arrivals t.core.arrivals
       (go_then QueuePuts QueueTakes s.core.arrivals h.1.0.core.arrivals h.0.core.arrivals (does_grow w deed s h.1.0 h.1.1).arrivals
-          (go_same QueuePuts QueueTakes h.1.0.core.arrivals h.0.core.arrivals (ap (λ (k : TheCore). k.arrivals) (core_aside h.1.0 h.0 deed h.1.2))))
+      (go_same QueuePuts QueueTakes h.1.0.core.arrivals h.0.core.arrivals (ap (λ (k : TheCore). k.arrivals) (core_aside h.1.0 h.0 deed h.1.2))))
       (log_arrivals jobs log h.0 t h.3)
 
 carried : QueueLaw → (ps qs : List TheQueue) → QueuesGo ps qs → QueuesCarry ps qs

@@ -46,7 +46,10 @@ pub use desk::Desk;
 pub use fault::CoresFault;
 pub use gate::Gate;
 pub use job::{Job, Wish};
-pub use law::{counted_are_turns, ends_carry, jobs_are_made, queues_carry, sides_go, sides_stay_lent, turns_are_logged};
+pub use law::{
+    counted_are_turns, ends_carry, jobs_are_made, queues_carry, sides_go, sides_stay_lent,
+    turns_are_logged,
+};
 pub use plan::Plan;
 pub use run::{End, Part, core_run};
 pub use running::Running;

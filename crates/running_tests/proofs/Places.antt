@@ -17,8 +17,7 @@ last_place n e s p k k2 sound wire h =
     let place : e ≡ length k.ports = h.0.0 ∙ seats_ports k sound in
     let seats : k2.board.seats ≡ k.board.seats ++ _ ∷ [] = ap (λ (b : TheBoard). b.seats) h.0.1.3 in
     let stands : slice_get k2.ports e ≡ Some p =
-    ap (λ (x : TheCore). slice_get x.ports e) h.1 ∙ ap (slice_get (k.ports ++ p ∷ [])) place ∙ push_last k.ports p in
-    (
+    ap (λ (x : TheCore). slice_get x.ports e) h.1 ∙ ap (slice_get (k.ports ++ p ∷ [])) place ∙ push_last k.ports p in (
       slice_get_within k2.board.seats e _ (ap (λ (xs : List TheSeat). slice_get xs e) seats ∙ ap (slice_get (k.board.seats ++ _ ∷ [])) h.0.0 ∙ push_last k.board.seats _),
       ap (λ (o : Option Port). given o None (λ (q : Port). arrivals_by q.wire)) stands ∙ wire,
     )

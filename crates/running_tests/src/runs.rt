@@ -9,7 +9,13 @@ use std::sync::Wait;
 use std::test::Fail;
 
 // A run of a core alone.
-fn run<R: Wait>(rt: &R, alloc: Global, rig: &mut Rig, jobs: &[Job], limit: u64) -> Result<Part, Fail> {
+fn run<R: Wait>(
+    rt: &R,
+    alloc: Global,
+    rig: &mut Rig,
+    jobs: &[Job],
+    limit: u64,
+) -> Result<Part, Fail> {
     let mut ticket = ticket(alloc, rig.plan.ends.as_slice().len())?;
     Ok(core_run(rt, &mut rig.run, &rig.plan, jobs, limit, &mut ticket, &Open)?)
 }
@@ -34,7 +40,10 @@ fn three_calls_within_a_core(rt: HostRuntime) -> Result<(), Fail> {
         let jobs = pings(rt.alloc(), 3)?;
         let mut rig = local(rt.alloc(), 3)?;
         let part = run(&rt, rt.alloc(), &mut rig, &jobs, limit)?;
-        assert_eq!(rt; (part.turns, part.end, handled(&rig, 1)), (turns, end, calls));
+        assert_eq!(rt;
+            (part.turns, part.end, handled(&rig, 1)),
+            (turns, end, calls)
+        );
     }
     Ok(())
 }

@@ -14,8 +14,7 @@ loop-turns-preserved g c =
     let first = moment (run_of c.args.run.now) (ticket_of c.args.ticket.now) in
     let before = moment (run_of c.loop-turns.run) (ticket_of c.loop-turns.ticket) in
     let few = c.if-ended-ge-STOP.false in
-    let below = c.loop-turns-test.true in
-    (
+    let below = c.loop-turns-test.true in (
       one_turn_more w t first before _ c.loop-turns.turns c.loop-turns.invariant.0
           (counted_turn w t before c.take_stock.new.ticket.words.items c.take_stock.new.ticket.seat c.ended.new.self c.ended.result (run_of c.turn.new.self)
           c.take_stock.ensures.exchanges (sym c.take_stock.ensures.finished ∙ c.if-take_stock.false) (omega (arith, few)) c.ended.ensures.seen c.in_ok-turn.ensures.turn),
