@@ -160,13 +160,32 @@ fn end(alloc: Global) -> Result<End, AllocError> {
     End::new(alloc, program(alloc)?, Circuit(0))
 }
 
-/// A binding within one core, of queues of four slots.
-pub fn local(alloc: Global, calls: usize) -> Result<Rig, Fail> {
+// A core with so many dispatchers.
+fn core(alloc: Global, dispatchers: usize) -> Result<Core, AllocError> {
     let mut core = Core::new(alloc, CoreId(0))?;
-    core.add_dispatcher()?;
-    core.add_dispatcher()?;
-    let mut there = QueueLink::local(alloc, 4)?;
-    let mut back = QueueLink::local(alloc, 4)?;
+    for _ in 0..dispatchers {
+        core.add_dispatcher()?;
+    }
+    Ok(core)
+}
+
+// One end, or both, of the binding.
+fn ends(alloc: Global, both: bool) -> Result<Vec<EndId>, AllocError> {
+    let mut ends = Vec::new(alloc);
+    ends.push(name(Side::Client))?;
+    if both {
+        ends.push(name(Side::Server))?;
+    }
+    Ok(ends)
+}
+
+// Both ends are added.
+fn add_both(
+    alloc: Global,
+    core: &mut Core,
+    there: &mut QueueLink,
+    back: &mut QueueLink,
+) -> Result<(), Fail> {
     let client = Port {
         name: name(Side::Client),
         wire: Wire::Queues { out: 0, from: 1 },
@@ -175,30 +194,51 @@ pub fn local(alloc: Global, calls: usize) -> Result<Rig, Fail> {
         name: name(Side::Server),
         wire: Wire::Queues { out: 1, from: 0 },
     };
-    add(&mut core, 0, end(alloc)?, client, &mut back)?;
-    add(&mut core, 1, end(alloc)?, server, &mut there)?;
+    add(core, 0, end(alloc)?, client, back)?;
+    add(core, 1, end(alloc)?, server, there)
+}
+
+// Two queues of four slots.
+fn queues(alloc: Global) -> Result<Vec<QueueLink>, Fail> {
     let mut queues = Vec::new(alloc);
-    queues.push(there)?;
-    queues.push(back)?;
-    let mut ends = Vec::new(alloc);
-    ends.push(name(Side::Client))?;
-    ends.push(name(Side::Server))?;
+    queues.push(QueueLink::local(alloc, 4)?)?;
+    queues.push(QueueLink::local(alloc, 4)?)?;
+    Ok(queues)
+}
+
+// Both ends are added over the two.
+fn join(alloc: Global, core: &mut Core, queues: &mut [QueueLink]) -> Result<(), Fail> {
+    let [there, back] = queues else {
+        return Err(Fail::new("not two queues"));
+    };
+    add_both(alloc, core, there, back)
+}
+
+/// A binding within one core, of queues of four slots.
+pub fn local(alloc: Global, calls: usize) -> Result<Rig, Fail> {
+    let mut core = core(alloc, 2)?;
+    let mut queues = queues(alloc)?;
+    join(alloc, &mut core, queues.as_mut_slice())?;
+    let ends = ends(alloc, true)?;
     Ok(running(alloc, core, Vec::new(alloc), queues, ends, calls)?)
 }
 
-/// The client of a binding over a ring, whose other side is somewhere else.
-pub fn client(alloc: Global, side: SharedSide, calls: usize) -> Result<Rig, Fail> {
-    let mut core = Core::new(alloc, CoreId(0))?;
-    core.add_dispatcher()?;
-    let mut side = side;
+// The client's end is added over the ring.
+fn add_client(alloc: Global, core: &mut Core, side: &mut SharedSide) -> Result<(), Fail> {
     let port = Port {
         name: name(Side::Client),
         wire: Wire::Ring(0),
     };
-    add(&mut core, 0, end(alloc)?, port, &mut side)?;
+    add(core, 0, end(alloc)?, port, side)
+}
+
+/// The client of a binding over a ring, whose other side is somewhere else.
+pub fn client(alloc: Global, side: SharedSide, calls: usize) -> Result<Rig, Fail> {
+    let mut side = side;
+    let mut core = core(alloc, 1)?;
+    add_client(alloc, &mut core, &mut side)?;
     let mut rings = Vec::new(alloc);
     rings.push(side)?;
-    let mut ends = Vec::new(alloc);
-    ends.push(name(Side::Client))?;
+    let ends = ends(alloc, false)?;
     Ok(running(alloc, core, rings, Vec::new(alloc), ends, calls)?)
 }
