@@ -8,6 +8,7 @@
 //! - `circuits.rt`: a circuit over them opened, used and refused
 //! - `limits.rt`: ends, numbers and outboxes
 //! - `forged.rt`: messages and fragments out of their place
+//! - `makers.rt`: ends and links that are added and taken back
 //!
 //! What is refused for want of memory leaves its cores as they were, and is done again. So with any one allocation refused
 //! (`rt try --test --fail-alloc N`) all tests pass.
@@ -25,6 +26,8 @@ mod forged;
 mod limits;
 #[cfg(test)]
 mod line;
+#[cfg(test)]
+mod makers;
 #[cfg(test)]
 mod rings;
 #[cfg(test)]
