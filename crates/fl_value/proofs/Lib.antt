@@ -11,4 +11,5 @@ pub mod Tapes
 pub mod Turns
 pub mod Bits
 pub mod Ranked
+pub mod Kept
 pub mod Untaped

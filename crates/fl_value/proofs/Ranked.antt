@@ -39,7 +39,7 @@ rearranged Two ts xs = ranked 5 0 ts xs
 
 -- ---- ranks
 
-rank_small : (t : TheArgType) → rank t < 5
+pub rank_small : (t : TheArgType) → rank t < 5
 rank_small (fixed t) = by_align (λ (n : ℕ). fixed_rank n < 5) (omega arith) (omega arith) (omega arith) (omega arith) (align_of t) (type_align t)
 rank_small (text max) = omega arith
 rank_small (sized max t) = omega arith

@@ -1,6 +1,6 @@
 -- The order in which a plan lays a call's arguments out, said in two ways: as it is read (`arranged`), and rank by rank
 -- (`by_ranks`), as all code goes through it. That the two are one order is a law (`RankByRank`).
-use Rattle.std.specs.Prelude.{◌≡◌, ℕ, zero, suc, ◌+◌, ◌==◌, nat_eq, Bool, true, false, if◌then◌else◌, List, [], ◌++◌, filter}
+use Rattle.std.specs.Prelude.{◌≡◌, ℕ, zero, suc, ◌+◌, ◌==◌, ◌&&◌, nat_eq, nat_le, Bool, true, false, if◌then◌else◌, List, [], ◌∷◌, ◌++◌, filter}
 use Rattle.fl_check.specs.Interface.{TheArgType, fixed, text, sized}
 use Rattle.fl_check.specs.Sizes.{align_of}
 use Rattle.fl_value.specs.declared.value.PlanNo.{PlanNo}
@@ -54,3 +54,15 @@ by_ranks type plan args = of_ranks type plan 5 0 args
 -- the plan's order is rank by rank
 abbrev pub RankByRank : Type 0
 RankByRank = (plan : PlanNo) (types : List TheArgType) → arranged (λ t. t) plan types ≡ by_ranks (λ t. t) plan types
+
+-- ---- where the plan's order is the declared one
+
+-- no rank is below a least one, nor below one before it
+abbrev pub rising : {A : Type 0} → (A → TheArgType) → ℕ → List A → Bool
+rising type least [] = true
+rising type least (arg ∷ args) = nat_le least (rank_of Two (type arg)) && rising type (rank_of Two (type arg)) args
+
+-- the ranks never fall: the plan then keeps the declared order
+abbrev pub never_falls : PlanNo → List TheArgType → Bool
+never_falls One types = true
+never_falls Two types = rising (λ t. t) 0 types

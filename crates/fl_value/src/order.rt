@@ -4,7 +4,7 @@ ghost use Rattle.std.specs.Prelude.{◌≡◌, ◌≤◌, length, map, nat_lt, I
 ghost use Rattle.std.specs.List.{count_by};
 ghost use Rattle.fl_check.specs.Interface.{arg_type_of};
 ghost use Rattle.fl_value.specs.Value.{datum_of};
-ghost use Rattle.fl_value.specs.Plan.{arranged, fixed_rank, rank_of};
+ghost use Rattle.fl_value.specs.Plan.{arranged, fixed_rank, rank_of, rising, never_falls};
 ghost use Rattle.fl_value.specs.Tape.{beside, kind, values_of};
 
 use crate::value::{PlanNo, Value};
@@ -41,6 +41,31 @@ impl PlanNo {
             },
         }
     }
+
+    /// Whether the arguments' ranks never fall: then the plan keeps the declared order, as where all are of one rank.
+    pub(crate) fn never_falls(self, arguments: &[ArgType]) -> bool
+        ensures same { result ≡ never_falls self (map arg_type_of arguments.now) }
+    {
+        match self {
+            PlanNo::One => true,
+            PlanNo::Two => is_rising(arguments),
+        }
+    }
+}
+
+/// Whether no argument's rank under plan 2 is below that of one before it.
+fn is_rising(arguments: &[ArgType]) -> bool
+    ensures same { result ≡ rising (λ t. t) 0 (map arg_type_of arguments.now) }
+{
+    let mut least = 0;
+    for argument in arguments {
+        let rank = PlanNo::Two.rank_of(argument);
+        if rank < least {
+            return false;
+        }
+        least = rank;
+    }
+    true
 }
 
 /// How many of these arguments plan 2 puts before those of a rank.
@@ -71,7 +96,7 @@ pub(crate) fn declared_order(
     ensures many { IfOk result (λ values. length values.items ≡ length arguments.now) }
     ensures back { IfOk result (λ values. values_of (arranged kind plan (beside arguments.now values.items)) ≡ map datum_of laid_out.items) }
 {
-    if plan == PlanNo::One {
+    if plan.never_falls(arguments) {
         return Ok(laid_out);
     }
     let mut left = laid_out;

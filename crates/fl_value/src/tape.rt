@@ -178,10 +178,10 @@ fn push_arguments(
 ) -> Result<(), AllocError>
     ensures tape { OnOk result (tape.new.items ≡ tape.old.items ++ flat_map tape_of_argument (arranged kind plan (beside arguments.now values.now))) }
 {
-    match plan {
-        PlanNo::One => push_rank(tape, plan, 0, arguments, values),
-        PlanNo::Two => push_ranks(tape, arguments, values),
+    if plan.never_falls(arguments) {
+        return push_rank(tape, PlanNo::One, 0, arguments, values);
     }
+    push_ranks(tape, arguments, values)
 }
 
 /// The tape of a call.

@@ -333,13 +333,11 @@ fn read_arguments<'a>(
     ensures found { IfOk result (λ o. IfSome o (λ r. TheValues (InTurn ArgumentAt (planned_types plan (arg_types arguments.now)) tape.now) r.0.items r.1.now)) }
     ensures none { IfOk result (λ o. IfNone o (NoneOf (InTurn ArgumentAt (planned_types plan (arg_types arguments.now)) tape.now))) }
 {
-    match plan {
-        PlanNo::One => {
-            let values = Vec::with_capacity(alloc, arguments.len())?;
-            read_rank(alloc, tape, plan, 0, arguments, values)
-        }
-        PlanNo::Two => read_ranks(alloc, tape, arguments),
+    if plan.never_falls(arguments) {
+        let values = Vec::with_capacity(alloc, arguments.len())?;
+        return read_rank(alloc, tape, PlanNo::One, 0, arguments, values);
     }
+    read_ranks(alloc, tape, arguments)
 }
 
 /// The call of a message that has this tape; none where no fitting call has it, as where a number is

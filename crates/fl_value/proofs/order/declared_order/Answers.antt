@@ -1,4 +1,4 @@
-use Rattle.std.proofs.Common.{◌≡◌, ◌+◌, ◌-◌, ◌++◌, [], ◌∷◌, ℕ, List, length, map, take, drop, ltb, refl, ap, sym, ◌∙◌, arith, rules, subst, append_assoc, append-nil}
+use Rattle.std.proofs.Common.{◌≡◌, ◌+◌, ◌-◌, ◌++◌, [], ◌∷◌, ℕ, List, length, map, take, drop, ltb, refl, ap, sym, ◌∙◌, arith, subst, append_assoc, append-nil}
 use Rattle.std.specs.List.{count_by, zip}
 use Rattle.std.proofs.lemmas.List.{take_all, drop_all, length-drop, length-map, length_push}
 use Rattle.fl_check.specs.declared.interface.ArgType.{ArgType}
@@ -9,6 +9,7 @@ use Rattle.fl_value.specs.declared.value.PlanNo.TheVariants.{One, Two}
 use Rattle.fl_value.specs.Value.{Datum, datum_of}
 use Rattle.fl_value.specs.Plan.{arranged}
 use Rattle.fl_value.specs.Tape.{kind, values_of}
+use Rattle.fl_value.proofs.Kept.{kept_arguments, falls}
 use Rattle.fl_value.proofs.Turns.{map_pushed, map_dropped}
 use Rattle.fl_value.proofs.Ranked.{rank, rearranged, order_step, before, seconds_arranged}
 use Rattle.fl_value.proofs.order.declared_order.Goals as goal
@@ -63,17 +64,16 @@ returns-clause-back c =
     let end : rearranged Two (map arg_type_of (drop index arguments)) [] ≡ map datum_of c.loop-index.left.items
     = ap (λ (ts : List ArgType). rearranged Two (map arg_type_of ts) []) (drop_all index arguments c.loop-index-test.false) ∙ ap (map datum_of) (sym none) in
     let all = c.loop-index.invariant.back [] (omega arith) end in
-    let two : c.args.plan ≡ Two = search rules in
+    let two : c.args.plan ≡ Two = falls c.args.plan (map arg_type_of arguments) (sym c.if-never_falls.ensures.same) in
     let whole : index ≡ length arguments = omega (arith, c.loop-index.invariant.many, c.loop-index-test.false) in
     let values = map datum_of c.loop-index.values.items in
     let long = length-map c.loop-index.values.items datum_of ∙ c.loop-index.invariant.few ∙ whole ∙ sym (length-map arguments arg_type_of) in
     subst (λ (plan : PlanNo). values_of (arranged kind plan (zip (map arg_type_of arguments) values)) ≡ map datum_of c.args.laid_out.items) (sym two)
     (seconds_arranged Two (map arg_type_of arguments) values long ∙ ap (rearranged Two (map arg_type_of arguments)) (sym (append-nil values)) ∙ all)
 
-pub returns-then-eq-clause-back : goal.returns-then-eq-clause-back
-returns-then-eq-clause-back c =
-    let one : c.args.plan ≡ One = search rules in
+pub returns-then-never_falls-clause-back : goal.returns-then-never_falls-clause-back
+returns-then-never_falls-clause-back c =
     let values = map datum_of c.args.laid_out.items in
     let types = map arg_type_of c.args.arguments.now in
     let long = length-map c.args.laid_out.items datum_of ∙ c.requires.as_many ∙ sym (length-map c.args.arguments.now arg_type_of) in
-    subst (λ (plan : PlanNo). values_of (arranged kind plan (zip types values)) ≡ values) (sym one) (seconds_arranged One types values long)
+    ap values_of (kept_arguments c.args.plan types values (sym c.if-never_falls.ensures.same)) ∙ seconds_arranged One types values long

@@ -1,21 +1,24 @@
-use Rattle.std.proofs.Common.{sym, map}
+use Rattle.std.proofs.Common.{sym, ◌∙◌, map}
 use Rattle.std.specs.List.{zip}
 use Rattle.fl_check.specs.Interface.{arg_type_of}
-use Rattle.fl_value.specs.declared.value.PlanNo.TheVariants.{Two}
 use Rattle.fl_value.specs.Value.{datum_of}
 use Rattle.fl_value.specs.Tape.{kind}
 use Rattle.fl_value.proofs.Ranked.{one_rank, arranged_ranks}
+use Rattle.fl_value.proofs.Kept.{kept_arguments, falls}
 use Rattle.fl_value.proofs.tape.push_arguments.Goals as goal
 
-pub returns-in-One : goal.returns-in-One
-returns-in-One c =
-    let args = zip (map arg_type_of c.args.arguments.now) (map datum_of c.args.values.now) in
-    let h = rw c.in-One.is at c.push_rank.ensures.tape in
-    let k = rw (one_rank kind args) at h in
-    rw c.in-One.is (record { tape = k })
+pub returns-then-never_falls : goal.returns-then-never_falls
+returns-then-never_falls c =
+    let types = map arg_type_of c.args.arguments.now in
+    let values = map datum_of c.args.values.now in
+    let all = one_rank kind (zip types values) ∙ sym (kept_arguments c.args.plan types values (sym c.if-never_falls.ensures.same)) in
+    let h = rw all at c.push_rank.ensures.tape in
+    record { tape = h }
 
-pub returns-in-Two : goal.returns-in-Two
-returns-in-Two c =
-    let args = zip (map arg_type_of c.args.arguments.now) (map datum_of c.args.values.now) in
-    let h = rw (sym (arranged_ranks kind Two args)) at c.push_ranks.ensures.tape in
-    rw c.in-Two.is (record { tape = h })
+pub returns : goal.returns
+returns c =
+    let types = map arg_type_of c.args.arguments.now in
+    let values = map datum_of c.args.values.now in
+    let two = falls c.args.plan types (sym c.if-never_falls.ensures.same) in
+    let h = rw (sym (arranged_ranks kind c.args.plan (zip types values))) at (rw (sym two) at c.push_ranks.ensures.tape) in
+    record { tape = h }
