@@ -10,7 +10,7 @@ use Rattle.fl_value.specs.Tape.{types_of}
 use Rattle.fl_wire.specs.Payload.{frags_on}
 use Rattle.fl_compile.specs.declared.program.Program.{Program}
 use Rattle.fl_compile.specs.Programs.{TheProgram, program_of}
-use Rattle.fl_machine.specs.Receiving.{TheHeld, TheReceiving}
+use Rattle.fl_machine.specs.Reassembling.{TheReassembly}
 use Rattle.fl_endpoint.specs.View.{TheEnd, TheOutgoing, interface_in, number_or_0, queued, queued_if, wrote, reply_to, rule_at, holds_back, with_call, with_written, with_handled, with_failed}
 use Rattle.fl_endpoint.specs.Accounts.{IsRule, Sound}
 use Rattle.fl_endpoint.specs.Rules.{rules_of}
@@ -68,36 +68,36 @@ written_end e out rest circuit bound is =
     end_with_outgoing e out circuit (wrote rest (outgoing_of (program_in e) circuit e.outgoing)) bound is
     ∙ ap (λ (k : ℕ). record (end_of e) { outgoing = wrote rest (outgoing_of (program_in e) k e.outgoing) }) (sym (number_is (circuit_of e.circuit) circuit bound))
 
--- ---- the receive run
+-- ---- the call under way
 
--- an end with a receive run of these parts
-abbrev pub with_fed : Inside → Program → List Frag → List Frag → Option TheHeld → Inside
-with_fed e program parts whole before = record {
-  incoming = record { alloc = e.incoming.alloc; plans = e.incoming.plans; recv = record { program = program; parts = parts; whole = whole; before = before } };
+-- an end with these parts of the call under way
+abbrev pub with_fed : Inside → Program → List Frag → Inside
+with_fed e program parts = record {
+  incoming = record { alloc = e.incoming.alloc; plans = e.incoming.plans; recv = record { program = program; parts = parts } };
   rules = e.rules;
   circuit = e.circuit;
   outgoing = e.outgoing;
   failed = e.failed;
 }
 
-abbrev pub with_recv : Inside → TheReceiving → Inside
-with_recv e r = with_fed e r.program r.parts r.whole r.before
+abbrev pub with_recv : Inside → TheReassembly → Inside
+with_recv e r = with_fed e r.program r.parts
 
-pub fed_view : (e : Inside) (r : TheReceiving) → r.program ≡ e.incoming.recv.program → end_of (with_recv e r) ≡ record (end_of e) { parts = r.parts }
-fed_view e r same = ap (λ (p : Program). end_of (with_fed e p r.parts r.whole r.before)) same
+pub fed_view : (e : Inside) (r : TheReassembly) → r.program ≡ e.incoming.recv.program → end_of (with_recv e r) ≡ record (end_of e) { parts = r.parts }
+fed_view e r same = ap (λ (p : Program). end_of (with_fed e p r.parts)) same
 
-fed_same : (e : Inside) (parts whole : List Frag) (before : Option TheHeld) → IsEnd e → Sound (record (end_of e) { parts = parts })
-    → IsEnd (with_fed e e.incoming.recv.program parts whole before)
-fed_same e parts whole before is sound = record { interface = is.interface; plan = is.plan; outgoing = is.outgoing; sound = sound }
+fed_same : (e : Inside) (parts : List Frag) → IsEnd e → Sound (record (end_of e) { parts = parts })
+    → IsEnd (with_fed e e.incoming.recv.program parts)
+fed_same e parts is sound = record { interface = is.interface; plan = is.plan; outgoing = is.outgoing; sound = sound }
 
-pub fed_is_end : (e : Inside) (r : TheReceiving) → r.program ≡ e.incoming.recv.program → IsEnd e → Sound (record (end_of e) { parts = r.parts }) → IsEnd (with_recv e r)
-fed_is_end e r same is sound = subst (λ (p : Program). IsEnd (with_fed e p r.parts r.whole r.before)) (sym same) (fed_same e r.parts r.whole r.before is sound)
+pub fed_is_end : (e : Inside) (r : TheReassembly) → r.program ≡ e.incoming.recv.program → IsEnd e → Sound (record (end_of e) { parts = r.parts }) → IsEnd (with_recv e r)
+fed_is_end e r same is sound = subst (λ (p : Program). IsEnd (with_fed e p r.parts)) (sym same) (fed_same e r.parts is sound)
 
--- a failed end, whose run is as before
-pub failed_is_end : (e : Inside) (r : TheReceiving) → r ≡ e.incoming.recv → IsEnd e → Sound (with_failed (end_of e))
+-- a failed end, which has taken nothing
+pub failed_is_end : (e : Inside) (r : TheReassembly) → r ≡ e.incoming.recv → IsEnd e → Sound (with_failed (end_of e))
     → IsEnd (record { incoming = record { alloc = e.incoming.alloc; plans = e.incoming.plans; recv = r }; rules = e.rules; circuit = e.circuit; outgoing = e.outgoing; failed = true })
 failed_is_end e r same is sound =
-    subst (λ (x : TheReceiving). IsEnd (record { incoming = record { alloc = e.incoming.alloc; plans = e.incoming.plans; recv = x }; rules = e.rules; circuit = e.circuit; outgoing = e.outgoing; failed = true }))
+    subst (λ (x : TheReassembly). IsEnd (record { incoming = record { alloc = e.incoming.alloc; plans = e.incoming.plans; recv = x }; rules = e.rules; circuit = e.circuit; outgoing = e.outgoing; failed = true }))
     (sym same) (record { interface = is.interface; plan = is.plan; outgoing = is.outgoing; sound = sound })
 
 -- ---- calls handled
@@ -110,7 +110,7 @@ accepted_as p circuit o (Some c) (Some reply) q = ap (queued o) (q.frags circuit
 accepted_as p circuit o None (Some reply) q = absurd q
 accepted_as p circuit o (Some c) None q = absurd q
 
-pub handled_end : (e : Inside) (r : TheReceiving) (out : Outgoing) (c : TheCall) (reply : Option Queued) (circuit : ℕ) → circuit_of e.circuit ≡ Some circuit
+pub handled_end : (e : Inside) (r : TheReassembly) (out : Outgoing) (c : TheCall) (reply : Option Queued) (circuit : ℕ) → circuit_of e.circuit ≡ Some circuit
     → r.program ≡ e.incoming.recv.program → r.parts ≡ [] → QueuesReply (program_in e) (reply_to (rules_of e.rules.replies.items) c) reply
     → outgoing_of (program_in e) circuit out ≡ queued_if (outgoing_of (program_in e) circuit e.outgoing) (option_map (queued_frags (program_in e) circuit) reply)
     → end_of (end_with (with_recv e r) out) ≡ with_handled (end_of e) c
@@ -121,11 +121,11 @@ handled_end e r out c reply circuit bound same none queues is =
     let out_is : outgoing_of p (number_or_0 (circuit_of e.circuit)) out ≡ queued_if (outgoing_of p (number_or_0 (circuit_of e.circuit)) e.outgoing) (option_map (frags_on (number_or_0 (circuit_of e.circuit)) p.plan p.interface) due)
     = subst (λ (k : ℕ). outgoing_of p k out ≡ queued_if (outgoing_of p k e.outgoing) (option_map (frags_on k p.plan p.interface) due)) (sym n)
     (is ∙ accepted_as p circuit (outgoing_of p circuit e.outgoing) due reply queues) in
-    ap (λ (q : Program). end_of (end_with (with_fed e q r.parts r.whole r.before) out)) same
-    ∙ ap (λ (xs : List Frag). end_of (end_with (with_fed e e.incoming.recv.program xs r.whole r.before) out)) none
+    ap (λ (q : Program). end_of (end_with (with_fed e q r.parts) out)) same
+    ∙ ap (λ (xs : List Frag). end_of (end_with (with_fed e e.incoming.recv.program xs) out)) none
     ∙ ap (λ (o : TheOutgoing). record (end_of e) { parts = []; outgoing = o }) out_is
 
-pub handled_is_end : (e : Inside) (r : TheReceiving) (out : Outgoing) (c : TheCall) → r.program ≡ e.incoming.recv.program → IsEnd e → IsOutgoing (program_in e) out
+pub handled_is_end : (e : Inside) (r : TheReassembly) (out : Outgoing) (c : TheCall) → r.program ≡ e.incoming.recv.program → IsEnd e → IsOutgoing (program_in e) out
     → end_of (end_with (with_recv e r) out) ≡ with_handled (end_of e) c → Sound (with_handled (end_of e) c) → IsEnd (end_with (with_recv e r) out)
 handled_is_end e r out c same is outgoing view sound = record {
   interface = is.interface ∙ ap (λ (p : Program). (program_of p).interface) (sym same);

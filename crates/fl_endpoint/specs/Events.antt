@@ -101,6 +101,13 @@ pub record AreCall (s : TheEnd) (frags : List Frag) (c : TheCall) : Type 0 where
   pub mean : frags ≡ frags_of (plan_in s) (interface_in s) c
   pub only : (d : TheCall) → fits_of (interface_in s) d ≡ true → frags ≡ frags_of (plan_in s) (interface_in s) d → d ≡ c
 
+-- a call that is whole is handled, or memory ran out for the reply to it
+abbrev pub Handles : TheEnd → TheCall → Result ReceiveAnswer EndFault → TheEnd → Type 0
+Handles s c (Ok (Handle call)) t = (call_of call ≡ c) × (t ≡ with_handled s c)
+Handles s c (Ok answer) t = ⊥
+Handles s c (Err Memory) t = t ≡ s
+Handles s c (Err fault) t = ⊥
+
 -- what the end's receive run makes of a fragment, which is bare: epochs and counts told are the side's
 abbrev pub TakesIn : TheEnd → Frag → Result ReceiveAnswer EndFault → TheEnd → Type 0
 TakesIn s f (Ok Part) t = IsPart (plan_in s) (interface_in s) (s.parts ++ f ∷ []) × (t ≡ with_part s f)

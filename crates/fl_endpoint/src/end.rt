@@ -1,14 +1,15 @@
 //! An end of a binding.
 
-ghost use Rattle.std.specs.Prelude.{◌≡◌, ℕ, false, length, slice_get, Some, None, IfOk, IfSome};
+ghost use Rattle.std.specs.Prelude.{◌≡◌, ℕ, true, false, length, slice_get, Some, None, IfOk, IfSome};
 ghost use Rattle.fl_value.specs.Value.{call_of};
+ghost use Rattle.fl_value.specs.Fits.{fits_of};
 ghost use Rattle.fl_base.specs.Control.{bare};
 ghost use Rattle.fl_endpoint.specs.Accounts.{Sound};
 ghost use Rattle.fl_endpoint.specs.Rules.{rule_of};
 ghost use Rattle.fl_endpoint.specs.Stored.{IsOwn};
 ghost use Rattle.fl_endpoint.specs.Inside.{circuit_of};
 ghost use Rattle.fl_endpoint.specs.View.{interface_in, fresh, bound, is_circuit, is_busy, rule_at, has_rules, holds_back};
-ghost use Rattle.fl_endpoint.specs.Events.{Readies, Admits, Calls, Writes, ShowsNext, TakesIn, Receives, SetsRule, Exchanges};
+ghost use Rattle.fl_endpoint.specs.Events.{Readies, Admits, Calls, Writes, ShowsNext, TakesIn, Receives, Handles, SetsRule, Exchanges};
 
 use crate::answer::{ReceiveAnswer, WriteAnswer};
 use crate::fault::EndFault;
@@ -19,7 +20,7 @@ use fl_base::{Circuit, Frag, MsgNo};
 use fl_check::same_args;
 use fl_compile::Program;
 use fl_link::{PutFault, PutSide, Sight, TakeSide};
-use fl_machine::Fed;
+use fl_machine::{TakeFault, Taken};
 use fl_value::{Call, fits};
 use fl_wire::one_reading;
 use std::alloc::{AllocError, Global};
@@ -304,6 +305,25 @@ impl End {
         }
     }
 
+    // A call that is whole is handled, and the reply to it by rule accepted.
+    fn handle(&mut self, circuit: Circuit, call: Call) -> Result<ReceiveAnswer, EndFault>
+        requires bound { self.old.circuit ≡ Some circuit.0 }
+        requires takes { holds_back self.old ≡ false }
+        requires fits { fits_of (interface_in self.old) (call_of call) ≡ true }
+        ensures handles { Handles self.old (call_of call) result self.new }
+    {
+        let mut call = call;
+        match self.incoming.reply(&self.rules, &mut call) {
+            Err(_) => Err(EndFault::Memory),
+            Ok(reply) => {
+                self.incoming.recv.finish();
+                let program = self.incoming.recv.program();
+                self.outgoing.accept(program, circuit, reply);
+                Ok(ReceiveAnswer::Handle(call))
+            }
+        }
+    }
+
     // What a fragment that is to be taken comes to.
     fn take_in(&mut self, circuit: Circuit, frag: &Frag) -> Result<ReceiveAnswer, EndFault>
         requires bare { bare frag.now ≡ frag.now }
@@ -312,23 +332,14 @@ impl End {
         ensures takes_in { TakesIn self.old frag.now result self.new }
     {
         one_reading();
-        match self.incoming.recv.feed(frag) {
-            Err(fault) => {
+        match self.incoming.recv.take(self.incoming.alloc, frag) {
+            Err(TakeFault::Memory) => Err(EndFault::Memory),
+            Err(TakeFault::Wire(fault)) => {
                 self.failed = true;
                 Err(EndFault::Wire(fault))
             }
-            Ok(Fed::Part) => Ok(ReceiveAnswer::Part),
-            Ok(Fed::Whole) => match self.incoming.whole(&self.rules) {
-                Err(_) => {
-                    self.incoming.recv.undo();
-                    Err(EndFault::Memory)
-                }
-                Ok((call, reply)) => {
-                    let program = self.incoming.recv.program();
-                    self.outgoing.accept(program, circuit, reply);
-                    Ok(ReceiveAnswer::Handle(call))
-                }
-            },
+            Ok(Taken::Part) => Ok(ReceiveAnswer::Part),
+            Ok(Taken::Whole(call)) => self.handle(circuit, call),
         }
     }
 

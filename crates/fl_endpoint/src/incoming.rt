@@ -1,12 +1,11 @@
-//! What an end takes: the receive run, and the calls that it makes whole.
+//! What an end takes: calls that are put together from fragments, and the replies to them.
 
-ghost use Rattle.std.specs.Prelude.{◌≡◌, ◌≢◌, [], true, IfOk};
+ghost use Rattle.std.specs.Prelude.{◌≡◌, [], true, IfOk};
 ghost use Rattle.fl_check.specs.Interface.{interface_of};
 ghost use Rattle.fl_value.specs.Value.{call_of};
 ghost use Rattle.fl_value.specs.Fits.{fits_of};
-ghost use Rattle.fl_wire.specs.Reading.{Means};
 ghost use Rattle.fl_compile.specs.Programs.{program_of};
-ghost use Rattle.fl_machine.specs.Receiving.{HoldsTapes, plan_in, interface_in};
+ghost use Rattle.fl_machine.specs.Receiving.{HoldsTapes};
 ghost use Rattle.fl_base.specs.Control.{bare};
 ghost use Rattle.fl_endpoint.specs.View.{reply_to};
 ghost use Rattle.fl_endpoint.specs.Rules.{rules_of};
@@ -18,16 +17,16 @@ use crate::rules::Rules;
 use fl_base::{Frag, MsgNo};
 use fl_compile::Program;
 use fl_layout::{Plans, plan};
-use fl_machine::RecvRun;
+use fl_machine::Reassembly;
 use fl_value::Call;
 use std::alloc::{AllocError, Global};
 
-/// The receive run of an end, which has its program, and the program's layout.
+/// The calls that come to an end, put together for its program, and the program's layout.
 #[derive(Drop)]
 pub(crate) struct Incoming {
     pub(crate) alloc: Global,
     pub(crate) plans: Plans,
-    pub(crate) recv: RecvRun,
+    pub(crate) recv: Reassembly,
 }
 
 // How many numbers the longest tape of any call has.
@@ -54,7 +53,7 @@ pub(crate) fn without_stamp(frag: &Frag) -> Frag
 }
 
 impl Incoming {
-    // A run that nothing was fed to.
+    // Nothing was taken yet.
     pub(crate) fn new(alloc: Global, program: Program) -> Result<Incoming, AllocError>
         ensures program { IfOk result (λ incoming. incoming.recv.program ≡ program) }
         ensures parts { IfOk result (λ incoming. incoming.recv.parts ≡ []) }
@@ -63,29 +62,30 @@ impl Incoming {
     {
         let plans = plan(alloc, program.interface(), program.plan())?;
         let capacity = tape_capacity(&plans);
-        let recv = RecvRun::new(alloc, program, capacity)?;
+        let recv = Reassembly::new(alloc, program, capacity)?;
         Ok(Incoming { alloc, plans, recv })
     }
 
-    // The call that is whole, and the reply to it by rule, if there is one.
-    pub(crate) fn whole(&self, rules: &Rules) -> Result<(Call, Option<Queued>), AllocError>
+    // The reply by rule to a call that is whole, if there is one.
+    pub(crate) fn reply(&self, rules: &Rules, call: &mut Call) -> Result<Option<Queued>, AllocError>
         requires interface { interface_of self.now.plans.interface ≡ (program_of self.now.recv.program).interface }
         requires plan { self.now.plans.plan ≡ (program_of self.now.recv.program).plan }
         requires rules { AreRules (program_of self.now.recv.program).interface (rules_of rules.now.replies.items) }
-        requires whole { self.now.recv.whole ≢ [] }
-        ensures fits { IfOk result (λ both. fits_of (program_of self.now.recv.program).interface (call_of both.0) ≡ true) }
-        ensures means { IfOk result (λ both. Means (plan_in self.now.recv) (interface_in self.now.recv) self.now.recv.whole (call_of both.0) 0) }
-        ensures reply { IfOk result (λ both.
-            QueuesReply (program_of self.now.recv.program) (reply_to (rules_of rules.now.replies.items) (call_of both.0)) both.1) }
+        requires fits { fits_of (program_of self.now.recv.program).interface (call_of call.old) ≡ true }
+        ensures same { call_of call.new ≡ call_of call.old }
+        ensures reply { IfOk result (λ reply.
+            QueuesReply (program_of self.now.recv.program) (reply_to (rules_of rules.now.replies.items) (call_of call.old)) reply) }
     {
-        let mut call = self.recv.whole_call(self.alloc)?;
         let msg = call.msg;
         let Some(reply) = rules.reply_to(msg) else {
-            return Ok((call, None));
+            return Ok(None);
         };
         call.msg = reply;
-        let queued = Queued::of(self.alloc, self.recv.program(), &self.plans, &call)?;
+        let queued = Queued::of(self.alloc, self.recv.program(), &self.plans, call);
         call.msg = msg;
-        Ok((call, Some(queued)))
+        match queued {
+            Ok(queued) => Ok(Some(queued)),
+            Err(fault) => Err(fault),
+        }
     }
 }

@@ -50,8 +50,9 @@ use Rattle.fl_machine.specs.declared.intake.Fed.TheVariants.{Part, Whole}
 use Rattle.fl_machine.specs.declared.recv.Begun.{Begun}
 use Rattle.fl_machine.specs.declared.recv.Ended.{Ended}
 use Rattle.fl_machine.specs.Sending.{frag_of, frags_holding}
-use Rattle.fl_machine.specs.Taking.{Stands, words_bytes, so_far}
-use Rattle.fl_machine.specs.Receiving.{block_for, block_at, frags_begun, parts_of, whole_of, TheHeld, TheReceiving, plan_in, interface_in, Feeds, AddsPart, AddsLast, IsRefused, HoldsTapes, IsBegun, IsEnded}
+use Rattle.fl_machine.specs.Taking.{Stands, words_bytes, so_far, HasRoom}
+use Rattle.fl_machine.specs.Receiving.{block_for, block_at, frags_begun, parts_of, whole_of, TheHeld, TheReceiving, plan_in, interface_in, Feeds, AddsPart, AddsLast, IsRefused, HoldsTapes, HasPlaces, IsBegun, IsEnded}
+use Rattle.fl_compile.specs.Programs.{TheProgram}
 use Rattle.fl_machine.proofs.Begun.{same_begun, begun_length, bare_begun, Grown, grows, byte_of_frags}
 
 -- ---- calls and what code takes
@@ -244,6 +245,11 @@ has_room plan i tape b f ops capacity x room t full turns =
     let blocks = one_block plan i b.msg.0 x.message ops x.has x.ops_are in
     let (c, carries) = call_of_turns plan i b.msg.0 x.message t full x.has (subst (λ (k : Block). Turns k t full) blocks turns) in
     omega (arith, room c carries.fits, ap length carries.tape_is)
+
+pub has_places : (p : TheProgram) (tape : List ℕ) (b : Begun) (f : Frag) (ops : List Op) (places : ℕ) → Taking p.plan p.interface tape b f ops → HasPlaces p b.intake.count places
+    → HasRoom ops b.intake.count 56 places
+has_places p tape b f ops places x (inl fits) = inl (has_room p.plan p.interface tape b f ops places x fits)
+has_places p tape b f ops places x (inr room) = inr room
 
 -- a call has few fragments
 pub few_fed : (plan : PlanNo) (i : TheInterface) (tape : List ℕ) (b : Begun) (f : Frag) (ops : List Op) → Taking plan i tape b f ops → b.fed + 1 < 2 ^ 64

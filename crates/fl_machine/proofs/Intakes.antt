@@ -23,7 +23,7 @@ use Rattle.fl_machine.specs.declared.cursor.Loop.{Loop}
 use Rattle.fl_machine.specs.declared.intake.Field.{Field}
 use Rattle.fl_machine.specs.declared.intake.Intake.{Intake}
 use Rattle.fl_machine.specs.Cursors.{loop_of, no_loop, loops_of}
-use Rattle.fl_machine.specs.Taking.{words_bytes, field_view, rest_of, IsTaking, IsWaiting, IsAtField, IsAt, Stands, IsFed, HasField, Passes, PassesOne, StepsOver, Grows, AreZeros, FirstSet, IsRunOf, inner_loop}
+use Rattle.fl_machine.specs.Taking.{words_bytes, field_view, rest_of, IsTaking, IsWaiting, IsAtField, IsAt, Stands, IsFed, HasField, Passes, PassesOne, StepsOver, Grows, AreZeros, FirstSet, IsRunOf, inner_loop, HasRoom}
 use Rattle.fl_machine.proofs.Turns.{at_op, loops_length, loops_popped, loops_pushed}
 
 -- instructions that take no bytes
@@ -416,6 +416,18 @@ room_here ops taken c all left f low room fed field least high fits told_so =
     let long = fits _ _ on.turns in
     let more : length (onto f.told low on.tail) ≡ suc (length on.tail) = ap (λ (t : Bool). length (onto t low on.tail)) told_so in
     omega (arith, long, more, length-append taken (onto f.told low on.tail))
+
+-- room for some numbers is room for those that are left of them
+pub room_on : (ops : List Op) (count count2 bytes bytes2 places : ℕ) → HasRoom ops count bytes places → count2 + bytes2 ≤ count + bytes → HasRoom ops count2 bytes2 places
+room_on ops count count2 bytes bytes2 places (inl fits) less = inl fits
+room_on ops count count2 bytes bytes2 places (inr room) less = inr (omega (arith, room, less))
+
+pub room_told : (ops : List Op) (tape : List ℕ) (c : Intake) (all left : List ℕ) (f : Field) (low bytes : ℕ) → IsFed ops (take c.count tape) c all left → HasField ops c f → f.least ≤ low → low ≤ f.last
+    → c.count ≤ length tape → HasRoom ops c.count bytes (length tape) → 0 < bytes → f.told ≡ true → c.count < length tape
+room_told ops tape c all left f low bytes fed field least high within (inl fits) some told_so =
+    let room = room_here ops (take c.count tape) c all left f low (length tape) fed field least high fits told_so in
+    omega (arith, room, length-take-le c.count tape within)
+room_told ops tape c all left f low bytes fed field least high within (inr room) some told_so = omega (arith, room, some)
 
 pub whole_here : (ops : List Op) (taken taken2 : List ℕ) (c c1 c2 c3 : Intake) (all left rest : List ℕ) (f : Field) (low n : ℕ) → IsFed ops taken c all left → HasField ops c f
     → Grows c.have c.value low n left rest → c.have + n ≡ f.width → low ≤ f.last → f.least ≤ low

@@ -1,10 +1,13 @@
 -- The public promises rest on these: the fragments that a run gives or was fed, and the laws.
 pub mod Sending
 pub mod Receiving
+pub mod Reassembling
 pub mod Rounds
 pub mod Laws
--- Working files: what runs store as the first group sees it (`Cursors`, `Taking`, `Runs`), and how a fragment is filled.
+-- Working files: what runs store as the first group sees it (`Cursors`, `Taking`, `Runs`,
+-- `Reassembled`), and how a fragment is filled.
 pub mod Cursors
 pub mod Taking
 pub mod Runs
+pub mod Reassembled
 pub mod Filling

@@ -1,5 +1,5 @@
 -- What a run of receive code was fed: fragments, each list a function of what the run stores.
-use Rattle.std.specs.Prelude.{◌≡◌, ◌⊎◌, ℕ, ◌*◌, ◌<◌, ◌≤◌, true, if◌then◌else◌, List, [], ◌∷◌, ◌++◌, map, take, length}
+use Rattle.std.specs.Prelude.{◌≡◌, ◌⊎◌, ℕ, ◌+◌, ◌*◌, ◌<◌, ◌≤◌, true, if◌then◌else◌, List, [], ◌∷◌, ◌++◌, map, take, length}
 use Rattle.std.specs.Prelude.{slice_get, slice_index, Option, Some, None, Result, Ok, Err}
 use Rattle.std.specs.Option.{option_map}
 use Rattle.std.specs.List.{range_with_len}
@@ -152,6 +152,10 @@ Undoes r s = s ≡ undone r r.before
 abbrev pub HoldsTapes : PlanNo → TheInterface → ℕ → Type 0
 HoldsTapes plan i capacity = (c : TheCall) → fits_of i c ≡ true → tape_length plan i c ≤ capacity
 
+-- a tape of so many places has room for a fragment's numbers behind so many: for each call's, or for one a byte
+abbrev pub HasPlaces : TheProgram → ℕ → ℕ → Type 0
+HasPlaces p count places = HoldsTapes p.plan p.interface places ⊎ (count + 56 ≤ places)
+
 -- a call of which so many fragments were fed, or which is to begin
 pub record IsBegun (plan : PlanNo) (i : TheInterface) (tape : List ℕ) (b : Begun) : Type 0 where
   pub message : TheMessage
@@ -216,6 +220,10 @@ StandsIn p tape stand = IsStand p.plan p.interface tape stand
 -- what feeding a fragment comes to, where the run then stands so on a tape
 abbrev pub AddsUpTo : TheProgram → List Frag → Frag → List ℕ → Stand → Type 0
 AddsUpTo p parts f tape stand = Adds p.plan p.interface parts f (fed_of p.plan p.interface tape stand) stand
+
+-- the fragments of a whole tape mean the call
+abbrev pub MeansWhole : TheProgram → List ℕ → Ended → TheCall → Type 0
+MeansWhole p tape e c = Means p.plan p.interface (whole_of p.plan p.interface tape e) c 0
 
 abbrev pub HasFaultIn : TheProgram → List Frag → Frag → WireFault → Type 0
 HasFaultIn p parts f fault = HasFault p.plan p.interface parts f fault

@@ -7,7 +7,7 @@ use Rattle.fl_stub.specs.declared.mark.Mark.{Mark}
 use Rattle.fl_stub.specs.declared.mark.Mark.TheVariants.{Length}
 use Rattle.fl_machine.specs.declared.cursor.Loop.{Loop}
 use Rattle.fl_stub.specs.Frames.{block_of}
-use Rattle.fl_stub.specs.Meaning.{number_bytes}
+use Rattle.fl_stub.specs.Meaning.{Turns, number_bytes}
 use Rattle.fl_stub.specs.Given.{bytes_given}
 use Rattle.fl_stub.specs.Streams.{Follows, BeginsPayload, IsPayload, LeavesPayloads}
 use Rattle.fl_stub.specs.Rests.{TheField, Rest, rest_all, rest_from, steps_left, left_behind, is_taken, taken_field, is_silent}
@@ -87,6 +87,11 @@ bytes_left buffer used = drop used (take 56 buffer)
 -- a run whose numbers are the first of a tape, fed up to a place of a fragment
 abbrev pub IsFedBy : List Op → List ℕ → Intake → List ℕ → List ℕ → ℕ → Type 0
 IsFedBy ops tape c all buffer used = IsFed ops (take c.count tape) c all (bytes_left buffer used)
+
+-- a tape of so many places has room, behind so many numbers, for those of so many bytes: it has room for those of each payload,
+-- or for one a byte
+abbrev pub HasRoom : List Op → ℕ → ℕ → ℕ → Type 0
+HasRoom ops count left places = ((t full : List ℕ) → Turns (block_of ops) t full → length t ≤ places) ⊎ (count + left ≤ places)
 
 -- an instruction that takes bytes, and what it takes
 pub record HasField (ops : List Op) (c : Intake) (f : Field) : Type 0 where

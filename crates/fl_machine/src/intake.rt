@@ -7,14 +7,14 @@ ghost use Rattle.fl_stub.specs.declared.op.Op.TheVariants.{Times as times_op, Ba
 ghost use Rattle.fl_stub.specs.declared.mark.Mark.TheVariants.{Length as length_mark, Zero as zero_mark};
 ghost use Rattle.fl_stub.specs.Structure.{IsCode, is_width};
 ghost use Rattle.fl_stub.specs.Frames.{block_of};
-ghost use Rattle.fl_stub.specs.Meaning.{Turns, number_bytes, gap_to_8};
+ghost use Rattle.fl_stub.specs.Meaning.{number_bytes, gap_to_8};
 ghost use Rattle.fl_stub.specs.Streams.{LeavesPayloads};
 ghost use Rattle.fl_stub.specs.Rests.{no_more, is_taken, taken_field, zeros_field, told};
 ghost use Rattle.fl_machine.specs.declared.intake.Fed.TheVariants.{Part as part, Whole as whole};
 ghost use Rattle.fl_machine.specs.Cursors.{loops_of};
 ghost use Rattle.fl_machine.specs.Taking.{Stands, TakesPart, TakesWhole, TakesWrong, IsFedBy, bytes_left, IsTaking, IsAtField, HasField};
 ghost use Rattle.fl_machine.specs.Taking.{Passes, PassesOne, StepsOver, Grows, AreZeros, FirstSet, IsRunOf, AreWithin, inner_loop, turned};
-ghost use Rattle.fl_machine.specs.Taking.{after_bytes, words_bytes, field_view, rest_of};
+ghost use Rattle.fl_machine.specs.Taking.{after_bytes, words_bytes, field_view, rest_of, HasRoom};
 
 use crate::cursor::{Loop, behind, is_op};
 use fl_stub::{Mark, Op};
@@ -306,7 +306,8 @@ impl Field {
 impl Intake {
     /// At the first instruction.
     pub(crate) fn new() -> Intake
-        ensures { (ops : List Op) → IsCode receive ops (block_of ops) → Stands ops [] result [] }
+        ensures stands { (ops : List Op) → IsCode receive ops (block_of ops) → Stands ops [] result [] }
+        ensures none { result.count ≡ 0 }
     {
         Intake {
             place: 0,
@@ -320,6 +321,7 @@ impl Intake {
     }
 
     /// How many numbers were taken.
+    #[inline(always)]
     pub(crate) fn count(&self) -> usize
         ensures { result ≡ self.now.count }
     {
@@ -444,6 +446,7 @@ impl Intake {
         ensures long { length tape.new ≡ length tape.old }
         ensures count { self.old.count ≤ self.new.count }
         ensures inside { self.old.count ≤ length tape.old → self.new.count ≤ length tape.new }
+        ensures most { self.new.count ≤ self.old.count + 1 }
     {
         if field.told {
             tape[self.count] = number;
@@ -565,6 +568,7 @@ impl Intake {
         ensures kept { take self.old.count tape.new ≡ take self.old.count tape.old }
         ensures long { length tape.new ≡ length tape.old }
         ensures count { (self.old.count ≤ self.new.count) × (self.new.count ≤ length tape.new) }
+        ensures pace { self.new.count + used ≤ self.old.count + result }
     {
         if field.width != 1 {
             return used;
@@ -592,7 +596,7 @@ impl Intake {
         requires settled { IsAtField ops.now self.old }
         requires field { HasField ops.now self.old field }
         requires fed { (all : List ℕ) × IsFedBy ops.now tape.old self.old all buffer.now used }
-        requires tape { (t full : List ℕ) → Turns (block_of ops.now) t full → length t ≤ length tape.old }
+        requires tape { HasRoom ops.now self.old.count (56 - used) (length tape.old) }
         requires count { self.old.count ≤ length tape.old }
         ensures fed { (all : List ℕ) → IsFedBy ops.now tape.old self.old all buffer.now used → IsFedBy ops.now tape.new self.new all buffer.now result }
         ensures end { (used ≤ result) × (result ≤ 56) }
@@ -601,6 +605,7 @@ impl Intake {
         ensures kept { take self.old.count tape.new ≡ take self.old.count tape.old }
         ensures long { length tape.new ≡ length tape.old }
         ensures count { (self.old.count ≤ self.new.count) × (self.new.count ≤ length tape.new) }
+        ensures pace { self.new.count + used ≤ self.old.count + result }
     {
         if !self.is_run(ops, field) {
             return used;
@@ -632,7 +637,7 @@ impl Intake {
         requires settled { IsAtField ops.now self.old }
         requires field { HasField ops.now self.old field }
         requires fed { (all : List ℕ) × IsFedBy ops.now tape.old self.old all buffer.now used }
-        requires tape { (t full : List ℕ) → Turns (block_of ops.now) t full → length t ≤ length tape.old }
+        requires tape { HasRoom ops.now self.old.count (56 - used) (length tape.old) }
         requires count { self.old.count ≤ length tape.old }
         ensures fed { IfOk result (λ end. (all : List ℕ) → IsFedBy ops.now tape.old self.old all buffer.now used
             → IsFedBy ops.now tape.new self.new all buffer.now end) }
@@ -643,6 +648,7 @@ impl Intake {
         ensures kept { take self.old.count tape.new ≡ take self.old.count tape.old }
         ensures long { length tape.new ≡ length tape.old }
         ensures count { (self.old.count ≤ self.new.count) × (self.new.count ≤ length tape.new) }
+        ensures pace { IfOk result (λ end. self.new.count + used ≤ self.old.count + end) }
     {
         let (number, there) = self.grow(field, buffer, used);
         if number > field.last {
@@ -676,7 +682,7 @@ impl Intake {
         requires settled { IsAtField ops.now self.old }
         requires field { HasField ops.now self.old field }
         requires fed { (all : List ℕ) × IsFedBy ops.now tape.old self.old all buffer.now used }
-        requires tape { (t full : List ℕ) → Turns (block_of ops.now) t full → length t ≤ length tape.old }
+        requires tape { HasRoom ops.now self.old.count (56 - used) (length tape.old) }
         requires count { self.old.count ≤ length tape.old }
         ensures fed { IfOk result (λ end. (all : List ℕ) → IsFedBy ops.now tape.old self.old all buffer.now used
             → IsFedBy ops.now tape.new self.new all buffer.now end) }
@@ -687,6 +693,7 @@ impl Intake {
         ensures kept { take self.old.count tape.new ≡ take self.old.count tape.old }
         ensures long { length tape.new ≡ length tape.old }
         ensures count { (self.old.count ≤ self.new.count) × (self.new.count ≤ length tape.new) }
+        ensures pace { IfOk result (λ end. self.new.count + used ≤ self.old.count + end) }
     {
         let start = self.take_run(ops, tape, field, buffer, used);
         if start == 56 {
@@ -717,7 +724,7 @@ impl Intake {
     ) -> Result<Fed, Mark>
         requires code { IsCode receive ops.now (block_of ops.now) }
         requires stands { (bytes : List ℕ) × Stands ops.now (take self.old.count tape.old) self.old bytes }
-        requires room { (t full : List ℕ) → Turns (block_of ops.now) t full → length t ≤ length tape.old }
+        requires room { HasRoom ops.now self.old.count 56 (length tape.old) }
         ensures part { IfOk result (λ fed. fed ≡ part → TakesPart ops.now tape.old self.old words.now tape.new self.new) }
         ensures whole { IfOk result (λ fed. fed ≡ whole → TakesWhole ops.now tape.old self.old words.now (take self.new.count tape.new)) }
         ensures wrong { IfErr result (λ mark. TakesWrong ops.now tape.old self.old words.now mark) }

@@ -2,24 +2,28 @@
 //!
 //! Contract for the layers above: a send run is the list of the fragments that are still to be given
 //! (`specs/Sending.antt`), a receive run the list of those fed since the last whole call and of that call's
-//! (`specs/Receiving.antt`): functions of the code and of what the run stores. No history is kept, and no
-//! call takes memory but those that make a receive run and a call.
+//! (`specs/Receiving.antt`), a reassembly that of the call under way (`specs/Reassembling.antt`): functions of
+//! the code and of what the run stores. No history is kept, and no call takes memory but those that make a
+//! receive run, a reassembly and a call.
 //!
 //! - `cursor.rt`: where a run of send code stands, and how it goes on by an instruction
 //! - `send.rt`: `SendRun`
 //! - `intake.rt`: where a run of receive code stands, and how it takes bytes
 //! - `recv.rt`: `RecvRun`
+//! - `reassembly.rt`: `Reassembly`, which gives calls of what it takes and needs no way back
 //! - `law.rt`: what runs of the compiler's code give and take
 #![tactic(auto)]
 
 mod cursor;
 mod intake;
 mod law;
+mod reassembly;
 mod recv;
 mod send;
 
 pub use cursor::{Cursor, Loop};
 pub use intake::{Fed, Intake};
 pub use law::{sends_fragments, sets_circuits, takes_fragments};
+pub use reassembly::{Reassembly, TakeFault, Taken};
 pub use recv::RecvRun;
 pub use send::SendRun;

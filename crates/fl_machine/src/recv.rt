@@ -10,8 +10,8 @@ ghost use Rattle.fl_compile.specs.Laws.{fault_of as fault_of_mark};
 ghost use Rattle.fl_compile.specs.Programs.{program_of};
 ghost use Rattle.fl_machine.specs.Receiving.{plan_in, interface_in, fed_by, answer_of, AddsPart, AddsLast, numbers_in, IsRefused, Remembers};
 ghost use Rattle.fl_machine.specs.Receiving.{undone, Undoes, Feeds, stored_of, receiving, HoldsTapes, IsBegun, IsStored};
-ghost use Rattle.fl_machine.specs.Receiving.{parts_in, StandsIn, AddsUpTo, HasFaultIn, IsRefusedIn};
-ghost use Rattle.fl_machine.specs.declared.recv.Stand.TheVariants.{Inside as inside};
+ghost use Rattle.fl_machine.specs.Receiving.{parts_in, StandsIn, AddsUpTo, HasFaultIn, IsRefusedIn, HasPlaces, MeansWhole};
+ghost use Rattle.fl_machine.specs.declared.recv.Stand.TheVariants.{Inside as inside, After as after};
 
 use crate::intake::{Fed, Intake};
 use fl_base::{Frag, MsgNo};
@@ -28,7 +28,7 @@ use std::mem;
 pub(crate) struct Begun {
     msg: MsgNo,
     fed: usize,
-    intake: Intake,
+    pub(crate) intake: Intake,
 }
 
 /// A call that is whole: its tape is the first so many numbers.
@@ -126,7 +126,7 @@ fn take_in(
     frag: &Frag,
 ) -> Result<Stand, WireFault>
     requires begun { IsBegun (program_of program.now).plan (program_of program.now).interface tape.old begun }
-    requires room { HoldsTapes (program_of program.now).plan (program_of program.now).interface (length tape.old) }
+    requires room { HasPlaces (program_of program.now) begun.intake.count (length tape.old) }
     requires header { header_fault (program_of program.now).interface (parts_in (program_of program.now) tape.old begun) frag.now ≡ None }
     requires message { message_of frag.now.control ≡ begun.msg.0 }
     requires control { body frag.now.control ≡ control_word (begun.fed == 0) begun.msg.0 0 }
@@ -159,8 +159,8 @@ fn take_in(
 
 // Takes a fragment where a call is to begin: where the run stands then.
 #[inline(always)]
-fn begin(program: &Program, tape: &mut [u64], frag: &Frag) -> Result<Stand, WireFault>
-    requires room { HoldsTapes (program_of program.now).plan (program_of program.now).interface (length tape.old) }
+pub(crate) fn begin(program: &Program, tape: &mut [u64], frag: &Frag) -> Result<Stand, WireFault>
+    requires room { HasPlaces (program_of program.now) 0 (length tape.old) }
     ensures stands { IfOk result (λ stand. StandsIn (program_of program.now) tape.new stand) }
     ensures adds { IfOk result (λ stand. AddsUpTo (program_of program.now) [] frag.now tape.new stand) }
     ensures wrong { IfErr result (λ fault. IsRefusedIn (program_of program.now) [] frag.now fault) }
@@ -180,9 +180,14 @@ fn begin(program: &Program, tape: &mut [u64], frag: &Frag) -> Result<Stand, Wire
 
 // Takes a fragment inside a call: where the run stands then.
 #[inline(always)]
-fn go_on(program: &Program, begun: Begun, tape: &mut [u64], frag: &Frag) -> Result<Stand, WireFault>
+pub(crate) fn go_on(
+    program: &Program,
+    begun: Begun,
+    tape: &mut [u64],
+    frag: &Frag,
+) -> Result<Stand, WireFault>
     requires begun { StandsIn (program_of program.now) tape.old (inside begun) }
-    requires room { HoldsTapes (program_of program.now).plan (program_of program.now).interface (length tape.old) }
+    requires room { HasPlaces (program_of program.now) begun.intake.count (length tape.old) }
     ensures stands { IfOk result (λ stand. StandsIn (program_of program.now) tape.new stand) }
     ensures adds { IfOk result (λ stand. AddsUpTo (program_of program.now) (parts_in (program_of program.now) tape.old begun) frag.now tape.new stand) }
     ensures grows { IfOk result (λ stand. begun.intake.count ≤ numbers_in stand) }
@@ -195,6 +200,25 @@ fn go_on(program: &Program, begun: Begun, tape: &mut [u64], frag: &Frag) -> Resu
         return Err(fault);
     }
     take_in(program, begun, tape, frag)
+}
+
+// The call of a whole tape.
+pub(crate) fn whole(
+    alloc: Global,
+    program: &Program,
+    ended: Ended,
+    tape: &[u64],
+) -> Result<Call, AllocError>
+    requires ended { StandsIn (program_of program.now) tape.now (after ended) }
+    ensures fits { IfOk result (λ call. fits_of (program_of program.now).interface (call_of call) ≡ true) }
+    ensures means { IfOk result (λ call. MeansWhole (program_of program.now) tape.now ended (call_of call)) }
+{
+    let tape = &tape[..ended.count];
+    let interface = program.interface();
+    match unflatten(alloc, ended.msg, tape, interface, program.plan())? {
+        Some(call) => Ok(call),
+        None => unreachable!(),
+    }
 }
 
 impl Stored {
@@ -340,12 +364,7 @@ impl RecvRun {
         let Stand::After(ended) = self.stored.stand else {
             unreachable!();
         };
-        let tape = &self.stored.tape[..ended.count];
-        let interface = self.program.interface();
-        match unflatten(alloc, ended.msg, tape, interface, self.program.plan())? {
-            Some(call) => Ok(call),
-            None => unreachable!(),
-        }
+        whole(alloc, &self.program, ended, &self.stored.tape)
     }
 
     /// Back to before the last accepted feed; nothing where none was since [`RecvRun::new`] or the last `undo`. Takes no

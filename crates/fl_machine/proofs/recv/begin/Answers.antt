@@ -16,7 +16,7 @@ pub take_in-requires-clause-begun : goal.take_in-requires-clause-begun
 take_in-requires-clause-begun c =
     let p = c.args.program.now in
     let none : start_fault (interface_of p.interface) c.args.frag.now ≡ None = search rules in
-    none_begun p.plan (interface_of p.interface) c.args.tape.now _ c.args.frag.now p.interface.within p.words none c.msg.ensures refl c.new.ensures
+    none_begun p.plan (interface_of p.interface) c.args.tape.now _ c.args.frag.now p.interface.within p.words none c.msg.ensures refl c.new.ensures.stands
 
 pub take_in-requires-clause-control : goal.take_in-requires-clause-control
 take_in-requires-clause-control c =

@@ -2,18 +2,19 @@ use Rattle.std.proofs.Common.{ℕ, ◌+◌, ◌++◌, ◌∷◌, [], take, lengt
 use Rattle.fl_check.specs.Interface.{interface_of}
 use Rattle.fl_stub.specs.Frames.{block_of}
 use Rattle.fl_stub.specs.Streams.{IsPayload}
+use Rattle.fl_compile.specs.Programs.{program_of}
 use Rattle.fl_machine.specs.declared.recv.Begun.{Begun}
 use Rattle.fl_machine.specs.declared.recv.Ended.{Ended}
 use Rattle.fl_machine.specs.Taking.{words_bytes}
 use Rattle.fl_machine.specs.Receiving.{parts_of}
-use Rattle.fl_machine.proofs.Feeding.{taking, has_room, few_fed, goes_on, adds_part, is_whole, ended, adds_last, has_fault}
+use Rattle.fl_machine.proofs.Feeding.{taking, has_places, few_fed, goes_on, adds_part, is_whole, ended, adds_last, has_fault}
 use Rattle.fl_machine.proofs.recv.take_in.Goals as goal
 
 pub take_words-requires-clause-room : goal.take_words-requires-clause-room
 take_words-requires-clause-room c =
     let p = c.args.program.now in
     let x = taking p.plan (interface_of p.interface) c.args.tape.now c.args.begun c.args.frag.now c.in-Some.code.now c.ops.result.now p.interface.within p.words c.is_line.ensures.line c.requires.begun c.requires.control c.in-Some.ensures.exact c.ops.ensures.ops in
-    has_room p.plan (interface_of p.interface) c.args.tape.now c.args.begun c.args.frag.now c.ops.result.now (length c.args.tape.now) x c.requires.room
+    has_places (program_of p) c.args.tape.now c.args.begun c.args.frag.now c.ops.result.now (length c.args.tape.now) x c.requires.room
 
 pub overflow_add-result : goal.overflow_add-result
 overflow_add-result c =

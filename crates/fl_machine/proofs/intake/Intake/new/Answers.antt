@@ -3,8 +3,8 @@ use Rattle.fl_stub.specs.Frames.{block_of}
 use Rattle.fl_stub.proofs.Stances.{first_stance, first_reach}
 use Rattle.fl_machine.proofs.intake.Intake.new.Goals as goal
 
-pub returns : goal.returns
-returns c ops code = record {
+pub returns-clause-stands : goal.returns-clause-stands
+returns-clause-stands c ops code = record {
   at = record {
     done = [];
     stance = first_stance ops (block_of ops) code;

@@ -1,7 +1,6 @@
-use Rattle.std.proofs.Common.{◌≡◌, take, length, ◌∙◌, ap, arith}
-use Rattle.std.proofs.lemmas.List.{length-take-le}
+use Rattle.std.proofs.Common.{◌≡◌, ◌-◌, take, ◌∙◌, ap, arith}
 use Rattle.fl_machine.specs.declared.intake.Intake.{Intake}
-use Rattle.fl_machine.proofs.Intakes.{here_of, too_high, too_low, cut_here, room_here, whole_here, same_field, same_stance}
+use Rattle.fl_machine.proofs.Intakes.{here_of, too_high, too_low, cut_here, room_told, whole_here, same_field, same_stance}
 use Rattle.fl_machine.proofs.intake.Intake.take_field.Goals as goal
 
 pub grow-number-requires-clause-less : goal.grow-number-requires-clause-less
@@ -30,8 +29,8 @@ returns-then-number-field-2-clause-wrong c all fed =
 pub tell-requires : goal.tell-requires
 tell-requires c so =
     let (all, fed) = c.requires.fed in
-    let room = room_here c.args.ops.now _ c.args.self.now all _ c.args.field c.grow-number.result.0 (length c.args.tape.now) fed c.requires.field c.if-number-field-2.false c.if-number-field.false c.requires.tape so in
-    omega (arith, room, length-take-le c.args.self.now.count c.args.tape.now c.requires.count)
+    let less = c.requires.room in
+    room_told c.args.ops.now c.args.tape.now c.args.self.now all _ c.args.field c.grow-number.result.0 (56 - c.args.used) fed c.requires.field c.if-number-field-2.false c.if-number-field.false c.requires.count c.requires.tape (omega (arith, less)) so
 
 pub step_over-requires-clause-stance : goal.step_over-requires-clause-stance
 step_over-requires-clause-stance c = let (all, fed) = c.requires.fed in same_stance c.args.ops.now c.args.self.now c.tell.new.self fed.at.stance c.tell.ensures.others

@@ -1,10 +1,18 @@
-use Rattle.std.proofs.Common.{◌∙◌}
+use Rattle.std.proofs.Common.{ℕ, ◌-◌, length, sym, ◌∙◌, subst, arith}
 use Rattle.std.proofs.lemmas.Result.{IfOk-weaker, IfErr-weaker}
-use Rattle.fl_machine.proofs.Intakes.{take_kept}
+use Rattle.fl_machine.proofs.Intakes.{take_kept, room_on}
+use Rattle.fl_machine.specs.Taking.{HasRoom}
 use Rattle.fl_machine.proofs.intake.Intake.take_next.Goals as goal
 
 pub take_field-requires-clause-fed : goal.take_field-requires-clause-fed
 take_field-requires-clause-fed c = let (all, fed) = c.requires.fed in (all, c.take_run-start.ensures.fed all fed)
+
+pub take_field-requires-clause-tape : goal.take_field-requires-clause-tape
+take_field-requires-clause-tape c =
+    let pace = c.take_run-start.ensures.pace in
+    let end = c.take_run-start.ensures.end in
+    subst (λ (n : ℕ). HasRoom c.args.ops.now c.take_run-start.new.self.count (56 - c.take_run-start.result) n) (sym c.take_run-start.ensures.long)
+    (room_on c.args.ops.now c.args.self.now.count c.take_run-start.new.self.count (56 - c.args.used) (56 - c.take_run-start.result) (length c.args.tape.now) c.requires.tape (omega (arith, pace, end.0, end.1)))
 
 pub returns-clause-fed : goal.returns-clause-fed
 returns-clause-fed c = IfOk-weaker c.take_field.result _ _ (λ end h all fed. h all (c.take_run-start.ensures.fed all fed)) c.take_field.ensures.fed

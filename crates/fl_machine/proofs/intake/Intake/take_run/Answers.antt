@@ -1,8 +1,7 @@
-use Rattle.std.proofs.Common.{◌≡◌, ◌<◌, ◌≤◌, ◌+◌, [], ℕ, length, take, ◌∙◌, ap, subst, arith}
-use Rattle.std.proofs.lemmas.List.{length-take-le}
+use Rattle.std.proofs.Common.{◌≡◌, ◌<◌, ◌≤◌, ◌+◌, ◌-◌, [], ℕ, length, take, sym, ◌∙◌, ap, subst, arith}
 use Rattle.fl_machine.specs.declared.intake.Intake.{Intake}
-use Rattle.fl_machine.specs.Taking.{inner_loop}
-use Rattle.fl_machine.proofs.Intakes.{here_of, room_here, run_turn, run_grows, run_again, run_field, stance_depth, Turned, told_tape, told_kept, told_long}
+use Rattle.fl_machine.specs.Taking.{inner_loop, HasRoom}
+use Rattle.fl_machine.proofs.Intakes.{here_of, room_on, room_told, run_turn, run_grows, run_again, run_field, stance_depth, Turned, told_tape, told_kept, told_long}
 use Rattle.fl_machine.proofs.intake.Intake.take_run.Goals as goal
 
 pub turns_left-requires-clause-high : goal.turns_left-requires-clause-high
@@ -17,8 +16,13 @@ take_turn-requires-clause-room c =
     let now = c.loop-end.invariant.8 all fed in
     let long = c.loop-end.invariant.6 in
     let within = c.loop-end.invariant.5 in
-    let room = room_here c.args.ops.now _ c.loop-end.self all _ c.args.field c.low_part-number.result (length c.args.tape.now) now c.loop-end.invariant.2 c.if-number-field.false c.if-number-field-2.false c.requires.tape c.loop-end.invariant.3.told in
-    omega (arith, room, long, length-take-le c.loop-end.self.count c.loop-end.tape within)
+    let from = c.loop-end.invariant.0 in
+    let pace = c.loop-end.invariant.9 in
+    let end = c.loop-end-test.true in
+    let wide = c.loop-end.invariant.2.wide in
+    let room = subst (λ (n : ℕ). HasRoom c.args.ops.now c.loop-end.self.count (56 - c.loop-end.end) n) (sym long)
+    (room_on c.args.ops.now c.args.self.now.count c.loop-end.self.count (56 - c.args.used) (56 - c.loop-end.end) (length c.args.tape.now) c.requires.tape (omega (arith, pace, from, end))) in
+    room_told c.args.ops.now c.loop-end.tape c.loop-end.self all _ c.args.field c.low_part-number.result (56 - c.loop-end.end) now c.loop-end.invariant.2 c.if-number-field.false c.if-number-field-2.false within room (omega (arith, end, wide)) c.loop-end.invariant.3.told
 
 pub loop-end-preserved : goal.loop-end-preserved
 loop-end-preserved c =
@@ -36,8 +40,12 @@ loop-end-preserved c =
     let within = c.loop-end.invariant.5 in
     let same = c.loop-end.invariant.6 in
     let end = c.loop-end-test.true in
-    let room = room_here c.args.ops.now _ c.loop-end.self some _ c.args.field c.low_part-number.result (length c.args.tape.now) now field c.if-number-field.false c.if-number-field-2.false c.requires.tape run.told in
-    let inside : c.loop-end.self.count < length c.loop-end.tape = omega (arith, room, same, length-take-le c.loop-end.self.count c.loop-end.tape within) in
+    let pace = c.loop-end.invariant.9 in
+    let wide = field.wide in
+    let room = subst (λ (n : ℕ). HasRoom c.args.ops.now c.loop-end.self.count (56 - c.loop-end.end) n) (sym same)
+    (room_on c.args.ops.now c.args.self.now.count c.loop-end.self.count (56 - c.args.used) (56 - c.loop-end.end) (length c.args.tape.now) c.requires.tape (omega (arith, pace, from, end))) in
+    let inside : c.loop-end.self.count < length c.loop-end.tape
+    = room_told c.args.ops.now c.loop-end.tape c.loop-end.self some _ c.args.field c.low_part-number.result (56 - c.loop-end.end) now field c.if-number-field.false c.if-number-field-2.false within room (omega (arith, end, wide)) run.told in
     let count : c.take_turn.new.self.count ≡ c.loop-end.self.count + 1 = ap Intake.count c.take_turn.ensures.others in
     let longer = told_long c.loop-end.tape c.take_turn.new.tape c.loop-end.self.count c.low_part-number.result c.take_turn.ensures.tape in
     let whole : c.loop-end.self.have + c.args.field.width ≡ c.args.field.width = let idle = run.idle in omega (arith, idle) in
@@ -57,4 +65,5 @@ loop-end-preserved c =
           (run_grows c.args.buffer.now c.loop-end.end c.loop-end.self.have c.loop-end.self.value c.args.field.width c.word_at.result c.low_part-number.result run.idle small narrow (omega (arith, end)) c.word_at.ensures c.low_part-number.ensures)
           whole c.if-number-field-2.false c.if-number-field.false
           (told_tape c.loop-end.tape c.take_turn.new.tape [] c.loop-end.self.count c.take_turn.new.self.count c.low_part-number.result c.args.field.told run.told inside c.take_turn.ensures.tape count) turned,
+      omega (arith, pace, count, wide),
     )

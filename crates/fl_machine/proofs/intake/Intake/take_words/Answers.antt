@@ -1,11 +1,11 @@
-use Rattle.std.proofs.Common.{◌≡◌, ◌≤◌, ◌++◌, ℕ, List, length, take, refl, sym, ◌∙◌, subst, arith}
+use Rattle.std.proofs.Common.{◌≡◌, ◌≤◌, ◌-◌, ◌++◌, ℕ, List, length, take, refl, sym, ◌∙◌, subst, arith}
 use Rattle.std.proofs.lemmas.List.{length-take-le}
 use Rattle.std.proofs.lemmas.Result.{IfOk-weaker, IfErr-weaker, err_from_is_err_and}
 use Rattle.fl_stub.specs.declared.mark.Mark.{Mark}
 use Rattle.fl_stub.specs.Frames.{block_of}
 use Rattle.fl_stub.specs.Streams.{LeavesPayloads}
-use Rattle.fl_machine.specs.Taking.{IsFed, Stands, words_bytes}
-use Rattle.fl_machine.proofs.Intakes.{fed_first, stands_after, begins_after, payload_whole, payload_wrong, payload_ends, counted_tape, nothing_left, take_kept}
+use Rattle.fl_machine.specs.Taking.{IsFed, Stands, words_bytes, HasRoom}
+use Rattle.fl_machine.proofs.Intakes.{fed_first, stands_after, begins_after, payload_whole, payload_wrong, payload_ends, counted_tape, nothing_left, take_kept, room_on}
 use Rattle.fl_machine.proofs.intake.Intake.take_words.Goals as goal
 
 pub resume-requires : goal.resume-requires
@@ -25,6 +25,7 @@ loop-used-init c =
           subst (λ (left : List ℕ). IsFed c.args.ops.now (take c.resume.new.self.count c.args.tape.now) c.resume.new.self (bytes ++ words_bytes c.args.words.now) left) (sym c.spread.ensures)
           (fed_first c.args.ops.now (take c.resume.new.self.count c.args.tape.now) bytes (words_bytes c.args.words.now) c.resume.new.self
           (subst (λ (k : ℕ). Stands c.args.ops.now (take k c.args.tape.now) c.resume.new.self bytes) (sym same) (c.resume.ensures.stands (take c.args.self.now.count c.args.tape.now) bytes s))),
+      omega (arith, same),
     )
 
 pub field-requires-clause-stance : goal.field-requires-clause-stance
@@ -57,7 +58,11 @@ pub take_next-requires-clause-fed : goal.take_next-requires-clause-fed
 take_next-requires-clause-fed c = (_, c.loop-used.invariant.6 c.requires.stands.0 c.requires.stands.1)
 
 pub take_next-requires-clause-tape : goal.take_next-requires-clause-tape
-take_next-requires-clause-tape c t full turns = let less = c.requires.room t full turns in let long = c.loop-used.invariant.4 in omega (arith, less, long)
+take_next-requires-clause-tape c =
+    let few = c.loop-used.invariant.7 in
+    let inside = c.loop-used.invariant.0 in
+    subst (λ (n : ℕ). HasRoom c.args.ops.now c.loop-used.self.count (56 - c.loop-used.used) n) (sym c.loop-used.invariant.4)
+    (room_on c.args.ops.now c.args.self.now.count c.loop-used.self.count 56 (56 - c.loop-used.used) (length c.args.tape.now) c.requires.room (omega (arith, few, inside)))
 
 pub returns-in_err-used-clause-wrong : goal.returns-in_err-used-clause-wrong
 returns-in_err-used-clause-wrong c =
@@ -71,6 +76,8 @@ returns-in_err-used-clause-kept c =
 pub loop-used-preserved : goal.loop-used-preserved
 loop-used-preserved c =
     let less = c.loop-used.invariant.2 in
+    let few = c.loop-used.invariant.7 in
+    let pace = c.in_ok-used.ensures.pace in
     let more = c.in_ok-used.ensures.count.0 in (
       c.in_ok-used.ensures.end.1,
       c.in_ok-used.ensures.settled,
@@ -79,6 +86,7 @@ loop-used-preserved c =
       c.in_ok-used.ensures.long ∙ c.loop-used.invariant.4,
       take_kept c.args.self.now.count c.loop-used.self.count c.take_next.new.tape c.loop-used.tape less c.in_ok-used.ensures.kept ∙ c.loop-used.invariant.5,
       λ bytes s. c.in_ok-used.ensures.fed (bytes ++ words_bytes c.args.words.now) (c.loop-used.invariant.6 bytes s),
+      omega (arith, few, pace),
     )
 
 pub returns-in-Some-field-clause-part : goal.returns-in-Some-field-clause-part

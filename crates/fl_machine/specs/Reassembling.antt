@@ -1,0 +1,74 @@
+-- Calls that are put together again: what a reassembly has taken of the call under way, and what taking one fragment more
+-- comes to.
+use Rattle.std.specs.Prelude.{◌≡◌, ℕ, ◌≤◌, true, List, [], ◌∷◌, ◌++◌, Option, Some, None, Result, Ok, Err}
+use Rattle.std.specs.Vec.{vec_capacity}
+use Rattle.fl_base.specs.declared.fragment.Frag.{Frag}
+use Rattle.fl_base.specs.Control.{bare}
+use Rattle.fl_check.specs.Interface.{TheInterface}
+use Rattle.fl_value.specs.declared.value.PlanNo.{PlanNo}
+use Rattle.fl_value.specs.Value.{TheCall, call_of}
+use Rattle.fl_value.specs.Fits.{fits_of}
+use Rattle.fl_wire.specs.Reading.{Means, IsPart}
+use Rattle.fl_compile.specs.declared.program.Program.{Program}
+use Rattle.fl_compile.specs.Programs.{TheProgram, program_of}
+use Rattle.fl_machine.specs.Receiving.{IsRefused, HoldsTapes, StandsIn, parts_in}
+use Rattle.fl_machine.specs.declared.recv.Begun.{Begun}
+use Rattle.fl_machine.specs.declared.recv.Stand.TheVariants.{Inside as UnderWay}
+use Rattle.fl_machine.specs.declared.reassembly.Gathered.{Gathered}
+use Rattle.fl_machine.specs.declared.reassembly.Taken.{Taken}
+use Rattle.fl_machine.specs.declared.reassembly.Taken.TheVariants.{Part, Whole}
+use Rattle.fl_machine.specs.declared.reassembly.TakeFault.{TakeFault}
+use Rattle.fl_machine.specs.declared.reassembly.TakeFault.TheVariants.{Wire, Memory}
+
+-- a program whose calls are put together, and the fragments of the call under way, without epochs and counts told
+pub record TheReassembly : Type 0 where
+  pub program : Program
+  pub parts : List Frag
+
+abbrev pub interface_in : TheReassembly → TheInterface
+interface_in s = (program_of s.program).interface
+
+abbrev pub plan_in : TheReassembly → PlanNo
+plan_in s = (program_of s.program).plan
+
+-- these fragments are a fitting call
+pub record AreWhole (s : TheReassembly) (frags : List Frag) (c : TheCall) : Type 0 where
+  pub fits : fits_of (interface_in s) c ≡ true
+  pub means : Means (plan_in s) (interface_in s) frags c 0
+
+-- with one fragment more of the call under way
+abbrev pub with_part : TheReassembly → Frag → TheReassembly
+with_part s f = record { program = s.program; parts = s.parts ++ bare f ∷ [] }
+
+-- between two calls
+abbrev pub without_parts : TheReassembly → TheReassembly
+without_parts s = record { program = s.program; parts = [] }
+
+-- what a fragment comes to: a call that it ends is told, and stays under way
+abbrev pub Takes : TheReassembly → Frag → Result Taken TakeFault → TheReassembly → Type 0
+Takes s f (Ok Part) t = IsPart (plan_in s) (interface_in s) (s.parts ++ f ∷ []) × (t ≡ with_part s f)
+Takes s f (Ok (Whole call)) t = AreWhole s (s.parts ++ f ∷ []) (call_of call) × (t ≡ s)
+Takes s f (Err (Wire fault)) t = IsRefused (plan_in s) (interface_in s) s.parts f fault × (t ≡ s)
+Takes s f (Err Memory) t = ((c : TheCall) × AreWhole s (s.parts ++ f ∷ []) c) × (t ≡ s)
+
+-- ---- what is stored
+
+abbrev pub parts_under : TheProgram → List ℕ → Option Begun → List Frag
+parts_under p tape None = []
+parts_under p tape (Some b) = parts_in p tape b
+
+abbrev pub IsUnderWay : TheProgram → List ℕ → Option Begun → Type 0
+IsUnderWay p tape None = Unit {0}
+IsUnderWay p tape (Some b) = StandsIn p tape (UnderWay b)
+
+-- memory for each call's numbers, and on the tape those of the call under way
+pub record IsGathered (p : TheProgram) (g : Gathered) : Type 0 where
+  pub holds : HoldsTapes p.plan p.interface g.capacity
+  pub reserved : g.capacity ≤ vec_capacity g.tape
+  pub begun : IsUnderWay p g.tape.items g.begun
+
+abbrev pub parts_gathered : TheProgram → Gathered → List Frag
+parts_gathered p g = parts_under p g.tape.items g.begun
+
+abbrev pub reassembling : Program → Gathered → TheReassembly
+reassembling program g = record { program = program; parts = parts_gathered (program_of program) g }

@@ -1,0 +1,226 @@
+//! Calls that are put together again from their fragments.
+
+ghost use Rattle.std.specs.Prelude.{◌≡◌, ◌≤◌, ◌+◌, ◌⊎◌, ℕ, [], take, length, None, IfOk, IfErr};
+ghost use Rattle.std.specs.Vec.{vec_capacity};
+ghost use Rattle.fl_compile.specs.Programs.{program_of};
+ghost use Rattle.fl_machine.specs.Receiving.{HoldsTapes, StandsIn, AddsUpTo, IsRefusedIn, parts_in};
+ghost use Rattle.fl_machine.specs.declared.recv.Stand.TheVariants.{Inside as inside};
+ghost use Rattle.fl_machine.specs.Reassembling.{Takes, IsGathered, parts_gathered, reassembling, without_parts};
+
+use crate::recv::{Begun, Stand, begin, go_on, whole};
+use fl_base::Frag;
+use fl_compile::Program;
+use fl_value::Call;
+use fl_wire::WireFault;
+use std::alloc::{AllocError, Global};
+use std::marker::Model;
+
+/// What taking a fragment came to.
+#[derive(Debug, Drop)]
+pub enum Taken {
+    /// Its call goes on in the next fragment.
+    Part,
+    /// It is the last of this call.
+    Whole(Call),
+}
+
+/// Why a fragment isn't taken.
+#[derive(Clone, Copy, Debug, PartialEq, Eq)]
+pub enum TakeFault {
+    /// It can't follow those before it.
+    Wire(WireFault),
+    /// Memory ran out, over a fragment that is the last of its call (E99).
+    Memory,
+}
+
+// What is stored of the call under way.
+#[derive(Drop)]
+pub(crate) struct Gathered {
+    // The first numbers are the call's. It grows by what a fragment may bring, in memory that it has had from the start.
+    tape: Vec<u64>,
+    // There is memory for so many numbers, which are enough for any call.
+    capacity: usize,
+    begun: Option<Begun>,
+}
+
+/// Calls of a program, put together again from their fragments: these are taken one after another, and the last of a call
+/// gives it.
+#[derive(Drop)]
+pub struct Reassembly {
+    program: Program,
+    gathered: Gathered,
+}
+
+impl Model for Reassembly {
+    ghost use Rattle.std.specs.Coded.{codes};
+    ghost use Rattle.fl_compile.specs.contracts.program.Program.{the_row};
+    ghost use Rattle.fl_machine.specs.Reassembling.{TheReassembly};
+    ghost use Rattle.fl_machine.specs.Reassembled.{reassembly_of, IsReassembly};
+
+    ghost Value = { TheReassembly };
+
+    ghost coded = { Prim.hlevel (codes, the_row.coded) };
+
+    ghost view = { reassembly_of };
+
+    ghost invariant = { IsReassembly };
+}
+
+// Places of a tape that are enough for a fragment's numbers behind so many.
+#[inline(always)]
+fn places_for(count: usize, capacity: usize) -> usize
+    ensures within { result ≤ capacity }
+    ensures enough { (result ≡ capacity) ⊎ (count + 56 ≤ result) }
+{
+    if capacity < 56 || count > capacity - 56 {
+        return capacity;
+    }
+    count + 56
+}
+
+// Zeros behind the numbers of a tape, up to so many places.
+fn fill(tape: &mut Vec<u64>, places: usize)
+    requires { places ≤ vec_capacity tape.old }
+    ensures places { places ≤ length tape.new.items }
+    ensures capacity { vec_capacity tape.new ≡ vec_capacity tape.old }
+    ensures kept { (n : ℕ) → n ≤ length tape.old.items → take n tape.new.items ≡ take n tape.old.items }
+    ensures longer { length tape.old.items ≤ length tape.new.items }
+{
+    while tape.len() < places {
+        tape.push_reserved(0);
+    }
+}
+
+// Where a call stands that this fragment begins, whose numbers are then on the tape.
+#[inline(always)]
+fn look_first(
+    program: &Program,
+    tape: &mut Vec<u64>,
+    capacity: usize,
+    frag: &Frag,
+) -> Result<Stand, WireFault>
+    requires holds { HoldsTapes (program_of program.now).plan (program_of program.now).interface capacity }
+    requires reserved { capacity ≤ vec_capacity tape.old }
+    ensures reserved { capacity ≤ vec_capacity tape.new }
+    ensures stands { IfOk result (λ stand. StandsIn (program_of program.now) tape.new.items stand) }
+    ensures adds { IfOk result (λ stand. AddsUpTo (program_of program.now) [] frag.now tape.new.items stand) }
+    ensures wrong { IfErr result (λ fault. IsRefusedIn (program_of program.now) [] frag.now fault) }
+{
+    fill(tape, places_for(0, capacity));
+    begin(program, tape, frag)
+}
+
+// Where the call under way stands with this fragment, whose numbers are then on the tape behind the others.
+#[inline(always)]
+fn look_on(
+    program: &Program,
+    begun: Begun,
+    tape: &mut Vec<u64>,
+    capacity: usize,
+    frag: &Frag,
+) -> Result<Stand, WireFault>
+    requires begun { StandsIn (program_of program.now) tape.old.items (inside begun) }
+    requires holds { HoldsTapes (program_of program.now).plan (program_of program.now).interface capacity }
+    requires reserved { capacity ≤ vec_capacity tape.old }
+    ensures reserved { capacity ≤ vec_capacity tape.new }
+    ensures begun { StandsIn (program_of program.now) tape.new.items (inside begun) }
+    ensures parts { parts_in (program_of program.now) tape.new.items begun ≡ parts_in (program_of program.now) tape.old.items begun }
+    ensures stands { IfOk result (λ stand. StandsIn (program_of program.now) tape.new.items stand) }
+    ensures adds { IfOk result (λ stand. AddsUpTo (program_of program.now) (parts_in (program_of program.now) tape.old.items begun) frag.now tape.new.items stand) }
+    ensures wrong { IfErr result (λ fault. IsRefusedIn (program_of program.now) (parts_in (program_of program.now) tape.old.items begun) frag.now fault) }
+{
+    fill(tape, places_for(begun.intake.count(), capacity));
+    go_on(program, begun, tape, frag)
+}
+
+impl Gathered {
+    // Where a call stands with a fragment, the one under way or another that it begins.
+    #[inline(always)]
+    fn look(&mut self, program: &Program, frag: &Frag) -> Result<Stand, WireFault>
+        requires gathered { IsGathered (program_of program.now) self.old }
+        ensures gathered { IsGathered (program_of program.now) self.new }
+        ensures same { reassembling program.now self.new ≡ reassembling program.now self.old }
+        ensures stands { IfOk result (λ stand. StandsIn (program_of program.now) self.new.tape.items stand) }
+        ensures adds { IfOk result (λ stand. AddsUpTo (program_of program.now) (parts_gathered (program_of program.now) self.old) frag.now self.new.tape.items stand) }
+        ensures wrong { IfErr result (λ fault. IsRefusedIn (program_of program.now) (parts_gathered (program_of program.now) self.old) frag.now fault) }
+    {
+        match self.begun {
+            Some(begun) => look_on(program, begun, &mut self.tape, self.capacity, frag),
+            None => look_first(program, &mut self.tape, self.capacity, frag),
+        }
+    }
+
+    // Takes a fragment.
+    fn take(&mut self, alloc: Global, program: &Program, frag: &Frag) -> Result<Taken, TakeFault>
+        requires gathered { IsGathered (program_of program.now) self.old }
+        ensures gathered { IsGathered (program_of program.now) self.new }
+        ensures takes { Takes (reassembling program.now self.old) frag.now result (reassembling program.now self.new) }
+    {
+        let _plan = program.plan();
+        let stand = match self.look(program, frag) {
+            Ok(stand) => stand,
+            Err(fault) => return Err(TakeFault::Wire(fault)),
+        };
+        match stand {
+            Stand::Inside(begun) => {
+                self.begun = Some(begun);
+                Ok(Taken::Part)
+            }
+            Stand::After(ended) => match whole(alloc, program, ended, &self.tape) {
+                Ok(call) => Ok(Taken::Whole(call)),
+                Err(_) => Err(TakeFault::Memory),
+            },
+            Stand::Between => unreachable!(),
+        }
+    }
+}
+
+impl Reassembly {
+    /// Between two calls of a program. `capacity` is how many numbers a tape may have: at least as many as the tape of any call
+    /// (`fl_layout` tells the greatest of each message). Of the memory that is taken for them nothing is touched before numbers
+    /// come.
+    ///
+    /// # Errors
+    /// Out of memory (E99), and nothing else.
+    pub fn new(alloc: Global, program: Program, capacity: usize) -> Result<Reassembly, AllocError>
+        requires room { HoldsTapes (program_of program).plan (program_of program).interface capacity }
+        ensures made { IfOk result (λ r. r ≡ record { program = program; parts = [] }) }
+    {
+        let tape = Vec::with_capacity(alloc, capacity)?;
+        Ok(Reassembly {
+            program,
+            gathered: Gathered {
+                tape,
+                capacity,
+                begun: None,
+            },
+        })
+    }
+
+    /// Takes a fragment, whatever its epoch and the count that it tells. One that is the last of its call gives the call, which
+    /// stays under way until [`Reassembly::finish`]: so until then the fragment may as well not have come. Takes memory for
+    /// that call alone.
+    ///
+    /// # Errors
+    /// The first fault of a fragment that can't follow those of the call under way, as of [`RecvRun::feed`](crate::RecvRun::feed);
+    /// or memory ran out for a call that is whole (E99). Nothing changes.
+    pub fn take(&mut self, alloc: Global, frag: &Frag) -> Result<Taken, TakeFault>
+        ensures takes { Takes self.old frag.now result self.new }
+    {
+        self.gathered.take(alloc, &self.program, frag)
+    }
+
+    /// Done with the call under way: the next fragment is to begin another.
+    pub fn finish(&mut self)
+        ensures finished { self.new ≡ without_parts self.old }
+    {
+        self.gathered.begun = None;
+    }
+
+    /// The program whose calls are put together.
+    pub fn program(&self) -> &Program
+        ensures program { result.now ≡ self.now.program }
+    {
+        &self.program
+    }
+}
