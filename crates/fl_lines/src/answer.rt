@@ -67,11 +67,8 @@ fn digit(value: u8) -> u8
     requires { value < 16 }
     ensures { result ≡ digit_glyph false value }
 {
-    if value < 10 {
-        b'0' + value
-    } else {
-        b'a' - 10 + value
-    }
+    let digits: &[u8; 16] = b"0123456789abcdef";
+    digits[usize::from(value)]
 }
 
 // A word's 16 digits.
