@@ -127,6 +127,7 @@ impl Names {
         })
     }
 
+    #[inline(never)]
     fn ask_disp<'a>(&self, name: &'a [u8], core: u32) -> Result<Asked<'a>, LineFault>
         ensures tells { Tells (names_of self.now) result (asks_disp (names_of self.now) name.now core) }
         ensures new { IfOk result (λ a. IsNew (names_of self.now) a.naming) }
@@ -140,6 +141,7 @@ impl Names {
         })
     }
 
+    #[inline(never)]
     fn ask_export<'a>(
         &self,
         name: &'a [u8],
@@ -165,6 +167,7 @@ impl Names {
         })
     }
 
+    #[inline(never)]
     fn ask_bind<'a>(
         &self,
         name: &'a [u8],
@@ -210,6 +213,7 @@ impl Names {
         })
     }
 
+    #[inline(never)]
     fn ask_reply(
         &self,
         end: EndName<'_>,
