@@ -1,9 +1,10 @@
 -- The numbers of faults.
 use Rattle.std.specs.Prelude.{ℕ, Option, Some, None}
 use Rattle.fl_lines.specs.declared.fault.LineFault.{LineFault}
-use Rattle.fl_lines.specs.declared.fault.LineFault.TheVariants.{NotACall, Name, NoSuchMessage, Memory}
+use Rattle.fl_lines.specs.declared.fault.LineFault.TheVariants.{Unread, NotACall, Name, NoSuchMessage, Memory}
 
 abbrev pub number_of : LineFault → ℕ
+number_of Unread = 90
 number_of NotACall = 90
 number_of Name = 92
 number_of NoSuchMessage = 41

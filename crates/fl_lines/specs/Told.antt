@@ -28,14 +28,14 @@ abbrev pub named : Names → Naming → Names
 named n Nothing = n
 named n (Dispatcher name core) = with_dispatcher n name.now core
 named n (Binding name interface) = with_binding n name.now interface
-named n (Interface new) = with_names n new.name.items (table_of new.messages)
+named n (Interface new) = with_names n new.value.name.items (table_of new.value.messages)
 
 -- its name isn't taken
 abbrev pub IsNew : Names → Naming → Type 0
 IsNew n Nothing = Unit {0}
 IsNew n (Dispatcher name core) = place_of name.now n.dispatchers ≡ None
 IsNew n (Binding name interface) = place_of name.now n.bindings ≡ None
-IsNew n (Interface new) = place_of new.name.items n.interfaces ≡ None
+IsNew n (Interface new) = place_of new.value.name.items n.interfaces ≡ None
 
 -- what a function returned tells what is asked
 abbrev pub Tells : Names → Result RustAsked LineFault → Asked → Type 0

@@ -12,6 +12,11 @@ use Rattle.fl_lines.specs.Commands.{forward, mack}
 use Rattle.fl_lines.specs.Grammar.{Line, silent, heading, command, unread}
 use Rattle.fl_lines.specs.Items.{Item, a_line, a_block, open_block}
 use Rattle.fl_lines.specs.Words.{numbers_in}
+use Rattle.fl_lines.specs.Reading.{command_by, line_with}
+use Rattle.fl_lines.specs.declared.command.Opening.{Opening as RustOpening}
+use Rattle.fl_lines.specs.declared.command.Opening.TheVariants as opening
+use Rattle.fl_lines.specs.declared.item.Part.{Part as RustPart}
+use Rattle.fl_lines.specs.declared.item.Part.TheVariants as part
 use Rattle.fl_lines.specs.declared.item.Item.{Item as RustItem}
 use Rattle.fl_lines.specs.declared.item.Item.TheVariants as item
 
@@ -52,3 +57,18 @@ abbrev pub item_of : RustItem → Item
 item_of (item.Line l) = a_line (line_of l)
 item_of (item.Block plan text) = a_block plan text.now
 item_of item.OpenBlock = open_block
+
+-- the line that begins so
+abbrev pub opening_of : RustOpening → Line
+opening_of opening.Silent = silent
+opening_of (opening.Heading plan) = heading plan
+opening_of (opening.Command verb rest) = line_with (command_by verb rest.now)
+opening_of opening.Unread = unread
+
+-- the item that begins so
+abbrev pub part_of : RustPart → Item
+part_of part.Silent = a_line silent
+part_of (part.Command verb rest) = a_line (line_with (command_by verb rest.now))
+part_of part.Unread = a_line unread
+part_of (part.Block plan text) = a_block plan text.now
+part_of part.OpenBlock = open_block

@@ -67,11 +67,8 @@ fn digit(value: u8) -> u8
     requires { value < 16 }
     ensures { result ≡ digit_glyph false value }
 {
-    if value < 10 {
-        b'0' + value
-    } else {
-        b'a' - 10 + value
-    }
+    let digits: &[u8; 16] = b"0123456789abcdef";
+    digits[usize::from(value)]
 }
 
 // A word's 16 digits.
@@ -99,10 +96,20 @@ fn hex_digits(word: u64) -> [u8; 16]
     ]
 }
 
+// The same; most words of a short call's fragment are 0.
+fn word_digits(word: u64) -> [u8; 16]
+    ensures { result ≡ hex word }
+{
+    if word == 0 {
+        return *b"0000000000000000";
+    }
+    hex_digits(word)
+}
+
 fn put_hex(out: &mut Vec<u8>, word: u64) -> Result<(), AllocError>
     ensures ok { OnOk result (out.new.items ≡ out.old.items ++ hex word) }
 {
-    let digits = hex_digits(word);
+    let digits = word_digits(word);
     out.extend_from_slice(digits.as_slice())
 }
 

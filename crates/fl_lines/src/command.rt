@@ -129,6 +129,16 @@ pub enum Line<'a> {
     Unread,
 }
 
+/// What a line is by its first word.
+#[derive(Clone, Copy, Debug)]
+pub enum Opening<'a> {
+    Silent,
+    Heading(PlanNo),
+    /// The word, and what stands behind it: a command, or nothing that is read.
+    Command(Verb, &'a [u8]),
+    Unread,
+}
+
 /// The first word of a command.
 #[derive(Clone, Copy, Debug, PartialEq, Eq)]
 pub enum Verb {

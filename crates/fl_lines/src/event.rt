@@ -76,7 +76,8 @@ pub enum Naming<'a> {
     Nothing,
     Dispatcher { name: &'a [u8], core: u32 },
     Binding { name: &'a [u8], interface: usize },
-    Interface(InterfaceNames),
+    /// In a box: it is seldom, and an event and its name are passed on by value.
+    Interface(Box<InterfaceNames>),
 }
 
 /// An event, and the name that is given where it is answered `ok`.

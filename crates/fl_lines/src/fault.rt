@@ -8,6 +8,9 @@ use thiserror::Error;
 /// Why a command asks nothing of the machine.
 #[derive(Clone, Copy, Debug, PartialEq, Eq, Drop, Error)]
 pub enum LineFault {
+    /// The line is nothing that is read (E90).
+    #[error("this is no line of a script")]
+    Unread,
     /// The text behind an end is no call's text (E90).
     #[error("this is no call")]
     NotACall,
@@ -28,6 +31,7 @@ impl LineFault {
         ensures number { result ≡ number_of self }
     {
         match self {
+            LineFault::Unread => 90,
             LineFault::NotACall => 90,
             LineFault::Name => 92,
             LineFault::NoSuchMessage => 41,

@@ -3,11 +3,12 @@
 ghost use Rattle.std.specs.Prelude.{◌≡◌, ◌++◌, ◌∷◌, [], ◌<◌, List, length, true, false, IfSome, MatchOption};
 ghost use Rattle.fl_value.specs.declared.value.PlanNo.{PlanNo as Plan};
 ghost use Rattle.fl_lines.specs.Items.{Item as TheItem, lines_of, WithoutEnd, EndsBlock, ItemsOf};
-ghost use Rattle.fl_lines.specs.Items.{BlockOf, a_block, open_block};
-ghost use Rattle.fl_lines.specs.Views.{item_of};
+ghost use Rattle.fl_lines.specs.Items.{BlockOf, a_line, a_block, open_block};
+ghost use Rattle.fl_lines.specs.Reading.{command_by, line_with};
+ghost use Rattle.fl_lines.specs.Views.{item_of, part_of};
 
-use crate::command::Line;
-use crate::reader::parse_line;
+use crate::command::{Line, Opening, Verb};
+use crate::reader::{open_line, read_command};
 use fl_value::PlanNo;
 
 /// One item of a script.
@@ -15,6 +16,19 @@ use fl_value::PlanNo;
 pub enum Item<'a> {
     /// A line outside blocks; never the head of one.
     Line(Line<'a>),
+    /// A block: its plan, and its text with all line ends.
+    Block(PlanNo, &'a [u8]),
+    /// A block that the script's end leaves open.
+    OpenBlock,
+}
+
+/// One item of a script, told by its first word: what stands behind that isn't read yet.
+#[derive(Clone, Copy, Debug)]
+pub enum Part<'a> {
+    Silent,
+    /// A line that begins with this word, and what stands behind it: a command, or nothing that is read.
+    Command(Verb, &'a [u8]),
+    Unread,
     /// A block: its plan, and its text with all line ends.
     Block(PlanNo, &'a [u8]),
     /// A block that the script's end leaves open.
@@ -58,6 +72,7 @@ fn ends_block(line: &[u8]) -> bool
 }
 
 // The text of a block that begins here, and what stands behind its last line.
+#[inline(never)]
 fn block(bytes: &[u8]) -> Option<(&[u8], &[u8])>
     ensures block { (plan : Plan) → MatchOption result
         (BlockOf plan [] bytes.now (open_block ∷ []))
@@ -77,20 +92,54 @@ fn block(bytes: &[u8]) -> Option<(&[u8], &[u8])>
     None
 }
 
+/// The first item of a script that isn't at its end, by its first word, and what stands behind it. Takes no memory.
+pub fn next_part(bytes: &[u8]) -> (Part<'_>, &[u8])
+    requires { 0 < length bytes.now }
+    ensures items { (items : List TheItem) → ItemsOf result.1.now items → ItemsOf bytes.now (part_of result.0 ∷ items) }
+    ensures shorter { length result.1.now < length bytes.now }
+{
+    let (line, behind) = next_line(bytes);
+    match open_line(without_end(line)) {
+        Opening::Heading(plan) => match block(behind) {
+            None => (Part::OpenBlock, &[]),
+            Some((text, behind)) => (Part::Block(plan, text), behind),
+        },
+        Opening::Silent => (Part::Silent, behind),
+        Opening::Command(verb, rest) => (Part::Command(verb, rest), behind),
+        Opening::Unread => (Part::Unread, behind),
+    }
+}
+
+// The line of a command, or of none.
+fn command_item(verb: Verb, rest: &[u8]) -> Item<'_>
+    ensures same { item_of result ≡ a_line (line_with (command_by verb rest.now)) }
+{
+    match read_command(verb, rest) {
+        None => Item::Line(Line::Unread),
+        Some(command) => Item::Line(Line::Command(command)),
+    }
+}
+
+// An item whose command is read too.
+fn whole_item(part: Part<'_>) -> Item<'_>
+    ensures same { item_of result ≡ part_of part.entry }
+{
+    match part {
+        Part::Silent => Item::Line(Line::Silent),
+        Part::Command(verb, rest) => command_item(verb, rest),
+        Part::Unread => Item::Line(Line::Unread),
+        Part::Block(plan, text) => Item::Block(plan, text),
+        Part::OpenBlock => Item::OpenBlock,
+    }
+}
+
 /// The first item of a script that isn't at its end, and what stands behind it. Takes no memory.
 pub fn next_item(bytes: &[u8]) -> (Item<'_>, &[u8])
     requires { 0 < length bytes.now }
     ensures items { (items : List TheItem) → ItemsOf result.1.now items → ItemsOf bytes.now (item_of result.0 ∷ items) }
     ensures shorter { length result.1.now < length bytes.now }
 {
-    let (line, behind) = next_line(bytes);
-    match parse_line(without_end(line)) {
-        Line::Heading(plan) => match block(behind) {
-            None => (Item::OpenBlock, &[]),
-            Some((text, behind)) => (Item::Block(plan, text), behind),
-        },
-        Line::Silent => (Item::Line(Line::Silent), behind),
-        Line::Command(command) => (Item::Line(Line::Command(command)), behind),
-        Line::Unread => (Item::Line(Line::Unread), behind),
-    }
+    let (part, behind) = next_part(bytes);
+    let item = whole_item(part);
+    (item, behind)
 }

@@ -30,12 +30,12 @@ mod table;
 mod word;
 
 pub use answer::{Answer, print_answer, print_fault};
-pub use command::{BackEnd, Command, EndName, Line, Route};
+pub use command::{BackEnd, Command, EndName, Line, Opening, Route, Verb};
 pub use event::{Asked, DispatcherId, Event, Naming};
 pub use fault::LineFault;
-pub use item::{Item, next_item};
+pub use item::{Item, Part, next_item, next_part};
 pub use law::{one_asked, one_items, one_line, printed_reads, some_items, spelled_reads};
 pub use names::{Names, names_of_interface};
 pub use printing::print_command;
-pub use reader::parse_line;
+pub use reader::{parse_line, read_command};
 pub use table::{InterfaceNames, NameTable};

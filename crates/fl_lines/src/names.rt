@@ -127,6 +127,7 @@ impl Names {
         })
     }
 
+    #[inline(never)]
     fn ask_disp<'a>(&self, name: &'a [u8], core: u32) -> Result<Asked<'a>, LineFault>
         ensures tells { Tells (names_of self.now) result (asks_disp (names_of self.now) name.now core) }
         ensures new { IfOk result (λ a. IsNew (names_of self.now) a.naming) }
@@ -140,6 +141,7 @@ impl Names {
         })
     }
 
+    #[inline(never)]
     fn ask_export<'a>(
         &self,
         name: &'a [u8],
@@ -165,6 +167,7 @@ impl Names {
         })
     }
 
+    #[inline(never)]
     fn ask_bind<'a>(
         &self,
         name: &'a [u8],
@@ -210,6 +213,7 @@ impl Names {
         })
     }
 
+    #[inline(never)]
     fn ask_reply(
         &self,
         end: EndName<'_>,
@@ -458,7 +462,7 @@ impl Names {
             Naming::Nothing => Ok(()),
             Naming::Dispatcher { name, core } => self.add_dispatcher(name, core),
             Naming::Binding { name, interface } => self.add_binding(name, interface),
-            Naming::Interface(interface) => self.add_interface(interface),
+            Naming::Interface(interface) => self.add_interface(Box::into_inner(interface)),
         }
     }
 
@@ -491,11 +495,7 @@ fn table_of_messages(alloc: Global, messages: &[Message]) -> Result<NameTable, A
     Ok(table)
 }
 
-/// The names of an interface, taken before the event that adds it takes the interface itself.
-pub fn names_of_interface(
-    alloc: Global,
-    interface: &Interface,
-) -> Result<InterfaceNames, AllocError>
+fn names_in(alloc: Global, interface: &Interface) -> Result<InterfaceNames, AllocError>
     ensures name { IfOk result (λ n. n.name.items ≡ (interface_of interface.now).name) }
     ensures messages { IfOk result (λ n. table_of n.messages ≡ map (λ m. m.name) (interface_of interface.now).messages) }
 {
@@ -503,6 +503,18 @@ pub fn names_of_interface(
         name: Vec::from_slice(alloc, &interface.name.bytes)?,
         messages: table_of_messages(alloc, &interface.messages)?,
     })
+}
+
+/// The names of an interface, taken before the event that adds it takes the interface itself.
+pub fn names_of_interface(
+    alloc: Global,
+    interface: &Interface,
+) -> Result<Box<InterfaceNames>, AllocError>
+    ensures name { IfOk result (λ n. n.value.name.items ≡ (interface_of interface.now).name) }
+    ensures messages { IfOk result (λ n. table_of n.value.messages ≡ map (λ m. m.name) (interface_of interface.now).messages) }
+{
+    let names = names_in(alloc, interface)?;
+    Ok(Box::new(alloc, names)?)
 }
 
 // How many of these dispatchers are on a core.

@@ -9,16 +9,16 @@ ghost use Rattle.fl_lines.specs.Words.{is_none, first_word, words_of, numbers_of
 ghost use Rattle.fl_lines.specs.Reading.{end_of, one_number, two_numbers, one_end};
 ghost use Rattle.fl_lines.specs.Reading.{with_cores, link_row, disp_row, export_row, route_row, back_end_row};
 ghost use Rattle.fl_lines.specs.Reading.{bind_row, call_row, turn_row, reply_row, verb_of, command_by};
-ghost use Rattle.fl_lines.specs.Reading.{heading_by, line_by, read_line};
-ghost use Rattle.fl_lines.specs.Views.{end_name_of, back_end_of, command_of, line_of};
+ghost use Rattle.fl_lines.specs.Reading.{heading_by, line_by, line_with, read_line};
+ghost use Rattle.fl_lines.specs.Views.{end_name_of, back_end_of, command_of, line_of, opening_of};
 
-use crate::command::{BackEnd, Command, EndName, Line, Route, Verb};
+use crate::command::{BackEnd, Command, EndName, Line, Opening, Route, Verb};
 use crate::word::{begins_comment, is_number, next_word, number, skip_blanks};
 use fl_base::Side;
 use fl_lex::is_name;
 use fl_value::PlanNo;
 
-fn end_name(word: &[u8]) -> Option<EndName<'_>>
+pub fn end_name(word: &[u8]) -> Option<EndName<'_>>
     ensures same { option_map end_name_of result ≡ end_of word.now }
 {
     let at = word.len().saturating_sub(2);
@@ -62,7 +62,7 @@ fn one_number(line: &[u8]) -> Option<u32>
     Some(n)
 }
 
-fn two_numbers(line: &[u8]) -> Option<(u32, u32)>
+pub fn two_numbers(line: &[u8]) -> Option<(u32, u32)>
     ensures same { result ≡ two_numbers line.now }
 {
     let (word, rest) = next_word(line);
@@ -75,7 +75,7 @@ fn two_numbers(line: &[u8]) -> Option<(u32, u32)>
     Some((a, b))
 }
 
-fn one_end(line: &[u8]) -> Option<EndName<'_>>
+pub fn one_end(line: &[u8]) -> Option<EndName<'_>>
     ensures same { option_map end_name_of result ≡ one_end line.now }
 {
     let (word, rest) = next_word(line);
@@ -88,6 +88,7 @@ fn one_end(line: &[u8]) -> Option<EndName<'_>>
     Some(end)
 }
 
+#[inline(never)]
 fn link_row(line: &[u8]) -> Option<Command<'_>>
     ensures same { option_map command_of result ≡ link_row line.now }
 {
@@ -101,6 +102,7 @@ fn link_row(line: &[u8]) -> Option<Command<'_>>
     Some(Command::Link { a, b, slots })
 }
 
+#[inline(never)]
 fn disp_row(line: &[u8]) -> Option<Command<'_>>
     ensures same { option_map command_of result ≡ disp_row line.now }
 {
@@ -114,6 +116,7 @@ fn disp_row(line: &[u8]) -> Option<Command<'_>>
     Some(Command::Disp { name, core })
 }
 
+#[inline(never)]
 fn export_row(line: &[u8]) -> Option<Command<'_>>
     ensures same { option_map command_of result ≡ export_row line.now }
 {
@@ -188,6 +191,7 @@ fn back_end_row(line: &[u8]) -> Option<BackEnd<'_>>
     None
 }
 
+#[inline(never)]
 fn bind_row(line: &[u8]) -> Option<Command<'_>>
     ensures same { option_map command_of result ≡ bind_row line.now }
 {
@@ -230,6 +234,7 @@ fn turn_row(line: &[u8]) -> Option<Command<'_>>
     Some(Command::Turn(dispatcher))
 }
 
+#[inline(never)]
 fn reply_row(line: &[u8]) -> Option<Command<'_>>
     ensures same { option_map command_of result ≡ reply_row line.now }
 {
@@ -312,8 +317,8 @@ fn mack_row(line: &[u8]) -> Option<Command<'_>>
     Some(Command::MonitorAck { core, neighbour })
 }
 
-// The command that begins with this word.
-fn read_command(verb: Verb, rest: &[u8]) -> Option<Command<'_>>
+/// The command of a line that begins with this word, from what stands behind it. Takes no memory.
+pub fn read_command(verb: Verb, rest: &[u8]) -> Option<Command<'_>>
     ensures same { option_map command_of result ≡ command_by verb rest.now }
 {
     match verb {
@@ -338,33 +343,59 @@ fn read_command(verb: Verb, rest: &[u8]) -> Option<Command<'_>>
 }
 
 // The line of an `idl`, from what stands behind it.
-fn read_heading(rest: &[u8]) -> Line<'static>
-    ensures same { line_of result ≡ heading_by rest.now }
+fn read_heading(rest: &[u8]) -> Opening<'static>
+    ensures same { opening_of result ≡ heading_by rest.now }
 {
     let (plan, rest) = next_word(rest);
     if plan.is_empty() {
-        return Line::Heading(PlanNo::Two);
+        return Opening::Heading(PlanNo::Two);
     }
     if plan == b"1".as_slice() && is_last(rest) {
-        return Line::Heading(PlanNo::One);
+        return Opening::Heading(PlanNo::One);
     }
-    Line::Unread
+    Opening::Unread
 }
 
-fn read_line(line: &[u8]) -> Line<'_>
-    ensures same { line_of result ≡ read_line line.now }
+// What a line is by its first word.
+fn read_opening(line: &[u8]) -> Opening<'_>
+    ensures same { opening_of result ≡ read_line line.now }
 {
     let (word, rest) = next_word(line);
     if begins_comment(word) {
-        return Line::Silent;
+        return Opening::Silent;
     }
     let verb = read_verb(word);
     if verb == Verb::Idl {
         return read_heading(rest);
     }
-    match read_command(verb, rest) {
+    Opening::Command(verb, rest)
+}
+
+/// What a line, without its end, is by its first word. Takes no memory.
+pub fn open_line(line: &[u8]) -> Opening<'_>
+    ensures line { LineIs line.now (opening_of result) }
+{
+    read_opening(line)
+}
+
+// The line of a command that was read, or of none.
+fn line_with(command: Option<Command<'_>>) -> Line<'_>
+    ensures same { line_of result ≡ line_with (option_map command_of command.entry) }
+{
+    match command {
         None => Line::Unread,
         Some(command) => Line::Command(command),
+    }
+}
+
+fn read_line(line: &[u8]) -> Line<'_>
+    ensures same { line_of result ≡ read_line line.now }
+{
+    match read_opening(line) {
+        Opening::Silent => Line::Silent,
+        Opening::Heading(plan) => Line::Heading(plan),
+        Opening::Command(verb, rest) => line_with(read_command(verb, rest)),
+        Opening::Unread => Line::Unread,
     }
 }
 

@@ -1,7 +1,7 @@
 use Rattle.std.proofs.Common.{◌∙◌, ap, map, List}
 use Rattle.fl_check.specs.declared.interface.Message.{Message}
 use Rattle.fl_lines.proofs.TableLemmas.{named_messages, messages_differ}
-use Rattle.fl_lines.proofs.names.names_of_interface.Goals as goal
+use Rattle.fl_lines.proofs.names.names_in.Goals as goal
 
 pub table_of_messages-requires : goal.table_of_messages-requires
 table_of_messages-requires c =
