@@ -1,5 +1,5 @@
 -- Where arguments' ranks never fall, the plan's order is the declared one.
-use Rattle.std.proofs.Common.{◌≡◌, ℕ, zero, suc, ◌+◌, ◌<◌, ◌≤◌, Bool, true, false, ⊎_elim, ◌⊎◌, List, [], ◌∷◌, ◌++◌, refl, ◌∙◌, ap, arith, eqb, leb, eq-eqb}
+use Rattle.std.proofs.Common.{◌≡◌, ℕ, zero, suc, ◌+◌, ◌<◌, ◌≤◌, true, false, ⊎_elim, List, [], ◌∷◌, ◌++◌, refl, ◌∙◌, ap, arith, eqb, leb, eq-eqb}
 use Rattle.std.specs.List.{zip}
 use Rattle.std.specs.Cmp.{first_so, second_so}
 use Rattle.std.proofs.lemmas.Bool.{cases_lt, leb-true, ne_eqb}

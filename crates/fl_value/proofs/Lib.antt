@@ -12,4 +12,5 @@ pub mod Turns
 pub mod Bits
 pub mod Ranked
 pub mod Kept
+pub mod Spans
 pub mod Untaped

@@ -1,12 +1,15 @@
 //! Calls as text, each in one form: what answers show.
 
-ghost use Rattle.std.specs.Prelude.{◌≡◌, ◌++◌, ◌<◌, List, OnOk, OnErr, map};
+ghost use Rattle.std.specs.Prelude.{◌≡◌, ◌++◌, ◌<◌, ◌≤◌, List, OnOk, OnErr, map, length};
+ghost use Rattle.std.specs.List.{prefix_len};
 ghost use Rattle.std.specs.Char.{digit_char};
 ghost use Rattle.std.specs.Fmt.{signed_decimal};
 ghost use Rattle.fl_value.specs.Value.{datum_of, data_from};
-ghost use Rattle.fl_value.specs.Printed.{printed_byte, printed_text, printed_value, printed_values, printed_call, separator, BeginsToAppend};
+ghost use Rattle.fl_value.specs.Printed.{is_shown, printed_byte, printed_text, printed_value, printed_values, printed_call, separator, BeginsToAppend};
 
+use crate::tokens::is_plain;
 use crate::value::Value;
+use itoa::Buffer;
 use std::alloc::{AllocError, Global};
 
 /// The lower-case hexadecimal digit of a number below 16.
@@ -19,6 +22,26 @@ fn hex_digit(number: u8) -> u8
     } else {
         b'a' - 10 + number
     }
+}
+
+/// Whether a byte of a text is printed as it is.
+fn is_shown(byte: u8) -> bool
+    ensures same { result ≡ is_shown byte }
+{
+    is_plain(byte) && byte <= b'~'
+}
+
+/// How many bytes from here on are printed as they are.
+fn count_shown(bytes: &[u8]) -> usize
+    ensures same { result ≡ prefix_len is_shown bytes.now }
+    ensures within { result ≤ length bytes.now }
+{
+    for (count, byte) in bytes.iter().enumerate() {
+        if !is_shown(*byte) {
+            return count;
+        }
+    }
+    bytes.len()
 }
 
 /// Appends a byte of a text.
@@ -40,7 +63,10 @@ fn print_text(out: &mut Vec<u8>, bytes: &[u8]) -> Result<(), AllocError>
     ensures begun { OnErr result (BeginsToAppend out.old.items out.new.items (printed_text bytes.now)) }
 {
     out.push(b'"')?;
-    for byte in bytes {
+    let shown = count_shown(bytes);
+    out.extend_from_slice(&bytes[..shown])?;
+    let rest = &bytes[shown..];
+    for byte in rest {
         print_byte(out, *byte)?;
     }
     out.push(b'"')?;
@@ -48,12 +74,12 @@ fn print_text(out: &mut Vec<u8>, bytes: &[u8]) -> Result<(), AllocError>
 }
 
 /// Appends a number in its shortest form.
-fn print_number(alloc: Global, out: &mut Vec<u8>, number: i128) -> Result<(), AllocError>
+fn print_number(out: &mut Vec<u8>, number: i128) -> Result<(), AllocError>
     ensures printed { OnOk result (out.new.items ≡ out.old.items ++ signed_decimal number) }
     ensures begun { OnErr result (BeginsToAppend out.old.items out.new.items (signed_decimal number)) }
 {
-    let text = number.to_string(alloc)?;
-    out.extend_from_slice(text.as_bytes())
+    let mut buffer = Buffer::new();
+    out.extend_from_slice(buffer.format(number).as_bytes())
 }
 
 /// Appends what stands between a value and the one before it.
@@ -69,22 +95,22 @@ fn print_separator(out: &mut Vec<u8>, index: usize) -> Result<(), AllocError>
 
 /// Appends a value.
 #[cycle(printing)]
-fn print_value(alloc: Global, out: &mut Vec<u8>, value: &Value) -> Result<(), AllocError>
+fn print_value(out: &mut Vec<u8>, value: &Value) -> Result<(), AllocError>
     ensures printed { OnOk result (out.new.items ≡ out.old.items ++ printed_value (datum_of value.now)) }
     ensures begun { OnErr result (BeginsToAppend out.old.items out.new.items (printed_value (datum_of value.now))) }
 {
     match value {
-        Value::Int(number) => print_number(alloc, out, *number),
+        Value::Int(number) => print_number(out, *number),
         Value::Text(bytes) => print_text(out, bytes),
         Value::List(values) => {
             out.push(b'[')?;
-            print_values(alloc, out, values)?;
+            print_values(out, values)?;
             out.push(b']')?;
             Ok(())
         }
         Value::Fields(values) => {
             out.push(b'{')?;
-            print_values(alloc, out, values)?;
+            print_values(out, values)?;
             out.push(b'}')?;
             Ok(())
         }
@@ -93,13 +119,13 @@ fn print_value(alloc: Global, out: &mut Vec<u8>, value: &Value) -> Result<(), Al
 
 /// Appends values with `, ` between any two.
 #[cycle(printing)]
-fn print_values(alloc: Global, out: &mut Vec<u8>, values: &[Value]) -> Result<(), AllocError>
+fn print_values(out: &mut Vec<u8>, values: &[Value]) -> Result<(), AllocError>
     ensures printed { OnOk result (out.new.items ≡ out.old.items ++ printed_values (data_from (map datum_of values.now))) }
     ensures begun { OnErr result (BeginsToAppend out.old.items out.new.items (printed_values (data_from (map datum_of values.now)))) }
 {
     for (index, value) in values.iter().enumerate() {
         print_separator(out, index)?;
-        print_value(alloc, out, value)?;
+        print_value(out, value)?;
     }
     Ok(())
 }
@@ -110,7 +136,7 @@ fn print_values(alloc: Global, out: &mut Vec<u8>, values: &[Value]) -> Result<()
 ///
 /// Where memory runs out; `out` may then have a prefix of the text at its end, behind what stood there.
 pub fn print_call(
-    alloc: Global,
+    _alloc: Global,
     out: &mut Vec<u8>,
     name: &[u8],
     args: &[Value],
@@ -120,7 +146,7 @@ pub fn print_call(
 {
     out.extend_from_slice(name)?;
     out.push(b'(')?;
-    print_values(alloc, out, args)?;
+    print_values(out, args)?;
     out.push(b')')?;
     Ok(())
 }

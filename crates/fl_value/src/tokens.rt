@@ -5,7 +5,7 @@ ghost use Rattle.std.specs.List.{prefix_len, list_all};
 ghost use Rattle.std.specs.Char.{digit_value};
 ghost use Rattle.std.specs.Str.Parse.{digits_value};
 ghost use Rattle.fl_lex.specs.Words.{is_digit};
-ghost use Rattle.fl_value.specs.CallText.{is_blank, is_mark, Blanks, Digits, TextByte, TextBytes};
+ghost use Rattle.fl_value.specs.CallText.{is_blank, is_mark, is_plain, Blanks, Digits, TextByte, TextBytes};
 ghost use Rattle.fl_value.specs.CallText.{Token, a_number, a_text, a_mark, StopsAt, Closed};
 
 use std::alloc::{AllocError, Global};
@@ -161,13 +161,34 @@ fn read_byte(bytes: &[u8]) -> Option<(u8, &[u8])>
     }
 }
 
+/// Whether a byte stands for itself in a text.
+pub(crate) fn is_plain(byte: u8) -> bool
+    ensures same { result ≡ is_plain byte }
+{
+    byte >= b' ' && byte != b'"' && byte != b'\\'
+}
+
+/// How many bytes from here on stand for themselves in a text.
+fn count_plain(bytes: &[u8]) -> usize
+    ensures same { result ≡ prefix_len is_plain bytes.now }
+    ensures within { result ≤ length bytes.now }
+{
+    for (count, byte) in bytes.iter().enumerate() {
+        if !is_plain(*byte) {
+            return count;
+        }
+    }
+    bytes.len()
+}
+
 /// The bytes of a text from here on, up to where no byte of a text stands, and what stands there.
 fn read_bytes(alloc: Global, bytes: &[u8]) -> Result<(Vec<u8>, &[u8]), AllocError>
     ensures found { IfOk result (λ r. TextBytes r.0.items bytes.now r.1.now) }
     ensures stops { IfOk result (λ r. Closed r.1.now) }
 {
-    let mut text = Vec::new(alloc);
-    let mut rest = bytes;
+    let plain = count_plain(bytes);
+    let mut text = Vec::from_slice(alloc, &bytes[..plain])?;
+    let mut rest = &bytes[plain..];
     while let Some((byte, after)) = read_byte(rest) {
         text.push(byte)?;
         rest = after;

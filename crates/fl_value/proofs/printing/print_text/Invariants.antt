@@ -5,4 +5,4 @@ use Rattle.fl_value.proofs.Begun.{IsLeft}
 use Rattle.fl_value.proofs.printing.print_text.Given as goal
 
 abbrev pub invariant-loop-byte : goal.invariant-loop-byte
-invariant-loop-byte l = IsLeft l.fn.out.items l.out.items (printed_text l.bytes) (flat_map printed_byte (drop l.byte-index l.bytes) ++ 34 ∷ [])
+invariant-loop-byte l = IsLeft l.fn.out.items l.out.items (printed_text l.bytes) (flat_map printed_byte (drop l.byte-index l.rest) ++ 34 ∷ [])

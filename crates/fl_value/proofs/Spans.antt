@@ -1,0 +1,58 @@
+-- Bytes of a text that stand for themselves, taken and printed as one span.
+use Rattle.std.proofs.Common.{◌≡◌, ◌+◌, ◌-◌, ℕ, suc, Bool, true, false, List, [], ◌∷◌, ◌++◌, length, take, drop, refl, ap, sym, ◌∙◌, cond, eqb, leb, arith, subst, append_assoc}
+use Rattle.std.specs.Prelude.{not, ◌&&◌}
+use Rattle.std.specs.List.{prefix_len, flat_map}
+use Rattle.std.proofs.lemmas.List.{take_all, length-drop}
+use Rattle.fl_value.specs.CallText.{is_plain, itself, TextBytes}
+use Rattle.fl_value.specs.Printed.{is_shown, printed_byte}
+
+count_next : (p : Bool) (n : ℕ) → cond p (1 + n) 0 ≡ cond p (suc n) 0
+count_next true n = omega arith
+count_next false n = refl
+
+-- what is left of a slice, as code has it
+pub left_of_slice : (bytes : List ℕ) (n : ℕ) → take (length bytes - n) (drop n bytes) ≡ drop n bytes
+left_of_slice bytes n = take_all (length bytes - n) (drop n bytes) (omega (arith, length-drop n bytes))
+
+plain_next : (p : Bool) (b : ℕ) (bs : List ℕ) (n m : ℕ) → is_plain b ≡ p → m ≡ cond p (suc n) 0 → TextBytes (take n bs) bs (drop n bs) → TextBytes (take m (b ∷ bs)) (b ∷ bs) (drop m (b ∷ bs))
+plain_next true b bs n m e is rest = subst (λ (k : ℕ). TextBytes (take k (b ∷ bs)) (b ∷ bs) (drop k (b ∷ bs))) (sym is) (bs, itself e refl, rest)
+plain_next false b bs n m e is rest = subst (λ (k : ℕ). TextBytes (take k (b ∷ bs)) (b ∷ bs) (drop k (b ∷ bs))) (sym is) refl
+
+plain_read : (bytes : List ℕ) → TextBytes (take (prefix_len is_plain bytes) bytes) bytes (drop (prefix_len is_plain bytes) bytes)
+plain_read [] = refl
+plain_read (b ∷ bs) =
+    plain_next (is_plain b) b bs (prefix_len is_plain bs) (prefix_len is_plain (b ∷ bs)) refl (count_next (is_plain b) (prefix_len is_plain bs)) (plain_read bs)
+
+-- they are read as they are
+pub plain_span : (bytes text rest : List ℕ) (n : ℕ) → n ≡ prefix_len is_plain bytes → text ≡ take n bytes → rest ≡ drop n bytes → TextBytes text bytes rest
+plain_span bytes text rest n is span behind = rw (span, behind, is) (plain_read bytes)
+
+-- a byte by the tests that its printed form makes
+by_tests : (b : ℕ) (from quote backslash to : Bool) → ((from && not quote && not backslash) && to) ≡ true
+    → (other : List ℕ) → cond quote (92 ∷ 34 ∷ []) (cond backslash (92 ∷ 92 ∷ []) (cond (from && to) (b ∷ []) other)) ≡ b ∷ []
+by_tests b true false false true e other = refl
+by_tests b true true backslash to e other = absurd (cc)
+by_tests b true false true to e other = absurd (cc)
+by_tests b true false false false e other = absurd (cc)
+by_tests b false quote backslash to e other = absurd (cc)
+
+shown_byte : (b : ℕ) → is_shown b ≡ true → printed_byte b ≡ b ∷ []
+shown_byte b e = by_tests b (leb 32 b) (eqb b 34) (eqb b 92) (leb b 126) e _
+
+shown_next : (p : Bool) (b : ℕ) (bs : List ℕ) (n m : ℕ) → is_shown b ≡ p → m ≡ cond p (suc n) 0 → flat_map printed_byte bs ≡ take n bs ++ flat_map printed_byte (drop n bs)
+    → flat_map printed_byte (b ∷ bs) ≡ take m (b ∷ bs) ++ flat_map printed_byte (drop m (b ∷ bs))
+shown_next true b bs n m e is rest =
+    subst (λ (k : ℕ). flat_map printed_byte (b ∷ bs) ≡ take k (b ∷ bs) ++ flat_map printed_byte (drop k (b ∷ bs))) (sym is)
+    (ap (λ (l : List ℕ). l ++ flat_map printed_byte bs) (shown_byte b e) ∙ ap (λ (l : List ℕ). b ∷ l) rest)
+shown_next false b bs n m e is rest = subst (λ (k : ℕ). flat_map printed_byte (b ∷ bs) ≡ take k (b ∷ bs) ++ flat_map printed_byte (drop k (b ∷ bs))) (sym is) refl
+
+shown_printed : (bytes : List ℕ) → flat_map printed_byte bytes ≡ take (prefix_len is_shown bytes) bytes ++ flat_map printed_byte (drop (prefix_len is_shown bytes) bytes)
+shown_printed [] = refl
+shown_printed (b ∷ bs) =
+    shown_next (is_shown b) b bs (prefix_len is_shown bs) (prefix_len is_shown (b ∷ bs)) refl (count_next (is_shown b) (prefix_len is_shown bs)) (shown_printed bs)
+
+-- they are printed as they are
+pub shown_span : (bytes rest : List ℕ) (n : ℕ) → n ≡ prefix_len is_shown bytes → rest ≡ drop n bytes → (end : List ℕ)
+    → flat_map printed_byte bytes ++ end ≡ take n bytes ++ (flat_map printed_byte rest ++ end)
+shown_span bytes rest n is behind end =
+    rw (behind, is) (ap (λ (l : List ℕ). l ++ end) (shown_printed bytes) ∙ append_assoc (take (prefix_len is_shown bytes) bytes) (flat_map printed_byte (drop (prefix_len is_shown bytes) bytes)) end)
