@@ -10,7 +10,7 @@
 //!
 //! - `end.rt`: `End`
 //! - `outgoing.rt`: the call in transmission, and the replies that wait
-//! - `incoming.rt`: the receive run of an end
+//! - `incoming.rt`: the calls that come to an end, put together from fragments
 //! - `rules.rt`: reply rules
 //! - `answer.rt`: what a write and a receive come to
 //! - `law.rt`: what holds of ends over time

@@ -72,6 +72,7 @@ impl Queued {
 }
 
 // The call in transmission, of which nothing is written.
+#[inline(always)]
 fn start(program: &Program, circuit: Circuit, call: Queued) -> Sending
     requires { IsQueued (program_of program.now) call }
     ensures sending { IsSending (program_of program.now) result }

@@ -151,6 +151,7 @@ impl Gathered {
     }
 
     // Takes a fragment.
+    #[inline(always)]
     fn take(&mut self, alloc: Global, program: &Program, frag: &Frag) -> Result<Taken, TakeFault>
         requires gathered { IsGathered (program_of program.now) self.old }
         ensures gathered { IsGathered (program_of program.now) self.new }
@@ -211,6 +212,7 @@ impl Reassembly {
     }
 
     /// Done with the call under way: the next fragment is to begin another.
+    #[inline]
     pub fn finish(&mut self)
         ensures finished { self.new ≡ without_parts self.old }
     {
@@ -218,6 +220,7 @@ impl Reassembly {
     }
 
     /// The program whose calls are put together.
+    #[inline]
     pub fn program(&self) -> &Program
         ensures program { result.now ≡ self.now.program }
     {

@@ -142,16 +142,17 @@ fn take_in(
     let Some(code) = program.receive_code(begun.msg) else {
         unreachable!();
     };
-    let mut intake = begun.intake;
-    match intake.take_words(code.ops(), tape, &frag.words) {
+    // Goes on where it lies, so that its loops aren't copied.
+    let mut begun = begun;
+    match begun.intake.take_words(code.ops(), tape, &frag.words) {
         Ok(Fed::Part) => Ok(Stand::Inside(Begun {
             msg: begun.msg,
             fed: begun.fed + 1,
-            intake,
+            intake: begun.intake,
         })),
         Ok(Fed::Whole) => Ok(Stand::After(Ended {
             msg: begun.msg,
-            count: intake.count(),
+            count: begun.intake.count(),
         })),
         Err(mark) => Err(fault_of(mark)),
     }

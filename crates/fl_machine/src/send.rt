@@ -199,6 +199,7 @@ fn fill(cursor: &mut Cursor, ops: &[Op], tape: &[u64]) -> [u8; 56]
 
 impl SendRun {
     /// The run that gives the fragments of a call, by its message's send code and its tape. Takes no memory.
+    #[inline]
     pub fn start(code: &VerifiedCode, msg: MsgNo, circuit: Circuit, tape: Vec<u64>) -> SendRun
         requires { code.now.column ≡ send }
         ensures runs { RunsOn code.now result }
@@ -220,6 +221,7 @@ impl SendRun {
     }
 
     /// The next fragment, which stays the next; `None` after the last. Asks for the code of the start. Takes no memory.
+    #[inline]
     pub fn peek_frag(&self, code: &VerifiedCode) -> Option<Frag>
         requires { RunsOn code.now self.now }
         ensures frag { result ≡ slice_get (frags_left code.now self.now) 0 }
@@ -233,6 +235,7 @@ impl SendRun {
     }
 
     /// The next fragment; `None` after the last. Asks for the code of the start. Takes no memory.
+    #[inline]
     pub fn next_frag(&mut self, code: &VerifiedCode) -> Option<Frag>
         requires { RunsOn code.now self.old }
         ensures runs { RunsOn code.now self.new }
