@@ -1,7 +1,8 @@
 -- Bytes of a text that stand for themselves, taken and printed as one span.
 use Rattle.std.proofs.Common.{◌≡◌, ◌+◌, ◌-◌, ℕ, suc, Bool, true, false, List, [], ◌∷◌, ◌++◌, length, take, drop, refl, ap, sym, ◌∙◌, cond, eqb, leb, arith, subst, append_assoc}
 use Rattle.std.specs.Prelude.{not, ◌&&◌}
-use Rattle.std.specs.List.{prefix_len, flat_map}
+use Rattle.std.specs.Cmp.{first_so, second_so}
+use Rattle.std.specs.List.{prefix_len, flat_map, list_all}
 use Rattle.std.proofs.lemmas.List.{take_all, length-drop}
 use Rattle.fl_value.specs.CallText.{is_plain, itself, TextBytes}
 use Rattle.fl_value.specs.Printed.{is_shown, printed_byte}
@@ -56,3 +57,10 @@ pub shown_span : (bytes rest : List ℕ) (n : ℕ) → n ≡ prefix_len is_shown
     → flat_map printed_byte bytes ++ end ≡ take n bytes ++ (flat_map printed_byte rest ++ end)
 shown_span bytes rest n is behind end =
     rw (behind, is) (ap (λ (l : List ℕ). l ++ end) (shown_printed bytes) ∙ append_assoc (take (prefix_len is_shown bytes) bytes) (flat_map printed_byte (drop (prefix_len is_shown bytes) bytes)) end)
+
+-- where all pass, all are counted
+pub all_counted : (p : ℕ → Bool) (xs : List ℕ) → list_all p xs ≡ true → length xs ≡ prefix_len p xs
+all_counted p [] all = refl
+all_counted p (x ∷ xs) all =
+    let rest = all_counted p xs (second_so (p x) (list_all p xs) all) in
+    rw (first_so (p x) (list_all p xs) all) (omega (arith, rest))

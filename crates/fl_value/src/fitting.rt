@@ -54,10 +54,17 @@ fn has_at_most(values: &[Value], most: u32) -> bool
     values.len() <= most as usize
 }
 
+/// Whether no byte is 0. It doesn't stop at the first that is, so that many are looked at at once.
 fn has_no_zero(bytes: &[u8]) -> bool
     ensures same { result ≡ list_all (λ byte. nat_lt 0 byte) bytes.now }
 {
-    bytes.iter().all(|byte| *byte > 0)
+    let mut all = true;
+    for byte in bytes {
+        if *byte == 0 {
+            all = false;
+        }
+    }
+    all
 }
 
 /// Whether the bytes are a string's: none is 0, and there are at most so many.

@@ -1,7 +1,7 @@
 //! Calls as text, each in one form: what answers show.
 
 ghost use Rattle.std.specs.Prelude.{◌≡◌, ◌++◌, ◌<◌, ◌≤◌, List, OnOk, OnErr, map, length};
-ghost use Rattle.std.specs.List.{prefix_len};
+ghost use Rattle.std.specs.List.{list_all, prefix_len};
 ghost use Rattle.std.specs.Char.{digit_char};
 ghost use Rattle.std.specs.Fmt.{signed_decimal};
 ghost use Rattle.fl_value.specs.Value.{datum_of, data_from};
@@ -31,11 +31,27 @@ fn is_shown(byte: u8) -> bool
     is_plain(byte) && byte <= b'~'
 }
 
+/// Whether all bytes are printed as they are. It doesn't stop at the first that isn't, so that many are looked at at once.
+fn are_shown(bytes: &[u8]) -> bool
+    ensures same { result ≡ list_all is_shown bytes.now }
+{
+    let mut all = true;
+    for byte in bytes {
+        if !is_shown(*byte) {
+            all = false;
+        }
+    }
+    all
+}
+
 /// How many bytes from here on are printed as they are.
 fn count_shown(bytes: &[u8]) -> usize
     ensures same { result ≡ prefix_len is_shown bytes.now }
     ensures within { result ≤ length bytes.now }
 {
+    if are_shown(bytes) {
+        return bytes.len();
+    }
     for (count, byte) in bytes.iter().enumerate() {
         if !is_shown(*byte) {
             return count;

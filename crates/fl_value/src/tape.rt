@@ -1,7 +1,7 @@
 //! A call as the tape that stub code runs on: its scalars' bits and its lengths, one number after
 //! another, in the plan's order of arguments.
 
-ghost use Rattle.std.specs.Prelude.{◌≡◌, ◌++◌, ◌≤◌, ◌%◌, ◌-◌, map, IfOk, OnOk};
+ghost use Rattle.std.specs.Prelude.{◌≡◌, ◌+◌, ◌++◌, ◌≤◌, ◌%◌, ◌-◌, length, map, take, IfOk, OnOk};
 ghost use Rattle.std.specs.List.{flat_map};
 ghost use Rattle.fl_check.specs.Interface.{type_of, arg_type_of, fields_from, interface_of};
 ghost use Rattle.fl_value.specs.Value.{datum_of, data_from, call_of};
@@ -86,19 +86,30 @@ fn push_elements(
 ) -> Result<(), AllocError>
     ensures tape { OnOk result (tape.new.items ≡ tape.old.items ++ elements_tape (type_of element.now) (data_from (map datum_of values.now))) }
 {
+    tape.reserve(values.len())?;
     for value in values {
         push_value(tape, element, value)?;
     }
     Ok(())
 }
 
+/// Puts bytes into the rest of a tape, from a place on.
+fn put_bytes(tape: &mut [u64], start: usize, bytes: &[u8])
+    requires room { start + length bytes.now ≡ length tape.old }
+    ensures tape { tape.new ≡ take start tape.old ++ bytes.now }
+{
+    for (index, byte) in bytes.iter().enumerate() {
+        tape[start + index] = u64::from(*byte);
+    }
+}
+
 /// Appends a string's bytes.
 fn push_bytes(tape: &mut Vec<u64>, bytes: &[u8]) -> Result<(), AllocError>
     ensures tape { OnOk result (tape.new.items ≡ tape.old.items ++ bytes.now) }
 {
-    for byte in bytes {
-        tape.push(u64::from(*byte))?;
-    }
+    let start = tape.len();
+    tape.resize(start + bytes.len(), 0)?;
+    put_bytes(tape.as_mut_slice(), start, bytes);
     Ok(())
 }
 
@@ -199,6 +210,7 @@ pub fn flatten(
 {
     let mut tape = Vec::new(alloc);
     if let Some(message) = interface.messages.get(usize::from(call.msg.0)) {
+        tape.reserve(message.args.len())?;
         push_arguments(&mut tape, plan, &message.args, &call.args)?;
     }
     Ok(tape)

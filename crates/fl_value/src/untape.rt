@@ -1,6 +1,6 @@
 //! A call back from its tape. The tape may come from anywhere: what no fitting call has is refused.
 
-ghost use Rattle.std.specs.Prelude.{◌≡◌, ◌≤◌, ◌^◌, List, true, false, map, replicate, Some, IfOk, IfSome, IfNone};
+ghost use Rattle.std.specs.Prelude.{◌≡◌, ◌≤◌, ◌^◌, List, length, true, false, map, replicate, Some, IfOk, IfSome, IfNone};
 ghost use Rattle.std.specs.Option.{option_map};
 ghost use Rattle.std.specs.List.{list_all};
 ghost use Rattle.fl_check.specs.Interface.{scalar, enumeration, text, sized, type_of, arg_type_of, interface_of};
@@ -181,17 +181,30 @@ fn read_length(tape: &[u64], most: u32) -> Option<(u32, &[u64])>
     Some((*length as u32, rest))
 }
 
+/// Puts the bytes of a string that are these numbers, and tells whether all are: none is 0.
+fn put_text(bytes: &mut [u8], numbers: &[u64]) -> bool
+    requires room { length bytes.old ≡ length numbers.now }
+    ensures right { result ≡ list_all is_text_byte numbers.now }
+    ensures put { result ≡ true → bytes.new ≡ numbers.now }
+{
+    for (index, number) in numbers.iter().enumerate() {
+        if *number == 0 || *number > 0xff {
+            return false;
+        }
+        bytes[index] = *number as u8;
+    }
+    true
+}
+
 /// The bytes of a string that are these numbers; none is 0.
 fn bytes_from(alloc: Global, numbers: &[u64]) -> Result<Option<Vec<u8>>, AllocError>
     ensures found { IfOk result (λ o. IfSome o (λ bytes. (bytes.items ≡ numbers.now) × (list_all is_text_byte numbers.now ≡ true))) }
     ensures none { IfOk result (λ o. IfNone o (list_all is_text_byte numbers.now ≡ false)) }
 {
     let mut bytes = Vec::with_capacity(alloc, numbers.len())?;
-    for number in numbers {
-        if *number == 0 || *number > 0xff {
-            return Ok(None);
-        }
-        bytes.push(*number as u8)?;
+    bytes.resize(numbers.len(), 0)?;
+    if !put_text(bytes.as_mut_slice(), numbers) {
+        return Ok(None);
     }
     Ok(Some(bytes))
 }

@@ -53,7 +53,8 @@ next_field fields values k type value here is there as_well =
     ∙ ap (λ (ds : List Datum). fields_tape (fields_from (type_of type ∷ map type_of (drop (k + 1) fields))) (data_from ds)) (map_dropped datum_of values k value there as_well)
 
 pub push_elements-loop-value-init : goal.push_elements-loop-value-init
-push_elements-loop-value-init t c = refl
+push_elements-loop-value-init t c =
+    ap (λ (xs : List ℕ). xs ++ elements_tape (type_of c.args.element.now) (data_from (map datum_of c.args.values.now))) c.in_ok-reserve.ensures.items
 
 pub push_fields-loop-index-init : goal.push_fields-loop-index-init
 push_fields-loop-index-init t c = refl
