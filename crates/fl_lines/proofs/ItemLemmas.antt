@@ -7,6 +7,7 @@ use Rattle.std.specs.Prelude.{nat_eq}
 use Rattle.std.specs.Prelude.{codes}
 use Rattle.std.specs.Str.{bytes_eq}
 use Rattle.std.proofs.lemmas.Slice.Eq.{bytes_eq-Decides}
+use Rattle.memchr.specs.Find.{NoneBefore, Nowhere, Passes, is_byte}
 use Rattle.fl_value.specs.declared.value.PlanNo.{PlanNo}
 use Rattle.fl_lines.specs.Commands.{Command}
 use Rattle.fl_lines.specs.Grammar.{Line, silent, heading, command, unread, LineIs}
@@ -31,6 +32,15 @@ line_at zero (b ∷ bytes) h others feed = rw feed (feed_first (lines_of bytes))
 line_at (suc i) (b ∷ bytes) h others feed =
     let e = line_at i bytes (omega (arith, h)) (λ k below. others (suc k) (omega (arith, below))) feed in
     ap (put_first b) e ∙ other_first b _ _ (others zero (omega arith))
+
+-- the same, as a search tells it
+pub line_found : (i : ℕ) (bytes : List ℕ) → NoneBefore (Passes (is_byte 10) bytes) 0 (length bytes) i × Passes (is_byte 10) bytes i
+    → lines_of bytes ≡ take (suc i) bytes ∷ lines_of (drop (suc i) bytes)
+line_found i bytes (none, feed) =
+    line_at i bytes none.high (λ k below same. none.before k (omega arith) below (rw same refl)) (grind (arith, nat_tests, feed))
+
+pub none_found : (bytes : List ℕ) → Nowhere (Passes (is_byte 10) bytes) 0 (length bytes) → (k : ℕ) → k < length bytes → get_or bytes k 0 ≢ 10
+none_found bytes none k below same = none k (omega arith) below (rw same refl)
 
 -- with no line feed, all is one line
 pub line_whole : (bytes : List ℕ) → 0 < length bytes → ((k : ℕ) → k < length bytes → get_or bytes k 0 ≢ 10) → lines_of bytes ≡ bytes ∷ []

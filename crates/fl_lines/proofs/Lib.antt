@@ -7,3 +7,4 @@ mod TableLemmas
 pub mod AskedLemmas
 mod LineEnds
 pub mod ItemLemmas
+mod LineLemmas

@@ -11,3 +11,4 @@ pub mod Tables
 pub mod Events
 pub mod Faults
 pub mod Told
+pub mod Lines

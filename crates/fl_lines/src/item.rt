@@ -10,6 +10,7 @@ ghost use Rattle.fl_lines.specs.Views.{item_of, part_of};
 use crate::command::{Line, Opening, Verb};
 use crate::reader::{open_line, read_command};
 use fl_value::PlanNo;
+use memchr::memchr;
 
 /// One item of a script.
 #[derive(Clone, Copy, Debug)]
@@ -42,12 +43,10 @@ fn next_line(bytes: &[u8]) -> (&[u8], &[u8])
     ensures whole { bytes.now ≡ result.0.now ++ result.1.now }
     ensures some { 0 < length result.0.now }
 {
-    for (i, byte) in bytes.iter().enumerate() {
-        if *byte == b'\n' {
-            return bytes.split_at(i + 1);
-        }
+    match memchr(b'\n', bytes) {
+        Some(at) => bytes.split_at(at + 1),
+        None => bytes.split_at(bytes.len()),
     }
-    bytes.split_at(bytes.len())
 }
 
 // A line without its line feed, and without one carriage return directly before that.

@@ -12,12 +12,14 @@
 //! - `printing.rt`: commands as text
 //! - `answer.rt`: answers, and their texts
 //! - `table.rt`: lists of names that are asked by a map
+//! - `asking.rt`: what a line asks, told from its words at once where it gives no name
 //! - `names.rt`: the names of a script, and what its commands ask by them
 //! - `event.rt`, `fault.rt`: what a command asks of the machine, and why it asks nothing
 //! - `law.rt`: the laws
 #![tactic(auto)]
 
 mod answer;
+mod asking;
 mod command;
 mod event;
 mod fault;

@@ -5,13 +5,12 @@ ghost use Rattle.std.specs.List.{count_by};
 ghost use Rattle.std.specs.Prelude.{true};
 ghost use Rattle.fl_check.specs.Checks.{are_distinct};
 ghost use Rattle.fl_check.specs.Interface.{interface_of};
-ghost use Rattle.fl_value.specs.Value.{datum_of};
 ghost use Rattle.fl_queues.specs.Events.{show, write, acknowledge, register, deregister};
 ghost use Rattle.fl_lines.specs.Commands.{call};
 ghost use Rattle.fl_lines.specs.Names.{with_names, with_dispatcher, with_binding, is_on, no_names};
 ghost use Rattle.fl_lines.specs.Names.{dispatcher_at, end_at};
 ghost use Rattle.fl_lines.specs.Names.{messages_at, message_at, message_name, place_of};
-ghost use Rattle.fl_lines.specs.Asked.{asks_disp, asks_export, asks_bind, asks_turn, asks_reply, asks_call};
+ghost use Rattle.fl_lines.specs.Asked.{asks_disp, asks_export, asks_bind, asks_turn, asks_reply};
 ghost use Rattle.fl_lines.specs.Asked.{asks_interface};
 ghost use Rattle.fl_lines.specs.Asked.{asks_end, asks, kind_of, names_after};
 ghost use Rattle.fl_lines.specs.Events.{id_of, event_of, answer_of};
@@ -26,7 +25,7 @@ use crate::fault::LineFault;
 use crate::table::{InterfaceNames, NameTable};
 use fl_base::{EndId, MsgNo};
 use fl_check::{Interface, Message};
-use fl_value::{Call, CallText, PlanNo, ValueFault, read_call_text};
+use fl_value::PlanNo;
 use std::alloc::{AllocError, Global};
 
 /// All names that a script has given. A thing's place in its list is the place by which the machine knows it.
@@ -242,27 +241,6 @@ impl Names {
         })
     }
 
-    fn ask_call(&self, end: EndName<'_>, text: CallText) -> Result<Asked<'static>, LineFault>
-        ensures tells { Tells (names_of self.now) result
-            (asks_call (names_of self.now) (end_name_of end.entry) text.name.bytes.items (map datum_of text.args.items)) }
-        ensures new { IfOk result (λ a. IsNew (names_of self.now) a.naming) }
-    {
-        let Some(end) = self.end(end) else {
-            return Err(LineFault::Name);
-        };
-        let Some(msg) = self.message(end, &text.name.bytes) else {
-            return Err(LineFault::NoSuchMessage);
-        };
-        let call = Call {
-            msg,
-            args: text.args,
-        };
-        Ok(Asked {
-            event: Event::Call(end, call),
-            naming: Naming::Nothing,
-        })
-    }
-
     fn ask_show(&self, end: EndName<'_>) -> Result<Asked<'static>, LineFault>
         ensures tells { Tells (names_of self.now) result (asks_end (names_of self.now) show (end_name_of end.entry)) }
         ensures new { IfOk result (λ a. IsNew (names_of self.now) a.naming) }
@@ -328,15 +306,13 @@ impl Names {
         })
     }
 
-    // A call: its text is read first, then its end is looked up, then its message.
     fn ask_text(&self, end: EndName<'_>, text: &[u8]) -> Result<Asked<'static>, LineFault>
         ensures asks { AsksAs (names_of self.now) (call (end_name_of end.entry) text.now) result }
         ensures new { IfOk result (λ a. IsNew (names_of self.now) a.naming) }
     {
-        match read_call_text(self.alloc, text) {
-            Ok(spoken) => self.ask_call(end, spoken),
-            Err(ValueFault::NotACall) => Err(LineFault::NotACall),
-            Err(_) => Err(LineFault::Memory),
+        match self.call_event(end, text) {
+            Ok(event) => self.asked(event),
+            Err(fault) => Err(fault),
         }
     }
 

@@ -42,7 +42,7 @@ pub fn end_name(word: &[u8]) -> Option<EndName<'_>>
 }
 
 // Whether no word is left.
-fn is_last(line: &[u8]) -> bool
+pub fn is_last(line: &[u8]) -> bool
     ensures same { result ≡ is_none (first_word line.now) }
 {
     let (word, _) = next_word(line);

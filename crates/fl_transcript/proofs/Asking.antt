@@ -11,7 +11,7 @@ use Rattle.fl_queues.specs.Laws.{accepted_by, HandledIsAPrefix, AllAccepted}
 use Rattle.fl_lines.specs.Asked.{Asked, refuses, asks, asks_interface}
 use Rattle.fl_lines.specs.Grammar.{silent, heading, command, unread}
 use Rattle.fl_lines.specs.Items.{Item, a_line, a_block, open_block}
-use Rattle.fl_transcript.specs.Text.{TextOutcome, stands_for, text_fault}
+use Rattle.fl_text.specs.Text.{TextOutcome, stands_for, text_fault}
 use Rattle.fl_transcript.specs.Transcript.{Script, beginning, Effect, writes_refusal, effect_of, block_effect, Does, AllDo, Begins, last_of, asked_in}
 use Rattle.fl_transcript.specs.Handled.{ScriptsHandlePrefixes}
 

@@ -2,12 +2,6 @@
 use Rattle.std.proofs.Common.{◌≡◌, ◌∙◌, inl, inr, List, [], ◌∷◌, ℕ, refl, sym, ap, subst, Bool, true, false}
 use Rattle.std.specs.Bool.{MatchBool}
 use Rattle.std.specs.Prelude.{codes}
-use Rattle.fl_lex.specs.Outcome.{LexOutcome, lexed, lex_fault}
-use Rattle.fl_lex.proofs.Totals as lexing
-use Rattle.fl_lex.proofs.Outcomes as lexings
-use Rattle.fl_parse.specs.Grammar.{ParseOutcome, parsed, parse_fault}
-use Rattle.fl_parse.proofs.Outcomes as parsing
-use Rattle.fl_check.proofs.Firsts as checking
 use Rattle.fl_value.proofs.Words.{call_once}
 use Rattle.fl_lines.specs.Commands.{EndName, Command, cores, link, disp, export, bind, call, show, write, turn, ack, register, deregister, reply, mwrite, forward, mack}
 use Rattle.fl_lines.specs.Grammar.{silent, heading, command, unread}
@@ -16,7 +10,7 @@ use Rattle.fl_lines.specs.Names.{Names}
 use Rattle.fl_lines.specs.Asked.{Asked, Asks, CallAsks, asks_call, refuses}
 use Rattle.fl_lines.proofs.AskedLemmas.{one_asked_is}
 use Rattle.fl_lines.proofs.ItemLemmas.{some_items_is, one_items_is}
-use Rattle.fl_transcript.specs.Text.{TextOutcome, text_fault, checked_as, ParsedMeans, LexedMeans, TextMeans}
+use Rattle.fl_text.proofs.Firsts.{some_text, one_text}
 use Rattle.fl_transcript.specs.Transcript.{Script, beginning, Effect, line, effect_of, block_effect, Does, AllDo, Runs, text_of, is_too_long, Transcript}
 use Rattle.fl_transcript.proofs.CallTexts.{CallAt, call_at}
 
@@ -43,38 +37,6 @@ some_asked n (reply e message answer) = (_, refl)
 some_asked n (mwrite core neighbour) = (_, refl)
 some_asked n (forward core neighbour) = (_, refl)
 some_asked n (mack core neighbour) = (_, refl)
-
--- ---- what an interface's text means
-
-some_parsed : (found : ParseOutcome) → (outcome : TextOutcome) × ParsedMeans found outcome
-some_parsed (parse_fault n at) = (text_fault n at, refl)
-some_parsed (parsed tree) = let (found, h) = checking.some_outcome tree in (checked_as found, (found, h, refl))
-
-some_lexed : (found : LexOutcome) → (outcome : TextOutcome) × LexedMeans found outcome
-some_lexed (lex_fault n at) = (text_fault n at, refl)
-some_lexed (lexed tokens) =
-    let (found, h) = parsing.some_outcome tokens in
-    let (outcome, m) = some_parsed found in
-    (outcome, (found, h, m))
-
-some_text : (text : List ℕ) → (outcome : TextOutcome) × TextMeans text outcome
-some_text text =
-    let (found, h) = lexing.some_outcome text in
-    let (outcome, m) = some_lexed found in
-    (outcome, (found, h, m))
-
-one_parsed : (found : ParseOutcome) (a b : TextOutcome) → ParsedMeans found a → ParsedMeans found b → a ≡ b
-one_parsed (parse_fault n at) a b x y = x ∙ sym y
-one_parsed (parsed tree) a b (f, cf, e) (g, cg, d) = e ∙ (ap checked_as (checking.one_outcome tree f g cf cg) ∙ sym d)
-
-one_lexed : (found : LexOutcome) (a b : TextOutcome) → LexedMeans found a → LexedMeans found b → a ≡ b
-one_lexed (lex_fault n at) a b x y = x ∙ sym y
-one_lexed (lexed tokens) a b (f, pf, mf) (g, pg, mg) =
-    one_parsed f a b mf (subst (λ (z : ParseOutcome). ParsedMeans z b) (sym (parsing.one_outcome tokens f g pf pg)) mg)
-
-one_text : (text : List ℕ) (a b : TextOutcome) → TextMeans text a → TextMeans text b → a ≡ b
-one_text text a b (f, lf, mf) (g, lg, mg) =
-    one_lexed f a b mf (subst (λ (z : LexOutcome). LexedMeans z b) (sym (lexings.one_outcome text f g lf lg)) mg)
 
 -- ---- what an item does
 

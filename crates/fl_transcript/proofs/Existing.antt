@@ -19,7 +19,7 @@ use Rattle.fl_lines.specs.Grammar.{silent, heading, command, unread}
 use Rattle.fl_lines.specs.Items.{Item, a_line, a_block, open_block}
 use Rattle.fl_lines.specs.Names.{place_of, dispatcher_at, end_at, message_at, messages_at}
 use Rattle.fl_lines.specs.Asked.{Asked, refuses, asks, is_taken, asks_end, asks_call, asks_interface, CallAsks, Asks}
-use Rattle.fl_transcript.specs.Text.{TextOutcome, stands_for, text_fault}
+use Rattle.fl_text.specs.Text.{TextOutcome, stands_for, text_fault}
 use Rattle.fl_transcript.specs.Transcript.{Script, beginning, Effect, effect_of, block_effect, Does, AllDo, last_of}
 use Rattle.fl_transcript.specs.Standing.{message_names, HasDispatcher, HasInterface, HasEnd, HasMessage, IsOfWhatStands, ScriptsAskOfWhatStands}
 use Rattle.fl_transcript.proofs.Asking.{asked_once, begun}

@@ -8,4 +8,4 @@ mod Once
 mod Naming
 mod Existing
 mod ExecLemmas
-mod TextLemmas
+mod LineLemmas

@@ -1,5 +1,3 @@
-pub mod Text
-pub mod Texts
 pub mod Transcript
 pub mod CutShort
 pub mod Steps

@@ -4,6 +4,8 @@ use Rattle.fl_queues.specs.State.{State}
 use Rattle.fl_lines.specs.declared.event.Asked.{Asked as RustAsked}
 use Rattle.fl_lines.specs.declared.fault.LineFault.{LineFault}
 use Rattle.fl_lines.specs.Asked.{Asked}
+use Rattle.fl_lines.specs.declared.event.Event.{Event as RustEvent}
+use Rattle.fl_lines.specs.Lines.{TellsEvent}
 use Rattle.fl_lines.specs.Told.{names_of, Tells}
 use Rattle.fl_transcript.specs.declared.script.Script.{Script as RustScript}
 use Rattle.fl_transcript.specs.Transcript.{Script, Effect, effect_of}
@@ -32,3 +34,9 @@ abbrev pub AnswersTold : {M : Type 0} → (M → State → Type 0) → RustScrip
     → Result RustAsked LineFault → Type 0
 AnswersTold shows old new before after told =
     (s : Script) → IsAt shows old s → (asked : Asked) → Tells s.names told asked → Answered shows new before after (effect_of s asked)
+
+-- the same of an event that gives no name
+abbrev pub AnswersEvent : {M : Type 0} → (M → State → Type 0) → RustScript M → RustScript M → List ℕ → List ℕ
+    → Result RustEvent LineFault → Type 0
+AnswersEvent shows old new before after told =
+    (s : Script) → IsAt shows old s → (asked : Asked) → TellsEvent s.names told asked → Answered shows new before after (effect_of s asked)

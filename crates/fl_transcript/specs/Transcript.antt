@@ -12,7 +12,7 @@ use Rattle.fl_lines.specs.Items.{Item, a_line, a_block, open_block, ItemsOf}
 use Rattle.fl_lines.specs.Names.{Names, no_names}
 use Rattle.fl_lines.specs.Asked.{Asked, refuses, asks, names_after, Asks, asks_interface}
 use Rattle.fl_lines.specs.Answers.{answer_text, fault_text}
-use Rattle.fl_transcript.specs.Text.{TextOutcome, stands_for, text_fault, TextMeans}
+use Rattle.fl_text.specs.Text.{TextOutcome, stands_for, text_fault, TextMeans}
 
 -- where a script is: the names that it has given, and the machine's state
 pub record Script : Type 0 where

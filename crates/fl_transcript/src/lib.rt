@@ -9,7 +9,6 @@
 //! - `running.rt`: `exec`, which reads a script whole, runs it, and writes item by item
 //! - `script.rt`: a running script; each item's answer
 //! - `machine.rt`: what a script runs on
-//! - `text.rt`: interfaces' texts
 //! - `law.rt`: the laws
 #![tactic(auto)]
 
@@ -17,7 +16,6 @@ mod law;
 mod machine;
 mod running;
 mod script;
-mod text;
 
 pub use law::{
     handlers_run_a_prefix, has_transcript, names_are_there, names_stand, one_transcript,

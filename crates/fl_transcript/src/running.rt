@@ -11,7 +11,7 @@ ghost use Rattle.fl_transcript.specs.Written.{WritesTranscript, WritesPrefix, Wr
 
 use crate::machine::QueueMachine;
 use crate::script::Script;
-use fl_lines::next_item;
+use fl_lines::next_part;
 use std::alloc::{AllocError, AllocFailed, Global};
 use std::io::{Read, Write};
 use thiserror::Error;
@@ -111,9 +111,9 @@ fn run<M: QueueMachine, W: Write>(
     let mut out = Vec::new(script.alloc);
     let mut rest = text;
     while !rest.is_empty() {
-        let (item, behind) = next_item(rest);
+        let (part, behind) = next_part(rest);
         out.clear();
-        let Ok(()) = script.item(item, &mut out) else {
+        let Ok(()) = script.part(part, &mut out) else {
             return Err(ExecFault::Memory);
         };
         if let Err(fault) = put_all(writer, &out) {

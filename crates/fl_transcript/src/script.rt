@@ -3,22 +3,27 @@
 ghost use Rattle.std.specs.Prelude.{◌≡◌, ◌∷◌, ◌++◌, [], Err, IfOk, OnOk, OnErr};
 ghost use Rattle.fl_check.specs.Interface.{interface_of};
 ghost use Rattle.fl_lines.specs.declared.fault.LineFault.TheVariants.{Memory};
+ghost use Rattle.fl_lines.specs.Answers.{answer_text};
 ghost use Rattle.fl_lines.specs.Asked.{asks};
-ghost use Rattle.fl_lines.specs.Events.{event_of};
+ghost use Rattle.fl_lines.specs.Events.{event_of, answer_of};
 ghost use Rattle.fl_lines.specs.Faults.{number_of};
 ghost use Rattle.fl_lines.specs.Grammar.{command as of_command};
 ghost use Rattle.fl_lines.specs.Items.{a_line, a_block};
 ghost use Rattle.fl_lines.specs.Told.{names_of, named, IsNew};
-ghost use Rattle.fl_lines.specs.Views.{command_of, line_of, item_of};
-ghost use Rattle.fl_transcript.specs.Shown.{IsAt, Answers, AnswersBy, AnswersTold};
-ghost use Rattle.fl_transcript.specs.Transcript.{beginning, writes_only, effect_of, writes_refusal};
+ghost use Rattle.fl_lines.specs.Views.{command_of, part_of};
+ghost use Rattle.fl_lines.specs.Reading.{command_by, line_with};
+ghost use Rattle.fl_transcript.specs.Shown.{IsAt, Answers, AnswersBy, AnswersTold, AnswersEvent};
+ghost use Rattle.fl_transcript.specs.Transcript.{beginning, line, writes_only, effect_of, writes_refusal};
 ghost use Rattle.fl_transcript.specs.Transcript.{block_effect, Does};
-ghost use Rattle.fl_transcript.specs.Text.{stands_for, text_fault};
+ghost use Rattle.fl_text.specs.Text.{stands_for, text_fault};
 
 use crate::machine::QueueMachine;
-use crate::text::{TextRead, read_text};
 use fl_check::Interface;
-use fl_lines::{Answer, Asked, Command, Item, Line, LineFault, Names, print_answer, print_fault};
+use fl_lines::{
+    Answer, Asked, Command, Event, LineFault, Names, Part, Verb, print_answer, print_fault,
+    read_command,
+};
+use fl_text::{TextRead, read_text};
 use fl_value::PlanNo;
 use std::alloc::{AllocError, Global};
 
@@ -45,7 +50,16 @@ impl<M: QueueMachine> Script<M> {
         })
     }
 
-    // Asks the system an event, takes up the name that it gives, and writes the answer: the one place that does.
+    // Writes an answer's line.
+    fn put_answer(&self, answer: &Answer, out: &mut Vec<u8>) -> Result<(), AllocError>
+        ensures put { OnOk result (out.new.items ≡ out.old.items ++ line (answer_text (names_of self.now.names) (answer_of answer.now))) }
+    {
+        print_answer(self.alloc, out, &self.names, answer)?;
+        out.push(b'\n')?;
+        Ok(())
+    }
+
+    // Asks the system an event, takes up the name that it gives, and writes the answer.
     fn step(&mut self, asked: Asked<'_>, out: &mut Vec<u8>) -> Result<(), AllocError>
         requires { IsNew (names_of self.old.names) asked.naming }
         ensures ok { OnOk result (AnswersBy M.shows self.old self.new out.old.items out.new.items
@@ -54,9 +68,16 @@ impl<M: QueueMachine> Script<M> {
         let naming = asked.naming;
         let answer = self.machine.step(asked.event)?;
         self.names.take_up(naming, &answer)?;
-        print_answer(self.alloc, out, &self.names, &answer)?;
-        out.push(b'\n')?;
-        Ok(())
+        self.put_answer(&answer, out)
+    }
+
+    // Asks the system an event that gives no name, and writes the answer.
+    fn ask(&mut self, event: Event<'_>, out: &mut Vec<u8>) -> Result<(), AllocError>
+        ensures ok { OnOk result (AnswersBy M.shows self.old self.new out.old.items out.new.items
+            (λ s. effect_of s (asks (event_of event.entry) s.names))) }
+    {
+        let answer = self.machine.step(event)?;
+        self.put_answer(&answer, out)
     }
 
     // Writes `refused En`.
@@ -64,9 +85,7 @@ impl<M: QueueMachine> Script<M> {
         ensures ok { OnOk result (AnswersBy M.shows self.old self.new out.old.items out.new.items
             (λ s. writes_refusal s number)) }
     {
-        print_answer(self.alloc, out, &self.names, &Answer::Refused(number))?;
-        out.push(b'\n')?;
-        Ok(())
+        self.put_answer(&Answer::Refused(number), out)
     }
 
     // Refuses what asks nothing of the system.
@@ -93,6 +112,21 @@ impl<M: QueueMachine> Script<M> {
     {
         match asked {
             Ok(asked) => self.step(asked, out),
+            Err(fault) => self.refuse_by(fault, out),
+        }
+    }
+
+    // The same of what is asked with no name.
+    fn answer_event(
+        &mut self,
+        told: Result<Event<'_>, LineFault>,
+        out: &mut Vec<u8>,
+    ) -> Result<(), AllocError>
+        ensures ok { OnOk result (AnswersEvent M.shows self.old self.new out.old.items out.new.items told.entry) }
+        ensures memory { told.entry ≡ Err Memory → OnOk result ⊥ }
+    {
+        match told {
+            Ok(event) => self.ask(event, out),
             Err(fault) => self.refuse_by(fault, out),
         }
     }
@@ -128,6 +162,7 @@ impl<M: QueueMachine> Script<M> {
         self.answer(asked, out)
     }
 
+    #[inline(never)]
     fn block(&mut self, plan: PlanNo, text: &[u8], out: &mut Vec<u8>) -> Result<(), AllocError>
         ensures ok { OnOk result (Answers M.shows self.old self.new out.old.items out.new.items
             (λ s. Does s (a_block plan text.now))) }
@@ -146,15 +181,31 @@ impl<M: QueueMachine> Script<M> {
         Ok(())
     }
 
-    fn line(&mut self, line: Line<'_>, out: &mut Vec<u8>) -> Result<(), AllocError>
+    // A line of a word that is seldom: its command is read whole, if it is one.
+    #[inline(never)]
+    fn seldom_line(
+        &mut self,
+        verb: Verb,
+        rest: &[u8],
+        out: &mut Vec<u8>,
+    ) -> Result<(), AllocError>
         ensures ok { OnOk result (Answers M.shows self.old self.new out.old.items out.new.items
-            (λ s. Does s (a_line (line_of line.entry)))) }
+            (λ s. Does s (a_line (line_with (command_by verb rest.now))))) }
     {
-        match line {
-            Line::Silent => self.silent(out),
-            Line::Command(command) => self.command(command, out),
-            Line::Heading(_) => self.refuse(90, out),
-            Line::Unread => self.refuse(90, out),
+        match read_command(verb, rest) {
+            Some(command) => self.command(command, out),
+            None => self.refuse(90, out),
+        }
+    }
+
+    // A line that begins with this word, from what stands behind it.
+    fn line(&mut self, verb: Verb, rest: &[u8], out: &mut Vec<u8>) -> Result<(), AllocError>
+        ensures ok { OnOk result (Answers M.shows self.old self.new out.old.items out.new.items
+            (λ s. Does s (a_line (line_with (command_by verb rest.now))))) }
+    {
+        match self.names.event(verb, rest) {
+            Some(told) => self.answer_event(told, out),
+            None => self.seldom_line(verb, rest, out),
         }
     }
 
@@ -162,14 +213,16 @@ impl<M: QueueMachine> Script<M> {
     ///
     /// # Errors
     /// Want of memory; nothing is told of the script then.
-    pub fn item(&mut self, item: Item<'_>, out: &mut Vec<u8>) -> Result<(), AllocError>
+    pub fn part(&mut self, part: Part<'_>, out: &mut Vec<u8>) -> Result<(), AllocError>
         ensures ok { OnOk result (Answers M.shows self.old self.new out.old.items out.new.items
-            (λ s. Does s (item_of item.entry))) }
+            (λ s. Does s (part_of part.entry))) }
     {
-        match item {
-            Item::Line(line) => self.line(line, out),
-            Item::Block(plan, text) => self.block(plan, text, out),
-            Item::OpenBlock => self.refuse(90, out),
+        match part {
+            Part::Silent => self.silent(out),
+            Part::Command(verb, rest) => self.line(verb, rest, out),
+            Part::Unread => self.refuse(90, out),
+            Part::Block(plan, text) => self.block(plan, text, out),
+            Part::OpenBlock => self.refuse(90, out),
         }
     }
 }

@@ -1,13 +1,12 @@
 use Rattle.std.proofs.Common.{arith, add-one}
-use Rattle.fl_lines.proofs.ItemLemmas.{line_at, line_rest}
+use Rattle.fl_lines.proofs.ItemLemmas.{line_found, none_found, line_rest}
 use Rattle.fl_lines.proofs.item.next_line.Goals as goal
 
-pub returns-then-byte-eq10-clause-lines : goal.returns-then-byte-eq10-clause-lines
-returns-then-byte-eq10-clause-lines c =
-    rw (c.split_at.ensures.front, c.split_at.ensures.back, add-one)
-    (line_at c.loop-i.i c.args.bytes.now (omega arith) c.loop-i.invariant c.if-byte-eq10.true)
+pub returns-in-Some-clause-lines : goal.returns-in-Some-clause-lines
+returns-in-Some-clause-lines c =
+    rw (c.split_at.ensures.front, c.split_at.ensures.back, add-one) (line_found c.in-Some.at c.args.bytes.now c.in-Some.ensures)
 
-pub returns-clause-lines : goal.returns-clause-lines
-returns-clause-lines c =
-    line_rest c.args.bytes.now c.split_at-2.result.0.now c.split_at-2.result.1.now c.split_at-2.ensures.front c.split_at-2.ensures.back
-    c.requires (λ k below. c.loop-i.invariant k (omega arith))
+pub returns-in-None-clause-lines : goal.returns-in-None-clause-lines
+returns-in-None-clause-lines c =
+    line_rest c.args.bytes.now c.split_at-in-None.result.0.now c.split_at-in-None.result.1.now c.split_at-in-None.ensures.front c.split_at-in-None.ensures.back
+    c.requires (none_found c.args.bytes.now c.in-None.ensures)

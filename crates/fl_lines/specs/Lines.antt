@@ -1,0 +1,48 @@
+-- What a line asks of the machine, told from the line at once, where it gives no name.
+use Rattle.std.specs.Prelude.{◌≡◌, ◌⊎◌, ℕ, if◌then◌else◌, List, Option, None, Some, Result, Ok, Err}
+use Rattle.fl_base.specs.declared.identity.EndId.{EndId}
+use Rattle.fl_queues.specs.Events.{Event}
+use Rattle.fl_queues.specs.Given.{given}
+use Rattle.fl_lines.specs.declared.event.Event.{Event as RustEvent}
+use Rattle.fl_lines.specs.declared.fault.LineFault.{LineFault}
+use Rattle.fl_lines.specs.declared.fault.LineFault.TheVariants.{Memory}
+use Rattle.fl_lines.specs.Asked.{Asked, refuses, asks, Asks, CallAsks, asks_end, asks_turn}
+use Rattle.fl_lines.specs.Commands.{EndName, Command}
+use Rattle.fl_lines.specs.Events.{event_of}
+use Rattle.fl_lines.specs.Faults.{number_of}
+use Rattle.fl_lines.specs.Names.{Names}
+use Rattle.fl_lines.specs.Reading.{one_end, two_numbers}
+use Rattle.fl_lines.specs.Words.{first_word, behind_word, is_none}
+use Rattle.fl_lex.specs.Words.{is_name}
+
+-- a line asks this, by these names: what its command asks, or it is refused where it is none
+abbrev pub LineAsks : Names → Option Command → Asked → Type 0
+LineAsks n None asked = asked ≡ refuses 90
+LineAsks n (Some c) asked = Asks n c asked
+
+-- what a function returned tells what is asked, and that no name is given
+abbrev pub TellsEvent : Names → Result RustEvent LineFault → Asked → Type 0
+TellsEvent n (Ok event) asked = asks (event_of event) n ≡ asked
+TellsEvent n (Err fault) asked = refuses (number_of fault) ≡ asked
+
+-- memory ran out, or the line asks something, and what a function returned tells it
+abbrev pub LineTells : Names → Option Command → Result RustEvent LineFault → Type 0
+LineTells n c result = (result ≡ Err Memory) ⊎ ((asked : Asked) × LineAsks n c asked × TellsEvent n result asked)
+
+-- the same of a call's text
+abbrev pub CallTells : Names → EndName → List ℕ → Result RustEvent LineFault → Type 0
+CallTells n e text result = (result ≡ Err Memory) ⊎ ((asked : Asked) × CallAsks n e text asked × TellsEvent n result asked)
+
+-- ---- what stands behind a line's first word: an end alone, a dispatcher alone, two cores alone
+
+abbrev pub asks_by_end : Names → (EndId → Event) → List ℕ → Asked
+asks_by_end n f rest = given (one_end rest) (refuses 90) λ e. asks_end n f e
+
+abbrev pub asks_by_dispatcher : Names → List ℕ → Asked
+asks_by_dispatcher n rest =
+    if is_name (first_word rest) then
+    if is_none (first_word (behind_word rest)) then asks_turn n (first_word rest) else refuses 90
+    else refuses 90
+
+abbrev pub asks_by_cores : Names → (ℕ → ℕ → Event) → List ℕ → Asked
+asks_by_cores n f rest = given (two_numbers rest) (refuses 90) λ p. asks (f p.0 p.1) n

@@ -1,0 +1,62 @@
+-- What a line does that was told from its words.
+use Rattle.std.proofs.Common.{◌≡◌, ◌++◌, ◌∙◌, inl, inr, ℕ, List, Bool, true, false, Option, Some, None, Result, Ok, Err, refl, sym, ap, subst}
+use Rattle.std.specs.Prelude.{OnOk, if◌then◌else◌}
+use Rattle.std.proofs.lemmas.Result.{on_ok_weaker}
+use Rattle.fl_queues.specs.Events.{Event, Answer}
+use Rattle.fl_queues.specs.State.{State}
+use Rattle.fl_queues.specs.Step.{step}
+use Rattle.fl_lines.specs.declared.event.Event.{Event as RustEvent}
+use Rattle.fl_lines.specs.declared.fault.LineFault.{LineFault}
+use Rattle.fl_lines.specs.declared.fault.LineFault.TheVariants.{Memory}
+use Rattle.fl_lines.specs.Answers.{answer_text}
+use Rattle.fl_lines.specs.Asked.{Asked, asks, is_done, names_after}
+use Rattle.fl_lines.specs.Commands.{Command}
+use Rattle.fl_lines.specs.Items.{a_line}
+use Rattle.fl_lines.specs.Lines.{LineAsks, LineTells, TellsEvent}
+use Rattle.fl_lines.specs.Names.{Names}
+use Rattle.fl_lines.specs.Reading.{line_with}
+use Rattle.fl_lines.specs.Told.{names_of}
+use Rattle.fl_transcript.specs.declared.script.Script.{Script as RustScript}
+use Rattle.fl_transcript.specs.Shown.{IsAt, Answered, Answers, AnswersBy, AnswersEvent}
+use Rattle.fl_transcript.specs.Steps.{Steps}
+use Rattle.fl_transcript.specs.Transcript.{Script, Effect, line, Does, effect_of}
+
+same_names : (n : Names) (a : Answer) → names_after n n a ≡ n
+same_names n a = by (is_done a)
+  where
+    by : (b : Bool) → (if b then n else n) ≡ n
+    by true = refl
+    by false = refl
+
+-- an event that gives no name was asked, and its answer written
+pub asked_event : {M : Type 0} (shows : M → State → Type 0) (old new : RustScript M) (before after : List ℕ) (event : Event) (answer : Answer)
+    → names_of new.names ≡ names_of old.names → Steps shows old.machine new.machine event answer
+    → after ≡ before ++ line (answer_text (names_of new.names) answer) → AnswersBy shows old new before after (λ s. effect_of s (asks event s.names))
+asked_event shows old new before after event answer names steps text s at =
+    let now : names_of new.names ≡ s.names = names ∙ at.names in
+    let told : answer ≡ (step s.state event).answer = steps.answered s.state at.shown in
+    let kept = same_names s.names (step s.state event).answer in
+    record {
+      at = record { names = now ∙ sym kept; shown = steps.shown s.state at.shown };
+      text =
+          text ∙ (ap (λ (n : Names). before ++ line (answer_text n answer)) (now ∙ sym kept)
+          ∙ ap (λ (a : Answer). before ++ line (answer_text (names_after s.names s.names (step s.state event).answer) a)) told);
+    }
+
+does_line : (s : Script) (o : Option Command) (asked : Asked) → LineAsks s.names o asked → Does s (a_line (line_with o)) (effect_of s asked)
+does_line s None asked h = ap (effect_of s) h
+does_line s (Some c) asked h = (asked, h, refl)
+
+-- a line was told from its words, and what was told was answered
+pub told_line : {M T E : Type 0} (shows : M → State → Type 0) (old new : RustScript M) (before after : List ℕ) (o : Option Command)
+    (told : Result RustEvent LineFault) (result : Result T E) → LineTells (names_of old.names) o told
+    → OnOk result (AnswersEvent shows old new before after told) → (told ≡ Err Memory → OnOk result ⊥)
+    → OnOk result (Answers shows old new before after (λ s. Does s (a_line (line_with o))))
+told_line shows old new before after o told result (inl bad) ok memory = on_ok_weaker result (λ none. absurd none) (memory bad)
+told_line shows old new before after o told result (inr h) ok memory =
+    on_ok_weaker result
+    (λ f. λ s at. (
+      effect_of s h.0,
+      does_line s o h.0 (subst (λ (n : Names). LineAsks n o h.0) at.names h.1),
+      f s at h.0 (subst (λ (n : Names). TellsEvent n told h.0) at.names h.2),
+    )) ok
