@@ -1,16 +1,14 @@
 -- What a core follows after a look, and what is left of the look where it isn't followed.
-use Rattle.std.proofs.Common.{◌≡◌, ◌≢◌, ◌<◌, ◌≤◌, ◌⊎◌, ◌↔◌, refl, sym, ap, ◌∙◌, subst, ℕ, zero, suc, Bool, true, false, IsTrue, List, [], ◌∷◌, ◌++◌, length, take, drop, slice_get, slice_set, slice_index_or, length-set, Option, Some, None, Result, Ok, Err, IfOk, OnOk, OnErr, inl, inr, arith}
+use Rattle.std.proofs.Common.{◌≡◌, ◌≢◌, ◌<◌, ◌↔◌, refl, sym, ap, ◌∙◌, subst, ℕ, zero, suc, Bool, true, false, IsTrue, List, [], ◌∷◌, length, slice_get, slice_set, slice_index_or, length-set, Some, None, Result, Ok, Err, IfOk, OnOk, OnErr, inl, inr}
 use Rattle.std.proofs.lemmas.Result.{IfOk-weaker}
 use Rattle.std.proofs.lemmas.Option.{slice_get_within, same_Some}
 use Rattle.std.specs.declared.alloc.AllocError.{AllocError}
 use Rattle.fl_base.specs.declared.fragment.Frag.{Frag}
 use Rattle.fl_base.specs.declared.identity.LinkId.{LinkId}
-use Rattle.fl_base.specs.declared.identity.EndId.{EndId}
-use Rattle.fl_base.specs.declared.identity.Side.TheVariants.{Client, Server}
 use Rattle.fl_base.specs.Control.{bare}
 use Rattle.fl_link.specs.Looks.{saw}
 use Rattle.fl_link.specs.Queue.{front_of}
-use Rattle.fl_ring.specs.Duo.{TheDuo, DuoTakes, CountsAreNear, MayForget, side_of, across, knowing}
+use Rattle.fl_ring.specs.Duo.{TheDuo, DuoTakes, MayForget, side_of, knowing}
 use Rattle.fl_ring.specs.Laws.{ForgetsLooks}
 use Rattle.fl_ring.specs.Side.{SameSide, SideTakes}
 use Rattle.fl_ring.specs.declared.one_duo.Which.{Which}
@@ -27,11 +25,11 @@ use Rattle.fl_node.specs.declared.fault.LinkFault.{LinkFault}
 use Rattle.fl_node.specs.declared.fault.LinkFault.TheVariants.{Memory}
 use Rattle.fl_node.specs.Hearing.{Offers}
 use Rattle.fl_node.specs.View.{TheCore}
-use Rattle.fl_queues.specs.Events.{Answer, nothing}
+use Rattle.fl_queues.specs.Events.{Answer}
 use Rattle.fl_worlds.specs.declared.binding.Binding.{Binding}
-use Rattle.fl_worlds.specs.View.{TheWorld, ring_at, which_at, with_core, with_ring}
+use Rattle.fl_worlds.specs.View.{TheWorld, ring_at, which_at, with_ring}
 use Rattle.fl_worlds.specs.Lending.{OverSide, front_for}
-use Rattle.fl_worlds.specs.Linking.{LinkEnd, offers_in, link_id, LooksWith, HearsWith, HearsFirst, IsHeard, ThenRules, HasRules, TakesRules, ForwardsBy, ForwardsFirst}
+use Rattle.fl_worlds.specs.Linking.{LinkEnd, offers_in, link_id, LooksWith, HearsWith, HearsFirst, IsHeard, HasRules, ForwardsBy, ForwardsFirst}
 use Rattle.fl_lines.specs.declared.answer.Answer.{Answer as RustAnswer}
 use Rattle.fl_lines.specs.Events.{answer_of}
 use Rattle.fl_system.specs.declared.moving.Passing.{Passing}

@@ -1,16 +1,14 @@
 -- What is made, from the facts of the code.
-use Rattle.std.proofs.Common.{◌≡◌, ◌≤◌, ◌<◌, ◌+◌, refl, sym, ap, ◌∙◌, subst, ℕ, Bool, true, false, nat_le, List, [], ◌∷◌, ◌++◌, length, map, arith}
+use Rattle.std.proofs.Common.{◌≡◌, ◌≤◌, ◌<◌, ◌+◌, refl, sym, ap, ◌∙◌, subst, ℕ, Bool, true, false, nat_le, List, [], ◌∷◌, ◌++◌, length, arith}
 use Rattle.std.proofs.lemmas.List.FromFn.{map-range_with_len_more, length-map-range_with_len}
 use Rattle.std.proofs.lemmas.Bool.{leb-true}
 use Rattle.std.specs.List.{list_any}
 use Rattle.std.specs.Str.{bytes_eq}
 use Rattle.fl_check.specs.Interface.{TheInterface}
-use Rattle.fl_check.specs.Checks.{is_within_limits}
 use Rattle.fl_compile.specs.declared.program.Program.{Program}
 use Rattle.fl_compile.specs.Programs.{program_of}
 use Rattle.fl_value.specs.declared.value.PlanNo.{PlanNo}
 use Rattle.fl_node.specs.View.{TheCore, fresh_core}
-use Rattle.fl_queues.specs.Calls.{Planned}
 use Rattle.fl_queues.specs.Events.{Answer}
 use Rattle.fl_shows.specs.Ends.{planned_of}
 use Rattle.fl_worlds.specs.View.{If, TheWorld}

@@ -1,10 +1,11 @@
 -- Events one after another: what stands after one more, and what is left of a set-up.
-use Rattle.std.proofs.Common.{◌≡◌, ◌∙◌, refl, sym, ap, subst, ℕ, ◌+◌, ◌<◌, ◌≤◌, ◌||◌, Bool, true, false, Option, Some, None, List, [], ◌∷◌, ◌++◌, length, map, take, drop, get_or, Result, Ok, Err, IfOk, OnErr, arith}
-use Rattle.std.specs.Prelude.{is_some, nat_lt, if◌then◌else◌}
+use Rattle.std.proofs.Common.{◌≡◌, ◌∙◌, inr, refl, sym, ap, subst, ℕ, ◌+◌, ◌<◌, ◌≤◌, ◌&&◌, ◌||◌, Bool, true, false, Some, None, List, [], ◌∷◌, ◌++◌, length, map, take, drop, get_or, Result, Ok, Err, IfOk, OnErr, arith}
+use Rattle.std.specs.Prelude.{is_some, nat_lt}
+use Rattle.std.specs.List.{list_all}
 use Rattle.std.specs.declared.alloc.AllocError.{AllocError}
 use Rattle.std.proofs.lemmas.Bool.{le-ltb}
-use Rattle.std.proofs.lemmas.List.{take_more, drop_more, map-append, take_all, drop_all, take-append-drop}
-use Rattle.fl_queues.specs.Given.{given}
+use Rattle.std.proofs.lemmas.List.{take_more, drop_more, map-append, take_all, take-append-drop, length-map, length-take-le}
+use Rattle.std.proofs.lemmas.List.Folds.{list_all-append}
 use Rattle.fl_queues.specs.Events.{Event, add_interface, set_cores, add_link, add_dispatcher, export, bind, call, show, write}
 use Rattle.fl_queues.specs.Events.{turn, acknowledge, register, deregister, reply, monitor_write, forward, monitor_acknowledge}
 use Rattle.fl_queues.specs.Events.{Answer, done, accepted, nothing, full, written, handle, part, ready, quiet, forwarded, opened, opening_refused, words, refused}
@@ -25,7 +26,7 @@ use Rattle.fl_system.specs.declared.booting.Config.{Config}
 use Rattle.fl_system.specs.declared.booting.BootFault.{BootFault}
 use Rattle.fl_system.specs.declared.booting.BootFault.TheVariants.{Refused, Memory}
 use Rattle.fl_system.specs.Stepping.{StepsAlike, fault_in, is_interface, leaves_cores_open, RunsAlike, ShowsAfterSome}
-use Rattle.fl_system.specs.Booting.{TheConfig, config_of, boots, SetUp, refused_at, sets_up, Stands, IsFaultOf, Passes, StopsAt}
+use Rattle.fl_system.specs.Booting.{TheConfig, config_of, has_bad_cores, passes, Passes, IsFaultOf, StopsBy, StopsAt}
 
 -- ---- whether the number of cores stands
 
@@ -198,78 +199,74 @@ run_stops s xs k w w2 same h = record {
 
 -- ---- a set-up
 
--- what event k and those behind it make of a state that is shown is what all make
-pub record IsLeft (s : State) (xs : List RustEvent) (k : ℕ) (w : TheWorld) : Type 0 where
-  pub state : State
-  pub same : sets_up s 1 (map event_of xs) ≡ sets_up state (k + 1) (map event_of (drop k xs))
-  pub shown : Shows w state
+pub set_up_begins : (s : State) (xs : List RustEvent) (w : TheWorld) → Shows w s → Passes s (map event_of (take 0 xs)) w
+set_up_begins s xs w h = record { passed = refl; shown = h }
 
-pub set_up_begins : (s : State) (xs : List RustEvent) (w : TheWorld) → Shows w s → IsLeft s xs 0 w
-set_up_begins s xs w h = record { state = s; same = refl; shown = h }
-
--- without a fault the rest is what is left
-unrefused : {X : Type 0} (o : Option ℕ) (x : X) (f : ℕ → X) → is_some o ≡ false → given o x f ≡ x
-unrefused None x f h = refl
-unrefused (Some n) x f h = absurd (cc)
-
-passes_on : (t : State) (place : ℕ) (v : Event) (vs : List Event) → is_some (fault_in (step t v).answer) ≡ false
-    → sets_up t place (v ∷ vs) ≡ sets_up (step t v).state (place + 1) vs
-passes_on t place v vs h =
-    unrefused (fault_in (step t v).answer) (sets_up (step t v).state (place + 1) vs) (λ fault. refused_at fault place) h
-
-stops_there : (t : State) (place n : ℕ) (v : Event) (vs : List Event) → (step t v).answer ≡ refused n → sets_up t place (v ∷ vs) ≡ refused_at n place
-stops_there t place n v vs h =
-    ap (λ (a : Answer). given (fault_in a) (sets_up (step t v).state (place + 1) vs) (λ fault. refused_at fault place)) h
-
--- event k and those behind it
-from_there : (xs : List RustEvent) (k : ℕ) (x d : RustEvent) → k < length xs → x ≡ get_or xs k d
-    → map event_of (drop k xs) ≡ event_of x ∷ map event_of (drop (k + 1) xs)
-from_there xs k x d below is =
-    ap (map event_of) (drop_more xs k d below) ∙ ap (λ (y : RustEvent). event_of y ∷ map event_of (drop (k + 1) xs)) (sym is)
+passes_on : (s : State) (vs : List Event) (v : Event) (w w2 : TheWorld) → Passes s vs w → Passes (reached s vs) (v ∷ []) w2
+    → Passes s (vs ++ v ∷ []) w2
+passes_on s vs v w w2 h one = record {
+  passed = ap (list_all passes) (answered_more s vs v) ∙ list_all-append passes (answers_to s vs) ((step (reached s vs) v).answer ∷ [])
+      ∙ ap (λ (b : Bool). b && list_all passes ((step (reached s vs) v).answer ∷ [])) h.passed ∙ one.passed;
+  shown = subst (λ (t : State). Shows w2 t) (sym (reached_more s vs v)) one.shown;
+}
 
 -- a turn of the loop over a set-up's events
 pub set_up_turn : (s : State) (xs : List RustEvent) (k : ℕ) (x d : RustEvent) (w w2 : TheWorld) → k < length xs → x ≡ get_or xs k d
-    → (h : IsLeft s xs k w) → Passes (step h.state (event_of x)) w2 → IsLeft s xs (k + 1) w2
-set_up_turn s xs k x d w w2 below is h p = record {
-  state = (step h.state (event_of x)).state;
-  same = h.same ∙ ap (sets_up h.state (k + 1)) (from_there xs k x d below is)
-      ∙ passes_on h.state (k + 1) (event_of x) (map event_of (drop (k + 1) xs)) p.passed;
-  shown = p.shown;
-}
+    → Passes s (map event_of (take k xs)) w → Passes (reached s (map event_of (take k xs))) (event_of x ∷ []) w2
+    → Passes s (map event_of (take (k + 1) xs)) w2
+set_up_turn s xs k x d w w2 below is h one =
+    subst (λ (vs : List Event). Passes s vs w2) (sym (mapped_more event_of xs k x d below is))
+    (passes_on s (map event_of (take k xs)) (event_of x) w w2 h one)
 
+pub set_up_ends : (s : State) (xs : List RustEvent) (k : ℕ) (w : TheWorld) → length xs ≤ k → Passes s (map event_of (take k xs)) w
+    → Passes s (map event_of xs) w
+set_up_ends s xs k w past h = subst (λ (l : List RustEvent). Passes s (map event_of l) w) (take_all k xs past) h
+
+-- event k and those behind it
+from_there : (xs : List RustEvent) (k : ℕ) (x d : RustEvent) → k < length xs → x ≡ get_or xs k d
+    → map event_of xs ≡ map event_of (take k xs) ++ event_of x ∷ map event_of (drop (k + 1) xs)
+from_there xs k x d below is =
+    ap (map event_of) (sym (take-append-drop k xs)) ∙ map-append event_of (take k xs) (drop k xs)
+    ∙ ap (λ (l : List RustEvent). map event_of (take k xs) ++ map event_of l) (drop_more xs k d below)
+    ∙ ap (λ (y : RustEvent). map event_of (take k xs) ++ event_of y ∷ map event_of (drop (k + 1) xs)) (sym is)
+
+so_many : (xs : List RustEvent) (k : ℕ) → k < length xs → length (map event_of (take k xs)) ≡ k
+so_many xs k below = length-map (take k xs) event_of ∙ length-take-le k xs (omega (arith, below))
+
+-- it stops at event k
 pub set_up_stops : (s : State) (xs : List RustEvent) (k : ℕ) (x d : RustEvent) (w : TheWorld) (fault : BootFault) → k < length xs → x ≡ get_or xs k d
-    → (h : IsLeft s xs k w) → StopsAt (k + 1) (step h.state (event_of x)) fault → IsFaultOf (sets_up s 1 (map event_of xs)) fault
+    → Passes s (map event_of (take k xs)) w → StopsAt (k + 1) (step (reached s (map event_of (take k xs))) (event_of x)) fault
+    → StopsBy s (map event_of xs) fault
 set_up_stops s xs k x d w Memory below is h stops = tt
-set_up_stops s xs k x d w (Refused number place) below is h stops =
-    h.same ∙ ap (sets_up h.state (k + 1)) (from_there xs k x d below is)
-    ∙ stops_there h.state (k + 1) number (event_of x) (map event_of (drop (k + 1) xs)) stops.0
-    ∙ ap (refused_at number) (sym stops.1)
-
-pub set_up_ends : (s : State) (xs : List RustEvent) (k : ℕ) (w : TheWorld) → length xs ≤ k → IsLeft s xs k w
-    → Stands (sets_up s 1 (map event_of xs)) w
-set_up_ends s xs k w past h = record {
-  state = h.state;
-  state_is = h.same ∙ ap (λ (l : List RustEvent). sets_up h.state (k + 1) (map event_of l)) (drop_all k xs past);
-  shown = h.shown;
+set_up_stops s xs k x d w (Refused number place) below is h stops = record {
+  before = map event_of (take k xs);
+  event = event_of x;
+  behind = map event_of (drop (k + 1) xs);
+  events_are = from_there xs k x d below is;
+  passed = h.passed;
+  answer = stops.0;
+  place_is = stops.1 ∙ ap (λ (n : ℕ). n + 1) (sym (so_many xs k below));
 }
 
 -- ---- a boot
 
-pub boots_with : (c : TheConfig) → 1 ≤ c.cores → c.cores ≤ most_cores → boots c ≡ sets_up (start_with c.cores) 1 c.setup
-boots_with c one few =
-    ap (λ (b : Bool). if b || nat_lt most_cores c.cores then refused_at 94 0 else sets_up (start_with c.cores) 1 c.setup) (le-ltb c.cores 1 one)
-    ∙ ap (λ (b : Bool). if b then refused_at 94 0 else sets_up (start_with c.cores) 1 c.setup) (le-ltb most_cores c.cores few)
+pub good_cores : (c : Config) (n : ℕ) → n ≡ c.cores → 1 ≤ n → n ≤ most_cores → has_bad_cores (config_of c) ≡ false
+good_cores c n same one few =
+    ap (λ (m : ℕ). nat_lt m 1 || nat_lt most_cores m) (sym same)
+    ∙ ap (λ (b : Bool). b || nat_lt most_cores n) (le-ltb n 1 one) ∙ le-ltb most_cores n few
 
--- what holds of all that a set-up makes holds of what a configuration comes to
-pub boots_by : (P : SetUp → Type 0) (law : FreshShows) (c : Config) (n : ℕ) (vs : List RustEvent) (w : TheWorld) → n ≡ c.cores → 1 ≤ n → n ≤ most_cores
-    → vs ≡ c.setup.items → w ≡ fresh_world n → ((s : State) → Shows w s → P (sets_up s 1 (map event_of vs))) → P (boots (config_of c))
+-- what holds of the set-up in all states that a world of so many cores shows
+pub boots_by : (P : State → List Event → Type 0) (law : FreshShows) (c : Config) (n : ℕ) (vs : List RustEvent) (w : TheWorld) → n ≡ c.cores → 1 ≤ n
+    → n ≤ most_cores → vs ≡ c.setup.items → w ≡ fresh_world n → ((s : State) → Shows w s → P s (map event_of vs))
+    → P (start_with c.cores) (map event_of c.setup.items)
 boots_by P law c n vs w same one few lent fresh h =
-    let shown : Shows w (start_with n) = subst (λ (x : TheWorld). Shows x (start_with n)) (sym fresh) (law n one few) in
-    subst P
-    (ap (λ (l : List RustEvent). sets_up (start_with n) 1 (map event_of l)) lent
-    ∙ ap (λ (m : ℕ). sets_up (start_with m) 1 (map event_of c.setup.items)) same
-    ∙ sym (boots_with (config_of c) (subst (λ (m : ℕ). 1 ≤ m) same one) (subst (λ (m : ℕ). m ≤ most_cores) same few)))
-    (h (start_with n) shown)
+    subst (λ (m : ℕ). P (start_with m) (map event_of c.setup.items)) same
+    (subst (λ (l : List RustEvent). P (start_with n) (map event_of l)) lent
+    (h (start_with n) (subst (λ (x : TheWorld). Shows x (start_with n)) (sym fresh) (law n one few))))
+
+pub stopped : (c : TheConfig) (fault : BootFault) → has_bad_cores c ≡ false → StopsBy (start_with c.cores) c.setup fault → IsFaultOf c fault
+stopped c Memory good h = good
+stopped c (Refused number place) good h = inr (good, h)
 
 -- ---- faults of answers
 

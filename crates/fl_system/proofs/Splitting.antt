@@ -5,7 +5,7 @@ use Rattle.fl_ring.specs.Duo.{TheDuo}
 use Rattle.fl_queues.specs.Events.{Answer}
 use Rattle.fl_worlds.specs.View.{ring_at}
 use Rattle.fl_system.specs.declared.moving.Passing.{Passing}
-use Rattle.fl_system.specs.Passing.{TwoRings, Passes, PassesOver}
+use Rattle.fl_system.specs.Passing.{Passes, PassesOver}
 use Rattle.fl_system.proofs.Lifts.{stands}
 
 -- ---- lists in two parts

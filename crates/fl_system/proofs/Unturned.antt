@@ -1,5 +1,5 @@
 -- A turn that wants memory, over an arrival queue of the core's own, leaves the core as it was.
-use Rattle.std.proofs.Common.{◌≡◌, refl, sym, ap, ◌∙◌, ℕ, List, slice_get, slice_set, Some, Result, Ok, Err}
+use Rattle.std.proofs.Common.{◌≡◌, sym, ap, ◌∙◌, ℕ, List, slice_get, slice_set, Some, Err}
 use Rattle.std.proofs.lemmas.List.{set-get_or}
 use Rattle.std.proofs.lemmas.Option.{get_or_from_slice_get}
 use Rattle.std.specs.declared.alloc.AllocError.{AllocError}

@@ -1,10 +1,11 @@
 -- What a world is booted with, and what the machine makes of that.
-use Rattle.std.specs.Prelude.{ℕ, ◌≡◌, ◌+◌, ◌||◌, nat_lt, if◌then◌else◌, List, [], ◌∷◌, map, is_some, false}
-use Rattle.fl_queues.specs.Given.{given}
-use Rattle.fl_queues.specs.Events.{Event, refused}
+use Rattle.std.specs.Prelude.{ℕ, ◌≡◌, ◌⊎◌, ◌+◌, ◌||◌, nat_lt, not, Bool, true, false, List, ◌∷◌, ◌++◌, length, map, is_some}
+use Rattle.std.specs.List.{list_all}
+use Rattle.fl_queues.specs.Events.{Event, Answer, refused}
 use Rattle.fl_queues.specs.State.{State, Outcome}
 use Rattle.fl_queues.specs.Making.{most_cores}
 use Rattle.fl_queues.specs.Step.{step}
+use Rattle.fl_queues.specs.Runs.{answers_to, reached}
 use Rattle.fl_queues.specs.Worlds.{start_with}
 use Rattle.fl_lines.specs.Events.{event_of}
 use Rattle.fl_worlds.specs.View.{TheWorld}
@@ -22,47 +23,54 @@ pub record TheConfig : Type 0 where
 abbrev pub config_of : Config → TheConfig
 config_of c = record { cores = c.cores; setup = map event_of c.setup.items }
 
--- ---- what the machine makes of it
+-- its number of cores isn't 1 to 16
+abbrev pub has_bad_cores : TheConfig → Bool
+has_bad_cores c = nat_lt c.cores 1 || nat_lt most_cores c.cores
 
--- the state that is reached, or the fault of the first event that is refused, and that event's place
-pub data SetUp : Type 0 where
-  stands : State → SetUp
-  refused_at : ℕ → ℕ → SetUp
+-- ---- events one after another
 
--- the first of the events has this place
-abbrev pub sets_up : State → ℕ → List Event → SetUp
-sets_up s place [] = stands s
-sets_up s place (v ∷ vs) =
-    given (fault_in (step s v).answer) (sets_up (step s v).state (place + 1) vs) λ fault.
-    refused_at fault place
+abbrev pub passes : Answer → Bool
+passes a = not (is_some (fault_in a))
 
--- a number of cores outside 1 to 16 is refused at place 0
-abbrev pub boots : TheConfig → SetUp
-boots c =
-    if nat_lt c.cores 1 || nat_lt most_cores c.cores then refused_at 94 0
-    else sets_up (start_with c.cores) 1 c.setup
+-- the machine refuses none of these events, and the world shows the state that they reach
+pub record Passes (s : State) (events : List Event) (w : TheWorld) : Type 0 where
+  pub passed : list_all passes (answers_to s events) ≡ true
+  pub shown : Shows w (reached s events)
+
+-- it refuses the event behind the first ones, of which it refuses none: the fault's number, and the event's place, from 1
+pub record Stops (s : State) (events : List Event) (number place : ℕ) : Type 0 where
+  pub before : List Event
+  pub event : Event
+  pub behind : List Event
+  pub events_are : events ≡ before ++ event ∷ behind
+  pub passed : list_all passes (answers_to s before) ≡ true
+  pub answer : (step (reached s before) event).answer ≡ refused number
+  pub place_is : place ≡ length before + 1
 
 -- ---- what a world makes of it
 
 -- the world shows the state that the set-up reaches
-pub record Stands (o : SetUp) (w : TheWorld) : Type 0 where
-  pub state : State
-  pub state_is : o ≡ stands state
-  pub shown : Shows w state
+abbrev pub Stands : TheConfig → TheWorld → Type 0
+Stands c w = (has_bad_cores c ≡ false) × Passes (start_with c.cores) c.setup w
 
--- why there is none: the set-up's own fault, or want of memory, of which the machine knows nothing
-abbrev pub IsFaultOf : SetUp → BootFault → Type 0
-IsFaultOf o (Refused number place) = o ≡ refused_at number place
-IsFaultOf o Memory = Unit {0}
+-- why there is none: the number of cores, at place 0; the set-up's first refused event; or want of memory, of which the machine knows nothing
+abbrev pub IsFaultOf : TheConfig → BootFault → Type 0
+IsFaultOf c (Refused number place) =
+    ((has_bad_cores c ≡ true) × (number ≡ 94) × (place ≡ 0)) ⊎ ((has_bad_cores c ≡ false) × Stops (start_with c.cores) c.setup number place)
+IsFaultOf c Memory = has_bad_cores c ≡ false
 
--- ---- one event of a set-up
+-- as answers show it
+abbrev pub number_of : BootFault → ℕ
+number_of (Refused number place) = number
+number_of Memory = 99
 
--- it isn't refused
-pub record Passes (o : Outcome) (w : TheWorld) : Type 0 where
-  pub passed : is_some (fault_in o.answer) ≡ false
-  pub shown : Shows w o.state
+-- ---- its set-up
 
--- it is refused at this place
+abbrev pub StopsBy : State → List Event → BootFault → Type 0
+StopsBy s events (Refused number place) = Stops s events number place
+StopsBy s events Memory = Unit {0}
+
+-- the event at this place is refused
 abbrev pub StopsAt : ℕ → Outcome → BootFault → Type 0
 StopsAt at o (Refused number place) = (o.answer ≡ refused number) × (place ≡ at)
 StopsAt at o Memory = Unit {0}

@@ -1,6 +1,6 @@
 -- What an event comes to at the parts of a world that it touches: a core, and the queue or the ring that is lent to it, or a
 -- binding that keeps an end.
-use Rattle.std.specs.Prelude.{ℕ, ◌≡◌, ◌⊎◌, ◌+◌, ◌==◌, ◌||◌, ◌&&◌, not, Bool, List, slice_get, slice_set, Some, None, Result, Ok, Err}
+use Rattle.std.specs.Prelude.{ℕ, ◌≡◌, ◌⊎◌, ◌+◌, ◌==◌, ◌||◌, ◌&&◌, not, Bool, List, slice_get, slice_set, Some, None, Result}
 use Rattle.fl_value.specs.Value.{TheCall}
 use Rattle.fl_link.specs.Queue.{TheQueue}
 use Rattle.fl_ring.specs.Duo.{TheDuo}

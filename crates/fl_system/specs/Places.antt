@@ -5,8 +5,10 @@ use Rattle.fl_core.specs.View.{due}
 use Rattle.fl_node.specs.declared.wire.Inlet.{Inlet}
 use Rattle.fl_node.specs.View.{TheCore, side_of_link, inlet_of}
 use Rattle.fl_queues.specs.Given.{given}
-use Rattle.fl_queues.specs.Events.{DispatcherId}
+use Rattle.fl_queues.specs.Events.{DispatcherId, Answer}
 use Rattle.fl_worlds.specs.View as view
+use Rattle.fl_worlds.specs.View.{TheWorld}
+use Rattle.fl_worlds.specs.Taking.{TurnsOver}
 use Rattle.fl_worlds.specs.Linking as linking
 use Rattle.fl_system.specs.declared.places.Spot.{Spot}
 use Rattle.fl_system.specs.declared.places.Spot.TheVariants.{Nowhere, Unmade, Made}
@@ -61,3 +63,7 @@ pub record IsDueOver (cores : List TheCore) (n : ℕ) (at : Due) (i : Inlet) : T
   pub due_is : due core.board at.dispatcher ≡ Some at.end
   pub within : at.end < length core.board.seats
   pub inlet_is : inlet_of core at.end ≡ Some i
+
+-- it has the turn, over that
+abbrev pub TurnsFrom : Inlet → ℕ → Due → TheWorld → Answer → TheWorld → Type 0
+TurnsFrom i n at w a w2 = TurnsOver i (record { core = n; place = at.dispatcher }) at.end at.name w a w2

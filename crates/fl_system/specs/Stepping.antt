@@ -1,6 +1,7 @@
 -- What a world makes of events, beside what the machine makes of them in each state that the world shows.
 use Rattle.std.specs.Prelude.{ℕ, ◌≡◌, ◌||◌, ◌++◌, Bool, true, false, List, Option, Some, None, is_some}
-use Rattle.fl_queues.specs.Events.{Event, add_interface, Answer, refused}
+use Rattle.fl_queues.specs.Events.{Event, add_interface, show, write, acknowledge, register, deregister, reply, monitor_write}
+use Rattle.fl_queues.specs.Events.{monitor_acknowledge, Answer, refused}
 use Rattle.fl_queues.specs.State.{State}
 use Rattle.fl_queues.specs.Runs.{answers_to, reached}
 use Rattle.fl_worlds.specs.View.{TheWorld}
@@ -12,6 +13,18 @@ use Rattle.fl_worlds.specs.Laws.{StepAgrees}
 -- of each state that was shown, the answer is the machine's, and its next state is shown
 abbrev pub StepsAlike : Event → TheWorld → Answer → TheWorld → Type 0
 StepsAlike event w a w2 = (s : State) → Shows w s → StepAgrees event s a w2
+
+-- memory may be wanting for it: not where nothing is made, no call is made or handled, and no message is heard
+abbrev pub may_want_memory : Event → Bool
+may_want_memory (show e) = false
+may_want_memory (write e) = false
+may_want_memory (acknowledge e) = false
+may_want_memory (register e) = false
+may_want_memory (deregister e) = false
+may_want_memory (reply e msg answer) = false
+may_want_memory (monitor_write core neighbour) = false
+may_want_memory (monitor_acknowledge core neighbour) = false
+may_want_memory event = true
 
 -- the fault for which an event was refused
 abbrev pub fault_in : Answer → Option ℕ

@@ -190,7 +190,7 @@ impl World {
     ///
     /// # Errors
     /// Want of memory.
-    pub fn bind(
+    pub(crate) fn bind(
         &mut self,
         client: DispatcherId,
         interface: usize,

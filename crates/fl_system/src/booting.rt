@@ -1,13 +1,13 @@
 //! A world is booted: so many cores, and a set-up.
 
-ghost use Rattle.std.specs.Prelude.{◌≡◌, true, List, [], ◌∷◌, map, IfOk, IfErr, OnOk};
+ghost use Rattle.std.specs.Prelude.{◌≡◌, true, [], ◌∷◌, map, IfOk, IfErr, OnOk};
 ghost use Rattle.std.specs.List.{list_all};
 ghost use Rattle.fl_lines.specs.Events.{event_of, answer_of};
 ghost use Rattle.fl_queues.specs.State.{State};
 ghost use Rattle.fl_queues.specs.Step.{step};
 ghost use Rattle.fl_worlds.specs.Picture.{Shows};
 ghost use Rattle.fl_system.specs.Apart.{AllUnused, is_making, KeepsUnused};
-ghost use Rattle.fl_system.specs.Booting.{config_of, boots, sets_up, Stands, IsFaultOf, Passes, StopsAt};
+ghost use Rattle.fl_system.specs.Booting.{config_of, Passes, Stands, IsFaultOf, number_of, StopsBy, StopsAt};
 ghost use Rattle.fl_system.specs.Stepping.{fault_in};
 
 use crate::making::MAX_CORES;
@@ -37,6 +37,18 @@ pub enum BootFault {
     Memory,
 }
 
+impl BootFault {
+    /// The fault's number, as answers show it: the refused event's own, 94 for the number of cores, or 99.
+    pub fn number(self) -> u8
+        ensures number { result ≡ number_of self }
+    {
+        match self {
+            BootFault::Refused { number, .. } => number,
+            BootFault::Memory => 99,
+        }
+    }
+}
+
 // The fault for which an event was refused.
 fn fault_in(answer: &Answer) -> Option<u8>
     ensures fault { result ≡ fault_in (answer_of answer.now) }
@@ -50,7 +62,7 @@ fn fault_in(answer: &Answer) -> Option<u8>
 impl World {
     // Does the event of a set-up that has this place.
     fn set_up_one(&mut self, event: &Event<'_>, place: usize) -> Result<(), BootFault>
-        ensures passes { OnOk result ((s : State) → Shows self.old s → Passes (step s (event_of event.now)) self.new) }
+        ensures passes { OnOk result ((s : State) → Shows self.old s → Passes s (event_of event.now ∷ []) self.new) }
         ensures stops { IfErr result (λ fault. (s : State) → Shows self.old s → StopsAt place (step s (event_of event.now)) fault) }
         ensures unused { OnOk result (KeepsUnused (event_of event.now ∷ []) self.old self.new) }
     {
@@ -65,8 +77,8 @@ impl World {
 
     // Does the events of a set-up, until one is refused.
     fn set_up(&mut self, events: &[Event<'_>]) -> Result<(), BootFault>
-        ensures stands { OnOk result ((s : State) → Shows self.old s → Stands (sets_up s 1 (map event_of events.now)) self.new) }
-        ensures refused { IfErr result (λ fault. (s : State) → Shows self.old s → IsFaultOf (sets_up s 1 (map event_of events.now)) fault) }
+        ensures passes { OnOk result ((s : State) → Shows self.old s → Passes s (map event_of events.now) self.new) }
+        ensures stops { IfErr result (λ fault. (s : State) → Shows self.old s → StopsBy s (map event_of events.now) fault) }
         ensures unused { OnOk result (KeepsUnused (map event_of events.now) self.old self.new) }
     {
         for (k, event) in events.iter().enumerate() {
@@ -82,8 +94,8 @@ impl World {
     /// # Errors
     /// [`BootFault`]: 94 at place 0 where the number of cores isn't 1 to 16; else the first event that is refused; or want of memory.
     pub fn boot(alloc: Global, config: &Config<'_>) -> Result<World, BootFault>
-        ensures stands { IfOk result (λ w. Stands (boots (config_of config.now)) w) }
-        ensures refused { IfErr result (λ fault. IsFaultOf (boots (config_of config.now)) fault) }
+        ensures stands { IfOk result (λ w. Stands (config_of config.now) w) }
+        ensures refused { IfErr result (λ fault. IsFaultOf (config_of config.now) fault) }
         ensures unused { IfOk result (λ w. list_all is_making (config_of config.now).setup ≡ true → AllUnused w.rings) }
     {
         let cores = u32::from(config.cores);

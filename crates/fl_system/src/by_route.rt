@@ -1,6 +1,6 @@
 //! A binding is begun whose fragments go along a circuit.
 
-ghost use Rattle.std.specs.Prelude.{ℕ, ◌≡◌, ◌<◌, ◌≤◌, ◌⊎◌, ◌++◌, length, map, nat_lt, true, None, IfOk, OnOk, OnErr, vec_len};
+ghost use Rattle.std.specs.Prelude.{◌≡◌, ◌<◌, ◌≤◌, ◌⊎◌, ◌++◌, length, map, nat_lt, true, None, IfOk, OnOk, OnErr, vec_len};
 ghost use Rattle.std.specs.List.{list_all};
 ghost use Rattle.std.specs.Vec.{vec_capacity};
 ghost use Rattle.fl_core.specs.declared.fault.BoardFault.{BoardFault};

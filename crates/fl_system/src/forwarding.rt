@@ -158,7 +158,7 @@ impl World {
     ///
     /// # Errors
     /// Want of memory.
-    pub fn forward(&mut self, core: u32, neighbour: u32) -> Result<Answer, AllocError>
+    pub(crate) fn forward(&mut self, core: u32, neighbour: u32) -> Result<Answer, AllocError>
         ensures forwards { IfOk result (λ a. Forwards core neighbour self.old (answer_of a) self.new) }
         ensures kept { OnErr result (self.new ≡ self.old) }
     {

@@ -1,6 +1,6 @@
 //! Interfaces, cores, links, dispatchers and services are made.
 
-ghost use Rattle.std.specs.Prelude.{ℕ, ◌≡◌, ◌≢◌, ◌≤◌, ◌<◌, ◌-◌, ◌^◌, ◌⊎◌, length, IfOk, OnOk, OnErr, bytes_eq};
+ghost use Rattle.std.specs.Prelude.{ℕ, ◌≡◌, ◌≢◌, ◌≤◌, ◌<◌, ◌-◌, ◌^◌, length, IfOk, OnOk, OnErr, bytes_eq};
 ghost use Rattle.fl_base.specs.declared.identity.CoreId.{CoreId};
 ghost use Rattle.fl_check.specs.Interface.{interface_of};
 ghost use Rattle.fl_compile.specs.Programs.{program_of};
@@ -137,7 +137,7 @@ impl World {
     ///
     /// # Errors
     /// Want of memory.
-    pub fn add_interface(
+    pub(crate) fn add_interface(
         &mut self,
         interface: &Interface,
         plan: PlanNo,
@@ -168,7 +168,7 @@ impl World {
     ///
     /// # Errors
     /// Want of memory.
-    pub fn set_cores(&mut self, n: u32) -> Result<Answer, AllocError>
+    pub(crate) fn set_cores(&mut self, n: u32) -> Result<Answer, AllocError>
         ensures sets { IfOk result (λ a. SetsCores n self.old (answer_of a) self.new) }
         ensures kept { OnErr result (self.new ≡ self.old) }
     {
@@ -186,7 +186,7 @@ impl World {
     ///
     /// # Errors
     /// Want of memory.
-    pub fn add_dispatcher(&mut self, core: u32) -> Result<Answer, AllocError>
+    pub(crate) fn add_dispatcher(&mut self, core: u32) -> Result<Answer, AllocError>
         ensures adds { IfOk result (λ a. AddsDispatcher core self.old (answer_of a) self.new) }
         ensures kept { OnErr result (self.new ≡ self.old) }
     {
@@ -207,7 +207,7 @@ impl World {
     ///
     /// # Errors
     /// Want of memory.
-    pub fn export(
+    pub(crate) fn export(
         &mut self,
         name: &[u8],
         d: DispatcherId,
@@ -276,7 +276,7 @@ impl World {
     ///
     /// # Errors
     /// Want of memory.
-    pub fn add_link(&mut self, a: u32, b: u32, slots: u32) -> Result<Answer, AllocError>
+    pub(crate) fn add_link(&mut self, a: u32, b: u32, slots: u32) -> Result<Answer, AllocError>
         ensures adds { IfOk result (λ answer. AddsLink a b slots self.old (answer_of answer) self.new) }
         ensures kept { OnErr result (self.new ≡ self.old) }
     {

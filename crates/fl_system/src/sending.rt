@@ -1,20 +1,19 @@
 //! Calls and writes of ends.
 
-ghost use Rattle.std.specs.Prelude.{◌≡◌, ◌<◌, ◌%◌, ◌⊎◌, length, slice_get, Some, None, IfOk, OnErr, Ok, Err};
+ghost use Rattle.std.specs.Prelude.{◌≡◌, ◌<◌, ◌%◌, length, slice_get, Some, None, IfOk, OnErr, Ok, Err};
 ghost use Rattle.fl_value.specs.Value.{call_of};
 ghost use Rattle.fl_link.specs.Queue.{QueuePuts, next_epoch_of};
 ghost use Rattle.fl_link.specs.Cursor.{epoch_at};
 ghost use Rattle.fl_ring.specs.Duo.{side_of, got};
 ghost use Rattle.fl_ring.specs.Side.{SameSide, SidePuts};
-ghost use Rattle.fl_queues.specs.Events.{refused};
 ghost use Rattle.fl_node.specs.View.{TheCore};
 ghost use Rattle.fl_worlds.specs.View.{which_at, made};
-ghost use Rattle.fl_worlds.specs.Lending.{OverQueue, OverSide, AtCore, AtUnmade, IsStray};
-ghost use Rattle.fl_worlds.specs.Sending.{IsCalled, CallsAt, MakesCall, IsShown, PreviewsWith, PreviewsOver, PreviewsAt, Previews, HasOutlet};
+ghost use Rattle.fl_worlds.specs.Lending.{AtCore};
+ghost use Rattle.fl_worlds.specs.Sending.{IsCalled, MakesCall, IsShown, PreviewsWith, PreviewsOver, PreviewsAt, Previews, HasOutlet};
 ghost use Rattle.fl_worlds.specs.Sending.{IsWritten, WritesWith, WritesOver, WritesBy, WritesFragment};
 ghost use Rattle.fl_lines.specs.Events.{answer_of};
 ghost use Rattle.fl_system.specs.Places.{HasEnd};
-ghost use Rattle.fl_system.specs.Parts.{InCore, ByQueue, ByRing, InKept, CallsIn, CallsWith, KeptOrNone, AtUnmadeOrNone};
+ghost use Rattle.fl_system.specs.Parts.{InCore, ByQueue, ByRing, CallsIn, CallsWith, KeptOrNone, AtUnmadeOrNone};
 
 use crate::lending::{ring_at, which_at, whole};
 use crate::places::Spot;
@@ -81,7 +80,7 @@ impl World {
     ///
     /// # Errors
     /// Want of memory.
-    pub fn call(&mut self, e: EndId, call: &Call) -> Result<Answer, AllocError>
+    pub(crate) fn call(&mut self, e: EndId, call: &Call) -> Result<Answer, AllocError>
         ensures calls { IfOk result (λ a. MakesCall e (call_of call.now) self.old (answer_of a) self.new) }
         ensures kept { OnErr result (self.new ≡ self.old) }
     {
@@ -147,7 +146,7 @@ fn show_by_ring(core: &Core, place: usize, ring: &mut OneDuo, m: usize) -> Answe
 
 impl World {
     /// An end shows the fragment that it would write next.
-    pub fn show(&mut self, e: EndId) -> Answer
+    pub(crate) fn show(&mut self, e: EndId) -> Answer
         ensures shows { Previews e self.old (answer_of result) self.new }
     {
         match self.spot(e) {
@@ -249,7 +248,7 @@ fn write_by_ring(core: &mut Core, place: usize, ring: &mut OneDuo, m: usize) -> 
 
 impl World {
     /// An end writes its next fragment.
-    pub fn write(&mut self, e: EndId) -> Answer
+    pub(crate) fn write(&mut self, e: EndId) -> Answer
         ensures writes { WritesFragment e self.old (answer_of result) self.new }
     {
         match self.spot(e) {

@@ -1,11 +1,12 @@
 //! Whatever event is asked: one step of the machine, and many.
 
-ghost use Rattle.std.specs.Prelude.{◌≡◌, List, map, is_some, IfOk, OnErr};
+ghost use Rattle.std.specs.Prelude.{◌≡◌, true, map, is_some, IfOk, OnErr};
 ghost use Rattle.fl_lines.specs.Events.{event_of, answer_of};
 ghost use Rattle.fl_queues.specs.State.{State};
 ghost use Rattle.fl_worlds.specs.Picture.{Shows};
 ghost use Rattle.fl_worlds.specs.Step.{Does, settled, Steps};
-ghost use Rattle.fl_system.specs.Stepping.{StepsAlike, fault_in, is_interface, leaves_cores_open, RunsAlike, ShowsAfterSome};
+ghost use Rattle.fl_system.specs.Stepping.{StepsAlike, may_want_memory, fault_in, is_interface, leaves_cores_open};
+ghost use Rattle.fl_system.specs.Stepping.{RunsAlike, ShowsAfterSome};
 
 use crate::world::World;
 use fl_lines::{Answer, Event};
@@ -38,6 +39,7 @@ impl World {
     fn does(&mut self, event: &Event<'_>) -> Result<Answer, AllocError>
         ensures does { IfOk result (λ a. Does (event_of event.now) self.old (answer_of a) self.new) }
         ensures kept { OnErr result (self.new ≡ self.old) }
+        ensures memory { OnErr result (may_want_memory (event_of event.now) ≡ true) }
     {
         match event {
             Event::AddInterface { interface, plan } => self.add_interface(interface, *plan),
@@ -88,11 +90,12 @@ impl World {
     /// Does one event, which is lent: nothing of it is copied but what the world keeps.
     ///
     /// # Errors
-    /// Want of memory. Nothing has changed.
+    /// Want of memory, for events that make something, make or handle calls, or hear messages. Nothing has changed.
     pub fn replay(&mut self, event: &Event<'_>) -> Result<Answer, AllocError>
         ensures steps { IfOk result (λ a. Steps (event_of event.now) self.old (answer_of a) self.new) }
         ensures agrees { IfOk result (λ a. StepsAlike (event_of event.now) self.old (answer_of a) self.new) }
         ensures kept { OnErr result (self.new ≡ self.old) }
+        ensures memory { OnErr result (may_want_memory (event_of event.now) ≡ true) }
     {
         steps_agree();
         let answer = self.does(event)?;
@@ -103,11 +106,12 @@ impl World {
     /// Does one event: a step of the machine.
     ///
     /// # Errors
-    /// Want of memory. Nothing has changed.
+    /// Want of memory, for events that make something, make or handle calls, or hear messages. Nothing has changed.
     pub fn step(&mut self, event: Event<'_>) -> Result<Answer, AllocError>
         ensures steps { IfOk result (λ a. Steps (event_of event.entry) self.old (answer_of a) self.new) }
         ensures agrees { IfOk result (λ a. StepsAlike (event_of event.entry) self.old (answer_of a) self.new) }
         ensures kept { OnErr result (self.new ≡ self.old) }
+        ensures memory { OnErr result (may_want_memory (event_of event.entry) ≡ true) }
     {
         self.replay(&event)
     }

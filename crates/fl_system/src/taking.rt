@@ -11,12 +11,13 @@ ghost use Rattle.fl_node.specs.View.{TheCore, arrivals_of, inlet_of};
 ghost use Rattle.fl_node.specs.Ends.{OnBoard};
 ghost use Rattle.fl_worlds.specs.View.{made};
 ghost use Rattle.fl_worlds.specs.Lending.{AtCore};
-ghost use Rattle.fl_worlds.specs.Taking.{turn_answer, TurnsWith, TurnsArrivals, TurnsOver, TurnsAt, due_at, HasTurn, IsAcked, AcksWith, AcksOver, AcksAt, Acknowledges, HasInlet};
+ghost use Rattle.fl_worlds.specs.Taking.{turn_answer, TurnsWith, TurnsArrivals, TurnsAt, due_at, HasTurn};
+ghost use Rattle.fl_worlds.specs.Taking.{AcksWith, AcksOver, AcksAt, Acknowledges, HasInlet};
 ghost use Rattle.fl_worlds.specs.Taking.{TellsNothing, IsRegistered, RegistersWith, RegistersArrivals, RegistersOver, RegistersBy, RegistersChannel};
-ghost use Rattle.fl_worlds.specs.Taking.{DeregistersIn, DeregistersBy, DeregistersChannel, IsRuled, RulesAt, SetsReply};
+ghost use Rattle.fl_worlds.specs.Taking.{DeregistersIn, DeregistersBy, DeregistersChannel, IsRuled, SetsReply};
 ghost use Rattle.fl_worlds.specs.Linking.{ack_answer};
 ghost use Rattle.fl_lines.specs.Events.{answer_of, id_of};
-ghost use Rattle.fl_system.specs.Places.{HasEnd, HasDue, IsDueOver};
+ghost use Rattle.fl_system.specs.Places.{HasEnd, HasDue, IsDueOver, TurnsFrom};
 ghost use Rattle.fl_system.specs.Parts.{InCore, ByQueue, ByRing, KeptOrNone, AtUnmadeOrNone, RulesIn, RulesWith};
 
 use crate::lending::{ring_at, which_at, whole};
@@ -182,7 +183,7 @@ impl World {
     ///
     /// # Errors
     /// Want of memory.
-    pub fn turn(&mut self, d: DispatcherId) -> Result<Answer, AllocError>
+    pub(crate) fn turn(&mut self, d: DispatcherId) -> Result<Answer, AllocError>
         ensures turns { IfOk result (λ a. HasTurn (id_of d) self.old (answer_of a) self.new) }
         ensures kept { OnErr result (self.new ≡ self.old) }
     {
@@ -216,7 +217,7 @@ impl World {
 
     fn turn_over_queue(&mut self, n: usize, at: Due, q: usize) -> Result<Answer, AllocError>
         requires due { IsDueOver self.old.cores n at (Inlet.Queue q) }
-        ensures turns { IfOk result (λ a. TurnsOver (Inlet.Queue q) (record { core = n; place = at.dispatcher }) at.end at.name self.old (answer_of a) self.new) }
+        ensures turns { IfOk result (λ a. TurnsFrom (Inlet.Queue q) n at self.old (answer_of a) self.new) }
         ensures kept { OnErr result (self.new ≡ self.old) }
     {
         match self.queues.get_mut(q) {
@@ -227,7 +228,7 @@ impl World {
 
     fn turn_over_side(&mut self, n: usize, at: Due, m: usize) -> Result<Answer, AllocError>
         requires due { IsDueOver self.old.cores n at (Inlet.Side m) }
-        ensures turns { IfOk result (λ a. TurnsOver (Inlet.Side m) (record { core = n; place = at.dispatcher }) at.end at.name self.old (answer_of a) self.new) }
+        ensures turns { IfOk result (λ a. TurnsFrom (Inlet.Side m) n at self.old (answer_of a) self.new) }
         ensures kept { OnErr result (self.new ≡ self.old) }
     {
         match self.rings.get_mut(ring_at(m)) {
@@ -238,7 +239,7 @@ impl World {
 
     fn turn_over_arrivals(&mut self, n: usize, at: Due) -> Result<Answer, AllocError>
         requires due { IsDueOver self.old.cores n at Inlet.Arrivals }
-        ensures turns { IfOk result (λ a. TurnsOver Inlet.Arrivals (record { core = n; place = at.dispatcher }) at.end at.name self.old (answer_of a) self.new) }
+        ensures turns { IfOk result (λ a. TurnsFrom Inlet.Arrivals n at self.old (answer_of a) self.new) }
         ensures kept { OnErr result (self.new ≡ self.old) }
     {
         let core = &mut self.cores[n];
@@ -297,7 +298,7 @@ fn tell_nothing(core: &Core, place: usize) -> Answer
 
 impl World {
     /// An end tells what was taken at its ring.
-    pub fn acknowledge(&mut self, e: EndId) -> Answer
+    pub(crate) fn acknowledge(&mut self, e: EndId) -> Answer
         ensures acks { Acknowledges e self.old (answer_of result) self.new }
     {
         match self.spot(e) {
@@ -417,7 +418,7 @@ fn deregister_in(core: &mut Core, place: usize) -> Answer
 
 impl World {
     /// An end's channel is registered.
-    pub fn register(&mut self, e: EndId) -> Answer
+    pub(crate) fn register(&mut self, e: EndId) -> Answer
         ensures registers { RegistersChannel e self.old (answer_of result) self.new }
     {
         match self.spot(e) {
@@ -470,7 +471,7 @@ impl World {
     }
 
     /// An end's channel is deregistered.
-    pub fn deregister(&mut self, e: EndId) -> Answer
+    pub(crate) fn deregister(&mut self, e: EndId) -> Answer
         ensures deregisters { DeregistersChannel e self.old (answer_of result) self.new }
     {
         match self.spot(e) {
@@ -524,7 +525,7 @@ fn rule_kept(binding: &mut Binding, message: MsgNo, answer: MsgNo) -> Answer
 
 impl World {
     /// An end gets a reply rule.
-    pub fn reply(&mut self, e: EndId, message: MsgNo, answer: MsgNo) -> Answer
+    pub(crate) fn reply(&mut self, e: EndId, message: MsgNo, answer: MsgNo) -> Answer
         ensures rules { SetsReply e message.0 answer.0 self.old (answer_of result) self.new }
     {
         match self.spot(e) {

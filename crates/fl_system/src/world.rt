@@ -1,15 +1,12 @@
-//! The world, and which event is which method.
+//! The world, and what contracts see of it.
 
-ghost use Rattle.std.specs.Prelude.{◌≡◌, IfOk};
-
-use fl_base::CoreId;
 use fl_compile::Program;
 use fl_link::QueueLink;
 use fl_nameserv::Names;
 use fl_node::Core;
 use fl_ring::OneDuo;
 use fl_worlds::Binding;
-use std::alloc::{AllocError, Global};
+use std::alloc::Global;
 use std::marker::Model;
 
 /// All cores, and the rings and queues between them.

@@ -1,4 +1,3 @@
-use Rattle.std.proofs.Common.{refl}
 use Rattle.fl_value.specs.Value.{call_of}
 use Rattle.fl_system.proofs.Ends.{called_kept}
 use Rattle.fl_system.proofs.sending.call_kept.Goals as goal

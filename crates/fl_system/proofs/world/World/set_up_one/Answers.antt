@@ -1,4 +1,5 @@
-use Rattle.std.proofs.Common.{sym, ◌∙◌, refl}
+use Rattle.std.proofs.Common.{sym, ap, ◌∙◌, refl, Bool, true, ◌&&◌}
+use Rattle.std.specs.Prelude.{not}
 use Rattle.fl_system.proofs.Runs.{by_none, by_some}
 use Rattle.fl_system.proofs.Unused.{step_unused}
 use Rattle.fl_system.proofs.world.World.set_up_one.Goals as goal
@@ -10,7 +11,7 @@ returns-in-Some-clause-stops c = λ s h.
 pub returns-clause-passes : goal.returns-clause-passes
 returns-clause-passes c = λ s h.
     let k = c.in-Ok.ensures.agrees s h in
-    record { passed = by_none _ _ k.answer (sym c.fault_in.ensures.fault ∙ c.in-None.is); shown = k.shows }
+    record { passed = ap (λ (b : Bool). not b && true) (by_none _ _ k.answer (sym c.fault_in.ensures.fault ∙ c.in-None.is)); shown = k.shows }
 
 pub returns-clause-unused : goal.returns-clause-unused
 returns-clause-unused c = step_unused _ _ _ _ c.in-Ok.ensures.steps
