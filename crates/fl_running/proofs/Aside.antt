@@ -13,7 +13,7 @@ use Rattle.fl_node.specs.declared.fault.OpenFault.TheVariants as opening
 use Rattle.fl_node.specs.View.{TheCore}
 use Rattle.fl_link.specs.Queue.{TheQueue}
 use Rattle.fl_running.specs.Run.{TheRun}
-use Rattle.fl_running.specs.Deeds.{Deed, looked, passed, arrived, heard, said, told, opened, called, wrote, acked, turned, NotesHeard, NotesOpened, NotesCalled, NotesTurned, Notes}
+use Rattle.fl_running.specs.Deeds.{Deed, looked, passed, arrived, heard, said, told, opened, called, ruled, wrote, acked, turned, NotesHeard, NotesOpened, NotesCalled, NotesTurned, Notes}
 
 module _ {S : Type 0} (m t : TheRun S) where
   -- of the run the desks alone have changed
@@ -63,6 +63,7 @@ module _ {S : Type 0} (m t : TheRun S) where
   desks_alone (told n l answer) h = same h
   desks_alone (opened e wish answer) h = noted_opened e answer h
   desks_alone (called e c answer) h = noted_called e answer h
+  desks_alone (ruled e msg reply answer) h = h.rest
   desks_alone (wrote e out answer) h = same h
   desks_alone (acked e n answer) h = same h
   desks_alone (turned d e from answer) h = noted_turned e answer h

@@ -45,9 +45,9 @@ use Rattle.fl_node.specs.declared.wire.Wire.TheVariants.{Queues, Ring, Circuit}
 use Rattle.fl_node.specs.declared.wire.Outlet.TheVariants as outlet
 use Rattle.fl_node.specs.declared.wire.Inlet.TheVariants as inlet
 use Rattle.fl_running.specs.Run.{Ways, TheRun}
-use Rattle.fl_running.specs.Deeds.{Deed, looked, passed, arrived, heard, said, told, opened, called, wrote, acked, turned, Does}
+use Rattle.fl_running.specs.Deeds.{Deed, looked, passed, arrived, heard, said, told, opened, called, ruled, wrote, acked, turned, Does}
 use Rattle.fl_running.specs.Logs.{Looked, SidesGo}
-use Rattle.fl_running.proofs.Looking.{stay, put_one, go_same, go_then, go_one, turn_looks}
+use Rattle.fl_running.proofs.Looking.{stay, put_one, looked_of, go_same, go_then, go_one, turn_looks}
 
 abbrev pub IsCircuit : Wire → Type 0
 IsCircuit (Circuit l a) = Unit {0}
@@ -179,7 +179,7 @@ arrives_grows : {S : Type 0} (w : Ways S) (l : ℕ) (frag : Frag) (e : EndId) (k
 arrives_grows w l frag e k p (Ok result) k2 q h = subst (λ (x : TheCore). Grows k x) (sym h.rest) (record {
   lanes = lanes_same k.lanes k.lanes refl;
   ports = ports_same k.ports k.ports refl;
-  arrivals = go_one QueuePuts QueueTakes k.arrivals h.queue h.before h.after h.before_is (put_one QueuePuts QueueTakes h.before h.after _ h.puts);
+  arrivals = go_one QueuePuts QueueTakes k.arrivals h.queue h.before h.after h.before_is (looked_of QueuePuts QueueTakes _ _ _ _ (put_one QueuePuts QueueTakes h.before h.after _ h.puts));
 })
 arrives_grows w l frag e k p (Err link.Astray) k2 q h = grows_fail k k2 l h.1
 arrives_grows w l frag e k p (Err link.Failed) k2 q h = absurd h
@@ -253,6 +253,7 @@ does_grow w (said n l answer) s m h = says_grow w l.0 s.core h.before answer m.c
 does_grow w (told n l answer) s m h = grows_same s.core m.core h.event.1
 does_grow w (opened name wish answer) s m h = asks_grow _ s.core answer m.core h.event.asks
 does_grow w (called name c answer) s m h = grows_board s.core m.core m.core.board h.2.event.rest
+does_grow w (ruled name msg reply answer) s m h = grows_board s.core m.core m.core.board h.2.event.rest
 does_grow w (wrote name (outlet.Queue n) answer) s m h = grows_board s.core m.core m.core.board h.2.event.rest
 does_grow w (wrote name (outlet.Side n) answer) s m h = grows_board s.core m.core m.core.board h.2.event.rest
 does_grow w (acked name n answer) s m h = grows_same s.core m.core h.2.event.1
@@ -262,5 +263,5 @@ does_grow w (turned d name inlet.Arrivals answer) s m h = subst (λ (x : TheCore
   lanes = lanes_same s.core.lanes s.core.lanes refl;
   ports = ports_same s.core.ports s.core.ports refl;
   arrivals = go_one QueuePuts QueueTakes s.core.arrivals h.3.event.place h.3.event.before h.3.event.after h.3.event.before_is
-      (turn_looks QueuePuts QueueTakes h.3.event.event.picked h.3.event.event.seat.kind _ (Ok answer) _ h.3.event.event.looks);
+      (looked_of QueuePuts QueueTakes _ _ _ _ (turn_looks QueuePuts QueueTakes h.3.event.event.picked h.3.event.event.seat.kind _ answer _ h.3.event.event.looks));
 })

@@ -31,7 +31,7 @@ use Rattle.fl_running.specs.declared.lent.Due.{Due}
 use Rattle.fl_running.specs.declared.lent.Post.{Post}
 use Rattle.fl_running.specs.declared.lent.Berth.{Berth}
 use Rattle.fl_running.specs.Run.{Ways, TheRun, lent_lane, lends_out, lends_in, lent_post, lent_due, side_in, lent_berth}
-use Rattle.fl_running.specs.Deeds.{Deed, looked, passed, arrived, heard, said, told, opened, called, wrote, acked, turned, OnRing, OnQueue, Does}
+use Rattle.fl_running.specs.Deeds.{Deed, looked, passed, arrived, heard, said, told, opened, called, ruled, wrote, acked, turned, OnRing, OnQueue, Does}
 use Rattle.fl_running.specs.Logs.{Goes}
 use Rattle.fl_running.specs.Lending.{LendsWire, IsLent, LendsAll}
 use Rattle.fl_running.proofs.Aside.{rings_aside, queues_aside, core_aside}
@@ -67,6 +67,7 @@ as_many w (said n l answer) s m h = on_ring n s m _ h
 as_many w (told n l answer) s m h = on_ring n s m _ h
 as_many w (opened name wish answer) s m h = on_core s m h.rest
 as_many w (called name c answer) s m h = on_core s m h.2.rest
+as_many w (ruled name msg reply answer) s m h = on_core s m h.2.rest
 as_many w (wrote name (outlet.Queue n) answer) s m h = on_queue n s m _ h.2
 as_many w (wrote name (outlet.Side n) answer) s m h = on_ring n s m _ h.2
 as_many w (acked name n answer) s m h = on_ring n s m _ h.2

@@ -11,7 +11,7 @@ use Rattle.fl_core.specs.declared.answer.TurnAnswer.{TurnAnswer}
 use Rattle.fl_core.specs.declared.answer.TurnAnswer.TheVariants as turn
 use Rattle.fl_endpoint.specs.View.{is_rule, has_rules, rule_in, rule_at, reply_to}
 use Rattle.fl_endpoint.specs.Accounts.{followed, replies_by}
-use Rattle.fl_running.specs.Deeds.{Deed, looked, passed, arrived, heard, said, told, opened, called, wrote, acked, turned}
+use Rattle.fl_running.specs.Deeds.{Deed, looked, passed, arrived, heard, said, told, opened, called, ruled, wrote, acked, turned}
 use Rattle.fl_running.specs.Logs.{call_in, handled_in, handled_at}
 use Rattle.fl_running.specs.Made.{made_by, made_in, made_at}
 use Rattle.fl_running.specs.Carried.{reply_in, sent_in, sent_at, calls_handled}

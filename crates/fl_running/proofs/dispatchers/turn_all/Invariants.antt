@@ -5,4 +5,4 @@ use Rattle.fl_running.specs.Turn.{Swept, At}
 use Rattle.fl_running.proofs.dispatchers.turn_all.Given as goal
 
 abbrev pub invariant-loop-dispatcher : goal.invariant-loop-dispatcher
-invariant-loop-dispatcher g l = Swept (TakesTurn (ways g.S.PutSide.puts g.S.TakeSide.takes g.S.TakeSide.front)) l.dispatcher (run_of l.initial.run) (run_of l.run)
+invariant-loop-dispatcher g l = Swept (TakesTurn (ways g.S.PutSide.puts g.S.TakeSide.takes g.S.TakeSide.front) l.jobs) l.dispatcher (run_of l.initial.run) (run_of l.run)
