@@ -334,6 +334,18 @@ none_by : (b : Bool) → (if b then [] else []) ≡ (let xs : List Frag = [] in 
 none_by true = refl
 none_by false = refl
 
+-- ---- a log
+
+module _ {S : Type 0} (w : Ways S) (jobs : List Job) (name : EndId) where
+  -- what the end put and took in a log
+  abbrev pub log_put : (log : List Deed) (s t : TheRun S) → Goes w jobs s log t → List Frag
+  log_put [] s t h = []
+  log_put (deed ∷ log) s t h = of_end name deed (acted_put w deed s h.1.0 h.1.1) ++ log_put log h.0 t h.3
+
+  abbrev pub log_took : (log : List Deed) (s t : TheRun S) → Goes w jobs s log t → List Frag
+  log_took [] s t h = []
+  log_took (deed ∷ log) s t h = of_end name deed (acted_took w deed s h.1.0 h.1.1) ++ log_took log h.0 t h.3
+
 module _ {S : Type 0} (w : Ways S) (jobs : List Job) (name : EndId) (e : ℕ) where
   -- what an event is to the end
   abbrev pub event_traffic : List (Option ℕ) → Deed → List Frag → List Frag → Traffic
@@ -394,17 +406,8 @@ module _ {S : Type 0} (w : Ways S) (jobs : List Job) (name : EndId) (e : ℕ) wh
 
   -- ---- a log
 
-  -- what the end put and took in a log
-  pub log_put : (log : List Deed) (s t : TheRun S) → Goes w jobs s log t → List Frag
-  log_put [] s t h = []
-  log_put (deed ∷ log) s t h = of_end name deed (acted_put w deed s h.1.0 h.1.1) ++ log_put log h.0 t h.3
-
-  pub log_took : (log : List Deed) (s t : TheRun S) → Goes w jobs s log t → List Frag
-  log_took [] s t h = []
-  log_took (deed ∷ log) s t h = of_end name deed (acted_took w deed s h.1.0 h.1.1) ++ log_took log h.0 t h.3
-
   pub log_goes : (log : List Deed) (s t : TheRun S) (x : TheEnd) → IsHere name e x s.core → (h : Goes w jobs s log t)
-      → WentOn name e (traffic name x.rules log (log_put log s t h) (log_took log s t h)) (rules_at name x.rules log) x t.core
+      → WentOn name e (traffic name x.rules log (log_put w jobs name log s t h) (log_took w jobs name log s t h)) (rules_at name x.rules log) x t.core
   log_goes [] s t x here h = alike name e x s.core here t.core (ap (λ (r : TheRun S). r.core) h)
   log_goes (deed ∷ log) s t x here h =
       let put = acted_put w deed s h.1.0 h.1.1 in
@@ -417,11 +420,11 @@ module _ {S : Type 0} (w : Ways S) (jobs : List Job) (name : EndId) (e : ℕ) wh
         end = more.end;
         has = more.has;
         sits = more.sits;
-        goes = subst (λ (cs : List TheCall). EndGoes (record { sent = sent_at name x.rules (deed ∷ log); handled = cs; put = of_end name deed put ++ log_put log h.0 t h.3;
-            took = of_end name deed took ++ log_took log h.0 t h.3 }) x more.end)
+        goes = subst (λ (cs : List TheCall). EndGoes (record { sent = sent_at name x.rules (deed ∷ log); handled = cs; put = of_end name deed put ++ log_put w jobs name log h.0 t h.3;
+            took = of_end name deed took ++ log_took w jobs name log h.0 t h.3 }) x more.end)
             (sym (map-append call_of (handled_in name deed) (handled_at name log)))
             (goes_then x one.end more.end (sent_in name x.rules deed) (map call_of (handled_in name deed)) (sent_at name (rules_in name x.rules deed) log) (calls_handled name log)
-            (of_end name deed put) (log_put log h.0 t h.3) (of_end name deed took) (log_took log h.0 t h.3) one.goes
-            (subst (λ (rules : List (Option ℕ)). EndGoes (traffic name rules log (log_put log h.0 t h.3) (log_took log h.0 t h.3)) one.end more.end) one.rules_are more.goes));
+            (of_end name deed put) (log_put w jobs name log h.0 t h.3) (of_end name deed took) (log_took w jobs name log h.0 t h.3) one.goes
+            (subst (λ (rules : List (Option ℕ)). EndGoes (traffic name rules log (log_put w jobs name log h.0 t h.3) (log_took w jobs name log h.0 t h.3)) one.end more.end) one.rules_are more.goes));
         rules_are = more.rules_are ∙ ap (λ (rules : List (Option ℕ)). rules_at name rules log) one.rules_are;
       }

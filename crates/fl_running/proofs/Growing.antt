@@ -2,6 +2,7 @@
 use Rattle.std.proofs.Common.{◌≡◌, ◌≢◌, ◌==◌, refl, sym, ap, ◌∙◌, subst, ℕ, zero, suc, ◌<◌, ◌⊎◌, inl, inr, List, [], ◌∷◌, ◌++◌, length, slice_get, slice_set}
 use Rattle.std.proofs.Common.{Option, Some, None, Bool, true, false, Result, Ok, Err, arith, rules}
 use Rattle.std.proofs.lemmas.Bool.Decides.{nat_tests}
+use Rattle.std.proofs.lemmas.List.{length-set}
 use Rattle.fl_base.specs.declared.fragment.Frag.{Frag}
 use Rattle.fl_base.specs.declared.identity.EndId.{EndId}
 use Rattle.fl_base.specs.declared.identity.LinkId.{LinkId}
@@ -57,13 +58,14 @@ IsCircuit other = ⊥
 abbrev pub QueuesGo : List TheQueue → List TheQueue → Type 0
 QueuesGo ps qs = SidesGo QueuePuts QueueTakes ps qs
 
--- of lanes: each has the side that it had
+-- of lanes: there are as many, and each has the side that it had
 abbrev pub LanesStay : List Lane → List Lane → Type 0
-LanesStay xs ys = (l : ℕ) (lane : Lane) → slice_get ys l ≡ Some lane → (before : Lane) × (slice_get xs l ≡ Some before) × (lane.side ≡ before.side)
+LanesStay xs ys = (length ys ≡ length xs) × ((l : ℕ) (lane : Lane) → slice_get ys l ≡ Some lane → (before : Lane) × (slice_get xs l ≡ Some before) × (lane.side ≡ before.side))
 
--- of ports: each is one of before, or a circuit's
+-- of ports: each of before stands, and each is one of before, or a circuit's
 abbrev pub PortsGrow : List Port → List Port → Type 0
-PortsGrow xs ys = (e : ℕ) (p : Port) → slice_get ys e ≡ Some p → (slice_get xs e ≡ Some p) ⊎ IsCircuit p.wire
+PortsGrow xs ys = ((e : ℕ) (p : Port) → slice_get xs e ≡ Some p → slice_get ys e ≡ Some p)
+    × ((e : ℕ) (p : Port) → slice_get ys e ≡ Some p → (slice_get xs e ≡ Some p) ⊎ IsCircuit p.wire)
 
 pub record Grows (k k2 : TheCore) : Type 0 where
   pub lanes : LanesStay k.lanes k2.lanes
@@ -73,28 +75,28 @@ pub record Grows (k k2 : TheCore) : Type 0 where
 -- ---- parts
 
 lanes_same : (xs ys : List Lane) → ys ≡ xs → LanesStay xs ys
-lanes_same xs ys same l lane at = (lane, ap (λ (zs : List Lane). slice_get zs l) (sym same) ∙ at, refl)
+lanes_same xs ys same = (ap length same, λ l lane at. (lane, ap (λ (zs : List Lane). slice_get zs l) (sym same) ∙ at, refl))
 
 lanes_then : (xs ys zs : List Lane) → LanesStay xs ys → LanesStay ys zs → LanesStay xs zs
-lanes_then xs ys zs g h l lane at =
-    let (mid, there, one) = h l lane at in
-    let (before, stood, two) = g l mid there in
-    (before, stood, one ∙ two)
+lanes_then xs ys zs g h = (h.0 ∙ g.0, λ l lane at.
+    let (mid, there, one) = h.1 l lane at in
+    let (before, stood, two) = g.1 l mid there in
+    (before, stood, one ∙ two))
 
 ports_same : (xs ys : List Port) → ys ≡ xs → PortsGrow xs ys
-ports_same xs ys same e p at = inl (ap (λ (zs : List Port). slice_get zs e) (sym same) ∙ at)
+ports_same xs ys same = (λ e p at. ap (λ (zs : List Port). slice_get zs e) same ∙ at, λ e p at. inl (ap (λ (zs : List Port). slice_get zs e) (sym same) ∙ at))
 
 ports_then : (xs ys zs : List Port) → PortsGrow xs ys → PortsGrow ys zs → PortsGrow xs zs
-ports_then xs ys zs g h e p at = elim (h e p at) [
-  | inl there ↦ g e p there
+ports_then xs ys zs g h = (λ e p at. h.0 e p (g.0 e p at), λ e p at. elim (h.1 e p at) [
+  | inl there ↦ g.1 e p there
   | inr circuit ↦ inr circuit
-]
+])
 
 ports_more : (xs : List Port) (q : Port) → IsCircuit q.wire → PortsGrow xs (xs ++ q ∷ [])
-ports_more xs q circuit e p at = elim (push_cases xs q e p at) [
+ports_more xs q circuit = (push_stays xs q, λ e p at. elim (push_cases xs q e p at) [
   | inl last ↦ inr (subst (λ (x : Port). IsCircuit x.wire) (sym last.1) circuit)
   | inr there ↦ inl there
-]
+])
 
 queues_more : (xs : List TheQueue) (q : TheQueue) → QueuesGo xs (xs ++ q ∷ [])
 queues_more xs q n p at = (p, push_stays xs q n p at, stay QueuePuts QueueTakes p p refl)
@@ -114,8 +116,9 @@ set_lane xs i l there after lane false at side same is =
 
 fails_by : (xs : List Lane) (i : ℕ) (o : Option Lane) → slice_get xs i ≡ o
     → LanesStay xs (given o xs λ (lane : Lane). slice_set xs i (record { side = lane.side; failed = true }))
-fails_by xs i None at l lane is = (lane, is, refl)
-fails_by xs i (Some there) at l lane is = set_lane xs i l there (record { side = there.side; failed = true }) lane (i == l) at refl refl is
+fails_by xs i None at = (refl, λ l lane is. (lane, is, refl))
+fails_by xs i (Some there) at =
+    (length-set xs i (record { side = there.side; failed = true }), λ l lane is. set_lane xs i l there (record { side = there.side; failed = true }) lane (i == l) at refl refl is)
 
 lanes_fail : (xs : List Lane) (i : ℕ) → LanesStay xs (failed_at xs i)
 lanes_fail xs i = fails_by xs i (slice_get xs i) refl

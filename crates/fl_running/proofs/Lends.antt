@@ -94,11 +94,11 @@ circuit_lent m (Ring side) h = absurd h
 lent_on : {S : Type 0} (s m : TheRun S) → AsMany s m → Grows s.core m.core → IsLent s → IsLent m
 lent_on s m many grows lent = record {
   lanes = λ l lane at.
-      let (before, stood, side) = grows.lanes l lane at in
+      let (before, stood, side) = grows.lanes.1 l lane at in
       let below = lent.lanes l before stood in
       let same = many.0 in
       omega (arith, below, side, same);
-  wires = λ e p at. elim (grows.ports e p at) [
+  wires = λ e p at. elim (grows.ports.1 e p at) [
     | inl stood ↦ wire_stays s m p.wire many (lent.wires e p stood)
     | inr circuit ↦ circuit_lent m p.wire circuit
   ];

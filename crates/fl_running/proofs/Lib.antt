@@ -19,3 +19,10 @@ pub mod Seating
 pub mod Carrying
 pub mod Queueing
 pub mod Sending
+pub mod Ruling
+pub mod Sounding
+pub mod Flowing
+pub mod Bearing
+pub mod Laning
+pub mod Apart
+pub mod RingEnds

@@ -97,23 +97,23 @@ fn turn_at<S: PutSide + TakeSide + Drop>(
     jobs: &[Job],
     dispatcher: usize,
     name: EndId,
-    due: Due,
+    at: Due,
 ) -> Result<(), AllocError>
     requires there { dispatcher < length run.old.core.board.dispatchers }
-    requires end { due.end < length run.old.core.board.seats }
-    requires place { place_of run.old.core name ≡ Some due.end }
-    requires due { due run.old.core.board dispatcher ≡ Some due.end }
-    requires inlet { inlet_of run.old.core due.end ≡ Some due.inlet }
-    requires lent { lends_in (run_of run.old) due.inlet ≡ true }
-    ensures turns { OnOk result (TurnsIf (ways S.puts S.takes S.front) (awaits jobs.now (run_of run.old) name) dispatcher name due
+    requires end { at.end < length run.old.core.board.seats }
+    requires place { place_of run.old.core name ≡ Some at.end }
+    requires due { due run.old.core.board dispatcher ≡ Some at.end }
+    requires inlet { inlet_of run.old.core at.end ≡ Some at.inlet }
+    requires lent { lends_in (run_of run.old) at.inlet ≡ true }
+    ensures turns { OnOk result (TurnsIf (ways S.puts S.takes S.front) (awaits jobs.now (run_of run.old) name) dispatcher name at
         (run_of run.old) (run_of run.new)) }
 {
     sound(run);
-    sound_at(run, name, due.end);
+    sound_at(run, name, at.end);
     if awaits(run, jobs, name) {
         return Ok(());
     }
-    let answer = turn_named(run, dispatcher, name, due.end, due.inlet)?;
+    let answer = turn_named(run, dispatcher, name, at.end, at.inlet)?;
     note(run, name, answer)
 }
 

@@ -7,7 +7,7 @@ ghost use Rattle.fl_node.specs.declared.wire.Inlet.TheVariants.{Side};
 ghost use Rattle.fl_running.specs.Run.{ways, run_of, AtDesk, lends_out, lent_post, next_job};
 ghost use Rattle.fl_running.specs.Desks.{advanced};
 ghost use Rattle.fl_running.specs.Inside.{HasNext};
-ghost use Rattle.fl_running.specs.Deeds.{called, ruled, wrote, acked, Does};
+ghost use Rattle.fl_running.specs.Deeds.{called, ruled, wrote, acked, Does, NotesCalled};
 ghost use Rattle.fl_running.specs.Steps.{Tries, WritesFrom, Serves, Acknowledges, CallsAt, RulesAt};
 ghost use Rattle.fl_running.specs.Turn.{ForEach};
 
@@ -69,6 +69,17 @@ pub(crate) fn advance<S>(run: &mut Running<S>, name: EndId)
     }
 }
 
+// Notes a call that was made; one that was refused waits.
+fn note<S>(run: &mut Running<S>, name: EndId, answer: Result<(), EndFault>)
+    requires left { HasNext name (run_of run.old) }
+    ensures notes { NotesCalled name answer (run_of run.old) (run_of run.new) }
+{
+    match answer {
+        Ok(()) => advance(run, name),
+        Err(_) => (),
+    }
+}
+
 // Tries to make the next call of an end.
 fn try_call<S: PutSide + TakeSide + Drop>(
     run: &mut Running<S>,
@@ -84,13 +95,8 @@ fn try_call<S: PutSide + TakeSide + Drop>(
         Some(e) => {
             sound_at(run, name, e);
             let answer = call(run, name, e, next)?;
-            match answer {
-                Ok(()) => {
-                    advance(run, name);
-                    Ok(())
-                }
-                Err(_) => Ok(()),
-            }
+            note(run, name, answer);
+            Ok(())
         }
     }
 }

@@ -46,6 +46,7 @@ pub(crate) fn sound<S>(run: &Running<S>)
 }
 
 // What is known of an end at any time. It does nothing.
+#[tactic(auto, using(crate::proofs::Sounding::sound_of))]
 pub(crate) fn sound_at<S>(run: &Running<S>, name: EndId, e: usize)
     requires there { e < length run.now.core.board.seats }
     requires place { place_of run.now.core name ≡ Some e }
