@@ -288,14 +288,14 @@ module _ (name : EndId) (e : ℕ) (x : TheEnd) (k : TheCore) (here : IsHere name
 -- ---- one event
 
 -- of five tests, the third and the fourth
-five : (a b c d f : Bool) → (a && b && c && d && f) ≡ true → (c ≡ true) × (d ≡ true)
+pub five : (a b c d f : Bool) → (a && b && c && d && f) ≡ true → (c ≡ true) × (d ≡ true)
 five true true true true f h = (refl, refl)
 five true true true false f h = absurd (cc)
 five true true false d f h = absurd (cc)
 five true false c d f h = absurd (cc)
 five false b c d f h = absurd (cc)
 
-not_there : {X : Type 0} (o : Option X) → not (is_some o) ≡ true → o ≡ None
+pub not_there : {X : Type 0} (o : Option X) → not (is_some o) ≡ true → o ≡ None
 not_there None h = refl
 not_there (Some x) h = absurd (cc)
 

@@ -24,6 +24,7 @@ use Rattle.fl_running.proofs.Carrying.{IsHere, acted_put, acted_took, of_end, do
 use Rattle.fl_running.proofs.Bearing.{ring_put, ring_took, log_ring_put, log_ring_took, log_bears}
 use Rattle.fl_running.proofs.Laning.{event_steps, links_put, links_took}
 use Rattle.fl_running.proofs.RingEnds.{rings_put, rings_took}
+use Rattle.fl_running.proofs.Newcomers.{made_carries}
 use Rattle.fl_running.proofs.Apart.{side_after, stays_apart}
 use Rattle.fl_running.proofs.Growing.{Grows, does_grow}
 use Rattle.fl_running.proofs.Aside.{core_aside}
@@ -123,6 +124,7 @@ flows {S} w jobs s t log core apart_is h = record {
       let both = ring_puts w jobs log s t h apart_is name e n port at stands ring in
       side n p (map bare (log_put w jobs name log s t h)) (log_took w jobs name log s t h) there (ap (map bare) both.0) both.1;
   ends = λ name e seat at there. end_carries w jobs s t log name e seat core h at there;
+  made = λ name e absent at. made_carries w jobs name log s t e h absent at;
 } where
   side : (n : ℕ) (p : S) (put took : List Frag) → slice_get s.rings n ≡ Some p → map bare (log_ring_put w jobs log s t h n) ≡ put → log_ring_took w jobs log s t h n ≡ took
       → SideCarries w put took p t.rings n

@@ -145,7 +145,7 @@ lane_of_by (Some i) r n is = by (nat_lt i r) is where
   by true h = h
   by false h = absurd (cc)
 
-lane_of : {S : Type 0} (s : TheRun S) (l : LinkId) (n : ℕ) → lent_lane s l ≡ Some n → side_of_link s.core.lanes l.0 ≡ Some n
+pub lane_of : {S : Type 0} (s : TheRun S) (l : LinkId) (n : ℕ) → lent_lane s l ≡ Some n → side_of_link s.core.lanes l.0 ≡ Some n
 lane_of s l n is = lane_of_by (side_of_link s.core.lanes l.0) (length s.rings) n is
 
 map_at : (n i : ℕ) (frags : List Frag) → map bare (at_side n i frags) ≡ (if n == i then map bare frags else [])
@@ -178,7 +178,7 @@ module _ (k : TheCore) (apart_is : IsApart k) (l i : ℕ) (here : side_of_link k
 
 -- ---- where an end puts and takes
 
-some_is : {X : Type 0} (x y : X) → Some x ≡ Some y → x ≡ y
+pub some_is : {X : Type 0} (x y : X) → Some x ≡ Some y → x ≡ y
 some_is x y e = cc
 
 module _ {S : Type 0} (s : TheRun S) where
@@ -190,7 +190,7 @@ module _ {S : Type 0} (s : TheRun S) where
     by false h = absurd (cc)
 
   -- of an end that writes, by its place
-  puts_to : (name : EndId) (f : ℕ) (post : Post) (out : Outlet) → place_of s.core name ≡ Some f → lent_post s name ≡ Some post → post.outlet ≡ out → outlet_of s.core f ≡ Some out
+  pub puts_to : (name : EndId) (f : ℕ) (post : Post) (out : Outlet) → place_of s.core name ≡ Some f → lent_post s name ≡ Some post → post.outlet ≡ out → outlet_of s.core f ≡ Some out
   puts_to name f post out at is same =
       post_by (outlet_of s.core f) f post
       (sym (ap (λ (o : Option ℕ). given o None λ (e : ℕ). given (outlet_of s.core e) None λ (x : Outlet). if lends_out s x then (let p : Post = record { end = e; outlet = x } in Some p) else None) at) ∙ is)
@@ -204,7 +204,7 @@ module _ {S : Type 0} (s : TheRun S) where
     by false h = absurd (cc)
 
   -- of an end that is due
-  takes_from : (n f : ℕ) (d : Due) (from : Inlet) → due s.core.board n ≡ Some f → lent_due s n ≡ Some d → d.inlet ≡ from → inlet_of s.core f ≡ Some from
+  pub takes_from : (n f : ℕ) (d : Due) (from : Inlet) → due s.core.board n ≡ Some f → lent_due s n ≡ Some d → d.inlet ≡ from → inlet_of s.core f ≡ Some from
   takes_from n f d from at is same =
       due_by (inlet_of s.core f) f d
       (sym (ap (λ (o : Option ℕ). given o None λ (e : ℕ). given (inlet_of s.core e) None λ (x : Inlet). if lends_in s x then (let p : Due = record { end = e; inlet = x } in Some p) else None) at) ∙ is)
@@ -215,11 +215,11 @@ record HasPort (k : TheCore) (f : ℕ) : Type 0 where
   pub port : Port
   pub port_is : slice_get k.ports f ≡ Some port
 
-port_out : (k : TheCore) (f : ℕ) (out : Outlet) (o : Option Port) → slice_get k.ports f ≡ o → (given o None λ p. outlet_by k.lanes p.wire) ≡ Some out → (p : Port) × (slice_get k.ports f ≡ Some p) × (outlet_by k.lanes p.wire ≡ Some out)
+pub port_out : (k : TheCore) (f : ℕ) (out : Outlet) (o : Option Port) → slice_get k.ports f ≡ o → (given o None λ p. outlet_by k.lanes p.wire) ≡ Some out → (p : Port) × (slice_get k.ports f ≡ Some p) × (outlet_by k.lanes p.wire ≡ Some out)
 port_out k f out None at is = absurd (cc)
 port_out k f out (Some p) at is = (p, at, is)
 
-port_in : (k : TheCore) (f : ℕ) (from : Inlet) (o : Option Port) → slice_get k.ports f ≡ o → (given o None λ p. Some (inlet_by p.wire)) ≡ Some from → (p : Port) × (slice_get k.ports f ≡ Some p) × (inlet_by p.wire ≡ from)
+pub port_in : (k : TheCore) (f : ℕ) (from : Inlet) (o : Option Port) → slice_get k.ports f ≡ o → (given o None λ p. Some (inlet_by p.wire)) ≡ Some from → (p : Port) × (slice_get k.ports f ≡ Some p) × (inlet_by p.wire ≡ from)
 port_in k f from None at is = absurd (cc)
 port_in k f from (Some p) at is = (p, at, some_is (inlet_by p.wire) from is)
 

@@ -21,8 +21,9 @@ pub mod Queueing
 pub mod Sending
 pub mod Ruling
 pub mod Sounding
-pub mod Flowing
 pub mod Bearing
 pub mod Laning
 pub mod Apart
 pub mod RingEnds
+pub mod Newcomers
+pub mod Flowing

@@ -1,11 +1,11 @@
 -- What passes through a core, fragment by fragment. Law.
-use Rattle.std.specs.Prelude.{ℕ, ◌≡◌, List, map, slice_get, Some}
+use Rattle.std.specs.Prelude.{ℕ, ◌≡◌, List, [], map, slice_get, Some, None}
 use Rattle.fl_base.specs.declared.fragment.Frag.{Frag}
 use Rattle.fl_base.specs.declared.identity.EndId.{EndId}
 use Rattle.fl_base.specs.Control.{bare}
 use Rattle.fl_link.specs.Looks.{Look, Looks, LinkStep, puts_of, takes_of}
 use Rattle.fl_hop.specs.Stretch.{Step, taken_from, put_on}
-use Rattle.fl_endpoint.specs.View.{TheEnd}
+use Rattle.fl_endpoint.specs.View.{TheEnd, no_rules, nothing_to_send}
 use Rattle.fl_core.specs.View.{TheSeat}
 use Rattle.fl_node.specs.declared.wire.Port.{Port}
 use Rattle.fl_node.specs.declared.wire.Wire.TheVariants.{Ring}
@@ -25,6 +25,18 @@ pub record EndCarries (name : EndId) (log : List Deed) (put took : List Frag) (x
   pub after_is : slice_get seats e ≡ Some after
   pub goes : EndGoes (traffic name x.rules log put took) x after.end
   pub rules : after.end.rules ≡ rules_at name x.rules log
+
+-- a new end: nothing to send, no part of a call, and no reply rules
+pub record IsNew (x : TheEnd) : Type 0 where
+  pub outgoing : x.outgoing ≡ nothing_to_send
+  pub parts : x.parts ≡ []
+  pub rules : x.rules ≡ no_rules x.program
+
+-- the end of this name, which was made at some moment, has gone on since then
+pub record MadeCarries (name : EndId) (log : List Deed) (put took : List Frag) (seats : List TheSeat) (e : ℕ) : Type 0 where
+  pub began : TheEnd
+  pub new : IsNew began
+  pub carries : EndCarries name log put took began seats e
 
 -- ---- sides
 
@@ -60,6 +72,8 @@ pub record Flows {S : Type 0} (w : Ways S) (s t : TheRun S) (log : List Deed) : 
   -- so each end that was there went on
   pub ends : (name : EndId) (e : ℕ) (seat : TheSeat) → place_of s.core name ≡ Some e → slice_get s.core.board.seats e ≡ Some seat
       → EndCarries name log (put name) (took name) seat.end t.core.board.seats e
+  -- and each that was made meanwhile
+  pub made : (name : EndId) (e : ℕ) → place_of s.core name ≡ None → place_of t.core name ≡ Some e → MadeCarries name log (put name) (took name) t.core.board.seats e
 
 -- of a core whose sides are apart, whatever happens there
 abbrev pub LogsFlow : {S : Type 0} → Ways S → Type 0
