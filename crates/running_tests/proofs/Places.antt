@@ -11,7 +11,7 @@ use Rattle.fl_node.specs.Sound.{IsCore}
 use Rattle.fl_node.specs.Making.{AddsPort}
 use Rattle.fl_node.proofs.Ported.{seats_ports}
 
-pub last_place : (n e : ℕ) (s : TheEnd) (p : Port) (k k2 : TheCore) → IsCore k → arrivals_by p.wire ≡ None → AddsPort n s p k (Ok e) k2
+last_place : (n e : ℕ) (s : TheEnd) (p : Port) (k k2 : TheCore) → IsCore k → arrivals_by p.wire ≡ None → AddsPort n s p k (Ok e) k2
     → (e < length k2.board.seats) × (arrivals_of k2 e ≡ None)
 last_place n e s p k k2 sound wire h =
     let place : e ≡ length k.ports = h.0.0 ∙ seats_ports k sound in
@@ -21,3 +21,9 @@ last_place n e s p k k2 sound wire h =
       slice_get_within k2.board.seats e _ (ap (λ (xs : List TheSeat). slice_get xs e) seats ∙ ap (slice_get (k.board.seats ++ _ ∷ [])) h.0.0 ∙ push_last k.board.seats _),
       ap (λ (o : Option Port). given o None (λ (q : Port). arrivals_by q.wire)) stands ∙ wire,
     )
+
+pub last_there : (n e : ℕ) (s : TheEnd) (p : Port) (k k2 : TheCore) → IsCore k → arrivals_by p.wire ≡ None → AddsPort n s p k (Ok e) k2 → e < length k2.board.seats
+last_there n e s p k k2 sound wire h = (last_place n e s p k k2 sound wire h).0
+
+pub last_wire : (n e : ℕ) (s : TheEnd) (p : Port) (k k2 : TheCore) → IsCore k → arrivals_by p.wire ≡ None → AddsPort n s p k (Ok e) k2 → arrivals_of k2 e ≡ None
+last_wire n e s p k k2 sound wire h = (last_place n e s p k k2 sound wire h).1

@@ -1,7 +1,7 @@
 //! Cores with one binding, their jobs and their tickets.
 
-ghost use Rattle.std.specs.Prelude.{◌≡◌, None, length, IfOk};
-ghost use Rattle.fl_node.specs.View.{arrivals_by};
+ghost use Rattle.std.specs.Prelude.{◌≡◌, ◌<◌, None, length, IfOk};
+ghost use Rattle.fl_node.specs.View.{arrivals_by, arrivals_of};
 ghost use Rattle.running_tests.specs.Tickets.{IsNew};
 
 use fl_base::{Circuit, CoreId, EndId, MsgNo, Side};
@@ -133,8 +133,27 @@ fn running(
     })
 }
 
-// An end of the binding at a dispatcher, which is registered over what it takes from.
-#[tactic(auto, using(crate::proofs::Places::last_place))]
+// An end of the binding at a dispatcher: its place.
+#[tactic(auto, using(crate::proofs::Places::last_there))]
+fn seat(core: &mut Core, dispatcher: usize, end: End, port: Port) -> Result<usize, Fail>
+    requires { arrivals_by port.wire ≡ None }
+    ensures there { IfOk result (λ e. e < length core.new.board.seats) }
+    ensures lent { IfOk result (λ e. arrivals_of core.new e ≡ None) }
+{
+    core.sound();
+    if dispatcher >= core.board().dispatchers()
+        || port.name.binding >= 1_024
+        || core.place(port.name).is_some()
+    {
+        return Err(Fail::new("no such end"));
+    }
+    match core.add_end(dispatcher, end, port) {
+        Ok(e) => Ok(e),
+        Err(_) => Err(Fail::new("no place")),
+    }
+}
+
+// The same, registered over what it takes from.
 fn add<T: TakeSide>(
     core: &mut Core,
     dispatcher: usize,
@@ -144,14 +163,7 @@ fn add<T: TakeSide>(
 ) -> Result<(), Fail>
     requires { arrivals_by port.wire ≡ None }
 {
-    core.sound();
-    if dispatcher >= core.board().dispatchers()
-        || port.name.binding >= 1_024
-        || core.place(port.name).is_some()
-    {
-        return Err(Fail::new("no such end"));
-    }
-    let e = core.add_end(dispatcher, end, port)?;
+    let e = seat(core, dispatcher, end, port)?;
     Ok(core.register(e, from)?)
 }
 
