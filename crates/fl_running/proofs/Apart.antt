@@ -1,5 +1,5 @@
 -- Sides that are apart stay so, and links keep theirs.
-use Rattle.std.proofs.Common.{◌≡◌, refl, sym, ap, ◌∙◌, subst, ℕ, ◌<◌, ◌⊎◌, inl, inr, List, length, slice_get, Option, Some, None, arith}
+use Rattle.std.proofs.Common.{◌≡◌, refl, sym, ap, ◌∙◌, ℕ, inl, inr, List, slice_get, Option, Some, None, arith}
 use Rattle.std.proofs.lemmas.Option.{slice_get_within}
 use Rattle.fl_hop.proofs.Lists.{at_within}
 use Rattle.fl_monitor.specs.Routing.{given}
@@ -49,9 +49,23 @@ ring_before xs ys e n p grow at is = elim (grow.1 e p at) [
   | inr circuit ↦ absurd (no_circuit p.wire n is circuit)
 ]
 
+queues_no_circuit : (x : Wire) (n a : ℕ) → x ≡ Queues n a → IsCircuit x → ⊥
+queues_no_circuit (Ring m) n a is circuit = circuit
+queues_no_circuit (Queues o b) n a is circuit = circuit
+queues_no_circuit (Circuit l b) n a is circuit = cc
+
+-- so did one on queues
+queues_before : (xs ys : List Port) (e n a : ℕ) (p : Port) → PortsGrow xs ys → slice_get ys e ≡ Some p → p.wire ≡ Queues n a → slice_get xs e ≡ Some p
+queues_before xs ys e n a p grow at is = elim (grow.1 e p at) [
+  | inl there ↦ there
+  | inr circuit ↦ absurd (queues_no_circuit p.wire n a is circuit)
+]
+
 pub stays_apart : (k m : TheCore) → Grows k m → IsApart k → IsApart m
 stays_apart k m g a = record {
   lanes = λ l j n one two. a.lanes l j n (side_before k.lanes m.lanes l n g.lanes one) (side_before k.lanes m.lanes j n g.lanes two);
   rings = λ l e n p lane at ring. a.rings l e n p (side_before k.lanes m.lanes l n g.lanes lane) (ring_before k.ports m.ports e n p g.ports at ring) ring;
   ends = λ d e n p q one two x y. a.ends d e n p q (ring_before k.ports m.ports d n p g.ports one x) (ring_before k.ports m.ports e n q g.ports two y) x y;
+  puts = λ d e n i j p q one two x y. a.puts d e n i j p q (queues_before k.ports m.ports d n i p g.ports one x) (queues_before k.ports m.ports e n j q g.ports two y) x y;
+  takes = λ d e n i j p q one two x y. a.takes d e n i j p q (queues_before k.ports m.ports d i n p g.ports one x) (queues_before k.ports m.ports e j n q g.ports two y) x y;
 }

@@ -1,6 +1,6 @@
 -- What each side of a ring placed and took, by one event and in a log.
 use Rattle.std.proofs.Common.{◌≡◌, ◌≢◌, refl, sym, ap, ◌∙◌, subst, ℕ, ◌==◌, if◌then◌else◌, List, [], ◌∷◌, ◌++◌, slice_get, slice_set}
-use Rattle.std.proofs.Common.{Option, Some, None, Bool, true, false, Result, Ok, Err, arith}
+use Rattle.std.proofs.Common.{Some, Bool, true, false, arith}
 use Rattle.std.proofs.lemmas.Bool.Decides.{nat_tests}
 use Rattle.std.proofs.lemmas.List.{append-nil}
 use Rattle.fl_base.specs.declared.fragment.Frag.{Frag}
@@ -42,7 +42,7 @@ ring_took w deed s m h i = []
 abbrev pub BearsAt : {S : Type 0} → (S → Look → S → Type 0) → (S → Look → S → Type 0) → List S → List S → ℕ → List Frag → List Frag → Type 0
 BearsAt {S} puts takes ps qs i put took = (p : S) → slice_get ps i ≡ Some p → (q : S) × (slice_get qs i ≡ Some q) × Carries puts takes put took p q
 
-nothing_there : (n i : ℕ) → at_side n i [] ≡ []
+pub nothing_there : (n i : ℕ) → at_side n i [] ≡ []
 nothing_there n i = by (n == i) where
   by : (b : Bool) → (if b then [] else []) ≡ (let xs : List Frag = [] in xs)
   by true = refl

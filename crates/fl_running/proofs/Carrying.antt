@@ -1,6 +1,6 @@
 -- An end, and what a core's events make of it.
 use Rattle.std.proofs.Common.{◌≡◌, ◌≢◌, refl, sym, ap, ◌∙◌, subst, ℕ, ◌<◌, ◌==◌, ◌&&◌, nat_lt, not, is_some, if◌then◌else◌, List, [], ◌∷◌, ◌++◌, length, map, slice_get, slice_set, arith, rules}
-use Rattle.std.proofs.Common.{Option, Some, None, IsSome, Bool, true, false, Result, Ok, Err}
+use Rattle.std.proofs.Common.{Option, Some, None, Bool, true, false, Result, Ok, Err}
 use Rattle.std.proofs.lemmas.Bool.{ltb-true}
 use Rattle.std.proofs.lemmas.Bool.Decides.{nat_tests}
 use Rattle.std.proofs.lemmas.List.{map-append}
@@ -10,32 +10,29 @@ use Rattle.fl_base.specs.declared.identity.EndId.{EndId}
 use Rattle.fl_base.specs.declared.identity.LinkId.{LinkId}
 use Rattle.fl_base.specs.declared.identity.MsgNo.{MsgNo}
 use Rattle.fl_base.specs.declared.identity.Circuit.{Circuit as Number}
-use Rattle.fl_compile.specs.declared.program.Program.{Program}
 use Rattle.fl_value.specs.Value.{TheCall, call_of}
-use Rattle.fl_value.specs.declared.value.Call.{Call}
 use Rattle.fl_wire.specs.declared.fault.WireFault.TheVariants as wire
 use Rattle.fl_link.specs.Looks.{Look}
-use Rattle.fl_link.specs.Queue.{TheQueue, QueuePuts, QueueTakes}
+use Rattle.fl_link.specs.Queue.{QueuePuts, QueueTakes}
 use Rattle.fl_hop.specs.Stretch.{same_end}
 use Rattle.fl_hop.specs.declared.forward.Outcome.{Outcome}
 use Rattle.fl_hop.specs.declared.forward.Outcome.TheVariants.{Moved, Full, Spent}
 use Rattle.fl_endpoint.specs.View.{TheEnd, bound}
-use Rattle.fl_endpoint.specs.Events.{Calls, Writes, SetsRule}
+use Rattle.fl_endpoint.specs.Events.{Calls, SetsRule}
 use Rattle.fl_endpoint.specs.Accounts.{Sound}
 use Rattle.fl_endpoint.specs.declared.fault.EndFault.{EndFault}
 use Rattle.fl_endpoint.specs.declared.answer.WriteAnswer.{WriteAnswer}
 use Rattle.fl_core.specs.View.{TheSeat, TheBoard, with_end}
 use Rattle.fl_core.specs.Events.{ChangesEnd}
 use Rattle.fl_core.specs.declared.answer.TurnAnswer.{TurnAnswer}
-use Rattle.fl_core.specs.Turns.{Over, over, moment, Turns}
+use Rattle.fl_core.specs.Turns.{over, moment, Turns}
 use Rattle.fl_monitor.specs.Hearing.{ComesTo}
 use Rattle.fl_monitor.specs.Monitors.{TheMonitor, can_say}
 use Rattle.fl_monitor.specs.declared.heard.Heard.{Heard}
 use Rattle.fl_monitor.specs.declared.heard.Heard.TheVariants as outcome
 use Rattle.fl_monitor.specs.declared.message.Message.{Message}
-use Rattle.fl_node.specs.View.{TheCore, place_of, place_in, slot_of, client_of, server_of, with_board, with_monitor, with_failed, arriving_at}
-use Rattle.fl_node.specs.Sound.{IsCore}
-use Rattle.fl_node.specs.Ends.{OnBoard, OverArrivals, WritesAt}
+use Rattle.fl_node.specs.View.{TheCore, place_of, slot_of, client_of, server_of, with_monitor, with_failed, arriving_at}
+use Rattle.fl_node.specs.Ends.{OnBoard, WritesAt}
 use Rattle.fl_node.specs.Links.{LooksAhead, ArrivesAt, MonitorWrites}
 use Rattle.fl_node.specs.Hearing.{Offers, known_for, offer_for, HearsFrag, HearsMessage, HearsAll, Follows, BindsIf}
 use Rattle.fl_node.specs.Making.{Asked, Asks}
@@ -56,10 +53,8 @@ use Rattle.fl_node.specs.declared.wire.Inlet.{Inlet}
 use Rattle.fl_node.specs.declared.wire.Inlet.TheVariants as inlet
 use Rattle.fl_node.proofs.Offers.{made_for, made_new}
 use Rattle.fl_running.specs.declared.job.Job.{Job}
-use Rattle.fl_running.specs.declared.job.Wish.{Wish}
 use Rattle.fl_running.specs.Run.{Ways, TheRun}
-use Rattle.fl_running.specs.Deeds.{Deed, looked, passed, arrived, heard, said, told, opened, called, ruled, wrote, acked, turned, Does, TurnsOver, WritesOver, AsksFor, IsSoundAt, ActsSoundly}
-use Rattle.fl_running.specs.Steps.{may_ask}
+use Rattle.fl_running.specs.Deeds.{Deed, looked, passed, arrived, heard, said, told, opened, called, ruled, wrote, acked, turned, Does, TurnsOver, WritesOver, IsSoundAt, ActsSoundly}
 use Rattle.fl_running.specs.Logs.{InPlace, Goes, call_in, handled_in, handled_at}
 use Rattle.fl_running.specs.Made.{made_by}
 use Rattle.fl_running.specs.Carried.{Traffic, EndGoes, rules_by, rules_in, rules_at, reply_in, sent_in, sent_at, calls_handled, traffic}
@@ -67,7 +62,7 @@ use Rattle.fl_running.proofs.Looking.{if_wrote, turn_took}
 use Rattle.fl_running.proofs.Aside.{core_aside}
 use Rattle.fl_running.proofs.Handling.{one_end}
 use Rattle.fl_running.proofs.EndGoing.{still, stays, goes_then, calls_go, calls_rules, rules_go, writes_go, turn_goes, turn_rules, bound_goes}
-use Rattle.fl_running.proofs.Seating.{HasEnd, seats_same, lists_same, triggers_same, set_other, set_own, one_end_there, added_same, Sits, sits_first, sits_same, sits_more, apart, together}
+use Rattle.fl_running.proofs.Seating.{HasEnd, seats_same, lists_same, triggers_same, set_other, set_own, one_end_there, added_same, Sits, sits_same, sits_more, apart, together}
 
 same_number : (m n : ℕ) → (m == n) ≡ true → m ≡ n
 same_number m n is = grind (arith, nat_tests, is)
@@ -272,18 +267,31 @@ module _ (name : EndId) (e : ℕ) (x : TheEnd) (k : TheCore) (here : IsHere name
 
     turns_at : {T : Type 0} (takes : T → Look → T → Type 0) (d : ℕ) (p q : T) (answer : TurnAnswer) (c : TheBoard) (k2 : TheCore) → ((seat : TheSeat) → slice_get k.board.seats f ≡ Some seat → Sound seat.end)
         → (h : Turns takes d f (over k.board p) (Ok answer) (over c q)) → c ≡ k2.board → k2.places ≡ k.places
-        → WentOn name e (record { sent = if same_end n name then reply_in x.rules answer else []; handled = map call_of (if same_end n name then call_in answer else []); put = [];
-            took = if same_end n name then turn_took takes h.picked h.seat.kind (moment h.dispatcher.lists h.seat.end p) answer (moment h.lists h.end q) h.looks else [] })
+        → WentOn name e (record {
+          sent = if same_end n name then reply_in x.rules answer else [];
+          handled = map call_of (if same_end n name then call_in answer else []);
+          put = [];
+          took = if same_end n name then turn_took takes h.picked h.seat.kind (moment h.dispatcher.lists h.seat.end p) answer (moment h.lists h.end q) h.looks else [];
+        })
         (if same_end n name then x.rules else x.rules) x k2
     turns_at takes d p q answer c k2 sound h board places =
-        by_name (λ b. record { sent = if b then reply_in x.rules answer else []; handled = map call_of (if b then call_in answer else []); put = [];
-        took = if b then turn_took takes h.picked h.seat.kind (moment h.dispatcher.lists h.seat.end p) answer (moment h.lists h.end q) h.looks else [] }) (λ b. if b then x.rules else x.rules) refl refl
+        by_name (λ b. record {
+          sent = if b then reply_in x.rules answer else [];
+          handled = map call_of (if b then call_in answer else []);
+          put = [];
+          took = if b then turn_took takes h.picked h.seat.kind (moment h.dispatcher.lists h.seat.end p) answer (moment h.lists h.end q) h.looks else [];
+        }) (λ b. if b then x.rules else x.rules) refl refl
         (same_end n name) k2 c h.seat h.end refl h.seat_is
         (ap (λ (b : TheBoard). b.seats) h.board) (λ z has. subst (λ (b : TheBoard). HasEnd b e z) board has) places
-        (λ was. subst (λ (s : TheEnd). EndGoes (record { sent = reply_in s.rules answer; handled = map call_of (call_in answer); put = [];
-        took = turn_took takes h.picked h.seat.kind (moment h.dispatcher.lists h.seat.end p) answer (moment h.lists h.end q) h.looks }) s h.end × (h.end.rules ≡ s.rules)) was
-        (turn_goes takes h.picked h.seat.kind (moment h.dispatcher.lists h.seat.end p) answer (moment h.lists h.end q) (sound h.seat h.seat_is) h.looks,
-        turn_rules takes h.picked h.seat.kind (moment h.dispatcher.lists h.seat.end p) answer (moment h.lists h.end q) h.looks))
+        (λ was. subst (λ (s : TheEnd). EndGoes (record {
+          sent = reply_in s.rules answer;
+          handled = map call_of (call_in answer);
+          put = [];
+          took = turn_took takes h.picked h.seat.kind (moment h.dispatcher.lists h.seat.end p) answer (moment h.lists h.end q) h.looks;
+        }) s h.end × (h.end.rules ≡ s.rules)) was (
+          turn_goes takes h.picked h.seat.kind (moment h.dispatcher.lists h.seat.end p) answer (moment h.lists h.end q) (sound h.seat h.seat_is) h.looks,
+          turn_rules takes h.picked h.seat.kind (moment h.dispatcher.lists h.seat.end p) answer (moment h.lists h.end q) h.looks,
+        ))
 
 -- ---- one event
 
@@ -371,17 +379,25 @@ module _ {S : Type 0} (w : Ways S) (jobs : List Job) (name : EndId) (e : ℕ) wh
   turned_goes : (d : ℕ) (n : EndId) (from : Inlet) (answer : TurnAnswer) (s m : TheRun S) (x : TheEnd) → IsHere name e x s.core → IsSoundAt s n → (f : ℕ) → place_of s.core n ≡ Some f
       → (h : TurnsOver w d f from (Ok answer) s m) → WentOn name e (event_traffic x.rules (turned d n from answer) [] (turns_took w d f from answer s m h)) x.rules x m.core
   turned_goes d n from answer s m x here sound f at h =
-      subst (λ (xs : List Frag). WentOn name e (record { sent = if same_end n name then reply_in x.rules answer else []; handled = map call_of (if same_end n name then call_in answer else []); put = xs;
-      took = if same_end n name then turns_took w d f from answer s m h else [] }) x.rules x m.core)
+      subst (λ (xs : List Frag). WentOn name e (record {
+        sent = if same_end n name then reply_in x.rules answer else [];
+        handled = map call_of (if same_end n name then call_in answer else []);
+        put = xs;
+        took = if same_end n name then turns_took w d f from answer s m h else [];
+      }) x.rules x m.core)
       (sym (none_by (same_end n name)))
       (plain_rules n _ x m.core (by from h)) where
-    by : (o : Inlet) → (g : TurnsOver w d f o (Ok answer) s m)
-        → WentOn name e (record { sent = if same_end n name then reply_in x.rules answer else []; handled = map call_of (if same_end n name then call_in answer else []); put = [];
-        took = if same_end n name then turns_took w d f o answer s m g else [] }) (if same_end n name then x.rules else x.rules) x m.core
-    by (inlet.Queue i) g = turns_at name e x s.core here w n f at QueueTakes d g.before g.after answer m.core.board m.core (sound_there s n f at sound) g.event.event refl (ap (λ (y : TheCore). y.places) g.event.rest)
-    by (inlet.Side i) g = turns_at name e x s.core here w n f at w.takes d g.before g.after answer m.core.board m.core (sound_there s n f at sound) g.event.event refl (ap (λ (y : TheCore). y.places) g.event.rest)
-    by inlet.Arrivals g =
-        turns_at name e x s.core here w n f at QueueTakes d g.event.before g.event.after answer m.core.board m.core (sound_there s n f at sound) g.event.event refl (ap (λ (y : TheCore). y.places) g.event.rest)
+        by : (o : Inlet) → (g : TurnsOver w d f o (Ok answer) s m)
+            → WentOn name e (record {
+              sent = if same_end n name then reply_in x.rules answer else [];
+              handled = map call_of (if same_end n name then call_in answer else []);
+              put = [];
+              took = if same_end n name then turns_took w d f o answer s m g else [];
+            }) (if same_end n name then x.rules else x.rules) x m.core
+        by (inlet.Queue i) g = turns_at name e x s.core here w n f at QueueTakes d g.before g.after answer m.core.board m.core (sound_there s n f at sound) g.event.event refl (ap (λ (y : TheCore). y.places) g.event.rest)
+        by (inlet.Side i) g = turns_at name e x s.core here w n f at w.takes d g.before g.after answer m.core.board m.core (sound_there s n f at sound) g.event.event refl (ap (λ (y : TheCore). y.places) g.event.rest)
+        by inlet.Arrivals g =
+            turns_at name e x s.core here w n f at QueueTakes d g.event.before g.event.after answer m.core.board m.core (sound_there s n f at sound) g.event.event refl (ap (λ (y : TheCore). y.places) g.event.rest)
 
   pub does_go : (deed : Deed) (s m : TheRun S) (x : TheEnd) → IsHere name e x s.core → InPlace jobs s deed → ActsSoundly deed s → (h : Does w deed s m)
       → WentOn name e (event_traffic x.rules deed (acted_put w deed s m h) (acted_took w deed s m h)) (rules_in name x.rules deed) x m.core
@@ -420,8 +436,12 @@ module _ {S : Type 0} (w : Ways S) (jobs : List Job) (name : EndId) (e : ℕ) wh
         end = more.end;
         has = more.has;
         sits = more.sits;
-        goes = subst (λ (cs : List TheCall). EndGoes (record { sent = sent_at name x.rules (deed ∷ log); handled = cs; put = of_end name deed put ++ log_put w jobs name log h.0 t h.3;
-            took = of_end name deed took ++ log_took w jobs name log h.0 t h.3 }) x more.end)
+        goes = subst (λ (cs : List TheCall). EndGoes (record {
+          sent = sent_at name x.rules (deed ∷ log);
+          handled = cs;
+          put = of_end name deed put ++ log_put w jobs name log h.0 t h.3;
+          took = of_end name deed took ++ log_took w jobs name log h.0 t h.3;
+        }) x more.end)
             (sym (map-append call_of (handled_in name deed) (handled_at name log)))
             (goes_then x one.end more.end (sent_in name x.rules deed) (map call_of (handled_in name deed)) (sent_at name (rules_in name x.rules deed) log) (calls_handled name log)
             (of_end name deed put) (log_put w jobs name log h.0 t h.3) (of_end name deed took) (log_took w jobs name log h.0 t h.3) one.goes

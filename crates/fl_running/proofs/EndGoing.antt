@@ -1,9 +1,8 @@
 -- What each event leaves of what an end is to put, and of what it took.
-use Rattle.std.proofs.Common.{◌≡◌, ◌≢◌, refl, sym, ap, ◌∙◌, subst, ℕ, zero, suc, ◌<◌, List, [], ◌∷◌, ◌++◌, length, map, take, drop, slice_get, slice_set, arith, rules}
-use Rattle.std.proofs.Common.{Option, Some, None, IsSome, Bool, true, false, Result, Ok, Err}
+use Rattle.std.proofs.Common.{◌≡◌, refl, sym, ap, ◌∙◌, subst, ℕ, zero, suc, ◌<◌, List, [], ◌∷◌, ◌++◌, length, map, take, drop, arith, rules}
+use Rattle.std.proofs.Common.{Option, Some, None, IsSome, Result, Ok, Err}
 use Rattle.std.specs.List.{flat_map}
 use Rattle.std.specs.Option.{option_map}
-use Rattle.std.specs.declared.alloc.AllocError.{AllocError}
 use Rattle.std.proofs.lemmas.List.{append-nil, append_assoc}
 use Rattle.std.proofs.lemmas.Grind.{flat_map-append}
 use Rattle.fl_base.specs.declared.fragment.Frag.{Frag}
@@ -15,17 +14,15 @@ use Rattle.fl_link.specs.Looks.{Look}
 use Rattle.fl_core.specs.declared.answer.TurnAnswer.{TurnAnswer}
 use Rattle.fl_core.specs.declared.answer.TurnAnswer.TheVariants as turn
 use Rattle.fl_core.specs.declared.kind.Kind.{Kind}
-use Rattle.fl_core.specs.Turns.{Moment, LooksAt, TakesOne}
-use Rattle.fl_endpoint.specs.View.{TheEnd, TheOutgoing, interface_in, plan_in, frags_from, number_or_0, reply_to, nothing_to_send, begun, queued, queued_behind, queued_if, goes_on, wrote, with_call, with_written, with_part, with_handled, with_failed, bound, bound_by}
+use Rattle.fl_core.specs.Turns.{Moment, LooksAt}
+use Rattle.fl_endpoint.specs.View.{TheEnd, TheOutgoing, interface_in, plan_in, frags_from, number_or_0, reply_to, nothing_to_send, queued, queued_behind, queued_if, goes_on, wrote, with_call, with_written, with_part, with_handled, with_failed, bound, bound_by}
 use Rattle.fl_base.specs.declared.identity.MsgNo.{MsgNo}
-use Rattle.fl_endpoint.specs.Events.{Calls, Writes, Receives, SetsRule}
-use Rattle.fl_endpoint.specs.Accounts.{Sound, Sends, IsLeft, stream, stream_from, followed}
+use Rattle.fl_endpoint.specs.Events.{Calls, Writes, SetsRule}
+use Rattle.fl_endpoint.specs.Accounts.{Sound, IsLeft, stream, stream_from, followed}
 use Rattle.fl_endpoint.specs.declared.fault.EndFault.{EndFault}
 use Rattle.fl_endpoint.specs.declared.fault.EndFault.TheVariants as fault
 use Rattle.fl_endpoint.specs.declared.answer.WriteAnswer.{WriteAnswer}
 use Rattle.fl_endpoint.specs.declared.answer.WriteAnswer.TheVariants as write
-use Rattle.fl_endpoint.specs.declared.answer.ReceiveAnswer.{ReceiveAnswer}
-use Rattle.fl_endpoint.specs.declared.answer.ReceiveAnswer.TheVariants as receive
 use Rattle.fl_waitset.specs.declared.waitset.Pick.{Pick}
 use Rattle.fl_waitset.specs.declared.waitset.Pick.TheVariants as pick
 use Rattle.fl_running.specs.Logs.{call_in}
@@ -277,9 +274,10 @@ module _ {T : Type 0} (takes : T → Look → T → Type 0) where
 -- ---- an end is bound, if it wasn't
 
 bound_rests : (o : Option ℕ) (c : ℕ) (x y : TheEnd) → x.circuit ≡ o → y ≡ bound_by o c x → EndGoes still x y × (y.rules ≡ x.rules)
-bound_rests None c x y at is =
-    (rests x y (ap (λ (z : TheEnd). z.outgoing) is) (ap (λ (z : TheEnd). z.parts) is) (ap (λ (z : TheEnd). z.program) is) (λ n some. absurd (let no : None ≡ Some n = sym at ∙ some in cc)),
-        ap (λ (z : TheEnd). z.rules) is)
+bound_rests None c x y at is = (
+  rests x y (ap (λ (z : TheEnd). z.outgoing) is) (ap (λ (z : TheEnd). z.parts) is) (ap (λ (z : TheEnd). z.program) is) (λ n some. absurd (let no : None ≡ Some n = sym at ∙ some in cc)),
+  ap (λ (z : TheEnd). z.rules) is,
+)
 bound_rests (Some before) c x y at is = (stays x y is, ap (λ (z : TheEnd). z.rules) is)
 
 pub bound_goes : (x y : TheEnd) (c : ℕ) → y ≡ bound x c → EndGoes still x y × (y.rules ≡ x.rules)

@@ -1,5 +1,5 @@
 -- What passed through a core in a log.
-use Rattle.std.proofs.Common.{◌≡◌, refl, sym, ap, ◌∙◌, subst, ℕ, List, [], ◌∷◌, ◌++◌, map, slice_get, Option, Some}
+use Rattle.std.proofs.Common.{◌≡◌, refl, sym, ap, ◌∙◌, subst, ℕ, List, [], ◌∷◌, ◌++◌, map, slice_get, Some}
 use Rattle.std.proofs.lemmas.List.{map-append, append_assoc}
 use Rattle.fl_base.specs.declared.fragment.Frag.{Frag}
 use Rattle.fl_base.specs.declared.identity.EndId.{EndId}
@@ -10,7 +10,7 @@ use Rattle.fl_hop.specs.Stretch.{Step, taken_by, put_by, taken_from, put_on}
 use Rattle.fl_hop.proofs.Lists.{at_within}
 use Rattle.fl_node.proofs.Ported.{placed_below}
 use Rattle.fl_node.specs.declared.wire.Port.{Port}
-use Rattle.fl_node.specs.declared.wire.Wire.TheVariants.{Ring}
+use Rattle.fl_node.specs.declared.wire.Wire.TheVariants.{Queues, Ring}
 use Rattle.fl_node.specs.View.{TheCore, place_of, side_of_link}
 use Rattle.fl_node.specs.Sound.{IsCore}
 use Rattle.fl_running.specs.declared.job.Job.{Job}
@@ -21,9 +21,10 @@ use Rattle.fl_running.specs.Carried.{EndGoes, traffic}
 use Rattle.fl_running.specs.Flows.{EndCarries, IsApart, SideCarries, Flows}
 use Rattle.fl_running.proofs.Seating.{sits_first}
 use Rattle.fl_running.proofs.Carrying.{IsHere, acted_put, acted_took, of_end, does_go, log_put, log_took, log_goes}
-use Rattle.fl_running.proofs.Bearing.{ring_put, ring_took, log_ring_put, log_ring_took, log_bears}
+use Rattle.fl_running.proofs.Bearing.{ring_put, log_ring_put, log_ring_took, log_bears}
 use Rattle.fl_running.proofs.Laning.{event_steps, links_put, links_took}
 use Rattle.fl_running.proofs.RingEnds.{rings_put, rings_took}
+use Rattle.fl_running.proofs.QueueEnds.{log_queue_put, log_queue_took, log_queue_bears, queues_put, queues_took}
 use Rattle.fl_running.proofs.Newcomers.{made_carries}
 use Rattle.fl_running.proofs.Apart.{side_after, stays_apart}
 use Rattle.fl_running.proofs.Growing.{Grows, does_grow}
@@ -113,6 +114,27 @@ module _ {S : Type 0} (w : Ways S) (jobs : List Job) where
         ap (λ (xs : List Frag). xs ++ log_ring_took w jobs log h.0 t h.3 i) (rings_took w jobs s h.1.0 apart_is h.1.3.core name e i p at there ring deed h.2 h.1.1)
             ∙ ap (λ (xs : List Frag). of_end name deed (acted_took w deed s h.1.0 h.1.1) ++ xs) more.1,
       )
+
+  -- ---- local queues
+
+  queue_puts : (log : List Deed) (s t : TheRun S) (h : Goes w jobs s log t) → IsApart s.core → (name : EndId) (e i a : ℕ) (p : Port) → place_of s.core name ≡ Some e → slice_get s.core.ports e ≡ Some p
+      → p.wire ≡ Queues i a → log_queue_put w jobs log s t h i ≡ log_put w jobs name log s t h
+  queue_puts [] s t h apart_is name e i a p at there wire = refl
+  queue_puts (deed ∷ log) s t h apart_is name e i a p at there wire =
+      let grown = grows deed s h.1.0 h.0 h.1.1 h.1.2 in
+      let more = queue_puts log h.0 t h.3 (stays_apart s.core h.0.core grown apart_is) name e i a p (end_stays deed s h.0 name e h.1 h.2 at) (grown.ports.0 e p there) wire in
+      ap (λ (xs : List Frag). xs ++ log_queue_put w jobs log h.0 t h.3 i) (queues_put w jobs s h.1.0 apart_is h.1.3.core name e p at there i a wire deed h.2 h.1.1)
+      ∙ ap (λ (xs : List Frag). of_end name deed (acted_put w deed s h.1.0 h.1.1) ++ xs) more
+
+  queue_takes : (log : List Deed) (s t : TheRun S) (h : Goes w jobs s log t) → IsApart s.core → (name : EndId) (e i a : ℕ) (p : Port) → place_of s.core name ≡ Some e → slice_get s.core.ports e ≡ Some p
+      → p.wire ≡ Queues a i → log_queue_took w jobs log s t h i ≡ log_took w jobs name log s t h
+  queue_takes [] s t h apart_is name e i a p at there wire = refl
+  queue_takes (deed ∷ log) s t h apart_is name e i a p at there wire =
+      let grown = grows deed s h.1.0 h.0 h.1.1 h.1.2 in
+      let more = queue_takes log h.0 t h.3 (stays_apart s.core h.0.core grown apart_is) name e i a p (end_stays deed s h.0 name e h.1 h.2 at) (grown.ports.0 e p there) wire in
+      ap (λ (xs : List Frag). xs ++ log_queue_took w jobs log h.0 t h.3 i) (queues_took w jobs s h.1.0 apart_is h.1.3.core name e p at there i a wire deed h.2 h.1.1)
+      ∙ ap (λ (xs : List Frag). of_end name deed (acted_took w deed s h.1.0 h.1.1) ++ xs) more
+
 pub flows : {S : Type 0} (w : Ways S) (jobs : List Job) (s t : TheRun S) (log : List Deed) → IsCore s.core → IsApart s.core → Goes w jobs s log t → Flows w s t log
 flows {S} w jobs s t log core apart_is h = record {
   steps = log_steps w jobs log s t h;
@@ -123,11 +145,21 @@ flows {S} w jobs s t log core apart_is h = record {
   rings = λ name e n port p at stands ring there.
       let both = ring_puts w jobs log s t h apart_is name e n port at stands ring in
       side n p (map bare (log_put w jobs name log s t h)) (log_took w jobs name log s t h) there (ap (map bare) both.0) both.1;
+  queues = λ name other d e n a b x y p at stands puts on other_stands takes there.
+      let (q, after, c) = log_queue_bears w jobs log s t h n p there in
+      record {
+        after = q;
+        after_is = after;
+        looks = c.looks;
+        led = c.led;
+        put_is = ap (map bare) (c.put_is ∙ queue_puts w jobs log s t h apart_is name d n a x at stands puts);
+        took_is = c.took_is ∙ queue_takes w jobs log s t h apart_is other e n b y on other_stands takes;
+      };
   ends = λ name e seat at there. end_carries w jobs s t log name e seat core h at there;
   made = λ name e absent at. made_carries w jobs name log s t e h absent at;
 } where
   side : (n : ℕ) (p : S) (put took : List Frag) → slice_get s.rings n ≡ Some p → map bare (log_ring_put w jobs log s t h n) ≡ put → log_ring_took w jobs log s t h n ≡ took
-      → SideCarries w put took p t.rings n
+      → SideCarries w.puts w.takes put took p t.rings n
   side n p put took there puts takes =
       let (q, after, c) = log_bears w jobs log s t h n p there in
       record {

@@ -1,6 +1,6 @@
 -- What an event leaves of a core: its links' sides stay, no end but those of circuits is new, and its arrival queues change by looks, puts and takes.
-use Rattle.std.proofs.Common.{◌≡◌, ◌≢◌, ◌==◌, refl, sym, ap, ◌∙◌, subst, ℕ, zero, suc, ◌<◌, ◌⊎◌, inl, inr, List, [], ◌∷◌, ◌++◌, length, slice_get, slice_set}
-use Rattle.std.proofs.Common.{Option, Some, None, Bool, true, false, Result, Ok, Err, arith, rules}
+use Rattle.std.proofs.Common.{◌≡◌, ◌≢◌, ◌==◌, refl, sym, ap, ◌∙◌, subst, ℕ, ◌⊎◌, inl, inr, List, [], ◌∷◌, ◌++◌, length, slice_get, slice_set}
+use Rattle.std.proofs.Common.{Option, Some, None, Bool, true, false, Result, Ok, Err, arith}
 use Rattle.std.proofs.lemmas.Bool.Decides.{nat_tests}
 use Rattle.std.proofs.lemmas.List.{length-set}
 use Rattle.fl_base.specs.declared.fragment.Frag.{Frag}
@@ -8,22 +8,18 @@ use Rattle.fl_base.specs.declared.identity.EndId.{EndId}
 use Rattle.fl_base.specs.declared.identity.LinkId.{LinkId}
 use Rattle.fl_base.specs.declared.identity.Circuit.{Circuit as Number}
 use Rattle.fl_compile.specs.declared.program.Program.{Program}
-use Rattle.fl_wire.specs.declared.fault.WireFault.{WireFault}
 use Rattle.fl_wire.specs.declared.fault.WireFault.TheVariants as wire
-use Rattle.fl_link.specs.Looks.{Look}
 use Rattle.fl_link.specs.Queue.{TheQueue, QueuePuts, QueueTakes}
-use Rattle.fl_endpoint.specs.declared.answer.WriteAnswer.{WriteAnswer}
 use Rattle.fl_hop.specs.declared.forward.Outcome.{Outcome}
 use Rattle.fl_hop.specs.declared.forward.Outcome.TheVariants.{Moved, Full, Spent}
 use Rattle.fl_core.proofs.Places.{one_stands, set_here, set_elsewhere, push_stays, push_cases}
 use Rattle.fl_core.specs.View.{TheBoard}
-use Rattle.fl_core.specs.declared.answer.TurnAnswer.{TurnAnswer}
 use Rattle.fl_monitor.specs.Routing.{given}
 use Rattle.fl_monitor.specs.Monitors.{TheMonitor}
 use Rattle.fl_monitor.specs.declared.heard.Heard.{Heard}
 use Rattle.fl_monitor.specs.declared.heard.Heard.TheVariants as outcome
 use Rattle.fl_monitor.specs.declared.message.Message.{Message}
-use Rattle.fl_node.specs.View.{TheCore, with_board, with_monitor, with_arrivals, with_circuit_port, circuit_port, new_arrivals, failed_at, with_failed, arriving_at}
+use Rattle.fl_node.specs.View.{TheCore, with_board, with_monitor, with_circuit_port, circuit_port, new_arrivals, failed_at, with_failed, arriving_at}
 use Rattle.fl_node.specs.Links.{LooksAhead, ArrivesAt, MonitorWrites}
 use Rattle.fl_node.specs.Hearing.{Offers, HearsFrag, HearsMessage, HearsAll, Follows, BindsIf}
 use Rattle.fl_node.specs.Making.{Asks, Asked}
@@ -42,12 +38,12 @@ use Rattle.fl_node.specs.declared.wire.Arriving.{Arriving}
 use Rattle.fl_node.specs.declared.wire.Lane.{Lane}
 use Rattle.fl_node.specs.declared.wire.Port.{Port}
 use Rattle.fl_node.specs.declared.wire.Wire.{Wire}
-use Rattle.fl_node.specs.declared.wire.Wire.TheVariants.{Queues, Ring, Circuit}
+use Rattle.fl_node.specs.declared.wire.Wire.TheVariants.{Circuit}
 use Rattle.fl_node.specs.declared.wire.Outlet.TheVariants as outlet
 use Rattle.fl_node.specs.declared.wire.Inlet.TheVariants as inlet
 use Rattle.fl_running.specs.Run.{Ways, TheRun}
 use Rattle.fl_running.specs.Deeds.{Deed, looked, passed, arrived, heard, said, told, opened, called, ruled, wrote, acked, turned, Does}
-use Rattle.fl_running.specs.Logs.{Looked, SidesGo}
+use Rattle.fl_running.specs.Logs.{SidesGo}
 use Rattle.fl_running.proofs.Looking.{stay, put_one, looked_of, go_same, go_then, go_one, turn_looks}
 
 abbrev pub IsCircuit : Wire → Type 0
@@ -78,25 +74,34 @@ lanes_same : (xs ys : List Lane) → ys ≡ xs → LanesStay xs ys
 lanes_same xs ys same = (ap length same, λ l lane at. (lane, ap (λ (zs : List Lane). slice_get zs l) (sym same) ∙ at, refl))
 
 lanes_then : (xs ys zs : List Lane) → LanesStay xs ys → LanesStay ys zs → LanesStay xs zs
-lanes_then xs ys zs g h = (h.0 ∙ g.0, λ l lane at.
-    let (mid, there, one) = h.1 l lane at in
-    let (before, stood, two) = g.1 l mid there in
-    (before, stood, one ∙ two))
+lanes_then xs ys zs g h = (
+  h.0 ∙ g.0,
+  λ l lane at.
+      let (mid, there, one) = h.1 l lane at in
+      let (before, stood, two) = g.1 l mid there in
+      (before, stood, one ∙ two),
+)
 
 ports_same : (xs ys : List Port) → ys ≡ xs → PortsGrow xs ys
 ports_same xs ys same = (λ e p at. ap (λ (zs : List Port). slice_get zs e) same ∙ at, λ e p at. inl (ap (λ (zs : List Port). slice_get zs e) (sym same) ∙ at))
 
 ports_then : (xs ys zs : List Port) → PortsGrow xs ys → PortsGrow ys zs → PortsGrow xs zs
-ports_then xs ys zs g h = (λ e p at. h.0 e p (g.0 e p at), λ e p at. elim (h.1 e p at) [
-  | inl there ↦ g.1 e p there
-  | inr circuit ↦ inr circuit
-])
+ports_then xs ys zs g h = (
+  λ e p at. h.0 e p (g.0 e p at),
+  λ e p at. elim (h.1 e p at) [
+    | inl there ↦ g.1 e p there
+    | inr circuit ↦ inr circuit
+  ],
+)
 
 ports_more : (xs : List Port) (q : Port) → IsCircuit q.wire → PortsGrow xs (xs ++ q ∷ [])
-ports_more xs q circuit = (push_stays xs q, λ e p at. elim (push_cases xs q e p at) [
-  | inl last ↦ inr (subst (λ (x : Port). IsCircuit x.wire) (sym last.1) circuit)
-  | inr there ↦ inl there
-])
+ports_more xs q circuit = (
+  push_stays xs q,
+  λ e p at. elim (push_cases xs q e p at) [
+    | inl last ↦ inr (subst (λ (x : Port). IsCircuit x.wire) (sym last.1) circuit)
+    | inr there ↦ inl there
+  ],
+)
 
 queues_more : (xs : List TheQueue) (q : TheQueue) → QueuesGo xs (xs ++ q ∷ [])
 queues_more xs q n p at = (p, push_stays xs q n p at, stay QueuePuts QueueTakes p p refl)

@@ -1,30 +1,23 @@
 -- What went over a core's links is what its sides placed and took; and what went over rings is what their ends put and took.
-use Rattle.std.proofs.Common.{◌≡◌, ◌≢◌, refl, sym, ap, ◌∙◌, subst, ℕ, ◌<◌, ◌==◌, if◌then◌else◌, nat_lt, List, [], ◌∷◌, ◌++◌, map, length, slice_get}
+use Rattle.std.proofs.Common.{◌≡◌, refl, sym, ap, ◌∙◌, ℕ, ◌==◌, if◌then◌else◌, nat_lt, List, [], ◌∷◌, ◌++◌, map, length, slice_get}
 use Rattle.std.proofs.Common.{Option, Some, None, Bool, true, false, Result, Ok, Err, arith}
 use Rattle.std.proofs.lemmas.Bool.Decides.{nat_tests}
 use Rattle.fl_base.specs.declared.fragment.Frag.{Frag}
 use Rattle.fl_base.specs.declared.identity.EndId.{EndId}
 use Rattle.fl_base.specs.declared.identity.LinkId.{LinkId}
-use Rattle.fl_base.specs.declared.identity.Circuit.{Circuit as Number}
 use Rattle.fl_base.specs.Control.{bare, with_circuit}
 use Rattle.fl_link.proofs.Carried.{bare-bare}
-use Rattle.fl_core.proofs.Places.{one_stands}
-use Rattle.fl_endpoint.specs.declared.fault.EndFault.{EndFault}
-use Rattle.fl_endpoint.specs.declared.answer.WriteAnswer.{WriteAnswer}
-use Rattle.fl_core.specs.declared.answer.TurnAnswer.{TurnAnswer}
 use Rattle.fl_hop.specs.declared.entry.Way.TheVariants.{Link, End}
 use Rattle.fl_hop.specs.declared.forward.Outcome.{Outcome}
 use Rattle.fl_hop.specs.declared.forward.Outcome.TheVariants.{Moved, Full, Spent}
 use Rattle.fl_hop.specs.Table.{TheCircuits}
-use Rattle.fl_hop.specs.Stretch.{Step, Deed as HopDeed, passed as hop_passed, wrote as hop_wrote, said as hop_said, heard as hop_heard, same_end, taken_from, put_on}
+use Rattle.fl_hop.specs.Stretch.{Step, Deed as HopDeed, passed as hop_passed, wrote as hop_wrote, said as hop_said, heard as hop_heard, taken_from, put_on}
 use Rattle.fl_monitor.specs.Monitors.{waiting_for}
 use Rattle.fl_monitor.specs.Routing.{given}
 use Rattle.fl_node.specs.View.{TheCore, place_of, side_of_link, outlet_of, outlet_by, inlet_of, inlet_by}
-use Rattle.fl_node.specs.Sound.{IsCore}
 use Rattle.fl_node.specs.declared.answer.MonitorAnswer.{MonitorAnswer}
 use Rattle.fl_node.specs.declared.answer.MonitorAnswer.TheVariants as heard_as
 use Rattle.fl_node.specs.declared.fault.LinkFault.{LinkFault}
-use Rattle.fl_node.specs.declared.wire.Lane.{Lane}
 use Rattle.fl_node.specs.declared.wire.Port.{Port}
 use Rattle.fl_node.specs.declared.wire.Wire.{Wire}
 use Rattle.fl_node.specs.declared.wire.Wire.TheVariants.{Queues, Ring, Circuit}
@@ -40,11 +33,9 @@ use Rattle.fl_running.specs.Deeds.{Deed, looked, passed, arrived, heard, said, t
 use Rattle.fl_running.specs.Logs.{InPlace}
 use Rattle.fl_running.specs.Flows.{IsApart}
 use Rattle.fl_running.proofs.Looking.{if_arrived, if_heard, if_said}
-use Rattle.fl_running.proofs.Carrying.{write_put, acted_put, acted_took, of_end}
+use Rattle.fl_running.proofs.Carrying.{write_put}
 use Rattle.fl_running.proofs.Bearing.{at_side, ring_put, ring_took}
 use Rattle.fl_core.specs.View.{due}
-use Rattle.fl_running.proofs.Seating.{Sits, sits_first, apart, together}
-use Rattle.fl_running.proofs.Handling.{one_end}
 
 -- ---- the steps that an event is
 

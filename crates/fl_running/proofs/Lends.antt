@@ -1,7 +1,7 @@
 -- Sides that are lent stay lent, and serve all that a core's turns ask for.
-use Rattle.std.proofs.Common.{◌≡◌, refl, sym, ap, ◌∙◌, subst, ℕ, zero, suc, ◌<◌, inl, inr, nat_lt, if◌then◌else◌, List, [], ◌∷◌, length, slice_get, slice_set}
-use Rattle.std.proofs.Common.{Option, Some, None, IsSome, Bool, true, false, Result, Ok, Err, arith, rules}
-use Rattle.std.proofs.lemmas.List.{length-set, length-map}
+use Rattle.std.proofs.Common.{◌≡◌, refl, sym, ap, ◌∙◌, subst, ℕ, zero, suc, ◌<◌, inl, inr, nat_lt, if◌then◌else◌, List, [], ◌∷◌, length, slice_get}
+use Rattle.std.proofs.Common.{Option, Some, None, IsSome, Bool, true, false, Result, Ok, Err, arith}
+use Rattle.std.proofs.lemmas.List.{length-set}
 use Rattle.std.proofs.lemmas.Option.{slice_get_within}
 use Rattle.fl_base.specs.declared.identity.EndId.{EndId}
 use Rattle.fl_base.specs.declared.identity.LinkId.{LinkId}
@@ -9,13 +9,12 @@ use Rattle.fl_waitset.specs.declared.fault.WaitFault.{WaitFault}
 use Rattle.fl_waitset.specs.declared.waitset.Pick.{Pick}
 use Rattle.fl_waitset.specs.Waiting.{next_pick}
 use Rattle.fl_link.specs.Queue.{TheQueue}
-use Rattle.fl_core.proofs.Places.{one_stands}
-use Rattle.fl_core.specs.View.{TheDispatcher, TheSeat, channel_of, end_picked, due_in, due}
+use Rattle.fl_core.specs.View.{TheDispatcher, channel_of, end_picked, due_in, due}
 use Rattle.fl_core.specs.Sound.{IsBoard}
 use Rattle.fl_hop.proofs.Cells.{less_is}
 use Rattle.fl_hop.specs.declared.forward.Outcome.TheVariants.{Moved, Full, Spent}
 use Rattle.fl_monitor.specs.Routing.{given}
-use Rattle.fl_node.specs.View.{TheCore, place_of, side_of_link, outlet_of, outlet_by, inlet_of, inlet_by, kind_of}
+use Rattle.fl_node.specs.View.{TheCore, place_of, side_of_link, outlet_of, outlet_by, inlet_of, inlet_by}
 use Rattle.fl_node.specs.Sound.{IsCore, IsWired}
 use Rattle.fl_node.specs.declared.wire.Lane.{Lane}
 use Rattle.fl_node.specs.declared.wire.Port.{Port}

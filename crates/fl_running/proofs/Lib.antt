@@ -25,5 +25,6 @@ pub mod Bearing
 pub mod Laning
 pub mod Apart
 pub mod RingEnds
+pub mod QueueEnds
 pub mod Newcomers
 pub mod Flowing

@@ -1,6 +1,6 @@
 -- Turns as a log.
-use Rattle.std.proofs.Common.{◌≡◌, ◌≢◌, refl, sym, ap, ◌∙◌, subst, ℕ, zero, suc, ◌<◌, ◌≤◌, ◌+◌, ◌==◌, if◌then◌else◌, nat_lt, ◌⊎◌, inl, inr, List, [], ◌∷◌, ◌++◌, length, slice_get, slice_set}
-use Rattle.std.proofs.Common.{Option, Some, None, Bool, true, false, Result, Ok, Err, arith, rules}
+use Rattle.std.proofs.Common.{◌≡◌, ◌≢◌, refl, sym, ap, ◌∙◌, subst, ℕ, zero, suc, ◌≤◌, ◌+◌, ◌==◌, if◌then◌else◌, nat_lt, inl, inr, List, [], ◌∷◌, ◌++◌, length, slice_set}
+use Rattle.std.proofs.Common.{Option, Some, None, Bool, true, false, Result, Ok, Err, arith}
 use Rattle.std.proofs.lemmas.Bool.Decides.{nat_tests}
 use Rattle.std.proofs.lemmas.List.{length-set}
 use Rattle.fl_base.specs.declared.fragment.Frag.{Frag}
@@ -31,7 +31,7 @@ use Rattle.fl_running.specs.declared.plan.Plan.{Plan}
 use Rattle.fl_running.specs.Run.{Ways, TheRun, next_job, lent_lane, lent_post, lent_due, lent_berth}
 use Rattle.fl_running.specs.Deeds.{Deed, looked, passed, arrived, heard, said, told, opened, called, ruled, wrote, acked, turned, Does, Happens}
 use Rattle.fl_running.specs.Steps.{Deals, ForwardsOver, Forwards, SaysOver, Says, TellsOver, Tells, may_ask, OpensIf, CallsAt, Tries, WritesFrom, Serves, AcksFrom, Acknowledges, RulesAt, awaits, TurnsIf, TurnsAt, TakesTurn}
-use Rattle.fl_running.specs.Turn.{Swept, At, ForEach, OneTurn, Turned}
+use Rattle.fl_running.specs.Turn.{Swept, At, OneTurn, Turned}
 use Rattle.fl_running.specs.Logs.{calls_of_job, LeadsTo, GoesOnOver, InPlace, Goes, handled_by, handles_in, handles, Logged}
 
 -- ---- logs join

@@ -1,6 +1,6 @@
 -- Sides of rings change by looks, puts and takes alone.
-use Rattle.std.proofs.Common.{◌≡◌, ◌≢◌, refl, sym, ap, ◌∙◌, subst, ℕ, ◌==◌, ◌⊎◌, inl, inr, List, [], ◌∷◌, ◌++◌, take, length, slice_get, slice_set}
-use Rattle.std.proofs.Common.{Option, Some, None, Bool, true, false, Result, Ok, Err, arith, rules}
+use Rattle.std.proofs.Common.{◌≡◌, ◌≢◌, refl, sym, ap, ◌∙◌, subst, ℕ, ◌==◌, inl, inr, List, [], ◌∷◌, ◌++◌, take, slice_get, slice_set}
+use Rattle.std.proofs.Common.{Some, Bool, true, false, Result, Ok, Err, arith}
 use Rattle.std.proofs.lemmas.Bool.Decides.{nat_tests}
 use Rattle.std.proofs.lemmas.List.{append-nil}
 use Rattle.std.proofs.lemmas.Grind.{flat_map-append}
@@ -19,7 +19,7 @@ use Rattle.fl_core.specs.declared.answer.AckAnswer.TheVariants as ack
 use Rattle.fl_core.specs.declared.fault.BoardFault.{BoardFault}
 use Rattle.fl_core.specs.declared.fault.BoardFault.TheVariants as board
 use Rattle.fl_core.specs.Events.{Acks}
-use Rattle.fl_core.specs.Turns.{WaitsIn, Lent, Moment, GoesOn, TakesOne, Gives, IsQuiet, Examines, LooksAt}
+use Rattle.fl_core.specs.Turns.{WaitsIn, Lent, Moment, TakesOne, Examines, LooksAt}
 use Rattle.fl_endpoint.specs.View.{TheEnd}
 use Rattle.fl_endpoint.specs.Events.{Writes, Receives}
 use Rattle.fl_endpoint.specs.declared.fault.EndFault.{EndFault}
@@ -49,8 +49,8 @@ use Rattle.fl_node.specs.declared.fault.LinkFault.TheVariants as link
 use Rattle.fl_node.specs.declared.wire.Outlet.TheVariants as outlet
 use Rattle.fl_node.specs.declared.wire.Inlet.TheVariants as inlet
 use Rattle.fl_running.specs.declared.job.Job.{Job}
-use Rattle.fl_running.specs.Run.{Ways, TheRun, AtDesk}
-use Rattle.fl_running.specs.Deeds.{Deed, looked, passed, arrived, heard, said, told, opened, called, ruled, wrote, acked, turned, OnRing, Does, Notes, Happens}
+use Rattle.fl_running.specs.Run.{Ways, TheRun}
+use Rattle.fl_running.specs.Deeds.{Deed, looked, passed, arrived, heard, said, told, opened, called, ruled, wrote, acked, turned, OnRing, Does}
 use Rattle.fl_running.specs.Logs.{Goes, Looked, Carries, SidesGo}
 use Rattle.fl_running.proofs.Aside.{rings_aside}
 

@@ -1,5 +1,5 @@
 -- Ends that are made while a core runs.
-use Rattle.std.proofs.Common.{◌≡◌, ◌≢◌, refl, sym, ap, ◌∙◌, subst, ℕ, ◌<◌, ◌⊎◌, inl, inr, ◌&&◌, nat_lt, not, is_some, if◌then◌else◌, List, [], ◌∷◌, ◌++◌, map, length, slice_get, slice_set}
+use Rattle.std.proofs.Common.{◌≡◌, ◌≢◌, refl, sym, ap, ◌∙◌, subst, ℕ, ◌<◌, ◌⊎◌, inl, inr, nat_lt, not, is_some, if◌then◌else◌, List, [], ◌∷◌, ◌++◌, map, length, slice_get, slice_set}
 use Rattle.std.proofs.Common.{Option, Some, None, Bool, true, false, Result, Ok, Err, arith}
 use Rattle.std.proofs.lemmas.Bool.{ltb-true}
 use Rattle.std.proofs.lemmas.List.{length-set}
@@ -40,19 +40,19 @@ use Rattle.fl_base.specs.declared.identity.Circuit.{Circuit as Number}
 use Rattle.fl_hop.specs.declared.forward.Outcome.{Outcome}
 use Rattle.fl_node.specs.declared.wire.Outlet.TheVariants as outlet
 use Rattle.fl_node.specs.declared.wire.Inlet.TheVariants as inlet
-use Rattle.fl_node.proofs.Named.{same_name, put_here, put_elsewhere, here_or_not}
+use Rattle.fl_node.proofs.Named.{put_here, put_elsewhere, here_or_not}
 use Rattle.fl_node.proofs.Ported.{placed_below}
 use Rattle.fl_node.proofs.Offers.{made_for, made_new}
 use Rattle.fl_running.specs.declared.job.Job.{Job}
 use Rattle.fl_running.specs.Run.{Ways, TheRun}
 use Rattle.fl_running.specs.Deeds.{Deed, looked, passed, arrived, heard, said, told, opened, called, ruled, wrote, acked, turned, Does}
 use Rattle.fl_running.specs.Logs.{InPlace, Goes, handled_in, handled_at}
-use Rattle.fl_running.specs.Carried.{Traffic, EndGoes, rules_in, rules_at, sent_in, sent_at, calls_handled, traffic}
+use Rattle.fl_running.specs.Carried.{EndGoes, rules_in, rules_at, sent_in, sent_at, calls_handled, traffic}
 use Rattle.fl_running.specs.Flows.{IsNew, EndCarries, MadeCarries}
 use Rattle.fl_running.proofs.Aside.{core_aside}
 use Rattle.fl_running.proofs.Handling.{one_end}
 use Rattle.fl_running.proofs.Seating.{HasEnd, lists_same, Sits}
-use Rattle.fl_running.proofs.Carrying.{IsHere, five, not_there, acted_put, acted_took, of_end, log_put, log_took, log_goes}
+use Rattle.fl_running.proofs.Carrying.{IsHere, five, acted_put, acted_took, of_end, log_put, log_took, log_goes}
 
 -- an end of this name was made
 record MadeAt (name : EndId) (k : TheCore) : Type 0 where
@@ -79,11 +79,11 @@ module _ (name : EndId) (k : TheCore) (core : IsCore k) (absent : Absent name k)
       → k2.places ≡ slice_set k.places (slot_of new) (Some place) → Comes k2
   one_made k2 place new x has is_new last few places = elim (here_or_not name new) [
     | inl same ↦ inr (record {
-        place = place;
-        end = x;
-        here = record { has = has; sits = sits same };
-        new = is_new;
-      })
+      place = place;
+      end = x;
+      here = record { has = has; sits = sits same };
+      new = is_new;
+    })
     | inr other ↦ inl (ap (λ (xs : List (Option ℕ)). place_in xs name) places ∙ put_elsewhere k.places new name (Some place) other ∙ absent)
   ] where
     set : List (Option ℕ)

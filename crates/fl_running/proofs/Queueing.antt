@@ -1,6 +1,5 @@
 -- Queues change by looks, puts and takes alone, and so lose nothing.
-use Rattle.std.proofs.Common.{◌≡◌, refl, sym, ap, ◌∙◌, subst, ℕ, List, [], ◌∷◌, slice_get, Some, Result, Ok}
-use Rattle.fl_link.specs.Looks.{Look}
+use Rattle.std.proofs.Common.{◌≡◌, sym, ap, ◌∙◌, subst, ℕ, List, [], ◌∷◌}
 use Rattle.fl_link.specs.Laws.{QueueLaw}
 use Rattle.fl_link.specs.Queue.{TheQueue, QueuePuts, QueueTakes}
 use Rattle.fl_hop.specs.declared.forward.Outcome.TheVariants.{Moved, Full, Spent}
@@ -10,7 +9,7 @@ use Rattle.fl_node.specs.declared.wire.Inlet.TheVariants as inlet
 use Rattle.fl_running.specs.declared.job.Job.{Job}
 use Rattle.fl_running.specs.Run.{Ways, TheRun}
 use Rattle.fl_running.specs.Deeds.{Deed, looked, passed, arrived, heard, said, told, opened, called, ruled, wrote, acked, turned, OnQueue, Does}
-use Rattle.fl_running.specs.Logs.{Goes, Looked, SidesGo}
+use Rattle.fl_running.specs.Logs.{Goes, Looked}
 use Rattle.fl_running.specs.Carried.{QueuesCarry}
 use Rattle.fl_running.proofs.Aside.{queues_aside, core_aside}
 use Rattle.fl_running.proofs.Looking.{go_same, go_then, go_one, looked_of, writes_looks, turn_looks}

@@ -1,6 +1,6 @@
 -- What a ring's side placed and took is what its end put and took.
-use Rattle.std.proofs.Common.{◌≡◌, ◌≢◌, refl, sym, ap, ◌∙◌, subst, ℕ, ◌==◌, if◌then◌else◌, List, [], ◌∷◌, ◌++◌, map, slice_get}
-use Rattle.std.proofs.Common.{Option, Some, None, Bool, true, false, Result, Ok, Err, arith}
+use Rattle.std.proofs.Common.{◌≡◌, refl, sym, ap, ◌∙◌, subst, ℕ, ◌==◌, if◌then◌else◌, List, [], ◌∷◌, slice_get}
+use Rattle.std.proofs.Common.{Option, Some, None, Bool, true, false, arith}
 use Rattle.std.proofs.lemmas.Bool.Decides.{nat_tests}
 use Rattle.fl_base.specs.declared.fragment.Frag.{Frag}
 use Rattle.fl_base.specs.declared.identity.EndId.{EndId}
@@ -11,7 +11,7 @@ use Rattle.fl_hop.specs.declared.forward.Outcome.TheVariants.{Moved, Full, Spent
 use Rattle.fl_hop.specs.Stretch.{same_end}
 use Rattle.fl_monitor.specs.Monitors.{waiting_for}
 use Rattle.fl_monitor.specs.Routing.{given}
-use Rattle.fl_node.specs.View.{TheCore, place_of, side_of_link, outlet_by, inlet_by}
+use Rattle.fl_node.specs.View.{place_of, side_of_link, outlet_by, inlet_by}
 use Rattle.fl_node.specs.Sound.{IsCore}
 use Rattle.fl_node.specs.declared.wire.Port.{Port}
 use Rattle.fl_node.specs.declared.wire.Wire.{Wire}

@@ -1,6 +1,6 @@
 -- Rules of an end are set before it handles a call, where they are its first jobs.
 use Rattle.std.proofs.Common.{◌≡◌, ◌≢◌, refl, sym, ap, ◌∙◌, subst, ℕ, zero, suc, ◌+◌, ◌==◌, ◌⊎◌, inl, inr, if◌then◌else◌, List, [], ◌∷◌, length, drop, slice_get, slice_set}
-use Rattle.std.proofs.Common.{Option, Some, None, Bool, true, false, Result, Ok, Err, arith, rules}
+use Rattle.std.proofs.Common.{Option, Some, None, Bool, true, false, Result, Ok, Err, arith}
 use Rattle.std.proofs.lemmas.Bool.Decides.{nat_tests}
 use Rattle.fl_base.specs.declared.identity.EndId.{EndId}
 use Rattle.fl_value.specs.declared.value.Call.{Call}
@@ -21,9 +21,8 @@ use Rattle.fl_running.specs.declared.job.Job.TheVariants as job
 use Rattle.fl_running.specs.Desks.{TheDesk, desk_place, advanced, with_handled, with_refusal, ChangesIf}
 use Rattle.fl_running.specs.Run.{Ways, TheRun, AtDesk, next_job}
 use Rattle.fl_running.specs.Deeds.{Deed, looked, passed, arrived, heard, said, told, opened, called, ruled, wrote, acked, turned, NotesHeard, NotesOpened, NotesCalled, NotesTurned, Notes}
-use Rattle.fl_running.specs.Steps.{is_before_calls, awaits}
+use Rattle.fl_running.specs.Steps.{is_before_calls}
 use Rattle.fl_running.specs.Logs.{InPlace, Goes, call_in, handled_in}
-use Rattle.fl_running.specs.Made.{desk_of}
 use Rattle.fl_running.specs.Carried.{sets_rule, SetsNone, RulesFirst, is_rule, HasNoRule, RulesLead, jobs_left}
 use Rattle.fl_running.proofs.Handling.{desks_stay, as_many, same_place, one_end}
 
@@ -55,9 +54,10 @@ module _ (K : TheDesk → Type 0) (lasts : Lasts K) where
 
   changes_by : (o : Option ℕ) (xs ys : List TheDesk) (change : TheDesk → TheDesk) → ((x : TheDesk) → K x → K (change x)) → ChangesIf o xs change ys → Keep K xs ys
   changes_by None xs ys change keeps h = all_stay xs ys h
-  changes_by (Some i) xs ys change keeps h =
-      (as_many (Some i) xs ys change h,
-      λ n u at. one_set xs i n h.desk u change (i == n) keeps h.desk_is refl (ap (λ (zs : List TheDesk). slice_get zs n) (sym h.rest) ∙ at))
+  changes_by (Some i) xs ys change keeps h = (
+    as_many (Some i) xs ys change h,
+    λ n u at. one_set xs i n h.desk u change (i == n) keeps h.desk_is refl (ap (λ (zs : List TheDesk). slice_get zs n) (sym h.rest) ∙ at),
+  )
 
   module _ {S : Type 0} (m t : TheRun S) where
     Kept : Type 0

@@ -1,6 +1,6 @@
 -- What an end comes to send: the calls that it made, or the replies by its rules.
-use Rattle.std.proofs.Common.{◌≡◌, ◌⊎◌, inl, inr, refl, sym, ap, ◌∙◌, subst, ℕ, zero, suc, if◌then◌else◌, List, [], ◌∷◌, ◌++◌, map, slice_get}
-use Rattle.std.proofs.Common.{Option, Some, None, Bool, true, false, Result, Ok, Err}
+use Rattle.std.proofs.Common.{◌≡◌, ◌⊎◌, inl, inr, refl, sym, ap, ◌∙◌, ℕ, zero, suc, if◌then◌else◌, List, [], ◌∷◌, ◌++◌, map, slice_get}
+use Rattle.std.proofs.Common.{Option, Some, None, Bool, true, false}
 use Rattle.std.specs.List.{list_any}
 use Rattle.std.specs.Option.{option_map}
 use Rattle.std.proofs.lemmas.List.{map-append}
@@ -10,11 +10,11 @@ use Rattle.fl_value.specs.declared.value.Call.{Call}
 use Rattle.fl_hop.specs.Stretch.{same_end}
 use Rattle.fl_core.specs.declared.answer.TurnAnswer.{TurnAnswer}
 use Rattle.fl_core.specs.declared.answer.TurnAnswer.TheVariants as turn
-use Rattle.fl_endpoint.specs.View.{is_rule, has_rules, rule_in, rule_at, reply_to}
+use Rattle.fl_endpoint.specs.View.{is_rule, has_rules, rule_in, reply_to}
 use Rattle.fl_endpoint.specs.Accounts.{followed, replies_by}
 use Rattle.fl_running.specs.Deeds.{Deed, looked, passed, arrived, heard, said, told, opened, called, ruled, wrote, acked, turned}
 use Rattle.fl_running.specs.Logs.{call_in, handled_in, handled_at}
-use Rattle.fl_running.specs.Made.{made_by, made_in, made_at}
+use Rattle.fl_running.specs.Made.{made_in, made_at}
 use Rattle.fl_running.specs.Carried.{rules_by, rules_in, rules_at, sets_rule, SetsNone, RulesFirst, reply_in, sent_in, sent_at, calls_handled}
 
 -- ---- no rules

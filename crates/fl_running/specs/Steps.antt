@@ -1,7 +1,7 @@
 -- What a core does once for each of its links, ends and dispatchers in a turn: an event or two. Where the side that it needs isn't lent,
 -- nothing happens.
 use Rattle.std.specs.Prelude.{ℕ, ◌≡◌, ◌⊎◌, ◌≤◌, ◌&&◌, not, nat_lt, Bool, true, false, List, length, is_some}
-use Rattle.std.specs.Prelude.{Option, Some, None, Result, Ok, Err}
+use Rattle.std.specs.Prelude.{Option, Some, None, Result, Ok}
 use Rattle.fl_base.specs.declared.identity.EndId.{EndId}
 use Rattle.fl_base.specs.declared.identity.LinkId.{LinkId}
 use Rattle.fl_base.specs.declared.identity.MsgNo.{MsgNo}

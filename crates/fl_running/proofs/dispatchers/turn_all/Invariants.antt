@@ -1,7 +1,6 @@
-use Rattle.std.proofs.Common.{◌≡◌}
 use Rattle.fl_running.specs.Run.{ways, run_of}
 use Rattle.fl_running.specs.Steps.{TakesTurn}
-use Rattle.fl_running.specs.Turn.{Swept, At}
+use Rattle.fl_running.specs.Turn.{Swept}
 use Rattle.fl_running.proofs.dispatchers.turn_all.Given as goal
 
 abbrev pub invariant-loop-dispatcher : goal.invariant-loop-dispatcher
