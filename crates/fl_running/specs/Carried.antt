@@ -121,7 +121,8 @@ traffic name rules log put took = record { sent = sent_at name rules log; handle
 
 -- what is sent are the calls that were made, where the end has no rules and gets none
 abbrev pub SentAreMade : Type 0
-SentAreMade = (name : EndId) (rules : List (Option ℕ)) (log : List Deed) → has_rules rules ≡ false → SetsNone name log → sent_at name rules log ≡ made_at name log
+SentAreMade = (name : EndId) (rules : List (Option ℕ)) (log : List Deed) → has_rules rules ≡ false → SetsNone name log
+    → sent_at name rules log ≡ made_at name log
 
 -- and the replies by its rules to the calls that it handled, where it made none and got its rules before
 abbrev pub SentAreReplies : Type 0

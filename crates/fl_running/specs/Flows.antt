@@ -51,7 +51,8 @@ pub record IsApart (k : TheCore) : Type 0 where
 
 -- ---- all that passed
 
--- side n, or queue n, stands there afterwards, and over looks, puts and takes it placed these fragments, with their epochs and counts set aside, and took these
+-- side n, or queue n, stands there afterwards, and over looks, puts and takes it placed these fragments, with their epochs and counts set aside, and took
+-- these
 pub record SideCarries {S : Type 0} (puts takes : S → Look → S → Type 0) (put took : List Frag) (p : S) (sides : List S) (n : ℕ) : Type 0 where
   pub after : S
   pub after_is : slice_get sides n ≡ Some after
@@ -73,14 +74,16 @@ pub record Flows {S : Type 0} (w : Ways S) (s t : TheRun S) (log : List Deed) : 
   pub rings : (name : EndId) (e n : ℕ) (port : Port) (p : S) → place_of s.core name ≡ Some e → slice_get s.core.ports e ≡ Some port → port.wire ≡ Ring n
       → slice_get s.rings n ≡ Some p → SideCarries w.puts w.takes (map bare (put name)) (took name) p t.rings n
   -- and a local queue was given what one end put, and gave what another took
-  pub queues : (name other : EndId) (d e n a b : ℕ) (x y : Port) (p : TheQueue) → place_of s.core name ≡ Some d → slice_get s.core.ports d ≡ Some x → x.wire ≡ Queues n a
+  pub queues : (name other : EndId) (d e n a b : ℕ) (x y : Port) (p : TheQueue) → place_of s.core name ≡ Some d → slice_get s.core.ports d ≡ Some x
+      → x.wire ≡ Queues n a
       → place_of s.core other ≡ Some e → slice_get s.core.ports e ≡ Some y → y.wire ≡ Queues b n
       → slice_get s.queues n ≡ Some p → SideCarries QueuePuts QueueTakes (map bare (put name)) (took other) p t.queues n
   -- so each end that was there went on
   pub ends : (name : EndId) (e : ℕ) (seat : TheSeat) → place_of s.core name ≡ Some e → slice_get s.core.board.seats e ≡ Some seat
       → EndCarries name log (put name) (took name) seat.end t.core.board.seats e
   -- and each that was made meanwhile
-  pub made : (name : EndId) (e : ℕ) → place_of s.core name ≡ None → place_of t.core name ≡ Some e → MadeCarries name log (put name) (took name) t.core.board.seats e
+  pub made : (name : EndId) (e : ℕ) → place_of s.core name ≡ None → place_of t.core name ≡ Some e
+      → MadeCarries name log (put name) (took name) t.core.board.seats e
 
 -- of a core whose sides are apart, whatever happens there
 abbrev pub LogsFlow : {S : Type 0} → Ways S → Type 0
