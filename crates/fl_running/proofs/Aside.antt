@@ -1,5 +1,5 @@
 -- What is noted at desks leaves all else.
-use Rattle.std.proofs.Common.{◌≡◌, refl, sym, ap, subst, ℕ, List, Result, Ok, Err}
+use Rattle.std.proofs.Common.{◌≡◌, refl, sym, ap, subst, ℕ, Result, Ok, Err}
 use Rattle.fl_base.specs.declared.identity.EndId.{EndId}
 use Rattle.fl_core.specs.declared.answer.TurnAnswer.{TurnAnswer}
 use Rattle.fl_core.specs.declared.answer.TurnAnswer.TheVariants as turn
@@ -10,10 +10,8 @@ use Rattle.fl_node.specs.declared.answer.MonitorAnswer.TheVariants as heard_as
 use Rattle.fl_node.specs.declared.fault.LinkFault.{LinkFault}
 use Rattle.fl_node.specs.declared.fault.OpenFault.{OpenFault}
 use Rattle.fl_node.specs.declared.fault.OpenFault.TheVariants as opening
-use Rattle.fl_node.specs.View.{TheCore}
-use Rattle.fl_link.specs.Queue.{TheQueue}
 use Rattle.fl_running.specs.Run.{TheRun}
-use Rattle.fl_running.specs.Deeds.{Deed, looked, passed, arrived, heard, said, told, opened, called, wrote, acked, turned, NotesHeard, NotesOpened, NotesCalled, NotesTurned, Notes}
+use Rattle.fl_running.specs.Deeds.{Deed, looked, passed, arrived, heard, said, told, opened, called, ruled, wrote, acked, turned, NotesHeard, NotesOpened, NotesCalled, NotesTurned, Notes}
 
 module _ {S : Type 0} (m t : TheRun S) where
   -- of the run the desks alone have changed
@@ -63,6 +61,7 @@ module _ {S : Type 0} (m t : TheRun S) where
   desks_alone (told n l answer) h = same h
   desks_alone (opened e wish answer) h = noted_opened e answer h
   desks_alone (called e c answer) h = noted_called e answer h
+  desks_alone (ruled e msg reply answer) h = h.rest
   desks_alone (wrote e out answer) h = same h
   desks_alone (acked e n answer) h = same h
   desks_alone (turned d e from answer) h = noted_turned e answer h

@@ -11,12 +11,12 @@ use Rattle.fl_tally.specs.Seats.{TheSeat, knowing}
 use Rattle.fl_running.specs.declared.job.Job.{Job}
 use Rattle.fl_running.specs.declared.plan.Plan.{Plan}
 use Rattle.fl_running.specs.declared.run.End.{End}
-use Rattle.fl_running.specs.declared.run.End.TheVariants.{Finished, Unfinished, Told}
+use Rattle.fl_running.specs.declared.run.End.TheVariants.{Finished, Unfinished}
 use Rattle.fl_running.specs.declared.run.Part.{Part}
 use Rattle.fl_running.specs.declared.word.Word.{Word}
 use Rattle.fl_running.specs.Run.{Ways, TheRun}
 use Rattle.fl_running.specs.Deeds.{TurnsOver, turned, Does}
-use Rattle.fl_running.specs.Turn.{OneTurn, Turned}
+use Rattle.fl_running.specs.Turn.{OneTurn}
 use Rattle.fl_running.specs.Words.{SaidNothing, stock}
 use Rattle.fl_running.specs.Ran.{Task, Moment, moment, Counted, TellsEnd, SomeTurns, GoesOn, CoreRan}
 use Rattle.fl_running.proofs.Stock.{quiet}

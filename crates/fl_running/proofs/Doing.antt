@@ -1,12 +1,13 @@
 -- The calls that an end made are those of its jobs that were done.
-use Rattle.std.proofs.Common.{◌≡◌, ◌≢◌, refl, sym, ap, ◌∙◌, subst, ℕ, zero, suc, ◌+◌, ◌==◌, ◌&&◌, if◌then◌else◌, nat_lt, List, [], ◌∷◌, ◌++◌, length, take, drop, slice_get, slice_set}
+use Rattle.std.proofs.Common.{◌≡◌, ◌≢◌, refl, sym, ap, ◌∙◌, subst, ℕ, zero, suc, ◌+◌, ◌==◌, if◌then◌else◌, List, [], ◌∷◌, ◌++◌, length, take, drop, slice_get, slice_set}
 use Rattle.std.proofs.Common.{Option, Some, None, IsSome, Bool, true, false, Result, Ok, Err, arith, rules}
-use Rattle.std.proofs.lemmas.List.{length-set, append-nil, append_assoc}
+use Rattle.std.proofs.lemmas.List.{append-nil, append_assoc}
 use Rattle.std.proofs.lemmas.Bool.Decides.{nat_tests}
 use Rattle.fl_base.specs.declared.identity.EndId.{EndId}
+use Rattle.fl_base.specs.declared.identity.MsgNo.{MsgNo}
 use Rattle.fl_base.specs.Prefix.{IsPrefix}
 use Rattle.fl_value.specs.Value.{TheCall}
-use Rattle.fl_core.proofs.Places.{one_stands, set_here, set_elsewhere}
+use Rattle.fl_core.proofs.Places.{set_here, set_elsewhere}
 use Rattle.fl_core.specs.declared.answer.TurnAnswer.{TurnAnswer}
 use Rattle.fl_core.specs.declared.answer.TurnAnswer.TheVariants as turn
 use Rattle.fl_endpoint.specs.declared.fault.EndFault.{EndFault}
@@ -22,10 +23,10 @@ use Rattle.fl_node.specs.View.{slot_of}
 use Rattle.fl_running.specs.declared.job.Job.{Job}
 use Rattle.fl_running.specs.declared.job.Job.TheVariants as job
 use Rattle.fl_running.specs.declared.job.Wish.{Wish}
-use Rattle.fl_running.specs.Desks.{TheDesk, desk_place, advanced, with_handled, with_refusal, ChangesDesk, ChangesIf}
+use Rattle.fl_running.specs.Desks.{TheDesk, desk_place, advanced, with_handled, with_refusal, ChangesIf}
 use Rattle.fl_running.specs.Run.{Ways, TheRun, AtDesk, next_job}
-use Rattle.fl_running.specs.Deeds.{Deed, looked, passed, arrived, heard, said, told, opened, called, wrote, acked, turned, Does, NotesHeard, NotesOpened, NotesCalled, NotesTurned, Notes, Happens}
-use Rattle.fl_running.specs.Logs.{calls_of_job, ByJob, Goes}
+use Rattle.fl_running.specs.Deeds.{Deed, looked, passed, arrived, heard, said, told, opened, called, ruled, wrote, acked, turned, NotesHeard, NotesOpened, NotesCalled, NotesTurned, Notes, Happens}
+use Rattle.fl_running.specs.Logs.{calls_of_job, InPlace, Goes}
 use Rattle.fl_running.specs.Made.{made_by, made_in, made_at, calls_of_jobs, handed_at, done_at, desk_of, handed_in, done_of, MakesItsJobs}
 use Rattle.fl_running.proofs.Handling.{desks_stay, same_place, at_slot, slots, as_many, one_end}
 
@@ -202,6 +203,13 @@ module _ {S : Type 0} (jobs : List Job) (name : EndId) (m t : TheRun S) (p : ℕ
     opens_none : (e : EndId) (wish : Wish) (d : TheDesk) → next_job jobs s e ≡ Some (job.Open wish) → e ≡ name → desk_of m name ≡ Some d → calls_of_job (next_of jobs d) ≡ []
     opens_none e wish d next one is = ap calls_of_job (sym (next_here s e d (sym desks) one is) ∙ next)
 
+    -- a rule is set
+    set_rule : (e f : EndId) (msg reply : MsgNo) → next_job jobs s e ≡ Some (job.Reply f msg reply) → AtDesk e advanced m t → After jobs name m t p at []
+    set_rule e f msg reply next h =
+        subst (λ (more : List TheCall). After jobs name m t p at more) (same_by (same_end e name))
+        (changed jobs name m t p at e advanced h []
+        (λ d one is. other_done d (advanced d) refl refl (ap calls_of_job (sym (next_here s e d (sym desks) one is) ∙ next))))
+
     asked : (e : EndId) (wish : Wish) (change : TheDesk → TheDesk) → next_job jobs s e ≡ Some (job.Open wish) → ((d : TheDesk) → (change d).jobs ≡ d.jobs)
         → ((d : TheDesk) → (change d).done ≡ d.done + 1) → AtDesk e change m t → After jobs name m t p at []
     asked e wish change next js ns h =
@@ -228,7 +236,7 @@ module _ {S : Type 0} (jobs : List Job) (name : EndId) (m t : TheRun S) (p : ℕ
     noted_turned e turn.Nothing h = nothing_new jobs name m t p at h
     noted_turned e (turn.Refused fault) h = nothing_new jobs name m t p at h
 
-    pub noted : (deed : Deed) → ByJob jobs s deed → Notes deed m t → After jobs name m t p at (made_in name deed)
+    pub noted : (deed : Deed) → InPlace jobs s deed → Notes deed m t → After jobs name m t p at (made_in name deed)
     noted (looked n l answer) by h = nothing_new jobs name m t p at h
     noted (passed n k frag c outcome) by h = nothing_new jobs name m t p at h
     noted (arrived n l frag e answer) by h = nothing_new jobs name m t p at h
@@ -237,6 +245,7 @@ module _ {S : Type 0} (jobs : List Job) (name : EndId) (m t : TheRun S) (p : ℕ
     noted (told n l answer) by h = nothing_new jobs name m t p at h
     noted (opened e wish answer) by h = noted_opened e wish answer by.0 h
     noted (called e c answer) by h = noted_called e c answer by h
+    noted (ruled e msg reply answer) by h = set_rule e by.0 msg reply by.1 h
     noted (wrote e out answer) by h = nothing_new jobs name m t p at h
     noted (acked e n answer) by h = nothing_new jobs name m t p at h
     noted (turned d e from answer) by h = noted_turned e answer h
@@ -244,7 +253,7 @@ module _ {S : Type 0} (jobs : List Job) (name : EndId) (m t : TheRun S) (p : ℕ
 -- ---- one event, and a log
 
 module _ {S : Type 0} (w : Ways S) (jobs : List Job) (name : EndId) where
-  happened : (deed : Deed) (s t : TheRun S) (p : ℕ) → desk_place s.desks name ≡ Some p → Happens w deed s t → ByJob jobs s deed
+  happened : (deed : Deed) (s t : TheRun S) (p : ℕ) → desk_place s.desks name ≡ Some p → Happens w deed s t → InPlace jobs s deed
       → Grows jobs (desk_of s name) (made_in name deed) (desk_of t name) × (desk_place t.desks name ≡ Some p)
   happened deed s t p at h by =
       let stay : h.0.desks ≡ s.desks = desks_stay w deed s h.0 h.1 in

@@ -1,28 +1,25 @@
 -- What an event leaves of a core: its links' sides stay, no end but those of circuits is new, and its arrival queues change by looks, puts and takes.
-use Rattle.std.proofs.Common.{◌≡◌, ◌≢◌, ◌==◌, refl, sym, ap, ◌∙◌, subst, ℕ, zero, suc, ◌<◌, ◌⊎◌, inl, inr, List, [], ◌∷◌, ◌++◌, length, slice_get, slice_set}
-use Rattle.std.proofs.Common.{Option, Some, None, Bool, true, false, Result, Ok, Err, arith, rules}
+use Rattle.std.proofs.Common.{◌≡◌, ◌≢◌, ◌==◌, refl, sym, ap, ◌∙◌, subst, ℕ, ◌⊎◌, inl, inr, List, [], ◌∷◌, ◌++◌, length, slice_get, slice_set}
+use Rattle.std.proofs.Common.{Option, Some, None, Bool, true, false, Result, Ok, Err, arith}
 use Rattle.std.proofs.lemmas.Bool.Decides.{nat_tests}
+use Rattle.std.proofs.lemmas.List.{length-set}
 use Rattle.fl_base.specs.declared.fragment.Frag.{Frag}
 use Rattle.fl_base.specs.declared.identity.EndId.{EndId}
 use Rattle.fl_base.specs.declared.identity.LinkId.{LinkId}
 use Rattle.fl_base.specs.declared.identity.Circuit.{Circuit as Number}
 use Rattle.fl_compile.specs.declared.program.Program.{Program}
-use Rattle.fl_wire.specs.declared.fault.WireFault.{WireFault}
 use Rattle.fl_wire.specs.declared.fault.WireFault.TheVariants as wire
-use Rattle.fl_link.specs.Looks.{Look}
 use Rattle.fl_link.specs.Queue.{TheQueue, QueuePuts, QueueTakes}
-use Rattle.fl_endpoint.specs.declared.answer.WriteAnswer.{WriteAnswer}
 use Rattle.fl_hop.specs.declared.forward.Outcome.{Outcome}
 use Rattle.fl_hop.specs.declared.forward.Outcome.TheVariants.{Moved, Full, Spent}
 use Rattle.fl_core.proofs.Places.{one_stands, set_here, set_elsewhere, push_stays, push_cases}
 use Rattle.fl_core.specs.View.{TheBoard}
-use Rattle.fl_core.specs.declared.answer.TurnAnswer.{TurnAnswer}
 use Rattle.fl_monitor.specs.Routing.{given}
 use Rattle.fl_monitor.specs.Monitors.{TheMonitor}
 use Rattle.fl_monitor.specs.declared.heard.Heard.{Heard}
 use Rattle.fl_monitor.specs.declared.heard.Heard.TheVariants as outcome
 use Rattle.fl_monitor.specs.declared.message.Message.{Message}
-use Rattle.fl_node.specs.View.{TheCore, with_board, with_monitor, with_arrivals, with_circuit_port, circuit_port, new_arrivals, failed_at, with_failed, arriving_at}
+use Rattle.fl_node.specs.View.{TheCore, with_board, with_monitor, with_circuit_port, circuit_port, new_arrivals, failed_at, with_failed, arriving_at}
 use Rattle.fl_node.specs.Links.{LooksAhead, ArrivesAt, MonitorWrites}
 use Rattle.fl_node.specs.Hearing.{Offers, HearsFrag, HearsMessage, HearsAll, Follows, BindsIf}
 use Rattle.fl_node.specs.Making.{Asks, Asked}
@@ -41,13 +38,13 @@ use Rattle.fl_node.specs.declared.wire.Arriving.{Arriving}
 use Rattle.fl_node.specs.declared.wire.Lane.{Lane}
 use Rattle.fl_node.specs.declared.wire.Port.{Port}
 use Rattle.fl_node.specs.declared.wire.Wire.{Wire}
-use Rattle.fl_node.specs.declared.wire.Wire.TheVariants.{Queues, Ring, Circuit}
+use Rattle.fl_node.specs.declared.wire.Wire.TheVariants.{Circuit}
 use Rattle.fl_node.specs.declared.wire.Outlet.TheVariants as outlet
 use Rattle.fl_node.specs.declared.wire.Inlet.TheVariants as inlet
 use Rattle.fl_running.specs.Run.{Ways, TheRun}
-use Rattle.fl_running.specs.Deeds.{Deed, looked, passed, arrived, heard, said, told, opened, called, wrote, acked, turned, Does}
-use Rattle.fl_running.specs.Logs.{Looked, SidesGo}
-use Rattle.fl_running.proofs.Looking.{stay, put_one, go_same, go_then, go_one, turn_looks}
+use Rattle.fl_running.specs.Deeds.{Deed, looked, passed, arrived, heard, said, told, opened, called, ruled, wrote, acked, turned, Does}
+use Rattle.fl_running.specs.Logs.{SidesGo}
+use Rattle.fl_running.proofs.Looking.{stay, put_one, looked_of, go_same, go_then, go_one, turn_looks}
 
 abbrev pub IsCircuit : Wire → Type 0
 IsCircuit (Circuit l a) = Unit {0}
@@ -57,13 +54,14 @@ IsCircuit other = ⊥
 abbrev pub QueuesGo : List TheQueue → List TheQueue → Type 0
 QueuesGo ps qs = SidesGo QueuePuts QueueTakes ps qs
 
--- of lanes: each has the side that it had
+-- of lanes: there are as many, and each has the side that it had
 abbrev pub LanesStay : List Lane → List Lane → Type 0
-LanesStay xs ys = (l : ℕ) (lane : Lane) → slice_get ys l ≡ Some lane → (before : Lane) × (slice_get xs l ≡ Some before) × (lane.side ≡ before.side)
+LanesStay xs ys = (length ys ≡ length xs) × ((l : ℕ) (lane : Lane) → slice_get ys l ≡ Some lane → (before : Lane) × (slice_get xs l ≡ Some before) × (lane.side ≡ before.side))
 
--- of ports: each is one of before, or a circuit's
+-- of ports: each of before stands, and each is one of before, or a circuit's
 abbrev pub PortsGrow : List Port → List Port → Type 0
-PortsGrow xs ys = (e : ℕ) (p : Port) → slice_get ys e ≡ Some p → (slice_get xs e ≡ Some p) ⊎ IsCircuit p.wire
+PortsGrow xs ys = ((e : ℕ) (p : Port) → slice_get xs e ≡ Some p → slice_get ys e ≡ Some p)
+    × ((e : ℕ) (p : Port) → slice_get ys e ≡ Some p → (slice_get xs e ≡ Some p) ⊎ IsCircuit p.wire)
 
 pub record Grows (k k2 : TheCore) : Type 0 where
   pub lanes : LanesStay k.lanes k2.lanes
@@ -73,28 +71,37 @@ pub record Grows (k k2 : TheCore) : Type 0 where
 -- ---- parts
 
 lanes_same : (xs ys : List Lane) → ys ≡ xs → LanesStay xs ys
-lanes_same xs ys same l lane at = (lane, ap (λ (zs : List Lane). slice_get zs l) (sym same) ∙ at, refl)
+lanes_same xs ys same = (ap length same, λ l lane at. (lane, ap (λ (zs : List Lane). slice_get zs l) (sym same) ∙ at, refl))
 
 lanes_then : (xs ys zs : List Lane) → LanesStay xs ys → LanesStay ys zs → LanesStay xs zs
-lanes_then xs ys zs g h l lane at =
-    let (mid, there, one) = h l lane at in
-    let (before, stood, two) = g l mid there in
-    (before, stood, one ∙ two)
+lanes_then xs ys zs g h = (
+  h.0 ∙ g.0,
+  λ l lane at.
+      let (mid, there, one) = h.1 l lane at in
+      let (before, stood, two) = g.1 l mid there in
+      (before, stood, one ∙ two),
+)
 
 ports_same : (xs ys : List Port) → ys ≡ xs → PortsGrow xs ys
-ports_same xs ys same e p at = inl (ap (λ (zs : List Port). slice_get zs e) (sym same) ∙ at)
+ports_same xs ys same = (λ e p at. ap (λ (zs : List Port). slice_get zs e) same ∙ at, λ e p at. inl (ap (λ (zs : List Port). slice_get zs e) (sym same) ∙ at))
 
 ports_then : (xs ys zs : List Port) → PortsGrow xs ys → PortsGrow ys zs → PortsGrow xs zs
-ports_then xs ys zs g h e p at = elim (h e p at) [
-  | inl there ↦ g e p there
-  | inr circuit ↦ inr circuit
-]
+ports_then xs ys zs g h = (
+  λ e p at. h.0 e p (g.0 e p at),
+  λ e p at. elim (h.1 e p at) [
+    | inl there ↦ g.1 e p there
+    | inr circuit ↦ inr circuit
+  ],
+)
 
 ports_more : (xs : List Port) (q : Port) → IsCircuit q.wire → PortsGrow xs (xs ++ q ∷ [])
-ports_more xs q circuit e p at = elim (push_cases xs q e p at) [
-  | inl last ↦ inr (subst (λ (x : Port). IsCircuit x.wire) (sym last.1) circuit)
-  | inr there ↦ inl there
-]
+ports_more xs q circuit = (
+  push_stays xs q,
+  λ e p at. elim (push_cases xs q e p at) [
+    | inl last ↦ inr (subst (λ (x : Port). IsCircuit x.wire) (sym last.1) circuit)
+    | inr there ↦ inl there
+  ],
+)
 
 queues_more : (xs : List TheQueue) (q : TheQueue) → QueuesGo xs (xs ++ q ∷ [])
 queues_more xs q n p at = (p, push_stays xs q n p at, stay QueuePuts QueueTakes p p refl)
@@ -114,8 +121,9 @@ set_lane xs i l there after lane false at side same is =
 
 fails_by : (xs : List Lane) (i : ℕ) (o : Option Lane) → slice_get xs i ≡ o
     → LanesStay xs (given o xs λ (lane : Lane). slice_set xs i (record { side = lane.side; failed = true }))
-fails_by xs i None at l lane is = (lane, is, refl)
-fails_by xs i (Some there) at l lane is = set_lane xs i l there (record { side = there.side; failed = true }) lane (i == l) at refl refl is
+fails_by xs i None at = (refl, λ l lane is. (lane, is, refl))
+fails_by xs i (Some there) at =
+    (length-set xs i (record { side = there.side; failed = true }), λ l lane is. set_lane xs i l there (record { side = there.side; failed = true }) lane (i == l) at refl refl is)
 
 lanes_fail : (xs : List Lane) (i : ℕ) → LanesStay xs (failed_at xs i)
 lanes_fail xs i = fails_by xs i (slice_get xs i) refl
@@ -179,7 +187,7 @@ arrives_grows : {S : Type 0} (w : Ways S) (l : ℕ) (frag : Frag) (e : EndId) (k
 arrives_grows w l frag e k p (Ok result) k2 q h = subst (λ (x : TheCore). Grows k x) (sym h.rest) (record {
   lanes = lanes_same k.lanes k.lanes refl;
   ports = ports_same k.ports k.ports refl;
-  arrivals = go_one QueuePuts QueueTakes k.arrivals h.queue h.before h.after h.before_is (put_one QueuePuts QueueTakes h.before h.after _ h.puts);
+  arrivals = go_one QueuePuts QueueTakes k.arrivals h.queue h.before h.after h.before_is (looked_of QueuePuts QueueTakes _ _ _ _ (put_one QueuePuts QueueTakes h.before h.after _ h.puts));
 })
 arrives_grows w l frag e k p (Err link.Astray) k2 q h = grows_fail k k2 l h.1
 arrives_grows w l frag e k p (Err link.Failed) k2 q h = absurd h
@@ -253,6 +261,7 @@ does_grow w (said n l answer) s m h = says_grow w l.0 s.core h.before answer m.c
 does_grow w (told n l answer) s m h = grows_same s.core m.core h.event.1
 does_grow w (opened name wish answer) s m h = asks_grow _ s.core answer m.core h.event.asks
 does_grow w (called name c answer) s m h = grows_board s.core m.core m.core.board h.2.event.rest
+does_grow w (ruled name msg reply answer) s m h = grows_board s.core m.core m.core.board h.2.event.rest
 does_grow w (wrote name (outlet.Queue n) answer) s m h = grows_board s.core m.core m.core.board h.2.event.rest
 does_grow w (wrote name (outlet.Side n) answer) s m h = grows_board s.core m.core m.core.board h.2.event.rest
 does_grow w (acked name n answer) s m h = grows_same s.core m.core h.2.event.1
@@ -262,5 +271,5 @@ does_grow w (turned d name inlet.Arrivals answer) s m h = subst (λ (x : TheCore
   lanes = lanes_same s.core.lanes s.core.lanes refl;
   ports = ports_same s.core.ports s.core.ports refl;
   arrivals = go_one QueuePuts QueueTakes s.core.arrivals h.3.event.place h.3.event.before h.3.event.after h.3.event.before_is
-      (turn_looks QueuePuts QueueTakes h.3.event.event.picked h.3.event.event.seat.kind _ (Ok answer) _ h.3.event.event.looks);
+      (looked_of QueuePuts QueueTakes _ _ _ _ (turn_looks QueuePuts QueueTakes h.3.event.event.picked h.3.event.event.seat.kind _ answer _ h.3.event.event.looks));
 })

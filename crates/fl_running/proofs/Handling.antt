@@ -24,9 +24,9 @@ use Rattle.fl_node.specs.declared.wire.Outlet.TheVariants as outlet
 use Rattle.fl_node.specs.declared.wire.Inlet.TheVariants as inlet
 use Rattle.fl_node.specs.View.{most_bindings, side_number, slot_of}
 use Rattle.fl_running.specs.declared.job.Job.{Job}
-use Rattle.fl_running.specs.Desks.{TheDesk, desk_place, advanced, with_handled, with_refusal, ChangesDesk, ChangesIf}
+use Rattle.fl_running.specs.Desks.{TheDesk, desk_place, advanced, with_handled, with_refusal, ChangesIf}
 use Rattle.fl_running.specs.Run.{Ways, TheRun, AtDesk}
-use Rattle.fl_running.specs.Deeds.{Deed, looked, passed, arrived, heard, said, told, opened, called, wrote, acked, turned, Does, NotesHeard, NotesOpened, NotesCalled, NotesTurned, Notes, Happens}
+use Rattle.fl_running.specs.Deeds.{Deed, looked, passed, arrived, heard, said, told, opened, called, ruled, wrote, acked, turned, Does, NotesHeard, NotesOpened, NotesCalled, NotesTurned, Notes, Happens}
 use Rattle.fl_running.specs.Logs.{Goes, call_in, handled_in, handled_at, in_desk, handled_of}
 
 -- ---- events of a core leave the desks
@@ -42,6 +42,7 @@ desks_stay w (said n l answer) s m h = ap (λ (x : TheRun _). x.desks) h.rest
 desks_stay w (told n l answer) s m h = ap (λ (x : TheRun _). x.desks) h.rest
 desks_stay w (opened name wish answer) s m h = ap (λ (x : TheRun _). x.desks) h.rest
 desks_stay w (called name c answer) s m h = ap (λ (x : TheRun _). x.desks) h.2.rest
+desks_stay w (ruled name msg reply answer) s m h = ap (λ (x : TheRun _). x.desks) h.2.rest
 desks_stay w (wrote name (outlet.Queue n) answer) s m h = ap (λ (x : TheRun _). x.desks) h.2.rest
 desks_stay w (wrote name (outlet.Side n) answer) s m h = ap (λ (x : TheRun _). x.desks) h.2.rest
 desks_stay w (acked name n answer) s m h = ap (λ (x : TheRun _). x.desks) h.2.rest
@@ -229,6 +230,7 @@ module _ {S : Type 0} (name : EndId) (m t : TheRun S) (p : ℕ) (at : desk_place
   noted (told n l answer) h = nothing_new h
   noted (opened e wish answer) h = noted_opened e answer h
   noted (called e c answer) h = noted_called e answer h
+  noted (ruled e msg reply answer) h = quiet_change e advanced (λ d. refl) h
   noted (wrote e out answer) h = nothing_new h
   noted (acked e n answer) h = nothing_new h
   noted (turned d e from answer) h = noted_turned e answer h

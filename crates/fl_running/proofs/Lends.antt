@@ -1,7 +1,7 @@
 -- Sides that are lent stay lent, and serve all that a core's turns ask for.
-use Rattle.std.proofs.Common.{◌≡◌, refl, sym, ap, ◌∙◌, subst, ℕ, zero, suc, ◌<◌, inl, inr, nat_lt, if◌then◌else◌, List, [], ◌∷◌, length, slice_get, slice_set}
-use Rattle.std.proofs.Common.{Option, Some, None, IsSome, Bool, true, false, Result, Ok, Err, arith, rules}
-use Rattle.std.proofs.lemmas.List.{length-set, length-map}
+use Rattle.std.proofs.Common.{◌≡◌, refl, sym, ap, ◌∙◌, subst, ℕ, zero, suc, ◌<◌, inl, inr, nat_lt, if◌then◌else◌, List, [], ◌∷◌, length, slice_get}
+use Rattle.std.proofs.Common.{Option, Some, None, IsSome, Bool, true, false, Result, Ok, Err, arith}
+use Rattle.std.proofs.lemmas.List.{length-set}
 use Rattle.std.proofs.lemmas.Option.{slice_get_within}
 use Rattle.fl_base.specs.declared.identity.EndId.{EndId}
 use Rattle.fl_base.specs.declared.identity.LinkId.{LinkId}
@@ -9,13 +9,12 @@ use Rattle.fl_waitset.specs.declared.fault.WaitFault.{WaitFault}
 use Rattle.fl_waitset.specs.declared.waitset.Pick.{Pick}
 use Rattle.fl_waitset.specs.Waiting.{next_pick}
 use Rattle.fl_link.specs.Queue.{TheQueue}
-use Rattle.fl_core.proofs.Places.{one_stands}
-use Rattle.fl_core.specs.View.{TheDispatcher, TheSeat, channel_of, end_picked, due_in, due}
+use Rattle.fl_core.specs.View.{TheDispatcher, channel_of, end_picked, due_in, due}
 use Rattle.fl_core.specs.Sound.{IsBoard}
 use Rattle.fl_hop.proofs.Cells.{less_is}
 use Rattle.fl_hop.specs.declared.forward.Outcome.TheVariants.{Moved, Full, Spent}
 use Rattle.fl_monitor.specs.Routing.{given}
-use Rattle.fl_node.specs.View.{TheCore, place_of, side_of_link, outlet_of, outlet_by, inlet_of, inlet_by, kind_of}
+use Rattle.fl_node.specs.View.{TheCore, place_of, side_of_link, outlet_of, outlet_by, inlet_of, inlet_by}
 use Rattle.fl_node.specs.Sound.{IsCore, IsWired}
 use Rattle.fl_node.specs.declared.wire.Lane.{Lane}
 use Rattle.fl_node.specs.declared.wire.Port.{Port}
@@ -31,7 +30,7 @@ use Rattle.fl_running.specs.declared.lent.Due.{Due}
 use Rattle.fl_running.specs.declared.lent.Post.{Post}
 use Rattle.fl_running.specs.declared.lent.Berth.{Berth}
 use Rattle.fl_running.specs.Run.{Ways, TheRun, lent_lane, lends_out, lends_in, lent_post, lent_due, side_in, lent_berth}
-use Rattle.fl_running.specs.Deeds.{Deed, looked, passed, arrived, heard, said, told, opened, called, wrote, acked, turned, OnRing, OnQueue, Does}
+use Rattle.fl_running.specs.Deeds.{Deed, looked, passed, arrived, heard, said, told, opened, called, ruled, wrote, acked, turned, OnRing, OnQueue, Does}
 use Rattle.fl_running.specs.Logs.{Goes}
 use Rattle.fl_running.specs.Lending.{LendsWire, IsLent, LendsAll}
 use Rattle.fl_running.proofs.Aside.{rings_aside, queues_aside, core_aside}
@@ -67,6 +66,7 @@ as_many w (said n l answer) s m h = on_ring n s m _ h
 as_many w (told n l answer) s m h = on_ring n s m _ h
 as_many w (opened name wish answer) s m h = on_core s m h.rest
 as_many w (called name c answer) s m h = on_core s m h.2.rest
+as_many w (ruled name msg reply answer) s m h = on_core s m h.2.rest
 as_many w (wrote name (outlet.Queue n) answer) s m h = on_queue n s m _ h.2
 as_many w (wrote name (outlet.Side n) answer) s m h = on_ring n s m _ h.2
 as_many w (acked name n answer) s m h = on_ring n s m _ h.2
@@ -93,11 +93,11 @@ circuit_lent m (Ring side) h = absurd h
 lent_on : {S : Type 0} (s m : TheRun S) → AsMany s m → Grows s.core m.core → IsLent s → IsLent m
 lent_on s m many grows lent = record {
   lanes = λ l lane at.
-      let (before, stood, side) = grows.lanes l lane at in
+      let (before, stood, side) = grows.lanes.1 l lane at in
       let below = lent.lanes l before stood in
       let same = many.0 in
       omega (arith, below, side, same);
-  wires = λ e p at. elim (grows.ports e p at) [
+  wires = λ e p at. elim (grows.ports.1 e p at) [
     | inl stood ↦ wire_stays s m p.wire many (lent.wires e p stood)
     | inr circuit ↦ circuit_lent m p.wire circuit
   ];

@@ -19,3 +19,12 @@ pub mod Seating
 pub mod Carrying
 pub mod Queueing
 pub mod Sending
+pub mod Ruling
+pub mod Sounding
+pub mod Bearing
+pub mod Laning
+pub mod Apart
+pub mod RingEnds
+pub mod QueueEnds
+pub mod Newcomers
+pub mod Flowing

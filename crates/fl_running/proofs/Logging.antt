@@ -1,8 +1,12 @@
 -- Turns as a log.
-use Rattle.std.proofs.Common.{◌≡◌, refl, sym, ap, ◌∙◌, subst, ℕ, zero, suc, ◌<◌, ◌≤◌, ◌+◌, ◌==◌, if◌then◌else◌, nat_lt, ◌⊎◌, inl, inr, List, [], ◌∷◌, ◌++◌, length, slice_get}
-use Rattle.std.proofs.Common.{Option, Some, None, Bool, true, false, Result, Ok, Err, arith, rules}
+use Rattle.std.proofs.Common.{◌≡◌, ◌≢◌, refl, sym, ap, ◌∙◌, subst, ℕ, zero, suc, ◌≤◌, ◌+◌, ◌==◌, if◌then◌else◌, nat_lt, inl, inr, List, [], ◌∷◌, ◌++◌, length, slice_set}
+use Rattle.std.proofs.Common.{Option, Some, None, Bool, true, false, Result, Ok, Err, arith}
 use Rattle.std.proofs.lemmas.Bool.Decides.{nat_tests}
+use Rattle.std.proofs.lemmas.List.{length-set}
+use Rattle.fl_base.specs.declared.fragment.Frag.{Frag}
 use Rattle.fl_base.specs.declared.identity.EndId.{EndId}
+use Rattle.fl_base.specs.declared.identity.MsgNo.{MsgNo}
+use Rattle.fl_base.specs.Control.{circuit_of}
 use Rattle.fl_base.specs.declared.identity.LinkId.{LinkId}
 use Rattle.fl_value.specs.Value.{call_of}
 use Rattle.fl_value.specs.declared.value.Call.{Call as AnyCall}
@@ -11,7 +15,12 @@ use Rattle.fl_core.specs.declared.answer.TurnAnswer.TheVariants.{Handle, Part, R
 use Rattle.fl_node.specs.declared.answer.Ahead.{Ahead}
 use Rattle.fl_node.specs.declared.answer.Ahead.TheVariants as ahead
 use Rattle.fl_node.specs.declared.fault.LinkFault.{LinkFault}
-use Rattle.fl_node.specs.View.{place_of}
+use Rattle.fl_hop.specs.declared.entry.Way.{Way}
+use Rattle.fl_hop.specs.declared.entry.Way.TheVariants.{Link, End}
+use Rattle.fl_hop.specs.Forward.{IsOther}
+use Rattle.fl_hop.specs.Later.{way_at}
+use Rattle.fl_monitor.specs.Routing.{given}
+use Rattle.fl_node.specs.View.{TheCore, place_of, side_of_link}
 use Rattle.fl_running.specs.declared.job.Job.{Job}
 use Rattle.fl_running.specs.declared.job.Job.TheVariants as job
 use Rattle.fl_running.specs.declared.job.Wish.{Wish}
@@ -20,10 +29,10 @@ use Rattle.fl_running.specs.declared.lent.Post.{Post}
 use Rattle.fl_running.specs.declared.lent.Berth.{Berth}
 use Rattle.fl_running.specs.declared.plan.Plan.{Plan}
 use Rattle.fl_running.specs.Run.{Ways, TheRun, next_job, lent_lane, lent_post, lent_due, lent_berth}
-use Rattle.fl_running.specs.Deeds.{Deed, looked, passed, arrived, heard, said, told, opened, called, wrote, acked, turned, Happens}
-use Rattle.fl_running.specs.Steps.{Deals, ForwardsOver, Forwards, SaysOver, Says, TellsOver, Tells, may_ask, OpensIf, CallsAt, Tries, WritesFrom, Serves, AcksFrom, Acknowledges, TurnsAt, TakesTurn}
-use Rattle.fl_running.specs.Turn.{Swept, At, ForEach, OneTurn, Turned}
-use Rattle.fl_running.specs.Logs.{calls_of_job, ByJob, Goes, handled_by, handles_in, handles, Logged}
+use Rattle.fl_running.specs.Deeds.{Deed, looked, passed, arrived, heard, said, told, opened, called, ruled, wrote, acked, turned, Does, Happens}
+use Rattle.fl_running.specs.Steps.{Deals, ForwardsOver, Forwards, SaysOver, Says, TellsOver, Tells, may_ask, OpensIf, CallsAt, Tries, WritesFrom, Serves, AcksFrom, Acknowledges, RulesAt, awaits, TurnsIf, TurnsAt, TakesTurn}
+use Rattle.fl_running.specs.Turn.{Swept, At, OneTurn, Turned}
+use Rattle.fl_running.specs.Logs.{calls_of_job, LeadsTo, GoesOnOver, InPlace, Goes, handled_by, handles_in, handles, Logged}
 
 -- ---- logs join
 
@@ -56,45 +65,89 @@ plain_then w jobs s m t a b = logged_then w jobs none none none s m t (λ d. ome
 nothing : {S : Type 0} (w : Ways S) (jobs : List Job) (s t : TheRun S) → t ≡ s → Plain w jobs s t
 nothing w jobs s t same = record { log = []; goes = same; few = λ d. omega arith }
 
-one_by : {S : Type 0} (w : Ways S) (jobs : List Job) (deed : Deed) (s t : TheRun S) → ((d : ℕ) → handles_in d deed ≡ 0) → ByJob jobs s deed → Happens w deed s t → Plain w jobs s t
+one_by : {S : Type 0} (w : Ways S) (jobs : List Job) (deed : Deed) (s t : TheRun S) → ((d : ℕ) → handles_in d deed ≡ 0) → InPlace jobs s deed → Happens w deed s t → Plain w jobs s t
 one_by w jobs deed s t nobody by h =
     record { log = deed ∷ []; goes = (t, h, by, refl); few = λ d. let zero_of = nobody d in omega (arith, zero_of) }
 
 -- ---- for each link
 
+-- what a look found is in its place
+abbrev Foreseen : {S : Type 0} → ℕ → LinkId → Result Ahead LinkFault → TheRun S → Type 0
+Foreseen n l (Ok (ahead.Message frag)) m = (lent_lane m l ≡ Some n) × (circuit_of frag.control ≡ 0)
+Foreseen n l (Ok (ahead.Onward frag to c)) m = GoesOnOver m n to frag c
+Foreseen n l (Ok (ahead.Arrival frag e)) m = LeadsTo m n l frag (End e)
+Foreseen n l found m = Unit {0}
+
+module _ {S : Type 0} (s m : TheRun S) (core : m.core ≡ s.core) (many : length m.rings ≡ length s.rings) where
+  lane_stays : (n : ℕ) (l : LinkId) → lent_lane s l ≡ Some n → lent_lane m l ≡ Some n
+  lane_stays n l lane =
+      ap (λ (k : TheCore). given (side_of_link k.lanes l.0) None (λ (i : ℕ). if nat_lt i (length m.rings) then Some i else None)) core
+      ∙ ap (λ (r : ℕ). given (side_of_link s.core.lanes l.0) None (λ (i : ℕ). if nat_lt i r then Some i else None)) many ∙ lane
+
+  leads : (n : ℕ) (l : LinkId) (frag : Frag) (way : Way) → lent_lane s l ≡ Some n → circuit_of frag.control ≢ 0
+      → way_at s.core.monitor.circuits l.0 (circuit_of frag.control) ≡ Some way → IsOther s.core.monitor.circuits l.0 way → LeadsTo m n l frag way
+  leads n l frag way lane number way_is other = record {
+    lane = lane_stays n l lane;
+    number = number;
+    way_is = ap (λ (k : TheCore). way_at k.monitor.circuits l.0 (circuit_of frag.control)) core ∙ way_is;
+    other = subst (λ (k : TheCore). IsOther k.monitor.circuits l.0 way) (sym core) other;
+  }
+
+many_rings : {S : Type 0} (s m : TheRun S) (n : ℕ) (after : S) → m ≡ record s { core = m.core; rings = slice_set s.rings n after } → length m.rings ≡ length s.rings
+many_rings s m n after rest = ap (λ (x : TheRun _). length x.rings) rest ∙ length-set s.rings n after
+
+foreseen : {S : Type 0} (w : Ways S) (n : ℕ) (l : LinkId) (found : Result Ahead LinkFault) (s m : TheRun S) → lent_lane s l ≡ Some n → Does w (looked n l found) s m → Foreseen n l found m
+foreseen w n l (Ok ahead.Nothing) s m lane h = tt
+foreseen w n l (Ok ahead.Acknowledged) s m lane h = tt
+foreseen w n l (Ok (ahead.Message frag)) s m lane h = (lane_stays s m h.event.1 (many_rings s m n h.after h.rest) n l lane, h.event.0.finds.2)
+foreseen w n l (Ok (ahead.Onward frag to c)) s m lane h =
+    let f = h.event.0.seen.finds in
+    record {
+      link = l;
+      onward = h.event.0.link;
+      leads = leads s m h.event.1 (many_rings s m n h.after h.rest) n l frag (Link h.event.0.link c) lane f.2 f.3 f.5;
+      side = ap (λ (k : TheCore). side_of_link k.lanes h.event.0.link.0) h.event.1 ∙ h.event.0.side_is;
+    }
+foreseen w n l (Ok (ahead.Arrival frag e)) s m lane h =
+    let f = h.event.0.finds in
+    leads s m h.event.1 (many_rings s m n h.after h.rest) n l frag (End e) lane f.2 f.3 f.5
+foreseen w n l (Err fault) s m lane h = tt
+
 module _ {S : Type 0} (w : Ways S) (jobs : List Job) where
-  one : (deed : Deed) (s t : TheRun S) → ((d : ℕ) → handles_in d deed ≡ 0) → ByJob jobs s deed → Happens w deed s t → Plain w jobs s t
+  one : (deed : Deed) (s t : TheRun S) → ((d : ℕ) → handles_in d deed ≡ 0) → InPlace jobs s deed → Happens w deed s t → Plain w jobs s t
   one deed s t nobody by h = one_by w jobs deed s t nobody by h
 
-  deals : (n : ℕ) (l : LinkId) (found : Result Ahead LinkFault) (s t : TheRun S) → Deals w n l found s t → Plain w jobs s t
-  deals n l (Ok ahead.Nothing) s t h = nothing w jobs s t h
-  deals n l (Ok ahead.Acknowledged) s t h = nothing w jobs s t h
-  deals n l (Ok (ahead.Message frag)) s t h = one (heard n l frag h.0) s t (λ d. refl) tt h.1
-  deals n l (Ok (ahead.Onward frag to c)) s t (inl h) = one (passed n to frag c h.0) s t (λ d. refl) tt h.1
-  deals n l (Ok (ahead.Onward frag to c)) s t (inr h) = nothing w jobs s t h.1
-  deals n l (Ok (ahead.Arrival frag e)) s t h = one (arrived n l frag e h.0) s t (λ d. refl) tt h.1
-  deals n l (Err fault) s t h = nothing w jobs s t h
+  deals : (n : ℕ) (l : LinkId) (found : Result Ahead LinkFault) (s t : TheRun S) → Foreseen n l found s → Deals w n l found s t → Plain w jobs s t
+  deals n l (Ok ahead.Nothing) s t seen h = nothing w jobs s t h
+  deals n l (Ok ahead.Acknowledged) s t seen h = nothing w jobs s t h
+  deals n l (Ok (ahead.Message frag)) s t seen h = one (heard n l frag h.0) s t (λ d. refl) seen h.1
+  deals n l (Ok (ahead.Onward frag to c)) s t seen (inl h) = one (passed n to frag c h.0) s t (λ d. refl) seen h.1
+  deals n l (Ok (ahead.Onward frag to c)) s t seen (inr h) = nothing w jobs s t h.1
+  deals n l (Ok (ahead.Arrival frag e)) s t seen h = one (arrived n l frag e h.0) s t (λ d. refl) seen h.1
+  deals n l (Err fault) s t seen h = nothing w jobs s t h
 
-  forwards_over : (l : LinkId) (o : Option ℕ) (s t : TheRun S) → ForwardsOver w l o s t → Plain w jobs s t
-  forwards_over l None s t h = nothing w jobs s t h
-  forwards_over l (Some n) s t h = plain_then w jobs s h.1 t (one (looked n l h.0) s h.1 (λ d. refl) tt h.2) (deals n l h.0 h.1 t h.3)
+  forwards_over : (l : LinkId) (o : Option ℕ) (s t : TheRun S) → lent_lane s l ≡ o → ForwardsOver w l o s t → Plain w jobs s t
+  forwards_over l None s t lane h = nothing w jobs s t h
+  forwards_over l (Some n) s t lane h =
+      let seen : Foreseen n l h.0 h.1 = subst (λ (x : TheRun S). Foreseen n l h.0 x) (sym h.2.2) (foreseen w n l h.0 s h.2.0 lane h.2.1) in
+      plain_then w jobs s h.1 t (one (looked n l h.0) s h.1 (λ d. refl) lane h.2) (deals n l h.0 h.1 t seen h.3)
 
   forwards : (l : LinkId) (s t : TheRun S) → Forwards w l s t → Plain w jobs s t
-  forwards l s t h = forwards_over l (lent_lane s l) s t h
+  forwards l s t h = forwards_over l (lent_lane s l) s t refl h
 
-  says_over : (l : LinkId) (o : Option ℕ) (s t : TheRun S) → SaysOver w l o s t → Plain w jobs s t
-  says_over l None s t h = nothing w jobs s t h
-  says_over l (Some n) s t h = one (said n l h.0) s t (λ d. refl) tt h.1
+  says_over : (l : LinkId) (o : Option ℕ) (s t : TheRun S) → lent_lane s l ≡ o → SaysOver w l o s t → Plain w jobs s t
+  says_over l None s t lane h = nothing w jobs s t h
+  says_over l (Some n) s t lane h = one (said n l h.0) s t (λ d. refl) lane h.1
 
   says : (l : LinkId) (s t : TheRun S) → Says w l s t → Plain w jobs s t
-  says l s t h = says_over l (lent_lane s l) s t h
+  says l s t h = says_over l (lent_lane s l) s t refl h
 
-  tells_over : (l : LinkId) (o : Option ℕ) (s t : TheRun S) → TellsOver w l o s t → Plain w jobs s t
-  tells_over l None s t h = nothing w jobs s t h
-  tells_over l (Some n) s t h = one (told n l h.0) s t (λ d. refl) tt h.1
+  tells_over : (l : LinkId) (o : Option ℕ) (s t : TheRun S) → lent_lane s l ≡ o → TellsOver w l o s t → Plain w jobs s t
+  tells_over l None s t lane h = nothing w jobs s t h
+  tells_over l (Some n) s t lane h = one (told n l h.0) s t (λ d. refl) lane h.1
 
   tells : (l : LinkId) (s t : TheRun S) → Tells w l s t → Plain w jobs s t
-  tells l s t h = tells_over l (lent_lane s l) s t h
+  tells l s t h = tells_over l (lent_lane s l) s t refl h
 
   -- ---- for each end
 
@@ -106,26 +159,31 @@ module _ {S : Type 0} (w : Ways S) (jobs : List Job) where
   calls name e call None s t next h = nothing w jobs s t h
   calls name e call (Some place) s t next h = one (called name (call_of call) h.0) s t (λ d. refl) (ap calls_of_job next) h.1
 
+  sets_rule : (name : EndId) (e : EndId) (msg reply : MsgNo) (o : Option ℕ) (s t : TheRun S) → next_job jobs s name ≡ Some (job.Reply e msg reply) → RulesAt w name msg reply o s t
+      → Plain w jobs s t
+  sets_rule name e msg reply None s t next h = nothing w jobs s t h
+  sets_rule name e msg reply (Some place) s t next h = one (ruled name msg reply h.0) s t (λ d. refl) (e, next) h.1
+
   tries : (name : EndId) (o : Option Job) (s t : TheRun S) → next_job jobs s name ≡ o → Tries w name o s t → Plain w jobs s t
   tries name None s t next h = nothing w jobs s t h
   tries name (Some (job.Open wish)) s t next h = opens (may_ask s wish) name wish s t next refl h
   tries name (Some (job.Call e call)) s t next h = calls name e call (place_of s.core name) s t next h
-  tries name (Some (job.Reply e msg reply)) s t next h = nothing w jobs s t h
+  tries name (Some (job.Reply e msg reply)) s t next h = sets_rule name e msg reply (place_of s.core name) s t next h
 
-  writes : (name : EndId) (o : Option Post) (s t : TheRun S) → WritesFrom w name o s t → Plain w jobs s t
-  writes name None s t h = nothing w jobs s t h
-  writes name (Some post) s t h = one (wrote name post.outlet h.0) s t (λ d. refl) tt h.1
+  writes : (name : EndId) (o : Option Post) (s t : TheRun S) → lent_post s name ≡ o → WritesFrom w name o s t → Plain w jobs s t
+  writes name None s t post h = nothing w jobs s t h
+  writes name (Some p) s t post h = one (wrote name p.outlet h.0) s t (λ d. refl) (p, post, refl) h.1
 
   serves : (name : EndId) (s t : TheRun S) → Serves w jobs name s t → Plain w jobs s t
   serves name s t h =
-      plain_then w jobs s h.0 t (tries name (next_job jobs s name) s h.0 refl h.1) (writes name (lent_post h.0 name) h.0 t h.2)
+      plain_then w jobs s h.0 t (tries name (next_job jobs s name) s h.0 refl h.1) (writes name (lent_post h.0 name) h.0 t refl h.2)
 
-  acks_from : (name : EndId) (o : Option Berth) (s t : TheRun S) → AcksFrom w name o s t → Plain w jobs s t
-  acks_from name None s t h = nothing w jobs s t h
-  acks_from name (Some berth) s t h = one (acked name berth.side h.0) s t (λ d. refl) tt h.1
+  acks_from : (name : EndId) (o : Option Berth) (s t : TheRun S) → lent_berth s name ≡ o → AcksFrom w name o s t → Plain w jobs s t
+  acks_from name None s t berth h = nothing w jobs s t h
+  acks_from name (Some b) s t berth h = one (acked name b.side h.0) s t (λ d. refl) (b, berth, refl) h.1
 
   acks : (name : EndId) (s t : TheRun S) → Acknowledges w name s t → Plain w jobs s t
-  acks name s t h = acks_from name (lent_berth s name) s t h
+  acks name s t h = acks_from name (lent_berth s name) s t refl h
 
   -- ---- sweeps
 
@@ -154,13 +212,21 @@ module _ {S : Type 0} (w : Ways S) (jobs : List Job) where
   least true = omega arith
   least false = omega arith
 
-  takes_turn : (e : ℕ) (o : Option Due) (s t : TheRun S) → TurnsAt w e o s t → Logged w jobs (λ d. if e == d then 1 else 0) s t
-  takes_turn e None s t h = record { log = []; goes = h; few = λ d. least (e == d) }
-  takes_turn e (Some due) s t h = record {
-    log = turned e h.0 due.inlet h.1 ∷ [];
-    goes = (t, h.2, tt, refl);
-    few = λ d. let most = at_most e d h.1 (e == d) in omega (arith, most);
+  takes_none : (e : ℕ) (s t : TheRun S) → t ≡ s → Logged w jobs (λ d. if e == d then 1 else 0) s t
+  takes_none e s t h = record { log = []; goes = h; few = λ d. least (e == d) }
+
+  turns_if : (b : Bool) (e : ℕ) (name : EndId) (due : Due) (s t : TheRun S) → lent_due s e ≡ Some due → place_of s.core name ≡ Some due.end → awaits jobs s name ≡ b
+      → TurnsIf w b e name due s t → Logged w jobs (λ d. if e == d then 1 else 0) s t
+  turns_if true e name due s t is place waits h = takes_none e s t h
+  turns_if false e name due s t is place waits h = record {
+    log = turned e name due.inlet h.0 ∷ [];
+    goes = (t, h.1, (due, is, place, refl, waits), refl);
+    few = λ d. let most = at_most e d h.0 (e == d) in omega (arith, most);
   }
+
+  takes_turn : (e : ℕ) (o : Option Due) (s t : TheRun S) → lent_due s e ≡ o → TurnsAt w jobs e o s t → Logged w jobs (λ d. if e == d then 1 else 0) s t
+  takes_turn e None s t is h = takes_none e s t h
+  takes_turn e (Some due) s t is h = turns_if (awaits jobs s h.0) e h.0 due s t is h.1 refl h.2
 
   below_by : (k d : ℕ) (a b c : Bool) → nat_lt d k ≡ a → (k == d) ≡ b → nat_lt d (suc k) ≡ c → (if a then 1 else 0) + (if b then 1 else 0) ≤ (if c then 1 else 0)
   below_by k d false false c la eb lc = omega (arith, least c)
@@ -173,11 +239,11 @@ module _ {S : Type 0} (w : Ways S) (jobs : List Job) where
   below : (k d : ℕ) → (if nat_lt d k then 1 else 0) + (if k == d then 1 else 0) ≤ (if nat_lt d (suc k) then 1 else 0)
   below k d = below_by k d (nat_lt d k) (k == d) (nat_lt d (suc k)) refl refl refl
 
-  turns : (k : ℕ) (s t : TheRun S) → Swept (TakesTurn w) k s t → Logged w jobs (λ d. if nat_lt d k then 1 else 0) s t
+  turns : (k : ℕ) (s t : TheRun S) → Swept (TakesTurn w jobs) k s t → Logged w jobs (λ d. if nat_lt d k then 1 else 0) s t
   turns zero s t h = record { log = []; goes = h; few = λ d. least (nat_lt d 0) }
   turns (suc k) s t h =
       logged_then w jobs (λ d. if nat_lt d k then 1 else 0) (λ d. if k == d then 1 else 0) (λ d. if nat_lt d (suc k) then 1 else 0) s h.0 t (below k)
-      (turns k s h.0 h.1) (takes_turn k (lent_due h.0 k) h.0 t h.2)
+      (turns k s h.0 h.1) (takes_turn k (lent_due h.0 k) h.0 t refl h.2)
 
   -- ---- turns of the core
 

@@ -1,6 +1,5 @@
 -- Queues change by looks, puts and takes alone, and so lose nothing.
-use Rattle.std.proofs.Common.{◌≡◌, refl, sym, ap, ◌∙◌, subst, ℕ, List, [], ◌∷◌, slice_get, Some, Result, Ok}
-use Rattle.fl_link.specs.Looks.{Look}
+use Rattle.std.proofs.Common.{◌≡◌, sym, ap, ◌∙◌, subst, ℕ, List, [], ◌∷◌}
 use Rattle.fl_link.specs.Laws.{QueueLaw}
 use Rattle.fl_link.specs.Queue.{TheQueue, QueuePuts, QueueTakes}
 use Rattle.fl_hop.specs.declared.forward.Outcome.TheVariants.{Moved, Full, Spent}
@@ -9,11 +8,11 @@ use Rattle.fl_node.specs.declared.wire.Outlet.TheVariants as outlet
 use Rattle.fl_node.specs.declared.wire.Inlet.TheVariants as inlet
 use Rattle.fl_running.specs.declared.job.Job.{Job}
 use Rattle.fl_running.specs.Run.{Ways, TheRun}
-use Rattle.fl_running.specs.Deeds.{Deed, looked, passed, arrived, heard, said, told, opened, called, wrote, acked, turned, OnQueue, Does}
-use Rattle.fl_running.specs.Logs.{Goes, Looked, SidesGo}
+use Rattle.fl_running.specs.Deeds.{Deed, looked, passed, arrived, heard, said, told, opened, called, ruled, wrote, acked, turned, OnQueue, Does}
+use Rattle.fl_running.specs.Logs.{Goes, Looked}
 use Rattle.fl_running.specs.Carried.{QueuesCarry}
 use Rattle.fl_running.proofs.Aside.{queues_aside, core_aside}
-use Rattle.fl_running.proofs.Looking.{go_same, go_then, go_one, writes_looks, turn_looks}
+use Rattle.fl_running.proofs.Looking.{go_same, go_then, go_one, looked_of, writes_looks, turn_looks}
 use Rattle.fl_running.proofs.Growing.{QueuesGo, does_grow}
 
 -- local queues
@@ -38,12 +37,13 @@ module _ {S : Type 0} (w : Ways S) where
   local_go (told n l answer) s m h = queues_stay s m (ap (λ (x : TheRun S). x.queues) h.rest)
   local_go (opened name wish answer) s m h = queues_stay s m (ap (λ (x : TheRun S). x.queues) h.rest)
   local_go (called name c answer) s m h = queues_stay s m (ap (λ (x : TheRun S). x.queues) h.2.rest)
+  local_go (ruled name msg reply answer) s m h = queues_stay s m (ap (λ (x : TheRun S). x.queues) h.2.rest)
   local_go (wrote name (outlet.Queue n) answer) s m h =
-      on_queue n s m _ h.2 (writes_looks QueuePuts QueueTakes h.2.event.writes.seat.end h.2.before answer h.2.event.writes.end h.2.after h.2.event.writes.event)
+      on_queue n s m _ h.2 (looked_of QueuePuts QueueTakes _ _ _ _ (writes_looks QueuePuts QueueTakes h.2.event.writes.seat.end h.2.before answer h.2.event.writes.end h.2.after h.2.event.writes.event))
   local_go (wrote name (outlet.Side n) answer) s m h = queues_stay s m (ap (λ (x : TheRun S). x.queues) h.2.rest)
   local_go (acked name n answer) s m h = queues_stay s m (ap (λ (x : TheRun S). x.queues) h.2.rest)
   local_go (turned d name (inlet.Queue n) answer) s m h =
-      on_queue n s m _ h.3 (turn_looks QueuePuts QueueTakes h.3.event.event.picked h.3.event.event.seat.kind _ (Ok answer) _ h.3.event.event.looks)
+      on_queue n s m _ h.3 (looked_of QueuePuts QueueTakes _ _ _ _ (turn_looks QueuePuts QueueTakes h.3.event.event.picked h.3.event.event.seat.kind _ answer _ h.3.event.event.looks))
   local_go (turned d name (inlet.Side n) answer) s m h = queues_stay s m (ap (λ (x : TheRun S). x.queues) h.3.rest)
   local_go (turned d name inlet.Arrivals answer) s m h = queues_stay s m (ap (λ (x : TheRun S). x.queues) h.3.rest)
 

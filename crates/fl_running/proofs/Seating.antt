@@ -1,22 +1,18 @@
 -- Where an end is stays, and its end goes on by what happens there alone.
-use Rattle.std.proofs.Common.{◌≡◌, ◌≢◌, refl, sym, ap, ◌∙◌, subst, ℕ, ◌<◌, ◌==◌, ◌⊎◌, inl, inr, if◌then◌else◌, List, [], ◌∷◌, ◌++◌, length, map, slice_get, slice_set, arith, rules}
-use Rattle.std.proofs.Common.{Option, Some, None, IsSome, is_some, not, ◌&&◌, nat_lt, Bool, true, false, Result, Ok, Err}
+use Rattle.std.proofs.Common.{◌≡◌, ◌≢◌, refl, sym, ap, ◌∙◌, subst, ℕ, ◌<◌, ◌==◌, ◌⊎◌, inl, inr, List, length, slice_get, slice_set, arith}
+use Rattle.std.proofs.Common.{Option, Some, None, true, false, Ok}
 use Rattle.std.proofs.lemmas.Bool.Decides.{nat_tests}
-use Rattle.std.proofs.lemmas.Bool.{ltb-true}
 use Rattle.std.proofs.lemmas.List.{length-set}
-use Rattle.std.proofs.lemmas.Option.{slice_get_within}
 use Rattle.fl_base.specs.declared.identity.EndId.{EndId}
-use Rattle.fl_link.specs.Looks.{Look}
 use Rattle.fl_lists.specs.ThreeLists.{ThreeLists}
 use Rattle.fl_hop.specs.Stretch.{same_end}
 use Rattle.fl_endpoint.specs.View.{TheEnd}
 use Rattle.fl_core.proofs.Places.{one_stands, set_here, set_elsewhere, push_stays}
-use Rattle.fl_core.specs.View.{TheSeat, TheBoard, with_end, with_lists, with_new_end}
+use Rattle.fl_core.specs.View.{TheSeat, TheBoard, with_end}
 use Rattle.fl_core.specs.declared.kind.Kind.{Kind}
-use Rattle.fl_core.specs.Events.{ChangesEnd, ChangesLists, Adds}
-use Rattle.fl_core.specs.Turns.{Over, Turns}
-use Rattle.fl_node.specs.View.{TheCore, most_bindings, slot_of, place_in, place_of, with_circuit_port}
-use Rattle.fl_node.specs.Sound.{IsCore, IsPlaced}
+use Rattle.fl_core.specs.Events.{ChangesLists, Adds}
+use Rattle.fl_node.specs.View.{TheCore, slot_of, place_in, place_of}
+use Rattle.fl_node.specs.Sound.{IsCore}
 use Rattle.fl_node.specs.Ends.{TriggersIf}
 use Rattle.fl_node.specs.declared.wire.Port.{Port}
 use Rattle.fl_node.proofs.Named.{put_here, put_elsewhere, here_or_not}

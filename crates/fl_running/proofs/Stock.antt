@@ -1,7 +1,6 @@
 -- Words and the seat, once round.
-use Rattle.std.proofs.Common.{◌≡◌, refl, sym, ◌∙◌, ℕ, zero, suc, ◌<◌, ◌&&◌, Bool, true, false, subst, nat_lt, List, length, slice_get, slice_set, Some, arith}
+use Rattle.std.proofs.Common.{◌≡◌, refl, sym, ◌∙◌, ℕ, zero, suc, ◌<◌, ◌&&◌, Bool, true, false, subst, nat_lt, List, arith}
 use Rattle.std.proofs.lemmas.Bool.{ltb-true, ltb-false}
-use Rattle.std.proofs.lemmas.List.{length-set}
 use Rattle.fl_base.specs.declared.identity.EndId.{EndId}
 use Rattle.fl_tally.specs.declared.board.View.{View}
 use Rattle.fl_tally.specs.Tally.{with_seen}

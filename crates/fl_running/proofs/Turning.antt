@@ -1,5 +1,5 @@
 -- A turn over the side that its end takes from.
-use Rattle.std.proofs.Common.{◌≡◌, refl, sym, subst, ℕ, ◌<◌, nat_lt, true, List, length, slice_get, slice_set, slice_index_or, Some, Result}
+use Rattle.std.proofs.Common.{◌≡◌, refl, sym, subst, ℕ, ◌<◌, true, length, slice_set, slice_index_or, Result}
 use Rattle.std.proofs.lemmas.Option.{slice_get_read}
 use Rattle.std.proofs.lemmas.Bool.{ltb-true}
 use Rattle.std.specs.declared.alloc.AllocError.{AllocError}

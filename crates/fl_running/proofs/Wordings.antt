@@ -1,17 +1,16 @@
 -- Words stay usable while refusals are told and learned.
-use Rattle.std.proofs.Common.{◌≡◌, ◌≢◌, refl, sym, ap, ◌∙◌, subst, ℕ, ◌<◌, ◌+◌, ◌⊎◌, inl, inr, ◌==◌, if◌then◌else◌, List, ◌∷◌, length, slice_get, slice_set, Option, Some, None, Bool, true, false, arith, rules}
+use Rattle.std.proofs.Common.{◌≡◌, ◌≢◌, sym, ap, ◌∙◌, subst, ℕ, ◌<◌, ◌+◌, ◌⊎◌, inl, inr, ◌==◌, if◌then◌else◌, List, length, slice_get, slice_set, Option, Some, None, Bool, true, false, rules}
 use Rattle.std.specs.List.{slice_index}
 use Rattle.fl_hop.proofs.Lists.{set_cases}
 use Rattle.fl_base.specs.declared.identity.EndId.{EndId}
 use Rattle.fl_node.specs.View.{place_of}
 use Rattle.fl_tally.specs.declared.board.View.{View}
-use Rattle.fl_tally.specs.declared.board.Refusal.{Refusal}
-use Rattle.fl_tally.specs.Tally.{MayTell, Agrees, times, times_told, with_stored, with_heard}
-use Rattle.fl_tally.specs.Seats.{TheSeat, knowing}
+use Rattle.fl_tally.specs.Tally.{MayTell, times, times_told, with_stored, with_heard}
+use Rattle.fl_tally.specs.Seats.{TheSeat}
 use Rattle.fl_running.specs.declared.word.Word.{Word}
 use Rattle.fl_running.specs.declared.word.Word.TheVariants.{Silent, Tells, Hears, Refused}
 use Rattle.fl_running.specs.Run.{TheRun}
-use Rattle.fl_running.specs.Words.{refusal_at, MayUse, TellsIf, TellsOf, HearsOf, Exchanges, AreWords}
+use Rattle.fl_running.specs.Words.{refusal_at, MayUse, TellsIf, HearsOf, Exchanges, AreWords}
 
 -- ---- one word is replaced
 

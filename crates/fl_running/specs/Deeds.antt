@@ -1,11 +1,12 @@
 -- One event at a core, with its answer: what a core's log is made of. By each the core and one of its sides go from how they are to how they are
 -- then, as the core's own contract says; nothing else changes.
-use Rattle.std.specs.Prelude.{ℕ, ◌≡◌, List, [], ◌∷◌, slice_get, slice_set, Option, Some, None, Result, Ok, Err}
+use Rattle.std.specs.Prelude.{ℕ, ◌≡◌, List, slice_get, slice_set, Some, Result, Ok, Err}
 use Rattle.std.specs.declared.alloc.AllocError.{AllocError}
 use Rattle.fl_base.specs.declared.fragment.Frag.{Frag}
 use Rattle.fl_base.specs.declared.identity.EndId.{EndId}
 use Rattle.fl_base.specs.declared.identity.LinkId.{LinkId}
 use Rattle.fl_base.specs.declared.identity.Circuit.{Circuit}
+use Rattle.fl_base.specs.declared.identity.MsgNo.{MsgNo}
 use Rattle.fl_compile.specs.declared.program.Program.{Program}
 use Rattle.fl_compile.specs.Programs.{program_of}
 use Rattle.fl_value.specs.Value.{TheCall}
@@ -14,14 +15,17 @@ use Rattle.fl_link.specs.Looks.{Look, placed, no_room, spent, found}
 use Rattle.fl_link.specs.Queue.{TheQueue, QueuePuts, QueueTakes}
 use Rattle.fl_endpoint.specs.declared.fault.EndFault.{EndFault}
 use Rattle.fl_endpoint.specs.declared.answer.WriteAnswer.{WriteAnswer}
-use Rattle.fl_endpoint.specs.Events.{Calls}
+use Rattle.fl_endpoint.specs.Events.{Calls, SetsRule}
+use Rattle.fl_endpoint.specs.Accounts.{Sound as IsEnd}
+use Rattle.fl_hop.specs.Joined.{Sound as IsTable}
 use Rattle.fl_hop.specs.declared.forward.Outcome.{Outcome}
 use Rattle.fl_hop.specs.declared.forward.Outcome.TheVariants.{Moved, Full, Spent}
 use Rattle.fl_core.specs.declared.answer.TurnAnswer.{TurnAnswer}
 use Rattle.fl_core.specs.declared.answer.TurnAnswer.TheVariants.{Handle}
 use Rattle.fl_core.specs.declared.answer.AckAnswer.{AckAnswer}
 use Rattle.fl_core.specs.declared.fault.BoardFault.{BoardFault}
-use Rattle.fl_core.specs.View.{due}
+use Rattle.fl_core.specs.View.{TheSeat, due}
+use Rattle.fl_core.specs.Sound.{IsBoard}
 use Rattle.fl_core.specs.Events.{ChangesEnd, Holds, Acks}
 use Rattle.fl_core.specs.Turns.{Turns, over}
 use Rattle.fl_node.specs.declared.answer.Ahead.{Ahead}
@@ -39,6 +43,7 @@ use Rattle.fl_node.specs.declared.wire.Inlet.{Inlet}
 use Rattle.fl_node.specs.declared.wire.Inlet.TheVariants as inlet
 use Rattle.fl_node.specs.View.{TheCore, place_of}
 use Rattle.fl_node.specs.Making.{asked, Asks}
+use Rattle.fl_node.specs.Sound.{IsCore}
 use Rattle.fl_node.specs.Ends.{OnBoard, OverArrivals, WritesAt}
 use Rattle.fl_node.specs.Links.{MonitorWrites, LooksAhead, ArrivesAt, Acknowledges}
 use Rattle.fl_node.specs.Hearing.{HearsFrag, TakesHeard}
@@ -61,8 +66,9 @@ pub data Deed : Type 0 where
   told : ℕ → LinkId → AckAnswer → Deed
   -- a circuit was asked for, for the client's end of this name
   opened : EndId → Wish → Result ℕ OpenFault → Deed
-  -- at an end, of this name: a call was made; a fragment was written, to where the end puts; what was taken was told, over side n
+  -- at an end, of this name: a call was made; a reply rule was set; a fragment was written, to where the end puts; what was taken was told, over side n
   called : EndId → TheCall → Result (Unit {0}) EndFault → Deed
+  ruled : EndId → MsgNo → MsgNo → Result (Unit {0}) EndFault → Deed
   wrote : EndId → Outlet → Result WriteAnswer EndFault → Deed
   acked : EndId → ℕ → Result AckAnswer BoardFault → Deed
   -- a dispatcher had a turn, at the end that was due, over where that end takes from
@@ -149,6 +155,8 @@ Does w (told n l answer) s t = OnRing n s (λ k p k2 q. Acknowledges w.takes p a
 Does w (opened name wish answer) s t = OnCore s (λ k k2. AsksFor s.offers.programs wish k answer k2) t
 Does w (called name c answer) s t =
     (e : ℕ) × IsAt s name e × OnCore s (λ k k2. OnBoard k (λ b b2. ChangesEnd b e (λ x y. Calls x c answer y) b2) k2) t
+Does w (ruled name msg reply answer) s t =
+    (e : ℕ) × IsAt s name e × OnCore s (λ k k2. OnBoard k (λ b b2. ChangesEnd b e (λ x y. SetsRule x msg.0 reply.0 answer y) b2) k2) t
 Does w (wrote name out answer) s t = (e : ℕ) × IsAt s name e × WritesOver w e out answer s t
 Does w (acked name n answer) s t =
     (e : ℕ) × IsAt s name e × OnRing n s (λ k p k2 q. Holds k.board e (λ x. Acks w.takes x.kind x.end p answer q) × (k2 ≡ k)) t
@@ -180,9 +188,29 @@ abbrev pub Notes : {S : Type 0} → Deed → TheRun S → TheRun S → Type 0
 Notes (heard n l frag answer) s t = NotesHeard answer s t
 Notes (opened name wish answer) s t = NotesOpened name answer s t
 Notes (called name c answer) s t = NotesCalled name answer s t
+-- a rule is no more a job once it was tried
+Notes (ruled name msg reply answer) s t = AtDesk name advanced s t
 Notes (turned d name from answer) s t = NotesTurned name answer s t
 Notes deed s t = t ≡ s
 
--- it is done, and noted
+-- what is known of a core at any moment
+pub record IsSound (k : TheCore) : Type 0 where
+  pub core : IsCore k
+  pub board : IsBoard k.board
+  pub table : IsTable k.monitor.circuits
+
+-- the end of this name is sound, where it is at the core
+abbrev pub IsSoundAt : {S : Type 0} → TheRun S → EndId → Type 0
+IsSoundAt s name = (e : ℕ) (seat : TheSeat) → place_of s.core name ≡ Some e → slice_get s.core.board.seats e ≡ Some seat → IsEnd seat.end
+
+-- and of the end at which it happens
+abbrev pub ActsSoundly : {S : Type 0} → Deed → TheRun S → Type 0
+ActsSoundly (called name c answer) s = IsSoundAt s name
+ActsSoundly (ruled name msg reply answer) s = IsSoundAt s name
+ActsSoundly (wrote name out answer) s = IsSoundAt s name
+ActsSoundly (turned d name from answer) s = IsSoundAt s name
+ActsSoundly deed s = Unit {0}
+
+-- it is done, by a core and an end of which that is known, and noted
 abbrev pub Happens : {S : Type 0} → Ways S → Deed → TheRun S → TheRun S → Type 0
-Happens {S} w deed s t = (m : TheRun S) × Does w deed s m × Notes deed m t
+Happens {S} w deed s t = (m : TheRun S) × Does w deed s m × Notes deed m t × IsSound s.core × ActsSoundly deed s

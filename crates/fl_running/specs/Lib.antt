@@ -11,5 +11,6 @@ pub mod Logs
 pub mod Made
 pub mod Lending
 pub mod Carried
+pub mod Flows
 -- This one only the proofs need.
 pub mod Inside

@@ -1,20 +1,32 @@
 -- A core's log: what happened there, event by event. Laws.
-use Rattle.std.specs.Prelude.{ℕ, ◌≡◌, ◌+◌, ◌≤◌, ◌==◌, if◌then◌else◌, true, List, [], ◌∷◌, ◌++◌, slice_get, Option, Some, None, IsSome}
+use Rattle.std.specs.Prelude.{ℕ, ◌≡◌, ◌≢◌, ◌+◌, ◌≤◌, ◌==◌, if◌then◌else◌, true, false, List, [], ◌∷◌, ◌++◌, slice_get, Option, Some, None, IsSome}
+use Rattle.fl_base.specs.declared.fragment.Frag.{Frag}
 use Rattle.fl_base.specs.declared.identity.EndId.{EndId}
+use Rattle.fl_base.specs.declared.identity.LinkId.{LinkId}
+use Rattle.fl_base.specs.declared.identity.Circuit.{Circuit}
+use Rattle.fl_base.specs.Control.{circuit_of}
 use Rattle.fl_value.specs.declared.value.Call.{Call}
 use Rattle.fl_value.specs.Value.{TheCall, call_of}
 use Rattle.fl_core.specs.declared.answer.TurnAnswer.{TurnAnswer}
 use Rattle.fl_core.specs.declared.answer.TurnAnswer.TheVariants.{Handle}
-use Rattle.fl_link.specs.Looks.{Look, Looks, LinkStep}
+use Rattle.fl_link.specs.Looks.{Look, Looks, LinkStep, puts_of, takes_of}
+use Rattle.fl_hop.specs.declared.entry.Way.{Way}
+use Rattle.fl_hop.specs.declared.entry.Way.TheVariants.{Link, End}
+use Rattle.fl_hop.specs.Forward.{IsOther}
+use Rattle.fl_hop.specs.Later.{way_at}
 use Rattle.fl_hop.specs.Stretch.{same_end}
 use Rattle.fl_monitor.specs.Routing.{given}
+use Rattle.fl_node.specs.View.{place_of, side_of_link}
 use Rattle.fl_running.specs.declared.job.Job.{Job}
 use Rattle.fl_running.specs.declared.job.Job.TheVariants as job
+use Rattle.fl_running.specs.declared.lent.Due.{Due}
+use Rattle.fl_running.specs.declared.lent.Post.{Post}
+use Rattle.fl_running.specs.declared.lent.Berth.{Berth}
 use Rattle.fl_running.specs.declared.plan.Plan.{Plan}
 use Rattle.fl_running.specs.Desks.{TheDesk, desk_place}
-use Rattle.fl_running.specs.Run.{Ways, TheRun, next_job}
-use Rattle.fl_running.specs.Deeds.{Deed, opened, called, turned, Happens}
-use Rattle.fl_running.specs.Steps.{may_ask}
+use Rattle.fl_running.specs.Run.{Ways, TheRun, next_job, lent_lane, lent_post, lent_due, lent_berth}
+use Rattle.fl_running.specs.Deeds.{Deed, looked, passed, arrived, heard, said, told, opened, called, ruled, wrote, acked, turned, Happens}
+use Rattle.fl_running.specs.Steps.{may_ask, awaits}
 use Rattle.fl_running.specs.Turn.{Turned}
 
 -- the call of a job that is one
@@ -22,16 +34,41 @@ abbrev pub calls_of_job : Option Job → List TheCall
 calls_of_job (Some (job.Call e call)) = call_of call ∷ []
 calls_of_job other = []
 
--- what is done for a job is done for the next one of its end
-abbrev pub ByJob : {S : Type 0} → List Job → TheRun S → Deed → Type 0
-ByJob jobs s (called name c answer) = calls_of_job (next_job jobs s name) ≡ c ∷ []
-ByJob jobs s (opened name wish answer) = (next_job jobs s name ≡ Some (job.Open wish)) × (may_ask s wish ≡ true)
-ByJob jobs s deed = Unit {0}
+-- the fragment stands on a link under a number that leads this way, as the core's table has it
+pub record LeadsTo {S : Type 0} (s : TheRun S) (n : ℕ) (l : LinkId) (frag : Frag) (way : Way) : Type 0 where
+  pub lane : lent_lane s l ≡ Some n
+  pub number : circuit_of frag.control ≢ 0
+  pub way_is : way_at s.core.monitor.circuits l.0 (circuit_of frag.control) ≡ Some way
+  pub other : IsOther s.core.monitor.circuits l.0 way
+
+-- it goes on under number c over side m, which is another link's
+pub record GoesOnOver {S : Type 0} (s : TheRun S) (n m : ℕ) (frag : Frag) (c : Circuit) : Type 0 where
+  pub link : LinkId
+  pub onward : LinkId
+  pub leads : LeadsTo s n link frag (Link onward c)
+  pub side : side_of_link s.core.lanes onward.0 ≡ Some m
+
+-- what happens there is in its place: over the side of its link, as the table of circuits leads, for the next job of its end, to and from where its end
+-- puts and takes, and at an end that waits for nothing
+abbrev pub InPlace : {S : Type 0} → List Job → TheRun S → Deed → Type 0
+InPlace jobs s (looked n l answer) = lent_lane s l ≡ Some n
+InPlace jobs s (passed n m frag c outcome) = GoesOnOver s n m frag c
+InPlace jobs s (arrived n l frag e answer) = LeadsTo s n l frag (End e)
+InPlace jobs s (heard n l frag answer) = (lent_lane s l ≡ Some n) × (circuit_of frag.control ≡ 0)
+InPlace jobs s (said n l answer) = lent_lane s l ≡ Some n
+InPlace jobs s (told n l answer) = lent_lane s l ≡ Some n
+InPlace jobs s (opened name wish answer) = (next_job jobs s name ≡ Some (job.Open wish)) × (may_ask s wish ≡ true)
+InPlace jobs s (called name c answer) = calls_of_job (next_job jobs s name) ≡ c ∷ []
+InPlace jobs s (ruled name msg reply answer) = (e : EndId) × (next_job jobs s name ≡ Some (job.Reply e msg reply))
+InPlace jobs s (wrote name out answer) = (post : Post) × (lent_post s name ≡ Some post) × (post.outlet ≡ out)
+InPlace jobs s (acked name n answer) = (berth : Berth) × (lent_berth s name ≡ Some berth) × (berth.side ≡ n)
+InPlace jobs s (turned d name from answer) =
+    (due : Due) × (lent_due s d ≡ Some due) × (place_of s.core name ≡ Some due.end) × (due.inlet ≡ from) × (awaits jobs s name ≡ false)
 
 -- the events of a log, one after another
 abbrev pub Goes : {S : Type 0} → Ways S → List Job → TheRun S → List Deed → TheRun S → Type 0
 Goes w jobs s [] t = t ≡ s
-Goes {S} w jobs s (deed ∷ log) t = (m : TheRun S) × Happens w deed s m × ByJob jobs s deed × Goes w jobs m log t
+Goes {S} w jobs s (deed ∷ log) t = (m : TheRun S) × Happens w deed s m × InPlace jobs s deed × Goes w jobs m log t
 
 -- how many calls the dispatcher of a place handled by one event, and in a log
 abbrev pub handled_by : ℕ → TurnAnswer → ℕ
@@ -89,6 +126,13 @@ DesksTellHandled {S} w = (jobs : List Job) (s t : TheRun S) (log : List Deed) (n
 -- looks, puts and takes led from one state of a side to another
 abbrev pub Looked : {S : Type 0} → (S → Look → S → Type 0) → (S → Look → S → Type 0) → S → S → Type 0
 Looked puts takes p q = (looks : List Look) × Looks (LinkStep puts takes) p looks q
+
+-- over looks, puts and takes a side placed these fragments, and took these
+pub record Carries {S : Type 0} (puts takes : S → Look → S → Type 0) (put took : List Frag) (p q : S) : Type 0 where
+  pub looks : List Look
+  pub led : Looks (LinkStep puts takes) p looks q
+  pub put_is : puts_of looks ≡ put
+  pub took_is : takes_of looks ≡ took
 
 -- each of these sides stands at its place afterwards, and changed by looks, puts and takes alone
 abbrev pub SidesGo : {S : Type 0} → (S → Look → S → Type 0) → (S → Look → S → Type 0) → List S → List S → Type 0

@@ -1,6 +1,5 @@
 -- A core's whole run: turns that are counted, and then turns that aren't.
-use Rattle.std.specs.Prelude.{ℕ, ◌≡◌, ◌+◌, ◌<◌, ◌≤◌, Bool, true, false, List}
-use Rattle.fl_tally.specs.declared.board.View.{View}
+use Rattle.std.specs.Prelude.{ℕ, ◌≡◌, ◌<◌, ◌≤◌, Bool, true, false, List}
 use Rattle.fl_tally.specs.Tally.{with_finish, with_seen}
 use Rattle.fl_tally.specs.Seats.{TheSeat, knowing}
 use Rattle.fl_running.specs.declared.job.Job.{Job}

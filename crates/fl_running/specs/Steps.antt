@@ -1,9 +1,10 @@
 -- What a core does once for each of its links, ends and dispatchers in a turn: an event or two. Where the side that it needs isn't lent,
 -- nothing happens.
 use Rattle.std.specs.Prelude.{ℕ, ◌≡◌, ◌⊎◌, ◌≤◌, ◌&&◌, not, nat_lt, Bool, true, false, List, length, is_some}
-use Rattle.std.specs.Prelude.{Option, Some, None, Result, Ok, Err}
+use Rattle.std.specs.Prelude.{Option, Some, None, Result, Ok}
 use Rattle.fl_base.specs.declared.identity.EndId.{EndId}
 use Rattle.fl_base.specs.declared.identity.LinkId.{LinkId}
+use Rattle.fl_base.specs.declared.identity.MsgNo.{MsgNo}
 use Rattle.fl_value.specs.declared.value.Call.{Call as AnyCall}
 use Rattle.fl_value.specs.Value.{call_of}
 use Rattle.fl_endpoint.specs.declared.fault.EndFault.{EndFault}
@@ -27,7 +28,7 @@ use Rattle.fl_running.specs.declared.lent.Due.{Due}
 use Rattle.fl_running.specs.declared.lent.Post.{Post}
 use Rattle.fl_running.specs.declared.lent.Berth.{Berth}
 use Rattle.fl_running.specs.Run.{Ways, TheRun, next_job, lent_lane, lent_post, lent_due, lent_berth}
-use Rattle.fl_running.specs.Deeds.{looked, passed, arrived, heard, said, told, opened, called, wrote, acked, turned, Happens}
+use Rattle.fl_running.specs.Deeds.{looked, passed, arrived, heard, said, told, opened, called, ruled, wrote, acked, turned, Happens}
 
 -- ---- for a link
 
@@ -86,12 +87,17 @@ CallsAt w name call None s t = t ≡ s
 CallsAt w name call (Some e) s t =
     (answer : Result (Unit {0}) EndFault) × Happens w (called name (call_of call) answer) s t
 
--- by the job; reply rules are set before the run
+-- a reply rule is set where its end is there
+abbrev pub RulesAt : {S : Type 0} → Ways S → EndId → MsgNo → MsgNo → Option ℕ → TheRun S → TheRun S → Type 0
+RulesAt w name msg reply None s t = t ≡ s
+RulesAt w name msg reply (Some e) s t = (answer : Result (Unit {0}) EndFault) × Happens w (ruled name msg reply answer) s t
+
+-- by the job
 abbrev pub Tries : {S : Type 0} → Ways S → EndId → Option Job → TheRun S → TheRun S → Type 0
 Tries w name None s t = t ≡ s
 Tries w name (Some (job.Open wish)) s t = OpensIf w (may_ask s wish) name wish s t
 Tries w name (Some (job.Call e call)) s t = CallsAt w name call (place_of s.core name) s t
-Tries w name (Some (job.Reply e msg reply)) s t = t ≡ s
+Tries w name (Some (job.Reply e msg reply)) s t = RulesAt w name msg reply (place_of s.core name) s t
 
 abbrev pub WritesFrom : {S : Type 0} → Ways S → EndId → Option Post → TheRun S → TheRun S → Type 0
 WritesFrom w name None s t = t ≡ s
@@ -111,10 +117,23 @@ Acknowledges w name s t = AcksFrom w name (lent_berth s name) s t
 
 -- ---- for a dispatcher: a turn
 
-abbrev pub TurnsAt : {S : Type 0} → Ways S → ℕ → Option Due → TheRun S → TheRun S → Type 0
-TurnsAt w d None s t = t ≡ s
-TurnsAt w d (Some due) s t =
-    (name : EndId) × (answer : TurnAnswer) × Happens w (turned d name due.inlet answer) s t
+-- the end is still to be opened, or a reply rule is still to be set there: it takes nothing before that
+abbrev pub is_before_calls : Option Job → Bool
+is_before_calls None = false
+is_before_calls (Some (job.Open wish)) = true
+is_before_calls (Some (job.Reply e msg reply)) = true
+is_before_calls (Some (job.Call e call)) = false
 
-abbrev pub TakesTurn : {S : Type 0} → Ways S → ℕ → TheRun S → TheRun S → Type 0
-TakesTurn w d s t = TurnsAt w d (lent_due s d) s t
+abbrev pub awaits : {S : Type 0} → List Job → TheRun S → EndId → Bool
+awaits jobs s name = is_before_calls (next_job jobs s name)
+
+abbrev pub TurnsIf : {S : Type 0} → Ways S → Bool → ℕ → EndId → Due → TheRun S → TheRun S → Type 0
+TurnsIf w true d name due s t = t ≡ s
+TurnsIf w false d name due s t = (answer : TurnAnswer) × Happens w (turned d name due.inlet answer) s t
+
+abbrev pub TurnsAt : {S : Type 0} → Ways S → List Job → ℕ → Option Due → TheRun S → TheRun S → Type 0
+TurnsAt w jobs d None s t = t ≡ s
+TurnsAt w jobs d (Some due) s t = (name : EndId) × (place_of s.core name ≡ Some due.end) × TurnsIf w (awaits jobs s name) d name due s t
+
+abbrev pub TakesTurn : {S : Type 0} → Ways S → List Job → ℕ → TheRun S → TheRun S → Type 0
+TakesTurn w jobs d s t = TurnsAt w jobs d (lent_due s d) s t

@@ -35,7 +35,7 @@ pub record OneTurn {S : Type 0} (w : Ways S) (plan : Plan) (jobs : List Job) (s 
   pub serves : ForEach plan.ends.items (Serves w jobs) said served
   -- a turn for each dispatcher
   pub turned : TheRun S
-  pub turns : Swept (TakesTurn w) plan.dispatchers served turned
+  pub turns : Swept (TakesTurn w jobs) plan.dispatchers served turned
   -- an acknowledgement for each link, and for each end of a ring
   pub told : TheRun S
   pub tells : ForEach plan.links.items (Tells w) turned told

@@ -5,12 +5,14 @@ ghost use Rattle.fl_core.specs.View.{due};
 ghost use Rattle.fl_node.specs.View.{place_of, inlet_of};
 ghost use Rattle.fl_running.specs.Run.{ways, run_of, lends_in};
 ghost use Rattle.fl_running.specs.Deeds.{TurnsOver, turned, Does, NotesTurned};
-ghost use Rattle.fl_running.specs.Steps.{TakesTurn};
+ghost use Rattle.fl_running.specs.Steps.{awaits, TurnsIf, TakesTurn};
 ghost use Rattle.fl_running.specs.Turn.{Swept};
 
 use crate::desk::find;
-use crate::lent::lent_due;
-use crate::running::Running;
+use crate::ends::next_job;
+use crate::job::Job;
+use crate::lent::{Due, lent_due};
+use crate::running::{Running, sound, sound_at};
 use fl_base::EndId;
 use fl_core::TurnAnswer;
 use fl_link::{PutSide, TakeSide};
@@ -75,19 +77,59 @@ fn note<S>(run: &mut Running<S>, name: EndId, answer: TurnAnswer) -> Result<(), 
     }
 }
 
+// Whether an end is still to be opened, or a reply rule still to be set there.
+fn awaits<S>(run: &Running<S>, jobs: &[Job], name: EndId) -> bool
+    ensures awaits { result ≡ awaits jobs.now (run_of run.now) name }
+{
+    match next_job(run, jobs, name) {
+        None => false,
+        Some(job) => match job {
+            Job::Open(_) => true,
+            Job::Reply { .. } => true,
+            Job::Call { .. } => false,
+        },
+    }
+}
+
+// A turn of a dispatcher at the end of this name, which is due; it waits while that end has something to wait for.
+fn turn_at<S: PutSide + TakeSide + Drop>(
+    run: &mut Running<S>,
+    jobs: &[Job],
+    dispatcher: usize,
+    name: EndId,
+    at: Due,
+) -> Result<(), AllocError>
+    requires there { dispatcher < length run.old.core.board.dispatchers }
+    requires end { at.end < length run.old.core.board.seats }
+    requires place { place_of run.old.core name ≡ Some at.end }
+    requires due { due run.old.core.board dispatcher ≡ Some at.end }
+    requires inlet { inlet_of run.old.core at.end ≡ Some at.inlet }
+    requires lent { lends_in (run_of run.old) at.inlet ≡ true }
+    ensures turns { OnOk result (TurnsIf (ways S.puts S.takes S.front) (awaits jobs.now (run_of run.old) name) dispatcher name at
+        (run_of run.old) (run_of run.new)) }
+{
+    sound(run);
+    sound_at(run, name, at.end);
+    if awaits(run, jobs, name) {
+        return Ok(());
+    }
+    let answer = turn_named(run, dispatcher, name, at.end, at.inlet)?;
+    note(run, name, answer)
+}
+
 // One turn of a dispatcher.
 fn turn<S: PutSide + TakeSide + Drop>(
     run: &mut Running<S>,
+    jobs: &[Job],
     dispatcher: usize,
 ) -> Result<(), AllocError>
-    ensures turns { OnOk result (TakesTurn (ways S.puts S.takes S.front) dispatcher (run_of run.old) (run_of run.new)) }
+    ensures turns { OnOk result (TakesTurn (ways S.puts S.takes S.front) jobs.now dispatcher (run_of run.old) (run_of run.new)) }
 {
     match lent_due(run, dispatcher) {
         None => Ok(()),
         Some(due) => {
             let name = run.core.name(due.end);
-            let answer = turn_named(run, dispatcher, name, due.end, due.inlet)?;
-            note(run, name, answer)
+            turn_at(run, jobs, dispatcher, name, due)
         }
     }
 }
@@ -95,12 +137,13 @@ fn turn<S: PutSide + TakeSide + Drop>(
 /// A turn for each dispatcher.
 pub(crate) fn turn_all<S: PutSide + TakeSide + Drop>(
     run: &mut Running<S>,
+    jobs: &[Job],
     dispatchers: usize,
 ) -> Result<(), AllocError>
-    ensures turns { OnOk result (Swept (TakesTurn (ways S.puts S.takes S.front)) dispatchers (run_of run.old) (run_of run.new)) }
+    ensures turns { OnOk result (Swept (TakesTurn (ways S.puts S.takes S.front) jobs.now) dispatchers (run_of run.old) (run_of run.new)) }
 {
     for dispatcher in 0..dispatchers {
-        turn(run, dispatcher)?;
+        turn(run, jobs, dispatcher)?;
     }
     Ok(())
 }

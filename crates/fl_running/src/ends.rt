@@ -7,16 +7,16 @@ ghost use Rattle.fl_node.specs.declared.wire.Inlet.TheVariants.{Side};
 ghost use Rattle.fl_running.specs.Run.{ways, run_of, AtDesk, lends_out, lent_post, next_job};
 ghost use Rattle.fl_running.specs.Desks.{advanced};
 ghost use Rattle.fl_running.specs.Inside.{HasNext};
-ghost use Rattle.fl_running.specs.Deeds.{called, wrote, acked, Does};
-ghost use Rattle.fl_running.specs.Steps.{Tries, WritesFrom, Serves, Acknowledges, CallsAt};
+ghost use Rattle.fl_running.specs.Deeds.{called, ruled, wrote, acked, Does, NotesCalled};
+ghost use Rattle.fl_running.specs.Steps.{Tries, WritesFrom, Serves, Acknowledges, CallsAt, RulesAt};
 ghost use Rattle.fl_running.specs.Turn.{ForEach};
 
 use crate::desk::find;
 use crate::job::Job;
 use crate::lent::{lent_berth, lent_post};
 use crate::opening::open;
-use crate::running::Running;
-use fl_base::EndId;
+use crate::running::{Running, sound, sound_at};
+use fl_base::{EndId, MsgNo};
 use fl_core::{AckAnswer, BoardFault};
 use fl_endpoint::{EndFault, WriteAnswer};
 use fl_link::{PutSide, TakeSide};
@@ -27,7 +27,7 @@ use std::alloc::AllocError;
 // ---- jobs
 
 // The job that is next at an end.
-fn next_job<'a, S>(run: &Running<S>, jobs: &'a [Job], name: EndId) -> Option<&'a Job>
+pub(crate) fn next_job<'a, S>(run: &Running<S>, jobs: &'a [Job], name: EndId) -> Option<&'a Job>
     ensures next { IfSome result (λ job. next_job jobs.now (run_of run.now) name ≡ Some job.now) }
     ensures none { IfNone result (next_job jobs.now (run_of run.now) name ≡ None) }
     ensures left { IfSome result (λ _. HasNext name (run_of run.now)) }
@@ -69,6 +69,17 @@ pub(crate) fn advance<S>(run: &mut Running<S>, name: EndId)
     }
 }
 
+// Notes a call that was made; one that was refused waits.
+fn note<S>(run: &mut Running<S>, name: EndId, answer: Result<(), EndFault>)
+    requires left { HasNext name (run_of run.old) }
+    ensures notes { NotesCalled name answer (run_of run.old) (run_of run.new) }
+{
+    match answer {
+        Ok(()) => advance(run, name),
+        Err(_) => (),
+    }
+}
+
 // Tries to make the next call of an end.
 fn try_call<S: PutSide + TakeSide + Drop>(
     run: &mut Running<S>,
@@ -78,17 +89,51 @@ fn try_call<S: PutSide + TakeSide + Drop>(
     requires left { HasNext name (run_of run.old) }
     ensures calls { OnOk result (CallsAt (ways S.puts S.takes S.front) name next.now (place_of run.old.core name) (run_of run.old) (run_of run.new)) }
 {
+    sound(run);
     match run.core.place(name) {
         None => Ok(()),
         Some(e) => {
+            sound_at(run, name, e);
             let answer = call(run, name, e, next)?;
-            match answer {
-                Ok(()) => {
-                    advance(run, name);
-                    Ok(())
-                }
-                Err(_) => Ok(()),
-            }
+            note(run, name, answer);
+            Ok(())
+        }
+    }
+}
+
+// Sets a reply rule at an end.
+fn rule<S: PutSide + TakeSide + Drop>(
+    run: &mut Running<S>,
+    name: EndId,
+    e: usize,
+    msg: MsgNo,
+    reply: MsgNo,
+) -> Result<(), EndFault>
+    requires there { e < length run.old.core.board.seats }
+    requires place { place_of run.old.core name ≡ Some e }
+    ensures ruled { Does (ways S.puts S.takes S.front) (ruled name msg reply result) (run_of run.old) (run_of run.new) }
+    ensures left { HasNext name (run_of run.old) → HasNext name (run_of run.new) }
+{
+    run.core.reply_rule(e, msg, reply)
+}
+
+// Sets the rule that is the next job of an end, where that is there.
+fn try_rule<S: PutSide + TakeSide + Drop>(
+    run: &mut Running<S>,
+    name: EndId,
+    msg: MsgNo,
+    reply: MsgNo,
+)
+    requires left { HasNext name (run_of run.old) }
+    ensures rules { RulesAt (ways S.puts S.takes S.front) name msg reply (place_of run.old.core name) (run_of run.old) (run_of run.new) }
+{
+    sound(run);
+    match run.core.place(name) {
+        None => (),
+        Some(e) => {
+            sound_at(run, name, e);
+            let _ = rule(run, name, e, msg, reply);
+            advance(run, name);
         }
     }
 }
@@ -106,7 +151,10 @@ fn try_job<S: PutSide + TakeSide + Drop>(
         Some(job) => match job {
             Job::Open(wish) => open(run, name, wish),
             Job::Call { call, .. } => try_call(run, name, call),
-            Job::Reply { .. } => Ok(()),
+            Job::Reply { msg, reply, .. } => {
+                try_rule(run, name, *msg, *reply);
+                Ok(())
+            }
         },
     }
 }
@@ -135,9 +183,11 @@ fn write_to<S: PutSide + TakeSide + Drop>(
 fn write<S: PutSide + TakeSide + Drop>(run: &mut Running<S>, name: EndId)
     ensures writes { WritesFrom (ways S.puts S.takes S.front) name (lent_post (run_of run.old) name) (run_of run.old) (run_of run.new) }
 {
+    sound(run);
     match lent_post(run, name) {
         None => (),
         Some(post) => {
+            sound_at(run, name, post.end);
             let _ = write_to(run, name, post.end, post.outlet);
         }
     }
@@ -192,6 +242,7 @@ fn ack_over<S: PutSide + TakeSide + Drop>(
 fn ack<S: PutSide + TakeSide + Drop>(run: &mut Running<S>, name: EndId)
     ensures acks { Acknowledges (ways S.puts S.takes S.front) name (run_of run.old) (run_of run.new) }
 {
+    sound(run);
     match lent_berth(run, name) {
         None => (),
         Some(berth) => {

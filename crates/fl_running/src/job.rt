@@ -22,7 +22,7 @@ pub struct Wish {
 pub enum Job {
     /// A circuit is asked for, and with it the client's end is made.
     Open(Wish),
-    /// A reply rule. It is set before the core runs.
+    /// A reply rule. It is set once its end is there, and the end takes nothing before.
     Reply {
         end: EndId,
         msg: MsgNo,

@@ -5,10 +5,10 @@ ghost use Rattle.fl_running.specs.Ran.{CountedAreTurns};
 ghost use Rattle.fl_running.specs.Logs.{TurnsAreLogged, DesksTellHandled, LogsLook};
 ghost use Rattle.fl_running.specs.Made.{LogsMakeJobs, DoneAreFirst};
 ghost use Rattle.fl_running.specs.Lending.{StaysLent, LentServes};
-ghost use Rattle.fl_running.specs.Carried.{LogsCarryQueues, LogsCarryEnds, SentAreMade, SentAreReplies};
+ghost use Rattle.fl_running.specs.Carried.{LogsCarryQueues, RulesComeFirst, SentAreMade, SentAreReplies};
+ghost use Rattle.fl_running.specs.Flows.{LogsFlow};
 
-use fl_endpoint::{call_accounts, receive_accounts, write_accounts};
-use fl_link::{PutSide, QueueLink, TakeSide, queue_conserves};
+use fl_link::{PutSide, TakeSide, queue_conserves};
 
 /// Whatever changes a core in its turns is an event of its log; and no dispatcher handles more calls than the core took turns. What a desk has as handled are
 /// just the calls that its end handled, in order.
@@ -35,20 +35,21 @@ pub fn queues_carry<S: PutSide + TakeSide>()
     queue_conserves();
 }
 
-/// What an end put are the fragments of the calls that it made, and of the replies by its rules to those that it handled, in order, up to what is left to put;
-/// what it took reads as the calls that it handled, and a rest. An end without rules sends the calls that it made alone; one that made none sends the replies
-/// alone.
-pub fn ends_carry<S: PutSide + TakeSide>()
-    ensures ends { LogsCarryEnds (ways S.puts S.takes S.front) }
+/// Where the reply rules of an end are the first of its jobs, they are set before it handles a call.
+pub fn rules_come_first<S: PutSide + TakeSide>()
+    ensures rules { RulesComeFirst (ways S.puts S.takes S.front) }
+{}
+
+/// An end without rules that gets none sends the calls that it made; one that made none sends the replies by its rules to those that it handled.
+pub fn sent_by_rules()
     ensures made { SentAreMade }
     ensures replies { SentAreReplies }
-{
-    call_accounts();
-    write_accounts::<S>();
-    write_accounts::<QueueLink>();
-    receive_accounts::<S>();
-    receive_accounts::<QueueLink>();
-}
+{}
+
+/// What an end put are the fragments of what it sent, in order, up to what is left to put; what it took reads as the calls that it handled, and a rest.
+pub fn logs_flow<S: PutSide + TakeSide>()
+    ensures flows { LogsFlow (ways S.puts S.takes S.front) }
+{}
 
 /// Where all sides and queues that a core's links and ends name are lent, they stay lent; and then no step is left out for want of one.
 pub fn sides_stay_lent<S: PutSide + TakeSide>()

@@ -11,7 +11,7 @@ ghost use Rattle.fl_running.specs.Inside.{Fronts, Foresees, put_label};
 
 use crate::desk::find;
 use crate::lent::lent_lane;
-use crate::running::Running;
+use crate::running::{Running, sound};
 use fl_base::{Circuit, EndId, Frag, LinkId};
 use fl_core::AckAnswer;
 use fl_hop::Outcome;
@@ -148,6 +148,7 @@ fn deal<S: PutSide + TakeSide + Drop>(
     requires foreseen { Foresees (ways S.puts S.takes S.front) n found (run_of run.old) }
     ensures deals { OnOk result (Deals (ways S.puts S.takes S.front) n link found (run_of run.old) (run_of run.new)) }
 {
+    sound(run);
     match found {
         Ok(Ahead::Nothing) | Ok(Ahead::Acknowledged) | Err(_) => Ok(()),
         Ok(Ahead::Message(frag)) => {
@@ -175,6 +176,7 @@ fn forward<S: PutSide + TakeSide + Drop>(
 ) -> Result<(), AllocError>
     ensures forwards { OnOk result (Forwards (ways S.puts S.takes S.front) link (run_of run.old) (run_of run.new)) }
 {
+    sound(run);
     match lent_lane(run, link) {
         None => Ok(()),
         Some(n) => {
@@ -215,6 +217,7 @@ fn say_over<S: PutSide + TakeSide + Drop>(
 fn say<S: PutSide + TakeSide + Drop>(run: &mut Running<S>, link: LinkId)
     ensures says { Says (ways S.puts S.takes S.front) link (run_of run.old) (run_of run.new) }
 {
+    sound(run);
     match lent_lane(run, link) {
         None => (),
         Some(n) => {
@@ -251,6 +254,7 @@ fn tell_over<S: PutSide + TakeSide + Drop>(
 fn tell<S: PutSide + TakeSide + Drop>(run: &mut Running<S>, link: LinkId)
     ensures tells { Tells (ways S.puts S.takes S.front) link (run_of run.old) (run_of run.new) }
 {
+    sound(run);
     match lent_lane(run, link) {
         None => (),
         Some(n) => {

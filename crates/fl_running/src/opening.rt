@@ -12,7 +12,7 @@ ghost use Rattle.fl_running.specs.Inside.{HasNext};
 use crate::desk::find;
 use crate::ends::advance;
 use crate::job::Wish;
-use crate::running::Running;
+use crate::running::{Running, sound};
 use fl_base::{EndId, LinkId, Side};
 use fl_compile::Program;
 use fl_core::BoardFault;
@@ -135,6 +135,7 @@ pub(crate) fn open<S: PutSide + TakeSide + Drop>(
     requires left { HasNext name (run_of run.old) }
     ensures opens { OnOk result (OpensIf (ways S.puts S.takes S.front) (may_ask (run_of run.old) wish.now) name wish.now (run_of run.old) (run_of run.new)) }
 {
+    sound(run);
     if !may_ask(run, wish) {
         return Ok(());
     }

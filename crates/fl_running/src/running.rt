@@ -1,7 +1,9 @@
 //! A core that runs.
 
-ghost use Rattle.std.specs.Prelude.{◌≡◌, ◌<◌, length, OnOk};
+ghost use Rattle.std.specs.Prelude.{◌≡◌, ◌<◌, length, Some, OnOk};
 ghost use Rattle.fl_running.specs.Run.{ways, run_of};
+ghost use Rattle.fl_running.specs.Deeds.{IsSound, IsSoundAt};
+ghost use Rattle.fl_node.specs.View.{place_of};
 ghost use Rattle.fl_running.specs.Turn.{OneTurn};
 
 use crate::desk::Desk;
@@ -10,7 +12,9 @@ use crate::ends::{ack_all, serve_all};
 use crate::job::Job;
 use crate::links::{forward_all, say_all, tell_all};
 use crate::plan::Plan;
+use fl_base::EndId;
 use fl_compile::Program;
+use fl_hop::never_shared;
 use fl_link::{PutSide, QueueLink, TakeSide};
 use fl_nameserv::Names;
 use fl_node::Core;
@@ -33,6 +37,24 @@ pub struct Running<S> {
     pub programs: Vec<Program>,
 }
 
+// What is known of its core at any time. It does nothing.
+pub(crate) fn sound<S>(run: &Running<S>)
+    ensures sound { IsSound run.now.core }
+{
+    run.core.sound();
+    never_shared(run.core.monitor().circuits());
+}
+
+// What is known of an end at any time. It does nothing.
+#[tactic(auto, using(crate::proofs::Sounding::sound_of))]
+pub(crate) fn sound_at<S>(run: &Running<S>, name: EndId, e: usize)
+    requires there { e < length run.now.core.board.seats }
+    requires place { place_of run.now.core name ≡ Some e }
+    ensures sound { IsSoundAt (run_of run.now) name }
+{
+    run.core.board().end(e).sound();
+}
+
 impl<S: PutSide + TakeSide + Drop> Running<S> {
     /// One turn: a forward for each link, a monitor write for each link, for each end its next job where that can be done and one write, a turn for
     /// each dispatcher, an acknowledgement for each link and each end of a ring. It takes no memory but where a call becomes whole or a circuit is asked for
@@ -46,7 +68,7 @@ impl<S: PutSide + TakeSide + Drop> Running<S> {
         forward_all(self, &plan.links)?;
         say_all(self, &plan.links);
         serve_all(self, &plan.ends, jobs)?;
-        turn_all(self, plan.dispatchers)?;
+        turn_all(self, jobs, plan.dispatchers)?;
         tell_all(self, &plan.links);
         ack_all(self, &plan.ends);
         Ok(())

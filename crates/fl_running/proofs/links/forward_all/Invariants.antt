@@ -1,4 +1,3 @@
-use Rattle.std.proofs.Common.{◌≡◌}
 use Rattle.fl_running.specs.Run.{ways, run_of}
 use Rattle.fl_running.specs.Steps.{Forwards}
 use Rattle.fl_running.specs.Turn.{Swept, At}
