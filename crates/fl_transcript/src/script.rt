@@ -183,12 +183,7 @@ impl<M: QueueMachine> Script<M> {
 
     // A line of a word that is seldom: its command is read whole, if it is one.
     #[inline(never)]
-    fn seldom_line(
-        &mut self,
-        verb: Verb,
-        rest: &[u8],
-        out: &mut Vec<u8>,
-    ) -> Result<(), AllocError>
+    fn seldom_line(&mut self, verb: Verb, rest: &[u8], out: &mut Vec<u8>) -> Result<(), AllocError>
         ensures ok { OnOk result (Answers M.shows self.old self.new out.old.items out.new.items
             (λ s. Does s (a_line (line_with (command_by verb rest.now))))) }
     {
