@@ -18,3 +18,4 @@ pub mod Fresh
 pub mod Unmoved
 pub mod Retaking
 pub mod Pairing
+pub mod Numbering

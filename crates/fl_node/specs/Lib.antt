@@ -1,4 +1,4 @@
--- The public promises rest on View, Sound, Ends, Making, Links, Hearing and Faults; Inside is a working file.
+-- The public promises rest on View, Sound, Ends, Making, Links, Hearing, Faults and Numbers; Inside is a working file.
 pub mod View
 pub mod Sound
 pub mod Ends
@@ -6,4 +6,5 @@ pub mod Making
 pub mod Links
 pub mod Hearing
 pub mod Faults
+pub mod Numbers
 pub mod Inside

@@ -20,7 +20,7 @@
 //! - `links.rt`: events of a link
 //! - `hearing.rt`: what a monitors' message comes to
 //! - `places.rt`: where ends are, by name
-//! - `wire.rt`: how ends and links are wired
+//! - `wire.rt`: how ends and links are wired; `numbers.rt`: the numbers of sides and queues, changed
 //! - `answer.rt`: what events on links come to
 //! - `fault.rt`: why a call is refused
 #![tactic(auto)]
@@ -32,6 +32,7 @@ mod hearing;
 mod joining;
 mod links;
 mod makers;
+mod numbers;
 mod one_core;
 mod opening;
 mod places;

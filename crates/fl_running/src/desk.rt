@@ -86,8 +86,8 @@ impl Desk {
         Ok(())
     }
 
-    // The number with which the opening of its binding was refused, or 0.
-    pub(crate) fn refused(&self) -> u32
+    /// The number with which the opening of its binding was refused, or 0.
+    pub fn refused(&self) -> u32
         ensures refused { result ≡ self.now.refused }
     {
         self.refused
@@ -105,6 +105,13 @@ impl Desk {
         ensures handled { result.now ≡ self.now.handled }
     {
         self.handled.as_slice()
+    }
+
+    /// The same, for good.
+    pub fn into_handled(self) -> Vec<Call>
+        ensures handled { result.items ≡ self.handled }
+    {
+        self.handled
     }
 
     /// How many of its jobs are done.

@@ -1,5 +1,6 @@
 //! A world is taken apart, so that its cores may run on threads of their own.
 
+ghost use Rattle.std.specs.Prelude.{◌≤◌, length};
 ghost use Rattle.fl_system.specs.Apart.{AllUnused, AreParts};
 
 use crate::world::World;
@@ -29,6 +30,7 @@ impl World {
         requires unused { AllUnused self.rings }
         ensures parts { AreParts self result }
         ensures unused { AllUnused result.rings.items }
+        ensures few { length result.cores.items ≤ 16 }
     {
         let World {
             alloc: _,
