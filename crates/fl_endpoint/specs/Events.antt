@@ -18,7 +18,8 @@ use Rattle.fl_endpoint.specs.declared.answer.WriteAnswer.{WriteAnswer}
 use Rattle.fl_endpoint.specs.declared.answer.WriteAnswer.TheVariants.{Written, Full, Nothing}
 use Rattle.fl_endpoint.specs.declared.answer.ReceiveAnswer.{ReceiveAnswer}
 use Rattle.fl_endpoint.specs.declared.answer.ReceiveAnswer.TheVariants.{Handle, Part, Quiet, Empty, HeldBack}
-use Rattle.fl_endpoint.specs.View.{TheEnd, interface_in, plan_in, holds_back, with_call, with_written, with_part, with_handled, with_failed, with_rule, with_rules_of}
+use Rattle.fl_endpoint.specs.View.{TheEnd, interface_in, plan_in, holds_back}
+use Rattle.fl_endpoint.specs.View.{with_call, with_written, with_part, with_handled, with_failed, with_rule, with_rules_of}
 
 -- ---- what refuses before anything is looked at
 

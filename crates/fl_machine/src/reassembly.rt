@@ -126,7 +126,8 @@ fn look_on(
     ensures begun { StandsIn (program_of program.now) tape.new.items (inside begun) }
     ensures parts { parts_in (program_of program.now) tape.new.items begun ≡ parts_in (program_of program.now) tape.old.items begun }
     ensures stands { IfOk result (λ stand. StandsIn (program_of program.now) tape.new.items stand) }
-    ensures adds { IfOk result (λ stand. AddsUpTo (program_of program.now) (parts_in (program_of program.now) tape.old.items begun) frag.now tape.new.items stand) }
+    ensures adds { IfOk result (λ stand.
+        AddsUpTo (program_of program.now) (parts_in (program_of program.now) tape.old.items begun) frag.now tape.new.items stand) }
     ensures wrong { IfErr result (λ fault. IsRefusedIn (program_of program.now) (parts_in (program_of program.now) tape.old.items begun) frag.now fault) }
 {
     fill(tape, places_for(begun.intake.count(), capacity));
@@ -141,7 +142,8 @@ impl Gathered {
         ensures gathered { IsGathered (program_of program.now) self.new }
         ensures same { reassembling program.now self.new ≡ reassembling program.now self.old }
         ensures stands { IfOk result (λ stand. StandsIn (program_of program.now) self.new.tape.items stand) }
-        ensures adds { IfOk result (λ stand. AddsUpTo (program_of program.now) (parts_gathered (program_of program.now) self.old) frag.now self.new.tape.items stand) }
+        ensures adds { IfOk result (λ stand.
+            AddsUpTo (program_of program.now) (parts_gathered (program_of program.now) self.old) frag.now self.new.tape.items stand) }
         ensures wrong { IfErr result (λ fault. IsRefusedIn (program_of program.now) (parts_gathered (program_of program.now) self.old) frag.now fault) }
     {
         match self.begun {

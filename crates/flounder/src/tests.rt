@@ -163,11 +163,13 @@ fn a_text_of_no_language(rt: HostRuntime) {
         ),
         (
             b"\xef\xbb\xbfinterface i { }",
-            b"E1 at 0\nx:1:1: no token begins with this byte\nfound there: \\xef\\xbb\\xbfinterface i { }\nhelp: the file begins with a byte order mark: save it without one\n",
+            b"E1 at 0\nx:1:1: no token begins with this byte\nfound there: \\xef\\xbb\\xbfinterface i { }\n\
+                help: the file begins with a byte order mark: save it without one\n",
         ),
         (
             b"interface i { message m(later x); typedef uint8 later; }",
-            b"E11 at 24\nx:1:25: no type of this name is declared before\nfound there: later x); typedef uint8 later; }\nhelp: declare the type above what uses it, or mend its name\n",
+            b"E11 at 24\nx:1:25: no type of this name is declared before\nfound there: later x); typedef uint8 later; }\n\
+                help: declare the type above what uses it, or mend its name\n",
         ),
         (
             b"FLND\x02\x00",
