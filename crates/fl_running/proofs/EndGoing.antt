@@ -3,11 +3,18 @@ use Rattle.std.proofs.Common.{◌≡◌, refl, sym, ap, ◌∙◌, subst, ℕ, z
 use Rattle.std.proofs.Common.{Option, Some, None, IsSome, Result, Ok, Err}
 use Rattle.std.specs.List.{flat_map}
 use Rattle.std.specs.Option.{option_map}
+use Rattle.std.specs.Prelude.{slice_get}
 use Rattle.std.proofs.lemmas.List.{append-nil, append_assoc}
+use Rattle.std.proofs.lemmas.List.Elements.{All-nil, All-cons, All-append}
 use Rattle.std.proofs.lemmas.Grind.{flat_map-append}
 use Rattle.fl_base.specs.declared.fragment.Frag.{Frag}
 use Rattle.fl_value.specs.Value.{TheCall, call_of}
+use Rattle.fl_value.specs.Value.{Datum}
+use Rattle.fl_value.specs.Fits.{fits_of, fit_message, are_arguments}
+use Rattle.fl_value.specs.Tape.{types_of}
+use Rattle.fl_check.specs.Interface.{TheArgType, TheMessage, TheInterface}
 use Rattle.fl_wire.specs.Payload.{frags_on}
+use Rattle.fl_wire.specs.Reading.{AllFit}
 use Rattle.fl_compile.specs.declared.program.Program.{Program}
 use Rattle.fl_compile.specs.Programs.{program_of}
 use Rattle.fl_link.specs.Looks.{Look}
@@ -15,10 +22,10 @@ use Rattle.fl_core.specs.declared.answer.TurnAnswer.{TurnAnswer}
 use Rattle.fl_core.specs.declared.answer.TurnAnswer.TheVariants as turn
 use Rattle.fl_core.specs.declared.kind.Kind.{Kind}
 use Rattle.fl_core.specs.Turns.{Moment, LooksAt}
-use Rattle.fl_endpoint.specs.View.{TheEnd, TheOutgoing, interface_in, plan_in, frags_from, number_or_0, reply_to, nothing_to_send, queued, queued_behind, queued_if, goes_on, wrote, with_call, with_written, with_part, with_handled, with_failed, bound, bound_by}
+use Rattle.fl_endpoint.specs.View.{TheEnd, TheOutgoing, interface_in, plan_in, frags_from, number_or_0, reply_to, rule_at, nothing_to_send, queued, queued_behind, queued_if, goes_on, wrote, with_call, with_written, with_part, with_handled, with_failed, bound, bound_by}
 use Rattle.fl_base.specs.declared.identity.MsgNo.{MsgNo}
 use Rattle.fl_endpoint.specs.Events.{Calls, Writes, SetsRule}
-use Rattle.fl_endpoint.specs.Accounts.{Sound, IsLeft, stream, stream_from, followed}
+use Rattle.fl_endpoint.specs.Accounts.{Sound, IsLeft, AreRules, stream, stream_from, followed}
 use Rattle.fl_endpoint.specs.declared.fault.EndFault.{EndFault}
 use Rattle.fl_endpoint.specs.declared.fault.EndFault.TheVariants as fault
 use Rattle.fl_endpoint.specs.declared.answer.WriteAnswer.{WriteAnswer}
@@ -73,6 +80,33 @@ wrote_left : (rest : List Frag) (o : TheOutgoing) → left_to_put (wrote rest o)
 wrote_left [] o = goes_left o.waiting
 wrote_left (f ∷ rest) o = refl
 
+-- ---- calls that fit
+
+abbrev Fitting : TheInterface → TheCall → Type 0
+Fitting i c = fits_of i c ≡ true
+
+abbrev pub none_fit : (i : TheInterface) → AllFit i []
+none_fit i = All-nil (Fitting i)
+
+one_fits : (i : TheInterface) (c : TheCall) → fits_of i c ≡ true → AllFit i (c ∷ [])
+one_fits i c fits = All-cons (Fitting i) c [] fits (none_fit i)
+
+both_fit : (i : TheInterface) (a b : List TheCall) → AllFit i a → AllFit i b → AllFit i (a ++ b)
+both_fit i a b x y = All-append (Fitting i) a b x y
+
+-- the reply by rule to a call that fits is one that fits
+same_fit : (a b : Option TheMessage) (args : List Datum) → IsSome a → IsSome b → types_of a ≡ types_of b → fit_message a args ≡ true → fit_message b args ≡ true
+same_fit None b args x y e h = absurd (search (rules, x))
+same_fit (Some m) None args x y e h = absurd (search (rules, y))
+same_fit (Some m) (Some n) args x y e h = subst (λ (ts : List TheArgType). are_arguments ts args ≡ true) e h
+
+ruled_fits : (i : TheInterface) (rules : List (Option ℕ)) (c : TheCall) (o : Option ℕ) → AreRules i rules → rule_at rules c.msg ≡ o → fits_of i c ≡ true
+    → AllFit i (followed (option_map (λ reply. record { msg = reply; args = c.args }) o) [])
+ruled_fits i rules c None are rule fits = none_fit i
+ruled_fits i rules c (Some reply) are rule fits =
+    let r = are.each c.msg reply rule in
+    one_fits i (record { msg = reply; args = c.args }) (same_fit (slice_get i.messages c.msg) (slice_get i.messages reply) c.args r.from r.to r.types fits)
+
 -- ---- stretches join
 
 abbrev pub still : Traffic
@@ -84,6 +118,8 @@ rests x y outgoing parts program circuit = record {
   sends = append-nil (left_to_put x.outgoing) ∙ ap left_to_put (sym outgoing);
   gives = append-nil x.parts ∙ sym parts;
   program = program;
+  sent_fit = none_fit (interface_in y);
+  handled_fit = none_fit (interface_in y);
   circuit = circuit;
   unbound = λ none. refl;
 }
@@ -128,6 +164,8 @@ goes_then x m y a b c d p q t u g h =
       gives = joins x.parts t (stream (program_of y.program) 0 b) m.parts u (stream (program_of y.program) 0 d) y.parts read h.gives
           ∙ ap (λ (xs : List Frag). xs ++ y.parts) (sym (stream_joins y 0 b d));
       program = h.program ∙ g.program;
+      sent_fit = both_fit (interface_in y) a c (subst (λ (z : Program). AllFit (program_of z).interface a) (sym h.program) g.sent_fit) h.sent_fit;
+      handled_fit = both_fit (interface_in y) b d (subst (λ (z : Program). AllFit (program_of z).interface b) (sym h.program) g.handled_fit) h.handled_fit;
       circuit = λ n is. h.circuit n (g.circuit n is);
       unbound = λ none. ap (λ (xs : List TheCall). xs ++ c) (g.unbound (unbound_by m.circuit m y refl h.circuit none)) ∙ h.unbound none;
     }
@@ -138,18 +176,20 @@ bound_not : (o : Option ℕ) → IsSome o → o ≡ None → ⊥
 bound_not None some is = search (rules, some)
 bound_not (Some c) some is = cc
 
-accepts : (x : TheEnd) (c : TheCall) (y : TheEnd) → Sound x → IsSome x.circuit → y ≡ with_call x c → EndGoes (record { sent = c ∷ []; handled = []; put = []; took = [] }) x y
-accepts x c y sound some is = subst (λ (z : TheEnd). EndGoes (record { sent = c ∷ []; handled = []; put = []; took = [] }) x z) (sym is) (record {
+accepts : (x : TheEnd) (c : TheCall) (y : TheEnd) → Sound x → fits_of (interface_in x) c ≡ true → IsSome x.circuit → y ≡ with_call x c → EndGoes (record { sent = c ∷ []; handled = []; put = []; took = [] }) x y
+accepts x c y sound fits some is = subst (λ (z : TheEnd). EndGoes (record { sent = c ∷ []; handled = []; put = []; took = [] }) x z) (sym is) (record {
   sends = sym (queued_left x (frags_from x c) sound ∙ ap (λ (xs : List Frag). left_to_put x.outgoing ++ xs) (sym (append-nil (frags_from x c))));
   gives = append-nil x.parts;
   program = refl;
+  sent_fit = one_fits (interface_in x) c fits;
+  handled_fit = none_fit (interface_in x);
   circuit = λ n at. at;
   unbound = λ none. absurd (bound_not x.circuit some none);
 })
 
 pub calls_go : (x : TheEnd) (c : TheCall) (answer : Result (Unit {0}) EndFault) (y : TheEnd) → Sound x → Calls x c answer y
     → EndGoes (record { sent = made_by c answer; handled = []; put = []; took = [] }) x y
-calls_go x c (Ok done) y sound h = accepts x c y sound h.1.0 h.3
+calls_go x c (Ok done) y sound h = accepts x c y sound h.0 h.1.0 h.3
 calls_go x c (Err fault.UnknownMessage) y sound h = stays x y h.1
 calls_go x c (Err fault.Misfit) y sound h = stays x y h.2
 calls_go x c (Err fault.NotBound) y sound h = stays x y h.2
@@ -193,6 +233,8 @@ puts_first x f rest y stood is = subst (λ (z : TheEnd). EndGoes (record { sent 
   sends = append-nil (left_to_put x.outgoing) ∙ ap (λ (xs : List Frag). xs ++ all x.outgoing.waiting) stood ∙ ap (λ (xs : List Frag). f ∷ xs) (sym (wrote_left rest x.outgoing));
   gives = append-nil x.parts;
   program = refl;
+  sent_fit = none_fit (interface_in x);
+  handled_fit = none_fit (interface_in x);
   circuit = λ n at. at;
   unbound = λ none. refl;
 })
@@ -225,17 +267,21 @@ takes_part x f y is = subst (λ (z : TheEnd). EndGoes (record { sent = []; handl
   sends = append-nil (left_to_put x.outgoing);
   gives = refl;
   program = refl;
+  sent_fit = none_fit (interface_in x);
+  handled_fit = none_fit (interface_in x);
   circuit = λ n at. at;
   unbound = λ none. refl;
 })
 
-handles : (x : TheEnd) (f : Frag) (c : TheCall) (y : TheEnd) → Sound x → IsSome x.circuit → x.parts ++ f ∷ [] ≡ frags_on 0 (plan_in x) (interface_in x) c → y ≡ with_handled x c
+handles : (x : TheEnd) (f : Frag) (c : TheCall) (y : TheEnd) → Sound x → fits_of (interface_in x) c ≡ true → IsSome x.circuit → x.parts ++ f ∷ [] ≡ frags_on 0 (plan_in x) (interface_in x) c → y ≡ with_handled x c
     → EndGoes (record { sent = followed (reply_to x.rules c) []; handled = c ∷ []; put = []; took = f ∷ [] }) x y
-handles x f c y sound some mean is =
+handles x f c y sound fits some mean is =
     subst (λ (z : TheEnd). EndGoes (record { sent = followed (reply_to x.rules c) []; handled = c ∷ []; put = []; took = f ∷ [] }) x z) (sym is) (record {
       sends = replies x (reply_to x.rules c) sound;
       gives = mean ∙ sym (append-nil (frags_on 0 (plan_in x) (interface_in x) c)) ∙ sym (append-nil (frags_on 0 (plan_in x) (interface_in x) c ++ []));
       program = refl;
+      sent_fit = ruled_fits (interface_in x) x.rules c (rule_at x.rules c.msg) sound.rules refl fits;
+      handled_fit = one_fits (interface_in x) c fits;
       circuit = λ n at. at;
       unbound = λ none. absurd (bound_not x.circuit some none);
     })
@@ -246,7 +292,7 @@ fails x y is = rests x y (ap (λ (z : TheEnd). z.outgoing) is) (ap (λ (z : TheE
 module _ {T : Type 0} (takes : T → Look → T → Type 0) where
   pub turn_goes : (picked : Pick) (kind : Kind) (a : Moment T) (answer : TurnAnswer) (b : Moment T) → Sound a.end → (h : LooksAt takes picked kind a (Ok answer) b)
       → EndGoes (record { sent = reply_in a.end.rules answer; handled = map call_of (call_in answer); put = []; took = turn_took takes picked kind a answer b h }) a.end b.end
-  turn_goes (pick.Pending c) kind a (turn.Handle call) b sound h = handles a.end h.1.1.0 (call_of call) b.end sound h.1.0.0.0 h.1.1.5.0.mean h.1.1.5.1
+  turn_goes (pick.Pending c) kind a (turn.Handle call) b sound h = handles a.end h.1.1.0 (call_of call) b.end sound h.1.1.5.0.fits h.1.0.0.0 h.1.1.5.0.mean h.1.1.5.1
   turn_goes (pick.Pending c) kind a turn.Part b sound h = takes_part a.end h.1.1.0 b.end h.1.1.5.1
   turn_goes (pick.Pending c) kind a turn.Quiet b sound h = stays a.end b.end h.1.2
   turn_goes (pick.Pending c) kind a turn.Full b sound h = stays a.end b.end h.0.3

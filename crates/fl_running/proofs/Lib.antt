@@ -28,3 +28,4 @@ pub mod RingEnds
 pub mod QueueEnds
 pub mod Newcomers
 pub mod Flowing
+pub mod Agreeing

@@ -6,12 +6,13 @@ use Rattle.fl_base.specs.declared.fragment.Frag.{Frag}
 use Rattle.fl_base.specs.declared.identity.EndId.{EndId}
 use Rattle.fl_base.specs.declared.identity.MsgNo.{MsgNo}
 use Rattle.fl_value.specs.Value.{TheCall, call_of}
+use Rattle.fl_wire.specs.Reading.{AllFit}
 use Rattle.fl_compile.specs.Programs.{program_of}
 use Rattle.fl_link.specs.Looks.{Look}
 use Rattle.fl_link.specs.Laws.{QueueConserves}
 use Rattle.fl_link.specs.Queue.{TheQueue}
 use Rattle.fl_endpoint.specs.declared.fault.EndFault.{EndFault}
-use Rattle.fl_endpoint.specs.View.{TheEnd, TheOutgoing, has_rules, reply_to}
+use Rattle.fl_endpoint.specs.View.{TheEnd, TheOutgoing, interface_in, has_rules, reply_to}
 use Rattle.fl_endpoint.specs.Accounts.{followed, replies_by, stream, stream_from}
 use Rattle.fl_core.specs.declared.answer.TurnAnswer.{TurnAnswer}
 use Rattle.fl_core.specs.declared.answer.TurnAnswer.TheVariants.{Handle}
@@ -59,6 +60,9 @@ pub record EndGoes (d : Traffic) (x y : TheEnd) : Type 0 where
   -- what it took goes on with what it had, and reads as what it handled, and a rest
   pub gives : x.parts ++ d.took ≡ stream (program_of y.program) 0 d.handled ++ y.parts
   pub program : y.program ≡ x.program
+  -- all these calls fit its interface
+  pub sent_fit : AllFit (interface_in y) d.sent
+  pub handled_fit : AllFit (interface_in y) d.handled
   -- it was bound once at most, and sent nothing before
   pub circuit : (c : ℕ) → x.circuit ≡ Some c → y.circuit ≡ Some c
   pub unbound : y.circuit ≡ None → d.sent ≡ []

@@ -12,5 +12,6 @@ pub mod Made
 pub mod Lending
 pub mod Carried
 pub mod Flows
+pub mod Agree
 -- This one only the proofs need.
 pub mod Inside

@@ -7,7 +7,9 @@ ghost use Rattle.fl_running.specs.Made.{LogsMakeJobs, DoneAreFirst};
 ghost use Rattle.fl_running.specs.Lending.{StaysLent, LentServes};
 ghost use Rattle.fl_running.specs.Carried.{LogsCarryQueues, RulesComeFirst, SentAreMade, SentAreReplies};
 ghost use Rattle.fl_running.specs.Flows.{LogsFlow};
+ghost use Rattle.fl_running.specs.Agree.{EndsAgree, CarriedOffLinks};
 
+use fl_endpoint::{handles_in_order, on_another_circuit};
 use fl_link::{PutSide, TakeSide, queue_conserves};
 
 /// Whatever changes a core in its turns is an event of its log; and no dispatcher handles more calls than the core took turns. What a desk has as handled are
@@ -50,6 +52,15 @@ pub fn sent_by_rules()
 pub fn logs_flow<S: PutSide + TakeSide>()
     ensures flows { LogsFlow (ways S.puts S.takes S.front) }
 {}
+
+/// Of two ends of one binding: where what one took is the first of what the other put, as links carry it, what it handled is the first of what that sent.
+pub fn ends_agree()
+    ensures agree { EndsAgree }
+    ensures off_links { CarriedOffLinks }
+{
+    handles_in_order();
+    on_another_circuit();
+}
 
 /// Where all sides and queues that a core's links and ends name are lent, they stay lent; and then no step is left out for want of one.
 pub fn sides_stay_lent<S: PutSide + TakeSide>()
