@@ -3,7 +3,7 @@ use Rattle.std.proofs.Common.{◌≡◌, refl, sym, ap, ◌∙◌, subst, ℕ, z
 use Rattle.std.proofs.Common.{Option, Some, None}
 use Rattle.std.specs.Prelude.{slice_get}
 use Rattle.std.specs.List.{range_with_len}
-use Rattle.std.proofs.lemmas.List.{map-append, append_assoc}
+use Rattle.std.proofs.lemmas.List.{map-append, append-nil, append_assoc}
 use Rattle.std.proofs.lemmas.List.Elements.{All-head, All-tail}
 use Rattle.std.proofs.lemmas.Bool.{and_parts, leb-true, false≢true}
 use Rattle.fl_base.specs.declared.fragment.Frag.{Frag}
@@ -19,7 +19,7 @@ use Rattle.fl_wire.specs.Reading.{AllFit}
 use Rattle.fl_compile.specs.declared.program.Program.{Program}
 use Rattle.fl_compile.specs.Programs.{TheProgram, program_of}
 use Rattle.fl_hop.specs.OfCircuit.{as_carried}
-use Rattle.fl_endpoint.specs.View.{TheEnd, interface_in, number_or_0, nothing_to_send, fresh}
+use Rattle.fl_endpoint.specs.View.{TheEnd, TheOutgoing, interface_in, number_or_0, nothing_to_send, fresh}
 use Rattle.fl_endpoint.specs.Accounts.{Sound, Account, Stretch, stream, stream_from}
 use Rattle.fl_endpoint.specs.Laws.{HandlesInOrder, OnAnotherCircuit}
 use Rattle.fl_running.specs.Carried.{Traffic, EndGoes, left_to_put}
@@ -74,65 +74,62 @@ first_same f g (x ∷ xs) ys same =
     let more : map f (xs ++ ys) ≡ map g (xs ++ ys) = cc in
     ap (λ (z : Frag). z ∷ map f xs) one ∙ ap (λ (zs : List Frag). g x ∷ zs) (first_same f g xs ys more)
 
-module _ (in_order : HandlesInOrder) (on_another : OnAnotherCircuit) where
-  -- what was put, and what is left to put, are the fragments of what was sent
-  all_put : (d : Traffic) (x : TheEnd) → SinceMade d x → stream_from x d.sent ≡ d.put ++ left_to_put x.outgoing
-  all_put d x since = subst (λ o. left_to_put o ++ stream_from x d.sent ≡ d.put ++ left_to_put x.outgoing) since.outgoing since.goes.sends
+-- ---- what an end did since it was made
 
-  -- as they are carried: those of circuit 0
+within : (d : Traffic) (x : TheEnd) → SinceMade d x → is_within_limits (interface_in x) ≡ true
+within d x since = ap (λ (p : Program). is_within_limits (program_of p).interface) since.goes.program ∙ since.sound.within
+
+-- what was put, and what is left to put, are the fragments of what was sent
+all_put : (d : Traffic) (x : TheEnd) → SinceMade d x → stream_from x d.sent ≡ d.put ++ left_to_put x.outgoing
+all_put d x since = subst (λ (o : TheOutgoing). left_to_put o ++ stream_from x d.sent ≡ d.put ++ left_to_put x.outgoing) since.outgoing since.goes.sends
+
+-- it took the fragments of what it handled, and a rest
+all_taken : (e : Traffic) (y : TheEnd) (s : SinceMade e y) → e.took ≡ stream (program_of s.began.program) 0 e.handled ++ y.parts
+all_taken e y s =
+    ap (λ (xs : List Frag). xs ++ e.took) (sym s.parts) ∙ s.goes.gives
+    ∙ ap (λ (p : Program). stream (program_of p) 0 e.handled ++ y.parts) s.goes.program
+
+abbrev read_of : (e : Traffic) (y : TheEnd) → SinceMade e y → Stretch
+read_of e y s = record { accepted = []; put = []; took = stream (program_of s.began.program) 0 e.handled; handled = e.handled; due = [] }
+
+account : (e : Traffic) (y : TheEnd) (s : SinceMade e y) → Account (fresh s.began.program s.began.circuit) (read_of e y s) s.began
+account e y s = record {
+  program = refl;
+  failed = λ no. absurd (false≢true no);
+  circuit = λ c is. is;
+  unbound = λ none. (refl, refl);
+  accepted_fit = none_fit (interface_in s.began);
+  sends = ap (λ (o : TheOutgoing). o.unwritten) (sym s.outgoing);
+  waits = ap (λ (o : TheOutgoing). o.waiting) (sym s.outgoing);
+  handled_fit = subst (λ (p : Program). AllFit (program_of p).interface e.handled) s.goes.program s.goes.handled_fit;
+  gives = sym (append-nil (stream (program_of s.began.program) 0 e.handled)) ∙ ap (λ (xs : List Frag). stream (program_of s.began.program) 0 e.handled ++ xs) (sym s.parts);
+}
+
+module _ (in_order : HandlesInOrder) (on_another : OnAnotherCircuit) where
+  -- what was sent, as it is carried: on circuit 0
   carried : (d : Traffic) (x : TheEnd) → SinceMade d x → map as_carried (stream_from x d.sent) ≡ stream (program_of x.program) 0 d.sent
   carried d x since =
       map_twice (stream_from x d.sent)
-      ∙ ap (map bare) (on_another (program_of x.program) (number_or_0 x.circuit) 0 d.sent since.sound.circuit since.sound.within since.goes.sent_fit)
-      ∙ bare_stream (program_of x.program) d.sent since.sound.within since.goes.sent_fit
+      ∙ ap (map bare) (on_another (program_of x.program) (number_or_0 x.circuit) 0 d.sent since.number (within d x since) since.goes.sent_fit)
+      ∙ bare_stream (program_of x.program) d.sent (within d x since) since.goes.sent_fit
 
   all_carried : (d : Traffic) (x : TheEnd) → SinceMade d x → stream (program_of x.program) 0 d.sent ≡ map as_carried d.put ++ map as_carried (left_to_put x.outgoing)
   all_carried d x since = sym (carried d x since) ∙ ap (map as_carried) (all_put d x since) ∙ map-append as_carried d.put (left_to_put x.outgoing)
 
-  -- ---- what the other handled
-
-  -- the end with nothing to send
-  abbrev silent : TheEnd → TheEnd
-  silent y = record y { outgoing = nothing_to_send }
-
-  silent_sound : (y : TheEnd) → Sound y → Sound (silent y)
-  silent_sound y sound = record {
-    within = sound.within;
-    words = sound.words;
-    rules = sound.rules;
-    circuit = sound.circuit;
-    unbound = λ none. record { outgoing = refl; parts = (sound.unbound none).parts; failed = (sound.unbound none).failed };
-    sends = record { calls = []; fit = none_fit (interface_in y); number = 0; left = refl; few = omega arith };
-    part = sound.part;
-    plain = sound.plain;
-  }
-
-  abbrev took_of : Traffic → Stretch
-  took_of e = record { accepted = []; put = []; took = e.took; handled = e.handled; due = [] }
-
-  account : (e : Traffic) (y : TheEnd) → SinceMade e y → Account (fresh y.program y.circuit) (took_of e) (silent y)
-  account e y since = record {
-    program = refl;
-    failed = λ no. absurd (false≢true no);
-    circuit = λ c is. is;
-    unbound = λ none. (refl, refl);
-    accepted_fit = none_fit (interface_in y);
-    sends = refl;
-    waits = refl;
-    handled_fit = since.goes.handled_fit;
-    gives = ap (λ (xs : List Frag). xs ++ e.took) (sym since.parts) ∙ since.goes.gives;
-  }
-
   pub agree : EndsAgree
   agree d e x y sender taker same arrived =
-      let ahead : e.took ++ (arrived.0 ++ map as_carried (left_to_put x.outgoing)) ≡ stream (program_of y.program) 0 d.sent =
-      sym (append_assoc e.took arrived.0 (map as_carried (left_to_put x.outgoing)))
+      let own : program_of taker.began.program ≡ program_of x.program = ap program_of (sym taker.goes.program) ∙ same in
+      let ahead : stream (program_of taker.began.program) 0 e.handled ++ (y.parts ++ (arrived.0 ++ map as_carried (left_to_put x.outgoing)))
+          ≡ stream (program_of taker.began.program) 0 d.sent =
+      sym (append_assoc (stream (program_of taker.began.program) 0 e.handled) y.parts (arrived.0 ++ map as_carried (left_to_put x.outgoing)))
+          ∙ ap (λ (xs : List Frag). xs ++ (arrived.0 ++ map as_carried (left_to_put x.outgoing))) (sym (all_taken e y taker))
+          ∙ sym (append_assoc e.took arrived.0 (map as_carried (left_to_put x.outgoing)))
           ∙ ap (λ (xs : List Frag). xs ++ map as_carried (left_to_put x.outgoing)) (sym arrived.1)
           ∙ sym (all_carried d x sender)
-          ∙ ap (λ (p : TheProgram). stream p 0 d.sent) (sym same) in
-      let fit : AllFit (interface_in y) d.sent = subst (λ (p : TheProgram). AllFit p.interface d.sent) (sym same) sender.goes.sent_fit in
-      let taken = in_order y.program y.circuit (silent y) (took_of e) d.sent (arrived.0 ++ map as_carried (left_to_put x.outgoing))
-          (silent_sound y taker.sound) (account e y taker) fit ahead in
+          ∙ ap (λ (p : TheProgram). stream p 0 d.sent) (sym own) in
+      let fit : AllFit (interface_in taker.began) d.sent = subst (λ (p : TheProgram). AllFit p.interface d.sent) (sym own) sender.goes.sent_fit in
+      let taken = in_order taker.began.program taker.began.circuit taker.began (read_of e y taker) d.sent (y.parts ++ (arrived.0 ++ map as_carried (left_to_put x.outgoing)))
+          taker.sound (account e y taker) fit ahead in
       (taken.left, taken.calls_are)
 
   pub off_links : CarriedOffLinks
@@ -140,5 +137,5 @@ module _ (in_order : HandlesInOrder) (on_another : OnAnotherCircuit) where
       let whole : stream_from x d.sent ≡ stream (program_of x.program) 0 d.sent = ap (λ (c : ℕ). stream (program_of x.program) c d.sent) zero_is in
       first_same as_carried bare d.put (left_to_put x.outgoing)
       (ap (map as_carried) (sym (all_put d x since)) ∙ carried d x since
-          ∙ sym (bare_stream (program_of x.program) d.sent since.sound.within since.goes.sent_fit)
+          ∙ sym (bare_stream (program_of x.program) d.sent (within d x since) since.goes.sent_fit)
           ∙ ap (map bare) (sym whole) ∙ ap (map bare) (all_put d x since))

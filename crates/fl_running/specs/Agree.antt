@@ -1,5 +1,5 @@
 -- Two ends of one binding: what one handled is what the other sent. Law.
-use Rattle.std.specs.Prelude.{◌≡◌, List, [], map}
+use Rattle.std.specs.Prelude.{◌≡◌, ◌<◌, ◌^◌, List, [], map}
 use Rattle.fl_base.specs.declared.fragment.Frag.{Frag}
 use Rattle.fl_base.specs.Control.{bare}
 use Rattle.fl_base.specs.Prefix.{IsPrefix}
@@ -12,10 +12,11 @@ use Rattle.fl_running.specs.Carried.{Traffic, EndGoes}
 -- since the end was made so much happened there, and it came to this
 pub record SinceMade (d : Traffic) (x : TheEnd) : Type 0 where
   pub began : TheEnd
+  pub sound : Sound began
   pub outgoing : began.outgoing ≡ nothing_to_send
   pub parts : began.parts ≡ []
   pub goes : EndGoes d began x
-  pub sound : Sound x
+  pub number : number_or_0 x.circuit < 2 ^ 16
 
 -- fragments that were taken are the first of those that were put, as a circuit carries them
 abbrev pub Arrived : List Frag → List Frag → Type 0
