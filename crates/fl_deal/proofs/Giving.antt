@@ -7,19 +7,21 @@ use Rattle.std.proofs.lemmas.Option.{slice_get_within, slice_get-get_or}
 use Rattle.std.proofs.lemmas.Bool.Decides.{nat_tests}
 use Rattle.fl_ring.specs.SharedSides.{TheSide}
 use Rattle.fl_deal.specs.declared.deal.Dealt.{Dealt}
-use Rattle.fl_deal.specs.Dealt.{Hands, hand_at, own_sides, AreDealt, IsAt, AreAt, hands_in, Holds, Gives}
+use Rattle.fl_deal.specs.Dealt.{Hands, hand_at, own_sides, AreDealt, IsAt, AreAt, hands_in, Holds, Gives, AreNew, Deals}
 use Rattle.fl_deal.specs.Giving.{given_to}
-use Rattle.fl_deal.proofs.Places.{stays_at, last_at, one_more}
+use Rattle.fl_deal.proofs.Places.{next_test, none_before, none_behind, self_test, stays_at, last_at, one_more}
 
 abbrev pub own_of : ℕ → ℕ → TheSide → List TheSide
 own_of core owner side = if owner == core then side ∷ [] else []
 
 pub given_look : (n c : ℕ) (side : TheSide) (hands : Hands) → n < length hands → hand_at (given_to n side hands) c ≡ hand_at hands c ++ own_of c n side
 given_look n c side [] h = absurd (omega (arith, h))
-given_look zero zero side (x ∷ hands) h = refl
-given_look zero (suc c) side (x ∷ hands) h = sym (append-nil (hand_at hands c))
-given_look (suc n) zero side (x ∷ hands) h = sym (append-nil x)
-given_look (suc n) (suc c) side (x ∷ hands) h = given_look n c side hands (omega (arith, h))
+given_look zero zero side (x ∷ hands) h = ap (λ (b : Bool). x ++ (if b then side ∷ [] else [])) (sym (self_test zero))
+given_look zero (suc c) side (x ∷ hands) h =
+    sym (append-nil (hand_at hands c)) ∙ ap (λ (b : Bool). hand_at hands c ++ (if b then side ∷ [] else [])) (sym (none_before c))
+given_look (suc n) zero side (x ∷ hands) h = sym (append-nil x) ∙ ap (λ (b : Bool). x ++ (if b then side ∷ [] else [])) (sym (none_behind n))
+given_look (suc n) (suc c) side (x ∷ hands) h =
+    given_look n c side hands (omega (arith, h)) ∙ ap (λ (b : Bool). hand_at hands c ++ (if b then side ∷ [] else [])) (sym (next_test n c))
 
 pub given_length : (n : ℕ) (side : TheSide) (hands : Hands) → length (given_to n side hands) ≡ length hands
 given_length n side [] = refl
@@ -95,8 +97,7 @@ at_more owners sides hands places owner side there same numbered are n o s owner
     (one_more owners owner o n owner_is)
   where
     own_self : (owner : ℕ) (side : TheSide) → own_of owner owner side ≡ side ∷ []
-    own_self zero side = refl
-    own_self (suc owner) side = own_self owner side
+    own_self owner side = ap (λ (b : Bool). if b then side ∷ [] else []) (self_test owner)
 
 pub gives : (owner : ℕ) (side : TheSide) (d d2 : Dealt) → owner < length d.hands.items → hands_in d2 ≡ given_to owner side (hands_in d)
     → d2.owners.items ≡ d.owners.items ++ owner ∷ [] → d2.places.items ≡ d.places.items ++ length (hand_at (hands_in d) owner) ∷ []
@@ -119,6 +120,33 @@ gives owner side d d2 there hands owners places count count2 = record {
       };
 }
 
-no_side : (owners : List ℕ) (c : ℕ) → own_sides c owners [] ≡ []
-no_side [] c = refl
-no_side (o ∷ owners) c = refl
+pub deals : (size first second : ℕ) (d m d2 : Dealt) (one two : TheSide) → AreNew size one two → Gives first one d m → Gives second two m d2 → Deals size first second d d2
+deals size first second d m d2 one two new a b = record {
+  one = one;
+  two = two;
+  new = new;
+  cores = b.cores ∙ a.cores;
+  owners = b.owners ∙ ap (λ (os : List ℕ). os ++ second ∷ []) a.owners ∙ append_assoc d.owners.items (first ∷ []) (second ∷ []);
+  holds = λ sides h. subst (Holds d2) (append_assoc sides (one ∷ []) (two ∷ [])) (b.holds (sides ++ one ∷ []) (a.holds sides h));
+}
+
+-- ---- empty hands
+
+empty_look : {X : Type 0} (f : X → List TheSide) (xs : List X) → ((n : ℕ) (x : X) → slice_get xs n ≡ Some x → f x ≡ []) → (c : ℕ) → hand_at (map f xs) c ≡ []
+empty_look f [] none c = refl
+empty_look f (x ∷ xs) none zero = none zero x refl
+empty_look f (x ∷ xs) none (suc c) = empty_look f xs (λ n y e. none (suc n) y e) c
+
+pub holds_none : (d : Dealt) → d.owners.items ≡ [] → d.places.items ≡ [] → ((c : ℕ) → hand_at (hands_in d) c ≡ []) → Holds d []
+holds_none d owners places empty = record {
+  dealt = record { count = ap length (sym owners); each = λ c. empty c ∙ sym (ap (λ (os : List ℕ). own_sides c os []) owners) };
+  numbered = ap length places ∙ ap length (sym owners);
+  places = λ n o s owner side. absurd (let no : None ≡ Some s = side in cc);
+}
+
+-- one empty hand more
+pub still_empty : {X : Type 0} (f : X → List TheSide) (xs : List X) (x : X) → f x ≡ [] → ((c : ℕ) → hand_at (map f xs) c ≡ []) → (c : ℕ) → hand_at (map f (xs ++ x ∷ [])) c ≡ []
+still_empty f [] x none empty zero = none
+still_empty f [] x none empty (suc c) = refl
+still_empty f (y ∷ xs) x none empty zero = empty zero
+still_empty f (y ∷ xs) x none empty (suc c) = still_empty f xs x none (λ n. empty (suc n)) c

@@ -6,6 +6,7 @@ use Rattle.fl_ring.specs.SharedSides.{TheSide}
 use Rattle.fl_ring.specs.Laws.{SideLaw}
 use Rattle.fl_deal.specs.Dealt.{Hands, hand_at, own_sides, AreDealt}
 use Rattle.fl_deal.specs.Settled.{WentOn, AllWentOn, HandsWentOn, DealtGoOn, RingsStay}
+use Rattle.fl_deal.proofs.Places.{self_test}
 use Rattle.fl_deal.proofs.Giving.{own_of}
 
 pub record First (s : TheSide) (xs zs : List TheSide) : Type 0 where
@@ -30,10 +31,6 @@ none_went : (zs : List TheSide) → AllWentOn [] zs → zs ≡ []
 none_went [] h = refl
 none_went (z ∷ zs) h = absurd h
 
-self : (n : ℕ) → (n == n) ≡ true
-self zero = refl
-self (suc n) = self n
-
 -- sides of these owners, of which core c has this
 pub record Still (owners : List ℕ) (sides : List TheSide) (hand : ℕ → List TheSide) : Type 0 where
   pub sides2 : List TheSide
@@ -48,7 +45,7 @@ still [] (s ∷ sides) hand same went = absurd (omega (arith, same))
 still (o ∷ owners) [] hand same went = absurd (omega (arith, same))
 still (o ∷ owners) (s ∷ sides) hand same went =
     let at_owner : AllWentOn (s ∷ own_sides o owners sides) (hand o) =
-    subst (λ (b : Bool). AllWentOn ((if b then s ∷ [] else []) ++ own_sides o owners sides) (hand o)) (self o) (went o) in
+    subst (λ (b : Bool). AllWentOn ((if b then s ∷ [] else []) ++ own_sides o owners sides) (hand o)) (self_test o) (went o) in
     let one = first s (own_sides o owners sides) (hand o) at_owner in
     let more = still owners sides (λ c. drop (skipped (o == c)) (hand c)) (omega (arith, same)) (λ c. behind (o == c) s (own_sides c owners sides) (hand c) (went c)) in
     record {

@@ -1,5 +1,26 @@
 -- Lists with an element more.
-use Rattle.std.proofs.Common.{◌≡◌, ◌⊎◌, inl, inr, ⊎_elim, refl, sym, ap, ◌∙◌, ℕ, zero, suc, List, [], ◌∷◌, ◌++◌, length, slice_get, Option, Some, None}
+use Rattle.std.proofs.Common.{◌≡◌, ◌⊎◌, inl, inr, ⊎_elim, refl, sym, ap, ◌∙◌, ℕ, zero, suc, ◌==◌, Bool, true, false, List, [], ◌∷◌, ◌++◌, length, slice_get, Option, Some, None, arith}
+use Rattle.std.proofs.lemmas.Bool.Decides.{nat_tests}
+
+-- ---- tests on numbers
+
+next_by : (n c : ℕ) (b : Bool) → (n == c) ≡ b → (suc n == suc c) ≡ b
+next_by n c true e = grind (arith, nat_tests, e)
+next_by n c false e = grind (arith, nat_tests, e)
+
+pub next_test : (n c : ℕ) → (suc n == suc c) ≡ (n == c)
+next_test n c = next_by n c (n == c) refl
+
+pub none_before : (c : ℕ) → (zero == suc c) ≡ false
+none_before c = grind (arith, nat_tests)
+
+pub none_behind : (n : ℕ) → (suc n == zero) ≡ false
+none_behind n = grind (arith, nat_tests)
+
+pub self_test : (n : ℕ) → (n == n) ≡ true
+self_test n = grind (arith, nat_tests)
+
+-- ---- places
 
 pub stays_at : {X : Type 0} (xs ys : List X) (n : ℕ) (x : X) → slice_get xs n ≡ Some x → slice_get (xs ++ ys) n ≡ Some x
 stays_at [] ys n x e = absurd cc

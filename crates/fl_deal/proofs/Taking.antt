@@ -4,11 +4,11 @@ use Rattle.std.proofs.Common.{Bool, true, false, arith}
 use Rattle.std.specs.Prelude.{unwrap_or}
 use Rattle.std.proofs.lemmas.List.{append-nil, append_assoc, length-append}
 use Rattle.std.proofs.lemmas.Option.{slice_get_within, slice_get-get_or}
-use Rattle.fl_ring.specs.SharedSides.{TheSide}
+use Rattle.fl_ring.specs.SharedSides.{TheSide, SidesNear}
 use Rattle.fl_deal.specs.Dealt.{Hands, hand_at, own_sides, AreDealt}
 use Rattle.fl_deal.specs.Settled.{Pair, sides_of, Each, IsRing, IsNear, HoldRings}
 use Rattle.fl_deal.specs.Giving.{given_to}
-use Rattle.fl_deal.proofs.Places.{Ended, empty, behind, ended, same_end}
+use Rattle.fl_deal.proofs.Places.{self_test, Ended, empty, behind, ended, same_end}
 use Rattle.fl_deal.proofs.Giving.{own_of, given_look, given_length, own_more}
 
 -- ---- taken back
@@ -69,8 +69,7 @@ same_front true xs ys s e = (same_end xs ys s s e).0
 same_front false xs ys s e = sym (append-nil xs) ∙ e ∙ append-nil ys
 
 own_self : (owner : ℕ) (side : TheSide) → own_of owner owner side ≡ side ∷ []
-own_self zero side = refl
-own_self (suc owner) side = own_self owner side
+own_self owner side = ap (λ (b : Bool). if b then side ∷ [] else []) (self_test owner)
 
 pub record OneLess (owners : List ℕ) (sides : List TheSide) (owner : ℕ) (side : TheSide) (hands : Hands) : Type 0 where
   pub rest : Hands
@@ -182,3 +181,92 @@ few_pairs (p ∷ pairs) few = absurd (omega (arith, few))
 
 pub no_ring : (owners : List ℕ) (pairs : List Pair) (hands : Hands) → length owners < 2 → AreDealt owners (sides_of pairs) hands → Each IsNear pairs
 no_ring owners pairs hands few d = few_pairs pairs (let count = d.count in let twice = even pairs in omega (arith, few, count, twice))
+
+-- ---- what the code does
+
+-- the last side of a core's hand was taken
+abbrev pub LastOf : ℕ → Hands → Hands → Option TheSide → Type 0
+LastOf core hands hands2 o = (rest : Hands) (side : TheSide) → core < length rest → hands ≡ given_to core side rest → (o ≡ Some side) × (hands2 ≡ rest)
+
+-- a hand to which a side was given isn't empty
+pub none_left : {X : Type 0} (f : X → List TheSide) (xs : List X) (n : ℕ) (x : X) (side : TheSide) (rest : Hands) → n < length rest → slice_get xs n ≡ Some x
+    → map f xs ≡ given_to n side rest → length (f x) ≡ 0 → ⊥
+none_left f [] n x side rest below e h none = cc
+none_left f (z ∷ xs) n x side [] below e h none = omega (arith, below)
+none_left f (z ∷ xs) zero x side (r ∷ rest) below e h none =
+    let first : f z ≡ r ++ side ∷ [] = cc in
+    let same : z ≡ x = cc in
+    let long : length (f x) ≡ length r + 1 = ap (λ k. length (f k)) (sym same) ∙ ap length first ∙ length-append r (side ∷ []) in
+    omega (arith, none, long)
+none_left f (z ∷ xs) (suc n) x side (r ∷ rest) below e h none =
+    let others : map f xs ≡ given_to n side rest = cc in
+    none_left f xs n x side rest (omega (arith, below)) e others none
+
+pub last_of : {X : Type 0} (f : X → List TheSide) (xs : List X) (n : ℕ) (x y : X) (last : TheSide) → n < length xs → x ≡ get_or xs n x → f x ≡ f y ++ last ∷ []
+    → LastOf n (map f xs) (map f (slice_set xs n y)) (Some last)
+last_of f xs n x y last below is items rest side there given =
+    let u = undone f xs n x y side last rest there (slice_get-get_or xs n x below ∙ ap Some (sym is)) given items in
+    (ap Some u.0, u.1)
+
+module _ (owners os : List ℕ) (first second : ℕ) (hands : Hands) (is : owners ≡ (os ++ first ∷ []) ++ second ∷ []) where
+  whole : HoldRings owners hands → HoldRings ((os ++ first ∷ []) ++ second ∷ []) hands
+  whole h = subst (λ (xs : List ℕ). HoldRings xs hands) is h
+
+  less : (h : HoldRings owners hands) → RingLess os first second (whole h).pairs hands
+  less h = ring_less os first second (whole h).pairs hands (whole h).dealt
+
+  pub second_there : HoldRings owners hands → second < length hands
+  second_there h =
+      let r = less h in
+      let long : length hands ≡ length r.one_given = ap length r.two_is ∙ given_length second r.last.two r.one_given in
+      let below = r.second_there in
+      omega (arith, below, long)
+
+  pub first_there : (hands1 : Hands) (o : Option TheSide) → HoldRings owners hands → LastOf second hands hands1 o → first < length hands1
+  first_there hands1 o h t =
+      let r = less h in
+      let took = t r.one_given r.last.two r.second_there r.two_is in
+      let long : length hands1 ≡ length r.rest = ap length took.1 ∙ ap length r.one_is ∙ given_length first r.last.one r.rest in
+      let below = r.first_there in
+      omega (arith, below, long)
+
+  pub has_second : (hands1 : Hands) → HoldRings owners hands → LastOf second hands hands1 None → ⊥
+  has_second hands1 h t = let r = less h in let took = t r.one_given r.last.two r.second_there r.two_is in let no : None ≡ Some r.last.two = took.0 in cc
+
+  pub has_first : (hands1 hands2 : Hands) (o : Option TheSide) → HoldRings owners hands → LastOf second hands hands1 o → LastOf first hands1 hands2 None → ⊥
+  has_first hands1 hands2 o h t u =
+      let r = less h in
+      let took = t r.one_given r.last.two r.second_there r.two_is in
+      let more = u r.rest r.last.one r.first_there (took.1 ∙ r.one_is) in
+      let no : None ≡ Some r.last.one = more.0 in
+      cc
+
+  pub one_ring : (hands1 hands2 : Hands) (two one : TheSide) → HoldRings owners hands → LastOf second hands hands1 (Some two) → LastOf first hands1 hands2 (Some one)
+      → (one.ring ≡ two.ring) × HoldRings os hands2
+  one_ring hands1 hands2 two one h t u =
+      let r = less h in
+      let took = t r.one_given r.last.two r.second_there r.two_is in
+      let more = u r.rest r.last.one r.first_there (took.1 ∙ r.one_is) in
+      let two_is : two ≡ r.last.two = let e : Some two ≡ Some r.last.two = took.0 in cc in
+      let one_is : one ≡ r.last.one = let e : Some one ≡ Some r.last.one = more.0 in cc in
+      let rings = rings_less os first second hands (whole h) r in
+      (
+        ap (λ (s : TheSide). s.ring) one_is ∙ rings.0 ∙ ap (λ (s : TheSide). s.ring) (sym two_is),
+        subst (λ (hs : Hands). HoldRings os hs) (sym more.1) rings.1,
+      )
+
+  pub near_all : (hands1 hands2 : Hands) (two one : TheSide) → LastOf second hands hands1 (Some two) → LastOf first hands1 hands2 (Some one)
+      → SidesNear one two → SidesNear two one → ((pairs : List Pair) → AreDealt os (sides_of pairs) hands2 → Each IsNear pairs)
+      → (pairs : List Pair) → AreDealt owners (sides_of pairs) hands → Each IsNear pairs
+  near_all hands1 hands2 two one t u forth back others pairs d =
+      let r = ring_less os first second pairs hands (subst (λ (xs : List ℕ). AreDealt xs (sides_of pairs) hands) is d) in
+      let took = t r.one_given r.last.two r.second_there r.two_is in
+      let more = u r.rest r.last.one r.first_there (took.1 ∙ r.one_is) in
+      let two_is : two ≡ r.last.two = let e : Some two ≡ Some r.last.two = took.0 in cc in
+      let one_is : one ≡ r.last.one = let e : Some one ≡ Some r.last.one = more.0 in cc in
+      near_more pairs r.front r.last r.pairs_are
+      (others r.front (subst (λ (hs : Hands). AreDealt os (sides_of r.front) hs) (sym more.1) r.dealt))
+      (record {
+        forth = subst (λ (s : TheSide). SidesNear s r.last.two) one_is (subst (λ (s : TheSide). SidesNear one s) two_is forth);
+        back = subst (λ (s : TheSide). SidesNear s r.last.one) two_is (subst (λ (s : TheSide). SidesNear two s) one_is back);
+      })

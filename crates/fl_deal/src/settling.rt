@@ -10,12 +10,14 @@ use fl_ring::{SharedSide, settle_duo};
 
 // The last side in a core's hand.
 fn last_of(hands: &mut Vec<Vec<SharedSide>>, core: usize) -> Option<SharedSide>
+    requires there { core < length hands.old.items }
     ensures last { (rest : Hands) (side : TheSide) → core < length rest → map (λ hand. hand.items) hands.old.items ≡ given_to core side rest
         → (result ≡ Some side) × (map (λ hand. hand.items) hands.new.items ≡ rest) }
 {
-    match hands.get_mut(core) {
+    let hand = &mut hands[core];
+    match hand.pop() {
         None => None,
-        Some(hand) => hand.pop(),
+        Some(side) => Some(side),
     }
 }
 
@@ -26,10 +28,16 @@ pub fn settle(owners: Vec<usize>, hands: Vec<Vec<SharedSide>>)
 {
     let mut owners = owners;
     let mut hands = hands;
-    let (Some(second), Some(first)) = (owners.pop(), owners.pop()) else {
+    let Some(second) = owners.pop() else {
         return;
     };
-    let (Some(two), Some(one)) = (last_of(&mut hands, second), last_of(&mut hands, first)) else {
+    let Some(first) = owners.pop() else {
+        return;
+    };
+    let Some(two) = last_of(&mut hands, second) else {
+        return;
+    };
+    let Some(one) = last_of(&mut hands, first) else {
         return;
     };
     settle_duo(one, two);

@@ -1,0 +1,60 @@
+use Rattle.std.proofs.Common.{ap, sym, ◌∙◌, ◌++◌, ◌∷◌, [], ℕ, List, length, ◌≡◌, ◌<◌, arith}
+use Rattle.std.proofs.lemmas.List.{length-map, length-append}
+use Rattle.fl_deal.proofs.Taking.{no_ring, second_there, first_there, has_second, has_first, one_ring, near_all}
+use Rattle.fl_deal.proofs.settling.+settle.Goals as goal
+
+pub returns-in_default : goal.returns-in_default
+returns-in_default c = record { near = λ pairs d. no_ring c.args.owners.items pairs _ (omega (arith, c.in_default.ensures.cases)) d }
+
+pub returns-in_default-pop : goal.returns-in_default-pop
+returns-in_default-pop c = record { near = λ pairs d. no_ring c.args.owners.items pairs _ (omega (arith, c.in_default-pop.ensures.cases)) d }
+
+abbrev owners_are : (owners once os : List ℕ) (first second : ℕ) → owners ≡ once ++ second ∷ [] → once ≡ os ++ first ∷ [] → owners ≡ (os ++ first ∷ []) ++ second ∷ []
+owners_are owners once os first second one two = one ∙ ap (λ (xs : List ℕ). xs ++ second ∷ []) two
+
+pub last_of-requires : goal.last_of-requires
+last_of-requires c = record {
+  there =
+      let below = second_there c.args.owners.items c.pop-2.new.self.items c.in-Some-pop.first c.in-Some.second _
+          (owners_are _ _ _ _ _ c.in-Some.ensures.items c.in-Some-pop.ensures.items) c.requires.rings in
+      let long = length-map (λ hand. hand.items) c.args.hands.items in
+      omega (arith, below, long);
+}
+
+pub returns-in_default-last_of : goal.returns-in_default-last_of
+returns-in_default-last_of c = record {
+  near = absurd (has_second c.args.owners.items c.pop-2.new.self.items c.in-Some-pop.first c.in-Some.second _
+      (owners_are _ _ _ _ _ c.in-Some.ensures.items c.in-Some-pop.ensures.items) _ c.requires.rings c.in_default-last_of.ensures.last);
+}
+
+pub last_of-requires-2 : goal.last_of-requires-2
+last_of-requires-2 c = record {
+  there =
+      let below = first_there c.args.owners.items c.pop-2.new.self.items c.in-Some-pop.first c.in-Some.second _
+          (owners_are _ _ _ _ _ c.in-Some.ensures.items c.in-Some-pop.ensures.items) _ _ c.requires.rings c.in-Some-last_of.ensures.last in
+      let long = length-map (λ hand. hand.items) c.last_of.new.hands.items in
+      omega (arith, below, long);
+}
+
+pub returns-in_default-last_of-2 : goal.returns-in_default-last_of-2
+returns-in_default-last_of-2 c = record {
+  near = absurd (has_first c.args.owners.items c.pop-2.new.self.items c.in-Some-pop.first c.in-Some.second _
+      (owners_are _ _ _ _ _ c.in-Some.ensures.items c.in-Some-pop.ensures.items) _ _ _ c.requires.rings c.in-Some-last_of.ensures.last c.in_default-last_of-2.ensures.last);
+}
+
+pub settle_duo-requires : goal.settle_duo-requires
+settle_duo-requires c = record {
+  ring = (one_ring c.args.owners.items c.pop-2.new.self.items c.in-Some-pop.first c.in-Some.second _
+      (owners_are _ _ _ _ _ c.in-Some.ensures.items c.in-Some-pop.ensures.items) _ _ c.in-Some-last_of.two c.in-Some-last_of-2.one c.requires.rings c.in-Some-last_of.ensures.last
+      c.in-Some-last_of-2.ensures.last).0;
+}
+
+pub settle-requires : goal.settle-requires
+settle-requires c = ?
+
+pub returns : goal.returns
+returns c = record {
+  near = near_all c.args.owners.items c.pop-2.new.self.items c.in-Some-pop.first c.in-Some.second _
+      (owners_are _ _ _ _ _ c.in-Some.ensures.items c.in-Some-pop.ensures.items) _ _ c.in-Some-last_of.two c.in-Some-last_of-2.one c.in-Some-last_of.ensures.last
+      c.in-Some-last_of-2.ensures.last c.settle_duo.ensures.there c.settle_duo.ensures.back c.settle.ensures.near;
+}
