@@ -72,28 +72,28 @@ at_more owners sides hands places owner side there same numbered are n o s owner
     ⊎_elim
     (λ (was : slice_get owners n ≡ Some o).
     ⊎_elim
-        (λ (stood : slice_get sides n ≡ Some s).
-        let a = are n o s was stood in
-        record {
-          place = a.place;
-          place_is = stays_at places (length (hand_at hands owner) ∷ []) n a.place a.place_is;
-          stands = ap (λ h. slice_get h a.place) (given_look owner o side hands there) ∙ stays_at (hand_at hands o) (own_of o owner side) a.place s a.stands;
-        })
-        (λ last. absurd (let below = slice_get_within owners n o was in let at = last.0 in omega (arith, below, at, same)))
-        (one_more sides side s n side_is))
+    (λ (stood : slice_get sides n ≡ Some s).
+    let a = are n o s was stood in
+    record {
+      place = a.place;
+      place_is = stays_at places (length (hand_at hands owner) ∷ []) n a.place a.place_is;
+      stands = ap (λ h. slice_get h a.place) (given_look owner o side hands there) ∙ stays_at (hand_at hands o) (own_of o owner side) a.place s a.stands;
+    })
+    (λ last. absurd (let below = slice_get_within owners n o was in let at = last.0 in omega (arith, below, at, same)))
+    (one_more sides side s n side_is))
     (λ last.
     ⊎_elim
-        (λ (stood : slice_get sides n ≡ Some s). absurd (let below = slice_get_within sides n s stood in let at = last.0 in omega (arith, below, at, same)))
-        (λ end.
-        let here : n ≡ length places = last.0 ∙ sym numbered in
-        let own : own_of o owner side ≡ s ∷ [] = ap (λ (x : ℕ). own_of x owner side) last.1 ∙ own_self owner side ∙ ap (λ (x : TheSide). x ∷ []) (sym end.1) in
-        record {
-          place = length (hand_at hands owner);
-          place_is = ap (slice_get (places ++ length (hand_at hands owner) ∷ [])) here ∙ last_at places (length (hand_at hands owner));
-          stands = ap (λ h. slice_get h (length (hand_at hands owner))) (given_look owner o side hands there ∙ ap (λ xs. hand_at hands o ++ xs) own)
-              ∙ ap (λ (x : ℕ). slice_get (hand_at hands x ++ s ∷ []) (length (hand_at hands owner))) last.1 ∙ last_at (hand_at hands owner) s;
-        })
-        (one_more sides side s n side_is))
+    (λ (stood : slice_get sides n ≡ Some s). absurd (let below = slice_get_within sides n s stood in let at = last.0 in omega (arith, below, at, same)))
+    (λ end.
+    let here : n ≡ length places = last.0 ∙ sym numbered in
+    let own : own_of o owner side ≡ s ∷ [] = ap (λ (x : ℕ). own_of x owner side) last.1 ∙ own_self owner side ∙ ap (λ (x : TheSide). x ∷ []) (sym end.1) in
+    record {
+      place = length (hand_at hands owner);
+      place_is = ap (slice_get (places ++ length (hand_at hands owner) ∷ [])) here ∙ last_at places (length (hand_at hands owner));
+      stands = ap (λ h. slice_get h (length (hand_at hands owner))) (given_look owner o side hands there ∙ ap (λ xs. hand_at hands o ++ xs) own)
+          ∙ ap (λ (x : ℕ). slice_get (hand_at hands x ++ s ∷ []) (length (hand_at hands owner))) last.1 ∙ last_at (hand_at hands owner) s;
+    })
+    (one_more sides side s n side_is))
     (one_more owners owner o n owner_is)
   where
     own_self : (owner : ℕ) (side : TheSide) → own_of owner owner side ≡ side ∷ []

@@ -91,7 +91,7 @@ one_less owners sides owner side hands same d =
         count = same;
         each = λ c. same_front (owner == c) (hand_at (without owner (own_sides owner owners sides) hands) c) (own_sides c owners sides) side
             (sym (given_look owner c side (without owner (own_sides owner owners sides) hands) back.0) ∙ ap (λ (hs : Hands). hand_at hs c) (sym back.1)
-                ∙ d.each c ∙ own_more c owners sides owner side same);
+            ∙ d.each c ∙ own_more c owners sides owner side same);
       };
     }
 
@@ -129,11 +129,11 @@ even (p ∷ pairs) = let more = even pairs in omega (arith, more)
 ring_less_by : (owners : List ℕ) (first second : ℕ) (pairs : List Pair) (hands : Hands) → Ended pairs
     → AreDealt ((owners ++ first ∷ []) ++ second ∷ []) (sides_of pairs) hands → RingLess owners first second pairs hands
 ring_less_by owners first second pairs hands (empty e) d = absurd (
-  let none : length (sides_of pairs) ≡ 0 = ap (λ (ps : List Pair). length (sides_of ps)) e in
-  let count = d.count in
-  let long = length-append (owners ++ first ∷ []) (second ∷ []) in
-  omega (arith, none, count, long)
-)
+    let none : length (sides_of pairs) ≡ 0 = ap (λ (ps : List Pair). length (sides_of ps)) e in
+    let count = d.count in
+    let long = length-append (owners ++ first ∷ []) (second ∷ []) in
+    omega (arith, none, count, long)
+    )
 ring_less_by owners first second pairs hands (behind front last e) d =
     let sides : sides_of pairs ≡ (sides_of front ++ last.one ∷ []) ++ last.two ∷ [] = ap sides_of e ∙ sides_more front last in
     let d2 : AreDealt ((owners ++ first ∷ []) ++ second ∷ []) ((sides_of front ++ last.one ∷ []) ++ last.two ∷ []) hands =
@@ -249,8 +249,7 @@ module _ (owners os : List ℕ) (first second : ℕ) (hands : Hands) (is : owner
       let more = u r.rest r.last.one r.first_there (took.1 ∙ r.one_is) in
       let two_is : two ≡ r.last.two = let e : Some two ≡ Some r.last.two = took.0 in cc in
       let one_is : one ≡ r.last.one = let e : Some one ≡ Some r.last.one = more.0 in cc in
-      let rings = rings_less os first second hands (whole h) r in
-      (
+      let rings = rings_less os first second hands (whole h) r in (
         ap (λ (s : TheSide). s.ring) one_is ∙ rings.0 ∙ ap (λ (s : TheSide). s.ring) (sym two_is),
         subst (λ (hs : Hands). HoldRings os hs) (sym more.1) rings.1,
       )

@@ -8,4 +8,4 @@ returns-clause-given c = put_given_or (λ hand. hand.items) c.args.hands.now.ite
 
 pub returns-clause-place : goal.returns-clause-place
 returns-clause-place c =
-    c.len-place.ensures ∙ ap length (sym (hand_is (λ hand. hand.items) c.args.hands.now.items c.args.core c.index_mut-hand.result.now c.requires.there c.index_mut-hand.ensures.value))
+    c.len-place.ensures ∙ c.index_mut-hand.result.now.ok.0 ∙ ap length (sym (hand_is (λ hand. hand.items) c.args.hands.now.items c.args.core c.index_mut-hand.result.now c.requires.there c.index_mut-hand.ensures.value))

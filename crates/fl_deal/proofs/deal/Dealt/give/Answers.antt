@@ -7,5 +7,5 @@ pub returns : goal.returns
 returns c = record {
   given = gives c.args.owner c.args.side c.args.self _ c.requires.there c.in_ok-place.ensures.given c.in_ok-push.ensures.items
       (c.in_ok-push-2.ensures.items ∙ ap (λ (n : ℕ). c.args.self.places.items ++ n ∷ []) c.in_ok-place.ensures.place)
-      (length-map _ c.args.self.hands.items) (sym (length-map _ c.give.new.hands.items));
+      (length-map _ _) (sym (length-map _ _));
 }

@@ -4,6 +4,6 @@ use Rattle.fl_deal.proofs.deal.Dealt.new.Given as goal
 
 abbrev pub invariant-loop : goal.invariant-loop
 invariant-loop l = record {
-  count : length l.hands.items + l.counter.left ≡ l.fn.cores;
+  count : length l.hands.items ≡ l.counter;
   empty : (c : ℕ) → hand_at (map (λ hand. hand.items) l.hands.items) c ≡ [];
 }
