@@ -1,0 +1,152 @@
+-- A side more in a core's hand.
+use Rattle.std.proofs.Common.{◌≡◌, ⊎_elim, refl, sym, ap, ◌∙◌, subst, ℕ, zero, suc, ◌+◌, ◌<◌, ◌==◌, if◌then◌else◌, List, [], ◌∷◌, ◌++◌, length, map, slice_get, slice_set, get_or, Option, Some, None}
+use Rattle.std.proofs.Common.{Bool, true, false, arith}
+use Rattle.std.specs.Prelude.{unwrap_or}
+use Rattle.std.proofs.lemmas.List.{append-nil, append_assoc, length-append}
+use Rattle.std.proofs.lemmas.Option.{slice_get_within, slice_get-get_or}
+use Rattle.std.proofs.lemmas.Bool.Decides.{nat_tests}
+use Rattle.fl_ring.specs.SharedSides.{TheSide}
+use Rattle.fl_deal.specs.declared.deal.Dealt.{Dealt}
+use Rattle.fl_deal.specs.Dealt.{Hands, hand_at, own_sides, AreDealt, IsAt, AreAt, hands_in, Holds, Gives, AreNew, Deals}
+use Rattle.fl_deal.specs.Giving.{given_to}
+use Rattle.fl_deal.proofs.Places.{next_test, none_before, none_behind, self_test, stays_at, last_at, one_more}
+
+abbrev pub own_of : ℕ → ℕ → TheSide → List TheSide
+own_of core owner side = if owner == core then side ∷ [] else []
+
+pub given_look : (n c : ℕ) (side : TheSide) (hands : Hands) → n < length hands → hand_at (given_to n side hands) c ≡ hand_at hands c ++ own_of c n side
+given_look n c side [] h = absurd (omega (arith, h))
+given_look zero zero side (x ∷ hands) h = ap (λ (b : Bool). x ++ (if b then side ∷ [] else [])) (sym (self_test zero))
+given_look zero (suc c) side (x ∷ hands) h =
+    sym (append-nil (hand_at hands c)) ∙ ap (λ (b : Bool). hand_at hands c ++ (if b then side ∷ [] else [])) (sym (none_before c))
+given_look (suc n) zero side (x ∷ hands) h = sym (append-nil x) ∙ ap (λ (b : Bool). x ++ (if b then side ∷ [] else [])) (sym (none_behind n))
+given_look (suc n) (suc c) side (x ∷ hands) h =
+    given_look n c side hands (omega (arith, h)) ∙ ap (λ (b : Bool). hand_at hands c ++ (if b then side ∷ [] else [])) (sym (next_test n c))
+
+pub given_length : (n : ℕ) (side : TheSide) (hands : Hands) → length (given_to n side hands) ≡ length hands
+given_length n side [] = refl
+given_length zero side (x ∷ hands) = refl
+given_length (suc n) side (x ∷ hands) = ap suc (given_length n side hands)
+
+-- it is so put there
+pub put_given : {X : Type 0} (f : X → List TheSide) (xs : List X) (n : ℕ) (x y : X) (side : TheSide) → slice_get xs n ≡ Some x → f y ≡ f x ++ side ∷ []
+    → map f (slice_set xs n y) ≡ given_to n side (map f xs)
+put_given f [] n x y side e h = absurd cc
+put_given f (z ∷ xs) zero x y side e h = let same : x ≡ z = cc in ap (λ k. k ∷ map f xs) (h ∙ ap (λ k. f k ++ side ∷ []) same)
+put_given f (z ∷ xs) (suc n) x y side e h = ap (λ ys. f z ∷ ys) (put_given f xs n x y side e h)
+
+pub put_given_or : {X : Type 0} (f : X → List TheSide) (xs : List X) (n : ℕ) (x y : X) (side : TheSide) → n < length xs → x ≡ get_or xs n x → f y ≡ f x ++ side ∷ []
+    → map f (slice_set xs n y) ≡ given_to n side (map f xs)
+put_given_or f xs n x y side below is h = put_given f xs n x y side (slice_get-get_or xs n x below ∙ ap Some (sym is)) h
+
+hand_of_map : {X : Type 0} (f : X → List TheSide) (xs : List X) (n : ℕ) (x : X) → slice_get xs n ≡ Some x → hand_at (map f xs) n ≡ f x
+hand_of_map f [] n x e = absurd cc
+hand_of_map f (z ∷ xs) zero x e = let same : z ≡ x = cc in ap f same
+hand_of_map f (z ∷ xs) (suc n) x e = hand_of_map f xs n x e
+
+pub hand_is : {X : Type 0} (f : X → List TheSide) (xs : List X) (n : ℕ) (x : X) → n < length xs → x ≡ get_or xs n x → hand_at (map f xs) n ≡ f x
+hand_is f xs n x below is = hand_of_map f xs n x (slice_get-get_or xs n x below ∙ ap Some (sym is))
+
+-- ---- what each core has
+
+pub own_more : (c : ℕ) (owners : List ℕ) (sides : List TheSide) (owner : ℕ) (side : TheSide) → length sides ≡ length owners
+    → own_sides c (owners ++ owner ∷ []) (sides ++ side ∷ []) ≡ own_sides c owners sides ++ own_of c owner side
+own_more c [] [] owner side same = append-nil (own_of c owner side)
+own_more c [] (s ∷ sides) owner side same = absurd (omega (arith, same))
+own_more c (o ∷ owners) [] owner side same = absurd (omega (arith, same))
+own_more c (o ∷ owners) (s ∷ sides) owner side same =
+    ap (λ xs. own_of c o s ++ xs) (own_more c owners sides owner side (omega (arith, same)))
+    ∙ sym (append_assoc (own_of c o s) (own_sides c owners sides) (own_of c owner side))
+
+dealt_more : (owners : List ℕ) (sides : List TheSide) (hands : Hands) (owner : ℕ) (side : TheSide) → owner < length hands → AreDealt owners sides hands
+    → AreDealt (owners ++ owner ∷ []) (sides ++ side ∷ []) (given_to owner side hands)
+dealt_more owners sides hands owner side there d = record {
+  count = length-append sides (side ∷ []) ∙ ap (λ n. n + 1) d.count ∙ sym (length-append owners (owner ∷ []));
+  each = λ c. given_look owner c side hands there ∙ ap (λ xs. xs ++ own_of c owner side) (d.each c) ∙ sym (own_more c owners sides owner side d.count);
+}
+
+at_more : (owners : List ℕ) (sides : List TheSide) (hands : Hands) (places : List ℕ) (owner : ℕ) (side : TheSide) → owner < length hands → length sides ≡ length owners
+    → length places ≡ length owners → AreAt owners sides hands places
+    → AreAt (owners ++ owner ∷ []) (sides ++ side ∷ []) (given_to owner side hands) (places ++ length (hand_at hands owner) ∷ [])
+at_more owners sides hands places owner side there same numbered are n o s owner_is side_is =
+    ⊎_elim
+    (λ (was : slice_get owners n ≡ Some o).
+    ⊎_elim
+    (λ (stood : slice_get sides n ≡ Some s).
+    let a = are n o s was stood in
+    record {
+      place = a.place;
+      place_is = stays_at places (length (hand_at hands owner) ∷ []) n a.place a.place_is;
+      stands = ap (λ h. slice_get h a.place) (given_look owner o side hands there) ∙ stays_at (hand_at hands o) (own_of o owner side) a.place s a.stands;
+    })
+    (λ last. absurd (let below = slice_get_within owners n o was in let at = last.0 in omega (arith, below, at, same)))
+    (one_more sides side s n side_is))
+    (λ last.
+    ⊎_elim
+    (λ (stood : slice_get sides n ≡ Some s). absurd (let below = slice_get_within sides n s stood in let at = last.0 in omega (arith, below, at, same)))
+    (λ end.
+    let here : n ≡ length places = last.0 ∙ sym numbered in
+    let own : own_of o owner side ≡ s ∷ [] = ap (λ (x : ℕ). own_of x owner side) last.1 ∙ own_self owner side ∙ ap (λ (x : TheSide). x ∷ []) (sym end.1) in
+    record {
+      place = length (hand_at hands owner);
+      place_is = ap (slice_get (places ++ length (hand_at hands owner) ∷ [])) here ∙ last_at places (length (hand_at hands owner));
+      stands = ap (λ h. slice_get h (length (hand_at hands owner))) (given_look owner o side hands there ∙ ap (λ xs. hand_at hands o ++ xs) own)
+          ∙ ap (λ (x : ℕ). slice_get (hand_at hands x ++ s ∷ []) (length (hand_at hands owner))) last.1 ∙ last_at (hand_at hands owner) s;
+    })
+    (one_more sides side s n side_is))
+    (one_more owners owner o n owner_is)
+  where
+    own_self : (owner : ℕ) (side : TheSide) → own_of owner owner side ≡ side ∷ []
+    own_self owner side = ap (λ (b : Bool). if b then side ∷ [] else []) (self_test owner)
+
+pub gives : (owner : ℕ) (side : TheSide) (d d2 : Dealt) → owner < length d.hands.items → hands_in d2 ≡ given_to owner side (hands_in d)
+    → d2.owners.items ≡ d.owners.items ++ owner ∷ [] → d2.places.items ≡ d.places.items ++ length (hand_at (hands_in d) owner) ∷ []
+    → length (hands_in d) ≡ length d.hands.items → length d2.hands.items ≡ length (hands_in d2)
+    → Gives owner side d d2
+gives owner side d d2 there hands owners places count count2 = record {
+  cores = count2 ∙ ap length hands ∙ given_length owner side (hands_in d) ∙ count;
+  owners = owners;
+  holds = λ sides holds.
+      let below : owner < length (hands_in d) = omega (arith, there, count) in
+      record {
+        dealt = subst (λ (os : List ℕ). AreDealt os (sides ++ side ∷ []) (hands_in d2)) (sym owners)
+            (subst (λ (hs : Hands). AreDealt (d.owners.items ++ owner ∷ []) (sides ++ side ∷ []) hs) (sym hands) (dealt_more d.owners.items sides (hands_in d) owner side below holds.dealt));
+        numbered = ap length places ∙ length-append d.places.items (length (hand_at (hands_in d) owner) ∷ []) ∙ ap (λ n. n + 1) holds.numbered
+            ∙ sym (length-append d.owners.items (owner ∷ [])) ∙ ap length (sym owners);
+        places = subst (λ (ps : List ℕ). AreAt d2.owners.items (sides ++ side ∷ []) (hands_in d2) ps) (sym places)
+            (subst (λ (os : List ℕ). AreAt os (sides ++ side ∷ []) (hands_in d2) (d.places.items ++ length (hand_at (hands_in d) owner) ∷ [])) (sym owners)
+            (subst (λ (hs : Hands). AreAt (d.owners.items ++ owner ∷ []) (sides ++ side ∷ []) hs (d.places.items ++ length (hand_at (hands_in d) owner) ∷ [])) (sym hands)
+            (at_more d.owners.items sides (hands_in d) d.places.items owner side below holds.dealt.count holds.numbered holds.places)));
+      };
+}
+
+pub deals : (size first second : ℕ) (d m d2 : Dealt) (one two : TheSide) → AreNew size one two → Gives first one d m → Gives second two m d2 → Deals size first second d d2
+deals size first second d m d2 one two new a b = record {
+  one = one;
+  two = two;
+  new = new;
+  cores = b.cores ∙ a.cores;
+  owners = b.owners ∙ ap (λ (os : List ℕ). os ++ second ∷ []) a.owners ∙ append_assoc d.owners.items (first ∷ []) (second ∷ []);
+  holds = λ sides h. subst (Holds d2) (append_assoc sides (one ∷ []) (two ∷ [])) (b.holds (sides ++ one ∷ []) (a.holds sides h));
+}
+
+-- ---- empty hands
+
+empty_look : {X : Type 0} (f : X → List TheSide) (xs : List X) → ((n : ℕ) (x : X) → slice_get xs n ≡ Some x → f x ≡ []) → (c : ℕ) → hand_at (map f xs) c ≡ []
+empty_look f [] none c = refl
+empty_look f (x ∷ xs) none zero = none zero x refl
+empty_look f (x ∷ xs) none (suc c) = empty_look f xs (λ n y e. none (suc n) y e) c
+
+pub holds_none : (d : Dealt) → d.owners.items ≡ [] → d.places.items ≡ [] → ((c : ℕ) → hand_at (hands_in d) c ≡ []) → Holds d []
+holds_none d owners places empty = record {
+  dealt = record { count = ap length (sym owners); each = λ c. empty c ∙ sym (ap (λ (os : List ℕ). own_sides c os []) owners) };
+  numbered = ap length places ∙ ap length (sym owners);
+  places = λ n o s owner side. absurd (let no : None ≡ Some s = side in cc);
+}
+
+-- one empty hand more
+pub still_empty : {X : Type 0} (f : X → List TheSide) (xs : List X) (x : X) → f x ≡ [] → ((c : ℕ) → hand_at (map f xs) c ≡ []) → (c : ℕ) → hand_at (map f (xs ++ x ∷ [])) c ≡ []
+still_empty f [] x none empty zero = none
+still_empty f [] x none empty (suc c) = refl
+still_empty f (y ∷ xs) x none empty zero = empty zero
+still_empty f (y ∷ xs) x none empty (suc c) = still_empty f xs x none (λ n. empty (suc n)) c

@@ -1,0 +1,5 @@
+pub mod Places
+pub mod Giving
+pub mod Taking
+pub mod Going
+pub mod Conserving

@@ -1,0 +1,18 @@
+//! The sides of rings between cores: dealt to them before they run on threads of their own, and put together again afterwards.
+//!
+//! Contract for the layers above: a [`Dealt`] holds new rings, each side in the hand of its core, at the place that is told (`specs/Dealt.antt`). The cores
+//! take the hands and use their sides; [`settle`] takes them back, and then of each ring what each side took is the first of what the other put
+//! (`specs/Settled.antt`, which has the laws for that, too).
+//!
+//! - `deal.rt`: rings dealt
+//! - `settling.rt`: sides put together again
+//! - `law.rt`: what holds of sides in use
+#![tactic(auto)]
+
+mod deal;
+mod law;
+mod settling;
+
+pub use deal::Dealt;
+pub use law::{dealt_go_on, rings_conserve};
+pub use settling::settle;
