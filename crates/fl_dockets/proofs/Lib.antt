@@ -1,0 +1,10 @@
+mod Dues
+mod Ends
+mod Growing
+mod Lists
+mod OneMore
+mod Replies
+mod Routed
+mod Rulings
+mod Setting
+mod Slots

@@ -1,0 +1,4 @@
+pub mod Dockets
+pub mod Joined
+pub mod Rules
+pub mod State

@@ -1,0 +1,12 @@
+#![tactic(auto)]
+
+mod docket;
+mod due;
+mod fault;
+mod joining;
+mod opening;
+mod rules;
+
+pub use docket::{Bound, Docket, end_at, slot_of};
+pub use fault::JobFault;
+pub use joining::Joined;
