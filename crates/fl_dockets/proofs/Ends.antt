@@ -27,6 +27,10 @@ few : (a : Side) → side_number a < 2
 few Client = omega arith
 few Server = omega arith
 
+-- an end of one of n bindings has its slot
+pub slot_within : (e : EndId) (n m : ℕ) → e.binding < n → m ≡ 2 * n → slot_of e < m
+slot_within e n m h is = let s = few e.side in omega (arith, h, is, s)
+
 slots_by : (p q : ℕ) (x y : Side) (a b : Bool) → (p == q) ≡ a → same_side x y ≡ b → (2 * p + side_number x == 2 * q + side_number y) ≡ (a && b)
 slots_by p q x y true true same sides = let s = sides_same x y sides in grind (arith, nat_tests, same, s)
 slots_by p q x y true false same sides = let s = sides_differ x y sides in grind (arith, nat_tests, same, s)

@@ -51,6 +51,11 @@ core_more jobs job e =
     flat_map-append (calls_at e) jobs (job ∷ [])
     ∙ ap (λ (t : List TheCall). core_calls jobs e ++ t) (flat_map-cons (calls_at e) job [] ∙ append-nil (calls_at e job))
 
+-- a job that makes no call there
+pub core_stays : (jobs : List CoreJob) (job : CoreJob) (e : EndId) → calls_at e job ≡ [] → core_calls (jobs ++ job ∷ []) e ≡ core_calls jobs e
+core_stays jobs job e none =
+    core_more jobs job e ∙ ap (λ (t : List TheCall). core_calls jobs e ++ t) none ∙ append-nil (core_calls jobs e)
+
 -- the calls go on alike
 pub calls_more : (jobs : List CoreJob) (asked : List Job) (job : CoreJob) (one : Job) (e : EndId) → core_calls jobs e ≡ own_calls asked e
     → calls_at e job ≡ calls_in e one → core_calls (jobs ++ job ∷ []) e ≡ own_calls (asked ++ one ∷ []) e

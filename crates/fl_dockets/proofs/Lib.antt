@@ -8,3 +8,5 @@ mod Routed
 mod Rulings
 mod Setting
 mod Slots
+mod Whole
+mod Owed

@@ -2,3 +2,4 @@ pub mod Dockets
 pub mod Joined
 pub mod Rules
 pub mod State
+pub mod Whole

@@ -9,11 +9,6 @@ use Rattle.fl_worlds.specs.declared.binding.Binding.{Binding}
 use Rattle.fl_worlds.specs.View.{core_in}
 use Rattle.fl_jobs.specs.Jobs.{Job, opens, replies, calls}
 
--- the cores of both ends are there, of each binding
-pub record AreThere (cores : ℕ) (bindings : List Binding) : Type 0 where
-  pub client : (b : ℕ) (x : Binding) → slice_get bindings b ≡ Some x → x.client < cores
-  pub server : (b : ℕ) (x : Binding) → slice_get bindings b ≡ Some x → x.server < cores
-
 -- the end of a name is at the core, and has the rule from now on
 pub record RulesCore (e : EndId) (msg answer : ℕ) (k k2 : TheCore) : Type 0 where
   pub place : ℕ

@@ -9,7 +9,7 @@ use Rattle.fl_node.specs.View.{slot_of, client_of}
 use Rattle.fl_running.specs.declared.job.Job.{Job as CoreJob}
 use Rattle.fl_running.specs.declared.job.Job.TheVariants as core
 use Rattle.fl_running.specs.declared.job.Wish.{Wish as CoreWish}
-use Rattle.fl_jobs.specs.Jobs.{Job}
+use Rattle.fl_jobs.specs.Jobs.{Wish, Job}
 use Rattle.fl_dockets.specs.declared.docket.Bound.{Bound}
 use Rattle.fl_dockets.specs.declared.joining.Joined.{Joined}
 use Rattle.fl_dockets.specs.Dockets.{TheDocket, docket_of, no_docket, docket_at, with_place, end_of, is_ruled, due_in, IsDocket, Rules}
@@ -55,13 +55,17 @@ pub record SetAt (e : EndId) (msg answer : ℕ) (dockets dockets2 : List TheDock
   pub rules : Rules msg answer (docket_at dockets e) docket
   pub rest : dockets2 ≡ changed_at (slot_of e) (λ d. docket) dockets
 
--- a binding that a job opens, and that job: the client's core does it, and it opens the next binding
-pub record Opened (cores : ℕ) (j j2 : TheJoined) : Type 0 where
+-- a binding that a job opens, and that job: the client's core does it, and it opens the next binding, of the interface that is wished for
+pub record Opened (cores : ℕ) (w : Wish) (j j2 : TheJoined) : Type 0 where
   pub bound : Bound
   pub wish : CoreWish
   pub client : bound.client < cores
   pub server : bound.server < cores
+  pub owner : bound.client ≡ w.client.core
+  pub interface : bound.interface ≡ w.interface
   pub opened : bound.opened ≡ Some (length j.owners)
+  pub dispatcher : wish.dispatcher ≡ w.client.place
+  pub program : wish.interface ≡ w.interface
   pub binding : wish.opening.binding ≡ length j.bindings
   pub few : length j.bindings < 1024
   pub rest : j2 ≡ with_job (client_of (length j.bindings)) (core.Open wish) (with_owner bound.client (with_binding bound j))

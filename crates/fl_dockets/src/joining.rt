@@ -4,22 +4,19 @@ ghost use Rattle.std.specs.Prelude.{◌≡◌, ◌<◌, ◌≤◌, ◌*◌, ◌+
 ghost use Rattle.fl_base.specs.Ends.{peer};
 ghost use Rattle.fl_queues.specs.Given.{changed_at};
 ghost use Rattle.fl_node.specs.View.{slot_of};
-ghost use Rattle.fl_jobs.specs.Jobs.{Job as TheJob, calls, replies};
-ghost use Rattle.fl_jobs.specs.Views.{job_of, wish_of};
+ghost use Rattle.fl_jobs.specs.Views.{wish_of};
 ghost use Rattle.fl_value.specs.Value.{call_of};
 ghost use Rattle.fl_running.specs.declared.job.Job.TheVariants as core;
 ghost use Rattle.fl_dockets.specs.Dockets.{docket_of, docket_at, is_ruled, with_place, end_of};
 ghost use Rattle.fl_dockets.specs.Joined.{AreBindings, HasDockets};
 ghost use Rattle.fl_dockets.specs.State.{joined_of, nothing_joined, with_binding, with_owner, changing, with_job, with_calls, SetAt, IsSafe, Opened, CallPlanned, RulePlanned, AreJoined};
-ghost use Rattle.fl_dockets.specs.Rules.{RulesOf, RuleNow, AreThere};
 
 use crate::docket::{Bound, Docket, slot_of};
 use crate::opening::ask;
-use crate::rules::rule_now;
 use fl_base::{EndId, MsgNo, Side};
 use fl_check::same_args;
 use fl_compile::Program;
-use fl_jobs::{Job, Stop, Wish};
+use fl_jobs::{Stop, Wish};
 use fl_running::Job as CoreJob;
 use fl_system::Parts;
 use fl_value::{Call, fits};
@@ -105,7 +102,7 @@ impl Joined {
     // A binding that a job opens.
     fn open(&mut self, alloc: Global, parts: &Parts, wish: &Wish<'_>) -> Result<(), Stop>
         requires safe { IsSafe (length parts.now.cores.items) (joined_of self.old) }
-        ensures opened { OnOk result (Opened (length parts.now.cores.items) (joined_of self.old) (joined_of self.new)) }
+        ensures opened { OnOk result (Opened (length parts.now.cores.items) (wish_of wish.now) (joined_of self.old) (joined_of self.new)) }
     {
         let binding = self.bindings.as_slice().len();
         let asked = ask(alloc, parts, wish, binding)?;

@@ -87,6 +87,9 @@ pub(crate) fn ask(
     ensures few { OnOk result (binding < 1024) }
     ensures client { IfOk result (λ a. a.client < length parts.now.cores.items) }
     ensures server { IfOk result (λ a. a.server < length parts.now.cores.items) }
+    ensures owner { IfOk result (λ a. a.client ≡ wish.now.client.core) }
+    ensures dispatcher { IfOk result (λ a. a.wish.dispatcher ≡ wish.now.client.place) }
+    ensures program { IfOk result (λ a. a.wish.interface ≡ wish.now.interface) }
     ensures binding { IfOk result (λ a. a.wish.opening.binding ≡ binding) }
 {
     let client = wish.client.core as usize;

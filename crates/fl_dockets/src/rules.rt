@@ -1,8 +1,8 @@
 //! Reply rules of ends that are there before the cores run.
 
-ghost use Rattle.std.specs.Prelude.{◌≡◌, ◌<◌, length, slice_get, OnOk};
+ghost use Rattle.std.specs.Prelude.{◌≡◌, length, slice_get, OnOk};
 ghost use Rattle.fl_worlds.specs.View.{core_in};
-ghost use Rattle.fl_dockets.specs.Rules.{AreThere, RulesCore, RulesAt, RuleNow};
+ghost use Rattle.fl_dockets.specs.Rules.{RulesCore, RulesAt, RuleNow};
 
 use fl_base::{EndId, MsgNo, Side};
 use fl_jobs::Stop;
@@ -40,10 +40,12 @@ fn rule_at(
     message: MsgNo,
     answer: MsgNo,
 ) -> Result<(), Stop>
-    requires there { n < length cores.old.items }
     ensures rules { OnOk result (RulesAt n end message.0 answer.0 cores.old.items cores.new.items) }
     ensures count { length cores.new.items ≡ length cores.old.items }
 {
+    if n >= cores.len() {
+        return Err(Stop::Refused(92));
+    }
     let core = &mut cores[n];
     rule_core(core, end, message, answer)
 }
@@ -56,7 +58,6 @@ pub(crate) fn rule_now(
     message: MsgNo,
     answer: MsgNo,
 ) -> Result<(), Stop>
-    requires there { AreThere (length cores.old.items) bindings.now }
     ensures rules { OnOk result (RuleNow (slice_get bindings.now end.binding) end message.0 answer.0 cores.old.items cores.new.items) }
     ensures count { length cores.new.items ≡ length cores.old.items }
 {

@@ -1,0 +1,62 @@
+-- The jobs of a whole file, joined one after another to the bindings of a set-up.
+use Rattle.std.specs.Prelude.{ℕ, ◌≡◌, ◌<◌, nat_lt, Bool, List, [], ◌∷◌, length, map, slice_get, Option, Some, None}
+use Rattle.fl_base.specs.declared.identity.EndId.{EndId}
+use Rattle.fl_base.specs.declared.identity.MsgNo.{MsgNo}
+use Rattle.fl_base.specs.Ends.{peer}
+use Rattle.fl_value.specs.declared.value.Call.{Call}
+use Rattle.fl_value.specs.Value.{call_of}
+use Rattle.fl_node.specs.View.{TheCore}
+use Rattle.fl_worlds.specs.declared.binding.Binding.{Binding}
+use Rattle.fl_system.specs.declared.parts.Parts.{Parts}
+use Rattle.fl_jobs.specs.Jobs.{Job, opens, replies, calls, handed_in}
+use Rattle.fl_dockets.specs.declared.docket.Bound.{Bound}
+use Rattle.fl_dockets.specs.Dockets.{docket_at}
+use Rattle.fl_dockets.specs.Rules.{RuleNow}
+use Rattle.fl_dockets.specs.State.{TheJoined, with_binding, Opened, CallPlanned, RulePlanned}
+
+-- ---- bindings that are set up
+
+abbrev pub bound_of : Binding → Bound
+bound_of x = record { interface = x.interface; client = x.client; server = x.server; opened = None }
+
+-- one more: both ends are at cores, and there is a number for it
+pub record SetUp (cores : ℕ) (x : Binding) (j j2 : TheJoined) : Type 0 where
+  pub client : x.client < cores
+  pub server : x.server < cores
+  pub few : length j.bindings < 1024
+  pub rest : j2 ≡ with_binding (bound_of x) j
+
+-- ---- jobs
+
+-- the end is one of a binding that is set up
+abbrev pub is_set_up : List Binding → EndId → Bool
+is_set_up bindings e = nat_lt e.binding (length bindings)
+
+-- a rule more: at an end that is there it is set at once
+pub record Ruled (set_up : List Binding) (e : EndId) (msg answer : ℕ) (j : TheJoined) (ks : List TheCore) (j2 : TheJoined) (ks2 : List TheCore) : Type 0 where
+  pub message : MsgNo
+  pub reply : MsgNo
+  pub message_is : message.0 ≡ msg
+  pub reply_is : reply.0 ≡ answer
+  pub planned : RulePlanned (is_set_up set_up e) e message reply j j2
+  pub set : RuleNow (slice_get set_up e.binding) e msg answer ks ks2
+
+-- a job more, of those at the cores and what these are then
+abbrev pub Joins : List Binding → Job → TheJoined → List TheCore → TheJoined → List TheCore → Type 0
+Joins set_up (opens w) j ks j2 ks2 = Opened (length ks) w j j2 × (ks2 ≡ ks)
+Joins set_up (replies e msg answer) j ks j2 ks2 = Ruled set_up e msg answer j ks j2 ks2
+Joins set_up (calls e c) j ks j2 ks2 = ((call : Call) × (call_of call ≡ c) × CallPlanned e call j j2) × (ks2 ≡ ks)
+
+-- all that a world was made of, but its cores, is as it was
+pub record IsBeside (p p2 : Parts) : Type 0 where
+  pub rings : p2.rings.items ≡ p.rings.items
+  pub queues : p2.queues.items ≡ p.queues.items
+  pub programs : p2.programs.items ≡ p.programs.items
+  pub names : p2.names ≡ p.names
+  pub bindings : p2.bindings.items ≡ p.bindings.items
+
+-- ---- how many calls are due
+
+-- of each end just as many as are handed in for it: at its other end
+pub record AreDue (asked : List Job) (j : TheJoined) : Type 0 where
+  pub due : (e : EndId) → e.binding < length j.bindings → (docket_at j.dockets e).due ≡ length (handed_in asked (peer e))
