@@ -59,3 +59,10 @@ module _ (n : ℕ) (j j1 : TheJoined) (f : EndId) (at : slot_of f ≡ n) (within
     rest = λ e. ap undue (changed j1.dockets e f (with_due told) slot) ∙ undue_if (same_end e f) told (docket_at j1.dockets e) ∙ k.rest e;
     due = λ e below. ap (λ (d : TheDocket). d.due) (changed j1.dockets e f (with_due told) slot) ∙ due_by e (same_end e f) refl below;
   }
+
+-- a turn of the loop over slots
+pub told_turn : (n : ℕ) (j j1 j2 : TheJoined) (f : EndId) → slot_of f ≡ n → n < length j1.dockets → DuesUpTo n j j1
+    → j2 ≡ changing f (with_due (due_in j1.jobs (docket_at j1.dockets f) (docket_at j1.dockets (peer f)))) j1 → DuesUpTo (n + 1) j j2
+told_turn n j j1 j2 f at within k is =
+    let next : suc n ≡ n + 1 = omega arith in
+    subst (λ (i : ℕ). DuesUpTo i j j2) next (subst (λ (t : TheJoined). DuesUpTo (suc n) j t) (sym is) (one_told n j j1 f at within k))

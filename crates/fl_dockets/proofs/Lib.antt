@@ -10,3 +10,4 @@ mod Setting
 mod Slots
 mod Whole
 mod Owed
+mod Alike

@@ -3,3 +3,4 @@ pub mod Joined
 pub mod Rules
 pub mod State
 pub mod Whole
+pub mod Faults

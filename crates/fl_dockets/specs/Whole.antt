@@ -8,8 +8,12 @@ use Rattle.fl_value.specs.Value.{call_of}
 use Rattle.fl_node.specs.View.{TheCore}
 use Rattle.fl_worlds.specs.declared.binding.Binding.{Binding}
 use Rattle.fl_system.specs.declared.parts.Parts.{Parts}
+use Rattle.fl_jobs.specs.declared.stop.Stop.{Stop}
+use Rattle.fl_jobs.specs.declared.stop.Stop.TheVariants as stop
 use Rattle.fl_jobs.specs.Jobs.{Job, opens, replies, calls, handed_in}
 use Rattle.fl_dockets.specs.declared.docket.Bound.{Bound}
+use Rattle.fl_dockets.specs.declared.fault.JobFault.{JobFault}
+use Rattle.fl_dockets.specs.declared.fault.JobFault.TheVariants as fault
 use Rattle.fl_dockets.specs.Dockets.{docket_at}
 use Rattle.fl_dockets.specs.Rules.{RuleNow}
 use Rattle.fl_dockets.specs.State.{TheJoined, with_binding, Opened, CallPlanned, RulePlanned}
@@ -46,6 +50,11 @@ abbrev pub Joins : List Binding → Job → TheJoined → List TheCore → TheJo
 Joins set_up (opens w) j ks j2 ks2 = Opened (length ks) w j j2 × (ks2 ≡ ks)
 Joins set_up (replies e msg answer) j ks j2 ks2 = Ruled set_up e msg answer j ks j2 ks2
 Joins set_up (calls e c) j ks j2 ks2 = ((call : Call) × (call_of call ≡ c) × CallPlanned e call j j2) × (ks2 ≡ ks)
+
+-- why what stands at a place isn't joined
+abbrev pub fault_at : Stop → ℕ → JobFault
+fault_at (stop.Refused number) place = fault.Refused number place
+fault_at stop.Memory place = fault.Memory
 
 -- all that a world was made of, but its cores, is as it was
 pub record IsBeside (p p2 : Parts) : Type 0 where

@@ -1,12 +1,11 @@
 //! The jobs of a whole file, joined one after another.
 
-ghost use Rattle.std.specs.Prelude.{◌≡◌, ◌<◌, ◌≤◌, [], map, length, IfOk, IfErr, OnOk};
+ghost use Rattle.std.specs.Prelude.{◌≡◌, [], map, length, IfOk, OnOk};
 ghost use Rattle.fl_jobs.specs.Views.{job_of};
-ghost use Rattle.fl_dockets.specs.Dockets.{AreDue, dockets_of};
 ghost use Rattle.fl_dockets.specs.Joined.{AreBindings, HasDockets};
-ghost use Rattle.fl_dockets.specs.State.{joined_of, nothing_joined, IsSafe, AreJoined};
-ghost use Rattle.fl_dockets.specs.Rules.{RulesOf, RuleNow};
-ghost use Rattle.fl_dockets.specs.Whole.{bound_of, SetUp, SetUpAll, Joins, JoinsAll, JobDone, IsBeside, fault_by};
+ghost use Rattle.fl_dockets.specs.State.{joined_of, IsSafe, AreJoined};
+ghost use Rattle.fl_dockets.specs.Rules.{RulesOf};
+ghost use Rattle.fl_dockets.specs.Whole.{bound_of, SetUp, Ruled, Joins, IsBeside, AreDue, fault_at};
 
 use crate::docket::Bound;
 use crate::fault::JobFault;
@@ -45,10 +44,15 @@ impl Joined {
     }
 
     // A reply rule is planned, and set at once at an end of a binding of the set-up.
-    fn rule(&mut self, parts: &mut Parts, end: EndId, message: MsgNo, answer: MsgNo) -> Result<(), Stop>
+    fn rule(
+        &mut self,
+        parts: &mut Parts,
+        end: EndId,
+        message: MsgNo,
+        answer: MsgNo,
+    ) -> Result<(), Stop>
         requires safe { IsSafe (length parts.old.cores.items) (joined_of self.old) }
-        ensures planned { OnOk result (RulePlanned (is_set_up parts.old.bindings.items end) end message answer (joined_of self.old) (joined_of self.new)) }
-        ensures rules { OnOk result (RuleNow (slice_get parts.old.bindings.items end.binding) end message.0 answer.0 parts.old.cores.items parts.new.cores.items) }
+        ensures ruled { OnOk result (Ruled parts.old.bindings.items end message.0 answer.0 (joined_of self.old) parts.old.cores.items (joined_of self.new) parts.new.cores.items) }
         ensures beside { IsBeside parts.old parts.new }
     {
         let is_there = end.binding < parts.bindings.as_slice().len();
@@ -72,4 +76,76 @@ impl Joined {
             Job::Call { end, call } => self.plan_call(&parts.programs, end, call),
         }
     }
+
+    // All jobs.
+    fn join_all(
+        &mut self,
+        alloc: Global,
+        parts: &mut Parts,
+        jobs: Vec<Job<'_>>,
+    ) -> Result<(), JobFault>
+        requires joined { AreJoined (length parts.old.cores.items) [] (joined_of self.old) }
+        ensures joined { OnOk result (AreJoined (length parts.old.cores.items) (map job_of jobs.entry.items) (joined_of self.new)) }
+        ensures rules { OnOk result (RulesOf parts.old.bindings.items (map job_of jobs.entry.items) parts.old.cores.items parts.new.cores.items) }
+        ensures count { length parts.new.cores.items ≡ length parts.old.cores.items }
+        ensures beside { IsBeside parts.old parts.new }
+    {
+        let mut place = 0;
+        for job in jobs {
+            place += 1;
+            if let Err(stop) = self.join(alloc, parts, job) {
+                return Err(fault_at(stop, place));
+            }
+        }
+        Ok(())
+    }
+}
+
+// Why what stands at a place isn't joined.
+fn fault_at(stop: Stop, place: usize) -> JobFault
+    ensures fault { result ≡ fault_at stop place }
+{
+    match stop {
+        Stop::Refused(number) => JobFault::Refused { number, place },
+        Stop::Memory => JobFault::Memory,
+    }
+}
+
+// The bindings of a set-up.
+fn set_up(alloc: Global, cores: usize, bindings: &[Binding]) -> Result<Joined, Stop>
+    ensures joined { IfOk result (λ j. AreJoined cores [] (joined_of j)) }
+    ensures bindings { IfOk result (λ j. j.bindings.items ≡ map bound_of bindings.now) }
+{
+    let mut joined = Joined::new(alloc);
+    for binding in bindings {
+        joined.set_up(alloc, cores, binding)?;
+    }
+    Ok(joined)
+}
+
+/// Checks the jobs one by one and joins them to the cores of their ends. Reply rules are set at the ends that are there.
+///
+/// # Errors
+/// [`JobFault`]: the first job that is refused, or want of memory.
+pub fn join_jobs(
+    alloc: Global,
+    parts: &mut Parts,
+    jobs: Vec<Job<'_>>,
+) -> Result<Joined, JobFault>
+    ensures bindings { IfOk result (λ j. AreBindings (length parts.old.cores.items) j.bindings.items j.owners.items) }
+    ensures dockets { IfOk result (λ j. HasDockets j.bindings.items j.dockets.items) }
+    ensures cores { OnOk result (length parts.new.cores.items ≡ length parts.old.cores.items) }
+    ensures joined { IfOk result (λ j. AreJoined (length parts.old.cores.items) (map job_of jobs.entry.items) (joined_of j)) }
+    ensures due { IfOk result (λ j. AreDue (map job_of jobs.entry.items) (joined_of j)) }
+    ensures rules { OnOk result (RulesOf parts.old.bindings.items (map job_of jobs.entry.items) parts.old.cores.items parts.new.cores.items) }
+    ensures beside { IsBeside parts.old parts.new }
+{
+    let cores = parts.cores.as_slice().len();
+    let mut joined = match set_up(alloc, cores, &parts.bindings) {
+        Ok(joined) => joined,
+        Err(stop) => return Err(fault_at(stop, 0)),
+    };
+    joined.join_all(alloc, parts, jobs)?;
+    joined.set_dues();
+    Ok(joined)
 }
