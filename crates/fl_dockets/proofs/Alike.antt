@@ -52,10 +52,10 @@ rule_alike asked e d across msg answer x i a o =
     let here = ap is_for_calls (its_use asked e.binding x e.side) ∙ calls_there asked e d a in
     let there = ap is_for_rules (its_use asked e.binding x (other e.side)) ∙ rules_there asked (peer e) across o in
     ap (λ (b : Bool). if not (has_message msg i && has_message answer i) then Some 41
-      else if not (same_arguments (arguments_of msg i) (arguments_of answer i)) then Some 42 else if b || is_ruled across then Some 44 else None) (sym here)
+    else if not (same_arguments (arguments_of msg i) (arguments_of answer i)) then Some 42 else if b || is_ruled across then Some 44 else None) (sym here)
     ∙ ap (λ (b : Bool). if not (has_message msg i && has_message answer i) then Some 41
-      else if not (same_arguments (arguments_of msg i) (arguments_of answer i)) then Some 42
-      else if is_for_calls (use_at e.side (as_read asked e.binding x)) || b then Some 44 else None) (sym there)
+    else if not (same_arguments (arguments_of msg i) (arguments_of answer i)) then Some 42
+    else if is_for_calls (use_at e.side (as_read asked e.binding x)) || b then Some 44 else None) (sym there)
 
 same_found_in : (o : Option Program) (x : Bound) (f g : Bound → Planned → Option ℕ) → ((y : Bound) (i : Planned) → f y i ≡ g y i)
     → given o (Some 92) (λ p. f x (planned_of p)) ≡ given o (Some 92) (λ p. g x (planned_of p))

@@ -8,6 +8,6 @@ mod Routed
 mod Rulings
 mod Setting
 mod Slots
-mod Whole
+mod Stepwise
 mod Owed
 mod Alike

@@ -126,7 +126,7 @@ add_call cores asked f call j within slot free k = record {
   each = λ e. subst (λ (d : TheDocket). IsDocket (asked ++ calls f (call_of call) ∷ []) (j.jobs ++ core.Call f call ∷ []) e d)
       (sym (twice j.dockets e f with_calls (with_place (length j.jobs)) slot))
       (call_by asked j.jobs f call e (docket_at j.dockets e) (same_end e f) refl
-        (λ same. free_at (λ (d : TheDocket). is_ruled d ≡ false) j.dockets e f (one_end e f same) free) (k.each e));
+      (λ same. free_at (λ (d : TheDocket). is_ruled d ≡ false) j.dockets e f (one_end e f same) free) (k.each e));
   there = there_more (length j.bindings) j.jobs (core.Call f call) k.there within;
 }
 
@@ -180,7 +180,7 @@ module _ (cores : ℕ) (asked : List Job) (f : EndId) (msg answer : ℕ) (j j2 :
   each_by e false same =
       rule_elsewhere asked j.jobs f msg answer e (docket_at j.dockets e) (same_end (peer e) f) same refl
       (λ across. sym (k.each e).asked.ruled
-        ∙ free_at (λ (d : TheDocket). is_ruled d ≡ false) j.dockets e (peer f) (back e f (one_end (peer e) f across)) alone)
+      ∙ free_at (λ (d : TheDocket). is_ruled d ≡ false) j.dockets e (peer f) (back e f (one_end (peer e) f across)) alone)
       (k.each e)
 
   pub add_rule : AreJoined cores (asked ++ replies f msg answer ∷ []) (record j { dockets = j2.dockets })
@@ -251,9 +251,9 @@ add_set_up cores asked x j client server none few k =
       ];
       apart = λ b c job y z at other is same. elim (got j.bindings x y b at) [
         | inl before ↦ elim (got j.bindings x z c other) [
-            | inl before2 ↦ k.bindings.apart b c job y z before before2 is same
-            | inr new ↦ absurd (none_some x z job new.1 none same)
-          ]
+          | inl before2 ↦ k.bindings.apart b c job y z before before2 is same
+          | inr new ↦ absurd (none_some x z job new.1 none same)
+        ]
         | inr new ↦ absurd (none_some x y job new.1 none is)
       ];
     }) k
@@ -276,13 +276,13 @@ opened_bindings cores x bindings owners client server is_opened few k =
       ];
       apart = λ b c job y z at other is same. elim (got bindings x y b at) [
         | inl before ↦ elim (got bindings x z c other) [
-            | inl before2 ↦ k.apart b c job y z before before2 is same
-            | inr new ↦ absurd (owner_past owners x z y.client job new.1 is_opened same (k.opened b job y before is))
-          ]
+          | inl before2 ↦ k.apart b c job y z before before2 is same
+          | inr new ↦ absurd (owner_past owners x z y.client job new.1 is_opened same (k.opened b job y before is))
+        ]
         | inr new ↦ elim (got bindings x z c other) [
-            | inl before2 ↦ absurd (owner_past owners x y z.client job new.1 is_opened is (k.opened c job z before2 same))
-            | inr new2 ↦ new.0 ∙ sym new2.0
-          ]
+          | inl before2 ↦ absurd (owner_past owners x y z.client job new.1 is_opened is (k.opened c job z before2 same))
+          | inr new2 ↦ new.0 ∙ sym new2.0
+        ]
       ];
     }
 

@@ -47,9 +47,9 @@ from_place : (e : EndId) (all jobs : List CoreJob) (n : ℕ) → ((k : ℕ) (x :
 from_place e all [] n at = refl
 from_place e all (j ∷ jobs) n at =
     let first : slice_get all n ≡ Some j =
-        let same : n + 0 ≡ n = omega arith in subst (λ (i : ℕ). slice_get all i ≡ Some j) same (at 0 j refl) in
+    let same : n + 0 ≡ n = omega arith in subst (λ (i : ℕ). slice_get all i ≡ Some j) same (at 0 j refl) in
     let behind = from_place e all jobs (suc n) (λ k x h.
-        let same : n + suc k ≡ suc n + k = omega arith in subst (λ (i : ℕ). slice_get all i ≡ Some x) same (at (suc k) x h)) in
+    let same : n + suc k ≡ suc n + k = omega arith in subst (λ (i : ℕ). slice_get all i ≡ Some x) same (at (suc k) x h)) in
     one_place e all j n (places_of e (suc n) jobs) (core_calls jobs e) (same_end e (end_of j)) refl first behind
     ∙ sym (flat_map-cons (calls_at e) j jobs)
 

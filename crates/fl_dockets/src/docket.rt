@@ -57,11 +57,7 @@ fn reach(rules: &mut Vec<Option<MsgNo>>, count: usize) -> Result<(), AllocError>
 
 // The rule for a message is set.
 #[tactic(auto, using(crate::proofs::Rulings::rule_put))]
-fn put_rule(
-    rules: &mut Vec<Option<MsgNo>>,
-    msg: MsgNo,
-    answer: MsgNo,
-) -> Result<(), AllocError>
+fn put_rule(rules: &mut Vec<Option<MsgNo>>, msg: MsgNo, answer: MsgNo) -> Result<(), AllocError>
     ensures put { OnOk result ((m : ℕ) → rule_at rules.new.items m ≡ (if msg.0 == m then Some answer.0 else rule_at rules.old.items m)) }
     ensures some { OnOk result (0 < length rules.new.items) }
 {

@@ -100,7 +100,7 @@ impl Joined {
 
 impl Joined {
     // A binding that a job opens.
-    fn open(&mut self, alloc: Global, parts: &Parts, wish: &Wish<'_>) -> Result<(), Stop>
+    pub(crate) fn open(&mut self, alloc: Global, parts: &Parts, wish: &Wish<'_>) -> Result<(), Stop>
         requires safe { IsSafe (length parts.now.cores.items) (joined_of self.old) }
         ensures opened { OnOk result (Opened (length parts.now.cores.items) (wish_of wish.now) (joined_of self.old) (joined_of self.new)) }
     {
@@ -186,7 +186,12 @@ impl Joined {
     }
 
     // A call of an end is planned.
-    fn plan_call(&mut self, programs: &[Program], end: EndId, call: Call) -> Result<(), Stop>
+    pub(crate) fn plan_call(
+        &mut self,
+        programs: &[Program],
+        end: EndId,
+        call: Call,
+    ) -> Result<(), Stop>
         requires few { length self.old.bindings.items ≤ 1024 }
         requires dockets { HasDockets self.old.bindings.items self.old.dockets.items }
         ensures planned { OnOk result (CallPlanned end call (joined_of self.old) (joined_of self.new)) }
@@ -200,7 +205,7 @@ impl Joined {
     }
 
     // A reply rule of an end is planned, which is there already or will be made.
-    fn plan_rule(
+    pub(crate) fn plan_rule(
         &mut self,
         programs: &[Program],
         is_there: bool,

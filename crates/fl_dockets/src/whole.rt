@@ -61,7 +61,7 @@ impl Joined {
     }
 
     // A job more.
-    fn join(&mut self, alloc: Global, parts: &mut Parts, job: Job<'_>) -> Result<(), Stop>
+    fn join_one(&mut self, alloc: Global, parts: &mut Parts, job: Job<'_>) -> Result<(), Stop>
         requires safe { IsSafe (length parts.old.cores.items) (joined_of self.old) }
         ensures joins { OnOk result (Joins parts.old.bindings.items (job_of job.entry) (joined_of self.old) parts.old.cores.items (joined_of self.new) parts.new.cores.items) }
         ensures beside { IsBeside parts.old parts.new }
@@ -93,7 +93,7 @@ impl Joined {
         let mut place = 0;
         for job in jobs {
             place += 1;
-            if let Err(stop) = self.join(alloc, parts, job) {
+            if let Err(stop) = self.join_one(alloc, parts, job) {
                 return Err(fault_at(stop, place));
             }
         }
@@ -127,11 +127,7 @@ fn set_up(alloc: Global, cores: usize, bindings: &[Binding]) -> Result<Joined, S
 ///
 /// # Errors
 /// [`JobFault`]: the first job that is refused, or want of memory.
-pub fn join_jobs(
-    alloc: Global,
-    parts: &mut Parts,
-    jobs: Vec<Job<'_>>,
-) -> Result<Joined, JobFault>
+pub fn join_jobs(alloc: Global, parts: &mut Parts, jobs: Vec<Job<'_>>) -> Result<Joined, JobFault>
     ensures bindings { IfOk result (λ j. AreBindings (length parts.old.cores.items) j.bindings.items j.owners.items) }
     ensures dockets { IfOk result (λ j. HasDockets j.bindings.items j.dockets.items) }
     ensures cores { OnOk result (length parts.new.cores.items ≡ length parts.old.cores.items) }

@@ -7,6 +7,6 @@ pub returns : goal.returns
 returns c = record {
   placed = on_ok_weaker c.place.result
       (λ e. map_put_or docket_of (with_place c.args.place) c.args.dockets.now.items c.args.slot c.index_mut-docket.result.now c.place.new.self
-          c.requires.there c.index_mut-docket.ensures.value e)
+      c.requires.there c.index_mut-docket.ensures.value e)
       c.place.ensures.placed;
 }

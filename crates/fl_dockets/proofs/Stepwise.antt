@@ -96,7 +96,7 @@ ruled_as : (cores : ℕ) (asked : List Job) (set_up : List Binding) (e : EndId) 
 ruled_as cores asked set_up e msg answer j ks j2 ks2 r k =
     subst (λ (m : ℕ). AreJoined cores (asked ++ replies e m answer ∷ []) j2) r.message_is
     (subst (λ (a : ℕ). AreJoined cores (asked ++ replies e r.message.0 a ∷ []) j2) r.reply_is
-      (ruled_more cores asked (is_set_up set_up e) e r.message r.reply j j2 r.planned k))
+    (ruled_more cores asked (is_set_up set_up e) e r.message r.reply j j2 r.planned k))
 
 -- whatever the job
 pub joined_more : (asked : List Job) (set_up : List Binding) (job : Job) (j : TheJoined) (ks : List TheCore) (j2 : TheJoined) (ks2 : List TheCore)

@@ -3,7 +3,7 @@ use Rattle.fl_jobs.specs.Views.{job_of}
 use Rattle.fl_dockets.specs.Rules.{RulesOf}
 use Rattle.fl_dockets.specs.State.{joined_of, AreJoined}
 use Rattle.fl_dockets.specs.Whole.{IsBeside}
-use Rattle.fl_dockets.proofs.whole.Joined.join_all.Given as goal
+use Rattle.fl_dockets.proofs.joining.Joined.join_all.Given as goal
 
 -- the jobs so far
 abbrev pub invariant-loop-job : goal.invariant-loop-job
