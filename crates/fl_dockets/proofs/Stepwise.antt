@@ -14,14 +14,17 @@ use Rattle.fl_running.specs.declared.job.Job.TheVariants as core
 use Rattle.fl_running.specs.declared.job.Wish.{Wish as CoreWish}
 use Rattle.fl_worlds.specs.declared.binding.Binding.{Binding}
 use Rattle.fl_worlds.specs.View.{core_in}
+use Rattle.fl_jobs.specs.declared.job.Job.{Job as RustJob}
 use Rattle.fl_jobs.specs.Jobs.{Job, Wish, opens, replies, calls}
+use Rattle.fl_jobs.specs.Views.{job_of}
+use Rattle.fl_system.specs.declared.parts.Parts.{Parts}
 use Rattle.fl_dockets.specs.declared.docket.Bound.{Bound}
 use Rattle.fl_dockets.specs.declared.joining.Joined.{Joined}
 use Rattle.fl_dockets.specs.Dockets.{TheDocket, docket_of, docket_at, end_of, core_calls}
 use Rattle.fl_dockets.specs.Joined.{AreBindings, HasDockets}
 use Rattle.fl_dockets.specs.Rules.{RulesAt, RuleNow, RuleOf, RulesOf}
 use Rattle.fl_dockets.specs.State.{TheJoined, joined_of, with_binding, with_owner, with_job, IsSafe, Opened, CallPlanned, RulePlanned, AreJoined}
-use Rattle.fl_dockets.specs.Whole.{bound_of, SetUp, is_set_up, Ruled, Joins}
+use Rattle.fl_dockets.specs.Whole.{bound_of, SetUp, is_set_up, Ruled, Joins, IsBeside}
 use Rattle.fl_dockets.proofs.Ends.{slot_within}
 use Rattle.fl_dockets.proofs.Growing.{core_stays}
 use Rattle.fl_dockets.proofs.OneMore.{as_many, add_quiet, add_call, add_rule, add_set_up, add_opened, add_wish, nothing}
@@ -134,3 +137,34 @@ as_many_cores set_up (calls e c) ks ks2 same = ap (λ (x : List TheCore). length
 pub count_of : (set_up : List Binding) (job : Job) (j : TheJoined) (ks : List TheCore) (j2 : TheJoined) (ks2 : List TheCore)
     → Joins set_up job j ks j2 ks2 → length ks2 ≡ length ks
 count_of set_up job j ks j2 ks2 joins = as_many_cores set_up job ks ks2 (rule_of set_up job j ks j2 ks2 joins)
+
+-- ---- a turn of the loop over jobs
+
+one_mapped : (done : List RustJob) (x : RustJob) → map job_of done ++ job_of x ∷ [] ≡ map job_of (done ++ x ∷ [])
+one_mapped done x = sym (map-append job_of done (x ∷ []))
+
+pub joined_turn : (n : ℕ) (done : List RustJob) (x : RustJob) (set_up : List Binding) (j : TheJoined) (ks : List TheCore) (j2 : TheJoined) (ks2 : List TheCore)
+    → length ks ≡ n → Joins set_up (job_of x) j ks j2 ks2 → AreJoined n (map job_of done) j → AreJoined n (map job_of (done ++ x ∷ [])) j2
+joined_turn n done x set_up j ks j2 ks2 count joins k =
+    let before : AreJoined (length ks) (map job_of done) j = subst (λ (m : ℕ). AreJoined m (map job_of done) j) (sym count) k in
+    let after = joined_more (map job_of done) set_up (job_of x) j ks j2 ks2 joins before in
+    subst (λ (m : ℕ). AreJoined m (map job_of (done ++ x ∷ [])) j2) count
+    (subst (λ (asked : List Job). AreJoined (length ks) asked j2) (one_mapped done x) after)
+
+pub rules_turn : (done : List RustJob) (x : RustJob) (set_up set_up2 : List Binding) (j : TheJoined) (ks0 ks : List TheCore) (j2 : TheJoined) (ks2 : List TheCore)
+    → set_up2 ≡ set_up → Joins set_up2 (job_of x) j ks j2 ks2 → RulesOf set_up (map job_of done) ks0 ks → RulesOf set_up (map job_of (done ++ x ∷ [])) ks0 ks2
+rules_turn done x set_up set_up2 j ks0 ks j2 ks2 same joins r =
+    let rule : RuleOf set_up (job_of x) ks ks2 = subst (λ (bs : List Binding). RuleOf bs (job_of x) ks ks2) same (rule_of set_up2 (job_of x) j ks j2 ks2 joins) in
+    subst (λ (asked : List Job). RulesOf set_up asked ks0 ks2) (one_mapped done x) (rules_more set_up (map job_of done) (job_of x) ks0 ks ks2 r rule)
+
+pub place_turn : (done : List RustJob) (x : RustJob) (place : ℕ) → place ≡ length done → place + 1 ≡ length (done ++ x ∷ [])
+place_turn done x place is = let l = length-append done (x ∷ []) in omega (arith, l, is)
+
+pub beside_still : (p q r : Parts) → IsBeside p q → IsBeside q r → IsBeside p r
+beside_still p q r a b = record {
+  rings = b.rings ∙ a.rings;
+  queues = b.queues ∙ a.queues;
+  programs = b.programs ∙ a.programs;
+  names = b.names ∙ a.names;
+  bindings = b.bindings ∙ a.bindings;
+}

@@ -11,6 +11,8 @@ use Rattle.fl_queues.specs.Calls.{Planned}
 use Rattle.fl_queues.specs.Given.{given}
 use Rattle.fl_queues.specs.Taking.{arguments_of, has_message}
 use Rattle.fl_node.specs.View.{client_of, server_of}
+use Rattle.fl_jobs.specs.declared.stop.Stop.{Stop}
+use Rattle.fl_jobs.specs.declared.stop.Stop.TheVariants as stop
 use Rattle.fl_jobs.specs.Jobs.{Job, own_calls, has_rules}
 use Rattle.fl_jobs.specs.Draft.{Use, free, makes_calls, has_rules as for_rules, Bound as ReadBound, call_fault, rule_fault}
 use Rattle.fl_dockets.specs.declared.docket.Bound.{Bound}
@@ -46,6 +48,11 @@ call_refusal programs asked bindings e c = found_at programs bindings e λ x i. 
 
 abbrev pub rule_refusal : List Program → List Job → List Bound → EndId → ℕ → ℕ → Option ℕ
 rule_refusal programs asked bindings e msg answer = found_at programs bindings e λ x i. rule_fault e.side msg answer (as_read asked e.binding x) i
+
+-- why it stops: for the fault that is found, if there is one, and else for want of memory
+abbrev pub StopsFor : Option ℕ → Stop → Type 0
+StopsFor found (stop.Refused number) = found ≡ Some number
+StopsFor found stop.Memory = found ≡ None
 
 -- ---- by dockets
 

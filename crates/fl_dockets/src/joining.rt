@@ -1,6 +1,6 @@
 //! Jobs, checked one by one and joined to the cores that do them.
 
-ghost use Rattle.std.specs.Prelude.{◌≡◌, ◌<◌, ◌≤◌, ◌*◌, ◌++◌, ◌∷◌, List, [], false, map, length, slice_get, Some, IfOk, IfNone, OnOk};
+ghost use Rattle.std.specs.Prelude.{◌≡◌, ◌<◌, ◌≤◌, ◌*◌, ◌++◌, ◌∷◌, List, [], false, map, length, slice_get, Some, IfOk, IfErr, IfNone, OnOk};
 ghost use Rattle.fl_base.specs.Ends.{peer};
 ghost use Rattle.fl_queues.specs.Given.{changed_at};
 ghost use Rattle.fl_node.specs.View.{slot_of};
@@ -8,6 +8,7 @@ ghost use Rattle.fl_jobs.specs.Views.{wish_of};
 ghost use Rattle.fl_value.specs.Value.{call_of};
 ghost use Rattle.fl_running.specs.declared.job.Job.TheVariants as core;
 ghost use Rattle.fl_dockets.specs.Dockets.{docket_of, docket_at, is_ruled, with_place, end_of};
+ghost use Rattle.fl_dockets.specs.Faults.{call_fault_at, rule_fault_at, StopsFor};
 ghost use Rattle.fl_dockets.specs.Joined.{AreBindings, HasDockets};
 ghost use Rattle.fl_dockets.specs.State.{joined_of, nothing_joined, with_binding, with_owner, changing, with_job, with_calls, SetAt, IsSafe, Opened, CallPlanned, RulePlanned, AreJoined};
 
@@ -129,6 +130,7 @@ impl Joined {
         requires dockets { HasDockets self.now.bindings.items self.now.dockets.items }
         ensures there { IfNone result (end.binding < length self.now.bindings.items) }
         ensures free { IfNone result (is_ruled (docket_at (map docket_of self.now.dockets.items) end) ≡ false) }
+        ensures same { result ≡ call_fault_at programs.now self.now.bindings.items (map docket_of self.now.dockets.items) end (call_of call.now) }
     {
         let Some(bound) = self.bindings.get(end.binding) else {
             return Some(92);
@@ -162,6 +164,7 @@ impl Joined {
         ensures there { IfNone result (end.binding < length self.now.bindings.items) }
         ensures free { IfNone result ((docket_at (map docket_of self.now.dockets.items) end).makes_calls ≡ false) }
         ensures alone { IfNone result (is_ruled (docket_at (map docket_of self.now.dockets.items) (peer end)) ≡ false) }
+        ensures same { result ≡ rule_fault_at programs.now self.now.bindings.items (map docket_of self.now.dockets.items) end message.0 answer.0 }
     {
         let Some(bound) = self.bindings.get(end.binding) else {
             return Some(92);
@@ -195,6 +198,7 @@ impl Joined {
         requires few { length self.old.bindings.items ≤ 1024 }
         requires dockets { HasDockets self.old.bindings.items self.old.dockets.items }
         ensures planned { OnOk result (CallPlanned end call (joined_of self.old) (joined_of self.new)) }
+        ensures refused { IfErr result (λ stop. StopsFor (call_fault_at programs.now self.old.bindings.items (map docket_of self.old.dockets.items) end (call_of call)) stop) }
     {
         if let Some(number) = self.call_fault(programs, end, &call) {
             return Err(Stop::Refused(number));
@@ -216,6 +220,7 @@ impl Joined {
         requires few { length self.old.bindings.items ≤ 1024 }
         requires dockets { HasDockets self.old.bindings.items self.old.dockets.items }
         ensures planned { OnOk result (RulePlanned is_there end msg reply (joined_of self.old) (joined_of self.new)) }
+        ensures refused { IfErr result (λ stop. StopsFor (rule_fault_at programs.now self.old.bindings.items (map docket_of self.old.dockets.items) end msg.0 reply.0) stop) }
     {
         if let Some(number) = self.rule_fault(programs, end, msg, reply) {
             return Err(Stop::Refused(number));

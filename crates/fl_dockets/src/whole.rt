@@ -87,7 +87,7 @@ impl Joined {
         requires joined { AreJoined (length parts.old.cores.items) [] (joined_of self.old) }
         ensures joined { OnOk result (AreJoined (length parts.old.cores.items) (map job_of jobs.entry.items) (joined_of self.new)) }
         ensures rules { OnOk result (RulesOf parts.old.bindings.items (map job_of jobs.entry.items) parts.old.cores.items parts.new.cores.items) }
-        ensures count { length parts.new.cores.items ≡ length parts.old.cores.items }
+        ensures count { OnOk result (length parts.new.cores.items ≡ length parts.old.cores.items) }
         ensures beside { IsBeside parts.old parts.new }
     {
         let mut place = 0;
@@ -114,7 +114,6 @@ fn fault_at(stop: Stop, place: usize) -> JobFault
 // The bindings of a set-up.
 fn set_up(alloc: Global, cores: usize, bindings: &[Binding]) -> Result<Joined, Stop>
     ensures joined { IfOk result (λ j. AreJoined cores [] (joined_of j)) }
-    ensures bindings { IfOk result (λ j. j.bindings.items ≡ map bound_of bindings.now) }
 {
     let mut joined = Joined::new(alloc);
     for binding in bindings {
