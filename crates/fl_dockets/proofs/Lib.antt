@@ -11,3 +11,4 @@ mod Slots
 mod Stepwise
 mod Owed
 mod Alike
+mod Refusing

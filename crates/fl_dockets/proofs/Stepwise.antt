@@ -1,7 +1,9 @@
 -- Bindings and jobs are joined one after another.
-use Rattle.std.proofs.Common.{◌≡◌, refl, sym, ap, ◌∙◌, subst, ℕ, zero, suc, ◌<◌, ◌≤◌, ◌+◌, ◌*◌, if◌then◌else◌, List, [], ◌∷◌, ◌++◌, length, map, take, get_or, slice_get, slice_set}
+use Rattle.std.proofs.Common.{◌≡◌, append_assoc, refl, sym, ap, ◌∙◌, subst, ℕ, zero, suc, ◌<◌, ◌≤◌, ◌+◌, ◌*◌, if◌then◌else◌, List, [], ◌∷◌, ◌++◌, length, map, take, get_or, slice_get, slice_set}
 use Rattle.std.proofs.Common.{Option, Some, None, Bool, true, false, arith}
-use Rattle.std.proofs.lemmas.List.{length-append, length-map, length-set, map-append}
+use Rattle.std.specs.List.{flat_map}
+use Rattle.std.proofs.lemmas.List.{length-append, length-map, length-set, map-append, append-nil, take_all}
+use Rattle.std.proofs.lemmas.List.Concat.{flat_map-append, flat_map-cons}
 use Rattle.std.proofs.Math.Seq.{take-suc}
 use Rattle.fl_base.specs.declared.identity.EndId.{EndId}
 use Rattle.fl_base.specs.declared.identity.MsgNo.{MsgNo}
@@ -23,8 +25,8 @@ use Rattle.fl_dockets.specs.declared.joining.Joined.{Joined}
 use Rattle.fl_dockets.specs.Dockets.{TheDocket, docket_of, docket_at, end_of, core_calls}
 use Rattle.fl_dockets.specs.Joined.{AreBindings, HasDockets}
 use Rattle.fl_dockets.specs.Rules.{RulesAt, RuleNow, RuleOf, RulesOf}
-use Rattle.fl_dockets.specs.State.{TheJoined, joined_of, with_binding, with_owner, with_job, IsSafe, Opened, CallPlanned, RulePlanned, AreJoined}
-use Rattle.fl_dockets.specs.Whole.{bound_of, SetUp, is_set_up, Ruled, Joins, IsBeside}
+use Rattle.fl_dockets.specs.State.{TheJoined, joined_of, nothing_joined, with_binding, with_owner, with_job, IsSafe, Opened, CallPlanned, RulePlanned, AreJoined, DuesUpTo}
+use Rattle.fl_dockets.specs.Whole.{bound_of, SetUp, is_set_up, Ruled, Joins, IsBeside, About, about, wish_in, all_about, AreBound}
 use Rattle.fl_dockets.proofs.Ends.{slot_within}
 use Rattle.fl_dockets.proofs.Growing.{core_stays}
 use Rattle.fl_dockets.proofs.OneMore.{as_many, add_quiet, add_call, add_rule, add_set_up, add_opened, add_wish, nothing}
@@ -168,3 +170,93 @@ beside_still p q r a b = record {
   names = b.names ∙ a.names;
   bindings = b.bindings ∙ a.bindings;
 }
+
+-- ---- which bindings there are
+
+abbrev about_set_up : Binding → About
+about_set_up x = about (bound_of x)
+
+abbrev about_wish : Wish → About
+about_wish w = let a : About = record { interface = w.interface; client = w.client.core } in a
+
+wishes_more : (jobs : List Job) (job : Job) → flat_map wish_in (jobs ++ job ∷ []) ≡ flat_map wish_in jobs ++ wish_in job
+wishes_more jobs job =
+    flat_map-append wish_in jobs (job ∷ [])
+    ∙ ap (λ (t : List Wish). flat_map wish_in jobs ++ t) (flat_map-cons wish_in job [] ∙ append-nil (wish_in job))
+
+all_more : (set_up : List Binding) (jobs : List Job) (job : Job) → all_about set_up (jobs ++ job ∷ []) ≡ all_about set_up jobs ++ map about_wish (wish_in job)
+all_more set_up jobs job =
+    let before = map about_set_up set_up in
+    ap (λ (t : List Wish). before ++ map about_wish t) (wishes_more jobs job)
+    ∙ ap (λ (t : List About). before ++ t) (map-append about_wish (flat_map wish_in jobs) (wish_in job))
+    ∙ sym (append_assoc before (map about_wish (flat_map wish_in jobs)) (map about_wish (wish_in job)))
+
+-- a job that opens none
+bound_stays : (set_up : List Binding) (jobs : List Job) (job : Job) (j j2 : TheJoined) → wish_in job ≡ [] → j2.bindings ≡ j.bindings → AreBound set_up jobs j
+    → AreBound set_up (jobs ++ job ∷ []) j2
+bound_stays set_up jobs job j j2 none same k = record {
+  bound =
+      ap (λ (bs : List Bound). map about bs) same ∙ k.bound
+      ∙ sym (all_more set_up jobs job ∙ ap (λ (t : List Wish). all_about set_up jobs ++ map about_wish t) none ∙ append-nil (all_about set_up jobs));
+}
+
+same_about : (x : Bound) (w : Wish) → x.interface ≡ w.interface → x.client ≡ w.client.core → about x ≡ about_wish w
+same_about x w i c =
+    ap (λ (n : ℕ). let a : About = record { interface = n; client = x.client } in a) i
+    ∙ ap (λ (n : ℕ). let a : About = record { interface = w.interface; client = n } in a) c
+
+bound_opened : (set_up : List Binding) (jobs : List Job) (cores : ℕ) (w : Wish) (j j2 : TheJoined) → Opened cores w j j2 → AreBound set_up jobs j
+    → AreBound set_up (jobs ++ opens w ∷ []) j2
+bound_opened set_up jobs cores w j j2 o k = record {
+  bound =
+      ap (λ (t : TheJoined). map about t.bindings) o.rest
+      ∙ map-append about j.bindings (o.bound ∷ [])
+      ∙ ap (λ (t : List About). t ++ about o.bound ∷ []) k.bound
+      ∙ ap (λ (a : About). all_about set_up jobs ++ a ∷ []) (same_about o.bound w o.interface o.owner)
+      ∙ sym (all_more set_up jobs (opens w));
+}
+
+ruled_bindings : (b : Bool) (e : EndId) (message reply : MsgNo) (j : TheJoined) → (if b then j else with_job e (core.Reply e message reply) j).bindings ≡ j.bindings
+ruled_bindings true e message reply j = refl
+ruled_bindings false e message reply j = refl
+
+pub bound_more : (set_up : List Binding) (jobs : List Job) (set_up2 : List Binding) (job : Job) (j : TheJoined) (ks : List TheCore) (j2 : TheJoined) (ks2 : List TheCore)
+    → Joins set_up2 job j ks j2 ks2 → AreBound set_up jobs j → AreBound set_up (jobs ++ job ∷ []) j2
+bound_more set_up jobs set_up2 (opens w) j ks j2 ks2 (o, same) k = bound_opened set_up jobs (length ks) w j j2 o k
+bound_more set_up jobs set_up2 (replies e msg answer) j ks j2 ks2 r k =
+    let j1 : TheJoined = record j { dockets = r.planned.dockets } in
+    bound_stays set_up jobs (replies e msg answer) j j2 refl
+    (ap (λ (t : TheJoined). t.bindings) r.planned.rest ∙ ruled_bindings (is_set_up set_up2 e) e r.message r.reply j1) k
+bound_more set_up jobs set_up2 (calls e c) j ks j2 ks2 ((call, is, p), same) k =
+    bound_stays set_up jobs (calls e c) j j2 refl (ap (λ (t : TheJoined). t.bindings) p.rest) k
+
+pub bound_turn : (set_up : List Binding) (done : List RustJob) (x : RustJob) (set_up2 : List Binding) (j : TheJoined) (ks : List TheCore) (j2 : TheJoined) (ks2 : List TheCore)
+    → Joins set_up2 (job_of x) j ks j2 ks2 → AreBound set_up (map job_of done) j → AreBound set_up (map job_of (done ++ x ∷ [])) j2
+bound_turn set_up done x set_up2 j ks j2 ks2 joins k =
+    subst (λ (jobs : List Job). AreBound set_up jobs j2) (one_mapped done x) (bound_more set_up (map job_of done) set_up2 (job_of x) j ks j2 ks2 joins k)
+
+-- one more of those that are set up
+pub set_up_turn : (cores : ℕ) (xs : List Binding) (k : ℕ) (x d : Binding) (j j2 : TheJoined) → k < length xs → x ≡ get_or xs k d → SetUp cores x j j2
+    → AreBound (take k xs) [] j → AreBound (take (k + 1) xs) [] j2
+set_up_turn cores xs k x d j j2 below is s b =
+    let next : suc k ≡ k + 1 = omega arith in
+    let more : take (k + 1) xs ≡ take k xs ++ x ∷ [] =
+    ap (λ (n : ℕ). take n xs) (sym next) ∙ take-suc xs k d below ∙ ap (λ (y : Binding). take k xs ++ y ∷ []) (sym is) in
+    record {
+      bound =
+          ap (λ (t : TheJoined). map about t.bindings) s.rest
+          ∙ map-append about j.bindings (bound_of x ∷ [])
+          ∙ ap (λ (t : List About). t ++ about_set_up x ∷ []) (b.bound ∙ append-nil (map about_set_up (take k xs)))
+          ∙ sym (map-append about_set_up (take k xs) (x ∷ []))
+          ∙ ap (λ (l : List Binding). map about_set_up l) (sym more)
+          ∙ sym (append-nil (map about_set_up (take (k + 1) xs)));
+    }
+
+pub set_up_none : (xs : List Binding) → AreBound (take 0 xs) [] nothing_joined
+set_up_none xs = record { bound = refl }
+
+pub set_up_all : (xs : List Binding) (k : ℕ) (j : TheJoined) → length xs ≤ k → AreBound (take k xs) [] j → AreBound xs [] j
+set_up_all xs k j past b = subst (λ (l : List Binding). AreBound l [] j) (take_all k xs past) b
+
+pub told_bound : (set_up : List Binding) (jobs : List Job) (n : ℕ) (j j2 : TheJoined) → AreBound set_up jobs j → DuesUpTo n j j2 → AreBound set_up jobs j2
+told_bound set_up jobs n j j2 k t = record { bound = ap (λ (bs : List Bound). map about bs) t.bindings ∙ k.bound }

@@ -1,5 +1,5 @@
--- Why a call or a reply rule is refused: as the reader of cores files finds it, by the jobs that were joined before.
-use Rattle.std.specs.Prelude.{ℕ, ◌≡◌, ◌&&◌, ◌||◌, nat_le, not, Bool, if◌then◌else◌, List, length, slice_get, Option, Some, None, is_some}
+-- Why a job is refused: as the reader of cores files finds it, by the jobs that were joined before.
+use Rattle.std.specs.Prelude.{ℕ, ◌≡◌, ◌⊎◌, ◌&&◌, ◌||◌, nat_le, not, Bool, if◌then◌else◌, List, length, slice_get, Option, Some, None, is_some, IsSome}
 use Rattle.fl_base.specs.declared.identity.EndId.{EndId}
 use Rattle.fl_base.specs.Ends.{peer}
 use Rattle.fl_check.specs.SameTypes.{same_arguments}
@@ -11,11 +11,14 @@ use Rattle.fl_queues.specs.Calls.{Planned}
 use Rattle.fl_queues.specs.Given.{given}
 use Rattle.fl_queues.specs.Taking.{arguments_of, has_message}
 use Rattle.fl_node.specs.View.{client_of, server_of}
+use Rattle.fl_worlds.specs.declared.binding.Binding.{Binding}
+use Rattle.fl_system.specs.declared.parts.Parts.{Parts}
 use Rattle.fl_jobs.specs.declared.stop.Stop.{Stop}
 use Rattle.fl_jobs.specs.declared.stop.Stop.TheVariants as stop
-use Rattle.fl_jobs.specs.Jobs.{Job, own_calls, has_rules}
+use Rattle.fl_jobs.specs.Jobs.{Wish, Job, opens, replies, calls, own_calls, has_rules}
 use Rattle.fl_jobs.specs.Draft.{Use, free, makes_calls, has_rules as for_rules, Bound as ReadBound, call_fault, rule_fault}
 use Rattle.fl_dockets.specs.declared.docket.Bound.{Bound}
+use Rattle.fl_dockets.specs.State.{TheJoined}
 use Rattle.fl_dockets.specs.Dockets.{TheDocket, docket_at, is_ruled, are_some}
 
 abbrev pub planned_of : Program → Planned
@@ -76,3 +79,16 @@ call_fault_at programs bindings dockets e c = found_at programs bindings e λ x 
 abbrev pub rule_fault_at : List Program → List Bound → List TheDocket → EndId → ℕ → ℕ → Option ℕ
 rule_fault_at programs bindings dockets e msg answer =
     found_at programs bindings e λ x i. rule_fault_by (docket_at dockets e) (docket_at dockets (peer e)) msg answer i
+
+-- ---- whatever the job
+
+-- a rule that the reader takes is refused by the core of an end that is set up alone
+abbrev pub RuleStops : Option ℕ → Option Binding → Stop → Type 0
+RuleStops found o s = StopsFor found s ⊎ ((found ≡ None) × IsSome o)
+
+-- behind these jobs, which were joined, a job is refused, or memory was wanted; of a wish nothing is told
+abbrev pub JobStops : Parts → List Job → TheJoined → Job → Stop → Type 0
+JobStops p asked j (opens w) s = Unit {0}
+JobStops p asked j (replies e msg answer) s =
+    RuleStops (rule_refusal p.programs.items asked j.bindings e msg answer) (slice_get p.bindings.items e.binding) s
+JobStops p asked j (calls e c) s = StopsFor (call_refusal p.programs.items asked j.bindings e c) s

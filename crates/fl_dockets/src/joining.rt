@@ -1,6 +1,6 @@
 //! Jobs, checked one by one and joined to the cores that do them.
 
-ghost use Rattle.std.specs.Prelude.{◌≡◌, ◌<◌, ◌≤◌, ◌*◌, ◌++◌, ◌∷◌, List, [], false, map, length, slice_get, Some, IfOk, IfErr, IfNone, OnOk};
+ghost use Rattle.std.specs.Prelude.{◌≡◌, ◌<◌, ◌≤◌, ◌*◌, ◌++◌, ◌∷◌, List, [], false, map, length, slice_get, Some, None, IfOk, IfErr, IfNone, OnOk};
 ghost use Rattle.fl_base.specs.Ends.{peer};
 ghost use Rattle.fl_queues.specs.Given.{changed_at};
 ghost use Rattle.fl_node.specs.View.{slot_of};
@@ -220,6 +220,7 @@ impl Joined {
         requires few { length self.old.bindings.items ≤ 1024 }
         requires dockets { HasDockets self.old.bindings.items self.old.dockets.items }
         ensures planned { OnOk result (RulePlanned is_there end msg reply (joined_of self.old) (joined_of self.new)) }
+        ensures passed { OnOk result (rule_fault_at programs.now self.old.bindings.items (map docket_of self.old.dockets.items) end msg.0 reply.0 ≡ None) }
         ensures refused { IfErr result (λ stop. StopsFor (rule_fault_at programs.now self.old.bindings.items (map docket_of self.old.dockets.items) end msg.0 reply.0) stop) }
     {
         if let Some(number) = self.rule_fault(programs, end, msg, reply) {

@@ -1,6 +1,6 @@
 //! Reply rules of ends that are there before the cores run.
 
-ghost use Rattle.std.specs.Prelude.{◌≡◌, length, slice_get, OnOk};
+ghost use Rattle.std.specs.Prelude.{◌≡◌, length, slice_get, IsSome, OnOk, OnErr};
 ghost use Rattle.fl_worlds.specs.View.{core_in};
 ghost use Rattle.fl_dockets.specs.Rules.{RulesCore, RulesAt, RuleNow};
 
@@ -58,6 +58,7 @@ pub(crate) fn rule_now(
     message: MsgNo,
     answer: MsgNo,
 ) -> Result<(), Stop>
+    ensures there { OnErr result (IsSome (slice_get bindings.now end.binding)) }
     ensures rules { OnOk result (RuleNow (slice_get bindings.now end.binding) end message.0 answer.0 cores.old.items cores.new.items) }
     ensures count { length cores.new.items ≡ length cores.old.items }
 {

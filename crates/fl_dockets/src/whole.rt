@@ -1,11 +1,14 @@
 //! The jobs of a whole file, joined one after another.
 
-ghost use Rattle.std.specs.Prelude.{◌≡◌, [], map, length, IfOk, OnOk};
+ghost use Rattle.std.specs.Prelude.{◌≡◌, [], List, map, length, slice_get, IfOk, IfErr, OnOk};
+ghost use Rattle.fl_jobs.specs.Jobs.{Job as TheJob};
 ghost use Rattle.fl_jobs.specs.Views.{job_of};
+ghost use Rattle.fl_dockets.specs.Dockets.{docket_of};
+ghost use Rattle.fl_dockets.specs.Faults.{rule_fault_at, RuleStops, JobStops};
 ghost use Rattle.fl_dockets.specs.Joined.{AreBindings, HasDockets};
 ghost use Rattle.fl_dockets.specs.State.{joined_of, IsSafe, AreJoined};
 ghost use Rattle.fl_dockets.specs.Rules.{RulesOf};
-ghost use Rattle.fl_dockets.specs.Whole.{bound_of, SetUp, Ruled, Joins, IsBeside, AreDue, fault_at};
+ghost use Rattle.fl_dockets.specs.Whole.{bound_of, SetUp, Ruled, Joins, IsBeside, AreBound, AreDue, fault_at, FirstRefused, IsFault};
 
 use crate::docket::Bound;
 use crate::fault::JobFault;
@@ -54,9 +57,13 @@ impl Joined {
         requires safe { IsSafe (length parts.old.cores.items) (joined_of self.old) }
         ensures ruled { OnOk result (Ruled parts.old.bindings.items end message.0 answer.0 (joined_of self.old) parts.old.cores.items (joined_of self.new) parts.new.cores.items) }
         ensures beside { IsBeside parts.old parts.new }
+        ensures refused { IfErr result (λ stop. RuleStops (rule_fault_at parts.old.programs.items self.old.bindings.items (map docket_of self.old.dockets.items) end message.0 answer.0)
+            (slice_get parts.old.bindings.items end.binding) stop) }
     {
         let is_there = end.binding < parts.bindings.as_slice().len();
-        self.plan_rule(&parts.programs, is_there, end, message, answer)?;
+        if let Err(stop) = self.plan_rule(&parts.programs, is_there, end, message, answer) {
+            return Err(stop);
+        }
         rule_now(&mut parts.cores, &parts.bindings, end, message, answer)
     }
 
@@ -65,6 +72,8 @@ impl Joined {
         requires safe { IsSafe (length parts.old.cores.items) (joined_of self.old) }
         ensures joins { OnOk result (Joins parts.old.bindings.items (job_of job.entry) (joined_of self.old) parts.old.cores.items (joined_of self.new) parts.new.cores.items) }
         ensures beside { IsBeside parts.old parts.new }
+        ensures refused { IfErr result (λ stop. (asked : List TheJob) → AreJoined (length parts.old.cores.items) asked (joined_of self.old)
+            → JobStops parts.old asked (joined_of self.old) (job_of job.entry) stop) }
     {
         match job {
             Job::Open(wish) => self.open(alloc, parts, &wish),
@@ -85,10 +94,13 @@ impl Joined {
         jobs: Vec<Job<'_>>,
     ) -> Result<(), JobFault>
         requires joined { AreJoined (length parts.old.cores.items) [] (joined_of self.old) }
+        requires bound { AreBound parts.old.bindings.items [] (joined_of self.old) }
         ensures joined { OnOk result (AreJoined (length parts.old.cores.items) (map job_of jobs.entry.items) (joined_of self.new)) }
+        ensures bound { OnOk result (AreBound parts.old.bindings.items (map job_of jobs.entry.items) (joined_of self.new)) }
         ensures rules { OnOk result (RulesOf parts.old.bindings.items (map job_of jobs.entry.items) parts.old.cores.items parts.new.cores.items) }
         ensures count { OnOk result (length parts.new.cores.items ≡ length parts.old.cores.items) }
         ensures beside { IsBeside parts.old parts.new }
+        ensures refused { IfErr result (λ fault. FirstRefused parts.old (map job_of jobs.entry.items) fault) }
     {
         let mut place = 0;
         for job in jobs {
@@ -114,6 +126,7 @@ fn fault_at(stop: Stop, place: usize) -> JobFault
 // The bindings of a set-up.
 fn set_up(alloc: Global, cores: usize, bindings: &[Binding]) -> Result<Joined, Stop>
     ensures joined { IfOk result (λ j. AreJoined cores [] (joined_of j)) }
+    ensures bound { IfOk result (λ j. AreBound bindings.now [] (joined_of j)) }
 {
     let mut joined = Joined::new(alloc);
     for binding in bindings {
@@ -131,9 +144,11 @@ pub fn join_jobs(alloc: Global, parts: &mut Parts, jobs: Vec<Job<'_>>) -> Result
     ensures dockets { IfOk result (λ j. HasDockets j.bindings.items j.dockets.items) }
     ensures cores { OnOk result (length parts.new.cores.items ≡ length parts.old.cores.items) }
     ensures joined { IfOk result (λ j. AreJoined (length parts.old.cores.items) (map job_of jobs.entry.items) (joined_of j)) }
+    ensures bound { IfOk result (λ j. AreBound parts.old.bindings.items (map job_of jobs.entry.items) (joined_of j)) }
     ensures due { IfOk result (λ j. AreDue (map job_of jobs.entry.items) (joined_of j)) }
     ensures rules { OnOk result (RulesOf parts.old.bindings.items (map job_of jobs.entry.items) parts.old.cores.items parts.new.cores.items) }
     ensures beside { IsBeside parts.old parts.new }
+    ensures refused { IfErr result (λ fault. IsFault parts.old (map job_of jobs.entry.items) fault) }
 {
     let cores = parts.cores.as_slice().len();
     let mut joined = match set_up(alloc, cores, &parts.bindings) {
