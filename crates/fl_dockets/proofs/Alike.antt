@@ -1,5 +1,5 @@
 -- A call and a rule are refused as the reader of cores files refuses them.
-use Rattle.std.proofs.Common.{◌≡◌, refl, sym, ap, ◌∙◌, ℕ, ◌&&◌, ◌||◌, not, nat_le, if◌then◌else◌, List, [], ◌∷◌, length, slice_get, Option, Some, None, Bool, true, false, is_some}
+use Rattle.std.proofs.Common.{◌≡◌, refl, sym, ap, ◌∙◌, ℕ, ◌&&◌, ◌||◌, not, nat_le, if◌then◌else◌, List, length, slice_get, Option, Some, None, Bool, true, false}
 use Rattle.fl_base.specs.declared.identity.Side.{Side}
 use Rattle.fl_base.specs.declared.identity.Side.TheVariants.{Client, Server}
 use Rattle.fl_base.specs.declared.identity.EndId.{EndId}
@@ -15,7 +15,7 @@ use Rattle.fl_jobs.specs.Jobs.{Job, own_calls, has_rules}
 use Rattle.fl_jobs.specs.Draft.{use_at, is_for_calls, is_for_rules, call_fault, rule_fault}
 use Rattle.fl_dockets.specs.declared.docket.Bound.{Bound}
 use Rattle.fl_dockets.specs.Dockets.{TheDocket, docket_at, is_ruled, are_some, IsAsked}
-use Rattle.fl_dockets.specs.Faults.{planned_of, use_in, as_read, found_at, call_refusal, rule_refusal, call_fault_by, rule_fault_by, call_fault_at, rule_fault_at}
+use Rattle.fl_dockets.specs.Faults.{planned_of, use_in, as_read, call_refusal, rule_refusal, call_fault_by, rule_fault_by, call_fault_at, rule_fault_at}
 use Rattle.fl_dockets.specs.State.{TheJoined, AreJoined}
 
 its_use : (asked : List Job) (n : ℕ) (x : Bound) (s : Side) → use_at s (as_read asked n x) ≡ (let e : EndId = record { binding = n; side = s } in use_in asked e)

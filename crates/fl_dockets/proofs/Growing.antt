@@ -1,7 +1,6 @@
 -- One job more: what is asked of ends, which jobs are theirs, and what these call.
-use Rattle.std.proofs.Common.{◌≡◌, ◌≢◌, ◌⊎◌, inl, inr, refl, sym, ap, ◌∙◌, subst, ℕ, zero, suc, ◌<◌, ◌≤◌, ◌+◌, ◌*◌, ◌==◌, ◌&&◌, ◌||◌, if◌then◌else◌, nat_lt, List, [], ◌∷◌, ◌++◌, length, slice_get}
+use Rattle.std.proofs.Common.{◌≡◌, ◌⊎◌, inl, inr, refl, sym, ap, ◌∙◌, ℕ, zero, suc, ◌+◌, ◌==◌, ◌&&◌, ◌||◌, if◌then◌else◌, List, [], ◌∷◌, ◌++◌, length, slice_get}
 use Rattle.std.proofs.Common.{Option, Some, None, Bool, true, false, arith}
-use Rattle.std.proofs.lemmas.Bool.Decides.{nat_tests}
 use Rattle.std.proofs.lemmas.List.{append-nil}
 use Rattle.std.proofs.lemmas.List.Concat.{flat_map-append, flat_map-cons}
 use Rattle.fl_base.specs.declared.identity.EndId.{EndId}
@@ -10,7 +9,7 @@ use Rattle.fl_value.specs.Value.{TheCall}
 use Rattle.fl_queues.specs.Given.{given}
 use Rattle.fl_queues.specs.Runs.{same_end}
 use Rattle.fl_running.specs.declared.job.Job.{Job as CoreJob}
-use Rattle.fl_jobs.specs.Jobs.{Job, opens, replies, calls, calls_in, own_calls, rule_in, rule_for, is_rule_at, has_rules}
+use Rattle.fl_jobs.specs.Jobs.{Job, replies, calls, calls_in, own_calls, rule_in, rule_for, is_rule_at, has_rules}
 use Rattle.fl_dockets.specs.Dockets.{TheDocket, end_of, places_of, calls_at, core_calls, rule_at, is_ruled, are_some, IsAsked, Rules}
 use Rattle.fl_dockets.specs.State.{with_calls}
 use Rattle.fl_dockets.proofs.Ends.{apart}

@@ -1,5 +1,5 @@
 -- One job more is joined.
-use Rattle.std.proofs.Common.{◌≡◌, ◌≢◌, ◌⊎◌, inl, inr, refl, sym, ap, ◌∙◌, subst, ℕ, zero, suc, ◌<◌, ◌≤◌, ◌+◌, ◌*◌, ◌==◌, ◌&&◌, if◌then◌else◌, List, [], ◌∷◌, ◌++◌, length, slice_get, slice_set}
+use Rattle.std.proofs.Common.{◌≡◌, inl, inr, refl, sym, ap, ◌∙◌, subst, ℕ, ◌<◌, ◌+◌, ◌*◌, ◌==◌, ◌&&◌, if◌then◌else◌, List, [], ◌∷◌, ◌++◌, length, slice_get, slice_set}
 use Rattle.std.proofs.Common.{Option, Some, None, Bool, true, false, arith}
 use Rattle.std.proofs.lemmas.List.{length-append, length-set}
 use Rattle.fl_base.specs.declared.identity.EndId.{EndId}
@@ -7,17 +7,17 @@ use Rattle.fl_base.specs.declared.identity.Side.{Side}
 use Rattle.fl_base.specs.declared.identity.Side.TheVariants.{Client, Server}
 use Rattle.fl_base.specs.Ends.{peer, other}
 use Rattle.fl_value.specs.declared.value.Call.{Call}
-use Rattle.fl_value.specs.Value.{TheCall, call_of}
+use Rattle.fl_value.specs.Value.{call_of}
 use Rattle.fl_queues.specs.Given.{given, changed_at}
 use Rattle.fl_queues.specs.Runs.{same_end}
-use Rattle.fl_node.specs.View.{slot_of, client_of}
+use Rattle.fl_node.specs.View.{slot_of}
 use Rattle.fl_running.specs.declared.job.Job.{Job as CoreJob}
 use Rattle.fl_running.specs.declared.job.Job.TheVariants as core
-use Rattle.fl_jobs.specs.Jobs.{Job, Wish, opens, replies, calls, calls_in, is_rule_at, has_rules, own_calls}
+use Rattle.fl_jobs.specs.Jobs.{Job, Wish, opens, replies, calls, calls_in, has_rules}
 use Rattle.fl_dockets.specs.declared.docket.Bound.{Bound}
-use Rattle.fl_dockets.specs.Dockets.{TheDocket, no_docket, docket_at, with_place, end_of, places_of, calls_at, core_calls, is_ruled, Rules, IsAsked, IsDocket}
+use Rattle.fl_dockets.specs.Dockets.{TheDocket, no_docket, docket_at, with_place, end_of, places_of, core_calls, is_ruled, Rules, IsDocket}
 use Rattle.fl_dockets.specs.Joined.{AreBindings}
-use Rattle.fl_dockets.specs.State.{TheJoined, nothing_joined, with_binding, with_owner, changing, with_job, with_calls, SetAt, Opened, AreJoined}
+use Rattle.fl_dockets.specs.State.{TheJoined, nothing_joined, with_binding, with_owner, changing, with_job, with_calls, SetAt, AreJoined}
 use Rattle.fl_dockets.proofs.Ends.{changed, two_more, one_end}
 use Rattle.fl_dockets.proofs.Growing.{got, kept, last, past, calls_more, calls_stay, asked_idle, asked_call, asked_rule, asked_across, places_more}
 

@@ -1,21 +1,19 @@
 -- Of an end just as many calls are due as are handed in for it at its other end.
-use Rattle.std.proofs.Common.{◌≡◌, refl, sym, ap, ◌∙◌, subst, ℕ, zero, suc, ◌<◌, ◌+◌, ◌*◌, if◌then◌else◌, List, [], ◌∷◌, ◌++◌, length, slice_get}
-use Rattle.std.proofs.Common.{Option, Some, None, Bool, true, false, arith}
+use Rattle.std.proofs.Common.{◌≡◌, refl, sym, ap, ◌∙◌, subst, ℕ, suc, ◌<◌, ◌+◌, ◌*◌, if◌then◌else◌, List, [], ◌∷◌, ◌++◌, length, slice_get}
+use Rattle.std.proofs.Common.{Option, Some, Bool, true, false, arith}
 use Rattle.std.specs.List.{flat_map}
 use Rattle.std.proofs.lemmas.List.Concat.{flat_map-cons}
 use Rattle.fl_base.specs.declared.identity.EndId.{EndId}
-use Rattle.fl_base.specs.declared.identity.MsgNo.{MsgNo}
 use Rattle.fl_base.specs.Ends.{peer}
 use Rattle.fl_value.specs.Value.{TheCall, call_of}
 use Rattle.fl_queues.specs.Given.{given}
 use Rattle.fl_queues.specs.Runs.{same_end}
-use Rattle.fl_node.specs.View.{slot_of}
 use Rattle.fl_running.specs.declared.job.Job.{Job as CoreJob}
 use Rattle.fl_running.specs.declared.job.Job.TheVariants as core
 use Rattle.fl_running.specs.Logs.{calls_of_job}
 use Rattle.fl_running.specs.Made.{calls_of_jobs}
-use Rattle.fl_jobs.specs.Jobs.{Job, own_calls, rule_for, has_rules, reply_to, handed_in}
-use Rattle.fl_dockets.specs.Dockets.{TheDocket, docket_at, end_of, places_of, calls_at, core_calls, rule_at, reply_by, is_ruled, due_in, IsAsked, IsDocket}
+use Rattle.fl_jobs.specs.Jobs.{Job, own_calls, has_rules, reply_to, handed_in}
+use Rattle.fl_dockets.specs.Dockets.{TheDocket, docket_at, end_of, places_of, calls_at, core_calls, reply_by, is_ruled, due_in, IsAsked, IsDocket}
 use Rattle.fl_dockets.specs.Joined.{AreBindings}
 use Rattle.fl_dockets.specs.State.{TheJoined, undue, DuesUpTo, AreJoined}
 use Rattle.fl_dockets.specs.Whole.{AreDue}

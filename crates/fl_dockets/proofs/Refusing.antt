@@ -1,10 +1,9 @@
 -- The first job that is refused.
-use Rattle.std.proofs.Common.{◌≡◌, append_assoc, ◌⊎◌, inl, inr, refl, sym, ap, ◌∙◌, subst, ℕ, ◌+◌, List, [], ◌∷◌, ◌++◌, length, map, slice_get, Option, Some, None, Result, Ok, Err}
-use Rattle.std.specs.Prelude.{IfErr, OnErr, OnOk, IsSome}
+use Rattle.std.proofs.Common.{◌≡◌, append_assoc, inl, inr, refl, sym, ap, ◌∙◌, subst, ℕ, ◌+◌, List, [], ◌∷◌, ◌++◌, length, map, slice_get, Option, None, Result, Ok, Err}
+use Rattle.std.specs.Prelude.{IfErr, OnErr, IsSome}
 use Rattle.std.proofs.lemmas.List.{length-map, map-append}
 use Rattle.fl_base.specs.declared.identity.EndId.{EndId}
 use Rattle.fl_value.specs.Value.{TheCall}
-use Rattle.fl_node.specs.View.{TheCore}
 use Rattle.fl_compile.specs.declared.program.Program.{Program}
 use Rattle.fl_worlds.specs.declared.binding.Binding.{Binding}
 use Rattle.fl_system.specs.declared.parts.Parts.{Parts}
@@ -13,12 +12,11 @@ use Rattle.fl_jobs.specs.declared.stop.Stop.TheVariants as stop
 use Rattle.fl_jobs.specs.declared.job.Job.{Job as RustJob}
 use Rattle.fl_jobs.specs.Jobs.{Job, opens, replies, calls}
 use Rattle.fl_jobs.specs.Views.{job_of}
-use Rattle.fl_dockets.specs.declared.docket.Bound.{Bound}
 use Rattle.fl_dockets.specs.declared.fault.JobFault.{JobFault}
 use Rattle.fl_dockets.specs.declared.fault.JobFault.TheVariants as fault
 use Rattle.fl_dockets.specs.State.{TheJoined, AreJoined}
 use Rattle.fl_dockets.specs.Faults.{call_refusal, rule_refusal, call_fault_at, rule_fault_at, StopsFor, RuleStops, JobStops}
-use Rattle.fl_dockets.specs.Whole.{AreBound, IsBeside, RefusedAt, FirstRefused, IsFault, fault_at}
+use Rattle.fl_dockets.specs.Whole.{AreBound, IsBeside, FirstRefused, IsFault, fault_at}
 use Rattle.fl_dockets.proofs.Alike.{call_refused, rule_refused}
 
 pub if_err_weaker : {T E : Type 0} (P Q : E → Type 0) (r : Result T E) → ((e : E) → P e → Q e) → IfErr r P → IfErr r Q

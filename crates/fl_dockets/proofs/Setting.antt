@@ -1,9 +1,9 @@
 -- A rule is set in an end's docket.
-use Rattle.std.proofs.Common.{◌≡◌, ◌∙◌, refl, sym, ap, subst, ℕ, ◌<◌, List, length, get_or, map, slice_get, slice_set, Option, Some, None}
+use Rattle.std.proofs.Common.{◌≡◌, ◌∙◌, refl, sym, ap, subst, ℕ, ◌<◌, List, length, get_or, map, slice_get, slice_set, Option, Some}
 use Rattle.std.proofs.lemmas.Option.{slice_get-get_or, slice_get-map}
 use Rattle.std.specs.Option.{option_map}
 use Rattle.fl_base.specs.declared.identity.EndId.{EndId}
-use Rattle.fl_queues.specs.Given.{given, changed_at}
+use Rattle.fl_queues.specs.Given.{given}
 use Rattle.fl_node.specs.View.{slot_of}
 use Rattle.fl_dockets.specs.declared.docket.Docket.{Docket}
 use Rattle.fl_dockets.specs.Dockets.{TheDocket, docket_of, docket_at, no_docket, Rules}

@@ -1,5 +1,5 @@
 -- A binding that a job opens has its dockets.
-use Rattle.std.proofs.Common.{◌≡◌, ap, ◌∙◌, ℕ, ◌<◌, ◌+◌, ◌*◌, ◌∷◌, [], List, length, map, arith}
+use Rattle.std.proofs.Common.{◌≡◌, ap, ℕ, ◌<◌, ◌*◌, ◌∷◌, [], List, length, map, arith}
 use Rattle.std.proofs.lemmas.List.{length-append, length-map}
 use Rattle.fl_node.specs.View.{slot_of, client_of}
 use Rattle.fl_dockets.specs.declared.docket.Bound.{Bound}

@@ -1,5 +1,5 @@
 -- Bindings and jobs are joined one after another.
-use Rattle.std.proofs.Common.{◌≡◌, append_assoc, refl, sym, ap, ◌∙◌, subst, ℕ, zero, suc, ◌<◌, ◌≤◌, ◌+◌, ◌*◌, if◌then◌else◌, List, [], ◌∷◌, ◌++◌, length, map, take, get_or, slice_get, slice_set}
+use Rattle.std.proofs.Common.{◌≡◌, append_assoc, refl, sym, ap, ◌∙◌, subst, ℕ, suc, ◌<◌, ◌≤◌, ◌+◌, ◌*◌, if◌then◌else◌, List, [], ◌∷◌, ◌++◌, length, map, take, get_or, slice_get}
 use Rattle.std.proofs.Common.{Option, Some, None, Bool, true, false, arith}
 use Rattle.std.specs.List.{flat_map}
 use Rattle.std.proofs.lemmas.List.{length-append, length-map, length-set, map-append, append-nil, take_all}
@@ -7,13 +7,10 @@ use Rattle.std.proofs.lemmas.List.Concat.{flat_map-append, flat_map-cons}
 use Rattle.std.proofs.Math.Seq.{take-suc}
 use Rattle.fl_base.specs.declared.identity.EndId.{EndId}
 use Rattle.fl_base.specs.declared.identity.MsgNo.{MsgNo}
-use Rattle.fl_base.specs.Ends.{peer}
 use Rattle.fl_value.specs.declared.value.Call.{Call}
 use Rattle.fl_value.specs.Value.{TheCall, call_of}
-use Rattle.fl_node.specs.View.{TheCore, slot_of, client_of}
-use Rattle.fl_running.specs.declared.job.Job.{Job as CoreJob}
+use Rattle.fl_node.specs.View.{TheCore, client_of}
 use Rattle.fl_running.specs.declared.job.Job.TheVariants as core
-use Rattle.fl_running.specs.declared.job.Wish.{Wish as CoreWish}
 use Rattle.fl_worlds.specs.declared.binding.Binding.{Binding}
 use Rattle.fl_worlds.specs.View.{core_in}
 use Rattle.fl_jobs.specs.declared.job.Job.{Job as RustJob}
@@ -22,14 +19,14 @@ use Rattle.fl_jobs.specs.Views.{job_of}
 use Rattle.fl_system.specs.declared.parts.Parts.{Parts}
 use Rattle.fl_dockets.specs.declared.docket.Bound.{Bound}
 use Rattle.fl_dockets.specs.declared.joining.Joined.{Joined}
-use Rattle.fl_dockets.specs.Dockets.{TheDocket, docket_of, docket_at, end_of, core_calls}
-use Rattle.fl_dockets.specs.Joined.{AreBindings, HasDockets}
-use Rattle.fl_dockets.specs.Rules.{RulesAt, RuleNow, RuleOf, RulesOf}
+use Rattle.fl_dockets.specs.Dockets.{docket_of, end_of}
+use Rattle.fl_dockets.specs.Joined.{HasDockets}
+use Rattle.fl_dockets.specs.Rules.{RuleNow, RuleOf, RulesOf}
 use Rattle.fl_dockets.specs.State.{TheJoined, joined_of, nothing_joined, with_binding, with_owner, with_job, IsSafe, Opened, CallPlanned, RulePlanned, AreJoined, DuesUpTo}
 use Rattle.fl_dockets.specs.Whole.{bound_of, SetUp, is_set_up, Ruled, Joins, IsBeside, About, about, wish_in, all_about, AreBound}
 use Rattle.fl_dockets.proofs.Ends.{slot_within}
 use Rattle.fl_dockets.proofs.Growing.{core_stays}
-use Rattle.fl_dockets.proofs.OneMore.{as_many, add_quiet, add_call, add_rule, add_set_up, add_opened, add_wish, nothing}
+use Rattle.fl_dockets.proofs.OneMore.{add_quiet, add_call, add_rule, add_set_up, add_opened, add_wish}
 
 pub has_dockets : (j : Joined) → length (joined_of j).dockets ≡ 2 * length j.bindings.items → HasDockets j.bindings.items j.dockets.items
 has_dockets j h = sym (length-map j.dockets.items docket_of) ∙ h

@@ -1,5 +1,5 @@
 -- What is handed in at each end, and how many calls are to be handled there.
-use Rattle.std.specs.Prelude.{ℕ, ◌≡◌, ◌==◌, ◌++◌, suc, nat_lt, Bool, true, false, if◌then◌else◌, List, [], ◌∷◌, map, length, slice_get, Option, Some, None}
+use Rattle.std.specs.Prelude.{ℕ, ◌≡◌, ◌==◌, ◌++◌, suc, nat_lt, Bool, true, false, if◌then◌else◌, List, [], ◌∷◌, length, slice_get, Option, Some, None}
 use Rattle.std.specs.List.{flat_map}
 use Rattle.fl_base.specs.declared.identity.EndId.{EndId}
 use Rattle.fl_base.specs.declared.identity.MsgNo.{MsgNo}
@@ -11,7 +11,7 @@ use Rattle.fl_node.specs.View.{slot_of, client_of}
 use Rattle.fl_running.specs.declared.job.Job.{Job as CoreJob}
 use Rattle.fl_running.specs.declared.job.Job.TheVariants as job
 use Rattle.fl_running.specs.Made.{calls_of_jobs}
-use Rattle.fl_jobs.specs.Jobs.{Job, own_calls, rule_for, has_rules, handed_in}
+use Rattle.fl_jobs.specs.Jobs.{Job, own_calls, rule_for, has_rules}
 use Rattle.fl_dockets.specs.declared.docket.Docket.{Docket}
 
 pub record TheDocket : Type 0 where

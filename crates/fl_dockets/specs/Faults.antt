@@ -1,5 +1,5 @@
 -- Why a job is refused: as the reader of cores files finds it, by the jobs that were joined before.
-use Rattle.std.specs.Prelude.{ℕ, ◌≡◌, ◌⊎◌, ◌&&◌, ◌||◌, nat_le, not, Bool, if◌then◌else◌, List, length, slice_get, Option, Some, None, is_some, IsSome}
+use Rattle.std.specs.Prelude.{ℕ, ◌≡◌, ◌⊎◌, ◌&&◌, ◌||◌, nat_le, not, if◌then◌else◌, List, length, slice_get, Option, Some, None, is_some, IsSome}
 use Rattle.fl_base.specs.declared.identity.EndId.{EndId}
 use Rattle.fl_base.specs.Ends.{peer}
 use Rattle.fl_check.specs.SameTypes.{same_arguments}
@@ -15,7 +15,7 @@ use Rattle.fl_worlds.specs.declared.binding.Binding.{Binding}
 use Rattle.fl_system.specs.declared.parts.Parts.{Parts}
 use Rattle.fl_jobs.specs.declared.stop.Stop.{Stop}
 use Rattle.fl_jobs.specs.declared.stop.Stop.TheVariants as stop
-use Rattle.fl_jobs.specs.Jobs.{Wish, Job, opens, replies, calls, own_calls, has_rules}
+use Rattle.fl_jobs.specs.Jobs.{Job, opens, replies, calls, own_calls, has_rules}
 use Rattle.fl_jobs.specs.Draft.{Use, free, makes_calls, has_rules as for_rules, Bound as ReadBound, call_fault, rule_fault}
 use Rattle.fl_dockets.specs.declared.docket.Bound.{Bound}
 use Rattle.fl_dockets.specs.State.{TheJoined}

@@ -1,5 +1,5 @@
 -- Reply rules that are set before the cores run, at the ends that are there.
-use Rattle.std.specs.Prelude.{ℕ, ◌≡◌, ◌<◌, List, [], ◌∷◌, length, slice_get, slice_set, Option, Some, None, Result, Ok}
+use Rattle.std.specs.Prelude.{ℕ, ◌≡◌, List, [], ◌∷◌, slice_get, slice_set, Option, Some, None, Ok}
 use Rattle.fl_base.specs.declared.identity.EndId.{EndId}
 use Rattle.fl_endpoint.specs.Events.{SetsRule}
 use Rattle.fl_core.specs.Events.{ChangesEnd}
@@ -7,7 +7,7 @@ use Rattle.fl_node.specs.View.{TheCore, place_of}
 use Rattle.fl_node.specs.Ends.{OnBoard}
 use Rattle.fl_worlds.specs.declared.binding.Binding.{Binding}
 use Rattle.fl_worlds.specs.View.{core_in}
-use Rattle.fl_jobs.specs.Jobs.{Job, opens, replies, calls}
+use Rattle.fl_jobs.specs.Jobs.{Job, replies}
 
 -- the end of a name is at the core, and has the rule from now on
 pub record RulesCore (e : EndId) (msg answer : ℕ) (k k2 : TheCore) : Type 0 where

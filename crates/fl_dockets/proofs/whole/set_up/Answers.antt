@@ -1,4 +1,4 @@
-use Rattle.std.proofs.Common.{[], refl, subst, sym}
+use Rattle.std.proofs.Common.{[], subst, sym}
 use Rattle.fl_dockets.specs.State.{TheJoined, joined_of, AreJoined}
 use Rattle.fl_dockets.specs.Whole.{AreBound}
 use Rattle.fl_dockets.proofs.OneMore.{nothing}

@@ -1,4 +1,3 @@
-use Rattle.std.proofs.Common.{ℕ}
 use Rattle.fl_dockets.specs.State.{joined_of, DuesUpTo}
 use Rattle.fl_dockets.proofs.joining.Joined.set_dues.Given as goal
 
