@@ -1,0 +1,14 @@
+mod Dues
+mod Ends
+mod Growing
+mod Lists
+mod OneMore
+mod Replies
+mod Routed
+mod Rulings
+mod Setting
+mod Slots
+mod Stepwise
+mod Owed
+mod Alike
+mod Refusing

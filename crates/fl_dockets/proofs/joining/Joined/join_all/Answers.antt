@@ -1,0 +1,37 @@
+use Rattle.std.proofs.Common.{◌∙◌, ℕ, sym, subst, map}
+use Rattle.std.specs.Vec.Iter.{into_iter_items}
+use Rattle.fl_jobs.specs.Views.{job_of}
+use Rattle.fl_dockets.specs.State.{joined_of, AreJoined}
+use Rattle.fl_dockets.proofs.Stepwise.{joined_turn, bound_turn, rules_turn, count_of, place_turn, beside_still}
+use Rattle.fl_dockets.proofs.Refusing.{left_turn, whole_of, first_refused}
+use Rattle.fl_dockets.proofs.joining.Joined.join_all.Goals as goal
+
+pub loop-job-preserved : goal.loop-job-preserved
+loop-job-preserved c =
+    let i = c.loop-job.invariant in
+    let joins = c.in_default.ensures.joins in
+    record {
+      joined = joined_turn _ c.loop-job.yielded c.in-Some.job c.loop-job.parts.bindings.items (joined_of c.loop-job.self) c.loop-job.parts.cores.items
+          (joined_of c.join_one.new.self) c.join_one.new.parts.cores.items i.count joins i.joined;
+      bound = bound_turn c.args.parts.now.bindings.items c.loop-job.yielded c.in-Some.job c.loop-job.parts.bindings.items (joined_of c.loop-job.self)
+          c.loop-job.parts.cores.items (joined_of c.join_one.new.self) c.join_one.new.parts.cores.items joins i.bound;
+      rules = rules_turn c.loop-job.yielded c.in-Some.job c.args.parts.now.bindings.items c.loop-job.parts.bindings.items (joined_of c.loop-job.self)
+          c.args.parts.now.cores.items c.loop-job.parts.cores.items (joined_of c.join_one.new.self) c.join_one.new.parts.cores.items i.beside.bindings joins i.rules;
+      count = count_of c.loop-job.parts.bindings.items (job_of c.in-Some.job) (joined_of c.loop-job.self) c.loop-job.parts.cores.items
+          (joined_of c.join_one.new.self) c.join_one.new.parts.cores.items joins ∙ i.count;
+      beside = beside_still c.args.parts.now c.loop-job.parts c.join_one.new.parts i.beside c.in_default.ensures.beside;
+      left = left_turn (map job_of c.args.jobs.items) c.loop-job.yielded (into_iter_items c.loop-job.job-iterator) (into_iter_items c.next.new.self) c.in-Some.job
+          c.in-Some.ensures.steps.0 i.left;
+      place = place_turn c.loop-job.yielded c.in-Some.job c.loop-job.place i.place;
+    }
+
+pub returns-in-Err-clause-refused : goal.returns-in-Err-clause-refused
+returns-in-Err-clause-refused c =
+    let i = c.loop-job.invariant in
+    let jobs = map job_of c.args.jobs.items in
+    let rest = into_iter_items c.next.new.self in
+    let whole = whole_of jobs c.loop-job.yielded (into_iter_items c.loop-job.job-iterator) rest c.in-Some.job c.in-Some.ensures.steps.0 i.left in
+    let were = subst (λ (n : ℕ). AreJoined n (map job_of c.loop-job.yielded) (joined_of c.loop-job.self)) (sym i.count) i.joined in
+    first_refused c.args.parts.now c.loop-job.parts c.args.jobs.items c.loop-job.yielded rest c.in-Some.job c.loop-job.place (joined_of c.loop-job.self)
+    i.beside whole i.place i.joined i.bound c.in-Err.stop c.fault_at.result c.fault_at.ensures.fault
+    (c.in-Err.ensures.refused (map job_of c.loop-job.yielded) were)

@@ -1,0 +1,23 @@
+use Rattle.std.proofs.Common.{[], subst, sym}
+use Rattle.fl_dockets.specs.State.{TheJoined, joined_of, AreJoined}
+use Rattle.fl_dockets.specs.Whole.{AreBound}
+use Rattle.fl_dockets.proofs.OneMore.{nothing}
+use Rattle.fl_dockets.proofs.Stepwise.{set_up_more, set_up_none, set_up_turn, set_up_all}
+use Rattle.fl_dockets.proofs.whole.set_up.Goals as goal
+
+pub loop-binding-init : goal.loop-binding-init
+loop-binding-init c = record {
+  joined = subst (λ (t : TheJoined). AreJoined c.args.cores [] t) (sym c.new-joined.ensures.none) (nothing c.args.cores);
+  bound = subst (λ (t : TheJoined). AreBound [] [] t) (sym c.new-joined.ensures.none) (set_up_none c.args.bindings.now);
+}
+
+pub loop-binding-preserved : goal.loop-binding-preserved
+loop-binding-preserved c = record {
+  joined = set_up_more c.args.cores [] _ (joined_of c.loop-binding.joined) (joined_of c.set_up.new.self) c.in_ok-set_up.ensures.set_up c.loop-binding.invariant.joined;
+  bound = set_up_turn c.args.cores c.args.bindings.now c.loop-binding.binding-index c.binding-item.result _ (joined_of c.loop-binding.joined) (joined_of c.set_up.new.self)
+      c.loop-binding-test.true c.binding-item.is c.in_ok-set_up.ensures.set_up c.loop-binding.invariant.bound;
+}
+
+pub returns-clause-bound : goal.returns-clause-bound
+returns-clause-bound c =
+    set_up_all c.args.bindings.now c.loop-binding.binding-index (joined_of c.loop-binding.joined) c.loop-binding-test.false c.loop-binding.invariant.bound

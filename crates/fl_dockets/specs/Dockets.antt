@@ -1,0 +1,108 @@
+-- What is handed in at each end, and how many calls are to be handled there.
+use Rattle.std.specs.Prelude.{ℕ, ◌≡◌, ◌==◌, ◌++◌, suc, nat_lt, Bool, true, false, if◌then◌else◌, List, [], ◌∷◌, length, slice_get, Option, Some, None}
+use Rattle.std.specs.List.{flat_map}
+use Rattle.fl_base.specs.declared.identity.EndId.{EndId}
+use Rattle.fl_base.specs.declared.identity.MsgNo.{MsgNo}
+use Rattle.fl_base.specs.Ends.{peer}
+use Rattle.fl_value.specs.Value.{TheCall, call_of}
+use Rattle.fl_queues.specs.Given.{given}
+use Rattle.fl_queues.specs.Runs.{same_end}
+use Rattle.fl_node.specs.View.{slot_of, client_of}
+use Rattle.fl_running.specs.declared.job.Job.{Job as CoreJob}
+use Rattle.fl_running.specs.declared.job.Job.TheVariants as job
+use Rattle.fl_running.specs.Made.{calls_of_jobs}
+use Rattle.fl_jobs.specs.Jobs.{Job, own_calls, rule_for, has_rules}
+use Rattle.fl_dockets.specs.declared.docket.Docket.{Docket}
+
+pub record TheDocket : Type 0 where
+  -- the places of its jobs among all, in order
+  pub jobs : List ℕ
+  -- whether one of them is a call
+  pub makes_calls : Bool
+  -- by message the answer of its reply rule; empty where the end has no rules
+  pub rules : List (Option MsgNo)
+  -- how many calls are to be handled there
+  pub due : ℕ
+
+abbrev pub docket_of : Docket → TheDocket
+docket_of d = record { jobs = d.jobs.items; makes_calls = d.makes_calls; rules = d.rules.items; due = d.due }
+
+abbrev pub no_docket : TheDocket
+no_docket = record { jobs = []; makes_calls = false; rules = []; due = 0 }
+
+-- that of an end: the client's of binding b stands at 2 b, its server's behind it
+abbrev pub docket_at : List TheDocket → EndId → TheDocket
+docket_at dockets e = given (slice_get dockets (slot_of e)) no_docket λ d. d
+
+-- the answer of the rule for a message
+abbrev pub answer_in : Option MsgNo → Option ℕ
+answer_in None = None
+answer_in (Some answer) = Some answer.0
+
+abbrev pub rule_at : List (Option MsgNo) → ℕ → Option ℕ
+rule_at rules msg = given (slice_get rules msg) None answer_in
+
+abbrev pub is_ruled : TheDocket → Bool
+is_ruled d = nat_lt 0 (length d.rules)
+
+-- one job more
+abbrev pub with_place : ℕ → TheDocket → TheDocket
+with_place place d = record d { jobs = d.jobs ++ place ∷ [] }
+
+-- a rule more, or another one for the message; nothing else has changed
+pub record Rules (msg answer : ℕ) (d d2 : TheDocket) : Type 0 where
+  pub put : (m : ℕ) → rule_at d2.rules m ≡ (if msg == m then Some answer else rule_at d.rules m)
+  pub some : is_ruled d2 ≡ true
+  pub rest : d2 ≡ record d { rules = d2.rules }
+
+-- ---- the cores' jobs
+
+-- the end at which a core does a job
+abbrev pub end_of : CoreJob → EndId
+end_of (job.Open wish) = client_of wish.opening.binding
+end_of (job.Reply e msg reply) = e
+end_of (job.Call e call) = e
+
+-- the places of an end's jobs, in order, where the first has this one
+abbrev pub places_of : EndId → ℕ → List CoreJob → List ℕ
+places_of e place [] = []
+places_of e place (j ∷ jobs) = if same_end e (end_of j) then place ∷ places_of e (suc place) jobs else places_of e (suc place) jobs
+
+-- the calls that they make at an end, in order
+abbrev pub calls_at : EndId → CoreJob → List TheCall
+calls_at e (job.Call f call) = if same_end e f then call_of call ∷ [] else []
+calls_at e job = []
+
+abbrev pub core_calls : List CoreJob → EndId → List TheCall
+core_calls jobs e = flat_map (calls_at e) jobs
+
+-- ---- how many calls are to be handled
+
+abbrev pub reply_by : List (Option MsgNo) → TheCall → List TheCall
+reply_by rules c = given (rule_at rules c.msg) [] λ answer. record { msg = answer; args = c.args } ∷ []
+
+-- at an end: the calls of the other end's jobs or, where that has rules, the replies by these to the calls of its own
+abbrev pub due_in : List CoreJob → TheDocket → TheDocket → ℕ
+due_in jobs here across =
+    if is_ruled across then length (flat_map (reply_by across.rules) (calls_of_jobs jobs here.jobs)) else length (calls_of_jobs jobs across.jobs)
+
+-- ---- an end's docket
+
+abbrev pub are_some : List TheCall → Bool
+are_some [] = false
+are_some (c ∷ calls) = true
+
+-- what is asked of the end by the jobs
+pub record IsAsked (jobs : List Job) (e : EndId) (d : TheDocket) : Type 0 where
+  pub calls : d.makes_calls ≡ are_some (own_calls jobs e)
+  pub rules : (msg : ℕ) → rule_at d.rules msg ≡ rule_for jobs e msg
+  pub ruled : is_ruled d ≡ has_rules jobs e
+  -- an end with rules makes no calls of its own, and the other end has no rules
+  pub alone : has_rules jobs e ≡ true → own_calls jobs e ≡ []
+  pub one_side : has_rules jobs e ≡ true → has_rules jobs (peer e) ≡ false
+
+-- the docket of an end has just the jobs that are done there, which make the calls that are asked of it
+pub record IsDocket (wanted : List Job) (jobs : List CoreJob) (e : EndId) (d : TheDocket) : Type 0 where
+  pub places : d.jobs ≡ places_of e 0 jobs
+  pub calls : core_calls jobs e ≡ own_calls wanted e
+  pub asked : IsAsked wanted e d

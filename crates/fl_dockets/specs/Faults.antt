@@ -1,0 +1,94 @@
+-- Why a job is refused: as the reader of cores files finds it, by the jobs that were joined before.
+use Rattle.std.specs.Prelude.{ℕ, ◌≡◌, ◌⊎◌, ◌&&◌, ◌||◌, nat_le, not, if◌then◌else◌, List, length, slice_get, Option, Some, None, is_some, IsSome}
+use Rattle.fl_base.specs.declared.identity.EndId.{EndId}
+use Rattle.fl_base.specs.Ends.{peer}
+use Rattle.fl_check.specs.SameTypes.{same_arguments}
+use Rattle.fl_value.specs.Fits.{fits_of}
+use Rattle.fl_value.specs.Value.{TheCall}
+use Rattle.fl_compile.specs.declared.program.Program.{Program}
+use Rattle.fl_compile.specs.Programs.{program_of}
+use Rattle.fl_queues.specs.Calls.{Planned}
+use Rattle.fl_queues.specs.Given.{given}
+use Rattle.fl_queues.specs.Taking.{arguments_of, has_message}
+use Rattle.fl_node.specs.View.{client_of, server_of}
+use Rattle.fl_worlds.specs.declared.binding.Binding.{Binding}
+use Rattle.fl_system.specs.declared.parts.Parts.{Parts}
+use Rattle.fl_jobs.specs.declared.stop.Stop.{Stop}
+use Rattle.fl_jobs.specs.declared.stop.Stop.TheVariants as stop
+use Rattle.fl_jobs.specs.Jobs.{Job, opens, replies, calls, own_calls, has_rules}
+use Rattle.fl_jobs.specs.Draft.{Use, free, makes_calls, has_rules as for_rules, Bound as ReadBound, call_fault, rule_fault}
+use Rattle.fl_dockets.specs.declared.docket.Bound.{Bound}
+use Rattle.fl_dockets.specs.State.{TheJoined}
+use Rattle.fl_dockets.specs.Dockets.{TheDocket, docket_at, is_ruled, are_some}
+
+abbrev pub planned_of : Program → Planned
+planned_of p = record { interface = (program_of p).interface; plan = (program_of p).plan }
+
+-- ---- as the reader has it
+
+-- what the jobs so far make of an end
+abbrev pub use_in : List Job → EndId → Use
+use_in asked e = if has_rules asked e then for_rules else if are_some (own_calls asked e) then makes_calls else free
+
+-- a binding of a number
+abbrev pub as_read : List Job → ℕ → Bound → ReadBound
+as_read asked n x = record {
+  is_opened = is_some x.opened;
+  interface = x.interface;
+  at_client = use_in asked (client_of n);
+  at_server = use_in asked (server_of n);
+}
+
+-- the fault that is found at an end
+abbrev pub found_at : List Program → List Bound → EndId → (Bound → Planned → Option ℕ) → Option ℕ
+found_at programs bindings e finds =
+    given (slice_get bindings e.binding) (Some 92) λ x.
+    given (slice_get programs x.interface) (Some 92) λ p. finds x (planned_of p)
+
+-- the fault for which the reader refuses a call, or a rule, behind these jobs
+abbrev pub call_refusal : List Program → List Job → List Bound → EndId → TheCall → Option ℕ
+call_refusal programs asked bindings e c = found_at programs bindings e λ x i. call_fault e.side c (as_read asked e.binding x) i
+
+abbrev pub rule_refusal : List Program → List Job → List Bound → EndId → ℕ → ℕ → Option ℕ
+rule_refusal programs asked bindings e msg answer = found_at programs bindings e λ x i. rule_fault e.side msg answer (as_read asked e.binding x) i
+
+-- why it stops: for the fault that is found, if there is one, and else for want of memory
+abbrev pub StopsFor : Option ℕ → Stop → Type 0
+StopsFor found (stop.Refused number) = found ≡ Some number
+StopsFor found stop.Memory = found ≡ None
+
+-- ---- by dockets
+
+abbrev pub call_fault_by : TheDocket → TheCall → Planned → Option ℕ
+call_fault_by d c i =
+    if nat_le (length i.interface.messages) c.msg then Some 41
+    else if not (fits_of i.interface c) then Some 42
+    else if is_ruled d then Some 44
+    else None
+
+abbrev pub rule_fault_by : TheDocket → TheDocket → ℕ → ℕ → Planned → Option ℕ
+rule_fault_by d across msg answer i =
+    if not (has_message msg i && has_message answer i) then Some 41
+    else if not (same_arguments (arguments_of msg i) (arguments_of answer i)) then Some 42
+    else if d.makes_calls || is_ruled across then Some 44
+    else None
+
+abbrev pub call_fault_at : List Program → List Bound → List TheDocket → EndId → TheCall → Option ℕ
+call_fault_at programs bindings dockets e c = found_at programs bindings e λ x i. call_fault_by (docket_at dockets e) c i
+
+abbrev pub rule_fault_at : List Program → List Bound → List TheDocket → EndId → ℕ → ℕ → Option ℕ
+rule_fault_at programs bindings dockets e msg answer =
+    found_at programs bindings e λ x i. rule_fault_by (docket_at dockets e) (docket_at dockets (peer e)) msg answer i
+
+-- ---- whatever the job
+
+-- a rule that the reader takes is refused by the core of an end that is set up alone
+abbrev pub RuleStops : Option ℕ → Option Binding → Stop → Type 0
+RuleStops found o s = StopsFor found s ⊎ ((found ≡ None) × IsSome o)
+
+-- behind these jobs, which were joined, a job is refused, or memory was wanted; of a wish nothing is told
+abbrev pub JobStops : Parts → List Job → TheJoined → Job → Stop → Type 0
+JobStops p asked j (opens w) s = Unit {0}
+JobStops p asked j (replies e msg answer) s =
+    RuleStops (rule_refusal p.programs.items asked j.bindings e msg answer) (slice_get p.bindings.items e.binding) s
+JobStops p asked j (calls e c) s = StopsFor (call_refusal p.programs.items asked j.bindings e c) s

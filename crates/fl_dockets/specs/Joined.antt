@@ -1,0 +1,27 @@
+-- Jobs joined to the ends at which they are done: what is known of bindings, and of the jobs that open them.
+use Rattle.std.specs.Prelude.{ℕ, ◌≡◌, ◌*◌, ◌≤◌, ◌<◌, List, length, slice_get, Some}
+use Rattle.fl_base.specs.declared.identity.Side.{Side}
+use Rattle.fl_base.specs.declared.identity.Side.TheVariants.{Client, Server}
+use Rattle.fl_dockets.specs.declared.docket.Bound.{Bound}
+use Rattle.fl_dockets.specs.declared.docket.Docket.{Docket}
+
+-- the core of the end of a side
+abbrev pub core_of : Side → Bound → ℕ
+core_of Client b = b.client
+core_of Server b = b.server
+
+-- bindings of a run of so many cores, of which jobs open some: of each such job the core that does it
+pub record AreBindings (cores : ℕ) (bindings : List Bound) (owners : List ℕ) : Type 0 where
+  pub few : length bindings ≤ 1024
+  pub fewer : length owners ≤ length bindings
+  pub client : (b : ℕ) (x : Bound) → slice_get bindings b ≡ Some x → x.client < cores
+  pub server : (b : ℕ) (x : Bound) → slice_get bindings b ≡ Some x → x.server < cores
+  -- the client's core opens it
+  pub opened : (b job : ℕ) (x : Bound) → slice_get bindings b ≡ Some x → x.opened ≡ Some job → slice_get owners job ≡ Some x.client
+  -- each job opens one binding
+  pub apart : (b c job : ℕ) (x y : Bound) → slice_get bindings b ≡ Some x → slice_get bindings c ≡ Some y
+      → x.opened ≡ Some job → y.opened ≡ Some job → b ≡ c
+
+-- there is a docket for each end
+abbrev pub HasDockets : List Bound → List Docket → Type 0
+HasDockets bindings dockets = length dockets ≡ 2 * length bindings

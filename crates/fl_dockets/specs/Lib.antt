@@ -1,0 +1,6 @@
+pub mod Dockets
+pub mod Joined
+pub mod Rules
+pub mod State
+pub mod Whole
+pub mod Faults

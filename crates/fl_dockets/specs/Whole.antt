@@ -1,0 +1,120 @@
+-- The jobs of a whole file, joined one after another to the bindings of a set-up.
+use Rattle.std.specs.Prelude.{ℕ, ◌≡◌, ◌⊎◌, ◌<◌, ◌+◌, ◌++◌, nat_lt, Bool, List, [], ◌∷◌, length, map, slice_get, None}
+use Rattle.std.specs.List.{flat_map}
+use Rattle.fl_base.specs.declared.identity.EndId.{EndId}
+use Rattle.fl_base.specs.declared.identity.MsgNo.{MsgNo}
+use Rattle.fl_base.specs.Ends.{peer}
+use Rattle.fl_value.specs.declared.value.Call.{Call}
+use Rattle.fl_value.specs.Value.{call_of}
+use Rattle.fl_node.specs.View.{TheCore}
+use Rattle.fl_worlds.specs.declared.binding.Binding.{Binding}
+use Rattle.fl_system.specs.declared.parts.Parts.{Parts}
+use Rattle.fl_jobs.specs.declared.stop.Stop.{Stop}
+use Rattle.fl_jobs.specs.declared.stop.Stop.TheVariants as stop
+use Rattle.fl_jobs.specs.Jobs.{Wish, Job, opens, replies, calls, handed_in}
+use Rattle.fl_dockets.specs.declared.docket.Bound.{Bound}
+use Rattle.fl_dockets.specs.declared.fault.JobFault.{JobFault}
+use Rattle.fl_dockets.specs.declared.fault.JobFault.TheVariants as fault
+use Rattle.fl_dockets.specs.Dockets.{docket_at}
+use Rattle.fl_dockets.specs.Faults.{JobStops}
+use Rattle.fl_dockets.specs.Rules.{RuleNow}
+use Rattle.fl_dockets.specs.State.{TheJoined, with_binding, Opened, CallPlanned, RulePlanned, AreJoined}
+
+-- ---- bindings that are set up
+
+abbrev pub bound_of : Binding → Bound
+bound_of x = record { interface = x.interface; client = x.client; server = x.server; opened = None }
+
+-- one more: both ends are at cores, and there is a number for it
+pub record SetUp (cores : ℕ) (x : Binding) (j j2 : TheJoined) : Type 0 where
+  pub client : x.client < cores
+  pub server : x.server < cores
+  pub few : length j.bindings < 1024
+  pub rest : j2 ≡ with_binding (bound_of x) j
+
+-- ---- jobs
+
+-- the end is one of a binding that is set up
+abbrev pub is_set_up : List Binding → EndId → Bool
+is_set_up bindings e = nat_lt e.binding (length bindings)
+
+-- a rule more: at an end that is there it is set at once
+pub record Ruled (set_up : List Binding) (e : EndId) (msg answer : ℕ) (j : TheJoined) (ks : List TheCore) (j2 : TheJoined) (ks2 : List TheCore) : Type 0 where
+  pub message : MsgNo
+  pub reply : MsgNo
+  pub message_is : message.0 ≡ msg
+  pub reply_is : reply.0 ≡ answer
+  pub planned : RulePlanned (is_set_up set_up e) e message reply j j2
+  pub set : RuleNow (slice_get set_up e.binding) e msg answer ks ks2
+
+-- a job more, of those at the cores and what these are then
+abbrev pub Joins : List Binding → Job → TheJoined → List TheCore → TheJoined → List TheCore → Type 0
+Joins set_up (opens w) j ks j2 ks2 = Opened (length ks) w j j2 × (ks2 ≡ ks)
+Joins set_up (replies e msg answer) j ks j2 ks2 = Ruled set_up e msg answer j ks j2 ks2
+Joins set_up (calls e c) j ks j2 ks2 = ((call : Call) × (call_of call ≡ c) × CallPlanned e call j j2) × (ks2 ≡ ks)
+
+-- ---- which bindings there are
+
+-- what is asked of a binding: its interface, and its client's core
+pub record About : Type 0 where
+  pub interface : ℕ
+  pub client : ℕ
+
+abbrev pub about : Bound → About
+about x = record { interface = x.interface; client = x.client }
+
+abbrev pub wish_in : Job → List Wish
+wish_in (opens w) = w ∷ []
+wish_in job = []
+
+-- those that are set up, and behind them those that the jobs open, in order
+abbrev pub all_about : List Binding → List Job → List About
+all_about set_up jobs =
+    map (λ (x : Binding). about (bound_of x)) set_up
+    ++ map (λ (w : Wish). let a : About = record { interface = w.interface; client = w.client.core } in a) (flat_map wish_in jobs)
+
+pub record AreBound (set_up : List Binding) (jobs : List Job) (j : TheJoined) : Type 0 where
+  pub bound : map about j.bindings ≡ all_about set_up jobs
+
+-- ---- what is told
+
+-- why what stands at a place isn't joined
+abbrev pub fault_at : Stop → ℕ → JobFault
+fault_at (stop.Refused number) place = fault.Refused number place
+fault_at stop.Memory place = fault.Memory
+
+-- the job at this place, from 1, is the first that is refused: those before it were joined
+pub record RefusedAt (p : Parts) (jobs : List Job) (number place : ℕ) : Type 0 where
+  pub before : List Job
+  pub job : Job
+  pub behind : List Job
+  pub jobs_are : jobs ≡ before ++ job ∷ behind
+  pub place_is : place ≡ length before + 1
+  pub joined : TheJoined
+  pub were : AreJoined (length p.cores.items) before joined
+  pub bound : AreBound p.bindings.items before joined
+  pub stops : JobStops p before joined job (stop.Refused number)
+
+-- why jobs aren't joined: one of them is refused, or memory was wanted
+abbrev pub FirstRefused : Parts → List Job → JobFault → Type 0
+FirstRefused p jobs (fault.Refused number place) = RefusedAt p jobs number place
+FirstRefused p jobs fault.Memory = Unit {0}
+
+-- or, at place 0, a binding of the set-up
+abbrev pub IsFault : Parts → List Job → JobFault → Type 0
+IsFault p jobs (fault.Refused number place) = (place ≡ 0) ⊎ RefusedAt p jobs number place
+IsFault p jobs fault.Memory = Unit {0}
+
+-- all that a world was made of, but its cores, is as it was
+pub record IsBeside (p p2 : Parts) : Type 0 where
+  pub rings : p2.rings.items ≡ p.rings.items
+  pub queues : p2.queues.items ≡ p.queues.items
+  pub programs : p2.programs.items ≡ p.programs.items
+  pub names : p2.names ≡ p.names
+  pub bindings : p2.bindings.items ≡ p.bindings.items
+
+-- ---- how many calls are due
+
+-- of each end just as many as are handed in for it: at its other end
+pub record AreDue (asked : List Job) (j : TheJoined) : Type 0 where
+  pub due : (e : EndId) → e.binding < length j.bindings → (docket_at j.dockets e).due ≡ length (handed_in asked (peer e))

@@ -1,0 +1,29 @@
+//! The jobs of a cores file, checked one by one and joined to the ends at which cores do them.
+//!
+//! Contract for the layer above: [`join_jobs`] takes what a set-up made and the jobs, and gives the jobs as cores do them, the bindings, and by end a
+//! docket: which jobs are done there, the reply rules, and how many calls are to be handled. Each end's docket has just what the jobs ask of it
+//! (`AreJoined`, `specs/State.antt`), as many calls are due as are handed in at its other end (`AreDue`), and the bindings are those that are set up and behind
+//! them those that jobs open (`AreBound`, `specs/Whole.antt`). Rules are set at once at ends that are there (`specs/Rules.antt`). Otherwise the first
+//! job is told that is refused, as the reader of cores files refuses it (`RefusedAt`, `specs/Faults.antt`); of a refused wish only the place is told.
+//!
+//! - `whole.rt`: the jobs of a whole file
+//! - `joining.rt`: one job more
+//! - `opening.rt`: what a wish for a circuit comes to
+//! - `rules.rt`: reply rules that are set at once
+//! - `due.rt`: how many calls are due
+//! - `docket.rt`: bindings and dockets
+//! - `fault.rt`: why jobs aren't joined
+#![tactic(auto)]
+
+mod docket;
+mod due;
+mod fault;
+mod joining;
+mod opening;
+mod rules;
+mod whole;
+
+pub use docket::{Bound, Docket, end_at, slot_of};
+pub use fault::JobFault;
+pub use joining::Joined;
+pub use whole::join_jobs;

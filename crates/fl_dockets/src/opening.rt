@@ -1,0 +1,126 @@
+//! What a wish for a circuit comes to.
+
+ghost use Rattle.std.specs.Prelude.{◌≡◌, ◌<◌, length, IfOk, OnOk};
+
+use fl_base::{CoreId, IRef, LinkId, MAX_BINDINGS};
+use fl_compile::Program;
+use fl_jobs::{Stop, Wish};
+use fl_monitor::{Opening, Path};
+use fl_nameserv::Names;
+use fl_node::Core;
+use fl_running::Wish as CoreWish;
+use fl_system::Parts;
+use std::alloc::Global;
+
+/// What is asked for, and the cores of both ends.
+#[derive(Clone, Copy, Debug, PartialEq, Eq)]
+pub(crate) struct Asked {
+    pub(crate) client: usize,
+    pub(crate) server: usize,
+    pub(crate) wish: CoreWish,
+}
+
+// The service that is wished for.
+#[derive(Clone, Copy, Debug, PartialEq, Eq)]
+struct Found {
+    core: CoreId,
+    iref: IRef,
+}
+
+// The service of the name, where it is offered under the interface.
+fn find(names: &Names, wish: &Wish<'_>) -> Result<Found, Stop> {
+    let Ok(found) = names.lookup(wish.service) else {
+        return Err(Stop::Refused(70));
+    };
+    if found.service.interface != wish.interface {
+        return Err(Stop::Refused(72));
+    }
+    Ok(Found {
+        core: found.service.core,
+        iref: found.iref,
+    })
+}
+
+// The route over these cores.
+fn path_over(alloc: Global, cores: &[u32]) -> Result<Path, Stop> {
+    let mut ids = Vec::new(alloc);
+    for core in cores {
+        let core = *core;
+        if core > 255 {
+            return Err(Stop::Refused(73));
+        }
+        ids.push(CoreId(core as u8))?;
+    }
+    match Path::new(ids.as_slice()) {
+        Some(path) => Ok(path),
+        None => Err(Stop::Refused(73)),
+    }
+}
+
+// The link on which the route begins.
+#[tactic(auto, using(crate::proofs::Routed::there))]
+fn first_link(
+    core: &Core,
+    program: &Program,
+    server: CoreId,
+    path: Path,
+    cores: usize,
+) -> Result<LinkId, Stop>
+    ensures there { OnOk result (server.0 < cores) }
+{
+    match core
+        .monitor()
+        .may_open(program, program, server, path.cores(), cores)
+    {
+        Ok(link) => Ok(link),
+        Err(fault) => Err(Stop::Refused(fault.number())),
+    }
+}
+
+/// What a wish comes to, for the binding of this number.
+pub(crate) fn ask(
+    alloc: Global,
+    parts: &Parts,
+    wish: &Wish<'_>,
+    binding: usize,
+) -> Result<Asked, Stop>
+    ensures few { OnOk result (binding < 1024) }
+    ensures client { IfOk result (λ a. a.client < length parts.now.cores.items) }
+    ensures server { IfOk result (λ a. a.server < length parts.now.cores.items) }
+    ensures owner { IfOk result (λ a. a.client ≡ wish.now.client.core) }
+    ensures dispatcher { IfOk result (λ a. a.wish.dispatcher ≡ wish.now.client.place) }
+    ensures program { IfOk result (λ a. a.wish.interface ≡ wish.now.interface) }
+    ensures binding { IfOk result (λ a. a.wish.opening.binding ≡ binding) }
+{
+    let client = wish.client.core as usize;
+    let Some(core) = parts.cores.get(client) else {
+        return Err(Stop::Refused(92));
+    };
+    let Some(program) = parts.programs.get(wish.interface) else {
+        return Err(Stop::Refused(92));
+    };
+    if wish.client.place >= core.board().dispatchers() {
+        return Err(Stop::Refused(92));
+    }
+    if binding >= MAX_BINDINGS {
+        return Err(Stop::Refused(94));
+    }
+    let found = find(&parts.names, wish)?;
+    let path = path_over(alloc, &wish.route)?;
+    let cores = parts.cores.as_slice().len();
+    let link = first_link(core, program, found.core, path, cores)?;
+    Ok(Asked {
+        client,
+        server: usize::from(found.core.0),
+        wish: CoreWish {
+            dispatcher: wish.client.place,
+            interface: wish.interface,
+            link,
+            opening: Opening {
+                binding: binding as u32,
+                service: found.iref,
+                path,
+            },
+        },
+    })
+}

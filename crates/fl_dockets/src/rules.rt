@@ -1,0 +1,69 @@
+//! Reply rules of ends that are there before the cores run.
+
+ghost use Rattle.std.specs.Prelude.{◌≡◌, length, slice_get, IsSome, OnOk, OnErr};
+ghost use Rattle.fl_worlds.specs.View.{core_in};
+ghost use Rattle.fl_dockets.specs.Rules.{RulesCore, RulesAt, RuleNow};
+
+use fl_base::{EndId, MsgNo, Side};
+use fl_jobs::Stop;
+use fl_node::Core;
+use fl_worlds::Binding;
+
+// The core of a binding's end.
+fn core_in(side: Side, binding: &Binding) -> usize
+    ensures core { result ≡ core_in side binding.now }
+{
+    match side {
+        Side::Client => binding.client,
+        Side::Server => binding.server,
+    }
+}
+
+// The end of a name, which is at a core, has the rule from now on.
+fn rule_core(core: &mut Core, end: EndId, message: MsgNo, answer: MsgNo) -> Result<(), Stop>
+    ensures rules { OnOk result (RulesCore end message.0 answer.0 core.old core.new) }
+{
+    let Some(place) = core.place(end) else {
+        return Err(Stop::Refused(92));
+    };
+    match core.reply_rule(place, message, answer) {
+        Ok(()) => Ok(()),
+        Err(fault) => Err(Stop::Refused(fault.number())),
+    }
+}
+
+// The same, at one of all cores.
+fn rule_at(
+    cores: &mut Vec<Core>,
+    n: usize,
+    end: EndId,
+    message: MsgNo,
+    answer: MsgNo,
+) -> Result<(), Stop>
+    ensures rules { OnOk result (RulesAt n end message.0 answer.0 cores.old.items cores.new.items) }
+    ensures count { length cores.new.items ≡ length cores.old.items }
+{
+    if n >= cores.len() {
+        return Err(Stop::Refused(92));
+    }
+    let core = &mut cores[n];
+    rule_core(core, end, message, answer)
+}
+
+/// An end of a binding that is set up has the rule from now on. Of any other end nothing is done.
+pub(crate) fn rule_now(
+    cores: &mut Vec<Core>,
+    bindings: &[Binding],
+    end: EndId,
+    message: MsgNo,
+    answer: MsgNo,
+) -> Result<(), Stop>
+    ensures there { OnErr result (IsSome (slice_get bindings.now end.binding)) }
+    ensures rules { OnOk result (RuleNow (slice_get bindings.now end.binding) end message.0 answer.0 cores.old.items cores.new.items) }
+    ensures count { length cores.new.items ≡ length cores.old.items }
+{
+    match bindings.get(end.binding) {
+        None => Ok(()),
+        Some(binding) => rule_at(cores, core_in(end.side, binding), end, message, answer),
+    }
+}

@@ -1,0 +1,161 @@
+//! The jobs of a whole file, joined one after another.
+
+ghost use Rattle.std.specs.Prelude.{◌≡◌, [], List, map, length, slice_get, IfOk, IfErr, OnOk};
+ghost use Rattle.fl_jobs.specs.Jobs.{Job as TheJob};
+ghost use Rattle.fl_jobs.specs.Views.{job_of};
+ghost use Rattle.fl_dockets.specs.Dockets.{docket_of};
+ghost use Rattle.fl_dockets.specs.Faults.{rule_fault_at, RuleStops, JobStops};
+ghost use Rattle.fl_dockets.specs.Joined.{AreBindings, HasDockets};
+ghost use Rattle.fl_dockets.specs.State.{joined_of, IsSafe, AreJoined};
+ghost use Rattle.fl_dockets.specs.Rules.{RulesOf};
+ghost use Rattle.fl_dockets.specs.Whole.{bound_of, SetUp, Ruled, Joins, IsBeside, AreBound, AreDue, fault_at, FirstRefused, IsFault};
+
+use crate::docket::Bound;
+use crate::fault::JobFault;
+use crate::joining::Joined;
+use crate::rules::rule_now;
+use fl_base::{EndId, MAX_BINDINGS, MsgNo};
+use fl_jobs::{Job, Stop};
+use fl_system::Parts;
+use fl_worlds::Binding;
+use std::alloc::Global;
+
+fn bound_of(binding: &Binding) -> Bound
+    ensures bound { result ≡ bound_of binding.now }
+{
+    Bound {
+        interface: binding.interface,
+        client: binding.client,
+        server: binding.server,
+        opened: None,
+    }
+}
+
+impl Joined {
+    // A binding of the set-up.
+    fn set_up(&mut self, alloc: Global, cores: usize, binding: &Binding) -> Result<(), Stop>
+        ensures set_up { OnOk result (SetUp cores binding.now (joined_of self.old) (joined_of self.new)) }
+    {
+        if self.bindings.as_slice().len() >= MAX_BINDINGS {
+            return Err(Stop::Refused(94));
+        }
+        if binding.client >= cores || binding.server >= cores {
+            return Err(Stop::Refused(92));
+        }
+        self.add_binding(alloc, bound_of(binding))?;
+        Ok(())
+    }
+
+    // A reply rule is planned, and set at once at an end of a binding of the set-up.
+    fn rule(
+        &mut self,
+        parts: &mut Parts,
+        end: EndId,
+        message: MsgNo,
+        answer: MsgNo,
+    ) -> Result<(), Stop>
+        requires safe { IsSafe (length parts.old.cores.items) (joined_of self.old) }
+        ensures ruled { OnOk result (Ruled parts.old.bindings.items end message.0 answer.0 (joined_of self.old) parts.old.cores.items (joined_of self.new) parts.new.cores.items) }
+        ensures beside { IsBeside parts.old parts.new }
+        ensures refused { IfErr result (λ stop. RuleStops (rule_fault_at parts.old.programs.items self.old.bindings.items (map docket_of self.old.dockets.items) end message.0 answer.0)
+            (slice_get parts.old.bindings.items end.binding) stop) }
+    {
+        let is_there = end.binding < parts.bindings.as_slice().len();
+        if let Err(stop) = self.plan_rule(&parts.programs, is_there, end, message, answer) {
+            return Err(stop);
+        }
+        rule_now(&mut parts.cores, &parts.bindings, end, message, answer)
+    }
+
+    // A job more.
+    fn join_one(&mut self, alloc: Global, parts: &mut Parts, job: Job<'_>) -> Result<(), Stop>
+        requires safe { IsSafe (length parts.old.cores.items) (joined_of self.old) }
+        ensures joins { OnOk result (Joins parts.old.bindings.items (job_of job.entry) (joined_of self.old) parts.old.cores.items (joined_of self.new) parts.new.cores.items) }
+        ensures beside { IsBeside parts.old parts.new }
+        ensures refused { IfErr result (λ stop. (asked : List TheJob) → AreJoined (length parts.old.cores.items) asked (joined_of self.old)
+            → JobStops parts.old asked (joined_of self.old) (job_of job.entry) stop) }
+    {
+        match job {
+            Job::Open(wish) => self.open(alloc, parts, &wish),
+            Job::Reply {
+                end,
+                message,
+                answer,
+            } => self.rule(parts, end, message, answer),
+            Job::Call { end, call } => self.plan_call(&parts.programs, end, call),
+        }
+    }
+
+    // All jobs.
+    fn join_all(
+        &mut self,
+        alloc: Global,
+        parts: &mut Parts,
+        jobs: Vec<Job<'_>>,
+    ) -> Result<(), JobFault>
+        requires joined { AreJoined (length parts.old.cores.items) [] (joined_of self.old) }
+        requires bound { AreBound parts.old.bindings.items [] (joined_of self.old) }
+        ensures joined { OnOk result (AreJoined (length parts.old.cores.items) (map job_of jobs.entry.items) (joined_of self.new)) }
+        ensures bound { OnOk result (AreBound parts.old.bindings.items (map job_of jobs.entry.items) (joined_of self.new)) }
+        ensures rules { OnOk result (RulesOf parts.old.bindings.items (map job_of jobs.entry.items) parts.old.cores.items parts.new.cores.items) }
+        ensures count { OnOk result (length parts.new.cores.items ≡ length parts.old.cores.items) }
+        ensures beside { IsBeside parts.old parts.new }
+        ensures refused { IfErr result (λ fault. FirstRefused parts.old (map job_of jobs.entry.items) fault) }
+    {
+        let mut place = 0;
+        for job in jobs {
+            place += 1;
+            if let Err(stop) = self.join_one(alloc, parts, job) {
+                return Err(fault_at(stop, place));
+            }
+        }
+        Ok(())
+    }
+}
+
+// Why what stands at a place isn't joined.
+fn fault_at(stop: Stop, place: usize) -> JobFault
+    ensures fault { result ≡ fault_at stop place }
+{
+    match stop {
+        Stop::Refused(number) => JobFault::Refused { number, place },
+        Stop::Memory => JobFault::Memory,
+    }
+}
+
+// The bindings of a set-up.
+fn set_up(alloc: Global, cores: usize, bindings: &[Binding]) -> Result<Joined, Stop>
+    ensures joined { IfOk result (λ j. AreJoined cores [] (joined_of j)) }
+    ensures bound { IfOk result (λ j. AreBound bindings.now [] (joined_of j)) }
+{
+    let mut joined = Joined::new(alloc);
+    for binding in bindings {
+        joined.set_up(alloc, cores, binding)?;
+    }
+    Ok(joined)
+}
+
+/// Checks the jobs one by one and joins them to the cores of their ends. Reply rules are set at the ends that are there.
+///
+/// # Errors
+/// [`JobFault`]: the first job that is refused, or want of memory.
+pub fn join_jobs(alloc: Global, parts: &mut Parts, jobs: Vec<Job<'_>>) -> Result<Joined, JobFault>
+    ensures bindings { IfOk result (λ j. AreBindings (length parts.old.cores.items) j.bindings.items j.owners.items) }
+    ensures dockets { IfOk result (λ j. HasDockets j.bindings.items j.dockets.items) }
+    ensures cores { OnOk result (length parts.new.cores.items ≡ length parts.old.cores.items) }
+    ensures joined { IfOk result (λ j. AreJoined (length parts.old.cores.items) (map job_of jobs.entry.items) (joined_of j)) }
+    ensures bound { IfOk result (λ j. AreBound parts.old.bindings.items (map job_of jobs.entry.items) (joined_of j)) }
+    ensures due { IfOk result (λ j. AreDue (map job_of jobs.entry.items) (joined_of j)) }
+    ensures rules { OnOk result (RulesOf parts.old.bindings.items (map job_of jobs.entry.items) parts.old.cores.items parts.new.cores.items) }
+    ensures beside { IsBeside parts.old parts.new }
+    ensures refused { IfErr result (λ fault. IsFault parts.old (map job_of jobs.entry.items) fault) }
+{
+    let cores = parts.cores.as_slice().len();
+    let mut joined = match set_up(alloc, cores, &parts.bindings) {
+        Ok(joined) => joined,
+        Err(stop) => return Err(fault_at(stop, 0)),
+    };
+    joined.join_all(alloc, parts, jobs)?;
+    joined.set_dues();
+    Ok(joined)
+}
