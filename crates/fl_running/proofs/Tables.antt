@@ -395,13 +395,13 @@ refused_goes t l c hop k w =
       came = λ i n name at. inl (elim (put_none first hop.way i n) [
         | inl same ↦ elim (put_none t (Link l c) i n) [
           | inl too ↦ sym (ap (option_map (λ (x : Hop). x.way)) (same ∙ too)) ∙ at
-          | inr gone ↦ absurd (no_way (same ∙ gone) at)
+          | inr gone ↦ absurd (no_way i n name (same ∙ gone) at)
         ]
-        | inr gone ↦ absurd (no_way gone at)
+        | inr gone ↦ absurd (no_way i n name gone at)
       ]);
     } where
-      no_way : {u : TheCircuits} {i n : ℕ} {name : EndId} → hop_at u i n ≡ None → way_at u i n ≡ Some (End name) → ⊥
-      no_way none at = let no : None ≡ Some (End name) = sym (ap (option_map (λ (x : Hop). x.way)) none) ∙ at in absurd (cc)
+      no_way : (i n : ℕ) (name : EndId) → hop_at (without_entry t (Link l c) hop.way) i n ≡ None → way_at (without_entry t (Link l c) hop.way) i n ≡ Some (End name) → ⊥
+      no_way i n name none at = let no : None ≡ Some (End name) = sym (ap (option_map (λ (x : Hop). x.way)) none) ∙ at in absurd (cc)
 
 -- ---- the number that an arrival was given is the neighbour's
 
