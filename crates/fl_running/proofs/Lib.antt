@@ -27,4 +27,8 @@ pub mod Apart
 pub mod RingEnds
 pub mod QueueEnds
 pub mod Newcomers
+pub mod Tables
+pub mod Bound
+pub mod TablesHeard
+pub mod Leading
 pub mod Flowing

@@ -62,7 +62,7 @@ cond_some false o h e = absurd (cc)
 some_none : (h : Hop) → Some h ≡ None → ⊥
 some_none h e = absurd (cc)
 
-stands_there : (t : TheCircuits) (l n : ℕ) (h : Hop) → hop_at t l n ≡ Some h → (n ≤ 2046) × (slice_get t.hops (slot l n) ≡ Some (Some h))
+pub stands_there : (t : TheCircuits) (l n : ℕ) (h : Hop) → hop_at t l n ≡ Some h → (n ≤ 2046) × (slice_get t.hops (slot l n) ≡ Some (Some h))
 stands_there t l n h e =
     let (b, v) = cond_some (nat_lt n 2047) (slice_index_or t.hops (slot l n) None) h e in
     let few = is_less n 2047 b in
