@@ -31,4 +31,5 @@ pub mod Tables
 pub mod Bound
 pub mod TablesHeard
 pub mod Leading
+pub mod Leads
 pub mod Flowing
