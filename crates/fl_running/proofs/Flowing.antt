@@ -6,7 +6,10 @@ use Rattle.fl_base.specs.declared.identity.EndId.{EndId}
 use Rattle.fl_base.specs.Control.{bare}
 use Rattle.fl_endpoint.specs.View.{TheEnd}
 use Rattle.fl_core.specs.View.{TheSeat}
-use Rattle.fl_hop.specs.Stretch.{Step, taken_by, put_by, taken_from, put_on}
+use Rattle.fl_hop.specs.declared.entry.Way.TheVariants.{Link}
+use Rattle.fl_hop.specs.Later.{Later}
+use Rattle.fl_hop.specs.Stretch.{Step, taken_by, put_by, taken_from, put_on, goes_through}
+use Rattle.fl_hop.proofs.Laws.{later_same, stretch_join, stood_finish, carried_on}
 use Rattle.fl_hop.proofs.Lists.{at_within}
 use Rattle.fl_node.proofs.Ported.{placed_below}
 use Rattle.fl_node.specs.declared.wire.Port.{Port}
@@ -18,6 +21,7 @@ use Rattle.fl_running.specs.Run.{Ways, TheRun}
 use Rattle.fl_running.specs.Deeds.{Deed, Does, Notes, Happens}
 use Rattle.fl_running.specs.Logs.{InPlace, Goes}
 use Rattle.fl_running.specs.Carried.{EndGoes, traffic}
+use Rattle.fl_running.specs.Led.{IsLed, stretch}
 use Rattle.fl_running.specs.Flows.{EndCarries, IsApart, SideCarries, Flows}
 use Rattle.fl_running.proofs.Seating.{sits_first}
 use Rattle.fl_running.proofs.Carrying.{IsHere, acted_put, acted_took, of_end, does_go, log_put, log_took, log_goes}
@@ -29,6 +33,8 @@ use Rattle.fl_running.proofs.Newcomers.{made_carries}
 use Rattle.fl_running.proofs.Apart.{side_after, stays_apart}
 use Rattle.fl_running.proofs.Growing.{Grows, does_grow}
 use Rattle.fl_running.proofs.Aside.{core_aside}
+use Rattle.fl_running.proofs.Leads.{does_led}
+use Rattle.fl_running.proofs.Wending.{event_went}
 
 module _ {S : Type 0} (w : Ways S) (jobs : List Job) where
   end_carries : (s t : TheRun S) (log : List Deed) (name : EndId) (e : ℕ) (seat : TheSeat) → IsCore s.core → (h : Goes w jobs s log t)
@@ -65,6 +71,24 @@ module _ {S : Type 0} (w : Ways S) (jobs : List Job) where
   took_joins : (l : ℕ) (xs ys : List Step) → taken_from l (xs ++ ys) ≡ taken_from l xs ++ taken_from l ys
   took_joins l [] ys = refl
   took_joins l (x ∷ xs) ys = ap (λ (fs : List Frag). taken_by l x.deed ++ fs) (took_joins l xs ys) ∙ sym (append_assoc (taken_by l x.deed) (taken_from l xs) (taken_from l ys))
+
+  -- ---- as the table led
+
+  led_after : (deed : Deed) (s t : TheRun S) → (h : Happens w deed s t) → InPlace jobs s deed → IsLed s.core → IsLed t.core
+  led_after deed s t h by led = subst IsLed (sym (core_aside h.0 t deed h.2)) (does_led w jobs s h.0 h.3.core h.3.table led deed by h.1)
+
+  log_led : (log : List Deed) (s t : TheRun S) (h : Goes w jobs s log t) → IsLed s.core → IsLed t.core
+  log_led [] s t h led = subst (λ (x : TheRun S). IsLed x.core) (sym h) led
+  log_led (deed ∷ log) s t h led = log_led log h.0 t h.3 (led_after deed s h.0 h.1 h.2 led)
+
+  log_went : (log : List Deed) (s t : TheRun S) (h : Goes w jobs s log t) → IsLed s.core → goes_through s.core.monitor.circuits (log_steps log s t h) t.core.monitor.circuits
+  log_went [] s t h led = subst (λ (x : TheRun S). Later s.core.monitor.circuits x.core.monitor.circuits) (sym h) (later_same s.core.monitor.circuits)
+  log_went (deed ∷ log) s t h led =
+      let one : goes_through s.core.monitor.circuits (event_steps w jobs deed s h.1.0 h.2 h.1.1) h.0.core.monitor.circuits =
+      subst (λ (k : TheCore). goes_through s.core.monitor.circuits (event_steps w jobs deed s h.1.0 h.2 h.1.1) k.monitor.circuits) (sym (core_aside h.1.0 h.0 deed h.1.2))
+      (event_went w jobs s h.1.0 h.1.3.core h.1.3.table led deed h.2 h.1.4 h.1.1) in
+      stretch_join s.core.monitor.circuits (event_steps w jobs deed s h.1.0 h.2 h.1.1) h.0.core.monitor.circuits (log_steps log h.0 t h.3) t.core.monitor.circuits one
+      (log_went log h.0 t h.3 (led_after deed s h.0 h.1 h.2 led))
 
   -- ---- links
 
@@ -138,6 +162,11 @@ module _ {S : Type 0} (w : Ways S) (jobs : List Job) where
 pub flows : {S : Type 0} (w : Ways S) (jobs : List Job) (s t : TheRun S) (log : List Deed) → IsCore s.core → IsApart s.core → Goes w jobs s log t → Flows w s t log
 flows {S} w jobs s t log core apart_is h = record {
   steps = log_steps w jobs log s t h;
+  went = λ led. log_went w jobs log s t h led;
+  led = λ led. log_led w jobs log s t h led;
+  passes = λ led l m c n binding table leads.
+      let steps = log_steps w jobs log s t h in
+      carried_on (stretch s.core steps t.core) l m c n binding (stood_finish (stretch s.core steps t.core) l.0 c.0 binding (Link m n) (log_went w jobs log s t h led) (table, leads));
   put = λ name. log_put w jobs name log s t h;
   took = λ name. log_took w jobs name log s t h;
   links = λ l n p lane there.

@@ -39,12 +39,12 @@ use Rattle.fl_running.proofs.Tables.{GoesOn, NoneNew, OneNew, way_there, way_of,
 abbrev pub EndsLed : TheCircuits → List Port → List (Option ℕ) → Type 0
 EndsLed t ports circuits = (e a : ℕ) (l : LinkId) (p : Port) (o : Option ℕ) → slice_get ports e ≡ Some p → p.wire ≡ Circuit l a → slice_get circuits e ≡ Some o → IsLedTo t l.0 p.name o
 
-map_found : {X Y : Type 0} (f : X → Y) (xs : List X) (i : ℕ) (y : Y) → slice_get (map f xs) i ≡ Some y → (x : X) × (slice_get xs i ≡ Some x) × (f x ≡ y)
+pub map_found : {X Y : Type 0} (f : X → Y) (xs : List X) (i : ℕ) (y : Y) → slice_get (map f xs) i ≡ Some y → (x : X) × (slice_get xs i ≡ Some x) × (f x ≡ y)
 map_found f [] i y h = absurd (cc)
 map_found f (x ∷ xs) zero y h = (x, refl, let same : f x ≡ y = cc in same)
 map_found f (x ∷ xs) (suc i) y h = map_found f xs i y h
 
-map_there : {X Y : Type 0} (f : X → Y) (xs : List X) (i : ℕ) (x : X) → slice_get xs i ≡ Some x → slice_get (map f xs) i ≡ Some (f x)
+pub map_there : {X Y : Type 0} (f : X → Y) (xs : List X) (i : ℕ) (x : X) → slice_get xs i ≡ Some x → slice_get (map f xs) i ≡ Some (f x)
 map_there f [] i x h = absurd (cc)
 map_there f (z ∷ xs) zero x h = let same : z ≡ x = cc in ap Some (ap f same)
 map_there f (z ∷ xs) (suc i) x h = map_there f xs i x h

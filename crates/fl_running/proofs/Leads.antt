@@ -128,7 +128,7 @@ arrives_by k name at (Some e) is h = is ∙ by (arrivals_of k e) h where
   by (Some a) g = let same : arriving e a ≡ at = cc in ap Some (ap (λ (x : Arriving). x.end) same)
 
 -- a place has one name
-one_name : (k : TheCore) → IsCore k → (name : EndId) (e : ℕ) → place_of k name ≡ Some e → (p : Port) → slice_get k.ports e ≡ Some p → p.name ≡ name
+pub one_name : (k : TheCore) → IsCore k → (name : EndId) (e : ℕ) → place_of k name ≡ Some e → (p : Port) → slice_get k.ports e ≡ Some p → p.name ≡ name
 one_name k core name e at p port =
     let placed = core.placed name e at in
     let found : Some p ≡ Some placed.port = sym port ∙ placed.port_is in

@@ -32,4 +32,5 @@ pub mod Bound
 pub mod TablesHeard
 pub mod Leading
 pub mod Leads
+pub mod Wending
 pub mod Flowing

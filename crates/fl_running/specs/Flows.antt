@@ -2,10 +2,15 @@
 use Rattle.std.specs.Prelude.{ℕ, ◌≡◌, List, [], map, slice_get, Some, None}
 use Rattle.fl_base.specs.declared.fragment.Frag.{Frag}
 use Rattle.fl_base.specs.declared.identity.EndId.{EndId}
+use Rattle.fl_base.specs.declared.identity.LinkId.{LinkId}
+use Rattle.fl_base.specs.declared.identity.Circuit.{Circuit}
 use Rattle.fl_base.specs.Control.{bare}
 use Rattle.fl_link.specs.Looks.{Look, Looks, LinkStep, puts_of, takes_of}
 use Rattle.fl_link.specs.Queue.{TheQueue, QueuePuts, QueueTakes}
-use Rattle.fl_hop.specs.Stretch.{Step, taken_from, put_on}
+use Rattle.fl_hop.specs.declared.entry.Way.TheVariants.{Link}
+use Rattle.fl_hop.specs.Joined.{Leads, Sound as IsTable}
+use Rattle.fl_hop.specs.OfCircuit.{of_circuit}
+use Rattle.fl_hop.specs.Stretch.{Step, AllWent, taken_from, put_on}
 use Rattle.fl_endpoint.specs.View.{TheEnd, no_rules, nothing_to_send}
 use Rattle.fl_core.specs.View.{TheSeat}
 use Rattle.fl_node.specs.declared.wire.Port.{Port}
@@ -17,6 +22,7 @@ use Rattle.fl_running.specs.Run.{Ways, TheRun}
 use Rattle.fl_running.specs.Deeds.{Deed}
 use Rattle.fl_running.specs.Logs.{Goes}
 use Rattle.fl_running.specs.Carried.{EndGoes, traffic, rules_at}
+use Rattle.fl_running.specs.Led.{IsLed, stretch}
 
 -- ---- ends
 
@@ -64,6 +70,12 @@ pub record SideCarries {S : Type 0} (puts takes : S → Look → S → Type 0) (
 pub record Flows {S : Type 0} (w : Ways S) (s t : TheRun S) (log : List Deed) : Type 0 where
   -- what went over the core's links, fragment by fragment
   pub steps : List Step
+  -- where the table led to the ends of circuits here, it led all that, and leads to them still
+  pub went : IsLed s.core → AllWent (stretch s.core steps t.core)
+  pub led : IsLed s.core → IsLed t.core
+  -- so what went out by an entry of a circuit is what came in by its other side, in order
+  pub passes : IsLed s.core → (l m : LinkId) (c d : Circuit) (binding : ℕ) → IsTable t.core.monitor.circuits → Leads t.core.monitor.circuits l.0 c.0 binding (Link m d)
+      → of_circuit d.0 (put_on m.0 steps) ≡ of_circuit c.0 (taken_from l.0 steps)
   -- what the end of each name put, and what it took
   pub put : EndId → List Frag
   pub took : EndId → List Frag
