@@ -5,6 +5,7 @@ use Rattle.fl_base.specs.declared.fragment.Frag.{Frag}
 use Rattle.fl_base.specs.declared.identity.EndId.{EndId}
 use Rattle.fl_base.specs.Control.{bare}
 use Rattle.fl_endpoint.specs.View.{TheEnd}
+use Rattle.fl_endpoint.specs.Laws.{OnAnotherCircuit}
 use Rattle.fl_core.specs.View.{TheSeat}
 use Rattle.fl_hop.specs.declared.entry.Way.TheVariants.{Link}
 use Rattle.fl_hop.specs.Later.{Later}
@@ -81,14 +82,14 @@ module _ {S : Type 0} (w : Ways S) (jobs : List Job) where
   log_led [] s t h led = subst (λ (x : TheRun S). IsLed x.core) (sym h) led
   log_led (deed ∷ log) s t h led = log_led log h.0 t h.3 (led_after deed s h.0 h.1 h.2 led)
 
-  log_went : (log : List Deed) (s t : TheRun S) (h : Goes w jobs s log t) → IsLed s.core → goes_through s.core.monitor.circuits (log_steps log s t h) t.core.monitor.circuits
-  log_went [] s t h led = subst (λ (x : TheRun S). Later s.core.monitor.circuits x.core.monitor.circuits) (sym h) (later_same s.core.monitor.circuits)
-  log_went (deed ∷ log) s t h led =
+  log_went : OnAnotherCircuit → (log : List Deed) (s t : TheRun S) (h : Goes w jobs s log t) → IsLed s.core → goes_through s.core.monitor.circuits (log_steps log s t h) t.core.monitor.circuits
+  log_went on [] s t h led = subst (λ (x : TheRun S). Later s.core.monitor.circuits x.core.monitor.circuits) (sym h) (later_same s.core.monitor.circuits)
+  log_went on (deed ∷ log) s t h led =
       let one : goes_through s.core.monitor.circuits (event_steps w jobs deed s h.1.0 h.2 h.1.1) h.0.core.monitor.circuits =
       subst (λ (k : TheCore). goes_through s.core.monitor.circuits (event_steps w jobs deed s h.1.0 h.2 h.1.1) k.monitor.circuits) (sym (core_aside h.1.0 h.0 deed h.1.2))
-      (event_went w jobs s h.1.0 h.1.3.core h.1.3.table led deed h.2 h.1.4 h.1.1) in
+      (event_went w jobs on s h.1.0 h.1.3.core h.1.3.table led deed h.2 h.1.4 h.1.1) in
       stretch_join s.core.monitor.circuits (event_steps w jobs deed s h.1.0 h.2 h.1.1) h.0.core.monitor.circuits (log_steps log h.0 t h.3) t.core.monitor.circuits one
-      (log_went log h.0 t h.3 (led_after deed s h.0 h.1 h.2 led))
+      (log_went on log h.0 t h.3 (led_after deed s h.0 h.1 h.2 led))
 
   -- ---- links
 
@@ -159,14 +160,14 @@ module _ {S : Type 0} (w : Ways S) (jobs : List Job) where
       ap (λ (xs : List Frag). xs ++ log_queue_took w jobs log h.0 t h.3 i) (queues_took w jobs s h.1.0 apart_is h.1.3.core name e p at there i a wire deed h.2 h.1.1)
       ∙ ap (λ (xs : List Frag). of_end name deed (acted_took w deed s h.1.0 h.1.1) ++ xs) more
 
-pub flows : {S : Type 0} (w : Ways S) (jobs : List Job) (s t : TheRun S) (log : List Deed) → IsCore s.core → IsApart s.core → Goes w jobs s log t → Flows w s t log
-flows {S} w jobs s t log core apart_is h = record {
+pub flows : {S : Type 0} (w : Ways S) → OnAnotherCircuit → (jobs : List Job) (s t : TheRun S) (log : List Deed) → IsCore s.core → IsApart s.core → Goes w jobs s log t → Flows w s t log
+flows {S} w on jobs s t log core apart_is h = record {
   steps = log_steps w jobs log s t h;
-  went = λ led. log_went w jobs log s t h led;
+  went = λ led. log_went w jobs on log s t h led;
   led = λ led. log_led w jobs log s t h led;
   passes = λ led l m c n binding table leads.
       let steps = log_steps w jobs log s t h in
-      carried_on (stretch s.core steps t.core) l m c n binding (stood_finish (stretch s.core steps t.core) l.0 c.0 binding (Link m n) (log_went w jobs log s t h led) (table, leads));
+      carried_on (stretch s.core steps t.core) l m c n binding (stood_finish (stretch s.core steps t.core) l.0 c.0 binding (Link m n) (log_went w jobs on log s t h led) (table, leads));
   put = λ name. log_put w jobs name log s t h;
   took = λ name. log_took w jobs name log s t h;
   links = λ l n p lane there.

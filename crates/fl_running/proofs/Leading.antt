@@ -21,8 +21,10 @@ use Rattle.fl_core.specs.View.{TheSeat, TheBoard}
 use Rattle.fl_core.specs.declared.kind.Kind.{Kind}
 use Rattle.fl_monitor.specs.Outboxes.{IsFragOf}
 use Rattle.fl_monitor.specs.Routing.{given}
-use Rattle.fl_monitor.specs.Monitors.{waiting_for, Said, AllSaid}
-use Rattle.fl_monitor.specs.declared.hearing.Saying.{Saying}
+use Rattle.fl_monitor.specs.Monitors.{waiting_for, AllSaid}
+use Rattle.fl_monitor.specs.Hearing.{says}
+use Rattle.fl_monitor.specs.declared.heard.Heard.{Heard}
+use Rattle.fl_monitor.specs.declared.heard.Heard.TheVariants.{OpeningWentOn, ServerMade, OpeningFailed, AnswerWentOn, EndOpened, EndRefused}
 use Rattle.fl_monitor.specs.declared.message.Message.{Message}
 use Rattle.fl_monitor.proofs.Single.{says_what_is_written, says_alone}
 use Rattle.fl_node.specs.View.{TheCore, place_of}
@@ -144,18 +146,25 @@ frag_on_zero frag m is = (says_alone frag m (says_what_is_written frag m is.widt
 waits_there : (outboxes : List (List Frag)) (l : ℕ) (there : List Frag) → slice_get outboxes l ≡ Some there → waiting_for outboxes l ≡ there
 waits_there outboxes l there at = ap (λ (o : Option (List Frag)). given o [] λ x. x) at
 
-pub zero_said : (s : Saying) (outboxes after : List (List Frag)) → Said s outboxes after → OnZero outboxes → OnZero after
-zero_said s outboxes after h old =
-    subst OnZero (sym h.more) (zero_set outboxes s.link.0 h.outbox (h.outbox ++ h.frag ∷ []) h.there
-    (λ i frag at. elim (push_cases h.outbox h.frag i frag at) [
-      | inl last ↦ ap (λ (x : Frag). circuit_of x.control) last.1 ∙ frag_on_zero h.frag s.message h.is
-      | inr there ↦ old s.link.0 i frag (ap (λ (xs : List Frag). slice_get xs i) (waits_there outboxes s.link.0 h.outbox h.there) ∙ there)
+-- a message more is to be said
+pub zero_more : (outboxes after : List (List Frag)) (l : ℕ) (outbox : List Frag) (f : Frag) (m : Message) → slice_get outboxes l ≡ Some outbox → IsFragOf f m → after ≡ slice_set outboxes l (outbox ++ f ∷ [])
+    → OnZero outboxes → OnZero after
+zero_more outboxes after l outbox f m there is more old =
+    subst OnZero (sym more) (zero_set outboxes l outbox (outbox ++ f ∷ []) there
+    (λ i frag at. elim (push_cases outbox f i frag at) [
+      | inl last ↦ ap (λ (x : Frag). circuit_of x.control) last.1 ∙ frag_on_zero f m is
+      | inr stood ↦ old l i frag (ap (λ (xs : List Frag). slice_get xs i) (waits_there outboxes l outbox there) ∙ stood)
     ])
     old)
 
-pub zero_all : (o : Option Saying) (outboxes after : List (List Frag)) → AllSaid o outboxes after → OnZero outboxes → OnZero after
-zero_all None outboxes after h old = subst OnZero (sym h) old
-zero_all (Some s) outboxes after h old = zero_said s outboxes after h old
+-- what follows from a message is
+pub zero_heard : (l : LinkId) (msg : Message) (h : Heard) (outboxes after : List (List Frag)) → AllSaid (says l msg h) outboxes after → OnZero outboxes → OnZero after
+zero_heard l msg (OpeningWentOn binding n c) outboxes after h old = zero_more outboxes after n.0 h.outbox h.frag _ h.there h.is h.more old
+zero_heard l msg (ServerMade binding dispatcher c) outboxes after h old = zero_more outboxes after l.0 h.outbox h.frag _ h.there h.is h.more old
+zero_heard l msg (OpeningFailed binding reason) outboxes after h old = zero_more outboxes after l.0 h.outbox h.frag _ h.there h.is h.more old
+zero_heard l msg (AnswerWentOn binding n c) outboxes after h old = zero_more outboxes after n.0 h.outbox h.frag _ h.there h.is h.more old
+zero_heard l msg (EndOpened end c) outboxes after h old = subst OnZero (sym h) old
+zero_heard l msg (EndRefused end reason) outboxes after h old = subst OnZero (sym h) old
 
 -- the first is said
 pub zero_less : (outboxes : List (List Frag)) (l : ℕ) (f : Frag) (rest : List Frag) → waiting_for outboxes l ≡ f ∷ rest → OnZero outboxes → OnZero (slice_set outboxes l (drop 1 (waiting_for outboxes l)))

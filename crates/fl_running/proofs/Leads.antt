@@ -24,7 +24,7 @@ use Rattle.fl_core.specs.View.{TheBoard}
 use Rattle.fl_core.specs.declared.kind.Kind.{Kind}
 use Rattle.fl_core.specs.declared.kind.Kind.TheVariants.{Queue}
 use Rattle.fl_monitor.specs.Routing.{given}
-use Rattle.fl_monitor.specs.Hearing.{ComesTo, says, table_after}
+use Rattle.fl_monitor.specs.Hearing.{ComesTo, table_after}
 use Rattle.fl_monitor.specs.Monitors.{TheMonitor, can_say, waiting_for}
 use Rattle.fl_monitor.specs.declared.heard.Heard.{Heard}
 use Rattle.fl_monitor.specs.declared.heard.Heard.TheVariants as outcome
@@ -57,7 +57,7 @@ use Rattle.fl_running.specs.Logs.{InPlace}
 use Rattle.fl_running.specs.Led.{IsSettled, IsLedTo, IsLed}
 use Rattle.fl_running.proofs.Bound.{circuits_of, calls_same, rules_same, writes_same, end_same, lists_same, turn_same, triggers_same, added, binds}
 use Rattle.fl_running.proofs.Carrying.{five, not_there}
-use Rattle.fl_running.proofs.Leading.{EndsLed, ends_led, map_there, ends_on, ends_more, ends_bound, OnZero, zero_said, zero_all, zero_less, none_leads, as_many, absent_port}
+use Rattle.fl_running.proofs.Leading.{EndsLed, ends_led, map_there, ends_on, ends_more, ends_bound, OnZero, zero_more, zero_heard, zero_less, none_leads, as_many, absent_port}
 use Rattle.fl_running.proofs.Tables.{GoesOn, NoneNew, OneNew, way_of, opened_goes}
 use Rattle.fl_running.proofs.TablesHeard.{new_by, heard_goes, opened_settles, server_made}
 
@@ -215,7 +215,7 @@ module _ (k : TheCore) (core : IsCore k) (sound : Sound k.monitor.circuits) (led
   follows_led (outcome.AnswerWentOn binding n c) m answered k2 comes table zero f = heard_alone (outcome.AnswerWentOn binding n c) m comes table zero k2 f.1
 
   all_led : (answered : MonitorAnswer) (k2 : TheCore) → HearsAll o l msg k answered k2 → IsLed k2
-  all_led answered k2 h = follows_led h.heard h.monitor answered k2 h.hears.0 h.hears.2 (zero_all (says l msg h.heard) k.monitor.outboxes h.monitor.outboxes h.hears.3 led.says) h.follows
+  all_led answered k2 h = follows_led h.heard h.monitor answered k2 h.hears.0 h.hears.2 (zero_heard l msg h.heard k.monitor.outboxes h.monitor.outboxes h.hears.3 led.says) h.follows
 
   message_led : (answer : Result MonitorAnswer LinkFault) (k2 : TheCore) → HearsMessage o l msg k answer k2 → IsLed k2
   message_led (Ok heard_as.Full) k2 h = alike k led k2 h.1
@@ -314,7 +314,7 @@ module _ (k : TheCore) (core : IsCore k) (sound : Sound k.monitor.circuits) (led
       by_parts k2 k2.monitor (k.ports ++ port ∷ []) (circuits_of k.board.seats ++ None ∷ []) refl (ap (λ (x : TheCore). x.ports) h.rest)
       (added k.board k2.board a.dispatcher e _ Queue h.adds)
       (ends_more k2.monitor.circuits k.ports (circuits_of k.board.seats) port a.link (length k.arrivals) None (as_many k core) refl new ends)
-      (zero_said _ k.monitor.outboxes k2.monitor.outboxes h.opens.4 led.says)
+      (zero_more k.monitor.outboxes k2.monitor.outboxes a.link.0 h.opens.4.outbox h.opens.4.frag _ h.opens.4.there h.opens.4.is h.opens.4.more led.says)
 
   asks_led : (a : Asked) (answer : Result ℕ OpenFault) (k2 : TheCore) → place_of k (client_of a.opening.binding) ≡ None → Asks a k answer k2 → IsLed k2
   asks_led a (Ok e) k2 none h = begins_led a e k2 none h

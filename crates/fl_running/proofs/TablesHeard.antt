@@ -16,8 +16,6 @@ use Rattle.fl_hop.specs.Table.{TheCircuits, hop_at, link_of, stands, without_ent
 use Rattle.fl_hop.proofs.Laters.{next_test}
 use Rattle.fl_nameserv.specs.Registrations.{TheRegistration, by_iref}
 use Rattle.fl_monitor.specs.declared.opening.Opening.{Opening}
-use Rattle.fl_monitor.specs.declared.fate.Fate.{Fate}
-use Rattle.fl_monitor.specs.declared.fate.Fate.TheVariants.{GoesOn as goes_on, EndsAt as ends_at, Fails as fails}
 use Rattle.fl_monitor.specs.declared.heard.Heard.{Heard}
 use Rattle.fl_monitor.specs.declared.heard.Heard.TheVariants.{OpeningWentOn, ServerMade, OpeningFailed, AnswerWentOn, EndOpened, EndRefused}
 use Rattle.fl_monitor.specs.declared.message.Message.{Message}
@@ -60,34 +58,37 @@ tests true true true d e f h = absurd (cc)
 tests true false c d e f h = absurd (cc)
 tests false b c d e f h = absurd (cc)
 
--- where it goes on it has the link's next number
-at_link : (t : TheCircuits) (l m : ℕ) (same : Bool) (y : Option ℕ) (link : LinkId) (n : Circuit) → next_own t m ≡ y → (l == m) ≡ same
-    → (if l == m then fails 73 else given (next_own t m) (fails 74) λ d. goes_on (record { 0 = m }) (record { 0 = d })) ≡ goes_on link n → next_own t link.0 ≡ Some n.0
-at_link t l m true y link n next is h = let g = rw is at h in absurd (cc (g))
-at_link t l m false None link n next is h = let g = rw (is, next) at h in absurd (cc (g))
-at_link t l m false (Some d) link n next is h =
-    let g = rw (is, next) at h in
-    let links : (let x : LinkId = record { 0 = m } in x) ≡ link = cc (g) in
-    let numbers : (let x : Circuit = record { 0 = d } in x) ≡ n = cc (g) in
-    sym (ap (λ (x : LinkId). next_own t x.0) links) ∙ next ∙ ap Some (ap (λ (x : Circuit). x.0) numbers)
+-- where it goes on it has the link's next number; and it binds no end
+abbrev pub IsNext : TheCircuits → Heard → Type 0
+IsNext t (OpeningWentOn binding m n) = next_own t m.0 ≡ Some n.0
+IsNext t (ServerMade binding dispatcher c) = Unit {0}
+IsNext t (OpeningFailed binding reason) = Unit {0}
+IsNext t (AnswerWentOn binding m c) = ⊥
+IsNext t (EndOpened e c) = ⊥
+IsNext t (EndRefused e reason) = ⊥
 
-over_link : (t : TheCircuits) (l next : ℕ) (o : Option ℕ) (link : LinkId) (n : Circuit) → link_of t next ≡ o → passage t l next ≡ goes_on link n → next_own t link.0 ≡ Some n.0
-over_link t l next None link n is h = let g = rw is at h in absurd (cc (g))
-over_link t l next (Some m) link n is h = at_link t l m (l == m) (next_own t m) link n refl refl (rw is at h)
+module _ (kn : Known) (t : TheCircuits) (binding : ℕ) (c : Circuit) where
+  at_last : (iref : ℕ) (r : Option TheRegistration) (place : Bool) → by_iref iref kn.names ≡ r → kn.here.has_place ≡ place → IsNext t (heard_by binding c (arrival kn iref))
+  at_last iref None place is has = rw is tt
+  at_last iref (Some r) true is has = rw (is, has) tt
+  at_last iref (Some r) false is has = rw (is, has) tt
 
-ends_at_last : (kn : Known) (iref : ℕ) (r : Option TheRegistration) (place : Bool) (link : LinkId) (n : Circuit) → by_iref iref kn.names ≡ r → kn.here.has_place ≡ place → arrival kn iref ≡ goes_on link n → ⊥
-ends_at_last kn iref None place link n is has h = let g = rw is at h in absurd (cc (g))
-ends_at_last kn iref (Some r) true link n is has h = let g = rw (is, has) at h in absurd (cc (g))
-ends_at_last kn iref (Some r) false link n is has h = let g = rw (is, has) at h in absurd (cc (g))
+  at_link : (l next m : ℕ) (same : Bool) (n : Option ℕ) → link_of t next ≡ Some m → (l == m) ≡ same → next_own t m ≡ n → IsNext t (heard_by binding c (passage t l next))
+  at_link l next m true n is test own = rw (is, test) tt
+  at_link l next m false None is test own = rw (is, test, own) tt
+  at_link l next m false (Some n) is test own = rw (is, test, own) refl
 
-fate_next : (kn : Known) (t : TheCircuits) (l : ℕ) (o : Opening) (next : Option CoreId) (link : LinkId) (n : Circuit) → next_on o.path t.core ≡ next → fate kn t l o ≡ goes_on link n → next_own t link.0 ≡ Some n.0
-fate_next kn t l o None link n is h = absurd (ends_at_last kn o.service.0 (by_iref o.service.0 kn.names) kn.here.has_place link n refl refl (rw is at h))
-fate_next kn t l o (Some next) link n is h = over_link t l next.0 (link_of t next.0) link n refl (rw is at h)
+  on_the_way : (l next : ℕ) (m : Option ℕ) → link_of t next ≡ m → IsNext t (heard_by binding c (passage t l next))
+  on_the_way l next None is = rw is tt
+  on_the_way l next (Some m) is = at_link l next m (l == m) (next_own t m) is refl refl
 
-by_fate : (binding b : ℕ) (c : Circuit) (f : Fate) (link : LinkId) (n : Circuit) → heard_by binding c f ≡ OpeningWentOn b link n → f ≡ goes_on link n
-by_fate binding b c (goes_on m d) link n h = cc
-by_fate binding b c (ends_at dispatcher) link n h = absurd (cc)
-by_fate binding b c (fails number) link n h = absurd (cc)
+  by_route : (l : ℕ) (o : Opening) (next : Option CoreId) → next_on o.path t.core ≡ next → IsNext t (heard_by binding c (fate kn t l o))
+  by_route l o None is = rw is (at_last o.service.0 (by_iref o.service.0 kn.names) kn.here.has_place refl refl)
+  by_route l o (Some next) is = rw is (on_the_way l next.0 (link_of t next.0) refl)
+
+-- what a message that is in its place comes to
+opening_next : (kn : Known) (t : TheCircuits) (l : ℕ) (c : Circuit) (o : Opening) (h : Heard) → h ≡ heard_by o.binding c (fate kn t l o) → IsNext t h
+opening_next kn t l c o h is = subst (IsNext t) (sym is) (by_route kn t o.binding c l o (next_on o.path t.core) refl)
 
 -- ---- an answer
 
@@ -108,7 +109,7 @@ opening_goes : (kn : Known) (t : TheCircuits) (l : LinkId) (c : Circuit) (o : Op
     → (binding_is : (b d : ℕ) (x : Circuit) → h ≡ ServerMade b d x → b ≡ o.binding)
     → GoesOn (new_by l h) t (after_opening t l c o.binding h)
 opening_goes kn t l c o (OpeningWentOn b m n) k place is named =
-    passed_goes t l m c n o.binding k (due_in_place kn t l c o place).0 (fate_next kn t l.0 o (next_on o.path t.core) m n refl (by_fate o.binding b c (fate kn t l.0 o) m n (sym is)))
+    passed_goes t l m c n o.binding k (due_in_place kn t l c o place).0 (opening_next kn t l.0 c o (OpeningWentOn b m n) is)
 opening_goes kn t l c o (ServerMade b d x) k place is named =
     subst (λ (i : ℕ). GoesOn (OneNew l.0 (server_of i)) t (after_opening t l c o.binding (ServerMade b d x))) (sym (named b d x refl)) (arrived_goes t l c o.binding k (due_in_place kn t l c o place).0)
 opening_goes kn t l c o (OpeningFailed b reason) k place is named = taken_goes t l
@@ -136,14 +137,9 @@ refused_end : (reason binding : ℕ) (way : Way) (e : EndId) (d : Circuit) → E
 refused_end reason binding (Link m n) e d h = absurd (cc)
 refused_end reason binding (End f) e d h = absurd (cc)
 
-by_no_fate : (binding : ℕ) (c : Circuit) (f : Fate) (e : EndId) (d : Circuit) → EndOpened e d ≡ heard_by binding c f → ⊥
-by_no_fate binding c (goes_on m n) e d h = absurd (cc)
-by_no_fate binding c (ends_at dispatcher) e d h = absurd (cc)
-by_no_fate binding c (fails number) e d h = absurd (cc)
-
 -- an end whose opening was answered is led to
 pub opened_settles : (kn : Known) (t : TheCircuits) (l : LinkId) (m : Message) (e : EndId) (d : Circuit) → Sound t → ComesTo kn t l m (EndOpened e d) → IsSettled (table_after t l m (EndOpened e d)) l.0 d.0 e
-opened_settles kn t l (OpenCircuit c binding service path) e d k comes = absurd (by_no_fate binding c _ e d comes.1)
+opened_settles kn t l (OpenCircuit c binding service path) e d k comes = absurd (opening_next kn t l.0 c (record { binding = binding; service = service; path = path }) (EndOpened e d) comes.1)
 opened_settles kn t l (CircuitOpened c) e d k (hop, waits, is) =
     let (way, same) = opened_end c hop.binding hop.way e d is in
     subst (λ (n : Circuit). IsSettled (after_answer t l c) l.0 n.0 e) (sym same)

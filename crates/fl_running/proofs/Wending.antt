@@ -1,19 +1,12 @@
 -- What goes over a core's links by one event goes as its table leads.
-use Rattle.std.proofs.Common.{◌≡◌, refl, sym, ap, ◌∙◌, subst, ℕ, zero, suc, ◌+◌, ◌*◌, ◌^◌, ◌<◌, ◌≤◌, ◌==◌, List, [], ◌∷◌, map, take, drop, length, slice_get}
+use Rattle.std.proofs.Common.{◌≡◌, refl, sym, ap, ◌∙◌, subst, ℕ, zero, suc, ◌+◌, ◌-◌, ◌*◌, ◌^◌, ◌<◌, ◌≤◌, ◌==◌, List, [], ◌∷◌, map, take, drop, length, slice_get}
 use Rattle.std.proofs.Common.{Option, Some, None, IsSome, Bool, true, false, Result, Ok, Err, arith}
-use Rattle.std.proofs.lemmas.Bool.{and_parts, leb-true, false≢true}
-use Rattle.std.proofs.lemmas.List.Elements.{All-head}
 use Rattle.fl_base.specs.declared.fragment.Frag.{Frag}
 use Rattle.fl_base.specs.declared.identity.EndId.{EndId}
 use Rattle.fl_base.specs.declared.identity.LinkId.{LinkId}
-use Rattle.fl_base.specs.Control.{circuit_of, control_word}
-use Rattle.fl_check.specs.Interface.{TheMessage, TheInterface}
-use Rattle.fl_check.specs.Checks.{is_within_limits}
-use Rattle.fl_value.specs.Value.{Datum, TheCall}
-use Rattle.fl_value.specs.Fits.{fits_of, fit_message}
-use Rattle.fl_value.specs.declared.value.PlanNo.{PlanNo}
-use Rattle.fl_wire.specs.Reading.{AllFit}
-use Rattle.fl_wire.specs.Payload.{payload_of, frag_on, frags_on}
+use Rattle.fl_base.specs.Control.{circuit_of, with_circuit}
+use Rattle.fl_value.specs.Value.{TheCall}
+use Rattle.fl_compile.specs.Programs.{program_of}
 use Rattle.fl_link.specs.Looks.{Look}
 use Rattle.fl_link.specs.Queue.{QueuePuts}
 use Rattle.fl_hop.specs.declared.entry.Way.TheVariants.{Link, End}
@@ -24,9 +17,10 @@ use Rattle.fl_hop.specs.Later.{Later, way_at}
 use Rattle.fl_hop.specs.Stretch.{Deed as HopDeed, passed as hop_passed, wrote as hop_wrote, said as hop_said, heard as hop_heard, AsLed, goes_through}
 use Rattle.fl_hop.specs.Table.{TheCircuits}
 use Rattle.fl_hop.proofs.Laws.{later_same}
-use Rattle.fl_hop.proofs.Lists.{take_within}
-use Rattle.fl_endpoint.specs.View.{TheEnd, TheOutgoing, interface_in, number_or_0, frags_from}
-use Rattle.fl_endpoint.specs.Accounts.{Sound as IsEnd, IsLeft}
+use Rattle.fl_hop.proofs.Lists.{take_within, push_keeps}
+use Rattle.fl_endpoint.specs.View.{TheEnd, TheOutgoing, number_or_0, frags_from}
+use Rattle.fl_endpoint.specs.Accounts.{Sound as IsEnd, IsLeft, stream_from}
+use Rattle.fl_endpoint.specs.Laws.{OnAnotherCircuit}
 use Rattle.fl_endpoint.specs.Events.{Writes}
 use Rattle.fl_endpoint.specs.declared.fault.EndFault.{EndFault}
 use Rattle.fl_endpoint.specs.declared.answer.WriteAnswer.{WriteAnswer}
@@ -50,52 +44,41 @@ use Rattle.fl_running.specs.Run.{Ways, TheRun}
 use Rattle.fl_running.specs.Deeds.{Deed, looked, passed, arrived, heard, said, told, opened, called, ruled, wrote, acked, turned, Does, ActsSoundly}
 use Rattle.fl_running.specs.Logs.{InPlace}
 use Rattle.fl_running.specs.Led.{IsSettled, IsLed}
-use Rattle.fl_running.proofs.Laning.{link_by, link_at, step_of, steps_of, steps_by, event_steps}
-use Rattle.fl_running.proofs.Leading.{map_found}
+use Rattle.fl_running.proofs.Laning.{some_is, link_by, link_at, step_of, steps_of, steps_by, event_steps}
+use Rattle.fl_running.proofs.Leading.{map_there}
 use Rattle.fl_running.proofs.Leads.{one_name, does_later}
 use Rattle.fl_running.proofs.Looking.{if_arrived, if_heard, if_said, if_wrote}
 use Rattle.fl_running.proofs.Tables.{way_of}
 
 -- ---- the fragments of calls are on the end's circuit
 
-known : (ms : List TheMessage) (n : ℕ) (ds : List Datum) → fit_message (slice_get ms n) ds ≡ true → n < length ms
-known [] n ds h = absurd (false≢true h)
-known (m ∷ ms) zero ds h = omega arith
-known (m ∷ ms) (suc n) ds h = let less = known ms n ds h in omega (arith, less)
+circuit_set : (w circuit : ℕ) → circuit < 2 ^ 16 → circuit_of (w - 2 ^ 32 * circuit_of w + 2 ^ 32 * circuit) ≡ circuit
+circuit_set w circuit few = omega (arith, few)
 
-small_message : (i : TheInterface) (c : TheCall) → is_within_limits i ≡ true → fits_of i c ≡ true → c.msg < 2 ^ 16
-small_message i c within fits =
-    let few = leb-true (length i.messages) 256 (and_parts _ _ within).0 in
-    let less = known i.messages c.msg c.args fits in
-    omega (arith, few, less)
-
-word_circuit : (first : Bool) (msg circuit : ℕ) → msg < 2 ^ 16 → circuit < 2 ^ 16 → circuit_of (control_word first msg circuit) ≡ circuit
-word_circuit true msg circuit m c = omega (arith, m, c)
-word_circuit false msg circuit m c = omega (arith, m, c)
-
-frag_circuit : (circuit : ℕ) (plan : PlanNo) (i : TheInterface) (c : TheCall) → c.msg < 2 ^ 16 → circuit < 2 ^ 16 → (k : ℕ) (f : Frag) → slice_get (frags_on circuit plan i c) k ≡ Some f → circuit_of f.control ≡ circuit
-frag_circuit circuit plan i c msg few k f at =
-    let (n, there, is) = map_found (frag_on circuit c.msg (payload_of plan i c)) _ k f at in
-    ap (λ (x : Frag). circuit_of x.control) (sym is) ∙ word_circuit (n == 0) c.msg circuit msg few
+-- a fragment that setting its circuit leaves is on that circuit
+set_circuit : (circuit : ℕ) (f : Frag) → circuit < 2 ^ 16 → with_circuit circuit f ≡ f → circuit_of f.control ≡ circuit
+set_circuit circuit f few same = ap (λ (x : Frag). circuit_of x.control) (sym same) ∙ circuit_set f.control circuit few
 
 drop_within : {X : Type 0} (n : ℕ) (xs : List X) (i : ℕ) (x : X) → slice_get (drop n xs) i ≡ Some x → (j : ℕ) × (slice_get xs j ≡ Some x)
 drop_within zero xs i x h = (i, h)
 drop_within (suc n) [] i x h = (i, h)
 drop_within (suc n) (y ∷ xs) i x h = let (j, at) = drop_within n xs i x h in (suc j, at)
 
-left_circuit : (s : TheEnd) (number : ℕ) (calls : List TheCall) (o : TheOutgoing) → IsLeft (frags_from s) number calls o → ((c : TheCall) (rest : List TheCall) → calls ≡ c ∷ rest → c.msg < 2 ^ 16)
+left_circuit : (s : TheEnd) (number : ℕ) (calls : List TheCall) (o : TheOutgoing) → IsLeft (frags_from s) number calls o → map (with_circuit (number_or_0 s.circuit)) (stream_from s calls) ≡ stream_from s calls
     → number_or_0 s.circuit < 2 ^ 16 → (i : ℕ) (f : Frag) → slice_get o.unwritten i ≡ Some f → circuit_of f.control ≡ number_or_0 s.circuit
-left_circuit s number [] o left small few i f at =
+left_circuit s number [] o left own few i f at =
     absurd (let no : None ≡ Some f = sym (ap (λ (x : TheOutgoing). slice_get x.unwritten i) left) ∙ at in cc)
-left_circuit s number (c ∷ calls) o left small few i f at =
+left_circuit s number (c ∷ calls) o left own few i f at =
     let (j, there) = drop_within number (frags_from s c) i f (sym (ap (λ (x : TheOutgoing). slice_get x.unwritten i) left.1) ∙ at) in
-    frag_circuit (number_or_0 s.circuit) _ (interface_in s) c (small c calls refl) few j f there
+    let stands : slice_get (stream_from s (c ∷ calls)) j ≡ Some f = push_keeps (frags_from s c) (stream_from s calls) j f there in
+    let same : Some (with_circuit (number_or_0 s.circuit) f) ≡ Some f =
+    sym (map_there (with_circuit (number_or_0 s.circuit)) (stream_from s (c ∷ calls)) j f stands) ∙ ap (λ (xs : List Frag). slice_get xs j) own ∙ stands in
+    set_circuit (number_or_0 s.circuit) f few (some_is (with_circuit (number_or_0 s.circuit) f) f same)
 
-unwritten_circuit : (s : TheEnd) → IsEnd s → (i : ℕ) (f : Frag) → slice_get s.outgoing.unwritten i ≡ Some f → circuit_of f.control ≡ number_or_0 s.circuit
-unwritten_circuit s sound i f at =
+unwritten_circuit : OnAnotherCircuit → (s : TheEnd) → IsEnd s → (i : ℕ) (f : Frag) → slice_get s.outgoing.unwritten i ≡ Some f → circuit_of f.control ≡ number_or_0 s.circuit
+unwritten_circuit on s sound i f at =
     left_circuit s sound.sends.number sound.sends.calls s.outgoing sound.sends.left
-    (λ c rest is. small_message (interface_in s) c sound.within (All-head (λ (d : TheCall). fits_of (interface_in s) d ≡ true) c rest (subst (λ (cs : List TheCall). AllFit (interface_in s) cs) is sound.sends.fit)))
-    sound.circuit i f at
+    (on (program_of s.program) (number_or_0 s.circuit) (number_or_0 s.circuit) sound.sends.calls sound.circuit sound.within sound.sends.fit) sound.circuit i f at
 
 -- ---- steps at one moment
 
@@ -165,15 +148,15 @@ module _ (k : TheCore) (core : IsCore k) (led : IsLed k) (name : EndId) (e : ℕ
       let settled = (led.ends e a l p seat port wire there).bound (number_or_0 seat.end.circuit) (circuit_there seat.end.circuit some) in
       way_of k.monitor.circuits l.0 (number_or_0 seat.end.circuit) settled.hop (End name) settled.there (settled.way ∙ ap End (one_name k core name e at p port))
 
-  frag_leads : IsEnd seat.end → {P : Type 0} (puts : P → Look → P → Type 0) (p : P) (answer : Result WriteAnswer EndFault) (y : TheEnd) (q : P) → Writes puts seat.end p answer y q
+  frag_leads : OnAnotherCircuit → IsEnd seat.end → {P : Type 0} (puts : P → Look → P → Type 0) (p : P) (answer : Result WriteAnswer EndFault) (y : TheEnd) (q : P) → Writes puts seat.end p answer y q
       → (l : LinkId) (i : ℕ) (f : Frag) → link_at k e ≡ Some l → slice_get (if_wrote answer seat.end.outgoing.unwritten) i ≡ Some f → way_at k.monitor.circuits l.0 (circuit_of f.control) ≡ Some (End name)
-  frag_leads sound puts p answer y q h l i f is first =
+  frag_leads on sound puts p answer y q h l i f is first =
       let (some, stands) = wrote_within puts seat.end p answer y q f i h first in
-      ap (way_at k.monitor.circuits l.0) (unwritten_circuit seat.end sound i f stands) ∙ own_leads l is some
+      ap (way_at k.monitor.circuits l.0) (unwritten_circuit on seat.end sound i f stands) ∙ own_leads l is some
 
 -- ---- one event
 
-module _ {S : Type 0} (w : Ways S) (jobs : List Job) (s m : TheRun S) (core : IsCore s.core) (sound : Sound s.core.monitor.circuits) (led : IsLed s.core) where
+module _ {S : Type 0} (w : Ways S) (jobs : List Job) (on : OnAnotherCircuit) (s m : TheRun S) (core : IsCore s.core) (sound : Sound s.core.monitor.circuits) (led : IsLed s.core) where
   abbrev Through : (deed : Deed) → InPlace jobs s deed → Does w deed s m → Type 0
   Through deed by h = goes_through s.core.monitor.circuits (event_steps w jobs deed s m by h) m.core.monitor.circuits
 
@@ -207,10 +190,10 @@ module _ {S : Type 0} (w : Ways S) (jobs : List Job) (s m : TheRun S) (core : Is
   event_went (wrote name (outlet.Queue n) answer) by acts h =
       let writes = h.2.event.writes in
       wrote_went name h.0 (if_wrote answer writes.seat.end.outgoing.unwritten) (later (wrote name (outlet.Queue n) answer) h)
-      (frag_leads s.core core led name h.0 h.1 writes.seat writes.seat_is (acts h.0 writes.seat h.1 writes.seat_is) QueuePuts h.2.before answer writes.end h.2.after writes.event)
+      (frag_leads s.core core led name h.0 h.1 writes.seat writes.seat_is on (acts h.0 writes.seat h.1 writes.seat_is) QueuePuts h.2.before answer writes.end h.2.after writes.event)
   event_went (wrote name (outlet.Side n) answer) by acts h =
       let writes = h.2.event.writes in
       wrote_went name h.0 (if_wrote answer writes.seat.end.outgoing.unwritten) (later (wrote name (outlet.Side n) answer) h)
-      (frag_leads s.core core led name h.0 h.1 writes.seat writes.seat_is (acts h.0 writes.seat h.1 writes.seat_is) w.puts h.2.before answer writes.end h.2.after writes.event)
+      (frag_leads s.core core led name h.0 h.1 writes.seat writes.seat_is on (acts h.0 writes.seat h.1 writes.seat_is) w.puts h.2.before answer writes.end h.2.after writes.event)
   event_went (acked name n answer) by acts h = later (acked name n answer) h
   event_went (turned d name from answer) by acts h = later (turned d name from answer) h

@@ -8,6 +8,7 @@ ghost use Rattle.fl_running.specs.Lending.{StaysLent, LentServes};
 ghost use Rattle.fl_running.specs.Carried.{LogsCarryQueues, RulesComeFirst, SentAreMade, SentAreReplies};
 ghost use Rattle.fl_running.specs.Flows.{LogsFlow};
 
+use fl_endpoint::on_another_circuit;
 use fl_link::{PutSide, TakeSide, queue_conserves};
 
 /// Whatever changes a core in its turns is an event of its log; and no dispatcher handles more calls than the core took turns. What a desk has as handled are
@@ -49,7 +50,9 @@ pub fn sent_by_rules()
 /// What an end put are the fragments of what it sent, in order, up to what is left to put; what it took reads as the calls that it handled, and a rest.
 pub fn logs_flow<S: PutSide + TakeSide>()
     ensures flows { LogsFlow (ways S.puts S.takes S.front) }
-{}
+{
+    on_another_circuit();
+}
 
 /// Where all sides and queues that a core's links and ends name are lent, they stay lent; and then no step is left out for want of one.
 pub fn sides_stay_lent<S: PutSide + TakeSide>()
