@@ -15,12 +15,31 @@ use Rattle.fl_hop.specs.declared.forward.Outcome.TheVariants.{Moved, Full, Spent
 use Rattle.fl_hop.specs.OfCircuit.{as_carried}
 use Rattle.fl_hop.specs.Stretch.{Step, Deed as HopDeed, passed as hop_passed, wrote as hop_wrote, said as hop_said, heard as hop_heard, same_end, come_to, come_by, written_by, written_in}
 use Rattle.fl_hop.specs.Table.{TheCircuits}
+use Rattle.fl_compile.specs.declared.program.Program.{Program}
+use Rattle.fl_wire.specs.declared.fault.WireFault.TheVariants as wire
 use Rattle.fl_core.proofs.Places.{one_stands, push_stays}
 use Rattle.fl_core.specs.declared.answer.TurnAnswer.{TurnAnswer}
 use Rattle.fl_monitor.specs.Routing.{given}
-use Rattle.fl_node.specs.View.{TheCore, place_of, arrivals_of, arrivals_by, arriving, arriving_at, with_failed, inlet_by, outlet_by}
+use Rattle.fl_monitor.specs.Monitors.{TheMonitor}
+use Rattle.fl_monitor.specs.declared.heard.Heard.{Heard}
+use Rattle.fl_monitor.specs.declared.heard.Heard.TheVariants as outcome
+use Rattle.fl_monitor.specs.declared.message.Message.{Message}
+use Rattle.fl_node.specs.View.{TheCore, place_of, arrivals_of, arrivals_by, arriving, arriving_at, new_arrivals, with_monitor, inlet_by}
 use Rattle.fl_node.specs.Sound.{IsCore}
+use Rattle.fl_node.specs.Links.{LooksAhead, MonitorWrites}
+use Rattle.fl_node.specs.Hearing.{Offers, offer_for, HearsFrag, HearsMessage, HearsAll, Follows, BindsIf}
+use Rattle.fl_node.specs.Making.{Asked, Asks}
+use Rattle.fl_node.specs.declared.answer.Ahead.{Ahead}
+use Rattle.fl_node.specs.declared.answer.Ahead.TheVariants as ahead
+use Rattle.fl_node.specs.declared.answer.MonitorWrite.{MonitorWrite}
+use Rattle.fl_node.specs.declared.answer.MonitorWrite.TheVariants as said_as
+use Rattle.fl_node.specs.declared.answer.MonitorAnswer.{MonitorAnswer}
+use Rattle.fl_node.specs.declared.answer.MonitorAnswer.TheVariants as heard_as
 use Rattle.fl_node.specs.declared.fault.LinkFault.{LinkFault}
+use Rattle.fl_node.specs.declared.fault.LinkFault.TheVariants as link
+use Rattle.fl_node.specs.declared.fault.OpenFault.{OpenFault}
+use Rattle.fl_node.specs.declared.fault.OpenFault.TheVariants as opening
+use Rattle.fl_node.specs.declared.hearing.Offered.{Offered}
 use Rattle.fl_node.specs.declared.wire.Arriving.{Arriving}
 use Rattle.fl_node.specs.declared.wire.Port.{Port}
 use Rattle.fl_node.specs.declared.wire.Wire.{Wire}
@@ -32,11 +51,9 @@ use Rattle.fl_running.specs.declared.job.Job.{Job}
 use Rattle.fl_running.specs.Run.{Ways, TheRun}
 use Rattle.fl_running.specs.Deeds.{Deed, looked, passed, arrived, heard, said, told, opened, called, ruled, wrote, acked, turned, Does}
 use Rattle.fl_running.specs.Logs.{InPlace, Goes, Carries}
-use Rattle.fl_running.proofs.Aside.{core_aside}
-use Rattle.fl_running.proofs.Looking.{if_arrived, if_heard, if_said, put_one, turn_looks}
+use Rattle.fl_running.proofs.Looking.{if_arrived, if_heard, if_said, idle, put_one, turn_looks}
 use Rattle.fl_running.proofs.Carrying.{write_put, turns_took, acted_put, acted_took, of_end}
 use Rattle.fl_running.proofs.Bearing.{at_side, BearsAt, nothing_there, bears_same, bears_on, bears_one}
-use Rattle.fl_running.proofs.Growing.{QueuesGo}
 use Rattle.fl_running.proofs.Handling.{one_end}
 use Rattle.fl_running.proofs.Laning.{link_by, link_at, step_of, steps_of, steps_by, event_steps, some_is, takes_from, port_in}
 use Rattle.fl_running.proofs.Seating.{Sits, sits_first, apart, together}
@@ -50,6 +67,134 @@ arrival_put w deed s m h i = []
 abbrev pub arrival_took : {S : Type 0} (w : Ways S) (deed : Deed) (s m : TheRun S) → Does w deed s m → ℕ → List Frag
 arrival_took w (turned d e inlet.Arrivals answer) s m h i = at_side h.3.event.place i (turns_took w d h.0 inlet.Arrivals answer s m h.3)
 arrival_took w deed s m h i = []
+
+abbrev pub ArrivalsBear : TheCore → TheCore → ℕ → List Frag → List Frag → Type 0
+ArrivalsBear k m i put took = BearsAt QueuePuts QueueTakes k.arrivals m.arrivals i put took
+
+same_queues : (k m : TheCore) (i : ℕ) → m.arrivals ≡ k.arrivals → ArrivalsBear k m i [] []
+same_queues k m i same = bears_same QueuePuts QueueTakes k.arrivals m.arrivals i same
+
+-- one queue more
+more_queues : (k m : TheCore) (i : ℕ) (q : TheQueue) → m.arrivals ≡ k.arrivals ++ q ∷ [] → ArrivalsBear k m i [] []
+more_queues k m i q more p at = (p, ap (λ (xs : List TheQueue). slice_get xs i) more ∙ push_stays k.arrivals q i p at, idle QueuePuts QueueTakes p p refl)
+
+ahead_queues : {S : Type 0} (w : Ways S) (l : ℕ) (k : TheCore) (p : S) (answer : Result Ahead LinkFault) (k2 : TheCore) (q : S) → LooksAhead w.takes w.front l k p answer k2 q → k2.arrivals ≡ k.arrivals
+ahead_queues w l k p (Ok ahead.Nothing) k2 q h = ap (λ (x : TheCore). x.arrivals) h.1
+ahead_queues w l k p (Ok ahead.Acknowledged) k2 q h = ap (λ (x : TheCore). x.arrivals) h.1
+ahead_queues w l k p (Ok (ahead.Message frag)) k2 q h = ap (λ (x : TheCore). x.arrivals) h.1
+ahead_queues w l k p (Ok (ahead.Onward frag side c)) k2 q h = ap (λ (x : TheCore). x.arrivals) h.1
+ahead_queues w l k p (Ok (ahead.Arrival frag e)) k2 q h = ap (λ (x : TheCore). x.arrivals) h.1
+ahead_queues w l k p (Err link.Failed) k2 q h = ap (λ (x : TheCore). x.arrivals) h.1
+ahead_queues w l k p (Err link.Astray) k2 q h = ap (λ (x : TheCore). x.arrivals) h.1
+ahead_queues w l k p (Err link.Marked) k2 q h = ap (λ (x : TheCore). x.arrivals) h.1
+ahead_queues w l k p (Err (link.Wire f)) k2 q h = absurd h
+ahead_queues w l k p (Err link.Memory) k2 q h = absurd h
+
+says_queues : {S : Type 0} (w : Ways S) (l : ℕ) (k : TheCore) (p : S) (answer : MonitorWrite) (k2 : TheCore) (q : S) → MonitorWrites w.puts l k p answer k2 q → k2.arrivals ≡ k.arrivals
+says_queues w l k p said_as.Written k2 q h = ap (λ (x : TheCore). x.arrivals) h.4
+says_queues w l k p said_as.Full k2 q h = ap (λ (x : TheCore). x.arrivals) h.2
+says_queues w l k p said_as.Spent k2 q h = ap (λ (x : TheCore). x.arrivals) h.2
+says_queues w l k p said_as.Nothing k2 q h = ap (λ (x : TheCore). x.arrivals) h.1
+
+module _ (k k2 : TheCore) (i : ℕ) where
+  abbrev Rests : Type 0
+  Rests = ArrivalsBear k k2 i [] []
+
+  binds_rest : (m : TheMonitor) (o : Option Arriving) (c : Number) → BindsIf o c (with_monitor k m) k2 → Rests
+  binds_rest m None c h = same_queues k k2 i (ap (λ (x : TheCore). x.arrivals) h)
+  binds_rest m (Some x) c h = same_queues k k2 i (ap (λ (x : TheCore). x.arrivals) h.rest)
+
+  follows_rest : (programs : List Program) (offer : Option Offered) (l : LinkId) (h : Heard) (m : TheMonitor) (answered : MonitorAnswer) → Follows programs offer l h (with_monitor k m) answered k2 → Rests
+  follows_rest programs offer l (outcome.ServerMade binding dispatcher c) m answered f = more_queues k k2 i new_arrivals (ap (λ (x : TheCore). x.arrivals) f.1.rest)
+  follows_rest programs offer l (outcome.EndOpened e c) m answered f = binds_rest m (arriving_at (with_monitor k m) e) c f.1
+  follows_rest programs offer l (outcome.EndRefused e reason) m answered f = same_queues k k2 i (ap (λ (x : TheCore). x.arrivals) f.1)
+  follows_rest programs offer l (outcome.OpeningWentOn binding n c) m answered f = same_queues k k2 i (ap (λ (x : TheCore). x.arrivals) f.1)
+  follows_rest programs offer l (outcome.OpeningFailed binding reason) m answered f = same_queues k k2 i (ap (λ (x : TheCore). x.arrivals) f.1)
+  follows_rest programs offer l (outcome.AnswerWentOn binding n c) m answered f = same_queues k k2 i (ap (λ (x : TheCore). x.arrivals) f.1)
+
+  all_rest : (o : Offers) (l : LinkId) (msg : Message) (answered : MonitorAnswer) → HearsAll o l msg k answered k2 → Rests
+  all_rest o l msg answered h = follows_rest o.programs (offer_for o k msg) l h.heard h.monitor answered h.follows
+
+  message_rest : (o : Offers) (l : LinkId) (msg : Message) (answer : Result MonitorAnswer LinkFault) → HearsMessage o l msg k answer k2 → Rests
+  message_rest o l msg (Ok heard_as.Full) h = same_queues k k2 i (ap (λ (x : TheCore). x.arrivals) h.1)
+  message_rest o l msg (Ok heard_as.Done) h = all_rest o l msg heard_as.Done h
+  message_rest o l msg (Ok (heard_as.Opened e)) h = all_rest o l msg (heard_as.Opened e) h
+  message_rest o l msg (Ok (heard_as.OpeningRefused e reason)) h = all_rest o l msg (heard_as.OpeningRefused e reason) h
+  message_rest o l msg (Err link.Astray) h = same_queues k k2 i (ap (λ (x : TheCore). x.arrivals) h.1)
+  message_rest o l msg (Err link.Memory) h = same_queues k k2 i (ap (λ (x : TheCore). x.arrivals) h)
+  message_rest o l msg (Err link.Failed) h = absurd h
+  message_rest o l msg (Err link.Marked) h = absurd h
+  message_rest o l msg (Err (link.Wire f)) h = absurd h
+
+  hears_rest : (o : Offers) (l : LinkId) (frag : Frag) (answer : Result MonitorAnswer LinkFault) → HearsFrag o l frag k answer k2 → Rests
+  hears_rest o l frag (Err (link.Wire wire.Memory)) h = absurd h
+  hears_rest o l frag (Err (link.Wire wire.NotFirst)) h = same_queues k k2 i (ap (λ (x : TheCore). x.arrivals) h.1)
+  hears_rest o l frag (Err (link.Wire wire.FirstInside)) h = same_queues k k2 i (ap (λ (x : TheCore). x.arrivals) h.1)
+  hears_rest o l frag (Err (link.Wire wire.UnknownMessage)) h = same_queues k k2 i (ap (λ (x : TheCore). x.arrivals) h.1)
+  hears_rest o l frag (Err (link.Wire wire.NotZero)) h = same_queues k k2 i (ap (λ (x : TheCore). x.arrivals) h.1)
+  hears_rest o l frag (Err (link.Wire wire.OutOfType)) h = same_queues k k2 i (ap (λ (x : TheCore). x.arrivals) h.1)
+  hears_rest o l frag (Err (link.Wire wire.TooLong)) h = same_queues k k2 i (ap (λ (x : TheCore). x.arrivals) h.1)
+  hears_rest o l frag (Err link.Memory) h = same_queues k k2 i (ap (λ (x : TheCore). x.arrivals) h)
+  hears_rest o l frag (Err link.Failed) h = message_rest o l h.0 (Err link.Failed) h.2
+  hears_rest o l frag (Err link.Astray) h = message_rest o l h.0 (Err link.Astray) h.2
+  hears_rest o l frag (Err link.Marked) h = message_rest o l h.0 (Err link.Marked) h.2
+  hears_rest o l frag (Ok answered) h = message_rest o l h.0 (Ok answered) h.2
+
+  asks_rest : (a : Asked) (answer : Result ℕ OpenFault) → Asks a k answer k2 → Rests
+  asks_rest a (Ok e) h = more_queues k k2 i new_arrivals (ap (λ (x : TheCore). x.arrivals) h.rest)
+  asks_rest a (Err (opening.Board fault)) h = same_queues k k2 i (ap (λ (x : TheCore). x.arrivals) h.1)
+  asks_rest a (Err (opening.Monitor fault)) h = same_queues k k2 i (ap (λ (x : TheCore). x.arrivals) h.2)
+
+  -- one queue changed
+  one_queue : (n : ℕ) (before after : TheQueue) (put took : List Frag) → slice_get k.arrivals n ≡ Some before → k2.arrivals ≡ slice_set k.arrivals n after → Carries QueuePuts QueueTakes put took before after
+      → ArrivalsBear k k2 i (at_side n i put) (at_side n i took)
+  one_queue n before after put took there is c = bears_one QueuePuts QueueTakes k.arrivals k2.arrivals n i before after put took there is c
+
+  -- nothing was put to it, or nothing taken
+  no_take : (n : ℕ) (put : List Frag) → ArrivalsBear k k2 i (at_side n i put) (at_side n i []) → ArrivalsBear k k2 i (at_side n i put) []
+  no_take n put h = subst (λ (xs : List Frag). ArrivalsBear k k2 i (at_side n i put) xs) (nothing_there n i) h
+
+  no_put : (n : ℕ) (took : List Frag) → ArrivalsBear k k2 i (at_side n i []) (at_side n i took) → ArrivalsBear k k2 i [] (at_side n i took)
+  no_put n took h = subst (λ (xs : List Frag). ArrivalsBear k k2 i xs (at_side n i took)) (nothing_there n i) h
+
+-- nothing was put or taken
+quiet : (k k2 : TheCore) (i n : ℕ) (before after : TheQueue) → slice_get k.arrivals n ≡ Some before → k2.arrivals ≡ slice_set k.arrivals n after → Carries QueuePuts QueueTakes [] [] before after → ArrivalsBear k k2 i [] []
+quiet k k2 i n before after there is c =
+    subst (λ (xs : List Frag). ArrivalsBear k k2 i xs []) (nothing_there n i) (no_take k k2 i n [] (one_queue k k2 i n before after [] [] there is c))
+
+pub arrivals_bear : {S : Type 0} (w : Ways S) (deed : Deed) (s m : TheRun S) (h : Does w deed s m) (i : ℕ) → ArrivalsBear s.core m.core i (arrival_put w deed s m h i) (arrival_took w deed s m h i)
+arrivals_bear w (looked n l answer) s m h i = same_queues s.core m.core i (ahead_queues w l.0 s.core h.before answer m.core h.after h.event)
+arrivals_bear w (passed n k frag c Moved) s m h i = same_queues s.core m.core i (ap (λ (x : TheCore). x.arrivals) (h.2.event.1 ∙ h.1.event.1))
+arrivals_bear w (passed n k frag c Full) s m h i = same_queues s.core m.core i (ap (λ (x : TheCore). x.arrivals) h.event.1)
+arrivals_bear w (passed n k frag c Spent) s m h i = same_queues s.core m.core i (ap (λ (x : TheCore). x.arrivals) h.event.1)
+arrivals_bear w (arrived n l frag e (Ok Moved)) s m h i =
+    no_take s.core m.core i h.event.queue (as_carried frag ∷ [])
+    (one_queue s.core m.core i h.event.queue h.event.before h.event.after (as_carried frag ∷ []) [] h.event.before_is (ap (λ (x : TheCore). x.arrivals) h.event.rest)
+    (put_one QueuePuts QueueTakes h.event.before h.event.after _ h.event.puts))
+arrivals_bear w (arrived n l frag e (Ok Full)) s m h i = quiet s.core m.core i h.event.queue h.event.before h.event.after h.event.before_is (ap (λ (x : TheCore). x.arrivals) h.event.rest)
+    (put_one QueuePuts QueueTakes h.event.before h.event.after _ h.event.puts)
+arrivals_bear w (arrived n l frag e (Ok Spent)) s m h i = quiet s.core m.core i h.event.queue h.event.before h.event.after h.event.before_is (ap (λ (x : TheCore). x.arrivals) h.event.rest)
+    (put_one QueuePuts QueueTakes h.event.before h.event.after _ h.event.puts)
+arrivals_bear w (arrived n l frag e (Err link.Astray)) s m h i = same_queues s.core m.core i (ap (λ (x : TheCore). x.arrivals) h.event.1)
+arrivals_bear w (arrived n l frag e (Err link.Failed)) s m h i = absurd h.event
+arrivals_bear w (arrived n l frag e (Err link.Marked)) s m h i = absurd h.event
+arrivals_bear w (arrived n l frag e (Err (link.Wire f))) s m h i = absurd h.event
+arrivals_bear w (arrived n l frag e (Err link.Memory)) s m h i = absurd h.event
+arrivals_bear w (heard n l frag answer) s m h i = hears_rest s.core m.core i s.offers l frag answer h.event.0
+arrivals_bear w (said n l answer) s m h i = same_queues s.core m.core i (says_queues w l.0 s.core h.before answer m.core h.after h.event)
+arrivals_bear w (told n l answer) s m h i = same_queues s.core m.core i (ap (λ (x : TheCore). x.arrivals) h.event.1)
+arrivals_bear w (opened name wish answer) s m h i = asks_rest s.core m.core i _ answer h.event.asks
+arrivals_bear w (called name c answer) s m h i = same_queues s.core m.core i (ap (λ (x : TheCore). x.arrivals) h.2.event.rest)
+arrivals_bear w (ruled name msg reply answer) s m h i = same_queues s.core m.core i (ap (λ (x : TheCore). x.arrivals) h.2.event.rest)
+arrivals_bear w (wrote name (outlet.Queue n) answer) s m h i = same_queues s.core m.core i (ap (λ (x : TheCore). x.arrivals) h.2.event.rest)
+arrivals_bear w (wrote name (outlet.Side n) answer) s m h i = same_queues s.core m.core i (ap (λ (x : TheCore). x.arrivals) h.2.event.rest)
+arrivals_bear w (acked name n answer) s m h i = same_queues s.core m.core i (ap (λ (x : TheCore). x.arrivals) h.2.event.1)
+arrivals_bear w (turned d name (inlet.Queue n) answer) s m h i = same_queues s.core m.core i (ap (λ (x : TheCore). x.arrivals) h.3.event.rest)
+arrivals_bear w (turned d name (inlet.Side n) answer) s m h i = same_queues s.core m.core i (ap (λ (x : TheCore). x.arrivals) h.3.event.rest)
+arrivals_bear w (turned d name inlet.Arrivals answer) s m h i =
+    no_put s.core m.core i h.3.event.place (turns_took w d h.0 inlet.Arrivals answer s m h.3)
+    (one_queue s.core m.core i h.3.event.place h.3.event.before h.3.event.after [] (turns_took w d h.0 inlet.Arrivals answer s m h.3) h.3.event.before_is (ap (λ (x : TheCore). x.arrivals) h.3.event.rest)
+    (turn_looks QueuePuts QueueTakes h.3.event.event.picked h.3.event.event.seat.kind _ answer _ h.3.event.event.looks))
 
 -- ---- what steps bring to an end, and what of them it wrote
 
@@ -96,7 +241,7 @@ some_arriving : (a b : Arriving) → Some a ≡ Some b → a ≡ b
 some_arriving a b e = cc
 
 module _ {S : Type 0} (w : Ways S) (jobs : List Job) (s m : TheRun S) (core : IsCore s.core)
-    (name : EndId) (e a : ℕ) (l : LinkId) (p : Port) (at : place_of s.core name ≡ Some e) (there : slice_get s.core.ports e ≡ Some p) (wire : p.wire ≡ Circuit l a) where
+    (name : EndId) (e a : ℕ) (l : LinkId) (p : Port) (at : place_of s.core name ≡ Some e) (there : slice_get s.core.ports e ≡ Some p) (on : p.wire ≡ Circuit l a) where
   sits : Sits s.core.places name e
   sits = sits_first s.core name e core at
 
@@ -106,12 +251,12 @@ module _ {S : Type 0} (w : Ways S) (jobs : List Job) (s m : TheRun S) (core : Is
   -- its arrival queue is its own
   own_queue : (k : ℕ) → arrivals_of s.core e ≡ Some k → k ≡ a
   own_queue k is =
-      let found : Some k ≡ Some a = sym is ∙ ap (λ (o : Option Port). given o None λ (q : Port). arrivals_by q.wire) there ∙ ap arrivals_by wire in
+      let found : Some k ≡ Some a = sym is ∙ ap (λ (o : Option Port). given o None λ (q : Port). arrivals_by q.wire) there ∙ ap arrivals_by on in
       cc
 
   only_queue : (f k : ℕ) (o : Option Port) → slice_get s.core.ports f ≡ o → (given o None λ (q : Port). arrivals_by q.wire) ≡ Some k → k ≡ a → f ≡ e
   only_queue f k None stands is same = absurd (cc)
-  only_queue f k (Some q) stands is same = core.apart f e a q p stands there (is ∙ ap Some same) (ap arrivals_by wire)
+  only_queue f k (Some q) stands is same = core.apart f e a q p stands there (is ∙ ap Some same) (ap arrivals_by on)
 
   agree : (n : EndId) (f k : ℕ) (x y : Bool) → place_of s.core n ≡ Some f → arrivals_of s.core f ≡ Some k → (k == a) ≡ x → same_end n name ≡ y → x ≡ y
   agree n f k true true place is one two = refl
@@ -172,7 +317,7 @@ module _ {S : Type 0} (w : Ways S) (jobs : List Job) (s m : TheRun S) (core : Is
   turned_elsewhere d n from answer by h other =
       let port = port_in s.core h.0 from (slice_get s.core.ports h.0) refl (takes_from s d h.0 by.0 from h.2 by.1 by.3) in
       elsewhere n h.0 (turns_took w d h.0 from answer s m h.3) h.1
-      (λ same. other (sym port.2 ∙ ap (λ (x : Port). inlet_by x.wire) (own h.0 port.0 same port.1) ∙ ap inlet_by wire)) (same_end n name) refl
+      (λ same. other (sym port.2 ∙ ap (λ (x : Port). inlet_by x.wire) (own h.0 port.0 same port.1) ∙ ap inlet_by on)) (same_end n name) refl
 
   pub arrivals_took : (deed : Deed) (by : InPlace jobs s deed) (h : Does w deed s m) → arrival_took w deed s m h a ≡ of_end name deed (acted_took w deed s m h)
   arrivals_took (looked n x answer) by h = refl
@@ -194,7 +339,7 @@ module _ {S : Type 0} (w : Ways S) (jobs : List Job) (s m : TheRun S) (core : Is
 
   -- what it wrote went onto its link
   own_link : (f : ℕ) → f ≡ e → link_at s.core f ≡ Some l
-  own_link f same = ap (link_at s.core) same ∙ ap (λ (o : Option Port). given o None λ (q : Port). link_by q.wire) there ∙ ap link_by wire
+  own_link f same = ap (link_at s.core) same ∙ ap (λ (o : Option Port). given o None λ (q : Port). link_by q.wire) there ∙ ap link_by on
 
   wrote_by : (n : EndId) (f : ℕ) (frags : List Frag) (b : Bool) → place_of s.core n ≡ Some f → same_end n name ≡ b → written_by name (steps_by s.core.monitor.circuits (link_at s.core f) n frags) ≡ map as_carried (if b then frags else [])
   wrote_by n f frags false place is = none_written s.core.monitor.circuits name n frags (link_at s.core f) is

@@ -1,5 +1,5 @@
 -- A core whose table leads to its ends of circuits stays one.
-use Rattle.std.proofs.Common.{◌≡◌, ◌≢◌, refl, sym, ap, ◌∙◌, subst, ℕ, zero, suc, ◌+◌, ◌<◌, ◌==◌, ◌||◌, ◌⊎◌, inl, inr, nat_lt, not, is_some, List, [], ◌∷◌, ◌++◌, map, drop, length, slice_get, slice_set, slice_index_or}
+use Rattle.std.proofs.Common.{◌≡◌, ◌≢◌, refl, sym, ap, ◌∙◌, subst, ℕ, zero, suc, ◌+◌, ◌<◌, ◌==◌, ◌||◌, ◌⊎◌, inl, inr, if◌then◌else◌, List, [], ◌∷◌, ◌++◌, map, drop, length, slice_get, slice_set, slice_index_or}
 use Rattle.std.proofs.Common.{Option, Some, None, Bool, true, false, Result, Ok, Err, arith}
 use Rattle.std.specs.List.{list_any}
 use Rattle.std.proofs.lemmas.Bool.{ltb-true}
@@ -77,10 +77,10 @@ ends_more t ports circuits p l a o many is new led e b m q x port wire at = elim
     | inl also ↦ (let same : Circuit m b ≡ Circuit l a = sym wire ∙ ap (λ (y : Port). y.wire) last.1 ∙ is in
         let links : l ≡ m = cc in
         subst (λ (i : LinkId). IsLedTo t i.0 q.name x) links (subst (λ (y : Port). IsLedTo t l.0 y.name x) (sym last.1) (subst (IsLedTo t l.0 p.name) (sym also.1) new)))
-    | inr no ↦ absurd (let inside = within_list circuits e x no in let here = last.0 in omega (arith, inside, many, here))
+    | inr wrong ↦ absurd (let inside = within_list circuits e x wrong in let here = last.0 in omega (arith, inside, many, here))
   ]
   | inr there ↦ elim (push_cases circuits o e x at) [
-    | inl no ↦ absurd (let inside = within_list ports e q there in let here = no.0 in omega (arith, inside, many, here))
+    | inl wrong ↦ absurd (let inside = within_list ports e q there in let here = wrong.0 in omega (arith, inside, many, here))
     | inr also ↦ led e b m q x there wire also
   ]
 ] where
@@ -88,6 +88,14 @@ ends_more t ports circuits p l a o many is new led e b m q x port wire at = elim
   within_list [] i x h = absurd (cc)
   within_list (z ∷ xs) zero x h = omega arith
   within_list (z ∷ xs) (suc i) x h = let inside = within_list xs i x h in omega (arith, inside)
+
+found_set : (xs : List (Option ℕ)) (j : ℕ) (y x : Option ℕ) → slice_get (slice_set xs j y) j ≡ Some x → (z : Option ℕ) × (slice_get xs j ≡ Some z) × (x ≡ y)
+found_set [] j y x h = absurd (cc)
+found_set (z ∷ xs) zero y x h = (z, refl, let same : x ≡ y = cc in same)
+found_set (z ∷ xs) (suc j) y x h = found_set xs j y x h
+
+bound_is : (m n : ℕ) (x : Option ℕ) → Some m ≡ x → x ≡ Some n → m ≡ n
+bound_is m n x p q = cc
 
 -- one end is bound
 pub ends_bound : (t : TheCircuits) (ports : List Port) (circuits : List (Option ℕ)) (i c : ℕ) (name : EndId) → ((p : Port) → slice_get ports i ≡ Some p → p.name ≡ name)
@@ -111,14 +119,6 @@ ends_bound t ports circuits i c name named settled led e a l p o port wire at = 
             subst (λ (x : ℕ). IsSettled t l.0 x p.name) one (subst (λ (x : EndId). IsSettled t l.0 c x) (sym name_is)
             (settled a l p here wire (λ m d way. before.alone m d (way ∙ ap (λ (x : EndId). Some (End x)) (sym name_is))))));
       }
-
-  found_set : (xs : List (Option ℕ)) (j : ℕ) (y x : Option ℕ) → slice_get (slice_set xs j y) j ≡ Some x → (z : Option ℕ) × (slice_get xs j ≡ Some z) × (x ≡ y)
-  found_set [] j y x h = absurd (cc)
-  found_set (z ∷ xs) zero y x h = (z, refl, let same : x ≡ y = cc in same)
-  found_set (z ∷ xs) (suc j) y x h = found_set xs j y x h
-
-  bound_is : (m n : ℕ) (x : Option ℕ) → Some m ≡ x → x ≡ Some n → m ≡ n
-  bound_is m n x p q = cc
 
 -- ---- outboxes
 

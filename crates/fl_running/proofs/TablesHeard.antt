@@ -45,7 +45,7 @@ goes_any t u new g = record {
   settled = g.settled;
   came = λ l n name at. elim (g.came l n name at) [
     | inl there ↦ inl there
-    | inr no ↦ absurd no
+    | inr wrong ↦ absurd wrong
   ];
 }
 
@@ -76,7 +76,7 @@ module _ (kn : Known) (t : TheCircuits) (binding : ℕ) (c : Circuit) where
   at_link : (l next m : ℕ) (same : Bool) (n : Option ℕ) → link_of t next ≡ Some m → (l == m) ≡ same → next_own t m ≡ n → IsNext t (heard_by binding c (passage t l next))
   at_link l next m true n is test own = rw (is, test) tt
   at_link l next m false None is test own = rw (is, test, own) tt
-  at_link l next m false (Some n) is test own = rw (is, test, own) refl
+  at_link l next m false (Some n) is test own = rw (is, test, own) own
 
   on_the_way : (l next : ℕ) (m : Option ℕ) → link_of t next ≡ m → IsNext t (heard_by binding c (passage t l next))
   on_the_way l next None is = rw is tt
