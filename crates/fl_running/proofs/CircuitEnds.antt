@@ -7,7 +7,7 @@ use Rattle.fl_base.specs.declared.fragment.Frag.{Frag}
 use Rattle.fl_base.specs.declared.identity.EndId.{EndId}
 use Rattle.fl_base.specs.declared.identity.LinkId.{LinkId}
 use Rattle.fl_base.specs.declared.identity.Circuit.{Circuit as Number}
-use Rattle.fl_link.specs.Looks.{Look}
+use Rattle.fl_link.specs.Looks.{Look, placed, no_room, spent}
 use Rattle.fl_link.specs.Queue.{TheQueue, QueuePuts, QueueTakes}
 use Rattle.fl_hop.specs.declared.entry.Way.TheVariants.{Link, End}
 use Rattle.fl_hop.specs.declared.forward.Outcome.{Outcome}
@@ -20,7 +20,7 @@ use Rattle.fl_wire.specs.declared.fault.WireFault.TheVariants as wire
 use Rattle.fl_core.proofs.Places.{one_stands, push_stays}
 use Rattle.fl_core.specs.declared.answer.TurnAnswer.{TurnAnswer}
 use Rattle.fl_monitor.specs.Routing.{given}
-use Rattle.fl_monitor.specs.Monitors.{TheMonitor}
+use Rattle.fl_monitor.specs.Monitors.{TheMonitor, waiting_for}
 use Rattle.fl_monitor.specs.declared.heard.Heard.{Heard}
 use Rattle.fl_monitor.specs.declared.heard.Heard.TheVariants as outcome
 use Rattle.fl_monitor.specs.declared.message.Message.{Message}
@@ -170,11 +170,11 @@ arrivals_bear w (passed n k frag c Spent) s m h i = same_queues s.core m.core i 
 arrivals_bear w (arrived n l frag e (Ok Moved)) s m h i =
     no_take s.core m.core i h.event.queue (as_carried frag ∷ [])
     (one_queue s.core m.core i h.event.queue h.event.before h.event.after (as_carried frag ∷ []) [] h.event.before_is (ap (λ (x : TheCore). x.arrivals) h.event.rest)
-    (put_one QueuePuts QueueTakes h.event.before h.event.after _ h.event.puts))
+    (put_one QueuePuts QueueTakes h.event.before h.event.after (placed (as_carried frag)) h.event.puts))
 arrivals_bear w (arrived n l frag e (Ok Full)) s m h i = quiet s.core m.core i h.event.queue h.event.before h.event.after h.event.before_is (ap (λ (x : TheCore). x.arrivals) h.event.rest)
-    (put_one QueuePuts QueueTakes h.event.before h.event.after _ h.event.puts)
+    (put_one QueuePuts QueueTakes h.event.before h.event.after no_room h.event.puts)
 arrivals_bear w (arrived n l frag e (Ok Spent)) s m h i = quiet s.core m.core i h.event.queue h.event.before h.event.after h.event.before_is (ap (λ (x : TheCore). x.arrivals) h.event.rest)
-    (put_one QueuePuts QueueTakes h.event.before h.event.after _ h.event.puts)
+    (put_one QueuePuts QueueTakes h.event.before h.event.after spent h.event.puts)
 arrivals_bear w (arrived n l frag e (Err link.Astray)) s m h i = same_queues s.core m.core i (ap (λ (x : TheCore). x.arrivals) h.event.1)
 arrivals_bear w (arrived n l frag e (Err link.Failed)) s m h i = absurd h.event
 arrivals_bear w (arrived n l frag e (Err link.Marked)) s m h i = absurd h.event
@@ -199,28 +199,28 @@ arrivals_bear w (turned d name inlet.Arrivals answer) s m h i =
 -- ---- what steps bring to an end, and what of them it wrote
 
 module _ (t : TheCircuits) (name : EndId) where
-  heard_come : (l : ℕ) (frags : List Frag) → come_to name (steps_of t (hop_heard l) frags) ≡ []
+  pub heard_come : (l : ℕ) (frags : List Frag) → come_to name (steps_of t (hop_heard l) frags) ≡ []
   heard_come l [] = refl
   heard_come l (f ∷ frags) = heard_come l frags
 
-  said_come : (l : ℕ) (frags : List Frag) → come_to name (steps_of t (hop_said l) frags) ≡ []
+  pub said_come : (l : ℕ) (frags : List Frag) → come_to name (steps_of t (hop_said l) frags) ≡ []
   said_come l [] = refl
   said_come l (f ∷ frags) = said_come l frags
 
-  wrote_come : (o : Option LinkId) (n : EndId) (frags : List Frag) → come_to name (steps_by t o n frags) ≡ []
+  pub wrote_come : (o : Option LinkId) (n : EndId) (frags : List Frag) → come_to name (steps_by t o n frags) ≡ []
   wrote_come None n frags = refl
   wrote_come (Some l) n [] = refl
   wrote_come (Some l) n (f ∷ frags) = wrote_come (Some l) n frags
 
-  heard_written : (l : ℕ) (frags : List Frag) → written_by name (steps_of t (hop_heard l) frags) ≡ []
+  pub heard_written : (l : ℕ) (frags : List Frag) → written_by name (steps_of t (hop_heard l) frags) ≡ []
   heard_written l [] = refl
   heard_written l (f ∷ frags) = heard_written l frags
 
-  said_written : (l : ℕ) (frags : List Frag) → written_by name (steps_of t (hop_said l) frags) ≡ []
+  pub said_written : (l : ℕ) (frags : List Frag) → written_by name (steps_of t (hop_said l) frags) ≡ []
   said_written l [] = refl
   said_written l (f ∷ frags) = said_written l frags
 
-  passed_written : (l : ℕ) (e : EndId) (frags : List Frag) → written_by name (steps_of t (λ f. hop_passed l f (End e)) frags) ≡ []
+  pub passed_written : (l : ℕ) (e : EndId) (frags : List Frag) → written_by name (steps_of t (λ f. hop_passed l f (End e)) frags) ≡ []
   passed_written l e [] = refl
   passed_written l e (f ∷ frags) = passed_written l e frags
 
@@ -231,7 +231,7 @@ module _ (t : TheCircuits) (name : EndId) where
   wrote_written l n (f ∷ frags) true is = ap (λ (c : Bool). (if c then as_carried f ∷ [] else []) ++ written_by name (steps_by t (Some l) n frags)) is ∙ ap (λ (xs : List Frag). as_carried f ∷ xs) (wrote_written l n frags true is)
   wrote_written l n (f ∷ frags) false is = ap (λ (c : Bool). (if c then as_carried f ∷ [] else []) ++ written_by name (steps_by t (Some l) n frags)) is ∙ wrote_written l n frags false is
 
-  none_written : (n : EndId) (frags : List Frag) (o : Option LinkId) → same_end n name ≡ false → written_by name (steps_by t o n frags) ≡ []
+  pub none_written : (n : EndId) (frags : List Frag) (o : Option LinkId) → same_end n name ≡ false → written_by name (steps_by t o n frags) ≡ []
   none_written n frags None is = refl
   none_written n frags (Some l) is = wrote_written l n frags false is
 
@@ -294,7 +294,7 @@ module _ {S : Type 0} (w : Ways S) (jobs : List Job) (s m : TheRun S) (core : Is
   arrivals_put (arrived n x frag d (Ok Spent)) by h = refl
   arrivals_put (arrived n x frag d (Err fault)) by h = refl
   arrivals_put (heard n x frag answer) by h = sym (heard_come s.core.monitor.circuits name x.0 (if_heard answer frag))
-  arrivals_put (said n x answer) by h = sym (said_come s.core.monitor.circuits name x.0 _)
+  arrivals_put (said n x answer) by h = sym (said_come s.core.monitor.circuits name x.0 (if_said answer (waiting_for s.core.monitor.outboxes x.0)))
   arrivals_put (told n x answer) by h = refl
   arrivals_put (opened n wish answer) by h = refl
   arrivals_put (called n c answer) by h = refl
@@ -354,7 +354,7 @@ module _ {S : Type 0} (w : Ways S) (jobs : List Job) (s m : TheRun S) (core : Is
   links_written (passed n k frag c Spent) by h = refl
   links_written (arrived n x frag d answer) by h = passed_written s.core.monitor.circuits name x.0 d (if_arrived answer frag)
   links_written (heard n x frag answer) by h = heard_written s.core.monitor.circuits name x.0 (if_heard answer frag)
-  links_written (said n x answer) by h = said_written s.core.monitor.circuits name x.0 _
+  links_written (said n x answer) by h = said_written s.core.monitor.circuits name x.0 (if_said answer (waiting_for s.core.monitor.outboxes x.0))
   links_written (told n x answer) by h = refl
   links_written (opened n wish answer) by h = refl
   links_written (called n c answer) by h = refl

@@ -17,7 +17,7 @@ use Rattle.fl_core.proofs.Places.{push_last, one_stands}
 use Rattle.fl_core.specs.View.{TheSeat}
 use Rattle.fl_monitor.specs.Routing.{given}
 use Rattle.fl_monitor.specs.Hearing.{ComesTo}
-use Rattle.fl_monitor.specs.Monitors.{TheMonitor, can_say}
+use Rattle.fl_monitor.specs.Monitors.{TheMonitor, can_say, waiting_for}
 use Rattle.fl_monitor.specs.declared.heard.Heard.{Heard}
 use Rattle.fl_monitor.specs.declared.heard.Heard.TheVariants as outcome
 use Rattle.fl_monitor.specs.declared.message.Message.{Message}
@@ -56,7 +56,7 @@ use Rattle.fl_running.proofs.Growing.{PortsGrow}
 use Rattle.fl_running.proofs.Handling.{one_end}
 use Rattle.fl_running.proofs.Laning.{link_at, event_steps}
 use Rattle.fl_running.proofs.Leading.{as_many}
-use Rattle.fl_running.proofs.Looking.{if_arrived, if_heard}
+use Rattle.fl_running.proofs.Looking.{if_arrived, if_heard, if_said}
 use Rattle.fl_running.proofs.Newcomers.{Absent, not_it, nothing}
 use Rattle.fl_running.proofs.Stepping.{grows, log_steps, end_stays}
 
@@ -215,7 +215,7 @@ module _ {S : Type 0} (w : Ways S) (jobs : List Job) (name : EndId) where
   none_come (arrived n l frag d (Ok Spent)) s m by absent h = refl
   none_come (arrived n l frag d (Err fault)) s m by absent h = refl
   none_come (heard n l frag answer) s m by absent h = heard_come s.core.monitor.circuits name l.0 (if_heard answer frag)
-  none_come (said n l answer) s m by absent h = said_come s.core.monitor.circuits name l.0 _
+  none_come (said n l answer) s m by absent h = said_come s.core.monitor.circuits name l.0 (if_said answer (waiting_for s.core.monitor.outboxes l.0))
   none_come (told n l answer) s m by absent h = refl
   none_come (opened n wish answer) s m by absent h = refl
   none_come (called n c answer) s m by absent h = refl
@@ -231,7 +231,7 @@ module _ {S : Type 0} (w : Ways S) (jobs : List Job) (name : EndId) where
   wrote_none (passed n k frag c Spent) s m by absent h = refl
   wrote_none (arrived n l frag d answer) s m by absent h = passed_written s.core.monitor.circuits name l.0 d (if_arrived answer frag)
   wrote_none (heard n l frag answer) s m by absent h = heard_written s.core.monitor.circuits name l.0 (if_heard answer frag)
-  wrote_none (said n l answer) s m by absent h = said_written s.core.monitor.circuits name l.0 _
+  wrote_none (said n l answer) s m by absent h = said_written s.core.monitor.circuits name l.0 (if_said answer (waiting_for s.core.monitor.outboxes l.0))
   wrote_none (told n l answer) s m by absent h = refl
   wrote_none (opened n wish answer) s m by absent h = refl
   wrote_none (called n c answer) s m by absent h = refl

@@ -33,4 +33,8 @@ pub mod TablesHeard
 pub mod Leading
 pub mod Leads
 pub mod Wending
+pub mod CircuitEnds
+pub mod Stepping
+pub mod CircuitLogs
+pub mod CircuitsMade
 pub mod Flowing
