@@ -61,7 +61,7 @@ use Rattle.fl_running.proofs.Newcomers.{Absent, not_it, nothing}
 use Rattle.fl_running.proofs.Stepping.{grows, log_steps, end_stays}
 
 -- an end of this name was made, on a circuit, with an arrival queue in which nothing stands
-record MadeOn (name : EndId) (k : TheCore) : Type 0 where
+pub record MadeOn (name : EndId) (k : TheCore) : Type 0 where
   pub place : ℕ
   pub link : LinkId
   pub queue : ℕ
@@ -69,6 +69,7 @@ record MadeOn (name : EndId) (k : TheCore) : Type 0 where
   pub place_is : place_of k name ≡ Some place
   pub port_is : slice_get k.ports place ≡ Some port
   pub wire_is : port.wire ≡ Circuit link queue
+  pub name_is : port.name ≡ name
   pub new : slice_get k.arrivals queue ≡ Some new_arrivals
 
 module _ (name : EndId) (k : TheCore) (core : IsCore k) (absent : Absent name k) where
@@ -93,6 +94,7 @@ module _ (name : EndId) (k : TheCore) (core : IsCore k) (absent : Absent name k)
       place_is = ap (λ (xs : List (Option ℕ)). place_in xs name) places ∙ ap (λ (n : EndId). place_in (slice_set k.places (slot_of new) (Some place)) n) same ∙ put_here k.places new (Some place) core.slots few;
       port_is = ap (λ (xs : List Port). slice_get xs place) ports ∙ ap (slice_get (k.ports ++ circuit_port new l (length k.arrivals) ∷ [])) at_last ∙ push_last k.ports (circuit_port new l (length k.arrivals));
       wire_is = refl;
+      name_is = sym same;
       new = ap (λ (xs : List TheQueue). slice_get xs (length k.arrivals)) queues ∙ push_last k.arrivals new_arrivals;
     })
     | inr other ↦ inl (ap (λ (xs : List (Option ℕ)). place_in xs name) places ∙ put_elsewhere k.places new name (Some place) other ∙ absent)
@@ -178,7 +180,7 @@ module _ (name : EndId) (k : TheCore) (core : IsCore k) (absent : Absent name k)
 -- ---- one event
 
 module _ {S : Type 0} (w : Ways S) (jobs : List Job) (name : EndId) where
-  does_make : (deed : Deed) (s m : TheRun S) → IsCore s.core → Absent name s.core → InPlace jobs s deed → Does w deed s m → Absent name m.core ⊎ MadeOn name m.core
+  pub does_make : (deed : Deed) (s m : TheRun S) → IsCore s.core → Absent name s.core → InPlace jobs s deed → Does w deed s m → Absent name m.core ⊎ MadeOn name m.core
   does_make (looked n l answer) s m core absent by h = ahead_makes name s.core core absent w l.0 h.before answer m.core h.after h.event
   does_make (passed n k frag c Moved) s m core absent by h = alike name s.core core absent m.core (h.2.event.1 ∙ h.1.event.1)
   does_make (passed n k frag c Full) s m core absent by h = alike name s.core core absent m.core h.event.1
@@ -260,11 +262,11 @@ module _ {S : Type 0} (w : Ways S) (jobs : List Job) (name : EndId) where
     written = written_joins name steps rest ∙ ap (λ (xs : List Frag). xs ++ written_by name rest) written ∙ h.written ∙ sym (ap (λ (xs : List Frag). map as_carried (xs ++ more_put)) none_put);
   }
 
-  places_to : (log : List Deed) (s t : TheRun S) (e : ℕ) → Goes w jobs s log t → place_of s.core name ≡ Some e → place_of t.core name ≡ Some e
+  pub places_to : (log : List Deed) (s t : TheRun S) (e : ℕ) → Goes w jobs s log t → place_of s.core name ≡ Some e → place_of t.core name ≡ Some e
   places_to [] s t e h at = ap (λ (x : TheRun S). place_of x.core name) h ∙ at
   places_to (deed ∷ log) s t e h at = places_to log h.0 t e h.3 (end_stays w jobs deed s h.0 name e h.1 h.2 at)
 
-  ports_to : (log : List Deed) (s t : TheRun S) (e : ℕ) (p : Port) → Goes w jobs s log t → slice_get s.core.ports e ≡ Some p → slice_get t.core.ports e ≡ Some p
+  pub ports_to : (log : List Deed) (s t : TheRun S) (e : ℕ) (p : Port) → Goes w jobs s log t → slice_get s.core.ports e ≡ Some p → slice_get t.core.ports e ≡ Some p
   ports_to [] s t e p h at = ap (λ (x : TheRun S). slice_get x.core.ports e) h ∙ at
   ports_to (deed ∷ log) s t e p h at = ports_to log h.0 t e p h.3 ((grows w jobs deed s h.1.0 h.0 h.1.1 h.1.2).ports.0 e p at)
 

@@ -36,8 +36,7 @@ use Rattle.fl_running.proofs.Stepping.{grows, log_steps, end_stays}
 use Rattle.fl_running.proofs.CircuitLogs.{circuit_goes, come_bare}
 use Rattle.fl_running.proofs.CircuitsMade.{circuit_made}
 use Rattle.fl_running.proofs.Aside.{core_aside}
-use Rattle.fl_running.proofs.Leads.{does_led}
-use Rattle.fl_running.proofs.Wending.{event_went}
+use Rattle.fl_running.proofs.NumberedLogs.{log_led, log_went, by_number}
 
 module _ {S : Type 0} (w : Ways S) (jobs : List Job) where
   end_carries : (s t : TheRun S) (log : List Deed) (name : EndId) (e : ℕ) (seat : TheSeat) → IsCore s.core → (h : Goes w jobs s log t)
@@ -66,24 +65,6 @@ module _ {S : Type 0} (w : Ways S) (jobs : List Job) where
   took_joins : (l : ℕ) (xs ys : List Step) → taken_from l (xs ++ ys) ≡ taken_from l xs ++ taken_from l ys
   took_joins l [] ys = refl
   took_joins l (x ∷ xs) ys = ap (λ (fs : List Frag). taken_by l x.deed ++ fs) (took_joins l xs ys) ∙ sym (append_assoc (taken_by l x.deed) (taken_from l xs) (taken_from l ys))
-
-  -- ---- as the table led
-
-  led_after : (deed : Deed) (s t : TheRun S) → (h : Happens w deed s t) → InPlace jobs s deed → IsLed s.core → IsLed t.core
-  led_after deed s t h by led = subst IsLed (sym (core_aside h.0 t deed h.2)) (does_led w jobs s h.0 h.3.core h.3.table led deed by h.1)
-
-  log_led : (log : List Deed) (s t : TheRun S) (h : Goes w jobs s log t) → IsLed s.core → IsLed t.core
-  log_led [] s t h led = subst (λ (x : TheRun S). IsLed x.core) (sym h) led
-  log_led (deed ∷ log) s t h led = log_led log h.0 t h.3 (led_after deed s h.0 h.1 h.2 led)
-
-  log_went : OnAnotherCircuit → (log : List Deed) (s t : TheRun S) (h : Goes w jobs s log t) → IsLed s.core → goes_through s.core.monitor.circuits (log_steps w jobs log s t h) t.core.monitor.circuits
-  log_went on [] s t h led = subst (λ (x : TheRun S). Later s.core.monitor.circuits x.core.monitor.circuits) (sym h) (later_same s.core.monitor.circuits)
-  log_went on (deed ∷ log) s t h led =
-      let one : goes_through s.core.monitor.circuits (event_steps w jobs deed s h.1.0 h.2 h.1.1) h.0.core.monitor.circuits =
-      subst (λ (k : TheCore). goes_through s.core.monitor.circuits (event_steps w jobs deed s h.1.0 h.2 h.1.1) k.monitor.circuits) (sym (core_aside h.1.0 h.0 deed h.1.2))
-      (event_went w jobs on s h.1.0 h.1.3.core h.1.3.table led deed h.2 h.1.4 h.1.1) in
-      stretch_join s.core.monitor.circuits (event_steps w jobs deed s h.1.0 h.2 h.1.1) h.0.core.monitor.circuits (log_steps w jobs log h.0 t h.3) t.core.monitor.circuits one
-      (log_went on log h.0 t h.3 (led_after deed s h.0 h.1 h.2 led))
 
   -- ---- links
 
@@ -194,6 +175,7 @@ flows {S} w on jobs s t log core apart_is h = record {
         };
         written = made.written;
       };
+  numbers = λ led table name e a c l port seat at there wire sits bound. by_number w jobs on log s t h core led table name e a c l port seat at there wire sits bound;
   ends = λ name e seat at there. end_carries w jobs s t log name e seat core h at there;
   made = λ name e absent at. made_carries w jobs name log s t e h absent at;
 } where

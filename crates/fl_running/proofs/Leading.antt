@@ -188,7 +188,7 @@ any_of binding (x ∷ xs) (suc i) h at is = or_true (is_of binding x) (list_any 
   or_true false b h = h
 
 -- an entry to an end is of the end's binding
-end_binding : (t : TheCircuits) (l n : ℕ) (hop : Hop) (name : EndId) → Sound t → hop_at t l n ≡ Some hop → hop.way ≡ End name → name.binding ≡ hop.binding
+pub end_binding : (t : TheCircuits) (l n : ℕ) (hop : Hop) (name : EndId) → Sound t → hop_at t l n ≡ Some hop → hop.way ≡ End name → name.binding ≡ hop.binding
 end_binding t l n hop name k at is = elim (k.toward l n hop.binding (End name) (record { answered = hop.answered; there = at ∙ ap (λ w. Some (let h : Hop = record { binding = hop.binding; way = w; answered = hop.answered } in h)) is })) [
   | inl h ↦ ap (λ (e : EndId). e.binding) h.1
   | inr h ↦ ap (λ (e : EndId). e.binding) h.1

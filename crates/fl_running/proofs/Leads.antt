@@ -61,8 +61,19 @@ use Rattle.fl_running.proofs.Leading.{EndsLed, ends_led, map_there, ends_on, end
 use Rattle.fl_running.proofs.Tables.{GoesOn, NoneNew, OneNew, way_of, opened_goes}
 use Rattle.fl_running.proofs.TablesHeard.{new_by, heard_goes, opened_settles, server_made}
 
-pub same_later : (k k2 : TheCore) → k2.monitor ≡ k.monitor → Later k.monitor.circuits k2.monitor.circuits
-same_later k k2 same = subst (λ (m : TheMonitor). Later k.monitor.circuits m.circuits) (sym same) (later_same k.monitor.circuits)
+-- its table became a later one, and what leads then to an end that was there led there before
+pub record Became (k k2 : TheCore) : Type 0 where
+  pub later : Later k.monitor.circuits k2.monitor.circuits
+  pub came : (l n e : ℕ) (p : Port) → slice_get k.ports e ≡ Some p → way_at k2.monitor.circuits l n ≡ Some (End p.name) → way_at k.monitor.circuits l n ≡ Some (End p.name)
+
+same_table : (k k2 : TheCore) → k2.monitor.circuits ≡ k.monitor.circuits → Became k k2
+same_table k k2 same = record {
+  later = subst (Later k.monitor.circuits) (sym same) (later_same k.monitor.circuits);
+  came = λ l n e p at way. ap (λ (t : TheCircuits). way_at t l n) (sym same) ∙ way;
+}
+
+pub same_later : (k k2 : TheCore) → k2.monitor ≡ k.monitor → Became k k2
+same_later k k2 same = same_table k k2 (ap (λ (m : TheMonitor). m.circuits) same)
 
 -- by what the core has then
 by_parts : (k : TheCore) (m : TheMonitor) (ports : List Port) (circuits : List (Option ℕ)) → k.monitor ≡ m → k.ports ≡ ports → circuits_of k.board.seats ≡ circuits
@@ -230,9 +241,14 @@ module _ (k : TheCore) (core : IsCore k) (sound : Sound k.monitor.circuits) (led
 
   -- ---- and its table
 
-  all_later : (answered : MonitorAnswer) (k2 : TheCore) → HearsAll o l msg k answered k2 → Later k.monitor.circuits k2.monitor.circuits
-  all_later answered k2 h = subst (λ (m : TheMonitor). Later k.monitor.circuits m.circuits) (sym (monitor_then h.heard h.follows))
-      (subst (Later k.monitor.circuits) (sym h.hears.2) (heard_goes (known_for o k msg) k.monitor.circuits l msg h.heard sound h.hears.0).later) where
+  all_later : (answered : MonitorAnswer) (k2 : TheCore) → HearsAll o l msg k answered k2 → Became k k2
+  all_later answered k2 h = record {
+    later = subst (Later k.monitor.circuits) (sym table) (heard_goes (known_for o k msg) k.monitor.circuits l msg h.heard sound h.hears.0).later;
+    came = λ i n e p at way. elim ((heard_goes (known_for o k msg) k.monitor.circuits l msg h.heard sound h.hears.0).came i n p.name (ap (λ (t : TheCircuits). way_at t i n) (sym table) ∙ way)) [
+      | inl there ↦ there
+      | inr fresh ↦ absurd (is_new h.heard h.hears.0 e i p at fresh)
+    ];
+  } where
     bound_monitor : (e : EndId) (c : Number) (at : Option Arriving) → BindsIf at c (with_monitor k h.monitor) k2 → k2.monitor ≡ h.monitor
     bound_monitor e c None f = ap (λ (x : TheCore). x.monitor) f
     bound_monitor e c (Some at) f = ap (λ (x : TheCore). x.monitor) f.rest
@@ -245,7 +261,10 @@ module _ (k : TheCore) (core : IsCore k) (sound : Sound k.monitor.circuits) (led
     monitor_then (outcome.OpeningFailed binding reason) f = ap (λ (x : TheCore). x.monitor) f.1
     monitor_then (outcome.AnswerWentOn binding n c) f = ap (λ (x : TheCore). x.monitor) f.1
 
-  message_later : (answer : Result MonitorAnswer LinkFault) (k2 : TheCore) → HearsMessage o l msg k answer k2 → Later k.monitor.circuits k2.monitor.circuits
+    table : k2.monitor.circuits ≡ table_after k.monitor.circuits l msg h.heard
+    table = ap (λ (m : TheMonitor). m.circuits) (monitor_then h.heard h.follows) ∙ h.hears.2
+
+  message_later : (answer : Result MonitorAnswer LinkFault) (k2 : TheCore) → HearsMessage o l msg k answer k2 → Became k k2
   message_later (Ok heard_as.Full) k2 h = same_later k k2 (ap (λ (x : TheCore). x.monitor) h.1)
   message_later (Ok heard_as.Done) k2 h = all_later heard_as.Done k2 h
   message_later (Ok (heard_as.Opened e)) k2 h = all_later (heard_as.Opened e) k2 h
@@ -271,7 +290,7 @@ module _ (k : TheCore) (core : IsCore k) (sound : Sound k.monitor.circuits) (led
   hears_led o l frag (Err link.Marked) k2 h = message_led k core sound led o l h.0 (Err link.Marked) k2 h.2
   hears_led o l frag (Ok answered) k2 h = message_led k core sound led o l h.0 (Ok answered) k2 h.2
 
-  hears_later : (o : Offers) (l : LinkId) (frag : Frag) (answer : Result MonitorAnswer LinkFault) (k2 : TheCore) → HearsFrag o l frag k answer k2 → Later k.monitor.circuits k2.monitor.circuits
+  hears_later : (o : Offers) (l : LinkId) (frag : Frag) (answer : Result MonitorAnswer LinkFault) (k2 : TheCore) → HearsFrag o l frag k answer k2 → Became k k2
   hears_later o l frag (Err (link.Wire wire.Memory)) k2 h = absurd h
   hears_later o l frag (Err (link.Wire wire.NotFirst)) k2 h = same_later k k2 (ap (λ (x : TheCore). x.monitor) h.1)
   hears_later o l frag (Err (link.Wire wire.FirstInside)) k2 h = same_later k k2 (ap (λ (x : TheCore). x.monitor) h.1)
@@ -321,10 +340,18 @@ module _ (k : TheCore) (core : IsCore k) (sound : Sound k.monitor.circuits) (led
   asks_led a (Err (opening.Board fault)) k2 none h = alike k led k2 h.1
   asks_led a (Err (opening.Monitor fault)) k2 none h = alike k led k2 h.2
 
-  asks_later : (a : Asked) (answer : Result ℕ OpenFault) (k2 : TheCore) → Asks a k answer k2 → Later k.monitor.circuits k2.monitor.circuits
-  asks_later a (Ok e) k2 h = subst (Later k.monitor.circuits) (sym h.opens.3) (opened_goes k.monitor.circuits a.link h.circuit a.opening.binding sound h.opens.2).later
-  asks_later a (Err (opening.Board fault)) k2 h = same_later k k2 (ap (λ (x : TheCore). x.monitor) h.1)
-  asks_later a (Err (opening.Monitor fault)) k2 h = same_later k k2 (ap (λ (x : TheCore). x.monitor) h.2)
+  asks_later : (a : Asked) (answer : Result ℕ OpenFault) (k2 : TheCore) → place_of k (client_of a.opening.binding) ≡ None → Asks a k answer k2 → Became k k2
+  asks_later a (Ok e) k2 none h =
+      let goes = opened_goes k.monitor.circuits a.link h.circuit a.opening.binding sound h.opens.2 in
+      record {
+        later = subst (Later k.monitor.circuits) (sym h.opens.3) goes.later;
+        came = λ i n f p at way. elim (goes.came i n p.name (ap (λ (t : TheCircuits). way_at t i n) (sym h.opens.3) ∙ way)) [
+          | inl there ↦ there
+          | inr fresh ↦ absurd (absent_port k core (client_of a.opening.binding) none f p at fresh.1)
+        ];
+      }
+  asks_later a (Err (opening.Board fault)) k2 none h = same_later k k2 (ap (λ (x : TheCore). x.monitor) h.1)
+  asks_later a (Err (opening.Monitor fault)) k2 none h = same_later k k2 (ap (λ (x : TheCore). x.monitor) h.2)
 
 -- ---- one event
 
@@ -367,10 +394,10 @@ module _ {S : Type 0} (w : Ways S) (jobs : List Job) (s m : TheRun S) (core : Is
   does_led (turned d name inlet.Arrivals answer) by h =
       on_board (ap (λ (x : TheCore). x.monitor) h.3.event.rest) (ap (λ (x : TheCore). x.ports) h.3.event.rest) (turn_same QueueTakes d h.0 _ _ answer h.3.event.event)
 
-  monitor_stays : m.core.monitor ≡ s.core.monitor → Later s.core.monitor.circuits m.core.monitor.circuits
+  monitor_stays : m.core.monitor ≡ s.core.monitor → Became s.core m.core
   monitor_stays same = same_later s.core m.core same
 
-  ahead_later : (l : ℕ) (p : S) (answer : Result Ahead LinkFault) (q : S) → LooksAhead w.takes w.front l s.core p answer m.core q → Later s.core.monitor.circuits m.core.monitor.circuits
+  ahead_later : (l : ℕ) (p : S) (answer : Result Ahead LinkFault) (q : S) → LooksAhead w.takes w.front l s.core p answer m.core q → Became s.core m.core
   ahead_later l p (Ok ahead.Nothing) q h = monitor_stays (ap (λ (x : TheCore). x.monitor) h.1)
   ahead_later l p (Ok ahead.Acknowledged) q h = monitor_stays (ap (λ (x : TheCore). x.monitor) h.1)
   ahead_later l p (Ok (ahead.Message frag)) q h = monitor_stays (ap (λ (x : TheCore). x.monitor) h.1)
@@ -382,7 +409,7 @@ module _ {S : Type 0} (w : Ways S) (jobs : List Job) (s m : TheRun S) (core : Is
   ahead_later l p (Err (link.Wire f)) q h = absurd h
   ahead_later l p (Err link.Memory) q h = absurd h
 
-  arrives_later : (l : ℕ) (frag : Frag) (e : EndId) (p : S) (answer : Result Outcome LinkFault) (q : S) → ArrivesAt w.takes l frag e s.core p answer m.core q → Later s.core.monitor.circuits m.core.monitor.circuits
+  arrives_later : (l : ℕ) (frag : Frag) (e : EndId) (p : S) (answer : Result Outcome LinkFault) (q : S) → ArrivesAt w.takes l frag e s.core p answer m.core q → Became s.core m.core
   arrives_later l frag e p (Ok result) q h = monitor_stays (ap (λ (x : TheCore). x.monitor) h.rest)
   arrives_later l frag e p (Err link.Astray) q h = monitor_stays (ap (λ (x : TheCore). x.monitor) h.1)
   arrives_later l frag e p (Err link.Failed) q h = absurd h
@@ -390,27 +417,30 @@ module _ {S : Type 0} (w : Ways S) (jobs : List Job) (s m : TheRun S) (core : Is
   arrives_later l frag e p (Err (link.Wire f)) q h = absurd h
   arrives_later l frag e p (Err link.Memory) q h = absurd h
 
-  says_later : (l : ℕ) (p : S) (answer : MonitorWrite) (q : S) → MonitorWrites w.puts l s.core p answer m.core q → Later s.core.monitor.circuits m.core.monitor.circuits
-  says_later l p said_as.Written q h = subst (λ (x : TheCore). Later s.core.monitor.circuits x.monitor.circuits) (sym h.4) (later_same s.core.monitor.circuits)
+  says_later : (l : ℕ) (p : S) (answer : MonitorWrite) (q : S) → MonitorWrites w.puts l s.core p answer m.core q → Became s.core m.core
+  says_later l p said_as.Written q h = same_table s.core m.core (ap (λ (x : TheCore). x.monitor.circuits) h.4)
   says_later l p said_as.Full q h = monitor_stays (ap (λ (x : TheCore). x.monitor) h.2)
   says_later l p said_as.Spent q h = monitor_stays (ap (λ (x : TheCore). x.monitor) h.2)
   says_later l p said_as.Nothing q h = monitor_stays (ap (λ (x : TheCore). x.monitor) h.1)
 
-  pub does_later : (deed : Deed) → Does w deed s m → Later s.core.monitor.circuits m.core.monitor.circuits
-  does_later (looked n l answer) h = ahead_later l.0 h.before answer h.after h.event
-  does_later (passed n i frag c Moved) h = monitor_stays (ap (λ (x : TheCore). x.monitor) (h.2.event.1 ∙ h.1.event.1))
-  does_later (passed n i frag c Full) h = monitor_stays (ap (λ (x : TheCore). x.monitor) h.event.1)
-  does_later (passed n i frag c Spent) h = monitor_stays (ap (λ (x : TheCore). x.monitor) h.event.1)
-  does_later (arrived n l frag e answer) h = arrives_later l.0 frag e h.before answer h.after h.event
-  does_later (heard n l frag answer) h = hears_later s.core core sound led s.offers l frag answer m.core h.event.0
-  does_later (said n l answer) h = says_later l.0 h.before answer h.after h.event
-  does_later (told n l answer) h = monitor_stays (ap (λ (x : TheCore). x.monitor) h.event.1)
-  does_later (opened name wish answer) h = asks_later s.core core sound led _ answer m.core h.event.asks
-  does_later (called name c answer) h = monitor_stays (ap (λ (x : TheCore). x.monitor) h.2.event.rest)
-  does_later (ruled name msg reply answer) h = monitor_stays (ap (λ (x : TheCore). x.monitor) h.2.event.rest)
-  does_later (wrote name (outlet.Queue n) answer) h = monitor_stays (ap (λ (x : TheCore). x.monitor) h.2.event.rest)
-  does_later (wrote name (outlet.Side n) answer) h = monitor_stays (ap (λ (x : TheCore). x.monitor) h.2.event.rest)
-  does_later (acked name n answer) h = monitor_stays (ap (λ (x : TheCore). x.monitor) h.2.event.1)
-  does_later (turned d name (inlet.Queue n) answer) h = monitor_stays (ap (λ (x : TheCore). x.monitor) h.3.event.rest)
-  does_later (turned d name (inlet.Side n) answer) h = monitor_stays (ap (λ (x : TheCore). x.monitor) h.3.event.rest)
-  does_later (turned d name inlet.Arrivals answer) h = monitor_stays (ap (λ (x : TheCore). x.monitor) h.3.event.rest)
+  pub does_later : (deed : Deed) → InPlace jobs s deed → Does w deed s m → Became s.core m.core
+  does_later (looked n l answer) by h = ahead_later l.0 h.before answer h.after h.event
+  does_later (passed n i frag c Moved) by h = monitor_stays (ap (λ (x : TheCore). x.monitor) (h.2.event.1 ∙ h.1.event.1))
+  does_later (passed n i frag c Full) by h = monitor_stays (ap (λ (x : TheCore). x.monitor) h.event.1)
+  does_later (passed n i frag c Spent) by h = monitor_stays (ap (λ (x : TheCore). x.monitor) h.event.1)
+  does_later (arrived n l frag e answer) by h = arrives_later l.0 frag e h.before answer h.after h.event
+  does_later (heard n l frag answer) by h = hears_later s.core core sound led s.offers l frag answer m.core h.event.0
+  does_later (said n l answer) by h = says_later l.0 h.before answer h.after h.event
+  does_later (told n l answer) by h = monitor_stays (ap (λ (x : TheCore). x.monitor) h.event.1)
+  does_later (opened name wish answer) by h =
+      let tests = five (nat_lt wish.dispatcher (length s.core.board.dispatchers)) (nat_lt wish.interface (length s.offers.programs)) (nat_lt wish.opening.binding 1024)
+      (not (is_some (place_of s.core (client_of wish.opening.binding)))) (can_say s.core.monitor.outboxes wish.link.0) by.1 in
+      asks_later s.core core sound led _ answer m.core (not_there (place_of s.core (client_of wish.opening.binding)) tests.1) h.event.asks
+  does_later (called name c answer) by h = monitor_stays (ap (λ (x : TheCore). x.monitor) h.2.event.rest)
+  does_later (ruled name msg reply answer) by h = monitor_stays (ap (λ (x : TheCore). x.monitor) h.2.event.rest)
+  does_later (wrote name (outlet.Queue n) answer) by h = monitor_stays (ap (λ (x : TheCore). x.monitor) h.2.event.rest)
+  does_later (wrote name (outlet.Side n) answer) by h = monitor_stays (ap (λ (x : TheCore). x.monitor) h.2.event.rest)
+  does_later (acked name n answer) by h = monitor_stays (ap (λ (x : TheCore). x.monitor) h.2.event.1)
+  does_later (turned d name (inlet.Queue n) answer) by h = monitor_stays (ap (λ (x : TheCore). x.monitor) h.3.event.rest)
+  does_later (turned d name (inlet.Side n) answer) by h = monitor_stays (ap (λ (x : TheCore). x.monitor) h.3.event.rest)
+  does_later (turned d name inlet.Arrivals answer) by h = monitor_stays (ap (λ (x : TheCore). x.monitor) h.3.event.rest)

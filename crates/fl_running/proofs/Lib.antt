@@ -37,4 +37,6 @@ pub mod CircuitEnds
 pub mod Stepping
 pub mod CircuitLogs
 pub mod CircuitsMade
+pub mod OwnNumbers
+pub mod NumberedLogs
 pub mod Flowing

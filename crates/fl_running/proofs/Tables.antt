@@ -77,7 +77,7 @@ given_small : (t : TheCircuits) (l n : ℕ) → Sound t → Given t l n → n �
 given_small t l n k (inl o) = (small t.core o.link.neighbour.0 o.link.opened n (k.counts l o.link o.there).0 o.among).1
 given_small t l n k (inr o) = (small o.link.neighbour.0 t.core o.link.taken n (k.counts l o.link o.there).1 o.among).1
 
-given_at : (t : TheCircuits) (l n : ℕ) (hop : Hop) → Sound t → hop_at t l n ≡ Some hop → Given t l n
+pub given_at : (t : TheCircuits) (l n : ℕ) (hop : Hop) → Sound t → hop_at t l n ≡ Some hop → Given t l n
 given_at t l n hop k at = elim (k.toward l n hop.binding hop.way (leads_at t l n hop hop.way at refl)) [
   | inl h ↦ inl h.0
   | inr h ↦ inr h.0
@@ -315,7 +315,7 @@ way_of_entry : (o : Option Hop) → option_map (λ (hop : Hop). hop.way) (option
 way_of_entry None = refl
 way_of_entry (Some hop) = refl
 
-ways_alike : (t u : TheCircuits) (l n : ℕ) → entry_at u l n ≡ entry_at t l n → way_at u l n ≡ way_at t l n
+pub ways_alike : (t u : TheCircuits) (l n : ℕ) → entry_at u l n ≡ entry_at t l n → way_at u l n ≡ way_at t l n
 ways_alike t u l n e = sym (way_of_entry (hop_at u l n)) ∙ ap (option_map (λ (hop : Hop). hop.way)) e ∙ way_of_entry (hop_at t l n)
 
 pub answered_goes : (t : TheCircuits) (l : LinkId) (c : Circuit) (hop : Hop) → Sound t → hop_at t l.0 c.0 ≡ Some hop → GoesOn NoneNew t (answered t l c hop)

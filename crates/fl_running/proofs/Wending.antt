@@ -160,8 +160,8 @@ module _ {S : Type 0} (w : Ways S) (jobs : List Job) (on : OnAnotherCircuit) (s 
   abbrev Through : (deed : Deed) → InPlace jobs s deed → Does w deed s m → Type 0
   Through deed by h = goes_through s.core.monitor.circuits (event_steps w jobs deed s m by h) m.core.monitor.circuits
 
-  later : (deed : Deed) → Does w deed s m → Later s.core.monitor.circuits m.core.monitor.circuits
-  later deed h = does_later w jobs s m core sound led deed h
+  later : (deed : Deed) → InPlace jobs s deed → Does w deed s m → Later s.core.monitor.circuits m.core.monitor.circuits
+  later deed by h = (does_later w jobs s m core sound led deed by h).later
 
   wrote_went : (name : EndId) (e : ℕ) → (frags : List Frag) → Later s.core.monitor.circuits m.core.monitor.circuits
       → ((l : LinkId) (i : ℕ) (f : Frag) → link_at s.core e ≡ Some l → slice_get frags i ≡ Some f → way_at s.core.monitor.circuits l.0 (circuit_of f.control) ≡ Some (End name))
@@ -169,31 +169,31 @@ module _ {S : Type 0} (w : Ways S) (jobs : List Job) (on : OnAnotherCircuit) (s 
   wrote_went name e frags onward leads = through_by s.core.monitor.circuits m.core.monitor.circuits sound onward (link_at s.core e) name frags leads
 
   pub event_went : (deed : Deed) (by : InPlace jobs s deed) → ActsSoundly deed s → (h : Does w deed s m) → Through deed by h
-  event_went (looked n l answer) by acts h = later (looked n l answer) h
+  event_went (looked n l answer) by acts h = later (looked n l answer) by h
   event_went (passed n i frag c Moved) by acts h =
-      (later_same s.core.monitor.circuits, record { sound = sound; led = by.leads.way_is }, later (passed n i frag c Moved) h)
-  event_went (passed n i frag c Full) by acts h = later (passed n i frag c Full) h
-  event_went (passed n i frag c Spent) by acts h = later (passed n i frag c Spent) h
+      (later_same s.core.monitor.circuits, record { sound = sound; led = by.leads.way_is }, later (passed n i frag c Moved) by h)
+  event_went (passed n i frag c Full) by acts h = later (passed n i frag c Full) by h
+  event_went (passed n i frag c Spent) by acts h = later (passed n i frag c Spent) by h
   event_went (arrived n l frag e answer) by acts h =
-      through s.core.monitor.circuits m.core.monitor.circuits sound (later (arrived n l frag e answer) h) (λ f. hop_passed l.0 f (End e)) (if_arrived answer frag)
+      through s.core.monitor.circuits m.core.monitor.circuits sound (later (arrived n l frag e answer) by h) (λ f. hop_passed l.0 f (End e)) (if_arrived answer frag)
       (λ i f at. ap (λ (x : Frag). way_at s.core.monitor.circuits l.0 (circuit_of x.control)) (sym (arrived_only answer frag f i at)) ∙ by.way_is)
   event_went (heard n l frag answer) by acts h =
-      through s.core.monitor.circuits m.core.monitor.circuits sound (later (heard n l frag answer) h) (hop_heard l.0) (if_heard answer frag)
+      through s.core.monitor.circuits m.core.monitor.circuits sound (later (heard n l frag answer) by h) (hop_heard l.0) (if_heard answer frag)
       (λ i f at. ap (λ (x : Frag). circuit_of x.control) (sym (heard_only answer frag f i at)) ∙ by.1)
   event_went (said n l answer) by acts h =
-      through s.core.monitor.circuits m.core.monitor.circuits sound (later (said n l answer) h) (hop_said l.0) (if_said answer (waiting_for s.core.monitor.outboxes l.0))
+      through s.core.monitor.circuits m.core.monitor.circuits sound (later (said n l answer) by h) (hop_said l.0) (if_said answer (waiting_for s.core.monitor.outboxes l.0))
       (λ i f at. led.says l.0 i f (said_within answer (waiting_for s.core.monitor.outboxes l.0) f i at))
-  event_went (told n l answer) by acts h = later (told n l answer) h
-  event_went (opened name wish answer) by acts h = later (opened name wish answer) h
-  event_went (called name c answer) by acts h = later (called name c answer) h
-  event_went (ruled name msg reply answer) by acts h = later (ruled name msg reply answer) h
+  event_went (told n l answer) by acts h = later (told n l answer) by h
+  event_went (opened name wish answer) by acts h = later (opened name wish answer) by h
+  event_went (called name c answer) by acts h = later (called name c answer) by h
+  event_went (ruled name msg reply answer) by acts h = later (ruled name msg reply answer) by h
   event_went (wrote name (outlet.Queue n) answer) by acts h =
       let writes = h.2.event.writes in
-      wrote_went name h.0 (if_wrote answer writes.seat.end.outgoing.unwritten) (later (wrote name (outlet.Queue n) answer) h)
+      wrote_went name h.0 (if_wrote answer writes.seat.end.outgoing.unwritten) (later (wrote name (outlet.Queue n) answer) by h)
       (frag_leads s.core core led name h.0 h.1 writes.seat writes.seat_is on (acts h.0 writes.seat h.1 writes.seat_is) QueuePuts h.2.before answer writes.end h.2.after writes.event)
   event_went (wrote name (outlet.Side n) answer) by acts h =
       let writes = h.2.event.writes in
-      wrote_went name h.0 (if_wrote answer writes.seat.end.outgoing.unwritten) (later (wrote name (outlet.Side n) answer) h)
+      wrote_went name h.0 (if_wrote answer writes.seat.end.outgoing.unwritten) (later (wrote name (outlet.Side n) answer) by h)
       (frag_leads s.core core led name h.0 h.1 writes.seat writes.seat_is on (acts h.0 writes.seat h.1 writes.seat_is) w.puts h.2.before answer writes.end h.2.after writes.event)
-  event_went (acked name n answer) by acts h = later (acked name n answer) h
-  event_went (turned d name from answer) by acts h = later (turned d name from answer) h
+  event_went (acked name n answer) by acts h = later (acked name n answer) by h
+  event_went (turned d name from answer) by acts h = later (turned d name from answer) by h
