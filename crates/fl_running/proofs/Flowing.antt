@@ -128,7 +128,7 @@ flows {S} w on jobs s t log core apart_is h = record {
   steps = log_steps w jobs log s t h;
   went = λ led. log_went w jobs on log s t h led;
   led = λ led. log_led w jobs log s t h led;
-  passes = λ led l m c n binding table leads.
+  passes = λ led table l m c n binding leads.
       let steps = log_steps w jobs log s t h in
       carried_on (stretch s.core steps t.core) l m c n binding (stood_finish (stretch s.core steps t.core) l.0 c.0 binding (Link m n) (log_went w jobs on log s t h led) (table, leads));
   put = λ name. log_put w jobs name log s t h;

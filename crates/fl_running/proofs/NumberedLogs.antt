@@ -132,19 +132,19 @@ module _ {S : Type 0} (w : Ways S) (jobs : List Job) where
       only p.name l c s.core.monitor.circuits (log_steps w jobs (deed ∷ log) s t h) t.core.monitor.circuits (log_went on (deed ∷ log) s t h led) (given_at s.core.monitor.circuits l c hop h.1.3.table stands) first last
 
   -- an end that was made has its name; and it took part under one number
-  pub record MadeOnly (l c : ℕ) (name : EndId) (p : Port) (t : TheRun S) (steps : List Step) : Type 0 where
+  pub record UnderOne (l c : ℕ) (name : EndId) (p : Port) (t : TheRun S) (steps : List Step) : Type 0 where
     pub name_is : p.name ≡ name
     pub only_there : way_at t.core.monitor.circuits l c ≡ Some (End name) → Only l c name steps
 
   made_only : OnAnotherCircuit → (log : List Deed) (s t : TheRun S) (h : Goes w jobs s log t) → IsLed s.core → (name : EndId) → Absent name s.core → (l c e : ℕ) (p : Port) → place_of t.core name ≡ Some e → slice_get t.core.ports e ≡ Some p
-      → MadeOnly l c name p t (log_steps w jobs log s t h)
+      → UnderOne l c name p t (log_steps w jobs log s t h)
   made_only on [] s t h led name absent l c e p at there = absurd (let no : Some e ≡ None = sym at ∙ ap (λ (x : TheRun S). place_of x.core name) h ∙ absent in cc)
   made_only on (deed ∷ log) s t h led name absent l c e p at there =
       joined (by (does_make w jobs name deed s h.1.0 h.1.3.core absent h.2 h.1.1) (λ still. made_only on log h.0 t h.3 (led_after deed s h.0 h.1 h.2 led) name still l c e p at there)) where
         same : h.0.core ≡ h.1.0.core
         same = core_aside h.1.0 h.0 deed h.1.2
 
-        made : MadeOn name h.0.core → MadeOnly l c name p t (log_steps w jobs log h.0 t h.3)
+        made : MadeOn name h.0.core → UnderOne l c name p t (log_steps w jobs log h.0 t h.3)
         made b =
             let places : Some b.place ≡ Some e = sym (places_to w jobs name log h.0 t b.place h.3 b.place_is) ∙ at in
             let place : b.place ≡ e = cc in
@@ -155,11 +155,11 @@ module _ {S : Type 0} (w : Ways S) (jobs : List Job) where
                   (there_only on log h.0 t h.3 (led_after deed s h.0 h.1 h.2 led) l c b.place b.port b.port_is (last ∙ ap (λ (n : EndId). Some (End n)) (sym b.name_is)));
             }
 
-        by : Absent name h.1.0.core ⊎ MadeOn name h.1.0.core → (Absent name h.0.core → MadeOnly l c name p t (log_steps w jobs log h.0 t h.3)) → MadeOnly l c name p t (log_steps w jobs log h.0 t h.3)
+        by : Absent name h.1.0.core ⊎ MadeOn name h.1.0.core → (Absent name h.0.core → UnderOne l c name p t (log_steps w jobs log h.0 t h.3)) → UnderOne l c name p t (log_steps w jobs log h.0 t h.3)
         by (inl still) onward = onward (ap (λ (k : TheCore). place_of k name) same ∙ still)
         by (inr b) onward = made (subst (MadeOn name) (sym same) b)
 
-        joined : MadeOnly l c name p t (log_steps w jobs log h.0 t h.3) → MadeOnly l c name p t (log_steps w jobs (deed ∷ log) s t h)
+        joined : UnderOne l c name p t (log_steps w jobs log h.0 t h.3) → UnderOne l c name p t (log_steps w jobs (deed ∷ log) s t h)
         joined x = record {
           name_is = x.name_is;
           only_there = λ last. only_joins l c name (event_steps w jobs deed s h.1.0 h.2 h.1.1) (log_steps w jobs log h.0 t h.3) (none_only w jobs l c name deed s h.1.0 h.2 absent h.1.1) (x.only_there last);
@@ -167,7 +167,7 @@ module _ {S : Type 0} (w : Ways S) (jobs : List Job) where
 
   -- so is one that was there
   stood_only : OnAnotherCircuit → (log : List Deed) (s t : TheRun S) (h : Goes w jobs s log t) → IsCore s.core → IsLed s.core → (name : EndId) (l c e f : ℕ) (p : Port) → place_of s.core name ≡ Some f → place_of t.core name ≡ Some e
-      → slice_get t.core.ports e ≡ Some p → MadeOnly l c name p t (log_steps w jobs log s t h)
+      → slice_get t.core.ports e ≡ Some p → UnderOne l c name p t (log_steps w jobs log s t h)
   stood_only on log s t h core led name l c e f p from at there =
       let placed = core.placed name f from in
       let places : Some f ≡ Some e = sym (places_to w jobs name log s t f h from) ∙ at in
@@ -180,7 +180,7 @@ module _ {S : Type 0} (w : Ways S) (jobs : List Job) where
       }
 
   any_only : OnAnotherCircuit → (log : List Deed) (s t : TheRun S) (h : Goes w jobs s log t) → IsCore s.core → IsLed s.core → (name : EndId) (l c e : ℕ) (p : Port) → place_of t.core name ≡ Some e
-      → slice_get t.core.ports e ≡ Some p → (o : Option ℕ) → place_of s.core name ≡ o → MadeOnly l c name p t (log_steps w jobs log s t h)
+      → slice_get t.core.ports e ≡ Some p → (o : Option ℕ) → place_of s.core name ≡ o → UnderOne l c name p t (log_steps w jobs log s t h)
   any_only on log s t h core led name l c e p at there None absent = made_only on log s t h led name absent l c e p at there
   any_only on log s t h core led name l c e p at there (Some f) from = stood_only on log s t h core led name l c e f p from at there
 

@@ -67,8 +67,8 @@ pub record SideCarries {S : Type 0} (puts takes : S → Look → S → Type 0) (
   pub put_is : map bare (puts_of looks) ≡ put
   pub took_is : takes_of looks ≡ took
 
--- of an end of a circuit, which put and took these fragments: its arrival queue was given what came to the end over the core's links, and gave what the end took; and
--- what the end put went onto its link
+-- of an end of a circuit, which put and took these fragments: its arrival queue was given what came to the end over the core's links, and gave what the end
+-- took; and what the end put went onto its link
 pub record CircuitCarries (name : EndId) (steps : List Step) (put took : List Frag) (p : TheQueue) (queues : List TheQueue) (a : ℕ) : Type 0 where
   pub arrivals : SideCarries QueuePuts QueueTakes (come_to name steps) took p queues a
   pub written : written_by name steps ≡ map as_carried put
@@ -80,8 +80,8 @@ pub record Flows {S : Type 0} (w : Ways S) (s t : TheRun S) (log : List Deed) : 
   pub went : IsLed s.core → AllWent (stretch s.core steps t.core)
   pub led : IsLed s.core → IsLed t.core
   -- so what went out by an entry of a circuit is what came in by its other side, in order
-  pub passes : IsLed s.core → (l m : LinkId) (c d : Number) (binding : ℕ) → IsTable t.core.monitor.circuits → Leads t.core.monitor.circuits l.0 c.0 binding (Link m d)
-      → of_circuit d.0 (put_on m.0 steps) ≡ of_circuit c.0 (taken_from l.0 steps)
+  pub passes : IsLed s.core → IsTable t.core.monitor.circuits → (l m : LinkId) (c d : Number) (binding : ℕ)
+      → Leads t.core.monitor.circuits l.0 c.0 binding (Link m d) → of_circuit d.0 (put_on m.0 steps) ≡ of_circuit c.0 (taken_from l.0 steps)
   -- what the end of each name put, and what it took
   pub put : EndId → List Frag
   pub took : EndId → List Frag
@@ -97,14 +97,14 @@ pub record Flows {S : Type 0} (w : Ways S) (s t : TheRun S) (log : List Deed) : 
       → place_of s.core other ≡ Some e → slice_get s.core.ports e ≡ Some y → y.wire ≡ Queues b n
       → slice_get s.queues n ≡ Some p → SideCarries QueuePuts QueueTakes (map bare (put name)) (took other) p t.queues n
   -- and each end of a circuit took, in order, what came to it over the links, and put what went onto its own
-  pub circuits : (name : EndId) (e a : ℕ) (l : LinkId) (port : Port) (p : TheQueue) → place_of s.core name ≡ Some e → slice_get s.core.ports e ≡ Some port → port.wire ≡ Circuit l a
-      → slice_get s.core.arrivals a ≡ Some p → CircuitCarries name steps (put name) (took name) p t.core.arrivals a
+  pub circuits : (name : EndId) (e a : ℕ) (l : LinkId) (port : Port) (p : TheQueue) → place_of s.core name ≡ Some e
+      → slice_get s.core.ports e ≡ Some port → port.wire ≡ Circuit l a → slice_get s.core.arrivals a ≡ Some p → CircuitCarries name steps (put name) (took name) p t.core.arrivals a
   -- also one that was made meanwhile, from an empty arrival queue
-  pub circuits_made : (name : EndId) (e a : ℕ) (l : LinkId) (port : Port) → place_of s.core name ≡ None → place_of t.core name ≡ Some e → slice_get t.core.ports e ≡ Some port
-      → port.wire ≡ Circuit l a → CircuitCarries name steps (put name) (took name) new_arrivals t.core.arrivals a
+  pub circuits_made : (name : EndId) (e a : ℕ) (l : LinkId) (port : Port) → place_of s.core name ≡ None → place_of t.core name ≡ Some e
+      → slice_get t.core.ports e ≡ Some port → port.wire ≡ Circuit l a → CircuitCarries name steps (put name) (took name) new_arrivals t.core.arrivals a
   -- what came to an end that is bound at last is what came in by its number, in order, and what went out under that is what it wrote
-  pub numbers : IsLed s.core → IsTable t.core.monitor.circuits → (name : EndId) (e a c : ℕ) (l : LinkId) (port : Port) (seat : TheSeat) → place_of t.core name ≡ Some e
-      → slice_get t.core.ports e ≡ Some port → port.wire ≡ Circuit l a → slice_get t.core.board.seats e ≡ Some seat → seat.end.circuit ≡ Some c
+  pub numbers : IsLed s.core → IsTable t.core.monitor.circuits → (name : EndId) (e a c : ℕ) (l : LinkId) (port : Port) (seat : TheSeat)
+      → place_of t.core name ≡ Some e → slice_get t.core.ports e ≡ Some port → port.wire ≡ Circuit l a → slice_get t.core.board.seats e ≡ Some seat → seat.end.circuit ≡ Some c
       → (come_to name steps ≡ of_circuit c (taken_from l.0 steps)) × (of_circuit c (put_on l.0 steps) ≡ written_by name steps)
   -- so each end that was there went on
   pub ends : (name : EndId) (e : ℕ) (seat : TheSeat) → place_of s.core name ≡ Some e → slice_get s.core.board.seats e ≡ Some seat

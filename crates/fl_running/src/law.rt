@@ -48,6 +48,9 @@ pub fn sent_by_rules()
 {}
 
 /// What an end put are the fragments of what it sent, in order, up to what is left to put; what it took reads as the calls that it handled, and a rest.
+///
+/// Where the core's table leads to its ends of circuits, it led what went over the links, and leads to them still: by an entry went out what came in by its
+/// other side, in order; to an end of a circuit came what came in by its number, and it took that in order; and what it put went out under its number.
 pub fn logs_flow<S: PutSide + TakeSide>()
     ensures flows { LogsFlow (ways S.puts S.takes S.front) }
 {

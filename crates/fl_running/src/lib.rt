@@ -9,7 +9,7 @@
 //! events come in a turn, and in which order, stands in `specs/Steps.antt` and `specs/Turn.antt`; when a core has nothing left to do in
 //! `specs/Finished.antt`, what it tells of refused openings in `specs/Words.antt`, and the whole run in `specs/Ran.antt`. Laws over logs (`law.rt`): the calls
 //! that were made are those of the jobs (`specs/Made.antt`), what queues carry and when rules are set (`specs/Carried.antt`), what passes over links, rings and
-//! ends (`specs/Flows.antt`), and that lent sides stay lent (`specs/Lending.antt`).
+//! ends (`specs/Flows.antt`), as the table of circuits leads it (`specs/Led.antt`), and that lent sides stay lent (`specs/Lending.antt`).
 //!
 //! - `running.rt`: `Running`, and turns
 //! - `links.rt`: what is done for a link
