@@ -98,14 +98,15 @@ pub record Flows {S : Type 0} (w : Ways S) (s t : TheRun S) (log : List Deed) : 
       → slice_get s.queues n ≡ Some p → SideCarries QueuePuts QueueTakes (map bare (put name)) (took other) p t.queues n
   -- and each end of a circuit took, in order, what came to it over the links, and put what went onto its own
   pub circuits : (name : EndId) (e a : ℕ) (l : LinkId) (port : Port) (p : TheQueue) → place_of s.core name ≡ Some e
-      → slice_get s.core.ports e ≡ Some port → port.wire ≡ Circuit l a → slice_get s.core.arrivals a ≡ Some p → CircuitCarries name steps (put name) (took name) p t.core.arrivals a
+      → slice_get s.core.ports e ≡ Some port → port.wire ≡ Circuit l a → slice_get s.core.arrivals a ≡ Some p
+      → CircuitCarries name steps (put name) (took name) p t.core.arrivals a
   -- also one that was made meanwhile, from an empty arrival queue
   pub circuits_made : (name : EndId) (e a : ℕ) (l : LinkId) (port : Port) → place_of s.core name ≡ None → place_of t.core name ≡ Some e
       → slice_get t.core.ports e ≡ Some port → port.wire ≡ Circuit l a → CircuitCarries name steps (put name) (took name) new_arrivals t.core.arrivals a
   -- what came to an end that is bound at last is what came in by its number, in order, and what went out under that is what it wrote
   pub numbers : IsLed s.core → IsTable t.core.monitor.circuits → (name : EndId) (e a c : ℕ) (l : LinkId) (port : Port) (seat : TheSeat)
-      → place_of t.core name ≡ Some e → slice_get t.core.ports e ≡ Some port → port.wire ≡ Circuit l a → slice_get t.core.board.seats e ≡ Some seat → seat.end.circuit ≡ Some c
-      → (come_to name steps ≡ of_circuit c (taken_from l.0 steps)) × (of_circuit c (put_on l.0 steps) ≡ written_by name steps)
+      → place_of t.core name ≡ Some e → slice_get t.core.ports e ≡ Some port → port.wire ≡ Circuit l a → slice_get t.core.board.seats e ≡ Some seat
+      → seat.end.circuit ≡ Some c → (come_to name steps ≡ of_circuit c (taken_from l.0 steps)) × (of_circuit c (put_on l.0 steps) ≡ written_by name steps)
   -- so each end that was there went on
   pub ends : (name : EndId) (e : ℕ) (seat : TheSeat) → place_of s.core name ≡ Some e → slice_get s.core.board.seats e ≡ Some seat
       → EndCarries name log (put name) (took name) seat.end t.core.board.seats e
