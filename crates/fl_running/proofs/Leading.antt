@@ -27,12 +27,12 @@ use Rattle.fl_monitor.specs.declared.heard.Heard.{Heard}
 use Rattle.fl_monitor.specs.declared.heard.Heard.TheVariants.{OpeningWentOn, ServerMade, OpeningFailed, AnswerWentOn, EndOpened, EndRefused}
 use Rattle.fl_monitor.specs.declared.message.Message.{Message}
 use Rattle.fl_monitor.proofs.Single.{says_what_is_written, says_alone}
-use Rattle.fl_node.specs.View.{TheCore, place_of}
+use Rattle.fl_node.specs.View.{TheCore, place_of, arrivals_by}
 use Rattle.fl_node.specs.Sound.{IsCore, kinds_seated, kinds_wired}
 use Rattle.fl_node.specs.declared.wire.Port.{Port}
 use Rattle.fl_node.specs.declared.wire.Wire.{Wire}
 use Rattle.fl_node.specs.declared.wire.Wire.TheVariants.{Circuit}
-use Rattle.fl_running.specs.Led.{IsSettled, IsLedTo, IsLed}
+use Rattle.fl_running.specs.Led.{IsSettled, IsLedTo, IsLed, LeadsAtFirst}
 use Rattle.fl_running.proofs.Bound.{circuits_of}
 use Rattle.fl_running.proofs.Tables.{GoesOn, NoneNew, OneNew, way_there, way_of, stands_there}
 
@@ -213,3 +213,10 @@ pub absent_port : (k : TheCore) → IsCore k → (name : EndId) → place_of k n
 absent_port k core name none e p at same =
     let found : Some e ≡ None = sym (core.named e p at) ∙ ap (place_of k) same ∙ none in
     absurd (cc)
+
+-- a core without ends of circuits
+pub leads_at_first : LeadsAtFirst
+leads_at_first k none quiet = record {
+  ends = λ e a l p seat port wire at. absurd (let no : Some a ≡ None = sym (ap arrivals_by wire) ∙ none e p port in cc);
+  says = λ l i frag at. absurd (let no : None ≡ Some frag = sym (ap (λ (xs : List Frag). slice_get xs i) (quiet l)) ∙ at in cc);
+}

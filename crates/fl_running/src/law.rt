@@ -6,6 +6,7 @@ ghost use Rattle.fl_running.specs.Logs.{TurnsAreLogged, DesksTellHandled, LogsLo
 ghost use Rattle.fl_running.specs.Made.{LogsMakeJobs, DoneAreFirst};
 ghost use Rattle.fl_running.specs.Lending.{StaysLent, LentServes};
 ghost use Rattle.fl_running.specs.Carried.{LogsCarryQueues, RulesComeFirst, SentAreMade, SentAreReplies};
+ghost use Rattle.fl_running.specs.Led.{LeadsAtFirst};
 ghost use Rattle.fl_running.specs.Flows.{LogsFlow};
 
 use fl_endpoint::on_another_circuit;
@@ -56,6 +57,11 @@ pub fn logs_flow<S: PutSide + TakeSide>()
 {
     on_another_circuit();
 }
+
+/// A core's table leads to its ends of circuits where there is none yet, and its monitor has nothing to say.
+pub fn leads_at_first()
+    ensures leads { LeadsAtFirst }
+{}
 
 /// Where all sides and queues that a core's links and ends name are lent, they stay lent; and then no step is left out for want of one.
 pub fn sides_stay_lent<S: PutSide + TakeSide>()

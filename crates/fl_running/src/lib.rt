@@ -47,8 +47,8 @@ pub use fault::CoresFault;
 pub use gate::Gate;
 pub use job::{Job, Wish};
 pub use law::{
-    counted_are_turns, jobs_are_made, logs_flow, queues_carry, rules_come_first, sent_by_rules,
-    sides_go, sides_stay_lent, turns_are_logged,
+    counted_are_turns, jobs_are_made, leads_at_first, logs_flow, queues_carry, rules_come_first,
+    sent_by_rules, sides_go, sides_stay_lent, turns_are_logged,
 };
 pub use plan::Plan;
 pub use run::{End, Part, core_run};
