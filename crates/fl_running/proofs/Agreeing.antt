@@ -120,16 +120,16 @@ module _ (in_order : HandlesInOrder) (on_another : OnAnotherCircuit) where
   agree d e x y sender taker same arrived =
       let own : program_of taker.began.program ≡ program_of x.program = ap program_of (sym taker.goes.program) ∙ same in
       let ahead : stream (program_of taker.began.program) 0 e.handled ++ (y.parts ++ (arrived.0 ++ map as_carried (left_to_put x.outgoing)))
-          ≡ stream (program_of taker.began.program) 0 d.sent =
+      ≡ stream (program_of taker.began.program) 0 d.sent =
       sym (append_assoc (stream (program_of taker.began.program) 0 e.handled) y.parts (arrived.0 ++ map as_carried (left_to_put x.outgoing)))
-          ∙ ap (λ (xs : List Frag). xs ++ (arrived.0 ++ map as_carried (left_to_put x.outgoing))) (sym (all_taken e y taker))
-          ∙ sym (append_assoc e.took arrived.0 (map as_carried (left_to_put x.outgoing)))
-          ∙ ap (λ (xs : List Frag). xs ++ map as_carried (left_to_put x.outgoing)) (sym arrived.1)
-          ∙ sym (all_carried d x sender)
-          ∙ ap (λ (p : TheProgram). stream p 0 d.sent) (sym own) in
+      ∙ ap (λ (xs : List Frag). xs ++ (arrived.0 ++ map as_carried (left_to_put x.outgoing))) (sym (all_taken e y taker))
+      ∙ sym (append_assoc e.took arrived.0 (map as_carried (left_to_put x.outgoing)))
+      ∙ ap (λ (xs : List Frag). xs ++ map as_carried (left_to_put x.outgoing)) (sym arrived.1)
+      ∙ sym (all_carried d x sender)
+      ∙ ap (λ (p : TheProgram). stream p 0 d.sent) (sym own) in
       let fit : AllFit (interface_in taker.began) d.sent = subst (λ (p : TheProgram). AllFit p.interface d.sent) (sym own) sender.goes.sent_fit in
       let taken = in_order taker.began.program taker.began.circuit taker.began (read_of e y taker) d.sent (y.parts ++ (arrived.0 ++ map as_carried (left_to_put x.outgoing)))
-          taker.sound (account e y taker) fit ahead in
+      taker.sound (account e y taker) fit ahead in
       (taken.left, taken.calls_are)
 
   pub off_links : CarriedOffLinks
@@ -137,5 +137,5 @@ module _ (in_order : HandlesInOrder) (on_another : OnAnotherCircuit) where
       let whole : stream_from x d.sent ≡ stream (program_of x.program) 0 d.sent = ap (λ (c : ℕ). stream (program_of x.program) c d.sent) zero_is in
       first_same as_carried bare d.put (left_to_put x.outgoing)
       (ap (map as_carried) (sym (all_put d x since)) ∙ carried d x since
-          ∙ sym (bare_stream (program_of x.program) d.sent (within d x since) since.goes.sent_fit)
-          ∙ ap (map bare) (sym whole) ∙ ap (map bare) (all_put d x since))
+      ∙ sym (bare_stream (program_of x.program) d.sent (within d x since) since.goes.sent_fit)
+      ∙ ap (map bare) (sym whole) ∙ ap (map bare) (all_put d x since))

@@ -27,5 +27,17 @@ pub mod Apart
 pub mod RingEnds
 pub mod QueueEnds
 pub mod Newcomers
+pub mod Tables
+pub mod Bound
+pub mod TablesHeard
+pub mod Leading
+pub mod Leads
+pub mod Wending
+pub mod CircuitEnds
+pub mod Stepping
+pub mod CircuitLogs
+pub mod CircuitsMade
+pub mod OwnNumbers
+pub mod NumberedLogs
 pub mod Flowing
 pub mod Agreeing

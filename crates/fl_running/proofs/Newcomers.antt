@@ -61,7 +61,7 @@ record MadeAt (name : EndId) (k : TheCore) : Type 0 where
   pub here : IsHere name place end k
   pub new : IsNew end
 
-abbrev Absent : EndId → TheCore → Type 0
+abbrev pub Absent : EndId → TheCore → Type 0
 Absent name k = place_of k name ≡ None
 
 module _ (name : EndId) (k : TheCore) (core : IsCore k) (absent : Absent name k) where
@@ -222,21 +222,21 @@ module _ {S : Type 0} (w : Ways S) (jobs : List Job) (name : EndId) where
 
   -- ---- nothing happens at an end that isn't there
 
-  not_it : (s : TheRun S) (n : EndId) (f : ℕ) → Absent name s.core → place_of s.core n ≡ Some f → same_end n name ≡ false
+  pub not_it : (s : TheRun S) (n : EndId) (f : ℕ) → Absent name s.core → place_of s.core n ≡ Some f → same_end n name ≡ false
   not_it s n f absent at = by (same_end n name) refl where
     by : (b : Bool) → same_end n name ≡ b → b ≡ false
     by false is = refl
     by true is = absurd (let no : Some f ≡ None = sym at ∙ ap (λ (x : EndId). place_of s.core x) (one_end n name is) ∙ absent in cc)
 
   -- what an event adds at the end: nothing
-  record Adds0 (rules : List (Option ℕ)) (deed : Deed) (put took : List Frag) : Type 0 where
+  pub record Adds0 (rules : List (Option ℕ)) (deed : Deed) (put took : List Frag) : Type 0 where
     pub sent : sent_in name rules deed ≡ []
     pub handled : handled_in name deed ≡ []
     pub rules_same : rules_in name rules deed ≡ rules
     pub put_none : of_end name deed put ≡ []
     pub took_none : of_end name deed took ≡ []
 
-  nothing : (rules : List (Option ℕ)) (deed : Deed) (s m : TheRun S) → Absent name s.core → (h : Does w deed s m) → Adds0 rules deed (acted_put w deed s m h) (acted_took w deed s m h)
+  pub nothing : (rules : List (Option ℕ)) (deed : Deed) (s m : TheRun S) → Absent name s.core → (h : Does w deed s m) → Adds0 rules deed (acted_put w deed s m h) (acted_took w deed s m h)
   nothing rules (called n c answer) s m absent h = record {
     sent = off (same_end n name) _ [] (not_it s n h.0 absent h.1);
     handled = refl;

@@ -2,21 +2,27 @@
 use Rattle.std.specs.Prelude.{ℕ, ◌≡◌, List, [], map, slice_get, Some, None}
 use Rattle.fl_base.specs.declared.fragment.Frag.{Frag}
 use Rattle.fl_base.specs.declared.identity.EndId.{EndId}
+use Rattle.fl_base.specs.declared.identity.LinkId.{LinkId}
+use Rattle.fl_base.specs.declared.identity.Circuit.{Circuit as Number}
 use Rattle.fl_base.specs.Control.{bare}
 use Rattle.fl_link.specs.Looks.{Look, Looks, LinkStep, puts_of, takes_of}
 use Rattle.fl_link.specs.Queue.{TheQueue, QueuePuts, QueueTakes}
-use Rattle.fl_hop.specs.Stretch.{Step, taken_from, put_on}
+use Rattle.fl_hop.specs.declared.entry.Way.TheVariants.{Link}
+use Rattle.fl_hop.specs.Joined.{Leads, Sound as IsTable}
+use Rattle.fl_hop.specs.OfCircuit.{as_carried, of_circuit}
+use Rattle.fl_hop.specs.Stretch.{Step, AllWent, taken_from, put_on, come_to, written_by}
 use Rattle.fl_endpoint.specs.View.{TheEnd, no_rules, nothing_to_send}
 use Rattle.fl_core.specs.View.{TheSeat}
 use Rattle.fl_node.specs.declared.wire.Port.{Port}
-use Rattle.fl_node.specs.declared.wire.Wire.TheVariants.{Queues, Ring}
-use Rattle.fl_node.specs.View.{TheCore, place_of, side_of_link}
+use Rattle.fl_node.specs.declared.wire.Wire.TheVariants.{Queues, Ring, Circuit}
+use Rattle.fl_node.specs.View.{TheCore, place_of, side_of_link, new_arrivals}
 use Rattle.fl_node.specs.Sound.{IsCore}
 use Rattle.fl_running.specs.declared.job.Job.{Job}
 use Rattle.fl_running.specs.Run.{Ways, TheRun}
 use Rattle.fl_running.specs.Deeds.{Deed}
 use Rattle.fl_running.specs.Logs.{Goes}
 use Rattle.fl_running.specs.Carried.{EndGoes, traffic, rules_at}
+use Rattle.fl_running.specs.Led.{IsLed, stretch}
 
 -- ---- ends
 
@@ -61,9 +67,21 @@ pub record SideCarries {S : Type 0} (puts takes : S → Look → S → Type 0) (
   pub put_is : map bare (puts_of looks) ≡ put
   pub took_is : takes_of looks ≡ took
 
+-- of an end of a circuit, which put and took these fragments: its arrival queue was given what came to the end over the core's links, and gave what the end
+-- took; and what the end put went onto its link
+pub record CircuitCarries (name : EndId) (steps : List Step) (put took : List Frag) (p : TheQueue) (queues : List TheQueue) (a : ℕ) : Type 0 where
+  pub arrivals : SideCarries QueuePuts QueueTakes (come_to name steps) took p queues a
+  pub written : written_by name steps ≡ map as_carried put
+
 pub record Flows {S : Type 0} (w : Ways S) (s t : TheRun S) (log : List Deed) : Type 0 where
   -- what went over the core's links, fragment by fragment
   pub steps : List Step
+  -- where the table led to the ends of circuits here, it led all that, and leads to them still
+  pub went : IsLed s.core → AllWent (stretch s.core steps t.core)
+  pub led : IsLed s.core → IsLed t.core
+  -- so what went out by an entry of a circuit is what came in by its other side, in order
+  pub passes : IsLed s.core → IsTable t.core.monitor.circuits → (l m : LinkId) (c d : Number) (binding : ℕ)
+      → Leads t.core.monitor.circuits l.0 c.0 binding (Link m d) → of_circuit d.0 (put_on m.0 steps) ≡ of_circuit c.0 (taken_from l.0 steps)
   -- what the end of each name put, and what it took
   pub put : EndId → List Frag
   pub took : EndId → List Frag
@@ -78,6 +96,17 @@ pub record Flows {S : Type 0} (w : Ways S) (s t : TheRun S) (log : List Deed) : 
       → x.wire ≡ Queues n a
       → place_of s.core other ≡ Some e → slice_get s.core.ports e ≡ Some y → y.wire ≡ Queues b n
       → slice_get s.queues n ≡ Some p → SideCarries QueuePuts QueueTakes (map bare (put name)) (took other) p t.queues n
+  -- and each end of a circuit took, in order, what came to it over the links, and put what went onto its own
+  pub circuits : (name : EndId) (e a : ℕ) (l : LinkId) (port : Port) (p : TheQueue) → place_of s.core name ≡ Some e
+      → slice_get s.core.ports e ≡ Some port → port.wire ≡ Circuit l a → slice_get s.core.arrivals a ≡ Some p
+      → CircuitCarries name steps (put name) (took name) p t.core.arrivals a
+  -- also one that was made meanwhile, from an empty arrival queue
+  pub circuits_made : (name : EndId) (e a : ℕ) (l : LinkId) (port : Port) → place_of s.core name ≡ None → place_of t.core name ≡ Some e
+      → slice_get t.core.ports e ≡ Some port → port.wire ≡ Circuit l a → CircuitCarries name steps (put name) (took name) new_arrivals t.core.arrivals a
+  -- what came to an end that is bound at last is what came in by its number, in order, and what went out under that is what it wrote
+  pub numbers : IsLed s.core → IsTable t.core.monitor.circuits → (name : EndId) (e a c : ℕ) (l : LinkId) (port : Port) (seat : TheSeat)
+      → place_of t.core name ≡ Some e → slice_get t.core.ports e ≡ Some port → port.wire ≡ Circuit l a → slice_get t.core.board.seats e ≡ Some seat
+      → seat.end.circuit ≡ Some c → (come_to name steps ≡ of_circuit c (taken_from l.0 steps)) × (of_circuit c (put_on l.0 steps) ≡ written_by name steps)
   -- so each end that was there went on
   pub ends : (name : EndId) (e : ℕ) (seat : TheSeat) → place_of s.core name ≡ Some e → slice_get s.core.board.seats e ≡ Some seat
       → EndCarries name log (put name) (took name) seat.end t.core.board.seats e

@@ -11,6 +11,7 @@ pub mod Logs
 pub mod Made
 pub mod Lending
 pub mod Carried
+pub mod Led
 pub mod Flows
 pub mod Agree
 -- This one only the proofs need.

@@ -6,6 +6,7 @@ ghost use Rattle.fl_running.specs.Logs.{TurnsAreLogged, DesksTellHandled, LogsLo
 ghost use Rattle.fl_running.specs.Made.{LogsMakeJobs, DoneAreFirst};
 ghost use Rattle.fl_running.specs.Lending.{StaysLent, LentServes};
 ghost use Rattle.fl_running.specs.Carried.{LogsCarryQueues, RulesComeFirst, SentAreMade, SentAreReplies};
+ghost use Rattle.fl_running.specs.Led.{LeadsAtFirst};
 ghost use Rattle.fl_running.specs.Flows.{LogsFlow};
 ghost use Rattle.fl_running.specs.Agree.{EndsAgree, CarriedOffLinks};
 
@@ -49,8 +50,18 @@ pub fn sent_by_rules()
 {}
 
 /// What an end put are the fragments of what it sent, in order, up to what is left to put; what it took reads as the calls that it handled, and a rest.
+///
+/// Where the core's table leads to its ends of circuits, it led what went over the links, and leads to them still: by an entry went out what came in by its
+/// other side, in order; to an end of a circuit came what came in by its number, and it took that in order; and what it put went out under its number.
 pub fn logs_flow<S: PutSide + TakeSide>()
     ensures flows { LogsFlow (ways S.puts S.takes S.front) }
+{
+    on_another_circuit();
+}
+
+/// A core's table leads to its ends of circuits where there is none yet, and its monitor has nothing to say.
+pub fn leads_at_first()
+    ensures leads { LeadsAtFirst }
 {}
 
 /// Of two ends of one binding: where what one took is the first of what the other put, as links carry it, what it handled is the first of what that sent.

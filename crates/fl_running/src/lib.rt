@@ -9,7 +9,8 @@
 //! events come in a turn, and in which order, stands in `specs/Steps.antt` and `specs/Turn.antt`; when a core has nothing left to do in
 //! `specs/Finished.antt`, what it tells of refused openings in `specs/Words.antt`, and the whole run in `specs/Ran.antt`. Laws over logs (`law.rt`): the calls
 //! that were made are those of the jobs (`specs/Made.antt`), what queues carry and when rules are set (`specs/Carried.antt`), what passes over links, rings and
-//! ends (`specs/Flows.antt`), what two ends come to between them (`specs/Agree.antt`), and that lent sides stay lent (`specs/Lending.antt`).
+//! ends (`specs/Flows.antt`), as the table of circuits leads it (`specs/Led.antt`), what two ends come to between them (`specs/Agree.antt`), and that lent
+//! sides stay lent (`specs/Lending.antt`).
 //!
 //! - `running.rt`: `Running`, and turns
 //! - `links.rt`: what is done for a link
@@ -47,8 +48,8 @@ pub use fault::CoresFault;
 pub use gate::Gate;
 pub use job::{Job, Wish};
 pub use law::{
-    counted_are_turns, ends_agree, jobs_are_made, logs_flow, queues_carry, rules_come_first,
-    sent_by_rules, sides_go, sides_stay_lent, turns_are_logged,
+    counted_are_turns, ends_agree, jobs_are_made, leads_at_first, logs_flow, queues_carry,
+    rules_come_first, sent_by_rules, sides_go, sides_stay_lent, turns_are_logged,
 };
 pub use plan::Plan;
 pub use run::{End, Part, core_run};
