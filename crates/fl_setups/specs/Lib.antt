@@ -1,0 +1,2 @@
+-- The laws rest on these, in this order.
+pub mod Untouched
