@@ -1,11 +1,10 @@
 -- How everything stands in a world where things were made, and with which nothing was done yet. Law.
-use Rattle.std.specs.Prelude.{ℕ, ◌≡◌, ◌⊎◌, ◌+◌, ◌*◌, ◌<◌, false, List, length, slice_get, Some}
+use Rattle.std.specs.Prelude.{ℕ, ◌≡◌, ◌⊎◌, ◌+◌, ◌-◌, ◌*◌, ◌%◌, ◌==◌, ◌<◌, false, if◌then◌else◌, length, slice_get, Some}
 use Rattle.fl_base.specs.declared.identity.EndId.{EndId}
 use Rattle.fl_compile.specs.declared.program.Program.{Program}
 use Rattle.fl_compile.specs.Programs.{program_of}
 use Rattle.fl_hop.specs.declared.links.LinkState.{LinkState}
 use Rattle.fl_hop.specs.Table.{link_of}
-use Rattle.fl_link.specs.Queue.{TheQueue}
 use Rattle.fl_endpoint.specs.View.{TheEnd}
 use Rattle.fl_core.specs.View.{TheSeat}
 use Rattle.fl_node.specs.declared.wire.Port.{Port}
@@ -14,10 +13,9 @@ use Rattle.fl_node.specs.declared.wire.Wire.TheVariants.{Queues, Ring}
 use Rattle.fl_node.specs.View.{TheCore, place_of, side_of_link, client_of, server_of}
 use Rattle.fl_node.specs.Sound.{IsCore}
 use Rattle.fl_running.specs.Flows.{IsNew, IsApart}
-use Rattle.fl_queues.specs.SoundPlaces.{opposite}
 use Rattle.fl_queues.specs.State.{State}
 use Rattle.fl_worlds.specs.declared.binding.Binding.{Binding}
-use Rattle.fl_worlds.specs.View.{TheWorld, side_number, side_at}
+use Rattle.fl_worlds.specs.View.{TheWorld, ring_at}
 use Rattle.fl_worlds.specs.Binding.{new_queue}
 use Rattle.fl_worlds.specs.Picture.{wire_of, Shows}
 use Rattle.fl_setups.specs.Untouched.{Untouched}
@@ -67,7 +65,11 @@ QueuesAreNew w = (n queue : ℕ) (c : TheCore) → slice_get w.cores n ≡ Some 
 
 -- ---- links
 
--- from link l of core n, whose side is this one, another core's link leads back, over the other side of the same ring
+-- the other side of the same ring
+abbrev pub across : ℕ → ℕ
+across side = if side % 2 == 0 then side + 1 else side - 1
+
+-- link l of core n, which has this side, leads to a core whose link back has the other side of the ring
 pub record LeadsBack (w : TheWorld) (n : ℕ) (c : TheCore) (l side : ℕ) : Type 0 where
   pub link : LinkState
   pub link_is : slice_get c.monitor.circuits.links l ≡ Some link
@@ -75,8 +77,8 @@ pub record LeadsBack (w : TheWorld) (n : ℕ) (c : TheCore) (l side : ℕ) : Typ
   pub core_is : slice_get w.cores link.neighbour.0 ≡ Some core
   pub back : ℕ
   pub back_is : link_of core.monitor.circuits n ≡ Some back
-  pub side_is : side_of_link core.lanes back ≡ Some (side_number (record { ring = (side_at side).ring; side = opposite (side_at side).side }))
-  pub within : (side_at side).ring < length w.rings
+  pub side_is : side_of_link core.lanes back ≡ Some (across side)
+  pub within : ring_at side < length w.rings
 
 abbrev pub LinksArePaired : TheWorld → Type 0
 LinksArePaired w = (n l side : ℕ) (c : TheCore) → slice_get w.cores n ≡ Some c → side_of_link c.lanes l ≡ Some side → LeadsBack w n c l side
