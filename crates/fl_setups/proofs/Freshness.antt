@@ -51,9 +51,9 @@ rules_count s e b i sound there its =
     = same_some (interface_of s b) stands.interface i (ap (interface_of s) (sym same) ∙ stands.interface_is) its in
     stands.rules ∙ ap (λ (j : Planned). length j.interface.messages) interface
 
-fresh_end : (i : Planned) (x : End) (peer : Direction) (t : TheEnd) → EndShows i x peer t → IsUntouched x → peer ≡ fresh_direction 2
+fresh_end : (i : Planned) (x : End) (back : Direction) (t : TheEnd) → EndShows i x back t → IsUntouched x → back ≡ fresh_direction 2
     → length x.rules ≡ length i.interface.messages → IsFresh t
-fresh_end i x peer t h u still count = record {
+fresh_end i x back t h u still count = record {
   new = record {
     outgoing = h.outgoing ∙ ap (outgoing_of (circuit_of x) i) u.out;
     parts = h.parts ∙ ap (parts_of i) still;
