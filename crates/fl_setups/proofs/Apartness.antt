@@ -1,8 +1,10 @@
 -- Who names a side of a ring, or a queue: no two of a core, and no two cores.
-use Rattle.std.proofs.Common.{◌≡◌, refl, sym, ◌∙◌, ap, subst, ℕ, ◌+◌, ◌*◌, ◌⊎◌, inl, inr, List, length, slice_get, Option, Some, None, arith}
+use Rattle.std.proofs.Common.{◌≡◌, refl, sym, ◌∙◌, ap, subst, ℕ, suc, ◌+◌, ◌-◌, ◌*◌, ◌%◌, ◌==◌, ◌≤◌, ◌⊎◌, inl, inr, if◌then◌else◌, List, length, map, slice_get, Option, Some, None, arith}
+use Rattle.std.specs.Prelude.{is_some}
 use Rattle.fl_base.specs.declared.identity.EndId.{EndId}
 use Rattle.fl_base.specs.Ends.{peer}
 use Rattle.fl_hop.specs.declared.links.LinkState.{LinkState}
+use Rattle.fl_hop.specs.Table.{TheCircuits, link_of}
 use Rattle.fl_node.specs.View.{TheCore, place_of, side_of_link}
 use Rattle.fl_node.specs.Sound.{IsCore}
 use Rattle.fl_node.specs.declared.wire.Lane.{Lane}
@@ -11,14 +13,14 @@ use Rattle.fl_node.specs.declared.wire.Wire.{Wire}
 use Rattle.fl_node.specs.declared.wire.Wire.TheVariants.{Queues, Ring}
 use Rattle.fl_monitor.specs.Routing.{given as given_here}
 use Rattle.fl_queues.specs.Given.{given}
-use Rattle.fl_queues.specs.Rings.{RingEnd, first_side, second_side}
+use Rattle.fl_queues.specs.Rings.{RingEnd, RingSide, first_side, second_side}
 use Rattle.fl_queues.specs.Ends.{Seat, End}
 use Rattle.fl_queues.specs.Monitors.{Core, Link, link_to}
 use Rattle.fl_queues.specs.State.{State, core_of, end_of, link_between}
-use Rattle.fl_queues.specs.SoundPlaces.{LinkIsPaired, opposite, Owner, core_to, this_end, owns}
-use Rattle.fl_shows.specs.Cores.{MonitorShows}
+use Rattle.fl_queues.specs.SoundPlaces.{opposite, Owner, core_to, this_end, owns}
 use Rattle.fl_worlds.specs.View.{TheWorld, side_number, side_at, ring_at}
 use Rattle.fl_worlds.specs.Picture.{wire_of, lane_of, CoreShows, SitsAt, Shows}
+use Rattle.fl_laws.proofs.BindingWalk.{given_there}
 use Rattle.fl_laws.proofs.CoresKept.{link_place}
 use Rattle.fl_laws.proofs.EndsStanding.{in_range}
 use Rattle.fl_laws.proofs.TurnsTold.{peer_twice}
@@ -27,7 +29,7 @@ use Rattle.fl_worlds.proofs.MakingBase.{map_at}
 use Rattle.fl_worlds.proofs.PassingLanes.{lane_side, side_of_number, ring_of_number}
 use Rattle.fl_running.specs.Flows.{IsApart}
 use Rattle.fl_setups.specs.Start.{NamesSide, NamesQueue, SidesHaveOneCore, QueuesHaveOneCore, CoresAreApart, across, LeadsBack, LinksArePaired}
-use Rattle.fl_setups.proofs.Finding.{Found, found, wire_at, Wired, wired, owns_side}
+use Rattle.fl_setups.proofs.Finding.{wire_at, wired, owns_side}
 use Rattle.fl_setups.proofs.Freshness.{peer_takes}
 
 -- ---- owners
@@ -35,7 +37,7 @@ use Rattle.fl_setups.proofs.Freshness.{peer_takes}
 same_owner : (a b c d : ℕ) → core_to a b ≡ core_to c d → (a ≡ c) × (b ≡ d)
 same_owner a b c d e = (cc, cc)
 
-same_end : (e f : EndId) → this_end e ≡ this_end f → e ≡ f
+pub same_end : (e f : EndId) → this_end e ≡ this_end f → e ≡ f
 same_end e f h = cc
 
 no_end : (a b : ℕ) (e : EndId) → core_to a b ≡ this_end e → ⊥
@@ -114,7 +116,7 @@ on_side w s n side c e shows core_is wire =
     (owns_side w s c e k.end.binding side k.end.binding_is k.way, shows.picture.ends.only n c e k.place core_is k.place_is)
 
 -- an end sits at one core
-one_seat : (s : State) (e : EndId) (n m : ℕ) → SitsAt s e n → SitsAt s e m → n ≡ m
+pub one_seat : (s : State) (e : EndId) (n m : ℕ) → SitsAt s e n → SitsAt s e m → n ≡ m
 one_seat s e n m h k =
     let end : h.0 ≡ k.0 = same_some (end_of s e) h.0 k.0 h.1.1 k.1.1 in
     let seat : h.1.0 ≡ k.1.0 = same_some k.0.seat h.1.0 k.1.0 (ap (λ (x : End). x.seat) (sym end) ∙ h.1.2) k.1.2 in
@@ -217,12 +219,18 @@ cores_are_apart w s shows n c c_is core = record {
 
 -- ---- links, both ways
 
+across_at : (n : ℕ) (side : RingSide) → across (side_number (record { ring = n; side = side })) ≡ side_number (record { ring = n; side = opposite side })
+across_at n first_side =
+    let even : (2 * n + 0) % 2 ≡ 0 = omega arith in
+    let next : 2 * n + 0 + 1 ≡ 2 * n + 1 = omega arith in
+    ap (λ (m : ℕ). if m == 0 then 2 * n + 0 + 1 else 2 * n + 0 - 1) even ∙ next
+across_at n second_side =
+    let odd : (2 * n + 1) % 2 ≡ 1 = omega arith in
+    let before : 2 * n + 1 - 1 ≡ 2 * n + 0 = omega arith in
+    ap (λ (m : ℕ). if m == 0 then 2 * n + 1 + 1 else 2 * n + 1 - 1) odd ∙ before
+
 across_side : (at : RingEnd) → across (side_number at) ≡ side_number (record { ring = at.ring; side = opposite at.side })
-across_side at = by at.side refl
-  where
-    by : (side : RingSide) → at.side ≡ side → across (side_number at) ≡ side_number (record { ring = at.ring; side = opposite at.side })
-    by first_side e = ?
-    by second_side e = ?
+across_side at = across_at at.ring at.side
 
 pub links_are_paired : (w : TheWorld) (s : State) → Shows w s → LinksArePaired w
 links_are_paired w s shows n l side c c_is lane =

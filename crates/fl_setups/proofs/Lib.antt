@@ -1,1 +1,6 @@
 pub mod Untouching
+pub mod Finding
+pub mod Freshness
+pub mod Apartness
+pub mod Joining
+pub mod Starting

@@ -1,0 +1,17 @@
+-- A world that shows an untouched machine starts fresh.
+use Rattle.fl_setups.specs.Start.{UntouchedStartsFresh}
+use Rattle.fl_setups.proofs.Freshness.{ends_are_fresh, queues_are_new}
+use Rattle.fl_setups.proofs.Apartness.{side_cores, queue_cores, cores_are_apart, links_are_paired}
+use Rattle.fl_setups.proofs.Joining.{bindings_are_joined, rings_have_one_binding}
+
+pub untouched_starts_fresh : UntouchedStartsFresh
+untouched_starts_fresh w s shows h = record {
+  ends = ends_are_fresh w s shows h;
+  apart = cores_are_apart w s shows;
+  queues = queues_are_new w s shows h;
+  queue_cores = queue_cores w s shows;
+  side_cores = side_cores w s shows;
+  links = links_are_paired w s shows;
+  joined = bindings_are_joined w s shows h;
+  rings = rings_have_one_binding w s shows;
+}
