@@ -16,6 +16,7 @@ use Rattle.fl_queues.specs.Rings.{RingEnd, RingSide}
 use Rattle.fl_queues.specs.Ends.{Queue, Seat, End}
 use Rattle.fl_queues.specs.State.{Back, local, over_ring, over_route, Route, Binding, State, Outlet, ring_side, peer_queue, binding_of, interface_of, end_in, own_ring, outlet_by}
 use Rattle.fl_queues.specs.State.{side_of}
+use Rattle.fl_queues.specs.Binding.{end_id}
 use Rattle.fl_queues.specs.SoundPlaces.{TakesFrom as EndTakesFrom, this_end, owns}
 use Rattle.fl_queues.specs.Sound.{Sound}
 use Rattle.fl_shows.specs.Ends.{planned_of}
@@ -40,10 +41,10 @@ local_wire : (w : TheWorld) (c : TheCore) (s : State) (e : EndId) (b : Binding) 
     → (out : ℕ) × (from : ℕ) × (x ≡ Queues out from)
 local_wire w c s e b (Queues out from) back k = (out, from, refl)
 local_wire w c s e b (OverRing side) back k =
-    let none : own_ring e.side local ≡ Some k.0 = ap (own_ring e.side) (sym back) ∙ k.1 in absurd (cc)
+    let none : None ≡ Some k.0 = ap (own_ring e.side) (sym back) ∙ k.1 in absurd (cc)
 local_wire w c s e b (Circuit link arrivals) back k =
     let (m, side, outlet) = k.0 in
-    let queue : outlet_by s e.side local ≡ Some (ring_side (side_at m)) = ap (outlet_by s e.side) (sym back) ∙ outlet in absurd (cc)
+    let queue : Some peer_queue ≡ Some (ring_side (side_at m)) = ap (outlet_by s e.side) (sym back) ∙ outlet in absurd (cc)
 
 ring_wire : (w : TheWorld) (c : TheCore) (s : State) (e : EndId) (b : Binding) (r : ℕ) (x : Wire) → b.back ≡ over_ring r
     → (end_in e.side b).queue ≡ None → IsWire w c s e b x → x ≡ OverRing (side_number (record { ring = r; side = side_of e.side }))
@@ -93,18 +94,18 @@ bound w s n there shows h there_is =
       planned = planned;
     }
 
+-- the end of a side is made
+record Made (w : TheWorld) (s : State) (n : ℕ) (there : TheBinding) (k : Bound w s n there) (side : Side) : Type 0 where
+  pub seat : Seat
+  pub seat_is : (end_in side k.binding).seat ≡ Some seat
+  pub made : IsMade w s (end_id n side) k.binding k.interface seat
+  pub core_at : core_in side there ≡ seat.dispatcher.core
+
 module _ (w : TheWorld) (s : State) (n : ℕ) (there : TheBinding) (shows : Shows w s) (k : Bound w s n there) where
   abbrev end_on : Side → EndId
-  end_on side = record { binding = n; side = side }
+  end_on side = end_id n side
 
-  -- the end of a side is made
-  record Made (side : Side) : Type 0 where
-    pub seat : Seat
-    pub seat_is : (end_in side k.binding).seat ≡ Some seat
-    pub made : IsMade w s (end_on side) k.binding k.interface seat
-    pub core_at : core_in side there ≡ seat.dispatcher.core
-
-  made : (side : Side) → Made side
+  made : (side : Side) → Made w s n there k side
   made side =
       let (seat, seat_is) = some_there (end_in side k.binding).seat (side_untouched side k.binding k.new).seat in
       record {
@@ -114,10 +115,10 @@ module _ (w : TheWorld) (s : State) (n : ℕ) (there : TheBinding) (shows : Show
         core_at = k.shows.seated (end_on side) seat refl seat_is;
       }
 
-  core_there : (side : Side) (m : Made side) → slice_get w.cores (core_in side there) ≡ Some m.made.core
+  core_there : (side : Side) (m : Made w s n there k side) → slice_get w.cores (core_in side there) ≡ Some m.made.core
   core_there side m = ap (slice_get w.cores) m.core_at ∙ m.made.core_is
 
-  stands : (side : Side) (wire : Wire) (m : Made side) → m.made.port.wire ≡ wire → Stands w (core_in side there) (end_on side) k.program wire
+  stands : (side : Side) (wire : Wire) (m : Made w s n there k side) → m.made.port.wire ≡ wire → Stands w (core_in side there) (end_on side) k.program wire
   stands side wire m is = record {
     core = m.made.core;
     core_is = core_there side m;

@@ -30,13 +30,13 @@ use Rattle.fl_setups.specs.Untouched.{IsUntouched, IsOffLinks, IsNewBinding, Unt
 
 -- ---- a new binding
 
-no_rule : (messages : ℕ) → list_any is_some (replicate messages (None {ℕ})) ≡ false
-no_rule zero = refl
-no_rule (suc n) = no_rule n
+no_rule : (messages : ℕ) (queue : Option Queue) → has_rules (unbound_end messages 2 queue) ≡ false
+no_rule zero queue = refl
+no_rule (suc n) queue = no_rule n queue
 
 end_untouched : (m : Wanted) (queue : Option Queue) (d : DispatcherId) (x : Dispatcher) → IfSome queue (λ q. q.labels ≡ [])
     → IsUntouched (bound_to 0 (sat d x (new_end m 2 queue)))
-end_untouched m queue d x empty = record { seat = refl; circuit = refl; rules = no_rule m.messages; out = refl; queue = empty }
+end_untouched m queue d x empty = record { seat = refl; circuit = refl; rules = no_rule m.messages queue; out = refl; queue = empty }
 
 -- the server's dispatcher is still there once the client's end has its seat
 server_there : (s : State) (m : Wanted) (x y : Dispatcher) → dispatcher_of s m.client ≡ Some x → dispatcher_of s m.service.dispatcher ≡ Some y
