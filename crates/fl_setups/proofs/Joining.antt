@@ -30,8 +30,8 @@ use Rattle.fl_worlds.proofs.FramesBase.{gets, same_some, end_of_binding}
 use Rattle.fl_worlds.proofs.FramesFind.{interface_known}
 use Rattle.fl_worlds.proofs.MakingBase.{map_at}
 use Rattle.fl_setups.specs.Untouched.{IsUntouched, IsOffLinks, IsNewBinding, Untouched}
-use Rattle.fl_setups.specs.Start.{Stands, ByQueues, ByRing, IsJoined, BindingsAreJoined, RingsHaveOneBinding}
-use Rattle.fl_setups.proofs.Finding.{wire_at, wired, owns_side}
+use Rattle.fl_setups.specs.Start.{EndsHaveBindings, Stands, ByQueues, ByRing, IsJoined, BindingsAreJoined, RingsHaveOneBinding}
+use Rattle.fl_setups.proofs.Finding.{found, wire_at, wired, owns_side}
 use Rattle.fl_setups.proofs.Freshness.{side_untouched}
 use Rattle.fl_setups.proofs.Apartness.{same_end, one_seat}
 
@@ -198,6 +198,15 @@ pub bindings_are_joined : (w : TheWorld) (s : State) → Shows w s → Untouched
 bindings_are_joined w s shows h n there there_is =
     let k = bound w s n there shows h there_is in
     joined w s n there shows k k.binding.back refl k.new.back
+
+-- ---- an end that is found is one of a binding
+
+pub ends_have_bindings : (w : TheWorld) (s : State) → Shows w s → EndsHaveBindings w
+ends_have_bindings w s shows n place c e core_is place_is =
+    let k = found w s n c e place shows core_is place_is in
+    let (b, b_is) = gets s.bindings w.bindings e.binding k.binding shows.picture.bindings.count k.binding_is in
+    let each = shows.picture.bindings.each e.binding k.binding b k.binding_is b_is in
+    (b, b_is, each.seated e k.seat refl k.seat_is ∙ k.core_at)
 
 -- ---- no two bindings have one ring
 

@@ -2,11 +2,12 @@
 use Rattle.fl_setups.specs.Start.{UntouchedStartsFresh}
 use Rattle.fl_setups.proofs.Freshness.{ends_are_fresh, queues_are_new}
 use Rattle.fl_setups.proofs.Apartness.{side_cores, queue_cores, cores_are_apart, links_are_paired}
-use Rattle.fl_setups.proofs.Joining.{bindings_are_joined, rings_have_one_binding}
+use Rattle.fl_setups.proofs.Joining.{ends_have_bindings, bindings_are_joined, rings_have_one_binding}
 
 pub untouched_starts_fresh : UntouchedStartsFresh
 untouched_starts_fresh w s shows h = record {
   ends = ends_are_fresh w s shows h;
+  bindings = ends_have_bindings w s shows;
   apart = cores_are_apart w s shows;
   queues = queues_are_new w s shows h;
   queue_cores = queue_cores w s shows;

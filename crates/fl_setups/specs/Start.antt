@@ -15,7 +15,7 @@ use Rattle.fl_node.specs.Sound.{IsCore}
 use Rattle.fl_running.specs.Flows.{IsNew, IsApart}
 use Rattle.fl_queues.specs.State.{State}
 use Rattle.fl_worlds.specs.declared.binding.Binding.{Binding}
-use Rattle.fl_worlds.specs.View.{TheWorld, ring_at}
+use Rattle.fl_worlds.specs.View.{TheWorld, ring_at, core_in}
 use Rattle.fl_worlds.specs.Binding.{new_queue}
 use Rattle.fl_worlds.specs.Picture.{wire_of, Shows}
 use Rattle.fl_setups.specs.Untouched.{Untouched}
@@ -31,6 +31,11 @@ pub record IsFresh (x : TheEnd) : Type 0 where
 abbrev pub EndsAreFresh : TheWorld → Type 0
 EndsAreFresh w = (n place : ℕ) (c : TheCore) (e : EndId) (seat : TheSeat) → slice_get w.cores n ≡ Some c → place_of c e ≡ Some place
     → slice_get c.board.seats place ≡ Some seat → IsFresh seat.end
+
+-- each end at a core is one of a binding, and sits where that says
+abbrev pub EndsHaveBindings : TheWorld → Type 0
+EndsHaveBindings w = (n place : ℕ) (c : TheCore) (e : EndId) → slice_get w.cores n ≡ Some c → place_of c e ≡ Some place
+    → (b : Binding) × (slice_get w.bindings e.binding ≡ Some b) × (core_in e.side b ≡ n)
 
 -- ---- which sides of rings and which queues a core names
 
@@ -126,6 +131,7 @@ RingsHaveOneBinding w = (n m ring : ℕ) (b d : Binding) (p q : Program) → ByR
 
 pub record StartsFresh (w : TheWorld) : Type 0 where
   pub ends : EndsAreFresh w
+  pub bindings : EndsHaveBindings w
   pub apart : CoresAreApart w
   pub queues : QueuesAreNew w
   pub queue_cores : QueuesHaveOneCore w
