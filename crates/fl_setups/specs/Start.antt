@@ -1,10 +1,11 @@
 -- How everything stands in a world where things were made, and with which nothing was done yet. Law.
-use Rattle.std.specs.Prelude.{ℕ, ◌≡◌, ◌⊎◌, ◌+◌, ◌-◌, ◌*◌, ◌%◌, ◌==◌, ◌<◌, false, if◌then◌else◌, length, slice_get, Some}
+use Rattle.std.specs.Prelude.{ℕ, ◌≡◌, ◌⊎◌, ◌+◌, ◌-◌, ◌*◌, ◌%◌, ◌==◌, ◌<◌, false, if◌then◌else◌, List, [], length, slice_get, Some, None}
+use Rattle.fl_base.specs.declared.fragment.Frag.{Frag}
 use Rattle.fl_base.specs.declared.identity.EndId.{EndId}
 use Rattle.fl_compile.specs.declared.program.Program.{Program}
 use Rattle.fl_compile.specs.Programs.{program_of}
 use Rattle.fl_hop.specs.declared.links.LinkState.{LinkState}
-use Rattle.fl_hop.specs.Table.{link_of}
+use Rattle.fl_hop.specs.Table.{link_of, hop_at}
 use Rattle.fl_endpoint.specs.View.{TheEnd}
 use Rattle.fl_core.specs.View.{TheSeat}
 use Rattle.fl_node.specs.declared.wire.Port.{Port}
@@ -88,6 +89,16 @@ pub record LeadsBack (w : TheWorld) (n : ℕ) (c : TheCore) (l side : ℕ) : Typ
 abbrev pub LinksArePaired : TheWorld → Type 0
 LinksArePaired w = (n l side : ℕ) (c : TheCore) → slice_get w.cores n ≡ Some c → side_of_link c.lanes l ≡ Some side → LeadsBack w n c l side
 
+-- ---- circuits
+
+-- no number of a link leads anywhere, and the monitor has nothing to say
+pub record IsIdle (c : TheCore) : Type 0 where
+  pub entries : (l number side : ℕ) → side_of_link c.lanes l ≡ Some side → hop_at c.monitor.circuits l number ≡ None
+  pub outboxes : (l : ℕ) (frags : List Frag) → slice_get c.monitor.outboxes l ≡ Some frags → frags ≡ []
+
+abbrev pub CoresAreIdle : TheWorld → Type 0
+CoresAreIdle w = (n : ℕ) (c : TheCore) → slice_get w.cores n ≡ Some c → IsIdle c
+
 -- ---- bindings
 
 -- the end of this name stands at core n, under this program, on this wire
@@ -137,6 +148,7 @@ pub record StartsFresh (w : TheWorld) : Type 0 where
   pub queue_cores : QueuesHaveOneCore w
   pub side_cores : SidesHaveOneCore w
   pub links : LinksArePaired w
+  pub idle : CoresAreIdle w
   pub joined : BindingsAreJoined w
   pub rings : RingsHaveOneBinding w
 
