@@ -232,17 +232,16 @@ across_at n second_side =
 across_side : (at : RingEnd) → across (side_number at) ≡ side_number (record { ring = at.ring; side = opposite at.side })
 across_side at = across_at at.ring at.side
 
-pub links_are_paired : (w : TheWorld) (s : State) → Shows w s → LinksArePaired w
-links_are_paired w s shows n l side c c_is lane =
-    let x = linked w s n l side c shows c_is lane in
-    let b = x.state.neighbour.0 in
-    let pair = shows.sound.links n b x.link x.between in
-    let (k, k_is, rest) = given_there (core_of s b) (λ k. given (link_to n k) None λ m. slice_get k.links m) pair.back pair.back_is in
-    let (m, to, link_is) = given_there (link_to n k) (λ m. slice_get k.links m) pair.back rest in
-    let (d, d_is) = gets s.cores w.cores b k shows.picture.cores.count k_is in
-    let core = shows.picture.cores.each b k d k_is d_is in
-    let few : suc x.link.ring.ring ≤ length s.rings = in_range s.rings x.link.ring.ring (ap is_some pair.ring_is) in
-    let count : length w.rings ≡ length s.rings = shows.picture.rings.count in
+-- so the link back has the side across
+back_side : (at back : RingEnd) (side : ℕ) → back ≡ record { ring = at.ring; side = opposite at.side } → side ≡ side_number at
+    → Some (side_number back) ≡ Some (across side)
+back_side at back side other is = ap (λ x. Some (side_number x)) other ∙ ap (λ n. Some n) (sym (ap across is ∙ across_side at))
+
+-- link m of core k leads back
+leads_back : (w : TheWorld) (s : State) (n l side : ℕ) (c : TheCore) (x : Linked s n c l side) (k : Core) (d : TheCore) (m : ℕ) (back : Link)
+    → slice_get w.cores x.state.neighbour.0 ≡ Some d → CoreShows k d → link_to n k ≡ Some m → slice_get k.links m ≡ Some back
+    → back.ring ≡ record { ring = x.link.ring.ring; side = opposite x.link.ring.side } → suc x.link.ring.ring ≤ length w.rings → LeadsBack w n c l side
+leads_back w s n l side c x k d m back d_is core to link_is other few =
     let ring : ring_at side ≡ x.link.ring.ring = ap ring_at x.side_is ∙ ring_of_number x.link.ring in
     record {
       link = x.state;
@@ -251,7 +250,18 @@ links_are_paired w s shows n l side c c_is lane =
       core_is = d_is;
       back = m;
       back_is = ap (λ (t : TheCircuits). link_of t n) core.monitor.circuits ∙ to;
-      side_is = lane_side k d m pair.back core link_is
-          ∙ ap (λ (at : RingEnd). Some (side_number at)) pair.same ∙ ap (λ z. Some z) (sym (ap across x.side_is ∙ across_side x.link.ring));
+      side_is = lane_side k d m back core link_is ∙ back_side x.link.ring back.ring side other x.side_is;
       within = omega arith;
     }
+
+pub links_are_paired : (w : TheWorld) (s : State) → Shows w s → LinksArePaired w
+links_are_paired w s shows n l side c c_is lane =
+    let x = linked w s n l side c shows c_is lane in
+    let b = x.state.neighbour.0 in
+    let pair = shows.sound.links n b x.link x.between in
+    let (k, k_is, rest) = given_there (core_of s b) (λ k. given (link_to n k) None λ m. slice_get k.links m) pair.back pair.back_is in
+    let (m, to, link_is) = given_there (link_to n k) (λ m. slice_get k.links m) pair.back rest in
+    let (d, d_is) = gets s.cores w.cores b k shows.picture.cores.count k_is in
+    let few : suc x.link.ring.ring ≤ length s.rings = in_range s.rings x.link.ring.ring (ap is_some pair.ring_is) in
+    let count : length w.rings ≡ length s.rings = shows.picture.rings.count in
+    leads_back w s n l side c x k d m pair.back d_is (shows.picture.cores.each b k d k_is d_is) to link_is pair.same (omega arith)

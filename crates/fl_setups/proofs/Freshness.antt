@@ -1,5 +1,5 @@
 -- Ends and queues of a world that shows an untouched machine are new.
-use Rattle.std.proofs.Common.{◌≡◌, refl, sym, ◌∙◌, ap, subst, ℕ, Bool, true, false, ◌||◌, List, [], ◌∷◌, length, map, replicate, slice_get, Option, Some, None, IfSome}
+use Rattle.std.proofs.Common.{◌≡◌, refl, sym, ◌∙◌, ap, subst, ◌⊎◌, inl, inr, ℕ, false, List, [], ◌∷◌, length, map, replicate, slice_get, Option, Some, None, IfSome}
 use Rattle.std.specs.Prelude.{is_some}
 use Rattle.std.specs.List.{list_any}
 use Rattle.fl_base.specs.declared.fragment.Frag.{Frag}
