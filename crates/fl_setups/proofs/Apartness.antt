@@ -1,5 +1,5 @@
 -- Who names a side of a ring, or a queue: no two of a core, and no two cores.
-use Rattle.std.proofs.Common.{◌≡◌, refl, sym, ◌∙◌, ap, subst, ℕ, suc, ◌+◌, ◌-◌, ◌*◌, ◌%◌, ◌==◌, ◌≤◌, ◌⊎◌, inl, inr, if◌then◌else◌, List, length, map, slice_get, Option, Some, None, arith}
+use Rattle.std.proofs.Common.{◌≡◌, refl, sym, ◌∙◌, ap, subst, ℕ, suc, ◌+◌, ◌-◌, ◌*◌, ◌%◌, ◌==◌, ◌≤◌, inl, inr, if◌then◌else◌, List, length, map, slice_get, Option, Some, None, arith}
 use Rattle.std.specs.Prelude.{is_some}
 use Rattle.fl_base.specs.declared.identity.EndId.{EndId}
 use Rattle.fl_base.specs.Ends.{peer}
@@ -17,7 +17,7 @@ use Rattle.fl_queues.specs.Rings.{RingEnd, RingSide, first_side, second_side}
 use Rattle.fl_queues.specs.Ends.{Seat, End}
 use Rattle.fl_queues.specs.Monitors.{Core, Link, link_to}
 use Rattle.fl_queues.specs.State.{State, core_of, end_of, link_between}
-use Rattle.fl_queues.specs.SoundPlaces.{opposite, Owner, core_to, this_end, owns}
+use Rattle.fl_queues.specs.SoundPlaces.{opposite, core_to, this_end, owns}
 use Rattle.fl_worlds.specs.View.{TheWorld, side_number, side_at, ring_at}
 use Rattle.fl_worlds.specs.Picture.{wire_of, lane_of, CoreShows, SitsAt, Shows}
 use Rattle.fl_laws.proofs.BindingWalk.{given_there}
@@ -27,8 +27,7 @@ use Rattle.fl_laws.proofs.TurnsTold.{peer_twice}
 use Rattle.fl_worlds.proofs.FramesBase.{gets, same_some}
 use Rattle.fl_worlds.proofs.MakingBase.{map_at}
 use Rattle.fl_worlds.proofs.PassingLanes.{lane_side, side_of_number, ring_of_number}
-use Rattle.fl_running.specs.Flows.{IsApart}
-use Rattle.fl_setups.specs.Start.{NamesSide, NamesQueue, SidesHaveOneCore, QueuesHaveOneCore, CoresAreApart, across, LeadsBack, LinksArePaired}
+use Rattle.fl_setups.specs.Start.{NamesQueue, SidesHaveOneCore, QueuesHaveOneCore, CoresAreApart, across, LeadsBack, LinksArePaired}
 use Rattle.fl_setups.proofs.Finding.{wire_at, wired, owns_side}
 use Rattle.fl_setups.proofs.Freshness.{peer_takes}
 

@@ -1,5 +1,5 @@
 -- An end that is found at a core of a world: what the machine knows of it, and how it is wired.
-use Rattle.std.proofs.Common.{◌≡◌, refl, sym, ◌∙◌, ap, subst, ℕ, slice_get, Some, None}
+use Rattle.std.proofs.Common.{◌≡◌, sym, ◌∙◌, ap, subst, ℕ, slice_get, Some, None}
 use Rattle.fl_base.specs.declared.identity.EndId.{EndId}
 use Rattle.fl_base.specs.Ends.{other}
 use Rattle.fl_core.specs.View.{TheSeat}

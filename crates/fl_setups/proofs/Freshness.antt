@@ -1,5 +1,5 @@
 -- Ends and queues of a world that shows an untouched machine are new.
-use Rattle.std.proofs.Common.{◌≡◌, refl, sym, ◌∙◌, ap, subst, ◌⊎◌, inl, inr, ℕ, false, List, [], ◌∷◌, length, map, replicate, slice_get, Option, Some, None, IfSome}
+use Rattle.std.proofs.Common.{◌≡◌, refl, sym, ◌∙◌, ap, subst, inl, inr, ℕ, false, List, [], ◌∷◌, length, map, replicate, slice_get, Option, Some, None, IfSome}
 use Rattle.std.specs.Prelude.{is_some}
 use Rattle.std.specs.List.{list_any}
 use Rattle.fl_base.specs.declared.fragment.Frag.{Frag}
@@ -7,15 +7,14 @@ use Rattle.fl_base.specs.declared.identity.EndId.{EndId}
 use Rattle.fl_base.specs.declared.identity.Side.{Side}
 use Rattle.fl_base.specs.declared.identity.Side.TheVariants.{Client, Server}
 use Rattle.fl_base.specs.Ends.{other, peer}
-use Rattle.fl_compile.specs.Programs.{program_of}
 use Rattle.fl_link.specs.Queue.{TheQueue}
-use Rattle.fl_endpoint.specs.View.{TheEnd, no_rules, nothing_to_send}
+use Rattle.fl_endpoint.specs.View.{TheEnd}
 use Rattle.fl_core.specs.View.{TheSeat}
-use Rattle.fl_node.specs.View.{TheCore, place_of}
+use Rattle.fl_node.specs.View.{TheCore}
 use Rattle.fl_node.specs.declared.wire.Wire.TheVariants.{Queues}
 use Rattle.fl_queues.specs.Calls.{Planned}
 use Rattle.fl_queues.specs.Rings.{Label}
-use Rattle.fl_queues.specs.Ends.{Queue, Direction, End, fresh_direction, has_rules}
+use Rattle.fl_queues.specs.Ends.{Queue, Direction, End, fresh_direction}
 use Rattle.fl_queues.specs.State.{Binding, State, binding_of, interface_of, end_in}
 use Rattle.fl_queues.specs.Sound.{Sound}
 use Rattle.fl_shows.specs.Fragments.{Streams, frag_of, standing, AreOf}
@@ -25,10 +24,9 @@ use Rattle.fl_worlds.specs.View.{TheWorld}
 use Rattle.fl_worlds.specs.Binding.{new_queue}
 use Rattle.fl_worlds.specs.Picture.{wire_of, TakesFrom, Shows}
 use Rattle.fl_worlds.proofs.FramesBase.{same_some, end_of_binding}
-use Rattle.fl_running.specs.Flows.{IsNew}
 use Rattle.fl_setups.specs.Untouched.{IsUntouched, IsNewBinding, Untouched}
-use Rattle.fl_setups.specs.Start.{IsFresh, EndsAreFresh, NamesQueue, QueuesAreNew}
-use Rattle.fl_setups.proofs.Finding.{Found, found, Wired, wired}
+use Rattle.fl_setups.specs.Start.{IsFresh, EndsAreFresh, QueuesAreNew}
+use Rattle.fl_setups.proofs.Finding.{Found, found, wired}
 
 pub side_untouched : (side : Side) (b : Binding) → IsNewBinding b → IsUntouched (end_in side b)
 side_untouched Client b h = h.client

@@ -5,14 +5,13 @@ use Rattle.fl_base.specs.declared.fragment.Frag.{Frag}
 use Rattle.fl_hop.specs.declared.entry.Hop.{Hop}
 use Rattle.fl_hop.specs.Table.{TheCircuits, hop_at}
 use Rattle.fl_monitor.specs.Outboxes.{AreFragsOf}
-use Rattle.fl_node.specs.View.{TheCore, side_of_link}
+use Rattle.fl_node.specs.View.{TheCore}
 use Rattle.fl_queues.specs.Given.{given}
 use Rattle.fl_queues.specs.Rings.{Said}
 use Rattle.fl_queues.specs.Monitors.{Link}
-use Rattle.fl_queues.specs.State.{Back, over_route, Route, State, link_between}
+use Rattle.fl_queues.specs.State.{Back, Route, State, link_between}
 use Rattle.fl_queues.specs.Standing.{Routed, said_by, on_link, under_way}
 use Rattle.fl_queues.specs.SoundEntries.{Key, EntryAt}
-use Rattle.fl_queues.specs.SoundOpenings.{IsDue}
 use Rattle.fl_shows.specs.Fragments.{message_of}
 use Rattle.fl_shows.specs.Cores.{OutboxesShow}
 use Rattle.fl_worlds.specs.View.{TheWorld, side_number}

@@ -1,36 +1,31 @@
 -- How the two ends of each binding are joined, in a world that shows an untouched machine.
-use Rattle.std.proofs.Common.{◌≡◌, refl, sym, ◌∙◌, ap, subst, ℕ, suc, ◌+◌, ◌*◌, ◌<◌, ◌≤◌, ◌⊎◌, inl, inr, Bool, true, false, List, length, map, slice_get, Option, Some, None, arith}
+use Rattle.std.proofs.Common.{◌≡◌, refl, sym, ◌∙◌, ap, subst, ℕ, suc, ◌+◌, ◌*◌, ◌≤◌, inl, inr, false, length, slice_get, Option, Some, None, arith}
 use Rattle.std.specs.Prelude.{is_some}
 use Rattle.fl_base.specs.declared.identity.EndId.{EndId}
 use Rattle.fl_base.specs.declared.identity.Side.{Side}
 use Rattle.fl_base.specs.declared.identity.Side.TheVariants.{Client, Server}
-use Rattle.fl_base.specs.Ends.{peer}
 use Rattle.fl_compile.specs.declared.program.Program.{Program}
-use Rattle.fl_compile.specs.Programs.{TheProgram, program_of}
-use Rattle.fl_node.specs.View.{TheCore, client_of, server_of, place_of}
+use Rattle.fl_compile.specs.Programs.{TheProgram}
+use Rattle.fl_node.specs.View.{TheCore, client_of}
 use Rattle.fl_node.specs.declared.wire.Wire.{Wire}
 use Rattle.fl_node.specs.declared.wire.Wire.TheVariants.{Queues, Ring as OverRing, Circuit}
-use Rattle.fl_queues.specs.Given.{given}
 use Rattle.fl_queues.specs.Calls.{Planned}
-use Rattle.fl_queues.specs.Rings.{RingEnd, RingSide}
-use Rattle.fl_queues.specs.Ends.{Queue, Seat, End}
-use Rattle.fl_queues.specs.State.{Back, local, over_ring, over_route, Route, Binding, State, Outlet, ring_side, peer_queue, binding_of, interface_of, end_in, own_ring, outlet_by}
+use Rattle.fl_queues.specs.Ends.{Seat}
+use Rattle.fl_queues.specs.State.{Back, local, over_ring, over_route, Binding, State, ring_side, peer_queue, interface_of, end_in, own_ring, outlet_by}
 use Rattle.fl_queues.specs.State.{side_of}
 use Rattle.fl_queues.specs.Binding.{end_id}
 use Rattle.fl_queues.specs.SoundPlaces.{TakesFrom as EndTakesFrom, this_end, owns}
-use Rattle.fl_queues.specs.Sound.{Sound}
 use Rattle.fl_shows.specs.Ends.{planned_of}
 use Rattle.fl_worlds.specs.declared.binding.Binding.{Binding as TheBinding}
-use Rattle.fl_worlds.specs.View.{TheWorld, side_number, side_at, number_in, core_in}
+use Rattle.fl_worlds.specs.View.{TheWorld, side_number, side_at, core_in}
 use Rattle.fl_worlds.specs.Picture.{wire_of, IsWire, IsMade, SitsAt, BindingShows, Shows}
-use Rattle.fl_laws.proofs.BindingWalk.{given_there}
 use Rattle.fl_laws.proofs.EndsStanding.{in_range}
 use Rattle.fl_laws.proofs.Faces.{some_there}
 use Rattle.fl_worlds.proofs.FramesBase.{gets, same_some, end_of_binding}
 use Rattle.fl_worlds.proofs.FramesFind.{interface_known}
 use Rattle.fl_worlds.proofs.MakingBase.{map_at}
-use Rattle.fl_setups.specs.Untouched.{IsUntouched, IsOffLinks, IsNewBinding, Untouched}
-use Rattle.fl_setups.specs.Start.{EndsHaveBindings, Stands, ByQueues, ByRing, IsJoined, BindingsAreJoined, RingsHaveOneBinding}
+use Rattle.fl_setups.specs.Untouched.{IsOffLinks, IsNewBinding, Untouched}
+use Rattle.fl_setups.specs.Start.{EndsHaveBindings, Stands, IsJoined, BindingsAreJoined, RingsHaveOneBinding}
 use Rattle.fl_setups.proofs.Finding.{found, wire_at, wired, owns_side}
 use Rattle.fl_setups.proofs.Freshness.{side_untouched}
 use Rattle.fl_setups.proofs.Apartness.{same_end, one_seat}
@@ -182,11 +177,14 @@ module _ (w : TheWorld) (s : State) (n : ℕ) (there : TheBinding) (shows : Show
       record {
         program = k.program;
         program_is = k.program_is;
-        joined = inr (r, record {
-          within = omega arith;
-          client = subst (λ (side : ℕ). Stands w there.client (client_of n) k.program (OverRing side)) even (ring_stands r back Client);
-          server = ring_stands r back Server;
-        });
+        joined = inr (
+          r,
+          record {
+            within = omega arith;
+            client = subst (λ (side : ℕ). Stands w there.client (client_of n) k.program (OverRing side)) even (ring_stands r back Client);
+            server = ring_stands r back Server;
+          },
+        );
       }
 
   joined : (back : Back) → k.binding.back ≡ back → IsOffLinks back → IsJoined w n there

@@ -1,20 +1,18 @@
 -- Nothing is done by events that make things.
-use Rattle.std.proofs.Common.{◌≡◌, refl, sym, ◌∙◌, ap, subst, ℕ, zero, suc, ◌==◌, ◌+◌, ◌||◌, ◌&&◌, nat_lt, nat_le, not, Bool, true, false, if◌then◌else◌, List, [], ◌∷◌, ◌++◌, length, replicate}
+use Rattle.std.proofs.Common.{◌≡◌, refl, sym, ◌∙◌, ap, subst, ℕ, zero, suc, ◌==◌, ◌+◌, ◌||◌, ◌&&◌, nat_lt, nat_le, not, true, false, List, [], ◌∷◌, ◌++◌, length}
 use Rattle.std.proofs.Common.{slice_get, Option, Some, None, IfSome}
-use Rattle.std.specs.Prelude.{is_some}
-use Rattle.std.specs.List.{list_all, list_any}
+use Rattle.std.specs.List.{list_all}
 use Rattle.fl_base.specs.declared.identity.Side.TheVariants.{Client}
 use Rattle.fl_check.specs.Interface.{TheInterface}
 use Rattle.fl_value.specs.declared.value.PlanNo.{PlanNo}
 use Rattle.fl_queues.specs.Given.{given}
 use Rattle.fl_queues.specs.Events.{DispatcherId, Kind, by_queues, by_ring, by_route, Event, add_interface, set_cores, add_link, add_dispatcher, export, bind, call, show, write}
-use Rattle.fl_queues.specs.Events.{turn, acknowledge, register, deregister, reply, monitor_write, forward, monitor_acknowledge, Answer, done, accepted, nothing, full, written}
-use Rattle.fl_queues.specs.Events.{handle, part, ready, quiet, forwarded, opened, opening_refused, words, refused}
-use Rattle.fl_queues.specs.Ends.{Queue, fresh_queue, Seat, End, unbound_end, has_rules}
+use Rattle.fl_queues.specs.Events.{turn, acknowledge, register, deregister, reply, monitor_write, forward, monitor_acknowledge, Answer}
+use Rattle.fl_queues.specs.Events.{refused}
+use Rattle.fl_queues.specs.Ends.{Queue, fresh_queue, unbound_end, has_rules}
 use Rattle.fl_queues.specs.Waits.{Dispatcher, with_end}
 use Rattle.fl_queues.specs.Rings.{fresh_ring}
-use Rattle.fl_queues.specs.Monitors.{Service}
-use Rattle.fl_queues.specs.State.{Back, local, over_ring, over_route, State, Outcome, answers, dispatcher_of, change_dispatcher, change_end}
+use Rattle.fl_queues.specs.State.{Back, local, over_ring, State, Outcome, dispatcher_of, change_dispatcher, change_end}
 use Rattle.fl_queues.specs.Making.{most_cores, most_interfaces, most_dispatchers, most_services, is_ring_size, has_interface, adds_interface, sets_cores, is_core, has_link, adds_link}
 use Rattle.fl_queues.specs.Making.{count_dispatchers, adds_dispatcher, has_service, exports}
 use Rattle.fl_queues.specs.Binding.{most_bindings, Wanted, with_new_binding, binds_both, has_both_places, binds_by_queues, binds_by_ring, binds_by, place_of_service, binds}
@@ -23,8 +21,8 @@ use Rattle.fl_queues.specs.Worlds.{start_with}
 use Rattle.fl_queues.specs.Runs.{reached}
 use Rattle.fl_laws.proofs.Cases.{either, by_given, each_push}
 use Rattle.fl_laws.proofs.Small.{both_are}
-use Rattle.fl_laws.proofs.WaitsetsStep.{BothPlaces, places, seated_there}
-use Rattle.fl_worlds.proofs.JoiningStages.{at_dispatcher, dispatcher_in, next_end, sits_at, sat, bound_to, new_end, joined_binding, both_stage}
+use Rattle.fl_laws.proofs.WaitsetsStep.{places, seated_there}
+use Rattle.fl_worlds.proofs.JoiningStages.{at_dispatcher, dispatcher_in, next_end, sat, bound_to, new_end, joined_binding, both_stage}
 use Rattle.fl_system.specs.Apart.{is_making}
 use Rattle.fl_setups.specs.Untouched.{IsUntouched, IsOffLinks, IsNewBinding, Untouched, SetUpsTouchNothing}
 
@@ -43,8 +41,7 @@ server_there : (s : State) (m : Wanted) (x y : Dispatcher) → dispatcher_of s m
     → (z : Dispatcher) × (dispatcher_in (at_dispatcher m.client (with_end (next_end s Client)) s.cores) m.service.dispatcher ≡ Some z)
 server_there s m x y p q =
     let e = next_end s Client in
-    let there = seated_there m.client e s m.service.dispatcher y q in
-    (
+    let there = seated_there m.client e s m.service.dispatcher y q in (
       there.0,
       sym (ap (λ (o : Option Dispatcher). dispatcher_of (given o s (λ z. change_dispatcher m.client (with_end e) (change_end e (sat m.client z) s))) m.service.dispatcher) p)
           ∙ there.1,
