@@ -64,7 +64,7 @@ fresh_end i x back t h u still count = record {
 
 pub found_fresh : (w : TheWorld) (s : State) (n : ℕ) (c : TheCore) (e : EndId) (place : ℕ) (k : Found w s n c e place) → Sound s → Untouched s → IsFresh k.at.end
 found_fresh w s n c e place k sound h =
-    let b = h e.binding k.binding k.binding_is in
+    let b = h.bindings e.binding k.binding k.binding_is in
     fresh_end k.interface (end_in e.side k.binding) (end_in (other e.side) k.binding).out k.at.end k.shows (side_untouched e.side k.binding b)
     (side_untouched (other e.side) k.binding b).out (rules_count s e k.binding k.interface sound k.binding_is k.interface_is)
 
@@ -102,7 +102,7 @@ taken_from_new : (w : TheWorld) (s : State) (n queue out : ℕ) (c : TheCore) (e
     → wire_of c e ≡ Some (Queues out queue) → (slots : ℕ) × (slice_get w.queues queue ≡ Some (new_queue slots))
 taken_from_new w s n queue out c e shows h core_is wire =
     let k = wired w s n c e (Queues out queue) shows core_is wire in
-    takes_from_new w.queues s (end_in e.side k.end.binding) queue (side_untouched e.side k.end.binding (h e.binding k.end.binding k.end.binding_is)) k.way.1
+    takes_from_new w.queues s (end_in e.side k.end.binding) queue (side_untouched e.side k.end.binding (h.bindings e.binding k.end.binding k.end.binding_is)) k.way.1
 
 -- from a queue that an end puts to its peer takes
 pub peer_takes : (w : TheWorld) (s : State) (n queue from : ℕ) (c : TheCore) (e : EndId) → Shows w s → slice_get w.cores n ≡ Some c

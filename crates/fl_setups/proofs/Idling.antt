@@ -23,7 +23,7 @@ use Rattle.fl_setups.specs.Start.{CoresAreIdle}
 use Rattle.fl_setups.proofs.Apartness.{Linked, linked}
 
 no_route : (s : State) (n : ℕ) (route : Route) → Untouched s → Routed s n route → ⊥
-no_route s n route h r = subst (λ (b : Back). IsOffLinks b) r.back (h n r.binding r.there).back
+no_route s n route h r = subst (λ (b : Back). IsOffLinks b) r.back (h.bindings n r.binding r.there).back
 
 -- ---- entries
 
@@ -81,6 +81,7 @@ cores_are_idle w s shows h n c c_is =
     let none : (a b : ℕ) (m : Said) → Contains (under_way s a b) m → ⊥ =
     λ a b m there. let due = shows.sound.messages a b m there in no_route s due.binding due.route h due.routed in
     record {
+      counts = λ l link at. h.links n l k link k_is (ap (λ (t : TheCircuits). slice_get t.links l) (sym core.monitor.circuits) ∙ at);
       entries = λ l number side lane.
           none_if (hop_at c.monitor.circuits l number) (λ hop there. no_entry s n l number side c hop no_key (linked w s n l side c shows c_is lane) there);
       outboxes = λ l frags at.

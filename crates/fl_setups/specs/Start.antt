@@ -91,8 +91,9 @@ LinksArePaired w = (n l side : ℕ) (c : TheCore) → slice_get w.cores n ≡ So
 
 -- ---- circuits
 
--- no number of a link leads anywhere, and the monitor has nothing to say
+-- no circuit was opened on a link, no number of one leads anywhere, and the monitor has nothing to say
 pub record IsIdle (c : TheCore) : Type 0 where
+  pub counts : (l : ℕ) (link : LinkState) → slice_get c.monitor.circuits.links l ≡ Some link → (link.opened ≡ 0) × (link.taken ≡ 0)
   pub entries : (l number side : ℕ) → side_of_link c.lanes l ≡ Some side → hop_at c.monitor.circuits l number ≡ None
   pub outboxes : (l : ℕ) (frags : List Frag) → slice_get c.monitor.outboxes l ≡ Some frags → frags ≡ []
 

@@ -1,9 +1,11 @@
 -- A machine on which things were made, and with which nothing was done yet. Law.
 use Rattle.std.specs.Prelude.{ℕ, ◌≡◌, false, true, List, [], slice_get, Some, IsSome, IfSome}
 use Rattle.std.specs.List.{list_all}
+use Rattle.fl_hop.specs.declared.links.LinkState.{LinkState}
 use Rattle.fl_queues.specs.Events.{Event}
 use Rattle.fl_queues.specs.Ends.{End, fresh_direction, has_rules}
-use Rattle.fl_queues.specs.State.{Back, local, over_ring, over_route, Binding, State}
+use Rattle.fl_queues.specs.Monitors.{Core}
+use Rattle.fl_queues.specs.State.{Back, local, over_ring, over_route, Binding, State, core_of}
 use Rattle.fl_queues.specs.Worlds.{start_with}
 use Rattle.fl_queues.specs.Runs.{reached}
 use Rattle.fl_system.specs.Apart.{is_making}
@@ -28,8 +30,11 @@ pub record IsNewBinding (b : Binding) : Type 0 where
   pub client : IsUntouched b.client
   pub server : IsUntouched b.server
 
-abbrev pub Untouched : State → Type 0
-Untouched s = (n : ℕ) (b : Binding) → slice_get s.bindings n ≡ Some b → IsNewBinding b
+pub record Untouched (s : State) : Type 0 where
+  pub bindings : (n : ℕ) (b : Binding) → slice_get s.bindings n ≡ Some b → IsNewBinding b
+  -- no circuit was opened on any link, from either of its two cores
+  pub links : (n l : ℕ) (k : Core) (link : LinkState) → core_of s n ≡ Some k → slice_get k.circuits.links l ≡ Some link
+      → (link.opened ≡ 0) × (link.taken ≡ 0)
 
 -- a set-up that only makes things leads to such a machine, whether its events are refused or not
 abbrev pub SetUpsTouchNothing : Type 0
