@@ -1,5 +1,8 @@
 -- A world that shows an untouched machine starts fresh.
-use Rattle.fl_setups.specs.Start.{UntouchedStartsFresh}
+use Rattle.fl_setups.specs.Start.{UntouchedStartsFresh, SetUpsStartFresh}
+use Rattle.fl_queues.specs.Worlds.{start_with}
+use Rattle.fl_queues.specs.Runs.{reached}
+use Rattle.fl_setups.proofs.Untouching.{set_ups_touch_nothing}
 use Rattle.fl_setups.proofs.Freshness.{ends_are_fresh, queues_are_new}
 use Rattle.fl_setups.proofs.Apartness.{side_cores, queue_cores, cores_are_apart, links_are_paired}
 use Rattle.fl_setups.proofs.Idling.{cores_are_idle}
@@ -18,3 +21,7 @@ untouched_starts_fresh w s shows h = record {
   joined = bindings_are_joined w s shows h;
   rings = rings_have_one_binding w s shows;
 }
+
+pub set_ups_start_fresh : SetUpsStartFresh
+set_ups_start_fresh cores events w makes shows =
+    untouched_starts_fresh w (reached (start_with cores) events) shows (set_ups_touch_nothing cores events makes)

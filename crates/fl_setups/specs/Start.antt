@@ -1,5 +1,6 @@
 -- How everything stands in a world where things were made, and with which nothing was done yet. Law.
-use Rattle.std.specs.Prelude.{ℕ, ◌≡◌, ◌⊎◌, ◌+◌, ◌-◌, ◌*◌, ◌%◌, ◌==◌, ◌<◌, false, if◌then◌else◌, List, [], length, slice_get, Some, None}
+use Rattle.std.specs.Prelude.{ℕ, ◌≡◌, ◌⊎◌, ◌+◌, ◌-◌, ◌*◌, ◌%◌, ◌==◌, ◌<◌, true, false, if◌then◌else◌, List, [], length, slice_get, Some, None}
+use Rattle.std.specs.List.{list_all}
 use Rattle.fl_base.specs.declared.fragment.Frag.{Frag}
 use Rattle.fl_base.specs.declared.identity.EndId.{EndId}
 use Rattle.fl_compile.specs.declared.program.Program.{Program}
@@ -14,11 +15,15 @@ use Rattle.fl_node.specs.declared.wire.Wire.TheVariants.{Queues, Ring}
 use Rattle.fl_node.specs.View.{TheCore, place_of, side_of_link, client_of, server_of}
 use Rattle.fl_node.specs.Sound.{IsCore}
 use Rattle.fl_running.specs.Flows.{IsNew, IsApart}
+use Rattle.fl_queues.specs.Events.{Event}
 use Rattle.fl_queues.specs.State.{State}
+use Rattle.fl_queues.specs.Worlds.{start_with}
+use Rattle.fl_queues.specs.Runs.{reached}
 use Rattle.fl_worlds.specs.declared.binding.Binding.{Binding}
 use Rattle.fl_worlds.specs.View.{TheWorld, ring_at, core_in}
 use Rattle.fl_worlds.specs.Binding.{new_queue}
 use Rattle.fl_worlds.specs.Picture.{wire_of, Shows}
+use Rattle.fl_system.specs.Apart.{is_making}
 use Rattle.fl_setups.specs.Untouched.{Untouched}
 
 -- ---- ends
@@ -156,3 +161,8 @@ pub record StartsFresh (w : TheWorld) : Type 0 where
 -- a world that shows a machine with which nothing was done
 abbrev pub UntouchedStartsFresh : Type 0
 UntouchedStartsFresh = (w : TheWorld) (s : State) → Shows w s → Untouched s → StartsFresh w
+
+-- so what a set-up that only makes things comes to
+abbrev pub SetUpsStartFresh : Type 0
+SetUpsStartFresh = (cores : ℕ) (events : List Event) (w : TheWorld) → list_all is_making events ≡ true
+    → Shows w (reached (start_with cores) events) → StartsFresh w
