@@ -1,7 +1,8 @@
 -- Who names a side of a ring, or a queue: no two of a core, and no two cores.
-use Rattle.std.proofs.Common.{◌≡◌, refl, sym, ◌∙◌, ap, subst, ℕ, suc, ◌+◌, ◌-◌, ◌*◌, ◌%◌, ◌==◌, ◌≤◌, inl, inr, if◌then◌else◌, List, length, map, slice_get, Option, Some, None, arith}
+use Rattle.std.proofs.Common.{◌≡◌, refl, sym, ◌∙◌, ap, subst, ℕ, suc, ◌+◌, ◌-◌, ◌*◌, ◌%◌, ◌==◌, ◌<◌, ◌≤◌, inl, inr, if◌then◌else◌, List, length, map, slice_get, Option, Some, None, arith}
 use Rattle.std.specs.Prelude.{is_some}
 use Rattle.fl_base.specs.declared.identity.EndId.{EndId}
+use Rattle.fl_base.specs.declared.identity.Side.{Side}
 use Rattle.fl_base.specs.Ends.{peer}
 use Rattle.fl_hop.specs.declared.links.LinkState.{LinkState}
 use Rattle.fl_hop.specs.Table.{TheCircuits, link_of}
@@ -16,18 +17,19 @@ use Rattle.fl_queues.specs.Given.{given}
 use Rattle.fl_queues.specs.Rings.{RingEnd, RingSide, first_side, second_side}
 use Rattle.fl_queues.specs.Ends.{Seat, End}
 use Rattle.fl_queues.specs.Monitors.{Core, Link, link_to}
-use Rattle.fl_queues.specs.State.{State, core_of, end_of, link_between}
-use Rattle.fl_queues.specs.SoundPlaces.{opposite, core_to, this_end, owns}
+use Rattle.fl_queues.specs.State.{Back, local, over_ring, over_route, Binding, State, core_of, binding_of, end_in, end_of, own_ring, side_of, link_between}
+use Rattle.fl_queues.specs.SoundPlaces.{TakesFrom as EndTakesFrom, opposite, core_to, this_end, owns}
+use Rattle.fl_queues.specs.Sound.{Sound}
 use Rattle.fl_worlds.specs.View.{TheWorld, side_number, side_at, ring_at}
 use Rattle.fl_worlds.specs.Picture.{wire_of, lane_of, CoreShows, SitsAt, Shows}
 use Rattle.fl_laws.proofs.BindingWalk.{given_there}
 use Rattle.fl_laws.proofs.CoresKept.{link_place}
 use Rattle.fl_laws.proofs.EndsStanding.{in_range}
 use Rattle.fl_laws.proofs.TurnsTold.{peer_twice}
-use Rattle.fl_worlds.proofs.FramesBase.{gets, same_some}
+use Rattle.fl_worlds.proofs.FramesBase.{gets, same_some, end_of_binding}
 use Rattle.fl_worlds.proofs.MakingBase.{map_at}
 use Rattle.fl_worlds.proofs.PassingLanes.{lane_side, side_of_number, ring_of_number}
-use Rattle.fl_setups.specs.Start.{NamesQueue, SidesHaveOneCore, QueuesHaveOneCore, CoresAreApart, across, LeadsBack, LinksArePaired}
+use Rattle.fl_setups.specs.Start.{NamesQueue, SidesHaveOneCore, QueuesHaveOneCore, CoresAreApart, SidesAreThere, across, LeadsBack, LinksArePaired}
 use Rattle.fl_setups.proofs.Finding.{wire_at, wired, owns_side}
 use Rattle.fl_setups.proofs.Freshness.{peer_takes}
 
@@ -264,3 +266,36 @@ links_are_paired w s shows n l side c c_is lane =
     let few : suc x.link.ring.ring ≤ length s.rings = in_range s.rings x.link.ring.ring (ap is_some pair.ring_is) in
     let count : length w.rings ≡ length s.rings = shows.picture.rings.count in
     leads_back w s n l side c x k d m pair.back d_is (shows.picture.cores.each b k d k_is d_is) to link_is pair.same (omega arith)
+
+-- ---- rings that are there
+
+ring_of_own : (side : Side) (back : Back) (at : RingEnd) → own_ring side back ≡ Some at → back ≡ over_ring at.ring
+ring_of_own side local at q = absurd (cc)
+ring_of_own side (over_ring r) at q =
+    let same = same_some (own_ring side (over_ring r)) (record { ring = r; side = side_of side }) at refl q in ap (λ (x : RingEnd). over_ring x.ring) same
+ring_of_own side (over_route route) at q = absurd (cc)
+
+ring_there : (s : State) (e : EndId) (b : Binding) (at : RingEnd) → Sound s → binding_of s e ≡ Some b → own_ring e.side b.back ≡ Some at
+    → suc at.ring ≤ length s.rings
+ring_there s e b at sound there own =
+    let x = sound.ends e (end_in e.side b) (end_of_binding s e b there) in
+    let same : x.binding ≡ b = same_some (binding_of s e) x.binding b x.there there in
+    let takes : EndTakesFrom s (over_ring at.ring) (end_in e.side b) =
+    subst (λ (y : Back). EndTakesFrom s y (end_in e.side b)) (ap (λ (y : Binding). y.back) same ∙ ring_of_own e.side b.back at own) x.queue in
+    in_range s.rings at.ring takes.1
+
+end_ring_there : (w : TheWorld) (s : State) (n side : ℕ) (c : TheCore) (e : EndId) → Shows w s → slice_get w.cores n ≡ Some c → wire_of c e ≡ Some (Ring side)
+    → ring_at side < length w.rings
+end_ring_there w s n side c e shows core_is wire =
+    let k = wired w s n c e (Ring side) shows core_is wire in
+    let (at, own, is) = k.way in
+    let ring : ring_at side ≡ at.ring = ap ring_at is ∙ ring_of_number at in
+    let few : suc at.ring ≤ length s.rings = ring_there s e k.end.binding at shows.sound k.end.binding_is own in
+    let count : length w.rings ≡ length s.rings = shows.picture.rings.count in
+    omega arith
+
+pub sides_are_there : (w : TheWorld) (s : State) → Shows w s → SidesAreThere w
+sides_are_there w s shows n side c core_is names = elim names [
+  | inl (l, lane) ↦ (links_are_paired w s shows n l side c core_is lane).within
+  | inr (e, wire) ↦ end_ring_there w s n side c e shows core_is wire
+]

@@ -69,7 +69,11 @@ QueuesHaveOneCore w = (n m queue : ℕ) (c d : TheCore) → slice_get w.cores n 
 abbrev pub CoresAreApart : TheWorld → Type 0
 CoresAreApart w = (n : ℕ) (c : TheCore) → slice_get w.cores n ≡ Some c → IsCore c → IsApart c
 
--- the queues that a core names are there, and nothing was put to any
+-- the rings of the sides that a core names are there
+abbrev pub SidesAreThere : TheWorld → Type 0
+SidesAreThere w = (n side : ℕ) (c : TheCore) → slice_get w.cores n ≡ Some c → NamesSide c side → ring_at side < length w.rings
+
+-- and so are the queues that it names, and nothing was put to any
 abbrev pub QueuesAreNew : TheWorld → Type 0
 QueuesAreNew w = (n queue : ℕ) (c : TheCore) → slice_get w.cores n ≡ Some c → NamesQueue c queue
     → (slots : ℕ) × (slice_get w.queues queue ≡ Some (new_queue slots))
@@ -150,6 +154,7 @@ pub record StartsFresh (w : TheWorld) : Type 0 where
   pub ends : EndsAreFresh w
   pub bindings : EndsHaveBindings w
   pub apart : CoresAreApart w
+  pub sides : SidesAreThere w
   pub queues : QueuesAreNew w
   pub queue_cores : QueuesHaveOneCore w
   pub side_cores : SidesHaveOneCore w
