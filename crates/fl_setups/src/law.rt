@@ -3,7 +3,8 @@
 ghost use Rattle.fl_setups.specs.Untouched.{SetUpsTouchNothing};
 ghost use Rattle.fl_setups.specs.Start.{UntouchedStartsFresh, SetUpsStartFresh};
 
-/// After a set-up that only makes things, each binding is off links, both its ends are bound, and nothing was done with them.
+/// After a set-up that only makes things, each binding is off links, both its ends are bound, and nothing was done with them; nor was a circuit
+/// opened on any link.
 pub fn set_ups_touch_nothing()
     ensures untouched { SetUpsTouchNothing }
 {}
