@@ -123,7 +123,8 @@ impl Joined {
         requires there { slot_of end < length self.old.dockets.items }
         requires across { slot_of (peer end) < length self.old.dockets.items }
         ensures set { joined_of self.new ≡ changing end
-            (with_due (due_in self.old.jobs.items (docket_at (joined_of self.old).dockets end) (docket_at (joined_of self.old).dockets (peer end)))) (joined_of self.old) }
+            (with_due (due_in self.old.jobs.items (docket_at (joined_of self.old).dockets end) (docket_at (joined_of self.old).dockets (peer end))))
+            (joined_of self.old) }
     {
         let due = self.due_at(end);
         put_due(&mut self.dockets, slot_of(end), due);

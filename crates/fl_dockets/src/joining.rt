@@ -10,7 +10,8 @@ ghost use Rattle.fl_running.specs.declared.job.Job.TheVariants as core;
 ghost use Rattle.fl_dockets.specs.Dockets.{docket_of, docket_at, is_ruled, with_place, end_of};
 ghost use Rattle.fl_dockets.specs.Faults.{call_fault_at, rule_fault_at, StopsFor};
 ghost use Rattle.fl_dockets.specs.Joined.{AreBindings, HasDockets};
-ghost use Rattle.fl_dockets.specs.State.{joined_of, nothing_joined, with_binding, with_owner, changing, with_job, with_calls, SetAt, IsSafe, Opened, CallPlanned, RulePlanned, AreJoined};
+ghost use Rattle.fl_dockets.specs.State.{joined_of, nothing_joined, with_binding, with_owner, changing, with_job, with_calls};
+ghost use Rattle.fl_dockets.specs.State.{SetAt, IsSafe, Opened, CallPlanned, RulePlanned, AreJoined};
 
 use crate::docket::{Bound, Docket, slot_of};
 use crate::opening::ask;
@@ -198,7 +199,8 @@ impl Joined {
         requires few { length self.old.bindings.items ≤ 1024 }
         requires dockets { HasDockets self.old.bindings.items self.old.dockets.items }
         ensures planned { OnOk result (CallPlanned end call (joined_of self.old) (joined_of self.new)) }
-        ensures refused { IfErr result (λ stop. StopsFor (call_fault_at programs.now self.old.bindings.items (map docket_of self.old.dockets.items) end (call_of call)) stop) }
+        ensures refused { IfErr result (λ stop. StopsFor
+            (call_fault_at programs.now self.old.bindings.items (map docket_of self.old.dockets.items) end (call_of call)) stop) }
     {
         if let Some(number) = self.call_fault(programs, end, &call) {
             return Err(Stop::Refused(number));
@@ -221,7 +223,8 @@ impl Joined {
         requires dockets { HasDockets self.old.bindings.items self.old.dockets.items }
         ensures planned { OnOk result (RulePlanned is_there end msg reply (joined_of self.old) (joined_of self.new)) }
         ensures passed { OnOk result (rule_fault_at programs.now self.old.bindings.items (map docket_of self.old.dockets.items) end msg.0 reply.0 ≡ None) }
-        ensures refused { IfErr result (λ stop. StopsFor (rule_fault_at programs.now self.old.bindings.items (map docket_of self.old.dockets.items) end msg.0 reply.0) stop) }
+        ensures refused { IfErr result (λ stop. StopsFor
+            (rule_fault_at programs.now self.old.bindings.items (map docket_of self.old.dockets.items) end msg.0 reply.0) stop) }
     {
         if let Some(number) = self.rule_fault(programs, end, msg, reply) {
             return Err(Stop::Refused(number));

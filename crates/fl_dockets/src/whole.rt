@@ -55,9 +55,11 @@ impl Joined {
         answer: MsgNo,
     ) -> Result<(), Stop>
         requires safe { IsSafe (length parts.old.cores.items) (joined_of self.old) }
-        ensures ruled { OnOk result (Ruled parts.old.bindings.items end message.0 answer.0 (joined_of self.old) parts.old.cores.items (joined_of self.new) parts.new.cores.items) }
+        ensures ruled { OnOk result (Ruled parts.old.bindings.items end message.0 answer.0
+            (joined_of self.old) parts.old.cores.items (joined_of self.new) parts.new.cores.items) }
         ensures beside { IsBeside parts.old parts.new }
-        ensures refused { IfErr result (λ stop. RuleStops (rule_fault_at parts.old.programs.items self.old.bindings.items (map docket_of self.old.dockets.items) end message.0 answer.0)
+        ensures refused { IfErr result (λ stop. RuleStops
+            (rule_fault_at parts.old.programs.items self.old.bindings.items (map docket_of self.old.dockets.items) end message.0 answer.0)
             (slice_get parts.old.bindings.items end.binding) stop) }
     {
         let is_there = end.binding < parts.bindings.as_slice().len();
@@ -70,7 +72,8 @@ impl Joined {
     // A job more.
     fn join_one(&mut self, alloc: Global, parts: &mut Parts, job: Job<'_>) -> Result<(), Stop>
         requires safe { IsSafe (length parts.old.cores.items) (joined_of self.old) }
-        ensures joins { OnOk result (Joins parts.old.bindings.items (job_of job.entry) (joined_of self.old) parts.old.cores.items (joined_of self.new) parts.new.cores.items) }
+        ensures joins { OnOk result (Joins parts.old.bindings.items (job_of job.entry)
+            (joined_of self.old) parts.old.cores.items (joined_of self.new) parts.new.cores.items) }
         ensures beside { IsBeside parts.old parts.new }
         ensures refused { IfErr result (λ stop. (asked : List TheJob) → AreJoined (length parts.old.cores.items) asked (joined_of self.old)
             → JobStops parts.old asked (joined_of self.old) (job_of job.entry) stop) }
