@@ -100,7 +100,11 @@ fn lines_in(bytes: &[u8]) -> usize {
             count = count.saturating_add(1);
         }
     }
-    if is_open { count.saturating_add(1) } else { count }
+    if is_open {
+        count.saturating_add(1)
+    } else {
+        count
+    }
 }
 
 impl Write for Sheet {
@@ -132,11 +136,7 @@ fn run(alloc: Global, reader: &mut Source, writer: &mut Sheet) -> Result<(), Exe
 #[test]
 fn little_and_much_a_call(rt: HostRuntime) {
     for (step, reads, writes) in [
-        (
-            1,
-            CIRCUITS.script.len() + 1,
-            CIRCUITS.transcript.len(),
-        ),
+        (1, CIRCUITS.script.len() + 1, CIRCUITS.transcript.len()),
         (2_048, 2, lines_in(CIRCUITS.transcript)),
     ] {
         let mut reader = Source::new(step, NEVER);
