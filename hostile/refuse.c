@@ -1,7 +1,7 @@
 // Preloaded into the program: refuses memory, fails reads and writes, or lets them move one byte, by the environment.
 //   REFUSE_ALLOC=N     the Nth request for memory is refused, from 1; N+ refuses all from the Nth on
 //   REFUSE_READ=N:E    the Nth read fails with the error E; N:0 has it find the end
-//   REFUSE_WRITE=N:E   the Nth write fails with the error E; N:0 has it take nothing
+//   REFUSE_WRITE=N:E   the Nth write fails with the error E; N:0 has it take nothing; N:E+ refuses all from the Nth on
 //   REFUSE_SHORT=1     each read and write moves one byte
 //   REFUSE_TELL=FILE   at the end the numbers of requests, reads and writes are written to FILE
 #define _GNU_SOURCE
@@ -21,7 +21,7 @@ extern void *__libc_memalign(size_t, size_t);
 
 static int armed, short_ones;
 static long allocs, reads, writes;
-static long alloc_at, alloc_on, read_at, read_error, write_at, write_error;
+static long alloc_at, alloc_on, read_at, read_error, write_at, write_error, write_on;
 static const char *tell_to;
 
 static long number(const char *name, const char **rest) {
@@ -40,6 +40,7 @@ __attribute__((constructor)) static void arm(void) {
     read_error = *rest == ':' ? atol(rest + 1) : EIO;
     write_at = number("REFUSE_WRITE", &rest);
     write_error = *rest == ':' ? atol(rest + 1) : EIO;
+    write_on = strchr(rest, '+') != NULL;
     short_ones = getenv("REFUSE_SHORT") != NULL;
     tell_to = getenv("REFUSE_TELL");
     armed = 1;
@@ -88,8 +89,11 @@ int posix_memalign(void **made, size_t alignment, size_t size) {
 }
 
 // Whether this call fails, or finds nothing: then *answer is what it answers.
-static int fails(long *calls, long at, long error, ssize_t *answer) {
-    if (!armed || ++*calls != at)
+static int fails(long *calls, long at, int on, long error, ssize_t *answer) {
+    if (!armed)
+        return 0;
+    ++*calls;
+    if (!at || (*calls != at && !(on && *calls > at)))
         return 0;
     errno = error;
     *answer = error ? -1 : 0;
@@ -98,7 +102,7 @@ static int fails(long *calls, long at, long error, ssize_t *answer) {
 
 ssize_t read(int file, void *to, size_t count) {
     ssize_t answer;
-    if (fails(&reads, read_at, read_error, &answer))
+    if (fails(&reads, read_at, 0, read_error, &answer))
         return answer;
     return syscall(SYS_read, file, to, short_ones && count ? 1 : count);
 }
@@ -106,7 +110,7 @@ ssize_t read(int file, void *to, size_t count) {
 // Standard error isn't counted: what is told of a fault comes after it.
 ssize_t write(int file, const void *from, size_t count) {
     ssize_t answer;
-    if (file != 2 && fails(&writes, write_at, write_error, &answer))
+    if (file != 2 && fails(&writes, write_at, write_on, write_error, &answer))
         return answer;
     return syscall(SYS_write, file, from, short_ones && count && file != 2 ? 1 : count);
 }
