@@ -165,12 +165,13 @@ fn each_read_fails(rt: HostRuntime) {
 #[test]
 fn each_write_fails(rt: HostRuntime) {
     for kind in KINDS {
-        for at in 1..lines_in(CIRCUITS.transcript) + 1 {
+        for before in 0..lines_in(CIRCUITS.transcript) {
+            let at = before + 1;
             let mut reader = Source::new(2_048, NEVER);
             let mut writer = Sheet::new(2_048, Failing { at, kind: *kind }, 0);
             let outcome = run(rt.alloc(), &mut reader, &mut writer);
             assert_eq!(rt; outcome, Err(ExecFault::Write));
-            assert!(rt; writer.calls == at && writer.has_lines(at - 1));
+            assert!(rt; writer.calls == at && writer.has_lines(before));
         }
     }
 }
@@ -178,11 +179,12 @@ fn each_write_fails(rt: HostRuntime) {
 // A write that takes no byte is a fault like one that fails.
 #[test]
 fn each_write_takes_nothing(rt: HostRuntime) {
-    for at in 1..lines_in(CIRCUITS.transcript) + 1 {
+    for before in 0..lines_in(CIRCUITS.transcript) {
+        let at = before + 1;
         let mut reader = Source::new(2_048, NEVER);
         let mut writer = Sheet::new(2_048, NEVER, at);
         let outcome = run(rt.alloc(), &mut reader, &mut writer);
         assert_eq!(rt; outcome, Err(ExecFault::Write));
-        assert!(rt; writer.calls == at && writer.has_lines(at - 1));
+        assert!(rt; writer.calls == at && writer.has_lines(before));
     }
 }
