@@ -1,5 +1,5 @@
-//! What a core finds out of its place, one by one, at core 1 between core 0 and core 2. What comes on that link has failed then for good, and nothing else
-//! has.
+//! What a core finds out of its place, one by one, at core 1 between core 0 and core 2: each message once on the link from the lower core and once on that from
+//! the higher one. What comes on that link has failed then for good, and nothing else has.
 
 use crate::common::{Common, make_common, make_core, make_queue};
 use crate::events::hear;
@@ -24,6 +24,17 @@ const TURNED: &[CoreId] = &[CoreId(2), CoreId(1), CoreId(0)];
 const BEGINS: &[CoreId] = &[CoreId(1), CoreId(2)];
 
 const GAP: &[CoreId] = &[CoreId(0), CoreId(2), CoreId(1)];
+
+// The same routes from the other side; that of `LINE` is `TURNED`.
+const ENDS_BACK: &[CoreId] = &[CoreId(2), CoreId(1)];
+
+const PAST_BACK: &[CoreId] = &[CoreId(2), CoreId(0)];
+
+const TWICE_BACK: &[CoreId] = &[CoreId(2), CoreId(1), CoreId(0), CoreId(1)];
+
+const BEGINS_BACK: &[CoreId] = &[CoreId(1), CoreId(0)];
+
+const GAP_BACK: &[CoreId] = &[CoreId(2), CoreId(0), CoreId(1)];
 
 /// What is said to core 1.
 #[derive(Clone, Copy)]
@@ -66,6 +77,19 @@ const UNDONE: &[Said] = &[(0, Words::Open(1, 0, 1, LINE)), (1, Words::Refused(1,
 
 const ENDED: &[Said] = &[(0, Words::Open(1, 0, 2, ENDS))];
 
+// Of core 2 and of this core towards core 0 the first number is 2.
+const BEGUN_BACK: &[Said] = &[(1, Words::Open(2, 0, 1, TURNED))];
+
+const ANSWERED_BACK: &[Said] = &[(1, Words::Open(2, 0, 1, TURNED)), (0, Words::Opened(2))];
+
+const UNDONE_BACK: &[Said] = &[
+    (1, Words::Open(2, 0, 1, TURNED)),
+    (0, Words::Refused(2, 70)),
+];
+
+const ENDED_BACK: &[Said] = &[(1, Words::Open(2, 0, 2, ENDS_BACK))];
+
+// From the lower core.
 const ASTRAY: &[Row] = &[
     // a number that isn't the neighbour's next
     (&[], (0, Words::Open(3, 0, 1, LINE))),
@@ -98,6 +122,41 @@ const ASTRAY: &[Row] = &[
     (ANSWERED, (1, Words::Refused(1, 70))),
     (UNDONE, (1, Words::Opened(1))),
     (UNDONE, (1, Words::Refused(1, 70))),
+];
+
+// From the higher core.
+const ASTRAY_BACK: &[Row] = &[
+    // a number that isn't the neighbour's next
+    (&[], (1, Words::Open(4, 0, 1, TURNED))),
+    (&[], (1, Words::Open(1, 0, 1, TURNED))),
+    (&[], (1, Words::Open(0, 0, 1, TURNED))),
+    (BEGUN_BACK, (1, Words::Open(2, 1, 1, TURNED))),
+    // a binding that there can't be
+    (&[], (1, Words::Open(2, 1_024, 1, TURNED))),
+    // a route that doesn't lead here from the neighbour, or names a core twice
+    (&[], (1, Words::Open(2, 0, 1, PAST_BACK))),
+    (&[], (1, Words::Open(2, 0, 1, TWICE_BACK))),
+    (&[], (1, Words::Open(2, 0, 1, LINE))),
+    (&[], (1, Words::Open(2, 0, 1, BEGINS_BACK))),
+    (&[], (1, Words::Open(2, 0, 1, GAP_BACK))),
+    (&[], (1, Words::Open(2, 0, 1, &[]))),
+    (&[], (0, Words::Open(1, 0, 1, TURNED))),
+    // a route that ends here, at a service of another core
+    (&[], (1, Words::Open(2, 0, 1, ENDS_BACK))),
+    // a binding that stands here, or has an end here
+    (BEGUN_BACK, (1, Words::Open(4, 0, 1, TURNED))),
+    (ENDED_BACK, (1, Words::Open(4, 0, 1, TURNED))),
+    // answers to no opening of this core's
+    (&[], (0, Words::Opened(2))),
+    (&[], (0, Words::Refused(2, 70))),
+    (BEGUN_BACK, (1, Words::Opened(2))),
+    (BEGUN_BACK, (0, Words::Opened(4))),
+    (ENDED_BACK, (1, Words::Refused(2, 70))),
+    // an answer that came already
+    (ANSWERED_BACK, (0, Words::Opened(2))),
+    (ANSWERED_BACK, (0, Words::Refused(2, 70))),
+    (UNDONE_BACK, (0, Words::Opened(2))),
+    (UNDONE_BACK, (0, Words::Refused(2, 70))),
 ];
 
 // What writes the messages, and what the core that hears them knows.
@@ -206,16 +265,17 @@ impl Rig {
         Ok(self.given(said.0, &frag))
     }
 
-    // What it answers to a message, then to a look at its link, and to one at the other.
-    fn told_last(&mut self, said: Said) -> Result<[Word; 3], AllocError> {
+    // What it answers to a message, then to two looks at its link, and to one at the other.
+    fn told_last(&mut self, said: Said) -> Result<[Word; 4], AllocError> {
         let word = self.told(said)?;
         let other = if said.0 == 0 { 1 } else { 0 };
-        Ok([word, self.looks(said.0), self.looks(other)])
+        let again = [self.looks(said.0), self.looks(said.0)];
+        Ok([word, again[0], again[1], self.looks(other)])
     }
 }
 
 // What the last message of a row is answered, and what looks at the links come to then.
-fn answers(alloc: Global, row: Row) -> Result<[Word; 3], AllocError> {
+fn answers(alloc: Global, row: Row) -> Result<[Word; 4], AllocError> {
     let mut rig = make_rig(alloc)?;
     for said in row.0 {
         rig.told(*said)?;
@@ -223,17 +283,28 @@ fn answers(alloc: Global, row: Row) -> Result<[Word; 3], AllocError> {
     rig.told_last(row.1)
 }
 
+const FOR_GOOD: [Word; 4] = [
+    Word::Refused(67),
+    Word::Refused(64),
+    Word::Refused(64),
+    Word::Nothing,
+];
+
 #[test]
 fn messages_out_of_place(rt: HostRuntime) -> Result<(), Fail> {
-    for (place, row) in ASTRAY.iter().enumerate() {
-        let wanted = [Word::Refused(67), Word::Refused(64), Word::Nothing];
-        assert_eq!(rt; (place, answers(rt.alloc(), *row)?), (place, wanted));
+    for rows in [ASTRAY, ASTRAY_BACK] {
+        for (place, row) in rows.iter().enumerate() {
+            assert_eq!(rt; (place, answers(rt.alloc(), *row)?), (place, FOR_GOOD));
+        }
     }
     Ok(())
 }
 
-// A control word, the first words, and what the fragment is answered at core 1, at which circuit 1 of link 0 leads to an end.
-const FRAGMENTS: &[(u64, u64, u8)] = &[
+// A control word, the first word, and what the fragment is answered at core 1.
+type Forged = (u64, u64, u8);
+
+// Where circuit 1 of link 0 leads to an end.
+const FRAGMENTS: &[Forged] = &[
     // no message: not a first fragment, no such number, a reserved bit, a byte that isn't 0 where nothing stands
     (0, 0, 60),
     (0x3_0002, 0, 62),
@@ -246,30 +317,47 @@ const FRAGMENTS: &[(u64, u64, u8)] = &[
     (0x1_0000_0004, 0, 63),
 ];
 
-// What a fragment is answered at a core with an end, and what looks at the links come to then.
-fn answers_frag(alloc: Global, frag: &Frag) -> Result<[Word; 4], AllocError> {
+// Where circuit 2 of link 1 does.
+const FRAGMENTS_BACK: &[Forged] = &[
+    (0, 0, 60),
+    (0x3_0002, 0, 62),
+    (0x1_8002, 0, 63),
+    (0x1_0002, 0x1_0000, 63),
+    (0x4_0000_0002, 0, 67),
+    (0x1_0000_0002, 0, 67),
+    (0x2_0000_0004, 0, 63),
+];
+
+const TO_AN_END: Said = (0, Words::Open(1, 0, 2, ENDS));
+
+const TO_AN_END_BACK: Said = (1, Words::Open(2, 0, 2, ENDS_BACK));
+
+// What a fragment is answered on the link of an opening that made an end, and what looks at the links come to then.
+fn answers_frag(alloc: Global, opening: Said, frag: &Frag) -> Result<[Word; 4], AllocError> {
     let mut rig = make_rig(alloc)?;
-    let opened = rig.told((0, Words::Open(1, 0, 2, ENDS)))?;
-    Ok([opened, rig.given(0, frag), rig.looks(0), rig.looks(1)])
+    let opened = rig.told(opening)?;
+    let (link, other) = if opening.0 == 0 { (0, 1) } else { (1, 0) };
+    let given = rig.given(link, frag);
+    Ok([opened, given, rig.looks(link), rig.looks(other)])
 }
 
 #[test]
 fn fragments_out_of_place(rt: HostRuntime) -> Result<(), Fail> {
-    for (control, first, fault) in FRAGMENTS {
-        let frag = Frag {
-            words: [*first, 0, 0, 0, 0, 0, 0],
-            control: *control,
-        };
-        let wanted = [
-            Word::Opened,
-            Word::Refused(*fault),
-            Word::Refused(64),
-            Word::Nothing,
-        ];
-        assert_eq!(rt;
-            (*control, answers_frag(rt.alloc(), &frag)?),
-            (*control, wanted)
-        );
+    for (opening, rows) in [(TO_AN_END, FRAGMENTS), (TO_AN_END_BACK, FRAGMENTS_BACK)] {
+        for (control, first, fault) in rows {
+            let frag = Frag {
+                words: [*first, 0, 0, 0, 0, 0, 0],
+                control: *control,
+            };
+            let wanted = [
+                Word::Opened,
+                Word::Refused(*fault),
+                Word::Refused(64),
+                Word::Nothing,
+            ];
+            let got = answers_frag(rt.alloc(), opening, &frag)?;
+            assert_eq!(rt; (*control, got), (*control, wanted));
+        }
     }
     Ok(())
 }

@@ -1,0 +1,236 @@
+//! An end that is given fragments, alone and at a board.
+
+use fl_base::{Circuit, Frag};
+use fl_check::{Interface, TextFault, check};
+use fl_compile::{Program, compile};
+use fl_core::{Board, Kind, TurnAnswer};
+use fl_endpoint::{End, EndFault, ReceiveAnswer};
+use fl_lex::lex;
+use fl_link::QueueLink;
+use fl_parse::parse;
+use fl_value::{Call, PlanNo, read_call};
+use std::alloc::{AllocError, Global};
+
+pub const PLANS: [PlanNo; 2] = [PlanNo::One, PlanNo::Two];
+
+/// What a fragment comes to.
+#[derive(Clone, Copy, Debug, PartialEq, Eq)]
+pub enum Said {
+    Part,
+    Whole,
+    Quiet,
+    Nothing,
+    Refused(u8),
+    Other,
+}
+
+fn interface_in(alloc: Global, text: &[u8]) -> Result<Interface, TextFault> {
+    let tokens = lex(alloc, text)?;
+    let tree = parse(alloc, &tokens)?;
+    Ok(check(alloc, &tree)?)
+}
+
+fn interface(alloc: Global, text: &[u8]) -> Result<Interface, AllocError> {
+    match interface_in(alloc, text) {
+        Ok(interface) => Ok(interface),
+        Err(_) => Err(AllocError),
+    }
+}
+
+/// The program of a text that is an interface's; none only where memory runs out.
+pub fn program(alloc: Global, text: &[u8], plan: PlanNo) -> Result<Program, AllocError> {
+    let interface = interface(alloc, text)?;
+    compile(alloc, &interface, plan)
+}
+
+fn queue(alloc: Global) -> Result<QueueLink, AllocError> {
+    match QueueLink::local(alloc, 4) {
+        Ok(queue) => Ok(queue),
+        Err(_) => Err(AllocError),
+    }
+}
+
+fn end(alloc: Global, program: &Program) -> Result<End, AllocError> {
+    End::new(alloc, program.duplicate(alloc)?, Circuit(0))
+}
+
+fn said_of_receive(answer: Result<ReceiveAnswer, EndFault>) -> Said {
+    match answer {
+        Ok(ReceiveAnswer::Part) => Said::Part,
+        Ok(ReceiveAnswer::Handle(_)) => Said::Whole,
+        Ok(ReceiveAnswer::Quiet) => Said::Quiet,
+        Ok(ReceiveAnswer::Empty) => Said::Nothing,
+        Ok(ReceiveAnswer::HeldBack) => Said::Other,
+        Err(fault) => Said::Refused(fault.number()),
+    }
+}
+
+/// A new end of a program, and the queue that it takes from.
+#[derive(Drop)]
+pub struct Taker {
+    end: End,
+    from: QueueLink,
+}
+
+impl Taker {
+    pub fn new(alloc: Global, program: &Program) -> Result<Taker, AllocError> {
+        Ok(Taker {
+            end: end(alloc, program)?,
+            from: queue(alloc)?,
+        })
+    }
+
+    /// What the end answers to what stands first.
+    pub fn receives(&mut self) -> Said {
+        said_of_receive(self.end.receive(&mut self.from))
+    }
+
+    /// What it answers to a fragment that is put there.
+    pub fn given(&mut self, frag: &Frag) -> Said {
+        match self.from.put(frag) {
+            Ok(()) => self.receives(),
+            Err(_) => Said::Other,
+        }
+    }
+}
+
+/// What a new end answers to a fragment, after another that is part of a call where one is given. After a refusal it is E64, asked
+/// twice, in place of which `Other` is told where it isn't.
+pub fn answer(
+    alloc: Global,
+    program: &Program,
+    before: Option<&Frag>,
+    frag: &Frag,
+) -> Result<Said, AllocError> {
+    let mut taker = Taker::new(alloc, program)?;
+    if let Some(before) = before {
+        if taker.given(before) != Said::Part {
+            return Ok(Said::Other);
+        }
+    }
+    let said = taker.given(frag);
+    let last = [taker.receives(), taker.receives()];
+    let wanted = match said {
+        Said::Refused(_) => [Said::Refused(64); 2],
+        _ => [Said::Nothing; 2],
+    };
+    if last == wanted {
+        Ok(said)
+    } else {
+        Ok(Said::Other)
+    }
+}
+
+/// A board with one end, registered, the queues that it is lent, and a call that fits it.
+#[derive(Drop)]
+pub struct Post {
+    board: Board,
+    from: QueueLink,
+    to: QueueLink,
+    call: Call,
+}
+
+fn board(alloc: Global, program: &Program) -> Result<Board, AllocError> {
+    let mut board = Board::new(alloc);
+    board.add_dispatcher()?;
+    let end = end(alloc, program)?;
+    if board.dispatchers() == 0 {
+        return Err(AllocError);
+    }
+    match board.add_end(0, end, Kind::Queue) {
+        Ok(_) => Ok(board),
+        Err(_) => Err(AllocError),
+    }
+}
+
+fn turned(answer: Result<TurnAnswer, AllocError>) -> Said {
+    match answer {
+        Ok(TurnAnswer::Part) => Said::Part,
+        Ok(TurnAnswer::Handle(_)) => Said::Whole,
+        Ok(TurnAnswer::Quiet) => Said::Quiet,
+        Ok(TurnAnswer::Nothing) => Said::Nothing,
+        Ok(TurnAnswer::Refused(fault)) => Said::Refused(fault.number()),
+        Ok(_) => Said::Other,
+        Err(_) => Said::Refused(99),
+    }
+}
+
+// The number of a refusal; 0 where there is none.
+fn number<T: Drop>(answer: Result<T, EndFault>) -> u8 {
+    match answer {
+        Ok(_) => 0,
+        Err(fault) => fault.number(),
+    }
+}
+
+impl Post {
+    pub fn new(alloc: Global, program: &Program, text: &[u8]) -> Result<Post, AllocError> {
+        let Ok(call) = read_call(alloc, text, program.interface()) else {
+            return Err(AllocError);
+        };
+        let mut post = Post {
+            board: board(alloc, program)?,
+            from: queue(alloc)?,
+            to: queue(alloc)?,
+            call,
+        };
+        post.register();
+        Ok(post)
+    }
+
+    fn register(&mut self) -> u8 {
+        if self.board.ends() == 0 {
+            return 255;
+        }
+        match self.board.register(0, &mut self.from) {
+            Ok(()) => 0,
+            Err(fault) => fault.number(),
+        }
+    }
+
+    fn call(&mut self) -> u8 {
+        if self.board.ends() == 0 {
+            return 255;
+        }
+        number(self.board.call(0, &self.call))
+    }
+
+    fn write(&mut self) -> u8 {
+        if self.board.ends() == 0 {
+            return 255;
+        }
+        number(self.board.write(0, &mut self.to))
+    }
+
+    fn show(&self) -> u8 {
+        if self.board.ends() == 0 {
+            return 255;
+        }
+        number(self.board.show(0, &self.to))
+    }
+
+    /// What a turn comes to.
+    pub fn turn(&mut self) -> Said {
+        if self.board.dispatchers() == 0 {
+            return Said::Other;
+        }
+        let Some(e) = self.board.due(0) else {
+            return Said::Nothing;
+        };
+        turned(self.board.turn(0, e, &mut self.from))
+    }
+
+    /// What a turn comes to once a fragment stands on the end's queue.
+    pub fn given(&mut self, frag: &Frag) -> Said {
+        if self.from.put(frag).is_err() || self.board.ends() == 0 {
+            return Said::Other;
+        }
+        self.board.trigger(0);
+        self.turn()
+    }
+
+    /// The numbers of the refusals of a call, a look, a write and a registering.
+    pub fn refusals(&mut self) -> [u8; 4] {
+        [self.call(), self.show(), self.write(), self.register()]
+    }
+}
