@@ -1,5 +1,6 @@
 //! What is asked, as plain data, and the events that are made of it.
 
+use crate::words::Said;
 use fl_base::{EndId, MsgNo, Side};
 use fl_check::{Interface, TextFault, check};
 use fl_lex::lex;
@@ -8,55 +9,63 @@ use fl_parse::parse;
 use fl_value::{Call, PlanNo, Value};
 use std::alloc::{AllocError, Global};
 
-/// An interface of one message, with an integer.
-pub const PING: &[u8] = b"interface i { message ping(uint32 v); }";
-
-/// An interface of two messages, with an integer each.
-pub const ECHO: &[u8] = b"interface i { rpc echo(in uint32 x, out uint32 y); }";
-
 /// How a binding's ends are to be joined.
 #[derive(Clone, Copy)]
 pub enum Joint {
+    /// By two queues of so many fragments.
     Local(u32),
+    /// By a ring of so many slots each way.
     Ump(u32),
-    /// By a circuit over cores 0 and 1.
-    Near,
-    /// By a circuit over cores 0, 1 and 2.
-    Far,
-    /// By a circuit over cores 0, 1 and 0.
-    Round,
-    /// By a circuit over cores 1 and 0.
-    Back,
+    /// By a circuit, over the cores that this line names.
+    Hop(&'static [u8]),
 }
+
+/// A circuit over cores 0 and 1.
+pub const NEAR: Joint = Joint::Hop(b"bind p d i s hop 0 1");
+
+/// A circuit over cores 0, 1 and 2.
+pub const FAR: Joint = Joint::Hop(b"bind p d i s hop 0 1 2");
 
 /// What is asked.
 #[derive(Clone, Copy)]
 pub enum Act {
+    /// An interface of this text, under plan 2.
     Interface(&'static [u8]),
+    /// The same under plan 1.
+    InterfaceOne(&'static [u8]),
     Cores(u32),
     /// A link between two cores, with so many slots.
     Link(u32, u32, u32),
     Dispatcher(u32),
-    /// Interface 0 by a dispatcher.
+    /// A service of a name, by interface 0 and a dispatcher.
     Export(&'static [u8], DispatcherId),
-    /// A dispatcher to the service of a name, by interface 0.
-    Bind(DispatcherId, &'static [u8], Joint),
-    /// A call of a message with one integer.
-    Call(EndId, u16, i128),
+    /// A dispatcher to the service of a name, by the interface of a place.
+    Bind(DispatcherId, usize, &'static [u8], Joint),
+    /// A call of a message.
+    Call(EndId, u16, Said),
     Show(EndId),
     Write(EndId),
     Turn(DispatcherId),
     Acknowledge(EndId),
     Register(EndId),
     Deregister(EndId),
-    /// Where an end handles message 0, it makes the call of message 1.
-    Reply(EndId),
+    /// Where an end handles the first message, it makes the call of the second.
+    Reply(EndId, u16, u16),
     MonitorWrite(u32, u32),
     Forward(u32, u32),
     MonitorAcknowledge(u32, u32),
 }
 
-/// The ends of binding 0.
+/// An interface of one message, with an integer.
+pub const PING: Act = Act::Interface(b"interface i { message ping(uint32 v); }");
+
+/// An interface of two messages, with an integer each.
+pub const ECHO: Act = Act::Interface(b"interface i { rpc echo(in uint32 x, out uint32 y); }");
+
+/// An interface of one message, with a text.
+pub const BLOB: Act = Act::Interface(b"interface i { message blob(string s); }");
+
+/// The ends of bindings 0, 1 and 2.
 pub const CLIENT: EndId = EndId {
     binding: 0,
     side: Side::Client,
@@ -67,7 +76,6 @@ pub const SERVER: EndId = EndId {
     side: Side::Server,
 };
 
-/// The ends of binding 1.
 pub const CLIENT_1: EndId = EndId {
     binding: 1,
     side: Side::Client,
@@ -75,6 +83,16 @@ pub const CLIENT_1: EndId = EndId {
 
 pub const SERVER_1: EndId = EndId {
     binding: 1,
+    side: Side::Server,
+};
+
+pub const CLIENT_2: EndId = EndId {
+    binding: 2,
+    side: Side::Client,
+};
+
+pub const SERVER_2: EndId = EndId {
+    binding: 2,
     side: Side::Server,
 };
 
@@ -94,14 +112,18 @@ fn interface(alloc: Global, text: &[u8]) -> Result<Interface, TextFault> {
     Ok(check(alloc, &tree)?)
 }
 
-fn adding(alloc: Global, text: &[u8]) -> Result<Event<'static>, AllocError> {
+fn adding(alloc: Global, text: &[u8], plan: PlanNo) -> Result<Event<'static>, AllocError> {
     let Ok(interface) = interface(alloc, text) else {
         return Err(AllocError);
     };
-    Ok(Event::AddInterface {
-        interface,
-        plan: PlanNo::One,
-    })
+    Ok(Event::AddInterface { interface, plan })
+}
+
+fn back_end_of(command: Command<'static>) -> BackEnd<'static> {
+    match command {
+        Command::Bind { back_end, .. } => back_end,
+        _ => BackEnd::Local(0),
+    }
 }
 
 // The back end of a line that binds.
@@ -112,27 +134,61 @@ fn back_end_in(line: &'static [u8]) -> BackEnd<'static> {
     }
 }
 
-fn back_end_of(command: Command<'static>) -> BackEnd<'static> {
-    match command {
-        Command::Bind { back_end, .. } => back_end,
-        _ => BackEnd::Local(0),
-    }
-}
-
 fn back_end(joint: Joint) -> BackEnd<'static> {
     match joint {
         Joint::Local(slots) => BackEnd::Local(slots),
         Joint::Ump(slots) => BackEnd::Ump(slots),
-        Joint::Near => back_end_in(b"bind b d i s hop 0 1"),
-        Joint::Far => back_end_in(b"bind b d i s hop 0 1 2"),
-        Joint::Round => back_end_in(b"bind b d i s hop 0 1 0"),
-        Joint::Back => back_end_in(b"bind b d i s hop 1 0"),
+        Joint::Hop(line) => back_end_in(line),
     }
 }
 
-fn call(alloc: Global, msg: u16, v: i128) -> Result<Call, AllocError> {
-    let mut args = Vec::new(alloc);
-    args.push(Value::Int(v))?;
+fn numbers(alloc: Global, numbers: &[i128]) -> Result<Vec<Value>, AllocError> {
+    let mut values = Vec::with_capacity(alloc, numbers.len())?;
+    for v in numbers {
+        values.push(Value::Int(*v))?;
+    }
+    Ok(values)
+}
+
+// A list of structs of two numbers.
+fn pairs(alloc: Global, pairs: &[[i128; 2]]) -> Result<Vec<Value>, AllocError> {
+    let mut values = Vec::with_capacity(alloc, pairs.len())?;
+    for pair in pairs {
+        values.push(Value::Fields(numbers(alloc, pair)?))?;
+    }
+    Ok(values)
+}
+
+fn text(alloc: Global, bytes: &[u8]) -> Result<Value, AllocError> {
+    let mut text = Vec::with_capacity(alloc, bytes.len())?;
+    text.extend_from_slice(bytes)?;
+    Ok(Value::Text(text))
+}
+
+fn one(alloc: Global, value: Value) -> Result<Vec<Value>, AllocError> {
+    let mut values = Vec::new(alloc);
+    values.push(value)?;
+    Ok(values)
+}
+
+fn arguments(alloc: Global, said: Said) -> Result<Vec<Value>, AllocError> {
+    match said {
+        Said::Nothing => Ok(Vec::new(alloc)),
+        Said::Number(v) => one(alloc, Value::Int(v)),
+        Said::Numbers(all) => numbers(alloc, all),
+        Said::Text(bytes) => one(alloc, text(alloc, bytes)?),
+        Said::Pairs(all) => one(alloc, Value::List(pairs(alloc, all)?)),
+        Said::Between(a, bytes, b) => {
+            let mut values = one(alloc, Value::Int(a))?;
+            values.push(text(alloc, bytes)?)?;
+            values.push(Value::Int(b))?;
+            Ok(values)
+        }
+    }
+}
+
+fn call(alloc: Global, msg: u16, said: Said) -> Result<Call, AllocError> {
+    let args = arguments(alloc, said)?;
     Ok(Call {
         msg: MsgNo(msg),
         args,
@@ -159,12 +215,32 @@ fn at_end(act: Act) -> Event<'static> {
         Act::Acknowledge(end) => Event::Acknowledge(end),
         Act::Register(end) => Event::Register(end),
         Act::Deregister(end) => Event::Deregister(end),
-        Act::Reply(end) => Event::Reply {
+        Act::Reply(end, message, answer) => Event::Reply {
             end,
-            message: MsgNo(0),
-            answer: MsgNo(1),
+            message: MsgNo(message),
+            answer: MsgNo(answer),
         },
         _ => on_link(act),
+    }
+}
+
+// Events that make something, but for interfaces.
+fn making(act: Act) -> Event<'static> {
+    match act {
+        Act::Cores(n) => Event::SetCores(n),
+        Act::Dispatcher(core) => Event::AddDispatcher(core),
+        Act::Export(name, dispatcher) => Event::Export {
+            name,
+            dispatcher,
+            interface: 0,
+        },
+        Act::Bind(client, interface, service, joint) => Event::Bind {
+            client,
+            interface,
+            service,
+            back_end: back_end(joint),
+        },
+        _ => at_end(act),
     }
 }
 
@@ -174,22 +250,10 @@ fn at_end(act: Act) -> Event<'static> {
 /// Want of memory.
 pub fn event(alloc: Global, act: Act) -> Result<Event<'static>, AllocError> {
     match act {
-        Act::Interface(text) => adding(alloc, text),
-        Act::Cores(n) => Ok(Event::SetCores(n)),
-        Act::Dispatcher(core) => Ok(Event::AddDispatcher(core)),
-        Act::Export(name, dispatcher) => Ok(Event::Export {
-            name,
-            dispatcher,
-            interface: 0,
-        }),
-        Act::Bind(client, service, joint) => Ok(Event::Bind {
-            client,
-            interface: 0,
-            service,
-            back_end: back_end(joint),
-        }),
-        Act::Call(end, msg, v) => Ok(Event::Call(end, call(alloc, msg, v)?)),
-        _ => Ok(at_end(act)),
+        Act::Interface(text) => adding(alloc, text, PlanNo::Two),
+        Act::InterfaceOne(text) => adding(alloc, text, PlanNo::One),
+        Act::Call(end, msg, said) => Ok(Event::Call(end, call(alloc, msg, said)?)),
+        _ => Ok(making(act)),
     }
 }
 

@@ -17,15 +17,15 @@ use std::test::Fail;
 
 // Two cores, with a link, a binding over a ring and one within a core.
 const SET_UP: &[Act] = &[
-    Act::Interface(PING),
+    PING,
     Act::Link(0, 1, 4),
     Act::Dispatcher(0),
     Act::Dispatcher(0),
     Act::Dispatcher(1),
     Act::Export(b"s", AT_1),
     Act::Export(b"t", NEXT_AT_0),
-    Act::Bind(AT_0, b"s", Joint::Ump(8)),
-    Act::Bind(AT_0, b"t", Joint::Local(2)),
+    Act::Bind(AT_0, 0, b"s", Joint::Ump(8)),
+    Act::Bind(AT_0, 0, b"t", Joint::Local(2)),
 ];
 
 // Whether an event makes something at once.
@@ -86,19 +86,6 @@ fn place(core: Option<&Core>, end: EndId) -> Option<usize> {
     core?.place(end)
 }
 
-#[test]
-fn the_cores_of_a_world(rt: HostRuntime) -> Result<(), Fail> {
-    let parts = apart(rt.alloc())?;
-    assert_eq!(rt; parts.cores.len(), 2);
-    assert_eq!(rt; counts(parts.cores.get(0)), (2, 3));
-    assert_eq!(rt; counts(parts.cores.get(1)), (1, 1));
-    assert_eq!(rt; place(parts.cores.get(0), CLIENT), Some(0));
-    assert_eq!(rt; place(parts.cores.get(1), SERVER), Some(0));
-    assert_eq!(rt; place(parts.cores.get(0), SERVER_1), Some(2));
-    assert_eq!(rt; place(parts.cores.get(1), SERVER_1), None);
-    Ok(())
-}
-
 // Whether nothing stands on a ring, and both sides may put.
 fn is_new(ring: Option<&OneDuo>) -> bool {
     match ring {
@@ -110,17 +97,6 @@ fn is_new(ring: Option<&OneDuo>) -> bool {
         }
         None => false,
     }
-}
-
-#[test]
-fn what_joins_them(rt: HostRuntime) -> Result<(), Fail> {
-    let parts = apart(rt.alloc())?;
-    assert_eq!(rt; parts.rings.len(), 2);
-    assert!(rt; is_new(parts.rings.get(0)));
-    assert!(rt; is_new(parts.rings.get(1)));
-    assert_eq!(rt; parts.queues.len(), 2);
-    assert_eq!(rt; parts.programs.len(), 1);
-    Ok(())
 }
 
 // A binding's interface, and the cores of its ends.
@@ -138,13 +114,40 @@ fn service(parts: &Parts, name: &[u8]) -> Option<(u32, u8, usize)> {
 }
 
 #[test]
-fn bindings_and_services(rt: HostRuntime) -> Result<(), Fail> {
+fn the_cores_of_a_world(rt: HostRuntime) -> Result<(), Fail> {
     let parts = apart(rt.alloc())?;
-    assert_eq!(rt; parts.bindings.len(), 2);
-    assert_eq!(rt; binding(&parts, 0), Some((0, 0, 1)));
-    assert_eq!(rt; binding(&parts, 1), Some((0, 0, 0)));
-    assert_eq!(rt; service(&parts, b"s"), Some((1, 1, 0)));
+    let (first, last) = (parts.cores.get(0), parts.cores.get(1));
+    assert_eq!(rt;
+        (parts.cores.len(), counts(first), counts(last)),
+        (2, (2, 3), (1, 1))
+    );
+    assert_eq!(rt;
+        (place(first, CLIENT), place(first, SERVER_1)),
+        (Some(0), Some(2))
+    );
+    assert_eq!(rt;
+        (place(last, SERVER), place(last, SERVER_1)),
+        (Some(0), None)
+    );
+    Ok(())
+}
+
+#[test]
+fn what_joins_them(rt: HostRuntime) -> Result<(), Fail> {
+    let parts = apart(rt.alloc())?;
+    assert_eq!(rt;
+        (parts.rings.len(), parts.queues.len(), parts.programs.len()),
+        (2, 2, 1)
+    );
+    assert!(rt; is_new(parts.rings.get(0)) && is_new(parts.rings.get(1)));
+    assert_eq!(rt;
+        (binding(&parts, 0), binding(&parts, 1)),
+        (Some((0, 0, 1)), Some((0, 0, 0)))
+    );
+    assert_eq!(rt;
+        (service(&parts, b"s"), service(&parts, b"u")),
+        (Some((1, 1, 0)), None)
+    );
     assert_eq!(rt; service(&parts, b"t"), Some((2, 0, 1)));
-    assert_eq!(rt; service(&parts, b"u"), None);
     Ok(())
 }

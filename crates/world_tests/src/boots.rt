@@ -2,39 +2,56 @@
 
 use crate::acts::{AT_0, AT_2, Act, PING};
 use crate::words::Word;
-use crate::worlds::{booted, first_wrong, goes_on};
+use crate::worlds::{booted, first_wrong, made};
 use fl_system::{BootFault, World};
 use std::alloc::{AllocError, Global};
 use std::test::Fail;
 
-// Why there is no world; nothing where there is one.
-fn fault(alloc: Global, cores: u8, acts: &[Act]) -> Option<BootFault> {
-    match booted(alloc, cores, acts) {
-        Ok(_) => None,
-        Err(fault) => Some(fault),
+// Set-ups that are refused: with which number of cores, for what, and at which place. At place 0 it is the number of cores, else the first event that is
+// refused, by its place from 1.
+const REFUSED: &[(u8, &[Act], u8, usize)] = &[
+    (0, &[], 94, 0),
+    (17, &[], 94, 0),
+    (255, &[Act::Cores(0)], 94, 0),
+    (1, &[Act::Cores(17)], 94, 1),
+    (1, &[Act::Cores(0)], 94, 1),
+    (
+        2,
+        &[
+            PING,
+            Act::Dispatcher(0),
+            Act::Link(0, 0, 4),
+            Act::Dispatcher(9),
+        ],
+        73,
+        3,
+    ),
+    (2, &[Act::Link(0, 1, 3)], 32, 1),
+    (1, &[Act::Dispatcher(0), Act::Cores(2)], 93, 2),
+    (1, &[PING, Act::Export(b"s", AT_0)], 92, 2),
+];
+
+// Whether this is the fault, by place and number.
+fn is_fault(outcome: Result<World, BootFault>, number: u8, place: usize) -> bool {
+    match outcome {
+        Ok(_) => false,
+        Err(fault) => fault == BootFault::Refused { number, place } && fault.number() == number,
     }
 }
 
-fn refused(number: u8, place: usize) -> Option<BootFault> {
-    Some(BootFault::Refused { number, place })
+// The first set-up that isn't refused so.
+fn first_other(alloc: Global) -> Option<usize> {
+    for (row, (cores, acts, number, place)) in REFUSED.iter().enumerate() {
+        if !is_fault(booted(alloc, *cores, acts), *number, *place) {
+            return Some(row);
+        }
+    }
+    None
 }
 
 #[test]
-fn no_world_of_such_cores(rt: HostRuntime) -> Result<(), Fail> {
-    assert_eq!(rt; fault(rt.alloc(), 0, &[]), refused(94, 0));
-    assert_eq!(rt; fault(rt.alloc(), 17, &[]), refused(94, 0));
-    assert_eq!(rt; fault(rt.alloc(), 255, &[Act::Cores(0)]), refused(94, 0));
-    Ok(())
-}
-
-// What answers show of a fault.
-#[test]
-fn numbers_of_faults(rt: HostRuntime) -> Result<(), Fail> {
-    let no_core = BootFault::Refused {
-        number: 73,
-        place: 2,
-    };
-    assert_eq!(rt; no_core.number(), 73);
+fn set_ups_are_refused(rt: HostRuntime) -> Result<(), Fail> {
+    assert_eq!(rt; first_other(rt.alloc()), None);
     assert_eq!(rt; BootFault::Memory.number(), 99);
     Ok(())
 }
@@ -46,59 +63,33 @@ fn new_world(alloc: Global) -> Result<World, AllocError> {
     }
 }
 
-const ONE_CORE: &[(Act, Word)] = &[
+// One core: none stands behind it. Nothing was made, so the number may still be set.
+const OF_ONE_CORE: &[(Act, Word)] = &[
     (Act::Dispatcher(1), Word::Refused(73)),
     (Act::Cores(2), Word::Done),
     (Act::Dispatcher(1), Word::Done),
+    (Act::Cores(3), Word::Refused(93)),
 ];
 
-// A new world has one core, of which nothing was made: so the number may be set.
-#[test]
-fn a_new_world(rt: HostRuntime) -> Result<(), Fail> {
-    let mut world = new_world(rt.alloc())?;
-    assert_eq!(rt; goes_on(rt.alloc(), &mut world, ONE_CORE)?, None);
-    Ok(())
-}
+const OF_SIXTEEN: &[(Act, Word)] = &[
+    (Act::Dispatcher(16), Word::Refused(73)),
+    (Act::Dispatcher(15), Word::Done),
+];
 
-// One core and sixteen: the last is there, and none behind it.
 #[test]
 fn the_fewest_and_most_cores(rt: HostRuntime) -> Result<(), Fail> {
-    let one = [
-        (Act::Dispatcher(1), Word::Refused(73)),
-        (Act::Dispatcher(0), Word::Done),
-    ];
-    let most = [
-        (Act::Dispatcher(16), Word::Refused(73)),
-        (Act::Dispatcher(15), Word::Done),
-    ];
-    assert_eq!(rt; first_wrong(rt.alloc(), 1, &one)?, None);
-    assert_eq!(rt; first_wrong(rt.alloc(), 16, &most)?, None);
+    let mut new = new_world(rt.alloc())?;
+    assert_eq!(rt; first_wrong(rt.alloc(), &mut new, OF_ONE_CORE)?, None);
+    let mut one = made(rt.alloc(), 1, &[])?;
+    assert_eq!(rt; first_wrong(rt.alloc(), &mut one, OF_ONE_CORE)?, None);
+    let mut most = made(rt.alloc(), 16, &[])?;
+    assert_eq!(rt; first_wrong(rt.alloc(), &mut most, OF_SIXTEEN)?, None);
     Ok(())
 }
 
-const TWO_WRONG: &[Act] = &[
-    Act::Interface(PING),
-    Act::Dispatcher(0),
-    Act::Link(0, 0, 4),
-    Act::Dispatcher(9),
-];
-
-const TOO_LATE: &[Act] = &[Act::Dispatcher(0), Act::Cores(2)];
-
-const NO_SERVICE: &[Act] = &[Act::Interface(PING), Act::Export(b"s", AT_0)];
-
-// The first event that is refused, by its place from 1.
-#[test]
-fn an_event_of_a_set_up_is_refused(rt: HostRuntime) -> Result<(), Fail> {
-    assert_eq!(rt; fault(rt.alloc(), 1, &[Act::Cores(17)]), refused(94, 1));
-    assert_eq!(rt; fault(rt.alloc(), 2, TWO_WRONG), refused(73, 3));
-    assert_eq!(rt; fault(rt.alloc(), 2, TOO_LATE), refused(93, 2));
-    assert_eq!(rt; fault(rt.alloc(), 2, NO_SERVICE), refused(92, 2));
-    Ok(())
-}
-
+// A set-up may set the number of cores, while nothing stands on them.
 const MORE_CORES: &[Act] = &[
-    Act::Interface(PING),
+    PING,
     Act::Cores(3),
     Act::Dispatcher(2),
     Act::Export(b"s", AT_2),
@@ -111,20 +102,9 @@ const AFTER_IT: &[(Act, Word)] = &[
     (Act::Turn(AT_2), Word::Nothing),
 ];
 
-fn after(
-    alloc: Global,
-    world: Result<World, BootFault>,
-) -> Result<Option<(usize, Word)>, AllocError> {
-    let Ok(mut world) = world else {
-        return Err(AllocError);
-    };
-    goes_on(alloc, &mut world, AFTER_IT)
-}
-
-// A set-up may set the number of cores, while nothing stands on them.
 #[test]
 fn a_world_after_its_set_up(rt: HostRuntime) -> Result<(), Fail> {
-    let world = booted(rt.alloc(), 1, MORE_CORES);
-    assert_eq!(rt; after(rt.alloc(), world)?, None);
+    let mut world = made(rt.alloc(), 1, MORE_CORES)?;
+    assert_eq!(rt; first_wrong(rt.alloc(), &mut world, AFTER_IT)?, None);
     Ok(())
 }

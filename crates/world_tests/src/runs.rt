@@ -1,90 +1,129 @@
-//! Lists of events, and memory that is refused in their midst.
+//! Rows asked one after another, by events that are given, by events that are lent and as lists; and memory that is refused in the midst of a list.
 
-use crate::acts::{AT_0, Act, CLIENT, Joint, PING, SERVER, events};
-use crate::words::{Word, word_of};
-use crate::worlds::{bare, replay, step};
+use crate::acts::{Act, event, events};
+use crate::words::{Word, is};
+use crate::worlds::{Row, answers, answers_again, first_wrong, made};
+use crate::{core_rows, rows};
 use fl_lines::{Answer, DispatcherId, Event};
 use fl_system::World;
 use std::alloc::{AllocError, Global};
 use std::test::Fail;
 
-const ACTS: &[Act] = &[
-    Act::Interface(PING),
-    Act::Dispatcher(0),
-    Act::Export(b"s", AT_0),
-    Act::Bind(AT_0, b"s", Joint::Local(4)),
-    Act::Call(CLIENT, 0, 5),
-    Act::Call(CLIENT, 0, 6),
-    Act::Write(CLIENT),
-    Act::Turn(AT_0),
-];
-
-const WORDS: &[Word] = &[
-    Word::Done,
-    Word::Done,
-    Word::Done,
-    Word::Done,
-    Word::Accepted,
-    Word::Refused(40),
-    Word::Written(1, 1),
-    Word::Handle(SERVER, 0, 5),
-];
-
-// Whether these are the answers, and no others.
-fn are(answers: &[Answer], words: &[Word]) -> bool {
-    for (place, wanted) in words.iter().enumerate() {
-        match answers.get(place) {
-            Some(answer) => {
-                if word_of(answer) != *wanted {
-                    return false;
-                }
-            }
-            None => return false,
-        }
+// What is asked, as a list.
+fn asked_once(alloc: Global, asked: &[(Act, Word)]) -> Result<Vec<Event<'static>>, AllocError> {
+    let mut events = Vec::with_capacity(alloc, asked.len())?;
+    for (act, _) in asked {
+        events.push(event(alloc, *act)?)?;
     }
-    answers.len() == words.len()
+    Ok(events)
 }
 
-// A run in a new world.
-fn runs_once(alloc: Global, events: &[Event<'_>]) -> Result<Vec<Answer>, AllocError> {
-    let mut world = bare(alloc, 1)?;
-    world.run(events)
-}
-
-fn runs(alloc: Global, events: &[Event<'_>]) -> Result<Vec<Answer>, AllocError> {
-    match runs_once(alloc, events) {
-        Ok(answers) => Ok(answers),
-        Err(_) => runs_once(alloc, events),
+fn asked(alloc: Global, asked: &[(Act, Word)]) -> Result<Vec<Event<'static>>, AllocError> {
+    match asked_once(alloc, asked) {
+        Ok(events) => Ok(events),
+        Err(_) => asked_once(alloc, asked),
     }
 }
 
-// A refusal doesn't end a run.
-#[test]
-fn a_list_of_events(rt: HostRuntime) -> Result<(), Fail> {
-    let asked = events(rt.alloc(), ACTS)?;
-    let answers = runs(rt.alloc(), asked.as_slice())?;
-    assert!(rt; are(answers.as_slice(), WORDS));
-    let none = runs(rt.alloc(), &[])?;
-    assert!(rt; are(none.as_slice(), &[]));
-    Ok(())
+fn world_of(alloc: Global, row: &Row) -> Result<World, AllocError> {
+    made(alloc, row.cores, row.set_up)
 }
 
-// The first event that is answered otherwise where each is done by itself.
-fn first_replayed(alloc: Global, events: &[Event<'_>]) -> Result<Option<usize>, AllocError> {
-    let mut world = bare(alloc, 1)?;
+// The first event that is answered otherwise where each is given.
+fn steps(alloc: Global, row: &Row) -> Result<Option<usize>, AllocError> {
+    let mut world = world_of(alloc, row)?;
+    first_wrong(alloc, &mut world, row.asked)
+}
+
+// Whether the event of a place is answered as it should be.
+fn replays_one(
+    world: &mut World,
+    row: &Row,
+    place: usize,
+    event: &Event<'_>,
+) -> Result<bool, AllocError> {
+    match row.asked.get(place) {
+        Some((_, wanted)) => answers_again(world, event, *wanted),
+        None => Ok(false),
+    }
+}
+
+// The same where each is lent.
+fn replays(alloc: Global, row: &Row, events: &[Event<'_>]) -> Result<Option<usize>, AllocError> {
+    let mut world = world_of(alloc, row)?;
     for (place, event) in events.iter().enumerate() {
-        let word = replay(&mut world, event)?;
-        if WORDS.get(place) != Some(&word) {
+        if !replays_one(&mut world, row, place, event)? {
             return Ok(Some(place));
         }
     }
     Ok(None)
 }
 
+// The first answer that isn't the wanted one.
+fn first_other(answers: &[Answer], asked: &[(Act, Word)]) -> Option<usize> {
+    for (place, (_, wanted)) in asked.iter().enumerate() {
+        match answers.get(place) {
+            Some(answer) => {
+                if !is(answer, *wanted) {
+                    return Some(place);
+                }
+            }
+            None => return Some(place),
+        }
+    }
+    if answers.len() == asked.len() {
+        None
+    } else {
+        Some(asked.len())
+    }
+}
+
+fn runs_once(alloc: Global, row: &Row, events: &[Event<'_>]) -> Result<Option<usize>, AllocError> {
+    let mut world = world_of(alloc, row)?;
+    let answers = world.run(events)?;
+    Ok(first_other(answers.as_slice(), row.asked))
+}
+
+// The same of the whole list.
+fn runs(alloc: Global, row: &Row, events: &[Event<'_>]) -> Result<Option<usize>, AllocError> {
+    match runs_once(alloc, row, events) {
+        Ok(wrong) => Ok(wrong),
+        Err(_) => runs_once(alloc, row, events),
+    }
+}
+
+// The first event that is answered otherwise in one of three ways.
+fn wrong_in(alloc: Global, row: &Row) -> Result<Option<usize>, AllocError> {
+    let events = asked(alloc, row.asked)?;
+    let stepped = steps(alloc, row)?;
+    let replayed = replays(alloc, row, events.as_slice())?;
+    let ran = runs(alloc, row, events.as_slice())?;
+    Ok(stepped.or(replayed).or(ran))
+}
+
+// The first row with such an event, and its place there.
+fn first_of(alloc: Global, rows: &[Row]) -> Result<Option<(usize, usize)>, AllocError> {
+    for (number, row) in rows.iter().enumerate() {
+        if let Some(place) = wrong_in(alloc, row)? {
+            return Ok(Some((number, place)));
+        }
+    }
+    Ok(None)
+}
+
 #[test]
-fn one_event_at_a_time(rt: HostRuntime) -> Result<(), Fail> {
-    let asked = events(rt.alloc(), ACTS)?;
-    assert_eq!(rt; first_replayed(rt.alloc(), asked.as_slice())?, None);
+fn rows_of_one_core(rt: HostRuntime) -> Result<(), Fail> {
+    for rows in rows::ROWS {
+        assert_eq!(rt; first_of(rt.alloc(), rows)?, None);
+    }
+    Ok(())
+}
+
+#[test]
+fn rows_of_several_cores(rt: HostRuntime) -> Result<(), Fail> {
+    for rows in core_rows::ROWS {
+        assert_eq!(rt; first_of(rt.alloc(), rows)?, None);
+    }
     Ok(())
 }
 
@@ -95,7 +134,8 @@ const DISPATCHERS: &[Act] = &[Act::Dispatcher(0); 12];
 // How many dispatchers there are: the first that has no turn.
 fn count(alloc: Global, world: &mut World) -> Result<usize, AllocError> {
     for place in 0..=SO_MANY {
-        if step(alloc, world, Act::Turn(DispatcherId { core: 0, place }))? != Word::Nothing {
+        let turn = Act::Turn(DispatcherId { core: 0, place });
+        if !answers(alloc, world, turn, Word::Nothing)? {
             return Ok(place);
         }
     }
@@ -119,7 +159,7 @@ fn runs_all(alloc: Global, world: &mut World, events: &[Event<'_>]) -> Result<bo
 #[test]
 fn memory_is_refused_in_a_run(rt: HostRuntime) -> Result<(), Fail> {
     let asked = events(rt.alloc(), DISPATCHERS)?;
-    let mut world = bare(rt.alloc(), 1)?;
+    let mut world = made(rt.alloc(), 1, &[])?;
     assert!(rt; runs_all(rt.alloc(), &mut world, asked.as_slice())?);
     assert_eq!(rt; count(rt.alloc(), &mut world)?, SO_MANY);
     Ok(())

@@ -1,10 +1,17 @@
-//! Worlds that are booted and driven. What is refused for want of memory is done again.
+//! Worlds that are booted and driven. What is refused for want of memory is done again: the world has to be as it was.
 
 use crate::acts::{Act, event, events};
-use crate::words::{Word, word_of};
-use fl_lines::Event;
+use crate::words::{Word, is};
+use fl_lines::{Answer, Event};
 use fl_system::{BootFault, Config, World};
 use std::alloc::{AllocError, Global};
+
+/// An example: a world of so many cores after a set-up, what is asked of it, and what it has to answer.
+pub struct Row {
+    pub cores: u8,
+    pub set_up: &'static [Act],
+    pub asked: &'static [(Act, Word)],
+}
 
 /// What a world is booted with.
 ///
@@ -31,71 +38,83 @@ pub fn booted(alloc: Global, cores: u8, acts: &[Act]) -> Result<World, BootFault
     }
 }
 
-/// A world of so many cores, and nothing else.
+/// The same where no event is refused.
 ///
 /// # Errors
 /// Want of memory.
-pub fn bare(alloc: Global, cores: u8) -> Result<World, AllocError> {
-    match booted(alloc, cores, &[]) {
+pub fn made(alloc: Global, cores: u8, acts: &[Act]) -> Result<World, AllocError> {
+    match booted(alloc, cores, acts) {
         Ok(world) => Ok(world),
         Err(_) => Err(AllocError),
     }
 }
 
-fn step_once(alloc: Global, world: &mut World, act: Act) -> Result<Word, AllocError> {
-    let answer = world.step(event(alloc, act)?)?;
-    Ok(word_of(&answer))
+fn step(alloc: Global, world: &mut World, act: Act) -> Result<Answer, AllocError> {
+    world.step(event(alloc, act)?)
 }
 
-/// Asks a world for an event; where memory is refused, twice: the world has to be as it was.
+/// Whether a world answers as it should.
 ///
 /// # Errors
 /// Want of memory.
-pub fn step(alloc: Global, world: &mut World, act: Act) -> Result<Word, AllocError> {
-    match step_once(alloc, world, act) {
-        Ok(word) => Ok(word),
-        Err(_) => step_once(alloc, world, act),
-    }
-}
-
-/// The same with an event that is lent.
-///
-/// # Errors
-/// Want of memory.
-pub fn replay(world: &mut World, event: &Event<'_>) -> Result<Word, AllocError> {
-    match world.replay(event) {
-        Ok(answer) => Ok(word_of(&answer)),
-        Err(_) => Ok(word_of(&world.replay(event)?)),
-    }
-}
-
-/// The first act that isn't answered as it should be, and its answer.
-///
-/// # Errors
-/// Want of memory.
-pub fn goes_on(
+pub fn answers(
     alloc: Global,
     world: &mut World,
-    rows: &[(Act, Word)],
-) -> Result<Option<(usize, Word)>, AllocError> {
-    for (place, (act, wanted)) in rows.iter().enumerate() {
-        let word = step(alloc, world, *act)?;
-        if word != *wanted {
-            return Ok(Some((place, word)));
-        }
+    act: Act,
+    wanted: Word,
+) -> Result<bool, AllocError> {
+    match step(alloc, world, act) {
+        Ok(answer) => Ok(is(&answer, wanted)),
+        Err(_) => Ok(is(&step(alloc, world, act)?, wanted)),
     }
-    Ok(None)
 }
 
-/// The same in a world of so many cores and nothing else.
+/// The same of an event that is lent.
+///
+/// # Errors
+/// Want of memory.
+pub fn answers_again(
+    world: &mut World,
+    event: &Event<'_>,
+    wanted: Word,
+) -> Result<bool, AllocError> {
+    match world.replay(event) {
+        Ok(answer) => Ok(is(&answer, wanted)),
+        Err(_) => Ok(is(&world.replay(event)?, wanted)),
+    }
+}
+
+/// The first act that isn't answered as it should be.
 ///
 /// # Errors
 /// Want of memory.
 pub fn first_wrong(
     alloc: Global,
-    cores: u8,
-    rows: &[(Act, Word)],
-) -> Result<Option<(usize, Word)>, AllocError> {
-    let mut world = bare(alloc, cores)?;
-    goes_on(alloc, &mut world, rows)
+    world: &mut World,
+    asked: &[(Act, Word)],
+) -> Result<Option<usize>, AllocError> {
+    for (place, (act, wanted)) in asked.iter().enumerate() {
+        if !answers(alloc, world, *act, *wanted)? {
+            return Ok(Some(place));
+        }
+    }
+    Ok(None)
+}
+
+/// How many times in a row all these acts are answered as they should be, at most so often.
+///
+/// # Errors
+/// Want of memory.
+pub fn times(
+    alloc: Global,
+    world: &mut World,
+    most: usize,
+    asked: &[(Act, Word)],
+) -> Result<usize, AllocError> {
+    for time in 0..most {
+        if first_wrong(alloc, world, asked)?.is_some() {
+            return Ok(time);
+        }
+    }
+    Ok(most)
 }
