@@ -26,12 +26,24 @@ pub struct Shape {
 const LINKS: [(usize, usize); 3] = [(0, 1), (1, 2), (2, 3)];
 
 impl Shape {
+    // The dispatcher of binding k on its side. Where some bindings make no calls, those that do are each at one of its own, if there are as many.
+    fn at(self, k: usize) -> usize {
+        let callers = self.bindings - self.first;
+        if self.first == 0 || self.dispatchers <= callers {
+            k % self.dispatchers
+        } else if k < self.first {
+            k % (self.dispatchers - callers)
+        } else {
+            self.dispatchers - callers + k - self.first
+        }
+    }
+
     fn client_at(self, k: usize) -> DispatcherId {
-        DispatcherId { core: 0, place: k % self.dispatchers }
+        DispatcherId { core: 0, place: self.at(k) }
     }
 
     fn server_at(self, k: usize) -> DispatcherId {
-        let place = k % self.dispatchers;
+        let place = self.at(k);
         match self.joint {
             Joint::Local => DispatcherId { core: 0, place: place + self.dispatchers },
             Joint::Ump => DispatcherId { core: 1, place },
