@@ -113,41 +113,52 @@ fn service(parts: &Parts, name: &[u8]) -> Option<(u32, u8, usize)> {
     }
 }
 
-#[test]
-fn the_cores_of_a_world(rt: HostRuntime) -> Result<(), Fail> {
-    let parts = apart(rt.alloc())?;
+// Cores 0 and 1 have two dispatchers with three ends, and one with one: of binding 0 an end each, of binding 1 both ends at core 0.
+fn cores_are(parts: &Parts) -> bool {
     let (first, last) = (parts.cores.get(0), parts.cores.get(1));
-    assert_eq!(rt;
-        (parts.cores.len(), counts(first), counts(last)),
-        (2, (2, 3), (1, 1))
-    );
-    assert_eq!(rt;
-        (place(first, CLIENT), place(first, SERVER_1)),
-        (Some(0), Some(2))
-    );
-    assert_eq!(rt;
-        (place(last, SERVER), place(last, SERVER_1)),
-        (Some(0), None)
-    );
-    Ok(())
+    parts.cores.len() == 2
+        && counts(first) == (2, 3)
+        && counts(last) == (1, 1)
+        && place(first, CLIENT) == Some(0)
+        && place(first, SERVER_1) == Some(2)
+        && place(last, SERVER) == Some(0)
+        && place(last, SERVER_1).is_none()
+}
+
+// A ring of the link and one of binding 0, two queues of binding 1.
+fn joints_are(parts: &Parts) -> bool {
+    parts.rings.len() == 2
+        && is_new(parts.rings.get(0))
+        && is_new(parts.rings.get(1))
+        && parts.queues.len() == 2
+}
+
+fn bindings_are(parts: &Parts) -> bool {
+    parts.bindings.len() == 2
+        && binding(parts, 0) == Some((0, 0, 1))
+        && binding(parts, 1) == Some((0, 0, 0))
+}
+
+fn services_are(parts: &Parts) -> bool {
+    parts.programs.len() == 1
+        && service(parts, b"s") == Some((1, 1, 0))
+        && service(parts, b"t") == Some((2, 0, 1))
+        && service(parts, b"u").is_none()
+}
+
+// Which parts are as they should be.
+fn are(alloc: Global) -> Result<[bool; 4], AllocError> {
+    let parts = apart(alloc)?;
+    Ok([
+        cores_are(&parts),
+        joints_are(&parts),
+        bindings_are(&parts),
+        services_are(&parts),
+    ])
 }
 
 #[test]
-fn what_joins_them(rt: HostRuntime) -> Result<(), Fail> {
-    let parts = apart(rt.alloc())?;
-    assert_eq!(rt;
-        (parts.rings.len(), parts.queues.len(), parts.programs.len()),
-        (2, 2, 1)
-    );
-    assert!(rt; is_new(parts.rings.get(0)) && is_new(parts.rings.get(1)));
-    assert_eq!(rt;
-        (binding(&parts, 0), binding(&parts, 1)),
-        (Some((0, 0, 1)), Some((0, 0, 0)))
-    );
-    assert_eq!(rt;
-        (service(&parts, b"s"), service(&parts, b"u")),
-        (Some((1, 1, 0)), None)
-    );
-    assert_eq!(rt; service(&parts, b"t"), Some((2, 0, 1)));
+fn the_parts_of_a_world(rt: HostRuntime) -> Result<(), Fail> {
+    assert_eq!(rt; are(rt.alloc())?, [true; 4]);
     Ok(())
 }

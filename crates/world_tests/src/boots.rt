@@ -2,7 +2,7 @@
 
 use crate::acts::{AT_0, AT_2, Act, PING};
 use crate::words::Word;
-use crate::worlds::{booted, first_wrong, made};
+use crate::worlds::{booted, first_wrong, first_wrong_after};
 use fl_system::{BootFault, World};
 use std::alloc::{AllocError, Global};
 use std::test::Fail;
@@ -76,14 +76,17 @@ const OF_SIXTEEN: &[(Act, Word)] = &[
     (Act::Dispatcher(15), Word::Done),
 ];
 
+// The first of these that isn't answered so in a new world.
+fn first_wrong_in_new(alloc: Global) -> Result<Option<usize>, AllocError> {
+    let mut world = new_world(alloc)?;
+    first_wrong(alloc, &mut world, OF_ONE_CORE)
+}
+
 #[test]
 fn the_fewest_and_most_cores(rt: HostRuntime) -> Result<(), Fail> {
-    let mut new = new_world(rt.alloc())?;
-    assert_eq!(rt; first_wrong(rt.alloc(), &mut new, OF_ONE_CORE)?, None);
-    let mut one = made(rt.alloc(), 1, &[])?;
-    assert_eq!(rt; first_wrong(rt.alloc(), &mut one, OF_ONE_CORE)?, None);
-    let mut most = made(rt.alloc(), 16, &[])?;
-    assert_eq!(rt; first_wrong(rt.alloc(), &mut most, OF_SIXTEEN)?, None);
+    assert_eq!(rt; first_wrong_in_new(rt.alloc())?, None);
+    assert_eq!(rt; first_wrong_after(rt.alloc(), 1, &[], OF_ONE_CORE)?, None);
+    assert_eq!(rt; first_wrong_after(rt.alloc(), 16, &[], OF_SIXTEEN)?, None);
     Ok(())
 }
 
@@ -104,7 +107,9 @@ const AFTER_IT: &[(Act, Word)] = &[
 
 #[test]
 fn a_world_after_its_set_up(rt: HostRuntime) -> Result<(), Fail> {
-    let mut world = made(rt.alloc(), 1, MORE_CORES)?;
-    assert_eq!(rt; first_wrong(rt.alloc(), &mut world, AFTER_IT)?, None);
+    assert_eq!(rt;
+        first_wrong_after(rt.alloc(), 1, MORE_CORES, AFTER_IT)?,
+        None
+    );
     Ok(())
 }

@@ -55,12 +55,21 @@ const AFTER_SEVENTEEN: &[(Act, Word)] = &[
     (Act::Turn(AT_0), Word::Nothing),
 ];
 
+// How many calls are sent, how many are handled, and what is answered otherwise then.
+fn replies(alloc: Global) -> Result<(i128, i128, Option<usize>), AllocError> {
+    let mut world = made(alloc, 1, REPLYING)?;
+    let sent = sends(alloc, &mut world, 18)?;
+    let handled = handles(alloc, &mut world, 17)?;
+    Ok((
+        sent,
+        handled,
+        first_wrong(alloc, &mut world, AFTER_SEVENTEEN)?,
+    ))
+}
+
 #[test]
 fn sixteen_replies_wait(rt: HostRuntime) -> Result<(), Fail> {
-    let mut world = made(rt.alloc(), 1, REPLYING)?;
-    assert_eq!(rt; sends(rt.alloc(), &mut world, 18)?, 18);
-    assert_eq!(rt; handles(rt.alloc(), &mut world, 17)?, 17);
-    assert_eq!(rt; first_wrong(rt.alloc(), &mut world, AFTER_SEVENTEEN)?, None);
+    assert_eq!(rt; replies(rt.alloc())?, (18, 17, None));
     Ok(())
 }
 
@@ -82,11 +91,25 @@ const AFTER_64: &[(Act, Word)] = &[
     (Act::Bind(AT_0, 0, b"s", NEAR), Word::Refused(75)),
 ];
 
+// How often an act is answered as it should be after a set-up, at most so many times, and what is answered otherwise then.
+fn so_many(
+    alloc: Global,
+    set_up: &[Act],
+    most: usize,
+    one: (Act, Word),
+    after: &[(Act, Word)],
+) -> Result<(usize, Option<usize>), AllocError> {
+    let mut world = made(alloc, 2, set_up)?;
+    let count = times(alloc, &mut world, most, &[one])?;
+    Ok((count, first_wrong(alloc, &mut world, after)?))
+}
+
 #[test]
 fn sixty_four_openings_wait(rt: HostRuntime) -> Result<(), Fail> {
-    let mut world = made(rt.alloc(), 2, BY_LINK)?;
-    assert_eq!(rt; times(rt.alloc(), &mut world, 64, &[OPENING])?, 64);
-    assert_eq!(rt; first_wrong(rt.alloc(), &mut world, AFTER_64)?, None);
+    assert_eq!(rt;
+        so_many(rt.alloc(), BY_LINK, 64, OPENING, AFTER_64)?,
+        (64, None)
+    );
     Ok(())
 }
 
@@ -117,7 +140,7 @@ fn opens(alloc: Global, world: &mut World, binding: usize) -> Result<bool, Alloc
     Ok(first_wrong(alloc, world, &asked)?.is_none())
 }
 
-// How many circuits are opened one after another.
+// How many circuits are opened one after another, at most so many.
 fn opened(alloc: Global, world: &mut World, most: usize) -> Result<usize, AllocError> {
     for binding in 0..most {
         if !opens(alloc, world, binding)? {
@@ -127,14 +150,19 @@ fn opened(alloc: Global, world: &mut World, most: usize) -> Result<usize, AllocE
     Ok(most)
 }
 
+// How many of 1,023 are, and what is answered otherwise then.
+fn circuits(alloc: Global) -> Result<(usize, Option<usize>), AllocError> {
+    let mut world = made(alloc, 2, BY_LINK)?;
+    let count = opened(alloc, &mut world, 1023)?;
+    Ok((count, first_wrong(alloc, &mut world, AFTER_1023)?))
+}
+
 // A link has 1,023 circuits, whatever became of them.
 const AFTER_1023: &[(Act, Word)] = &[(Act::Bind(AT_0, 0, b"s", NEAR), Word::Refused(74))];
 
 #[test]
 fn circuits_are_used_up(rt: HostRuntime) -> Result<(), Fail> {
-    let mut world = made(rt.alloc(), 2, BY_LINK)?;
-    assert_eq!(rt; opened(rt.alloc(), &mut world, 1023)?, 1023);
-    assert_eq!(rt; first_wrong(rt.alloc(), &mut world, AFTER_1023)?, None);
+    assert_eq!(rt; circuits(rt.alloc())?, (1023, None));
     Ok(())
 }
 
@@ -152,7 +180,7 @@ const THREE_SERVICES: &[Act] = &[
 // Both ends of a binding of a dispatcher to itself stand there: so many of them fill its 1,024 places.
 const BINDINGS: usize = 512;
 
-const TO_ITSELF: &[(Act, Word)] = &[(Act::Bind(AT_0, 0, b"s", Joint::Local(1)), Word::Done)];
+const TO_ITSELF: (Act, Word) = (Act::Bind(AT_0, 0, b"s", Joint::Local(1)), Word::Done);
 
 // The next binding's client.
 const NEXT: EndId = EndId {
@@ -183,11 +211,7 @@ const AFTER_512: &[(Act, Word)] = &[
 
 #[test]
 fn a_dispatcher_is_full(rt: HostRuntime) -> Result<(), Fail> {
-    let mut world = made(rt.alloc(), 2, THREE_SERVICES)?;
-    assert_eq!(rt;
-        times(rt.alloc(), &mut world, BINDINGS, TO_ITSELF)?,
-        BINDINGS
-    );
-    assert_eq!(rt; first_wrong(rt.alloc(), &mut world, AFTER_512)?, None);
+    let got = so_many(rt.alloc(), THREE_SERVICES, BINDINGS, TO_ITSELF, AFTER_512)?;
+    assert_eq!(rt; got, (BINDINGS, None));
     Ok(())
 }

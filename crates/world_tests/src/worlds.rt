@@ -118,3 +118,17 @@ pub fn times(
     }
     Ok(most)
 }
+
+/// The same in a world of so many cores after a set-up.
+///
+/// # Errors
+/// Want of memory.
+pub fn first_wrong_after(
+    alloc: Global,
+    cores: u8,
+    set_up: &[Act],
+    asked: &[(Act, Word)],
+) -> Result<Option<usize>, AllocError> {
+    let mut world = made(alloc, cores, set_up)?;
+    first_wrong(alloc, &mut world, asked)
+}
