@@ -1,6 +1,6 @@
 //! A world taken apart.
 
-ghost use Rattle.std.specs.Prelude.{◌≡◌};
+ghost use Rattle.std.specs.Prelude.{◌≡◌, map};
 ghost use Rattle.std.specs.List.{list_all};
 ghost use Rattle.fl_lines.specs.Events.{event_of};
 ghost use Rattle.fl_system.specs.Apart.{is_making};
@@ -43,11 +43,19 @@ fn is_making(event: &Event<'_>) -> bool
     }
 }
 
-// Whether all do.
-fn all_making(events: &[Event<'_>]) -> bool
-    ensures all { result ≡ list_all (λ v. is_making (event_of v)) events.now }
+// Whether each of them does.
+fn each_makes(events: &[Event<'_>]) -> bool
+    ensures each { result ≡ list_all (λ v. is_making (event_of v)) events.now }
 {
     events.iter().all(|event| is_making(event))
+}
+
+// The same, of the list of what is asked.
+#[tactic(auto, using(crate::proofs::Making::all_mapped))]
+fn all_making(events: &[Event<'_>]) -> bool
+    ensures all { result ≡ list_all is_making (map event_of events.now) }
+{
+    each_makes(events)
 }
 
 fn apart_once(alloc: Global, config: &Config<'_>) -> Result<Option<Parts>, BootFault> {
