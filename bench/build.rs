@@ -11,6 +11,7 @@ fn sources(package: &str) -> &'static [&'static str] {
         "lists-bench" => &["flounder_bench"],
         "rings-bench" => &["flounder_bench", "flounder_threads"],
         "stubs-bench" => &["stubs_bench"],
+        "world-bench" => &["world_bench"],
         _ => panic!("which sources {package} needs isn't known"),
     }
 }

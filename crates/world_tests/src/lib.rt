@@ -1,0 +1,35 @@
+//! Tests of worlds, over their public calls alone, with events as values. They stand here and not in `fl_system`, since a crate with
+//! tests is proved twice. The same rows as scripts stand in `program_tests`.
+//!
+//! - `acts.rt`: what is asked, as plain data, and the events that are made of it
+//! - `words.rt`: what is said in calls and in answers
+//! - `worlds.rt`: worlds that are booted and driven
+//! - `boots.rt`: worlds booted, and refused
+//! - `rows.rt`, `core_rows.rt`: worked rows of one core and of several
+//! - `runs.rt`: the rows asked in three ways, and memory that is refused in the midst of a list
+//! - `limits.rt`: so many of a kind, and one more
+//! - `apart.rt`: a world taken apart
+//!
+//! What is refused for want of memory leaves its world as it was, and is done again. So with any one allocation refused
+//! (`rt try --test --fail-alloc N`) all tests pass. No row meets E76, plans that differ: interfaces of one name in one world are one
+//! interface with one plan, and a second is refused.
+#![tactic(auto)]
+
+#[cfg(test)]
+mod acts;
+#[cfg(test)]
+mod apart;
+#[cfg(test)]
+mod boots;
+#[cfg(test)]
+mod core_rows;
+#[cfg(test)]
+mod limits;
+#[cfg(test)]
+mod rows;
+#[cfg(test)]
+mod runs;
+#[cfg(test)]
+mod words;
+#[cfg(test)]
+mod worlds;
