@@ -194,7 +194,7 @@ pub fn print_answer(
         Answer::Written { k, n } => put_written(out, *k, *n),
         Answer::Handle { end, call } => {
             put_of_end(out, b"handle ", names, *end)?;
-            out.push(b' ')?;
+            out.extend_from_slice(b" ")?;
             put_call(alloc, out, names, *end, call)
         }
         Answer::Part(end) => put_of_end(out, b"part ", names, *end),
