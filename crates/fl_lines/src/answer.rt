@@ -71,9 +71,9 @@ fn digit(value: u8) -> u8
     digits[usize::from(value)]
 }
 
-// A word's 16 digits.
-fn hex_digits(word: u64) -> [u8; 16]
-    ensures { result ≡ hex word }
+// A word's 16 digits, and a space behind them.
+fn spaced_digits(word: u64) -> [u8; 17]
+    ensures { result ≡ hex word ++ codes " " }
 {
     let [a, b, c, d, e, f, g, h] = word.to_be_bytes();
     [
@@ -93,24 +93,27 @@ fn hex_digits(word: u64) -> [u8; 16]
         digit(g % 16),
         digit(h / 16),
         digit(h % 16),
+        b' ',
     ]
 }
 
-// The same; most words of a short call's fragment are 0.
-fn word_digits(word: u64) -> [u8; 16]
-    ensures { result ≡ hex word }
+// A word in hexadecimal, and a space behind it; most words of a short call's fragment are 0.
+fn put_spaced(out: &mut Vec<u8>, word: u64) -> Result<(), AllocError>
+    ensures ok { OnOk result (out.new.items ≡ out.old.items ++ (hex word ++ codes " ")) }
 {
     if word == 0 {
-        return *b"0000000000000000";
+        return out.extend_from_slice(b"0000000000000000 ");
     }
-    hex_digits(word)
+    let digits = spaced_digits(word);
+    out.extend_from_slice(digits.as_slice())
 }
 
-fn put_hex(out: &mut Vec<u8>, word: u64) -> Result<(), AllocError>
+// A word in hexadecimal.
+fn put_last(out: &mut Vec<u8>, word: u64) -> Result<(), AllocError>
     ensures ok { OnOk result (out.new.items ≡ out.old.items ++ hex word) }
 {
-    let digits = word_digits(word);
-    out.extend_from_slice(digits.as_slice())
+    let digits = spaced_digits(word);
+    out.extend_from_slice(&digits[..16])
 }
 
 // Eight words in hexadecimal, the control word last.
@@ -118,10 +121,9 @@ fn put_frag(out: &mut Vec<u8>, frag: &Frag) -> Result<(), AllocError>
     ensures ok { OnOk result (out.new.items ≡ out.old.items ++ frag_text frag.now) }
 {
     for word in frag.words {
-        put_hex(out, word)?;
-        out.push(b' ')?;
+        put_spaced(out, word)?;
     }
-    put_hex(out, frag.control)
+    put_last(out, frag.control)
 }
 
 // An end: its binding's name, and `.c` or `.s`.

@@ -1,5 +1,5 @@
 use Rattle.std.proofs.Common.{refl}
-use Rattle.fl_lines.proofs.answer.hex_digits.Goals as goal
+use Rattle.fl_lines.proofs.answer.spaced_digits.Goals as goal
 
 pub returns : goal.returns
 returns c =
