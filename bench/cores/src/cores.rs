@@ -2,77 +2,13 @@
 //! refuse what the proved cores refuse of what happens here; their circuits are entered by hand and not by monitors.
 
 use crate::calls::{Call, Frag, Value};
+use crate::dispatcher::{Dispatcher, List};
 use crate::plain::{Run, Stub, flatten};
 use crate::receiver::{Fed, Taking, sum_of_call, unflatten};
 use crate::ring::{Duo, Sight};
 use std::collections::VecDeque;
 
 const ARRIVALS: usize = 16;
-
-#[derive(Clone, Copy, PartialEq)]
-enum List {
-    Idle,
-    Pending,
-    Polled,
-}
-
-#[derive(Clone, Copy)]
-struct Node {
-    before: usize,
-    after: usize,
-    list: List,
-}
-
-/// A dispatcher: its ends in three lists, joined by their places.
-struct Dispatcher {
-    ends: Vec<usize>,
-    nodes: Vec<Node>,
-    first: [usize; 3],
-    last: [usize; 3],
-}
-
-const NONE: usize = usize::MAX;
-
-impl Dispatcher {
-    fn new() -> Dispatcher {
-        Dispatcher { ends: Vec::new(), nodes: Vec::new(), first: [NONE; 3], last: [NONE; 3] }
-    }
-
-    fn push(&mut self, c: usize, list: List) {
-        let last = self.last[list as usize];
-        self.nodes[c] = Node { before: last, after: NONE, list };
-        match last {
-            NONE => self.first[list as usize] = c,
-            last => self.nodes[last].after = c,
-        }
-        self.last[list as usize] = c;
-    }
-
-    fn remove(&mut self, c: usize) {
-        let Node { before, after, list } = self.nodes[c];
-        match before {
-            NONE => self.first[list as usize] = after,
-            before => self.nodes[before].after = after,
-        }
-        match after {
-            NONE => self.last[list as usize] = before,
-            after => self.nodes[after].before = before,
-        }
-    }
-
-    #[inline]
-    fn put_back(&mut self, c: usize, list: List) {
-        self.remove(c);
-        self.push(c, list);
-    }
-
-    #[inline]
-    fn trigger(&mut self, c: usize) {
-        if self.nodes[c].list == List::Idle {
-            self.put_back(c, List::Pending);
-        }
-    }
-}
 
 /// By what an end is joined to the other of its binding.
 #[derive(Clone, Copy)]
@@ -142,11 +78,9 @@ impl<'a> Core<'a> {
     }
 
     pub fn add_end(&mut self, dispatcher: usize, stub: &'a Stub, wire: Wire) -> usize {
-        let (e, at) = (self.ends.len(), &mut self.dispatchers[dispatcher]);
-        let channel = at.ends.len();
-        at.ends.push(e);
-        at.nodes.push(Node { before: NONE, after: NONE, list: List::Idle });
-        at.push(channel, if let Wire::Ring(_) = wire { List::Polled } else { List::Idle });
+        let e = self.ends.len();
+        let list = if let Wire::Ring(_) = wire { List::Polled } else { List::Idle };
+        let channel = self.dispatchers[dispatcher].add(e, list);
         let taking = Taking::new(&stub.receive, stub.tape.len());
         let arrivals = VecDeque::with_capacity(ARRIVALS);
         self.ends.push(End { stub, run: None, next: None, taking, failed: false, wire, arrivals, dispatcher, channel });
@@ -201,15 +135,13 @@ impl<'a> Core<'a> {
     #[inline(never)]
     pub fn turn(&mut self, dispatcher: usize, rings: &mut [Duo]) -> u64 {
         let at = &mut self.dispatchers[dispatcher];
-        let c = at.first[List::Pending as usize];
-        if c == NONE {
-            let c = at.first[List::Polled as usize];
-            if c != NONE {
+        let Some(c) = at.first(List::Pending) else {
+            if let Some(c) = at.first(List::Polled) {
                 self.examine(dispatcher, c, rings);
             }
             return 0;
-        }
-        let end = &mut self.ends[at.ends[c]];
+        };
+        let end = &mut self.ends[at.end(c)];
         let call = match end.wire {
             Wire::Ring(ring) => {
                 let call = match rings[ring].peek(self.side) {
@@ -232,7 +164,7 @@ impl<'a> Core<'a> {
 
     fn examine(&mut self, dispatcher: usize, c: usize, rings: &mut [Duo]) {
         let at = &mut self.dispatchers[dispatcher];
-        let Wire::Ring(ring) = self.ends[at.ends[c]].wire else {
+        let Wire::Ring(ring) = self.ends[at.end(c)].wire else {
             return;
         };
         match rings[ring].peek(self.side) {

@@ -7,6 +7,7 @@
 #[path = "../../calls/src/plain.rs"]
 mod calls;
 mod cores;
+mod dispatcher;
 #[allow(dead_code)]
 #[path = "../../stubs/src/plain.rs"]
 mod plain;

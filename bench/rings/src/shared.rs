@@ -213,17 +213,32 @@ impl Side {
         has_room
     }
 
+    /// What stands first. It is left there.
     #[inline]
-    pub fn take(&mut self) -> Sight {
+    pub fn peek(&mut self) -> Sight {
         let first = self.other + self.take.word();
         match self.table.read(first, self.take.epoch) {
             None => Sight::Empty,
             Some(words) => {
                 self.learn(words[7]);
-                self.take.advance();
                 sight(words)
             }
         }
+    }
+
+    /// Takes what a peek has seen.
+    #[inline]
+    pub fn skip(&mut self) {
+        self.take.advance();
+    }
+
+    #[inline]
+    pub fn take(&mut self) -> Sight {
+        let seen = self.peek();
+        if !matches!(seen, Sight::Empty) {
+            self.skip();
+        }
+        seen
     }
 
     /// Tells what was taken, where that is at least half of the slots and there is room to.

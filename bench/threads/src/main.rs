@@ -1,0 +1,220 @@
+//! Cores on threads: `flounder cores` beside a plain program that runs the same files with the same rings and turns, a thread for each core.
+//!
+//! `cargo run --release -- FLOUNDER` runs all kinds of files with the built program FLOUNDER; a word behind it (`ring`, `circuit`, `hops`, `rule`) runs one.
+//! Each run is a process: the sides take turns, each first as often as the others, and have to write the same report. The time of the turns is that of a
+//! whole run less that of a run of the same file without turns, which reads it and wires the cores. With the word `instructions` those of turns over a ring
+//! are counted in place of time, by valgrind.
+
+#[allow(dead_code)]
+#[path = "../../calls/src/plain.rs"]
+mod calls;
+mod core;
+#[path = "../../cores/src/dispatcher.rs"]
+mod dispatcher;
+mod files;
+#[allow(dead_code)]
+#[path = "../../stubs/src/plain.rs"]
+mod machine;
+#[allow(dead_code)]
+#[path = "../../rings/src/plain.rs"]
+mod queue;
+mod reading;
+#[allow(dead_code)]
+#[path = "../../stubs/src/receiver.rs"]
+mod receiver;
+mod run;
+#[allow(dead_code)]
+#[path = "../../rings/src/shared.rs"]
+mod shared;
+
+/// What the modules of other benchmarks know by this name.
+mod plain {
+    pub use crate::machine::*;
+    pub use crate::queue::*;
+}
+
+use files::{KINDS, Kind};
+use run::Plan;
+use std::env;
+use std::fs;
+use std::path::{Path, PathBuf};
+use std::process::{Command, exit};
+use std::time::Instant;
+
+/// How many calls a file has, and how often each side runs it: short runs, since other work on the machine takes a thread its processor now and then, and
+/// the least of many.
+const CALLS: u64 = 4_000;
+const RUNS: usize = 60;
+
+/// More turns than any run takes.
+const MANY: u64 = 1_000_000_000_000;
+
+/// How often a plain core pauses that found nothing to do.
+const PAUSES: [u64; 2] = [0, 20];
+
+/// A program that runs cores files.
+enum Side {
+    Proved(PathBuf),
+    Plain(u64),
+}
+
+impl Side {
+    fn name(&self) -> String {
+        match self {
+            Side::Proved(_) => "flounder".to_string(),
+            Side::Plain(0) => "plain".to_string(),
+            Side::Plain(pauses) => format!("plain, {pauses} pauses"),
+        }
+    }
+
+    fn command(&self, file: &Path, turns: u64) -> Command {
+        match self {
+            Side::Proved(program) => {
+                let mut command = Command::new(program);
+                command.arg("cores").arg(file).args(["--turns".to_string(), turns.to_string()]);
+                command
+            }
+            Side::Plain(pauses) => {
+                let mut command = Command::new(env::current_exe().expect("this program"));
+                command.arg("plain").arg(file).args([turns.to_string(), pauses.to_string()]);
+                command
+            }
+        }
+    }
+
+    // The milliseconds of a run, and its report.
+    fn run(&self, file: &Path, turns: u64) -> (f64, Vec<u8>) {
+        let start = Instant::now();
+        let output = self.command(file, turns).output().expect("the program runs");
+        (start.elapsed().as_secs_f64() * 1e3, output.stdout)
+    }
+}
+
+/// The times of a side: without turns, and of whole runs.
+#[derive(Default)]
+struct Times {
+    reading: Vec<f64>,
+    whole: Vec<f64>,
+}
+
+impl Times {
+    // Of whole runs and of their turns, the time at this part of all.
+    fn at(&mut self, part: f64) -> [f64; 2] {
+        let [reading, whole] = [&mut self.reading, &mut self.whole].map(|times| {
+            times.sort_by(f64::total_cmp);
+            times[(part * (times.len() - 1) as f64) as usize]
+        });
+        [whole, whole - reading]
+    }
+}
+
+// Runs each side once; all reports have to be the same.
+fn round(sides: &[Side], file: &Path, first: usize, times: &mut [Times]) {
+    let mut reports = Vec::new();
+    for k in 0..sides.len() {
+        let k = (first + k) % sides.len();
+        let (reading, _) = sides[k].run(file, 0);
+        let (whole, report) = sides[k].run(file, MANY);
+        times[k].reading.push(reading);
+        times[k].whole.push(whole);
+        reports.push(report);
+    }
+    assert!(reports[0].ends_with(b"complete\n"), "a run isn't complete");
+    assert!(reports.iter().all(|report| *report == reports[0]), "the reports differ");
+}
+
+fn sides(program: &Path, pauses: &[u64]) -> Vec<Side> {
+    let plain = pauses.iter().map(|pauses| Side::Plain(*pauses));
+    [Side::Proved(program.to_path_buf())].into_iter().chain(plain).collect()
+}
+
+// A file of this kind, for as long as it is needed.
+fn with_file(kind: &Kind, run: impl FnOnce(&Path)) {
+    let file = env::temp_dir().join(format!("threads-bench-{}.cores", kind.word));
+    fs::write(&file, (kind.text)(CALLS)).expect("a file");
+    run(&file);
+    fs::remove_file(file).expect("the file");
+}
+
+// The least times of each side, and the middle ones; each time with the ratio of it and ours.
+fn report(kind: &Kind, program: &Path, file: &Path) {
+    let sides = sides(program, &PAUSES);
+    let mut times: Vec<Times> = sides.iter().map(|_| Times::default()).collect();
+    for run in 0..RUNS {
+        round(&sides, file, run, &mut times);
+    }
+    println!("{}", kind.name);
+    let ours = [0.0, 0.5].map(|part| times[0].at(part));
+    for (side, times) in sides.iter().zip(&mut times) {
+        let shown = [0.0, 0.5].map(|part| times.at(part));
+        let ratio = |part: usize, of: usize| format!("{:6.2} ms ({:.2})", shown[part][of], shown[part][of] / ours[part][of]);
+        println!(
+            "{:<17} least: whole {}, turns {}, {:5.2} M calls/s   middle: whole {}, turns {}",
+            side.name(),
+            ratio(0, 0),
+            ratio(0, 1),
+            CALLS as f64 / shown[0][1] / 1e3,
+            ratio(1, 0),
+            ratio(1, 1),
+        );
+    }
+}
+
+// The instructions of a run, by valgrind, which runs one thread at a time.
+fn instructions(side: &Side, file: &Path, turns: u64) -> f64 {
+    let asked = side.command(file, turns);
+    let run = Command::new("valgrind")
+        .args(["--tool=callgrind", "--fair-sched=yes", "--callgrind-out-file=/dev/null"])
+        .arg(asked.get_program())
+        .args(asked.get_args())
+        .output()
+        .expect("valgrind");
+    let said = String::from_utf8_lossy(&run.stderr);
+    let count = said.split("Collected :").nth(1).expect("a count");
+    count.trim().split_whitespace().next().expect("a number").parse().expect("a number")
+}
+
+/// Turns of each core from so many to so many, as two cores take them one after the other: a slice of valgrind's is longer.
+const STRETCHES: [(&str, u64, u64); 2] = [
+    ("a turn that makes and writes a call, one in four of which handles one", 20, 60),
+    ("a turn that finds a full ring", 160, 260),
+];
+
+fn count_instructions(program: &Path, file: &Path) {
+    for (name, from, to) in STRETCHES {
+        let counts = sides(program, &[0]).iter().map(|side| instructions(side, file, to) - instructions(side, file, from)).collect::<Vec<f64>>();
+        let [ours, theirs] = [0, 1].map(|side| counts[side] / (2 * (to - from)) as f64);
+        println!("{name}: proved {ours:5.0} instructions, plain {theirs:5.0}, ratio {:.2}", theirs / ours);
+    }
+}
+
+// The plain program: a file, turns, pauses.
+fn run_plain(words: &[String]) {
+    let [file, turns, pauses] = words else {
+        panic!("a file, turns and pauses");
+    };
+    let text = fs::read_to_string(file).expect("a cores file");
+    let plan = Plan { limit: turns.parse().expect("a number"), pauses: pauses.parse().expect("a number") };
+    print!("{}", run::run(&reading::read(&text), plan));
+}
+
+fn main() {
+    let words: Vec<String> = env::args().skip(1).collect();
+    let Some((first, rest)) = words.split_first() else {
+        eprintln!("threads-bench FLOUNDER [ring|circuit|hops|rule|instructions]");
+        exit(1);
+    };
+    if first == "plain" {
+        return run_plain(rest);
+    }
+    let program = Path::new(first);
+    if rest.iter().any(|word| word == "instructions") {
+        return with_file(&KINDS[0], |file| count_instructions(program, file));
+    }
+    println!("{CALLS} calls a file, {RUNS} runs of each side; in brackets the plain program's time over ours, so above 1 we are faster");
+    for kind in KINDS {
+        if rest.is_empty() || rest.iter().any(|word| word == kind.word) {
+            with_file(&kind, |file| report(&kind, program, file));
+        }
+    }
+}
