@@ -72,6 +72,7 @@ impl<M: QueueMachine> Script<M> {
     }
 
     // Asks the system an event that gives no name, and writes the answer.
+    #[inline(always)]
     fn ask(&mut self, event: Event<'_>, out: &mut Vec<u8>) -> Result<(), AllocError>
         ensures ok { OnOk result (AnswersBy M.shows self.old self.new out.old.items out.new.items
             (λ s. effect_of s (asks (event_of event.entry) s.names))) }
@@ -117,6 +118,7 @@ impl<M: QueueMachine> Script<M> {
     }
 
     // The same of what is asked with no name.
+    #[inline(always)]
     fn answer_event(
         &mut self,
         told: Result<Event<'_>, LineFault>,
@@ -193,14 +195,80 @@ impl<M: QueueMachine> Script<M> {
         }
     }
 
-    // A line that begins with this word, from what stands behind it.
-    fn line(&mut self, verb: Verb, rest: &[u8], out: &mut Vec<u8>) -> Result<(), AllocError>
+    // A line that begins with this word, from what stands behind it. Inlined where the word is known: then nothing
+    // is prepared for lines of other words.
+    #[inline(always)]
+    fn known_line(&mut self, verb: Verb, rest: &[u8], out: &mut Vec<u8>) -> Result<(), AllocError>
         ensures ok { OnOk result (Answers M.shows self.old self.new out.old.items out.new.items
             (λ s. Does s (a_line (line_with (command_by verb rest.now))))) }
     {
         match self.names.event(verb, rest) {
             Some(told) => self.answer_event(told, out),
             None => self.seldom_line(verb, rest, out),
+        }
+    }
+
+    #[inline(never)]
+    fn call_line(&mut self, rest: &[u8], out: &mut Vec<u8>) -> Result<(), AllocError>
+        ensures ok { OnOk result (Answers M.shows self.old self.new out.old.items out.new.items
+            (λ s. Does s (a_line (line_with (command_by Verb.Call rest.now))))) }
+    {
+        self.known_line(Verb::Call, rest, out)
+    }
+
+    #[inline(never)]
+    fn write_line(&mut self, rest: &[u8], out: &mut Vec<u8>) -> Result<(), AllocError>
+        ensures ok { OnOk result (Answers M.shows self.old self.new out.old.items out.new.items
+            (λ s. Does s (a_line (line_with (command_by Verb.Write rest.now))))) }
+    {
+        self.known_line(Verb::Write, rest, out)
+    }
+
+    #[inline(never)]
+    fn turn_line(&mut self, rest: &[u8], out: &mut Vec<u8>) -> Result<(), AllocError>
+        ensures ok { OnOk result (Answers M.shows self.old self.new out.old.items out.new.items
+            (λ s. Does s (a_line (line_with (command_by Verb.Turn rest.now))))) }
+    {
+        self.known_line(Verb::Turn, rest, out)
+    }
+
+    #[inline(never)]
+    fn show_line(&mut self, rest: &[u8], out: &mut Vec<u8>) -> Result<(), AllocError>
+        ensures ok { OnOk result (Answers M.shows self.old self.new out.old.items out.new.items
+            (λ s. Does s (a_line (line_with (command_by Verb.Show rest.now))))) }
+    {
+        self.known_line(Verb::Show, rest, out)
+    }
+
+    #[inline(never)]
+    fn ack_line(&mut self, rest: &[u8], out: &mut Vec<u8>) -> Result<(), AllocError>
+        ensures ok { OnOk result (Answers M.shows self.old self.new out.old.items out.new.items
+            (λ s. Does s (a_line (line_with (command_by Verb.Ack rest.now))))) }
+    {
+        self.known_line(Verb::Ack, rest, out)
+    }
+
+    #[inline(never)]
+    fn forward_line(&mut self, rest: &[u8], out: &mut Vec<u8>) -> Result<(), AllocError>
+        ensures ok { OnOk result (Answers M.shows self.old self.new out.old.items out.new.items
+            (λ s. Does s (a_line (line_with (command_by Verb.Forward rest.now))))) }
+    {
+        self.known_line(Verb::Forward, rest, out)
+    }
+
+    // The same, by the words that are repeated most.
+    fn line(&mut self, verb: Verb, rest: &[u8], out: &mut Vec<u8>) -> Result<(), AllocError>
+        ensures ok { OnOk result (Answers M.shows self.old self.new out.old.items out.new.items
+            (λ s. Does s (a_line (line_with (command_by verb rest.now))))) }
+    {
+        match verb {
+            Verb::Call => self.call_line(rest, out),
+            Verb::Write => self.write_line(rest, out),
+            Verb::Turn => self.turn_line(rest, out),
+            Verb::Show => self.show_line(rest, out),
+            Verb::Ack => self.ack_line(rest, out),
+            Verb::Forward => self.forward_line(rest, out),
+            _ => self.seldom_line(verb, rest, out),
         }
     }
 

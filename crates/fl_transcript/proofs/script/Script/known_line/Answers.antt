@@ -1,6 +1,6 @@
 use Rattle.fl_lines.specs.Reading.{command_by}
 use Rattle.fl_transcript.proofs.LineLemmas.{told_line}
-use Rattle.fl_transcript.proofs.script.Script.line.Goals as goal
+use Rattle.fl_transcript.proofs.script.Script.known_line.Goals as goal
 
 pub returns-in-Some : goal.returns-in-Some
 returns-in-Some g c =
