@@ -190,6 +190,7 @@ impl World {
     ///
     /// # Errors
     /// Want of memory.
+    #[inline(never)]
     pub(crate) fn bind(
         &mut self,
         client: DispatcherId,

@@ -158,6 +158,7 @@ impl World {
     ///
     /// # Errors
     /// Want of memory.
+    #[inline(never)]
     pub(crate) fn forward(&mut self, core: u32, neighbour: u32) -> Result<Answer, AllocError>
         ensures forwards { IfOk result (λ a. Forwards core neighbour self.old (answer_of a) self.new) }
         ensures kept { OnErr result (self.new ≡ self.old) }
@@ -235,6 +236,7 @@ impl World {
     }
 
     // What stands first, and was seen, is heard. After want of memory the side knows what it knew before the look.
+    #[inline(never)]
     fn hear_first(
         &mut self,
         n: usize,

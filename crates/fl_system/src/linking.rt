@@ -71,6 +71,7 @@ fn ack_by_ring(core: &Core, link: LinkId, ring: &mut OneDuo, m: usize) -> Answer
 
 impl World {
     /// A core's monitor writes the message that waits first for its link to a neighbour.
+    #[inline(never)]
     pub(crate) fn monitor_write(&mut self, core: u32, neighbour: u32) -> Answer
         ensures writes { WritesMessage core neighbour self.old (answer_of result) self.new }
     {
@@ -92,6 +93,7 @@ impl World {
     }
 
     /// A core tells what was taken on its link to a neighbour.
+    #[inline(never)]
     pub(crate) fn monitor_acknowledge(&mut self, core: u32, neighbour: u32) -> Answer
         ensures acks { AcksLink core neighbour self.old (answer_of result) self.new }
     {

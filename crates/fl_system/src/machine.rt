@@ -16,6 +16,7 @@ impl QueueMachine for World {
         World::with_cores(alloc, 1)
     }
 
+    #[inline(always)]
     fn step(&mut self, event: Event<'_>) -> Result<Answer, AllocError> {
         self.replay(&event)
     }

@@ -137,6 +137,7 @@ impl World {
     ///
     /// # Errors
     /// Want of memory.
+    #[inline(never)]
     pub(crate) fn add_interface(
         &mut self,
         interface: &Interface,
@@ -168,6 +169,7 @@ impl World {
     ///
     /// # Errors
     /// Want of memory.
+    #[inline(never)]
     pub(crate) fn set_cores(&mut self, n: u32) -> Result<Answer, AllocError>
         ensures sets { IfOk result (λ a. SetsCores n self.old (answer_of a) self.new) }
         ensures kept { OnErr result (self.new ≡ self.old) }
@@ -186,6 +188,7 @@ impl World {
     ///
     /// # Errors
     /// Want of memory.
+    #[inline(never)]
     pub(crate) fn add_dispatcher(&mut self, core: u32) -> Result<Answer, AllocError>
         ensures adds { IfOk result (λ a. AddsDispatcher core self.old (answer_of a) self.new) }
         ensures kept { OnErr result (self.new ≡ self.old) }
@@ -207,6 +210,7 @@ impl World {
     ///
     /// # Errors
     /// Want of memory.
+    #[inline(never)]
     pub(crate) fn export(
         &mut self,
         name: &[u8],
@@ -276,6 +280,7 @@ impl World {
     ///
     /// # Errors
     /// Want of memory.
+    #[inline(never)]
     pub(crate) fn add_link(&mut self, a: u32, b: u32, slots: u32) -> Result<Answer, AllocError>
         ensures adds { IfOk result (λ answer. AddsLink a b slots self.old (answer_of answer) self.new) }
         ensures kept { OnErr result (self.new ≡ self.old) }

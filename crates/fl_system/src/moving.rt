@@ -181,6 +181,7 @@ impl World {
     }
 
     // What stands first, and was seen, arrives for an end of the core.
+    #[inline(never)]
     pub(crate) fn arrive(&mut self, n: usize, at: Lane, frag: &Frag, name: EndId) -> Answer
         requires link { HasLink self.old.cores n at.link.0 }
         requires ring { ring_at at.side < length self.old.rings }

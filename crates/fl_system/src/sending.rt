@@ -80,6 +80,7 @@ impl World {
     ///
     /// # Errors
     /// Want of memory.
+    #[inline(never)]
     pub(crate) fn call(&mut self, e: EndId, call: &Call) -> Result<Answer, AllocError>
         ensures calls { IfOk result (λ a. MakesCall e (call_of call.now) self.old (answer_of a) self.new) }
         ensures kept { OnErr result (self.new ≡ self.old) }
@@ -100,6 +101,7 @@ impl World {
         call_in(core, place, call)
     }
 
+    #[inline(never)]
     fn call_unmade(&mut self, n: usize, call: &Call) -> Result<Answer, AllocError>
         requires binding { n < length self.old.bindings }
         ensures calls { IfOk result (λ a. AtUnmadeOrNone self.old n (CallsWith (call_of call.now) (answer_of a)) (answer_of a) self.new) }
@@ -146,6 +148,7 @@ fn show_by_ring(core: &Core, place: usize, ring: &mut OneDuo, m: usize) -> Answe
 
 impl World {
     /// An end shows the fragment that it would write next.
+    #[inline(never)]
     pub(crate) fn show(&mut self, e: EndId) -> Answer
         ensures shows { Previews e self.old (answer_of result) self.new }
     {
@@ -248,6 +251,7 @@ fn write_by_ring(core: &mut Core, place: usize, ring: &mut OneDuo, m: usize) -> 
 
 impl World {
     /// An end writes its next fragment.
+    #[inline(never)]
     pub(crate) fn write(&mut self, e: EndId) -> Answer
         ensures writes { WritesFragment e self.old (answer_of result) self.new }
     {

@@ -35,7 +35,8 @@ fn leaves_cores_open(event: &Event<'_>, answer: &Answer) -> bool
 }
 
 impl World {
-    // What the event does.
+    // What the event does. Each kind of event is a function by itself, so that none prepares what another needs.
+    #[inline(always)]
     fn does(&mut self, event: &Event<'_>) -> Result<Answer, AllocError>
         ensures does { IfOk result (λ a. Does (event_of event.now) self.old (answer_of a) self.new) }
         ensures kept { OnErr result (self.new ≡ self.old) }
@@ -91,6 +92,7 @@ impl World {
     ///
     /// # Errors
     /// Want of memory, for events that make something, make or handle calls, or hear messages. Nothing has changed.
+    #[inline(always)]
     pub fn replay(&mut self, event: &Event<'_>) -> Result<Answer, AllocError>
         ensures steps { IfOk result (λ a. Steps (event_of event.now) self.old (answer_of a) self.new) }
         ensures agrees { IfOk result (λ a. StepsAlike (event_of event.now) self.old (answer_of a) self.new) }

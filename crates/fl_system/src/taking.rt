@@ -183,6 +183,7 @@ impl World {
     ///
     /// # Errors
     /// Want of memory.
+    #[inline(never)]
     pub(crate) fn turn(&mut self, d: DispatcherId) -> Result<Answer, AllocError>
         ensures turns { IfOk result (λ a. HasTurn (id_of d) self.old (answer_of a) self.new) }
         ensures kept { OnErr result (self.new ≡ self.old) }
@@ -226,6 +227,7 @@ impl World {
         }
     }
 
+    #[inline(never)]
     fn turn_over_side(&mut self, n: usize, at: Due, m: usize) -> Result<Answer, AllocError>
         requires due { IsDueOver self.old.cores n at (Inlet.Side m) }
         ensures turns { IfOk result (λ a. TurnsFrom (Inlet.Side m) n at self.old (answer_of a) self.new) }
@@ -237,6 +239,7 @@ impl World {
         }
     }
 
+    #[inline(never)]
     fn turn_over_arrivals(&mut self, n: usize, at: Due) -> Result<Answer, AllocError>
         requires due { IsDueOver self.old.cores n at Inlet.Arrivals }
         ensures turns { IfOk result (λ a. TurnsFrom Inlet.Arrivals n at self.old (answer_of a) self.new) }
@@ -298,6 +301,7 @@ fn tell_nothing(core: &Core, place: usize) -> Answer
 
 impl World {
     /// An end tells what was taken at its ring.
+    #[inline(never)]
     pub(crate) fn acknowledge(&mut self, e: EndId) -> Answer
         ensures acks { Acknowledges e self.old (answer_of result) self.new }
     {
@@ -418,6 +422,7 @@ fn deregister_in(core: &mut Core, place: usize) -> Answer
 
 impl World {
     /// An end's channel is registered.
+    #[inline(never)]
     pub(crate) fn register(&mut self, e: EndId) -> Answer
         ensures registers { RegistersChannel e self.old (answer_of result) self.new }
     {
@@ -471,6 +476,7 @@ impl World {
     }
 
     /// An end's channel is deregistered.
+    #[inline(never)]
     pub(crate) fn deregister(&mut self, e: EndId) -> Answer
         ensures deregisters { DeregistersChannel e self.old (answer_of result) self.new }
     {
@@ -525,6 +531,7 @@ fn rule_kept(binding: &mut Binding, message: MsgNo, answer: MsgNo) -> Answer
 
 impl World {
     /// An end gets a reply rule.
+    #[inline(never)]
     pub(crate) fn reply(&mut self, e: EndId, message: MsgNo, answer: MsgNo) -> Answer
         ensures rules { SetsReply e message.0 answer.0 self.old (answer_of result) self.new }
     {
