@@ -1,0 +1,7 @@
+mod Prefixes
+mod Desks
+mod Docketed
+mod Parties
+mod Passages
+mod Starts
+mod OffLinks

@@ -1,0 +1,6 @@
+-- The laws rest on these, in this order.
+pub mod Cores
+pub mod Ends
+pub mod Told
+pub mod Crossing
+pub mod Bindings
