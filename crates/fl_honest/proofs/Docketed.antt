@@ -3,6 +3,7 @@ use Rattle.std.proofs.Common.{◌≡◌, refl, sym, ap, ◌∙◌, subst, ℕ, z
 use Rattle.std.proofs.Common.{Option, Some, None, Bool, true, false, arith}
 use Rattle.std.specs.List.{flat_map, list_any}
 use Rattle.std.specs.Option.{option_map}
+use Rattle.std.proofs.lemmas.List.{append-nil}
 use Rattle.std.proofs.lemmas.List.Concat.{flat_map-cons}
 use Rattle.std.proofs.lemmas.Bool.{ltb-false}
 use Rattle.fl_base.specs.declared.identity.EndId.{EndId}
@@ -112,3 +113,14 @@ none_by (Some reply ∷ rules) none = let clash : Some reply ≡ None = none 0 i
 
 pub has_none : (rules : List (Option ℕ)) (d : TheDocket) → AreItsRules rules d → is_ruled d ≡ false → end_has_rules rules ≡ false
 has_none rules d same none = none_by rules (λ msg. same msg ∙ no_docket_rule d.rules msg none)
+
+-- what is told as made: of an end without rules, and of one with rules
+no_reply : (rules : List (Option MsgNo)) (calls : List TheCall) → nat_lt 0 (length rules) ≡ false → flat_map (reply_by rules) calls ≡ []
+no_reply rules [] none = refl
+no_reply rules (c ∷ calls) none =
+    flat_map-cons (reply_by rules) c calls
+    ∙ ap (λ (o : Option ℕ). given o [] (λ answer. let x : TheCall = record { msg = answer; args = c.args } in x ∷ []) ++ flat_map (reply_by rules) calls) (no_docket_rule rules c.msg none)
+    ∙ no_reply rules calls none
+
+pub made_unruled : (d : TheDocket) (done handled : List TheCall) → is_ruled d ≡ false → done ++ flat_map (reply_by d.rules) handled ≡ done
+made_unruled d done handled none = ap (λ (t : List TheCall). done ++ t) (no_reply d.rules handled none) ∙ append-nil done

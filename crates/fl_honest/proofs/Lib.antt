@@ -5,3 +5,5 @@ mod Parties
 mod Passages
 mod Starts
 mod OffLinks
+mod Routes
+mod Circuits

@@ -25,7 +25,7 @@ use Rattle.fl_dockets.specs.State.{TheJoined, AreJoined}
 use Rattle.fl_honest.specs.Cores.{shared_ways, OneCore, Went, AllWent}
 use Rattle.fl_honest.specs.Ends.{HasDesk, StandsReady}
 use Rattle.fl_honest.specs.Told.{handled_by, made_by, IsOf, AreTold}
-use Rattle.fl_honest.specs.Bindings.{Party, IsParty, PartiesAreHonest, AreHonest, ByQueues, ByRing, IsOffLinks, RanOffLinks, OffLinksIsHonest}
+use Rattle.fl_honest.specs.Bindings.{Party, IsParty, PartiesAreHonest, AreHonest, ByQueues, ByRing, HasCores, IsOffLinks, ReportsAreHonest, RanOffLinks, OffLinksIsHonest}
 use Rattle.fl_honest.proofs.Prefixes.{as_same}
 use Rattle.fl_honest.proofs.Passages.{through_queues, through_rings}
 use Rattle.fl_honest.proofs.Starts.{off_links_arrived, flows_of, carried, ran, on_zero}
@@ -154,22 +154,25 @@ module _ (asked : List Job) (j : TheJoined) (cores : List OneCore) (r : TheRepor
       none_of (at_end r.made e) (handed_in asked e) [] (told.no_more e none).1,
       )
 
-module _ (l : Passing) (honest : PartiesAreHonest) (asked : List Job) (j : TheJoined) (cores : List OneCore) (r : TheReport) (k : RanOffLinks asked j cores) (told : AreTold j cores r.made r.handled) where
-  by_binding : (e : EndId) (o : Option Bound) → slice_get j.bindings e.binding ≡ o → EndIsHonest asked j cores r told e
-  by_binding e None is = told_none asked j cores r told e is
-  by_binding e (Some b) is =
-      let x = k.bindings e.binding b is in
-      let client : IsOf j cores (client_of e.binding) x.client = record { bound = b; bound_is = is; core_is = x.client_is } in
-      let server : IsOf j cores (server_of e.binding) x.server = record { bound = b; bound_is = is; core_is = x.server_is } in
-      told_of asked j cores r told e.binding x.client x.server e.side client server
-      (by_either l honest asked j cores k.joined e.binding x.client x.server (k.went b.client x.client x.client_is) (k.went b.server x.server x.server_is) x.joined
-      (k.desks (client_of e.binding) x.client client) (k.desks (server_of e.binding) x.server server))
+by_binding : (asked : List Job) (j : TheJoined) (cores : List OneCore) (r : TheReport)
+    → ((n : ℕ) (b : Bound) → slice_get j.bindings n ≡ Some b → (c : OneCore) × (d : OneCore) × HasCores cores b c d × AreHonest asked j n c d)
+    → (told : AreTold j cores r.made r.handled) (e : EndId) (o : Option Bound) → slice_get j.bindings e.binding ≡ o → EndIsHonest asked j cores r told e
+by_binding asked j cores r each told e None is = told_none asked j cores r told e is
+by_binding asked j cores r each told e (Some b) is =
+    let (c, d, at, honest) = each e.binding b is in
+    told_of asked j cores r told e.binding c d e.side (record { bound = b; bound_is = is; core_is = at.client }) (record { bound = b; bound_is = is; core_is = at.server }) honest
 
-  each : (e : EndId) → EndIsHonest asked j cores r told e
-  each e = by_binding e (slice_get j.bindings e.binding) refl
+pub reports : ReportsAreHonest
+reports asked j cores r each told = record {
+  handled = λ e. (by_binding asked j cores r each told e (slice_get j.bindings e.binding) refl).0;
+  made = λ e. (by_binding asked j cores r each told e (slice_get j.bindings e.binding) refl).1;
+}
 
 pub off_links : Passing → PartiesAreHonest → OffLinksIsHonest
-off_links l honest asked j cores r k told = record {
-  handled = λ e. (each l honest asked j cores r k told e).0;
-  made = λ e. (each l honest asked j cores r k told e).1;
-}
+off_links l honest asked j cores r k told =
+    reports asked j cores r (λ n b is.
+    let x = k.bindings n b is in
+    (x.client, x.server, x.cores,
+    by_either l honest asked j cores k.joined n x.client x.server (k.went b.client x.client x.cores.client) (k.went b.server x.server x.cores.server) x.joined
+    (k.desks (client_of n) x.client (record { bound = b; bound_is = is; core_is = x.cores.client }))
+    (k.desks (server_of n) x.server (record { bound = b; bound_is = is; core_is = x.cores.server })))) told

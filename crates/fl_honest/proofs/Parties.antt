@@ -1,5 +1,5 @@
 -- Two ends of a binding, whose fragments came to each other: what is told of them is honest.
-use Rattle.std.proofs.Common.{◌≡◌, refl, sym, ap, ◌∙◌, subst, ℕ, if◌then◌else◌, List, [], ◌∷◌, map, Option, Bool, true, false}
+use Rattle.std.proofs.Common.{◌≡◌, ◌⊎◌, inl, inr, refl, sym, ap, ◌∙◌, ℕ, List, [], ◌∷◌, ◌++◌, Option, Bool, true, false}
 use Rattle.std.specs.List.{flat_map}
 use Rattle.fl_base.specs.declared.identity.Side.{Side}
 use Rattle.fl_base.specs.declared.identity.Side.TheVariants.{Client, Server}
@@ -8,6 +8,7 @@ use Rattle.fl_base.specs.Ends.{peer, other}
 use Rattle.fl_base.specs.Prefix.{IsPrefix}
 use Rattle.fl_value.specs.Value.{TheCall}
 use Rattle.fl_compile.specs.Programs.{program_of}
+use Rattle.fl_endpoint.specs.Accounts.{replies_by}
 use Rattle.fl_running.specs.declared.job.Job.{Job as CoreJob}
 use Rattle.fl_running.specs.Logs.{DesksTellHandled}
 use Rattle.fl_running.specs.Made.{LogsMakeJobs, DoneAreFirst, calls_of_jobs, done_of, made_at}
@@ -16,11 +17,12 @@ use Rattle.fl_running.specs.Agree.{Arrived, EndsAgree}
 use Rattle.fl_jobs.specs.Jobs.{Job, own_calls, handed_in}
 use Rattle.fl_dockets.specs.Dockets.{is_ruled, reply_by}
 use Rattle.fl_honest.specs.Cores.{shared_ways}
+use Rattle.fl_honest.specs.Ends.{AreItsRules}
 use Rattle.fl_honest.specs.Told.{handled_by, made_by}
 use Rattle.fl_honest.specs.Bindings.{Party, IsParty, IsHonest, PartiesAreHonest}
 use Rattle.fl_honest.proofs.Prefixes.{then_on, as_same, of_flat, of_none}
 use Rattle.fl_honest.proofs.Desks.{handled_is, done_is, done_first}
-use Rattle.fl_honest.proofs.Docketed.{calls_there, handed_ruled, handed_unruled, replies_are}
+use Rattle.fl_honest.proofs.Docketed.{calls_there, handed_ruled, handed_unruled, replies_are, made_unruled}
 
 other_twice : (s : Side) → other (other s) ≡ s
 other_twice Client = refl
@@ -57,15 +59,22 @@ module _ (l : Below) (asked : List Job) (jobs : List CoreJob) where
       ∙ of_none (done_of jobs p.core.finish e) (own_calls asked e) (first_asked e p k) (k.docket.asked.alone (sym k.docket.asked.ruled ∙ ruled))
 
   -- what was sent is what is told as made
-  sent_by : (e : EndId) (p : Party) (k : IsParty asked jobs e p) (b : Bool) → is_ruled p.docket ≡ b
-      → sent_at e k.ran.had p.core.log ≡ (if b then flat_map (reply_by p.docket.rules) (handled_by p.core.finish e) else done_of jobs p.core.finish e)
+  by_rules : (e : EndId) (p : Party) (k : IsParty asked jobs e p) → ((calls_handled e p.core.log ≡ []) ⊎ AreItsRules (rules_at e k.ran.had p.core.log) p.docket)
+      → replies_by (rules_at e k.ran.had p.core.log) (calls_handled e p.core.log) ≡ flat_map (reply_by p.docket.rules) (calls_handled e p.core.log)
+  by_rules e p k (inl none) =
+      ap (replies_by (rules_at e k.ran.had p.core.log)) none ∙ sym (ap (flat_map (reply_by p.docket.rules)) none)
+  by_rules e p k (inr same) = replies_are (rules_at e k.ran.had p.core.log) p.docket (calls_handled e p.core.log) same
+
+  sent_by : (e : EndId) (p : Party) (k : IsParty asked jobs e p) (b : Bool) → is_ruled p.docket ≡ b → sent_at e k.ran.had p.core.log ≡ made_by jobs p.docket p.core.finish e
   sent_by e p k false none =
       let u = k.ran.unruled none in
       l.sent_made e k.ran.had p.core.log u.0 u.1 ∙ sym (done_here e p k)
+      ∙ sym (made_unruled p.docket (done_of jobs p.core.finish e) (handled_by p.core.finish e) none)
   sent_by e p k true ruled =
       l.sent_replies e k.ran.had p.core.log (none_made e p k ruled) k.ran.first
-      ∙ replies_are (rules_at e k.ran.had p.core.log) p.docket (calls_handled e p.core.log) k.ran.rules
+      ∙ by_rules e p k k.ran.rules
       ∙ ap (flat_map (reply_by p.docket.rules)) (sym (handled_here e p k))
+      ∙ ap (λ (done : List TheCall). done ++ flat_map (reply_by p.docket.rules) (handled_by p.core.finish e)) (sym (done_here e p k ∙ none_made e p k ruled))
 
   crossed : (e f : EndId) (p q : Party) → IsParty asked jobs e p → IsParty asked jobs f q
       → program_of q.end.program ≡ program_of p.end.program → Arrived q.took p.put
@@ -76,22 +85,25 @@ module _ (l : Below) (asked : List Job) (jobs : List CoreJob) where
       (l.agree (traffic e k.ran.had p.core.log p.put p.took) (traffic f m.ran.had q.core.log q.put q.took) p.end q.end k.ran.since m.ran.since same arrived)
 
   -- what is made is the first of what is handed in
+  unruled_made : (e : EndId) (p : Party) → IsParty asked jobs e p → is_ruled p.docket ≡ false → IsPrefix (made_by jobs p.docket p.core.finish e) (own_calls asked e)
+  unruled_made e p k none =
+      as_same (done_of jobs p.core.finish e) (made_by jobs p.docket p.core.finish e) (own_calls asked e) (own_calls asked e)
+      (sym (made_unruled p.docket (done_of jobs p.core.finish e) (handled_by p.core.finish e) none)) refl (first_asked e p k)
+
   made_first : (e : EndId) (p q : Party) → IsParty asked jobs e p → IsParty asked jobs (peer e) q
       → program_of p.end.program ≡ program_of q.end.program → Arrived p.took q.put → (b : Bool) → is_ruled p.docket ≡ b
-      → IsPrefix (if b then flat_map (reply_by p.docket.rules) (handled_by p.core.finish e) else done_of jobs p.core.finish e) (handed_in asked e)
+      → IsPrefix (made_by jobs p.docket p.core.finish e) (handed_in asked e)
   made_first e p q k m same arrived false none =
-      as_same (done_of jobs p.core.finish e) (done_of jobs p.core.finish e) (own_calls asked e) (handed_in asked e)
-      refl (handed_unruled asked jobs e p.docket k.docket none) (first_asked e p k)
+      as_same (made_by jobs p.docket p.core.finish e) (made_by jobs p.docket p.core.finish e) (own_calls asked e) (handed_in asked e)
+      refl (handed_unruled asked jobs e p.docket k.docket none) (unruled_made e p k none)
   made_first e p q k m same arrived true ruled =
       let none : is_ruled q.docket ≡ false = m.docket.asked.ruled ∙ k.docket.asked.one_side (sym k.docket.asked.ruled ∙ ruled) in
-      let made_is : made_by jobs q.docket q.core.finish (peer e) ≡ done_of jobs q.core.finish (peer e) =
-      ap (λ (b : Bool). if b then flat_map (reply_by q.docket.rules) (handled_by q.core.finish (peer e)) else done_of jobs q.core.finish (peer e)) none in
-      let came = as_same (handled_by p.core.finish e) (handled_by p.core.finish e) (made_by jobs q.docket q.core.finish (peer e)) (done_of jobs q.core.finish (peer e))
-      refl made_is (crossed (peer e) e q p m k same arrived) in
-      let ahead = then_on (handled_by p.core.finish e) (done_of jobs q.core.finish (peer e)) (own_calls asked (peer e)) came (first_asked (peer e) q m) in
-      as_same (flat_map (reply_by p.docket.rules) (handled_by p.core.finish e)) (flat_map (reply_by p.docket.rules) (handled_by p.core.finish e))
+      let ahead = then_on (handled_by p.core.finish e) (made_by jobs q.docket q.core.finish (peer e)) (own_calls asked (peer e))
+      (crossed (peer e) e q p m k same arrived) (unruled_made (peer e) q m none) in
+      as_same (flat_map (reply_by p.docket.rules) (handled_by p.core.finish e)) (made_by jobs p.docket p.core.finish e)
       (flat_map (reply_by p.docket.rules) (own_calls asked (peer e))) (handed_in asked e)
-      refl (handed_ruled asked jobs e p.docket k.docket ruled)
+      (ap (λ (done : List TheCall). done ++ flat_map (reply_by p.docket.rules) (handled_by p.core.finish e)) (sym (done_here e p k ∙ none_made e p k ruled)))
+      (handed_ruled asked jobs e p.docket k.docket ruled)
       (of_flat (reply_by p.docket.rules) (handled_by p.core.finish e) (own_calls asked (peer e)) ahead)
 
 pub parties : Below → PartiesAreHonest

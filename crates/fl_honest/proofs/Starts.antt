@@ -122,7 +122,7 @@ module _ (flow : LogsFlow shared_ways) (rules_first : RulesComeFirst shared_ways
       record {
         had = r.seat.end.rules;
         since = since_new (traffic e r.seat.end.rules c.log ((flows_of c w).put e) ((flows_of c w).took e)) r.seat.end x.after.end r.outgoing r.parts x.goes (w.ends r.place x.after x.after_is);
-        rules = subst (λ (rules : List (Option ℕ)). AreItsRules rules d) (sym (rules_stay e r.seat.end.rules c.log none)) r.rules;
+        rules = inr (subst (λ (rules : List (Option ℕ)). AreItsRules rules d) (sym (rules_stay e r.seat.end.rules c.log none)) r.rules);
         first = none_first e c.log none;
         unruled = λ is. (has_none r.seat.end.rules d r.rules is, none);
       }

@@ -83,15 +83,25 @@ pub record ByRing (j : TheJoined) (n : ℕ) (c d : OneCore) : Type 0 where
   pub program : program_of server.seat.end.program ≡ program_of client.seat.end.program
   pub ring : Crosses c.start.rings c.finish.rings d.start.rings d.finish.rings one two
 
+-- the cores of a binding's two ends
+pub record HasCores (cores : List OneCore) (b : Bound) (c d : OneCore) : Type 0 where
+  pub client : slice_get cores b.client ≡ Some c
+  pub server : slice_get cores b.server ≡ Some d
+
 -- one of the two
-pub record IsOffLinks (j : TheJoined) (cores : List OneCore) (n : ℕ) (b : Bound) : Type 0 where
+pub record IsOffLinks (j : TheJoined) (all : List OneCore) (n : ℕ) (b : Bound) : Type 0 where
   pub client : OneCore
-  pub client_is : slice_get cores b.client ≡ Some client
   pub server : OneCore
-  pub server_is : slice_get cores b.server ≡ Some server
+  pub cores : HasCores all b client server
   pub joined : ((client ≡ server) × ByQueues j n client) ⊎ ByRing j n client server
 
 -- ---- the whole
+
+-- what the desks have is honest of each binding; then so is a report that tells that
+abbrev pub ReportsAreHonest : Type 0
+ReportsAreHonest = (asked : List Job) (j : TheJoined) (cores : List OneCore) (r : TheReport)
+    → ((n : ℕ) (b : Bound) → slice_get j.bindings n ≡ Some b → (c : OneCore) × (d : OneCore) × HasCores cores b c d × AreHonest asked j n c d)
+    → AreTold j cores r.made r.handled → Honest asked r
 
 -- cores ran the jobs that were joined for them, over bindings off links alone
 pub record RanOffLinks (asked : List Job) (j : TheJoined) (cores : List OneCore) : Type 0 where
@@ -100,7 +110,6 @@ pub record RanOffLinks (asked : List Job) (j : TheJoined) (cores : List OneCore)
   pub desks : (e : EndId) (c : OneCore) → IsOf j cores e c → HasDesk (docket_at j.dockets e) c.start e
   pub bindings : (n : ℕ) (b : Bound) → slice_get j.bindings n ≡ Some b → IsOffLinks j cores n b
 
--- then a report that tells what the desks have is honest
 abbrev pub OffLinksIsHonest : Type 0
 OffLinksIsHonest = (asked : List Job) (j : TheJoined) (cores : List OneCore) (r : TheReport) → RanOffLinks asked j cores
     → AreTold j cores r.made r.handled → Honest asked r

@@ -1,5 +1,5 @@
 -- An end as its core's run begins, and what it did in the run.
-use Rattle.std.specs.Prelude.{ℕ, ◌≡◌, false, List, [], slice_get, Option, Some}
+use Rattle.std.specs.Prelude.{ℕ, ◌≡◌, ◌⊎◌, false, List, [], slice_get, Option, Some}
 use Rattle.fl_base.specs.declared.fragment.Frag.{Frag}
 use Rattle.fl_base.specs.declared.identity.EndId.{EndId}
 use Rattle.fl_ring.specs.SharedSides.{TheSide}
@@ -12,7 +12,7 @@ use Rattle.fl_running.specs.declared.job.Job.{Job as CoreJob}
 use Rattle.fl_running.specs.Desks.{TheDesk}
 use Rattle.fl_running.specs.Run.{TheRun}
 use Rattle.fl_running.specs.Made.{desk_of}
-use Rattle.fl_running.specs.Carried.{HasNoRule, SetsNone, RulesFirst, rules_at, traffic}
+use Rattle.fl_running.specs.Carried.{HasNoRule, SetsNone, RulesFirst, rules_at, calls_handled, traffic}
 use Rattle.fl_running.specs.Agree.{SinceMade}
 use Rattle.fl_dockets.specs.Dockets.{TheDocket, rule_at, is_ruled}
 use Rattle.fl_honest.specs.Cores.{OneCore}
@@ -48,11 +48,11 @@ pub record StandsReady (jobs : List CoreJob) (d : TheDocket) (s : TheRun TheSide
 
 -- ---- in the run
 
--- since it was made it put and took these fragments, and came to this; where its docket has rules, these were set before it handled a call, and else none was
+-- since it was made it put and took these fragments, and came to this; it had the rules of its docket before it handled a call
 pub record EndRan (d : TheDocket) (c : OneCore) (e : EndId) (put took : List Frag) (x : TheEnd) : Type 0 where
   -- the rules that it had at first
   pub had : List (Option ℕ)
   pub since : SinceMade (traffic e had c.log put took) x
-  pub rules : AreItsRules (rules_at e had c.log) d
+  pub rules : (calls_handled e c.log ≡ []) ⊎ AreItsRules (rules_at e had c.log) d
   pub first : RulesFirst e c.log
   pub unruled : is_ruled d ≡ false → (has_rules had ≡ false) × SetsNone e c.log

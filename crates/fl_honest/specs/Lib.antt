@@ -4,3 +4,4 @@ pub mod Ends
 pub mod Told
 pub mod Crossing
 pub mod Bindings
+pub mod Circuits

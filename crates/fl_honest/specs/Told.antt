@@ -1,5 +1,5 @@
 -- What a report tells of the ends of its bindings.
-use Rattle.std.specs.Prelude.{ℕ, ◌≡◌, if◌then◌else◌, List, [], map, slice_get, Some, None}
+use Rattle.std.specs.Prelude.{ℕ, ◌≡◌, List, [], ◌++◌, map, slice_get, Some, None}
 use Rattle.std.specs.List.{flat_map}
 use Rattle.fl_base.specs.declared.identity.EndId.{EndId}
 use Rattle.fl_ring.specs.SharedSides.{TheSide}
@@ -10,7 +10,7 @@ use Rattle.fl_running.specs.Logs.{handled_of}
 use Rattle.fl_running.specs.Made.{done_of}
 use Rattle.fl_jobs.specs.Report.{BothEnds, at_end}
 use Rattle.fl_dockets.specs.declared.docket.Bound.{Bound}
-use Rattle.fl_dockets.specs.Dockets.{TheDocket, docket_at, reply_by, is_ruled}
+use Rattle.fl_dockets.specs.Dockets.{TheDocket, docket_at, reply_by}
 use Rattle.fl_dockets.specs.Joined.{core_of}
 use Rattle.fl_dockets.specs.State.{TheJoined}
 use Rattle.fl_honest.specs.Cores.{OneCore}
@@ -19,9 +19,9 @@ use Rattle.fl_honest.specs.Cores.{OneCore}
 abbrev pub handled_by : TheRun TheSide → EndId → List TheCall
 handled_by t e = map call_of (handled_of t e)
 
--- those that it made: of its docket with rules the replies by these to the calls that it handled, of another the calls of its jobs that are done
+-- those that it made: the calls of its jobs that are done, and the replies by the rules of its docket to the calls that it handled
 abbrev pub made_by : List CoreJob → TheDocket → TheRun TheSide → EndId → List TheCall
-made_by jobs d t e = if is_ruled d then flat_map (reply_by d.rules) (handled_by t e) else done_of jobs t e
+made_by jobs d t e = done_of jobs t e ++ flat_map (reply_by d.rules) (handled_by t e)
 
 -- an end of a binding, and its core
 pub record IsOf (j : TheJoined) (cores : List OneCore) (e : EndId) (c : OneCore) : Type 0 where
