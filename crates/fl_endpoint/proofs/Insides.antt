@@ -14,6 +14,7 @@ use Rattle.fl_machine.specs.Reassembling.{TheReassembly}
 use Rattle.fl_endpoint.specs.View.{TheEnd, TheOutgoing, interface_in, number_or_0, queued, queued_if, wrote, reply_to, rule_at, holds_back, with_call, with_written, with_handled, with_failed}
 use Rattle.fl_endpoint.specs.Accounts.{IsRule, Sound}
 use Rattle.fl_endpoint.specs.Rules.{rules_of}
+use Rattle.fl_machine.specs.Sending.{TheSending}
 use Rattle.fl_endpoint.specs.declared.outgoing.Queued.{Queued}
 use Rattle.fl_endpoint.specs.declared.outgoing.Sending.{Sending}
 use Rattle.fl_endpoint.specs.declared.outgoing.Outgoing.{Outgoing}
@@ -25,9 +26,14 @@ use Rattle.fl_endpoint.proofs.Sounds.{has_room, sound_exchanged}
 
 -- ---- the calls that are to be sent
 
-pub still_now : (p : TheProgram) (o : Option Sending) (xs ys : List Queued) → true ≡ is_some o → IsInTransmission p o xs → IsInTransmission p o ys
-still_now p None xs ys e h = absurd cc
-still_now p (Some s) xs ys e h = h
+pub still_now : (p : TheProgram) (o : Option Sending) (run : Option TheSending) (xs ys : List Queued) → true ≡ is_some o → IsInTransmission p o run xs → IsInTransmission p o run ys
+still_now p None run xs ys e h = absurd cc
+still_now p (Some s) run xs ys e h = h
+
+-- there is no run where nothing is in transmission
+pub no_run : (p : TheProgram) (o : Option Sending) (run : Option TheSending) (xs : List Queued) → false ≡ is_some o → IsInTransmission p o run xs → run ≡ None
+no_run p None run xs e h = h.1
+no_run p (Some s) run xs e h = absurd cc
 
 pub queued_more : (p : TheProgram) (xs : List Queued) (x : Queued) → AreQueued p xs → IsQueued p x → AreQueued p (xs ++ x ∷ [])
 queued_more p [] x h q = (q, tt)
@@ -136,14 +142,14 @@ handled_is_end e r out c same is outgoing view sound = record {
 
 -- ---- whether a call is in transmission
 
-pub busy_sending : (p : TheProgram) (o : Option Sending) (f : Frag) (rest : List Frag) → sending_frags p o ≡ f ∷ rest → IsSome o
-busy_sending p None f rest e = absurd cc
-busy_sending p (Some s) f rest e = refl
+pub busy_sending : (p : TheProgram) (o : Option Sending) (run : Option TheSending) (f : Frag) (rest : List Frag) → sending_frags p o run ≡ f ∷ rest → IsSome o
+busy_sending p None run f rest e = absurd cc
+busy_sending p (Some s) run f rest e = refl
 
 -- the next fragment, if there is one, is carried unchanged
-pub next_own : (p : TheProgram) (o : Option Sending) (xs : List Queued) → IsInTransmission p o xs → IfSome (slice_get (sending_frags p o) 0) IsOwn
-next_own p None xs is = search rules
-next_own p (Some s) xs is = is.own.0
+pub next_own : (p : TheProgram) (o : Option Sending) (run : Option TheSending) (xs : List Queued) → IsInTransmission p o run xs → IfSome (slice_get (sending_frags p o run) 0) IsOwn
+next_own p None run xs is = search rules
+next_own p (Some s) run xs is = is.own.0
 
 -- there is room for the reply to a call
 pub room_for : (p : TheProgram) (circuit : ℕ) (e : Inside) (c : TheCall) (reply : Option Queued) → QueuesReply p (reply_to (rules_of e.rules.replies.items) c) reply

@@ -78,6 +78,12 @@ pub none_first : {A : Type 0} (xs : List A) → slice_get xs 0 ≡ None → xs �
 none_first [] e = refl
 none_first (y ∷ ys) e = absurd cc
 
+-- a list of one is its first
+pub only_one : {A : Type 0} (xs : List A) (x : A) → Some x ≡ slice_get xs 0 → length xs ≡ 1 → x ∷ [] ≡ xs
+only_one [] x e long = absurd cc
+only_one (y ∷ []) x e long = let h : x ≡ y = cc in ap (λ (z : _). z ∷ []) h
+only_one (y ∷ z ∷ ys) x e long = absurd (omega (arith, long))
+
 -- ---- runs
 
 pub code_is : (plan : PlanNo) (o : Option TheMessage) (code : TheCode) → Some code ≡ option_map (compiled_code Send plan) o → code ≡ code_for plan o

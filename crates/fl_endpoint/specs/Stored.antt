@@ -14,7 +14,7 @@ use Rattle.fl_stub.specs.Frames.{block_of}
 use Rattle.fl_stub.specs.Given.{bytes_given}
 use Rattle.fl_compile.specs.Codes.{compiled_code}
 use Rattle.fl_compile.specs.Programs.{TheProgram}
-use Rattle.fl_machine.specs.Sending.{frags_for, frags_holding, frags_left, RunsOn}
+use Rattle.fl_machine.specs.Sending.{TheSending, frags_for, frags_holding, frags_left, RunsOn}
 use Rattle.fl_endpoint.specs.View.{TheOutgoing}
 use Rattle.fl_endpoint.specs.declared.outgoing.Queued.{Queued}
 use Rattle.fl_endpoint.specs.declared.outgoing.Sending.{Sending}
@@ -36,14 +36,19 @@ tape_frags program circuit msg tape = frags_holding true msg circuit (bytes_give
 abbrev pub queued_frags : TheProgram → ℕ → Queued → List Frag
 queued_frags program circuit call = tape_frags program circuit call.msg.0 call.tape.items
 
+-- those that a run of a message gives; none without one
+abbrev pub run_frags : TheProgram → ℕ → Option TheSending → List Frag
+run_frags program msg None = []
+run_frags program msg (Some run) = frags_left (code_of program msg) run
+
 -- those behind the next of the call in transmission
-abbrev pub frags_behind : TheProgram → Sending → List Frag
-frags_behind program s = frags_left (code_of program s.msg.0) s.run
+abbrev pub frags_behind : TheProgram → Sending → Option TheSending → List Frag
+frags_behind program s run = run_frags program s.msg.0 run
 
 -- those of the call in transmission that are to be written
-abbrev pub sending_frags : TheProgram → Option Sending → List Frag
-sending_frags program None = []
-sending_frags program (Some s) = s.next ∷ frags_behind program s
+abbrev pub sending_frags : TheProgram → Option Sending → Option TheSending → List Frag
+sending_frags program None run = []
+sending_frags program (Some s) run = s.next ∷ frags_behind program s run
 
 abbrev pub count_in : Option Sending → ℕ
 count_in None = 0
@@ -52,7 +57,7 @@ count_in (Some s) = s.count
 -- what an end is to send, by what it stores
 abbrev pub outgoing_of : TheProgram → ℕ → Outgoing → TheOutgoing
 outgoing_of program circuit out = record {
-  unwritten = sending_frags program out.sending;
+  unwritten = sending_frags program out.sending out.run;
   count = count_in out.sending;
   waiting = map (queued_frags program circuit) out.waiting.items;
 }
@@ -88,20 +93,25 @@ QueuesReply program (Some c) (Some call) = Queues program c call
 QueuesReply program None None = Unit {0}
 QueuesReply program reply call = ⊥
 
--- the run is of the message's code, and gives what is left of the call
-pub record IsSending (program : TheProgram) (s : Sending) : Type 0 where
-  pub known : IsSome (slice_get program.interface.messages s.msg.0)
-  pub runs : RunsOn (code_of program s.msg.0) s.run
-  pub own : AreOwn (sending_frags program (Some s))
-  pub counted : s.written + length (sending_frags program (Some s)) ≡ s.count
+-- a run is of the message's code
+abbrev pub IsRunOf : TheProgram → ℕ → Option TheSending → Type 0
+IsRunOf program msg None = Unit {0}
+IsRunOf program msg (Some run) = RunsOn (code_of program msg) run
 
--- nothing waits where nothing is in transmission
-abbrev pub IsInTransmission : TheProgram → Option Sending → List Queued → Type 0
-IsInTransmission program None waiting = waiting ≡ []
-IsInTransmission program (Some s) waiting = IsSending program s
+-- the run gives what is left of the call
+pub record IsSending (program : TheProgram) (s : Sending) (run : Option TheSending) : Type 0 where
+  pub known : IsSome (slice_get program.interface.messages s.msg.0)
+  pub runs : IsRunOf program s.msg.0 run
+  pub own : AreOwn (sending_frags program (Some s) run)
+  pub counted : s.written + length (sending_frags program (Some s) run) ≡ s.count
+
+-- nothing waits, and there is no run, where nothing is in transmission
+abbrev pub IsInTransmission : TheProgram → Option Sending → Option TheSending → List Queued → Type 0
+IsInTransmission program None run waiting = (waiting ≡ []) × (run ≡ None)
+IsInTransmission program (Some s) run waiting = IsSending program s run
 
 pub record IsOutgoing (program : TheProgram) (out : Outgoing) : Type 0 where
-  pub now : IsInTransmission program out.sending out.waiting.items
+  pub now : IsInTransmission program out.sending out.run out.waiting.items
   pub waiting : AreQueued program out.waiting.items
   pub few : length out.waiting.items ≤ 16
   pub room : 16 ≤ deque_capacity out.waiting

@@ -1,6 +1,6 @@
 //! What an end is to send: the call in transmission, and the replies that wait.
 
-ghost use Rattle.std.specs.Prelude.{◌≡◌, ◌+◌, ◌<◌, ◌≤◌, ◌++◌, ◌∷◌, [], ℕ, List, true, false, length, map, slice_get, Some, IsSome, IfOk, IfSome};
+ghost use Rattle.std.specs.Prelude.{◌≡◌, ◌+◌, ◌<◌, ◌≤◌, ◌++◌, ◌∷◌, [], ℕ, List, true, false, length, map, slice_get, Some, None, IsSome, IfOk, IfSome};
 ghost use Rattle.std.specs.Option.{option_map};
 ghost use Rattle.std.specs.VecDeque.{deque_capacity};
 ghost use Rattle.fl_base.specs.declared.fragment.Frag.{Frag};
@@ -9,12 +9,13 @@ ghost use Rattle.fl_value.specs.Value.{call_of};
 ghost use Rattle.fl_value.specs.Fits.{fits_of};
 ghost use Rattle.fl_compile.specs.Programs.{TheProgram, program_of};
 ghost use Rattle.fl_endpoint.specs.View.{nothing_to_send, is_busy, queued, queued_if, goes_on, wrote};
-ghost use Rattle.fl_endpoint.specs.Stored.{queued_frags, sending_frags, frags_behind, outgoing_of, IsQueued, AreQueued, Queues, IsSending, IsOutgoing};
+ghost use Rattle.fl_endpoint.specs.Stored.{queued_frags, sending_frags, frags_behind, count_in, outgoing_of, IsQueued, AreQueued, Queues};
+ghost use Rattle.fl_endpoint.specs.Stored.{IsSending, IsInTransmission, IsOutgoing};
 
 use fl_base::{Circuit, Frag, MsgNo};
 use fl_compile::Program;
 use fl_layout::Plans;
-use fl_machine::{SendRun, sends_fragments};
+use fl_machine::{SendRun, first_frag, sends_fragments};
 use fl_value::{Call, flatten};
 use std::alloc::{AllocError, Global};
 use std::collections::VecDeque;
@@ -30,13 +31,11 @@ pub(crate) struct Queued {
     pub(crate) count: usize,
 }
 
-/// The call in transmission: the fragment that is written next, the run that gives those behind it, and how many of
-/// the call's fragments were written.
-#[derive(Drop)]
+/// The call in transmission: the fragment that is written next, and how many of the call's fragments were written.
+#[derive(Clone, Copy, Debug, PartialEq, Eq)]
 pub(crate) struct Sending {
     msg: MsgNo,
     next: Frag,
-    run: SendRun,
     written: usize,
     count: usize,
 }
@@ -45,6 +44,8 @@ pub(crate) struct Sending {
 #[derive(Drop)]
 pub(crate) struct Outgoing {
     sending: Option<Sending>,
+    // The run that gives the fragments behind the next. A call of one fragment has none: a run is large to move.
+    run: Option<SendRun>,
     waiting: VecDeque<Queued>,
 }
 
@@ -71,52 +72,35 @@ impl Queued {
     }
 }
 
-// The call in transmission, of which nothing is written.
-#[inline(always)]
-fn start(program: &Program, circuit: Circuit, call: Queued) -> Sending
-    requires { IsQueued (program_of program.now) call }
-    ensures sending { IsSending (program_of program.now) result }
-    ensures frags { sending_frags (program_of program.now) (Some result) ≡ queued_frags (program_of program.now) circuit.0 call }
-    ensures count { result.count ≡ length (queued_frags (program_of program.now) circuit.0 call) }
-{
-    // Both have 16 bits, which the proof knows once they are read.
-    let (_msg, _circuit) = (call.msg.0, circuit.0);
-    let Some(code) = program.send_code(call.msg) else {
-        unreachable!();
-    };
-    let mut run = SendRun::start(code, call.msg, circuit, call.tape);
-    let Some(next) = run.next_frag(code) else {
-        unreachable!();
-    };
-    Sending {
-        msg: call.msg,
-        next,
-        run,
-        written: 0,
-        count: call.count,
-    }
-}
-
 impl Sending {
     // Goes on behind the next fragment, which is written: whether another is to be written.
-    fn advance(&mut self, program: &Program) -> bool
-        requires { IsSending (program_of program.now) self.old }
-        ensures more { result ≡ true → IsSending (program_of program.now) self.new }
-        ensures frags { result ≡ true → sending_frags (program_of program.now) (Some self.new) ≡ frags_behind (program_of program.now) self.old }
-        ensures last { result ≡ false → frags_behind (program_of program.now) self.old ≡ [] }
+    #[inline(always)]
+    fn advance(&mut self, run: &mut Option<SendRun>, program: &Program) -> bool
+        requires { IsSending (program_of program.now) self.old run.old }
+        ensures more { result ≡ true → IsSending (program_of program.now) self.new run.new }
+        ensures frags { result ≡ true
+            → sending_frags (program_of program.now) (Some self.new) run.new ≡ frags_behind (program_of program.now) self.old run.old }
+        ensures last { result ≡ false → frags_behind (program_of program.now) self.old run.old ≡ [] }
+        ensures none { result ≡ false → run.new ≡ None }
         ensures written { self.new.written ≡ self.old.written + 1 }
         ensures count { self.new.count ≡ self.old.count }
     {
+        self.written += 1;
+        let Some(going) = run else {
+            return false;
+        };
         let Some(code) = program.send_code(self.msg) else {
             unreachable!();
         };
-        self.written += 1;
-        match self.run.next_frag(code) {
+        match going.next_frag(code) {
             Some(next) => {
                 self.next = next;
                 true
             }
-            None => false,
+            None => {
+                *run = None;
+                false
+            }
         }
     }
 }
@@ -130,6 +114,7 @@ impl Outgoing {
         let waiting = VecDeque::with_capacity(alloc, MOST_WAITING)?;
         Ok(Outgoing {
             sending: None,
+            run: None,
             waiting,
         })
     }
@@ -158,6 +143,75 @@ impl Outgoing {
         }
     }
 
+    // Puts a call of one fragment in transmission.
+    #[inline(always)]
+    fn start_one(&mut self, program: &Program, circuit: Circuit, call: Queued)
+        requires queued { IsQueued (program_of program.now) call }
+        requires one { call.count ≡ 1 }
+        requires idle { self.old.run ≡ None }
+        ensures now { (waiting : List Queued) → IsInTransmission (program_of program.now) self.new.sending self.new.run waiting }
+        ensures frags { sending_frags (program_of program.now) self.new.sending self.new.run ≡ queued_frags (program_of program.now) circuit.0 call }
+        ensures count { count_in self.new.sending ≡ length (queued_frags (program_of program.now) circuit.0 call) }
+        ensures waiting { self.new.waiting ≡ self.old.waiting }
+    {
+        // Both have 16 bits, which the proof knows once they are read.
+        let (_msg, _circuit) = (call.msg.0, circuit.0);
+        let Some(code) = program.send_code(call.msg) else {
+            unreachable!();
+        };
+        let next = first_frag(code, call.msg, circuit, &call.tape);
+        self.sending = Some(Sending {
+            msg: call.msg,
+            next,
+            written: 0,
+            count: 1,
+        });
+    }
+
+    // Puts a call in transmission, with a run. Out of line, so that a call of one fragment has nothing of it.
+    #[inline(never)]
+    fn start_run(&mut self, program: &Program, circuit: Circuit, call: Queued)
+        requires { IsQueued (program_of program.now) call }
+        ensures now { (waiting : List Queued) → IsInTransmission (program_of program.now) self.new.sending self.new.run waiting }
+        ensures frags { sending_frags (program_of program.now) self.new.sending self.new.run ≡ queued_frags (program_of program.now) circuit.0 call }
+        ensures count { count_in self.new.sending ≡ length (queued_frags (program_of program.now) circuit.0 call) }
+        ensures waiting { self.new.waiting ≡ self.old.waiting }
+    {
+        // Both have 16 bits, which the proof knows once they are read.
+        let (_msg, _circuit) = (call.msg.0, circuit.0);
+        let Some(code) = program.send_code(call.msg) else {
+            unreachable!();
+        };
+        let mut run = SendRun::start(code, call.msg, circuit, call.tape);
+        let Some(next) = run.next_frag(code) else {
+            unreachable!();
+        };
+        self.sending = Some(Sending {
+            msg: call.msg,
+            next,
+            written: 0,
+            count: call.count,
+        });
+        self.run = Some(run);
+    }
+
+    // Puts a call in transmission, of which nothing is written.
+    #[inline(always)]
+    fn start(&mut self, program: &Program, circuit: Circuit, call: Queued)
+        requires queued { IsQueued (program_of program.now) call }
+        requires idle { self.old.run ≡ None }
+        ensures now { (waiting : List Queued) → IsInTransmission (program_of program.now) self.new.sending self.new.run waiting }
+        ensures frags { sending_frags (program_of program.now) self.new.sending self.new.run ≡ queued_frags (program_of program.now) circuit.0 call }
+        ensures count { count_in self.new.sending ≡ length (queued_frags (program_of program.now) circuit.0 call) }
+        ensures waiting { self.new.waiting ≡ self.old.waiting }
+    {
+        if call.count == 1 {
+            self.start_one(program, circuit, call);
+        } else {
+            self.start_run(program, circuit, call);
+        }
+    }
+
     // One call more to be sent. Takes no memory.
     pub(crate) fn queue(&mut self, program: &Program, circuit: Circuit, call: Queued)
         requires outgoing { IsOutgoing (program_of program.now) self.old }
@@ -170,7 +224,7 @@ impl Outgoing {
         if self.sending.is_some() {
             self.waiting.push_back(call).unwrap();
         } else {
-            self.sending = Some(start(program, circuit, call));
+            self.start(program, circuit, call);
         }
     }
 
@@ -190,6 +244,7 @@ impl Outgoing {
 
     // The first reply that waits in transmission, if one waits.
     fn go_on(&mut self, program: &Program, circuit: Circuit)
+        requires idle { self.old.run ≡ None }
         requires waiting { AreQueued (program_of program.now) self.old.waiting.items }
         requires few { length self.old.waiting.items ≤ 16 }
         requires room { 16 ≤ deque_capacity self.old.waiting }
@@ -197,10 +252,10 @@ impl Outgoing {
         ensures goes_on { outgoing_of (program_of program.now) circuit.0 self.new
             ≡ goes_on (map (queued_frags (program_of program.now) circuit.0) self.old.waiting.items) }
     {
-        self.sending = match self.waiting.pop_front() {
-            Some(call) => Some(start(program, circuit, call)),
-            None => None,
-        };
+        self.sending = None;
+        if let Some(call) = self.waiting.pop_front() {
+            self.start(program, circuit, call);
+        }
     }
 
     // The next fragment is written: which it was of its call's, and how many these are. Takes no memory.
@@ -217,7 +272,7 @@ impl Outgoing {
         let Some(sending) = &mut self.sending else {
             unreachable!();
         };
-        let more = sending.advance(program);
+        let more = sending.advance(&mut self.run, program);
         let answer = (sending.written, sending.count);
         if !more {
             self.go_on(program, circuit);

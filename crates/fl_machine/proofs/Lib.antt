@@ -1,4 +1,5 @@
 pub mod Turns
+pub mod Octets
 pub mod Eights
 pub mod Pours
 pub mod Fragments

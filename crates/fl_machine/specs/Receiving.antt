@@ -15,7 +15,9 @@ use Rattle.fl_wire.specs.Reading.{Means, IsPart, IsWrong}
 use Rattle.fl_wire.specs.Wrong.{HasFault}
 use Rattle.fl_wire.specs.declared.fault.WireFault.{WireFault}
 use Rattle.fl_stub.specs.declared.op.Column.TheVariants.{Receive}
-use Rattle.fl_stub.specs.Structure.{Block, finished}
+use Rattle.fl_stub.specs.declared.op.Op.{Op}
+use Rattle.fl_stub.specs.Structure.{Block, IsCode, finished}
+use Rattle.fl_stub.specs.Frames.{block_of}
 use Rattle.fl_stub.specs.Given.{bytes_given}
 use Rattle.fl_stub.specs.Streams.{BeginsPayload}
 use Rattle.fl_compile.specs.Compiled.{message_block, message_code}
@@ -185,10 +187,18 @@ Adds plan i parts f t Between = ⊥
 Adds plan i parts f t (Inside b) = AddsPart plan i parts f t
 Adds plan i parts f t (After e) = AddsLast plan i parts f t
 
-abbrev pub answer_of : Stand → Fed
-answer_of Between = Part
-answer_of (Inside b) = Part
-answer_of (After e) = Whole
+-- a call of which nothing was taken, under each code
+pub record IsNew (b : Begun) : Type 0 where
+  pub none : b.intake.count ≡ 0
+  pub stands : (ops : List Op) → IsCode Receive ops (block_of ops) → Stands ops [] b.intake []
+
+abbrev pub ended_as : Begun → Ended
+ended_as b = record { msg = b.msg; count = b.intake.count }
+
+-- where a run stands behind the last fragment of a call, by what that came to
+abbrev pub stand_after : Begun → Fed → Stand
+stand_after b Part = Inside b
+stand_after b Whole = After (ended_as b)
 
 -- the numbers of a stand are the first so many of its tape
 abbrev pub numbers_in : Stand → ℕ

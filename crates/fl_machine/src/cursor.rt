@@ -119,6 +119,7 @@ pub(crate) fn is_op(ops: &[Op], place: usize, op: Op) -> bool
 
 impl Cursor {
     /// At the first instruction.
+    #[inline(always)]
     pub(crate) fn new() -> Cursor
         ensures { (tape : List ℕ) → spot_of tape result ≡ record { place = 0; loops = []; tape = tape; at = 0; value = 0; width = 0 } }
     {

@@ -64,7 +64,15 @@ fn put_word(buffer: &mut [u8; 64], at: usize, word: u64)
     requires { at + 8 ≤ 64 }
     ensures { buffer.new ≡ take at buffer.old ++ (number_bytes 8 word ++ drop (at + 8) buffer.old) }
 {
-    buffer[at..at + 8].copy_from_slice(&word.to_le_bytes());
+    let bytes = word.to_le_bytes();
+    buffer[at] = bytes[0];
+    buffer[at + 1] = bytes[1];
+    buffer[at + 2] = bytes[2];
+    buffer[at + 3] = bytes[3];
+    buffer[at + 4] = bytes[4];
+    buffer[at + 5] = bytes[5];
+    buffer[at + 6] = bytes[6];
+    buffer[at + 7] = bytes[7];
 }
 
 // Puts the bytes of a fragment's words into a buffer with eight more behind them, so that eight can be read at each place.
@@ -85,9 +93,16 @@ fn word_at(buffer: &[u8; 64], at: usize) -> u64
     requires { at + 8 ≤ 64 }
     ensures { number_bytes 8 result ≡ take 8 (drop at buffer.now) }
 {
-    let mut bytes = [0; 8];
-    bytes.copy_from_slice(&buffer[at..at + 8]);
-    u64::from_le_bytes(bytes)
+    u64::from_le_bytes([
+        buffer[at],
+        buffer[at + 1],
+        buffer[at + 2],
+        buffer[at + 3],
+        buffer[at + 4],
+        buffer[at + 5],
+        buffer[at + 6],
+        buffer[at + 7],
+    ])
 }
 
 // How many numbers so many bytes can be.
@@ -130,10 +145,10 @@ fn past_zeros(buffer: &[u8; 64], used: usize) -> usize
     ensures zeros { AreZeros buffer.now used result }
 {
     let mut at = used;
-    while at <= 48 && word_at(buffer, at) == 0 {
+    while at < 56 && word_at(buffer, at) == 0 {
         at += 8;
     }
-    at
+    at.min(56)
 }
 
 // Whether all bytes from a place up to the last of a fragment are zeros.
@@ -305,6 +320,7 @@ impl Field {
 
 impl Intake {
     /// At the first instruction.
+    #[inline(always)]
     pub(crate) fn new() -> Intake
         ensures stands { (ops : List Op) → IsCode receive ops (block_of ops) → Stands ops [] result [] }
         ensures none { result.count ≡ 0 }

@@ -7,7 +7,7 @@
 //! receive run, a reassembly and a call.
 //!
 //! - `cursor.rt`: where a run of send code stands, and how it goes on by an instruction
-//! - `send.rt`: `SendRun`
+//! - `send.rt`: `SendRun`, and a call's first fragment without one
 //! - `intake.rt`: where a run of receive code stands, and how it takes bytes
 //! - `recv.rt`: `RecvRun`
 //! - `reassembly.rt`: `Reassembly`, which gives calls of what it takes and needs no way back
@@ -26,4 +26,4 @@ pub use intake::{Fed, Intake};
 pub use law::{sends_fragments, sets_circuits, takes_fragments};
 pub use reassembly::{Reassembly, TakeFault, Taken};
 pub use recv::RecvRun;
-pub use send::SendRun;
+pub use send::{SendRun, first_frag};

@@ -1,13 +1,15 @@
 //! Calls that are put together again from their fragments.
 
-ghost use Rattle.std.specs.Prelude.{◌≡◌, ◌≤◌, ◌+◌, ◌⊎◌, ℕ, [], take, length, None, IfOk, IfErr};
+ghost use Rattle.std.specs.Prelude.{◌≡◌, ◌≤◌, ◌+◌, ◌⊎◌, ℕ, [], take, length, None, IsSome, IfOk, IfErr};
 ghost use Rattle.std.specs.Vec.{vec_capacity};
 ghost use Rattle.fl_compile.specs.Programs.{program_of};
 ghost use Rattle.fl_machine.specs.Receiving.{HoldsTapes, StandsIn, AddsUpTo, IsRefusedIn, parts_in};
+ghost use Rattle.fl_machine.specs.Receiving.{IsNew, stand_after};
 ghost use Rattle.fl_machine.specs.declared.recv.Stand.TheVariants.{Inside as inside};
 ghost use Rattle.fl_machine.specs.Reassembling.{Takes, IsGathered, parts_gathered, reassembling, without_parts};
 
-use crate::recv::{Begun, Stand, begin, go_on, whole};
+use crate::intake::Fed;
+use crate::recv::{Begun, begin, go_on, whole};
 use fl_base::Frag;
 use fl_compile::Program;
 use fl_value::Call;
@@ -91,64 +93,123 @@ fn fill(tape: &mut Vec<u64>, places: usize)
     }
 }
 
-// Where a call stands that this fragment begins, whose numbers are then on the tape.
+// Takes a fragment where a call is to begin, as the first of this one: its numbers are then on the tape.
 #[inline(always)]
 fn look_first(
     program: &Program,
+    begun: &mut Begun,
     tape: &mut Vec<u64>,
     capacity: usize,
     frag: &Frag,
-) -> Result<Stand, WireFault>
+) -> Result<Fed, WireFault>
+    requires new { IsNew begun.old }
     requires holds { HoldsTapes (program_of program.now).plan (program_of program.now).interface capacity }
     requires reserved { capacity ≤ vec_capacity tape.old }
     ensures reserved { capacity ≤ vec_capacity tape.new }
-    ensures stands { IfOk result (λ stand. StandsIn (program_of program.now) tape.new.items stand) }
-    ensures adds { IfOk result (λ stand. AddsUpTo (program_of program.now) [] frag.now tape.new.items stand) }
+    ensures stands { IfOk result (λ fed. StandsIn (program_of program.now) tape.new.items (stand_after begun.new fed)) }
+    ensures adds { IfOk result (λ fed. AddsUpTo (program_of program.now) [] frag.now tape.new.items (stand_after begun.new fed)) }
     ensures wrong { IfErr result (λ fault. IsRefusedIn (program_of program.now) [] frag.now fault) }
 {
     fill(tape, places_for(0, capacity));
-    begin(program, tape, frag)
+    begin(program, begun, tape, frag)
 }
 
-// Where the call under way stands with this fragment, whose numbers are then on the tape behind the others.
+// Takes a fragment of the call under way: its numbers are then on the tape behind the others.
 #[inline(always)]
 fn look_on(
     program: &Program,
-    begun: Begun,
+    begun: &mut Begun,
     tape: &mut Vec<u64>,
     capacity: usize,
     frag: &Frag,
-) -> Result<Stand, WireFault>
-    requires begun { StandsIn (program_of program.now) tape.old.items (inside begun) }
+) -> Result<Fed, WireFault>
+    requires begun { StandsIn (program_of program.now) tape.old.items (inside begun.old) }
     requires holds { HoldsTapes (program_of program.now).plan (program_of program.now).interface capacity }
     requires reserved { capacity ≤ vec_capacity tape.old }
     ensures reserved { capacity ≤ vec_capacity tape.new }
-    ensures begun { StandsIn (program_of program.now) tape.new.items (inside begun) }
-    ensures parts { parts_in (program_of program.now) tape.new.items begun ≡ parts_in (program_of program.now) tape.old.items begun }
-    ensures stands { IfOk result (λ stand. StandsIn (program_of program.now) tape.new.items stand) }
-    ensures adds { IfOk result (λ stand.
-        AddsUpTo (program_of program.now) (parts_in (program_of program.now) tape.old.items begun) frag.now tape.new.items stand) }
-    ensures wrong { IfErr result (λ fault. IsRefusedIn (program_of program.now) (parts_in (program_of program.now) tape.old.items begun) frag.now fault) }
+    ensures begun { StandsIn (program_of program.now) tape.new.items (inside begun.old) }
+    ensures parts { parts_in (program_of program.now) tape.new.items begun.old ≡ parts_in (program_of program.now) tape.old.items begun.old }
+    ensures stands { IfOk result (λ fed. StandsIn (program_of program.now) tape.new.items (stand_after begun.new fed)) }
+    ensures adds { IfOk result (λ fed.
+        AddsUpTo (program_of program.now) (parts_in (program_of program.now) tape.old.items begun.old) frag.now tape.new.items (stand_after begun.new fed)) }
+    ensures wrong { IfErr result (λ fault. IsRefusedIn (program_of program.now) (parts_in (program_of program.now) tape.old.items begun.old) frag.now fault) }
 {
     fill(tape, places_for(begun.intake.count(), capacity));
     go_on(program, begun, tape, frag)
 }
 
 impl Gathered {
-    // Where a call stands with a fragment, the one under way or another that it begins.
+    // A call whose last fragment came to this: one that goes on is under way then, and one that is whole is told.
     #[inline(always)]
-    fn look(&mut self, program: &Program, frag: &Frag) -> Result<Stand, WireFault>
+    fn keep(
+        &mut self,
+        alloc: Global,
+        program: &Program,
+        begun: &Begun,
+        frag: &Frag,
+        fed: Fed,
+    ) -> Result<Taken, TakeFault>
         requires gathered { IsGathered (program_of program.now) self.old }
+        requires stands { StandsIn (program_of program.now) self.old.tape.items (stand_after begun.now fed) }
+        requires adds { AddsUpTo (program_of program.now) (parts_gathered (program_of program.now) self.old) frag.now self.old.tape.items
+            (stand_after begun.now fed) }
         ensures gathered { IsGathered (program_of program.now) self.new }
-        ensures same { reassembling program.now self.new ≡ reassembling program.now self.old }
-        ensures stands { IfOk result (λ stand. StandsIn (program_of program.now) self.new.tape.items stand) }
-        ensures adds { IfOk result (λ stand.
-            AddsUpTo (program_of program.now) (parts_gathered (program_of program.now) self.old) frag.now self.new.tape.items stand) }
-        ensures wrong { IfErr result (λ fault. IsRefusedIn (program_of program.now) (parts_gathered (program_of program.now) self.old) frag.now fault) }
+        ensures takes { Takes (reassembling program.now self.old) frag.now result (reassembling program.now self.new) }
     {
-        match self.begun {
-            Some(begun) => look_on(program, begun, &mut self.tape, self.capacity, frag),
-            None => look_first(program, &mut self.tape, self.capacity, frag),
+        let _plan = program.plan();
+        match fed {
+            Fed::Part => {
+                self.begun = Some(*begun);
+                Ok(Taken::Part)
+            }
+            Fed::Whole => match whole(alloc, program, begun.ended(), &self.tape) {
+                Ok(call) => Ok(Taken::Whole(call)),
+                Err(_) => Err(TakeFault::Memory),
+            },
+        }
+    }
+
+    // Takes a fragment between two calls.
+    #[inline(always)]
+    fn take_first(
+        &mut self,
+        alloc: Global,
+        program: &Program,
+        frag: &Frag,
+    ) -> Result<Taken, TakeFault>
+        requires gathered { IsGathered (program_of program.now) self.old }
+        requires between { self.old.begun ≡ None }
+        ensures gathered { IsGathered (program_of program.now) self.new }
+        ensures takes { Takes (reassembling program.now self.old) frag.now result (reassembling program.now self.new) }
+    {
+        let _plan = program.plan();
+        let mut begun = Begun::new();
+        match look_first(program, &mut begun, &mut self.tape, self.capacity, frag) {
+            Ok(fed) => self.keep(alloc, program, &begun, frag, fed),
+            Err(fault) => Err(TakeFault::Wire(fault)),
+        }
+    }
+
+    // Takes a fragment of the call under way. Out of line, so that a call of one fragment has nothing of it.
+    #[inline(never)]
+    fn take_next(
+        &mut self,
+        alloc: Global,
+        program: &Program,
+        frag: &Frag,
+    ) -> Result<Taken, TakeFault>
+        requires gathered { IsGathered (program_of program.now) self.old }
+        requires under_way { IsSome self.old.begun }
+        ensures gathered { IsGathered (program_of program.now) self.new }
+        ensures takes { Takes (reassembling program.now self.old) frag.now result (reassembling program.now self.new) }
+    {
+        let _plan = program.plan();
+        let Some(mut begun) = self.begun else {
+            unreachable!();
+        };
+        match look_on(program, &mut begun, &mut self.tape, self.capacity, frag) {
+            Ok(fed) => self.keep(alloc, program, &begun, frag, fed),
+            Err(fault) => Err(TakeFault::Wire(fault)),
         }
     }
 
@@ -159,21 +220,9 @@ impl Gathered {
         ensures gathered { IsGathered (program_of program.now) self.new }
         ensures takes { Takes (reassembling program.now self.old) frag.now result (reassembling program.now self.new) }
     {
-        let _plan = program.plan();
-        let stand = match self.look(program, frag) {
-            Ok(stand) => stand,
-            Err(fault) => return Err(TakeFault::Wire(fault)),
-        };
-        match stand {
-            Stand::Inside(begun) => {
-                self.begun = Some(begun);
-                Ok(Taken::Part)
-            }
-            Stand::After(ended) => match whole(alloc, program, ended, &self.tape) {
-                Ok(call) => Ok(Taken::Whole(call)),
-                Err(_) => Err(TakeFault::Memory),
-            },
-            Stand::Between => unreachable!(),
+        match self.begun {
+            Some(_) => self.take_next(alloc, program, frag),
+            None => self.take_first(alloc, program, frag),
         }
     }
 }
@@ -218,7 +267,10 @@ impl Reassembly {
     pub fn finish(&mut self)
         ensures finished { self.new ≡ without_parts self.old }
     {
-        self.gathered.begun = None;
+        // Most calls have one fragment, and were never under way: these needn't be cleared.
+        if self.gathered.begun.is_some() {
+            self.gathered.begun = None;
+        }
     }
 
     /// The program whose calls are put together.

@@ -8,9 +8,10 @@ ghost use Rattle.fl_wire.specs.Reading.{Means, IsWrong};
 ghost use Rattle.fl_wire.specs.Wrong.{header_fault};
 ghost use Rattle.fl_compile.specs.Laws.{fault_of as fault_of_mark};
 ghost use Rattle.fl_compile.specs.Programs.{program_of};
-ghost use Rattle.fl_machine.specs.Receiving.{plan_in, interface_in, fed_by, answer_of, AddsPart, AddsLast, numbers_in, IsRefused, Remembers};
+ghost use Rattle.fl_machine.specs.Receiving.{plan_in, interface_in, fed_by, AddsPart, AddsLast, numbers_in, IsRefused, Remembers};
 ghost use Rattle.fl_machine.specs.Receiving.{undone, Undoes, Feeds, stored_of, receiving, HoldsTapes, IsBegun, IsStored};
 ghost use Rattle.fl_machine.specs.Receiving.{parts_in, StandsIn, AddsUpTo, HasFaultIn, IsRefusedIn, HasPlaces, MeansWhole};
+ghost use Rattle.fl_machine.specs.Receiving.{IsNew, ended_as, stand_after};
 ghost use Rattle.fl_machine.specs.declared.recv.Stand.TheVariants.{Inside as inside, After as after};
 
 use crate::intake::{Fed, Intake};
@@ -104,66 +105,85 @@ fn fault_of(mark: Mark) -> WireFault
     }
 }
 
-impl Stand {
-    // What a feed that led here answers.
+impl Begun {
+    // A call that is to begin.
     #[inline(always)]
-    fn answer(self) -> Fed
-        ensures answer { result ≡ answer_of self }
+    pub(crate) fn new() -> Begun
+        ensures new { IsNew result }
     {
-        match self {
-            Stand::After(_) => Fed::Whole,
-            _ => Fed::Part,
+        Begun {
+            msg: MsgNo(0),
+            fed: 0,
+            intake: Intake::new(),
+        }
+    }
+
+    // The call as one that is whole.
+    #[inline(always)]
+    pub(crate) fn ended(&self) -> Ended
+        ensures ended { result ≡ ended_as self.now }
+    {
+        Ended {
+            msg: self.msg,
+            count: self.intake.count(),
+        }
+    }
+
+    // Where a run stands behind the last fragment of it, by what that came to.
+    #[inline(always)]
+    fn after(self, fed: Fed) -> Stand
+        ensures stand { result ≡ stand_after self fed }
+    {
+        match fed {
+            Fed::Part => Stand::Inside(self),
+            Fed::Whole => Stand::After(self.ended()),
+        }
+    }
+
+    // Takes a fragment whose control word is right, where the call lies: so its loops aren't copied. After an `Err` it is of no more use.
+    #[inline(always)]
+    fn take(&mut self, program: &Program, tape: &mut [u64], frag: &Frag) -> Result<Fed, WireFault>
+        requires begun { IsBegun (program_of program.now).plan (program_of program.now).interface tape.old self.old }
+        requires room { HasPlaces (program_of program.now) self.old.intake.count (length tape.old) }
+        requires header { header_fault (program_of program.now).interface (parts_in (program_of program.now) tape.old self.old) frag.now ≡ None }
+        requires message { message_of frag.now.control ≡ self.old.msg.0 }
+        requires control { body frag.now.control ≡ control_word (self.old.fed == 0) self.old.msg.0 0 }
+        ensures stands { IfOk result (λ fed. StandsIn (program_of program.now) tape.new (stand_after self.new fed)) }
+        ensures adds { IfOk result (λ fed.
+            AddsUpTo (program_of program.now) (parts_in (program_of program.now) tape.old self.old) frag.now tape.new (stand_after self.new fed)) }
+        ensures grows { IfOk result (λ fed. self.old.intake.count ≤ numbers_in (stand_after self.new fed)) }
+        ensures wrong { IfErr result (λ fault. HasFaultIn (program_of program.now) (parts_in (program_of program.now) tape.old self.old) frag.now fault) }
+        ensures kept { take self.old.intake.count tape.new ≡ take self.old.intake.count tape.old }
+        ensures long { length tape.new ≡ length tape.old }
+    {
+        tells_faults();
+        is_line(frag);
+        let Some(code) = program.receive_code(self.msg) else {
+            unreachable!();
+        };
+        match self.intake.take_words(code.ops(), tape, &frag.words) {
+            Ok(Fed::Part) => {
+                self.fed += 1;
+                Ok(Fed::Part)
+            }
+            Ok(Fed::Whole) => Ok(Fed::Whole),
+            Err(mark) => Err(fault_of(mark)),
         }
     }
 }
 
-// Takes a fragment whose control word is right: where the run stands then. Out of line it would copy the run's loops more often.
+// Takes a fragment where a call is to begin: it is the first of this one.
 #[inline(always)]
-fn take_in(
+pub(crate) fn begin(
     program: &Program,
-    begun: Begun,
+    begun: &mut Begun,
     tape: &mut [u64],
     frag: &Frag,
-) -> Result<Stand, WireFault>
-    requires begun { IsBegun (program_of program.now).plan (program_of program.now).interface tape.old begun }
-    requires room { HasPlaces (program_of program.now) begun.intake.count (length tape.old) }
-    requires header { header_fault (program_of program.now).interface (parts_in (program_of program.now) tape.old begun) frag.now ≡ None }
-    requires message { message_of frag.now.control ≡ begun.msg.0 }
-    requires control { body frag.now.control ≡ control_word (begun.fed == 0) begun.msg.0 0 }
-    ensures stands { IfOk result (λ stand. StandsIn (program_of program.now) tape.new stand) }
-    ensures adds { IfOk result (λ stand. AddsUpTo (program_of program.now) (parts_in (program_of program.now) tape.old begun) frag.now tape.new stand) }
-    ensures grows { IfOk result (λ stand. begun.intake.count ≤ numbers_in stand) }
-    ensures wrong { IfErr result (λ fault. HasFaultIn (program_of program.now) (parts_in (program_of program.now) tape.old begun) frag.now fault) }
-    ensures kept { take begun.intake.count tape.new ≡ take begun.intake.count tape.old }
-    ensures long { length tape.new ≡ length tape.old }
-{
-    tells_faults();
-    is_line(frag);
-    let Some(code) = program.receive_code(begun.msg) else {
-        unreachable!();
-    };
-    // Goes on where it lies, so that its loops aren't copied.
-    let mut begun = begun;
-    match begun.intake.take_words(code.ops(), tape, &frag.words) {
-        Ok(Fed::Part) => Ok(Stand::Inside(Begun {
-            msg: begun.msg,
-            fed: begun.fed + 1,
-            intake: begun.intake,
-        })),
-        Ok(Fed::Whole) => Ok(Stand::After(Ended {
-            msg: begun.msg,
-            count: begun.intake.count(),
-        })),
-        Err(mark) => Err(fault_of(mark)),
-    }
-}
-
-// Takes a fragment where a call is to begin: where the run stands then.
-#[inline(always)]
-pub(crate) fn begin(program: &Program, tape: &mut [u64], frag: &Frag) -> Result<Stand, WireFault>
+) -> Result<Fed, WireFault>
+    requires new { IsNew begun.old }
     requires room { HasPlaces (program_of program.now) 0 (length tape.old) }
-    ensures stands { IfOk result (λ stand. StandsIn (program_of program.now) tape.new stand) }
-    ensures adds { IfOk result (λ stand. AddsUpTo (program_of program.now) [] frag.now tape.new stand) }
+    ensures stands { IfOk result (λ fed. StandsIn (program_of program.now) tape.new (stand_after begun.new fed)) }
+    ensures adds { IfOk result (λ fed. AddsUpTo (program_of program.now) [] frag.now tape.new (stand_after begun.new fed)) }
     ensures wrong { IfErr result (λ fault. IsRefusedIn (program_of program.now) [] frag.now fault) }
     ensures long { length tape.new ≡ length tape.old }
 {
@@ -171,36 +191,34 @@ pub(crate) fn begin(program: &Program, tape: &mut [u64], frag: &Frag) -> Result<
     if let Some(fault) = start_fault(interface, frag) {
         return Err(fault);
     }
-    let begun = Begun {
-        msg: frag.msg(),
-        fed: 0,
-        intake: Intake::new(),
-    };
-    take_in(program, begun, tape, frag)
+    begun.msg = frag.msg();
+    begun.fed = 0;
+    begun.take(program, tape, frag)
 }
 
-// Takes a fragment inside a call: where the run stands then.
+// Takes a fragment inside a call.
 #[inline(always)]
 pub(crate) fn go_on(
     program: &Program,
-    begun: Begun,
+    begun: &mut Begun,
     tape: &mut [u64],
     frag: &Frag,
-) -> Result<Stand, WireFault>
-    requires begun { StandsIn (program_of program.now) tape.old (inside begun) }
-    requires room { HasPlaces (program_of program.now) begun.intake.count (length tape.old) }
-    ensures stands { IfOk result (λ stand. StandsIn (program_of program.now) tape.new stand) }
-    ensures adds { IfOk result (λ stand. AddsUpTo (program_of program.now) (parts_in (program_of program.now) tape.old begun) frag.now tape.new stand) }
-    ensures grows { IfOk result (λ stand. begun.intake.count ≤ numbers_in stand) }
-    ensures wrong { IfErr result (λ fault. IsRefusedIn (program_of program.now) (parts_in (program_of program.now) tape.old begun) frag.now fault) }
-    ensures kept { take begun.intake.count tape.new ≡ take begun.intake.count tape.old }
+) -> Result<Fed, WireFault>
+    requires begun { StandsIn (program_of program.now) tape.old (inside begun.old) }
+    requires room { HasPlaces (program_of program.now) begun.old.intake.count (length tape.old) }
+    ensures stands { IfOk result (λ fed. StandsIn (program_of program.now) tape.new (stand_after begun.new fed)) }
+    ensures adds { IfOk result (λ fed.
+        AddsUpTo (program_of program.now) (parts_in (program_of program.now) tape.old begun.old) frag.now tape.new (stand_after begun.new fed)) }
+    ensures grows { IfOk result (λ fed. begun.old.intake.count ≤ numbers_in (stand_after begun.new fed)) }
+    ensures wrong { IfErr result (λ fault. IsRefusedIn (program_of program.now) (parts_in (program_of program.now) tape.old begun.old) frag.now fault) }
+    ensures kept { take begun.old.intake.count tape.new ≡ take begun.old.intake.count tape.old }
     ensures long { length tape.new ≡ length tape.old }
 {
     let _interface = program.interface();
     if let Some(fault) = follow_fault(begun.msg, frag) {
         return Err(fault);
     }
-    take_in(program, begun, tape, frag)
+    begun.take(program, tape, frag)
 }
 
 // The call of a whole tape.
@@ -230,17 +248,18 @@ impl Stored {
         ensures stored { IsStored (program_of program.now).plan (program_of program.now).interface (stored_of self.new) }
         ensures feeds { Feeds (receiving program.now (stored_of self.old)) frag.now result (receiving program.now (stored_of self.new)) }
     {
-        match begin(program, &mut self.fresh, frag) {
+        let mut begun = Begun::new();
+        match begin(program, &mut begun, &mut self.fresh, frag) {
             Err(fault) => Err(fault),
-            Ok(next) => {
+            Ok(fed) => {
                 mem::swap(&mut self.tape, &mut self.spare);
                 mem::swap(&mut self.tape, &mut self.fresh);
                 self.before = Some(Before {
                     stand: self.stand,
                     began: true,
                 });
-                self.stand = next;
-                Ok(next.answer())
+                self.stand = begun.after(fed);
+                Ok(fed)
             }
         }
     }
@@ -257,15 +276,16 @@ impl Stored {
         ensures stored { IsStored (program_of program.now).plan (program_of program.now).interface (stored_of self.new) }
         ensures feeds { Feeds (receiving program.now (stored_of self.old)) frag.now result (receiving program.now (stored_of self.new)) }
     {
-        match go_on(program, begun, &mut self.tape, frag) {
+        let mut begun = begun;
+        match go_on(program, &mut begun, &mut self.tape, frag) {
             Err(fault) => Err(fault),
-            Ok(next) => {
+            Ok(fed) => {
                 self.before = Some(Before {
                     stand: self.stand,
                     began: false,
                 });
-                self.stand = next;
-                Ok(next.answer())
+                self.stand = begun.after(fed);
+                Ok(fed)
             }
         }
     }

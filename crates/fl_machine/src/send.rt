@@ -81,7 +81,15 @@ fn put_number(buffer: &mut [u8; 56], at: usize, number: u64)
     requires { at + 8 ≤ 56 }
     ensures { buffer.new ≡ take at buffer.old ++ (number_bytes 8 number ++ drop (at + 8) buffer.old) }
 {
-    buffer[at..at + 8].copy_from_slice(&number.to_le_bytes());
+    let bytes = number.to_le_bytes();
+    buffer[at] = bytes[0];
+    buffer[at + 1] = bytes[1];
+    buffer[at + 2] = bytes[2];
+    buffer[at + 3] = bytes[3];
+    buffer[at + 4] = bytes[4];
+    buffer[at + 5] = bytes[5];
+    buffer[at + 6] = bytes[6];
+    buffer[at + 7] = bytes[7];
 }
 
 // The next bytes of a number, put at a place; the place behind them.
@@ -135,6 +143,7 @@ fn put_eights(
 }
 
 // The numbers of a loop over one number, as long as eight bytes are free; the place behind them.
+#[inline(always)]
 fn put_run(buffer: &mut [u8; 56], at: usize, cursor: &mut Cursor, ops: &[Op], tape: &[u64]) -> usize
     requires place { at < 56 }
     requires spot { IsSpot ops.now (spot_of tape.now cursor.old) }
@@ -195,6 +204,20 @@ fn fill(cursor: &mut Cursor, ops: &[Op], tape: &[u64]) -> [u8; 56]
         cursor.settle(ops, tape);
     }
     buffer
+}
+
+/// The first fragment of a call, by its message's send code and its tape: that which [`SendRun::start`]'s run gives first.
+/// A call of one fragment needs no run, which would be moved about. Takes no memory.
+#[inline]
+pub fn first_frag(code: &VerifiedCode, msg: MsgNo, circuit: Circuit, tape: &[u64]) -> Frag
+    requires { code.now.column ≡ send }
+    ensures { Some result ≡ slice_get (frags_holding true msg.0 circuit.0 (bytes_given (block_of code.now.ops) tape.now)) 0 }
+{
+    let ops = code.ops();
+    let mut cursor = Cursor::new();
+    cursor.settle(ops, tape);
+    let buffer = fill(&mut cursor, ops, tape);
+    frag_with(&buffer, true, msg, circuit)
 }
 
 impl SendRun {

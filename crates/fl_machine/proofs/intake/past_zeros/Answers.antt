@@ -25,12 +25,12 @@ zero_there buffer at word i none bytes from below =
     ∙ ap (λ (w : ℕ). get_or (number_bytes 8 w) (i - at) 0) none ∙ zero_byte (i - at) r
 
 pub loop-at-init : goal.loop-at-init
-loop-at-init c = (omega arith, c.requires, λ i from below. absurd (omega (arith, from, below)))
+loop-at-init c = (omega arith, omega (arith, c.requires), λ i from below. absurd (omega (arith, from, below)))
 
 pub loop-at-preserved : goal.loop-at-preserved
 loop-at-preserved c =
     let (from, inside, zeros) = c.loop-at.invariant in
-    let near : c.loop-at.at ≤ 48 = c.loop-at-test.true in (
+    let near : c.loop-at.at < 56 = c.loop-at-test.true in (
       omega (arith, from),
       omega (arith, near),
       λ i low high. ⊎_elim

@@ -12,19 +12,19 @@ returns-in-Some-clause-wrong c =
     refused p.plan (interface_of p.interface) [] c.args.frag.now c.in-Some.fault p.interface.within p.words (inl refl)
     (inl (ap (λ (i : TheInterface). start_fault i c.args.frag.now) (sym c.interface-interface.ensures.interface) ∙ sym c.in-Some.ensures.fault))
 
-pub take_in-requires-clause-begun : goal.take_in-requires-clause-begun
-take_in-requires-clause-begun c =
+pub take-requires-clause-begun : goal.take-requires-clause-begun
+take-requires-clause-begun c =
     let p = c.args.program.now in
     let none : start_fault (interface_of p.interface) c.args.frag.now ≡ None = search rules in
-    none_begun p.plan (interface_of p.interface) c.args.tape.now _ c.args.frag.now p.interface.within p.words none c.msg.ensures refl c.new.ensures.stands
+    none_begun p.plan (interface_of p.interface) c.args.tape.now _ c.args.frag.now p.interface.within p.words none c.msg-begun.ensures refl c.requires.new.stands
 
-pub take_in-requires-clause-control : goal.take_in-requires-clause-control
-take_in-requires-clause-control c =
+pub take-requires-clause-control : goal.take-requires-clause-control
+take-requires-clause-control c =
     let p = c.args.program.now in
     let none : start_fault (interface_of p.interface) c.args.frag.now ≡ None = search rules in
-    start_control (interface_of p.interface) c.args.frag.now none ∙ ap (λ (m : ℕ). control_word true m 0) (sym c.msg.ensures)
+    start_control (interface_of p.interface) c.args.frag.now none ∙ ap (λ (m : ℕ). control_word true m 0) (sym c.msg-begun.ensures)
 
 pub returns-clause-wrong : goal.returns-clause-wrong
 returns-clause-wrong c =
     let p = c.args.program.now in
-    err_weaker c.take_in.result _ _ (λ fault first. refused p.plan (interface_of p.interface) [] c.args.frag.now fault p.interface.within p.words (inl refl) first) c.take_in.ensures.wrong
+    err_weaker c.take.result _ _ (λ fault first. refused p.plan (interface_of p.interface) [] c.args.frag.now fault p.interface.within p.words (inl refl) first) c.take.ensures.wrong

@@ -13,27 +13,27 @@ returns-in-Some-clause-wrong c =
     let p = c.args.program.now in
     let i = interface_of p.interface in
     let (some, begun) = c.requires.begun in
-    refused p.plan i (parts_of p.plan i c.args.tape.now c.args.begun) c.args.frag.now c.in-Some.fault p.interface.within p.words (under_way p.plan i c.args.tape.now c.args.begun p.interface.within p.words some begun)
-    (inl (header_is p.plan i c.args.tape.now c.args.begun c.args.frag.now p.interface.within p.words some begun ∙ sym c.in-Some.ensures.fault))
+    refused p.plan i (parts_of p.plan i c.args.tape.now c.args.begun.now) c.args.frag.now c.in-Some.fault p.interface.within p.words (under_way p.plan i c.args.tape.now c.args.begun.now p.interface.within p.words some begun)
+    (inl (header_is p.plan i c.args.tape.now c.args.begun.now c.args.frag.now p.interface.within p.words some begun ∙ sym c.in-Some.ensures.fault))
 
-pub take_in-requires-clause-header : goal.take_in-requires-clause-header
-take_in-requires-clause-header c =
+pub take-requires-clause-header : goal.take-requires-clause-header
+take-requires-clause-header c =
     let p = c.args.program.now in
     let (some, begun) = c.requires.begun in
-    let none : follow_fault c.args.begun.msg.0 c.args.frag.now ≡ None = search rules in
-    header_is p.plan (interface_of p.interface) c.args.tape.now c.args.begun c.args.frag.now p.interface.within p.words some begun ∙ none
+    let none : follow_fault c.args.begun.now.msg.0 c.args.frag.now ≡ None = search rules in
+    header_is p.plan (interface_of p.interface) c.args.tape.now c.args.begun.now c.args.frag.now p.interface.within p.words some begun ∙ none
 
-pub take_in-requires-clause-control : goal.take_in-requires-clause-control
-take_in-requires-clause-control c =
+pub take-requires-clause-control : goal.take-requires-clause-control
+take-requires-clause-control c =
     let (some, begun) = c.requires.begun in
-    let none : follow_fault c.args.begun.msg.0 c.args.frag.now ≡ None = search rules in
-    follow_control c.args.begun.msg.0 c.args.frag.now none ∙ ap (λ (v : Bool). control_word v c.args.begun.msg.0 0) (sym (ne_eqb c.args.begun.fed 0 (λ e. absurd (omega (arith, e, some)))))
+    let none : follow_fault c.args.begun.now.msg.0 c.args.frag.now ≡ None = search rules in
+    follow_control c.args.begun.now.msg.0 c.args.frag.now none ∙ ap (λ (v : Bool). control_word v c.args.begun.now.msg.0 0) (sym (ne_eqb c.args.begun.now.fed 0 (λ e. absurd (omega (arith, e, some)))))
 
 pub returns-clause-wrong : goal.returns-clause-wrong
 returns-clause-wrong c =
     let p = c.args.program.now in
     let i = interface_of p.interface in
     let (some, begun) = c.requires.begun in
-    err_weaker c.take_in.result _ _
-    (λ fault first. refused p.plan i (parts_of p.plan i c.args.tape.now c.args.begun) c.args.frag.now fault p.interface.within p.words (under_way p.plan i c.args.tape.now c.args.begun p.interface.within p.words some begun) first)
-    c.take_in.ensures.wrong
+    err_weaker c.take.result _ _
+    (λ fault first. refused p.plan i (parts_of p.plan i c.args.tape.now c.args.begun.now) c.args.frag.now fault p.interface.within p.words (under_way p.plan i c.args.tape.now c.args.begun.now p.interface.within p.words some begun) first)
+    c.take.ensures.wrong

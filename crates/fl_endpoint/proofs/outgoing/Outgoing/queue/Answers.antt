@@ -12,7 +12,7 @@ returns-then-is_some-clause-outgoing c =
     let items : c.push_back.new.self.items ≡ before ++ c.args.call ∷ [] = search rules in
     let long = ap length items ∙ length_more before c.args.call in
     record {
-      now = still_now p c.args.self.now.sending before c.push_back.new.self.items (search rules) c.requires.outgoing.now;
+      now = still_now p c.args.self.now.sending c.args.self.now.run before c.push_back.new.self.items (search rules) c.requires.outgoing.now;
       waiting = subst (λ (xs : List Queued). AreQueued p xs) (sym items) (queued_more p before c.args.call c.requires.outgoing.waiting c.requires.call);
       few = omega (arith, long, c.requires.room);
       room = search rules;

@@ -8,7 +8,7 @@ use Rattle.fl_compile.specs.Programs.{program_of}
 use Rattle.fl_machine.specs.Sending.{frags_left, frags_holding, RunsOn}
 use Rattle.fl_endpoint.specs.Stored.{code_of, queued_frags, AreOwn}
 use Rattle.fl_endpoint.proofs.Outgoings.{code_is, given_first, own_frags, length_holding, some_for, none_first}
-use Rattle.fl_endpoint.proofs.outgoing.start.Goals as goal
+use Rattle.fl_endpoint.proofs.outgoing.Outgoing.start_run.Goals as goal
 
 zero_more : (n : ℕ) → 0 + n ≡ n
 zero_more n = omega arith
@@ -38,8 +38,8 @@ returns-clause-count c =
     let p = program_of c.args.program.now in
     c.requires.counted ∙ sym (length_holding true c.args.call.msg.0 c.args.circuit.0 (bytes_given (block_of (code_of p c.args.call.msg.0).ops) c.args.call.tape.items))
 
-pub returns-clause-sending : goal.returns-clause-sending
-returns-clause-sending c =
+pub returns-clause-now : goal.returns-clause-now
+returns-clause-now c = λ waiting.
     let p = program_of c.args.program.now in
     let code = c.in-Some.code.now in
     let same : code ≡ code_of p c.args.call.msg.0 = code_is p.plan (slice_get p.interface.messages c.args.call.msg.0) code (search rules) in
