@@ -7,3 +7,8 @@ mod Starts
 mod OffLinks
 mod Routes
 mod Circuits
+mod Counted
+mod Bound
+mod Named
+mod Zero
+mod Logged

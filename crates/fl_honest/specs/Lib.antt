@@ -5,3 +5,4 @@ pub mod Told
 pub mod Crossing
 pub mod Bindings
 pub mod Circuits
+pub mod Named
