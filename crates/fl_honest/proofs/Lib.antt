@@ -12,3 +12,5 @@ mod Bound
 mod Named
 mod Zero
 mod Logged
+mod Neighbours
+mod Whole

@@ -1,5 +1,6 @@
 -- A run of cores, each by what happened there.
 use Rattle.std.specs.Prelude.{ℕ, ◌≡◌, List, slice_get, Some}
+use Rattle.fl_running.specs.declared.run.Part.{Part}
 use Rattle.fl_ring.specs.SharedSeats.{front_seen}
 use Rattle.fl_ring.specs.SharedSides.{TheSide, SharedPuts, SharedTakes}
 use Rattle.fl_core.specs.View.{TheSeat}
@@ -10,6 +11,7 @@ use Rattle.fl_running.specs.Run.{Ways, ways, TheRun}
 use Rattle.fl_running.specs.Deeds.{Deed}
 use Rattle.fl_running.specs.Logs.{Goes}
 use Rattle.fl_running.specs.Flows.{IsApart}
+use Rattle.fl_running.specs.Ran.{Task, Moment, CoreRan}
 
 -- how sides of shared rings put and take, and what the last look saw
 abbrev pub shared_ways : Ways TheSide
@@ -31,3 +33,9 @@ pub record Went (jobs : List CoreJob) (c : OneCore) : Type 0 where
 -- so did each
 abbrev pub AllWent : List CoreJob → List OneCore → Type 0
 AllWent jobs cores = (n : ℕ) (c : OneCore) → slice_get cores n ≡ Some c → Went jobs c
+
+-- ---- law
+
+-- a core's whole run is a log: its turns that were counted, and then those that weren't
+abbrev pub CoresGo : Type 0
+CoresGo = (t : Task) (a b : Moment TheSide) (part : Part) → CoreRan shared_ways t a part b → (log : List Deed) × Goes shared_ways t.jobs a.run log b.run

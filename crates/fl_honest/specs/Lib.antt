@@ -6,3 +6,4 @@ pub mod Crossing
 pub mod Bindings
 pub mod Circuits
 pub mod Named
+pub mod Neighbours

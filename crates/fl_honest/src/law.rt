@@ -3,12 +3,23 @@
 ghost use Rattle.fl_honest.specs.Crossing.{ThroughQueues, ThroughRings};
 ghost use Rattle.fl_honest.specs.Bindings.{PartiesAreHonest, ReportsAreHonest, OffLinksIsHonest};
 ghost use Rattle.fl_honest.specs.Circuits.{CircuitsAreHonest};
+ghost use Rattle.fl_honest.specs.Cores.{CoresGo};
+ghost use Rattle.fl_honest.specs.Neighbours.{CoresName, NeighboursAgree};
 
 use fl_deal::rings_conserve;
+use fl_endpoint::on_another_circuit;
 use fl_hop::circuits_join;
 use fl_link::queue_conserves;
 use fl_ring::SharedSide;
-use fl_running::{ends_agree, jobs_are_made, logs_flow, rules_come_first, sent_by_rules, turns_are_logged};
+use fl_running::{counted_are_turns, ends_agree, jobs_are_made, logs_flow, rules_come_first, sent_by_rules, turns_are_logged};
+
+/// A core's whole run, the turns that were counted and those that weren't, is a log.
+pub fn cores_go()
+    ensures goes { CoresGo }
+{
+    counted_are_turns::<SharedSide>();
+    turns_are_logged::<SharedSide>();
+}
 
 /// What is taken through a queue in which nothing stood, or at one side of a new ring whose sides are put together again in the end, is the first of what
 /// was put there.
@@ -60,6 +71,24 @@ pub fn circuits_are_honest()
     rules_come_first::<SharedSide>();
     ends_agree();
     queue_conserves();
+    rings_conserve();
+    circuits_join();
+}
+
+/// In a run of a core that opened nothing before, each number of a circuit is of one binding: what asks for a circuit, of all that its monitor said, asks for a
+/// number that the core gave for that binding; and where an entry stands at a number of a neighbour's, its monitor heard that number asked for, for the
+/// entry's binding.
+pub fn cores_name()
+    ensures name { CoresName }
+{
+    on_another_circuit();
+}
+
+/// By a number that one of the two cores of a link gave, both mean the same binding.
+pub fn neighbours_agree()
+    ensures agree { NeighboursAgree }
+{
+    cores_name();
     rings_conserve();
     circuits_join();
 }
