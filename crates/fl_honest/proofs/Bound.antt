@@ -29,7 +29,7 @@ put_binding t (Link m d) o l n h at = by (nat_lt n 2047) at where
   ]
   by false is = absurd (cc)
 
-binding_in : (binding : ℕ) (ok : Bool) (way : Way) (h : Hop) → leading binding ok way ≡ Some h → h.binding ≡ binding
+pub binding_in : (binding : ℕ) (ok : Bool) (way : Way) (h : Hop) → leading binding ok way ≡ Some h → h.binding ≡ binding
 binding_in binding ok way h is = let same : record { binding = binding; way = way; answered = ok } ≡ h = cc in sym (ap (λ (x : Hop). x.binding) same)
 
 -- what stands where an entry was made is of its binding, or stood there before
@@ -52,7 +52,7 @@ given_there t l n h sound at = elim (sound.toward l n h.binding h.way (record { 
   | inr x ↦ inr x.0
 ]
 
-map_some : (o : Option Hop) (y : Hop) → option_map unanswered o ≡ Some y → (x : Hop) × (o ≡ Some x) × (unanswered x ≡ y)
+pub map_some : (o : Option Hop) (y : Hop) → option_map unanswered o ≡ Some y → (x : Hop) × (o ≡ Some x) × (unanswered x ≡ y)
 map_some None y h = absurd (cc)
 map_some (Some x) y h = (x, refl, let e : unanswered x ≡ y = cc in e)
 

@@ -12,5 +12,7 @@ mod Bound
 mod Named
 mod Zero
 mod Logged
+mod Refused
+mod LoggedRefusals
 mod Neighbours
 mod Whole

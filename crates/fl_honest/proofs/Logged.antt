@@ -76,7 +76,7 @@ use Rattle.fl_honest.proofs.Zero.{said_on, IsSaid, zero_said, carried_zero, says
 -- ---- what lists of steps say
 
 module _ (t : TheCircuits) (k m : ℕ) where
-  said_heard : (frags : List Frag) → said_on k (steps_of t (hop_heard m) frags) ≡ []
+  pub said_heard : (frags : List Frag) → said_on k (steps_of t (hop_heard m) frags) ≡ []
   said_heard [] = refl
   said_heard (f ∷ frags) = said_heard frags
 
@@ -84,11 +84,11 @@ module _ (t : TheCircuits) (k m : ℕ) where
   said_wrote e [] = refl
   said_wrote e (f ∷ frags) = said_wrote e frags
 
-  said_arrived : (e : EndId) (frags : List Frag) → said_on k (steps_of t (λ f. hop_passed m f (End e)) frags) ≡ []
+  pub said_arrived : (e : EndId) (frags : List Frag) → said_on k (steps_of t (λ f. hop_passed m f (End e)) frags) ≡ []
   said_arrived e [] = refl
   said_arrived e (f ∷ frags) = said_arrived e frags
 
-  said_said : (b : Bool) (frags : List Frag) (f : Frag) → (m == k) ≡ b → Has f (said_on k (steps_of t (hop_said m) frags)) → (b ≡ true) × Has f frags
+  pub said_said : (b : Bool) (frags : List Frag) (f : Frag) → (m == k) ≡ b → Has f (said_on k (steps_of t (hop_said m) frags)) → (b ≡ true) × Has f frags
   said_said b [] f is h = absurd h
   said_said true (g ∷ frags) f is h = elim (subst (λ (c : Bool). Has f ((if c then g ∷ [] else []) ++ said_on k (steps_of t (hop_said m) frags))) is h) [
     | inl same ↦ (refl, inl same)
@@ -98,32 +98,32 @@ module _ (t : TheCircuits) (k m : ℕ) where
       let rest = said_said false frags f is (subst (λ (c : Bool). Has f ((if c then g ∷ [] else []) ++ said_on k (steps_of t (hop_said m) frags))) is h) in
       (rest.0, inr rest.1)
 
-said_by_link : (t : TheCircuits) (k : ℕ) (o : Option LinkId) (e : EndId) (frags : List Frag) → said_on k (steps_by t o e frags) ≡ []
+pub said_by_link : (t : TheCircuits) (k : ℕ) (o : Option LinkId) (e : EndId) (frags : List Frag) → said_on k (steps_by t o e frags) ≡ []
 said_by_link t k None e frags = refl
 said_by_link t k (Some l) e frags = said_wrote t k l.0 e frags
 
-has_taken : (f : Frag) (xs : List Frag) → Has f (take 1 xs) → Has f xs
+pub has_taken : (f : Frag) (xs : List Frag) → Has f (take 1 xs) → Has f xs
 has_taken f [] h = h
 has_taken f (x ∷ xs) (inl same) = inl same
 has_taken f (x ∷ xs) (inr none) = absurd none
 
-has_rest : (f : Frag) (xs : List Frag) → Has f (drop 1 xs) → Has f xs
+pub has_rest : (f : Frag) (xs : List Frag) → Has f (drop 1 xs) → Has f xs
 has_rest f [] h = h
 has_rest f (x ∷ xs) h = inr h
 
-has_at : (f : Frag) (xs : List Frag) → Has f xs → (i : ℕ) × (slice_get xs i ≡ Some f)
+pub has_at : (f : Frag) (xs : List Frag) → Has f xs → (i : ℕ) × (slice_get xs i ≡ Some f)
 has_at f [] h = absurd h
 has_at f (x ∷ xs) (inl same) = (0, ap Some same)
 has_at f (x ∷ xs) (inr rest) = (let (i, at) = has_at f xs rest in (i + 1, plus_one i at)) where
   plus_one : (i : ℕ) → slice_get xs i ≡ Some f → slice_get (x ∷ xs) (i + 1) ≡ Some f
   plus_one i at = (let same : i + 1 ≡ suc i = omega arith in subst (λ (j : ℕ). slice_get (x ∷ xs) j ≡ Some f) (sym same) at)
 
-eq_true : (a b : ℕ) → (a == b) ≡ true → b ≡ a
+pub eq_true : (a b : ℕ) → (a == b) ≡ true → b ≡ a
 eq_true a b is = grind (arith, nat_tests, is)
 
 -- ---- what becomes of the monitor
 
-follows_monitor : (o : Offers) (l : LinkId) (msg : Message) (h : Heard) (k : TheCore) (m : TheMonitor) (answer : MonitorAnswer) (k2 : TheCore)
+pub follows_monitor : (o : Offers) (l : LinkId) (msg : Message) (h : Heard) (k : TheCore) (m : TheMonitor) (answer : MonitorAnswer) (k2 : TheCore)
     → Follows o.programs (offer_for o k msg) l h (with_monitor k m) answer k2 → k2.monitor ≡ m
 follows_monitor o l msg (outcome.ServerMade binding dispatcher c) k m answer k2 f = ap (λ (x : TheCore). x.monitor) f.1.rest
 follows_monitor o l msg (outcome.EndOpened e c) k m answer k2 f = by (arriving_at (with_monitor k m) e) f.1 where
@@ -368,12 +368,12 @@ took_joins : (l : ℕ) (xs ys : List Step) → taken_from l (xs ++ ys) ≡ taken
 took_joins l [] ys = refl
 took_joins l (x ∷ xs) ys = ap (λ (fs : List Frag). taken_by l x.deed ++ fs) (took_joins l xs ys) ∙ sym (append_assoc (taken_by l x.deed) (taken_from l xs) (taken_from l ys))
 
-said_joins : (so : ℕ → List Frag) (xs ys : List Step) (l : ℕ) → then_said so (xs ++ ys) l ≡ then_said (then_said so xs) ys l
+pub said_joins : (so : ℕ → List Frag) (xs ys : List Step) (l : ℕ) → then_said so (xs ++ ys) l ≡ then_said (then_said so xs) ys l
 said_joins so xs ys l =
     ap (λ (fs : List Frag). so l ++ of_circuit 0 fs) (put_joins l xs ys) ∙ ap (λ (fs : List Frag). so l ++ fs) (of_join 0 (put_on l xs) (put_on l ys))
     ∙ sym (append_assoc (so l) (of_circuit 0 (put_on l xs)) (of_circuit 0 (put_on l ys)))
 
-heard_joins : (so : ℕ → List Frag) (xs ys : List Step) (l : ℕ) → then_heard so (xs ++ ys) l ≡ then_heard (then_heard so xs) ys l
+pub heard_joins : (so : ℕ → List Frag) (xs ys : List Step) (l : ℕ) → then_heard so (xs ++ ys) l ≡ then_heard (then_heard so xs) ys l
 heard_joins so xs ys l =
     ap (λ (fs : List Frag). so l ++ of_circuit 0 fs) (took_joins l xs ys) ∙ ap (λ (fs : List Frag). so l ++ fs) (of_join 0 (taken_from l xs) (taken_from l ys))
     ∙ sym (append_assoc (so l) (of_circuit 0 (taken_from l xs)) (of_circuit 0 (taken_from l ys)))

@@ -147,7 +147,7 @@ module _ (said heard said2 heard2 : ℕ → List Frag) (m m2 : TheMonitor) (soun
 -- ---- an opening that is heard
 
 -- where it goes on it has the link's next number; and it is no answer
-abbrev IsNext : TheCircuits → Heard → Type 0
+abbrev pub IsNext : TheCircuits → Heard → Type 0
 IsNext t (OpeningWentOn binding m n) = next_own t m.0 ≡ Some n.0
 IsNext t (ServerMade binding dispatcher c) = Unit {0}
 IsNext t (OpeningFailed binding reason) = Unit {0}
@@ -174,14 +174,14 @@ module _ (kn : Known) (t : TheCircuits) (binding : ℕ) (c : Circuit) where
   by_route l o None is = rw is (at_last o.service.0 (by_iref o.service.0 kn.names) kn.here.has_place refl refl)
   by_route l o (Some next) is = rw is (on_the_way l next.0 (link_of t next.0) refl)
 
-opening_next : (kn : Known) (t : TheCircuits) (l : ℕ) (c : Circuit) (o : Opening) (h : Heard) → h ≡ heard_by o.binding c (fate kn t l o) → IsNext t h
+pub opening_next : (kn : Known) (t : TheCircuits) (l : ℕ) (c : Circuit) (o : Opening) (h : Heard) → h ≡ heard_by o.binding c (fate kn t l o) → IsNext t h
 opening_next kn t l c o h is = subst (IsNext t) (sym is) (by_route kn t o.binding c l o (next_on o.path t.core) refl)
 
 first_of : (a b c d e f : Bool) → (a && b && not c && not d && e && f) ≡ true → a ≡ true
 first_of true b c d e f h = refl
 first_of false b c d e f h = absurd (cc)
 
-due_in_place : (kn : Known) (t : TheCircuits) (l : LinkId) (c : Circuit) (o : Opening) → is_in_place kn t l.0 c.0 o ≡ true → next_due t l.0 ≡ Some c.0
+pub due_in_place : (kn : Known) (t : TheCircuits) (l : LinkId) (c : Circuit) (o : Opening) → is_in_place kn t l.0 c.0 o ≡ true → next_due t l.0 ≡ Some c.0
 due_in_place kn t l c o h =
     next_test (next_due t l.0) c.0
     (first_of (is_next (next_due t l.0) c.0) (nat_lt o.binding 1024) kn.here.has_end (stands t o.binding) (comes_along t l.0 o.path) (not (is_for_another kn.names t o)) h)

@@ -1,5 +1,5 @@
 -- Which binding a circuit's number is of, as monitors told each other.
-use Rattle.std.specs.Prelude.{ℕ, ◌≡◌, ◌⊎◌, List, [], ◌∷◌, Some}
+use Rattle.std.specs.Prelude.{ℕ, ◌≡◌, ◌⊎◌, List, [], ◌∷◌, Some, None}
 use Rattle.fl_base.specs.declared.fragment.Frag.{Frag}
 use Rattle.fl_base.specs.declared.identity.CoreId.{CoreId}
 use Rattle.fl_base.specs.declared.identity.IRef.{IRef}
@@ -7,7 +7,7 @@ use Rattle.fl_base.specs.declared.identity.Circuit.{Circuit}
 use Rattle.fl_hop.specs.declared.entry.Hop.{Hop}
 use Rattle.fl_hop.specs.Table.{TheCircuits, hop_at}
 use Rattle.fl_hop.specs.Numbers.{OpenedHere, OpenedThere}
-use Rattle.fl_monitor.specs.declared.message.Message.TheVariants.{OpenCircuit}
+use Rattle.fl_monitor.specs.declared.message.Message.TheVariants.{OpenCircuit, CircuitRefused}
 use Rattle.fl_monitor.specs.Monitors.{TheMonitor, waiting_for}
 use Rattle.fl_monitor.specs.Saying.{Says}
 
@@ -42,3 +42,24 @@ pub record AreNamed (said heard : ℕ → List Frag) (m : TheMonitor) : Type 0 w
       → IsGivenFor m.circuits l c.0 binding
   -- where an entry stands at a number of the neighbour's, that asked for it, for the entry's binding
   pub told : (l n : ℕ) (hop : Hop) → OpenedThere m.circuits l n → hop_at m.circuits l n ≡ Some hop → IsAskedFor (heard l) n hop.binding
+
+-- one of these fragments says that the number is refused
+pub record IsRefusedIn (frags : List Frag) (n : ℕ) : Type 0 where
+  pub frag : Frag
+  pub has : Has frag frags
+  pub circuit : Circuit
+  pub number : circuit.0 ≡ n
+  pub reason : ℕ
+  pub says : Says frag (CircuitRefused circuit reason)
+
+-- this is a number of the neighbour's, at which no entry stands
+pub record IsFree (t : TheCircuits) (l n : ℕ) : Type 0 where
+  pub there : OpenedThere t l n
+  pub none : hop_at t l n ≡ None
+
+-- of a monitor that said and heard these fragments, by link
+pub record AreRefused (said heard : ℕ → List Frag) (m : TheMonitor) : Type 0 where
+  -- at a number that it refused, or has still to refuse, no entry stands
+  pub refused : (l : ℕ) (f : Frag) (c : Circuit) (reason : ℕ) → Has f (said l) ⊎ Has f (waiting_for m.outboxes l) → Says f (CircuitRefused c reason) → IsFree m.circuits l c.0
+  -- where no entry stands at a number that it gave, the neighbour refused that
+  pub gone : (l n : ℕ) → OpenedHere m.circuits l n → hop_at m.circuits l n ≡ None → IsRefusedIn (heard l) n

@@ -4,7 +4,7 @@ ghost use Rattle.fl_honest.specs.Crossing.{ThroughQueues, ThroughRings};
 ghost use Rattle.fl_honest.specs.Bindings.{PartiesAreHonest, ReportsAreHonest, OffLinksIsHonest};
 ghost use Rattle.fl_honest.specs.Circuits.{CircuitsAreHonest};
 ghost use Rattle.fl_honest.specs.Cores.{CoresGo};
-ghost use Rattle.fl_honest.specs.Neighbours.{CoresName, NeighboursAgree};
+ghost use Rattle.fl_honest.specs.Neighbours.{CoresName, NeighboursAgree, EntriesLeadBack};
 
 use fl_deal::rings_conserve;
 use fl_endpoint::on_another_circuit;
@@ -76,19 +76,26 @@ pub fn circuits_are_honest()
 }
 
 /// In a run of a core that opened nothing before, each number of a circuit is of one binding: what asks for a circuit, of all that its monitor said, asks for a
-/// number that the core gave for that binding; and where an entry stands at a number of a neighbour's, its monitor heard that number asked for, for the
-/// entry's binding.
+/// number that the core gave for that binding; where an entry stands at a number of a neighbour's, its monitor heard that number asked for, for the
+/// entry's binding; and entries go by refusals alone, and none stands at a number that the core refused.
 pub fn cores_name()
     ensures name { CoresName }
 {
     on_another_circuit();
 }
 
-/// By a number that one of the two cores of a link gave, both mean the same binding.
+/// By a number that one of the two cores of a link gave, both mean the same binding: where an entry stands there at the one, it does at the other.
 pub fn neighbours_agree()
     ensures agree { NeighboursAgree }
 {
     cores_name();
     rings_conserve();
     circuits_join();
+}
+
+/// So each entry at a number of a neighbour's leads back over the link, to the client's end or to one more station.
+pub fn entries_lead_back()
+    ensures back { EntriesLeadBack }
+{
+    neighbours_agree();
 }
