@@ -1,11 +1,11 @@
 -- The bindings of entries.
-use Rattle.std.proofs.Common.{◌≡◌, ◌⊎◌, inl, inr, refl, sym, ap, ◌∙◌, subst, ℕ, zero, suc, nat_lt, Bool, true, false, if◌then◌else◌, List, [], ◌∷◌, slice_set, slice_index_or, Option, Some, None, option_map}
+use Rattle.std.proofs.Common.{◌≡◌, ◌⊎◌, inl, inr, refl, sym, ap, ◌∙◌, ℕ, zero, suc, nat_lt, Bool, true, false, if◌then◌else◌, List, [], ◌∷◌, slice_set, slice_index_or, Option, Some, None, option_map}
 use Rattle.fl_hop.specs.declared.entry.Way.{Way}
 use Rattle.fl_hop.specs.declared.entry.Way.TheVariants.{Link, End}
 use Rattle.fl_hop.specs.declared.entry.Hop.{Hop}
-use Rattle.fl_hop.specs.Joined.{Sound, Leads}
-use Rattle.fl_hop.specs.Later.{Later, entry_at, unanswered}
-use Rattle.fl_hop.specs.Numbers.{Given, OpenedHere, OpenedThere}
+use Rattle.fl_hop.specs.Joined.{Sound}
+use Rattle.fl_hop.specs.Later.{Later, unanswered}
+use Rattle.fl_hop.specs.Numbers.{Given, OpenedThere}
 use Rattle.fl_hop.specs.Table.{TheCircuits, slot, hop_at, put_at, with_hops, with_entry, leading}
 use Rattle.fl_hop.proofs.Answering.{numbers_apart}
 

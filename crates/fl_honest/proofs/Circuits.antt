@@ -1,30 +1,25 @@
 -- Bindings over circuits whose ends are bound in the end: what is told of them is honest.
-use Rattle.std.proofs.Common.{◌≡◌, ◌⊎◌, inl, inr, refl, sym, ap, ◌∙◌, subst, ℕ, zero, suc, List, [], ◌∷◌, map, length, replicate, slice_get}
-use Rattle.std.proofs.Common.{Option, Some, None, Bool, false}
+use Rattle.std.proofs.Common.{◌≡◌, ◌⊎◌, inl, inr, refl, sym, ap, ◌∙◌, subst, ℕ, zero, suc, List, [], map, length, replicate, slice_get}
+use Rattle.std.proofs.Common.{Option, Some, None, false}
 use Rattle.std.specs.List.{list_any}
-use Rattle.fl_base.specs.declared.fragment.Frag.{Frag}
 use Rattle.fl_base.specs.declared.identity.EndId.{EndId}
 use Rattle.fl_base.specs.Prefix.{IsPrefix}
-use Rattle.fl_deal.specs.Settled.{RingsConserve}
-use Rattle.fl_compile.specs.declared.program.Program.{Program}
 use Rattle.fl_compile.specs.Programs.{program_of}
 use Rattle.fl_hop.specs.OfCircuit.{as_carried, of_circuit}
-use Rattle.fl_hop.specs.Stretch.{taken_from, put_on, come_to, written_by}
-use Rattle.fl_endpoint.specs.View.{TheEnd, is_rule, has_rules, no_rules}
+use Rattle.fl_hop.specs.Stretch.{taken_from, come_to}
+use Rattle.fl_endpoint.specs.View.{TheEnd, is_rule, has_rules}
 use Rattle.fl_core.specs.View.{TheSeat}
 use Rattle.fl_node.specs.View.{new_arrivals, client_of, server_of}
 use Rattle.fl_running.specs.declared.job.Job.{Job as CoreJob}
-use Rattle.fl_running.specs.Carried.{HasNoRule, RulesLead, SetsNone, RulesFirst, calls_handled, rules_at, traffic}
+use Rattle.fl_running.specs.Carried.{HasNoRule, RulesLead, SetsNone, calls_handled, rules_at, traffic}
 use Rattle.fl_running.specs.Flows.{Flows, MadeCarries}
 use Rattle.fl_running.specs.Agree.{Arrived}
-use Rattle.fl_jobs.specs.Jobs.{Job}
 use Rattle.fl_dockets.specs.Dockets.{TheDocket, docket_at, is_ruled}
-use Rattle.fl_dockets.specs.State.{TheJoined, AreJoined}
-use Rattle.fl_honest.specs.Cores.{shared_ways, OneCore, Went}
+use Rattle.fl_honest.specs.Cores.{shared_ways}
 use Rattle.fl_honest.specs.Ends.{HasDesk, AreItsRules, EndRan}
 use Rattle.fl_honest.specs.Told.{handled_by}
-use Rattle.fl_honest.specs.Bindings.{Party, IsParty, PartiesAreHonest, AreHonest}
-use Rattle.fl_honest.specs.Circuits.{Leading, Point, StandsBound, ByCircuit, CircuitsAreHonest}
+use Rattle.fl_honest.specs.Bindings.{Party, IsParty, PartiesAreHonest}
+use Rattle.fl_honest.specs.Circuits.{Leading, Point, StandsBound, CircuitsAreHonest}
 use Rattle.fl_honest.proofs.Prefixes.{as_same, then_on}
 use Rattle.fl_honest.proofs.Desks.{all_left, handled_is}
 use Rattle.fl_honest.proofs.Parties.{Below}

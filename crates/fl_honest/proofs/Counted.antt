@@ -1,5 +1,5 @@
 -- Numbers that are counted as given, before and after one more is.
-use Rattle.std.proofs.Common.{◌≡◌, ◌≢◌, ◌⊎◌, inl, inr, refl, sym, ap, ◌∙◌, subst, ℕ, ◌+◌, ◌<◌, ◌≤◌, List, slice_get, slice_set, Option, Some, None, arith}
+use Rattle.std.proofs.Common.{◌≡◌, ◌⊎◌, inl, inr, refl, sym, ap, ◌∙◌, subst, ℕ, ◌+◌, ◌≤◌, List, slice_get, slice_set, Option, Some, None, arith}
 use Rattle.std.proofs.lemmas.Bool.{cases_eq}
 use Rattle.fl_hop.specs.declared.links.LinkState.{LinkState}
 use Rattle.fl_hop.specs.Numbers.{IsAmong, IsOpened, IsTaken, number, with_opening, with_taking, changed, count_opening, count_taking}
@@ -12,10 +12,10 @@ module _ (core : ℕ) (links : List LinkState) (m l n : ℕ) where
   taken_still None at x = x
   taken_still (Some a) at x = elim (set_cases links m (with_opening a) l x.link x.there) [
     | inl p ↦ record {
-        link = a;
-        there = ap (slice_get links) p.0 ∙ at;
-        among = subst (λ (y : LinkState). IsAmong y.neighbour.0 core y.taken n) p.1 x.among;
-      }
+      link = a;
+      there = ap (slice_get links) p.0 ∙ at;
+      among = subst (λ (y : LinkState). IsAmong y.neighbour.0 core y.taken n) p.1 x.among;
+    }
     | inr p ↦ record { link = x.link; there = p.1; among = x.among }
   ]
 
@@ -57,11 +57,11 @@ next_taken : (core : ℕ) (links : List LinkState) (l m n : ℕ) (o : Option Lin
 next_taken core links l m n None at x = x
 next_taken core links l m n (Some a) at x = elim (cases_eq m l) [
   | inl same ↦ (let both : Some x.link ≡ Some a = sym x.there ∙ ap (slice_get links) same ∙ at in let one : x.link ≡ a = cc in record {
-      link = with_taking a;
-      there = ap (slice_get (slice_set links l (with_taking a))) same ∙ set_here links l a (with_taking a) at;
-      few = subst (λ (y : LinkState). y.opened ≤ 1022) one x.few;
-      is = sym (ap (λ (y : LinkState). number core y.neighbour.0 y.opened) one) ∙ x.is;
-    })
+    link = with_taking a;
+    there = ap (slice_get (slice_set links l (with_taking a))) same ∙ set_here links l a (with_taking a) at;
+    few = subst (λ (y : LinkState). y.opened ≤ 1022) one x.few;
+    is = sym (ap (λ (y : LinkState). number core y.neighbour.0 y.opened) one) ∙ x.is;
+  })
   | inr other ↦ record { link = x.link; there = set_there links l (with_taking a) m x.link x.there other; few = x.few; is = x.is }
 ]
 

@@ -1,5 +1,5 @@
 -- What desks have in the end, of ends whose desks were new at the start.
-use Rattle.std.proofs.Common.{◌≡◌, refl, sym, ap, ◌∙◌, subst, ℕ, List, [], ◌∷◌, ◌++◌, map, take, drop, slice_get, Option, Some, None}
+use Rattle.std.proofs.Common.{◌≡◌, refl, sym, ap, ◌∙◌, ℕ, List, [], ◌++◌, map, take, drop, slice_get, Option, Some, None}
 use Rattle.std.specs.Prelude.{IsSome}
 use Rattle.fl_base.specs.declared.identity.EndId.{EndId}
 use Rattle.fl_base.specs.Prefix.{IsPrefix}
@@ -11,7 +11,7 @@ use Rattle.fl_running.specs.declared.job.Job.{Job as CoreJob}
 use Rattle.fl_running.specs.Desks.{TheDesk, desk_place}
 use Rattle.fl_running.specs.Run.{TheRun}
 use Rattle.fl_running.specs.Logs.{DesksTellHandled, in_desk, handled_of, handled_at}
-use Rattle.fl_running.specs.Made.{LogsMakeJobs, DoneAreFirst, calls_of_jobs, handed_at, done_at, desk_of, done_of, handed_in, made_at}
+use Rattle.fl_running.specs.Made.{LogsMakeJobs, DoneAreFirst, calls_of_jobs, handed_at, done_at, done_of, handed_in, made_at}
 use Rattle.fl_running.specs.Carried.{calls_handled, jobs_left}
 use Rattle.fl_dockets.specs.Dockets.{TheDocket}
 use Rattle.fl_honest.specs.Cores.{OneCore, Went, shared_ways}

@@ -1,5 +1,5 @@
 -- What is handed in at an end, by its docket.
-use Rattle.std.proofs.Common.{◌≡◌, refl, sym, ap, ◌∙◌, subst, ℕ, zero, suc, ◌+◌, ◌<◌, nat_lt, if◌then◌else◌, List, [], ◌∷◌, ◌++◌, length, slice_get}
+use Rattle.std.proofs.Common.{◌≡◌, refl, sym, ap, ◌∙◌, subst, ℕ, suc, ◌+◌, nat_lt, if◌then◌else◌, List, [], ◌∷◌, ◌++◌, length, slice_get}
 use Rattle.std.proofs.Common.{Option, Some, None, Bool, true, false, arith}
 use Rattle.std.specs.List.{flat_map, list_any}
 use Rattle.std.specs.Option.{option_map}
@@ -12,13 +12,13 @@ use Rattle.fl_base.specs.Ends.{peer}
 use Rattle.fl_value.specs.Value.{TheCall, call_of}
 use Rattle.fl_queues.specs.Given.{given}
 use Rattle.fl_queues.specs.Runs.{same_end}
-use Rattle.fl_endpoint.specs.View.{is_rule, has_rules as end_has_rules, rule_in, rule_at as rule_of_end, reply_to as reply_of_end}
+use Rattle.fl_endpoint.specs.View.{is_rule, has_rules as end_has_rules, rule_at as rule_of_end}
 use Rattle.fl_endpoint.specs.Accounts.{followed, replies_by}
 use Rattle.fl_running.specs.declared.job.Job.{Job as CoreJob}
 use Rattle.fl_running.specs.declared.job.Job.TheVariants as core
 use Rattle.fl_running.specs.Logs.{calls_of_job}
 use Rattle.fl_running.specs.Made.{calls_of_jobs}
-use Rattle.fl_jobs.specs.Jobs.{Job, own_calls, has_rules, reply_to, handed_in}
+use Rattle.fl_jobs.specs.Jobs.{Job, own_calls, reply_to, handed_in}
 use Rattle.fl_dockets.specs.Dockets.{TheDocket, end_of, places_of, calls_at, core_calls, rule_at, reply_by, is_ruled, IsAsked, IsDocket}
 use Rattle.fl_honest.specs.Ends.{AreItsRules}
 

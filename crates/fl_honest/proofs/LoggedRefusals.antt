@@ -1,18 +1,11 @@
 -- Over a log a core's numbers that are refused have no entry, and entries go by refusals alone.
-use Rattle.std.proofs.Common.{◌≡◌, ◌≢◌, ◌⊎◌, inl, inr, refl, sym, ap, ◌∙◌, subst, ℕ, ◌==◌, ◌&&◌, nat_lt, not, is_some, take, drop, if◌then◌else◌, Bool, true, false, List, [], ◌∷◌, ◌++◌, length, slice_get, slice_set}
-use Rattle.std.proofs.Common.{Option, Some, None, Result, Ok, Err, suc, ◌+◌, arith}
-use Rattle.std.proofs.lemmas.Bool.Decides.{nat_tests}
-use Rattle.std.proofs.lemmas.List.{append_assoc}
+use Rattle.std.proofs.Common.{◌≡◌, inl, inr, refl, sym, ap, ◌∙◌, subst, ℕ, ◌==◌, take, drop, if◌then◌else◌, Bool, false, List, [], ◌∷◌, ◌++◌, slice_get}
+use Rattle.std.proofs.Common.{Some, None, Result, Ok, Err}
 use Rattle.fl_base.specs.declared.fragment.Frag.{Frag}
 use Rattle.fl_base.specs.declared.identity.EndId.{EndId}
 use Rattle.fl_base.specs.declared.identity.LinkId.{LinkId}
-use Rattle.fl_base.specs.declared.identity.Circuit.{Circuit}
-use Rattle.fl_base.specs.declared.identity.IRef.{IRef}
-use Rattle.fl_base.specs.declared.identity.CoreId.{CoreId}
 use Rattle.fl_base.specs.Control.{circuit_of, bare}
 use Rattle.fl_wire.specs.declared.fault.WireFault.TheVariants as wire
-use Rattle.fl_link.proofs.Carried.{bare-bare}
-use Rattle.fl_hop.specs.declared.entry.Hop.{Hop}
 use Rattle.fl_hop.specs.declared.entry.Way.TheVariants.{Link, End}
 use Rattle.fl_hop.specs.declared.forward.Outcome.{Outcome}
 use Rattle.fl_hop.specs.declared.forward.Outcome.TheVariants.{Moved, Full, Spent}
@@ -21,19 +14,17 @@ use Rattle.fl_hop.specs.Later.{Later}
 use Rattle.fl_hop.specs.Numbers.{OpenedHere}
 use Rattle.fl_hop.specs.OfCircuit.{as_carried, of_circuit}
 use Rattle.fl_hop.specs.Openings.{opened as opened_table}
-use Rattle.fl_hop.specs.Stretch.{Step, Deed as HopDeed, passed as hop_passed, wrote as hop_wrote, said as hop_said, heard as hop_heard, goes_through, put_by, taken_by, put_on, taken_from}
+use Rattle.fl_hop.specs.Stretch.{Step, heard as hop_heard, goes_through, put_on, taken_from}
 use Rattle.fl_hop.specs.Table.{TheCircuits, hop_at, leading}
 use Rattle.fl_hop.proofs.Entries.{opened_leads}
 use Rattle.fl_hop.specs.Numbers.{after_opening}
 use Rattle.fl_hop.proofs.Counting.{next_is}
-use Rattle.fl_hop.proofs.Laws.{is_eq, of_join}
+use Rattle.fl_hop.proofs.Laws.{is_eq}
 use Rattle.fl_endpoint.specs.Laws.{OnAnotherCircuit}
-use Rattle.fl_monitor.specs.declared.heard.Heard.{Heard}
-use Rattle.fl_monitor.specs.declared.heard.Heard.TheVariants as outcome
 use Rattle.fl_monitor.specs.declared.message.Message.{Message}
 use Rattle.fl_monitor.specs.declared.message.Message.TheVariants.{OpenCircuit}
-use Rattle.fl_monitor.specs.Hearing.{ComesTo, says, table_after}
-use Rattle.fl_monitor.specs.Monitors.{TheMonitor, AllSaid, waiting_for, without_first, can_say}
+use Rattle.fl_monitor.specs.Hearing.{says}
+use Rattle.fl_monitor.specs.Monitors.{TheMonitor, AllSaid, waiting_for, without_first}
 use Rattle.fl_monitor.specs.Saying.{Says}
 use Rattle.fl_monitor.proofs.Single.{says_the_same}
 use Rattle.fl_node.specs.declared.answer.Ahead.{Ahead}
@@ -46,33 +37,30 @@ use Rattle.fl_node.specs.declared.fault.LinkFault.{LinkFault}
 use Rattle.fl_node.specs.declared.fault.LinkFault.TheVariants as link
 use Rattle.fl_node.specs.declared.fault.OpenFault.{OpenFault}
 use Rattle.fl_node.specs.declared.fault.OpenFault.TheVariants as opening
-use Rattle.fl_node.specs.declared.wire.Arriving.{Arriving}
 use Rattle.fl_node.specs.declared.wire.Outlet.TheVariants as outlet
 use Rattle.fl_node.specs.declared.wire.Inlet.TheVariants as inlet
-use Rattle.fl_node.specs.View.{TheCore, place_of, client_of, arriving_at, with_monitor}
+use Rattle.fl_node.specs.View.{TheCore, client_of}
 use Rattle.fl_node.specs.Sound.{IsCore}
 use Rattle.fl_node.specs.Links.{LooksAhead, ArrivesAt}
 use Rattle.fl_node.specs.Making.{Asked, Asks}
-use Rattle.fl_node.specs.Hearing.{Offers, known_for, offer_for, HearsFrag, HearsMessage, HearsAll, Follows, BindsIf}
+use Rattle.fl_node.specs.Hearing.{known_for, HearsAll}
 use Rattle.fl_running.specs.declared.job.Job.{Job}
 use Rattle.fl_running.specs.Run.{Ways, TheRun}
-use Rattle.fl_running.specs.Deeds.{Deed, looked, passed, arrived, heard, said, told, opened, called, ruled, wrote, acked, turned, Does, Happens, ActsSoundly}
+use Rattle.fl_running.specs.Deeds.{Deed, looked, passed, arrived, heard, said, told, opened, called, ruled, wrote, acked, turned, Does, ActsSoundly}
 use Rattle.fl_running.specs.Logs.{InPlace, Goes}
 use Rattle.fl_running.specs.Led.{IsLed}
 use Rattle.fl_running.proofs.Aside.{core_aside}
-use Rattle.fl_running.proofs.Carrying.{five, not_there, write_put}
-use Rattle.fl_running.proofs.Laning.{link_at, step_of, steps_of, steps_by, event_steps}
+use Rattle.fl_running.proofs.Carrying.{write_put}
+use Rattle.fl_running.proofs.Laning.{link_at, steps_of, event_steps}
 use Rattle.fl_running.proofs.Leads.{does_led, does_later}
-use Rattle.fl_running.proofs.Looking.{if_arrived, if_heard, if_said}
-use Rattle.fl_running.proofs.NumberedLogs.{log_led}
+use Rattle.fl_running.proofs.Looking.{if_arrived}
 use Rattle.fl_running.proofs.Stepping.{log_steps}
-use Rattle.fl_running.proofs.TablesHeard.{heard_goes}
 use Rattle.fl_running.proofs.Wending.{event_went}
 use Rattle.fl_honest.specs.Named.{Has, AreRefused}
 use Rattle.fl_honest.proofs.Named.{has_split, has_first, has_last, waits}
 use Rattle.fl_honest.proofs.Refused.{opened_before, newest_next, none_before, no_asked, refused_rests, quiet as quiet_put, gone_as_before, hears_refused}
 use Rattle.fl_honest.proofs.Logged.{then_said, then_heard, said_said, said_heard, said_arrived, said_by_link, has_taken, has_rest, has_at, eq_true, follows_monitor, said_joins, heard_joins}
-use Rattle.fl_honest.proofs.Zero.{said_on, IsSaid, zero_said, carried_zero, says_zero}
+use Rattle.fl_honest.proofs.Zero.{said_on, zero_said, carried_zero, says_zero}
 
 -- ---- one event
 
@@ -94,10 +82,14 @@ module _ (said_so heard_so : ℕ → List Frag) (k k2 : TheCore) (sound : Sound 
   unchanged : k2.monitor ≡ k.monitor → ((l : ℕ) → said_on l steps ≡ []) → Then
   unchanged same none =
       refused_rests said_so heard_so (then_said said_so steps) (then_heard heard_so steps) k.monitor k2.monitor later named heard_more
-      (λ l f h. (f, refl, elim h [
-        | inl a ↦ inl (said_before none l f a)
-        | inr b ↦ inr (subst (λ (m : TheMonitor). Has f (waiting_for m.outboxes l)) same b)
-      ]))
+      (λ l f h. (
+        f,
+        refl,
+        elim h [
+          | inl a ↦ inl (said_before none l f a)
+          | inr b ↦ inr (subst (λ (m : TheMonitor). Has f (waiting_for m.outboxes l)) same b)
+        ],
+      ))
       (ap (λ (m : TheMonitor). m.circuits) same)
 
   -- the monitor put what waited first for a link
@@ -118,17 +110,21 @@ module _ (said_so heard_so : ℕ → List Frag) (k k2 : TheCore) (sound : Sound 
                 let (same, w) = from i x.frag x.has in
                 (x.frag, waited f x.frag w x.is, inr (subst (λ (j : ℕ). Has x.frag (waiting_for k.monitor.outboxes j)) (sym same) w)))
           ]
-          | inr b ↦ (f, refl, inr (elim (waits f k.monitor.outboxes l.0 (drop 1 (waiting_for k.monitor.outboxes l.0)) i (subst (λ (m : TheMonitor). Has f (waiting_for m.outboxes i)) rest b)) [
-            | inl old ↦ old
-            | inr p ↦ subst (λ (j : ℕ). Has f (waiting_for k.monitor.outboxes j)) (sym p.0) (has_rest f (waiting_for k.monitor.outboxes l.0) p.1)
-          ]))
+          | inr b ↦ (
+            f,
+            refl,
+            inr (elim (waits f k.monitor.outboxes l.0 (drop 1 (waiting_for k.monitor.outboxes l.0)) i (subst (λ (m : TheMonitor). Has f (waiting_for m.outboxes i)) rest b)) [
+              | inl old ↦ old
+              | inr p ↦ subst (λ (j : ℕ). Has f (waiting_for k.monitor.outboxes j)) (sym p.0) (has_rest f (waiting_for k.monitor.outboxes l.0) p.1)
+            ]),
+          )
         ])
         (ap (λ (m : TheMonitor). m.circuits) rest)
 
   -- said nothing: what stands in the list of before
   same_said : ((l : ℕ) → said_on l steps ≡ []) → (named2 : AreRefused said_so (then_heard heard_so steps) k2.monitor) → Then
   same_said none n = record {
-    refused = λ l f c reason has says_it. n.refused l f c reason (elim has [ | inl a ↦ inl (said_before none l f a) | inr b ↦ inr b ]) says_it;
+    refused = λ l f c reason has says_it. n.refused l f c reason (elim has [ inl a ↦ inl (said_before none l f a) | inr b ↦ inr b ]) says_it;
     gone = n.gone;
   }
 
@@ -285,7 +281,7 @@ module _ {S : Type 0} (w : Ways S) (jobs : List Job) (on : OnAnotherCircuit) (sa
 wider : (said_so said2 heard_so heard2 : ℕ → List Frag) (m : TheMonitor) → ((l : ℕ) (f : Frag) → Has f (said2 l) → Has f (said_so l)) → ((l : ℕ) (f : Frag) → Has f (heard_so l) → Has f (heard2 l))
     → AreRefused said_so heard_so m → AreRefused said2 heard2 m
 wider said_so said2 heard_so heard2 m fewer more n = record {
-  refused = λ l f c reason has says_it. n.refused l f c reason (elim has [ | inl a ↦ inl (fewer l f a) | inr b ↦ inr b ]) says_it;
+  refused = λ l f c reason has says_it. n.refused l f c reason (elim has [ inl a ↦ inl (fewer l f a) | inr b ↦ inr b ]) says_it;
   gone = λ l i here none.
       (let a = n.gone l i here none in record { frag = a.frag; has = more l a.frag a.has; circuit = a.circuit; number = a.number; reason = a.reason; says = a.says });
 }
@@ -299,7 +295,7 @@ module _ {S : Type 0} (w : Ways S) (jobs : List Job) (on : OnAnotherCircuit) whe
       → AreRefused (then_said said_so (log_steps w jobs log s t h)) (then_heard heard_so (log_steps w jobs log s t h)) t.core.monitor
   log_refused [] s t h said_so heard_so led sound n =
       wider said_so (then_said said_so []) heard_so (then_heard heard_so []) t.core.monitor
-      (λ l f has. elim (has_split f (said_so l) [] has) [ | inl a ↦ a | inr b ↦ absurd b ])
+      (λ l f has. elim (has_split f (said_so l) [] has) [ inl a ↦ a | inr b ↦ absurd b ])
       (λ l f has. has_first f (heard_so l) [] has) (subst (λ (x : TheRun S). AreRefused said_so heard_so x.core.monitor) (sym h) n)
   log_refused (deed ∷ log) s t h said_so heard_so led sound n =
       let m = h.1.0 in

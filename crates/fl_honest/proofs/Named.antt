@@ -1,5 +1,5 @@
 -- What a monitor says and hears keeps numbers named by their bindings.
-use Rattle.std.proofs.Common.{◌≡◌, ◌≢◌, ◌⊎◌, inl, inr, refl, sym, ap, ◌∙◌, subst, ℕ, zero, suc, ◌==◌, ◌&&◌, nat_lt, not, drop, if◌then◌else◌, Bool, true, false, List, [], ◌∷◌, ◌++◌, slice_get, slice_set}
+use Rattle.std.proofs.Common.{◌≡◌, ◌⊎◌, inl, inr, refl, sym, ap, ◌∙◌, subst, ℕ, ◌==◌, ◌&&◌, nat_lt, not, drop, Bool, true, false, List, [], ◌∷◌, ◌++◌, slice_get, slice_set}
 use Rattle.std.proofs.Common.{Option, Some, None}
 use Rattle.fl_base.specs.declared.fragment.Frag.{Frag}
 use Rattle.fl_base.specs.declared.identity.IRef.{IRef}
@@ -9,14 +9,12 @@ use Rattle.fl_base.specs.declared.identity.LinkId.{LinkId}
 use Rattle.fl_base.specs.declared.identity.Circuit.{Circuit}
 use Rattle.fl_base.specs.Control.{bare}
 use Rattle.fl_hop.specs.declared.entry.Hop.{Hop}
-use Rattle.fl_hop.specs.declared.entry.Way.{Way}
 use Rattle.fl_hop.specs.declared.entry.Way.TheVariants.{Link, End}
-use Rattle.fl_hop.specs.declared.links.LinkState.{LinkState}
 use Rattle.fl_hop.specs.Joined.{Sound}
 use Rattle.fl_hop.specs.Later.{Later}
-use Rattle.fl_hop.specs.Numbers.{Given, IsTaken, OpenedHere, OpenedThere, next_own, next_due, after_opening, after_taking, count_opening, count_taking}
-use Rattle.fl_hop.specs.Openings.{IsWaiting, is_next, opened, passed_on, arrived, answered}
-use Rattle.fl_hop.specs.Table.{TheCircuits, hop_at, link_of, stands, with_entry, without_entry}
+use Rattle.fl_hop.specs.Numbers.{Given, IsTaken, OpenedThere, next_own, next_due, after_opening, after_taking, count_opening, count_taking}
+use Rattle.fl_hop.specs.Openings.{is_next, passed_on, answered}
+use Rattle.fl_hop.specs.Table.{TheCircuits, hop_at, link_of, stands, without_entry}
 use Rattle.fl_hop.proofs.Counting.{next_is, due_is, never_next, never_due}
 use Rattle.fl_hop.proofs.Laters.{next_test}
 use Rattle.fl_hop.proofs.Lists.{set_cases}
@@ -28,8 +26,8 @@ use Rattle.fl_monitor.specs.declared.message.Message.{Message}
 use Rattle.fl_monitor.specs.declared.message.Message.TheVariants.{OpenCircuit, CircuitOpened, CircuitRefused}
 use Rattle.fl_monitor.specs.Routing.{given, next_on}
 use Rattle.fl_monitor.specs.Fates.{Known, arrival, passage, fate, is_in_place, comes_along, is_for_another}
-use Rattle.fl_monitor.specs.Hearing.{heard_by, ComesTo, says, after_opening as table_of_opening, after_answer, after_refusal, table_after}
-use Rattle.fl_monitor.specs.Monitors.{TheMonitor, AllSaid, Said, waiting_for, without_first}
+use Rattle.fl_monitor.specs.Hearing.{heard_by, ComesTo, says, after_opening as table_of_opening, table_after}
+use Rattle.fl_monitor.specs.Monitors.{TheMonitor, AllSaid, Said, waiting_for}
 use Rattle.fl_monitor.specs.Outboxes.{IsFragOf}
 use Rattle.fl_monitor.specs.Saying.{Says}
 use Rattle.fl_monitor.proofs.Single.{says_no_other, says_the_same, says_what_is_written}
@@ -131,7 +129,7 @@ module _ (said heard said2 heard2 : ℕ → List Frag) (m m2 : TheMonitor) (soun
       | inl old ↦ inl (inr old)
       | inr p ↦ elim (has_split f put.outbox (put.frag ∷ []) p.1) [
         | inl old ↦ inl (inr (subst (λ (o : Option (List Frag)). Has f (given o [] (λ b. b))) (sym (ap (slice_get m.outboxes) p.0 ∙ put.there)) old))
-        | inr new ↦ (elim new [ | inl same ↦ inr (p.0, same) | inr none ↦ absurd none ])
+        | inr new ↦ (elim new [ inl same ↦ inr (p.0, same) | inr none ↦ absurd none ])
       ]
     ]
 
@@ -210,7 +208,7 @@ module _ (said heard heard2 : ℕ → List Frag) (m m2 : TheMonitor) (before : S
       → (k : ℕ) (f : Frag) (c : Circuit) (binding : ℕ) → Has f (said k) ⊎ Has f (waiting_for m2.outboxes k) → AsksFor f c binding → IsGivenFor m2.circuits k c.0 binding
   silent same k f c binding has asks =
       asked_still said heard said heard2 m m2 sound later named more k f c binding
-      (elim has [ | inl h ↦ inl h | inr h ↦ inr (subst (λ (boxes : List (List Frag)). Has f (waiting_for boxes k)) same h) ]) asks
+      (elim has [ inl h ↦ inl h | inr h ↦ inr (subst (λ (boxes : List (List Frag)). Has f (waiting_for boxes k)) same h) ]) asks
 
   abbrev Asked : Type 0
   Asked = (k : ℕ) (f : Frag) (c : Circuit) (binding : ℕ) → Has f (said k) ⊎ Has f (waiting_for m2.outboxes k) → AsksFor f c binding → IsGivenFor m2.circuits k c.0 binding
@@ -264,15 +262,15 @@ module _ (said heard heard2 : ℕ → List Frag) (m m2 : TheMonitor) (before : S
           taken : (k n : ℕ) → IsTaken t.core (count_opening (count_taking t.links l.0) x.0) k n → OpenedThere t k n ⊎ IsNewest t.core t.links l.0 k n
           taken k n y = taken_before t.core t.links l.0 k n (slice_get t.links l.0) refl (taken_still t.core (count_taking t.links l.0) x.0 k n (slice_get (count_taking t.links l.0) x.0) refl y)
     opening_named kn service path (ServerMade b d x) next is put = (
-        quiet l (CircuitOpened x) (no_opening x) put,
-        told_opening (λ k n there. taken_before t.core t.links l.0 k n (slice_get t.links l.0) refl (subst (λ (v : TheCircuits). OpenedThere v k n) is there))
-            (λ k n hop at. entry_binding (after_taking t l.0) binding false (Link l c) (End (record { binding = binding; side = Server })) k n hop (ap (λ (v : TheCircuits). hop_at v k n) (sym is) ∙ at)),
-        )
+      quiet l (CircuitOpened x) (no_opening x) put,
+      told_opening (λ k n there. taken_before t.core t.links l.0 k n (slice_get t.links l.0) refl (subst (λ (v : TheCircuits). OpenedThere v k n) is there))
+          (λ k n hop at. entry_binding (after_taking t l.0) binding false (Link l c) (End (record { binding = binding; side = Server })) k n hop (ap (λ (v : TheCircuits). hop_at v k n) (sym is) ∙ at)),
+    )
     opening_named kn service path (OpeningFailed b reason) next is put = (
-        quiet l (CircuitRefused c reason) (λ d b2 s p e. no_refused c d reason b2 s p e) put,
-        told_opening (λ k n there. taken_before t.core t.links l.0 k n (slice_get t.links l.0) refl (subst (λ (v : TheCircuits). OpenedThere v k n) is there))
-            (λ k n hop at. inr (ap (λ (v : TheCircuits). hop_at v k n) (sym is) ∙ at)),
-        )
+      quiet l (CircuitRefused c reason) (λ d b2 s p e. no_refused c d reason b2 s p e) put,
+      told_opening (λ k n there. taken_before t.core t.links l.0 k n (slice_get t.links l.0) refl (subst (λ (v : TheCircuits). OpenedThere v k n) is there))
+          (λ k n hop at. inr (ap (λ (v : TheCircuits). hop_at v k n) (sym is) ∙ at)),
+    )
     opening_named kn service path (AnswerWentOn b x d) next is put = absurd next
     opening_named kn service path (EndOpened e x) next is put = absurd next
     opening_named kn service path (EndRefused e reason) next is put = absurd next

@@ -1,5 +1,5 @@
 -- What one core heard of a number is what its neighbour said.
-use Rattle.std.proofs.Common.{◌≡◌, ◌⊎◌, inl, inr, refl, sym, ap, ◌∙◌, subst, ℕ, ◌<◌, List, [], ◌∷◌, ◌++◌, map, slice_get, Option, Some, None, arith}
+use Rattle.std.proofs.Common.{◌≡◌, ◌⊎◌, inl, inr, refl, sym, ap, ◌∙◌, subst, ℕ, List, [], ◌∷◌, ◌++◌, map, slice_get, Option, Some, None, arith}
 use Rattle.std.proofs.lemmas.List.{map-append, append_assoc}
 use Rattle.fl_base.specs.declared.fragment.Frag.{Frag}
 use Rattle.fl_base.specs.declared.identity.LinkId.{LinkId}
@@ -16,7 +16,7 @@ use Rattle.fl_hop.specs.Table.{TheCircuits, hop_at, leading}
 use Rattle.fl_hop.proofs.Answering.{numbers_apart}
 use Rattle.fl_hop.specs.OfCircuit.{of_circuit}
 use Rattle.fl_hop.specs.Stretch.{Step, put_by, taken_by, put_on, taken_from}
-use Rattle.fl_monitor.specs.Monitors.{TheMonitor, waiting_for}
+use Rattle.fl_monitor.specs.Monitors.{TheMonitor}
 use Rattle.fl_monitor.specs.Routing.{given}
 use Rattle.fl_node.specs.View.{side_of_link, client_of}
 use Rattle.fl_running.specs.declared.job.Job.{Job}
@@ -29,7 +29,6 @@ use Rattle.fl_running.proofs.Bearing.{ring_put, log_ring_put, log_ring_took, log
 use Rattle.fl_running.proofs.Laning.{event_steps, links_put, links_took}
 use Rattle.fl_running.proofs.Stepping.{grows, log_steps}
 use Rattle.fl_honest.specs.Cores.{shared_ways, OneCore}
-use Rattle.fl_honest.specs.Circuits.{Leading, AreOneLink}
 use Rattle.fl_honest.specs.Crossing.{Crosses}
 use Rattle.fl_honest.specs.Named.{Has, IsGivenFor, AreNamed, AreRefused}
 use Rattle.fl_honest.specs.Neighbours.{IsUnused, GoesNamed, CoresName, StandsHere, NeighboursAgree, ComesFrom, EntriesLeadBack}
@@ -185,7 +184,11 @@ lead_back agree jobs c d l m v u unused unused2 link n hop there at = by s.hop.w
       own : (w : Way) → s.hop.way ≡ w → IsClientWay c.finish.core.monitor.circuits.core c.finish.core.monitor.circuits.links hop.binding w → Leads c.finish.core.monitor.circuits l.0 n.0 hop.binding (End (client_of hop.binding)) ⊎ ((x : LinkId) × (i : Number) × ComesFrom c.finish.core.monitor.circuits x i l n hop.binding)
       own (End e) same client = inl (leads_of c.finish.core.monitor.circuits l.0 n.0 s.hop hop.binding (End (client_of hop.binding)) s.there s.binding_is (same ∙ ap End client))
       own (Link x i) same taken =
-          inr (x, i, record {
-            given = taken;
-            leads = v.table.both l x n i hop.binding (leads_of c.finish.core.monitor.circuits l.0 n.0 s.hop hop.binding (Link x i) s.there s.binding_is same);
-          })
+          inr (
+            x,
+            i,
+            record {
+              given = taken;
+              leads = v.table.both l x n i hop.binding (leads_of c.finish.core.monitor.circuits l.0 n.0 s.hop hop.binding (Link x i) s.there s.binding_is same);
+            },
+          )

@@ -1,5 +1,5 @@
 -- Bindings off links: what is told of them is honest.
-use Rattle.std.proofs.Common.{◌≡◌, ◌⊎◌, inl, inr, refl, sym, ap, ◌∙◌, subst, ℕ, List, [], ◌∷◌, map, length, slice_get, Option, Some, None}
+use Rattle.std.proofs.Common.{◌≡◌, ◌⊎◌, inl, inr, refl, sym, ap, ◌∙◌, subst, ℕ, List, [], map, length, slice_get, Option, Some, None}
 use Rattle.fl_base.specs.declared.identity.Side.{Side}
 use Rattle.fl_base.specs.declared.identity.Side.TheVariants.{Client, Server}
 use Rattle.fl_base.specs.declared.identity.EndId.{EndId}
@@ -8,24 +8,22 @@ use Rattle.fl_base.specs.Ends.{peer}
 use Rattle.fl_base.specs.Prefix.{IsPrefix}
 use Rattle.fl_link.specs.Laws.{QueueLaw}
 use Rattle.fl_deal.specs.Settled.{RingsConserve}
-use Rattle.fl_compile.specs.declared.program.Program.{Program}
 use Rattle.fl_compile.specs.Programs.{program_of}
 use Rattle.fl_node.specs.declared.wire.Wire.{Wire}
 use Rattle.fl_node.specs.declared.wire.Wire.TheVariants.{Queues, Ring}
 use Rattle.fl_node.specs.View.{client_of, server_of}
-use Rattle.fl_running.specs.declared.job.Job.{Job as CoreJob}
 use Rattle.fl_running.specs.Carried.{RulesComeFirst, traffic}
 use Rattle.fl_running.specs.Flows.{LogsFlow}
 use Rattle.fl_running.specs.Agree.{Arrived, CarriedOffLinks}
 use Rattle.fl_jobs.specs.Jobs.{Job, handed_in}
-use Rattle.fl_jobs.specs.Report.{TheReport, BothEnds, at_end, Honest}
+use Rattle.fl_jobs.specs.Report.{TheReport, at_end}
 use Rattle.fl_dockets.specs.declared.docket.Bound.{Bound}
 use Rattle.fl_dockets.specs.Dockets.{docket_at}
 use Rattle.fl_dockets.specs.State.{TheJoined, AreJoined}
-use Rattle.fl_honest.specs.Cores.{shared_ways, OneCore, Went, AllWent}
+use Rattle.fl_honest.specs.Cores.{shared_ways, OneCore, Went}
 use Rattle.fl_honest.specs.Ends.{HasDesk, StandsReady}
 use Rattle.fl_honest.specs.Told.{handled_by, made_by, IsOf, AreTold}
-use Rattle.fl_honest.specs.Bindings.{Party, IsParty, PartiesAreHonest, AreHonest, ByQueues, ByRing, HasCores, IsOffLinks, ReportsAreHonest, RanOffLinks, OffLinksIsHonest}
+use Rattle.fl_honest.specs.Bindings.{Party, IsParty, PartiesAreHonest, AreHonest, ByQueues, ByRing, HasCores, ReportsAreHonest, OffLinksIsHonest}
 use Rattle.fl_honest.proofs.Prefixes.{as_same}
 use Rattle.fl_honest.proofs.Passages.{through_queues, through_rings}
 use Rattle.fl_honest.proofs.Starts.{off_links_arrived, flows_of, carried, ran, on_zero}
@@ -136,23 +134,23 @@ module _ (asked : List Job) (j : TheJoined) (cores : List OneCore) (r : TheRepor
   told_of : (n : ℕ) (c d : OneCore) (s : Side) → IsOf j cores (client_of n) c → IsOf j cores (server_of n) d → AreHonest asked j n c d
       → EndIsHonest (record { binding = n; side = s })
   told_of n c d Client a b h = (
-      as_same (handled_by c.finish (client_of n)) (at_end r.handled (client_of n)) (made_by j.jobs (docket_at j.dockets (server_of n)) d.finish (server_of n)) (at_end r.made (server_of n))
-      (sym (told.handled (client_of n) c a)) (sym (told.made (server_of n) d b)) h.again,
-      as_same (made_by j.jobs (docket_at j.dockets (client_of n)) c.finish (client_of n)) (at_end r.made (client_of n)) (handed_in asked (client_of n)) (handed_in asked (client_of n))
-      (sym (told.made (client_of n) c a)) refl h.client,
-      )
+    as_same (handled_by c.finish (client_of n)) (at_end r.handled (client_of n)) (made_by j.jobs (docket_at j.dockets (server_of n)) d.finish (server_of n)) (at_end r.made (server_of n))
+        (sym (told.handled (client_of n) c a)) (sym (told.made (server_of n) d b)) h.again,
+    as_same (made_by j.jobs (docket_at j.dockets (client_of n)) c.finish (client_of n)) (at_end r.made (client_of n)) (handed_in asked (client_of n)) (handed_in asked (client_of n))
+        (sym (told.made (client_of n) c a)) refl h.client,
+  )
   told_of n c d Server a b h = (
-      as_same (handled_by d.finish (server_of n)) (at_end r.handled (server_of n)) (made_by j.jobs (docket_at j.dockets (client_of n)) c.finish (client_of n)) (at_end r.made (client_of n))
-      (sym (told.handled (server_of n) d b)) (sym (told.made (client_of n) c a)) h.there,
-      as_same (made_by j.jobs (docket_at j.dockets (server_of n)) d.finish (server_of n)) (at_end r.made (server_of n)) (handed_in asked (server_of n)) (handed_in asked (server_of n))
-      (sym (told.made (server_of n) d b)) refl h.server,
-      )
+    as_same (handled_by d.finish (server_of n)) (at_end r.handled (server_of n)) (made_by j.jobs (docket_at j.dockets (client_of n)) c.finish (client_of n)) (at_end r.made (client_of n))
+        (sym (told.handled (server_of n) d b)) (sym (told.made (client_of n) c a)) h.there,
+    as_same (made_by j.jobs (docket_at j.dockets (server_of n)) d.finish (server_of n)) (at_end r.made (server_of n)) (handed_in asked (server_of n)) (handed_in asked (server_of n))
+        (sym (told.made (server_of n) d b)) refl h.server,
+  )
 
   told_none : (e : EndId) → slice_get j.bindings e.binding ≡ None → EndIsHonest e
   told_none e none = (
-      none_of (at_end r.handled e) (at_end r.made (peer e)) [] (told.no_more e none).0,
-      none_of (at_end r.made e) (handed_in asked e) [] (told.no_more e none).1,
-      )
+    none_of (at_end r.handled e) (at_end r.made (peer e)) [] (told.no_more e none).0,
+    none_of (at_end r.made e) (handed_in asked e) [] (told.no_more e none).1,
+  )
 
 by_binding : (asked : List Job) (j : TheJoined) (cores : List OneCore) (r : TheReport)
     → ((n : ℕ) (b : Bound) → slice_get j.bindings n ≡ Some b → (c : OneCore) × (d : OneCore) × HasCores cores b c d × AreHonest asked j n c d)
@@ -171,8 +169,11 @@ reports asked j cores r each told = record {
 pub off_links : Passing → PartiesAreHonest → OffLinksIsHonest
 off_links l honest asked j cores r k told =
     reports asked j cores r (λ n b is.
-    let x = k.bindings n b is in
-    (x.client, x.server, x.cores,
-    by_either l honest asked j cores k.joined n x.client x.server (k.went b.client x.client x.cores.client) (k.went b.server x.server x.cores.server) x.joined
-    (k.desks (client_of n) x.client (record { bound = b; bound_is = is; core_is = x.cores.client }))
-    (k.desks (server_of n) x.server (record { bound = b; bound_is = is; core_is = x.cores.server })))) told
+    let x = k.bindings n b is in (
+      x.client,
+      x.server,
+      x.cores,
+      by_either l honest asked j cores k.joined n x.client x.server (k.went b.client x.client x.cores.client) (k.went b.server x.server x.cores.server) x.joined
+          (k.desks (client_of n) x.client (record { bound = b; bound_is = is; core_is = x.cores.client }))
+          (k.desks (server_of n) x.server (record { bound = b; bound_is = is; core_is = x.cores.server })),
+    )) told

@@ -1,5 +1,5 @@
 -- Two ends of a binding, whose fragments came to each other: what is told of them is honest.
-use Rattle.std.proofs.Common.{◌≡◌, ◌⊎◌, inl, inr, refl, sym, ap, ◌∙◌, ℕ, List, [], ◌∷◌, ◌++◌, Option, Bool, true, false}
+use Rattle.std.proofs.Common.{◌≡◌, ◌⊎◌, inl, inr, refl, sym, ap, ◌∙◌, List, [], ◌++◌, Bool, true, false}
 use Rattle.std.specs.List.{flat_map}
 use Rattle.fl_base.specs.declared.identity.Side.{Side}
 use Rattle.fl_base.specs.declared.identity.Side.TheVariants.{Client, Server}
@@ -19,7 +19,7 @@ use Rattle.fl_dockets.specs.Dockets.{is_ruled, reply_by}
 use Rattle.fl_honest.specs.Cores.{shared_ways}
 use Rattle.fl_honest.specs.Ends.{AreItsRules}
 use Rattle.fl_honest.specs.Told.{handled_by, made_by}
-use Rattle.fl_honest.specs.Bindings.{Party, IsParty, IsHonest, PartiesAreHonest}
+use Rattle.fl_honest.specs.Bindings.{Party, IsParty, PartiesAreHonest}
 use Rattle.fl_honest.proofs.Prefixes.{then_on, as_same, of_flat, of_none}
 use Rattle.fl_honest.proofs.Desks.{handled_is, done_is, done_first}
 use Rattle.fl_honest.proofs.Docketed.{calls_there, handed_ruled, handed_unruled, replies_are, made_unruled}

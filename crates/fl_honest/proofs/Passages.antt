@@ -1,8 +1,7 @@
 -- What was taken is the first of what was put: through a queue, and through a ring.
-use Rattle.std.proofs.Common.{◌≡◌, refl, sym, ap, ◌∙◌, subst, ℕ, List, [], ◌∷◌, ◌++◌, map}
+use Rattle.std.proofs.Common.{sym, ap, ◌∙◌, List, ◌++◌, map}
 use Rattle.fl_base.specs.declared.fragment.Frag.{Frag}
 use Rattle.fl_base.specs.Control.{bare}
-use Rattle.fl_base.specs.Prefix.{IsPrefix}
 use Rattle.fl_link.specs.Calls.{bare_calls}
 use Rattle.fl_link.specs.Looks.{puts_of, takes_of}
 use Rattle.fl_link.specs.Laws.{QueueLaw}
@@ -12,12 +11,13 @@ use Rattle.fl_honest.proofs.Prefixes.{as_same}
 
 pub through_queues : QueueLaw → ThroughQueues
 through_queues law put took p queues n new goes =
-    let calls = (law p goes.after goes.looks goes.led).calls in
-    (bare_calls goes.after.items,
-    sym goes.put_is
-    ∙ ap (λ (items : List Frag). bare_calls items ++ map bare (puts_of goes.looks)) (sym new)
-    ∙ calls
-    ∙ ap (λ (took : List Frag). took ++ bare_calls goes.after.items) goes.took_is)
+    let calls = (law p goes.after goes.looks goes.led).calls in (
+      bare_calls goes.after.items,
+      sym goes.put_is
+          ∙ ap (λ (items : List Frag). bare_calls items ++ map bare (puts_of goes.looks)) (sym new)
+          ∙ calls
+          ∙ ap (λ (took : List Frag). took ++ bare_calls goes.after.items) goes.took_is,
+    )
 
 pub through_rings : RingsConserve → ThroughRings
 through_rings law starts ends starts2 ends2 n m ring put took put2 took2 goes goes2 =

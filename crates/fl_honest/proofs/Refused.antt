@@ -1,13 +1,12 @@
 -- What a monitor says and hears of refusals, and where entries are gone.
-use Rattle.std.proofs.Common.{◌≡◌, ◌≢◌, ◌⊎◌, inl, inr, refl, sym, ap, ◌∙◌, subst, ℕ, zero, suc, ◌+◌, ◌*◌, ◌<◌, ◌≤◌, nat_lt, if◌then◌else◌, Bool, true, false, List, [], ◌∷◌, ◌++◌, length, slice_get, slice_set, slice_index_or}
+use Rattle.std.proofs.Common.{◌≡◌, ◌⊎◌, inl, inr, refl, sym, ap, ◌∙◌, subst, ℕ, zero, suc, ◌+◌, ◌*◌, ◌<◌, ◌≤◌, nat_lt, if◌then◌else◌, Bool, true, false, List, [], ◌∷◌, ◌++◌, length, slice_get, slice_set, slice_index_or}
 use Rattle.std.proofs.Common.{Option, Some, None, option_map, arith}
 use Rattle.std.proofs.lemmas.Bool.{cases_eq}
 use Rattle.std.proofs.lemmas.Bool.Decides.{nat_tests}
 use Rattle.fl_base.specs.declared.fragment.Frag.{Frag}
-use Rattle.fl_base.specs.declared.identity.EndId.{EndId}
 use Rattle.fl_base.specs.declared.identity.IRef.{IRef}
 use Rattle.fl_base.specs.declared.identity.CoreId.{CoreId}
-use Rattle.fl_base.specs.declared.identity.Side.TheVariants.{Client, Server}
+use Rattle.fl_base.specs.declared.identity.Side.TheVariants.{Server}
 use Rattle.fl_base.specs.declared.identity.LinkId.{LinkId}
 use Rattle.fl_base.specs.declared.identity.Circuit.{Circuit}
 use Rattle.fl_base.specs.Control.{bare}
@@ -16,14 +15,13 @@ use Rattle.fl_hop.specs.declared.entry.Way.{Way}
 use Rattle.fl_hop.specs.declared.entry.Way.TheVariants.{Link, End}
 use Rattle.fl_hop.specs.declared.links.LinkState.{LinkState}
 use Rattle.fl_hop.specs.Joined.{Sound, Leads}
-use Rattle.fl_hop.specs.Later.{Later, entry_at, unanswered}
-use Rattle.fl_hop.specs.Numbers.{Given, IsAmong, IsOpened, IsTaken, OpenedHere, OpenedThere, number, next_own, next_due, with_opening, with_taking, changed, after_opening, after_taking, count_opening, count_taking}
-use Rattle.fl_hop.specs.Openings.{IsWaiting, opened, passed_on, arrived, answered}
-use Rattle.fl_hop.specs.Table.{TheCircuits, slot, hop_at, put_at, with_hops, with_links, with_entry, without_entry, leading}
+use Rattle.fl_hop.specs.Later.{Later, unanswered}
+use Rattle.fl_hop.specs.Numbers.{Given, IsAmong, IsOpened, IsTaken, OpenedHere, OpenedThere, number, next_due, with_opening, with_taking, changed, after_opening, after_taking, count_opening, count_taking}
+use Rattle.fl_hop.specs.Openings.{IsWaiting, passed_on, answered}
+use Rattle.fl_hop.specs.Table.{TheCircuits, slot, hop_at, put_at, with_hops, with_entry, without_entry, leading}
 use Rattle.fl_hop.proofs.Answering.{numbers_apart}
 use Rattle.fl_hop.proofs.Cells.{slot_once}
 use Rattle.fl_hop.proofs.Counting.{Next, Due, next_is, due_is, never_due, counted_taking}
-use Rattle.fl_hop.proofs.Entries.{opened_leads}
 use Rattle.fl_hop.proofs.Laters.{put_other}
 use Rattle.fl_hop.proofs.Lists.{set_cases, set_here, at_within, index_there, within}
 use Rattle.fl_hop.proofs.Numbering.{small}
@@ -36,7 +34,6 @@ use Rattle.fl_monitor.specs.Routing.{given}
 use Rattle.fl_monitor.specs.Fates.{Known}
 use Rattle.fl_monitor.specs.Hearing.{ComesTo, opened_at, refused_at, says, after_opening as table_of_opening, table_after}
 use Rattle.fl_monitor.specs.Monitors.{TheMonitor, AllSaid, Said, waiting_for}
-use Rattle.fl_monitor.specs.Outboxes.{IsFragOf}
 use Rattle.fl_monitor.specs.Saying.{Says}
 use Rattle.fl_monitor.proofs.Single.{says_no_other, says_the_same, says_what_is_written}
 use Rattle.fl_honest.specs.Named.{Has, IsRefusedIn, IsFree, AreRefused}
@@ -52,10 +49,10 @@ module _ (core : ℕ) (links : List LinkState) (m l n : ℕ) where
   opened_still None at x = x
   opened_still (Some a) at x = elim (set_cases links m (with_taking a) l x.link x.there) [
     | inl p ↦ record {
-        link = a;
-        there = ap (slice_get links) p.0 ∙ at;
-        among = subst (λ (y : LinkState). IsAmong core y.neighbour.0 y.opened n) p.1 x.among;
-      }
+      link = a;
+      there = ap (slice_get links) p.0 ∙ at;
+      among = subst (λ (y : LinkState). IsAmong core y.neighbour.0 y.opened n) p.1 x.among;
+    }
     | inr p ↦ record { link = x.link; there = p.1; among = x.among }
   ]
 
@@ -247,7 +244,7 @@ module _ (said heard heard2 : ℕ → List Frag) (m m2 : TheMonitor) (before : S
   silent : m2.outboxes ≡ m.outboxes → Refused
   silent same k f c reason has says_it =
       refused_still said heard said heard2 m m2 later named more k f c reason
-      (elim has [ | inl h ↦ inl h | inr h ↦ inr (subst (λ (boxes : List (List Frag)). Has f (waiting_for boxes k)) same h) ]) says_it
+      (elim has [ inl h ↦ inl h | inr h ↦ inr (subst (λ (boxes : List (List Frag)). Has f (waiting_for boxes k)) same h) ]) says_it
 
   -- no entry is taken away, and numbers that are new have theirs
   pub gone_as_before : ((k n : ℕ) → OpenedHere m2.circuits k n → hop_at m2.circuits k n ≡ None → OpenedHere t k n) → ((k n : ℕ) → hop_at m2.circuits k n ≡ None → hop_at t k n ≡ None) → Gone
@@ -270,41 +267,41 @@ module _ (said heard heard2 : ℕ → List Frag) (m m2 : TheMonitor) (before : S
     pub opening_refused : (service : IRef) (path : List CoreId) (h : Heard) → IsNext t h → m2.circuits ≡ table_of_opening t l c binding h
         → AllSaid (says l (OpenCircuit c binding service path) h) m.outboxes m2.outboxes → Refused × Gone
     opening_refused service path (OpeningWentOn b x d) next is put = (
-        quiet x (OpenCircuit d binding service path) (λ e r same. no_asked d e binding r service path same) put,
-        gone_as_before (λ k n here none. opened_here k n (subst (λ (v : TheCircuits). OpenedHere v k n) is here) (sym (ap (λ (v : TheCircuits). hop_at v k n) is) ∙ none))
-            (λ k n none. none_before (after_opening (after_taking t l.0) x.0) binding false (Link l c) (Link x d) k n (sym (ap (λ (v : TheCircuits). hop_at v k n) is) ∙ none)),
-        ) where
-          own : Next t.core t.links x.0 d.0
-          own = next_is t.core t.links x.0 d.0 next
+      quiet x (OpenCircuit d binding service path) (λ e r same. no_asked d e binding r service path same) put,
+      gone_as_before (λ k n here none. opened_here k n (subst (λ (v : TheCircuits). OpenedHere v k n) is here) (sym (ap (λ (v : TheCircuits). hop_at v k n) is) ∙ none))
+          (λ k n none. none_before (after_opening (after_taking t l.0) x.0) binding false (Link l c) (Link x d) k n (sym (ap (λ (v : TheCircuits). hop_at v k n) is) ∙ none)),
+    ) where
+      own : Next t.core t.links x.0 d.0
+      own = next_is t.core t.links x.0 d.0 next
 
-          stands_now : hop_at (passed_on t l c x d binding) x.0 d.0 ≡ leading binding false (Link l c)
-          stands_now =
-              last_stands (after_opening (after_taking t l.0) x.0) (put_at (Link l c) (leading binding false (Link x d)) t.hops) x d (leading binding false (Link l c)) (length t.links)
-              (put_long (Link l c) (leading binding false (Link x d)) t.hops ∙ before.whole) (small_next x d own).1 (small_next x d own).0
+      stands_now : hop_at (passed_on t l c x d binding) x.0 d.0 ≡ leading binding false (Link l c)
+      stands_now =
+          last_stands (after_opening (after_taking t l.0) x.0) (put_at (Link l c) (leading binding false (Link x d)) t.hops) x d (leading binding false (Link l c)) (length t.links)
+          (put_long (Link l c) (leading binding false (Link x d)) t.hops ∙ before.whole) (small_next x d own).1 (small_next x d own).0
 
-          opened_here : (k n : ℕ) → IsOpened t.core (count_opening (count_taking t.links l.0) x.0) k n → hop_at (passed_on t l c x d binding) k n ≡ None → OpenedHere t k n
-          opened_here k n y none = elim (opened_before t.core (count_taking t.links l.0) x.0 k n (slice_get (count_taking t.links l.0) x.0) refl y) [
-            | inl old ↦ opened_still t.core t.links l.0 k n (slice_get t.links l.0) refl old
-            | inr new ↦
-                (let number_is = newest_next t.core (count_taking t.links l.0) x.0 k n d.0 (next_still t.core t.links l.0 x.0 d.0 own) new in
-                let there : hop_at (passed_on t l c x d binding) k n ≡ leading binding false (Link l c) =
-                ap (λ (i : ℕ). hop_at (passed_on t l c x d binding) i n) new.link_is ∙ ap (hop_at (passed_on t l c x d binding) x.0) number_is ∙ stands_now in
-                let clash : leading binding false (Link l c) ≡ None = sym there ∙ none in absurd (cc))
-          ]
+      opened_here : (k n : ℕ) → IsOpened t.core (count_opening (count_taking t.links l.0) x.0) k n → hop_at (passed_on t l c x d binding) k n ≡ None → OpenedHere t k n
+      opened_here k n y none = elim (opened_before t.core (count_taking t.links l.0) x.0 k n (slice_get (count_taking t.links l.0) x.0) refl y) [
+        | inl old ↦ opened_still t.core t.links l.0 k n (slice_get t.links l.0) refl old
+        | inr new ↦
+            (let number_is = newest_next t.core (count_taking t.links l.0) x.0 k n d.0 (next_still t.core t.links l.0 x.0 d.0 own) new in
+            let there : hop_at (passed_on t l c x d binding) k n ≡ leading binding false (Link l c) =
+            ap (λ (i : ℕ). hop_at (passed_on t l c x d binding) i n) new.link_is ∙ ap (hop_at (passed_on t l c x d binding) x.0) number_is ∙ stands_now in
+            let clash : leading binding false (Link l c) ≡ None = sym there ∙ none in absurd (cc))
+      ]
     opening_refused service path (ServerMade b e x) next is put = (
-        quiet l (CircuitOpened x) (λ d r same. no_opened x d r same) put,
-        gone_as_before (λ k n here none. opened_still t.core t.links l.0 k n (slice_get t.links l.0) refl (subst (λ (v : TheCircuits). OpenedHere v k n) is here))
-            (λ k n none. none_before (after_taking t l.0) binding false (Link l c) (End (record { binding = binding; side = Server })) k n (sym (ap (λ (v : TheCircuits). hop_at v k n) is) ∙ none)),
-        )
+      quiet l (CircuitOpened x) (λ d r same. no_opened x d r same) put,
+      gone_as_before (λ k n here none. opened_still t.core t.links l.0 k n (slice_get t.links l.0) refl (subst (λ (v : TheCircuits). OpenedHere v k n) is here))
+          (λ k n none. none_before (after_taking t l.0) binding false (Link l c) (End (record { binding = binding; side = Server })) k n (sym (ap (λ (v : TheCircuits). hop_at v k n) is) ∙ none)),
+    )
     opening_refused service path (OpeningFailed b reason) next is put = (
-        refused_then said heard said heard2 m m2 later named more l (CircuitRefused c reason) put (λ k f h. h)
-            (λ d r same. subst (λ (i : Circuit). IsFree m2.circuits l.0 i.0) (refused_parts c d reason r same) (record {
-                there = subst (λ (v : TheCircuits). OpenedThere v l.0 c.0) (sym is) (taken_new t.core t.links l.0 c.0 (due_is t.core t.links l.0 c.0 due));
-                none = ap (λ (v : TheCircuits). hop_at v l.0 c.0) is ∙ none_due;
-            })),
-        gone_as_before (λ k n here none. opened_still t.core t.links l.0 k n (slice_get t.links l.0) refl (subst (λ (v : TheCircuits). OpenedHere v k n) is here))
-            (λ k n none. sym (ap (λ (v : TheCircuits). hop_at v k n) is) ∙ none),
-        )
+      refused_then said heard said heard2 m m2 later named more l (CircuitRefused c reason) put (λ k f h. h)
+          (λ d r same. subst (λ (i : Circuit). IsFree m2.circuits l.0 i.0) (refused_parts c d reason r same) (record {
+            there = subst (λ (v : TheCircuits). OpenedThere v l.0 c.0) (sym is) (taken_new t.core t.links l.0 c.0 (due_is t.core t.links l.0 c.0 due));
+            none = ap (λ (v : TheCircuits). hop_at v l.0 c.0) is ∙ none_due;
+          })),
+      gone_as_before (λ k n here none. opened_still t.core t.links l.0 k n (slice_get t.links l.0) refl (subst (λ (v : TheCircuits). OpenedHere v k n) is here))
+          (λ k n none. sym (ap (λ (v : TheCircuits). hop_at v k n) is) ∙ none),
+    )
     opening_refused service path (AnswerWentOn b x d) next is put = absurd next
     opening_refused service path (EndOpened e x) next is put = absurd next
     opening_refused service path (EndRefused e reason) next is put = absurd next

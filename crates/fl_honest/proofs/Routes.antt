@@ -1,11 +1,10 @@
 -- What a circuit carries along a route.
-use Rattle.std.proofs.Common.{◌≡◌, ◌⊎◌, inl, inr, refl, sym, ap, ◌∙◌, subst, ℕ, List, [], ◌∷◌, ◌++◌, slice_get, Some}
+use Rattle.std.proofs.Common.{◌≡◌, ◌⊎◌, inl, inr, refl, sym, ap, ◌∙◌, ℕ, List, [], ◌∷◌, Some}
 use Rattle.fl_base.specs.declared.fragment.Frag.{Frag}
 use Rattle.fl_base.specs.declared.identity.LinkId.{LinkId}
 use Rattle.fl_base.specs.declared.identity.Circuit.{Circuit as Number}
 use Rattle.fl_base.specs.Prefix.{IsPrefix}
 use Rattle.fl_deal.specs.Settled.{RingsConserve}
-use Rattle.fl_hop.specs.declared.entry.Way.TheVariants.{Link}
 use Rattle.fl_hop.specs.OfCircuit.{of_circuit}
 use Rattle.fl_hop.specs.Stretch.{taken_from, put_on}
 use Rattle.fl_node.specs.View.{side_of_link}

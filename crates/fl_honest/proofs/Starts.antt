@@ -1,5 +1,5 @@
 -- What an end did in a run that it began ready, off links.
-use Rattle.std.proofs.Common.{◌≡◌, ◌⊎◌, inl, inr, refl, sym, ap, ◌∙◌, subst, ℕ, zero, suc, ◌<◌, ◌^◌, if◌then◌else◌, List, [], ◌∷◌, ◌++◌, map, length, replicate, slice_get, arith}
+use Rattle.std.proofs.Common.{◌≡◌, inl, inr, refl, sym, ap, ◌∙◌, subst, ℕ, zero, suc, if◌then◌else◌, List, [], ◌∷◌, ◌++◌, map, length, replicate, slice_get, arith}
 use Rattle.std.proofs.Common.{Option, Some, None, Bool, true, false}
 use Rattle.std.proofs.lemmas.List.{length-replicate}
 use Rattle.std.proofs.lemmas.List.Elements.{All-nil}
@@ -10,7 +10,6 @@ use Rattle.fl_base.specs.Prefix.{IsPrefix}
 use Rattle.fl_value.specs.Value.{TheCall}
 use Rattle.fl_value.specs.Fits.{fits_of}
 use Rattle.fl_hop.specs.OfCircuit.{as_carried}
-use Rattle.fl_compile.specs.declared.program.Program.{Program}
 use Rattle.fl_compile.specs.Programs.{program_of}
 use Rattle.fl_endpoint.specs.View.{TheEnd, TheOutgoing, interface_in, nothing_to_send, fresh, rule_in, number_or_0}
 use Rattle.fl_endpoint.specs.Accounts.{Sound, stream, stream_from}
@@ -20,7 +19,7 @@ use Rattle.fl_running.specs.Deeds.{Deed, looked, passed, arrived, heard, said, t
 use Rattle.fl_running.specs.Carried.{Traffic, EndGoes, left_to_put, rules_by, rules_in, rules_at, sets_rule, SetsNone, RulesFirst, RulesComeFirst, HasNoRule, traffic}
 use Rattle.fl_running.specs.Flows.{Flows, LogsFlow, EndCarries}
 use Rattle.fl_running.specs.Agree.{SinceMade, Arrived, CarriedOffLinks}
-use Rattle.fl_dockets.specs.Dockets.{TheDocket, is_ruled}
+use Rattle.fl_dockets.specs.Dockets.{TheDocket}
 use Rattle.fl_honest.specs.Cores.{shared_ways, OneCore, Went}
 use Rattle.fl_honest.specs.Ends.{HasDesk, AreItsRules, StandsReady, EndRan}
 use Rattle.fl_honest.proofs.Prefixes.{as_same}

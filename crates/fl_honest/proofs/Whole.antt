@@ -1,12 +1,12 @@
 -- A core's whole run is a log.
-use Rattle.std.proofs.Common.{◌≡◌, refl, sym, subst, ℕ, List, [], ◌∷◌, ◌++◌}
+use Rattle.std.proofs.Common.{subst, List, [], ◌∷◌, ◌++◌}
 use Rattle.fl_running.specs.declared.job.Job.{Job}
 use Rattle.fl_running.specs.declared.run.End.{End}
 use Rattle.fl_running.specs.declared.run.End.TheVariants.{Finished, Unfinished, Told}
 use Rattle.fl_running.specs.Run.{Ways, TheRun}
 use Rattle.fl_running.specs.Deeds.{Deed}
 use Rattle.fl_running.specs.Logs.{Goes, TurnsAreLogged}
-use Rattle.fl_running.specs.Ran.{Task, Moment, GoesOn, CountedAreTurns}
+use Rattle.fl_running.specs.Ran.{Task, GoesOn, CountedAreTurns}
 use Rattle.fl_honest.specs.Cores.{shared_ways, CoresGo}
 
 goes_then : {S : Type 0} (w : Ways S) (jobs : List Job) (xs ys : List Deed) (s m t : TheRun S) → Goes w jobs s xs m → Goes w jobs m ys t → Goes w jobs s (xs ++ ys) t

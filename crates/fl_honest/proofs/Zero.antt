@@ -1,5 +1,5 @@
 -- The fragments on circuit 0 that went over a link: the monitor's alone.
-use Rattle.std.proofs.Common.{◌≡◌, ◌≢◌, ◌⊎◌, inl, inr, refl, sym, ap, ◌∙◌, subst, ℕ, ◌+◌, ◌-◌, ◌*◌, ◌/◌, ◌%◌, ◌^◌, ◌<◌, ◌≤◌, ◌==◌, not, if◌then◌else◌, Bool, true, false, List, [], ◌∷◌, ◌++◌, Some, arith}
+use Rattle.std.proofs.Common.{◌≡◌, ◌≢◌, inl, inr, refl, sym, ap, ◌∙◌, subst, ℕ, ◌+◌, ◌-◌, ◌*◌, ◌^◌, ◌≤◌, ◌==◌, not, if◌then◌else◌, Bool, true, false, List, [], ◌∷◌, ◌++◌, Some, arith}
 use Rattle.fl_base.specs.declared.fragment.Frag.{Frag}
 use Rattle.fl_base.specs.declared.identity.LinkId.{LinkId}
 use Rattle.fl_base.specs.declared.identity.Circuit.{Circuit}
@@ -11,7 +11,7 @@ use Rattle.fl_hop.specs.Joined.{Sound, Leads}
 use Rattle.fl_hop.specs.Later.{way_at}
 use Rattle.fl_hop.specs.Numbers.{Given}
 use Rattle.fl_hop.specs.OfCircuit.{as_carried, with_number, of_circuit}
-use Rattle.fl_hop.specs.Stretch.{Step, Deed, passed, wrote, said, heard, AsLed, Went, goes_through, if_so, put_by, put_on}
+use Rattle.fl_hop.specs.Stretch.{Step, Deed, passed, wrote, said, heard, AsLed, goes_through, if_so, put_by, put_on}
 use Rattle.fl_hop.specs.Table.{TheCircuits, hop_at, leading}
 use Rattle.fl_hop.proofs.Laws.{is_eq, not_eq, of_join}
 use Rattle.fl_hop.proofs.Numbering.{small}
@@ -30,7 +30,7 @@ use Rattle.fl_honest.proofs.Bound.{given_there}
 zero_by : (a b : Bool) (f g : Frag) → Has f (with_number 0 (if not a then g ∷ [] else [])) → (circuit_of g.control == 0) ≡ b → (b ≡ true) × (as_carried g ≡ f)
 zero_by true b f g h is = absurd h
 zero_by false true f g h is =
-    (refl, elim (subst (λ (c : Bool). Has f (if c then as_carried g ∷ [] else [])) is h) [ | inl same ↦ same | inr none ↦ absurd none ])
+    (refl, elim (subst (λ (c : Bool). Has f (if c then as_carried g ∷ [] else [])) is h) [ inl same ↦ same | inr none ↦ absurd none ])
 zero_by false false f g h is = absurd (subst (λ (c : Bool). Has f (if c then as_carried g ∷ [] else [])) is h)
 
 -- what is carried on circuit 0 of one fragment

@@ -1,5 +1,5 @@
 -- Bindings over circuits whose two ends are bound in the end, and that what is told of them is honest. Law.
-use Rattle.std.specs.Prelude.{ℕ, ◌≡◌, ◌⊎◌, false, List, [], ◌∷◌, length, slice_get, Some, None}
+use Rattle.std.specs.Prelude.{ℕ, ◌≡◌, ◌⊎◌, false, List, [], ◌∷◌, slice_get, Some, None}
 use Rattle.fl_base.specs.declared.identity.EndId.{EndId}
 use Rattle.fl_base.specs.declared.identity.LinkId.{LinkId}
 use Rattle.fl_base.specs.declared.identity.Circuit.{Circuit as Number}
@@ -98,6 +98,7 @@ pub record ByCircuit (j : TheJoined) (n : ℕ) (p q : Point) : Type 0 where
 -- ---- law
 
 abbrev pub CircuitsAreHonest : Type 0
-CircuitsAreHonest = (asked : List Job) (j : TheJoined) (cores n : ℕ) (p q : Point) → AreJoined cores asked j → Leading j.jobs p.core → Leading j.jobs q.core
+CircuitsAreHonest = (asked : List Job) (j : TheJoined) (cores n : ℕ) (p q : Point) → AreJoined cores asked j
+    → Leading j.jobs p.core → Leading j.jobs q.core
     → HasDesk (docket_at j.dockets (client_of n)) p.core.start (client_of n) → HasDesk (docket_at j.dockets (server_of n)) q.core.start (server_of n)
     → ByCircuit j n p q → AreHonest asked j n p.core q.core

@@ -1,11 +1,11 @@
 -- What crosses from one end of a binding to the other, off links. Laws.
-use Rattle.std.specs.Prelude.{ℕ, ◌≡◌, List, [], map, slice_get, Some}
+use Rattle.std.specs.Prelude.{ℕ, ◌≡◌, List, [], slice_get, Some}
 use Rattle.fl_base.specs.declared.fragment.Frag.{Frag}
 use Rattle.fl_base.specs.Prefix.{IsPrefix}
 use Rattle.fl_link.specs.Queue.{TheQueue, QueuePuts, QueueTakes}
 use Rattle.fl_ring.specs.SharedSides.{TheSide, SharedPuts, SharedTakes}
 use Rattle.fl_deal.specs.Dealt.{AreNew}
-use Rattle.fl_deal.specs.Settled.{Pair, IsNear}
+use Rattle.fl_deal.specs.Settled.{IsNear}
 use Rattle.fl_running.specs.Flows.{SideCarries}
 
 -- ---- a queue

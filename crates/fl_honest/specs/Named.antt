@@ -60,6 +60,7 @@ pub record IsFree (t : TheCircuits) (l n : ℕ) : Type 0 where
 -- of a monitor that said and heard these fragments, by link
 pub record AreRefused (said heard : ℕ → List Frag) (m : TheMonitor) : Type 0 where
   -- at a number that it refused, or has still to refuse, no entry stands
-  pub refused : (l : ℕ) (f : Frag) (c : Circuit) (reason : ℕ) → Has f (said l) ⊎ Has f (waiting_for m.outboxes l) → Says f (CircuitRefused c reason) → IsFree m.circuits l c.0
+  pub refused : (l : ℕ) (f : Frag) (c : Circuit) (reason : ℕ) → Has f (said l) ⊎ Has f (waiting_for m.outboxes l)
+      → Says f (CircuitRefused c reason) → IsFree m.circuits l c.0
   -- where no entry stands at a number that it gave, the neighbour refused that
   pub gone : (l n : ℕ) → OpenedHere m.circuits l n → hop_at m.circuits l n ≡ None → IsRefusedIn (heard l) n

@@ -25,8 +25,8 @@ pub record IsUnused (m : TheMonitor) : Type 0 where
   pub outboxes : (l : ℕ) (frags : List Frag) → slice_get m.outboxes l ≡ Some frags → frags ≡ []
   pub counts : (l : ℕ) (link : LinkState) → slice_get m.circuits.links l ≡ Some link → (link.opened ≡ 0) × (link.taken ≡ 0)
 
--- fragments went over a core's links in these steps, as the links' sides placed and took them; of those on circuit 0, which monitors say and hear, what asks for
--- circuits names each number by its binding, and entries go by refusals alone
+-- fragments went over a core's links in these steps, as the links' sides placed and took them; of those on circuit 0, which monitors say and hear, what
+-- asks for circuits names each number by its binding, and entries go by refusals alone
 pub record GoesNamed (c : OneCore) : Type 0 where
   pub steps : List Step
   pub links : (l n : ℕ) (p : TheSide) → side_of_link c.start.core.lanes l ≡ Some n → slice_get c.start.rings n ≡ Some p
@@ -47,8 +47,9 @@ pub record StandsHere (t : TheCircuits) (l n binding : ℕ) : Type 0 where
 
 -- where an entry stands at a number that the neighbour gave on a link, the neighbour gave it, and its own entry stands there, of the same binding
 abbrev pub NeighboursAgree : Type 0
-NeighboursAgree = (jobs : List CoreJob) (c d : OneCore) (l m : LinkId) → Leading jobs c → Leading jobs d → IsUnused c.start.core.monitor → IsUnused d.start.core.monitor
-    → AreOneLink c l d m → (n : ℕ) (hop : Hop) → OpenedThere d.finish.core.monitor.circuits m.0 n → hop_at d.finish.core.monitor.circuits m.0 n ≡ Some hop
+NeighboursAgree = (jobs : List CoreJob) (c d : OneCore) (l m : LinkId) → Leading jobs c → Leading jobs d
+    → IsUnused c.start.core.monitor → IsUnused d.start.core.monitor → AreOneLink c l d m
+    → (n : ℕ) (hop : Hop) → OpenedThere d.finish.core.monitor.circuits m.0 n → hop_at d.finish.core.monitor.circuits m.0 n ≡ Some hop
     → StandsHere c.finish.core.monitor.circuits l.0 n hop.binding
 
 -- so that entry leads from the client's end, or from a number that another neighbour gave: one station of the circuit's route further back
@@ -57,7 +58,8 @@ pub record ComesFrom (t : TheCircuits) (m : LinkId) (d : Number) (l : LinkId) (n
   pub leads : Leads t m.0 d.0 binding (Link l n)
 
 abbrev pub EntriesLeadBack : Type 0
-EntriesLeadBack = (jobs : List CoreJob) (c d : OneCore) (l m : LinkId) → Leading jobs c → Leading jobs d → IsUnused c.start.core.monitor → IsUnused d.start.core.monitor
-    → AreOneLink c l d m → (n : Number) (hop : Hop) → OpenedThere d.finish.core.monitor.circuits m.0 n.0 → hop_at d.finish.core.monitor.circuits m.0 n.0 ≡ Some hop
+EntriesLeadBack = (jobs : List CoreJob) (c d : OneCore) (l m : LinkId) → Leading jobs c → Leading jobs d
+    → IsUnused c.start.core.monitor → IsUnused d.start.core.monitor → AreOneLink c l d m
+    → (n : Number) (hop : Hop) → OpenedThere d.finish.core.monitor.circuits m.0 n.0 → hop_at d.finish.core.monitor.circuits m.0 n.0 ≡ Some hop
     → Leads c.finish.core.monitor.circuits l.0 n.0 hop.binding (End (client_of hop.binding))
     ⊎ ((x : LinkId) × (i : Number) × ComesFrom c.finish.core.monitor.circuits x i l n hop.binding)

@@ -1,5 +1,5 @@
 -- What a report tells of the ends of its bindings.
-use Rattle.std.specs.Prelude.{ℕ, ◌≡◌, List, [], ◌++◌, map, slice_get, Some, None}
+use Rattle.std.specs.Prelude.{◌≡◌, List, [], ◌++◌, map, slice_get, Some, None}
 use Rattle.std.specs.List.{flat_map}
 use Rattle.fl_base.specs.declared.identity.EndId.{EndId}
 use Rattle.fl_ring.specs.SharedSides.{TheSide}
