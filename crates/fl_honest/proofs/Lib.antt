@@ -15,4 +15,5 @@ mod Logged
 mod Refused
 mod LoggedRefusals
 mod Neighbours
+mod Back
 mod Whole

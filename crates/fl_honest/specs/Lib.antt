@@ -7,3 +7,4 @@ pub mod Bindings
 pub mod Circuits
 pub mod Named
 pub mod Neighbours
+pub mod Back

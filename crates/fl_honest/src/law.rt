@@ -5,6 +5,7 @@ ghost use Rattle.fl_honest.specs.Bindings.{PartiesAreHonest, ReportsAreHonest, O
 ghost use Rattle.fl_honest.specs.Circuits.{CircuitsAreHonest};
 ghost use Rattle.fl_honest.specs.Cores.{CoresGo};
 ghost use Rattle.fl_honest.specs.Neighbours.{CoresName, NeighboursAgree, EntriesLeadBack};
+ghost use Rattle.fl_honest.specs.Back.{RoutesGoBack};
 
 use fl_deal::rings_conserve;
 use fl_endpoint::on_another_circuit;
@@ -101,4 +102,11 @@ pub fn entries_lead_back()
     ensures back { EntriesLeadBack }
 {
     neighbours_agree();
+}
+
+/// From a number that a neighbour gave, at which an entry stands, the circuit's route goes back to the client's end, or over as many stations as one likes.
+pub fn routes_go_back()
+    ensures back { RoutesGoBack }
+{
+    entries_lead_back();
 }

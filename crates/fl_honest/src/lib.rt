@@ -8,7 +8,7 @@
 //! over a circuit whose ends are bound in the end, where the tables of the cores of its route lead from one to the other ([`circuits_are_honest`],
 //! `specs/Circuits.antt`). That they do is no law here yet, but this is: the cores on the two sides of a link mean one binding by each of its numbers, and an
 //! entry leads back over the link to the client's end, or to one more station ([`neighbours_agree`], [`entries_lead_back`], `specs/Named.antt`,
-//! `specs/Neighbours.antt`).
+//! `specs/Neighbours.antt`), and so on ([`routes_go_back`], `specs/Back.antt`).
 //!
 //! - `law.rt`: the laws
 #![tactic(auto)]
@@ -17,5 +17,5 @@ mod law;
 
 pub use law::{
     circuits_are_honest, cores_go, cores_name, cross_off_links, ends_are_honest, entries_lead_back,
-    neighbours_agree, off_links_are_honest, reports_are_honest,
+    neighbours_agree, off_links_are_honest, reports_are_honest, routes_go_back,
 };
