@@ -10,8 +10,8 @@ use Rattle.fl_hop.specs.Table.{hop_at}
 use Rattle.fl_node.specs.View.{client_of}
 use Rattle.fl_running.specs.declared.job.Job.{Job}
 use Rattle.fl_honest.specs.Cores.{OneCore}
-use Rattle.fl_honest.specs.Circuits.{Leading, AreOneLink, Point, Station, behind, PassesOn, IsRoute}
-use Rattle.fl_honest.specs.Neighbours.{IsUnused, ComesFrom, EntriesLeadBack}
+use Rattle.fl_honest.specs.Circuits.{Point, Station, IsRoute}
+use Rattle.fl_honest.specs.Neighbours.{ComesFrom, EntriesLeadBack}
 use Rattle.fl_honest.specs.Back.{HasNeighbour, AreLinked, IsFirst, GoesOn, GoesBack, RoutesGoBack}
 
 module _ (back : EntriesLeadBack) (jobs : List Job) (cores : List OneCore) (linked : AreLinked jobs cores) where
