@@ -1,0 +1,41 @@
+-- A run of cores, each by what happened there.
+use Rattle.std.specs.Prelude.{ℕ, ◌≡◌, List, slice_get, Some}
+use Rattle.fl_running.specs.declared.run.Part.{Part}
+use Rattle.fl_ring.specs.SharedSeats.{front_seen}
+use Rattle.fl_ring.specs.SharedSides.{TheSide, SharedPuts, SharedTakes}
+use Rattle.fl_core.specs.View.{TheSeat}
+use Rattle.fl_endpoint.specs.Accounts.{Sound as IsEnd}
+use Rattle.fl_node.specs.Sound.{IsCore}
+use Rattle.fl_running.specs.declared.job.Job.{Job as CoreJob}
+use Rattle.fl_running.specs.Run.{Ways, ways, TheRun}
+use Rattle.fl_running.specs.Deeds.{Deed}
+use Rattle.fl_running.specs.Logs.{Goes}
+use Rattle.fl_running.specs.Flows.{IsApart}
+use Rattle.fl_running.specs.Ran.{Task, Moment, CoreRan}
+
+-- how sides of shared rings put and take, and what the last look saw
+abbrev pub shared_ways : Ways TheSide
+shared_ways = ways SharedPuts SharedTakes (λ (s : TheSide). front_seen s.peeked)
+
+-- a core: as its run began, what happened in it, and as it ended
+pub record OneCore : Type 0 where
+  pub start : TheRun TheSide
+  pub log : List Deed
+  pub finish : TheRun TheSide
+
+-- it went from the one to the other by that. At the start its sides of rings and its queues were apart, and in the end each end there is sound
+pub record Went (jobs : List CoreJob) (c : OneCore) : Type 0 where
+  pub goes : Goes shared_ways jobs c.start c.log c.finish
+  pub core : IsCore c.start.core
+  pub apart : IsApart c.start.core
+  pub ends : (place : ℕ) (seat : TheSeat) → slice_get c.finish.core.board.seats place ≡ Some seat → IsEnd seat.end
+
+-- so did each
+abbrev pub AllWent : List CoreJob → List OneCore → Type 0
+AllWent jobs cores = (n : ℕ) (c : OneCore) → slice_get cores n ≡ Some c → Went jobs c
+
+-- ---- law
+
+-- a core's whole run is a log: its turns that were counted, and then those that weren't
+abbrev pub CoresGo : Type 0
+CoresGo = (t : Task) (a b : Moment TheSide) (part : Part) → CoreRan shared_ways t a part b → (log : List Deed) × Goes shared_ways t.jobs a.run log b.run

@@ -1,0 +1,21 @@
+//! That the report of running cores is honest: laws.
+//!
+//! Contract for the layer above: laws, the contracts of functions that do nothing (`law.rt`), over what each core's log tells of a run (`fl_running`), what the
+//! sides of rings came to (`fl_deal`), and what was joined to ends (`fl_dockets`). What is taken through a queue or a ring is the first of what was put
+//! ([`cross_off_links`], `specs/Crossing.antt`). Of two ends of a binding, each of which took the first of what the other put, what one handled is the first of
+//! what the other made, and that the first of what was handed in for it ([`ends_are_honest`]). So it is of bindings by queues and by rings, and a report is
+//! honest that tells what the desks of cores have whose bindings are all such ([`off_links_are_honest`], `specs/Bindings.antt`). And so it is of a binding
+//! over a circuit whose ends are bound in the end, where the tables of the cores of its route lead from one to the other ([`circuits_are_honest`],
+//! `specs/Circuits.antt`). That they do is no law here yet, but this is: the cores on the two sides of a link mean one binding by each of its numbers, and an
+//! entry leads back over the link to the client's end, or to one more station ([`neighbours_agree`], [`entries_lead_back`], `specs/Named.antt`,
+//! `specs/Neighbours.antt`), and so on ([`routes_go_back`], `specs/Back.antt`).
+//!
+//! - `law.rt`: the laws
+#![tactic(auto)]
+
+mod law;
+
+pub use law::{
+    circuits_are_honest, cores_go, cores_name, cross_off_links, ends_are_honest, entries_lead_back,
+    neighbours_agree, off_links_are_honest, reports_are_honest, routes_go_back,
+};
