@@ -1,3 +1,4 @@
 pub mod Turns
 pub mod Going
 pub mod Learning
+pub mod Desks

@@ -1,0 +1,4 @@
+use Rattle.fl_endings.proofs.law.dispatchers_handle_few.Goals as goal
+
+pub returns : goal.returns
+returns c = ?
