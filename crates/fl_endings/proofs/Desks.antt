@@ -133,7 +133,7 @@ module _ (logged : TurnsAreLogged shared_ways) (tell : DesksTellHandled shared_w
       let l = logged plan jobs some.0 s t some.1 in
       let (n, place, at) = has_place (desk_place s.desks e) s.desks desk desk_is in
       let dues = dues_stay jobs l.log s t l.goes in
-      let many : length t.desks ≡ length s.desks = sym (length-map due_in t.desks) ∙ ap length dues ∙ length-map due_in s.desks in
+      let many : length t.desks ≡ length s.desks = sym (length-map t.desks due_in) ∙ ap length dues ∙ length-map s.desks due_in in
       let placed : desk_place t.desks e ≡ Some n = same_place s.desks t.desks e many ∙ place in
       let (after, there, due) = from_map due_in t.desks n desk.due (ap (λ (xs : List ℕ). slice_get xs n) dues ∙ to_map due_in s.desks n desk at) in
       record {

@@ -72,11 +72,11 @@ module _ (F : EndId → Type 0) where
 
   grows_told : (b : Bool) (job number : ℕ) (v u : TheSeat) (w : Word) → TellsIf b job number v w u → Grows v.knows.heard u.knows.heard
   grows_told true job number v u w h = grows_same v u h.1
-  grows_told false job number v u w h i n there = subst (λ (x : TheSeat). Among i n x.knows.heard) (sym h.1) there
+  grows_told false job number v u w h = λ i n there. subst (λ (x : TheSeat). Among i n x.knows.heard) (sym h.1) there
 
   grows_heard : (o : Option ℕ) (job : ℕ) (v u : TheSeat) (w : Word) → HearsOf job o v w u → Grows v.knows.heard u.knows.heard
   grows_heard (Some e) job v u w h = grows_same v u h.1
-  grows_heard None job v u w h i n there = subst (λ (x : TheSeat). Among i n x.knows.heard) (sym h.1) (inr there)
+  grows_heard None job v u w h = λ i n there. subst (λ (x : TheSeat). Among i n x.knows.heard) (sym h.1) (inr there)
 
   grows_by : (s : TheRun TheSide) (e : EndId) (word w : Word) (v u : TheSeat) → Exchanges s e word v w u → Grows v.knows.heard u.knows.heard
   grows_by s e Silent w v u h = grows_same v u h.1
@@ -125,7 +125,7 @@ module _ (F : EndId → Type 0) where
   stores_told : (s : TheRun TheSide) (e : EndId) (job : ℕ) (v u : TheSeat) (w : Word) (b : Bool) → (refusal_at s e == 0) ≡ b
       → TellsIf b job (refusal_at s e) v w u → Stores s e (Tells job) v u
   stores_told s e job v u w true is h = stores_same s e (Tells job) v u h.1
-  stores_told s e job v u w false is h i n there =
+  stores_told s e job v u w false is h = λ i n there.
       elim (subst (λ (x : TheSeat). Among i n x.knows.stored) h.1 there) [
         | inl new ↦ inr (ap Tells new.0, some_number (refusal_at s e) is)
         | inr old ↦ inl old
@@ -133,7 +133,7 @@ module _ (F : EndId → Type 0) where
 
   stores_heard : (s : TheRun TheSide) (e : EndId) (job : ℕ) (v u : TheSeat) (w : Word) (o : Option ℕ) → HearsOf job o v w u → Stores s e (Hears job) v u
   stores_heard s e job v u w (Some n) h = stores_same s e (Hears job) v u h.1
-  stores_heard s e job v u w None h i n there = inl (subst (λ (x : TheSeat). Among i n x.knows.stored) h.1 there)
+  stores_heard s e job v u w None h = λ i n there. inl (subst (λ (x : TheSeat). Among i n x.knows.stored) h.1 there)
 
   stores_by : (s : TheRun TheSide) (e : EndId) (word w : Word) (v u : TheSeat) → Exchanges s e word v w u → Stores s e word v u
   stores_by s e Silent w v u h = stores_same s e Silent v u h.1

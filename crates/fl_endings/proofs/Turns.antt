@@ -98,7 +98,7 @@ module _ (jobs : List CoreJob) (limit : ℕ) (cores : List OneCore) (r : TheRepo
 
 pub kept : TurnsAreKept
 kept jobs limit cores r went tells = record {
-  count = ap length tells.turns ∙ length-map turns_in cores;
+  count = ap length tells.turns ∙ length-map cores turns_in;
   within = are_within jobs limit cores r went tells;
   out = ran_out jobs limit cores r went tells;
 }

@@ -50,9 +50,10 @@ pub record HasDesk (j : TheJoined) (c : OneCore) (e : EndId) : Type 0 where
   pub due : desk.due ≡ (docket_at j.dockets e).due
   pub none_handled : desk.handled ≡ []
 
--- core n has each of its ends in its plan, with a desk; each end of its plan has its word; and its seat told nothing yet
+-- core n has just its own ends in its plan, each with its word and with a desk; and its seat told nothing yet
 pub record Begins (j : TheJoined) (n : ℕ) (c : OneCore) : Type 0 where
   pub ends : (e : EndId) → core_at j.bindings e ≡ Some n → (k : ℕ) × (slice_get c.plan.ends.items k ≡ Some e)
+  pub own : (k : ℕ) (e : EndId) → slice_get c.plan.ends.items k ≡ Some e → core_at j.bindings e ≡ Some n
   pub desks : (e : EndId) → core_at j.bindings e ≡ Some n → HasDesk j c e
   pub words : (k : ℕ) (e : EndId) → slice_get c.plan.ends.items k ≡ Some e → slice_get c.begin.ticket.words k ≡ Some (word_of j.bindings e)
   pub silent : c.begin.ticket.seat.knows.stored ≡ []

@@ -16,13 +16,17 @@ pub fn turns_are_kept()
 pub fn complete_has_all()
     ensures all { CompleteHasAll }
 {
+    counted_are_turns::<SharedSide>();
     turns_are_logged::<SharedSide>();
 }
 
 /// Each binding of which a core knew that its opening was refused is named.
 pub fn refusals_are_named()
     ensures named { RefusalsAreNamed }
-{}
+{
+    counted_are_turns::<SharedSide>();
+    turns_are_logged::<SharedSide>();
+}
 
 /// What the ends of a dispatcher handled is together at most its core's counted turns, also where the core went on with turns that nobody counts.
 pub fn dispatchers_handle_few()
