@@ -17,13 +17,14 @@ use Rattle.fl_hop.specs.Stretch.{same_end}
 use Rattle.fl_hop.proofs.Lists.{within}
 use Rattle.fl_monitor.specs.Routing.{given}
 use Rattle.fl_node.specs.View.{place_of}
+use Rattle.fl_node.specs.declared.wire.Inlet.{Inlet}
 use Rattle.fl_running.specs.declared.job.Job.{Job as CoreJob}
 use Rattle.fl_running.specs.declared.run.End.{End}
 use Rattle.fl_running.specs.declared.run.End.TheVariants.{Finished, Unfinished, Told}
 use Rattle.fl_running.specs.Desks.{TheDesk, desk_place}
 use Rattle.fl_running.specs.Run.{TheRun}
 use Rattle.fl_running.specs.Deeds.{Deed, looked, passed, arrived, heard, said, told, opened, called, ruled, wrote, acked, turned, Happens}
-use Rattle.fl_running.specs.Logs.{Goes, InPlace, handled_by, handles_in, handles, call_in, handled_in, handled_at, in_desk, handled_of, TurnsAreLogged, DesksTellHandled}
+use Rattle.fl_running.specs.Logs.{Goes, InPlace, handled_by, handles_in, handles, call_in, handled_in, handled_at, in_desk, handled_of, Logged, TurnsAreLogged, DesksTellHandled}
 use Rattle.fl_running.specs.Ran.{task, CountedAreTurns, GoesOn}
 use Rattle.fl_running.proofs.Handling.{one_end}
 use Rattle.fl_running.proofs.Stepping.{end_stays}
@@ -57,7 +58,7 @@ settled_by jobs deed s t h by e place seat at there =
     (after, end_stays shared_ways jobs deed s t e place h by at, ap (λ k. slice_get k.board.seats place) (core_aside h.0 t deed h.2) ∙ stands, same)
 
 settles : (jobs : List CoreJob) (log : List Deed) (s t : TheRun TheSide) → Goes shared_ways jobs s log t → Settled s t
-settles jobs [] s t same e place seat at there =
+settles jobs [] s t same = λ e place seat at there.
     (seat, ap (λ (x : TheRun TheSide). place_of x.core e) same ∙ at, ap (λ (x : TheRun TheSide). slice_get x.core.board.seats place) same ∙ there, refl)
 settles jobs (deed ∷ log) s t h = settled_then s h.0 t (settled_by jobs deed s h.0 h.1 h.2) (settles jobs log h.0 t h.3)
 
@@ -85,7 +86,7 @@ module _ (b : TheBoard) (sound : IsBoard b) (n p : ℕ) where
 
 -- ---- sums
 
-total : (EndId → ℕ) → List EndId → ℕ
+abbrev total : (EndId → ℕ) → List EndId → ℕ
 total f [] = 0
 total f (e ∷ ends) = f e + total f ends
 
@@ -109,7 +110,7 @@ module _ (j : TheJoined) (n : ℕ) (c : OneCore) (d : ℕ) where
   abbrev count_in : Deed → EndId → ℕ
   count_in deed e = length (handled_in e deed)
 
-  others_none : (place : ℕ) (name e : EndId) (from : _) (answer : TurnAnswer) → name ≡ e → (ends : List EndId) → IsOther e ends
+  others_none : (place : ℕ) (name e : EndId) (from : Inlet) (answer : TurnAnswer) → name ≡ e → (ends : List EndId) → IsOther e ends
       → total (count_in (turned place name from answer)) ends ≡ 0
   others_none place name e from answer same [] other = refl
   others_none place name e from answer same (f ∷ ends) other =
@@ -133,7 +134,7 @@ module _ (j : TheJoined) (n : ℕ) (c : OneCore) (d : ℕ) where
       counts_by true is = refl
       counts_by false is = absurd (cc)
 
-  module _ (s : TheRun TheSide) (place : ℕ) (name : EndId) (from : _) (answer : TurnAnswer) (p : ℕ) (at : place_of s.core name ≡ Some p)
+  module _ (s : TheRun TheSide) (place : ℕ) (name : EndId) (from : Inlet) (answer : TurnAnswer) (p : ℕ) (at : place_of s.core name ≡ Some p)
       (sits : (seat : TheSeat) × (slice_get s.core.board.seats p ≡ Some seat) × (seat.dispatcher ≡ place)) (settled : Settled s c.finish) where
     turn_by : (e : EndId) (ends : List EndId) → IsAt c.finish d e → IsOther e ends
         → total (count_in (turned place name from answer)) ends ≤ handles_in d (turned place name from answer) → (b : Bool) → same_end name e ≡ b
@@ -157,17 +158,17 @@ module _ (j : TheJoined) (n : ℕ) (c : OneCore) (d : ℕ) where
     nobody deed none = let zero_of = total_none (count_in deed) (λ e. ap length (none e)) ends in omega (arith, zero_of)
 
     deed_few : (deed : Deed) (s t : TheRun TheSide) → Happens shared_ways deed s t → Settled s c.finish → total (count_in deed) ends ≤ handles_in d deed
-    deed_few (looked k l answer) s t h settled = nobody _ (λ e. refl)
-    deed_few (passed k m frag c2 outcome) s t h settled = nobody _ (λ e. refl)
-    deed_few (arrived k l frag e answer) s t h settled = nobody _ (λ f. refl)
-    deed_few (heard k l frag answer) s t h settled = nobody _ (λ e. refl)
-    deed_few (said k l answer) s t h settled = nobody _ (λ e. refl)
-    deed_few (told k l answer) s t h settled = nobody _ (λ e. refl)
-    deed_few (opened e wish answer) s t h settled = nobody _ (λ f. refl)
-    deed_few (called e call answer) s t h settled = nobody _ (λ f. refl)
-    deed_few (ruled e msg reply answer) s t h settled = nobody _ (λ f. refl)
-    deed_few (wrote e out answer) s t h settled = nobody _ (λ f. refl)
-    deed_few (acked e k answer) s t h settled = nobody _ (λ f. refl)
+    deed_few (looked k l answer) s t h settled = nobody (looked k l answer) (λ e. refl)
+    deed_few (passed k m frag c2 outcome) s t h settled = nobody (passed k m frag c2 outcome) (λ e. refl)
+    deed_few (arrived k l frag e answer) s t h settled = nobody (arrived k l frag e answer) (λ f. refl)
+    deed_few (heard k l frag answer) s t h settled = nobody (heard k l frag answer) (λ e. refl)
+    deed_few (said k l answer) s t h settled = nobody (said k l answer) (λ e. refl)
+    deed_few (told k l answer) s t h settled = nobody (told k l answer) (λ e. refl)
+    deed_few (opened e wish answer) s t h settled = nobody (opened e wish answer) (λ f. refl)
+    deed_few (called e call answer) s t h settled = nobody (called e call answer) (λ f. refl)
+    deed_few (ruled e msg reply answer) s t h settled = nobody (ruled e msg reply answer) (λ f. refl)
+    deed_few (wrote e out answer) s t h settled = nobody (wrote e out answer) (λ f. refl)
+    deed_few (acked e k answer) s t h settled = nobody (acked e k answer) (λ f. refl)
     deed_few (turned place name from answer) s t h settled =
         turn_few s place name from answer h.1.0 h.1.1 (due_sits s.core.board h.3.board place h.1.0 h.1.2) settled ends are
 
@@ -195,7 +196,8 @@ none_there (Some n) desks desk is = (ap in_desk is, refl)
 module _ (logged : TurnsAreLogged shared_ways) (tell : DesksTellHandled shared_ways) (turns : CountedAreTurns shared_ways)
     (asked : List Job) (j : TheJoined) (limit : ℕ) (cores : List OneCore) (r : TheReport) (ran : Ran asked j limit cores r) (silent : RefusedAreSilent cores r)
     (n : ℕ) (c : OneCore) (at : slice_get cores n ≡ Some c) where
-  abbrev counted_log = logged c.plan j.jobs c.part.turns c.begin.run c.point.run (turns (task c.plan j.jobs limit) c.begin c.point c.part (ran.went n c at).counted)
+  abbrev counted_log : Logged shared_ways j.jobs (λ d. c.part.turns) c.begin.run c.point.run
+  counted_log = logged c.plan j.jobs c.part.turns c.begin.run c.point.run (turns (task c.plan j.jobs limit) c.begin c.point c.part (ran.went n c at).counted)
 
   -- what an end handled by the point is in the log up to it
   by_point : (e : EndId) → core_at j.bindings e ≡ Some n → length (handled_of c.point.run e) ≡ length (handled_at e counted_log.log)
