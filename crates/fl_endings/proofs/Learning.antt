@@ -158,16 +158,18 @@ module _ (F : EndId → Type 0) where
           let name : h.name ≡ e = one_stands ends n h.name e h.name_is (subst (λ (i : ℕ). slice_get ends i ≡ Some e) eq at) in
           let word : old.0 ≡ h.word = one_stands a.words n old.0 h.word (subst (λ (i : ℕ). slice_get a.words i ≡ Some old.0) eq old.1) h.word_is in
           let exchanges = subst (λ (x : EndId). Exchanges s x h.word a.seat h.after b.seat) name h.exchanges in
-          let was = subst (λ (x : Word). Became a.seat.knows.heard e (first e) x) word old.2 in
-          (h.after,
-          ap (λ (xs : List Word). slice_get xs k) h.rest ∙ subst (λ (i : ℕ). slice_get (slice_set a.words n h.after) i ≡ Some h.after) (sym eq) (set_here a.words n h.word h.after h.word_is),
-          goes_by s e (first e) h.word h.after a.seat b.seat (says e) was exchanges)
+          let was = subst (λ (x : Word). Became a.seat.knows.heard e (first e) x) word old.2 in (
+            h.after,
+            ap (λ (xs : List Word). slice_get xs k) h.rest ∙ subst (λ (i : ℕ). slice_get (slice_set a.words n h.after) i ≡ Some h.after) (sym eq) (set_here a.words n h.word h.after h.word_is),
+            goes_by s e (first e) h.word h.after a.seat b.seat (says e) was exchanges,
+          )
       one_word n a b h tracks k e at false same =
           let ne : k ≢ n = λ eq. absurd (grind (arith, nat_tests, same, eq)) in
-          let old = tracks.words k e at in
-          (old.0,
-          ap (λ (xs : List Word). slice_get xs k) h.rest ∙ set_elsewhere a.words n k h.after ne ∙ old.1,
-          more_heard a.seat.knows.heard b.seat.knows.heard e (first e) old.0 (grows_by s h.name h.word h.after a.seat b.seat h.exchanges) old.2)
+          let old = tracks.words k e at in (
+            old.0,
+            ap (λ (xs : List Word). slice_get xs k) h.rest ∙ set_elsewhere a.words n k h.after ne ∙ old.1,
+            more_heard a.seat.knows.heard b.seat.knows.heard e (first e) old.0 (grows_by s h.name h.word h.after a.seat b.seat h.exchanges) old.2,
+          )
 
       one_stored : (n : ℕ) (a b : Stock) (h : ExchangesAt s ends n a b) → Tracks a → (job number : ℕ) → Among job number b.seat.knows.stored
           → (e : EndId) × (first e ≡ Tells job) × F e
@@ -196,10 +198,11 @@ module _ (F : EndId → Type 0) where
     pub looked_on : (a b : Stock) (count : ℕ) → Sees a count b → Tracks a → Tracks b
     looked_on a b count sees tracks = record {
       words = λ k e at.
-          let old = tracks.words k e at in
-          (old.0,
-          ap (λ (xs : List Word). slice_get xs k) sees.0 ∙ old.1,
-          subst (λ (x : TheSeat). Became x.knows.heard e (first e) old.0) (sym sees.1) old.2);
+          let old = tracks.words k e at in (
+            old.0,
+            ap (λ (xs : List Word). slice_get xs k) sees.0 ∙ old.1,
+            subst (λ (x : TheSeat). Became x.knows.heard e (first e) old.0) (sym sees.1) old.2,
+          );
       stored = λ job number there. tracks.stored job number (subst (λ (x : TheSeat). Among job number x.knows.stored) sees.1 there);
     }
 

@@ -65,10 +65,11 @@ set_by : (b c : TheBoard) (f : ℕ) (seat after : TheSeat) → slice_get b.seats
     → (e : ℕ) (s : TheSeat) → slice_get b.seats e ≡ Some s → (same : Bool) → (e == f) ≡ same → (t : TheSeat) × (slice_get c.seats e ≡ Some t) × (t.dispatcher ≡ s.dispatcher)
 set_by b c f seat after there same is e s at true test =
     let eq : e ≡ f = grind (arith, nat_tests, test) in
-    let one : seat ≡ s = one_stands b.seats f seat s there (subst (λ (i : ℕ). slice_get b.seats i ≡ Some s) eq at) in
-    (after,
-    ap (λ (xs : List TheSeat). slice_get xs e) is ∙ subst (λ (i : ℕ). slice_get (slice_set b.seats f after) i ≡ Some after) (sym eq) (set_here b.seats f seat after there),
-    same ∙ ap (λ (x : TheSeat). x.dispatcher) one)
+    let one : seat ≡ s = one_stands b.seats f seat s there (subst (λ (i : ℕ). slice_get b.seats i ≡ Some s) eq at) in (
+      after,
+      ap (λ (xs : List TheSeat). slice_get xs e) is ∙ subst (λ (i : ℕ). slice_get (slice_set b.seats f after) i ≡ Some after) (sym eq) (set_here b.seats f seat after there),
+      same ∙ ap (λ (x : TheSeat). x.dispatcher) one,
+    )
 set_by b c f seat after there same is e s at false test =
     let ne : e ≢ f = λ eq. absurd (grind (arith, nat_tests, test, eq)) in
     (s, ap (λ (xs : List TheSeat). slice_get xs e) is ∙ set_elsewhere b.seats f e after ne ∙ at, refl)
