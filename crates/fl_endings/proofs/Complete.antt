@@ -1,5 +1,5 @@
 -- A report that is complete has all that was handed in, and names the refusals that were known.
-use Rattle.std.proofs.Common.{◌≡◌, ◌≢◌, refl, sym, ap, ◌∙◌, subst, ℕ, zero, suc, ◌<◌, ◌≤◌, ◌==◌, ◌*◌, ◌&&◌, ◌⊎◌, inl, inr, if◌then◌else◌, List, [], ◌∷◌, ◌++◌, map, length, slice_get, Option, Some, None, Bool, true, false, arith}
+use Rattle.std.proofs.Common.{◌≡◌, ◌≢◌, refl, sym, ap, ◌∙◌, ℕ, zero, suc, ◌<◌, ◌≤◌, ◌==◌, ◌&&◌, ◌⊎◌, inl, inr, if◌then◌else◌, List, [], ◌∷◌, ◌++◌, length, slice_get, Option, Some, None, Bool, true, false, arith}
 use Rattle.std.specs.List.{flat_map}
 use Rattle.std.proofs.lemmas.Bool.Decides.{nat_tests}
 use Rattle.std.proofs.lemmas.List.{length-map}
@@ -9,16 +9,14 @@ use Rattle.fl_base.specs.declared.identity.Side.{Side}
 use Rattle.fl_base.specs.declared.identity.Side.TheVariants.{Client, Server}
 use Rattle.fl_base.specs.Ends.{peer}
 use Rattle.fl_base.specs.Prefix.{IsPrefix}
-use Rattle.fl_ring.specs.SharedSides.{TheSide}
 use Rattle.fl_value.specs.Value.{TheCall, call_of}
 use Rattle.fl_hop.proofs.Lists.{at_within, within}
 use Rattle.fl_queues.specs.Given.{given}
 use Rattle.fl_queues.specs.Runs.{same_side, same_end}
-use Rattle.fl_node.specs.View.{slot_of, side_number}
+use Rattle.fl_node.specs.View.{slot_of}
 use Rattle.fl_running.specs.declared.job.Job.{Job as CoreJob}
 use Rattle.fl_running.specs.declared.job.Job.TheVariants as core
 use Rattle.fl_running.specs.declared.run.End.TheVariants.{Finished}
-use Rattle.fl_running.specs.Run.{TheRun}
 use Rattle.fl_running.specs.Logs.{handled_of, TurnsAreLogged, DesksTellHandled}
 use Rattle.fl_running.specs.Ran.{CountedAreTurns}
 use Rattle.fl_jobs.specs.Jobs.{Job, own_calls, has_rules, reply_to, handed_in}
@@ -27,11 +25,10 @@ use Rattle.fl_dockets.specs.declared.docket.Bound.{Bound}
 use Rattle.fl_dockets.specs.Dockets.{TheDocket, no_docket, docket_at, is_ruled, end_of, calls_at, core_calls}
 use Rattle.fl_dockets.specs.Joined.{core_of, AreBindings}
 use Rattle.fl_dockets.specs.State.{TheJoined, AreJoined}
-use Rattle.fl_endings.specs.Cores.{shared_ways, OneCore, Went}
-use Rattle.fl_endings.specs.Begins.{core_at, word_of, Begins, TellsDesks, Ran}
+use Rattle.fl_endings.specs.Cores.{shared_ways, OneCore}
+use Rattle.fl_endings.specs.Begins.{core_at, Ran}
 use Rattle.fl_endings.specs.Complete.{Knows, AreNamed, CompleteHasAll}
 use Rattle.fl_endings.proofs.Turns.{all_finished}
-use Rattle.fl_endings.proofs.Going.{Some_}
 use Rattle.fl_endings.proofs.Desks.{still, prefix_then, no_longer, whole}
 use Rattle.fl_endings.proofs.Ended.{to_finish, at_point_still, due_or_refused}
 

@@ -6,7 +6,6 @@ use Rattle.std.proofs.lemmas.List.{length-map, length-append, append-nil, append
 use Rattle.fl_base.specs.declared.identity.EndId.{EndId}
 use Rattle.fl_base.specs.Prefix.{IsPrefix}
 use Rattle.fl_ring.specs.SharedSides.{TheSide}
-use Rattle.fl_value.specs.declared.value.Call.{Call}
 use Rattle.fl_endpoint.specs.declared.fault.EndFault.{EndFault}
 use Rattle.fl_core.specs.declared.answer.TurnAnswer.{TurnAnswer}
 use Rattle.fl_core.specs.declared.answer.TurnAnswer.TheVariants as turn

@@ -1,10 +1,8 @@
 -- What an end handled at a core that finished.
-use Rattle.std.proofs.Common.{◌≡◌, ◌≢◌, refl, sym, ap, ◌∙◌, subst, ℕ, zero, suc, ◌<◌, ◌≤◌, ◌==◌, ◌&&◌, ◌⊎◌, inl, inr, List, [], ◌∷◌, map, length, slice_get, Option, Some, None, Bool, true, false, arith}
+use Rattle.std.proofs.Common.{◌≡◌, ◌≢◌, refl, sym, ap, ◌∙◌, subst, ℕ, zero, suc, ◌<◌, ◌==◌, ◌&&◌, ◌⊎◌, inl, inr, List, length, slice_get, Option, Some, Bool, true, false, arith}
 use Rattle.std.proofs.lemmas.Bool.Decides.{nat_tests}
-use Rattle.std.proofs.lemmas.List.{length-map}
 use Rattle.fl_base.specs.declared.identity.EndId.{EndId}
 use Rattle.fl_ring.specs.SharedSides.{TheSide}
-use Rattle.fl_value.specs.Value.{TheCall, call_of}
 use Rattle.fl_hop.proofs.Lists.{within}
 use Rattle.fl_running.specs.declared.job.Job.{Job as CoreJob}
 use Rattle.fl_running.specs.declared.plan.Plan.{Plan}

@@ -1,5 +1,5 @@
 -- No dispatcher handled more calls than its core took turns.
-use Rattle.std.proofs.Common.{◌≡◌, ◌≢◌, refl, sym, ap, ◌∙◌, subst, ℕ, zero, suc, ◌+◌, ◌<◌, ◌≤◌, ◌==◌, ◌⊎◌, inl, inr, if◌then◌else◌, List, [], ◌∷◌, ◌++◌, length, slice_get, Option, Some, None, IsSome, Bool, true, false, Result, Ok, Err, arith}
+use Rattle.std.proofs.Common.{◌≡◌, refl, sym, ap, ◌∙◌, subst, ℕ, ◌+◌, ◌≤◌, ◌==◌, inl, inr, if◌then◌else◌, List, [], ◌∷◌, ◌++◌, length, slice_get, Option, Some, None, IsSome, Bool, true, false, Result, Ok, Err, arith}
 use Rattle.std.proofs.lemmas.Bool.Decides.{nat_tests}
 use Rattle.std.proofs.lemmas.List.{length-append}
 use Rattle.fl_base.specs.declared.identity.EndId.{EndId}
@@ -14,7 +14,6 @@ use Rattle.fl_core.specs.declared.answer.TurnAnswer.TheVariants as turn
 use Rattle.fl_core.specs.View.{TheDispatcher, TheSeat, TheBoard, channel_of, end_picked, due_in, due}
 use Rattle.fl_core.specs.Sound.{IsBoard}
 use Rattle.fl_hop.specs.Stretch.{same_end}
-use Rattle.fl_hop.proofs.Lists.{within}
 use Rattle.fl_monitor.specs.Routing.{given}
 use Rattle.fl_node.specs.View.{place_of}
 use Rattle.fl_node.specs.declared.wire.Inlet.{Inlet}
@@ -32,7 +31,7 @@ use Rattle.fl_running.proofs.Aside.{core_aside}
 use Rattle.fl_jobs.specs.Jobs.{Job, handed_in}
 use Rattle.fl_jobs.specs.Report.{TheReport, BothEnds, at_end}
 use Rattle.fl_dockets.specs.State.{TheJoined}
-use Rattle.fl_endings.specs.Cores.{shared_ways, OneCore, Went}
+use Rattle.fl_endings.specs.Cores.{shared_ways, OneCore}
 use Rattle.fl_endings.specs.Begins.{core_at, HasDesk, Ran}
 use Rattle.fl_endings.specs.Few.{IsAt, IsOther, AreEnds, handled_at_all, RefusedAreSilent, DispatchersHandleFew}
 use Rattle.fl_endings.proofs.Desks.{no_longer}

@@ -1,5 +1,5 @@
 -- Turns in a row, put together.
-use Rattle.std.proofs.Common.{◌≡◌, refl, sym, ap, ◌∙◌, subst, ℕ, zero, suc, List}
+use Rattle.std.proofs.Common.{◌≡◌, refl, sym, subst, ℕ, zero, suc, List}
 use Rattle.fl_ring.specs.SharedSides.{TheSide}
 use Rattle.fl_running.specs.declared.job.Job.{Job as CoreJob}
 use Rattle.fl_running.specs.declared.plan.Plan.{Plan}

@@ -1,14 +1,11 @@
 -- What a core's words and seat come to while refusals are told and learned.
-use Rattle.std.proofs.Common.{◌≡◌, ◌≢◌, refl, sym, ap, ◌∙◌, subst, ℕ, zero, suc, ◌⊎◌, inl, inr, ◌==◌, if◌then◌else◌, List, [], ◌∷◌, slice_get, slice_set, length}
-use Rattle.std.proofs.Common.{Option, Some, None, Bool, true, false, arith, rules}
+use Rattle.std.proofs.Common.{◌≡◌, ◌≢◌, refl, sym, ap, ◌∙◌, subst, ℕ, zero, suc, ◌⊎◌, inl, inr, ◌==◌, if◌then◌else◌, List, slice_get, slice_set, length}
+use Rattle.std.proofs.Common.{Option, Some, None, Bool, true, false, arith}
 use Rattle.std.proofs.lemmas.Bool.Decides.{nat_tests}
-use Rattle.std.proofs.lemmas.Option.{same_Some}
 use Rattle.fl_base.specs.declared.identity.EndId.{EndId}
 use Rattle.fl_ring.specs.SharedSides.{TheSide}
 use Rattle.fl_tally.specs.declared.board.Refusal.{Refusal}
-use Rattle.fl_tally.specs.declared.board.View.{View}
-use Rattle.fl_tally.specs.Tally.{with_stored, with_heard}
-use Rattle.fl_tally.specs.Seats.{TheSeat, knowing}
+use Rattle.fl_tally.specs.Seats.{TheSeat}
 use Rattle.fl_core.proofs.Places.{one_stands, set_here, set_elsewhere}
 use Rattle.fl_node.specs.View.{place_of}
 use Rattle.fl_running.specs.declared.job.Job.{Job as CoreJob}
@@ -19,7 +16,7 @@ use Rattle.fl_running.specs.declared.run.End.TheVariants.{Finished, Unfinished, 
 use Rattle.fl_running.specs.Run.{TheRun}
 use Rattle.fl_running.specs.Turn.{Swept}
 use Rattle.fl_running.specs.Words.{refusal_at, TellsIf, HearsOf, Exchanges, Stock, ExchangesAt, ExchangesAll}
-use Rattle.fl_running.specs.Ran.{task, Task, Moment, Sees, CountedTurn, EndsAs}
+use Rattle.fl_running.specs.Ran.{task, Moment, Sees, CountedTurn, EndsAs}
 use Rattle.fl_endings.specs.Cores.{shared_ways, OneCore, Went}
 use Rattle.fl_endings.specs.Complete.{Among}
 use Rattle.fl_endings.proofs.Going.{Some_, none, behind, before, goes_on}

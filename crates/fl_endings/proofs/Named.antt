@@ -1,18 +1,15 @@
 -- Each binding of which a core knew that its opening was refused is named.
-use Rattle.std.proofs.Common.{◌≡◌, ◌≢◌, refl, sym, ap, ◌∙◌, subst, ℕ, zero, suc, ◌<◌, ◌==◌, ◌⊎◌, inl, inr, if◌then◌else◌, List, [], ◌∷◌, slice_get, length, Option, Some, None, Bool, true, false, arith}
+use Rattle.std.proofs.Common.{◌≡◌, ◌≢◌, refl, sym, ap, ◌∙◌, subst, ℕ, ◌==◌, inl, inr, if◌then◌else◌, List, slice_get, Option, Some, None, Bool, true, false, arith}
 use Rattle.std.proofs.lemmas.Option.{same_Some}
 use Rattle.std.proofs.lemmas.Bool.Decides.{nat_tests}
 use Rattle.fl_base.specs.declared.identity.EndId.{EndId}
 use Rattle.fl_base.specs.declared.identity.Side.{Side}
 use Rattle.fl_base.specs.declared.identity.Side.TheVariants.{Client, Server}
-use Rattle.fl_ring.specs.SharedSides.{TheSide}
 use Rattle.fl_core.proofs.Places.{one_stands}
-use Rattle.fl_hop.proofs.Lists.{at_within}
 use Rattle.fl_queues.specs.Given.{given}
 use Rattle.fl_node.specs.View.{client_of}
 use Rattle.fl_running.specs.declared.word.Word.{Word}
 use Rattle.fl_running.specs.declared.word.Word.TheVariants.{Silent, Tells, Hears, Refused}
-use Rattle.fl_running.specs.Run.{TheRun}
 use Rattle.fl_running.specs.Words.{refusal_at}
 use Rattle.fl_running.specs.Logs.{TurnsAreLogged, DesksTellHandled}
 use Rattle.fl_running.specs.Ran.{CountedAreTurns}
@@ -21,8 +18,8 @@ use Rattle.fl_jobs.specs.Report.{TheReport, refusal_of}
 use Rattle.fl_dockets.specs.declared.docket.Bound.{Bound}
 use Rattle.fl_dockets.specs.State.{TheJoined}
 use Rattle.fl_endings.specs.Cores.{shared_ways, OneCore}
-use Rattle.fl_endings.specs.Begins.{core_at, word_by, word_at, word_of, refusal_by, Ran}
-use Rattle.fl_endings.specs.Complete.{Knows, AreNamed, RefusalsStay, Among, HeardIsTold, RefusalsAreNamed}
+use Rattle.fl_endings.specs.Begins.{core_at, word_by, word_at, word_of, Ran}
+use Rattle.fl_endings.specs.Complete.{AreNamed, RefusalsStay, Among, HeardIsTold, RefusalsAreNamed}
 use Rattle.fl_endings.proofs.Learning.{Became, Tracks}
 use Rattle.fl_endings.proofs.Ended.{tracks}
 

@@ -1,5 +1,5 @@
 -- What a report tells of turns.
-use Rattle.std.proofs.Common.{◌≡◌, refl, sym, ap, ◌∙◌, subst, ℕ, zero, suc, ◌≤◌, ◌⊎◌, inl, inr, ◌||◌, if◌then◌else◌, List, [], ◌∷◌, map, length, slice_get, Option, Some, None, Bool, true, false, arith}
+use Rattle.std.proofs.Common.{◌≡◌, refl, sym, ap, ◌∙◌, subst, ℕ, zero, suc, ◌≤◌, ◌⊎◌, inl, inr, ◌||◌, if◌then◌else◌, List, [], ◌∷◌, map, length, slice_get, Some, Bool, true, false}
 use Rattle.std.specs.List.{list_any}
 use Rattle.std.proofs.lemmas.List.{length-map}
 use Rattle.fl_hop.proofs.Opening.{fails}
@@ -11,8 +11,8 @@ use Rattle.fl_running.specs.Ran.{EndsAs, task, Moment}
 use Rattle.fl_running.specs.Words.{Stock}
 use Rattle.fl_ring.specs.SharedSides.{TheSide}
 use Rattle.fl_jobs.specs.Report.{TheReport, Ending, complete, turns_out}
-use Rattle.fl_endings.specs.Cores.{OneCore, Went, AllWent}
-use Rattle.fl_endings.specs.Turns.{is_unfinished, is_told, left_off, was_told, TellsTurns, RanOut, KeepsTurns, TurnsAreKept}
+use Rattle.fl_endings.specs.Cores.{OneCore, AllWent}
+use Rattle.fl_endings.specs.Turns.{is_unfinished, is_told, left_off, was_told, TellsTurns, RanOut, TurnsAreKept}
 
 -- ---- lists
 

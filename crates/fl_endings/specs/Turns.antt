@@ -3,7 +3,7 @@ use Rattle.std.specs.Prelude.{ℕ, ◌≡◌, ◌≤◌, Bool, true, false, if�
 use Rattle.std.specs.List.{list_any}
 use Rattle.fl_running.specs.declared.job.Job.{Job as CoreJob}
 use Rattle.fl_running.specs.declared.run.End.{End}
-use Rattle.fl_running.specs.declared.run.End.TheVariants.{Finished, Unfinished, Told}
+use Rattle.fl_running.specs.declared.run.End.TheVariants.{Unfinished, Told}
 use Rattle.fl_jobs.specs.Report.{TheReport, complete, turns_out}
 use Rattle.fl_endings.specs.Cores.{OneCore, AllWent}
 
