@@ -1,0 +1,9 @@
+pub mod Turns
+pub mod Going
+pub mod Learning
+pub mod Desks
+pub mod Ended
+pub mod Complete
+pub mod Named
+pub mod Seats
+pub mod Few

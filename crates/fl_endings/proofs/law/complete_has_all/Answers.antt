@@ -1,0 +1,6 @@
+use Rattle.fl_endings.proofs.Complete.{complete_all}
+use Rattle.fl_endings.proofs.law.complete_has_all.Goals as goal
+
+pub returns : goal.returns
+returns c =
+    record { all = complete_all c.turns_are_logged.ensures.logged c.turns_are_logged.ensures.handled c.counted_are_turns.ensures.turns }

@@ -1,0 +1,85 @@
+-- With what cores begin, and what a report tells of their desks.
+use Rattle.std.specs.Prelude.{ℕ, ◌≡◌, ◌==◌, if◌then◌else◌, List, [], map, length, slice_get, Option, Some, None}
+use Rattle.fl_base.specs.declared.identity.EndId.{EndId}
+use Rattle.fl_base.specs.declared.identity.Side.{Side}
+use Rattle.fl_base.specs.declared.identity.Side.TheVariants.{Client, Server}
+use Rattle.fl_value.specs.Value.{call_of}
+use Rattle.fl_queues.specs.Given.{given}
+use Rattle.fl_node.specs.View.{client_of}
+use Rattle.fl_running.specs.declared.word.Word.{Word}
+use Rattle.fl_running.specs.declared.word.Word.TheVariants.{Silent, Tells, Hears}
+use Rattle.fl_running.specs.Desks.{TheDesk}
+use Rattle.fl_running.specs.Logs.{handled_of}
+use Rattle.fl_running.specs.Made.{desk_of}
+use Rattle.fl_running.specs.Words.{refusal_at}
+use Rattle.fl_jobs.specs.Jobs.{Job}
+use Rattle.fl_jobs.specs.Report.{TheReport, at_end, refusal_of, Honest}
+use Rattle.fl_dockets.specs.declared.docket.Bound.{Bound}
+use Rattle.fl_dockets.specs.Dockets.{docket_at}
+use Rattle.fl_dockets.specs.Joined.{core_of}
+use Rattle.fl_dockets.specs.State.{TheJoined, AreJoined}
+use Rattle.fl_dockets.specs.Whole.{AreDue}
+use Rattle.fl_endings.specs.Cores.{OneCore, AllWent}
+use Rattle.fl_endings.specs.Turns.{TellsTurns}
+
+-- ---- whose an end is, and its word
+
+-- the core of an end
+abbrev pub core_at : List Bound → EndId → Option ℕ
+core_at bindings e = given (slice_get bindings e.binding) None λ b. Some (core_of e.side b)
+
+-- the word for a binding that a job opens, and for one that is set up
+abbrev pub word_by : (ℕ → Word) → Option ℕ → Word
+word_by word None = Silent
+word_by word (Some job) = word job
+
+-- the client's core tells of the binding's opening, and the server's hears of it
+abbrev pub word_at : Side → Bound → Word
+word_at Client b = word_by Tells b.opened
+word_at Server b = word_by Hears b.opened
+
+abbrev pub word_of : List Bound → EndId → Word
+word_of bindings e = given (slice_get bindings e.binding) Silent (word_at e.side)
+
+-- ---- as cores begin
+
+-- the end's desk: so many calls are to be handled there as its docket has, and none was
+pub record HasDesk (j : TheJoined) (c : OneCore) (e : EndId) : Type 0 where
+  pub desk : TheDesk
+  pub desk_is : desk_of c.begin.run e ≡ Some desk
+  pub due : desk.due ≡ (docket_at j.dockets e).due
+  pub none_handled : desk.handled ≡ []
+
+-- core n has just its own ends in its plan, each with its word and with a desk; and its seat told nothing yet
+pub record Begins (j : TheJoined) (n : ℕ) (c : OneCore) : Type 0 where
+  pub ends : (e : EndId) → core_at j.bindings e ≡ Some n → (k : ℕ) × (slice_get c.plan.ends.items k ≡ Some e)
+  pub own : (k : ℕ) (e : EndId) → slice_get c.plan.ends.items k ≡ Some e → core_at j.bindings e ≡ Some n
+  pub desks : (e : EndId) → core_at j.bindings e ≡ Some n → HasDesk j c e
+  pub words : (k : ℕ) (e : EndId) → slice_get c.plan.ends.items k ≡ Some e → slice_get c.begin.ticket.words k ≡ Some (word_of j.bindings e)
+  pub silent : c.begin.ticket.seat.knows.stored ≡ []
+
+-- ---- what is told
+
+-- the number of a refusal, where it isn't 0
+abbrev pub refusal_by : ℕ → Option ℕ
+refusal_by number = if number == 0 then None else Some number
+
+-- of each end the calls that its desk has as handled, and of each binding the refusal at the client's desk; and of no others
+pub record TellsDesks (j : TheJoined) (cores : List OneCore) (r : TheReport) : Type 0 where
+  pub handled : (e : EndId) (n : ℕ) (c : OneCore) → core_at j.bindings e ≡ Some n → slice_get cores n ≡ Some c
+      → at_end r.handled e ≡ map call_of (handled_of c.finish e)
+  pub refused : (n : ℕ) (b : Bound) (c : OneCore) → slice_get j.bindings n ≡ Some b → slice_get cores b.client ≡ Some c
+      → refusal_of r n ≡ refusal_by (refusal_at c.finish (client_of n))
+  pub no_more : (e : EndId) → slice_get j.bindings e.binding ≡ None → at_end r.handled e ≡ []
+
+-- ---- the whole
+
+-- cores ran the jobs that were joined for them, and an honest report tells what came of it
+pub record Ran (asked : List Job) (j : TheJoined) (limit : ℕ) (cores : List OneCore) (r : TheReport) : Type 0 where
+  pub joined : AreJoined (length cores) asked j
+  pub due : AreDue asked j
+  pub begins : (n : ℕ) (c : OneCore) → slice_get cores n ≡ Some c → Begins j n c
+  pub went : AllWent j.jobs limit cores
+  pub turns : TellsTurns cores r
+  pub desks : TellsDesks j cores r
+  pub honest : Honest asked r

@@ -1,0 +1,42 @@
+-- No dispatcher handled more calls than its core took turns. Law.
+use Rattle.std.specs.Prelude.{ℕ, ◌≡◌, ◌≤◌, ◌+◌, false, List, [], ◌∷◌, length, slice_get, Some}
+use Rattle.fl_base.specs.declared.identity.EndId.{EndId}
+use Rattle.fl_ring.specs.SharedSides.{TheSide}
+use Rattle.fl_core.specs.View.{TheSeat}
+use Rattle.fl_hop.specs.Stretch.{same_end}
+use Rattle.fl_node.specs.View.{place_of}
+use Rattle.fl_running.specs.Run.{TheRun}
+use Rattle.fl_jobs.specs.Jobs.{Job}
+use Rattle.fl_jobs.specs.Report.{TheReport, BothEnds, at_end}
+use Rattle.fl_dockets.specs.State.{TheJoined}
+use Rattle.fl_endings.specs.Cores.{OneCore}
+use Rattle.fl_endings.specs.Begins.{core_at, Ran}
+use Rattle.fl_endings.specs.Complete.{Knows}
+
+-- where this end is at the core, it is one of dispatcher d
+abbrev pub IsAt : TheRun TheSide → ℕ → EndId → Type 0
+IsAt t d e = (place : ℕ) (seat : TheSeat) → place_of t.core e ≡ Some place → slice_get t.core.board.seats place ≡ Some seat → seat.dispatcher ≡ d
+
+-- this end is none of these
+abbrev pub IsOther : EndId → List EndId → Type 0
+IsOther e [] = Unit {0}
+IsOther e (f ∷ ends) = (same_end e f ≡ false) × IsOther e ends
+
+-- ends of core n, each another, which are dispatcher d's in the end
+abbrev pub AreEnds : TheJoined → ℕ → OneCore → ℕ → List EndId → Type 0
+AreEnds j n c d [] = Unit {0}
+AreEnds j n c d (e ∷ ends) = (core_at j.bindings e ≡ Some n) × IsAt c.finish d e × IsOther e ends × AreEnds j n c d ends
+
+-- what these ends handled is so many calls
+abbrev pub handled_at_all : List BothEnds → List EndId → ℕ
+handled_at_all handled [] = 0
+handled_at_all handled (e ∷ ends) = length (at_end handled e) + handled_at_all handled ends
+
+-- where an opening was known to be refused nothing was handled
+abbrev pub RefusedAreSilent : List OneCore → TheReport → Type 0
+RefusedAreSilent cores r = (n : ℕ) (c : OneCore) (e : EndId) → slice_get cores n ≡ Some c → Knows c e → at_end r.handled e ≡ []
+
+abbrev pub DispatchersHandleFew : Type 0
+DispatchersHandleFew = (asked : List Job) (j : TheJoined) (limit : ℕ) (cores : List OneCore) (r : TheReport) → Ran asked j limit cores r
+    → RefusedAreSilent cores r → (n d : ℕ) (c : OneCore) (ends : List EndId) → slice_get cores n ≡ Some c → AreEnds j n c d ends
+    → handled_at_all r.handled ends ≤ c.part.turns

@@ -1,0 +1,6 @@
+-- The laws rest on these, in this order.
+pub mod Cores
+pub mod Turns
+pub mod Begins
+pub mod Complete
+pub mod Few
