@@ -14,7 +14,7 @@ pub record TheProgram : Type 0 where
   pub plan : PlanNo
 
 abbrev pub program_of : Program → TheProgram
-program_of p = record { interface = interface_of p.interface; plan = p.plan }
+program_of p = record { interface = interface_of p.compiled.value.plans.interface; plan = p.plan }
 
 -- the code of a program's message for a column; none where there is no such message
 abbrev pub code_in : Column → TheProgram → ℕ → Option TheCode

@@ -10,11 +10,12 @@ ghost use Rattle.fl_compile.specs.Programs.{program_of};
 
 use crate::arguments::arguments_code;
 use crate::order::in_order;
-use crate::program::{MessageCode, Program};
+use crate::program::{Compiled, MessageCode, Program};
 use fl_check::{Interface, Message};
 use fl_stub::{Code, Column, VerifiedCode, one_structure, verify};
 use fl_value::PlanNo;
 use std::alloc::{AllocError, Global};
+use std::sync::Arc;
 
 // The code of a message for a column, which is verified.
 fn compile_message(
@@ -70,11 +71,11 @@ pub fn compile(alloc: Global, interface: &Interface, plan: PlanNo) -> Result<Pro
     ensures interface { IfOk result (λ p. (program_of p).interface ≡ interface_of interface.now) }
     ensures plan { IfOk result (λ p. (program_of p).plan ≡ plan) }
 {
-    let copy = interface.duplicate(alloc)?;
-    let messages = compile_messages(alloc, &copy, plan)?;
+    let plans = fl_layout::plan(alloc, interface, plan)?;
+    let messages = compile_messages(alloc, &plans.interface, plan)?;
+    let compiled = Compiled { plans, messages };
     Ok(Program {
-        interface: copy,
+        compiled: Arc::new(alloc, compiled)?,
         plan,
-        messages,
     })
 }

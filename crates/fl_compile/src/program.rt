@@ -7,9 +7,11 @@ ghost use Rattle.fl_compile.specs.Codes.{compiled_codes};
 
 use fl_base::MsgNo;
 use fl_check::Interface;
+use fl_layout::Plans;
 use fl_stub::VerifiedCode;
 use fl_value::PlanNo;
 use std::alloc::{AllocError, Global};
+use std::sync::Arc;
 
 /// The send and receive code of a message.
 #[derive(Drop)]
@@ -18,28 +20,23 @@ pub(crate) struct MessageCode {
     pub receive: VerifiedCode,
 }
 
-/// An interface compiled under a plan: a copy of it, and verified send and receive code for each of its messages.
-/// Only [`compile`](crate::compile) makes one.
+/// What a program and its duplicates share: the layout of the interface, with a copy of it, and the code of each of its
+/// messages.
 #[derive(Drop)]
-pub struct Program {
-    pub(crate) interface: Interface,
-    pub(crate) plan: PlanNo,
-    pub(crate) messages: Vec<MessageCode>,
-    ghost words: { interface_words_fit (interface_of interface) ≡ true },
-    ghost exact: { messages.items ≡ map (compiled_codes plan) (map message_of interface.messages.items) },
+pub(crate) struct Compiled {
+    pub plans: Plans,
+    pub messages: Vec<MessageCode>,
 }
 
-// Equal codes, in memory of their own.
-fn duplicate_codes(alloc: Global, codes: &[MessageCode]) -> Result<Vec<MessageCode>, AllocError>
-    ensures equal { IfOk result (λ copies. copies.items ≡ codes.now) }
-{
-    let mut copies = Vec::with_capacity(alloc, codes.len())?;
-    for code in codes {
-        let send = code.send.duplicate(alloc)?;
-        let receive = code.receive.duplicate(alloc)?;
-        copies.push(MessageCode { send, receive })?;
-    }
-    Ok(copies)
+/// An interface compiled under a plan: a copy of it, its layout, and verified send and receive code for each of its messages.
+/// Only [`compile`](crate::compile) makes one; its duplicates share what it made.
+#[derive(Drop)]
+pub struct Program {
+    pub(crate) compiled: Arc<Compiled, Global>,
+    pub(crate) plan: PlanNo,
+    ghost words: { interface_words_fit (interface_of compiled.value.plans.interface) ≡ true },
+    ghost same: { compiled.value.plans.plan ≡ plan },
+    ghost exact: { compiled.value.messages.items ≡ map (compiled_codes plan) (map message_of compiled.value.plans.interface.messages.items) },
 }
 
 impl Program {
@@ -62,14 +59,22 @@ impl Program {
         ensures interface { interface_of result.now ≡ (program_of self.now).interface }
         ensures words { interface_words_fit (interface_of result.now) ≡ true }
     {
-        &self.interface
+        &self.compiled.plans.interface
+    }
+
+    /// The layout of the interface under the plan.
+    pub fn plans(&self) -> &Plans
+        ensures interface { interface_of result.now.interface ≡ (program_of self.now).interface }
+        ensures plan { result.now.plan ≡ (program_of self.now).plan }
+    {
+        &self.compiled.plans
     }
 
     /// The send code of a message; none where the interface has no such message.
     pub fn send_code(&self, msg: MsgNo) -> Option<&VerifiedCode>
         ensures exact { option_map (λ code. code.now) result ≡ code_in Send (program_of self.now) msg.0 }
     {
-        match self.messages.get(usize::from(msg.0)) {
+        match self.compiled.messages.get(usize::from(msg.0)) {
             Some(message) => Some(&message.send),
             None => None,
         }
@@ -79,25 +84,23 @@ impl Program {
     pub fn receive_code(&self, msg: MsgNo) -> Option<&VerifiedCode>
         ensures exact { option_map (λ code. code.now) result ≡ code_in Receive (program_of self.now) msg.0 }
     {
-        match self.messages.get(usize::from(msg.0)) {
+        match self.compiled.messages.get(usize::from(msg.0)) {
             Some(message) => Some(&message.receive),
             None => None,
         }
     }
 
-    /// An equal program, in memory of its own.
+    /// An equal program, which shares this one's memory.
     ///
     /// # Errors
     /// Out of memory (E99), and nothing else.
-    pub fn duplicate(&self, alloc: Global) -> Result<Program, AllocError>
+    pub fn duplicate(&self, _alloc: Global) -> Result<Program, AllocError>
         ensures equal { IfOk result (λ copy. program_of copy ≡ program_of self.now) }
     {
-        let interface = self.interface.duplicate(alloc)?;
-        let messages = duplicate_codes(alloc, &self.messages)?;
+        let compiled = Arc::try_clone(&self.compiled)?;
         Ok(Program {
-            interface,
+            compiled,
             plan: self.plan,
-            messages,
         })
     }
 }

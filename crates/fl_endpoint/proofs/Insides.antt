@@ -30,11 +30,6 @@ pub still_now : (p : TheProgram) (o : Option Sending) (run : Option TheSending) 
 still_now p None run xs ys e h = absurd cc
 still_now p (Some s) run xs ys e h = h
 
--- there is no run where nothing is in transmission
-pub no_run : (p : TheProgram) (o : Option Sending) (run : Option TheSending) (xs : List Queued) → false ≡ is_some o → IsInTransmission p o run xs → run ≡ None
-no_run p None run xs e h = h.1
-no_run p (Some s) run xs e h = absurd cc
-
 pub queued_more : (p : TheProgram) (xs : List Queued) (x : Queued) → AreQueued p xs → IsQueued p x → AreQueued p (xs ++ x ∷ [])
 queued_more p [] x h q = (q, tt)
 queued_more p (y ∷ ys) x h q = (h.0, queued_more p ys x h.1 q)
@@ -79,7 +74,7 @@ written_end e out rest circuit bound is =
 -- an end with these parts of the call under way
 abbrev pub with_fed : Inside → Program → List Frag → Inside
 with_fed e program parts = record {
-  incoming = record { alloc = e.incoming.alloc; plans = e.incoming.plans; recv = record { program = program; parts = parts } };
+  incoming = record { alloc = e.incoming.alloc; recv = record { program = program; parts = parts } };
   rules = e.rules;
   circuit = e.circuit;
   outgoing = e.outgoing;
@@ -94,17 +89,17 @@ fed_view e r same = ap (λ (p : Program). end_of (with_fed e p r.parts)) same
 
 fed_same : (e : Inside) (parts : List Frag) → IsEnd e → Sound (record (end_of e) { parts = parts })
     → IsEnd (with_fed e e.incoming.recv.program parts)
-fed_same e parts is sound = record { interface = is.interface; plan = is.plan; outgoing = is.outgoing; sound = sound }
+fed_same e parts is sound = record { outgoing = is.outgoing; sound = sound }
 
 pub fed_is_end : (e : Inside) (r : TheReassembly) → r.program ≡ e.incoming.recv.program → IsEnd e → Sound (record (end_of e) { parts = r.parts }) → IsEnd (with_recv e r)
 fed_is_end e r same is sound = subst (λ (p : Program). IsEnd (with_fed e p r.parts)) (sym same) (fed_same e r.parts is sound)
 
 -- a failed end, which has taken nothing
 pub failed_is_end : (e : Inside) (r : TheReassembly) → r ≡ e.incoming.recv → IsEnd e → Sound (with_failed (end_of e))
-    → IsEnd (record { incoming = record { alloc = e.incoming.alloc; plans = e.incoming.plans; recv = r }; rules = e.rules; circuit = e.circuit; outgoing = e.outgoing; failed = true })
+    → IsEnd (record { incoming = record { alloc = e.incoming.alloc; recv = r }; rules = e.rules; circuit = e.circuit; outgoing = e.outgoing; failed = true })
 failed_is_end e r same is sound =
-    subst (λ (x : TheReassembly). IsEnd (record { incoming = record { alloc = e.incoming.alloc; plans = e.incoming.plans; recv = x }; rules = e.rules; circuit = e.circuit; outgoing = e.outgoing; failed = true }))
-    (sym same) (record { interface = is.interface; plan = is.plan; outgoing = is.outgoing; sound = sound })
+    subst (λ (x : TheReassembly). IsEnd (record { incoming = record { alloc = e.incoming.alloc; recv = x }; rules = e.rules; circuit = e.circuit; outgoing = e.outgoing; failed = true }))
+    (sym same) (record { outgoing = is.outgoing; sound = sound })
 
 -- ---- calls handled
 
@@ -134,8 +129,6 @@ handled_end e r out c reply circuit bound same none queues is =
 pub handled_is_end : (e : Inside) (r : TheReassembly) (out : Outgoing) (c : TheCall) → r.program ≡ e.incoming.recv.program → IsEnd e → IsOutgoing (program_in e) out
     → end_of (end_with (with_recv e r) out) ≡ with_handled (end_of e) c → Sound (with_handled (end_of e) c) → IsEnd (end_with (with_recv e r) out)
 handled_is_end e r out c same is outgoing view sound = record {
-  interface = is.interface ∙ ap (λ (p : Program). (program_of p).interface) (sym same);
-  plan = is.plan ∙ ap (λ (p : Program). (program_of p).plan) (sym same);
   outgoing = subst (λ (p : Program). IsOutgoing (program_of p) out) (sym same) outgoing;
   sound = subst (λ (s : TheEnd). Sound s) (sym view) sound;
 }
@@ -178,8 +171,6 @@ ruled_view e after msg reply is = ap (λ (x : List (Option ℕ)). record (end_of
 pub ruled_is_end : (e : Inside) (after : Rules) (msg reply : ℕ) → IsEnd e → rules_of after.replies.items ≡ slice_set (rules_of e.rules.replies.items) msg (Some reply)
     → Sound (record (end_of e) { rules = slice_set (end_of e).rules msg (Some reply) }) → IsEnd (with_rules e after)
 ruled_is_end e after msg reply old is sound = record {
-  interface = old.interface;
-  plan = old.plan;
   outgoing = old.outgoing;
   sound = subst (λ (s : TheEnd). Sound s) (sym (ruled_view e after msg reply is)) sound;
 }
@@ -187,8 +178,6 @@ ruled_is_end e after msg reply old is sound = record {
 -- an end with the rules of another of the same interface
 pub exchanged_is_end : (e f : Inside) → IsEnd e → interface_in (end_of e) ≡ interface_in (end_of f) → Sound (end_of f) → IsEnd (with_rules e f.rules)
 exchanged_is_end e f old same other = record {
-  interface = old.interface;
-  plan = old.plan;
   outgoing = old.outgoing;
   sound = sound_exchanged (end_of e) (end_of f) same old.sound other;
 }

@@ -1,8 +1,7 @@
 -- A working file, on which no public promise rests by itself: ends by their fields.
-use Rattle.std.specs.Prelude.{◌≡◌, ℕ, Option}
+use Rattle.std.specs.Prelude.{ℕ, Option}
 use Rattle.std.specs.Option.{option_map}
 use Rattle.fl_base.specs.declared.identity.Circuit.{Circuit}
-use Rattle.fl_check.specs.Interface.{interface_of}
 use Rattle.fl_compile.specs.Programs.{TheProgram, program_of}
 use Rattle.fl_endpoint.specs.View.{TheEnd, number_or_0}
 use Rattle.fl_endpoint.specs.Accounts.{Sound}
@@ -26,9 +25,7 @@ end_of e = record {
   failed = e.failed;
 }
 
--- the layout is the program's, and what is to be sent is in order
+-- what is to be sent is in order
 pub record IsEnd (e : Inside) : Type 0 where
-  pub interface : interface_of e.incoming.plans.interface ≡ (program_in e).interface
-  pub plan : e.incoming.plans.plan ≡ (program_in e).plan
   pub outgoing : IsOutgoing (program_in e) e.outgoing
   pub sound : Sound (end_of e)

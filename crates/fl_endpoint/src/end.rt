@@ -253,7 +253,7 @@ impl End {
         };
         let incoming = &self.incoming;
         let program = incoming.recv.program();
-        let Ok(queued) = Queued::of(incoming.alloc, program, &incoming.plans, call) else {
+        let Ok(queued) = Queued::of(incoming.alloc, program, call) else {
             return Err(EndFault::Memory);
         };
         self.outgoing.queue(program, circuit, queued);

@@ -16,16 +16,15 @@ use crate::outgoing::Queued;
 use crate::rules::Rules;
 use fl_base::{Frag, MsgNo};
 use fl_compile::Program;
-use fl_layout::{Plans, plan};
+use fl_layout::Plans;
 use fl_machine::Reassembly;
 use fl_value::Call;
 use std::alloc::{AllocError, Global};
 
-/// The calls that come to an end, put together for its program, and the program's layout.
+/// The calls that come to an end, put together for its program.
 #[derive(Drop)]
 pub(crate) struct Incoming {
     pub(crate) alloc: Global,
-    pub(crate) plans: Plans,
     pub(crate) recv: Reassembly,
 }
 
@@ -57,19 +56,14 @@ impl Incoming {
     pub(crate) fn new(alloc: Global, program: Program) -> Result<Incoming, AllocError>
         ensures program { IfOk result (λ incoming. incoming.recv.program ≡ program) }
         ensures parts { IfOk result (λ incoming. incoming.recv.parts ≡ []) }
-        ensures interface { IfOk result (λ incoming. interface_of incoming.plans.interface ≡ (program_of program).interface) }
-        ensures plan { IfOk result (λ incoming. incoming.plans.plan ≡ (program_of program).plan) }
     {
-        let plans = plan(alloc, program.interface(), program.plan())?;
-        let capacity = tape_capacity(&plans);
+        let capacity = tape_capacity(program.plans());
         let recv = Reassembly::new(alloc, program, capacity)?;
-        Ok(Incoming { alloc, plans, recv })
+        Ok(Incoming { alloc, recv })
     }
 
     // The reply by rule to a call that is whole, if there is one.
     pub(crate) fn reply(&self, rules: &Rules, call: &mut Call) -> Result<Option<Queued>, AllocError>
-        requires interface { interface_of self.now.plans.interface ≡ (program_of self.now.recv.program).interface }
-        requires plan { self.now.plans.plan ≡ (program_of self.now.recv.program).plan }
         requires rules { AreRules (program_of self.now.recv.program).interface (rules_of rules.now.replies.items) }
         requires fits { fits_of (program_of self.now.recv.program).interface (call_of call.old) ≡ true }
         ensures same { call_of call.new ≡ call_of call.old }
@@ -81,7 +75,7 @@ impl Incoming {
             return Ok(None);
         };
         call.msg = reply;
-        let queued = Queued::of(self.alloc, self.recv.program(), &self.plans, call);
+        let queued = Queued::of(self.alloc, self.recv.program(), call);
         call.msg = msg;
         match queued {
             Ok(queued) => Ok(Some(queued)),

@@ -4,7 +4,6 @@ ghost use Rattle.std.specs.Prelude.{◌≡◌, ◌+◌, ◌<◌, ◌≤◌, ◌+
 ghost use Rattle.std.specs.Option.{option_map};
 ghost use Rattle.std.specs.VecDeque.{deque_capacity};
 ghost use Rattle.fl_base.specs.declared.fragment.Frag.{Frag};
-ghost use Rattle.fl_check.specs.Interface.{interface_of};
 ghost use Rattle.fl_value.specs.Value.{call_of};
 ghost use Rattle.fl_value.specs.Fits.{fits_of};
 ghost use Rattle.fl_compile.specs.Programs.{TheProgram, program_of};
@@ -14,7 +13,6 @@ ghost use Rattle.fl_endpoint.specs.Stored.{IsSending, IsInTransmission, IsOutgoi
 
 use fl_base::{Circuit, Frag, MsgNo};
 use fl_compile::Program;
-use fl_layout::Plans;
 use fl_machine::{SendRun, first_frag, sends_fragments};
 use fl_value::{Call, flatten};
 use std::alloc::{AllocError, Global};
@@ -51,15 +49,8 @@ pub(crate) struct Outgoing {
 
 impl Queued {
     // A fitting call as it is queued.
-    pub(crate) fn of(
-        alloc: Global,
-        program: &Program,
-        plans: &Plans,
-        call: &Call,
-    ) -> Result<Queued, AllocError>
-        requires interface { interface_of plans.now.interface ≡ (program_of program.now).interface }
-        requires plan { plans.now.plan ≡ (program_of program.now).plan }
-        requires fits { fits_of (program_of program.now).interface (call_of call.now) ≡ true }
+    pub(crate) fn of(alloc: Global, program: &Program, call: &Call) -> Result<Queued, AllocError>
+        requires { fits_of (program_of program.now).interface (call_of call.now) ≡ true }
         ensures queues { IfOk result (λ queued. Queues (program_of program.now) (call_of call.now) queued) }
     {
         sends_fragments();
@@ -67,7 +58,7 @@ impl Queued {
         Ok(Queued {
             msg: call.msg,
             tape,
-            count: plans.fragments_of(call),
+            count: program.plans().fragments_of(call),
         })
     }
 }

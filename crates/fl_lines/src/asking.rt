@@ -18,25 +18,26 @@ use crate::names::Names;
 use crate::reader::{end_name, is_last, one_end, two_numbers};
 use crate::word::{next_word, skip_blanks};
 use fl_lex::is_name;
-use fl_value::{Call, CallText, ValueFault, read_call_text};
+use fl_value::{Call, Value, ValueFault, read_spoken};
 
 impl Names {
     // A call whose text was read: its end is looked up, then its message.
-    fn spoken_call(&self, end: EndName<'_>, text: CallText) -> Result<Event<'static>, LineFault>
+    fn spoken_call(
+        &self,
+        end: EndName<'_>,
+        name: &[u8],
+        args: Vec<Value>,
+    ) -> Result<Event<'static>, LineFault>
         ensures tells { TellsEvent (names_of self.now) result
-            (asks_call (names_of self.now) (end_name_of end.entry) text.name.bytes.items (map datum_of text.args.items)) }
+            (asks_call (names_of self.now) (end_name_of end.entry) name.now (map datum_of args.items)) }
     {
         let Some(end) = self.end(end) else {
             return Err(LineFault::Name);
         };
-        let Some(msg) = self.message(end, &text.name.bytes) else {
+        let Some(msg) = self.message(end, name) else {
             return Err(LineFault::NoSuchMessage);
         };
-        let call = Call {
-            msg,
-            args: text.args,
-        };
-        Ok(Event::Call(end, call))
+        Ok(Event::Call(end, Call { msg, args }))
     }
 
     /// The call that a text spells, at the end of a name: the text is read first, then the end is looked up, then the
@@ -47,8 +48,8 @@ impl Names {
     pub fn call_event(&self, end: EndName<'_>, text: &[u8]) -> Result<Event<'static>, LineFault>
         ensures tells { CallTells (names_of self.now) (end_name_of end.entry) text.now result }
     {
-        match read_call_text(self.alloc, text) {
-            Ok(spoken) => self.spoken_call(end, spoken),
+        match read_spoken(self.alloc, text) {
+            Ok((name, args)) => self.spoken_call(end, name, args),
             Err(ValueFault::NotACall) => Err(LineFault::NotACall),
             Err(_) => Err(LineFault::Memory),
         }

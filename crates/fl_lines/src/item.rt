@@ -37,6 +37,7 @@ pub enum Part<'a> {
 }
 
 // The first line of a text, with its line end, and what stands behind it.
+#[inline(always)]
 fn next_line(bytes: &[u8]) -> (&[u8], &[u8])
     requires { 0 < length bytes.now }
     ensures lines { lines_of bytes.now ≡ result.0.now ∷ lines_of result.1.now }

@@ -75,6 +75,7 @@ pub fn two_numbers(line: &[u8]) -> Option<(u32, u32)>
     Some((a, b))
 }
 
+#[inline(always)]
 pub fn one_end(line: &[u8]) -> Option<EndName<'_>>
     ensures same { option_map end_name_of result ≡ one_end line.now }
 {

@@ -78,13 +78,13 @@ fn read_word(bytes: &[u8]) -> Option<(&[u8], &[u8])>
 }
 
 /// The name and the values that a call's text spells: `name(v, v)`, where a value is a number, a
-/// text in quotes, `[v, v]` for an array or `{v, v}` for a struct.
+/// text in quotes, `[v, v]` for an array or `{v, v}` for a struct. The name is lent by the bytes.
 ///
 /// # Errors
 ///
 /// `NotACall` where the bytes spell no call, and `Memory`.
-pub fn read_call_text(alloc: Global, bytes: &[u8]) -> Result<CallText, ValueFault>
-    ensures found { IfOk result (λ t. SpellsCall bytes.now t.name.bytes.items (map datum_of t.args.items)) }
+pub fn read_spoken(alloc: Global, bytes: &[u8]) -> Result<(&[u8], Vec<Value>), ValueFault>
+    ensures found { IfOk result (λ t. SpellsCall bytes.now t.0.now (map datum_of t.1.items)) }
     ensures fault { IfErr result (λ e. Refuses e ((name : List ℕ) (values : List Datum) → SpellsCall bytes.now name values → ⊥)) }
 {
     let Some((name, after)) = read_word(skip_blanks(bytes)) else {
@@ -97,6 +97,19 @@ pub fn read_call_text(alloc: Global, bytes: &[u8]) -> Result<CallText, ValueFaul
     if !skip_blanks(end).is_empty() {
         return Err(ValueFault::NotACall);
     }
+    Ok((name, args))
+}
+
+/// The same, with a copy of the name.
+///
+/// # Errors
+///
+/// As [`read_spoken`].
+pub fn read_call_text(alloc: Global, bytes: &[u8]) -> Result<CallText, ValueFault>
+    ensures found { IfOk result (λ t. SpellsCall bytes.now t.name.bytes.items (map datum_of t.args.items)) }
+    ensures fault { IfErr result (λ e. Refuses e ((name : List ℕ) (values : List Datum) → SpellsCall bytes.now name values → ⊥)) }
+{
+    let (name, args) = read_spoken(alloc, bytes)?;
     let bytes = Vec::from_slice(alloc, name)?;
     Ok(CallText {
         name: Word { bytes },

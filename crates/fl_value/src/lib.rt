@@ -29,7 +29,7 @@ mod tokens;
 mod untape;
 mod value;
 
-pub use calls::{CallText, read_call, read_call_text, resolve};
+pub use calls::{CallText, read_call, read_call_text, read_spoken, resolve};
 pub use fault::ValueFault;
 pub use fitting::{fits, has_type};
 pub use law::{one_call_of_a_tape, one_reading, printed_call_read, printed_reads, rank_by_rank};

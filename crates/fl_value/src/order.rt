@@ -2,13 +2,14 @@
 
 ghost use Rattle.std.specs.Prelude.{◌≡◌, ◌≤◌, length, map, nat_lt, IfOk};
 ghost use Rattle.std.specs.List.{count_by};
-ghost use Rattle.fl_check.specs.Interface.{arg_type_of};
+ghost use Rattle.fl_check.specs.Interface.{arg_type_of, type_of};
+ghost use Rattle.fl_check.specs.Sizes.{align_of};
 ghost use Rattle.fl_value.specs.Value.{datum_of};
 ghost use Rattle.fl_value.specs.Plan.{arranged, fixed_rank, rank_of, rising, never_falls};
 ghost use Rattle.fl_value.specs.Tape.{beside, kind, values_of};
 
 use crate::value::{PlanNo, Value};
-use fl_check::ArgType;
+use fl_check::{ArgType, FixedType};
 use std::alloc::{AllocError, Global};
 
 /// How many ranks of arguments there may be: a plan lays out the arguments of rank 0 as declared, then those of rank 1,
@@ -27,6 +28,16 @@ fn fixed_rank(align: u32) -> u8
     }
 }
 
+/// The rank of a fixed argument under plan 2. A scalar's alignment is its size.
+fn rank_of_fixed(fixed: &FixedType) -> u8
+    ensures same { result ≡ fixed_rank (align_of (type_of fixed.now)) }
+{
+    match fixed {
+        FixedType::Scalar(scalar) => fixed_rank(scalar.size()),
+        _ => fixed_rank(fixed.alignment()),
+    }
+}
+
 impl PlanNo {
     /// The rank of an argument, below [`RANKS`]: under plan 2 fixed arguments by falling alignment, then strings and sized
     /// arrays. It goes over the fields of a struct.
@@ -36,7 +47,7 @@ impl PlanNo {
         match self {
             PlanNo::One => 0,
             PlanNo::Two => match argument {
-                ArgType::Fixed(fixed) => fixed_rank(fixed.alignment()),
+                ArgType::Fixed(fixed) => rank_of_fixed(fixed),
                 _ => 4,
             },
         }

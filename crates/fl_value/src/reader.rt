@@ -10,6 +10,9 @@ use crate::tokens::{read_mark, read_number, read_text};
 use crate::value::Value;
 use std::alloc::Global;
 
+/// For how many values there is room at first.
+const FEW: usize = 8;
+
 /// The value that the bytes begin with, its arrays and structs nested at most so deep, and what
 /// follows it.
 #[cycle(values)]
@@ -81,6 +84,7 @@ pub(crate) fn read_values(
     if let Some(rest) = read_mark(bytes, closing) {
         return Ok((values, rest));
     }
+    values.reserve(FEW)?;
     let mut start = bytes;
     loop {
         let (value, after) = read_value(alloc, start, depth)?;

@@ -11,17 +11,17 @@ use Rattle.fl_machine.proofs.recv.go_on.Goals as goal
 pub returns-in-Some-clause-wrong : goal.returns-in-Some-clause-wrong
 returns-in-Some-clause-wrong c =
     let p = c.args.program.now in
-    let i = interface_of p.interface in
+    let i = interface_of p.compiled.value.plans.interface in
     let (some, begun) = c.requires.begun in
-    refused p.plan i (parts_of p.plan i c.args.tape.now c.args.begun.now) c.args.frag.now c.in-Some.fault p.interface.within p.words (under_way p.plan i c.args.tape.now c.args.begun.now p.interface.within p.words some begun)
-    (inl (header_is p.plan i c.args.tape.now c.args.begun.now c.args.frag.now p.interface.within p.words some begun ∙ sym c.in-Some.ensures.fault))
+    refused p.plan i (parts_of p.plan i c.args.tape.now c.args.begun.now) c.args.frag.now c.in-Some.fault p.compiled.value.plans.interface.within p.words (under_way p.plan i c.args.tape.now c.args.begun.now p.compiled.value.plans.interface.within p.words some begun)
+    (inl (header_is p.plan i c.args.tape.now c.args.begun.now c.args.frag.now p.compiled.value.plans.interface.within p.words some begun ∙ sym c.in-Some.ensures.fault))
 
 pub take-requires-clause-header : goal.take-requires-clause-header
 take-requires-clause-header c =
     let p = c.args.program.now in
     let (some, begun) = c.requires.begun in
     let none : follow_fault c.args.begun.now.msg.0 c.args.frag.now ≡ None = search rules in
-    header_is p.plan (interface_of p.interface) c.args.tape.now c.args.begun.now c.args.frag.now p.interface.within p.words some begun ∙ none
+    header_is p.plan (interface_of p.compiled.value.plans.interface) c.args.tape.now c.args.begun.now c.args.frag.now p.compiled.value.plans.interface.within p.words some begun ∙ none
 
 pub take-requires-clause-control : goal.take-requires-clause-control
 take-requires-clause-control c =
@@ -32,8 +32,8 @@ take-requires-clause-control c =
 pub returns-clause-wrong : goal.returns-clause-wrong
 returns-clause-wrong c =
     let p = c.args.program.now in
-    let i = interface_of p.interface in
+    let i = interface_of p.compiled.value.plans.interface in
     let (some, begun) = c.requires.begun in
     err_weaker c.take.result _ _
-    (λ fault first. refused p.plan i (parts_of p.plan i c.args.tape.now c.args.begun.now) c.args.frag.now fault p.interface.within p.words (under_way p.plan i c.args.tape.now c.args.begun.now p.interface.within p.words some begun) first)
+    (λ fault first. refused p.plan i (parts_of p.plan i c.args.tape.now c.args.begun.now) c.args.frag.now fault p.compiled.value.plans.interface.within p.words (under_way p.plan i c.args.tape.now c.args.begun.now p.compiled.value.plans.interface.within p.words some begun) first)
     c.take.ensures.wrong

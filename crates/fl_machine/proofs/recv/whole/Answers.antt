@@ -11,7 +11,7 @@ use Rattle.fl_machine.proofs.recv.whole.Goals as goal
 pub returns-clause-means : goal.returns-clause-means
 returns-clause-means c =
     let p = c.args.program.now in
-    let i = interface_of p.interface in
+    let i = interface_of p.compiled.value.plans.interface in
     let e = c.args.ended in
     let tape = take e.count c.args.tape.now in
     let call = call_of c.in-Some.call in
@@ -21,4 +21,4 @@ returns-clause-means c =
     = subst (λ (n : PlanNo). HasTape n (interface_of c.interface-interface.result.now) e.msg.0 tape call) c.plan.ensures.plan found in
     let of : HasTape p.plan i e.msg.0 tape call
     = subst (λ (j : TheInterface). HasTape p.plan j e.msg.0 tape call) c.interface-interface.ensures.interface under in
-    means_whole p.plan i c.args.tape.now e call p.interface.within p.words c.requires.ended of
+    means_whole p.plan i c.args.tape.now e call p.compiled.value.plans.interface.within p.words c.requires.ended of

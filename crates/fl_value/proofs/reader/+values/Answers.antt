@@ -47,7 +47,7 @@ read_value-returns-clause-fault t c =
 
 pub read_values-returns-in_err-value-clause-fault : goal.read_values-returns-in_err-value-clause-fault
 read_values-returns-in_err-value-clause-fault t c =
-    let p = err_from_is_err_and c.from_residual.result c.from_residual.ensures.1 in
+    let p = err_from_is_err_and c.from_residual-in_err-value.result c.from_residual-in_err-value.ensures.1 in
     let values = data_from (map datum_of c.loop-values.values.items) in
     let nothing = no_value values c.args.closing c.args.depth c.args.bytes.now c.loop-values.start.now c.requires.closing c.loop-values.invariant.before c.loop-values.invariant.unclosed in
     rw (p.1, p.2) (refuse_weaker c.in_err-value.field-0.0 nothing c.in_err-value.ensures.fault)

@@ -30,8 +30,6 @@ invariant_of-self c =
     let some : IsSome (end_of e).circuit = subst (λ (o : Option ℕ). IsSome o) (sym bound) (search rules) in
     let sound = sound_call (end_of e) d c.self.invariant.sound some fits (omega (arith, none)) in
     record {
-      interface = c.self.invariant.interface;
-      plan = c.self.invariant.plan;
       outgoing = subst (λ (p : Program). IsOutgoing (program_of p) c.queue.new.self) program c.queue.ensures.outgoing;
       sound = subst (λ (s : TheEnd). Sound s) (sym (queued_end e c.queue.new.self c.in-Ok-of.queued d k bound queues out)) sound;
     }

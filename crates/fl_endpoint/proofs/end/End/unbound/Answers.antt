@@ -44,8 +44,6 @@ returns-clause-sound c =
 
 pub invariant_of-result : goal.invariant_of-result
 invariant_of-result c = record {
-  interface = c.in_ok-incoming.ensures.interface ∙ ap (λ (p : Program). (program_of p).interface) (sym c.in_ok-incoming.ensures.program);
-  plan = c.in_ok-incoming.ensures.plan ∙ ap (λ (p : Program). (program_of p).plan) (sym c.in_ok-incoming.ensures.program);
   outgoing = c.in_ok-outgoing.ensures.room (program_of c.in_ok-incoming.incoming.recv.program);
   sound = returns-clause-sound c;
 }

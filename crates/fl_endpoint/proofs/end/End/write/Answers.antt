@@ -47,8 +47,6 @@ invariant_of-self g c =
     let out : outgoing_of (program_in e) k c.mark_written-number.new.self ≡ wrote rest (outgoing_of (program_in e) k e.outgoing) = wrote_is f rest here in
     let some : IsSome (end_of e).circuit = subst (λ (o : Option ℕ). IsSome o) (sym bound) refl in
     record {
-      interface = c.self.invariant.interface;
-      plan = c.self.invariant.plan;
       outgoing = subst (λ (p : Program). IsOutgoing (program_of p) c.mark_written-number.new.self) program c.mark_written-number.ensures.outgoing;
       sound = subst (λ (s : TheEnd). Sound s) (sym (written_end e c.mark_written-number.new.self rest k bound out)) (sound_written (end_of e) f rest c.self.invariant.sound some is);
     }

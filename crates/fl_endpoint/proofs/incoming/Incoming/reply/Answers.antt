@@ -8,8 +8,8 @@ use Rattle.fl_endpoint.specs.Rules.{rules_of}
 use Rattle.fl_endpoint.proofs.Sounds.{reply_fits}
 use Rattle.fl_endpoint.proofs.incoming.Incoming.reply.Goals as goal
 
-pub of-queued-requires-clause-fits : goal.of-queued-requires-clause-fits
-of-queued-requires-clause-fits c =
+pub of-queued-requires : goal.of-queued-requires
+of-queued-requires c =
     let p = program_of c.args.self.now.recv.program in
     let d = call_of c.args.call.now in
     let rule : rule_at (rules_of c.args.rules.now.replies.items) d.msg ≡ Some c.in-Some.reply.0 = sym c.in-Some.ensures.rule in

@@ -19,4 +19,4 @@ returns c =
     let words : interface_words_fit p.interface ≡ true = subst (λ (j : TheInterface). interface_words_fit j ≡ true) same c.interface.ensures.words in
     let tape : c.in_ok-tape.tape.items ≡ tape_of p.plan p.interface d = search rules in
     let counted : c.fragments_of.result ≡ count p.plan p.interface d = search rules in
-    record { queues = queues p d (record { msg = c.args.call.now.msg; tape = c.in_ok-tape.tape; count = c.fragments_of.result }) c.sends_fragments.ensures.sends within words c.requires.fits refl tape counted }
+    record { queues = queues p d (record { msg = c.args.call.now.msg; tape = c.in_ok-tape.tape; count = c.fragments_of.result }) c.sends_fragments.ensures.sends within words c.requires refl tape counted }

@@ -11,7 +11,7 @@ use Rattle.fl_machine.proofs.recv.RecvRun.whole_call.Goals as goal
 pub returns-clause-means : goal.returns-clause-means
 returns-clause-means c =
     let p = c.self.inside.program in
-    let i = interface_of p.interface in
+    let i = interface_of p.compiled.value.plans.interface in
     let tape = c.self.inside.stored.tape.items in
     IfOk-weaker c.whole.result _ _
     (λ call h. subst (λ (r : TheReceiving). Means (plan_in r) (interface_in r) r.whole (call_of call) 0) c.self.view_is

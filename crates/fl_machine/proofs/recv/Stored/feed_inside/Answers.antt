@@ -16,13 +16,13 @@ returns-in-Err-clause-stored c =
     = record { prefix = c.in-Err.ensures.kept ∙ ap (take n) c.deref_mut.ensures.value; long = c.in-Err.ensures.long ∙ ap length c.deref_mut.ensures.value } in
     let items : (with_items c.args.self.now.tape c.go_on.new.tape).items ≡ c.go_on.new.tape
     = with_items_is c.args.self.now.tape c.go_on.new.tape (omega (arith, c.in-Err.ensures.long, c.deref_mut.ensures.len)) in
-    subst (λ (t : List ℕ). IsStored p.plan (interface_of p.interface) (with_tape t (stored_of c.args.self.now))) (sym items)
-    (stored_same p.plan (interface_of p.interface) (stored_of c.args.self.now) c.args.begun c.go_on.new.tape c.requires.inside same c.requires.stored)
+    subst (λ (t : List ℕ). IsStored p.plan (interface_of p.compiled.value.plans.interface) (with_tape t (stored_of c.args.self.now))) (sym items)
+    (stored_same p.plan (interface_of p.compiled.value.plans.interface) (stored_of c.args.self.now) c.args.begun c.go_on.new.tape c.requires.inside same c.requires.stored)
 
 pub returns-in-Err-clause-feeds : goal.returns-in-Err-clause-feeds
 returns-in-Err-clause-feeds c =
     let p = c.args.program.now in
-    let i = interface_of p.interface in
+    let i = interface_of p.compiled.value.plans.interface in
     let n = c.args.begun.intake.count in
     let tape = c.args.self.now.tape.items in
     let same : Same n tape c.go_on.new.tape
