@@ -1,12 +1,12 @@
 -- Turns add up, and what is told of them.
-use Rattle.std.proofs.Common.{◌≡◌, refl, sym, ℕ, zero, suc, subst, List, Some, Result, Ok}
+use Rattle.std.proofs.Common.{◌≡◌, refl, sym, ap, ◌∙◌, ℕ, zero, suc, subst, List, Some, Result, Ok}
 use Rattle.std.specs.declared.alloc.AllocError.{AllocError}
 use Rattle.fl_base.specs.declared.identity.EndId.{EndId}
 use Rattle.fl_core.specs.declared.answer.TurnAnswer.{TurnAnswer}
 use Rattle.fl_core.specs.View.{due}
 use Rattle.fl_node.specs.declared.wire.Inlet.{Inlet}
 use Rattle.fl_node.specs.View.{place_of}
-use Rattle.fl_tally.specs.Tally.{with_finish}
+use Rattle.fl_tally.specs.Tally.{with_finish, with_seen}
 use Rattle.fl_tally.specs.Seats.{TheSeat, knowing}
 use Rattle.fl_running.specs.declared.job.Job.{Job}
 use Rattle.fl_running.specs.declared.plan.Plan.{Plan}
@@ -18,7 +18,7 @@ use Rattle.fl_running.specs.Run.{Ways, TheRun}
 use Rattle.fl_running.specs.Deeds.{TurnsOver, turned, Does}
 use Rattle.fl_running.specs.Turn.{OneTurn}
 use Rattle.fl_running.specs.Words.{SaidNothing, stock}
-use Rattle.fl_running.specs.Ran.{Task, Moment, moment, Counted, TellsEnd, SomeTurns, GoesOn, CoreRan}
+use Rattle.fl_running.specs.Ran.{Task, Moment, moment, Counted, TellsEnd, SomeTurns, HaveEnded, GoesOn, CoreRan}
 use Rattle.fl_running.proofs.Stock.{quiet}
 
 pub no_turns : {S : Type 0} (w : Ways S) (plan : Plan) (jobs : List Job) (s : TheRun S) → SomeTurns w plan jobs s s
@@ -26,6 +26,17 @@ no_turns w plan jobs s = (zero, refl)
 
 pub some_more : {S : Type 0} (w : Ways S) (plan : Plan) (jobs : List Job) (s m t : TheRun S) → SomeTurns w plan jobs s m → OneTurn w plan jobs m t → SomeTurns w plan jobs s t
 some_more w plan jobs s m t some one = (suc some.0, (m, some.1, one))
+
+-- a look at the counter that shows it
+pub seen_ended : (cores count : ℕ) (v u : TheSeat) → HaveEnded cores count → u ≡ knowing v (with_seen v.knows count) → HaveEnded cores u.knows.seen
+seen_ended cores count v u ended same = subst (λ (x : TheSeat). HaveEnded cores x.knows.seen) (sym same) ended
+
+-- and leaves what was stored and heard
+pub seen_stored : (v u : TheSeat) (count : ℕ) → u ≡ knowing v (with_seen v.knows count) → u.knows.stored ≡ v.knows.stored
+seen_stored v u count same = ap (λ (x : TheSeat). x.knows.stored) same
+
+pub seen_heard : (v u : TheSeat) (count : ℕ) → u ≡ knowing v (with_seen v.knows count) → u.knows.heard ≡ v.knows.heard
+seen_heard v u count same = ap (λ (x : TheSeat). x.knows.heard) same
 
 -- a turn that was answered
 pub turn_done : {S : Type 0} (w : Ways S) (d e : ℕ) (name : EndId) (from : Inlet) (result : Result TurnAnswer AllocError) (answer : TurnAnswer) (s t : TheRun S)
@@ -43,16 +54,23 @@ module _ {S : Type 0} (w : Ways S) (t : Task) (a b : Moment S) (part : Part) (u 
     tells = subst (λ (e : End). TellsEnd e b.ticket.seat u) (sym is) told;
     goes_on = subst (λ (e : End). GoesOn w t e b.run b.run) (sym is) refl;
     after = quiet u;
+    stored = refl;
+    heard = refl;
+    others = λ finished. let same : Unfinished ≡ Finished = sym is ∙ finished in absurd (cc same);
   }
 
   -- a core that finished, and went on
   pub ran_finished : (r : TheRun S) (words : List Word) (v : TheSeat) → part.end ≡ Finished → u ≡ knowing b.ticket.seat (with_finish b.ticket.seat.knows)
-      → SomeTurns w t.plan t.jobs b.run r → SaidNothing u v → CoreRan w t a part (moment r (stock words v))
-  ran_finished r words v is told more after = record {
+      → SomeTurns w t.plan t.jobs b.run r → SaidNothing u v → v.knows.stored ≡ u.knows.stored → v.knows.heard ≡ u.knows.heard
+      → HaveEnded t.plan.cores v.knows.seen → CoreRan w t a part (moment r (stock words v))
+  ran_finished r words v is told more after stored heard others = record {
     middle = b;
     counted = counted;
     told = u;
     tells = subst (λ (e : End). TellsEnd e b.ticket.seat u) (sym is) told;
     goes_on = subst (λ (e : End). GoesOn w t e b.run r) (sym is) more;
     after = after;
+    stored = stored;
+    heard = heard;
+    others = λ finished. others;
   }

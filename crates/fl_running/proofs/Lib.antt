@@ -14,6 +14,7 @@ pub mod Counted
 pub mod Doing
 pub mod Growing
 pub mod Lends
+pub mod Writing
 pub mod EndGoing
 pub mod Seating
 pub mod Carrying

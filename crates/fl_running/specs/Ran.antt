@@ -1,5 +1,5 @@
 -- A core's whole run: turns that are counted, and then turns that aren't.
-use Rattle.std.specs.Prelude.{ℕ, ◌≡◌, ◌<◌, ◌≤◌, Bool, true, false, List}
+use Rattle.std.specs.Prelude.{ℕ, ◌≡◌, ◌⊎◌, ◌<◌, ◌≤◌, Bool, true, false, List}
 use Rattle.fl_tally.specs.Tally.{with_finish, with_seen}
 use Rattle.fl_tally.specs.Seats.{TheSeat, knowing}
 use Rattle.fl_running.specs.declared.job.Job.{Job}
@@ -83,6 +83,10 @@ abbrev pub GoesOn : {S : Type 0} → Ways S → Task → End → TheRun S → Th
 GoesOn w t Finished s u = SomeTurns w t.plan t.jobs s u
 GoesOn w t end s u = u ≡ s
 
+-- until the counter shows that all cores have ended, or that one stopped
+abbrev pub HaveEnded : ℕ → ℕ → Type 0
+HaveEnded cores count = (count ≡ cores) ⊎ (16 < count)
+
 -- ---- the whole
 
 pub record CoreRan {S : Type 0} (w : Ways S) (t : Task) (a : Moment S) (part : Part) (b : Moment S) : Type 0 where
@@ -93,6 +97,10 @@ pub record CoreRan {S : Type 0} (w : Ways S) (t : Task) (a : Moment S) (part : P
   pub tells : TellsEnd part.end middle.ticket.seat told
   pub goes_on : GoesOn w t part.end middle.run b.run
   pub after : SaidNothing told b.ticket.seat
+  pub stored : b.ticket.seat.knows.stored ≡ told.knows.stored
+  pub heard : b.ticket.seat.knows.heard ≡ told.knows.heard
+  -- a core that finished saw at last that all had ended, or that one stopped
+  pub others : part.end ≡ Finished → HaveEnded t.plan.cores b.ticket.seat.knows.seen
 
 -- ---- law
 

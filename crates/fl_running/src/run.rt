@@ -4,7 +4,7 @@ ghost use Rattle.std.specs.Prelude.{◌≡◌, ◌+◌, ◌<◌, ◌≤◌, leng
 ghost use Rattle.fl_running.specs.Run.{ways, run_of};
 ghost use Rattle.fl_running.specs.Words.{AreWords, ExchangesAll, SaidNothing};
 ghost use Rattle.fl_running.specs.Finished.{is_finished};
-ghost use Rattle.fl_running.specs.Ran.{ticket_of, task, moment, Counted, SomeTurns, CoreRan};
+ghost use Rattle.fl_running.specs.Ran.{ticket_of, task, moment, Counted, SomeTurns, HaveEnded, CoreRan};
 
 use crate::fault::CoresFault;
 use crate::finish::is_finished;
@@ -98,7 +98,7 @@ fn counted_turns<S: PutSide + TakeSide + Drop, G: Gate>(
 }
 
 // Turns that aren't counted: until all cores have ended, or one stopped.
-#[tactic(auto, using(crate::proofs::Counting::some_more, crate::proofs::Counting::no_turns, crate::proofs::Stock::quiet, crate::proofs::Stock::quiet_then))]
+#[tactic(auto, using(crate::proofs::Counting::seen_ended, crate::proofs::Counting::seen_stored, crate::proofs::Counting::seen_heard, crate::proofs::Counting::no_turns, crate::proofs::Stock::quiet, crate::proofs::Stock::quiet_then))]
 fn idle_turns<R: Wait, S: PutSide + TakeSide + Drop, G: Gate>(
     rt: &R,
     run: &mut Running<S>,
@@ -108,7 +108,10 @@ fn idle_turns<R: Wait, S: PutSide + TakeSide + Drop, G: Gate>(
     gate: &G,
 ) -> Result<(), AllocError>
     ensures turned { OnOk result (SomeTurns (ways S.puts S.takes S.front) plan.now jobs.now (run_of run.old) (run_of run.new)) }
+    ensures others { OnOk result (HaveEnded plan.now.cores ticket.new.seat.knows.seen) }
     ensures seat { SaidNothing ticket.old.seat ticket.new.seat }
+    ensures stored { ticket.new.seat.knows.stored ≡ ticket.old.seat.knows.stored }
+    ensures heard { ticket.new.seat.knows.heard ≡ ticket.old.seat.knows.heard }
 {
     let core = run.core.monitor().circuits().core();
     for _ in rt.forever() {
