@@ -5,9 +5,9 @@ use Rattle.std.proofs.lemmas.List.{take_at, get_or_read, get_or-set_same, get_or
 use Rattle.fl_lists.specs.declared.place.Place.{Place}
 use Rattle.fl_lists.specs.declared.place.Place.TheVariants.{Idle, Polled, Pending}
 use Rattle.fl_lists.specs.declared.node.Node.{Node}
-use Rattle.fl_lists.specs.ThreeLists.{ThreeLists, list_at, is_in, without, place_of, unlinked, pushed, popped, NoRepeat, IsApart}
+use Rattle.fl_lists.specs.ThreeLists.{ThreeLists, list_at, is_in, without, place_of, unlinked, pushed, moved, popped, NoRepeat, IsApart}
 use Rattle.fl_lists.specs.Table.{free_node, node_at, next_at, prev_at, place_at, TakenOut, PutBefore, ChangesFew, head_of, Chain, Ring, list_from, lists_of, IsTable, TheLists}
-use Rattle.fl_lists.proofs.Members.{different, first_is_in, without_first, without_none, left_out}
+use Rattle.fl_lists.proofs.Members.{different, first_is_in, without_first, without_later, without_none, left_out}
 use Rattle.fl_lists.proofs.Rings.{same_or_not, placed_below, list_is, prev_placed, next_placed, last_placed, in_list, ring_without, ring_push, ring_besides_out, ring_besides_in}
 
 -- two values with the same lists are the same
@@ -509,3 +509,77 @@ front_within nodes now p head len first table seen at long read other =
     let told = sym (front_is nodes table p head here) ∙ cond-false _ _ _ (ne_eqb _ _ (λ e. other (next ∙ e))) in
     let within = node_below nodes table (next_at nodes head) p (front_in _ _ told) in
     subst (λ (w : TheLists). first.next < w.lists.size) seen (subst (λ (k : ℕ). k < length nodes - 3) (sym next) within)
+
+-- behind what leads to the end of a chain nothing comes
+nothing_behind : (next prev : ℕ → ℕ) (a b : ℕ) (xs : List ℕ) → Chain next prev a xs b → is_in b xs ≡ false → next a ≡ b → xs ≡ []
+nothing_behind next prev a b [] chain out e = refl
+nothing_behind next prev a b (x ∷ xs) chain out e =
+    absurd (false≢true (sym out ∙ or_left _ _ (eq-eqb x b (sym chain.0 ∙ e))))
+
+-- what leads to the end of a chain is the last of its list, and to take it out and push it changes nothing
+last_stays : (next prev : ℕ → ℕ) (a b c : ℕ) (xs : List ℕ) → Chain next prev a xs b → NoRepeat xs → is_in b xs ≡ false → is_in c xs ≡ true
+    → next c ≡ b → without c xs ++ c ∷ [] ≡ xs
+last_stays next prev a b c [] chain once out i e = absurd (false≢true i)
+last_stays next prev a b c (x ∷ xs) chain once out i e =
+    let behind = (or_parts (x == b) (is_in b xs) out).1 in
+    elim (cases_eq x c) [
+      | inl same ↦
+          let alone : xs ≡ [] = nothing_behind next prev x b xs chain.1.1 behind (ap next same ∙ e) in
+          ap (λ (ys : List ℕ). ys ++ c ∷ []) (without_first c x xs same ∙ ap (without c) alone)
+          ∙ ap (λ (z : ℕ). z ∷ []) (sym same) ∙ ap (λ (ys : List ℕ). x ∷ ys) (sym alone)
+      | inr other ↦
+          let later : is_in c xs ≡ true = elim (or_cases (x == c) (is_in c xs) i) [
+            | inl same ↦ absurd (other (eqb-true x c same))
+            | inr found ↦ found
+          ] in
+          ap (λ (ys : List ℕ). ys ++ c ∷ []) (without_later c x xs other)
+          ∙ ap (λ (ys : List ℕ). x ∷ ys) (last_stays next prev x b c xs chain.1.1 once.1 behind later e)
+    ]
+
+-- the list of this place ends in c: to move c to its back changes nothing
+last_moved : (nodes : List Node) (table : IsTable nodes) (c : ℕ) (p : Place) → is_in c (list_at (lists_of nodes) p) ≡ true
+    → next_at nodes c ≡ head_of (length nodes) p → lists_of nodes ≡ moved (lists_of nodes) c p
+last_moved nodes table c p i e = same_lists w (moved w c p) (sym (pushed_size (unlinked w c) c p)) at where
+  w : ThreeLists
+  w = lists_of nodes
+
+  apart : IsApart w
+  apart = apart_lists nodes table
+
+  ring : Ring nodes (head_of (length nodes) p) p (list_at w p)
+  ring = ring_at nodes table p
+
+  here : list_at w p ≡ list_at (moved w c p) p
+  here =
+      sym (last_stays (next_at nodes) (prev_at nodes) _ _ c (list_at w p) ring.chain ring.once.1 ring.once.0 i e)
+      ∙ ap (λ (ys : List ℕ). ys ++ c ∷ []) (sym (unlinked_list w c p)) ∙ sym (pushed_this (unlinked w c) c p)
+
+  missing : (q : Place) → q ≢ p → is_in c (list_at w q) ≡ false
+  missing q ne = elim (cases_Bool (is_in c (list_at w q))) [
+    | inl j ↦ absurd (ne (apart.one_list q p c j i))
+    | inr missed ↦ missed
+  ]
+
+  at : (q : Place) → list_at w q ≡ list_at (moved w c p) q
+  at q = elim (same_or_not q p) [
+    | inl same ↦ subst (λ (z : Place). list_at w z ≡ list_at (moved w c p) z) (sym same) here
+    | inr ne ↦ sym (pushed_other (unlinked w c) c p q ne ∙ unlinked_list w c q ∙ without_none c (list_at w q) (missing q ne))
+  ]
+
+-- `move_to_back` of what leads to the head of its place
+pub moves_last : (items : List Node) (now : TheLists) (c len head : ℕ) (p : Place) (x : Node) → IsTable items
+    → record { lists = lists_of items; table = items } ≡ now → c < now.lists.size → IsSome (place_of now.lists c)
+    → head ≡ head_of len p → len ≡ length items → x ≡ get_or items c x → x.next ≡ head → now.lists ≡ moved now.lists c p
+moves_last items now c len head p x table seen below linked at long read next =
+    let here = below_here items c now table seen below in
+    let found = linked_here items c now table seen below linked in
+    let to_head : next_at items c ≡ head_of (length items) p =
+    ap (λ (n : Node). n.next) (sym (get_or_read items c x (omega arith) read free_node)) ∙ next ∙ at
+    ∙ ap (λ (n : ℕ). head_of n p) long in
+    let near : place_at items (next_at items c) ≡ Some found.0 = (neighbours items table c found.0 here found.1).1 in
+    let at_head : place_at items (head_of (length items) p) ≡ Some p =
+    (ring_at items table p).placed _ (first_is_in (head_of (length items) p) (list_at (lists_of items) p)) in
+    let there : place_at items (head_of (length items) p) ≡ Some found.0 = subst (λ (k : ℕ). place_at items k ≡ Some found.0) to_head near in
+    let same : found.0 ≡ p = cc (there, at_head) in
+    let i = listed_at items table c p here (found.1 ∙ ap (λ (q : Place). Some q) same) in
+    subst (λ (w : TheLists). w.lists ≡ moved w.lists c p) seen (last_moved items table c p i to_head)

@@ -121,6 +121,10 @@ impl Lists {
         ensures few { ChangesFew 4 c self.old.table self.new.table }
         ensures apart { IsApart self.new.lists }
     {
+        if self.nodes[c].next == head_index(self.nodes.len(), place) {
+            // it is the last there
+            return;
+        }
         self.unlink(c);
         self.push_back(c, place);
     }
