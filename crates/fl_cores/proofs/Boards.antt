@@ -7,7 +7,11 @@ use Rattle.fl_core.proofs.kind.Kind.TheSendSync as kind
 use Rattle.fl_node.proofs.wire.Port.TheSendSync as port
 use Rattle.fl_node.proofs.wire.Lane.TheSendSync as lane
 use Rattle.fl_endpoint.specs.contracts.end.End as End
-use Rattle.fl_core.specs.View.{TheBoard}
+use Rattle.fl_base.proofs.identity.ChanId.TheSendSync as channel
+use Rattle.fl_core.specs.View.{TheBoard, TheSeat}
+use Rattle.fl_core.specs.declared.seat.Seat as SeatCode
+use Rattle.fl_core.specs.contracts.seat.Seat as Seat
+use Rattle.fl_core.specs.contracts.seat.Seat.TheInside as SeatInside
 use Rattle.fl_core.specs.declared.one_board.Board as BoardCode
 use Rattle.fl_core.specs.contracts.one_board.Board as Board
 use Rattle.fl_core.specs.contracts.one_board.Board.TheInside as BoardInside
@@ -19,12 +23,24 @@ use Rattle.fl_node.specs.declared.one_core.Core as CoreCode
 use Rattle.fl_node.specs.contracts.one_core.Core as Core
 use Rattle.fl_node.specs.contracts.one_core.Core.TheInside as CoreInside
 
+seat_inside : IsSend End.the_row → IsSend SeatInside.the_row
+seat_inside end = recorded_send (SeatInside.the_field).row _ _ (SeatInside.the_type).to_one
+    (struct_send (shape SeatInside.the_type)
+    (end,
+    (search (sendable, crosses) depth 20,
+    (search (sendable, crosses, channel.the_send) depth 20,
+    (search (sendable, crosses, kind.the_send) depth 20,
+    tt)))))
+
+seat_sends : IsSend End.the_row → IsSend Seat.the_row
+seat_sends end = view_send SeatInside.the_row TheSeat SeatCode.the_code Seat.the_view Seat.the_invariant (seat_inside end)
+
 board_inside : IsSend End.the_row → IsSend BoardInside.the_row
 board_inside end = recorded_send (BoardInside.the_field).row _ _ (BoardInside.the_type).to_one
     (struct_send (shape BoardInside.the_type)
     (search (sendable, crosses) depth 20,
     (search (sendable, crosses, dispatcher.the_send) depth 40,
-    (search (sendable, crosses, kind.the_send, end) depth 40,
+    (search (sendable, crosses, seat_sends end) depth 40,
     tt))))
 
 pub board_sends : IsSend End.the_row → IsSend Board.the_row
