@@ -1,5 +1,5 @@
 -- What desks and parts tell, place by place.
-use Rattle.std.proofs.Common.{◌≡◌, refl, sym, ap, ◌∙◌, ℕ, zero, suc, ◌+◌, ◌<◌, Bool, ◌||◌, List, [], ◌∷◌, ◌++◌, map, length, drop, get_or, slice_get, Some, None, arith}
+use Rattle.std.proofs.Common.{◌≡◌, refl, sym, ap, ◌∙◌, ℕ, zero, suc, ◌+◌, ◌<◌, ◌≤◌, Bool, ◌||◌, List, [], ◌∷◌, ◌++◌, map, length, drop, get_or, slice_get, Some, None, arith}
 use Rattle.std.specs.List.{flat_map, list_any, range_with_len}
 use Rattle.std.proofs.lemmas.List.{append-nil, append_assoc, map-append}
 use Rattle.std.proofs.lemmas.List.Concat.{flat_map-append, flat_map-cons}
@@ -29,11 +29,16 @@ calls_more jobs (q ∷ places) zero p h is = ap (λ (i : ℕ). calls_of_job (sli
 calls_more jobs (q ∷ places) (suc k) p h is = calls_more jobs places k p (omega (arith, h)) is
 
 -- the call of a job that is there, or isn't
-pub no_call : (jobs : List Job) (p : ℕ) → slice_get jobs p ≡ None → calls_of_job (slice_get jobs p) ≡ []
-no_call jobs p none = ap calls_of_job none
+pub no_call : (jobs : List Job) (p : ℕ) → length jobs ≤ p → calls_of_job (slice_get jobs p) ≡ []
+no_call [] p past = refl
+no_call (job ∷ jobs) zero past = absurd (omega (arith, past))
+no_call (job ∷ jobs) (suc p) past = no_call jobs p (omega (arith, past))
 
-pub call_there : (jobs : List Job) (p : ℕ) (job : Job) → slice_get jobs p ≡ Some job → calls_of_job (slice_get jobs p) ≡ calls_of_job (Some job)
-call_there jobs p job there = ap calls_of_job there
+pub call_there : (jobs : List Job) (p : ℕ) (job : Job) → p < length jobs → job ≡ get_or jobs p job
+    → calls_of_job (slice_get jobs p) ≡ calls_of_job (Some job)
+call_there [] p job below is = absurd (omega (arith, below))
+call_there (j ∷ jobs) zero job below is = ap (λ (x : Job). calls_of_job (Some x)) (sym is)
+call_there (j ∷ jobs) (suc p) job below is = call_there jobs p job (omega (arith, below)) is
 
 -- one binding more
 pub by_more : {A : Type 0} (what : ℕ → A) (n : ℕ) → map what (range_with_len 0 (n + 1)) ≡ map what (range_with_len 0 n) ++ what n ∷ []

@@ -87,7 +87,6 @@ fn add_call(alloc: Global, calls: &mut Vec<Call>, job: &Job) -> Result<(), Alloc
 }
 
 // That of the job at a place.
-#[tactic(auto, using(crate::proofs::Lists::no_call, crate::proofs::Lists::call_there))]
 fn add_at(
     alloc: Global,
     calls: &mut Vec<Call>,

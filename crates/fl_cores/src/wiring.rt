@@ -50,6 +50,20 @@ impl Owners {
         })
     }
 
+    // As the cores name them.
+    fn named(
+        alloc: Global,
+        rings: usize,
+        queues: usize,
+        cores: &[Core],
+    ) -> Result<Owners, AllocError> {
+        let mut owners = Owners::new(alloc, rings, queues)?;
+        for (k, core) in cores.iter().enumerate() {
+            owners.own_all(k, core);
+        }
+        Ok(owners)
+    }
+
     fn own_side(&mut self, side: usize, core: usize) {
         if let Some(two) = self.rings.get_mut(side / 2) {
             two[side % 2] = core;
@@ -348,7 +362,7 @@ impl Common<'_> {
     }
 
     // The stations of the first cores, each with a seat cut off everybody's.
-    #[tactic(auto, using(crate::proofs::Each::ready_push, crate::proofs::Each::stations_from))]
+    #[tactic(auto, using(crate::proofs::Each::ready_push))]
     fn stations(
         &self,
         own: &mut EndSeat,
@@ -404,10 +418,7 @@ pub(crate) fn wire(
         bindings: _,
     } = parts;
     let count = cores.as_slice().len();
-    let mut owners = Owners::new(alloc, rings.len(), queues.len())?;
-    for (k, core) in cores.iter().enumerate() {
-        owners.own_all(k, core);
-    }
+    let owners = Owners::named(alloc, rings.len(), queues.len(), &cores)?;
     let Dealt {
         hands: sides,
         places: side_places,
