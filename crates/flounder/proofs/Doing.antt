@@ -22,7 +22,11 @@ use Rattle.flounder.specs.Words.{Asked, asks_for, refusals}
 use Rattle.flounder.specs.Status as program
 use Rattle.flounder.specs.Deeds.{Deed, was_read, was_not_read, was_written, was_not_written, Tells, Adds, Does}
 use Rattle.flounder.specs.Streams.{Output, Streams, Puts, PutsPrefix, Prints, IsUntouched, IsUnread}
-use Rattle.flounder.specs.Commands.{failed_status, Compiles, Views, Execs, Helps, Performs, Runs}
+use Rattle.fl_cores.specs.declared.fault.CoresFault.{CoresFault}
+use Rattle.fl_cores.specs.declared.text.CoresEnd.{CoresEnd}
+use Rattle.fl_cores.specs.Promised as run
+use Rattle.flounder.specs.Status.{cores_status}
+use Rattle.flounder.specs.Commands.{failed_status, end_status, IsTold, Compiles, Views, Execs, RunsCores, Helps, Performs, Runs}
 
 added_none : (old : Option (List Deed)) → Tells old old []
 added_none None = tt
@@ -113,6 +117,42 @@ pub not_printed : (old new : Option (List Deed)) (file bytes table : List ℕ) (
     → Does old new (Views file o status)
 not_printed old new file bytes table o status a h p e =
     does_one old new (was_read file bytes) (Views file o status) a (inr (inr (inr record { bytes = bytes; table = table; shows = h; put = p; done = refl; ends = e })))
+
+-- ---- cores
+
+pub cores_unread : (old new : Option (List Deed)) (file : List ℕ) (turns : ℕ) (o : Output) (kind : ErrorKind) (status failed : ℕ) → Adds old new (was_not_read file kind) → IsUntouched o → status ≡ failed → failed ≡ failed_status kind
+    → Does old new (RunsCores file turns o status)
+cores_unread old new file turns o kind status failed a same e h =
+    does_one old new (was_not_read file kind) (RunsCores file turns o status) a (inr (inl (same, record { kind = kind; done = refl; ends = e ∙ h })))
+
+pub cores_failed : (old new : Option (List Deed)) (file bytes : List ℕ) (turns : ℕ) (o : Output) (fault : CoresFault) (status : ℕ) → Adds old new (was_read file bytes) → IsUntouched o → status ≡ cores_status fault
+    → Does old new (RunsCores file turns o status)
+cores_failed old new file bytes turns o fault status a same e =
+    does_one old new (was_read file bytes) (RunsCores file turns o status) a
+    (inr (inr (inr record { bytes = bytes; fault = fault; printed = same; done = refl; ends = e })))
+
+pub cores_ran : (old new : Option (List Deed)) (file bytes told : List ℕ) (turns : ℕ) (end : CoresEnd) (o : Output) (status : ℕ) → Adds old new (was_read file bytes) → IsTold bytes turns end told → Prints o told
+    → status ≡ end_status end → Does old new (RunsCores file turns o status)
+cores_ran old new file bytes told turns end o status a h p e =
+    does_one old new (was_read file bytes) (RunsCores file turns o status) a
+    (inl record { bytes = bytes; end = end; told = told; is_told = h; printed = p; done = refl; ends = e })
+
+pub cores_untold : (old new : Option (List Deed)) (file bytes told : List ℕ) (turns : ℕ) (end : CoresEnd) (o : Output) (status : ℕ) → Adds old new (was_read file bytes) → IsTold bytes turns end told → PutsPrefix o told
+    → status ≡ 4 → Does old new (RunsCores file turns o status)
+cores_untold old new file bytes told turns end o status a h p e =
+    does_one old new (was_read file bytes) (RunsCores file turns o status) a
+    (inr (inr (inl record { bytes = bytes; end = end; told = told; is_told = h; put = p; done = refl; ends = e })))
+
+-- what was put behind nothing is all that is told
+pub all_told : (bytes text before told : List ℕ) (turns : ℕ) (end : CoresEnd) → run.Appends text turns end before told → text ≡ bytes → before ≡ [] → IsTold bytes turns end told
+all_told bytes text before told turns end h e nothing =
+    subst (λ (t : List ℕ). IsTold t turns end told) e (subst (λ (u : List ℕ). run.Appends text turns end u told) nothing h)
+
+-- what a run comes to has the status of its outcome
+pub ends_so : {A : Type 0} (r : Result A Fault) (wanted status : ℕ) → MatchResult r (λ x. wanted ≡ 0) (λ f. program.status_of f ≡ wanted) → OnOk r (status ≡ 0) → IfErr r (λ f. status ≡ program.status_of f)
+    → status ≡ wanted
+ends_so (Ok x) wanted status h done fault = done ∙ sym h
+ends_so (Err f) wanted status h done fault = fault ∙ h
 
 -- ---- standard output
 
@@ -244,6 +284,11 @@ pub performs_compile : (old new : Option (List Deed)) (io : Streams) (file out :
     → Does old new (λ deeds. IsUnread io × IsUntouched io.output × Compiles file out status deeds)
 performs_compile old new io file out status u v h =
     does_weaker old new (Compiles file out status) (λ deeds. IsUnread io × IsUntouched io.output × Compiles file out status deeds) (λ ds p. (u, v, p)) h
+
+pub performs_cores : (old new : Option (List Deed)) (io : Streams) (file : List ℕ) (turns status : ℕ) → IsUnread io → Does old new (RunsCores file turns io.output status)
+    → Does old new (λ deeds. IsUnread io × RunsCores file turns io.output status deeds)
+performs_cores old new io file turns status u h =
+    does_weaker old new (RunsCores file turns io.output status) (λ deeds. IsUnread io × RunsCores file turns io.output status deeds) (λ ds p. (u, p)) h
 
 pub runs_asked : (old new : Option (List Deed)) (words : List Text) (io : Streams) (asked : Asked) (status : ℕ) → asks_for words ≡ Some asked → refusals words ≡ [] → Does old new (Performs asked io status)
     → Does old new (Runs words io status)

@@ -15,7 +15,12 @@ use Rattle.fl_transcript.specs.Reading as script
 use Rattle.fl_show.specs.declared.fault.ShowFault.{ShowFault}
 use Rattle.fl_show.specs.Content as content
 use Rattle.fl_show.specs.Content.{StandsFor, IsImageOf, IsRefusalOf, Shows, IsRefusedAs}
-use Rattle.flounder.specs.Words.{Asked, to_run, to_show, to_compile, AskFor, refusals}
+use Rattle.fl_cores.specs.declared.fault.CoresFault.{CoresFault}
+use Rattle.fl_cores.specs.declared.text.CoresEnd.{CoresEnd}
+use Rattle.fl_cores.specs.declared.text.CoresEnd.TheVariants as end
+use Rattle.fl_cores.specs.Promised.{Appends}
+use Rattle.flounder.specs.Status.{cores_status}
+use Rattle.flounder.specs.Words.{Asked, to_run, to_show, to_compile, to_run_cores, AskFor, refusals}
 use Rattle.flounder.specs.Deeds.{Deed, was_read, was_not_read, was_written, was_not_written}
 use Rattle.flounder.specs.Streams.{Output, Streams, Puts, PutsPrefix, Prints, IsUntouched, IsUnread}
 
@@ -123,6 +128,52 @@ pub record NotFlushed (io : Streams) (status : ℕ) : Type 0 where
 abbrev pub Execs : Streams → ℕ → Type 0
 Execs io status = Ran io status ⊎ (CutShort io status ⊎ NotFlushed io status)
 
+-- ---- cores FILE --turns N
+
+-- a text is all that is told of a cores file: its report, or the line that is refused
+abbrev pub IsTold : List ℕ → ℕ → CoresEnd → List ℕ → Type 0
+IsTold bytes turns end told = Appends bytes turns end [] told
+
+-- 0 where all cores finished, 2 where a line is refused, 5 where the turns of a core were used up
+abbrev pub end_status : CoresEnd → ℕ
+end_status end.Complete = 0
+end_status end.Refused = 2
+end_status end.TurnsOut = 5
+
+-- FILE was read and run, and what is told of that was printed
+pub record CoresRan (file : List ℕ) (turns : ℕ) (output : Output) (deeds : List Deed) (status : ℕ) : Type 0 where
+  pub bytes : List ℕ
+  pub end : CoresEnd
+  pub told : List ℕ
+  pub is_told : IsTold bytes turns end told
+  pub printed : Prints output told
+  pub done : deeds ≡ was_read file bytes ∷ []
+  pub ends : status ≡ end_status end
+
+-- FILE was read and run, and a prefix of what is told of that was put; the rest couldn't be put or written out
+pub record CoresUntold (file : List ℕ) (turns : ℕ) (output : Output) (deeds : List Deed) (status : ℕ) : Type 0 where
+  pub bytes : List ℕ
+  pub end : CoresEnd
+  pub told : List ℕ
+  pub is_told : IsTold bytes turns end told
+  pub put : PutsPrefix output told
+  pub done : deeds ≡ was_read file bytes ∷ []
+  pub ends : status ≡ 4
+
+-- FILE was read, and nothing was put: its run came to no report, for want of memory or of a thread (3) or as a part of it is refused (2)
+pub record CoresFailed (file : List ℕ) (output : Output) (deeds : List Deed) (status : ℕ) : Type 0 where
+  pub bytes : List ℕ
+  pub fault : CoresFault
+  pub printed : IsUntouched output
+  pub done : deeds ≡ was_read file bytes ∷ []
+  pub ends : status ≡ cores_status fault
+
+abbrev pub RunsCores : List ℕ → ℕ → Output → ℕ → List Deed → Type 0
+RunsCores file turns output status deeds =
+    CoresRan file turns output deeds status
+    ⊎ ((IsUntouched output × Unread file deeds status)
+    ⊎ (CoresUntold file turns output deeds status ⊎ CoresFailed file output deeds status))
+
 -- ---- no command
 
 -- help was asked for: its text was printed (0), or a prefix of it was put (4); or memory was refused before (3)
@@ -143,6 +194,7 @@ abbrev pub Performs : Asked → Streams → ℕ → List Deed → Type 0
 Performs to_run io status deeds = (deeds ≡ []) × Execs io status
 Performs (to_show file) io status deeds = IsUnread io × Views file io.output status deeds
 Performs (to_compile file out) io status deeds = IsUnread io × IsUntouched io.output × Compiles file out status deeds
+Performs (to_run_cores file turns) io status deeds = IsUnread io × RunsCores file turns io.output status deeds
 
 -- the words ask for something, and it was done
 pub record DoesAsked (words : List Text) (io : Streams) (status : ℕ) (deeds : List Deed) : Type 0 where

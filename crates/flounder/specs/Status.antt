@@ -1,11 +1,20 @@
 -- The statuses with which the program ends.
 use Rattle.std.specs.Prelude.{ℕ}
 use Rattle.fl_transcript.specs.Reading as script
+use Rattle.fl_cores.specs.declared.fault.CoresFault.{CoresFault}
+use Rattle.fl_cores.specs.declared.fault.CoresFault.TheVariants as fault
 use Rattle.fl_show.specs.Content as shown
 use Rattle.flounder.specs.declared.fault.Fault.{Fault}
-use Rattle.flounder.specs.declared.fault.Fault.TheVariants.{Usage, Words, Unread, Show, Unmade, Exec, Unwritten, Memory}
+use Rattle.flounder.specs.declared.fault.Fault.TheVariants.{Usage, Words, Unread, Show, Unmade, Exec, Line, TurnsOut, Cores, Unwritten, Memory}
 
--- 1 usage, 2 a content that is refused, 3 out of memory, 4 a read or a write that failed
+-- where a run of cores came to no report: 2 where a part of it is refused, 3 when out of memory or of threads
+abbrev pub cores_status : CoresFault → ℕ
+cores_status (fault.Setup number place) = 2
+cores_status (fault.Job number place) = 2
+cores_status fault.Memory = 3
+cores_status fault.Thread = 3
+
+-- 1 usage, 2 a content that is refused, 3 out of memory or of threads, 4 a read or a write that failed, 5 turns that were used up
 abbrev pub status_of : Fault → ℕ
 status_of (Usage e) = 1
 status_of (Words e) = 1
@@ -13,5 +22,8 @@ status_of (Unread file e) = 4
 status_of (Show refused) = shown.status_of refused.fault
 status_of (Unmade file e) = 4
 status_of (Exec f) = script.status_of f
+status_of (Line file) = 2
+status_of (TurnsOut turns) = 5
+status_of (Cores f) = cores_status f
 status_of (Unwritten e) = 4
 status_of Memory = 3

@@ -5,9 +5,11 @@ ghost use Rattle.flounder.specs.Deeds.{Adds, deed_of};
 
 use crate::files::FileStore;
 use crate::run::run;
-use std::alloc::{AllocError, Global};
+use std::alloc::{AllocError, AllocGlobal, Global};
 use std::io;
 use std::io::BufWriter;
+use std::sync::Wait;
+use std::thread::Threads;
 
 // A deed, as the desk writes it down.
 #[derive(Drop)]
@@ -181,12 +183,26 @@ const IMAGE: &[u8] = &[
 const REFUSED: &[u8] = b"interface i { message m(cap c); }";
 
 // A run without standard input, of which nothing is printed: each write fails, at once.
-fn go(alloc: Global, words: &[&str], desk: &mut Desk, errors: &mut Vec<u8>) -> u8 {
+fn go<T: Threads + Wait + AllocGlobal + Sync>(
+    rt: &T,
+    words: &[&str],
+    desk: &mut Desk,
+    errors: &mut Vec<u8>,
+) -> u8 {
+    let alloc = rt.alloc();
     let mut page = [0; 0];
     let Ok(mut output) = BufWriter::with_capacity(alloc, 0, page.as_mut_slice()) else {
         return 255;
     };
-    run(alloc, words, desk, &mut b"".as_slice(), &mut output, errors)
+    run(
+        rt,
+        alloc,
+        words,
+        desk,
+        &mut b"".as_slice(),
+        &mut output,
+        errors,
+    )
 }
 
 const WORDS: [&str; 4] = ["flounder", "compile", "in.if", "out"];
@@ -195,7 +211,7 @@ const WORDS: [&str; 4] = ["flounder", "compile", "in.if", "out"];
 fn an_image_is_written(rt: HostRuntime) {
     let mut desk = Desk::new(rt.alloc(), PING, None, None);
     let mut errors = Vec::new(rt.alloc());
-    assert_eq!(rt; go(rt.alloc(), &WORDS, &mut desk, &mut errors), 0);
+    assert_eq!(rt; go(&rt, &WORDS, &mut desk, &mut errors), 0);
     assert_eq!(rt; desk.written(), IMAGE);
     assert_eq!(rt; desk.writes, 1);
     assert!(rt; errors.is_empty());
@@ -205,7 +221,7 @@ fn an_image_is_written(rt: HostRuntime) {
 fn a_text_that_is_refused_writes_nothing(rt: HostRuntime) {
     let mut desk = Desk::new(rt.alloc(), REFUSED, None, None);
     let mut errors = Vec::new(rt.alloc());
-    assert_eq!(rt; go(rt.alloc(), &WORDS, &mut desk, &mut errors), 2);
+    assert_eq!(rt; go(&rt, &WORDS, &mut desk, &mut errors), 2);
     let told = b"\
 E14 at 24
 in.if:1:25: messages carry no capabilities
@@ -221,7 +237,7 @@ help: leave the argument out
 fn an_image_is_not_compiled(rt: HostRuntime) {
     let mut desk = Desk::new(rt.alloc(), b"FLND\x02\x00", None, None);
     let mut errors = Vec::new(rt.alloc());
-    assert_eq!(rt; go(rt.alloc(), &WORDS, &mut desk, &mut errors), 2);
+    assert_eq!(rt; go(&rt, &WORDS, &mut desk, &mut errors), 2);
     let told = b"\
 E1 at 4
 in.if:1:5: no token begins with this byte
@@ -246,14 +262,14 @@ fn the_first_fault_of_compile_counts(rt: HostRuntime) {
     ] {
         let mut desk = Desk::new(rt.alloc(), content, unread, unwritten);
         let mut errors = Vec::new(rt.alloc());
-        assert_eq!(rt; go(rt.alloc(), &WORDS, &mut desk, &mut errors), status);
+        assert_eq!(rt; go(&rt, &WORDS, &mut desk, &mut errors), status);
         assert_eq!(rt; desk.writes, writes);
         assert!(rt; !errors.is_empty());
     }
     let mut desk = Desk::new(rt.alloc(), REFUSED, other, other);
     let mut errors = Vec::new(rt.alloc());
     let words = ["flounder", "compile", "in.if"];
-    assert_eq!(rt; go(rt.alloc(), &words, &mut desk, &mut errors), 1);
+    assert_eq!(rt; go(&rt, &words, &mut desk, &mut errors), 1);
     assert_eq!(rt; desk.writes, 0);
 }
 
@@ -262,7 +278,7 @@ fn the_first_fault_of_compile_counts(rt: HostRuntime) {
 fn compiled_without_memory(rt: HostRuntime) {
     let mut desk = Desk::new(rt.alloc(), PING, None, None);
     let mut errors = Vec::new(rt.alloc());
-    match go(rt.alloc(), &WORDS, &mut desk, &mut errors) {
+    match go(&rt, &WORDS, &mut desk, &mut errors) {
         0 => assert_eq!(rt; desk.written(), IMAGE),
         status => {
             assert_eq!(rt; status, 3);

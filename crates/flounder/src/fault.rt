@@ -1,9 +1,10 @@
 //! Why the program doesn't end well.
 
 ghost use Rattle.std.specs.Prelude.{◌≡◌};
-ghost use Rattle.flounder.specs.Status.{status_of};
+ghost use Rattle.flounder.specs.Status.{cores_status, status_of};
 
 use crate::told::RefusedFile;
+use fl_cores::CoresFault;
 use fl_transcript::ExecFault;
 use std::io;
 use thiserror::Error;
@@ -29,6 +30,15 @@ pub enum Fault<'a> {
     /// The script was cut short.
     #[error("{0}\n")]
     Exec(ExecFault),
+    /// A line of the cores file is refused. Standard output names it.
+    #[error("{file}: nothing was run, since a line is refused; docs/FAULTS.md says of its fault what to do\n")]
+    Line { file: &'a str },
+    /// A core hadn't finished when its turns were used up.
+    #[error("a core had not finished after {turns} turns; docs/CORES.md says how to choose the number\n")]
+    TurnsOut { turns: u64 },
+    /// A run of cores came to no report.
+    #[error("{0}\n")]
+    Cores(CoresFault),
     /// Standard output takes no more.
     #[error("standard output could not be written: {0}\n")]
     Unwritten(io::Error),
@@ -38,8 +48,8 @@ pub enum Fault<'a> {
 }
 
 impl Fault<'_> {
-    /// The status with which the program ends: 1 usage, 2 a content that is refused, 3 out of memory, 4 a read or
-    /// a write that failed.
+    /// The status with which the program ends: 1 usage, 2 a content that is refused, 3 out of memory or of threads,
+    /// 4 a read or a write that failed, 5 turns that were used up.
     pub fn status(&self) -> u8
         ensures status { result ≡ status_of self.now }
     {
@@ -50,8 +60,23 @@ impl Fault<'_> {
             Fault::Show(refused) => refused.fault.status(),
             Fault::Unmade { file: _, error: _ } => 4,
             Fault::Exec(fault) => fault.number(),
+            Fault::Line { file: _ } => 2,
+            Fault::TurnsOut { turns: _ } => 5,
+            Fault::Cores(fault) => cores_status(*fault),
             Fault::Unwritten(_) => 4,
             Fault::Memory => 3,
         }
+    }
+}
+
+// The status where a run of cores came to no report: 2 where a part of it is refused, 3 out of memory or of threads.
+fn cores_status(fault: CoresFault) -> u8
+    ensures status { result ≡ cores_status fault }
+{
+    match fault {
+        CoresFault::Setup { .. } => 2,
+        CoresFault::Job { .. } => 2,
+        CoresFault::Memory => 3,
+        CoresFault::Thread => 3,
     }
 }

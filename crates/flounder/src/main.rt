@@ -1,6 +1,7 @@
 //! `flounder`: the message system's program. `flounder exec`, also without a word, runs the script on
 //! standard input and writes its transcript to standard output; `flounder show FILE` prints the plan table of
-//! an interface's text or of an image; `flounder compile FILE OUT` writes the image of a text.
+//! an interface's text or of an image; `flounder compile FILE OUT` writes the image of a text; `flounder cores
+//! FILE --turns N` runs a cores file, with a thread for each core.
 #![tactic(auto)]
 
 mod fault;
@@ -20,6 +21,8 @@ use std::process::ExitCode;
 #[cfg(test)]
 mod compile_tests;
 #[cfg(test)]
+mod cores_tests;
+#[cfg(test)]
 mod tests;
 
 fn main(rt: HostRuntime) -> ExitCode {
@@ -36,6 +39,7 @@ fn main(rt: HostRuntime) -> ExitCode {
         return ExitCode::from(finish(Err(Fault::Memory), &mut errors));
     };
     let status = run(
+        &rt,
         alloc,
         &words,
         &mut Disk(&rt),

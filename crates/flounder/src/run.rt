@@ -11,13 +11,16 @@ ghost use Rattle.fl_show.specs.Content.{status_of as shown_status};
 ghost use Rattle.flounder.specs.Status.{status_of};
 ghost use Rattle.flounder.specs.Deeds.{Does};
 ghost use Rattle.flounder.specs.Streams.{output_of, streams_of, PutsPrefix, Prints};
-ghost use Rattle.flounder.specs.Commands.{failed_status, no_words_status, Compiles, Views, Execs, Helps, Performs, Runs};
+ghost use Rattle.flounder.specs.Commands.{failed_status, no_words_status, Compiles, Views, Execs, Helps, Performs, RunsCores, Runs, end_status};
 
 use crate::fault::Fault;
 use crate::files::FileStore;
 use crate::told::RefusedFile;
 use crate::words::{Request, read_words};
 use clap::error::ErrorKind;
+use fl_base::CoreId;
+use fl_cores::{CoresEnd, run_cores_text};
+use fl_running::Gate;
 use fl_show::{ShowFault, compile_text, show_content};
 use fl_system::World;
 use fl_transcript::{ExecFault, exec};
@@ -25,13 +28,24 @@ use std::alloc::Global;
 use std::convert::AsStr;
 use std::io;
 use std::io::{BufWriter, Read, Write};
+use std::sync::Wait;
+use std::thread::Threads;
+
+// Cores go on at once.
+#[derive(Clone, Copy)]
+struct NoGate;
+
+impl Gate for NoGate {
+    fn before_turn(&self, _core: CoreId) {}
+}
 
 /// Does what the words ask for, and answers the status. All that is printed has reached the writer behind `output`
 /// where the status is 0.
 ///
 /// Faults are found in the order usage, reading the file, its content, writing; out of memory where it happens.
 /// Only the first is told, on `errors`.
-pub fn run<S: AsStr, F: FileStore, R: Read, W: Write + Drop, E: Write>(
+pub fn run<T: Threads + Wait + Sync, S: AsStr, F: FileStore, R: Read, W: Write + Drop, E: Write>(
+    rt: &T,
     alloc: Global,
     words: &[S],
     files: &mut F,
@@ -43,13 +57,14 @@ pub fn run<S: AsStr, F: FileStore, R: Read, W: Write + Drop, E: Write>(
         (Runs (map S.text words.entry.now) (streams_of R.remaining W.contents input.old input.new output.old output.new) result) }
 {
     match read_words(alloc, words) {
-        Ok(request) => perform(alloc, request, files, input, output, errors),
+        Ok(request) => perform(rt, alloc, request, files, input, output, errors),
         Err(error) => finish(tell_usage(alloc, error, output), errors),
     }
 }
 
 /// Does what was asked for, and answers the status.
-pub fn perform<F: FileStore, R: Read, W: Write + Drop, E: Write>(
+pub fn perform<T: Threads + Wait + Sync, F: FileStore, R: Read, W: Write + Drop, E: Write>(
+    rt: &T,
     alloc: Global,
     request: Request<'_>,
     files: &mut F,
@@ -64,6 +79,9 @@ pub fn perform<F: FileStore, R: Read, W: Write + Drop, E: Write>(
         Request::Exec => run_script(alloc, input, output, errors),
         Request::Show { file } => show_file(alloc, file, files, output, errors),
         Request::Compile { file, out } => compile_file(alloc, file, out, files, errors),
+        Request::Cores { file, turns } => {
+            cores_file(rt, alloc, file, turns, files, output, errors)
+        }
     }
 }
 
@@ -148,6 +166,46 @@ pub fn compile_file<F: FileStore, E: Write>(
     match files.write(out, &image) {
         Ok(()) => 0,
         Err(error) => finish(Err(unmade(out, error)), errors),
+    }
+}
+
+/// `cores FILE --turns N`: runs a cores file on threads, and prints what is told of that: the report, or the line
+/// that is refused.
+pub fn cores_file<T: Threads + Wait + Sync, F: FileStore, W: Write + Drop, E: Write>(
+    rt: &T,
+    alloc: Global,
+    file: &str,
+    turns: u64,
+    files: &mut F,
+    output: &mut BufWriter<W>,
+    errors: &mut E,
+) -> u8
+    ensures ran { Does (F.deeds files.old) (F.deeds files.new)
+        (RunsCores file.now turns (output_of W.contents output.old output.new) result) }
+{
+    let content = match files.read(alloc, file) {
+        Ok(content) => content,
+        Err(error) => return finish(Err(unread(file, error)), errors),
+    };
+    let mut told = Vec::new(alloc);
+    let end = match run_cores_text(rt, alloc, &content, turns, &NoGate, &mut told) {
+        Ok(end) => end,
+        Err(fault) => return finish(Err(Fault::Cores(fault)), errors),
+    };
+    match put(&told, output) {
+        Ok(()) => finish(outcome_of(file, turns, end), errors),
+        Err(error) => finish(Err(Fault::Unwritten(error)), errors),
+    }
+}
+
+/// What is wrong where the cores of a file didn't all finish.
+pub fn outcome_of(file: &str, turns: u64, end: CoresEnd) -> Result<(), Fault<'_>>
+    ensures status { MatchResult result (λ _. end_status end ≡ 0) (λ fault. status_of fault ≡ end_status end) }
+{
+    match end {
+        CoresEnd::Complete => Ok(()),
+        CoresEnd::Refused => Err(Fault::Line { file }),
+        CoresEnd::TurnsOut => Err(Fault::TurnsOut { turns }),
     }
 }
 

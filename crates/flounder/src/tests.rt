@@ -3,14 +3,16 @@
 use crate::fault::Fault;
 use crate::files::FileStore;
 use crate::run::{finish, no_words, run};
-use std::alloc::Global;
+use std::alloc::{AllocGlobal, Global};
 use std::io;
 use std::io::{BufWriter, Read, Write};
+use std::sync::Wait;
 use std::test::Fail;
+use std::thread::Threads;
 
 // One file, of this name; reading it may fail. No other can be written.
 #[derive(Clone, Copy)]
-enum Shelf {
+pub(crate) enum Shelf {
     Holds(&'static str, &'static [u8]),
     Fails(io::ErrorKind),
 }
@@ -66,33 +68,45 @@ const MIXED: Shelf = Shelf::Holds(
 const REFUSED: Shelf = Shelf::Holds("cap.if", b"interface i { message m(cap c); }");
 
 // A run, as `main` makes it. What it leaves in the buffer of standard output is lost.
-fn run_on<R: Read, W: Write + Drop>(
-    alloc: Global,
+fn run_on<T: Threads + Wait + AllocGlobal + Sync, R: Read, W: Write + Drop>(
+    rt: &T,
     words: &[&str],
     shelf: &Shelf,
     input: &mut R,
     output: W,
     errors: &mut Vec<u8>,
 ) -> u8 {
+    let alloc = rt.alloc();
     let Ok(mut output) = BufWriter::new(alloc, output) else {
         return finish(Err(Fault::Memory), errors);
     };
     let mut shelf = *shelf;
-    let status = run(alloc, words, &mut shelf, input, &mut output, errors);
+    let status = run(rt, alloc, words, &mut shelf, input, &mut output, errors);
     let _left = output.into_parts();
     status
 }
 
 // A run without standard input.
-fn go(alloc: Global, words: &[&str], shelf: &Shelf, out: &mut Vec<u8>, err: &mut Vec<u8>) -> u8 {
-    run_on(alloc, words, shelf, &mut b"".as_slice(), out, err)
+pub(crate) fn go<T: Threads + Wait + AllocGlobal + Sync>(
+    rt: &T,
+    words: &[&str],
+    shelf: &Shelf,
+    out: &mut Vec<u8>,
+    err: &mut Vec<u8>,
+) -> u8 {
+    run_on(rt, words, shelf, &mut b"".as_slice(), out, err)
 }
 
 // A run whose standard output takes so many bytes.
-fn into(alloc: Global, words: &[&str], shelf: &Shelf, room: usize) -> u8 {
-    let mut errors = Vec::new(alloc);
+pub(crate) fn into<T: Threads + Wait + AllocGlobal + Sync>(
+    rt: &T,
+    words: &[&str],
+    shelf: &Shelf,
+    room: usize,
+) -> u8 {
+    let mut errors = Vec::new(rt.alloc());
     run_on(
-        alloc,
+        rt,
         words,
         shelf,
         &mut b"".as_slice(),
@@ -105,7 +119,7 @@ fn into(alloc: Global, words: &[&str], shelf: &Shelf, room: usize) -> u8 {
 fn the_table_of_a_text(rt: HostRuntime) {
     let (mut out, mut err) = (Vec::new(rt.alloc()), Vec::new(rt.alloc()));
     let status = go(
-        rt.alloc(),
+        &rt,
         &["flounder", "show", "mixed.if"],
         &MIXED,
         &mut out,
@@ -128,7 +142,7 @@ arg 2 at 0 fixed 2
 fn a_text_that_is_refused(rt: HostRuntime) {
     let (mut out, mut err) = (Vec::new(rt.alloc()), Vec::new(rt.alloc()));
     let status = go(
-        rt.alloc(),
+        &rt,
         &["flounder", "show", "cap.if"],
         &REFUSED,
         &mut out,
@@ -179,13 +193,7 @@ fn a_text_of_no_language(rt: HostRuntime) {
         let (mut out, mut err) = (Vec::new(rt.alloc()), Vec::new(rt.alloc()));
         let shelf = Shelf::Holds("x", content);
         assert_eq!(rt;
-            go(
-                rt.alloc(),
-                &["flounder", "show", "x"],
-                &shelf,
-                &mut out,
-                &mut err
-            ),
+            go(&rt, &["flounder", "show", "x"], &shelf, &mut out, &mut err),
             2
         );
         assert!(rt; err.as_slice() == told);
@@ -206,7 +214,7 @@ fn words_that_are_no_command(rt: HostRuntime) {
         &["flounder", "compile", "cap.if", "out", "more"],
     ] {
         let (mut out, mut err) = (Vec::new(rt.alloc()), Vec::new(rt.alloc()));
-        assert_eq!(rt; go(rt.alloc(), words, &REFUSED, &mut out, &mut err), 1);
+        assert_eq!(rt; go(&rt, words, &REFUSED, &mut out, &mut err), 1);
         assert!(rt; out.is_empty());
         assert!(rt; !err.is_empty());
     }
@@ -232,12 +240,13 @@ fn help_is_written(rt: HostRuntime) {
         &["flounder", "exec", "--help"],
         &["flounder", "show", "--help"],
         &["flounder", "compile", "--help"],
+        &["flounder", "cores", "--help"],
     ] {
         let (mut out, mut err) = (Vec::new(rt.alloc()), Vec::new(rt.alloc()));
-        assert_eq!(rt; go(rt.alloc(), words, &MIXED, &mut out, &mut err), 0);
+        assert_eq!(rt; go(&rt, words, &MIXED, &mut out, &mut err), 0);
         assert!(rt; out.len() > 200);
         assert!(rt; err.is_empty());
-        assert_eq!(rt; into(rt.alloc(), words, &MIXED, 10), 4);
+        assert_eq!(rt; into(&rt, words, &MIXED, 10), 4);
     }
 }
 
@@ -249,16 +258,16 @@ fn the_first_fault_counts(rt: HostRuntime) {
         Shelf::Fails(io::ErrorKind::OutOfMemory),
     );
     let show = ["flounder", "show", "cap.if"];
-    assert_eq!(rt; into(rt.alloc(), &["flounder", "show"], &unread, 0), 1);
-    assert_eq!(rt; into(rt.alloc(), &show, &unread, 0), 4);
-    assert_eq!(rt; into(rt.alloc(), &show, &MIXED, 0), 4);
-    assert_eq!(rt; into(rt.alloc(), &show, &no_room, 0), 3);
-    assert_eq!(rt; into(rt.alloc(), &show, &REFUSED, 0), 2);
+    assert_eq!(rt; into(&rt, &["flounder", "show"], &unread, 0), 1);
+    assert_eq!(rt; into(&rt, &show, &unread, 0), 4);
+    assert_eq!(rt; into(&rt, &show, &MIXED, 0), 4);
+    assert_eq!(rt; into(&rt, &show, &no_room, 0), 3);
+    assert_eq!(rt; into(&rt, &show, &REFUSED, 0), 2);
     let table = ["flounder", "show", "mixed.if"];
     for room in [0, 1, 131] {
-        assert_eq!(rt; into(rt.alloc(), &table, &MIXED, room), 4);
+        assert_eq!(rt; into(&rt, &table, &MIXED, room), 4);
     }
-    assert_eq!(rt; into(rt.alloc(), &table, &MIXED, 132), 0);
+    assert_eq!(rt; into(&rt, &table, &MIXED, 132), 0);
 }
 
 const SCRIPT: &[u8] = b"disp d 0\ndisp d 0\nnope\n";
@@ -271,7 +280,7 @@ fn scripts_are_run(rt: HostRuntime) {
     for words in [["flounder"].as_slice(), &["flounder", "exec"]] {
         let (mut out, mut err) = (Vec::new(rt.alloc()), Vec::new(rt.alloc()));
         let mut script = SCRIPT;
-        let status = run_on(rt.alloc(), words, &MIXED, &mut script, &mut out, &mut err);
+        let status = run_on(&rt, words, &MIXED, &mut script, &mut out, &mut err);
         assert_eq!(rt; status, 0);
         assert!(rt; out.as_slice() == TRANSCRIPT);
         assert!(rt; err.is_empty());
@@ -283,14 +292,7 @@ fn scripts_are_run(rt: HostRuntime) {
 fn scripts_that_are_not_read(rt: HostRuntime) {
     let (mut out, mut err) = (Vec::new(rt.alloc()), Vec::new(rt.alloc()));
     let words = ["flounder", "exec"];
-    let status = run_on(
-        rt.alloc(),
-        &words,
-        &MIXED,
-        &mut NoSource,
-        &mut out,
-        &mut err,
-    );
+    let status = run_on(&rt, &words, &MIXED, &mut NoSource, &mut out, &mut err);
     assert_eq!(rt; status, 4);
     assert!(rt; out.is_empty());
     assert!(rt; !err.is_empty());
@@ -305,7 +307,7 @@ fn scripts_that_are_not_written(rt: HostRuntime) {
         let mut err = Vec::new(rt.alloc());
         let mut script = SCRIPT;
         let output = &mut page[..room];
-        let status = run_on(rt.alloc(), &words, &MIXED, &mut script, output, &mut err);
+        let status = run_on(&rt, &words, &MIXED, &mut script, output, &mut err);
         assert_eq!(rt; status, 4);
         assert!(rt; TRANSCRIPT.starts_with(&page[..room]));
         assert!(rt; !err.is_empty());
@@ -323,13 +325,13 @@ fn long_transcripts(rt: HostRuntime) -> Result<(), Fail> {
     }
     let (mut out, mut err) = (Vec::new(rt.alloc()), Vec::new(rt.alloc()));
     let mut script = text.as_slice();
-    let status = run_on(rt.alloc(), &words, &MIXED, &mut script, &mut out, &mut err);
+    let status = run_on(&rt, &words, &MIXED, &mut script, &mut out, &mut err);
     assert_eq!(rt; status, 0);
     assert!(rt; out.as_slice() == told.as_slice());
     for room in [0, 8_200, 35_999] {
         let mut script = text.as_slice();
         let output = Narrow(room);
-        let status = run_on(rt.alloc(), &words, &MIXED, &mut script, output, &mut err);
+        let status = run_on(&rt, &words, &MIXED, &mut script, output, &mut err);
         assert_eq!(rt; status, 4);
     }
     Ok(())

@@ -1,10 +1,12 @@
 //! The words of the command line, read by `clap`.
 
-ghost use Rattle.std.specs.Prelude.{◌≡◌, ℕ, map, option_map, IfOk, Some, codes};
-ghost use Rattle.clap.specs.Words.{FailsBy, first_of, found_of, rows_of, subcommand_rows_of};
+ghost use Rattle.std.specs.Prelude.{◌≡◌, false, map, option_map, IfOk, Some, codes};
+ghost use Rattle.clap.specs.Words.{FailsBy, first_of, found_of, rows_of, rule_of, subcommand_rows_of};
 ghost use Rattle.flounder.specs.Words.{exec_command, bare_program, to_compile, show_command, compile_command, program, IsCommand};
+ghost use Rattle.flounder.specs.Words.{turns_option, cores_with_file, cores_command, cores_asked, turns_asked, to_run_cores};
 ghost use Rattle.flounder.specs.Words.{asked_by, show_asked, compile_asked, command_asked, asked_of, asks_for, refusals};
 
+use clap::builder::ValueParser;
 use clap::error::ErrorKind;
 use clap::{Arg, ArgMatches, Command, Error};
 use std::alloc::{AllocError, Global};
@@ -19,6 +21,8 @@ pub enum Request<'a> {
     Show { file: &'a str },
     /// Write the image of the interface in the one file to the other.
     Compile { file: &'a str, out: &'a str },
+    /// Run the cores file, with so many turns of a core counted at most.
+    Cores { file: &'a str, turns: u64 },
 }
 
 const EXEC: &str = "exec";
@@ -27,12 +31,21 @@ const SHOW: &str = "show";
 
 const COMPILE: &str = "compile";
 
+const CORES: &str = "cores";
+
 const FILE: &str = "FILE";
 
 const OUT: &str = "OUT";
 
+const TURNS: &str = "N";
+
+const LONG_TURNS: &str = "turns";
+
+// So many turns of a core may be counted.
+const MAX_TURNS: u64 = 1_000_000_000_000;
+
 const ABOUT: &str =
-    "Runs scripts of messages between dispatchers, compiles interfaces, and shows how they are laid out";
+    "Runs scripts of messages between dispatchers, also with threads, compiles interfaces, and shows how they are laid out";
 
 const STATUSES: &str = "\
 Without a command, flounder does what `flounder exec` does.
@@ -41,9 +54,11 @@ Status:
   0  done, whatever a script's lines answer
   1  the command line isn't of a form shown here
   2  the file's content is refused: the first line on standard error is the fault alone, as `E14 at 24` of a
-     text (its number, and its place in bytes) or `E82` of an image; the lines after it say it in words
-  3  out of memory
+     text (its number, and its place in bytes) or `E82` of an image; the lines after it say it in words; of a
+     cores file the line that is refused is told on standard output
+  3  out of memory, or of threads
   4  a read or a write failed
+  5  a core had something left to do after its N turns
 
 The first fault is answered, in this order: the command line, reading FILE, its content, writing. FILE is read
 whole first, so OUT is touched only where FILE was accepted. docs/FAULTS.md lists all faults.";
@@ -115,6 +130,34 @@ const HELP_TEXT: &str = "The interface's text";
 
 const HELP_OUT: &str = "The image; a file of that name is replaced";
 
+const ABOUT_CORES: &str = "Runs a cores file, with a thread for each core";
+
+const AFTER_CORES: &str = "\
+A cores file has the lines of a script that make things (idl, cores, link, disp, export, bind) and those that
+hand in work (reply, call). What they make is set up; then each core runs on a thread of its own and does what
+is handed in at its ends, until all is done, or a core has taken N turns:
+
+  idl
+  interface i { message ping(uint32 v); }
+  .
+  cores 2
+  disp d 0
+  disp e 1
+  export s e i
+  bind p d i s ump 4
+  call p.c ping(7)
+
+Standard output gets, for each binding in byte order of names, the calls that its ends handled, in order, or
+why its opening was refused; and last `complete`, or `turns out` (status 5) where a core had something left to
+do. A line that is refused is told alone, as `line 9 refused E44` (status 2), and nothing runs.
+
+FILE is read whole first. docs/CORES.md describes cores files, and how to choose N.";
+
+const HELP_CORES: &str = "The cores file";
+
+const HELP_TURNS: &str =
+    "How many turns of each core are counted at most, from 0 to 1,000,000,000,000";
+
 fn exec_command<'a>(alloc: Global) -> Command<'a>
     ensures is { IsCommand exec_command result }
 {
@@ -145,6 +188,33 @@ fn compile_command<'a>(alloc: Global) -> Result<Command<'a>, AllocError>
         .arg(out)
 }
 
+fn turns_option<'a>(alloc: Global) -> Arg<'a>
+    ensures rule { rule_of result ≡ turns_option }
+    ensures local { result.global ≡ false }
+{
+    Arg::new(alloc, TURNS)
+        .long(LONG_TURNS)
+        .required(true)
+        .value_parser(ValueParser::unsigned(0, MAX_TURNS))
+        .help(HELP_TURNS)
+}
+
+fn cores_with_file<'a>(alloc: Global) -> Result<Command<'a>, AllocError>
+    ensures is { IfOk result (IsCommand cores_with_file) }
+{
+    let file = Arg::new(alloc, FILE).required(true).help(HELP_CORES);
+    Command::new(alloc, CORES)
+        .about(ABOUT_CORES)
+        .after_help(AFTER_CORES)
+        .arg(file)
+}
+
+fn cores_command<'a>(alloc: Global) -> Result<Command<'a>, AllocError>
+    ensures is { IfOk result (IsCommand cores_command) }
+{
+    cores_with_file(alloc)?.arg(turns_option(alloc))
+}
+
 fn bare_program<'a>(alloc: Global) -> Command<'a>
     ensures is { IsCommand bare_program result }
 {
@@ -160,7 +230,8 @@ fn command<'a>(alloc: Global) -> Result<Command<'a>, AllocError>
     bare_program(alloc)
         .subcommand(exec_command(alloc))?
         .subcommand(compile_command(alloc)?)?
-        .subcommand(show_command(alloc)?)
+        .subcommand(show_command(alloc)?)?
+        .subcommand(cores_command(alloc)?)
 }
 
 /// What `show` is asked for, where its file was named.
@@ -193,6 +264,33 @@ fn compile_request<'a>(found: &ArgMatches<'a>) -> Option<Request<'a>>
     }
 }
 
+/// How many turns `cores` is to count, where that was told.
+fn turns_of(found: &ArgMatches<'_>) -> Option<u64>
+    ensures turns { result ≡ turns_asked (rows_of (found_of found.now)) }
+{
+    found.get_one(TURNS)
+}
+
+/// What `cores` is asked for of this file, where the number of turns was told.
+fn cores_with_request<'a>(file: &'a str, found: &ArgMatches<'a>) -> Option<Request<'a>>
+    ensures asked { option_map asked_by result ≡ option_map (to_run_cores file.now) (turns_asked (rows_of (found_of found.now))) }
+{
+    match turns_of(found) {
+        Some(turns) => Some(Request::Cores { file, turns }),
+        None => None,
+    }
+}
+
+/// What `cores` is asked for, where the file was named and the number of turns told.
+fn cores_request<'a>(found: &ArgMatches<'a>) -> Option<Request<'a>>
+    ensures asked { option_map asked_by result ≡ cores_asked (rows_of (found_of found.now)) }
+{
+    match found.get_str(FILE) {
+        Some(file) => cores_with_request(file, found),
+        None => None,
+    }
+}
+
 /// What a command of that name is asked for.
 fn command_request<'a>(name: &str, found: &ArgMatches<'a>) -> Option<Request<'a>>
     ensures asked { option_map asked_by result ≡ command_asked name.now (rows_of (found_of found.now)) }
@@ -201,6 +299,8 @@ fn command_request<'a>(name: &str, found: &ArgMatches<'a>) -> Option<Request<'a>
         show_request(found)
     } else if name == COMPILE {
         compile_request(found)
+    } else if name == CORES {
+        cores_request(found)
     } else {
         Some(Request::Exec)
     }
@@ -231,7 +331,7 @@ pub fn read_words<'a, S: AsStr>(alloc: Global, words: &'a [S]) -> Result<Request
         Some(request) => Ok(request),
         None => Err(command.error(
             ErrorKind::MissingRequiredArgument,
-            "a file's name is missing",
+            "a file's name or a number is missing",
         )?),
     }
 }

@@ -1,6 +1,6 @@
 use Rattle.std.proofs.Common.{refl}
 use Rattle.flounder.specs.Streams.{streams_of}
-use Rattle.flounder.proofs.Doing.{performs_exec, performs_show, performs_compile}
+use Rattle.flounder.proofs.Doing.{performs_exec, performs_show, performs_compile, performs_cores}
 use Rattle.flounder.proofs.run.perform.Goals as goal
 
 pub returns-in-Exec : goal.returns-in-Exec
@@ -28,4 +28,13 @@ returns-in-Compile g c =
           performs_compile (g.F.FileStore.deeds c.args.files.now) (g.F.FileStore.deeds c.compile_file.new.files)
           (streams_of g.R.Read.remaining g.W.Write.contents c.args.input.now c.args.input.now c.args.output.now c.args.output.now)
           c.in-Compile.file.now c.in-Compile.out.now c.compile_file.result refl refl c.compile_file.ensures.compiled;
+    })
+
+pub returns-in-Cores : goal.returns-in-Cores
+returns-in-Cores g c =
+    rw c.in-Cores.is (record {
+      done =
+          performs_cores (g.F.FileStore.deeds c.args.files.now) (g.F.FileStore.deeds c.cores_file.new.files)
+          (streams_of g.R.Read.remaining g.W.Write.contents c.args.input.now c.args.input.now c.args.output.now c.cores_file.new.output)
+          c.in-Cores.file.now c.in-Cores.turns c.cores_file.result refl c.cores_file.ensures.ran;
     })

@@ -1,0 +1,18 @@
+//! Tests of cores files that are run with threads. Each has an answer that is certain: one core, a limit that is large enough, or a gate that says when cores go on.
+//!
+//! - `gates.rt`: gates
+//! - `texts.rt`: cores files, and what is told of them
+//! - `rows.rt`: worked examples
+//! - `openings.rt`: bindings that are opened while cores run
+//!
+//! `rt try --test --fail-alloc N` runs each with its Nth allocation refused: then each ends with its answer or with out of memory.
+#![tactic(auto)]
+
+#[cfg(test)]
+mod gates;
+#[cfg(test)]
+mod openings;
+#[cfg(test)]
+mod rows;
+#[cfg(test)]
+mod texts;

@@ -1,0 +1,185 @@
+//! Worked examples.
+
+use crate::gates::{Held, LockStep, Open, Together};
+use crate::texts::{Told, add, add_lines, run, skip_lines};
+use fl_cores::CoresEnd;
+use std::alloc::{AllocError, Global};
+use std::test::Fail;
+
+// So many turns are never used up.
+const MANY: u64 = 1_000_000_000;
+
+const PINGS: &[u8] = b"idl\ninterface i { message ping(uint32 v); }\n.\n";
+
+// Calls within a core: by its N-th turn it has handled N of them.
+const THREE_CALLS: &[u8] =
+    b"disp d 0\ndisp e 0\nexport s e i\nbind p d i s local 4\ncall p.c ping(1)\ncall p.c ping(2)\ncall p.c ping(3)\n";
+
+// Three cores in a row, and a binding over them.
+const ROW: &[u8] =
+    b"cores 3\nlink 0 1 4\nlink 1 2 4\ndisp d 0\ndisp e 2\nexport s e i\nbind p d i s hop 0 1 2\n";
+
+const BROKEN_ROW: &[u8] =
+    b"cores 3\nlink 0 1 4\ndisp d 0\ndisp e 2\nexport s e i\nbind p d i s hop 0 1 2\ncall p.c ping(1)\n";
+
+// Calls that are answered by a rule, over a ring.
+const ECHO: &[u8] =
+    b"idl\ninterface i { rpc echo(in uint32 x, out uint32 y); }\n.\ncores 2\ndisp d 0\ndisp e 1\nexport s e i\nbind p d i s ump 4\nreply p.s echo_call echo_response\ncall p.c echo_call(1)\ncall p.c echo_call(2)\ncall p.c echo_call(3)\n";
+
+const ECHOED: &[u8] =
+    b"handle p.c echo_response(1)\nhandle p.c echo_response(2)\nhandle p.c echo_response(3)\nhandle p.s echo_call(1)\nhandle p.s echo_call(2)\nhandle p.s echo_call(3)\ncomplete\n";
+
+// Eight lines, of which the last sets a rule.
+const RULED: &[u8] =
+    b"idl\ninterface i { message a(uint32 v); }\n.\ndisp d 0\ndisp e 0\nexport s e i\nbind p d i s local 4\nreply p.s a a\n";
+
+// Two parts of a text.
+fn joined(alloc: Global, one: &[u8], two: &[u8]) -> Result<Vec<u8>, AllocError> {
+    let mut text = Vec::new(alloc);
+    add(&mut text, one)?;
+    add(&mut text, two)?;
+    Ok(text)
+}
+
+// The row with 100 calls each way.
+fn both_ways(alloc: Global) -> Result<Vec<u8>, AllocError> {
+    let mut text = joined(alloc, PINGS, ROW)?;
+    add_lines(alloc, &mut text, "call p.c", (0, 100))?;
+    add_lines(alloc, &mut text, "call p.s", (100, 200))?;
+    Ok(text)
+}
+
+// What is told of it once all are handled.
+fn all_handled(alloc: Global) -> Result<Vec<u8>, AllocError> {
+    let mut text = Vec::new(alloc);
+    add_lines(alloc, &mut text, "handle p.c", (100, 200))?;
+    add_lines(alloc, &mut text, "handle p.s", (0, 100))?;
+    add(&mut text, b"complete\n")?;
+    Ok(text)
+}
+
+// How many calls were handled at the client and at the server where turns were used up.
+fn counts(alloc: Global, told: &Told) -> Result<Option<(u64, u64)>, AllocError> {
+    let (client, rest) = skip_lines(alloc, &told.text, "handle p.c", (100, 200))?;
+    let (server, rest) = skip_lines(alloc, rest, "handle p.s", (0, 100))?;
+    if rest == b"turns out\n".as_slice() && told.end == CoresEnd::TurnsOut {
+        return Ok(Some((client, server)));
+    }
+    Ok(None)
+}
+
+#[test]
+fn turns_of_one_core(rt: HostRuntime) -> Result<(), Fail> {
+    let text = joined(rt.alloc(), PINGS, THREE_CALLS)?;
+    let told = run(&rt, rt.alloc(), &text, 2, &Open)?;
+    assert_eq!(rt; told.end, CoresEnd::TurnsOut);
+    assert_eq!(rt;
+        told.text.as_slice(),
+        b"handle p.s ping(1)\nhandle p.s ping(2)\nturns out\n".as_slice()
+    );
+    let told = run(&rt, rt.alloc(), &text, 3, &Open)?;
+    assert_eq!(rt; told.end, CoresEnd::Complete);
+    assert_eq!(rt;
+        told.text.as_slice(),
+        b"handle p.s ping(1)\nhandle p.s ping(2)\nhandle p.s ping(3)\ncomplete\n".as_slice()
+    );
+    Ok(())
+}
+
+#[test]
+fn no_turns(rt: HostRuntime) -> Result<(), Fail> {
+    let text = both_ways(rt.alloc())?;
+    let told = run(&rt, rt.alloc(), &text, 0, &Open)?;
+    assert_eq!(rt; told.end, CoresEnd::TurnsOut);
+    assert_eq!(rt; told.text.as_slice(), b"turns out\n".as_slice());
+    Ok(())
+}
+
+#[test]
+fn three_cores_in_step(rt: HostRuntime) -> Result<(), Fail> {
+    let text = both_ways(rt.alloc())?;
+    let told = run(&rt, rt.alloc(), &text, MANY, &LockStep::new())?;
+    assert_eq!(rt; told.end, CoresEnd::Complete);
+    let wanted = all_handled(rt.alloc())?;
+    assert_eq!(rt; told.text.as_slice(), wanted.as_slice());
+    Ok(())
+}
+
+#[test]
+fn fifty_turns(rt: HostRuntime) -> Result<(), Fail> {
+    let text = both_ways(rt.alloc())?;
+    let told = run(&rt, rt.alloc(), &text, 50, &Open)?;
+    let few = match counts(rt.alloc(), &told)? {
+        Some((client, server)) => client <= 50 && server <= 50,
+        None => false,
+    };
+    assert!(rt; few);
+    Ok(())
+}
+
+// Each of the first two cores waits for the other's first turn, so that one thread for all would never go on.
+#[test]
+fn cores_run_side_by_side(rt: HostRuntime) -> Result<(), Fail> {
+    let text = both_ways(rt.alloc())?;
+    let gate = Together::new();
+    let told = run(&rt, rt.alloc(), &text, 50, &gate)?;
+    assert!(rt; !gate.wait.ran_out());
+    assert!(rt; counts(rt.alloc(), &told)?.is_some());
+    Ok(())
+}
+
+// Core 1 begins when core 0 has taken nearly all its turns: so next to nothing is handled, and nothing of that is told that wasn't.
+#[test]
+fn a_core_that_begins_late(rt: HostRuntime) -> Result<(), Fail> {
+    let text = both_ways(rt.alloc())?;
+    let gate = Held::new(50);
+    let told = run(&rt, rt.alloc(), &text, 50, &gate)?;
+    let few = match counts(rt.alloc(), &told)? {
+        Some((client, server)) => client <= 1 && server <= 5,
+        None => false,
+    };
+    assert!(rt; !gate.wait.ran_out());
+    assert!(rt; few);
+    Ok(())
+}
+
+#[test]
+fn replies_over_a_ring(rt: HostRuntime) -> Result<(), Fail> {
+    let told = run(&rt, rt.alloc(), ECHO, MANY, &Open)?;
+    assert_eq!(rt; told.end, CoresEnd::Complete);
+    assert_eq!(rt; told.text.as_slice(), ECHOED);
+    Ok(())
+}
+
+#[test]
+fn a_route_without_its_second_link(rt: HostRuntime) -> Result<(), Fail> {
+    let text = joined(rt.alloc(), PINGS, BROKEN_ROW)?;
+    let told = run(&rt, rt.alloc(), &text, MANY, &Open)?;
+    assert_eq!(rt; told.end, CoresEnd::Complete);
+    assert_eq!(rt;
+        told.text.as_slice(),
+        b"refused E73 p.c\ncomplete\n".as_slice()
+    );
+    Ok(())
+}
+
+#[test]
+fn refused_lines(rt: HostRuntime) -> Result<(), Fail> {
+    for (line, wanted) in [
+        (
+            b"call p.s a(1)\n".as_slice(),
+            b"line 9 refused E44\n".as_slice(),
+        ),
+        (
+            b"reply p.c a a\n".as_slice(),
+            b"line 9 refused E44\n".as_slice(),
+        ),
+        (b"turn d\n".as_slice(), b"line 9 refused E90\n".as_slice()),
+    ] {
+        let text = joined(rt.alloc(), RULED, line)?;
+        let told = run(&rt, rt.alloc(), &text, MANY, &Open)?;
+        assert_eq!(rt; told.end, CoresEnd::Refused);
+        assert_eq!(rt; told.text.as_slice(), wanted);
+    }
+    Ok(())
+}

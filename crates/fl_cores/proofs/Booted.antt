@@ -1,0 +1,69 @@
+-- What a set-up comes to, and why there may be no report.
+use Rattle.std.proofs.Common.{◌≡◌, refl, sym, ap, ◌∙◌, subst, ℕ, suc, ◌+◌, Bool, true, false, ◌&&◌, not, cond, nat_lt, List, [], ◌∷◌, length, map, Option, Some, None, arith}
+use Rattle.std.proofs.lemmas.List.{length-map}
+use Rattle.std.specs.List.{list_all, position, position_or_len}
+use Rattle.std.proofs.lemmas.Bool.Decides.{nat_tests}
+use Rattle.fl_lines.specs.declared.event.Event.{Event as RustEvent}
+use Rattle.fl_lines.specs.Events.{event_of}
+use Rattle.fl_queues.specs.Events.{Event}
+use Rattle.fl_worlds.specs.View.{TheWorld}
+use Rattle.fl_system.specs.declared.parts.Parts.{Parts}
+use Rattle.fl_system.specs.declared.booting.BootFault.{BootFault}
+use Rattle.fl_system.specs.declared.booting.BootFault.TheVariants as boot
+use Rattle.fl_system.specs.Apart.{is_making, AreParts}
+use Rattle.fl_system.specs.Booting.{TheConfig, Stands, IsFaultOf}
+use Rattle.fl_cores.specs.declared.fault.CoresFault.{CoresFault}
+use Rattle.fl_cores.specs.declared.fault.CoresFault.TheVariants.{Setup, Job, Memory, Thread}
+use Rattle.fl_cores.specs.Faults.{by_boot}
+use Rattle.fl_cores.specs.Promised.{is_other, asks_other, cores_by, IsAccepted, IsRefusedAt, IsRefused, IsFault, IsLater}
+
+-- ---- no other event: each makes something at once
+
+one_more : (b : Bool) (n m : ℕ) (rest : Bool) → (nat_lt n m ≡ false → rest ≡ true) → nat_lt (cond (not (not b)) (1 + n) 0) (suc m) ≡ false → (b && rest) ≡ true
+one_more true n m rest h e = h (grind (arith, nat_tests, e))
+one_more false n m rest h e = absurd (grind (arith, nat_tests, e))
+
+all_before : (events : List Event) → nat_lt (position_or_len is_other events) (length events) ≡ false → list_all is_making events ≡ true
+all_before [] e = refl
+all_before (v ∷ vs) e = one_more (is_making v) (position_or_len is_other vs) (length vs) (list_all is_making vs) (all_before vs) e
+
+none_found : (b : Bool) (n : ℕ) → cond b (Some n) None ≡ None → b ≡ false
+none_found true n e = absurd (cc)
+none_found false n e = refl
+
+pub all_making : (events : List Event) → position is_other events ≡ None → list_all is_making events ≡ true
+all_making events none = all_before events (none_found (nat_lt (position_or_len is_other events) (length events)) (position_or_len is_other events) none)
+
+-- ---- a world stands
+
+pub accepted : (c : TheConfig) (w : TheWorld) → position is_other c.setup ≡ None → Stands c w → IsAccepted c
+accepted c w making stands = record { cores = stands.0; making = making; passed = stands.1.passed }
+
+pub cores_are : (c : TheConfig) (w : TheWorld) (p : Parts) → Stands c w → AreParts w p → length p.cores.items ≡ cores_by c
+cores_are c w p stands parts = ap length parts.cores ∙ stands.1.shown.picture.cores.count
+
+-- ---- none does
+
+pub not_booted : (c : TheConfig) (fault : BootFault) → position is_other c.setup ≡ None → IsFaultOf c fault → IsFault c (by_boot fault)
+not_booted c (boot.Refused number place) making is = subst (λ late. IsRefusedAt c number place late) (sym making) is
+not_booted c boot.Memory making is = making
+
+-- a fault behind an accepted set-up
+pub late_fault : (c : TheConfig) (fault : CoresFault) → IsAccepted c → IsLater fault → IsFault c fault
+late_fault c (Setup number place) accepted later = absurd later
+late_fault c (Job number place) accepted later = accepted
+late_fault c Memory accepted later = accepted.making
+late_fault c Thread accepted later = accepted
+
+-- ---- the first other event
+
+first_of : {X Y : Type 0} (p : Y → Bool) (f : X → Y) (xs : List X) → position_or_len p (map f xs) ≡ position_or_len (λ x. p (f x)) xs
+first_of p f [] = refl
+first_of p f (x ∷ xs) = let rest = first_of p f xs in cc
+
+first_as : {X Y : Type 0} (p : Y → Bool) (f : X → Y) (xs : List X) → position p (map f xs) ≡ position (λ x. p (f x)) xs
+first_as p f xs = let place = first_of p f xs in let as_many = length-map xs f in cc
+
+-- seen through what an event shows
+pub first_is : (events : List RustEvent) → position is_other (map event_of events) ≡ position asks_other events
+first_is events = first_as is_other event_of events

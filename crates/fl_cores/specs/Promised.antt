@@ -1,0 +1,146 @@
+-- What is promised of a run of cores, beside what its report will be shown to say of calls.
+use Rattle.std.specs.Prelude.{ℕ, ◌≡◌, ◌+◌, ◌≤◌, Bool, true, false, not, List, ◌++◌, length, slice_get, Option, Some, None, position}
+use Rattle.std.specs.List.{list_all}
+use Rattle.fl_queues.specs.Given.{given}
+use Rattle.fl_queues.specs.Events.{Event}
+use Rattle.fl_lines.specs.declared.event.Event.{Event as RustEvent}
+use Rattle.fl_lines.specs.Events.{event_of}
+use Rattle.fl_queues.specs.State.{State}
+use Rattle.fl_queues.specs.Runs.{answers_to, reached}
+use Rattle.fl_queues.specs.Worlds.{start_with}
+use Rattle.fl_worlds.specs.View.{TheWorld}
+use Rattle.fl_jobs.specs.Jobs.{Job}
+use Rattle.fl_jobs.specs.CoresFile.{CoresFile, Outcome, Reads, is_file, refused_at}
+use Rattle.fl_jobs.specs.Report.{TheReport, Ending, complete, turns_out}
+use Rattle.fl_jobs.specs.Printed.{refusal_text, report_text}
+use Rattle.fl_system.specs.declared.booting.BootFault.TheVariants as boot
+use Rattle.fl_system.specs.declared.parts.Parts.{Parts}
+use Rattle.fl_system.specs.Apart.{is_making, AreParts}
+use Rattle.fl_system.specs.Booting.{TheConfig, has_bad_cores, passes, Stands, IsFaultOf}
+use Rattle.fl_dockets.specs.Rules.{RulesOf}
+use Rattle.fl_dockets.specs.State.{TheJoined, AreJoined}
+use Rattle.fl_dockets.specs.Whole.{AreBound, AreDue, IsBeside}
+use Rattle.fl_cores.specs.Begins.{TheStation, HasStations}
+use Rattle.fl_cores.specs.Tells.{TheOutcome, RanTo, Each2, Tells}
+use Rattle.fl_cores.specs.declared.fault.CoresFault.{CoresFault}
+use Rattle.fl_cores.specs.declared.fault.CoresFault.TheVariants as fault
+use Rattle.fl_cores.specs.declared.text.CoresEnd.{CoresEnd}
+use Rattle.fl_cores.specs.declared.text.CoresEnd.TheVariants as end
+
+-- ---- a set-up
+
+-- an event that isn't of a set-up
+abbrev pub is_other : Event → Bool
+is_other event = not (is_making event)
+
+abbrev pub asks_other : RustEvent → Bool
+asks_other event = is_other (event_of event)
+
+-- the number of cores that the machine has behind a set-up
+abbrev pub cores_by : TheConfig → ℕ
+cores_by c = length (reached (start_with c.cores) c.setup).cores
+
+-- a set-up is accepted: so many cores there may be, each event is of a set-up, and the machine refuses none
+pub record IsAccepted (c : TheConfig) : Type 0 where
+  pub cores : has_bad_cores c ≡ false
+  pub making : position is_other c.setup ≡ None
+  pub passed : list_all passes (answers_to (start_with c.cores) c.setup) ≡ true
+
+-- ---- a report
+
+pub record Keeps (cores limit : ℕ) (r : TheReport) : Type 0 where
+  -- there are as many turns as cores, and none above the limit
+  pub count : length r.turns ≡ cores
+  pub within : (core turns : ℕ) → slice_get r.turns core ≡ Some turns → turns ≤ limit
+  -- `turns out` only where a core took all its turns
+  pub out : r.ending ≡ turns_out → (core : ℕ) × (slice_get r.turns core ≡ Some limit)
+
+-- the set-up makes a world of these parts
+pub record Made (c : TheConfig) (p : Parts) : Type 0 where
+  pub world : TheWorld
+  pub stands : Stands c world
+  pub parts : AreParts world p
+
+-- each core of these parts ran by its plan from what it was given, and the report tells what came of that
+pub record CoresRan (p : Parts) (j : TheJoined) (limit : ℕ) (r : TheReport) : Type 0 where
+  pub stations : List TheStation
+  pub begin : HasStations p j stations
+  pub outcomes : List TheOutcome
+  pub ran : Each2 (RanTo j.jobs limit) stations outcomes
+  pub tells : Tells j outcomes r
+
+-- the jobs were joined to these parts, with the reply rules that are set at once, and then the cores ran
+pub record RanFrom (p : Parts) (jobs : List Job) (limit : ℕ) (r : TheReport) : Type 0 where
+  pub joined : TheJoined
+  pub are_joined : AreJoined (length p.cores.items) jobs joined
+  pub are_bound : AreBound p.bindings.items jobs joined
+  pub are_due : AreDue jobs joined
+  pub parts : Parts
+  pub rules : RulesOf p.bindings.items jobs p.cores.items parts.cores.items
+  pub beside : IsBeside p parts
+  pub ran : CoresRan parts joined limit r
+
+-- so what the set-up makes ran, with these jobs
+pub record Ran (c : TheConfig) (jobs : List Job) (limit : ℕ) (r : TheReport) : Type 0 where
+  pub parts : Parts
+  pub made : Made c parts
+  pub ran : RanFrom parts jobs limit r
+
+-- the set-up was accepted, and this is a report of a run of so many cores as it makes
+pub record Reports (c : TheConfig) (jobs : List Job) (limit : ℕ) (r : TheReport) : Type 0 where
+  pub accepted : IsAccepted c
+  pub keeps : Keeps (cores_by c) limit r
+  pub ran : Ran c jobs limit r
+
+-- ---- why there is none
+
+-- where the first event that isn't of a set-up stands, if there is one: that event is refused (E93), and else what the machine refuses
+abbrev pub IsRefusedAt : TheConfig → ℕ → ℕ → Option ℕ → Type 0
+IsRefusedAt c number place None = IsFaultOf c (boot.Refused number place)
+IsRefusedAt c number place (Some n) = (number ≡ 93) × (place ≡ n + 1)
+
+abbrev pub IsRefused : TheConfig → ℕ → ℕ → Type 0
+IsRefused c number place = IsRefusedAt c number place (position is_other c.setup)
+
+-- a job is refused, or a thread, only where the set-up isn't; and memory only where each event is of a set-up
+abbrev pub IsFault : TheConfig → CoresFault → Type 0
+IsFault c (fault.Setup number place) = IsRefused c number place
+IsFault c (fault.Job number place) = IsAccepted c
+IsFault c fault.Memory = position is_other c.setup ≡ None
+IsFault c fault.Thread = IsAccepted c
+
+-- a fault behind the set-up
+abbrev pub IsLater : CoresFault → Type 0
+IsLater (fault.Setup number place) = ⊥
+IsLater other = Unit {0}
+
+-- ---- a cores file
+
+abbrev pub config_in : CoresFile → TheConfig
+config_in f = record { cores = f.cores; setup = f.setup }
+
+abbrev pub ending_by : Ending → CoresEnd
+ending_by complete = end.Complete
+ending_by turns_out = end.TurnsOut
+
+-- behind what stood there its report is told
+pub record AppendsReport (file : CoresFile) (limit : ℕ) (e : CoresEnd) (before after : List ℕ) : Type 0 where
+  pub report : TheReport
+  pub reports : Reports (config_in file) file.jobs limit report
+  pub ending : e ≡ ending_by report.ending
+  pub rest : after ≡ before ++ report_text file report
+
+-- or the line that is refused
+pub record AppendsRefusal (line number : ℕ) (e : CoresEnd) (before after : List ℕ) : Type 0 where
+  pub ending : e ≡ end.Refused
+  pub rest : after ≡ before ++ refusal_text line number
+
+abbrev pub AppendsFor : Outcome → ℕ → CoresEnd → List ℕ → List ℕ → Type 0
+AppendsFor (is_file file) limit e before after = AppendsReport file limit e before after
+AppendsFor (refused_at line number) limit e before after = AppendsRefusal line number e before after
+
+-- whatever a text comes to
+pub record Appends (text : List ℕ) (limit : ℕ) (e : CoresEnd) (before after : List ℕ) : Type 0 where
+  pub outcome : Outcome
+  pub reads : Reads text outcome
+  pub appends : AppendsFor outcome limit e before after

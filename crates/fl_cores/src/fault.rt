@@ -1,0 +1,85 @@
+//! Why there is no report.
+
+ghost use Rattle.std.specs.Prelude.{◌≡◌};
+ghost use Rattle.fl_cores.specs.declared.fault.CoresFault.TheVariants.{Memory as OutOfMemory};
+ghost use Rattle.fl_cores.specs.Faults.{by_boot, by_job, by_stop};
+
+use fl_dockets::JobFault;
+use fl_system::BootFault;
+use std::alloc::{AllocError, AllocFailed};
+use thiserror::Error;
+
+/// Why there is no report of a run of cores. Every thread was joined then.
+#[derive(Clone, Copy, Debug, PartialEq, Eq, Error)]
+pub enum CoresFault {
+    /// The event of the set-up at this place, from 1, is refused, with the fault's number; at place 0 the number of cores.
+    #[error("the set-up is refused")]
+    Setup { number: u8, place: usize },
+    /// The job at this place, from 1, is refused, with the fault's number.
+    #[error("a job is refused")]
+    Job { number: u8, place: usize },
+    /// Out of memory (E99).
+    #[error("out of memory")]
+    Memory,
+    /// A thread doesn't start.
+    #[error("a thread doesn't start")]
+    Thread,
+}
+
+/// Why a run that was set up ends without a report.
+#[derive(Clone, Copy, Debug, PartialEq, Eq, Error)]
+pub(crate) enum Stop {
+    /// Out of memory (E99).
+    #[error("out of memory")]
+    Memory,
+    /// A thread doesn't start.
+    #[error("a thread doesn't start")]
+    Thread,
+}
+
+impl From<AllocError> for Stop {
+    fn from(_e: AllocError) -> Stop {
+        Stop::Memory
+    }
+}
+
+impl From<AllocError> for CoresFault {
+    ghost from_gives = { λ _ e. e ≡ OutOfMemory };
+
+    fn from(_e: AllocError) -> CoresFault {
+        CoresFault::Memory
+    }
+}
+
+impl From<Stop> for CoresFault {
+    ghost from_gives = { λ stop e. e ≡ by_stop stop };
+
+    fn from(stop: Stop) -> CoresFault {
+        match stop {
+            Stop::Memory => CoresFault::Memory,
+            Stop::Thread => CoresFault::Thread,
+        }
+    }
+}
+
+impl From<BootFault> for CoresFault {
+    ghost from_gives = { λ fault e. e ≡ by_boot fault };
+
+    fn from(fault: BootFault) -> CoresFault {
+        match fault {
+            BootFault::Refused { number, place } => CoresFault::Setup { number, place },
+            BootFault::Memory => CoresFault::Memory,
+        }
+    }
+}
+
+impl From<JobFault> for CoresFault {
+    ghost from_gives = { λ fault e. e ≡ by_job fault };
+
+    fn from(fault: JobFault) -> CoresFault {
+        match fault {
+            JobFault::Refused { number, place } => CoresFault::Job { number, place },
+            JobFault::Memory => CoresFault::Memory,
+        }
+    }
+}

@@ -1,0 +1,91 @@
+//! A cores file run.
+
+ghost use Rattle.std.specs.Prelude.{IfOk};
+ghost use Rattle.fl_jobs.specs.Files.{file_from};
+ghost use Rattle.fl_cores.specs.Promised.{Appends, AppendsReport};
+
+use crate::fault::CoresFault;
+use crate::run::run_cores;
+use fl_jobs::{CoresFile, CoresText, Ending, print_refusal, print_report, read_cores_text};
+use fl_running::Gate;
+use fl_system::Config;
+use std::alloc::Global;
+use std::sync::Wait;
+use std::thread::Threads;
+
+/// What a cores file came to.
+#[derive(Clone, Copy, Debug, PartialEq, Eq)]
+pub enum CoresEnd {
+    /// All cores finished.
+    Complete,
+    /// A core had not when its turns were used up.
+    TurnsOut,
+    /// A line was refused.
+    Refused,
+}
+
+// A cores file that was read is run, and its report is told.
+fn run_file<R: Threads + Wait + Sync, G: Gate + Sync>(
+    rt: &R,
+    alloc: Global,
+    file: CoresFile<'_>,
+    limit: u64,
+    gate: &G,
+    out: &mut Vec<u8>,
+) -> Result<CoresEnd, CoresFault>
+    ensures told { IfOk result (λ end. AppendsReport (file_from file.entry) limit end out.old.items out.new.items) }
+{
+    let CoresFile {
+        cores,
+        setup,
+        jobs,
+        names,
+        numbers,
+    } = file;
+    let Ok(count) = u8::try_from(cores) else {
+        return Err(CoresFault::Setup {
+            number: 94,
+            place: 0,
+        });
+    };
+    let config = Config {
+        cores: count,
+        setup,
+    };
+    let report = run_cores(rt, alloc, &config, jobs, limit, gate)?;
+    let file = CoresFile {
+        cores,
+        setup: config.setup,
+        jobs: Vec::new(alloc),
+        names,
+        numbers,
+    };
+    print_report(alloc, out, &file, &report)?;
+    match report.ending {
+        Ending::Complete => Ok(CoresEnd::Complete),
+        Ending::TurnsOut => Ok(CoresEnd::TurnsOut),
+    }
+}
+
+/// Runs a cores file and appends what is told of that: its report, or the line that is refused.
+///
+/// # Errors
+/// Out of memory, or a thread doesn't start.
+pub fn run_cores_text<R: Threads + Wait + Sync, G: Gate + Sync>(
+    rt: &R,
+    alloc: Global,
+    text: &[u8],
+    limit: u64,
+    gate: &G,
+    out: &mut Vec<u8>,
+) -> Result<CoresEnd, CoresFault>
+    ensures told { IfOk result (λ end. Appends text.now limit end out.old.items out.new.items) }
+{
+    match read_cores_text(alloc, text)? {
+        CoresText::File(file) => run_file(rt, alloc, file, limit, gate, out),
+        CoresText::Refused { line, number } => {
+            print_refusal(alloc, out, line, number)?;
+            Ok(CoresEnd::Refused)
+        }
+    }
+}

@@ -1,0 +1,263 @@
+//! Whole runs of `cores`: words and a file in; standard output, standard error and a status out. The files and
+//! reports are those of `examples`.
+
+use crate::fault::Fault;
+use crate::run::{finish, outcome_of};
+use crate::tests::{Shelf, go, into};
+use fl_cores::{CoresEnd, CoresFault};
+use std::io;
+
+// More turns than any of these runs takes.
+const MANY: &str = "1000000000000";
+
+const CALLS: &[u8] = b"\
+# turns 2: one core, on which a client calls a service. The third call would take a third turn.
+idl
+interface i { message ping(uint32 v); }
+.
+disp d 0
+disp e 0
+export s e i
+bind p d i s local 4
+call p.c ping(1)
+call p.c ping(2)
+call p.c ping(3)
+";
+
+const CALLS_REPORT: &[u8] = b"\
+handle p.s ping(1)
+handle p.s ping(2)
+turns out
+";
+
+const DISK: &[u8] = b"\
+# turns 1000000000000: a disk on core 0, a file system on core 1 beside it, and a pager two links away, on core 2
+idl
+interface block \"a block device\" {
+    message write(uint32 sector, string data[512]);
+    rpc flush(in uint32 volume, out uint32 done);
+};
+.
+cores 3
+link 0 1 8
+link 1 2 8
+disp disk 0
+disp files 1
+disp pager 2
+export blocks disk block
+bind f files block blocks ump 8
+bind p pager block blocks hop 2 1 0
+
+# each flush is answered
+reply f.s flush_call flush_response
+
+call f.c write(7, \"a line of a file that is longer than one fragment, which is one cache line\")
+call f.c flush_call(1)
+call f.c write(8, \"\")
+call f.c flush_call(1)
+call p.c write(4096, \"\\x01\\xff\")
+call p.c write(4097, \"a page goes over two links, in as many fragments as it takes\")
+";
+
+const DISK_REPORT: &[u8] = b"\
+handle f.c flush_response(1)
+handle f.c flush_response(1)
+handle f.s write(7, \"a line of a file that is longer than one fragment, which is one cache line\")
+handle f.s flush_call(1)
+handle f.s write(8, \"\")
+handle f.s flush_call(1)
+handle p.s write(4096, \"\\x01\\xff\")
+handle p.s write(4097, \"a page goes over two links, in as many fragments as it takes\")
+complete
+";
+
+const ECHO: &[u8] = b"\
+# turns 1000000000000: two cores. The service's end replies to each call by a rule.
+idl
+interface i { rpc echo(in uint32 x, out uint32 y); }
+.
+cores 2
+disp d 0
+disp e 1
+export s e i
+bind p d i s ump 4
+reply p.s echo_call echo_response
+call p.c echo_call(1)
+call p.c echo_call(2)
+call p.c echo_call(3)
+";
+
+const ECHO_REPORT: &[u8] = b"\
+handle p.c echo_response(1)
+handle p.c echo_response(2)
+handle p.c echo_response(3)
+handle p.s echo_call(1)
+handle p.s echo_call(2)
+handle p.s echo_call(3)
+complete
+";
+
+const HOPS: &[u8] = b"\
+# turns 1000000000000: the circuit of p goes over the links from 0 to 1 and from 1 to 2; that of q can't go on from 1 to 3.
+idl
+interface i { message ping(uint32 v); }
+.
+cores 4
+link 0 1 8
+link 1 2 8
+disp d 0
+disp e 2
+disp f 3
+export s e i
+export t f i
+bind p d i s hop 0 1 2
+bind q d i t hop 0 1 3
+call p.c ping(1)
+call p.c ping(2)
+call p.s ping(3)
+";
+
+const HOPS_REPORT: &[u8] = b"\
+handle p.c ping(3)
+handle p.s ping(1)
+handle p.s ping(2)
+refused E73 q.c
+complete
+";
+
+const WRONG: &[u8] = b"\
+# turns 8: an end that has a reply rule makes no calls of its own
+idl
+interface i { rpc echo(in uint32 x, out uint32 y); }
+.
+disp d 0
+disp e 0
+export s e i
+bind p d i s local 4
+reply p.s echo_call echo_response
+call p.c echo_call(1)
+call p.s echo_response(2)
+";
+
+const WRONG_REPORT: &[u8] = b"\
+line 11 refused E44
+";
+
+const ALL_CALLS: &[u8] = b"\
+handle p.s ping(1)
+handle p.s ping(2)
+handle p.s ping(3)
+complete
+";
+
+#[test]
+fn files_are_run(rt: HostRuntime) {
+    for (content, turns, status, told) in [
+        (CALLS, "2", 5, CALLS_REPORT),
+        (CALLS, "3", 0, ALL_CALLS),
+        (CALLS, MANY, 0, ALL_CALLS),
+        (CALLS, "0", 5, b"turns out\n".as_slice()),
+        (b"".as_slice(), "0", 0, b"complete\n".as_slice()),
+        (DISK, MANY, 0, DISK_REPORT),
+        (ECHO, MANY, 0, ECHO_REPORT),
+        (HOPS, MANY, 0, HOPS_REPORT),
+        (WRONG, "8", 2, WRONG_REPORT),
+        (b"disp d 0\nwrite p.c\n", "8", 2, b"line 2 refused E90\n"),
+    ] {
+        let (mut out, mut err) = (Vec::new(rt.alloc()), Vec::new(rt.alloc()));
+        let shelf = Shelf::Holds("x", content);
+        let words = ["flounder", "cores", "x", "--turns", turns];
+        assert_eq!(rt; go(&rt, &words, &shelf, &mut out, &mut err), status);
+        assert!(rt; out.as_slice() == told);
+        assert_eq!(rt; err.is_empty(), status == 0);
+    }
+}
+
+// The option may also stand first, and be one word with its number.
+#[test]
+fn turns_are_told(rt: HostRuntime) {
+    let shelf = Shelf::Holds("x", CALLS);
+    for words in [
+        ["flounder", "cores", "--turns", "2", "x"].as_slice(),
+        &["flounder", "cores", "--turns=2", "x"],
+        &["flounder", "cores", "x", "--turns=+2"],
+    ] {
+        let (mut out, mut err) = (Vec::new(rt.alloc()), Vec::new(rt.alloc()));
+        assert_eq!(rt; go(&rt, words, &shelf, &mut out, &mut err), 5);
+        assert!(rt; out.as_slice() == CALLS_REPORT);
+    }
+}
+
+// No file is read for them: reading this one would fail.
+#[test]
+fn words_that_tell_no_turns(rt: HostRuntime) {
+    let unread = Shelf::Fails(io::ErrorKind::Other);
+    for words in [
+        ["flounder", "cores"].as_slice(),
+        &["flounder", "cores", "x"],
+        &["flounder", "cores", "--turns", "2"],
+        &["flounder", "cores", "x", "--turns"],
+        &["flounder", "cores", "x", "--turns", ""],
+        &["flounder", "cores", "x", "--turns", "-1"],
+        &["flounder", "cores", "x", "--turns", "2x"],
+        &["flounder", "cores", "x", "--turns", "1000000000001"],
+        &["flounder", "cores", "x", "--turns", "18446744073709551617"],
+        &["flounder", "cores", "x", "--turns", "2", "more"],
+        &["flounder", "cores", "x", "--turns", "2", "--turns", "2"],
+    ] {
+        let (mut out, mut err) = (Vec::new(rt.alloc()), Vec::new(rt.alloc()));
+        assert_eq!(rt; go(&rt, words, &unread, &mut out, &mut err), 1);
+        assert!(rt; out.is_empty());
+        assert!(rt; !err.is_empty());
+    }
+}
+
+// Reading the file, its content, writing.
+#[test]
+fn the_first_fault_of_cores_counts(rt: HostRuntime) {
+    let words = ["flounder", "cores", "x", "--turns", "2"];
+    for (shelf, status) in [
+        (Shelf::Fails(io::ErrorKind::Other), 4),
+        (Shelf::Fails(io::ErrorKind::OutOfMemory), 3),
+        (Shelf::Holds("y", CALLS), 4),
+        (Shelf::Holds("x", CALLS), 4),
+        (Shelf::Holds("x", WRONG), 4),
+    ] {
+        assert_eq!(rt; into(&rt, &words, &shelf, 5), status);
+    }
+}
+
+#[test]
+fn statuses_of_runs(rt: HostRuntime) {
+    for (end, status) in [
+        (CoresEnd::Complete, 0),
+        (CoresEnd::Refused, 2),
+        (CoresEnd::TurnsOut, 5),
+    ] {
+        let mut err = Vec::new(rt.alloc());
+        assert_eq!(rt; finish(outcome_of("x", 2, end), &mut err), status);
+        assert_eq!(rt; err.is_empty(), status == 0);
+    }
+    for (fault, status) in [
+        (
+            CoresFault::Setup {
+                number: 94,
+                place: 0,
+            },
+            2,
+        ),
+        (
+            CoresFault::Job {
+                number: 92,
+                place: 1,
+            },
+            2,
+        ),
+        (CoresFault::Memory, 3),
+        (CoresFault::Thread, 3),
+    ] {
+        let mut err = Vec::new(rt.alloc());
+        assert_eq!(rt; finish(Err(Fault::Cores(fault)), &mut err), status);
+        assert!(rt; !err.is_empty());
+    }
+}
