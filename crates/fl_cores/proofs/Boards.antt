@@ -25,39 +25,66 @@ use Rattle.fl_node.specs.contracts.one_core.Core.TheInside as CoreInside
 
 seat_inside : IsSend End.the_row → IsSend SeatInside.the_row
 seat_inside end = recorded_send (SeatInside.the_field).row _ _ (SeatInside.the_type).to_one
-    (struct_send (shape SeatInside.the_type)
-    (end,
-    (search (sendable, crosses) depth 20,
-    (search (sendable, crosses, channel.the_send) depth 20,
-    (search (sendable, crosses, kind.the_send) depth 20,
-    tt)))))
+    (struct_send (shape SeatInside.the_type) (
+      end,
+      (
+        search (sendable, crosses) depth 20,
+        (
+          search (sendable, crosses, channel.the_send) depth 20,
+          (
+            search (sendable, crosses, kind.the_send) depth 20,
+            tt,
+          ),
+        ),
+      ),
+    ))
 
 seat_sends : IsSend End.the_row → IsSend Seat.the_row
 seat_sends end = view_send SeatInside.the_row TheSeat SeatCode.the_code Seat.the_view Seat.the_invariant (seat_inside end)
 
 board_inside : IsSend End.the_row → IsSend BoardInside.the_row
 board_inside end = recorded_send (BoardInside.the_field).row _ _ (BoardInside.the_type).to_one
-    (struct_send (shape BoardInside.the_type)
-    (search (sendable, crosses) depth 20,
-    (search (sendable, crosses, dispatcher.the_send) depth 40,
-    (search (sendable, crosses, seat_sends end) depth 40,
-    tt))))
+    (struct_send (shape BoardInside.the_type) (
+      search (sendable, crosses) depth 20,
+      (
+        search (sendable, crosses, dispatcher.the_send) depth 40,
+        (
+          search (sendable, crosses, seat_sends end) depth 40,
+          tt,
+        ),
+      ),
+    ))
 
 pub board_sends : IsSend End.the_row → IsSend Board.the_row
 board_sends end = view_send BoardInside.the_row TheBoard BoardCode.the_code Board.the_view Board.the_invariant (board_inside end)
 
 core_inside : IsSend Board.the_row → IsSend Monitor.the_row → IsSend Messenger.the_row → IsSend QueueLink.the_row → IsSend CoreInside.the_row
 core_inside board monitor messenger queue = recorded_send (CoreInside.the_field).row _ _ (CoreInside.the_type).to_one
-    (struct_send (shape CoreInside.the_type)
-    (search (sendable, crosses) depth 20,
-    (board,
-    (monitor,
-    (messenger,
-    (search (sendable, crosses, port.the_send) depth 40,
-    (search (sendable, crosses) depth 40,
-    (search (sendable, crosses, lane.the_send) depth 40,
-    (search (sendable, crosses, queue) depth 40,
-    tt)))))))))
+    (struct_send (shape CoreInside.the_type) (
+      search (sendable, crosses) depth 20,
+      (
+        board,
+        (
+          monitor,
+          (
+            messenger,
+            (
+              search (sendable, crosses, port.the_send) depth 40,
+              (
+                search (sendable, crosses) depth 40,
+                (
+                  search (sendable, crosses, lane.the_send) depth 40,
+                  (
+                    search (sendable, crosses, queue) depth 40,
+                    tt,
+                  ),
+                ),
+              ),
+            ),
+          ),
+        ),
+      ),
+    ))
 
 pub core_sends : IsSend Board.the_row → IsSend Monitor.the_row → IsSend Messenger.the_row → IsSend QueueLink.the_row → IsSend Core.the_row
 core_sends board monitor messenger queue = view_send CoreInside.the_row TheCore CoreCode.the_code Core.the_view Core.the_invariant (core_inside board monitor messenger queue)

@@ -1,6 +1,6 @@
 -- What a report of cores that ran keeps.
 use Rattle.std.proofs.Common.{◌≡◌, refl, sym, ap, ◌∙◌, subst, ℕ, zero, suc, ◌≤◌, Bool, true, false, ◌||◌, if◌then◌else◌}
-use Rattle.std.proofs.Common.{List, [], ◌∷◌, length, map, slice_get, Some}
+use Rattle.std.proofs.Common.{List, [], ◌∷◌, length, map, slice_get, Some, Result, Ok, Err, IfOk}
 use Rattle.std.specs.List.{list_any}
 use Rattle.std.proofs.lemmas.List.{length-map}
 use Rattle.fl_running.specs.declared.job.Job.{Job}
@@ -18,7 +18,12 @@ use Rattle.fl_cores.specs.Stations.{StationRan, station_of, outcome_of}
 use Rattle.fl_cores.proofs.Each.{each_ran, as_many as as_many_stations}
 use Rattle.fl_cores.specs.Begins.{TheStation, HasStations, common_in}
 use Rattle.fl_cores.specs.Tells.{TheOutcome, RanTo, Each2, Tells, turns_in, left_off, was_told, is_unfinished}
-use Rattle.fl_cores.specs.Promised.{Keeps, CoresRan}
+use Rattle.fl_jobs.specs.Jobs.{Job as TheJob}
+use Rattle.fl_jobs.specs.declared.report.Report.{Report}
+use Rattle.fl_jobs.specs.Reports.{report_of}
+use Rattle.fl_system.specs.Booting.{TheConfig}
+use Rattle.fl_cores.specs.declared.fault.CoresFault.{CoresFault}
+use Rattle.fl_cores.specs.Promised.{Keeps, CoresRan, IsAccepted, Made, RanFrom, Reports, cores_by}
 
 -- ---- one core
 
@@ -93,3 +98,14 @@ pub keeps_ran : (p : Parts) (j : TheJoined) (limit : ℕ) (r : TheReport) → Co
 keeps_ran p j limit r ran =
     keeps_of (length p.cores.items) limit j ran.stations ran.outcomes r
     (as_many_stations (common_in p j ran.begin.0) 0 p.cores.items ran.stations ran.begin.1) ran.ran ran.tells
+
+-- what a set-up makes ran
+pub reports_ran : (c : TheConfig) (jobs : List TheJob) (limit : ℕ) (p : Parts) (result : Result Report CoresFault) → IsAccepted c → Made c p
+    → length p.cores.items ≡ cores_by c → IfOk result (λ r. RanFrom p jobs limit (report_of r))
+    → IfOk result (λ r. Keeps (length p.cores.items) limit (report_of r)) → IfOk result (λ r. Reports c jobs limit (report_of r))
+reports_ran c jobs limit p (Ok r) accepted made same ran keeps = record {
+  accepted = accepted;
+  keeps = subst (λ (n : ℕ). Keeps n limit (report_of r)) same keeps;
+  ran = record { parts = p; made = made; ran = ran };
+}
+reports_ran c jobs limit p (Err e) accepted made same ran keeps = tt

@@ -18,15 +18,28 @@ use Rattle.fl_cores.specs.contracts.fork.Done as Done
 -- a core with its sides, queues and desks
 pub running_sends : IsSend Core.the_row → IsSend SharedSide.the_row → IsSend QueueLink.the_row → IsSend Desk.the_row → IsSend Names.the_row
     → IsSend Program.the_row → IsSend (Running.the_field SharedSide.the_row).row
-running_sends core side queue desk names program = struct_send (shape (Running.the_type SharedSide.the_row))
-    (search (sendable, crosses) depth 20,
-    (core,
-    (search (sendable, crosses, side) depth 40,
-    (search (sendable, crosses, queue) depth 40,
-    (search (sendable, crosses, desk) depth 40,
-    (names,
-    (search (sendable, crosses, program) depth 40,
-    tt)))))))
+running_sends core side queue desk names program = struct_send (shape (Running.the_type SharedSide.the_row)) (
+  search (sendable, crosses) depth 20,
+  (
+    core,
+    (
+      search (sendable, crosses, side) depth 40,
+      (
+        search (sendable, crosses, queue) depth 40,
+        (
+          search (sendable, crosses, desk) depth 40,
+          (
+            names,
+            (
+              search (sendable, crosses, program) depth 40,
+              tt,
+            ),
+          ),
+        ),
+      ),
+    ),
+  ),
+)
 
 pub station_field : IsSend (Running.the_field SharedSide.the_row).row → IsSend (Station.the_field).row
 station_field running = struct_send (shape Station.the_type) (running, (plan.the_field_send, (ticket.the_field_send, tt)))

@@ -29,14 +29,12 @@ use fl_value::Call;
 // What goes to a thread.
 fn sent<T: Send>()
     ensures sent { IsSend T.row }
-{
-}
+{}
 
 // What threads share.
 fn shared<T: Sync>()
     ensures shared { IsSync T.row }
-{
-}
+{}
 
 fn call_sent()
     ensures sent { IsSend CallRows.the_row }

@@ -101,7 +101,6 @@ fn boot(alloc: Global, config: &Config<'_>) -> Result<Parts, BootFault>
 }
 
 // The run of what a set-up made, with the jobs that were joined to it.
-#[tactic(auto, using(crate::proofs::Keeping::cores_ran))]
 fn run_joined<R: Threads + Wait + Sync, G: Gate + Sync>(
     rt: &R,
     alloc: Global,

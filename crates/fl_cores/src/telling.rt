@@ -226,7 +226,11 @@ fn refusal_at(done: &[Done], joined: &Joined, binding: usize) -> Option<u32>
     };
     match desk_left(done, joined, client) {
         None => None,
-        Some(desk) => if desk.refused() == 0 { None } else { Some(desk.refused()) },
+        Some(desk) => if desk.refused() == 0 {
+            None
+        } else {
+            Some(desk.refused())
+        },
     }
 }
 

@@ -1,0 +1,10 @@
+use Rattle.std.proofs.Common.{map}
+use Rattle.fl_jobs.specs.Views.{job_of}
+use Rattle.fl_system.specs.Booting.{config_of}
+use Rattle.fl_cores.proofs.Keeping.{reports_ran}
+use Rattle.fl_cores.proofs.run.run_cores.Goals as goal
+
+pub returns-clause-reports : goal.returns-clause-reports
+returns-clause-reports g c =
+    reports_ran (config_of c.args.config.now) (map job_of c.args.jobs.items) c.args.limit c.in_ok-parts.parts c.run_parts.result
+    c.in_ok-parts.ensures.accepted c.in_ok-parts.ensures.made c.in_ok-parts.ensures.cores c.run_parts.ensures.ran c.run_parts.ensures.keeps
