@@ -7,7 +7,7 @@ use Rattle.std.proofs.lemmas.Option.{slice_get_within, slice_get-get_or}
 use Rattle.std.proofs.lemmas.Bool.Decides.{nat_tests}
 use Rattle.fl_ring.specs.SharedSides.{TheSide}
 use Rattle.fl_deal.specs.declared.deal.Dealt.{Dealt}
-use Rattle.fl_deal.specs.Dealt.{Hands, hand_at, own_sides, AreDealt, IsAt, AreAt, hands_in, Holds, Gives, AreNew, Deals}
+use Rattle.fl_deal.specs.Dealt.{Hands, hand_at, own_sides, AreDealt, IsAt, AreAt, AreApart, hands_in, Holds, Gives, AreNew, Deals}
 use Rattle.fl_deal.specs.Giving.{given_to}
 use Rattle.fl_deal.proofs.Places.{next_test, none_before, none_behind, self_test, stays_at, last_at, one_more}
 
@@ -99,6 +99,50 @@ at_more owners sides hands places owner side there same numbered are n o s owner
     own_self : (owner : ℕ) (side : TheSide) → own_of owner owner side ≡ side ∷ []
     own_self owner side = ap (λ (b : Bool). if b then side ∷ [] else []) (self_test owner)
 
+-- a place that is told of one of the sides stands in its owner's hand
+told_within : (owners : List ℕ) (sides : List TheSide) (hands : Hands) (places : List ℕ) (side : TheSide) → length sides ≡ length owners → AreAt owners sides hands places
+    → (n o p : ℕ) → slice_get owners n ≡ Some o → slice_get places n ≡ Some p → p < length (hand_at hands o)
+told_within owners sides hands places side same are n o p owner_is place_is =
+    let below = slice_get_within owners n o owner_is in
+    let a = are n o (get_or sides n side) owner_is (slice_get-get_or sides n side (omega (arith, below, same))) in
+    let told : Some a.place ≡ Some p = sym a.place_is ∙ place_is in
+    let place : a.place ≡ p = cc in
+    subst (λ (x : ℕ). x < length (hand_at hands o)) place (slice_get_within (hand_at hands o) a.place _ a.stands)
+
+apart_more : (owners : List ℕ) (sides : List TheSide) (hands : Hands) (places : List ℕ) (owner : ℕ) (side : TheSide) → length sides ≡ length owners
+    → length places ≡ length owners → AreAt owners sides hands places → AreApart owners places
+    → AreApart (owners ++ owner ∷ []) (places ++ length (hand_at hands owner) ∷ [])
+apart_more owners sides hands places owner side same numbered are apart n m o p owner_n owner_m place_n place_m =
+    ⊎_elim
+    (λ (was_n : slice_get owners n ≡ Some o).
+    ⊎_elim
+    (λ (was_m : slice_get owners m ≡ Some o). apart n m o p was_n was_m (told n was_n place_n) (told m was_m place_m))
+    (λ last. absurd (not_behind n m was_n last.0 last.1 place_n place_m))
+    (one_more owners owner o m owner_m))
+    (λ last_n.
+    ⊎_elim
+    (λ (was_m : slice_get owners m ≡ Some o). absurd (not_behind m n was_m last_n.0 last_n.1 place_m place_n))
+    (λ last_m. last_n.0 ∙ sym last_m.0)
+    (one_more owners owner o m owner_m))
+    (one_more owners owner o n owner_n)
+  where
+    told : (k : ℕ) → slice_get owners k ≡ Some o → slice_get (places ++ length (hand_at hands owner) ∷ []) k ≡ Some p → slice_get places k ≡ Some p
+    told k was at =
+        ⊎_elim
+        (λ stood. stood)
+        (λ last. absurd (let below = slice_get_within owners k o was in let behind = last.0 in omega (arith, below, behind, numbered)))
+        (one_more places (length (hand_at hands owner)) p k at)
+
+    -- the next side is told none of its owner's places
+    not_behind : (k j : ℕ) → slice_get owners k ≡ Some o → j ≡ length owners → o ≡ owner → slice_get (places ++ length (hand_at hands owner) ∷ []) k ≡ Some p
+        → slice_get (places ++ length (hand_at hands owner) ∷ []) j ≡ Some p → ⊥
+    not_behind k j was end mine at_k at_j =
+        let within : p < length (hand_at hands owner) = subst (λ (x : ℕ). p < length (hand_at hands x)) mine (told_within owners sides hands places side same are k o p was (told k was at_k)) in
+        let behind : Some p ≡ Some (length (hand_at hands owner)) =
+            sym at_j ∙ ap (slice_get (places ++ length (hand_at hands owner) ∷ [])) (end ∙ sym numbered) ∙ last_at places (length (hand_at hands owner)) in
+        let place : p ≡ length (hand_at hands owner) = cc in
+        omega (arith, within, place)
+
 pub gives : (owner : ℕ) (side : TheSide) (d d2 : Dealt) → owner < length d.hands.items → hands_in d2 ≡ given_to owner side (hands_in d)
     → d2.owners.items ≡ d.owners.items ++ owner ∷ [] → d2.places.items ≡ d.places.items ++ length (hand_at (hands_in d) owner) ∷ []
     → length (hands_in d) ≡ length d.hands.items → length d2.hands.items ≡ length (hands_in d2)
@@ -117,6 +161,9 @@ gives owner side d d2 there hands owners places count count2 = record {
             (subst (λ (os : List ℕ). AreAt os (sides ++ side ∷ []) (hands_in d2) (d.places.items ++ length (hand_at (hands_in d) owner) ∷ [])) (sym owners)
             (subst (λ (hs : Hands). AreAt (d.owners.items ++ owner ∷ []) (sides ++ side ∷ []) hs (d.places.items ++ length (hand_at (hands_in d) owner) ∷ [])) (sym hands)
             (at_more d.owners.items sides (hands_in d) d.places.items owner side below holds.dealt.count holds.numbered holds.places)));
+        apart = subst (λ (ps : List ℕ). AreApart d2.owners.items ps) (sym places)
+            (subst (λ (os : List ℕ). AreApart os (d.places.items ++ length (hand_at (hands_in d) owner) ∷ [])) (sym owners)
+            (apart_more d.owners.items sides (hands_in d) d.places.items owner side holds.dealt.count holds.numbered holds.places holds.apart));
       };
 }
 
@@ -142,6 +189,8 @@ holds_none d owners places empty = record {
   dealt = record { count = ap length (sym owners); each = λ c. empty c ∙ sym (ap (λ (os : List ℕ). own_sides c os []) owners) };
   numbered = ap length places ∙ ap length (sym owners);
   places = λ n o s owner side. absurd (let no : None ≡ Some s = side in cc);
+  apart = λ n m o p owner_n owner_m place_n place_m.
+      absurd (let no : None ≡ Some o = ap (λ (os : List ℕ). slice_get os n) (sym owners) ∙ owner_n in cc);
 }
 
 -- one empty hand more

@@ -31,6 +31,12 @@ abbrev pub AreAt : List ℕ → List TheSide → Hands → List ℕ → Type 0
 AreAt owners sides hands places =
     (number owner : ℕ) (side : TheSide) → slice_get owners number ≡ Some owner → slice_get sides number ≡ Some side → IsAt hands places number owner side
 
+-- and of one owner's sides no two are told the same place
+abbrev pub AreApart : List ℕ → List ℕ → Type 0
+AreApart owners places =
+    (n m owner place : ℕ) → slice_get owners n ≡ Some owner → slice_get owners m ≡ Some owner → slice_get places n ≡ Some place → slice_get places m ≡ Some place
+    → n ≡ m
+
 abbrev pub hands_in : Dealt → Hands
 hands_in d = map (λ hand. hand.items) d.hands.items
 
@@ -39,6 +45,7 @@ pub record Holds (d : Dealt) (sides : List TheSide) : Type 0 where
   pub dealt : AreDealt d.owners.items sides (hands_in d)
   pub numbered : length d.places.items ≡ length d.owners.items
   pub places : AreAt d.owners.items sides (hands_in d) d.places.items
+  pub apart : AreApart d.owners.items d.places.items
 
 -- one side more
 pub record Gives (owner : ℕ) (side : TheSide) (d d2 : Dealt) : Type 0 where
