@@ -139,7 +139,7 @@ apart_more owners sides hands places owner side same numbered are apart n m o p 
     not_behind k j was end mine at_k at_j =
         let within : p < length (hand_at hands owner) = subst (λ (x : ℕ). p < length (hand_at hands x)) mine (told_within owners sides hands places side same are k o p was (told k was at_k)) in
         let behind : Some p ≡ Some (length (hand_at hands owner)) =
-            sym at_j ∙ ap (slice_get (places ++ length (hand_at hands owner) ∷ [])) (end ∙ sym numbered) ∙ last_at places (length (hand_at hands owner)) in
+        sym at_j ∙ ap (slice_get (places ++ length (hand_at hands owner) ∷ [])) (end ∙ sym numbered) ∙ last_at places (length (hand_at hands owner)) in
         let place : p ≡ length (hand_at hands owner) = cc in
         omega (arith, within, place)
 
