@@ -75,7 +75,10 @@ impl LockStep {
 impl Gate for LockStep {
     fn before_turn(&self, core: CoreId) {
         let place = place(core);
-        let turns = self.begun[place].fetch_add(1, Ordering::SeqCst);
+        let Some(begun) = self.begun.get(place) else {
+            return;
+        };
+        let turns = begun.fetch_add(1, Ordering::SeqCst);
         if turns > 0 {
             self.ended.fetch_add(1, Ordering::SeqCst);
         }

@@ -57,8 +57,8 @@ pub fn skip_lines<'a>(
         let line = format!(in alloc; "{start} ping({number})\n")?;
         match rest.strip_prefix(line.as_bytes()) {
             Some(behind) => rest = behind,
-            None => return Ok((number - numbers.0, rest)),
+            None => return Ok((number.saturating_sub(numbers.0), rest)),
         }
     }
-    Ok((numbers.1 - numbers.0, rest))
+    Ok((numbers.1.saturating_sub(numbers.0), rest))
 }
