@@ -59,6 +59,13 @@ __attribute__((destructor)) static void tell(void) {
     }
 }
 
+// A program that may start threads ends so, without destructors.
+void _exit(int status) {
+    tell();
+    syscall(SYS_exit_group, status);
+    __builtin_unreachable();
+}
+
 static int is_refused(void) {
     if (!armed)
         return 0;
