@@ -69,7 +69,7 @@ pub calls_stay : (asked : List Job) (one : Job) (e : EndId) → calls_in e one �
 calls_stay asked one e none =
     own_more asked one e ∙ ap (λ (t : List TheCall). own_calls asked e ++ t) none ∙ append-nil (own_calls asked e)
 
-or_false : (b : Bool) → (b || false) ≡ b
+pub or_false : (b : Bool) → (b || false) ≡ b
 or_false true = refl
 or_false false = refl
 
@@ -77,7 +77,7 @@ or_more : (b x y q : Bool) → x ≡ (y || q) → (b || x) ≡ ((b || y) || q)
 or_more true x y q h = refl
 or_more false x y q h = h
 
-has_more : (jobs : List Job) (job : Job) (e : EndId) → has_rules (jobs ++ job ∷ []) e ≡ (has_rules jobs e || is_rule_at e job)
+pub has_more : (jobs : List Job) (job : Job) (e : EndId) → has_rules (jobs ++ job ∷ []) e ≡ (has_rules jobs e || is_rule_at e job)
 has_more [] job e = or_false (is_rule_at e job)
 has_more (j ∷ jobs) job e = or_more (is_rule_at e j) (has_rules (jobs ++ job ∷ []) e) (has_rules jobs e) (is_rule_at e job) (has_more jobs job e)
 
@@ -89,7 +89,7 @@ given_more : (a b c : Option ℕ) → given (given a b (λ x. Some x)) c (λ x. 
 given_more None b c = refl
 given_more (Some x) b c = refl
 
-rule_more : (jobs : List Job) (job : Job) (e : EndId) (m : ℕ) → rule_for (jobs ++ job ∷ []) e m ≡ given (rule_in e m job) (rule_for jobs e m) (λ x. Some x)
+pub rule_more : (jobs : List Job) (job : Job) (e : EndId) (m : ℕ) → rule_for (jobs ++ job ∷ []) e m ≡ given (rule_in e m job) (rule_for jobs e m) (λ x. Some x)
 rule_more [] job e m = given_some (rule_in e m job)
 rule_more (j ∷ jobs) job e m =
     ap (λ (o : Option ℕ). given o (rule_in e m j) (λ x. Some x)) (rule_more jobs job e m)

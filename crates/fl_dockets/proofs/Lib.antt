@@ -1,13 +1,16 @@
 mod Dues
 mod Ends
 mod Growing
+mod Keeping
 mod Lists
 mod OneMore
+mod Openings
 mod Replies
 mod Routed
 mod Rulings
 mod Setting
 mod Slots
+mod Sources
 mod Stepwise
 mod Owed
 mod Alike

@@ -17,7 +17,7 @@ use Rattle.fl_jobs.specs.Jobs.{Job, Wish, opens, replies, calls, calls_in, has_r
 use Rattle.fl_dockets.specs.declared.docket.Bound.{Bound}
 use Rattle.fl_dockets.specs.Dockets.{TheDocket, no_docket, docket_at, with_place, end_of, places_of, core_calls, is_ruled, Rules, IsDocket}
 use Rattle.fl_dockets.specs.Joined.{AreBindings}
-use Rattle.fl_dockets.specs.State.{TheJoined, nothing_joined, with_binding, with_owner, changing, with_job, with_calls, SetAt, AreJoined}
+use Rattle.fl_dockets.specs.State.{TheJoined, nothing_joined, with_binding, with_owner, changing, with_job, with_calls, SetAt, ArePlaced}
 use Rattle.fl_dockets.proofs.Ends.{changed, two_more, one_end}
 use Rattle.fl_dockets.proofs.Growing.{got, kept, last, past, calls_more, calls_stay, asked_idle, asked_call, asked_rule, asked_across, places_more}
 
@@ -74,7 +74,7 @@ quiet_by asked jobs job e d false same none k = record {
 }
 
 pub add_quiet : (cores : ℕ) (asked : List Job) (job : CoreJob) (j : TheJoined) → ((e : EndId) → core_calls (j.jobs ++ job ∷ []) e ≡ core_calls j.jobs e)
-    → (end_of job).binding < length j.bindings → slot_of (end_of job) < length j.dockets → AreJoined cores asked j → AreJoined cores asked (with_job (end_of job) job j)
+    → (end_of job).binding < length j.bindings → slot_of (end_of job) < length j.dockets → ArePlaced cores asked j → ArePlaced cores asked (with_job (end_of job) job j)
 add_quiet cores asked job j none within slot k = record {
   bindings = k.bindings;
   dockets = as_many j.dockets (slot_of (end_of job)) (with_place (length j.jobs)) ∙ k.dockets;
@@ -118,8 +118,8 @@ free_at : (P : TheDocket → Type 0) (dockets : List TheDocket) (e f : EndId) �
 free_at P dockets e f same p = subst (λ (x : EndId). P (docket_at dockets x)) (sym same) p
 
 pub add_call : (cores : ℕ) (asked : List Job) (f : EndId) (call : Call) (j : TheJoined) → f.binding < length j.bindings → slot_of f < length j.dockets
-    → is_ruled (docket_at j.dockets f) ≡ false → AreJoined cores asked j
-    → AreJoined cores (asked ++ calls f (call_of call) ∷ []) (with_job f (core.Call f call) (changing f with_calls j))
+    → is_ruled (docket_at j.dockets f) ≡ false → ArePlaced cores asked j
+    → ArePlaced cores (asked ++ calls f (call_of call) ∷ []) (with_job f (core.Call f call) (changing f with_calls j))
 add_call cores asked f call j within slot free k = record {
   bindings = k.bindings;
   dockets = as_many (changed_at (slot_of f) with_calls j.dockets) (slot_of f) (with_place (length j.jobs)) ∙ as_many j.dockets (slot_of f) with_calls ∙ k.dockets;
@@ -167,7 +167,7 @@ back e f h = there_and_back e ∙ ap peer h
 
 module _ (cores : ℕ) (asked : List Job) (f : EndId) (msg answer : ℕ) (j j2 : TheJoined) (within : slot_of f < length j.dockets)
     (free : (docket_at j.dockets f).makes_calls ≡ false) (alone : is_ruled (docket_at j.dockets (peer f)) ≡ false)
-    (set : SetAt f msg answer j.dockets j2.dockets) (k : AreJoined cores asked j) where
+    (set : SetAt f msg answer j.dockets j2.dockets) (k : ArePlaced cores asked j) where
   each_by : (e : EndId) (b : Bool) → same_end e f ≡ b
       → IsDocket (asked ++ replies f msg answer ∷ []) j.jobs e (if b then set.docket else docket_at j.dockets e)
   each_by e true same =
@@ -183,7 +183,7 @@ module _ (cores : ℕ) (asked : List Job) (f : EndId) (msg answer : ℕ) (j j2 :
       ∙ free_at (λ (d : TheDocket). is_ruled d ≡ false) j.dockets e (peer f) (back e f (one_end (peer e) f across)) alone)
       (k.each e)
 
-  pub add_rule : AreJoined cores (asked ++ replies f msg answer ∷ []) (record j { dockets = j2.dockets })
+  pub add_rule : ArePlaced cores (asked ++ replies f msg answer ∷ []) (record j { dockets = j2.dockets })
   add_rule = record {
     bindings = k.bindings;
     dockets = ap (λ (ds : List TheDocket). length ds) set.rest ∙ as_many j.dockets (slot_of f) (λ d. set.docket) ∙ k.dockets;
@@ -208,8 +208,8 @@ each_more P bindings x all one b y at = elim (got bindings x y b at) [
   | inr new ↦ subst P new.1 one
 ]
 
-joined_more : (cores : ℕ) (asked : List Job) (x : Bound) (owners : List ℕ) (j : TheJoined) → AreBindings cores (j.bindings ++ x ∷ []) owners → AreJoined cores asked j
-    → AreJoined cores asked (record (with_binding x j) { owners = owners })
+joined_more : (cores : ℕ) (asked : List Job) (x : Bound) (owners : List ℕ) (j : TheJoined) → AreBindings cores (j.bindings ++ x ∷ []) owners → ArePlaced cores asked j
+    → ArePlaced cores asked (record (with_binding x j) { owners = owners })
 joined_more cores asked x owners j b k = record {
   bindings = b;
   dockets = two_longer j.dockets (length j.bindings) (length (j.bindings ++ x ∷ [])) k.dockets (one_longer j.bindings x);
@@ -217,7 +217,7 @@ joined_more cores asked x owners j b k = record {
   there = λ n job at. let l = one_longer j.bindings x in let h = k.there n job at in omega (arith, l, h);
 }
 
-none_some : (x y : Bound) (job : ℕ) → x ≡ y → x.opened ≡ None → y.opened ≡ Some job → ⊥
+pub none_some : (x y : Bound) (job : ℕ) → x ≡ y → x.opened ≡ None → y.opened ≡ Some job → ⊥
 none_some x y job same none some = let h : x.opened ≡ y.opened = ap (λ (b : Bound). b.opened) same in absurd (cc)
 
 owner_number : (x y : Bound) (n job : ℕ) → x ≡ y → x.opened ≡ Some n → y.opened ≡ Some job → n ≡ job
@@ -236,7 +236,7 @@ owner_past owners x y client job same a b at =
 
 -- of a binding that is set up
 pub add_set_up : (cores : ℕ) (asked : List Job) (x : Bound) (j : TheJoined) → x.client < cores → x.server < cores → x.opened ≡ None → length j.bindings < 1024
-    → AreJoined cores asked j → AreJoined cores asked (with_binding x j)
+    → ArePlaced cores asked j → ArePlaced cores asked (with_binding x j)
 add_set_up cores asked x j client server none few k =
     let l = one_longer j.bindings x in
     let fewer = k.bindings.fewer in
@@ -287,13 +287,13 @@ opened_bindings cores x bindings owners client server is_opened few k =
     }
 
 pub add_opened : (cores : ℕ) (asked : List Job) (x : Bound) (j : TheJoined) → x.client < cores → x.server < cores → x.opened ≡ Some (length j.owners)
-    → length j.bindings < 1024 → AreJoined cores asked j → AreJoined cores asked (with_owner x.client (with_binding x j))
+    → length j.bindings < 1024 → ArePlaced cores asked j → ArePlaced cores asked (with_owner x.client (with_binding x j))
 add_opened cores asked x j client server is_opened few k =
     joined_more cores asked x (j.owners ++ x.client ∷ []) j (opened_bindings cores x j.bindings j.owners client server is_opened few k.bindings) k
 
 -- ---- what is asked by a wish
 
-pub add_wish : (cores : ℕ) (asked : List Job) (w : Wish) (j : TheJoined) → AreJoined cores asked j → AreJoined cores (asked ++ opens w ∷ []) j
+pub add_wish : (cores : ℕ) (asked : List Job) (w : Wish) (j : TheJoined) → ArePlaced cores asked j → ArePlaced cores (asked ++ opens w ∷ []) j
 add_wish cores asked w j k = record {
   bindings = k.bindings;
   dockets = k.dockets;
@@ -307,7 +307,7 @@ add_wish cores asked w j k = record {
 
 -- ---- nothing
 
-pub nothing : (cores : ℕ) → AreJoined cores [] nothing_joined
+pub nothing : (cores : ℕ) → ArePlaced cores [] nothing_joined
 nothing cores = record {
   bindings = record {
     few = omega arith;

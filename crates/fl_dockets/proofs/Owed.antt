@@ -15,7 +15,7 @@ use Rattle.fl_running.specs.Made.{calls_of_jobs}
 use Rattle.fl_jobs.specs.Jobs.{Job, own_calls, has_rules, reply_to, handed_in}
 use Rattle.fl_dockets.specs.Dockets.{TheDocket, docket_at, end_of, places_of, calls_at, core_calls, reply_by, is_ruled, due_in, IsAsked, IsDocket}
 use Rattle.fl_dockets.specs.Joined.{AreBindings}
-use Rattle.fl_dockets.specs.State.{TheJoined, undue, DuesUpTo, AreJoined}
+use Rattle.fl_dockets.specs.State.{TheJoined, undue, DuesUpTo, ArePlaced}
 use Rattle.fl_dockets.specs.Whole.{AreDue}
 use Rattle.fl_dockets.proofs.Ends.{slot_within}
 use Rattle.fl_dockets.proofs.OneMore.{there_and_back}
@@ -109,8 +109,8 @@ told_docket asked jobs jobs2 e d d2 same rest k =
     subst (λ (js : List CoreJob). IsDocket asked js e d2) (sym same)
     (due_again asked jobs e d2 (subst (λ (x : TheDocket). IsDocket asked jobs e x) (sym rest) (due_apart asked jobs e d k)))
 
-pub told_joined : (cores : ℕ) (asked : List Job) (n : ℕ) (j j2 : TheJoined) → AreJoined cores asked j → DuesUpTo n j j2 → AreJoined cores asked j2
-told_joined cores asked n j j2 k t = record {
+pub told_placed : (cores : ℕ) (asked : List Job) (n : ℕ) (j j2 : TheJoined) → ArePlaced cores asked j → DuesUpTo n j j2 → ArePlaced cores asked j2
+told_placed cores asked n j j2 k t = record {
   bindings =
       subst (λ bs. AreBindings cores bs j2.owners) (sym t.bindings) (subst (λ os. AreBindings cores j.bindings os) (sym t.owners) k.bindings);
   dockets = t.count ∙ k.dockets ∙ ap (λ bs. 2 * length bs) (sym t.bindings);
@@ -119,7 +119,7 @@ told_joined cores asked n j j2 k t = record {
       subst (λ bs. (end_of job).binding < length bs) (sym t.bindings) (k.there m job (subst (λ js. slice_get js m ≡ Some job) t.jobs at));
 }
 
-pub all_due : (cores : ℕ) (asked : List Job) (j j2 : TheJoined) → AreJoined cores asked j → DuesUpTo (length j.dockets) j j2 → AreDue asked j2
+pub all_due : (cores : ℕ) (asked : List Job) (j j2 : TheJoined) → ArePlaced cores asked j → DuesUpTo (length j.dockets) j j2 → AreDue asked j2
 all_due cores asked j j2 k t = record {
   due = λ e within.
       let within2 : e.binding < length j.bindings = subst (λ bs. e.binding < length bs) t.bindings within in

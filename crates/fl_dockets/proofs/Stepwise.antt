@@ -1,5 +1,5 @@
 -- Bindings and jobs are joined one after another.
-use Rattle.std.proofs.Common.{◌≡◌, append_assoc, refl, sym, ap, ◌∙◌, subst, ℕ, suc, ◌<◌, ◌≤◌, ◌+◌, ◌*◌, if◌then◌else◌, List, [], ◌∷◌, ◌++◌, length, map, take, get_or, slice_get}
+use Rattle.std.proofs.Common.{◌≡◌, append_assoc, inl, inr, refl, sym, ap, ◌∙◌, subst, ℕ, suc, ◌<◌, ◌≤◌, ◌+◌, ◌*◌, if◌then◌else◌, List, [], ◌∷◌, ◌++◌, length, map, take, get_or, slice_get}
 use Rattle.std.proofs.Common.{Option, Some, None, Bool, true, false, arith}
 use Rattle.std.specs.List.{flat_map}
 use Rattle.std.proofs.lemmas.List.{length-append, length-map, length-set, map-append, append-nil, take_all}
@@ -22,23 +22,24 @@ use Rattle.fl_dockets.specs.declared.joining.Joined.{Joined}
 use Rattle.fl_dockets.specs.Dockets.{docket_of, end_of}
 use Rattle.fl_dockets.specs.Joined.{HasDockets}
 use Rattle.fl_dockets.specs.Rules.{RuleNow, RuleOf, RulesOf}
-use Rattle.fl_dockets.specs.State.{TheJoined, joined_of, nothing_joined, with_binding, with_owner, with_job, IsSafe, Opened, CallPlanned, RulePlanned, AreJoined, DuesUpTo}
+use Rattle.fl_dockets.specs.State.{TheJoined, joined_of, nothing_joined, with_binding, with_owner, with_job, IsSafe, Opened, CallPlanned, RulePlanned, ArePlaced, DuesUpTo}
 use Rattle.fl_dockets.specs.Whole.{bound_of, SetUp, is_set_up, Ruled, Joins, IsBeside, About, about, wish_in, all_about, AreBound}
 use Rattle.fl_dockets.proofs.Ends.{slot_within}
-use Rattle.fl_dockets.proofs.Growing.{core_stays}
+use Rattle.fl_dockets.proofs.Growing.{got, core_stays}
+use Rattle.fl_dockets.proofs.Openings.{within}
 use Rattle.fl_dockets.proofs.OneMore.{add_quiet, add_call, add_rule, add_set_up, add_opened, add_wish}
 
 pub has_dockets : (j : Joined) → length (joined_of j).dockets ≡ 2 * length j.bindings.items → HasDockets j.bindings.items j.dockets.items
 has_dockets j h = sym (length-map j.dockets.items docket_of) ∙ h
 
-pub is_safe : (cores : ℕ) (asked : List Job) (j : TheJoined) → AreJoined cores asked j → IsSafe cores j
+pub is_safe : (cores : ℕ) (asked : List Job) (j : TheJoined) → ArePlaced cores asked j → IsSafe cores j
 is_safe cores asked j k = (k.bindings, k.dockets)
 
 -- ---- bindings that are set up
 
-pub set_up_more : (cores : ℕ) (asked : List Job) (x : Binding) (j j2 : TheJoined) → SetUp cores x j j2 → AreJoined cores asked j → AreJoined cores asked j2
+pub set_up_more : (cores : ℕ) (asked : List Job) (x : Binding) (j j2 : TheJoined) → SetUp cores x j j2 → ArePlaced cores asked j → ArePlaced cores asked j2
 set_up_more cores asked x j j2 s k =
-    subst (λ (t : TheJoined). AreJoined cores asked t) (sym s.rest) (add_set_up cores asked (bound_of x) j s.client s.server refl s.few k)
+    subst (λ (t : TheJoined). ArePlaced cores asked t) (sym s.rest) (add_set_up cores asked (bound_of x) j s.client s.server refl s.few k)
 
 -- ---- one job more
 
@@ -48,11 +49,11 @@ one_longer xs x = let l = length-append xs (x ∷ []) in omega (arith, l)
 within_client : (n m : ℕ) → n < m → (client_of n).binding < m
 within_client n m h = h
 
-module _ (cores : ℕ) (asked : List Job) (w : Wish) (j j2 : TheJoined) (o : Opened cores w j j2) (k : AreJoined cores asked j) where
+module _ (cores : ℕ) (asked : List Job) (w : Wish) (j j2 : TheJoined) (o : Opened cores w j j2) (k : ArePlaced cores asked j) where
   abbrev bound_there : TheJoined
   bound_there = with_owner o.bound.client (with_binding o.bound j)
 
-  there : AreJoined cores asked bound_there
+  there : ArePlaced cores asked bound_there
   there = add_opened cores asked o.bound j o.client o.server o.opened o.few k
 
   its_end : client_of (length j.bindings) ≡ end_of (core.Open o.wish)
@@ -61,52 +62,52 @@ module _ (cores : ℕ) (asked : List Job) (w : Wish) (j j2 : TheJoined) (o : Ope
   fits_in : (end_of (core.Open o.wish)).binding < length bound_there.bindings
   fits_in = let l = one_longer j.bindings o.bound in let b = o.binding in omega (arith, l, b)
 
-  asked_for : AreJoined cores asked (with_job (end_of (core.Open o.wish)) (core.Open o.wish) bound_there)
+  asked_for : ArePlaced cores asked (with_job (end_of (core.Open o.wish)) (core.Open o.wish) bound_there)
   asked_for =
       add_quiet cores asked (core.Open o.wish) bound_there (λ e. core_stays j.jobs (core.Open o.wish) e refl) fits_in
       (slot_within (end_of (core.Open o.wish)) (length bound_there.bindings) (length bound_there.dockets) fits_in there.dockets) there
 
-  pub opened_more : AreJoined cores (asked ++ opens w ∷ []) j2
+  pub opened_more : ArePlaced cores (asked ++ opens w ∷ []) j2
   opened_more =
-      subst (λ (t : TheJoined). AreJoined cores (asked ++ opens w ∷ []) t)
+      subst (λ (t : TheJoined). ArePlaced cores (asked ++ opens w ∷ []) t)
       (sym (o.rest ∙ ap (λ (e : EndId). with_job e (core.Open o.wish) bound_there) its_end))
       (add_wish cores asked w (with_job (end_of (core.Open o.wish)) (core.Open o.wish) bound_there) asked_for)
 
-pub called_more : (cores : ℕ) (asked : List Job) (e : EndId) (call : Call) (j j2 : TheJoined) → CallPlanned e call j j2 → AreJoined cores asked j
-    → AreJoined cores (asked ++ calls e (call_of call) ∷ []) j2
+pub called_more : (cores : ℕ) (asked : List Job) (e : EndId) (call : Call) (j j2 : TheJoined) → CallPlanned e call j j2 → ArePlaced cores asked j
+    → ArePlaced cores (asked ++ calls e (call_of call) ∷ []) j2
 called_more cores asked e call j j2 p k =
-    subst (λ (t : TheJoined). AreJoined cores (asked ++ calls e (call_of call) ∷ []) t) (sym p.rest)
+    subst (λ (t : TheJoined). ArePlaced cores (asked ++ calls e (call_of call) ∷ []) t) (sym p.rest)
     (add_call cores asked e call j p.within (slot_within e (length j.bindings) (length j.dockets) p.within k.dockets) p.free k)
 
 ruled_by : (cores : ℕ) (asked : List Job) (e : EndId) (message reply : MsgNo) (j : TheJoined) (b : Bool) → e.binding < length j.bindings
-    → AreJoined cores asked j → AreJoined cores asked (if b then j else with_job e (core.Reply e message reply) j)
+    → ArePlaced cores asked j → ArePlaced cores asked (if b then j else with_job e (core.Reply e message reply) j)
 ruled_by cores asked e message reply j true within k = k
 ruled_by cores asked e message reply j false within k =
     add_quiet cores asked (core.Reply e message reply) j (λ f. core_stays j.jobs (core.Reply e message reply) f refl) within
     (slot_within e (length j.bindings) (length j.dockets) within k.dockets) k
 
 pub ruled_more : (cores : ℕ) (asked : List Job) (b : Bool) (e : EndId) (message reply : MsgNo) (j j2 : TheJoined) → RulePlanned b e message reply j j2
-    → AreJoined cores asked j → AreJoined cores (asked ++ replies e message.0 reply.0 ∷ []) j2
+    → ArePlaced cores asked j → ArePlaced cores (asked ++ replies e message.0 reply.0 ∷ []) j2
 ruled_more cores asked b e message reply j j2 p k =
     let j1 : TheJoined = record j { dockets = p.dockets } in
     let asked2 = asked ++ replies e message.0 reply.0 ∷ [] in
     let a = add_rule cores asked e message.0 reply.0 j j1 (slot_within e (length j.bindings) (length j.dockets) p.within k.dockets) p.free p.alone p.set k in
-    subst (λ (t : TheJoined). AreJoined cores asked2 t) (sym p.rest) (ruled_by cores asked2 e message reply j1 b p.within a)
+    subst (λ (t : TheJoined). ArePlaced cores asked2 t) (sym p.rest) (ruled_by cores asked2 e message reply j1 b p.within a)
 
 ruled_as : (cores : ℕ) (asked : List Job) (set_up : List Binding) (e : EndId) (msg answer : ℕ) (j : TheJoined) (ks : List TheCore) (j2 : TheJoined) (ks2 : List TheCore)
-    → Ruled set_up e msg answer j ks j2 ks2 → AreJoined cores asked j → AreJoined cores (asked ++ replies e msg answer ∷ []) j2
+    → Ruled set_up e msg answer j ks j2 ks2 → ArePlaced cores asked j → ArePlaced cores (asked ++ replies e msg answer ∷ []) j2
 ruled_as cores asked set_up e msg answer j ks j2 ks2 r k =
-    subst (λ (m : ℕ). AreJoined cores (asked ++ replies e m answer ∷ []) j2) r.message_is
-    (subst (λ (a : ℕ). AreJoined cores (asked ++ replies e r.message.0 a ∷ []) j2) r.reply_is
+    subst (λ (m : ℕ). ArePlaced cores (asked ++ replies e m answer ∷ []) j2) r.message_is
+    (subst (λ (a : ℕ). ArePlaced cores (asked ++ replies e r.message.0 a ∷ []) j2) r.reply_is
     (ruled_more cores asked (is_set_up set_up e) e r.message r.reply j j2 r.planned k))
 
 -- whatever the job
 pub joined_more : (asked : List Job) (set_up : List Binding) (job : Job) (j : TheJoined) (ks : List TheCore) (j2 : TheJoined) (ks2 : List TheCore)
-    → Joins set_up job j ks j2 ks2 → AreJoined (length ks) asked j → AreJoined (length ks) (asked ++ job ∷ []) j2
+    → Joins set_up job j ks j2 ks2 → ArePlaced (length ks) asked j → ArePlaced (length ks) (asked ++ job ∷ []) j2
 joined_more asked set_up (opens w) j ks j2 ks2 (o, same) k = opened_more (length ks) asked w j j2 o k
 joined_more asked set_up (replies e msg answer) j ks j2 ks2 r k = ruled_as (length ks) asked set_up e msg answer j ks j2 ks2 r k
 joined_more asked set_up (calls e c) j ks j2 ks2 ((call, is, p), same) k =
-    subst (λ (x : TheCall). AreJoined (length ks) (asked ++ calls e x ∷ []) j2) is (called_more (length ks) asked e call j j2 p k)
+    subst (λ (x : TheCall). ArePlaced (length ks) (asked ++ calls e x ∷ []) j2) is (called_more (length ks) asked e call j j2 p k)
 
 -- ---- the cores meanwhile
 
@@ -143,12 +144,12 @@ one_mapped : (done : List RustJob) (x : RustJob) → map job_of done ++ job_of x
 one_mapped done x = sym (map-append job_of done (x ∷ []))
 
 pub joined_turn : (n : ℕ) (done : List RustJob) (x : RustJob) (set_up : List Binding) (j : TheJoined) (ks : List TheCore) (j2 : TheJoined) (ks2 : List TheCore)
-    → length ks ≡ n → Joins set_up (job_of x) j ks j2 ks2 → AreJoined n (map job_of done) j → AreJoined n (map job_of (done ++ x ∷ [])) j2
+    → length ks ≡ n → Joins set_up (job_of x) j ks j2 ks2 → ArePlaced n (map job_of done) j → ArePlaced n (map job_of (done ++ x ∷ [])) j2
 joined_turn n done x set_up j ks j2 ks2 count joins k =
-    let before : AreJoined (length ks) (map job_of done) j = subst (λ (m : ℕ). AreJoined m (map job_of done) j) (sym count) k in
+    let before : ArePlaced (length ks) (map job_of done) j = subst (λ (m : ℕ). ArePlaced m (map job_of done) j) (sym count) k in
     let after = joined_more (map job_of done) set_up (job_of x) j ks j2 ks2 joins before in
-    subst (λ (m : ℕ). AreJoined m (map job_of (done ++ x ∷ [])) j2) count
-    (subst (λ (asked : List Job). AreJoined (length ks) asked j2) (one_mapped done x) after)
+    subst (λ (m : ℕ). ArePlaced m (map job_of (done ++ x ∷ [])) j2) count
+    (subst (λ (asked : List Job). ArePlaced (length ks) asked j2) (one_mapped done x) after)
 
 pub rules_turn : (done : List RustJob) (x : RustJob) (set_up set_up2 : List Binding) (j : TheJoined) (ks0 ks : List TheCore) (j2 : TheJoined) (ks2 : List TheCore)
     → set_up2 ≡ set_up → Joins set_up2 (job_of x) j ks j2 ks2 → RulesOf set_up (map job_of done) ks0 ks → RulesOf set_up (map job_of (done ++ x ∷ [])) ks0 ks2
@@ -188,6 +189,19 @@ all_more set_up jobs job =
     ∙ ap (λ (t : List About). before ++ t) (map-append about_wish (flat_map wish_in jobs) (wish_in job))
     ∙ sym (append_assoc before (map about_wish (flat_map wish_in jobs)) (map about_wish (wish_in job)))
 
+-- as many, at least, as are set up
+count_of_wishes : (set_up : List Binding) (ws : List Wish) → length (map about_set_up set_up ++ map about_wish ws) ≡ length set_up + length ws
+count_of_wishes set_up ws =
+    let l = length-append (map about_set_up set_up) (map about_wish ws) in
+    let m = length-map set_up about_set_up in
+    let n = length-map ws about_wish in
+    omega (arith, l, m, n)
+
+count_bound : (set_up : List Binding) (jobs : List Job) (j : TheJoined) → map about j.bindings ≡ all_about set_up jobs
+    → length j.bindings ≡ length set_up + length (flat_map wish_in jobs)
+count_bound set_up jobs j is =
+    sym (length-map j.bindings about) ∙ ap (λ (t : List About). length t) is ∙ count_of_wishes set_up (flat_map wish_in jobs)
+
 -- a job that opens none
 bound_stays : (set_up : List Binding) (jobs : List Job) (job : Job) (j j2 : TheJoined) → wish_in job ≡ [] → j2.bindings ≡ j.bindings → AreBound set_up jobs j
     → AreBound set_up (jobs ++ job ∷ []) j2
@@ -195,6 +209,8 @@ bound_stays set_up jobs job j j2 none same k = record {
   bound =
       ap (λ (bs : List Bound). map about bs) same ∙ k.bound
       ∙ sym (all_more set_up jobs job ∙ ap (λ (t : List Wish). all_about set_up jobs ++ map about_wish t) none ∙ append-nil (all_about set_up jobs));
+  unopened = λ n b at. k.unopened n b (subst (λ (bs : List Bound). slice_get bs n ≡ Some b) same at);
+  opened = λ n b at. k.opened n b (subst (λ (bs : List Bound). slice_get bs n ≡ Some b) same at);
 }
 
 same_about : (x : Bound) (w : Wish) → x.interface ≡ w.interface → x.client ≡ w.client.core → about x ≡ about_wish w
@@ -204,14 +220,25 @@ same_about x w i c =
 
 bound_opened : (set_up : List Binding) (jobs : List Job) (cores : ℕ) (w : Wish) (j j2 : TheJoined) → Opened cores w j j2 → AreBound set_up jobs j
     → AreBound set_up (jobs ++ opens w ∷ []) j2
-bound_opened set_up jobs cores w j j2 o k = record {
-  bound =
-      ap (λ (t : TheJoined). map about t.bindings) o.rest
-      ∙ map-append about j.bindings (o.bound ∷ [])
-      ∙ ap (λ (t : List About). t ++ about o.bound ∷ []) k.bound
-      ∙ ap (λ (a : About). all_about set_up jobs ++ a ∷ []) (same_about o.bound w o.interface o.owner)
-      ∙ sym (all_more set_up jobs (opens w));
-}
+bound_opened set_up jobs cores w j j2 o k =
+    let count = count_bound set_up jobs j k.bound in
+    let is : j2.bindings ≡ j.bindings ++ o.bound ∷ [] = ap (λ (t : TheJoined). t.bindings) o.rest in
+    record {
+      bound =
+          ap (λ (t : TheJoined). map about t.bindings) o.rest
+          ∙ map-append about j.bindings (o.bound ∷ [])
+          ∙ ap (λ (t : List About). t ++ about o.bound ∷ []) k.bound
+          ∙ ap (λ (a : About). all_about set_up jobs ++ a ∷ []) (same_about o.bound w o.interface o.owner)
+          ∙ sym (all_more set_up jobs (opens w));
+      unopened = λ n b at below. elim (got j.bindings o.bound b n (subst (λ (bs : List Bound). slice_get bs n ≡ Some b) is at)) [
+        | inl before ↦ k.unopened n b before below
+        | inr new ↦ absurd (omega (arith, new.0, below, count))
+      ];
+      opened = λ n b at past. elim (got j.bindings o.bound b n (subst (λ (bs : List Bound). slice_get bs n ≡ Some b) is at)) [
+        | inl before ↦ k.opened n b before past
+        | inr new ↦ (length j.owners, sym (ap (λ (y : Bound). y.opened) new.1) ∙ o.opened)
+      ];
+    }
 
 ruled_bindings : (b : Bool) (e : EndId) (message reply : MsgNo) (j : TheJoined) → (if b then j else with_job e (core.Reply e message reply) j).bindings ≡ j.bindings
 ruled_bindings true e message reply j = refl
@@ -233,27 +260,42 @@ bound_turn set_up done x set_up2 j ks j2 ks2 joins k =
     subst (λ (jobs : List Job). AreBound set_up jobs j2) (one_mapped done x) (bound_more set_up (map job_of done) set_up2 (job_of x) j ks j2 ks2 joins k)
 
 -- one more of those that are set up
+none_opened_by : (xs : List Binding) (x : Binding) (j j2 : TheJoined) → j2.bindings ≡ j.bindings ++ bound_of x ∷ [] → AreBound xs [] j
+    → (n : ℕ) (b : Bound) → slice_get j2.bindings n ≡ Some b → b.opened ≡ None
+none_opened_by xs x j j2 is k n b at = elim (got j.bindings (bound_of x) b n (subst (λ (bs : List Bound). slice_get bs n ≡ Some b) is at)) [
+  | inl before ↦ let count = count_bound xs [] j k.bound in let below = within j.bindings n b before in k.unopened n b before (omega (arith, count, below))
+  | inr new ↦ sym (ap (λ (y : Bound). y.opened) new.1)
+]
+
 pub set_up_turn : (cores : ℕ) (xs : List Binding) (k : ℕ) (x d : Binding) (j j2 : TheJoined) → k < length xs → x ≡ get_or xs k d → SetUp cores x j j2
     → AreBound (take k xs) [] j → AreBound (take (k + 1) xs) [] j2
 set_up_turn cores xs k x d j j2 below is s b =
     let next : suc k ≡ k + 1 = omega arith in
     let more : take (k + 1) xs ≡ take k xs ++ x ∷ [] =
     ap (λ (n : ℕ). take n xs) (sym next) ∙ take-suc xs k d below ∙ ap (λ (y : Binding). take k xs ++ y ∷ []) (sym is) in
+    let bound2 : map about j2.bindings ≡ all_about (take (k + 1) xs) [] =
+    ap (λ (t : TheJoined). map about t.bindings) s.rest
+    ∙ map-append about j.bindings (bound_of x ∷ [])
+    ∙ ap (λ (t : List About). t ++ about_set_up x ∷ []) (b.bound ∙ append-nil (map about_set_up (take k xs)))
+    ∙ sym (map-append about_set_up (take k xs) (x ∷ []))
+    ∙ ap (λ (l : List Binding). map about_set_up l) (sym more)
+    ∙ sym (append-nil (map about_set_up (take (k + 1) xs))) in
+    let count = count_bound (take (k + 1) xs) [] j2 bound2 in
     record {
-      bound =
-          ap (λ (t : TheJoined). map about t.bindings) s.rest
-          ∙ map-append about j.bindings (bound_of x ∷ [])
-          ∙ ap (λ (t : List About). t ++ about_set_up x ∷ []) (b.bound ∙ append-nil (map about_set_up (take k xs)))
-          ∙ sym (map-append about_set_up (take k xs) (x ∷ []))
-          ∙ ap (λ (l : List Binding). map about_set_up l) (sym more)
-          ∙ sym (append-nil (map about_set_up (take (k + 1) xs)));
+      bound = bound2;
+      unopened = λ n y at less. none_opened_by (take k xs) x j j2 (ap (λ (t : TheJoined). t.bindings) s.rest) b n y at;
+      opened = λ n y at past. let there = within j2.bindings n y at in absurd (omega (arith, there, past, count));
     }
 
 pub set_up_none : (xs : List Binding) → AreBound (take 0 xs) [] nothing_joined
-set_up_none xs = record { bound = refl }
+set_up_none xs = record { bound = refl; unopened = λ n b at less. absurd (cc); opened = λ n b at past. absurd (cc) }
 
 pub set_up_all : (xs : List Binding) (k : ℕ) (j : TheJoined) → length xs ≤ k → AreBound (take k xs) [] j → AreBound xs [] j
 set_up_all xs k j past b = subst (λ (l : List Binding). AreBound l [] j) (take_all k xs past) b
 
 pub told_bound : (set_up : List Binding) (jobs : List Job) (n : ℕ) (j j2 : TheJoined) → AreBound set_up jobs j → DuesUpTo n j j2 → AreBound set_up jobs j2
-told_bound set_up jobs n j j2 k t = record { bound = ap (λ (bs : List Bound). map about bs) t.bindings ∙ k.bound }
+told_bound set_up jobs n j j2 k t = record {
+  bound = ap (λ (bs : List Bound). map about bs) t.bindings ∙ k.bound;
+  unopened = λ m b at. k.unopened m b (subst (λ (bs : List Bound). slice_get bs m ≡ Some b) t.bindings at);
+  opened = λ m b at. k.opened m b (subst (λ (bs : List Bound). slice_get bs m ≡ Some b) t.bindings at);
+}

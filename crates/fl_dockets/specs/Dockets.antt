@@ -1,5 +1,5 @@
 -- What is handed in at each end, and how many calls are to be handled there.
-use Rattle.std.specs.Prelude.{ℕ, ◌≡◌, ◌==◌, ◌++◌, suc, nat_lt, Bool, true, false, if◌then◌else◌, List, [], ◌∷◌, length, slice_get, Option, Some, None}
+use Rattle.std.specs.Prelude.{ℕ, ◌≡◌, ◌≢◌, ◌==◌, ◌++◌, suc, nat_lt, Bool, true, false, if◌then◌else◌, List, [], ◌∷◌, length, slice_get, Option, Some, None}
 use Rattle.std.specs.List.{flat_map}
 use Rattle.fl_base.specs.declared.identity.EndId.{EndId}
 use Rattle.fl_base.specs.declared.identity.MsgNo.{MsgNo}
@@ -10,6 +10,7 @@ use Rattle.fl_queues.specs.Runs.{same_end}
 use Rattle.fl_node.specs.View.{slot_of, client_of}
 use Rattle.fl_running.specs.declared.job.Job.{Job as CoreJob}
 use Rattle.fl_running.specs.declared.job.Job.TheVariants as job
+use Rattle.fl_running.specs.declared.job.Wish.{Wish as CoreWish}
 use Rattle.fl_running.specs.Made.{calls_of_jobs}
 use Rattle.fl_jobs.specs.Jobs.{Job, own_calls, rule_for, has_rules}
 use Rattle.fl_dockets.specs.declared.docket.Docket.{Docket}
@@ -75,6 +76,33 @@ calls_at e job = []
 
 abbrev pub core_calls : List CoreJob → EndId → List TheCall
 core_calls jobs e = flat_map (calls_at e) jobs
+
+-- ---- what they set and open
+
+-- the rule for a message behind a job, where it was this before
+abbrev pub rule_behind : ℕ → Option ℕ → Option CoreJob → Option ℕ
+rule_behind msg rule (Some (job.Reply e m reply)) = if m.0 == msg then Some reply.0 else rule
+rule_behind msg rule j = rule
+
+-- and behind the jobs at these places, done one after another
+abbrev pub rule_by : List CoreJob → ℕ → Option ℕ → List ℕ → Option ℕ
+rule_by jobs msg rule [] = rule
+rule_by jobs msg rule (place ∷ places) = rule_by jobs msg (rule_behind msg rule (slice_get jobs place)) places
+
+-- just one job opens a binding, of this interface, and it is the first of these places
+pub record OpensFirst (jobs : List CoreJob) (places : List ℕ) (binding interface : ℕ) : Type 0 where
+  pub wish : CoreWish
+  pub place : ℕ
+  pub place_is : slice_get jobs place ≡ Some (job.Open wish)
+  pub binding_is : wish.opening.binding ≡ binding
+  pub interface_is : wish.interface ≡ interface
+  pub behind : List ℕ
+  pub first : places ≡ place ∷ behind
+  pub alone : (n : ℕ) (w : CoreWish) → slice_get jobs n ≡ Some (job.Open w) → w.opening.binding ≡ binding → n ≡ place
+
+-- no job opens it
+abbrev pub OpensNever : List CoreJob → ℕ → Type 0
+OpensNever jobs binding = (n : ℕ) (w : CoreWish) → slice_get jobs n ≡ Some (job.Open w) → w.opening.binding ≢ binding
 
 -- ---- how many calls are to be handled
 

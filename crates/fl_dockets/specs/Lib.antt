@@ -1,5 +1,6 @@
 pub mod Dockets
 pub mod Joined
+pub mod Kept
 pub mod Rules
 pub mod State
 pub mod Whole

@@ -1,5 +1,5 @@
 -- Jobs joined so far, and what each of them changes.
-use Rattle.std.specs.Prelude.{ℕ, ◌≡◌, ◌<◌, ◌*◌, Bool, true, false, if◌then◌else◌, List, [], ◌∷◌, ◌++◌, map, length, slice_get, Some}
+use Rattle.std.specs.Prelude.{ℕ, ◌≡◌, ◌<◌, ◌*◌, Bool, true, false, if◌then◌else◌, List, [], ◌∷◌, ◌++◌, map, length, slice_get, Some, None}
 use Rattle.fl_base.specs.declared.identity.EndId.{EndId}
 use Rattle.fl_base.specs.declared.identity.MsgNo.{MsgNo}
 use Rattle.fl_value.specs.declared.value.Call.{Call}
@@ -9,10 +9,11 @@ use Rattle.fl_node.specs.View.{slot_of, client_of}
 use Rattle.fl_running.specs.declared.job.Job.{Job as CoreJob}
 use Rattle.fl_running.specs.declared.job.Job.TheVariants as core
 use Rattle.fl_running.specs.declared.job.Wish.{Wish as CoreWish}
+use Rattle.fl_running.specs.Carried.{HasNoRule, RulesLead}
 use Rattle.fl_jobs.specs.Jobs.{Wish, Job}
 use Rattle.fl_dockets.specs.declared.docket.Bound.{Bound}
 use Rattle.fl_dockets.specs.declared.joining.Joined.{Joined}
-use Rattle.fl_dockets.specs.Dockets.{TheDocket, docket_of, no_docket, docket_at, with_place, end_of, is_ruled, due_in, IsDocket, Rules}
+use Rattle.fl_dockets.specs.Dockets.{TheDocket, docket_of, no_docket, docket_at, with_place, end_of, is_ruled, rule_at, rule_by, due_in, IsDocket, Rules, OpensFirst, OpensNever}
 use Rattle.fl_dockets.specs.Joined.{AreBindings}
 
 -- the jobs as cores do them, bindings, dockets by end, and of each job that opens a binding the core that does it
@@ -90,13 +91,32 @@ pub record RulePlanned (is_there : Bool) (e : EndId) (msg answer : MsgNo) (j j2 
 abbrev pub IsSafe : ℕ → TheJoined → Type 0
 IsSafe cores j = AreBindings cores j.bindings j.owners × (length j.dockets ≡ 2 * length j.bindings)
 
--- these jobs are joined, on so many cores
-pub record AreJoined (cores : ℕ) (asked : List Job) (j : TheJoined) : Type 0 where
+-- these jobs stand in the dockets of their ends, on so many cores
+pub record ArePlaced (cores : ℕ) (asked : List Job) (j : TheJoined) : Type 0 where
   pub bindings : AreBindings cores j.bindings j.owners
   pub dockets : length j.dockets ≡ 2 * length j.bindings
   pub each : (e : EndId) → IsDocket asked j.jobs e (docket_at j.dockets e)
   -- each is done at an end of a binding
   pub there : (n : ℕ) (job : CoreJob) → slice_get j.jobs n ≡ Some job → (end_of job).binding < length j.bindings
+
+-- these jobs are joined: so placed, and of each end and binding it is told where its rules come from, and what opens it
+pub record AreJoined (cores : ℕ) (asked : List Job) (j : TheJoined) : Type 0 where
+  pub bindings : AreBindings cores j.bindings j.owners
+  pub dockets : length j.dockets ≡ 2 * length j.bindings
+  pub each : (e : EndId) → IsDocket asked j.jobs e (docket_at j.dockets e)
+  pub there : (n : ℕ) (job : CoreJob) → slice_get j.jobs n ≡ Some job → (end_of job).binding < length j.bindings
+  -- no job sets a rule at an end without rules, and none behind a call does
+  pub unruled : (e : EndId) → is_ruled (docket_at j.dockets e) ≡ false → HasNoRule j.jobs (docket_at j.dockets e).jobs
+  pub lead : (e : EndId) → RulesLead j.jobs (docket_at j.dockets e).jobs
+  -- nor does one at an end of a binding that no job opens
+  pub at_once : (e : EndId) (b : Bound) → slice_get j.bindings e.binding ≡ Some b → b.opened ≡ None → HasNoRule j.jobs (docket_at j.dockets e).jobs
+  -- at an end of one that a job opens its jobs set the rules of its docket
+  pub later : (e : EndId) (b : Bound) (job : ℕ) → slice_get j.bindings e.binding ≡ Some b → b.opened ≡ Some job
+      → (msg : ℕ) → rule_at (docket_at j.dockets e).rules msg ≡ rule_by j.jobs msg None (docket_at j.dockets e).jobs
+  -- that job is the first of the client's end, and opens nothing else
+  pub opened : (n : ℕ) (b : Bound) (job : ℕ) → slice_get j.bindings n ≡ Some b → b.opened ≡ Some job
+      → OpensFirst j.jobs (docket_at j.dockets (client_of n)).jobs n b.interface
+  pub set_up : (n : ℕ) (b : Bound) → slice_get j.bindings n ≡ Some b → b.opened ≡ None → OpensNever j.jobs n
 
 -- ---- how many calls are due
 

@@ -1,5 +1,5 @@
 -- The jobs of a whole file, joined one after another to the bindings of a set-up.
-use Rattle.std.specs.Prelude.{ℕ, ◌≡◌, ◌⊎◌, ◌<◌, ◌+◌, ◌++◌, nat_lt, Bool, List, [], ◌∷◌, length, map, slice_get, None}
+use Rattle.std.specs.Prelude.{ℕ, ◌≡◌, ◌⊎◌, ◌<◌, ◌≤◌, ◌+◌, ◌++◌, nat_lt, Bool, List, [], ◌∷◌, length, map, slice_get, Some, None}
 use Rattle.std.specs.List.{flat_map}
 use Rattle.fl_base.specs.declared.identity.EndId.{EndId}
 use Rattle.fl_base.specs.declared.identity.MsgNo.{MsgNo}
@@ -75,6 +75,9 @@ all_about set_up jobs =
 
 pub record AreBound (set_up : List Binding) (jobs : List Job) (j : TheJoined) : Type 0 where
   pub bound : map about j.bindings ≡ all_about set_up jobs
+  -- those that are set up no job opens, and one opens each of the others
+  pub unopened : (n : ℕ) (b : Bound) → slice_get j.bindings n ≡ Some b → n < length set_up → b.opened ≡ None
+  pub opened : (n : ℕ) (b : Bound) → slice_get j.bindings n ≡ Some b → length set_up ≤ n → (job : ℕ) × (b.opened ≡ Some job)
 
 -- ---- what is told
 

@@ -6,7 +6,8 @@ ghost use Rattle.fl_jobs.specs.Views.{job_of};
 ghost use Rattle.fl_dockets.specs.Dockets.{docket_of};
 ghost use Rattle.fl_dockets.specs.Faults.{rule_fault_at, RuleStops, JobStops};
 ghost use Rattle.fl_dockets.specs.Joined.{AreBindings, HasDockets};
-ghost use Rattle.fl_dockets.specs.State.{joined_of, IsSafe, AreJoined};
+ghost use Rattle.fl_dockets.specs.Kept.{AreKept};
+ghost use Rattle.fl_dockets.specs.State.{joined_of, IsSafe, ArePlaced, AreJoined};
 ghost use Rattle.fl_dockets.specs.Rules.{RulesOf};
 ghost use Rattle.fl_dockets.specs.Whole.{bound_of, SetUp, Ruled, Joins, IsBeside, AreBound, AreDue, fault_at, FirstRefused, IsFault};
 
@@ -96,10 +97,12 @@ impl Joined {
         parts: &mut Parts,
         jobs: Vec<Job<'_>>,
     ) -> Result<(), JobFault>
-        requires joined { AreJoined (length parts.old.cores.items) [] (joined_of self.old) }
+        requires joined { ArePlaced (length parts.old.cores.items) [] (joined_of self.old) }
         requires bound { AreBound parts.old.bindings.items [] (joined_of self.old) }
-        ensures joined { OnOk result (AreJoined (length parts.old.cores.items) (map job_of jobs.entry.items) (joined_of self.new)) }
+        requires kept { AreKept parts.old.bindings.items [] (joined_of self.old) }
+        ensures joined { OnOk result (ArePlaced (length parts.old.cores.items) (map job_of jobs.entry.items) (joined_of self.new)) }
         ensures bound { OnOk result (AreBound parts.old.bindings.items (map job_of jobs.entry.items) (joined_of self.new)) }
+        ensures kept { OnOk result (AreKept parts.old.bindings.items (map job_of jobs.entry.items) (joined_of self.new)) }
         ensures rules { OnOk result (RulesOf parts.old.bindings.items (map job_of jobs.entry.items) parts.old.cores.items parts.new.cores.items) }
         ensures count { OnOk result (length parts.new.cores.items ≡ length parts.old.cores.items) }
         ensures beside { IsBeside parts.old parts.new }
@@ -128,8 +131,9 @@ fn fault_at(stop: Stop, place: usize) -> JobFault
 
 // The bindings of a set-up.
 fn set_up(alloc: Global, cores: usize, bindings: &[Binding]) -> Result<Joined, Stop>
-    ensures joined { IfOk result (λ j. AreJoined cores [] (joined_of j)) }
+    ensures joined { IfOk result (λ j. ArePlaced cores [] (joined_of j)) }
     ensures bound { IfOk result (λ j. AreBound bindings.now [] (joined_of j)) }
+    ensures kept { IfOk result (λ j. AreKept bindings.now [] (joined_of j)) }
 {
     let mut joined = Joined::new(alloc);
     for binding in bindings {

@@ -94,7 +94,7 @@ module _ {S : Type 0} (w : Ways S) (jobs : List Job) where
       (link_took log h.0 t h.3 (stays_apart s.core h.0.core grown apart_is) l i (side_after s.core.lanes h.0.core.lanes l i grown.lanes lane))
       ∙ sym (took_joins l (event_steps w jobs deed s h.1.0 h.2 h.1.1) (log_steps w jobs log h.0 t h.3))
 
-  side_carries : (log : List Deed) (s t : TheRun S) (h : Goes w jobs s log t) → IsApart s.core → (l n : ℕ) (p : S) → side_of_link s.core.lanes l ≡ Some n → slice_get s.rings n ≡ Some p
+  pub side_carries : (log : List Deed) (s t : TheRun S) (h : Goes w jobs s log t) → IsApart s.core → (l n : ℕ) (p : S) → side_of_link s.core.lanes l ≡ Some n → slice_get s.rings n ≡ Some p
       → SideCarries w.puts w.takes (put_on l (log_steps w jobs log s t h)) (taken_from l (log_steps w jobs log s t h)) p t.rings n
   side_carries log s t h apart_is l n p lane there =
       let (q, after, c) = log_bears w jobs log s t h n p there in

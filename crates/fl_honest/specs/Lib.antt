@@ -8,3 +8,8 @@ pub mod Circuits
 pub mod Named
 pub mod Neighbours
 pub mod Back
+pub mod Whole
+pub mod Unbound
+pub mod Rules
+pub mod Answered
+pub mod Asked

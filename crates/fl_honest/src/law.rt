@@ -6,6 +6,11 @@ ghost use Rattle.fl_honest.specs.Circuits.{CircuitsAreHonest};
 ghost use Rattle.fl_honest.specs.Cores.{CoresGo};
 ghost use Rattle.fl_honest.specs.Neighbours.{CoresName, NeighboursAgree, EntriesLeadBack};
 ghost use Rattle.fl_honest.specs.Back.{RoutesGoBack};
+ghost use Rattle.fl_honest.specs.Answered.{CoresAnswer, NeighboursOpen};
+ghost use Rattle.fl_honest.specs.Rules.{RulesAreSet};
+ghost use Rattle.fl_honest.specs.Unbound.{LooseEndsRest, SilenceIsHonest, LooseIsHonest};
+ghost use Rattle.fl_honest.specs.Whole.{RoutesBegin, BoundEndsMeet, ClientsAreHome, BoundIsHonest};
+ghost use Rattle.fl_honest.specs.Asked.{CoresAsk, WishesAlone, ServersAreWished, ClientsAreWished, EndsAreAtHome};
 
 use fl_deal::rings_conserve;
 use fl_endpoint::on_another_circuit;
@@ -109,4 +114,104 @@ pub fn routes_go_back()
     ensures back { RoutesGoBack }
 {
     entries_lead_back();
+}
+
+/// An end that isn't bound in the end, or isn't there, handled no call and made none. Where neither end of a binding handled a call, what is told of them is
+/// honest; so it is where neither is bound.
+pub fn loose_ends_rest()
+    ensures rest { LooseEndsRest }
+    ensures silence { SilenceIsHonest }
+    ensures loose { LooseIsHonest }
+{
+    turns_are_logged::<SharedSide>();
+    jobs_are_made::<SharedSide>();
+}
+
+/// An end that is made in a run, whose jobs set just the rules of its docket before they make a call, handled no call or has these rules in the end.
+pub fn rules_are_set()
+    ensures set { RulesAreSet }
+{
+    logs_flow::<SharedSide>();
+    turns_are_logged::<SharedSide>();
+    jobs_are_made::<SharedSide>();
+}
+
+/// In a run of a core that opened nothing before, what its monitor says to be open is so: an entry stands at that number, and leads to an end here or to a
+/// number whose opening was answered; and of each opening of its own that was answered it heard so.
+pub fn cores_answer()
+    ensures answer { CoresAnswer }
+{
+    on_another_circuit();
+}
+
+/// So where a number that one of the two cores of a link gave was answered, the other's entry there leads an open way.
+pub fn neighbours_open()
+    ensures leads { NeighboursOpen }
+{
+    cores_answer();
+    rings_conserve();
+    circuits_join();
+}
+
+/// From a number that leads to the server's end, a circuit's route goes back to the client's end, and passes no core twice.
+pub fn routes_begin()
+    ensures begins { RoutesBegin }
+{
+    entries_lead_back();
+}
+
+/// So where both ends of a binding are bound in the end, and no other core's table leads to the client's, a route leads from the one to the other.
+pub fn bound_ends_meet()
+    ensures meet { BoundEndsMeet }
+{
+    routes_begin();
+}
+
+/// No core's table leads to a binding's client's end, but that of the client's own: its job alone opens the binding.
+pub fn clients_are_home()
+    ensures home { ClientsAreHome }
+{}
+
+/// So what desks have is honest of each binding over a circuit whose two ends are bound in the end.
+pub fn bound_is_honest()
+    ensures honest { BoundIsHonest }
+{
+    bound_ends_meet();
+    clients_are_home();
+    circuits_are_honest();
+}
+
+/// In a run of a core that had nothing to say before, what asks for a circuit, of all that its monitor said, is what a job wishes for, or was heard on a link
+/// whose other core comes before this one on the route; and an end that was made was asked for by what was heard, or by a job of a desk.
+pub fn cores_ask()
+    ensures ask { CoresAsk }
+{
+    on_another_circuit();
+}
+
+/// So whatever the cores of a run say, what asks for a circuit between them is what a job wishes for: it was heard from the core before on the route, and
+/// there are so many at most.
+pub fn wishes_alone()
+    ensures alone { WishesAlone }
+{
+    cores_ask();
+    rings_conserve();
+    circuits_join();
+}
+
+/// An end that was made in a run is one of a job's binding: a server's end at the core of the service that is wished for, with the program of its interface,
+/// and a client's end at a core that did the job.
+pub fn ends_are_wished()
+    ensures servers { ServersAreWished }
+    ensures clients { ClientsAreWished }
+{
+    wishes_alone();
+    cores_ask();
+}
+
+/// So where cores were set up together, an end that was made in their run is at the core that its binding names, with the program of the binding's interface.
+pub fn ends_are_at_home()
+    ensures home { EndsAreAtHome }
+{
+    ends_are_wished();
 }

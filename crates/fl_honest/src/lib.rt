@@ -6,9 +6,12 @@
 //! what the other made, and that the first of what was handed in for it ([`ends_are_honest`]). So it is of bindings by queues and by rings, and a report is
 //! honest that tells what the desks of cores have whose bindings are all such ([`off_links_are_honest`], `specs/Bindings.antt`). And so it is of a binding
 //! over a circuit whose ends are bound in the end, where the tables of the cores of its route lead from one to the other ([`circuits_are_honest`],
-//! `specs/Circuits.antt`). That they do is no law here yet, but this is: the cores on the two sides of a link mean one binding by each of its numbers, and an
-//! entry leads back over the link to the client's end, or to one more station ([`neighbours_agree`], [`entries_lead_back`], `specs/Named.antt`,
-//! `specs/Neighbours.antt`), and so on ([`routes_go_back`], `specs/Back.antt`).
+//! `specs/Circuits.antt`). That they do: the cores on the two sides of a link mean one binding by each of its numbers, and an entry leads back over the link
+//! to the client's end, or to one more station ([`neighbours_agree`], [`entries_lead_back`], `specs/Named.antt`, `specs/Neighbours.antt`), and so on
+//! ([`routes_go_back`], `specs/Back.antt`); no core is passed twice, so the route begins at the client's end ([`routes_begin`]), which is at the binding's own
+//! core ([`clients_are_home`]). So what is told of a binding whose two ends are bound in the end is honest ([`bound_is_honest`], `specs/Whole.antt`).
+//! Whatever the cores say, what is asked for between them is what jobs wish for, and an end that is made is at the core that its binding names
+//! ([`wishes_alone`], [`ends_are_at_home`], `specs/Asked.antt`).
 //!
 //! - `law.rt`: the laws
 #![tactic(auto)]
@@ -16,6 +19,9 @@
 mod law;
 
 pub use law::{
-    circuits_are_honest, cores_go, cores_name, cross_off_links, ends_are_honest, entries_lead_back,
-    neighbours_agree, off_links_are_honest, reports_are_honest, routes_go_back,
+    bound_ends_meet, bound_is_honest, circuits_are_honest, clients_are_home, cores_answer,
+    cores_ask, cores_go, cores_name, cross_off_links, ends_are_at_home, ends_are_honest,
+    ends_are_wished, entries_lead_back, loose_ends_rest, neighbours_agree, neighbours_open,
+    off_links_are_honest, reports_are_honest, routes_begin, routes_go_back, rules_are_set,
+    wishes_alone,
 };

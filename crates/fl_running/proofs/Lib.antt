@@ -22,6 +22,7 @@ pub mod Queueing
 pub mod Sending
 pub mod Ruling
 pub mod Sounding
+pub mod Refusing
 pub mod Bearing
 pub mod Laning
 pub mod Apart

@@ -27,6 +27,7 @@ use std::alloc::AllocError;
 // ---- jobs
 
 // The job that is next at an end.
+#[inline(always)]
 pub(crate) fn next_job<'a, S>(run: &Running<S>, jobs: &'a [Job], name: EndId) -> Option<&'a Job>
     ensures next { IfSome result (λ job. next_job jobs.now (run_of run.now) name ≡ Some job.now) }
     ensures none { IfNone result (next_job jobs.now (run_of run.now) name ≡ None) }
@@ -94,6 +95,10 @@ fn try_call<S: PutSide + TakeSide + Drop>(
         None => Ok(()),
         Some(e) => {
             sound_at(run, name, e);
+            // it would be refused, once it was looked at whether it fits
+            if run.core.board().end(e).is_busy() {
+                return Ok(());
+            }
             let answer = call(run, name, e, next)?;
             note(run, name, answer);
             Ok(())

@@ -1,14 +1,23 @@
 use Rattle.std.proofs.Common.{map, length}
 use Rattle.fl_jobs.specs.Views.{job_of}
 use Rattle.fl_dockets.specs.State.{joined_of}
-use Rattle.fl_dockets.proofs.Owed.{told_joined, all_due}
+use Rattle.fl_dockets.proofs.Keeping.{told_kept, all_joined}
+use Rattle.fl_dockets.proofs.Owed.{told_placed, all_due}
 use Rattle.fl_dockets.proofs.Stepwise.{told_bound}
 use Rattle.fl_dockets.proofs.whole.join_jobs.Goals as goal
 
 pub returns-clause-joined : goal.returns-clause-joined
 returns-clause-joined c =
-    told_joined (length c.args.parts.now.cores.items) (map job_of c.args.jobs.items) _ (joined_of c.join_all.new.self) (joined_of c.set_dues.new.self)
-    c.in_ok-join_all.ensures.joined c.set_dues.ensures.dues
+    let jobs = map job_of c.args.jobs.items in
+    let before = joined_of c.join_all.new.self in
+    let after = joined_of c.set_dues.new.self in
+    let dues = c.set_dues.ensures.dues in
+    let cores = length c.args.parts.now.cores.items in
+    let set_up = c.args.parts.now.bindings.items in
+    all_joined cores set_up jobs after
+    (told_placed cores jobs _ before after c.in_ok-join_all.ensures.joined dues)
+    (told_bound set_up jobs _ before after c.in_ok-join_all.ensures.bound dues)
+    (told_kept set_up jobs _ before after c.in_ok-join_all.ensures.kept dues)
 
 pub returns-clause-due : goal.returns-clause-due
 returns-clause-due c =

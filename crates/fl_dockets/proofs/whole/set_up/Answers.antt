@@ -1,14 +1,17 @@
 use Rattle.std.proofs.Common.{[], subst, sym}
-use Rattle.fl_dockets.specs.State.{TheJoined, joined_of, AreJoined}
+use Rattle.fl_dockets.specs.State.{TheJoined, joined_of, ArePlaced}
+use Rattle.fl_dockets.specs.Kept.{AreKept}
 use Rattle.fl_dockets.specs.Whole.{AreBound}
+use Rattle.fl_dockets.proofs.Keeping.{kept_none, kept_set_up}
 use Rattle.fl_dockets.proofs.OneMore.{nothing}
 use Rattle.fl_dockets.proofs.Stepwise.{set_up_more, set_up_none, set_up_turn, set_up_all}
 use Rattle.fl_dockets.proofs.whole.set_up.Goals as goal
 
 pub loop-binding-init : goal.loop-binding-init
 loop-binding-init c = record {
-  joined = subst (λ (t : TheJoined). AreJoined c.args.cores [] t) (sym c.new-joined.ensures.none) (nothing c.args.cores);
+  joined = subst (λ (t : TheJoined). ArePlaced c.args.cores [] t) (sym c.new-joined.ensures.none) (nothing c.args.cores);
   bound = subst (λ (t : TheJoined). AreBound [] [] t) (sym c.new-joined.ensures.none) (set_up_none c.args.bindings.now);
+  kept = subst (λ (t : TheJoined). AreKept c.args.bindings.now [] t) (sym c.new-joined.ensures.none) (kept_none c.args.bindings.now);
 }
 
 pub loop-binding-preserved : goal.loop-binding-preserved
@@ -16,6 +19,8 @@ loop-binding-preserved c = record {
   joined = set_up_more c.args.cores [] _ (joined_of c.loop-binding.joined) (joined_of c.set_up.new.self) c.in_ok-set_up.ensures.set_up c.loop-binding.invariant.joined;
   bound = set_up_turn c.args.cores c.args.bindings.now c.loop-binding.binding-index c.binding-item.result _ (joined_of c.loop-binding.joined) (joined_of c.set_up.new.self)
       c.loop-binding-test.true c.binding-item.is c.in_ok-set_up.ensures.set_up c.loop-binding.invariant.bound;
+  kept = kept_set_up c.args.bindings.now c.args.cores _ (joined_of c.loop-binding.joined) (joined_of c.set_up.new.self) c.in_ok-set_up.ensures.set_up
+      c.loop-binding.invariant.joined c.loop-binding.invariant.kept;
 }
 
 pub returns-clause-bound : goal.returns-clause-bound

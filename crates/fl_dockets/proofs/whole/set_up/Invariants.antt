@@ -1,11 +1,13 @@
 use Rattle.std.proofs.Common.{[], take}
-use Rattle.fl_dockets.specs.State.{joined_of, AreJoined}
+use Rattle.fl_dockets.specs.State.{joined_of, ArePlaced}
+use Rattle.fl_dockets.specs.Kept.{AreKept}
 use Rattle.fl_dockets.specs.Whole.{AreBound}
 use Rattle.fl_dockets.proofs.whole.set_up.Given as goal
 
 -- the bindings so far
 abbrev pub invariant-loop-binding : goal.invariant-loop-binding
 invariant-loop-binding l = record {
-  joined : AreJoined l.cores [] (joined_of l.joined);
+  joined : ArePlaced l.cores [] (joined_of l.joined);
   bound : AreBound (take l.binding-index l.bindings) [] (joined_of l.joined);
+  kept : AreKept l.bindings [] (joined_of l.joined);
 }

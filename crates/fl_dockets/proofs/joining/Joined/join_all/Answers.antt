@@ -1,7 +1,8 @@
-use Rattle.std.proofs.Common.{◌∙◌, ℕ, sym, subst, map}
+use Rattle.std.proofs.Common.{◌∙◌, ℕ, sym, subst, map, length}
 use Rattle.std.specs.Vec.Iter.{into_iter_items}
 use Rattle.fl_jobs.specs.Views.{job_of}
 use Rattle.fl_dockets.specs.State.{joined_of, AreJoined}
+use Rattle.fl_dockets.proofs.Keeping.{kept_turn, all_joined}
 use Rattle.fl_dockets.proofs.Stepwise.{joined_turn, bound_turn, rules_turn, count_of, place_turn, beside_still}
 use Rattle.fl_dockets.proofs.Refusing.{left_turn, whole_of, first_refused}
 use Rattle.fl_dockets.proofs.joining.Joined.join_all.Goals as goal
@@ -15,6 +16,8 @@ loop-job-preserved c =
           (joined_of c.join_one.new.self) c.join_one.new.parts.cores.items i.count joins i.joined;
       bound = bound_turn c.args.parts.now.bindings.items c.loop-job.yielded c.in-Some.job c.loop-job.parts.bindings.items (joined_of c.loop-job.self)
           c.loop-job.parts.cores.items (joined_of c.join_one.new.self) c.join_one.new.parts.cores.items joins i.bound;
+      kept = kept_turn _ c.loop-job.yielded c.in-Some.job c.args.parts.now.bindings.items c.loop-job.parts.bindings.items (joined_of c.loop-job.self)
+          c.loop-job.parts.cores.items (joined_of c.join_one.new.self) c.join_one.new.parts.cores.items i.beside.bindings joins i.joined i.kept;
       rules = rules_turn c.loop-job.yielded c.in-Some.job c.args.parts.now.bindings.items c.loop-job.parts.bindings.items (joined_of c.loop-job.self)
           c.args.parts.now.cores.items c.loop-job.parts.cores.items (joined_of c.join_one.new.self) c.join_one.new.parts.cores.items i.beside.bindings joins i.rules;
       count = count_of c.loop-job.parts.bindings.items (job_of c.in-Some.job) (joined_of c.loop-job.self) c.loop-job.parts.cores.items
@@ -31,7 +34,9 @@ returns-in-Err-clause-refused c =
     let jobs = map job_of c.args.jobs.items in
     let rest = into_iter_items c.next.new.self in
     let whole = whole_of jobs c.loop-job.yielded (into_iter_items c.loop-job.job-iterator) rest c.in-Some.job c.in-Some.ensures.steps.0 i.left in
-    let were = subst (λ (n : ℕ). AreJoined n (map job_of c.loop-job.yielded) (joined_of c.loop-job.self)) (sym i.count) i.joined in
+    let joined = all_joined (length c.args.parts.now.cores.items) c.args.parts.now.bindings.items (map job_of c.loop-job.yielded) (joined_of c.loop-job.self)
+    i.joined i.bound i.kept in
+    let were = subst (λ (n : ℕ). AreJoined n (map job_of c.loop-job.yielded) (joined_of c.loop-job.self)) (sym i.count) joined in
     first_refused c.args.parts.now c.loop-job.parts c.args.jobs.items c.loop-job.yielded rest c.in-Some.job c.loop-job.place (joined_of c.loop-job.self)
-    i.beside whole i.place i.joined i.bound c.in-Err.stop c.fault_at.result c.fault_at.ensures.fault
+    i.beside whole i.place joined i.bound c.in-Err.stop c.fault_at.result c.fault_at.ensures.fault
     (c.in-Err.ensures.refused (map job_of c.loop-job.yielded) were)
