@@ -21,8 +21,6 @@ mod law;
 mod names;
 mod registration;
 mod registrations;
-#[cfg(test)]
-mod tests;
 
 pub use fault::NameFault;
 pub use law::{each_is_found, found_is_registered};

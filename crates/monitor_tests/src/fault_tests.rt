@@ -2,12 +2,13 @@
 
 use fl_base::{Circuit, Frag};
 use fl_monitor::{Message, Messenger};
+use fl_wire::WireFault;
 use std::test::Fail;
 
 // A fragment's control word and first words, and the number of its first fault.
 type Row = (u64, [u64; 4], u8);
 
-const FAULTS: [Row; 18] = [
+const FAULTS: &[Row] = &[
     // no first fragment, with either epoch
     (0, [0, 0, 0, 0], 60),
     (0x1_0001, [0, 0, 0, 0], 60),
@@ -35,39 +36,33 @@ const FAULTS: [Row; 18] = [
     (0x2_0002, [0, 1, 0, 0], 63),
 ];
 
-fn frag(control: u64, words: [u64; 4]) -> Frag {
+// What a fragment of these words says.
+fn reads(messenger: &mut Messenger, control: u64, words: [u64; 4]) -> Result<Message, WireFault> {
     let [a, b, c, d] = words;
-    Frag {
+    messenger.read(&Frag {
         words: [a, b, c, d, 0, 0, 0],
         control,
-    }
+    })
 }
 
-// The number of a fragment's fault; none of one that says a message.
-fn fault_of(messenger: &mut Messenger, frag: &Frag) -> Option<u8> {
-    match messenger.read(frag) {
-        Ok(_) => None,
-        Err(fault) => Some(fault.number()),
-    }
+// Whether a row's fragment has its fault, and the messenger reads on after it.
+fn is_refused(messenger: &mut Messenger, row: &Row) -> Result<bool, WireFault> {
+    let (control, words, number) = *row;
+    let refused = match reads(messenger, control, words) {
+        Ok(_) => false,
+        Err(fault) => fault.number() == number,
+    };
+    let message = Message::CircuitOpened {
+        circuit: Circuit(5),
+    };
+    Ok(refused && reads(messenger, 0x1_0002, [5, 0, 0, 0])? == message)
 }
 
-// After each fault the messenger reads on.
 #[test]
 fn the_first_fault(rt: HostRuntime) -> Result<(), Fail> {
     let mut messenger = Messenger::new(rt.alloc())?;
-    let good = frag(0x1_0002, [5, 0, 0, 0]);
-    for (control, words, fault) in FAULTS {
-        assert_eq!(rt;
-            fault_of(&mut messenger, &frag(control, words)),
-            Some(fault)
-        );
-        let read = messenger.read(&good)?;
-        assert_eq!(rt;
-            read,
-            Message::CircuitOpened {
-                circuit: Circuit(5)
-            }
-        );
+    for (place, row) in FAULTS.iter().enumerate() {
+        assert_eq!(rt; (place, is_refused(&mut messenger, row)?), (place, true));
     }
     Ok(())
 }

@@ -2,9 +2,8 @@
 
 use fl_base::CoreId;
 use fl_monitor::{MAX_ROUTE, Path};
-use std::test::Fail;
 
-const CORES: [CoreId; 17] = [
+const CORES: &[CoreId] = &[
     CoreId(3),
     CoreId(0),
     CoreId(255),
@@ -24,29 +23,27 @@ const CORES: [CoreId; 17] = [
     CoreId(0),
 ];
 
-#[test]
-fn routes_of_every_length(rt: HostRuntime) -> Result<(), Fail> {
-    for count in 0..=16 {
-        let cores = &CORES[..count];
-        match Path::new(cores) {
-            Some(path) => {
-                assert_eq!(rt; path.cores(), cores);
-                assert_eq!(rt; Path::new(path.cores()), Some(path));
-            }
-            None => assert!(rt; false),
-        }
-    }
-    assert_eq!(rt; MAX_ROUTE, 16);
-    assert_eq!(rt; Path::new(&CORES), None);
-    Ok(())
+// Whether the first so many cores are a route that gives them back; `None` where they are no route.
+fn is_kept(count: usize) -> Option<bool> {
+    let cores = CORES.get(..count)?;
+    let path = Path::new(cores)?;
+    Some(path.cores() == cores && Path::new(path.cores()) == Some(path))
 }
 
-// A core 0 at the end of a route is told from the place behind a shorter one.
+// Whether two lists of cores are routes that differ.
+fn differ(one: &[CoreId], other: &[CoreId]) -> bool {
+    let (one, other) = (Path::new(one), Path::new(other));
+    one.is_some() && other.is_some() && one != other
+}
+
 #[test]
-fn core_0_counts(rt: HostRuntime) -> Result<(), Fail> {
-    let short = Path::new(&CORES[..1]);
-    let long = Path::new(&CORES[..2]);
-    assert!(rt; short != long);
-    assert!(rt; Path::new(&[]) != Path::new(&[CoreId(0)]));
-    Ok(())
+fn routes(rt: HostRuntime) {
+    for count in 0..=16 {
+        assert_eq!(rt; is_kept(count), Some(true));
+    }
+    assert_eq!(rt; MAX_ROUTE, 16);
+    assert_eq!(rt; Path::new(CORES), None);
+    // A core 0 at the end of a route is told from the place behind a shorter one.
+    assert!(rt; differ(&[CoreId(3)], &[CoreId(3), CoreId(0)]));
+    assert!(rt; differ(&[], &[CoreId(0)]));
 }
