@@ -5,10 +5,14 @@
 #![tactic(auto)]
 
 #[cfg(test)]
+mod images;
+#[cfg(test)]
 mod memory_tests;
 #[cfg(test)]
 mod row_tests;
 #[cfg(test)]
 mod stub_tests;
+#[cfg(test)]
+mod text_tests;
 #[cfg(test)]
 mod writable_tests;

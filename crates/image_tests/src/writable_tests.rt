@@ -12,36 +12,28 @@ fn word(alloc: Global, bytes: &[u8]) -> Result<Word, AllocError> {
     Ok(Word { bytes })
 }
 
-/// The interface of that name, without messages.
-fn empty(alloc: Global, name: &[u8]) -> Result<Interface, AllocError> {
+/// Whether an interface of that name, without messages, can be spelled.
+fn is_name(alloc: Global, name: &[u8]) -> Result<bool, AllocError> {
     let name = word(alloc, name)?;
     let messages = Vec::new(alloc);
-    Ok(Interface { name, messages })
+    Ok(is_writable(&Interface { name, messages }))
 }
 
-#[test]
-fn names_are_words(rt: HostRuntime) -> Result<(), Fail> {
-    let rows: &[(&[u8], bool)] = &[
-        (b"i", true),
-        (b"_4", true),
-        (b"", false),
-        (b"4x", false),
-        (b"a b", false),
-        (
-            b"a_name_of_64_bytes_which_is_as_long_as_a_name_in_an_image_may_be",
-            true,
-        ),
-        (
-            b"a_name_of_65_bytes_which_is_longer_than_a_name_in_an_image_may_be",
-            false,
-        ),
-    ];
-    for (name, wanted) in rows {
-        let interface = empty(rt.alloc(), name)?;
-        assert_eq!(rt; is_writable(&interface), *wanted);
-    }
-    Ok(())
-}
+const NAMES: &[(&[u8], bool)] = &[
+    (b"i", true),
+    (b"_4", true),
+    (b"", false),
+    (b"4x", false),
+    (b"a b", false),
+    (
+        b"a_name_of_64_bytes_which_is_as_long_as_a_name_in_an_image_may_be",
+        true,
+    ),
+    (
+        b"a_name_of_65_bytes_which_is_longer_than_a_name_in_an_image_may_be",
+        false,
+    ),
+];
 
 /// The interface `i` with a message `m` of one argument, an enum of so many enumerators.
 fn of_enum(alloc: Global, count: u32) -> Result<Interface, AllocError>
@@ -58,7 +50,10 @@ fn of_enum(alloc: Global, count: u32) -> Result<Interface, AllocError>
 }
 
 #[test]
-fn enums_are_short(rt: HostRuntime) -> Result<(), Fail> {
+fn names_are_words_and_enums_are_short(rt: HostRuntime) -> Result<(), Fail> {
+    for (name, wanted) in NAMES {
+        assert_eq!(rt; is_name(rt.alloc(), name)?, *wanted);
+    }
     assert!(rt; is_writable(&of_enum(rt.alloc(), 65_535)?));
     assert!(rt; !is_writable(&of_enum(rt.alloc(), 65_536)?));
     assert!(rt; !is_writable(&of_enum(rt.alloc(), 65_541)?));
