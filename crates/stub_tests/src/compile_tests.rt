@@ -1,18 +1,20 @@
 //! The code of messages under both plans.
 
+use crate::rows::wrong;
 use fl_base::MsgNo;
 use fl_check::{Interface, TextFault, check};
 use fl_compile::{Program, compile};
 use fl_lex::lex;
 use fl_parse::parse;
-use fl_stub::{Column, Op};
+use fl_stub::{Column, Op, VerifiedCode};
 use fl_value::PlanNo;
-use std::alloc::Global;
+use std::alloc::{AllocError, Global};
 use std::test::Fail;
 
-// An interface's text, a plan, a message's number, and the message's two codes.
+// An interface's text and how many messages it has, a plan, a message's number, and the message's two codes.
 struct Row {
     text: &'static [u8],
+    messages: u16,
     plan: PlanNo,
     msg: MsgNo,
     send: &'static [Op],
@@ -49,9 +51,10 @@ const DEEP: &[u8] = b"interface i {
     message m(a7 x[n, 4]);
 }";
 
-const ROWS: [Row; 10] = [
+const ROWS: &[Row] = &[
     Row {
         text: BETWEEN,
+        messages: 1,
         plan: PlanNo::One,
         msg: MsgNo(0),
         send: &[
@@ -79,6 +82,7 @@ const ROWS: [Row; 10] = [
     },
     Row {
         text: BETWEEN,
+        messages: 1,
         plan: PlanNo::Two,
         msg: MsgNo(0),
         send: &[
@@ -104,6 +108,7 @@ const ROWS: [Row; 10] = [
     },
     Row {
         text: BLOCK,
+        messages: 2,
         plan: PlanNo::Two,
         msg: MsgNo(0),
         send: &[Op::End],
@@ -111,6 +116,7 @@ const ROWS: [Row; 10] = [
     },
     Row {
         text: BLOCK,
+        messages: 2,
         plan: PlanNo::One,
         msg: MsgNo(1),
         send: &[
@@ -144,6 +150,7 @@ const ROWS: [Row; 10] = [
     },
     Row {
         text: BLOCK,
+        messages: 2,
         plan: PlanNo::Two,
         msg: MsgNo(1),
         send: &[
@@ -175,6 +182,7 @@ const ROWS: [Row; 10] = [
     },
     Row {
         text: MIXED,
+        messages: 1,
         plan: PlanNo::One,
         msg: MsgNo(0),
         send: &[
@@ -218,6 +226,7 @@ const ROWS: [Row; 10] = [
     },
     Row {
         text: MIXED,
+        messages: 1,
         plan: PlanNo::Two,
         msg: MsgNo(0),
         send: &[
@@ -257,6 +266,7 @@ const ROWS: [Row; 10] = [
     },
     Row {
         text: DYNAMIC,
+        messages: 1,
         plan: PlanNo::One,
         msg: MsgNo(0),
         send: &[
@@ -292,6 +302,7 @@ const ROWS: [Row; 10] = [
     },
     Row {
         text: STRUCTS,
+        messages: 1,
         plan: PlanNo::One,
         msg: MsgNo(0),
         send: &[
@@ -317,6 +328,7 @@ const ROWS: [Row; 10] = [
     },
     Row {
         text: DEEP,
+        messages: 1,
         plan: PlanNo::Two,
         msg: MsgNo(0),
         send: &[
@@ -377,51 +389,48 @@ fn compiled(alloc: Global, text: &[u8], plan: PlanNo) -> Result<Program, Fail> {
     Ok(compile(alloc, &interface, plan)?)
 }
 
-// Whether a message's two codes are these.
-fn has_codes(program: &Program, msg: MsgNo, send: &[Op], receive: &[Op]) -> bool {
-    let Some(sending) = program.send_code(msg) else {
-        return false;
-    };
-    let Some(receiving) = program.receive_code(msg) else {
-        return false;
-    };
-    sending.column() == Column::Send
-        && sending.ops() == send
-        && receiving.column() == Column::Receive
-        && receiving.ops() == receive
+fn is_code(code: Option<&VerifiedCode>, column: Column, ops: &[Op]) -> bool {
+    match code {
+        Some(code) => code.column() == column && code.ops() == ops,
+        None => false,
+    }
 }
 
-#[test]
-fn codes_of_messages(rt: HostRuntime) -> Result<(), Fail> {
-    for row in ROWS.iter() {
-        let program = compiled(rt.alloc(), row.text, row.plan)?;
-        assert_eq!(rt; program.plan(), row.plan);
-        assert!(rt; has_codes(&program, row.msg, row.send, row.receive));
+fn has_none(program: &Program, msg: MsgNo) -> bool {
+    program.send_code(msg).is_none() && program.receive_code(msg).is_none()
+}
+
+// Whether a program has the row's plan, messages and codes, and no code past the last message.
+fn is_of(program: &Program, row: &Row) -> bool {
+    program.plan() == row.plan
+        && program.interface().messages.len() == usize::from(row.messages)
+        && is_code(program.send_code(row.msg), Column::Send, row.send)
+        && is_code(program.receive_code(row.msg), Column::Receive, row.receive)
+        && has_none(program, MsgNo(row.messages))
+        && has_none(program, MsgNo(65_535))
+}
+
+fn has_duplicate(alloc: Global, program: &Program, row: &Row) -> Result<bool, AllocError> {
+    let again = program.duplicate(alloc)?;
+    Ok(is_of(&again, row))
+}
+
+// Whether the row's program is as the row says, and so is its duplicate.
+fn is_compiled(alloc: Global, row: &Row) -> Result<bool, Fail> {
+    let program = compiled(alloc, row.text, row.plan)?;
+    Ok(is_of(&program, row) && has_duplicate(alloc, &program, row)?)
+}
+
+fn rows_hold(alloc: Global) -> Result<(), Fail> {
+    for (index, row) in ROWS.iter().enumerate() {
+        if !is_compiled(alloc, row)? {
+            return Err(wrong(index));
+        }
     }
     Ok(())
 }
 
 #[test]
-fn a_duplicate_has_the_same_codes(rt: HostRuntime) -> Result<(), Fail> {
-    for row in ROWS.iter() {
-        let program = compiled(rt.alloc(), row.text, row.plan)?;
-        let again = program.duplicate(rt.alloc())?;
-        assert_eq!(rt; again.plan(), row.plan);
-        assert_eq!(rt;
-            again.interface().messages.len(),
-            program.interface().messages.len()
-        );
-        assert!(rt; has_codes(&again, row.msg, row.send, row.receive));
-    }
-    Ok(())
-}
-
-#[test]
-fn no_code_past_the_last_message(rt: HostRuntime) -> Result<(), Fail> {
-    let program = compiled(rt.alloc(), BLOCK, PlanNo::Two)?;
-    assert_eq!(rt; program.interface().messages.len(), 2);
-    assert!(rt; program.send_code(MsgNo(2)).is_none());
-    assert!(rt; program.receive_code(MsgNo(2)).is_none());
-    assert!(rt; program.send_code(MsgNo(65_535)).is_none());
-    Ok(())
+fn codes_of_messages_and_of_duplicates(rt: HostRuntime) -> Result<(), Fail> {
+    rows_hold(rt.alloc())
 }

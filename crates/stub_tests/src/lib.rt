@@ -10,6 +10,8 @@ mod compile_tests;
 #[cfg(test)]
 mod recv_tests;
 #[cfg(test)]
+mod rows;
+#[cfg(test)]
 mod send_tests;
 #[cfg(test)]
 mod verify_tests;

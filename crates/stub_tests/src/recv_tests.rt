@@ -5,15 +5,14 @@ ghost use Rattle.fl_check.specs.Interface.{interface_of};
 ghost use Rattle.fl_machine.specs.Receiving.{HoldsTapes};
 
 use crate::compile_tests::interface;
+use crate::rows::wrong;
 use fl_base::{Frag, MsgNo};
 use fl_compile::compile;
-use fl_layout::{Plans, plan};
+use fl_layout::Plans;
 use fl_machine::{Fed, RecvRun, takes_fragments};
-use fl_value::{PlanNo, print_call};
+use fl_value::{Call, PlanNo, print_call};
 use std::alloc::{AllocError, Global};
 use std::test::Fail;
-
-const PLANS: [PlanNo; 2] = [PlanNo::One, PlanNo::Two];
 
 const SHORT: &[u8] = b"interface i { message m(bool b, string s[2]); }";
 
@@ -34,15 +33,14 @@ const FIRST: Frag = Frag {
     control: 2,
 };
 
-const BLOB_CALL: &[u8] = b"blob(\"aaaaaaaaaaaaaaaaaaaaaaaaaaaaaaaaaaaaaaaaaaaaaaaaa\")";
-
-// A fragment whose first three words are given.
-fn starting(control: u64, words: [u64; 3]) -> Frag {
-    let [a, b, c] = words;
-    Frag {
-        words: [a, b, c, 0, 0, 0, 0],
-        control,
-    }
+// A fragment whose control word and first three words are given.
+macro_rules! frag {
+    ($control:expr; $($word:expr),*) => {
+        Frag {
+            words: [$($word,)* 0, 0, 0, 0],
+            control: $control,
+        }
+    };
 }
 
 // The last fragment of that call, and the one of `nop`.
@@ -69,14 +67,13 @@ fn capacity(plans: &Plans) -> usize
     most
 }
 
-// A run of an interface's program; none only where memory runs out.
-fn run(alloc: Global, text: &[u8], number: PlanNo) -> Result<RecvRun, AllocError> {
+// A run of an interface's program; fails only where memory runs out.
+fn run(alloc: Global, text: &[u8], plan: PlanNo) -> Result<RecvRun, AllocError> {
     let Ok(interface) = interface(alloc, text) else {
         return Err(AllocError);
     };
-    let plans = plan(alloc, &interface, number)?;
-    let program = compile(alloc, &interface, number)?;
-    let most = capacity(&plans);
+    let program = compile(alloc, &interface, plan)?;
+    let most = capacity(program.plans());
     RecvRun::new(alloc, program, most)
 }
 
@@ -106,61 +103,42 @@ fn answers(run: &mut RecvRun, steps: &[Step]) -> bool {
     true
 }
 
-// Whether a new run answers so, under both plans.
-fn takes(alloc: Global, text: &[u8], steps: &[Step]) -> Result<bool, AllocError> {
-    for number in PLANS {
-        let mut run = run(alloc, text, number)?;
-        if !answers(&mut run, steps) {
-            return Ok(false);
-        }
-    }
-    Ok(true)
+fn takes_under(
+    alloc: Global,
+    text: &[u8],
+    plan: PlanNo,
+    steps: &[Step],
+) -> Result<bool, AllocError> {
+    let mut run = run(alloc, text, plan)?;
+    Ok(answers(&mut run, steps))
 }
 
-const FORGED: [(u64, [u64; 3], Answer); 8] = [
-    (1, [0, 0, 0], Err(60)),
-    (3, [2, 0, 0], Err(65)),
-    (3, [1, 3, 0], Err(66)),
-    (3, [257, 0, 0], Err(63)),
-    (3, [1, 1, 0], Err(65)),
-    (11, [0, 0, 0], Err(63)),
-    (65_539, [0, 0, 0], Err(62)),
-    (3, [1, 1, 0x61], Ok(Fed::Whole)),
-];
-
-#[test]
-fn one_forged_fragment(rt: HostRuntime) -> Result<(), Fail> {
-    for (control, words, wanted) in FORGED {
-        let steps = [(starting(control, words), wanted, false)];
-        assert!(rt; takes(rt.alloc(), SHORT, &steps)?);
-    }
-    Ok(())
+// Whether a new run answers so, under both plans.
+fn takes(alloc: Global, text: &[u8], steps: &[Step]) -> Result<bool, AllocError> {
+    Ok(
+        takes_under(alloc, text, PlanNo::One, steps)?
+            && takes_under(alloc, text, PlanNo::Two, steps)?,
+    )
 }
 
 // Each is refused inside the call, which then goes on; an epoch and a count told change nothing.
-fn inside() -> [Step; 8] {
-    [
-        (FIRST, Ok(Fed::Part), false),
-        (starting(3, [0x61, 0, 0]), Err(61), false),
-        (starting(65_537, [0x61, 0, 0]), Err(62), false),
-        (starting(1, [0x6161, 0, 0]), Err(63), false),
-        (starting(1, [0, 0, 0]), Err(65), false),
-        (
-            starting(0xfffa_0000_0000_0001, [0x61, 0, 0]),
-            Ok(Fed::Whole),
-            false,
-        ),
-        (LAST, Err(60), false),
-        (
-            starting(0xfffa_0000_0001_0003, [0, 0, 0]),
-            Ok(Fed::Whole),
-            false,
-        ),
-    ]
-}
+const INSIDE: &[Step] = &[
+    (FIRST, Ok(Fed::Part), false),
+    (frag!(3; 0x61, 0, 0), Err(61), false),
+    (frag!(65_537; 0x61, 0, 0), Err(62), false),
+    (frag!(1; 0x6161, 0, 0), Err(63), false),
+    (frag!(1; 0, 0, 0), Err(65), false),
+    (
+        frag!(0xfffa_0000_0000_0001; 0x61, 0, 0),
+        Ok(Fed::Whole),
+        false,
+    ),
+    (LAST, Err(60), false),
+    (frag!(0xfffa_0000_0001_0003; 0, 0, 0), Ok(Fed::Whole), false),
+];
 
 // An undone feed leaves the run as before it, and a refused one after it too.
-const UNDONE: [Step; 12] = [
+const UNDONE: &[Step] = &[
     (LAST, Err(60), true),
     (FIRST, Ok(Fed::Part), true),
     (LAST, Err(60), false),
@@ -175,127 +153,187 @@ const UNDONE: [Step; 12] = [
     (NOP, Ok(Fed::Whole), false),
 ];
 
-#[test]
-fn fragments_inside_a_call(rt: HostRuntime) -> Result<(), Fail> {
-    takes_fragments();
-    assert!(rt; takes(rt.alloc(), BLOB, &inside())?);
-    assert!(rt; takes(rt.alloc(), BLOB, &UNDONE)?);
-    Ok(())
-}
+// An interface's text, and what a new run of it is fed and answers under either plan.
+const ROWS: &[(&[u8], &[Step])] = &[
+    (SHORT, &[(frag!(1; 0, 0, 0), Err(60), false)]),
+    (SHORT, &[(frag!(3; 2, 0, 0), Err(65), false)]),
+    (SHORT, &[(frag!(3; 1, 3, 0), Err(66), false)]),
+    (SHORT, &[(frag!(3; 257, 0, 0), Err(63), false)]),
+    (SHORT, &[(frag!(3; 1, 1, 0), Err(65), false)]),
+    (SHORT, &[(frag!(11; 0, 0, 0), Err(63), false)]),
+    (SHORT, &[(frag!(65_539; 0, 0, 0), Err(62), false)]),
+    (SHORT, &[(frag!(3; 1, 1, 0x61), Ok(Fed::Whole), false)]),
+    (BLOB, INSIDE),
+    (BLOB, UNDONE),
+    (NOTHING, &[(FIRST, Err(62), true), (LAST, Err(60), true)]),
+];
 
-#[test]
-fn a_run_without_messages(rt: HostRuntime) -> Result<(), Fail> {
-    assert!(rt;
-        takes(
-            rt.alloc(),
-            NOTHING,
-            &[(FIRST, Err(62), true), (LAST, Err(60), true)]
-        )?
-    );
-    Ok(())
-}
-
-// The text of the call that the last of these fragments makes whole; empty where one doesn't go on, or it isn't whole.
-fn text_of(
-    alloc: Global,
-    run: &mut RecvRun,
-    frags: &[Frag],
-    name: &[u8],
-) -> Result<Vec<u8>, AllocError> {
-    let mut out = Vec::new(alloc);
-    for frag in frags {
-        match run.feed(frag) {
-            Ok(Fed::Whole) => {
-                let call = run.whole_call(alloc)?;
-                print_call(alloc, &mut out, name, &call.args)?;
-            }
-            Ok(Fed::Part) => {}
-            Err(_) => return Ok(out),
+fn rows_hold(alloc: Global) -> Result<(), Fail> {
+    for (index, (text, steps)) in ROWS.iter().enumerate() {
+        if !takes(alloc, text, steps)? {
+            return Err(wrong(index));
         }
     }
+    Ok(())
+}
+
+#[test]
+fn fragments_fed_to_new_runs(rt: HostRuntime) -> Result<(), Fail> {
+    takes_fragments();
+    rows_hold(rt.alloc())
+}
+
+fn printed(alloc: Global, name: &[u8], call: &Call) -> Result<Vec<u8>, AllocError> {
+    let mut out = Vec::new(alloc);
+    print_call(alloc, &mut out, name, &call.args)?;
     Ok(out)
 }
 
-fn first(words: [u64; 7]) -> Frag {
-    Frag { words, control: 2 }
+// The text of the call that a fragment makes whole; nothing where it doesn't.
+fn text_with(
+    alloc: Global,
+    run: &mut RecvRun,
+    frag: &Frag,
+    name: &[u8],
+) -> Result<Option<Vec<u8>>, AllocError> {
+    match run.feed(frag) {
+        Ok(Fed::Whole) => Ok(Some(printed(alloc, name, &run.whole_call(alloc)?)?)),
+        _ => Ok(None),
+    }
 }
 
-fn later(words: [u64; 7]) -> Frag {
-    Frag { words, control: 0 }
+// Whether a run goes on with all fragments but the last, and that makes this call whole.
+fn gives(alloc: Global, run: &mut RecvRun, whole: &Whole) -> Result<bool, AllocError> {
+    let [first @ .., last] = whole.frags else {
+        return Ok(false);
+    };
+    for frag in first {
+        if answer(run, frag) != Ok(Fed::Part) {
+            return Ok(false);
+        }
+    }
+    match text_with(alloc, run, last, whole.name)? {
+        Some(text) => Ok(text.as_slice() == whole.text),
+        None => Ok(false),
+    }
+}
+
+// A call's fragments, its message's name, and its text.
+struct Whole {
+    frags: &'static [Frag],
+    name: &'static [u8],
+    text: &'static [u8],
+}
+
+const BLOB_WHOLE: Whole = Whole {
+    frags: &[FIRST, LAST],
+    name: b"blob",
+    text: b"blob(\"aaaaaaaaaaaaaaaaaaaaaaaaaaaaaaaaaaaaaaaaaaaaaaaaa\")",
+};
+
+const NOP_WHOLE: Whole = Whole {
+    frags: &[NOP],
+    name: b"nop",
+    text: b"nop()",
+};
+
+const PAIRS_WHOLE: Whole = Whole {
+    frags: &[
+        Frag {
+            words: [7, 1, 0xb, 2, 0xc, 3, 0xd],
+            control: 2,
+        },
+        Frag {
+            words: [4, 0xe, 5, 0xf, 6, 0x10, 7],
+            control: 0,
+        },
+        Frag {
+            words: [0x11, 0, 0, 0, 0, 0, 0],
+            control: 0,
+        },
+    ],
+    name: b"m",
+    text: b"m([{1, 11}, {2, 12}, {3, 13}, {4, 14}, {5, 15}, {6, 16}, {7, 17}])",
+};
+
+const MIXED_ONE: Whole = Whole {
+    frags: &[Frag {
+        words: [1, 2, 0x6968, 5, 0, 0, 0],
+        control: 2,
+    }],
+    name: b"m",
+    text: b"m(1, \"hi\", 5)",
+};
+
+const MIXED_TWO: Whole = Whole {
+    frags: &[Frag {
+        words: [0x1_0005, 2, 0x6968, 0, 0, 0, 0],
+        control: 2,
+    }],
+    name: b"m",
+    text: b"m(1, \"hi\", 5)",
+};
+
+// The last are first fragments whose second letter can't be one, and one inside no call.
+const REFUSED_AFTER_WHOLE: &[Step] = &[
+    (FIRST, Ok(Fed::Part), false),
+    (LAST, Ok(Fed::Whole), false),
+    (NOP, Ok(Fed::Whole), false),
+    (frag!(2; 2, 0x61, 0), Err(65), true),
+    (frag!(2; 2, 0x61, 0), Err(65), true),
+    (LAST, Err(60), false),
+];
+
+// An interface's text, a plan, what one run is fed and answers, and the calls that it is fed then.
+const WHOLES: &[(&[u8], PlanNo, &[Step], &[Whole])] = &[
+    (MIXED, PlanNo::One, &[], &[MIXED_ONE]),
+    (MIXED, PlanNo::Two, &[], &[MIXED_TWO]),
+    (PAIRS, PlanNo::One, &[], &[PAIRS_WHOLE]),
+    (PAIRS, PlanNo::Two, &[], &[PAIRS_WHOLE]),
+    (BLOB, PlanNo::One, &[], &[BLOB_WHOLE, NOP_WHOLE]),
+    (BLOB, PlanNo::Two, &[], &[BLOB_WHOLE, NOP_WHOLE]),
+    // a refused fragment before that changes nothing of what was undone, and a second undo nothing at all
+    (BLOB, PlanNo::One, REFUSED_AFTER_WHOLE, &[NOP_WHOLE]),
+    (BLOB, PlanNo::Two, REFUSED_AFTER_WHOLE, &[NOP_WHOLE]),
+];
+
+fn gives_all(
+    alloc: Global,
+    run: &mut RecvRun,
+    steps: &[Step],
+    wholes: &[Whole],
+) -> Result<bool, AllocError> {
+    if !answers(run, steps) {
+        return Ok(false);
+    }
+    for whole in wholes {
+        if !gives(alloc, run, whole)? {
+            return Ok(false);
+        }
+    }
+    Ok(true)
+}
+
+fn wholes_hold(alloc: Global) -> Result<(), Fail> {
+    for (index, (text, plan, steps, wholes)) in WHOLES.iter().enumerate() {
+        let mut run = run(alloc, text, *plan)?;
+        if !gives_all(alloc, &mut run, steps, wholes)? {
+            return Err(wrong(index));
+        }
+    }
+    Ok(())
 }
 
 #[test]
 fn calls_from_their_fragments(rt: HostRuntime) -> Result<(), Fail> {
-    let alloc = rt.alloc();
-    let mut one = run(alloc, MIXED, PlanNo::One)?;
-    let frags = [first([1, 2, 0x6968, 5, 0, 0, 0])];
-    let text = text_of(alloc, &mut one, &frags, b"m")?;
-    assert_eq!(rt; text.as_slice(), b"m(1, \"hi\", 5)".as_slice());
-    let mut two = run(alloc, MIXED, PlanNo::Two)?;
-    let frags = [first([0x1_0005, 2, 0x6968, 0, 0, 0, 0])];
-    let text = text_of(alloc, &mut two, &frags, b"m")?;
-    assert_eq!(rt; text.as_slice(), b"m(1, \"hi\", 5)".as_slice());
-    let frags = [
-        first([7, 1, 0xb, 2, 0xc, 3, 0xd]),
-        later([4, 0xe, 5, 0xf, 6, 0x10, 7]),
-        later([0x11, 0, 0, 0, 0, 0, 0]),
-    ];
-    for number in PLANS {
-        let mut pairs = run(alloc, PAIRS, number)?;
-        let text = text_of(alloc, &mut pairs, &frags, b"m")?;
-        assert_eq!(rt;
-            text.as_slice(),
-            b"m([{1, 11}, {2, 12}, {3, 13}, {4, 14}, {5, 15}, {6, 16}, {7, 17}])".as_slice()
-        );
-        let mut blob = run(alloc, BLOB, number)?;
-        let text = text_of(alloc, &mut blob, &[FIRST, LAST], b"blob")?;
-        assert_eq!(rt; text.as_slice(), BLOB_CALL);
-        let text = text_of(alloc, &mut blob, &[NOP], b"nop")?;
-        assert_eq!(rt; text.as_slice(), b"nop()".as_slice());
-    }
-    Ok(())
-}
-
-// The text of the whole call of `blob` after `nop` was undone; a refused fragment before that changes nothing.
-fn text_after_undo(alloc: Global, run: &mut RecvRun) -> Result<Vec<u8>, AllocError> {
-    let mut out = Vec::new(alloc);
-    if answers(
-        run,
-        &[(FIRST, Ok(Fed::Part), false), (LAST, Ok(Fed::Whole), false)],
-    ) && answers(
-        run,
-        &[(NOP, Ok(Fed::Whole), false), (FORGED_BLOB, Err(65), true)],
-    ) {
-        run.undo();
-        if answer(run, &LAST) == Err(60) {
-            let text = text_of(alloc, run, &[NOP], b"nop")?;
-            out.extend_from_slice(&text)?;
-        }
-    }
-    Ok(out)
-}
-
-// A first fragment whose second letter can't be one.
-const FORGED_BLOB: Frag = Frag {
-    words: [2, 0x61, 0, 0, 0, 0, 0],
-    control: 2,
-};
-
-#[test]
-fn undo_after_a_refused_fragment(rt: HostRuntime) -> Result<(), Fail> {
-    for number in PLANS {
-        let mut run = run(rt.alloc(), BLOB, number)?;
-        let text = text_after_undo(rt.alloc(), &mut run)?;
-        assert_eq!(rt; text.as_slice(), b"nop()".as_slice());
-    }
-    Ok(())
+    wholes_hold(rt.alloc())
 }
 
 // Feeding and undoing take no memory: where each allocation is refused in turn, either the run isn't made, or it
 // answers as ever.
 #[test]
 fn feeding_without_memory(rt: HostRuntime) {
-    if let Ok(taken) = takes(rt.alloc(), BLOB, &UNDONE) {
+    if let Ok(taken) = takes(rt.alloc(), BLOB, UNDONE) {
         assert!(rt; taken);
     }
 }

@@ -2,16 +2,17 @@
 
 use crate::interfaces::interface;
 use fl_base::Frag;
-use fl_value::{PlanNo, print_call};
-use fl_wire::{WireFault, read_frags};
-use std::alloc::Global;
+use fl_check::{Interface, TextFault};
+use fl_value::{Call, PlanNo, print_call};
+use fl_wire::{Reading, WireFault, read_frags};
+use std::alloc::{AllocError, Global};
 use std::test::Fail;
-
-const PLANS: [PlanNo; 2] = [PlanNo::One, PlanNo::Two];
 
 const SHORT: &[u8] = b"interface i { message m(bool b, string s[2]); }";
 
 const BLOB: &[u8] = b"interface i { message blob(string s); message nop(); }";
+
+const BLOB_CALL: &[u8] = b"blob(\"aaaaaaaaaaaaaaaaaaaaaaaaaaaaaaaaaaaaaaaaaaaaaaaaa\")";
 
 const COLOURS: &[u8] =
     b"interface i { typedef enum { a, b, c } e; message m(e x, uint16 y, e z[n, 300]); }";
@@ -23,7 +24,7 @@ type Outcome = Result<(usize, usize), u8>;
 type Row = (u64, [u64; 3], Outcome);
 
 // Of `bool b, string s[2]`.
-const ALONE: [Row; 15] = [
+const ALONE: &[Row] = &[
     (1, [0, 0, 0], Err(60)),
     (3, [2, 0, 0], Err(65)),
     (3, [1, 3, 0], Err(66)),
@@ -43,7 +44,7 @@ const ALONE: [Row; 15] = [
 ];
 
 // Behind the first fragment of 49 letters.
-const SECOND: [Row; 7] = [
+const SECOND: &[Row] = &[
     (3, [0x61, 0, 0], Err(61)),
     (65_537, [0x61, 0, 0], Err(62)),
     (1, [0x6161, 0, 0], Err(63)),
@@ -55,7 +56,7 @@ const SECOND: [Row; 7] = [
 
 // Of an enumerator, a number and enumerators. Of a number the byte at fault is the first with which it reaches the
 // bound; what stands before it may be one of a fitting call.
-const NUMBERS: [Row; 7] = [
+const NUMBERS: &[Row] = &[
     (3, [2, 0, 0], Ok((1, 0))),
     (3, [3, 0, 0], Err(65)),
     (3, [0x100_0002, 0, 0], Err(65)),
@@ -66,7 +67,7 @@ const NUMBERS: [Row; 7] = [
 ];
 
 // Of a call without arguments.
-const EMPTY: [Row; 2] = [
+const EMPTY: &[Row] = &[
     (65_538, [0, 0, 1], Err(63)),
     (0xfffa_0000_0001_0003, [0, 0, 0], Ok((1, 0))),
 ];
@@ -106,7 +107,7 @@ const NO_FIRST_NOP: Frag = Frag {
     control: 65_536,
 };
 
-const LISTS: [(&[Frag], Outcome); 9] = [
+const LISTS: &[(&[Frag], Outcome)] = &[
     (&[], Ok((0, 0))),
     (&[FIRST], Ok((0, 1))),
     (&[WRONG, SPOILED], Err(65)),
@@ -127,69 +128,108 @@ fn starting(control: u64, words: [u64; 3]) -> Frag {
     }
 }
 
-fn outcome(alloc: Global, text: &[u8], plan: PlanNo, frags: &[Frag]) -> Result<Outcome, Fail> {
-    let interface = interface(alloc, text)?;
-    Ok(match read_frags(alloc, &interface, frags, plan) {
+fn read(
+    alloc: Global,
+    interface: &Interface,
+    plan: PlanNo,
+    frags: &[Frag],
+) -> Result<Reading, WireFault> {
+    read_frags(alloc, interface, frags, plan)
+}
+
+fn outcome(alloc: Global, interface: &Interface, plan: PlanNo, frags: &[Frag]) -> Outcome {
+    match read(alloc, interface, plan, frags) {
         Ok(reading) => Ok((reading.calls.len(), reading.rest)),
         Err(fault) => Err(fault.number()),
-    })
+    }
 }
 
 // Whether fragments have that outcome under both plans.
-fn is_read(alloc: Global, text: &[u8], frags: &[Frag], wanted: Outcome) -> Result<bool, Fail> {
-    Ok(
-        outcome(alloc, text, PlanNo::One, frags)? == wanted
-            && outcome(alloc, text, PlanNo::Two, frags)? == wanted,
-    )
+fn is_read(alloc: Global, interface: &Interface, frags: &[Frag], wanted: Outcome) -> bool {
+    outcome(alloc, interface, PlanNo::One, frags) == wanted
+        && outcome(alloc, interface, PlanNo::Two, frags) == wanted
+}
+
+// The first of the rows that reads otherwise.
+fn wrong_row(alloc: Global, interface: &Interface, rows: &[Row]) -> Option<usize> {
+    rows.iter().position(|(control, words, wanted)| {
+        !is_read(alloc, interface, &[starting(*control, *words)], *wanted)
+    })
+}
+
+fn wrong_row_of(alloc: Global, text: &[u8], rows: &[Row]) -> Result<Option<usize>, TextFault> {
+    Ok(wrong_row(alloc, &interface(alloc, text)?, rows))
 }
 
 #[test]
 fn one_fragment(rt: HostRuntime) -> Result<(), Fail> {
-    for (text, rows) in [
-        (SHORT, ALONE.as_slice()),
-        (COLOURS, &NUMBERS),
-        (BLOB, &EMPTY),
-    ] {
-        for (index, (control, words, wanted)) in rows.iter().enumerate() {
-            let frags = [starting(*control, *words)];
-            let read = is_read(rt.alloc(), text, &frags, *wanted)?;
-            assert_eq!(rt; (text, index, read), (text, index, true));
-        }
-    }
+    assert_eq!(rt; wrong_row_of(rt.alloc(), SHORT, ALONE)?, None);
+    assert_eq!(rt; wrong_row_of(rt.alloc(), COLOURS, NUMBERS)?, None);
+    assert_eq!(rt; wrong_row_of(rt.alloc(), BLOB, EMPTY)?, None);
     Ok(())
+}
+
+// The first of the rows that reads otherwise behind the first fragment.
+fn wrong_second(alloc: Global, interface: &Interface) -> Option<usize> {
+    SECOND.iter().position(|(control, words, wanted)| {
+        !is_read(
+            alloc,
+            interface,
+            &[FIRST, starting(*control, *words)],
+            *wanted,
+        )
+    })
 }
 
 #[test]
 fn the_second_fragment(rt: HostRuntime) -> Result<(), Fail> {
-    for (index, (control, words, wanted)) in SECOND.iter().enumerate() {
-        let frags = [FIRST, starting(*control, *words)];
-        let read = is_read(rt.alloc(), BLOB, &frags, *wanted)?;
-        assert_eq!(rt; (index, read), (index, true));
-    }
+    let blob = interface(rt.alloc(), BLOB)?;
+    assert_eq!(rt; wrong_second(rt.alloc(), &blob), None);
     Ok(())
+}
+
+// The first of the lists that reads otherwise.
+fn wrong_list(alloc: Global, interface: &Interface) -> Option<usize> {
+    LISTS.iter().position(|(frags, wanted)| !is_read(alloc, interface, frags, *wanted))
 }
 
 #[test]
 fn the_first_fault_of_several_fragments(rt: HostRuntime) -> Result<(), Fail> {
-    for (index, (frags, wanted)) in LISTS.iter().enumerate() {
-        let read = is_read(rt.alloc(), BLOB, frags, *wanted)?;
-        assert_eq!(rt; (index, read), (index, true));
-    }
+    let blob = interface(rt.alloc(), BLOB)?;
+    assert_eq!(rt; wrong_list(rt.alloc(), &blob), None);
     assert_eq!(rt; WireFault::Memory.number(), 99);
     Ok(())
 }
 
+// The texts of calls of `blob`, one behind another.
+fn texts(alloc: Global, calls: &[Call]) -> Result<Vec<u8>, AllocError> {
+    let mut text = Vec::new(alloc);
+    for call in calls {
+        print_call(alloc, &mut text, b"blob", &call.args)?;
+    }
+    Ok(text)
+}
+
+// Whether fragments read as one call of 49 letters, with one fragment left over.
+fn is_a_call_and_a_rest(
+    alloc: Global,
+    interface: &Interface,
+    plan: PlanNo,
+    frags: &[Frag],
+) -> Result<bool, AllocError> {
+    match read(alloc, interface, plan, frags) {
+        Ok(reading) => Ok(
+            reading.rest == 1 && texts(alloc, &reading.calls)?.as_slice() == BLOB_CALL,
+        ),
+        Err(_) => Ok(false),
+    }
+}
+
 #[test]
 fn a_call_and_part_of_another(rt: HostRuntime) -> Result<(), Fail> {
-    let interface = interface(rt.alloc(), BLOB)?;
-    for plan in PLANS {
-        let reading = read_frags(rt.alloc(), &interface, &[FIRST, LAST, FIRST], plan)?;
-        let mut text = Vec::new(rt.alloc());
-        for call in &reading.calls {
-            print_call(rt.alloc(), &mut text, b"blob", &call.args)?;
-        }
-        let wanted = b"blob(\"aaaaaaaaaaaaaaaaaaaaaaaaaaaaaaaaaaaaaaaaaaaaaaaaa\")";
-        assert_eq!(rt; (text.as_slice(), reading.rest), (wanted.as_slice(), 1));
+    let blob = interface(rt.alloc(), BLOB)?;
+    for plan in [PlanNo::One, PlanNo::Two] {
+        assert!(rt; is_a_call_and_a_rest(rt.alloc(), &blob, plan, &[FIRST, LAST, FIRST])?);
     }
     Ok(())
 }

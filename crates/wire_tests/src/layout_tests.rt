@@ -1,12 +1,12 @@
 //! The worked rows of layouts under both plans: lengths of payloads and tapes, fragments, places and sizes of
 //! arguments.
 
-use crate::interfaces::interface;
+use crate::interfaces::{STRING, STRINGS, interface, letters};
 use fl_base::MsgNo;
 use fl_layout::{Plans, plan};
-use fl_value::{PlanNo, ValueFault, fits, read_call};
+use fl_value::{Call, PlanNo, ValueFault, fits, read_call};
 use fl_wire::{fragment_count, payload};
-use std::alloc::Global;
+use std::alloc::{AllocError, Global};
 use std::test::Fail;
 
 // An interface's text, a plan, a message's number, and what is told of it and of its arguments: the least payload, the
@@ -49,7 +49,7 @@ const DYNAMIC: &[u8] = b"interface i { message m(string s[3], uint8 b[n, 2], uin
 const STRUCTS: &[u8] =
     b"interface i { typedef struct { uint8 a; uint64 b; } t; message m(t x[n]); }";
 
-const ROWS: [Row; 16] = [
+const ROWS: &[Row] = &[
     Row {
         text: BETWEEN,
         plan: PlanNo::One,
@@ -200,32 +200,47 @@ fn figures(plans: &Plans, msg: MsgNo) -> Option<[usize; 4]> {
     ])
 }
 
-// Whether a message's arguments have these places and sizes, and there is none behind them.
-fn has_arguments(plans: &Plans, msg: MsgNo, places: &[Option<usize>], sizes: &[usize]) -> bool {
+fn place_of(plans: &Plans, msg: MsgNo, argument: usize) -> Option<usize> {
+    plans.place(msg, argument)
+}
+
+fn size_of(plans: &Plans, msg: MsgNo, argument: usize) -> usize {
+    plans.arg_size(msg, argument)
+}
+
+// Whether a message's arguments have these places, and there is none behind them.
+fn has_places(plans: &Plans, msg: MsgNo, places: &[Option<usize>]) -> bool {
     for (j, place) in places.iter().enumerate() {
-        if plans.place(msg, j) != *place {
+        if place_of(plans, msg, j) != *place {
             return false;
         }
     }
+    place_of(plans, msg, places.len()) == None
+}
+
+// Whether a message's arguments have these sizes, and there is none behind them.
+fn has_sizes(plans: &Plans, msg: MsgNo, sizes: &[usize]) -> bool {
     for (j, size) in sizes.iter().enumerate() {
-        if plans.arg_size(msg, j) != *size {
+        if size_of(plans, msg, j) != *size {
             return false;
         }
     }
-    plans.place(msg, places.len()) == None && plans.arg_size(msg, sizes.len()) == 0
+    size_of(plans, msg, sizes.len()) == 0
+}
+
+fn tells(plans: &Plans, row: &Row) -> bool {
+    figures(plans, row.msg) == Some(row.figures)
+        && has_places(plans, row.msg, row.places)
+        && has_sizes(plans, row.msg, row.sizes)
 }
 
 fn is_told(alloc: Global, row: &Row) -> Result<bool, Fail> {
-    let plans = planned(alloc, row.text, row.plan)?;
-    Ok(
-        figures(&plans, row.msg) == Some(row.figures)
-            && has_arguments(&plans, row.msg, row.places, row.sizes),
-    )
+    Ok(tells(&planned(alloc, row.text, row.plan)?, row))
 }
 
 #[test]
 fn lengths_places_and_sizes(rt: HostRuntime) -> Result<(), Fail> {
-    for row in ROWS.iter() {
+    for row in ROWS {
         assert!(rt; is_told(rt.alloc(), row)?);
     }
     Ok(())
@@ -234,27 +249,8 @@ fn lengths_places_and_sizes(rt: HostRuntime) -> Result<(), Fail> {
 #[test]
 fn nothing_is_told_of_a_message_that_is_not_there(rt: HostRuntime) -> Result<(), Fail> {
     let plans = planned(rt.alloc(), BETWEEN, PlanNo::Two)?;
-    assert_eq!(rt; plans.place(MsgNo(1), 0), None);
-    assert_eq!(rt; plans.arg_size(MsgNo(1), 0), 0);
+    assert!(rt; has_places(&plans, MsgNo(1), &[]) && has_sizes(&plans, MsgNo(1), &[]));
     Ok(())
-}
-
-// The bytes and the fragments of a call that stands as text; nothing where it doesn't fit, or where its payload has
-// another length.
-fn measured(
-    alloc: Global,
-    plans: &Plans,
-    text: &[u8],
-) -> Result<Option<(usize, usize)>, ValueFault> {
-    let call = read_call(alloc, text, &plans.interface)?;
-    if !fits(&call, &plans.interface) {
-        return Ok(None);
-    }
-    let bytes = plans.size_of(&call);
-    if payload(alloc, &plans.interface, plans.plan, &call)?.len() != bytes {
-        return Ok(None);
-    }
-    Ok(Some((bytes, plans.fragments_of(&call))))
 }
 
 // An interface's text, a call of it, and the bytes and fragments that it has under each plan.
@@ -265,7 +261,7 @@ struct Sent {
     two: (usize, usize),
 }
 
-const SENT: [Sent; 6] = [
+const SENT: &[Sent] = &[
     Sent {
         text: BETWEEN,
         call: b"m(1, \"hi\", 5)",
@@ -304,42 +300,74 @@ const SENT: [Sent; 6] = [
     },
 ];
 
+// The bytes and the fragments of a call; nothing where it doesn't fit.
+fn measured(plans: &Plans, call: &Call) -> Option<(usize, usize)> {
+    if !fits(call, &plans.interface) {
+        return None;
+    }
+    Some((plans.size_of(call), plans.fragments_of(call)))
+}
+
+// The length of a call's payload; nothing where the call doesn't fit.
+fn payload_len(alloc: Global, plans: &Plans, call: &Call) -> Result<Option<usize>, AllocError> {
+    if !fits(call, &plans.interface) {
+        return Ok(None);
+    }
+    let bytes = payload(alloc, &plans.interface, plans.plan, call)?;
+    Ok(Some(bytes.len()))
+}
+
+// Whether a call that stands as text has so many bytes and fragments, and its payload so many bytes.
+fn measures(
+    alloc: Global,
+    plans: &Plans,
+    text: &[u8],
+    wanted: (usize, usize),
+) -> Result<bool, ValueFault> {
+    let call = read_call(alloc, text, &plans.interface)?;
+    let len = payload_len(alloc, plans, &call)?;
+    Ok(measured(plans, &call) == Some(wanted) && len == Some(wanted.0))
+}
+
+fn is_sent(alloc: Global, sent: &Sent, plan: PlanNo, wanted: (usize, usize)) -> Result<bool, Fail> {
+    let plans = planned(alloc, sent.text, plan)?;
+    Ok(measures(alloc, &plans, sent.call, wanted)?)
+}
+
 #[test]
 fn bytes_and_fragments_of_calls(rt: HostRuntime) -> Result<(), Fail> {
-    let alloc = rt.alloc();
-    for sent in SENT.iter() {
-        let one = planned(alloc, sent.text, PlanNo::One)?;
-        assert_eq!(rt; measured(alloc, &one, sent.call)?, Some(sent.one));
-        let two = planned(alloc, sent.text, PlanNo::Two)?;
-        assert_eq!(rt; measured(alloc, &two, sent.call)?, Some(sent.two));
+    for sent in SENT {
+        assert!(rt; is_sent(rt.alloc(), sent, PlanNo::One, sent.one)?);
+        assert!(rt; is_sent(rt.alloc(), sent, PlanNo::Two, sent.two)?);
     }
     Ok(())
 }
 
-// A call of `message s(string s[4096]);` with so many letters.
-fn letters(alloc: Global, count: usize) -> Result<Vec<u8>, ValueFault> {
-    let mut text = b"s(\"".to_vec(alloc)?;
-    for _ in 0..count {
-        text.push(b'a')?;
+// Whether the call of so many letters has so many bytes and fragments.
+fn measures_letters(
+    alloc: Global,
+    plans: &Plans,
+    count: usize,
+    wanted: (usize, usize),
+) -> Result<bool, ValueFault> {
+    let text = letters(alloc, count)?;
+    measures(alloc, plans, &text, wanted)
+}
+
+// The first of the lengths that has others, under a plan.
+fn wrong_string(alloc: Global, plan: PlanNo) -> Result<Option<usize>, Fail> {
+    let plans = planned(alloc, STRING, plan)?;
+    for (count, wanted) in STRINGS {
+        if !measures_letters(alloc, &plans, *count, *wanted)? {
+            return Ok(Some(*count));
+        }
     }
-    text.extend_from_slice(b"\")")?;
-    Ok(text)
+    Ok(None)
 }
 
 #[test]
 fn strings_of_all_lengths(rt: HostRuntime) -> Result<(), Fail> {
-    let alloc = rt.alloc();
-    for number in [PlanNo::One, PlanNo::Two] {
-        let plans = planned(alloc, b"interface i { message s(string s[4096]); }", number)?;
-        for (count, wanted) in [
-            (0, (8, 1)),
-            (48, (56, 1)),
-            (49, (57, 2)),
-            (4096, (4104, 74)),
-        ] {
-            let call = letters(alloc, count)?;
-            assert_eq!(rt; measured(alloc, &plans, &call)?, Some(wanted));
-        }
-    }
+    assert_eq!(rt; wrong_string(rt.alloc(), PlanNo::One)?, None);
+    assert_eq!(rt; wrong_string(rt.alloc(), PlanNo::Two)?, None);
     Ok(())
 }

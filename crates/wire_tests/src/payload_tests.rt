@@ -2,10 +2,10 @@
 //! plans, and the calls read back. A fragment has epoch 0 until it is put; what `show` writes, 3 and 1, has the
 //! epoch that a local queue sets.
 
-use crate::interfaces::interface;
-use fl_base::Frag;
+use crate::interfaces::{STRING, STRINGS, interface, letters};
+use fl_base::{Frag, MsgNo};
 use fl_check::Interface;
-use fl_value::{PlanNo, ValueFault, fits, print_call, read_call};
+use fl_value::{Call, PlanNo, ValueFault, fits, print_call, read_call};
 use fl_wire::{
     fragment, fragment_at, fragment_count, none_begins_with_another, numbers_fit_words,
     one_reading, payload, read_call_frags, reads_once,
@@ -51,7 +51,7 @@ const BY_TURNS: &[u8] =
 // Eight letters `a`.
 const LETTERS: u64 = 0x6161_6161_6161_6161;
 
-const ROWS: [Row; 16] = [
+const ROWS: &[Row] = &[
     Row {
         text: b"interface i { message m(uint32 v); }",
         call: b"m(7)",
@@ -256,47 +256,87 @@ const ROWS: [Row; 16] = [
     },
 ];
 
-// The payload's length and the fragments of a call, which stands as text; nothing where the call doesn't fit, or
-// where `fragment_at` gives others.
+// The payload of a call; nothing where it doesn't fit.
+fn payload_of(
+    alloc: Global,
+    plan: PlanNo,
+    interface: &Interface,
+    call: &Call,
+) -> Result<Option<Vec<u8>>, AllocError> {
+    if !fits(call, interface) {
+        return Ok(None);
+    }
+    Ok(Some(payload(alloc, interface, plan, call)?))
+}
+
+// Fragment `k` of a call; nothing where it doesn't fit.
+fn frag_of(
+    alloc: Global,
+    plan: PlanNo,
+    interface: &Interface,
+    call: &Call,
+    k: usize,
+) -> Result<Option<Frag>, AllocError> {
+    if !fits(call, interface) {
+        return Ok(None);
+    }
+    fragment_at(alloc, interface, call, k, plan)
+}
+
+fn frags_of(alloc: Global, payload: &[u8], msg: MsgNo) -> Result<Vec<Frag>, AllocError> {
+    let mut frags = Vec::new(alloc);
+    for k in 0..fragment_count(payload.len()) {
+        frags.push(fragment(payload, msg, k))?;
+    }
+    Ok(frags)
+}
+
+// Whether a call has these fragments one by one, and none behind them.
+fn has_frags(
+    alloc: Global,
+    plan: PlanNo,
+    interface: &Interface,
+    call: &Call,
+    frags: &[Frag],
+) -> Result<bool, AllocError> {
+    for (k, frag) in frags.iter().enumerate() {
+        if frag_of(alloc, plan, interface, call, k)? != Some(*frag) {
+            return Ok(false);
+        }
+    }
+    Ok(frag_of(alloc, plan, interface, call, frags.len())?.is_none())
+}
+
+// The payload's length and the fragments of a call; nothing where it doesn't fit, or has others one by one.
 fn sent(
     alloc: Global,
     plan: PlanNo,
     interface: &Interface,
-    text: &[u8],
-) -> Result<Option<(usize, Vec<Frag>)>, ValueFault> {
-    numbers_fit_words(interface);
-    let call = read_call(alloc, text, interface)?;
-    if !fits(&call, interface) {
+    call: &Call,
+) -> Result<Option<(usize, Vec<Frag>)>, AllocError> {
+    let Some(bytes) = payload_of(alloc, plan, interface, call)? else {
         return Ok(None);
-    }
-    let bytes = payload(alloc, interface, plan, &call)?;
-    let count = fragment_count(bytes.len());
-    let mut frags = Vec::new(alloc);
-    for k in 0..count {
-        let frag = fragment(&bytes, call.msg, k);
-        if k < 3 && fragment_at(alloc, interface, &call, k, plan)? != Some(frag) {
-            return Ok(None);
-        }
-        frags.push(frag)?;
-    }
-    if fragment_at(alloc, interface, &call, count, plan)? != None {
+    };
+    let frags = frags_of(alloc, &bytes, call.msg)?;
+    if !has_frags(alloc, plan, interface, call, &frags)? {
         return Ok(None);
     }
     Ok(Some((bytes.len(), frags)))
 }
 
-// The text of the call of `m` that fragments mean; empty where they mean none yet.
-fn read_text(
+// Whether fragments mean a call with this text; with an empty one, whether they mean none yet.
+fn reads_as(
     alloc: Global,
     plan: PlanNo,
     interface: &Interface,
     frags: &[Frag],
-) -> Result<Vec<u8>, AllocError> {
+    text: &[u8],
+) -> Result<bool, AllocError> {
     let mut out = Vec::new(alloc);
     if let Some(call) = read_call_frags(alloc, interface, plan, frags)? {
         print_call(alloc, &mut out, b"m", &call.args)?;
     }
-    Ok(out)
+    Ok(out.as_slice() == text)
 }
 
 // Whether no proper prefix of the fragments means a call, and all of them mean that one.
@@ -308,22 +348,32 @@ fn is_read(
     text: &[u8],
 ) -> Result<bool, AllocError> {
     for k in 0..frags.len() {
-        if !read_text(alloc, plan, interface, &frags[..k])?.is_empty() {
+        if !reads_as(alloc, plan, interface, &frags[..k], b"")? {
             return Ok(false);
         }
     }
-    Ok(read_text(alloc, plan, interface, frags)?.as_slice() == text)
+    reads_as(alloc, plan, interface, frags, text)
+}
+
+fn is_sent(
+    alloc: Global,
+    plan: PlanNo,
+    interface: &Interface,
+    row: &Row,
+) -> Result<bool, ValueFault> {
+    let call = read_call(alloc, row.call, interface)?;
+    match sent(alloc, plan, interface, &call)? {
+        Some((len, frags)) => Ok(len == row.len && frags.as_slice() == row.frags),
+        None => Ok(false),
+    }
 }
 
 // Whether the row's call has its payload and its fragments, and is read back, under each of its plans.
 fn holds(alloc: Global, row: &Row) -> Result<bool, Fail> {
     let interface = interface(alloc, row.text)?;
+    numbers_fit_words(&interface);
     for plan in row.plans {
-        let Some((len, frags)) = sent(alloc, *plan, &interface, row.call)? else {
-            return Ok(false);
-        };
-        if len != row.len
-            || frags.as_slice() != row.frags
+        if !is_sent(alloc, *plan, &interface, row)?
             || !is_read(alloc, *plan, &interface, row.frags, row.call)?
         {
             return Ok(false);
@@ -332,47 +382,58 @@ fn holds(alloc: Global, row: &Row) -> Result<bool, Fail> {
     Ok(true)
 }
 
+// The first of the rows that doesn't hold.
+fn wrong_row(alloc: Global) -> Result<Option<usize>, Fail> {
+    for (index, row) in ROWS.iter().enumerate() {
+        if !holds(alloc, row)? {
+            return Ok(Some(index));
+        }
+    }
+    Ok(None)
+}
+
 #[test]
 fn calls_are_sent_and_read(rt: HostRuntime) -> Result<(), Fail> {
-    for (index, row) in ROWS.iter().enumerate() {
-        assert_eq!(rt; (index, holds(rt.alloc(), row)?), (index, true));
-    }
+    assert_eq!(rt; wrong_row(rt.alloc())?, None);
     one_reading();
     none_begins_with_another();
     reads_once();
     Ok(())
 }
 
-// A call of `m` of one string with so many letters.
-fn letters(alloc: Global, count: usize) -> Result<Vec<u8>, AllocError> {
-    let mut text = b"m(\"".to_vec(alloc)?;
-    for _ in 0..count {
-        text.push(b'a')?;
-    }
-    text.extend_from_slice(b"\")")?;
-    Ok(text)
-}
-
 // The length of the payload and the number of fragments of `m("aa..")`.
-fn lengths(alloc: Global, plan: PlanNo, count: usize) -> Result<Option<(usize, usize)>, Fail> {
-    let interface = interface(alloc, b"interface i { message m(string s[4096]); }")?;
+fn lengths(
+    alloc: Global,
+    plan: PlanNo,
+    interface: &Interface,
+    count: usize,
+) -> Result<Option<(usize, usize)>, ValueFault> {
     let text = letters(alloc, count)?;
-    match sent(alloc, plan, &interface, &text)? {
+    let call = read_call(alloc, &text, interface)?;
+    match sent(alloc, plan, interface, &call)? {
         Some((len, frags)) => Ok(Some((len, frags.len()))),
         None => Ok(None),
     }
 }
 
+// The first of the numbers of letters that has other lengths, under a plan.
+fn wrong_string(
+    alloc: Global,
+    plan: PlanNo,
+    interface: &Interface,
+) -> Result<Option<usize>, ValueFault> {
+    for (count, wanted) in STRINGS {
+        if lengths(alloc, plan, interface, *count)? != Some(*wanted) {
+            return Ok(Some(*count));
+        }
+    }
+    Ok(None)
+}
+
 #[test]
 fn strings_of_all_lengths(rt: HostRuntime) -> Result<(), Fail> {
-    for (count, wanted) in [
-        (0, (8, 1)),
-        (48, (56, 1)),
-        (49, (57, 2)),
-        (4096, (4104, 74)),
-    ] {
-        assert_eq!(rt; lengths(rt.alloc(), PlanNo::One, count)?, Some(wanted));
-        assert_eq!(rt; lengths(rt.alloc(), PlanNo::Two, count)?, Some(wanted));
-    }
+    let string = interface(rt.alloc(), STRING)?;
+    assert_eq!(rt; wrong_string(rt.alloc(), PlanNo::One, &string)?, None);
+    assert_eq!(rt; wrong_string(rt.alloc(), PlanNo::Two, &string)?, None);
     Ok(())
 }

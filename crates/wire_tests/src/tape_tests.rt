@@ -2,8 +2,9 @@
 
 use crate::interfaces::interface;
 use fl_base::MsgNo;
-use fl_value::{PlanNo, flatten, one_call_of_a_tape, read_call, unflatten};
-use std::alloc::Global;
+use fl_check::Interface;
+use fl_value::{PlanNo, ValueFault, flatten, one_call_of_a_tape, read_call, unflatten};
+use std::alloc::{AllocError, Global};
 use std::test::Fail;
 
 // An interface's text, a call of it, and the call's tape under each plan.
@@ -15,7 +16,7 @@ struct Row {
 }
 
 // Plan 2 puts wider arguments first.
-const ROWS: [Row; 2] = [
+const ROWS: &[Row] = &[
     Row {
         text: b"interface i { message m(int8 a, string b[2048], uint16 c); }",
         call: b"m(-128, \"hi\", 5)",
@@ -41,7 +42,7 @@ const TEXT: &[u8] = b"interface i { message m(string x[2]); }";
 const BOOLS: &[u8] = b"interface i { message m(bool x[n, 2]); }";
 
 // An interface's text, and a list of numbers that is no tape of its message, under either plan.
-const NO_TAPES: [(&[u8], &[u64]); 23] = [
+const NO_TAPES: &[(&[u8], &[u64])] = &[
     (b"interface i { message m(bool x); }", &[2]),
     (b"interface i { message m(uint8 x); }", &[256]),
     (b"interface i { message m(char x); }", &[256]),
@@ -73,40 +74,60 @@ const NO_TAPES: [(&[u8], &[u64]); 23] = [
     (BOOLS, &[1, 0, 1]),
 ];
 
-// Whether a message's call has a tape.
-fn is_tape(
+// Whether a call that stands as text has this tape.
+fn has_tape(
     alloc: Global,
-    text: &[u8],
-    msg: MsgNo,
-    tape: &[u64],
+    interface: &Interface,
     plan: PlanNo,
-) -> Result<bool, Fail> {
-    let interface = interface(alloc, text)?;
-    Ok(unflatten(alloc, msg, tape, &interface, plan)?.is_some())
+    call: &[u8],
+    tape: &[u64],
+) -> Result<bool, ValueFault> {
+    let call = read_call(alloc, call, interface)?;
+    Ok(flatten(alloc, &call, interface, plan)?.as_slice() == tape)
 }
 
-fn tape_of(alloc: Global, row: &Row, plan: PlanNo) -> Result<Vec<u64>, Fail> {
+// Whether the row's call has the row's tapes.
+fn holds(alloc: Global, row: &Row) -> Result<bool, Fail> {
     let interface = interface(alloc, row.text)?;
-    let call = read_call(alloc, row.call, &interface)?;
-    Ok(flatten(alloc, &call, &interface, plan)?)
+    Ok(
+        has_tape(alloc, &interface, PlanNo::One, row.call, row.one)?
+            && has_tape(alloc, &interface, PlanNo::Two, row.call, row.two)?,
+    )
 }
 
 #[test]
 fn tapes_follow_the_plan(rt: HostRuntime) -> Result<(), Fail> {
-    for row in ROWS.iter() {
-        assert_eq!(rt; tape_of(rt.alloc(), row, PlanNo::One)?.as_slice(), row.one);
-        assert_eq!(rt; tape_of(rt.alloc(), row, PlanNo::Two)?.as_slice(), row.two);
+    for row in ROWS {
+        assert!(rt; holds(rt.alloc(), row)?);
     }
     one_call_of_a_tape();
     Ok(())
 }
 
-// The first of the lists that is a tape under some plan; none where each is none.
-fn wrong_row(alloc: Global, rows: &[(&[u8], &[u64])]) -> Result<Option<usize>, Fail> {
-    for (index, (text, tape)) in rows.iter().enumerate() {
-        if is_tape(alloc, text, MsgNo(0), tape, PlanNo::One)?
-            || is_tape(alloc, text, MsgNo(0), tape, PlanNo::Two)?
-        {
+// Whether a message's call has a tape.
+fn is_tape(
+    alloc: Global,
+    interface: &Interface,
+    plan: PlanNo,
+    msg: MsgNo,
+    tape: &[u64],
+) -> Result<bool, AllocError> {
+    Ok(unflatten(alloc, msg, tape, interface, plan)?.is_some())
+}
+
+// Whether this is no tape of message 0, under either plan.
+fn is_no_tape(alloc: Global, text: &[u8], tape: &[u64]) -> Result<bool, Fail> {
+    let interface = interface(alloc, text)?;
+    Ok(
+        !is_tape(alloc, &interface, PlanNo::One, MsgNo(0), tape)?
+            && !is_tape(alloc, &interface, PlanNo::Two, MsgNo(0), tape)?,
+    )
+}
+
+// The first of the lists that is a tape under some plan.
+fn wrong_row(alloc: Global) -> Result<Option<usize>, Fail> {
+    for (index, (text, tape)) in NO_TAPES.iter().enumerate() {
+        if !is_no_tape(alloc, text, tape)? {
             return Ok(Some(index));
         }
     }
@@ -115,15 +136,22 @@ fn wrong_row(alloc: Global, rows: &[(&[u8], &[u64])]) -> Result<Option<usize>, F
 
 #[test]
 fn a_bad_tape_gives_no_call(rt: HostRuntime) -> Result<(), Fail> {
-    assert_eq!(rt; wrong_row(rt.alloc(), &NO_TAPES)?, None);
+    assert_eq!(rt; wrong_row(rt.alloc())?, None);
     Ok(())
+}
+
+// Whether these are tapes: one of a message, the same of none, and an empty one of none.
+fn tapes_of_messages(alloc: Global, interface: &Interface) -> Result<[bool; 3], AllocError> {
+    Ok([
+        is_tape(alloc, interface, PlanNo::Two, MsgNo(0), &[1])?,
+        is_tape(alloc, interface, PlanNo::Two, MsgNo(1), &[1])?,
+        is_tape(alloc, interface, PlanNo::One, MsgNo(65535), &[])?,
+    ])
 }
 
 #[test]
 fn a_message_that_is_not_there_has_no_tape(rt: HostRuntime) -> Result<(), Fail> {
-    let text = b"interface i { message m(bool x); }";
-    assert!(rt; is_tape(rt.alloc(), text, MsgNo(0), &[1], PlanNo::Two)?);
-    assert!(rt; !is_tape(rt.alloc(), text, MsgNo(1), &[1], PlanNo::Two)?);
-    assert!(rt; !is_tape(rt.alloc(), text, MsgNo(65535), &[], PlanNo::One)?);
+    let one = interface(rt.alloc(), b"interface i { message m(bool x); }")?;
+    assert_eq!(rt; tapes_of_messages(rt.alloc(), &one)?, [true, false, false]);
     Ok(())
 }

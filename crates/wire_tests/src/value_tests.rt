@@ -5,10 +5,10 @@ use crate::interfaces::interface;
 use fl_base::MsgNo;
 use fl_check::Interface;
 use fl_value::{
-    Call, PlanNo, ValueFault, fits, flatten, one_reading, print_call, printed_call_read,
-    printed_reads, read_call, read_call_text, resolve, unflatten,
+    Call, PlanNo, Value, ValueFault, fits, flatten, one_reading, print_call, printed_call_read,
+    printed_reads, read_call, read_call_text, read_spoken, resolve, unflatten,
 };
-use std::alloc::Global;
+use std::alloc::{AllocError, Global};
 use std::test::Fail;
 
 // A message for each type.
@@ -45,7 +45,7 @@ const TYPES: &[u8] = b"interface types {
 }";
 
 // Calls in their printed form, among them the least and the greatest value of each type.
-const PRINTED: [&[u8]; 62] = [
+const PRINTED: &[&[u8]] = &[
     b"u8(0)",
     b"u8(1)",
     b"u8(255)",
@@ -111,7 +111,7 @@ const PRINTED: [&[u8]; 62] = [
 ];
 
 // Other spellings of calls, and their printed form.
-const SPELLED: [(&[u8], &[u8]); 4] = [
+const SPELLED: &[(&[u8], &[u8])] = &[
     (b"u8( 007 )", b"u8(7)"),
     (b"u8(-0)", b"u8(0)"),
     (b"text(\"\\x41\\xE9\")", b"text(\"A\\xe9\")"),
@@ -119,7 +119,7 @@ const SPELLED: [(&[u8], &[u8]); 4] = [
 ];
 
 // Texts that are no call (90), of no message (41), or whose arguments don't fit (42).
-const REFUSED: [(&[u8], u8); 56] = [
+const REFUSED: &[(&[u8], u8)] = &[
     (b"u8(-1)", 42),
     (b"u8(256)", 42),
     (b"i8(-129)", 42),
@@ -180,36 +180,104 @@ const REFUSED: [(&[u8], u8); 56] = [
     (b"u32()", 42),
 ];
 
-// What a text reads as, printed.
-fn read_and_print(
+fn name_of(alloc: Global, text: &[u8]) -> Result<&[u8], ValueFault> {
+    let (name, _values) = read_spoken(alloc, text)?;
+    Ok(name)
+}
+
+// Whether values are printed as those of this text, behind its name.
+fn is_printed(alloc: Global, values: &[Value], text: &[u8]) -> Result<bool, ValueFault> {
+    let name = name_of(alloc, text)?;
+    let mut out = Vec::new(alloc);
+    print_call(alloc, &mut out, name, values)?;
+    Ok(out.as_slice() == text)
+}
+
+// The call of a text, read without an interface and then found in it.
+fn resolved(alloc: Global, interface: &Interface, text: &[u8]) -> Result<Call, ValueFault> {
+    resolve(interface, read_call_text(alloc, text)?)
+}
+
+fn reads_as(
     alloc: Global,
     interface: &Interface,
-    bytes: &[u8],
-) -> Result<Vec<u8>, ValueFault> {
-    let text = read_call_text(alloc, bytes)?;
-    let name = text.name.bytes.to_vec(alloc)?;
-    let call = resolve(interface, text)?;
-    let mut out = Vec::new(alloc);
-    print_call(alloc, &mut out, &name, &call.args)?;
-    Ok(out)
+    text: &[u8],
+    printed: &[u8],
+) -> Result<bool, ValueFault> {
+    let call = resolved(alloc, interface, text)?;
+    is_printed(alloc, &call.args, printed)
+}
+
+// What comes back of a call from its tape.
+fn back(
+    alloc: Global,
+    interface: &Interface,
+    plan: PlanNo,
+    call: &Call,
+) -> Result<Option<Call>, AllocError> {
+    let tape = flatten(alloc, call, interface, plan)?;
+    unflatten(alloc, call.msg, &tape, interface, plan)
+}
+
+// Whether a call with this text comes back.
+fn is_back(
+    alloc: Global,
+    interface: &Interface,
+    plan: PlanNo,
+    call: &Call,
+    text: &[u8],
+) -> Result<bool, ValueFault> {
+    match back(alloc, interface, plan, call)? {
+        Some(call) => is_printed(alloc, &call.args, text),
+        None => Ok(false),
+    }
 }
 
 // Whether a call in its printed form fits and comes back from its tape, under both plans.
-fn comes_back(alloc: Global, interface: &Interface, bytes: &[u8]) -> Result<bool, ValueFault> {
-    let text = read_call_text(alloc, bytes)?;
-    let call = read_call(alloc, bytes, interface)?;
-    for plan in [PlanNo::One, PlanNo::Two] {
-        let tape = flatten(alloc, &call, interface, plan)?;
-        let Some(back) = unflatten(alloc, call.msg, &tape, interface, plan)? else {
-            return Ok(false);
-        };
-        let mut out = Vec::new(alloc);
-        print_call(alloc, &mut out, &text.name.bytes, &back.args)?;
-        if out.as_slice() != bytes {
-            return Ok(false);
+fn comes_back(alloc: Global, interface: &Interface, text: &[u8]) -> Result<bool, ValueFault> {
+    let call = read_call(alloc, text, interface)?;
+    Ok(
+        fits(&call, interface)
+            && is_back(alloc, interface, PlanNo::One, &call, text)?
+            && is_back(alloc, interface, PlanNo::Two, &call, text)?,
+    )
+}
+
+// The first of the texts that doesn't come back.
+fn wrong_printed(alloc: Global, interface: &Interface) -> Result<Option<usize>, ValueFault> {
+    for (index, text) in PRINTED.iter().enumerate() {
+        if !comes_back(alloc, interface, text)? {
+            return Ok(Some(index));
         }
     }
-    Ok(fits(&call, interface))
+    Ok(None)
+}
+
+#[test]
+fn printed_calls_come_back(rt: HostRuntime) -> Result<(), Fail> {
+    let types = interface(rt.alloc(), TYPES)?;
+    assert_eq!(rt; wrong_printed(rt.alloc(), &types)?, None);
+    printed_reads();
+    printed_call_read();
+    Ok(())
+}
+
+// The first of the spellings that reads as another call.
+fn wrong_spelled(alloc: Global, interface: &Interface) -> Result<Option<usize>, ValueFault> {
+    for (index, (text, printed)) in SPELLED.iter().enumerate() {
+        if !reads_as(alloc, interface, text, printed)? {
+            return Ok(Some(index));
+        }
+    }
+    Ok(None)
+}
+
+#[test]
+fn other_spellings_are_read(rt: HostRuntime) -> Result<(), Fail> {
+    let types = interface(rt.alloc(), TYPES)?;
+    assert_eq!(rt; wrong_spelled(rt.alloc(), &types)?, None);
+    one_reading();
+    Ok(())
 }
 
 // The number of the fault of a call's text.
@@ -220,51 +288,29 @@ fn fault_of(alloc: Global, interface: &Interface, text: &[u8]) -> Option<u8> {
     }
 }
 
-#[test]
-fn printed_calls_come_back(rt: HostRuntime) -> Result<(), Fail> {
-    let types = interface(rt.alloc(), TYPES)?;
-    for text in PRINTED {
-        assert_eq!(rt; (text, comes_back(rt.alloc(), &types, text)?), (text, true));
-    }
-    printed_reads();
-    printed_call_read();
-    Ok(())
-}
-
-#[test]
-fn other_spellings_are_read(rt: HostRuntime) -> Result<(), Fail> {
-    let types = interface(rt.alloc(), TYPES)?;
-    for (text, printed) in SPELLED {
-        assert_eq!(rt;
-            read_and_print(rt.alloc(), &types, text)?.as_slice(),
-            printed
-        );
-    }
-    one_reading();
-    Ok(())
+// The first of the texts that isn't refused so.
+fn wrong_refused(alloc: Global, interface: &Interface) -> Option<usize> {
+    REFUSED.iter().position(|(text, fault)| fault_of(alloc, interface, text) != Some(*fault))
 }
 
 #[test]
 fn texts_are_refused(rt: HostRuntime) -> Result<(), Fail> {
     let types = interface(rt.alloc(), TYPES)?;
-    for (text, fault) in REFUSED {
-        assert_eq!(rt;
-            (text, fault_of(rt.alloc(), &types, text)),
-            (text, Some(fault))
-        );
-    }
+    assert_eq!(rt; wrong_refused(rt.alloc(), &types), None);
     assert_eq!(rt; ValueFault::NotACall.number(), 90);
     Ok(())
+}
+
+// Whether the arguments of `m(1)` fit a message.
+fn fits_message(alloc: Global, interface: &Interface, msg: MsgNo) -> Result<bool, ValueFault> {
+    let mut call = read_call(alloc, b"m(1)", interface)?;
+    call.msg = msg;
+    Ok(fits(&call, interface))
 }
 
 #[test]
 fn a_call_of_no_message_does_not_fit(rt: HostRuntime) -> Result<(), Fail> {
     let one = interface(rt.alloc(), b"interface i { message m(uint8 x); }")?;
-    let call = read_call(rt.alloc(), b"m(1)", &one)?;
-    let other = Call {
-        msg: MsgNo(1),
-        args: call.args,
-    };
-    assert!(rt; !fits(&other, &one));
+    assert!(rt; !fits_message(rt.alloc(), &one, MsgNo(1))?);
     Ok(())
 }
