@@ -1,27 +1,41 @@
 //! The two ends of a binding over queues, and what they answer.
 
+use crate::sides::Refusing;
 use fl_base::{Circuit, Frag, MsgNo, Side};
 use fl_check::{Interface, TextFault, check};
-use fl_compile::compile;
+use fl_compile::{Program, compile};
 use fl_endpoint::{End, EndFault, ReceiveAnswer, WriteAnswer};
 use fl_lex::lex;
-use fl_link::QueueLink;
+use fl_link::{PutFault, QueueLink};
 use fl_parse::parse;
-use fl_value::{PlanNo, print_call, read_call};
+use fl_value::{Call, PlanNo, print_call, read_call};
 use std::alloc::{AllocError, Global};
-
-pub const PLANS: [PlanNo; 2] = [PlanNo::One, PlanNo::Two];
 
 /// What is done at an end.
 #[derive(Clone, Copy)]
 pub enum Deed {
     /// A call by its text, read by the interface of the ends.
-    Call(Side, &'static [u8]),
-    Show(Side),
-    Write(Side),
-    Receive(Side),
+    Call(&'static [u8]),
+    /// Such a call, and a write.
+    Send(&'static [u8]),
+    /// A call by its text, read by another interface.
+    CallBy(&'static [u8], &'static [u8]),
+    Show,
+    Write,
+    Receive,
+    /// A look at what a write would put on a side that refuses it, and such a write.
+    ShowRefused(PutFault),
+    WriteRefused(PutFault),
+    /// A fragment of these words is put before the end.
+    Put(u64, [u64; 7]),
+    /// The same, and a receive.
+    Take(u64, [u64; 7]),
     /// A reply rule, from one message to another.
-    Rule(Side, MsgNo, MsgNo),
+    Rule(MsgNo, MsgNo),
+    RuleFor(MsgNo),
+    Bind(Circuit),
+    Look,
+    Count,
 }
 
 /// What an end answers.
@@ -31,24 +45,52 @@ pub enum Said {
     Written(usize, usize),
     Full,
     Nothing,
-    Shown(Frag),
+    /// A fragment's control word and words.
+    Shown(u64, [u64; 7]),
     Handled,
     Part,
     Quiet,
     Empty,
     HeldBack,
     Refused(u8),
+    Rule(Option<MsgNo>),
+    /// Its circuit, and whether it is bound, busy, failed, and has rules.
+    Seen(Option<Circuit>, [bool; 4]),
+    /// How many replies wait, and how many messages its interface has.
+    Counts(usize, usize),
 }
 
-/// The two ends of a binding, the queues between them, and the texts of the calls that they handled, a line each.
+/// A deed at an end, and what the end answers.
+pub type Row = (Side, Deed, Said);
+
+/// What the ends of a new binding answer under both plans, and the texts of the calls that they handle, a line each.
+#[derive(Clone, Copy)]
+pub struct Example {
+    pub text: &'static [u8],
+    /// That of both ends; none where they aren't bound yet.
+    pub circuit: Option<Circuit>,
+    /// How many fragments there is room for each way.
+    pub size: usize,
+    /// How it begins: each of these is tried with a new binding.
+    pub starts: &'static [&'static [Row]],
+    /// How each goes on.
+    pub rows: &'static [&'static [Row]],
+    pub handled: &'static [u8],
+}
+
+// An end, and the queue that it puts to.
 #[derive(Drop)]
-pub struct Pair {
+struct Half {
+    end: End,
+    out: QueueLink,
+}
+
+// The two ends of a binding, and the texts of the calls that they handled, a line each.
+#[derive(Drop)]
+struct Pair {
     alloc: Global,
-    interface: Interface,
-    client: End,
-    server: End,
-    forth: QueueLink,
-    back: QueueLink,
+    client: Half,
+    server: Half,
     handled: Vec<u8>,
 }
 
@@ -58,189 +100,275 @@ fn interface_in(alloc: Global, text: &[u8]) -> Result<Interface, TextFault> {
     Ok(check(alloc, &tree)?)
 }
 
-/// The interface of a text; none only where memory runs out.
-pub fn interface(alloc: Global, text: &[u8]) -> Result<Interface, AllocError> {
+// The interface of a text; none only where memory runs out.
+fn interface(alloc: Global, text: &[u8]) -> Result<Interface, AllocError> {
     match interface_in(alloc, text) {
         Ok(interface) => Ok(interface),
         Err(_) => Err(AllocError),
     }
 }
 
-/// An end of an interface's binding that is bound to a circuit.
-pub fn end(
-    alloc: Global,
-    interface: &Interface,
-    plan: PlanNo,
-    circuit: Circuit,
-) -> Result<End, AllocError> {
-    End::new(alloc, compile(alloc, interface, plan)?, circuit)
+fn program(alloc: Global, text: &[u8], plan: PlanNo) -> Result<Program, AllocError> {
+    compile(alloc, &interface(alloc, text)?, plan)
 }
 
-/// A queue of so many fragments.
-pub fn queue(alloc: Global, size: usize) -> Result<QueueLink, AllocError> {
+fn end(alloc: Global, program: Program, circuit: Option<Circuit>) -> Result<End, AllocError> {
+    match circuit {
+        Some(circuit) => End::new(alloc, program, circuit),
+        None => End::unbound(alloc, program),
+    }
+}
+
+fn queue(alloc: Global, size: usize) -> Result<QueueLink, AllocError> {
     match QueueLink::local(alloc, size) {
         Ok(queue) => Ok(queue),
         Err(_) => Err(AllocError),
     }
 }
 
-/// The number of a fault.
-pub fn refused(fault: EndFault) -> Said {
-    Said::Refused(fault.number())
+fn make_half(alloc: Global, plan: PlanNo, example: &Example) -> Result<Half, AllocError> {
+    let program = program(alloc, example.text, plan)?;
+    Ok(Half {
+        end: end(alloc, program, example.circuit)?,
+        out: queue(alloc, example.size)?,
+    })
 }
 
-/// A write's answer.
-pub fn said_of_write(answer: Result<WriteAnswer, EndFault>) -> Said {
+fn said_of(answer: Result<(), EndFault>) -> Said {
+    match answer {
+        Ok(()) => Said::Done,
+        Err(fault) => Said::Refused(fault.number()),
+    }
+}
+
+fn said_of_show(answer: Result<Option<Frag>, EndFault>) -> Said {
+    match answer {
+        Ok(Some(frag)) => Said::Shown(frag.control, frag.words),
+        Ok(None) => Said::Nothing,
+        Err(fault) => Said::Refused(fault.number()),
+    }
+}
+
+fn said_of_write(answer: Result<WriteAnswer, EndFault>) -> Said {
     match answer {
         Ok(WriteAnswer::Written { number, count }) => Said::Written(number, count),
         Ok(WriteAnswer::Full) => Said::Full,
         Ok(WriteAnswer::Nothing) => Said::Nothing,
-        Err(fault) => refused(fault),
+        Err(fault) => Said::Refused(fault.number()),
     }
 }
 
-/// A look's answer.
-pub fn said_of_show(answer: Result<Option<Frag>, EndFault>) -> Said {
-    match answer {
-        Ok(Some(frag)) => Said::Shown(frag),
-        Ok(None) => Said::Nothing,
-        Err(fault) => refused(fault),
-    }
-}
-
-/// The answer of a call or of a rule.
-pub fn said_of(answer: Result<(), EndFault>) -> Said {
-    match answer {
+fn put(queue: &mut QueueLink, control: u64, words: [u64; 7]) -> Said {
+    match queue.put(&Frag { words, control }) {
         Ok(()) => Said::Done,
-        Err(fault) => refused(fault),
+        Err(_) => Said::Full,
     }
 }
 
-/// A receive's answer; the text of a call that is handled goes to the end of `handled`.
-pub fn said_of_receive(
+fn call(alloc: Global, end: &mut End, text: &[u8]) -> Said {
+    match read_call(alloc, text, end.program().interface()) {
+        Ok(call) => said_of(end.call(&call)),
+        Err(_) => Said::Refused(90),
+    }
+}
+
+fn call_by(
     alloc: Global,
+    end: &mut End,
     interface: &Interface,
-    answer: Result<ReceiveAnswer, EndFault>,
-    handled: &mut Vec<u8>,
+    text: &[u8],
 ) -> Result<Said, AllocError> {
-    let call = match answer {
-        Ok(ReceiveAnswer::Handle(call)) => call,
-        Ok(ReceiveAnswer::Part) => return Ok(Said::Part),
-        Ok(ReceiveAnswer::Quiet) => return Ok(Said::Quiet),
-        Ok(ReceiveAnswer::Empty) => return Ok(Said::Empty),
-        Ok(ReceiveAnswer::HeldBack) => return Ok(Said::HeldBack),
-        Err(fault) => return Ok(refused(fault)),
-    };
-    if let Some(message) = interface.messages.get(usize::from(call.msg.0)) {
+    match read_call(alloc, text, interface) {
+        Ok(call) => Ok(said_of(end.call(&call))),
+        Err(_) => Err(AllocError),
+    }
+}
+
+// Adds the line of a call that an end handles.
+fn write_call(
+    alloc: Global,
+    handled: &mut Vec<u8>,
+    end: &End,
+    call: &Call,
+) -> Result<(), AllocError> {
+    if let Some(message) = end
+        .program()
+        .interface()
+        .messages
+        .get(usize::from(call.msg.0))
+    {
         print_call(alloc, handled, &message.name.bytes, &call.args)?;
     }
     handled.push(b'\n')?;
-    Ok(Said::Handled)
+    Ok(())
+}
+
+fn seen(end: &End) -> Said {
+    let is = [
+        end.is_bound(),
+        end.is_busy(),
+        end.is_failed(),
+        end.has_rules(),
+    ];
+    Said::Seen(end.circuit(), is)
+}
+
+fn counts(end: &End) -> Said {
+    Said::Counts(
+        end.replies_waiting(),
+        end.program().interface().messages.len(),
+    )
+}
+
+fn bind(end: &mut End, circuit: Circuit) -> Said {
+    end.bind(circuit);
+    Said::Done
+}
+
+// What an end answers that takes no memory.
+fn ask(end: &mut End, deed: Deed) -> Said {
+    match deed {
+        Deed::Rule(msg, reply) => said_of(end.reply_rule(msg, reply)),
+        Deed::RuleFor(msg) => Said::Rule(end.rule_for(msg)),
+        Deed::ShowRefused(fault) => said_of_show(end.show(&Refusing(fault))),
+        Deed::WriteRefused(fault) => said_of_write(end.write(&mut Refusing(fault))),
+        Deed::Bind(circuit) => bind(end, circuit),
+        Deed::Look => seen(end),
+        _ => counts(end),
+    }
+}
+
+impl Half {
+    fn send(&mut self, alloc: Global, text: &[u8]) -> Said {
+        let said = call(alloc, &mut self.end, text);
+        if said != Said::Done {
+            return said;
+        }
+        said_of_write(self.end.write(&mut self.out))
+    }
+
+    fn receive(
+        &mut self,
+        alloc: Global,
+        from: &mut QueueLink,
+        handled: &mut Vec<u8>,
+    ) -> Result<Said, AllocError> {
+        match self.end.receive(from) {
+            Ok(ReceiveAnswer::Handle(call)) => {
+                write_call(alloc, handled, &self.end, &call)?;
+                Ok(Said::Handled)
+            }
+            Ok(ReceiveAnswer::Part) => Ok(Said::Part),
+            Ok(ReceiveAnswer::Quiet) => Ok(Said::Quiet),
+            Ok(ReceiveAnswer::Empty) => Ok(Said::Empty),
+            Ok(ReceiveAnswer::HeldBack) => Ok(Said::HeldBack),
+            Err(fault) => Ok(Said::Refused(fault.number())),
+        }
+    }
+
+    fn answer(
+        &mut self,
+        alloc: Global,
+        deed: Deed,
+        from: &mut QueueLink,
+        handled: &mut Vec<u8>,
+    ) -> Result<Said, AllocError> {
+        match deed {
+            Deed::Call(text) => Ok(call(alloc, &mut self.end, text)),
+            Deed::Send(text) => Ok(self.send(alloc, text)),
+            Deed::CallBy(other, text) => {
+                call_by(alloc, &mut self.end, &interface(alloc, other)?, text)
+            }
+            Deed::Show => Ok(said_of_show(self.end.show(&self.out))),
+            Deed::Write => Ok(said_of_write(self.end.write(&mut self.out))),
+            Deed::Receive => self.receive(alloc, from, handled),
+            Deed::Put(control, words) => Ok(put(from, control, words)),
+            Deed::Take(control, words) => {
+                put(from, control, words);
+                self.receive(alloc, from, handled)
+            }
+            _ => Ok(ask(&mut self.end, deed)),
+        }
+    }
 }
 
 impl Pair {
-    /// Two ends whose fragments pass by queues of so many.
-    pub fn new(alloc: Global, text: &[u8], plan: PlanNo, size: usize) -> Result<Pair, AllocError> {
-        let interface = interface(alloc, text)?;
-        let client = end(alloc, &interface, plan, Circuit(0))?;
-        let server = end(alloc, &interface, plan, Circuit(0))?;
-        let forth = queue(alloc, size)?;
-        let back = queue(alloc, size)?;
+    fn new(alloc: Global, plan: PlanNo, example: &Example) -> Result<Pair, AllocError> {
         Ok(Pair {
             alloc,
-            interface,
-            client,
-            server,
-            forth,
-            back,
+            client: make_half(alloc, plan, example)?,
+            server: make_half(alloc, plan, example)?,
             handled: Vec::new(alloc),
         })
     }
 
-    fn call(&mut self, side: Side, text: &[u8]) -> Said {
-        let Ok(call) = read_call(self.alloc, text, &self.interface) else {
-            return Said::Refused(90);
-        };
+    fn answer(&mut self, side: Side, deed: Deed) -> Result<Said, AllocError> {
+        let (client, server) = (&mut self.client, &mut self.server);
         match side {
-            Side::Client => said_of(self.client.call(&call)),
-            Side::Server => said_of(self.server.call(&call)),
+            Side::Client => client.answer(self.alloc, deed, &mut server.out, &mut self.handled),
+            Side::Server => server.answer(self.alloc, deed, &mut client.out, &mut self.handled),
         }
     }
 
-    fn show(&self, side: Side) -> Said {
-        match side {
-            Side::Client => said_of_show(self.client.show(&self.forth)),
-            Side::Server => said_of_show(self.server.show(&self.back)),
-        }
-    }
-
-    fn write(&mut self, side: Side) -> Said {
-        match side {
-            Side::Client => said_of_write(self.client.write(&mut self.forth)),
-            Side::Server => said_of_write(self.server.write(&mut self.back)),
-        }
-    }
-
-    fn receive(&mut self, side: Side) -> Result<Said, AllocError> {
-        let answer = match side {
-            Side::Client => self.client.receive(&mut self.back),
-            Side::Server => self.server.receive(&mut self.forth),
-        };
-        said_of_receive(self.alloc, &self.interface, answer, &mut self.handled)
-    }
-
-    fn rule(&mut self, side: Side, msg: MsgNo, reply: MsgNo) -> Said {
-        match side {
-            Side::Client => said_of(self.client.reply_rule(msg, reply)),
-            Side::Server => said_of(self.server.reply_rule(msg, reply)),
-        }
-    }
-
-    /// What an end answers.
-    pub fn answer(&mut self, deed: Deed) -> Result<Said, AllocError> {
-        match deed {
-            Deed::Call(side, text) => Ok(self.call(side, text)),
-            Deed::Show(side) => Ok(self.show(side)),
-            Deed::Write(side) => Ok(self.write(side)),
-            Deed::Receive(side) => self.receive(side),
-            Deed::Rule(side, msg, reply) => Ok(self.rule(side, msg, reply)),
-        }
-    }
-
-    /// Whether the ends answer so to deeds, one after another.
-    pub fn answers(&mut self, rows: &[(Deed, Said)]) -> Result<bool, AllocError> {
-        for (deed, said) in rows {
-            if self.answer(*deed)? != *said {
+    // Whether the ends answer so to deeds, one after another.
+    fn answers(&mut self, rows: &[Row]) -> Result<bool, AllocError> {
+        for (side, deed, said) in rows {
+            if self.answer(*side, *deed)? != *said {
                 return Ok(false);
             }
         }
         Ok(true)
     }
 
-    /// The texts of the calls handled.
-    pub fn handled(&self) -> &[u8] {
-        &self.handled
+    fn goes_on(&mut self, parts: &[&[Row]]) -> Result<bool, AllocError> {
+        for rows in parts {
+            if !self.answers(rows)? {
+                return Ok(false);
+            }
+        }
+        Ok(true)
     }
 
-    /// How many replies wait at the server's end.
-    pub fn replies_waiting(&self) -> usize {
-        self.server.replies_waiting()
+    // Whether the server handles a call, where memory that runs out once is met by asking again.
+    fn handles_at_last(&mut self) -> Result<bool, AllocError> {
+        let mut said = self.answer(Side::Server, Deed::Receive)?;
+        if said == Said::Refused(99) {
+            said = self.answer(Side::Server, Deed::Receive)?;
+        }
+        Ok(said == Said::Handled)
     }
 }
 
-/// Whether the ends of a new binding answer so under both plans, and handle these calls.
-pub fn agree(
-    alloc: Global,
-    text: &[u8],
-    size: usize,
-    rows: &[(Deed, Said)],
-    handled: &[u8],
-) -> Result<bool, AllocError> {
-    for plan in PLANS {
-        let mut pair = Pair::new(alloc, text, plan, size)?;
-        if !pair.answers(rows)? || pair.handled() != handled {
-            return Ok(false);
+impl Example {
+    fn holds(&self, alloc: Global, plan: PlanNo, start: &[Row]) -> Result<bool, AllocError> {
+        let mut pair = Pair::new(alloc, plan, self)?;
+        let holds = pair.answers(start)? && pair.goes_on(self.rows)?;
+        Ok(holds && pair.handled.as_slice() == self.handled)
+    }
+
+    fn holds_under(&self, alloc: Global, plan: PlanNo) -> Result<bool, AllocError> {
+        for start in self.starts {
+            if !self.holds(alloc, plan, start)? {
+                return Ok(false);
+            }
+        }
+        Ok(true)
+    }
+}
+
+/// The place of the first example that isn't so.
+pub fn first_wrong(alloc: Global, examples: &[Example]) -> Result<Option<usize>, AllocError> {
+    for (place, example) in examples.iter().enumerate() {
+        if !example.holds_under(alloc, PlanNo::One)? || !example.holds_under(alloc, PlanNo::Two)? {
+            return Ok(Some(place));
         }
     }
-    Ok(true)
+    Ok(None)
+}
+
+/// Whether an example begins so, and then the server handles a call, where memory that runs out once is met by asking again.
+pub fn handles_at_last(alloc: Global, example: &Example) -> Result<bool, AllocError> {
+    let mut pair = Pair::new(alloc, PlanNo::Two, example)?;
+    let handles = pair.goes_on(example.starts)? && pair.handles_at_last()?;
+    Ok(handles && pair.handled.as_slice() == example.handled)
 }

@@ -1,8 +1,7 @@
 //! Worked examples between the two ends of a binding.
 
-use crate::pair::{Deed, PLANS, Pair, Said, agree};
-use fl_base::{Frag, MsgNo, Side};
-use std::alloc::{AllocError, Global};
+use crate::pair::{Deed, Example, Row, Said, first_wrong};
+use fl_base::{Circuit, MsgNo, Side};
 use std::test::Fail;
 
 const PING: &[u8] = b"interface i { message ping(uint32 v); }";
@@ -16,195 +15,286 @@ const ECHO: &[u8] = b"interface i { rpc echo(in uint32 x, out uint32 y); }";
 const LONG: &[u8] = b"blob(\"aaaaaaaaaaaaaaaaaaaaaaaaaaaaaaaaaaaaaaaaaaaaaaaaa\")";
 
 // What is shown: control words of a first fragment, on circuit 0 and with epoch 1.
-const PING_7: Frag = Frag {
-    words: [7, 0, 0, 0, 0, 0, 0],
-    control: 3,
-};
-
-const NO_WORDS: Frag = Frag {
-    words: [0, 0, 0, 0, 0, 0, 0],
-    control: 3,
-};
-
-const RESPONSE_9: Frag = Frag {
-    words: [9, 0, 0, 0, 0, 0, 0],
-    control: 0x1_0003,
-};
-
-const RESPONSE_1: Frag = Frag {
-    words: [1, 0, 0, 0, 0, 0, 0],
-    control: 0x1_0003,
-};
-
-const RESPONSE_2: Frag = Frag {
-    words: [2, 0, 0, 0, 0, 0, 0],
-    control: 0x1_0003,
-};
-
-const ONE_CALL: [(Deed, Said); 7] = [
-    (Deed::Call(Side::Client, b"ping(7)"), Said::Done),
-    (Deed::Show(Side::Client), Said::Shown(PING_7)),
-    (Deed::Write(Side::Client), Said::Written(1, 1)),
-    (Deed::Receive(Side::Server), Said::Handled),
-    (Deed::Receive(Side::Server), Said::Empty),
-    (Deed::Show(Side::Client), Said::Nothing),
-    (Deed::Write(Side::Client), Said::Nothing),
+const ONE_CALL: &[Row] = &[
+    (Side::Client, Deed::Call(b"ping(7)"), Said::Done),
+    (
+        Side::Client,
+        Deed::Show,
+        Said::Shown(3, [7, 0, 0, 0, 0, 0, 0]),
+    ),
+    (Side::Client, Deed::Write, Said::Written(1, 1)),
+    (Side::Server, Deed::Receive, Said::Handled),
+    (Side::Server, Deed::Receive, Said::Empty),
+    (Side::Client, Deed::Show, Said::Nothing),
+    (Side::Client, Deed::Write, Said::Nothing),
 ];
 
-const NO_ARGUMENTS: [(Deed, Said); 4] = [
-    (Deed::Call(Side::Client, b"nop()"), Said::Done),
-    (Deed::Show(Side::Client), Said::Shown(NO_WORDS)),
-    (Deed::Write(Side::Client), Said::Written(1, 1)),
-    (Deed::Receive(Side::Server), Said::Handled),
+const NO_ARGUMENTS: &[Row] = &[
+    (Side::Client, Deed::Call(b"nop()"), Said::Done),
+    (
+        Side::Client,
+        Deed::Show,
+        Said::Shown(3, [0, 0, 0, 0, 0, 0, 0]),
+    ),
+    (Side::Client, Deed::Write, Said::Written(1, 1)),
+    (Side::Server, Deed::Receive, Said::Handled),
 ];
 
-const TWO_FRAGMENTS: [(Deed, Said); 7] = [
-    (Deed::Call(Side::Client, LONG), Said::Done),
-    (Deed::Write(Side::Client), Said::Written(1, 2)),
-    (Deed::Call(Side::Client, b"blob(\"x\")"), Said::Refused(40)),
-    (Deed::Receive(Side::Server), Said::Part),
-    (Deed::Write(Side::Client), Said::Written(2, 2)),
-    (Deed::Call(Side::Client, b"blob(\"x\")"), Said::Done),
-    (Deed::Receive(Side::Server), Said::Handled),
+const TWO_FRAGMENTS: &[Row] = &[
+    (Side::Client, Deed::Call(LONG), Said::Done),
+    (Side::Client, Deed::Write, Said::Written(1, 2)),
+    (Side::Client, Deed::Call(b"blob(\"x\")"), Said::Refused(40)),
+    (Side::Server, Deed::Receive, Said::Part),
+    (Side::Client, Deed::Write, Said::Written(2, 2)),
+    (Side::Client, Deed::Call(b"blob(\"x\")"), Said::Done),
+    (Side::Server, Deed::Receive, Said::Handled),
 ];
 
 // A queue of one fragment: the second is put once the first is taken.
-const FULL: [(Deed, Said); 6] = [
-    (Deed::Call(Side::Server, LONG), Said::Done),
-    (Deed::Write(Side::Server), Said::Written(1, 2)),
-    (Deed::Write(Side::Server), Said::Full),
-    (Deed::Receive(Side::Client), Said::Part),
-    (Deed::Write(Side::Server), Said::Written(2, 2)),
-    (Deed::Receive(Side::Client), Said::Handled),
+const FULL: &[Row] = &[
+    (Side::Server, Deed::Call(LONG), Said::Done),
+    (Side::Server, Deed::Write, Said::Written(1, 2)),
+    (Side::Server, Deed::Write, Said::Full),
+    (Side::Client, Deed::Receive, Said::Part),
+    (Side::Server, Deed::Write, Said::Written(2, 2)),
+    (Side::Client, Deed::Receive, Said::Handled),
 ];
 
-const REPLY: [(Deed, Said); 7] = [
-    (Deed::Rule(Side::Server, MsgNo(0), MsgNo(1)), Said::Done),
-    (Deed::Call(Side::Client, b"echo_call(9)"), Said::Done),
-    (Deed::Write(Side::Client), Said::Written(1, 1)),
-    (Deed::Receive(Side::Server), Said::Handled),
-    (Deed::Show(Side::Server), Said::Shown(RESPONSE_9)),
-    (Deed::Write(Side::Server), Said::Written(1, 1)),
-    (Deed::Receive(Side::Client), Said::Handled),
-];
-
-#[test]
-fn worked_rows(rt: HostRuntime) -> Result<(), Fail> {
-    let alloc = rt.alloc();
-    assert!(rt; agree(alloc, PING, 4, &ONE_CALL, b"ping(7)\n")?);
-    assert!(rt; agree(alloc, NOP, 1, &NO_ARGUMENTS, b"nop()\n")?);
-    let handled = b"blob(\"aaaaaaaaaaaaaaaaaaaaaaaaaaaaaaaaaaaaaaaaaaaaaaaaa\")\n";
-    assert!(rt; agree(alloc, BLOB, 4, &TWO_FRAGMENTS, handled)?);
-    assert!(rt; agree(alloc, BLOB, 1, &FULL, handled)?);
-    assert!(rt; agree(alloc, ECHO, 4, &REPLY, b"echo_call(9)\necho_response(9)\n")?);
-    Ok(())
-}
-
-const CALLS: [&[u8]; 18] = [
-    b"echo_call(1)",
-    b"echo_call(2)",
-    b"echo_call(3)",
-    b"echo_call(4)",
-    b"echo_call(5)",
-    b"echo_call(6)",
-    b"echo_call(7)",
-    b"echo_call(8)",
-    b"echo_call(9)",
-    b"echo_call(10)",
-    b"echo_call(11)",
-    b"echo_call(12)",
-    b"echo_call(13)",
-    b"echo_call(14)",
-    b"echo_call(15)",
-    b"echo_call(16)",
-    b"echo_call(17)",
-    b"echo_call(18)",
+const REPLY: &[Row] = &[
+    (Side::Server, Deed::Rule(MsgNo(0), MsgNo(1)), Said::Done),
+    (Side::Client, Deed::Call(b"echo_call(9)"), Said::Done),
+    (Side::Client, Deed::Write, Said::Written(1, 1)),
+    (Side::Server, Deed::Receive, Said::Handled),
+    (
+        Side::Server,
+        Deed::Show,
+        Said::Shown(0x1_0003, [9, 0, 0, 0, 0, 0, 0]),
+    ),
+    (Side::Server, Deed::Write, Said::Written(1, 1)),
+    (Side::Client, Deed::Receive, Said::Handled),
 ];
 
 // Eighteen calls are made and written, of which seventeen are handled: one reply is in transmission then, and 16 wait.
-fn eighteen_calls(pair: &mut Pair) -> Result<bool, AllocError> {
-    for text in CALLS {
-        let rows = [
-            (Deed::Call(Side::Client, text), Said::Done),
-            (Deed::Write(Side::Client), Said::Written(1, 1)),
-        ];
-        if !pair.answers(&rows)? {
-            return Ok(false);
-        }
-    }
-    for _ in 0..17 {
-        if !pair.answers(&[(Deed::Receive(Side::Server), Said::Handled)])? {
-            return Ok(false);
-        }
-    }
-    Ok(true)
-}
-
-// No fragment is looked at while 16 replies wait. A write makes room for one, and the first that waited is in transmission.
-const HELD_BACK: [(Deed, Said); 7] = [
-    (Deed::Receive(Side::Server), Said::HeldBack),
-    (Deed::Show(Side::Server), Said::Shown(RESPONSE_1)),
-    (Deed::Write(Side::Server), Said::Written(1, 1)),
-    (Deed::Show(Side::Server), Said::Shown(RESPONSE_2)),
-    (Deed::Receive(Side::Server), Said::Handled),
-    (Deed::Receive(Side::Server), Said::HeldBack),
-    (Deed::Receive(Side::Client), Said::Handled),
+const EIGHTEEN_CALLS: &[Row] = &[
+    (
+        Side::Client,
+        Deed::Send(b"echo_call(1)"),
+        Said::Written(1, 1),
+    ),
+    (
+        Side::Client,
+        Deed::Send(b"echo_call(2)"),
+        Said::Written(1, 1),
+    ),
+    (
+        Side::Client,
+        Deed::Send(b"echo_call(3)"),
+        Said::Written(1, 1),
+    ),
+    (
+        Side::Client,
+        Deed::Send(b"echo_call(4)"),
+        Said::Written(1, 1),
+    ),
+    (
+        Side::Client,
+        Deed::Send(b"echo_call(5)"),
+        Said::Written(1, 1),
+    ),
+    (
+        Side::Client,
+        Deed::Send(b"echo_call(6)"),
+        Said::Written(1, 1),
+    ),
+    (
+        Side::Client,
+        Deed::Send(b"echo_call(7)"),
+        Said::Written(1, 1),
+    ),
+    (
+        Side::Client,
+        Deed::Send(b"echo_call(8)"),
+        Said::Written(1, 1),
+    ),
+    (
+        Side::Client,
+        Deed::Send(b"echo_call(9)"),
+        Said::Written(1, 1),
+    ),
+    (
+        Side::Client,
+        Deed::Send(b"echo_call(10)"),
+        Said::Written(1, 1),
+    ),
+    (
+        Side::Client,
+        Deed::Send(b"echo_call(11)"),
+        Said::Written(1, 1),
+    ),
+    (
+        Side::Client,
+        Deed::Send(b"echo_call(12)"),
+        Said::Written(1, 1),
+    ),
+    (
+        Side::Client,
+        Deed::Send(b"echo_call(13)"),
+        Said::Written(1, 1),
+    ),
+    (
+        Side::Client,
+        Deed::Send(b"echo_call(14)"),
+        Said::Written(1, 1),
+    ),
+    (
+        Side::Client,
+        Deed::Send(b"echo_call(15)"),
+        Said::Written(1, 1),
+    ),
+    (
+        Side::Client,
+        Deed::Send(b"echo_call(16)"),
+        Said::Written(1, 1),
+    ),
+    (
+        Side::Client,
+        Deed::Send(b"echo_call(17)"),
+        Said::Written(1, 1),
+    ),
+    (
+        Side::Client,
+        Deed::Send(b"echo_call(18)"),
+        Said::Written(1, 1),
+    ),
 ];
 
-fn waits(alloc: Global) -> Result<bool, AllocError> {
-    for plan in PLANS {
-        let mut pair = Pair::new(alloc, ECHO, plan, 32)?;
-        let rule = [(Deed::Rule(Side::Server, MsgNo(0), MsgNo(1)), Said::Done)];
-        if !pair.answers(&rule)? || !eighteen_calls(&mut pair)? || pair.replies_waiting() != 16 {
-            return Ok(false);
-        }
-        if !pair.answers(&HELD_BACK)? || pair.replies_waiting() != 16 {
-            return Ok(false);
-        }
-        if !pair
-            .handled()
-            .ends_with(b"echo_call(17)\necho_call(18)\necho_response(1)\n")
-        {
-            return Ok(false);
-        }
-    }
-    Ok(true)
-}
+const SEVENTEEN_HANDLED: &[Row] = &[(Side::Server, Deed::Receive, Said::Handled); 17];
 
-#[test]
-fn replies_that_wait(rt: HostRuntime) -> Result<(), Fail> {
-    assert!(rt; waits(rt.alloc())?);
-    Ok(())
-}
+const SIXTEEN_WAIT: &[Row] = &[(Side::Server, Deed::Count, Said::Counts(16, 2))];
+
+const RULE: &[Row] = &[(Side::Server, Deed::Rule(MsgNo(0), MsgNo(1)), Said::Done)];
+
+// No fragment is looked at while 16 replies wait. A write makes room for one, and the first that waited is in transmission.
+const HELD_BACK: &[Row] = &[
+    (Side::Server, Deed::Receive, Said::HeldBack),
+    (
+        Side::Server,
+        Deed::Show,
+        Said::Shown(0x1_0003, [1, 0, 0, 0, 0, 0, 0]),
+    ),
+    (Side::Server, Deed::Write, Said::Written(1, 1)),
+    (
+        Side::Server,
+        Deed::Show,
+        Said::Shown(0x1_0003, [2, 0, 0, 0, 0, 0, 0]),
+    ),
+    (Side::Server, Deed::Receive, Said::Handled),
+    (Side::Server, Deed::Receive, Said::HeldBack),
+    (Side::Client, Deed::Receive, Said::Handled),
+];
+
+const ECHOES: &[u8] = b"echo_call(1)\necho_call(2)\necho_call(3)\necho_call(4)\necho_call(5)\n\
+echo_call(6)\necho_call(7)\necho_call(8)\necho_call(9)\necho_call(10)\necho_call(11)\necho_call(12)\n\
+echo_call(13)\necho_call(14)\necho_call(15)\necho_call(16)\necho_call(17)\necho_call(18)\necho_response(1)\n";
 
 // Rules: a message that isn't there, types that differ, and a later rule in place of an earlier one.
 const RULES: &[u8] =
     b"interface i { message a(uint8 x); message b(uint8 y); message c(uint16 x); message d(uint8 z); }";
 
-const LATER_RULE: [(Deed, Said); 10] = [
+const LATER_RULE: &[Row] = &[
     (
-        Deed::Rule(Side::Server, MsgNo(0), MsgNo(4)),
+        Side::Server,
+        Deed::Rule(MsgNo(0), MsgNo(4)),
         Said::Refused(41),
     ),
     (
-        Deed::Rule(Side::Server, MsgNo(4), MsgNo(0)),
+        Side::Server,
+        Deed::Rule(MsgNo(4), MsgNo(0)),
         Said::Refused(41),
     ),
     (
-        Deed::Rule(Side::Server, MsgNo(0), MsgNo(2)),
+        Side::Server,
+        Deed::Rule(MsgNo(0), MsgNo(2)),
         Said::Refused(42),
     ),
-    (Deed::Rule(Side::Server, MsgNo(0), MsgNo(1)), Said::Done),
-    (Deed::Rule(Side::Server, MsgNo(0), MsgNo(3)), Said::Done),
-    (Deed::Call(Side::Client, b"a(5)"), Said::Done),
-    (Deed::Write(Side::Client), Said::Written(1, 1)),
-    (Deed::Receive(Side::Server), Said::Handled),
-    (Deed::Write(Side::Server), Said::Written(1, 1)),
-    (Deed::Receive(Side::Client), Said::Handled),
+    (Side::Server, Deed::Rule(MsgNo(0), MsgNo(1)), Said::Done),
+    (Side::Server, Deed::Rule(MsgNo(0), MsgNo(3)), Said::Done),
+    (Side::Client, Deed::Call(b"a(5)"), Said::Done),
+    (Side::Client, Deed::Write, Said::Written(1, 1)),
+    (Side::Server, Deed::Receive, Said::Handled),
+    (Side::Server, Deed::Write, Said::Written(1, 1)),
+    (Side::Client, Deed::Receive, Said::Handled),
+];
+
+const LONG_LINE: &[u8] = b"blob(\"aaaaaaaaaaaaaaaaaaaaaaaaaaaaaaaaaaaaaaaaaaaaaaaaa\")\n";
+
+const EXAMPLES: &[Example] = &[
+    Example {
+        text: PING,
+        circuit: Some(Circuit(0)),
+        size: 4,
+        starts: &[ONE_CALL],
+        rows: &[],
+        handled: b"ping(7)\n",
+    },
+    Example {
+        text: NOP,
+        circuit: Some(Circuit(0)),
+        size: 1,
+        starts: &[NO_ARGUMENTS],
+        rows: &[],
+        handled: b"nop()\n",
+    },
+    Example {
+        text: BLOB,
+        circuit: Some(Circuit(0)),
+        size: 4,
+        starts: &[TWO_FRAGMENTS],
+        rows: &[],
+        handled: LONG_LINE,
+    },
+    Example {
+        text: BLOB,
+        circuit: Some(Circuit(0)),
+        size: 1,
+        starts: &[FULL],
+        rows: &[],
+        handled: LONG_LINE,
+    },
+    Example {
+        text: ECHO,
+        circuit: Some(Circuit(0)),
+        size: 4,
+        starts: &[REPLY],
+        rows: &[],
+        handled: b"echo_call(9)\necho_response(9)\n",
+    },
+    Example {
+        text: ECHO,
+        circuit: Some(Circuit(0)),
+        size: 32,
+        starts: &[RULE],
+        rows: &[
+            EIGHTEEN_CALLS,
+            SEVENTEEN_HANDLED,
+            SIXTEEN_WAIT,
+            HELD_BACK,
+            SIXTEEN_WAIT,
+        ],
+        handled: ECHOES,
+    },
+    Example {
+        text: RULES,
+        circuit: Some(Circuit(0)),
+        size: 4,
+        starts: &[LATER_RULE],
+        rows: &[],
+        handled: b"a(5)\nd(5)\n",
+    },
 ];
 
 #[test]
-fn rules_of_an_end(rt: HostRuntime) -> Result<(), Fail> {
-    assert!(rt; agree(rt.alloc(), RULES, 4, &LATER_RULE, b"a(5)\nd(5)\n")?);
+fn worked_rows(rt: HostRuntime) -> Result<(), Fail> {
+    assert_eq!(rt; first_wrong(rt.alloc(), EXAMPLES)?, None);
     Ok(())
 }

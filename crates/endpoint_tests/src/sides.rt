@@ -2,17 +2,13 @@
 
 ghost use Rattle.std.specs.Prelude.{true};
 
-use crate::pair::{Said, interface, queue, said_of, said_of_receive, said_of_show, said_of_write};
-use fl_base::{Circuit, Frag, MsgNo};
-use fl_check::Interface;
-use fl_compile::compile;
+use crate::pair::{Deed, Example, Row, Said, first_wrong};
+use fl_base::{Circuit, Frag, MsgNo, Side};
 use fl_endpoint::{
-    End, accounts_add_up, bind_accounts, call_accounts, handles_in_order, on_another_circuit,
+    accounts_add_up, bind_accounts, call_accounts, handles_in_order, on_another_circuit,
     receive_accounts, replies_add_up, rule_accounts, since_made, takes_in_order, write_accounts,
 };
 use fl_link::{PutFault, PutSide, QueueLink};
-use fl_value::{Call, PlanNo, read_call};
-use std::alloc::{AllocError, Global};
 use std::test::Fail;
 
 const PING: &[u8] = b"interface i { message ping(uint32 v); }";
@@ -22,81 +18,113 @@ const WIDER: &[u8] = b"interface i { message ping(uint64 v); message pong(uint32
 
 const TEXT: &[u8] = b"interface i { message ping(string s); }";
 
-fn call(alloc: Global, interface: &Interface, text: &[u8]) -> Result<Call, AllocError> {
-    match read_call(alloc, text, interface) {
-        Ok(call) => Ok(call),
-        Err(_) => Err(AllocError),
-    }
-}
-
-fn unbound(alloc: Global) -> Result<End, AllocError> {
-    let interface = interface(alloc, PING)?;
-    End::unbound(alloc, compile(alloc, &interface, PlanNo::One)?)
-}
-
-// What an end answers to a call that an interface reads.
-fn said_to(alloc: Global, end: &mut End, text: &[u8], called: &[u8]) -> Result<Said, AllocError> {
-    let interface = interface(alloc, text)?;
-    let call = call(alloc, &interface, called)?;
-    Ok(said_of(end.call(&call)))
-}
-
 // E41 and E42 come before E43, and a rule may be set.
-fn answers_unbound(alloc: Global, end: &mut End) -> Result<bool, AllocError> {
-    let mut side = queue(alloc, 1)?;
-    let interface = interface(alloc, PING)?;
-    let mut handled = Vec::new(alloc);
-    let received = end.receive(&mut side);
-    Ok(
-        !end.is_bound()
-            && end.circuit().is_none()
-            && said_to(alloc, end, WIDER, b"pong(1)")? == Said::Refused(41)
-            && said_to(alloc, end, WIDER, b"ping(4294967296)")? == Said::Refused(42)
-            && said_to(alloc, end, TEXT, b"ping(\"x\")")? == Said::Refused(42)
-            && said_to(alloc, end, PING, b"ping(1)")? == Said::Refused(43)
-            && said_of_write(end.write(&mut side)) == Said::Refused(43)
-            && said_of_show(end.show(&side)) == Said::Refused(43)
-            && said_of_receive(alloc, &interface, received, &mut handled)? == Said::Refused(43)
-            && !end.has_rules()
-            && said_of(end.reply_rule(MsgNo(0), MsgNo(0))) == Said::Done
-            && end.has_rules()
-            && end.rule_for(MsgNo(0)) == Some(MsgNo(0))
-            && end.rule_for(MsgNo(1)).is_none(),
-    )
-}
+const UNBOUND: &[Row] = &[
+    (
+        Side::Client,
+        Deed::Look,
+        Said::Seen(None, [false, false, false, false]),
+    ),
+    (
+        Side::Client,
+        Deed::CallBy(WIDER, b"pong(1)"),
+        Said::Refused(41),
+    ),
+    (
+        Side::Client,
+        Deed::CallBy(WIDER, b"ping(4294967296)"),
+        Said::Refused(42),
+    ),
+    (
+        Side::Client,
+        Deed::CallBy(TEXT, b"ping(\"x\")"),
+        Said::Refused(42),
+    ),
+    (Side::Client, Deed::Call(b"ping(1)"), Said::Refused(43)),
+    (Side::Client, Deed::Write, Said::Refused(43)),
+    (Side::Client, Deed::Show, Said::Refused(43)),
+    (Side::Client, Deed::Receive, Said::Refused(43)),
+    (Side::Client, Deed::Rule(MsgNo(0), MsgNo(0)), Said::Done),
+    (
+        Side::Client,
+        Deed::Look,
+        Said::Seen(None, [false, false, false, true]),
+    ),
+    (
+        Side::Client,
+        Deed::RuleFor(MsgNo(0)),
+        Said::Rule(Some(MsgNo(0))),
+    ),
+    (Side::Client, Deed::RuleFor(MsgNo(1)), Said::Rule(None)),
+];
+
+const BUSY_ON_5: Said = Said::Seen(Some(Circuit(5)), [true, true, false, true]);
+
+const SHOWN_ON_5: Said = Said::Shown(0x0005_0000_0003, [7, 0, 0, 0, 0, 0, 0]);
 
 // Once it is bound: a second binding changes nothing.
-fn answers_bound(alloc: Global, end: &mut End) -> Result<bool, AllocError> {
-    let side = queue(alloc, 1)?;
-    end.bind(Circuit(5));
-    end.bind(Circuit(6));
-    let called = said_to(alloc, end, PING, b"ping(7)")?;
-    let want = Frag {
-        words: [7, 0, 0, 0, 0, 0, 0],
-        control: 0x0005_0000_0003,
-    };
-    Ok(
-        end.is_bound()
-            && end.circuit() == Some(Circuit(5))
-            && called == Said::Done
-            && end.is_busy()
-            && said_of_show(end.show(&side)) == Said::Shown(want)
-            && end.program().interface().messages.len() == 1,
-    )
-}
+const BOUND: &[Row] = &[
+    (Side::Client, Deed::Bind(Circuit(5)), Said::Done),
+    (Side::Client, Deed::Bind(Circuit(6)), Said::Done),
+    (Side::Client, Deed::Call(b"ping(7)"), Said::Done),
+    (Side::Client, Deed::Look, BUSY_ON_5),
+    (Side::Client, Deed::Show, SHOWN_ON_5),
+    (Side::Client, Deed::Count, Said::Counts(0, 1)),
+];
+
+// What a side would write that tells the number 2, in epoch 1.
+const TOLD: Said = Said::Shown(0x0002_0001_0000_0003, [7, 0, 0, 0, 0, 0, 0]);
+
+const BUSY_ON_1: Said = Said::Seen(Some(Circuit(1)), [true, true, false, false]);
+
+// Neither a spent side nor a full one changes the end; a look has what the side would write.
+const REFUSING: &[Row] = &[
+    (Side::Client, Deed::Bind(Circuit(1)), Said::Done),
+    (
+        Side::Client,
+        Deed::WriteRefused(PutFault::Spent),
+        Said::Nothing,
+    ),
+    (Side::Client, Deed::Call(b"ping(7)"), Said::Done),
+    (Side::Client, Deed::ShowRefused(PutFault::Spent), TOLD),
+    (
+        Side::Client,
+        Deed::WriteRefused(PutFault::Spent),
+        Said::Refused(33),
+    ),
+    (Side::Client, Deed::WriteRefused(PutFault::Full), Said::Full),
+    (Side::Client, Deed::Look, BUSY_ON_1),
+    (Side::Client, Deed::ShowRefused(PutFault::Full), TOLD),
+];
+
+const EXAMPLES: &[Example] = &[
+    Example {
+        text: PING,
+        circuit: None,
+        size: 1,
+        starts: &[UNBOUND],
+        rows: &[BOUND],
+        handled: b"",
+    },
+    Example {
+        text: PING,
+        circuit: None,
+        size: 1,
+        starts: &[REFUSING],
+        rows: &[],
+        handled: b"",
+    },
+];
 
 #[test]
-fn an_end_is_bound_once(rt: HostRuntime) -> Result<(), Fail> {
-    let mut end = unbound(rt.alloc())?;
-    assert!(rt; answers_unbound(rt.alloc(), &mut end)?);
-    assert!(rt; answers_bound(rt.alloc(), &mut end)?);
-    end.sound();
+fn ends_not_bound_at_first(rt: HostRuntime) -> Result<(), Fail> {
+    assert_eq!(rt; first_wrong(rt.alloc(), EXAMPLES)?, None);
     Ok(())
 }
 
-// A side that puts nothing, and would tell a number.
+/// A side that puts nothing, and would tell a number.
 #[derive(Drop)]
-struct Refusing(PutFault);
+pub struct Refusing(pub PutFault);
 
 impl PutSide for Refusing {
     ghost puts = { λ _ _ _. Unit {0} };
@@ -128,34 +156,6 @@ impl PutSide for Refusing {
     fn known(&self) -> u64 {
         0
     }
-}
-
-// Neither a spent side nor a full one changes the end; a look has what the side would write.
-fn keeps_its_call(alloc: Global, end: &mut End) -> Result<bool, AllocError> {
-    let mut spent = Refusing(PutFault::Spent);
-    let mut full = Refusing(PutFault::Full);
-    let mut idle = said_of_write(end.write(&mut spent)) == Said::Nothing;
-    let called = said_to(alloc, end, PING, b"ping(7)")?;
-    idle = idle && called == Said::Done;
-    let want = Frag {
-        words: [7, 0, 0, 0, 0, 0, 0],
-        control: 0x0002_0001_0000_0003,
-    };
-    Ok(
-        idle && said_of_show(end.show(&spent)) == Said::Shown(want)
-            && said_of_write(end.write(&mut spent)) == Said::Refused(33)
-            && said_of_write(end.write(&mut full)) == Said::Full
-            && end.is_busy()
-            && said_of_show(end.show(&full)) == Said::Shown(want),
-    )
-}
-
-#[test]
-fn sides_that_refuse(rt: HostRuntime) -> Result<(), Fail> {
-    let mut end = unbound(rt.alloc())?;
-    end.bind(Circuit(1));
-    assert!(rt; keeps_its_call(rt.alloc(), &mut end)?);
-    Ok(())
 }
 
 #[test]
