@@ -33,3 +33,6 @@ mod runs;
 mod words;
 #[cfg(test)]
 mod worlds;
+
+// A program that does nothing, since a library so high costs the gate minutes before its proof begins (docs/GATE.md).
+fn main() {}
