@@ -1,9 +1,11 @@
 -- Lists of stations, and of what came of them, the last one first.
-use Rattle.std.proofs.Common.{◌≡◌, refl, sym, ap, subst, arith, ℕ, suc, ◌+◌, List, [], ◌∷◌, ◌++◌, length, map}
+use Rattle.std.proofs.Common.{◌≡◌, refl, sym, ap, subst, arith, ℕ, suc, ◌+◌, List, [], ◌∷◌, ◌++◌, length, map, ◌∙◌, Result, Ok, Err, IfOk, IfErr, IsOkAnd}
 use Rattle.std.proofs.lemmas.List.{map-append}
 use Rattle.fl_node.specs.View.{TheCore}
 use Rattle.fl_running.specs.declared.job.Job.{Job}
 use Rattle.fl_cores.specs.declared.wiring.Station.{Station}
+use Rattle.fl_cores.specs.declared.fault.Stop.{Stop}
+use Rattle.fl_cores.specs.declared.fault.Stop.TheVariants as stop
 use Rattle.fl_cores.specs.declared.fork.Done.{Done}
 use Rattle.fl_cores.specs.Begins.{TheStation, TheCommon, Places, IsStation, AreStations, HasStations, common_in}
 use Rattle.fl_system.specs.declared.parts.Parts.{Parts}
@@ -17,6 +19,27 @@ each_push R [] [] x y all one = (one, tt)
 each_push R [] (v ∷ ys) x y all one = absurd all
 each_push R (u ∷ xs) [] x y all one = absurd all
 each_push R (u ∷ xs) (v ∷ ys) x y all one = (all.0, each_push R xs ys x y all.1 one)
+
+-- where the last one was joined
+each_pushed : {A B E : Type 0} (R : A → B → Type 0) (xs : List A) (ys zs : List B) (x : A) (last : Result B E) → Each2 R xs ys → IfOk last (R x)
+    → IsOkAnd last (λ y. zs ≡ ys ++ y ∷ []) → Each2 R (xs ++ x ∷ []) zs
+each_pushed R xs ys zs x (Ok y) all one is = subst (Each2 R (xs ++ x ∷ [])) (sym is) (each_push R xs ys x y all one)
+each_pushed R xs ys zs x (Err e) all one is = absurd is
+
+pub each_joined : {A B E F V S : Type 0} (items : V → List B) (R : A → B → Type 0) (xs : List A) (ys : List B) (x : A) (last : Result B E) (result : Result (V × S) F)
+    → Each2 R xs ys → IfOk last (R x) → IfOk result (λ r. IsOkAnd last (λ y. items r.0 ≡ ys ++ y ∷ [])) → IfOk result (λ r. Each2 R (xs ++ x ∷ []) (items r.0))
+each_joined items R xs ys x last (Ok r) all one is = each_pushed R xs ys (items r.0) x last all one is
+each_joined items R xs ys x last (Err e) all one is = tt
+
+-- the seat is the one that the others handed back
+pub seat_joined : {V S F : Type 0} (result : Result (V × S) F) (a b : S) → IfOk result (λ r. r.1 ≡ b) → b ≡ a → IfOk result (λ r. r.1 ≡ a)
+seat_joined (Ok r) a b is same = is ∙ same
+seat_joined (Err e) a b is same = tt
+
+-- for want of memory no stop was told
+pub none_told : {T S : Type 0} (P : S → Type 0) (result : Result T (Stop × S)) → IfErr result (λ e. e.0 ≡ stop.Memory) → IfErr result (λ e. e.0 ≡ stop.Thread → P e.1)
+none_told P (Ok x) is = tt
+none_told P (Err e) is = λ at. absurd (let no : stop.Memory ≡ stop.Thread = sym is ∙ at in cc)
 
 pub ready_rest : (xs : List Station) (x : Station) → AllReady (xs ++ x ∷ []) → AllReady xs
 ready_rest [] x all = tt

@@ -1,6 +1,6 @@
 //! A thread for each core.
 
-ghost use Rattle.std.specs.Prelude.{◌≡◌, ◌+◌, ◌<◌, ◌∷◌, ◌++◌, [], IfOk, IfErr};
+ghost use Rattle.std.specs.Prelude.{◌≡◌, ◌+◌, ◌<◌, ◌∷◌, ◌++◌, [], IfOk, IfErr, IsOkAnd};
 ghost use Rattle.std.specs.Thread.{IsSync};
 ghost use Rattle.fl_cores.specs.declared.fault.Stop.TheVariants as stop;
 ghost use Rattle.fl_cores.specs.Tells.{Each2};
@@ -62,9 +62,29 @@ fn run_one<R: Wait, G: Gate>(
     }
 }
 
+// The last core behind those that ran before it.
+fn push_last(
+    rest: Vec<Done>,
+    last: Result<Done, AllocError>,
+    own: EndSeat,
+) -> Result<(Vec<Done>, EndSeat), (Stop, EndSeat)>
+    ensures pushed { IfOk result (λ r. IsOkAnd last (λ d. r.0.items ≡ rest.items ++ d ∷ [])) }
+    ensures own { IfOk result (λ r. r.1 ≡ own) }
+    ensures memory { IfErr result (λ e. e.0 ≡ stop.Memory) }
+{
+    let mut rest = rest;
+    let Ok(last) = last else {
+        return Err((Stop::Memory, own));
+    };
+    match rest.push(last) {
+        Ok(()) => Ok((rest, own)),
+        Err(_) => Err((Stop::Memory, own)),
+    }
+}
+
 /// Runs each core on a thread of its own, and joins all threads. The seat is the caller's own: by it the cores are told where a thread doesn't start. It comes
 /// back in either case.
-#[tactic(auto, using(crate::proofs::Each::each_push, crate::proofs::Each::ready_rest, crate::proofs::Each::ready_last))]
+#[tactic(auto, using(crate::proofs::Each::ready_rest, crate::proofs::Each::ready_last))]
 pub(crate) fn run_each<R: Threads + Wait + Sync, G: Gate + Sync>(
     rt: &R,
     alloc: Global,
@@ -120,17 +140,10 @@ pub(crate) fn run_each<R: Threads + Wait + Sync, G: Gate + Sync>(
             };
             let rest = run_each(rt, alloc, gate, own, todo, jobs, limit);
             let done = child.join(rt);
-            let (mut rest, own) = match rest {
-                Ok(both) => both,
-                Err(fault) => return Err(fault),
-            };
-            let Ok(done) = done else {
-                return Err((Stop::Memory, own));
-            };
-            let Ok(()) = rest.push(done) else {
-                return Err((Stop::Memory, own));
-            };
-            Ok((rest, own))
+            match rest {
+                Ok((rest, own)) => push_last(rest, done, own),
+                Err(fault) => Err(fault),
+            }
         },
     )
 }
