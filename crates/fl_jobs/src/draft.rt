@@ -77,8 +77,8 @@ pub struct Draft<'a> {
 }
 
 impl<'a> Draft<'a> {
-    /// One core, and nothing on it. Takes no memory.
-    pub fn new(alloc: Global) -> Draft<'a>
+    // One core, and nothing on it. Takes no memory.
+    pub(crate) fn new(alloc: Global) -> Draft<'a>
         ensures nothing { draft_of result ≡ nothing_yet }
     {
         Draft {
@@ -122,11 +122,8 @@ impl<'a> Draft<'a> {
         core < self.cores
     }
 
-    /// Takes up what a line asks.
-    ///
-    /// # Errors
-    /// The line is refused, or memory was refused; nothing is told of the draft then.
-    pub fn take(&mut self, event: Event<'a>) -> Result<(), Stop>
+    // Takes up what a line asks. Where it stops, the draft is of no more use: after want of memory it may have a part of what was asked.
+    pub(crate) fn take(&mut self, event: Event<'a>) -> Result<(), Stop>
         ensures comes { Comes result (draft_of self.new) (takes (event_of event.entry) (draft_of self.old)) }
     {
         match event {

@@ -1,6 +1,6 @@
 //! What is printed of a cores file: the line that is refused, or the report of its run.
 
-ghost use Rattle.std.specs.Prelude.{◌≡◌, ◌≤◌, ◌++◌, ◌==◌, OnOk, IfOk, map, length, position};
+ghost use Rattle.std.specs.Prelude.{◌≡◌, ◌≤◌, ◌++◌, ◌==◌, OnOk, OnErr, IfOk, map, length, position};
 ghost use Rattle.std.specs.List.{flat_map, range_with_len};
 ghost use Rattle.fl_base.specs.declared.identity.Side.TheVariants.{Client, Server};
 ghost use Rattle.fl_value.specs.Value.{call_of};
@@ -24,7 +24,7 @@ use std::alloc::{AllocError, Global};
 /// Appends the line that tells of a refused line, and of the fault.
 ///
 /// # Errors
-/// Want of memory; `out` may then have a part of the text at its end.
+/// Want of memory; `out` is as it was then.
 pub fn print_refusal(
     alloc: Global,
     out: &mut Vec<u8>,
@@ -32,6 +32,7 @@ pub fn print_refusal(
     number: u8,
 ) -> Result<(), AllocError>
     ensures printed { OnOk result (out.new.items ≡ out.old.items ++ refusal_text line number) }
+    ensures kept { OnErr result (out.new.items ≡ out.old.items) }
 {
     let text = format!(in alloc; "line {line} refused E{number}\n")?;
     out.extend_from_slice(text.as_bytes())
@@ -273,10 +274,22 @@ fn put_ending(out: &mut Vec<u8>, ending: Ending) -> Result<(), AllocError>
     }
 }
 
-/// Appends the text of a report, by the names of its cores file.
+// The text of a report.
+fn text_of(alloc: Global, file: &CoresFile<'_>, report: &Report) -> Result<Vec<u8>, AllocError>
+    ensures text { IfOk result (λ text. text.items ≡ report_text (file_from file.now) (report_of report.now)) }
+{
+    let names = list_names(alloc, &file.names.bindings)?;
+    let ranks = rank_all(alloc, &names)?;
+    let mut text = Vec::new(alloc);
+    put_bindings(alloc, &mut text, file, report, &ranks)?;
+    put_ending(&mut text, report.ending)?;
+    Ok(text)
+}
+
+/// Appends the text of a report, by the names of its cores file: all of it or nothing.
 ///
 /// # Errors
-/// Want of memory; `out` may then have a part of the text at its end.
+/// Want of memory; `out` is as it was then.
 pub fn print_report(
     alloc: Global,
     out: &mut Vec<u8>,
@@ -284,9 +297,8 @@ pub fn print_report(
     report: &Report,
 ) -> Result<(), AllocError>
     ensures printed { OnOk result (out.new.items ≡ out.old.items ++ report_text (file_from file.now) (report_of report.now)) }
+    ensures kept { OnErr result (out.new.items ≡ out.old.items) }
 {
-    let names = list_names(alloc, &file.names.bindings)?;
-    let ranks = rank_all(alloc, &names)?;
-    put_bindings(alloc, out, file, report, &ranks)?;
-    put_ending(out, report.ending)
+    let text = text_of(alloc, file, report)?;
+    out.extend_from_slice(&text)
 }

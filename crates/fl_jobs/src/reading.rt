@@ -58,8 +58,8 @@ fn belongs(command: &Command<'_>) -> bool
 }
 
 impl<'a> Reading<'a> {
-    /// Nothing is read yet. Takes no memory.
-    pub fn new(alloc: Global) -> Reading<'a>
+    // Nothing is read yet. Takes no memory.
+    pub(crate) fn new(alloc: Global) -> Reading<'a>
         ensures beginning { reading_of result ≡ beginning }
     {
         Reading {
@@ -133,11 +133,8 @@ impl<'a> Reading<'a> {
         }
     }
 
-    /// Takes up an item.
-    ///
-    /// # Errors
-    /// The item is refused, or memory was refused; nothing is told of the reading then.
-    pub fn item(&mut self, item: Item<'a>) -> Result<(), Stop>
+    // Takes up an item. Where it stops, the reading is of no more use.
+    fn item(&mut self, item: Item<'a>) -> Result<(), Stop>
         ensures comes { ComesTo result (reading_of self.new) (Does (reading_of self.old) (item_of item.entry)) }
     {
         match item {

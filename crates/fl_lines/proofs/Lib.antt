@@ -8,3 +8,4 @@ pub mod AskedLemmas
 mod LineEnds
 pub mod ItemLemmas
 mod LineLemmas
+mod Kept

@@ -3,7 +3,10 @@ use Rattle.std.specs.Prelude.{◌≡◌, ◌⊎◌, ℕ, if◌then◌else◌, Li
 use Rattle.fl_base.specs.declared.identity.EndId.{EndId}
 use Rattle.fl_queues.specs.Events.{Event}
 use Rattle.fl_queues.specs.Given.{given}
+use Rattle.fl_lines.specs.declared.event.DispatcherId.{DispatcherId}
 use Rattle.fl_lines.specs.declared.event.Event.{Event as RustEvent}
+use Rattle.fl_lines.specs.declared.event.Event.TheVariants as rust
+use Rattle.fl_value.specs.declared.value.Call.{Call as RustCall}
 use Rattle.fl_lines.specs.declared.fault.LineFault.{LineFault}
 use Rattle.fl_lines.specs.declared.fault.LineFault.TheVariants.{Memory}
 use Rattle.fl_lines.specs.Asked.{Asked, refuses, asks, Asks, CallAsks, asks_end, asks_turn}
@@ -33,6 +36,30 @@ LineTells n c result = (result ≡ Err Memory) ⊎ ((asked : Asked) × LineAsks 
 abbrev pub CallTells : Names → EndName → List ℕ → Result RustEvent LineFault → Type 0
 CallTells n e text result = (result ≡ Err Memory) ⊎ ((asked : Asked) × CallAsks n e text asked × TellsEvent n result asked)
 
+-- ---- what a function returned in place of an event, as the event that is made of it
+
+abbrev pub told_as : {A : Type 0} → (A → RustEvent) → Result A LineFault → Result RustEvent LineFault
+told_as f (Ok x) = Ok (f x)
+told_as f (Err fault) = Err fault
+
+abbrev pub a_call : EndId × RustCall → RustEvent
+a_call p = rust.Call p.0 p.1
+
+abbrev pub a_show : EndId → RustEvent
+a_show e = rust.Show e
+
+abbrev pub a_write : EndId → RustEvent
+a_write e = rust.Write e
+
+abbrev pub an_ack : EndId → RustEvent
+an_ack e = rust.Acknowledge e
+
+abbrev pub a_turn : DispatcherId → RustEvent
+a_turn d = rust.Turn d
+
+abbrev pub a_forward : ℕ × ℕ → RustEvent
+a_forward p = rust.Forward p.0 p.1
+
 -- ---- what stands behind a line's first word: an end alone, a dispatcher alone, two cores alone
 
 abbrev pub asks_by_end : Names → (EndId → Event) → List ℕ → Asked
@@ -46,3 +73,8 @@ asks_by_dispatcher n rest =
 
 abbrev pub asks_by_cores : Names → (ℕ → ℕ → Event) → List ℕ → Asked
 asks_by_cores n f rest = given (two_numbers rest) (refuses 90) λ p. asks (f p.0 p.1) n
+
+-- the end of a line that has an end alone, or why there is none, whatever is asked of it
+abbrev pub TellsEnd : Names → List ℕ → Result EndId LineFault → Type 0
+TellsEnd n rest result = (f : EndId → Event) (make : EndId → RustEvent) → ((e : EndId) → event_of (make e) ≡ f e)
+    → TellsEvent n (told_as make result) (asks_by_end n f rest)

@@ -1,7 +1,8 @@
 //! Answers, and their texts.
 
-ghost use Rattle.std.specs.Prelude.{◌≡◌, ◌++◌, ◌<◌, OnOk, codes, false};
+ghost use Rattle.std.specs.Prelude.{◌≡◌, ◌++◌, ◌<◌, OnOk, OnErr, codes, false, take};
 ghost use Rattle.std.specs.Fmt.{decimal, digit_glyph};
+ghost use Rattle.fl_base.specs.Prefix.{IsPrefix};
 ghost use Rattle.fl_value.specs.Value.{call_of};
 ghost use Rattle.fl_lines.specs.Answers.{hex, frag_text, end_named, call_at, answer_text, fault_text};
 ghost use Rattle.fl_lines.specs.Asked.{is_done};
@@ -51,8 +52,10 @@ impl Answer {
 }
 
 // A number, digit by digit.
+#[tactic(auto, using(crate::proofs::Kept::pieces))]
 fn put_number(out: &mut Vec<u8>, number: usize) -> Result<(), AllocError>
     ensures ok { OnOk result (out.new.items ≡ out.old.items ++ decimal number) }
+    ensures grows { IsPrefix out.old.items out.new.items }
 {
     if number < 10 {
         out.push(b'0' + number as u8)?;
@@ -98,8 +101,10 @@ fn spaced_digits(word: u64) -> [u8; 17]
 }
 
 // A word in hexadecimal, and a space behind it; most words of a short call's fragment are 0.
+#[tactic(auto, using(crate::proofs::Kept::pieces))]
 fn put_spaced(out: &mut Vec<u8>, word: u64) -> Result<(), AllocError>
     ensures ok { OnOk result (out.new.items ≡ out.old.items ++ (hex word ++ codes " ")) }
+    ensures grows { IsPrefix out.old.items out.new.items }
 {
     if word == 0 {
         return out.extend_from_slice(b"0000000000000000 ");
@@ -109,16 +114,20 @@ fn put_spaced(out: &mut Vec<u8>, word: u64) -> Result<(), AllocError>
 }
 
 // A word in hexadecimal.
+#[tactic(auto, using(crate::proofs::Kept::pieces))]
 fn put_last(out: &mut Vec<u8>, word: u64) -> Result<(), AllocError>
     ensures ok { OnOk result (out.new.items ≡ out.old.items ++ hex word) }
+    ensures grows { IsPrefix out.old.items out.new.items }
 {
     let digits = spaced_digits(word);
     out.extend_from_slice(&digits[..16])
 }
 
 // Eight words in hexadecimal, the control word last.
+#[tactic(auto, using(crate::proofs::Kept::pieces))]
 fn put_frag(out: &mut Vec<u8>, frag: &Frag) -> Result<(), AllocError>
     ensures ok { OnOk result (out.new.items ≡ out.old.items ++ frag_text frag.now) }
+    ensures grows { IsPrefix out.old.items out.new.items }
 {
     for word in frag.words {
         put_spaced(out, word)?;
@@ -127,8 +136,10 @@ fn put_frag(out: &mut Vec<u8>, frag: &Frag) -> Result<(), AllocError>
 }
 
 // An end: its binding's name, and `.c` or `.s`.
+#[tactic(auto, using(crate::proofs::Kept::pieces))]
 fn put_end(out: &mut Vec<u8>, names: &Names, end: EndId) -> Result<(), AllocError>
     ensures ok { OnOk result (out.new.items ≡ out.old.items ++ end_named (names_of names.now) end) }
+    ensures grows { IsPrefix out.old.items out.new.items }
 {
     out.extend_from_slice(names.bindings.get(end.binding).unwrap_or(&[]))?;
     match end.side {
@@ -138,15 +149,19 @@ fn put_end(out: &mut Vec<u8>, names: &Names, end: EndId) -> Result<(), AllocErro
 }
 
 // A word, a space and an end.
+#[tactic(auto, using(crate::proofs::Kept::pieces))]
 fn put_of_end(out: &mut Vec<u8>, word: &[u8], names: &Names, end: EndId) -> Result<(), AllocError>
     ensures ok { OnOk result (out.new.items ≡ out.old.items ++ (word.now ++ end_named (names_of names.now) end)) }
+    ensures grows { IsPrefix out.old.items out.new.items }
 {
     out.extend_from_slice(word)?;
     put_end(out, names, end)
 }
 
+#[tactic(auto, using(crate::proofs::Kept::pieces))]
 fn put_written(out: &mut Vec<u8>, k: usize, n: usize) -> Result<(), AllocError>
     ensures ok { OnOk result (out.new.items ≡ out.old.items ++ (codes "written " ++ decimal k ++ codes " of " ++ decimal n)) }
+    ensures grows { IsPrefix out.old.items out.new.items }
 {
     out.extend_from_slice(b"written ")?;
     put_number(out, k)?;
@@ -154,14 +169,17 @@ fn put_written(out: &mut Vec<u8>, k: usize, n: usize) -> Result<(), AllocError>
     put_number(out, n)
 }
 
+#[tactic(auto, using(crate::proofs::Kept::pieces))]
 fn put_refused(out: &mut Vec<u8>, number: usize) -> Result<(), AllocError>
     ensures ok { OnOk result (out.new.items ≡ out.old.items ++ (codes "refused E" ++ decimal number)) }
+    ensures grows { IsPrefix out.old.items out.new.items }
 {
     out.extend_from_slice(b"refused E")?;
     put_number(out, number)
 }
 
 // A call that was handled at an end.
+#[tactic(auto, using(crate::proofs::Kept::pieces))]
 fn put_call(
     alloc: Global,
     out: &mut Vec<u8>,
@@ -170,21 +188,21 @@ fn put_call(
     call: &Call,
 ) -> Result<(), AllocError>
     ensures ok { OnOk result (out.new.items ≡ out.old.items ++ call_at (names_of names.now) end (call_of call.now)) }
+    ensures grows { IsPrefix out.old.items out.new.items }
 {
     print_call(alloc, out, names.message_name(end, call.msg), &call.args)
 }
 
-/// Appends the text of an answer, without a line feed, by the names that the script has given.
-///
-/// # Errors
-/// Want of memory; `out` may then have a part of the text at its end.
-pub fn print_answer(
+// The text of an answer.
+#[tactic(auto, using(crate::proofs::Kept::pieces))]
+fn put_answer(
     alloc: Global,
     out: &mut Vec<u8>,
     names: &Names,
     answer: &Answer,
 ) -> Result<(), AllocError>
-    ensures printed { OnOk result (out.new.items ≡ out.old.items ++ answer_text (names_of names.now) (answer_of answer.now)) }
+    ensures ok { OnOk result (out.new.items ≡ out.old.items ++ answer_text (names_of names.now) (answer_of answer.now)) }
+    ensures grows { IsPrefix out.old.items out.new.items }
 {
     match answer {
         Answer::Done => out.extend_from_slice(b"ok"),
@@ -211,14 +229,62 @@ pub fn print_answer(
     }
 }
 
-/// Appends `refused En at OFFSET`, for a fault of an interface's text.
+// Hands on what came of an append. Where it failed, all behind so many bytes is taken back.
+fn all_or_none(
+    out: &mut Vec<u8>,
+    before: usize,
+    put: Result<(), AllocError>,
+) -> Result<(), AllocError>
+    ensures same { result ≡ put }
+    ensures all { OnOk put (out.new.items ≡ out.old.items) }
+    ensures none { OnErr put (out.new.items ≡ take before out.old.items) }
+{
+    if put.is_err() {
+        out.truncate(before);
+    }
+    put
+}
+
+/// Appends the text of an answer, without a line feed, by the names that the script has given.
 ///
 /// # Errors
-/// Want of memory; `out` may then have a part of the text at its end.
-pub fn print_fault(out: &mut Vec<u8>, number: u8, offset: usize) -> Result<(), AllocError>
-    ensures printed { OnOk result (out.new.items ≡ out.old.items ++ fault_text number offset) }
+/// Want of memory; `out` is as it was then.
+#[tactic(auto, using(crate::proofs::Kept::taken_back))]
+pub fn print_answer(
+    alloc: Global,
+    out: &mut Vec<u8>,
+    names: &Names,
+    answer: &Answer,
+) -> Result<(), AllocError>
+    ensures printed { OnOk result (out.new.items ≡ out.old.items ++ answer_text (names_of names.now) (answer_of answer.now)) }
+    ensures kept { OnErr result (out.new.items ≡ out.old.items) }
+{
+    let before = out.as_slice().len();
+    let put = put_answer(alloc, out, names, answer);
+    all_or_none(out, before, put)
+}
+
+// A fault of an interface's text, and where it stands.
+#[tactic(auto, using(crate::proofs::Kept::pieces))]
+fn put_fault(out: &mut Vec<u8>, number: u8, offset: usize) -> Result<(), AllocError>
+    ensures ok { OnOk result (out.new.items ≡ out.old.items ++ fault_text number offset) }
+    ensures grows { IsPrefix out.old.items out.new.items }
 {
     put_refused(out, usize::from(number))?;
     out.extend_from_slice(b" at ")?;
     put_number(out, offset)
+}
+
+/// Appends `refused En at OFFSET`, for a fault of an interface's text.
+///
+/// # Errors
+/// Want of memory; `out` is as it was then.
+#[tactic(auto, using(crate::proofs::Kept::taken_back))]
+pub fn print_fault(out: &mut Vec<u8>, number: u8, offset: usize) -> Result<(), AllocError>
+    ensures printed { OnOk result (out.new.items ≡ out.old.items ++ fault_text number offset) }
+    ensures kept { OnErr result (out.new.items ≡ out.old.items) }
+{
+    let before = out.as_slice().len();
+    let put = put_fault(out, number, offset);
+    all_or_none(out, before, put)
 }

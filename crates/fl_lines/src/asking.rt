@@ -1,34 +1,34 @@
 //! What a line asks that gives no name, told from its words at once: most lines of a script are such.
 
-ghost use Rattle.std.specs.Prelude.{◌≡◌, IfSome, map};
+ghost use Rattle.std.specs.Prelude.{◌≡◌, map};
 ghost use Rattle.fl_value.specs.Value.{datum_of};
-ghost use Rattle.fl_queues.specs.Events.{show, write, acknowledge};
-ghost use Rattle.fl_queues.specs.Events.{monitor_write, forward, monitor_acknowledge};
 ghost use Rattle.fl_lines.specs.Asked.{asks_call};
-ghost use Rattle.fl_lines.specs.Lines.{TellsEvent, LineTells, CallTells};
-ghost use Rattle.fl_lines.specs.Lines.{asks_by_end, asks_by_dispatcher, asks_by_cores};
-ghost use Rattle.fl_lines.specs.Reading.{command_by, call_row};
+ghost use Rattle.fl_lines.specs.Lines.{TellsEvent, LineTells, CallTells, TellsEnd, told_as};
+ghost use Rattle.fl_lines.specs.Lines.{a_call, a_show, a_write, an_ack, a_turn, a_forward};
+ghost use Rattle.fl_lines.specs.Reading.{command_by};
 ghost use Rattle.fl_lines.specs.Told.{names_of};
 ghost use Rattle.fl_lines.specs.Views.{end_name_of};
 
 use crate::command::{EndName, Verb};
-use crate::event::Event;
+use crate::event::DispatcherId;
 use crate::fault::LineFault;
 use crate::names::Names;
 use crate::reader::{end_name, is_last, one_end, two_numbers};
 use crate::word::{next_word, skip_blanks};
+use fl_base::EndId;
 use fl_lex::is_name;
 use fl_value::{Call, Value, ValueFault, read_spoken};
 
 impl Names {
     // A call whose text was read: its end is looked up, then its message.
+    #[inline(always)]
     fn spoken_call(
         &self,
         end: EndName<'_>,
         name: &[u8],
         args: Vec<Value>,
-    ) -> Result<Event<'static>, LineFault>
-        ensures tells { TellsEvent (names_of self.now) result
+    ) -> Result<(EndId, Call), LineFault>
+        ensures tells { TellsEvent (names_of self.now) (told_as a_call result)
             (asks_call (names_of self.now) (end_name_of end.entry) name.now (map datum_of args.items)) }
     {
         let Some(end) = self.end(end) else {
@@ -37,7 +37,7 @@ impl Names {
         let Some(msg) = self.message(end, name) else {
             return Err(LineFault::NoSuchMessage);
         };
-        Ok(Event::Call(end, Call { msg, args }))
+        Ok((end, Call { msg, args }))
     }
 
     /// The call that a text spells, at the end of a name: the text is read first, then the end is looked up, then the
@@ -45,8 +45,9 @@ impl Names {
     ///
     /// # Errors
     /// The text is none (E90), the name unknown (E92), or there is no such message (E41). Want of memory (E99).
-    pub fn call_event(&self, end: EndName<'_>, text: &[u8]) -> Result<Event<'static>, LineFault>
-        ensures tells { CallTells (names_of self.now) (end_name_of end.entry) text.now result }
+    #[inline(always)]
+    pub fn call_at(&self, end: EndName<'_>, text: &[u8]) -> Result<(EndId, Call), LineFault>
+        ensures tells { CallTells (names_of self.now) (end_name_of end.entry) text.now (told_as a_call result) }
     {
         match read_spoken(self.alloc, text) {
             Ok((name, args)) => self.spoken_call(end, name, args),
@@ -55,18 +56,25 @@ impl Names {
         }
     }
 
-    fn call_line(&self, rest: &[u8]) -> Result<Event<'static>, LineFault>
-        ensures tells { LineTells (names_of self.now) (call_row rest.now) result }
+    /// The call of a line, from what stands behind its first word.
+    ///
+    /// # Errors
+    /// It is no such line, or no call (E90); the name is unknown (E92); there is no such message (E41). Want of memory (E99).
+    #[inline(always)]
+    pub fn call_line(&self, rest: &[u8]) -> Result<(EndId, Call), LineFault>
+        ensures tells { LineTells (names_of self.now) (command_by Verb.Call rest.now) (told_as a_call result) }
     {
         let (word, behind) = next_word(rest);
         let Some(end) = end_name(word) else {
             return Err(LineFault::Unread);
         };
-        self.call_event(end, skip_blanks(behind))
+        self.call_at(end, skip_blanks(behind))
     }
 
-    fn show_line(&self, rest: &[u8]) -> Result<Event<'static>, LineFault>
-        ensures tells { TellsEvent (names_of self.now) result (asks_by_end (names_of self.now) show rest.now) }
+    // The end of a line that has an end alone.
+    #[inline(always)]
+    fn end_line(&self, rest: &[u8]) -> Result<EndId, LineFault>
+        ensures tells { TellsEnd (names_of self.now) rest.now result }
     {
         let Some(name) = one_end(rest) else {
             return Err(LineFault::Unread);
@@ -74,35 +82,49 @@ impl Names {
         let Some(end) = self.end(name) else {
             return Err(LineFault::Name);
         };
-        Ok(Event::Show(end))
+        Ok(end)
     }
 
-    fn write_line(&self, rest: &[u8]) -> Result<Event<'static>, LineFault>
-        ensures tells { TellsEvent (names_of self.now) result (asks_by_end (names_of self.now) write rest.now) }
+    /// The end of a `show`, from what stands behind that word.
+    ///
+    /// # Errors
+    /// It is no such line (E90), or the name is unknown (E92).
+    #[inline(always)]
+    pub fn show_line(&self, rest: &[u8]) -> Result<EndId, LineFault>
+        ensures tells { LineTells (names_of self.now) (command_by Verb.Show rest.now) (told_as a_show result) }
     {
-        let Some(name) = one_end(rest) else {
-            return Err(LineFault::Unread);
-        };
-        let Some(end) = self.end(name) else {
-            return Err(LineFault::Name);
-        };
-        Ok(Event::Write(end))
+        self.end_line(rest)
     }
 
-    fn ack_line(&self, rest: &[u8]) -> Result<Event<'static>, LineFault>
-        ensures tells { TellsEvent (names_of self.now) result (asks_by_end (names_of self.now) acknowledge rest.now) }
+    /// The same of a `write`.
+    ///
+    /// # Errors
+    /// It is no such line (E90), or the name is unknown (E92).
+    #[inline(always)]
+    pub fn write_line(&self, rest: &[u8]) -> Result<EndId, LineFault>
+        ensures tells { LineTells (names_of self.now) (command_by Verb.Write rest.now) (told_as a_write result) }
     {
-        let Some(name) = one_end(rest) else {
-            return Err(LineFault::Unread);
-        };
-        let Some(end) = self.end(name) else {
-            return Err(LineFault::Name);
-        };
-        Ok(Event::Acknowledge(end))
+        self.end_line(rest)
     }
 
-    fn turn_line(&self, rest: &[u8]) -> Result<Event<'static>, LineFault>
-        ensures tells { TellsEvent (names_of self.now) result (asks_by_dispatcher (names_of self.now) rest.now) }
+    /// The same of an `ack`.
+    ///
+    /// # Errors
+    /// It is no such line (E90), or the name is unknown (E92).
+    #[inline(always)]
+    pub fn ack_line(&self, rest: &[u8]) -> Result<EndId, LineFault>
+        ensures tells { LineTells (names_of self.now) (command_by Verb.Ack rest.now) (told_as an_ack result) }
+    {
+        self.end_line(rest)
+    }
+
+    /// The dispatcher of a `turn`.
+    ///
+    /// # Errors
+    /// It is no such line (E90), or the name is unknown (E92).
+    #[inline(always)]
+    pub fn turn_line(&self, rest: &[u8]) -> Result<DispatcherId, LineFault>
+        ensures tells { LineTells (names_of self.now) (command_by Verb.Turn rest.now) (told_as a_turn result) }
     {
         let (name, behind) = next_word(rest);
         if !is_name(name) || !is_last(behind) {
@@ -111,52 +133,20 @@ impl Names {
         let Some(dispatcher) = self.dispatcher(name) else {
             return Err(LineFault::Name);
         };
-        Ok(Event::Turn(dispatcher))
+        Ok(dispatcher)
     }
 
-    fn mwrite_line(&self, rest: &[u8]) -> Result<Event<'static>, LineFault>
-        ensures tells { TellsEvent (names_of self.now) result (asks_by_cores (names_of self.now) monitor_write rest.now) }
-    {
-        let Some((core, neighbour)) = two_numbers(rest) else {
-            return Err(LineFault::Unread);
-        };
-        Ok(Event::MonitorWrite { core, neighbour })
-    }
-
-    fn forward_line(&self, rest: &[u8]) -> Result<Event<'static>, LineFault>
-        ensures tells { TellsEvent (names_of self.now) result (asks_by_cores (names_of self.now) forward rest.now) }
-    {
-        let Some((core, neighbour)) = two_numbers(rest) else {
-            return Err(LineFault::Unread);
-        };
-        Ok(Event::Forward { core, neighbour })
-    }
-
-    fn mack_line(&self, rest: &[u8]) -> Result<Event<'static>, LineFault>
-        ensures tells { TellsEvent (names_of self.now) result (asks_by_cores (names_of self.now) monitor_acknowledge rest.now) }
-    {
-        let Some((core, neighbour)) = two_numbers(rest) else {
-            return Err(LineFault::Unread);
-        };
-        Ok(Event::MonitorAcknowledge { core, neighbour })
-    }
-
-    /// What a line asks that begins with this word, from what stands behind it, if it is a word of the lines that are
-    /// repeated: a call, `show`, `write`, `ack`, `turn`, and the three of a monitor. `None` tells nothing.
+    /// The two cores of a `forward`.
+    ///
+    /// # Errors
+    /// It is no such line (E90).
     #[inline(always)]
-    pub fn event(&self, verb: Verb, rest: &[u8]) -> Option<Result<Event<'static>, LineFault>>
-        ensures tells { IfSome result (λ told. LineTells (names_of self.now) (command_by verb rest.now) told) }
+    pub fn forward_line(&self, rest: &[u8]) -> Result<(u32, u32), LineFault>
+        ensures tells { LineTells (names_of self.now) (command_by Verb.Forward rest.now) (told_as a_forward result) }
     {
-        match verb {
-            Verb::Call => Some(self.call_line(rest)),
-            Verb::Show => Some(self.show_line(rest)),
-            Verb::Write => Some(self.write_line(rest)),
-            Verb::Ack => Some(self.ack_line(rest)),
-            Verb::Turn => Some(self.turn_line(rest)),
-            Verb::Mwrite => Some(self.mwrite_line(rest)),
-            Verb::Forward => Some(self.forward_line(rest)),
-            Verb::Mack => Some(self.mack_line(rest)),
-            _ => None,
-        }
+        let Some(cores) = two_numbers(rest) else {
+            return Err(LineFault::Unread);
+        };
+        Ok(cores)
     }
 }

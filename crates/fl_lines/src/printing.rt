@@ -1,6 +1,6 @@
 //! Commands as text, each in one form: its words with one space between any two.
 
-ghost use Rattle.std.specs.Prelude.{◌≡◌, ◌++◌, ◌∷◌, [], OnOk, map};
+ghost use Rattle.std.specs.Prelude.{◌≡◌, ◌++◌, ◌∷◌, [], OnOk, OnErr, map};
 ghost use Rattle.std.specs.Fmt.{decimal};
 ghost use Rattle.fl_lines.specs.Commands.{end_text, a_number, an_end, back_end_row};
 ghost use Rattle.fl_lines.specs.Grammar.{printed_command, printed_more};
@@ -90,16 +90,9 @@ fn put_cores(
     put_number(alloc, out, neighbour)
 }
 
-/// Appends a command, as a line without its end.
-///
-/// # Errors
-/// Want of memory; `out` may then have a part of the line at its end.
-pub fn print_command(
-    alloc: Global,
-    out: &mut Vec<u8>,
-    command: Command<'_>,
-) -> Result<(), AllocError>
-    ensures printed { OnOk result (out.new.items ≡ out.old.items ++ printed_command (command_of command.entry)) }
+// A command, as a line without its end.
+fn put_command(alloc: Global, out: &mut Vec<u8>, command: Command<'_>) -> Result<(), AllocError>
+    ensures put { OnOk result (out.new.items ≡ out.old.items ++ printed_command (command_of command.entry)) }
 {
     match command {
         Command::Cores(n) => {
@@ -167,4 +160,21 @@ pub fn print_command(
         Command::Forward { core, neighbour } => put_cores(alloc, out, b"forward", core, neighbour),
         Command::MonitorAck { core, neighbour } => put_cores(alloc, out, b"mack", core, neighbour),
     }
+}
+
+/// Appends a command, as a line without its end: all of it or nothing.
+///
+/// # Errors
+/// Want of memory; `out` is as it was then.
+pub fn print_command(
+    alloc: Global,
+    out: &mut Vec<u8>,
+    command: Command<'_>,
+) -> Result<(), AllocError>
+    ensures printed { OnOk result (out.new.items ≡ out.old.items ++ printed_command (command_of command.entry)) }
+    ensures kept { OnErr result (out.new.items ≡ out.old.items) }
+{
+    let mut text = Vec::new(alloc);
+    put_command(alloc, &mut text, command)?;
+    out.extend_from_slice(&text)
 }

@@ -255,7 +255,9 @@ fn reply_row(line: &[u8]) -> Option<Command<'_>>
     })
 }
 
-fn read_verb(word: &[u8]) -> Verb
+// The verb of a word that is seldom.
+#[inline(never)]
+fn seldom_verb(word: &[u8]) -> Verb
     ensures same { result ≡ verb_of word.now }
 {
     if word == b"call".as_slice() {
@@ -294,6 +296,22 @@ fn read_verb(word: &[u8]) -> Verb
         Verb::Idl
     } else {
         Verb::Unknown
+    }
+}
+
+// The verb of a word: those of lines that are repeated first, by their bytes.
+#[inline(always)]
+fn read_verb(word: &[u8]) -> Verb
+    ensures same { result ≡ verb_of word.now }
+{
+    match word {
+        b"call" => Verb::Call,
+        b"write" => Verb::Write,
+        b"turn" => Verb::Turn,
+        b"ack" => Verb::Ack,
+        b"forward" => Verb::Forward,
+        b"show" => Verb::Show,
+        _ => seldom_verb(word),
     }
 }
 

@@ -1,6 +1,6 @@
 -- What a line does that was told from its words.
 use Rattle.std.proofs.Common.{◌≡◌, ◌++◌, ◌∙◌, inl, inr, ℕ, List, Bool, true, false, Option, Some, None, Result, Ok, Err, refl, sym, ap, subst}
-use Rattle.std.specs.Prelude.{OnOk, if◌then◌else◌}
+use Rattle.std.specs.Prelude.{OnOk, OnErr, IfOk, if◌then◌else◌}
 use Rattle.std.proofs.lemmas.Result.{on_ok_weaker}
 use Rattle.fl_queues.specs.Events.{Event, Answer}
 use Rattle.fl_queues.specs.State.{State}
@@ -9,6 +9,9 @@ use Rattle.fl_lines.specs.declared.event.Event.{Event as RustEvent}
 use Rattle.fl_lines.specs.declared.fault.LineFault.{LineFault}
 use Rattle.fl_lines.specs.declared.fault.LineFault.TheVariants.{Memory}
 use Rattle.fl_lines.specs.Answers.{answer_text}
+use Rattle.fl_lines.specs.declared.answer.Answer.{Answer as RustAnswer}
+use Rattle.fl_lines.specs.Events.{event_of, answer_of}
+use Rattle.fl_lines.specs.Faults.{number_of}
 use Rattle.fl_lines.specs.Asked.{Asked, asks, is_done, names_after}
 use Rattle.fl_lines.specs.Commands.{Command}
 use Rattle.fl_lines.specs.Items.{a_line}
@@ -19,7 +22,7 @@ use Rattle.fl_lines.specs.Told.{names_of}
 use Rattle.fl_transcript.specs.declared.script.Script.{Script as RustScript}
 use Rattle.fl_transcript.specs.Shown.{IsAt, Answered, Answers, AnswersBy, AnswersEvent}
 use Rattle.fl_transcript.specs.Steps.{Steps}
-use Rattle.fl_transcript.specs.Transcript.{Script, Effect, line, Does, effect_of}
+use Rattle.fl_transcript.specs.Transcript.{Script, Effect, line, Does, effect_of, writes_refusal}
 
 same_names : (n : Names) (a : Answer) → names_after n n a ≡ n
 same_names n a = by (is_done a)
@@ -43,6 +46,16 @@ asked_event shows old new before after event answer names steps text s at =
           ∙ ap (λ (a : Answer). before ++ line (answer_text (names_after s.names s.names (step s.state event).answer) a)) told);
     }
 
+-- the same of an outcome that is read where it lies
+pub asked_outcome : {M T E F : Type 0} (shows : M → State → Type 0) (old new : RustScript M) (before after : List ℕ) (event : Event)
+    (outcome : Result RustAnswer F) (result : Result T E) → names_of new.names ≡ names_of old.names
+    → IfOk outcome (λ a. Steps shows old.machine new.machine event (answer_of a))
+    → OnOk result (IfOk outcome (λ a. after ≡ before ++ line (answer_text (names_of new.names) (answer_of a)))) → OnErr outcome (OnOk result ⊥)
+    → OnOk result (AnswersBy shows old new before after (λ s. effect_of s (asks event s.names)))
+asked_outcome shows old new before after event (Ok a) result names steps put none =
+    on_ok_weaker result (λ text. asked_event shows old new before after event (answer_of a) names steps text) put
+asked_outcome shows old new before after event (Err e) result names steps put none = on_ok_weaker result (λ no. absurd no) none
+
 does_line : (s : Script) (o : Option Command) (asked : Asked) → LineAsks s.names o asked → Does s (a_line (line_with o)) (effect_of s asked)
 does_line s None asked h = ap (effect_of s) h
 does_line s (Some c) asked h = (asked, h, refl)
@@ -60,3 +73,23 @@ told_line shows old new before after o told result (inr h) ok memory =
       does_line s o h.0 (subst (λ (n : Names). LineAsks n o h.0) at.names h.1),
       f s at h.0 (subst (λ (n : Names). TellsEvent n told h.0) at.names h.2),
     )) ok
+
+-- an event that was told from a line was asked
+pub line_asked : {M T E : Type 0} (shows : M → State → Type 0) (old new : RustScript M) (before after : List ℕ) (o : Option Command)
+    (event : RustEvent) (result : Result T E) → LineTells (names_of old.names) o (Ok event)
+    → OnOk result (AnswersBy shows old new before after (λ s. effect_of s (asks (event_of event) s.names)))
+    → OnOk result (Answers shows old new before after (λ s. Does s (a_line (line_with o))))
+line_asked shows old new before after o event result tells ok =
+    told_line shows old new before after o (Ok event) result tells
+    (on_ok_weaker result (λ f. λ s at asked told. subst (λ (a : Asked). Answered shows new before after (effect_of s a)) told (f s at)) ok)
+    (λ bad. absurd (cc))
+
+-- a line that asks nothing was refused
+pub line_refused : {M T E : Type 0} (shows : M → State → Type 0) (old new : RustScript M) (before after : List ℕ) (o : Option Command)
+    (fault : LineFault) (result : Result T E) → LineTells (names_of old.names) o (Err fault)
+    → OnOk result (AnswersBy shows old new before after (λ s. writes_refusal s (number_of fault))) → (fault ≡ Memory → OnOk result ⊥)
+    → OnOk result (Answers shows old new before after (λ s. Does s (a_line (line_with o))))
+line_refused shows old new before after o fault result tells ok memory =
+    told_line shows old new before after o (Err fault) result tells
+    (on_ok_weaker result (λ f. λ s at asked told. subst (λ (a : Asked). Answered shows new before after (effect_of s a)) told (f s at)) ok)
+    (λ bad. memory (cc))

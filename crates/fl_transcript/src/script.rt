@@ -59,6 +59,23 @@ impl<M: QueueMachine> Script<M> {
         Ok(())
     }
 
+    // Writes the line of an answer, if there is one. It is read where it lies: an answer is large to move.
+    #[inline(always)]
+    fn put_outcome(
+        &self,
+        outcome: &Result<Answer, AllocError>,
+        out: &mut Vec<u8>,
+    ) -> Result<(), AllocError>
+        ensures put { OnOk result (IfOk outcome.now (λ a.
+            out.new.items ≡ out.old.items ++ line (answer_text (names_of self.now.names) (answer_of a)))) }
+        ensures none { OnErr outcome.now (OnOk result ⊥) }
+    {
+        match outcome {
+            Ok(answer) => self.put_answer(answer, out),
+            Err(_) => Err(AllocError),
+        }
+    }
+
     // Asks the system an event, takes up the name that it gives, and writes the answer.
     fn step(&mut self, asked: Asked<'_>, out: &mut Vec<u8>) -> Result<(), AllocError>
         requires { IsNew (names_of self.old.names) asked.naming }
@@ -77,8 +94,8 @@ impl<M: QueueMachine> Script<M> {
         ensures ok { OnOk result (AnswersBy M.shows self.old self.new out.old.items out.new.items
             (λ s. effect_of s (asks (event_of event.entry) s.names))) }
     {
-        let answer = self.machine.step(event)?;
-        self.put_answer(&answer, out)
+        let outcome = self.machine.step(event);
+        self.put_outcome(&outcome, out)
     }
 
     // Writes `refused En`.
@@ -90,6 +107,7 @@ impl<M: QueueMachine> Script<M> {
     }
 
     // Refuses what asks nothing of the system.
+    #[inline(never)]
     fn refuse_by(&mut self, fault: LineFault, out: &mut Vec<u8>) -> Result<(), AllocError>
         ensures ok { OnOk result (AnswersBy M.shows self.old self.new out.old.items out.new.items
             (λ s. writes_refusal s (number_of fault))) }
@@ -113,22 +131,6 @@ impl<M: QueueMachine> Script<M> {
     {
         match asked {
             Ok(asked) => self.step(asked, out),
-            Err(fault) => self.refuse_by(fault, out),
-        }
-    }
-
-    // The same of what is asked with no name.
-    #[inline(always)]
-    fn answer_event(
-        &mut self,
-        told: Result<Event<'_>, LineFault>,
-        out: &mut Vec<u8>,
-    ) -> Result<(), AllocError>
-        ensures ok { OnOk result (AnswersEvent M.shows self.old self.new out.old.items out.new.items told.entry) }
-        ensures memory { told.entry ≡ Err Memory → OnOk result ⊥ }
-    {
-        match told {
-            Ok(event) => self.ask(event, out),
             Err(fault) => self.refuse_by(fault, out),
         }
     }
@@ -195,25 +197,16 @@ impl<M: QueueMachine> Script<M> {
         }
     }
 
-    // A line that begins with this word, from what stands behind it. Inlined where the word is known: then nothing
-    // is prepared for lines of other words.
-    #[inline(always)]
-    fn known_line(&mut self, verb: Verb, rest: &[u8], out: &mut Vec<u8>) -> Result<(), AllocError>
-        ensures ok { OnOk result (Answers M.shows self.old self.new out.old.items out.new.items
-            (λ s. Does s (a_line (line_with (command_by verb rest.now))))) }
-    {
-        match self.names.event(verb, rest) {
-            Some(told) => self.answer_event(told, out),
-            None => self.seldom_line(verb, rest, out),
-        }
-    }
-
+    // Lines of words that are repeated: each is told and asked by itself, so that nothing is prepared for other words.
     #[inline(never)]
     fn call_line(&mut self, rest: &[u8], out: &mut Vec<u8>) -> Result<(), AllocError>
         ensures ok { OnOk result (Answers M.shows self.old self.new out.old.items out.new.items
             (λ s. Does s (a_line (line_with (command_by Verb.Call rest.now))))) }
     {
-        self.known_line(Verb::Call, rest, out)
+        match self.names.call_line(rest) {
+            Ok((end, call)) => self.ask(Event::Call(end, call), out),
+            Err(fault) => self.refuse_by(fault, out),
+        }
     }
 
     #[inline(never)]
@@ -221,7 +214,10 @@ impl<M: QueueMachine> Script<M> {
         ensures ok { OnOk result (Answers M.shows self.old self.new out.old.items out.new.items
             (λ s. Does s (a_line (line_with (command_by Verb.Write rest.now))))) }
     {
-        self.known_line(Verb::Write, rest, out)
+        match self.names.write_line(rest) {
+            Ok(end) => self.ask(Event::Write(end), out),
+            Err(fault) => self.refuse_by(fault, out),
+        }
     }
 
     #[inline(never)]
@@ -229,7 +225,10 @@ impl<M: QueueMachine> Script<M> {
         ensures ok { OnOk result (Answers M.shows self.old self.new out.old.items out.new.items
             (λ s. Does s (a_line (line_with (command_by Verb.Turn rest.now))))) }
     {
-        self.known_line(Verb::Turn, rest, out)
+        match self.names.turn_line(rest) {
+            Ok(dispatcher) => self.ask(Event::Turn(dispatcher), out),
+            Err(fault) => self.refuse_by(fault, out),
+        }
     }
 
     #[inline(never)]
@@ -237,7 +236,10 @@ impl<M: QueueMachine> Script<M> {
         ensures ok { OnOk result (Answers M.shows self.old self.new out.old.items out.new.items
             (λ s. Does s (a_line (line_with (command_by Verb.Show rest.now))))) }
     {
-        self.known_line(Verb::Show, rest, out)
+        match self.names.show_line(rest) {
+            Ok(end) => self.ask(Event::Show(end), out),
+            Err(fault) => self.refuse_by(fault, out),
+        }
     }
 
     #[inline(never)]
@@ -245,7 +247,10 @@ impl<M: QueueMachine> Script<M> {
         ensures ok { OnOk result (Answers M.shows self.old self.new out.old.items out.new.items
             (λ s. Does s (a_line (line_with (command_by Verb.Ack rest.now))))) }
     {
-        self.known_line(Verb::Ack, rest, out)
+        match self.names.ack_line(rest) {
+            Ok(end) => self.ask(Event::Acknowledge(end), out),
+            Err(fault) => self.refuse_by(fault, out),
+        }
     }
 
     #[inline(never)]
@@ -253,7 +258,10 @@ impl<M: QueueMachine> Script<M> {
         ensures ok { OnOk result (Answers M.shows self.old self.new out.old.items out.new.items
             (λ s. Does s (a_line (line_with (command_by Verb.Forward rest.now))))) }
     {
-        self.known_line(Verb::Forward, rest, out)
+        match self.names.forward_line(rest) {
+            Ok((core, neighbour)) => self.ask(Event::Forward { core, neighbour }, out),
+            Err(fault) => self.refuse_by(fault, out),
+        }
     }
 
     // The same, by the words that are repeated most.

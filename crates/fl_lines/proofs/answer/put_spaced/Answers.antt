@@ -7,17 +7,15 @@ appended : {T E : Type 0} (r : Result T E) (old new all : List ℕ) → new ≡ 
 appended (Ok _) old new all h = h
 appended (Err _) old new all h = _
 
-pub returns-then-word-eq0 : goal.returns-then-word-eq0
-returns-then-word-eq0 c = record {
-  ok = rw c.if-word-eq0.true
-      (appended c.extend_from_slice.result c.args.out.now.items c.extend_from_slice.new.self.items
-      (c.args.out.now.items ++ codes "0000000000000000 ") c.extend_from_slice.ensures.items);
-}
+pub returns-then-word-eq0-clause-ok : goal.returns-then-word-eq0-clause-ok
+returns-then-word-eq0-clause-ok c =
+    rw c.if-word-eq0.true
+    (appended c.extend_from_slice.result c.args.out.now.items c.extend_from_slice.new.self.items
+    (c.args.out.now.items ++ codes "0000000000000000 ") c.extend_from_slice.ensures.items)
 
-pub returns : goal.returns
-returns c = record {
-  ok = appended c.extend_from_slice-2.result c.args.out.now.items c.extend_from_slice-2.new.self.items _
-      (c.extend_from_slice-2.ensures.items
-      ∙ ap (λ digits. if is_ok c.extend_from_slice-2.result then c.args.out.now.items ++ digits else c.args.out.now.items)
-      (c.as_slice.ensures ∙ c.spaced_digits-digits.ensures));
-}
+pub returns-clause-ok : goal.returns-clause-ok
+returns-clause-ok c =
+    appended c.extend_from_slice-2.result c.args.out.now.items c.extend_from_slice-2.new.self.items _
+    (c.extend_from_slice-2.ensures.items
+    ∙ ap (λ digits. if is_ok c.extend_from_slice-2.result then c.args.out.now.items ++ digits else c.args.out.now.items)
+    (c.as_slice.ensures ∙ c.spaced_digits-digits.ensures))

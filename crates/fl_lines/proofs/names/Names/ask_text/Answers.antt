@@ -1,3 +1,4 @@
+use Rattle.fl_lines.specs.declared.event.Event.TheVariants as rust
 use Rattle.fl_lines.specs.Told.{names_of}
 use Rattle.fl_lines.specs.Views.{end_name_of}
 use Rattle.fl_lines.proofs.LineLemmas.{asked_call, unasked_call}
@@ -5,9 +6,9 @@ use Rattle.fl_lines.proofs.names.Names.ask_text.Goals as goal
 
 pub returns-in-Ok-clause-asks : goal.returns-in-Ok-clause-asks
 returns-in-Ok-clause-asks c =
-    asked_call (names_of c.args.self.now) (end_name_of c.args.end) c.args.text.now c.in-Ok.event c.asked.result
-    (rw c.in-Ok.is at c.call_event.ensures.tells) c.asked.ensures.tells
+    asked_call (names_of c.args.self.now) (end_name_of c.args.end) c.args.text.now (rust.Call c.in-Ok.end c.in-Ok.call) c.asked.result
+    (rw c.in-Ok.is at c.call_at.ensures.tells) c.asked.ensures.tells
 
 pub returns-in-Err-clause-asks : goal.returns-in-Err-clause-asks
 returns-in-Err-clause-asks c =
-    unasked_call (names_of c.args.self.now) (end_name_of c.args.end) c.args.text.now c.in-Err.fault (rw c.in-Err.is at c.call_event.ensures.tells)
+    unasked_call (names_of c.args.self.now) (end_name_of c.args.end) c.args.text.now c.in-Err.fault (rw c.in-Err.is at c.call_at.ensures.tells)

@@ -1,0 +1,23 @@
+use Rattle.fl_lines.specs.declared.event.Event.TheVariants as event
+use Rattle.fl_lines.specs.Reading.{command_by}
+use Rattle.fl_lines.specs.declared.command.Verb.TheVariants as verb
+use Rattle.fl_transcript.proofs.LineLemmas.{line_asked, line_refused}
+use Rattle.fl_transcript.proofs.script.Script.write_line.Goals as goal
+
+pub returns-in-Ok : goal.returns-in-Ok
+returns-in-Ok g c =
+    let tells = rw c.in-Ok.is at c.write_line.ensures.tells in
+    record {
+      ok =
+          line_asked g.M.QueueMachine.shows c.args.self.now c.ask.new.self c.args.out.now.items c.ask.new.out.items
+          (command_by verb.Write c.args.rest.now) (event.Write c.in-Ok.end) c.ask.result tells c.ask.ensures.ok;
+    }
+
+pub returns-in-Err : goal.returns-in-Err
+returns-in-Err g c =
+    let tells = rw c.in-Err.is at c.write_line.ensures.tells in
+    record {
+      ok =
+          line_refused g.M.QueueMachine.shows c.args.self.now c.refuse_by.new.self c.args.out.now.items c.refuse_by.new.out.items
+          (command_by verb.Write c.args.rest.now) c.in-Err.fault c.refuse_by.result tells c.refuse_by.ensures.ok c.refuse_by.ensures.memory;
+    }
