@@ -1,4 +1,4 @@
--- A side more in a core's hand.
+-- A thing more in a core's hand.
 use Rattle.std.proofs.Common.{◌≡◌, ⊎_elim, refl, sym, ap, ◌∙◌, subst, ℕ, zero, suc, ◌+◌, ◌<◌, ◌==◌, if◌then◌else◌, List, [], ◌∷◌, ◌++◌, length, map, slice_get, slice_set, get_or, Option, Some, None}
 use Rattle.std.proofs.Common.{Bool, true, false, arith}
 use Rattle.std.specs.Prelude.{unwrap_or}
@@ -7,112 +7,112 @@ use Rattle.std.proofs.lemmas.Option.{slice_get_within, slice_get-get_or}
 use Rattle.std.proofs.lemmas.Bool.Decides.{nat_tests}
 use Rattle.fl_ring.specs.SharedSides.{TheSide}
 use Rattle.fl_deal.specs.declared.deal.Dealt.{Dealt}
-use Rattle.fl_deal.specs.Dealt.{Hands, hand_at, own_sides, AreDealt, IsAt, AreAt, AreApart, hands_in, Holds, Gives, AreNew, Deals}
+use Rattle.fl_deal.specs.Dealt.{Hands, hand_at, own_things, own_before, AreDealt, IsAt, AreAt, AreApart, AreCounted, hands_in, Holds, Gives, AreNew, Deals}
 use Rattle.fl_deal.specs.Giving.{given_to}
 use Rattle.fl_deal.proofs.Places.{next_test, none_before, none_behind, self_test, stays_at, last_at, one_more}
 
-abbrev pub own_of : ℕ → ℕ → TheSide → List TheSide
-own_of core owner side = if owner == core then side ∷ [] else []
+abbrev pub own_of : {T : Type 0} → ℕ → ℕ → T → List T
+own_of core owner thing = if owner == core then thing ∷ [] else []
 
-pub given_look : (n c : ℕ) (side : TheSide) (hands : Hands) → n < length hands → hand_at (given_to n side hands) c ≡ hand_at hands c ++ own_of c n side
-given_look n c side [] h = absurd (omega (arith, h))
-given_look zero zero side (x ∷ hands) h = ap (λ (b : Bool). x ++ (if b then side ∷ [] else [])) (sym (self_test zero))
-given_look zero (suc c) side (x ∷ hands) h =
-    sym (append-nil (hand_at hands c)) ∙ ap (λ (b : Bool). hand_at hands c ++ (if b then side ∷ [] else [])) (sym (none_before c))
-given_look (suc n) zero side (x ∷ hands) h = sym (append-nil x) ∙ ap (λ (b : Bool). x ++ (if b then side ∷ [] else [])) (sym (none_behind n))
-given_look (suc n) (suc c) side (x ∷ hands) h =
-    given_look n c side hands (omega (arith, h)) ∙ ap (λ (b : Bool). hand_at hands c ++ (if b then side ∷ [] else [])) (sym (next_test n c))
+pub own_self : {T : Type 0} (owner : ℕ) (thing : T) → own_of owner owner thing ≡ thing ∷ []
+own_self owner thing = ap (λ (b : Bool). if b then thing ∷ [] else []) (self_test owner)
 
-pub given_length : (n : ℕ) (side : TheSide) (hands : Hands) → length (given_to n side hands) ≡ length hands
-given_length n side [] = refl
-given_length zero side (x ∷ hands) = refl
-given_length (suc n) side (x ∷ hands) = ap suc (given_length n side hands)
+pub given_look : {T : Type 0} (n c : ℕ) (thing : T) (hands : Hands T) → n < length hands → hand_at (given_to n thing hands) c ≡ hand_at hands c ++ own_of c n thing
+given_look n c thing [] h = absurd (omega (arith, h))
+given_look zero zero thing (x ∷ hands) h = ap (λ (b : Bool). x ++ (if b then thing ∷ [] else [])) (sym (self_test zero))
+given_look zero (suc c) thing (x ∷ hands) h =
+    sym (append-nil (hand_at hands c)) ∙ ap (λ (b : Bool). hand_at hands c ++ (if b then thing ∷ [] else [])) (sym (none_before c))
+given_look (suc n) zero thing (x ∷ hands) h = sym (append-nil x) ∙ ap (λ (b : Bool). x ++ (if b then thing ∷ [] else [])) (sym (none_behind n))
+given_look (suc n) (suc c) thing (x ∷ hands) h =
+    given_look n c thing hands (omega (arith, h)) ∙ ap (λ (b : Bool). hand_at hands c ++ (if b then thing ∷ [] else [])) (sym (next_test n c))
+
+pub given_length : {T : Type 0} (n : ℕ) (thing : T) (hands : Hands T) → length (given_to n thing hands) ≡ length hands
+given_length n thing [] = refl
+given_length zero thing (x ∷ hands) = refl
+given_length (suc n) thing (x ∷ hands) = ap suc (given_length n thing hands)
 
 -- it is so put there
-pub put_given : {X : Type 0} (f : X → List TheSide) (xs : List X) (n : ℕ) (x y : X) (side : TheSide) → slice_get xs n ≡ Some x → f y ≡ f x ++ side ∷ []
-    → map f (slice_set xs n y) ≡ given_to n side (map f xs)
-put_given f [] n x y side e h = absurd cc
-put_given f (z ∷ xs) zero x y side e h = let same : x ≡ z = cc in ap (λ k. k ∷ map f xs) (h ∙ ap (λ k. f k ++ side ∷ []) same)
-put_given f (z ∷ xs) (suc n) x y side e h = ap (λ ys. f z ∷ ys) (put_given f xs n x y side e h)
+pub put_given : {X T : Type 0} (f : X → List T) (xs : List X) (n : ℕ) (x y : X) (thing : T) → slice_get xs n ≡ Some x → f y ≡ f x ++ thing ∷ []
+    → map f (slice_set xs n y) ≡ given_to n thing (map f xs)
+put_given f [] n x y thing e h = absurd cc
+put_given f (z ∷ xs) zero x y thing e h = let same : x ≡ z = cc in ap (λ k. k ∷ map f xs) (h ∙ ap (λ k. f k ++ thing ∷ []) same)
+put_given f (z ∷ xs) (suc n) x y thing e h = ap (λ ys. f z ∷ ys) (put_given f xs n x y thing e h)
 
-pub put_given_or : {X : Type 0} (f : X → List TheSide) (xs : List X) (n : ℕ) (x y : X) (side : TheSide) → n < length xs → x ≡ get_or xs n x → f y ≡ f x ++ side ∷ []
-    → map f (slice_set xs n y) ≡ given_to n side (map f xs)
-put_given_or f xs n x y side below is h = put_given f xs n x y side (slice_get-get_or xs n x below ∙ ap Some (sym is)) h
+pub put_given_or : {X T : Type 0} (f : X → List T) (xs : List X) (n : ℕ) (x y : X) (thing : T) → n < length xs → x ≡ get_or xs n x → f y ≡ f x ++ thing ∷ []
+    → map f (slice_set xs n y) ≡ given_to n thing (map f xs)
+put_given_or f xs n x y thing below is h = put_given f xs n x y thing (slice_get-get_or xs n x below ∙ ap Some (sym is)) h
 
-hand_of_map : {X : Type 0} (f : X → List TheSide) (xs : List X) (n : ℕ) (x : X) → slice_get xs n ≡ Some x → hand_at (map f xs) n ≡ f x
+hand_of_map : {X T : Type 0} (f : X → List T) (xs : List X) (n : ℕ) (x : X) → slice_get xs n ≡ Some x → hand_at (map f xs) n ≡ f x
 hand_of_map f [] n x e = absurd cc
 hand_of_map f (z ∷ xs) zero x e = let same : z ≡ x = cc in ap f same
 hand_of_map f (z ∷ xs) (suc n) x e = hand_of_map f xs n x e
 
-pub hand_is : {X : Type 0} (f : X → List TheSide) (xs : List X) (n : ℕ) (x : X) → n < length xs → x ≡ get_or xs n x → hand_at (map f xs) n ≡ f x
+pub hand_is : {X T : Type 0} (f : X → List T) (xs : List X) (n : ℕ) (x : X) → n < length xs → x ≡ get_or xs n x → hand_at (map f xs) n ≡ f x
 hand_is f xs n x below is = hand_of_map f xs n x (slice_get-get_or xs n x below ∙ ap Some (sym is))
 
 -- ---- what each core has
 
-pub own_more : (c : ℕ) (owners : List ℕ) (sides : List TheSide) (owner : ℕ) (side : TheSide) → length sides ≡ length owners
-    → own_sides c (owners ++ owner ∷ []) (sides ++ side ∷ []) ≡ own_sides c owners sides ++ own_of c owner side
-own_more c [] [] owner side same = append-nil (own_of c owner side)
-own_more c [] (s ∷ sides) owner side same = absurd (omega (arith, same))
-own_more c (o ∷ owners) [] owner side same = absurd (omega (arith, same))
-own_more c (o ∷ owners) (s ∷ sides) owner side same =
-    ap (λ xs. own_of c o s ++ xs) (own_more c owners sides owner side (omega (arith, same)))
-    ∙ sym (append_assoc (own_of c o s) (own_sides c owners sides) (own_of c owner side))
+pub own_more : {T : Type 0} (c : ℕ) (owners : List ℕ) (things : List T) (owner : ℕ) (thing : T) → length things ≡ length owners
+    → own_things c (owners ++ owner ∷ []) (things ++ thing ∷ []) ≡ own_things c owners things ++ own_of c owner thing
+own_more c [] [] owner thing same = append-nil (own_of c owner thing)
+own_more c [] (s ∷ things) owner thing same = absurd (omega (arith, same))
+own_more c (o ∷ owners) [] owner thing same = absurd (omega (arith, same))
+own_more c (o ∷ owners) (s ∷ things) owner thing same =
+    ap (λ xs. own_of c o s ++ xs) (own_more c owners things owner thing (omega (arith, same)))
+    ∙ sym (append_assoc (own_of c o s) (own_things c owners things) (own_of c owner thing))
 
-dealt_more : (owners : List ℕ) (sides : List TheSide) (hands : Hands) (owner : ℕ) (side : TheSide) → owner < length hands → AreDealt owners sides hands
-    → AreDealt (owners ++ owner ∷ []) (sides ++ side ∷ []) (given_to owner side hands)
-dealt_more owners sides hands owner side there d = record {
-  count = length-append sides (side ∷ []) ∙ ap (λ n. n + 1) d.count ∙ sym (length-append owners (owner ∷ []));
-  each = λ c. given_look owner c side hands there ∙ ap (λ xs. xs ++ own_of c owner side) (d.each c) ∙ sym (own_more c owners sides owner side d.count);
+dealt_more : {T : Type 0} (owners : List ℕ) (things : List T) (hands : Hands T) (owner : ℕ) (thing : T) → owner < length hands → AreDealt owners things hands
+    → AreDealt (owners ++ owner ∷ []) (things ++ thing ∷ []) (given_to owner thing hands)
+dealt_more owners things hands owner thing there d = record {
+  count = length-append things (thing ∷ []) ∙ ap (λ n. n + 1) d.count ∙ sym (length-append owners (owner ∷ []));
+  each = λ c. given_look owner c thing hands there ∙ ap (λ xs. xs ++ own_of c owner thing) (d.each c) ∙ sym (own_more c owners things owner thing d.count);
 }
 
-at_more : (owners : List ℕ) (sides : List TheSide) (hands : Hands) (places : List ℕ) (owner : ℕ) (side : TheSide) → owner < length hands → length sides ≡ length owners
-    → length places ≡ length owners → AreAt owners sides hands places
-    → AreAt (owners ++ owner ∷ []) (sides ++ side ∷ []) (given_to owner side hands) (places ++ length (hand_at hands owner) ∷ [])
-at_more owners sides hands places owner side there same numbered are n o s owner_is side_is =
+at_more : {T : Type 0} (owners : List ℕ) (things : List T) (hands : Hands T) (places : List ℕ) (owner : ℕ) (thing : T) → owner < length hands → length things ≡ length owners
+    → length places ≡ length owners → AreAt owners things hands places
+    → AreAt (owners ++ owner ∷ []) (things ++ thing ∷ []) (given_to owner thing hands) (places ++ length (hand_at hands owner) ∷ [])
+at_more {T} owners things hands places owner thing there same numbered are n o s owner_is thing_is =
     ⊎_elim
     (λ (was : slice_get owners n ≡ Some o).
     ⊎_elim
-    (λ (stood : slice_get sides n ≡ Some s).
+    (λ (stood : slice_get things n ≡ Some s).
     let a = are n o s was stood in
     record {
       place = a.place;
       place_is = stays_at places (length (hand_at hands owner) ∷ []) n a.place a.place_is;
-      stands = ap (λ h. slice_get h a.place) (given_look owner o side hands there) ∙ stays_at (hand_at hands o) (own_of o owner side) a.place s a.stands;
+      stands = ap (λ h. slice_get h a.place) (given_look owner o thing hands there) ∙ stays_at (hand_at hands o) (own_of o owner thing) a.place s a.stands;
     })
     (λ last. absurd (let below = slice_get_within owners n o was in let at = last.0 in omega (arith, below, at, same)))
-    (one_more sides side s n side_is))
+    (one_more things thing s n thing_is))
     (λ last.
     ⊎_elim
-    (λ (stood : slice_get sides n ≡ Some s). absurd (let below = slice_get_within sides n s stood in let at = last.0 in omega (arith, below, at, same)))
+    (λ (stood : slice_get things n ≡ Some s). absurd (let below = slice_get_within things n s stood in let at = last.0 in omega (arith, below, at, same)))
     (λ end.
     let here : n ≡ length places = last.0 ∙ sym numbered in
-    let own : own_of o owner side ≡ s ∷ [] = ap (λ (x : ℕ). own_of x owner side) last.1 ∙ own_self owner side ∙ ap (λ (x : TheSide). x ∷ []) (sym end.1) in
+    let own : own_of o owner thing ≡ s ∷ [] = ap (λ (x : ℕ). own_of x owner thing) last.1 ∙ own_self owner thing ∙ ap (λ (x : T). x ∷ []) (sym end.1) in
     record {
       place = length (hand_at hands owner);
       place_is = ap (slice_get (places ++ length (hand_at hands owner) ∷ [])) here ∙ last_at places (length (hand_at hands owner));
-      stands = ap (λ h. slice_get h (length (hand_at hands owner))) (given_look owner o side hands there ∙ ap (λ xs. hand_at hands o ++ xs) own)
+      stands = ap (λ h. slice_get h (length (hand_at hands owner))) (given_look owner o thing hands there ∙ ap (λ xs. hand_at hands o ++ xs) own)
           ∙ ap (λ (x : ℕ). slice_get (hand_at hands x ++ s ∷ []) (length (hand_at hands owner))) last.1 ∙ last_at (hand_at hands owner) s;
     })
-    (one_more sides side s n side_is))
+    (one_more things thing s n thing_is))
     (one_more owners owner o n owner_is)
-  where
-    own_self : (owner : ℕ) (side : TheSide) → own_of owner owner side ≡ side ∷ []
-    own_self owner side = ap (λ (b : Bool). if b then side ∷ [] else []) (self_test owner)
 
--- a place that is told of one of the sides stands in its owner's hand
-told_within : (owners : List ℕ) (sides : List TheSide) (hands : Hands) (places : List ℕ) (side : TheSide) → length sides ≡ length owners → AreAt owners sides hands places
+-- a place that is told of one of the things stands in its owner's hand
+told_within : {T : Type 0} (owners : List ℕ) (things : List T) (hands : Hands T) (places : List ℕ) (thing : T) → length things ≡ length owners → AreAt owners things hands places
     → (n o p : ℕ) → slice_get owners n ≡ Some o → slice_get places n ≡ Some p → p < length (hand_at hands o)
-told_within owners sides hands places side same are n o p owner_is place_is =
+told_within owners things hands places thing same are n o p owner_is place_is =
     let below = slice_get_within owners n o owner_is in
-    let a = are n o (get_or sides n side) owner_is (slice_get-get_or sides n side (omega (arith, below, same))) in
+    let a = are n o (get_or things n thing) owner_is (slice_get-get_or things n thing (omega (arith, below, same))) in
     let told : Some a.place ≡ Some p = sym a.place_is ∙ place_is in
     let place : a.place ≡ p = cc in
     subst (λ (x : ℕ). x < length (hand_at hands o)) place (slice_get_within (hand_at hands o) a.place _ a.stands)
 
-apart_more : (owners : List ℕ) (sides : List TheSide) (hands : Hands) (places : List ℕ) (owner : ℕ) (side : TheSide) → length sides ≡ length owners
-    → length places ≡ length owners → AreAt owners sides hands places → AreApart owners places
+apart_more : {T : Type 0} (owners : List ℕ) (things : List T) (hands : Hands T) (places : List ℕ) (owner : ℕ) (thing : T) → length things ≡ length owners
+    → length places ≡ length owners → AreAt owners things hands places → AreApart owners places
     → AreApart (owners ++ owner ∷ []) (places ++ length (hand_at hands owner) ∷ [])
-apart_more owners sides hands places owner side same numbered are apart n m o p owner_n owner_m place_n place_m =
+apart_more owners things hands places owner thing same numbered are apart n m o p owner_n owner_m place_n place_m =
     ⊎_elim
     (λ (was_n : slice_get owners n ≡ Some o).
     ⊎_elim
@@ -133,41 +133,85 @@ apart_more owners sides hands places owner side same numbered are apart n m o p 
         (λ last. absurd (let below = slice_get_within owners k o was in let behind = last.0 in omega (arith, below, behind, numbered)))
         (one_more places (length (hand_at hands owner)) p k at)
 
-    -- the next side is told none of its owner's places
+    -- the next thing is told none of its owner's places
     not_behind : (k j : ℕ) → slice_get owners k ≡ Some o → j ≡ length owners → o ≡ owner → slice_get (places ++ length (hand_at hands owner) ∷ []) k ≡ Some p
         → slice_get (places ++ length (hand_at hands owner) ∷ []) j ≡ Some p → ⊥
     not_behind k j was end mine at_k at_j =
-        let within : p < length (hand_at hands owner) = subst (λ (x : ℕ). p < length (hand_at hands x)) mine (told_within owners sides hands places side same are k o p was (told k was at_k)) in
+        let within : p < length (hand_at hands owner) = subst (λ (x : ℕ). p < length (hand_at hands x)) mine (told_within owners things hands places thing same are k o p was (told k was at_k)) in
         let behind : Some p ≡ Some (length (hand_at hands owner)) =
         sym at_j ∙ ap (slice_get (places ++ length (hand_at hands owner) ∷ [])) (end ∙ sym numbered) ∙ last_at places (length (hand_at hands owner)) in
         let place : p ≡ length (hand_at hands owner) = cc in
         omega (arith, within, place)
 
-pub gives : (owner : ℕ) (side : TheSide) (d d2 : Dealt) → owner < length d.hands.items → hands_in d2 ≡ given_to owner side (hands_in d)
+-- ---- how many stand before
+
+-- things behind a number don't count
+own_before_more : (owner : ℕ) (owners more : List ℕ) (n o : ℕ) → slice_get owners n ≡ Some o → own_before owner n (owners ++ more) ≡ own_before owner n owners
+own_before_more owner [] more n o at = absurd (let no : None ≡ Some o = at in cc)
+own_before_more owner (x ∷ owners) more zero o at = refl
+own_before_more owner (x ∷ owners) more (suc n) o at =
+    ap (λ (k : ℕ). if x == owner then suc k else k) (own_before_more owner owners more n o at)
+
+own_counts : {T : Type 0} (b : Bool) (thing : T) (rest : List T) → length ((if b then thing ∷ [] else []) ++ rest) ≡ (if b then suc (length rest) else length rest)
+own_counts true thing rest = refl
+own_counts false thing rest = refl
+
+-- before the next thing stand all of its owner's
+own_before_next : {T : Type 0} (owner last : ℕ) (owners : List ℕ) (things : List T) → length things ≡ length owners
+    → own_before owner (length owners) (owners ++ last ∷ []) ≡ length (own_things owner owners things)
+own_before_next owner last [] [] same = refl
+own_before_next owner last [] (t ∷ things) same = absurd (omega (arith, same))
+own_before_next owner last (x ∷ owners) [] same = absurd (omega (arith, same))
+own_before_next owner last (x ∷ owners) (t ∷ things) same =
+    ap (λ (k : ℕ). if x == owner then suc k else k) (own_before_next owner last owners things (omega (arith, same)))
+    ∙ sym (own_counts (x == owner) t (own_things owner owners things))
+
+counted_more : {T : Type 0} (owners : List ℕ) (things : List T) (hands : Hands T) (places : List ℕ) (owner : ℕ) → AreDealt owners things hands
+    → length places ≡ length owners → AreCounted owners places
+    → AreCounted (owners ++ owner ∷ []) (places ++ length (hand_at hands owner) ∷ [])
+counted_more owners things hands places owner dealt numbered counted = record {
+  each = λ n o owner_is.
+      ⊎_elim
+      (λ (was : slice_get owners n ≡ Some o).
+      stays_at places (length (hand_at hands owner) ∷ []) n (own_before o n owners) (counted.each n o was)
+      ∙ ap Some (sym (own_before_more o owners (owner ∷ []) n o was)))
+      (λ last.
+      let count : length (hand_at hands owner) ≡ own_before owner (length owners) (owners ++ owner ∷ []) =
+      ap length (dealt.each owner) ∙ sym (own_before_next owner owner owners things dealt.count) in
+      let mine : own_before owner (length owners) (owners ++ owner ∷ []) ≡ own_before o n (owners ++ owner ∷ []) =
+      ap (λ (x : ℕ). own_before x (length owners) (owners ++ owner ∷ [])) (sym last.1) ∙ ap (λ (k : ℕ). own_before o k (owners ++ owner ∷ [])) (sym last.0) in
+      ap (slice_get (places ++ length (hand_at hands owner) ∷ [])) (last.0 ∙ sym numbered) ∙ last_at places (length (hand_at hands owner)) ∙ ap Some (count ∙ mine))
+      (one_more owners owner o n owner_is);
+}
+
+pub gives : {T : Type 0} (owner : ℕ) (thing : T) (d d2 : Dealt T) → owner < length d.hands.items → hands_in d2 ≡ given_to owner thing (hands_in d)
     → d2.owners.items ≡ d.owners.items ++ owner ∷ [] → d2.places.items ≡ d.places.items ++ length (hand_at (hands_in d) owner) ∷ []
     → length (hands_in d) ≡ length d.hands.items → length d2.hands.items ≡ length (hands_in d2)
-    → Gives owner side d d2
-gives owner side d d2 there hands owners places count count2 = record {
-  cores = count2 ∙ ap length hands ∙ given_length owner side (hands_in d) ∙ count;
+    → Gives owner thing d d2
+gives {T} owner thing d d2 there hands owners places count count2 = record {
+  cores = count2 ∙ ap length hands ∙ given_length owner thing (hands_in d) ∙ count;
   owners = owners;
-  holds = λ sides holds.
+  holds = λ things holds.
       let below : owner < length (hands_in d) = omega (arith, there, count) in
       record {
-        dealt = subst (λ (os : List ℕ). AreDealt os (sides ++ side ∷ []) (hands_in d2)) (sym owners)
-            (subst (λ (hs : Hands). AreDealt (d.owners.items ++ owner ∷ []) (sides ++ side ∷ []) hs) (sym hands) (dealt_more d.owners.items sides (hands_in d) owner side below holds.dealt));
+        dealt = subst (λ (os : List ℕ). AreDealt os (things ++ thing ∷ []) (hands_in d2)) (sym owners)
+            (subst (λ (hs : Hands T). AreDealt (d.owners.items ++ owner ∷ []) (things ++ thing ∷ []) hs) (sym hands) (dealt_more d.owners.items things (hands_in d) owner thing below holds.dealt));
         numbered = ap length places ∙ length-append d.places.items (length (hand_at (hands_in d) owner) ∷ []) ∙ ap (λ n. n + 1) holds.numbered
             ∙ sym (length-append d.owners.items (owner ∷ [])) ∙ ap length (sym owners);
-        places = subst (λ (ps : List ℕ). AreAt d2.owners.items (sides ++ side ∷ []) (hands_in d2) ps) (sym places)
-            (subst (λ (os : List ℕ). AreAt os (sides ++ side ∷ []) (hands_in d2) (d.places.items ++ length (hand_at (hands_in d) owner) ∷ [])) (sym owners)
-            (subst (λ (hs : Hands). AreAt (d.owners.items ++ owner ∷ []) (sides ++ side ∷ []) hs (d.places.items ++ length (hand_at (hands_in d) owner) ∷ [])) (sym hands)
-            (at_more d.owners.items sides (hands_in d) d.places.items owner side below holds.dealt.count holds.numbered holds.places)));
+        places = subst (λ (ps : List ℕ). AreAt d2.owners.items (things ++ thing ∷ []) (hands_in d2) ps) (sym places)
+            (subst (λ (os : List ℕ). AreAt os (things ++ thing ∷ []) (hands_in d2) (d.places.items ++ length (hand_at (hands_in d) owner) ∷ [])) (sym owners)
+            (subst (λ (hs : Hands T). AreAt (d.owners.items ++ owner ∷ []) (things ++ thing ∷ []) hs (d.places.items ++ length (hand_at (hands_in d) owner) ∷ [])) (sym hands)
+            (at_more d.owners.items things (hands_in d) d.places.items owner thing below holds.dealt.count holds.numbered holds.places)));
         apart = subst (λ (ps : List ℕ). AreApart d2.owners.items ps) (sym places)
             (subst (λ (os : List ℕ). AreApart os (d.places.items ++ length (hand_at (hands_in d) owner) ∷ [])) (sym owners)
-            (apart_more d.owners.items sides (hands_in d) d.places.items owner side holds.dealt.count holds.numbered holds.places holds.apart));
+            (apart_more d.owners.items things (hands_in d) d.places.items owner thing holds.dealt.count holds.numbered holds.places holds.apart));
+        counted = subst (λ (ps : List ℕ). AreCounted d2.owners.items ps) (sym places)
+            (subst (λ (os : List ℕ). AreCounted os (d.places.items ++ length (hand_at (hands_in d) owner) ∷ [])) (sym owners)
+            (counted_more d.owners.items things (hands_in d) d.places.items owner holds.dealt holds.numbered holds.counted));
       };
 }
 
-pub deals : (size first second : ℕ) (d m d2 : Dealt) (one two : TheSide) → AreNew size one two → Gives first one d m → Gives second two m d2 → Deals size first second d d2
+pub deals : (size first second : ℕ) (d m d2 : Dealt TheSide) (one two : TheSide) → AreNew size one two → Gives first one d m → Gives second two m d2 → Deals size first second d d2
 deals size first second d m d2 one two new a b = record {
   one = one;
   two = two;
@@ -179,22 +223,23 @@ deals size first second d m d2 one two new a b = record {
 
 -- ---- empty hands
 
-empty_look : {X : Type 0} (f : X → List TheSide) (xs : List X) → ((n : ℕ) (x : X) → slice_get xs n ≡ Some x → f x ≡ []) → (c : ℕ) → hand_at (map f xs) c ≡ []
+empty_look : {X T : Type 0} (f : X → List T) (xs : List X) → ((n : ℕ) (x : X) → slice_get xs n ≡ Some x → f x ≡ []) → (c : ℕ) → hand_at (map f xs) c ≡ []
 empty_look f [] none c = refl
 empty_look f (x ∷ xs) none zero = none zero x refl
 empty_look f (x ∷ xs) none (suc c) = empty_look f xs (λ n y e. none (suc n) y e) c
 
-pub holds_none : (d : Dealt) → d.owners.items ≡ [] → d.places.items ≡ [] → ((c : ℕ) → hand_at (hands_in d) c ≡ []) → Holds d []
-holds_none d owners places empty = record {
-  dealt = record { count = ap length (sym owners); each = λ c. empty c ∙ sym (ap (λ (os : List ℕ). own_sides c os []) owners) };
+pub holds_none : {T : Type 0} (d : Dealt T) → d.owners.items ≡ [] → d.places.items ≡ [] → ((c : ℕ) → hand_at (hands_in d) c ≡ []) → Holds d []
+holds_none {T} d owners places empty = record {
+  dealt = record { count = ap length (sym owners); each = λ c. empty c ∙ sym (ap (λ (os : List ℕ). own_things {T = T} c os []) owners) };
   numbered = ap length places ∙ ap length (sym owners);
-  places = λ n o s owner side. absurd (let no : None ≡ Some s = side in cc);
+  places = λ n o s owner thing. absurd (let no : None ≡ Some s = thing in cc);
   apart = λ n m o p owner_n owner_m place_n place_m.
       absurd (let no : None ≡ Some o = ap (λ (os : List ℕ). slice_get os n) (sym owners) ∙ owner_n in cc);
+  counted = record { each = λ n o owner. absurd (let no : None ≡ Some o = ap (λ (os : List ℕ). slice_get os n) (sym owners) ∙ owner in cc) };
 }
 
 -- one empty hand more
-pub still_empty : {X : Type 0} (f : X → List TheSide) (xs : List X) (x : X) → f x ≡ [] → ((c : ℕ) → hand_at (map f xs) c ≡ []) → (c : ℕ) → hand_at (map f (xs ++ x ∷ [])) c ≡ []
+pub still_empty : {X T : Type 0} (f : X → List T) (xs : List X) (x : X) → f x ≡ [] → ((c : ℕ) → hand_at (map f xs) c ≡ []) → (c : ℕ) → hand_at (map f (xs ++ x ∷ [])) c ≡ []
 still_empty f [] x none empty zero = none
 still_empty f [] x none empty (suc c) = refl
 still_empty f (y ∷ xs) x none empty zero = empty zero

@@ -4,7 +4,7 @@ use Rattle.std.proofs.lemmas.Bool.Decides.{nat_tests}
 use Rattle.fl_link.specs.Looks.{Look}
 use Rattle.fl_ring.specs.SharedSides.{TheSide}
 use Rattle.fl_ring.specs.Laws.{SideLaw}
-use Rattle.fl_deal.specs.Dealt.{Hands, hand_at, own_sides, AreDealt}
+use Rattle.fl_deal.specs.Dealt.{Hands, hand_at, own_things, AreDealt}
 use Rattle.fl_deal.specs.Settled.{WentOn, AllWentOn, HandsWentOn, DealtGoOn, RingsStay}
 use Rattle.fl_deal.proofs.Places.{self_test}
 use Rattle.fl_deal.proofs.Giving.{own_of}
@@ -35,19 +35,19 @@ none_went (z ∷ zs) h = absurd h
 pub record Still (owners : List ℕ) (sides : List TheSide) (hand : ℕ → List TheSide) : Type 0 where
   pub sides2 : List TheSide
   pub count : length sides2 ≡ length owners
-  pub each : (c : ℕ) → hand c ≡ own_sides c owners sides2
+  pub each : (c : ℕ) → hand c ≡ own_things c owners sides2
   pub went : AllWentOn sides sides2
 
 pub still : (owners : List ℕ) (sides : List TheSide) (hand : ℕ → List TheSide) → length sides ≡ length owners
-    → ((c : ℕ) → AllWentOn (own_sides c owners sides) (hand c)) → Still owners sides hand
+    → ((c : ℕ) → AllWentOn (own_things c owners sides) (hand c)) → Still owners sides hand
 still [] [] hand same went = record { sides2 = []; count = refl; each = λ c. none_went (hand c) (went c); went = tt }
 still [] (s ∷ sides) hand same went = absurd (omega (arith, same))
 still (o ∷ owners) [] hand same went = absurd (omega (arith, same))
 still (o ∷ owners) (s ∷ sides) hand same went =
-    let at_owner : AllWentOn (s ∷ own_sides o owners sides) (hand o) =
-    subst (λ (b : Bool). AllWentOn ((if b then s ∷ [] else []) ++ own_sides o owners sides) (hand o)) (self_test o) (went o) in
-    let one = first s (own_sides o owners sides) (hand o) at_owner in
-    let more = still owners sides (λ c. drop (skipped (o == c)) (hand c)) (omega (arith, same)) (λ c. behind (o == c) s (own_sides c owners sides) (hand c) (went c)) in
+    let at_owner : AllWentOn (s ∷ own_things o owners sides) (hand o) =
+    subst (λ (b : Bool). AllWentOn ((if b then s ∷ [] else []) ++ own_things o owners sides) (hand o)) (self_test o) (went o) in
+    let one = first s (own_things o owners sides) (hand o) at_owner in
+    let more = still owners sides (λ c. drop (skipped (o == c)) (hand c)) (omega (arith, same)) (λ c. behind (o == c) s (own_things c owners sides) (hand c) (went c)) in
     record {
       sides2 = one.side ∷ more.sides2;
       count = ap suc more.count;

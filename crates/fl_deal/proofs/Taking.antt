@@ -5,16 +5,16 @@ use Rattle.std.specs.Prelude.{unwrap_or}
 use Rattle.std.proofs.lemmas.List.{append-nil, append_assoc, length-append}
 use Rattle.std.proofs.lemmas.Option.{slice_get_within, slice_get-get_or}
 use Rattle.fl_ring.specs.SharedSides.{TheSide, SidesNear}
-use Rattle.fl_deal.specs.Dealt.{Hands, hand_at, own_sides, AreDealt}
+use Rattle.fl_deal.specs.Dealt.{Hands, hand_at, own_things, AreDealt}
 use Rattle.fl_deal.specs.Settled.{Pair, sides_of, Each, IsRing, IsNear, HoldRings}
 use Rattle.fl_deal.specs.Giving.{given_to}
-use Rattle.fl_deal.proofs.Places.{self_test, Ended, empty, behind, ended, same_end}
-use Rattle.fl_deal.proofs.Giving.{own_of, given_look, given_length, own_more}
+use Rattle.fl_deal.proofs.Places.{Ended, empty, behind, ended, same_end}
+use Rattle.fl_deal.proofs.Giving.{own_self, given_look, given_length, own_more}
 
 -- ---- taken back
 
 -- what was given last is taken, and the hands are as before
-pub undone : {X : Type 0} (f : X → List TheSide) (xs : List X) (n : ℕ) (x y : X) (side last : TheSide) (rest : Hands) → n < length rest → slice_get xs n ≡ Some x
+pub undone : {X : Type 0} (f : X → List TheSide) (xs : List X) (n : ℕ) (x y : X) (side last : TheSide) (rest : Hands TheSide) → n < length rest → slice_get xs n ≡ Some x
     → map f xs ≡ given_to n side rest → f x ≡ f y ++ last ∷ [] → (last ≡ side) × (map f (slice_set xs n y) ≡ rest)
 undone f [] n x y side last rest below e h g = absurd cc
 undone f (z ∷ xs) n x y side last [] below e h g = absurd (omega (arith, below))
@@ -23,19 +23,19 @@ undone f (z ∷ xs) zero x y side last (r ∷ rest) below e h g =
     let others : map f xs ≡ rest = cc in
     let same : z ≡ x = cc in
     let parts = same_end (f y) r last side (sym g ∙ ap f (sym same) ∙ first) in
-    (parts.1, ap (λ (v : List TheSide). v ∷ map f xs) parts.0 ∙ ap (λ (vs : Hands). r ∷ vs) others)
+    (parts.1, ap (λ (v : List TheSide). v ∷ map f xs) parts.0 ∙ ap (λ (vs : Hands TheSide). r ∷ vs) others)
 undone f (z ∷ xs) (suc n) x y side last (r ∷ rest) below e h g =
     let first : f z ≡ r = cc in
     let others : map f xs ≡ given_to n side rest = cc in
     let more = undone f xs n x y side last rest (omega (arith, below)) e others g in
-    (more.0, ap (λ (v : List TheSide). v ∷ map f (slice_set xs n y)) first ∙ ap (λ (vs : Hands). r ∷ vs) more.1)
+    (more.0, ap (λ (v : List TheSide). v ∷ map f (slice_set xs n y)) first ∙ ap (λ (vs : Hands TheSide). r ∷ vs) more.1)
 
-given_here : (n : ℕ) (side : TheSide) (rest : Hands) → n < length rest → hand_at (given_to n side rest) n ≡ hand_at rest n ++ side ∷ []
+given_here : (n : ℕ) (side : TheSide) (rest : Hands TheSide) → n < length rest → hand_at (given_to n side rest) n ≡ hand_at rest n ++ side ∷ []
 given_here n side [] below = absurd (omega (arith, below))
 given_here zero side (r ∷ rest) below = refl
 given_here (suc n) side (r ∷ rest) below = given_here n side rest (omega (arith, below))
 
-pub none_there : {X : Type 0} (f : X → List TheSide) (xs : List X) (n : ℕ) (side : TheSide) (rest : Hands) → n < length rest → map f xs ≡ given_to n side rest
+pub none_there : {X : Type 0} (f : X → List TheSide) (xs : List X) (n : ℕ) (side : TheSide) (rest : Hands TheSide) → n < length rest → map f xs ≡ given_to n side rest
     → slice_get xs n ≡ None → ⊥
 none_there f [] n side [] below h e = omega (arith, below)
 none_there f [] zero side (r ∷ rest) below h e = cc
@@ -49,10 +49,10 @@ none_there f (z ∷ xs) (suc n) side (r ∷ rest) below h e =
 -- ---- one side less
 
 -- a hand that ends with a side is one to which it was given
-abbrev without : ℕ → List TheSide → Hands → Hands
+abbrev without : ℕ → List TheSide → Hands TheSide → Hands TheSide
 without n hand hands = slice_set hands n hand
 
-given_back : (n : ℕ) (hand : List TheSide) (side : TheSide) (hands : Hands) → hand_at hands n ≡ hand ++ side ∷ []
+given_back : (n : ℕ) (hand : List TheSide) (side : TheSide) (hands : Hands TheSide) → hand_at hands n ≡ hand ++ side ∷ []
     → (n < length (without n hand hands)) × (hands ≡ given_to n side (without n hand hands))
 given_back n hand side [] e = absurd (nothing_ends hand side e)
   where
@@ -62,35 +62,32 @@ given_back n hand side [] e = absurd (nothing_ends hand side e)
 given_back zero hand side (h ∷ hands) e = (omega arith, ap (λ (v : List TheSide). v ∷ hands) e)
 given_back (suc n) hand side (h ∷ hands) e =
     let more = given_back n hand side hands e in
-    (let below = more.0 in omega (arith, below), ap (λ (vs : Hands). h ∷ vs) more.1)
+    (let below = more.0 in omega (arith, below), ap (λ (vs : Hands TheSide). h ∷ vs) more.1)
 
 same_front : (b : Bool) (xs ys : List TheSide) (s : TheSide) → xs ++ (if b then s ∷ [] else []) ≡ ys ++ (if b then s ∷ [] else []) → xs ≡ ys
 same_front true xs ys s e = (same_end xs ys s s e).0
 same_front false xs ys s e = sym (append-nil xs) ∙ e ∙ append-nil ys
 
-own_self : (owner : ℕ) (side : TheSide) → own_of owner owner side ≡ side ∷ []
-own_self owner side = ap (λ (b : Bool). if b then side ∷ [] else []) (self_test owner)
-
-pub record OneLess (owners : List ℕ) (sides : List TheSide) (owner : ℕ) (side : TheSide) (hands : Hands) : Type 0 where
-  pub rest : Hands
+pub record OneLess (owners : List ℕ) (sides : List TheSide) (owner : ℕ) (side : TheSide) (hands : Hands TheSide) : Type 0 where
+  pub rest : Hands TheSide
   pub there : owner < length rest
   pub given : hands ≡ given_to owner side rest
   pub dealt : AreDealt owners sides rest
 
-pub one_less : (owners : List ℕ) (sides : List TheSide) (owner : ℕ) (side : TheSide) (hands : Hands) → length sides ≡ length owners
+pub one_less : (owners : List ℕ) (sides : List TheSide) (owner : ℕ) (side : TheSide) (hands : Hands TheSide) → length sides ≡ length owners
     → AreDealt (owners ++ owner ∷ []) (sides ++ side ∷ []) hands → OneLess owners sides owner side hands
 one_less owners sides owner side hands same d =
-    let ends : hand_at hands owner ≡ own_sides owner owners sides ++ side ∷ [] =
-    d.each owner ∙ own_more owner owners sides owner side same ∙ ap (λ (xs : List TheSide). own_sides owner owners sides ++ xs) (own_self owner side) in
-    let back = given_back owner (own_sides owner owners sides) side hands ends in
+    let ends : hand_at hands owner ≡ own_things owner owners sides ++ side ∷ [] =
+    d.each owner ∙ own_more owner owners sides owner side same ∙ ap (λ (xs : List TheSide). own_things owner owners sides ++ xs) (own_self owner side) in
+    let back = given_back owner (own_things owner owners sides) side hands ends in
     record {
-      rest = without owner (own_sides owner owners sides) hands;
+      rest = without owner (own_things owner owners sides) hands;
       there = back.0;
       given = back.1;
       dealt = record {
         count = same;
-        each = λ c. same_front (owner == c) (hand_at (without owner (own_sides owner owners sides) hands) c) (own_sides c owners sides) side
-            (sym (given_look owner c side (without owner (own_sides owner owners sides) hands) back.0) ∙ ap (λ (hs : Hands). hand_at hs c) (sym back.1)
+        each = λ c. same_front (owner == c) (hand_at (without owner (own_things owner owners sides) hands) c) (own_things c owners sides) side
+            (sym (given_look owner c side (without owner (own_things owner owners sides) hands) back.0) ∙ ap (λ (hs : Hands TheSide). hand_at hs c) (sym back.1)
             ∙ d.each c ∙ own_more c owners sides owner side same);
       };
     }
@@ -110,14 +107,14 @@ each_more P [] p h last = (last, tt)
 each_more P (q ∷ pairs) p h last = (h.0, each_more P pairs p h.1 last)
 
 -- by the owners of the last ring's sides: that ring, and the hands before its sides were given
-pub record RingLess (owners : List ℕ) (first second : ℕ) (pairs : List Pair) (hands : Hands) : Type 0 where
+pub record RingLess (owners : List ℕ) (first second : ℕ) (pairs : List Pair) (hands : Hands TheSide) : Type 0 where
   pub front : List Pair
   pub last : Pair
   pub pairs_are : pairs ≡ front ++ last ∷ []
-  pub one_given : Hands
+  pub one_given : Hands TheSide
   pub second_there : second < length one_given
   pub two_is : hands ≡ given_to second last.two one_given
-  pub rest : Hands
+  pub rest : Hands TheSide
   pub first_there : first < length rest
   pub one_is : one_given ≡ given_to first last.one rest
   pub dealt : AreDealt owners (sides_of front) rest
@@ -126,7 +123,7 @@ even : (pairs : List Pair) → length (sides_of pairs) ≡ length pairs + length
 even [] = refl
 even (p ∷ pairs) = let more = even pairs in omega (arith, more)
 
-ring_less_by : (owners : List ℕ) (first second : ℕ) (pairs : List Pair) (hands : Hands) → Ended pairs
+ring_less_by : (owners : List ℕ) (first second : ℕ) (pairs : List Pair) (hands : Hands TheSide) → Ended pairs
     → AreDealt ((owners ++ first ∷ []) ++ second ∷ []) (sides_of pairs) hands → RingLess owners first second pairs hands
 ring_less_by owners first second pairs hands (empty e) d = absurd (
     let none : length (sides_of pairs) ≡ 0 = ap (λ (ps : List Pair). length (sides_of ps)) e in
@@ -160,11 +157,11 @@ ring_less_by owners first second pairs hands (behind front last e) d =
       dealt = one.dealt;
     }
 
-pub ring_less : (owners : List ℕ) (first second : ℕ) (pairs : List Pair) (hands : Hands) → AreDealt ((owners ++ first ∷ []) ++ second ∷ []) (sides_of pairs) hands
+pub ring_less : (owners : List ℕ) (first second : ℕ) (pairs : List Pair) (hands : Hands TheSide) → AreDealt ((owners ++ first ∷ []) ++ second ∷ []) (sides_of pairs) hands
     → RingLess owners first second pairs hands
 ring_less owners first second pairs hands d = ring_less_by owners first second pairs hands (ended pairs) d
 
-pub rings_less : (owners : List ℕ) (first second : ℕ) (hands : Hands) (h : HoldRings ((owners ++ first ∷ []) ++ second ∷ []) hands)
+pub rings_less : (owners : List ℕ) (first second : ℕ) (hands : Hands TheSide) (h : HoldRings ((owners ++ first ∷ []) ++ second ∷ []) hands)
     → (r : RingLess owners first second h.pairs hands) → IsRing r.last × HoldRings owners r.rest
 rings_less owners first second hands h r =
     let rings : Each IsRing (r.front ++ r.last ∷ []) = subst (λ (ps : List Pair). Each IsRing ps) r.pairs_are h.rings in
@@ -179,17 +176,17 @@ few_pairs : (pairs : List Pair) → length pairs + length pairs < 2 → Each IsN
 few_pairs [] few = tt
 few_pairs (p ∷ pairs) few = absurd (omega (arith, few))
 
-pub no_ring : (owners : List ℕ) (pairs : List Pair) (hands : Hands) → length owners < 2 → AreDealt owners (sides_of pairs) hands → Each IsNear pairs
+pub no_ring : (owners : List ℕ) (pairs : List Pair) (hands : Hands TheSide) → length owners < 2 → AreDealt owners (sides_of pairs) hands → Each IsNear pairs
 no_ring owners pairs hands few d = few_pairs pairs (let count = d.count in let twice = even pairs in omega (arith, few, count, twice))
 
 -- ---- what the code does
 
 -- the last side of a core's hand was taken
-abbrev pub LastOf : ℕ → Hands → Hands → Option TheSide → Type 0
-LastOf core hands hands2 o = (rest : Hands) (side : TheSide) → core < length rest → hands ≡ given_to core side rest → (o ≡ Some side) × (hands2 ≡ rest)
+abbrev pub LastOf : ℕ → Hands TheSide → Hands TheSide → Option TheSide → Type 0
+LastOf core hands hands2 o = (rest : Hands TheSide) (side : TheSide) → core < length rest → hands ≡ given_to core side rest → (o ≡ Some side) × (hands2 ≡ rest)
 
 -- a hand to which a side was given isn't empty
-pub none_left : {X : Type 0} (f : X → List TheSide) (xs : List X) (n : ℕ) (x : X) (side : TheSide) (rest : Hands) → n < length rest → slice_get xs n ≡ Some x
+pub none_left : {X : Type 0} (f : X → List TheSide) (xs : List X) (n : ℕ) (x : X) (side : TheSide) (rest : Hands TheSide) → n < length rest → slice_get xs n ≡ Some x
     → map f xs ≡ given_to n side rest → length (f x) ≡ 0 → ⊥
 none_left f [] n x side rest below e h none = cc
 none_left f (z ∷ xs) n x side [] below e h none = omega (arith, below)
@@ -208,7 +205,7 @@ last_of f xs n x y last below is items rest side there given =
     let u = undone f xs n x y side last rest there (slice_get-get_or xs n x below ∙ ap Some (sym is)) given items in
     (ap Some u.0, u.1)
 
-module _ (owners os : List ℕ) (first second : ℕ) (hands : Hands) (is : owners ≡ (os ++ first ∷ []) ++ second ∷ []) where
+module _ (owners os : List ℕ) (first second : ℕ) (hands : Hands TheSide) (is : owners ≡ (os ++ first ∷ []) ++ second ∷ []) where
   whole : HoldRings owners hands → HoldRings ((os ++ first ∷ []) ++ second ∷ []) hands
   whole h = subst (λ (xs : List ℕ). HoldRings xs hands) is h
 
@@ -222,7 +219,7 @@ module _ (owners os : List ℕ) (first second : ℕ) (hands : Hands) (is : owner
       let below = r.second_there in
       omega (arith, below, long)
 
-  pub first_there : (hands1 : Hands) (o : Option TheSide) → HoldRings owners hands → LastOf second hands hands1 o → first < length hands1
+  pub first_there : (hands1 : Hands TheSide) (o : Option TheSide) → HoldRings owners hands → LastOf second hands hands1 o → first < length hands1
   first_there hands1 o h t =
       let r = less h in
       let took = t r.one_given r.last.two r.second_there r.two_is in
@@ -230,10 +227,10 @@ module _ (owners os : List ℕ) (first second : ℕ) (hands : Hands) (is : owner
       let below = r.first_there in
       omega (arith, below, long)
 
-  pub has_second : (hands1 : Hands) → HoldRings owners hands → LastOf second hands hands1 None → ⊥
+  pub has_second : (hands1 : Hands TheSide) → HoldRings owners hands → LastOf second hands hands1 None → ⊥
   has_second hands1 h t = let r = less h in let took = t r.one_given r.last.two r.second_there r.two_is in let no : None ≡ Some r.last.two = took.0 in cc
 
-  pub has_first : (hands1 hands2 : Hands) (o : Option TheSide) → HoldRings owners hands → LastOf second hands hands1 o → LastOf first hands1 hands2 None → ⊥
+  pub has_first : (hands1 hands2 : Hands TheSide) (o : Option TheSide) → HoldRings owners hands → LastOf second hands hands1 o → LastOf first hands1 hands2 None → ⊥
   has_first hands1 hands2 o h t u =
       let r = less h in
       let took = t r.one_given r.last.two r.second_there r.two_is in
@@ -241,7 +238,7 @@ module _ (owners os : List ℕ) (first second : ℕ) (hands : Hands) (is : owner
       let no : None ≡ Some r.last.one = more.0 in
       cc
 
-  pub one_ring : (hands1 hands2 : Hands) (two one : TheSide) → HoldRings owners hands → LastOf second hands hands1 (Some two) → LastOf first hands1 hands2 (Some one)
+  pub one_ring : (hands1 hands2 : Hands TheSide) (two one : TheSide) → HoldRings owners hands → LastOf second hands hands1 (Some two) → LastOf first hands1 hands2 (Some one)
       → (one.ring ≡ two.ring) × HoldRings os hands2
   one_ring hands1 hands2 two one h t u =
       let r = less h in
@@ -251,10 +248,10 @@ module _ (owners os : List ℕ) (first second : ℕ) (hands : Hands) (is : owner
       let one_is : one ≡ r.last.one = let e : Some one ≡ Some r.last.one = more.0 in cc in
       let rings = rings_less os first second hands (whole h) r in (
         ap (λ (s : TheSide). s.ring) one_is ∙ rings.0 ∙ ap (λ (s : TheSide). s.ring) (sym two_is),
-        subst (λ (hs : Hands). HoldRings os hs) (sym more.1) rings.1,
+        subst (λ (hs : Hands TheSide). HoldRings os hs) (sym more.1) rings.1,
       )
 
-  pub near_all : (hands1 hands2 : Hands) (two one : TheSide) → LastOf second hands hands1 (Some two) → LastOf first hands1 hands2 (Some one)
+  pub near_all : (hands1 hands2 : Hands TheSide) (two one : TheSide) → LastOf second hands hands1 (Some two) → LastOf first hands1 hands2 (Some one)
       → SidesNear one two → SidesNear two one → ((pairs : List Pair) → AreDealt os (sides_of pairs) hands2 → Each IsNear pairs)
       → (pairs : List Pair) → AreDealt owners (sides_of pairs) hands → Each IsNear pairs
   near_all hands1 hands2 two one t u forth back others pairs d =
@@ -264,7 +261,7 @@ module _ (owners os : List ℕ) (first second : ℕ) (hands : Hands) (is : owner
       let two_is : two ≡ r.last.two = let e : Some two ≡ Some r.last.two = took.0 in cc in
       let one_is : one ≡ r.last.one = let e : Some one ≡ Some r.last.one = more.0 in cc in
       near_more pairs r.front r.last r.pairs_are
-      (others r.front (subst (λ (hs : Hands). AreDealt os (sides_of r.front) hs) (sym more.1) r.dealt))
+      (others r.front (subst (λ (hs : Hands TheSide). AreDealt os (sides_of r.front) hs) (sym more.1) r.dealt))
       (record {
         forth = subst (λ (s : TheSide). SidesNear s r.last.two) one_is (subst (λ (s : TheSide). SidesNear one s) two_is forth);
         back = subst (λ (s : TheSide). SidesNear s r.last.one) two_is (subst (λ (s : TheSide). SidesNear two s) one_is back);

@@ -21,7 +21,7 @@ AllWentOn [] [] = Unit {0}
 AllWentOn (s ∷ sides) (t ∷ sides2) = WentOn s t × AllWentOn sides sides2
 AllWentOn sides sides2 = ⊥
 
-abbrev pub HandsWentOn : Hands → Hands → Type 0
+abbrev pub HandsWentOn : Hands TheSide → Hands TheSide → Type 0
 HandsWentOn hands hands2 = (core : ℕ) → AllWentOn (hand_at hands core) (hand_at hands2 core)
 
 -- ---- rings
@@ -49,7 +49,7 @@ pub record IsNear (p : Pair) : Type 0 where
   pub back : SidesNear p.two p.one
 
 -- the hands hold the sides of some rings
-pub record HoldRings (owners : List ℕ) (hands : Hands) : Type 0 where
+pub record HoldRings (owners : List ℕ) (hands : Hands TheSide) : Type 0 where
   pub pairs : List Pair
   pub dealt : AreDealt owners (sides_of pairs) hands
   pub rings : Each IsRing pairs
@@ -58,7 +58,7 @@ pub record HoldRings (owners : List ℕ) (hands : Hands) : Type 0 where
 
 -- where sides were dealt and then went on, they are still in their owners' hands
 abbrev pub DealtGoOn : Type 0
-DealtGoOn = (owners : List ℕ) (sides : List TheSide) (hands hands2 : Hands) → AreDealt owners sides hands → HandsWentOn hands hands2
+DealtGoOn = (owners : List ℕ) (sides : List TheSide) (hands hands2 : Hands TheSide) → AreDealt owners sides hands → HandsWentOn hands hands2
     → (sides2 : List TheSide) × AreDealt owners sides2 hands2 × AllWentOn sides sides2
 
 -- a side that went on is of the same ring

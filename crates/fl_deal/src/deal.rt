@@ -1,4 +1,4 @@
-//! Rings dealt to cores.
+//! Things dealt to cores: sides of rings, and queues.
 
 ghost use Rattle.std.specs.Prelude.{◌≡◌, ◌<◌, ◌∷◌, ◌++◌, [], length, map, replicate, IfOk, OnOk, Err};
 ghost use Rattle.fl_deal.specs.Dealt.{hand_at, Holds, Gives, Deals};
@@ -7,39 +7,35 @@ ghost use Rattle.fl_deal.specs.Giving.{given_to};
 use fl_ring::{RingFault, SharedSide, duo};
 use std::alloc::{AllocError, Global};
 
-/// Rings whose sides are dealt to cores. A side is known by its number: those of ring n are number 2 n and 2 n + 1.
+/// Things that are dealt to cores. A thing is known by its number, from 0 in the order of dealing: the sides of ring n are number 2 n and 2 n + 1.
 #[derive(Drop)]
-pub struct Dealt {
-    /// By side, the core that has it.
+pub struct Dealt<T> {
+    /// By thing, the core that has it.
     pub owners: Vec<usize>,
-    /// By side, its place in its core's hand.
+    /// By thing, its place in its core's hand.
     pub places: Vec<usize>,
-    /// By core its sides, in the order of their numbers.
-    pub hands: Vec<Vec<SharedSide>>,
+    /// By core its things, in the order of their numbers.
+    pub hands: Vec<Vec<T>>,
 }
 
-// A side goes to a core's hand, behind the others, at the place that is told.
-fn give(
-    hands: &mut Vec<Vec<SharedSide>>,
-    core: usize,
-    side: SharedSide,
-) -> Result<usize, AllocError>
+// A thing goes to a core's hand, behind the others, at the place that is told.
+fn give<T: Drop>(hands: &mut Vec<Vec<T>>, core: usize, thing: T) -> Result<usize, AllocError>
     requires there { core < length hands.old.items }
-    ensures given { OnOk result (map (λ hand. hand.items) hands.new.items ≡ given_to core side (map (λ hand. hand.items) hands.old.items)) }
+    ensures given { OnOk result (map (λ hand. hand.items) hands.new.items ≡ given_to core thing (map (λ hand. hand.items) hands.old.items)) }
     ensures place { IfOk result (λ place. place ≡ length (hand_at (map (λ hand. hand.items) hands.old.items) core)) }
 {
     let hand = &mut hands[core];
     let place = hand.len();
-    hand.push(side)?;
+    hand.push(thing)?;
     Ok(place)
 }
 
-impl Dealt {
-    /// No ring is dealt yet, to so many cores.
+impl<T: Drop> Dealt<T> {
+    /// Nothing is dealt yet, to so many cores.
     ///
     /// # Errors
     /// Out of memory (E99).
-    pub fn new(alloc: Global, cores: usize) -> Result<Dealt, AllocError>
+    pub fn new(alloc: Global, cores: usize) -> Result<Dealt<T>, AllocError>
         ensures cores { IfOk result (λ d. length d.hands.items ≡ cores) }
         ensures none { IfOk result (λ d. d.owners.items ≡ []) }
         ensures holds { IfOk result (λ d. Holds d []) }
@@ -55,18 +51,23 @@ impl Dealt {
         })
     }
 
-    // The next side goes to a core.
-    fn give(self, owner: usize, side: SharedSide) -> Result<Dealt, AllocError>
+    /// The next thing goes to a core.
+    ///
+    /// # Errors
+    /// Out of memory (E99).
+    pub fn give(self, owner: usize, thing: T) -> Result<Dealt<T>, AllocError>
         requires there { owner < length self.hands.items }
-        ensures given { IfOk result (λ d. Gives owner side self d) }
+        ensures given { IfOk result (λ d. Gives owner thing self d) }
     {
         let mut dealt = self;
-        let place = give(&mut dealt.hands, owner, side)?;
+        let place = give(&mut dealt.hands, owner, thing)?;
         dealt.owners.push(owner)?;
         dealt.places.push(place)?;
         Ok(dealt)
     }
+}
 
+impl Dealt<SharedSide> {
     /// A new ring of `size` slots each way, whose sides go to these cores.
     ///
     /// # Errors
@@ -77,7 +78,7 @@ impl Dealt {
         size: usize,
         first: usize,
         second: usize,
-    ) -> Result<Dealt, RingFault>
+    ) -> Result<Dealt<SharedSide>, RingFault>
         requires first { first < length self.hands.items }
         requires second { second < length self.hands.items }
         ensures deals { IfOk result (λ d. Deals size first second self d) }

@@ -1,10 +1,10 @@
-//! The sides of rings between cores: dealt to them before they run on threads of their own, and put together again afterwards.
+//! The sides of rings between cores, and queues: dealt to them before they run on threads of their own. The sides are put together again afterwards.
 //!
-//! Contract for the layers above: a [`Dealt`] holds new rings, each side in the hand of its core, at the place that is told (`specs/Dealt.antt`). The cores
-//! take the hands and use their sides; [`settle`] takes them back, and then of each ring what each side took is the first of what the other put
-//! (`specs/Settled.antt`, which has the laws for that, too).
+//! Contract for the layers above: a [`Dealt`] holds things, each in the hand of its core, at the place that is told (`specs/Dealt.antt`): queues
+//! ([`Dealt::give`]), or the sides of new rings ([`Dealt::deal`]). The cores take the hands and use their sides; [`settle`] takes them back, and then of each
+//! ring what each side took is the first of what the other put (`specs/Settled.antt`, which has the laws for that, too).
 //!
-//! - `deal.rt`: rings dealt
+//! - `deal.rt`: things dealt
 //! - `settling.rt`: sides put together again
 //! - `law.rt`: what holds of sides in use
 #![tactic(auto)]

@@ -2,7 +2,7 @@
 
 ghost use Rattle.std.specs.Prelude.{◌≡◌, ◌<◌, List, length, map, Some};
 ghost use Rattle.fl_ring.specs.SharedSides.{TheSide};
-ghost use Rattle.fl_deal.specs.Dealt.{Hands, AreDealt, own_sides};
+ghost use Rattle.fl_deal.specs.Dealt.{Hands, AreDealt};
 ghost use Rattle.fl_deal.specs.Settled.{Pair, sides_of, Each, IsNear, HoldRings};
 ghost use Rattle.fl_deal.specs.Giving.{given_to};
 
@@ -11,7 +11,7 @@ use fl_ring::{SharedSide, settle_duo};
 // The last side in a core's hand.
 fn last_of(hands: &mut Vec<Vec<SharedSide>>, core: usize) -> Option<SharedSide>
     requires there { core < length hands.old.items }
-    ensures last { (rest : Hands) (side : TheSide) → core < length rest → map (λ hand. hand.items) hands.old.items ≡ given_to core side rest
+    ensures last { (rest : Hands TheSide) (side : TheSide) → core < length rest → map (λ hand. hand.items) hands.old.items ≡ given_to core side rest
         → (result ≡ Some side) × (map (λ hand. hand.items) hands.new.items ≡ rest) }
 {
     let hand = &mut hands[core];

@@ -4,8 +4,8 @@ use Rattle.fl_deal.proofs.Giving.{gives}
 use Rattle.fl_deal.proofs.deal.Dealt.give.Goals as goal
 
 pub returns : goal.returns
-returns c = record {
-  given = gives c.args.owner c.args.side c.args.self _ c.requires.there c.in_ok-place.ensures.given c.in_ok-push.ensures.items
+returns g c = record {
+  given = gives c.args.owner c.args.thing c.args.self _ c.requires.there c.in_ok-place.ensures.given c.in_ok-push.ensures.items
       (c.in_ok-push-2.ensures.items ∙ ap (λ (n : ℕ). c.args.self.places.items ++ n ∷ []) c.in_ok-place.ensures.place)
       (length-map _ _) (sym (length-map _ _));
 }

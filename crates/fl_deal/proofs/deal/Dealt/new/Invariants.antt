@@ -3,7 +3,7 @@ use Rattle.fl_deal.specs.Dealt.{hand_at}
 use Rattle.fl_deal.proofs.deal.Dealt.new.Given as goal
 
 abbrev pub invariant-loop : goal.invariant-loop
-invariant-loop l = record {
+invariant-loop g l = record {
   count : length l.hands.items ≡ l.counter;
   empty : (c : ℕ) → hand_at (map (λ hand. hand.items) l.hands.items) c ≡ [];
 }

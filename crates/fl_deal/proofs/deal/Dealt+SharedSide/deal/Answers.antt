@@ -1,5 +1,5 @@
 use Rattle.fl_deal.proofs.Giving.{deals}
-use Rattle.fl_deal.proofs.deal.Dealt.deal.Goals as goal
+use Rattle.fl_deal.proofs.deal.Dealt+SharedSide.deal.Goals as goal
 
 pub returns : goal.returns
 returns c = record {
