@@ -1,6 +1,6 @@
 -- What is kept from job to job, and what it tells of ends and bindings.
-use Rattle.std.proofs.Common.{◌≡◌, inl, inr, refl, sym, ap, ◌∙◌, subst, ℕ, ◌<◌, ◌≤◌, List, [], ◌∷◌, ◌++◌, length, map, slice_get}
-use Rattle.std.proofs.Common.{Option, Some, None, Bool, true, false, arith}
+use Rattle.std.proofs.Common.{◌≡◌, inl, inr, refl, sym, ap, ◌∙◌, subst, ℕ, List, [], ◌∷◌, ◌++◌, length, map, slice_get}
+use Rattle.std.proofs.Common.{Some, None, Bool, true, false}
 use Rattle.std.proofs.lemmas.Bool.{cases_lt}
 use Rattle.std.proofs.lemmas.List.{map-append}
 use Rattle.fl_base.specs.declared.identity.EndId.{EndId}
@@ -12,7 +12,7 @@ use Rattle.fl_jobs.specs.declared.job.Job.{Job as RustJob}
 use Rattle.fl_jobs.specs.Jobs.{Job, has_rules}
 use Rattle.fl_jobs.specs.Views.{job_of}
 use Rattle.fl_dockets.specs.declared.docket.Bound.{Bound}
-use Rattle.fl_dockets.specs.Dockets.{docket_at, places_of, is_ruled, rule_at, rule_by, OpensFirst}
+use Rattle.fl_dockets.specs.Dockets.{docket_at, places_of, rule_at, rule_by, OpensFirst}
 use Rattle.fl_dockets.specs.Kept.{has_core_rules, RulesFrom, AreOpened, AreKept}
 use Rattle.fl_dockets.specs.State.{TheJoined, nothing_joined, ArePlaced, AreJoined, DuesUpTo}
 use Rattle.fl_dockets.specs.Whole.{bound_of, SetUp, Joins, AreBound}

@@ -1,5 +1,6 @@
 mod Dues
 mod Ends
+mod Fitting
 mod Growing
 mod Keeping
 mod Lists

@@ -25,7 +25,7 @@ use Rattle.fl_dockets.specs.Rules.{RuleNow, RuleOf, RulesOf}
 use Rattle.fl_dockets.specs.State.{TheJoined, joined_of, nothing_joined, with_binding, with_owner, with_job, IsSafe, Opened, CallPlanned, RulePlanned, ArePlaced, DuesUpTo}
 use Rattle.fl_dockets.specs.Whole.{bound_of, SetUp, is_set_up, Ruled, Joins, IsBeside, About, about, wish_in, all_about, AreBound}
 use Rattle.fl_dockets.proofs.Ends.{slot_within}
-use Rattle.fl_dockets.proofs.Growing.{got, core_stays}
+use Rattle.fl_dockets.proofs.Growing.{got, kept, last, core_stays}
 use Rattle.fl_dockets.proofs.Openings.{within}
 use Rattle.fl_dockets.proofs.OneMore.{add_quiet, add_call, add_rule, add_set_up, add_opened, add_wish}
 
@@ -209,6 +209,7 @@ bound_stays set_up jobs job j j2 none same k = record {
   bound =
       ap (λ (bs : List Bound). map about bs) same ∙ k.bound
       ∙ sym (all_more set_up jobs job ∙ ap (λ (t : List Wish). all_about set_up jobs ++ map about_wish t) none ∙ append-nil (all_about set_up jobs));
+  first = λ n x at. ap (λ (bs : List Bound). slice_get bs n) same ∙ k.first n x at;
   unopened = λ n b at. k.unopened n b (subst (λ (bs : List Bound). slice_get bs n ≡ Some b) same at);
   opened = λ n b at. k.opened n b (subst (λ (bs : List Bound). slice_get bs n ≡ Some b) same at);
 }
@@ -230,6 +231,7 @@ bound_opened set_up jobs cores w j j2 o k =
           ∙ ap (λ (t : List About). t ++ about o.bound ∷ []) k.bound
           ∙ ap (λ (a : About). all_about set_up jobs ++ a ∷ []) (same_about o.bound w o.interface o.owner)
           ∙ sym (all_more set_up jobs (opens w));
+      first = λ n x at. ap (λ (bs : List Bound). slice_get bs n) is ∙ kept j.bindings (o.bound ∷ []) (bound_of x) n (k.first n x at);
       unopened = λ n b at below. elim (got j.bindings o.bound b n (subst (λ (bs : List Bound). slice_get bs n ≡ Some b) is at)) [
         | inl before ↦ k.unopened n b before below
         | inr new ↦ absurd (omega (arith, new.0, below, count))
@@ -267,6 +269,14 @@ none_opened_by xs x j j2 is k n b at = elim (got j.bindings (bound_of x) b n (su
   | inr new ↦ sym (ap (λ (y : Bound). y.opened) new.1)
 ]
 
+first_by : (xs : List Binding) (x : Binding) (j j2 : TheJoined) → j2.bindings ≡ j.bindings ++ bound_of x ∷ [] → length j.bindings ≡ length xs → AreBound xs [] j
+    → (n : ℕ) (y : Binding) → slice_get (xs ++ x ∷ []) n ≡ Some y → slice_get j2.bindings n ≡ Some (bound_of y)
+first_by xs x j j2 is count k n y at = elim (got xs x y n at) [
+  | inl before ↦ ap (λ (bs : List Bound). slice_get bs n) is ∙ kept j.bindings (bound_of x ∷ []) (bound_of y) n (k.first n y before)
+  | inr new ↦ ap (λ (bs : List Bound). slice_get bs n) is ∙ ap (slice_get (j.bindings ++ bound_of x ∷ [])) (new.0 ∙ sym count)
+      ∙ last j.bindings (bound_of x) ∙ ap (λ (z : Binding). Some (bound_of z)) new.1
+]
+
 pub set_up_turn : (cores : ℕ) (xs : List Binding) (k : ℕ) (x d : Binding) (j j2 : TheJoined) → k < length xs → x ≡ get_or xs k d → SetUp cores x j j2
     → AreBound (take k xs) [] j → AreBound (take (k + 1) xs) [] j2
 set_up_turn cores xs k x d j j2 below is s b =
@@ -281,14 +291,18 @@ set_up_turn cores xs k x d j j2 below is s b =
     ∙ ap (λ (l : List Binding). map about_set_up l) (sym more)
     ∙ sym (append-nil (map about_set_up (take (k + 1) xs))) in
     let count = count_bound (take (k + 1) xs) [] j2 bound2 in
+    let before = count_bound (take k xs) [] j b.bound in
     record {
       bound = bound2;
+      first = λ n y at.
+          first_by (take k xs) x j j2 (ap (λ (t : TheJoined). t.bindings) s.rest) (omega (arith, before)) b n y
+          (subst (λ (l : List Binding). slice_get l n ≡ Some y) more at);
       unopened = λ n y at less. none_opened_by (take k xs) x j j2 (ap (λ (t : TheJoined). t.bindings) s.rest) b n y at;
       opened = λ n y at past. let there = within j2.bindings n y at in absurd (omega (arith, there, past, count));
     }
 
 pub set_up_none : (xs : List Binding) → AreBound (take 0 xs) [] nothing_joined
-set_up_none xs = record { bound = refl; unopened = λ n b at less. absurd (cc); opened = λ n b at past. absurd (cc) }
+set_up_none xs = record { bound = refl; first = λ n x at. absurd (cc); unopened = λ n b at less. absurd (cc); opened = λ n b at past. absurd (cc) }
 
 pub set_up_all : (xs : List Binding) (k : ℕ) (j : TheJoined) → length xs ≤ k → AreBound (take k xs) [] j → AreBound xs [] j
 set_up_all xs k j past b = subst (λ (l : List Binding). AreBound l [] j) (take_all k xs past) b
@@ -296,6 +310,7 @@ set_up_all xs k j past b = subst (λ (l : List Binding). AreBound l [] j) (take_
 pub told_bound : (set_up : List Binding) (jobs : List Job) (n : ℕ) (j j2 : TheJoined) → AreBound set_up jobs j → DuesUpTo n j j2 → AreBound set_up jobs j2
 told_bound set_up jobs n j j2 k t = record {
   bound = ap (λ (bs : List Bound). map about bs) t.bindings ∙ k.bound;
+  first = λ m x at. ap (λ (bs : List Bound). slice_get bs m) t.bindings ∙ k.first m x at;
   unopened = λ m b at. k.unopened m b (subst (λ (bs : List Bound). slice_get bs m ≡ Some b) t.bindings at);
   opened = λ m b at. k.opened m b (subst (λ (bs : List Bound). slice_get bs m ≡ Some b) t.bindings at);
 }

@@ -5,3 +5,4 @@ pub mod Rules
 pub mod State
 pub mod Whole
 pub mod Faults
+pub mod Fitting

@@ -75,6 +75,8 @@ all_about set_up jobs =
 
 pub record AreBound (set_up : List Binding) (jobs : List Job) (j : TheJoined) : Type 0 where
   pub bound : map about j.bindings ≡ all_about set_up jobs
+  -- each that is set up stands at its own number
+  pub first : (n : ℕ) (x : Binding) → slice_get set_up n ≡ Some x → slice_get j.bindings n ≡ Some (bound_of x)
   -- those that are set up no job opens, and one opens each of the others
   pub unopened : (n : ℕ) (b : Bound) → slice_get j.bindings n ≡ Some b → n < length set_up → b.opened ≡ None
   pub opened : (n : ℕ) (b : Bound) → slice_get j.bindings n ≡ Some b → length set_up ≤ n → (job : ℕ) × (b.opened ≡ Some job)
@@ -85,6 +87,11 @@ pub record AreBound (set_up : List Binding) (jobs : List Job) (j : TheJoined) : 
 abbrev pub fault_at : Stop → ℕ → JobFault
 fault_at (stop.Refused number) place = fault.Refused number place
 fault_at stop.Memory place = fault.Memory
+
+-- the fault's number
+abbrev pub number_of : JobFault → ℕ
+number_of (fault.Refused number place) = number
+number_of fault.Memory = 99
 
 -- the job at this place, from 1, is the first that is refused: those before it were joined
 pub record RefusedAt (p : Parts) (jobs : List Job) (number place : ℕ) : Type 0 where

@@ -3,12 +3,13 @@
 ghost use Rattle.std.specs.Prelude.{◌≡◌, ◌<◌, ◌≤◌, ◌*◌, ◌++◌, ◌∷◌, List, [], false, map, length, slice_get, Some, None, IfOk, IfErr, IfNone, OnOk};
 ghost use Rattle.fl_base.specs.Ends.{peer};
 ghost use Rattle.fl_queues.specs.Given.{changed_at};
-ghost use Rattle.fl_node.specs.View.{slot_of};
+ghost use Rattle.fl_node.specs.View.{slot_of, client_of};
 ghost use Rattle.fl_jobs.specs.Views.{wish_of};
 ghost use Rattle.fl_value.specs.Value.{call_of};
 ghost use Rattle.fl_running.specs.declared.job.Job.TheVariants as core;
 ghost use Rattle.fl_dockets.specs.Dockets.{docket_of, docket_at, is_ruled, with_place, end_of};
 ghost use Rattle.fl_dockets.specs.Faults.{call_fault_at, rule_fault_at, StopsFor};
+ghost use Rattle.fl_dockets.specs.Fitting.{NewFit};
 ghost use Rattle.fl_dockets.specs.Joined.{AreBindings, HasDockets};
 ghost use Rattle.fl_dockets.specs.State.{joined_of, nothing_joined, with_binding, with_owner, changing, with_job, with_calls};
 ghost use Rattle.fl_dockets.specs.State.{SetAt, IsSafe, Opened, CallPlanned, RulePlanned, AreJoined};
@@ -19,7 +20,7 @@ use fl_base::{EndId, MsgNo, Side};
 use fl_check::same_args;
 use fl_compile::Program;
 use fl_jobs::{Stop, Wish};
-use fl_running::Job as CoreJob;
+use fl_running::{Job as CoreJob, Wish as CoreWish};
 use fl_system::Parts;
 use fl_value::{Call, fits};
 use std::alloc::{AllocError, Global};
@@ -101,27 +102,37 @@ impl Joined {
 }
 
 impl Joined {
+    // A binding, and the job that opens it.
+    fn add_opening(&mut self, alloc: Global, bound: Bound, wish: CoreWish) -> Result<(), AllocError>
+        requires few { length self.old.bindings.items < 1024 }
+        requires dockets { length (joined_of self.old).dockets ≡ 2 * length self.old.bindings.items }
+        ensures added { OnOk result (joined_of self.new ≡ with_job (client_of (length self.old.bindings.items)) (core.Open wish)
+            (with_owner bound.client (with_binding bound (joined_of self.old)))) }
+    {
+        let end = EndId {
+            binding: self.bindings.as_slice().len(),
+            side: Side::Client,
+        };
+        self.add_binding(alloc, bound)?;
+        self.owners.push(bound.client)?;
+        self.add_job(end, CoreJob::Open(wish))
+    }
+
     // A binding that a job opens.
     pub(crate) fn open(&mut self, alloc: Global, parts: &Parts, wish: &Wish<'_>) -> Result<(), Stop>
         requires safe { IsSafe (length parts.now.cores.items) (joined_of self.old) }
         ensures opened { OnOk result (Opened (length parts.now.cores.items) (wish_of wish.now) (joined_of self.old) (joined_of self.new)) }
+        ensures fits { OnOk result (NewFit parts.now.names parts.now.programs.items (joined_of self.old) (joined_of self.new)) }
     {
         let binding = self.bindings.as_slice().len();
         let asked = ask(alloc, parts, wish, binding)?;
-        let opened = self.owners.as_slice().len();
         let bound = Bound {
             interface: wish.interface,
             client: asked.client,
             server: asked.server,
-            opened: Some(opened),
+            opened: Some(self.owners.as_slice().len()),
         };
-        self.add_binding(alloc, bound)?;
-        self.owners.push(asked.client)?;
-        let end = EndId {
-            binding,
-            side: Side::Client,
-        };
-        self.add_job(end, CoreJob::Open(asked.wish))?;
+        self.add_opening(alloc, bound, asked.wish)?;
         Ok(())
     }
 

@@ -1,12 +1,13 @@
 //! What a wish for a circuit comes to.
 
 ghost use Rattle.std.specs.Prelude.{◌≡◌, ◌<◌, length, IfOk, OnOk};
+ghost use Rattle.fl_dockets.specs.Fitting.{IsOffered};
 
 use fl_base::{CoreId, IRef, LinkId, MAX_BINDINGS};
 use fl_compile::Program;
 use fl_jobs::{Stop, Wish};
 use fl_monitor::{Opening, Path};
-use fl_nameserv::Names;
+use fl_nameserv::{Names, each_is_found, found_is_registered};
 use fl_node::Core;
 use fl_running::Wish as CoreWish;
 use fl_system::Parts;
@@ -28,7 +29,11 @@ struct Found {
 }
 
 // The service of the name, where it is offered under the interface.
-fn find(names: &Names, wish: &Wish<'_>) -> Result<Found, Stop> {
+fn find(names: &Names, wish: &Wish<'_>) -> Result<Found, Stop>
+    ensures offered { IfOk result (λ f. IsOffered names.now f.iref.0 wish.now.interface f.core.0) }
+{
+    found_is_registered(names);
+    each_is_found(names);
     let Ok(found) = names.lookup(wish.service) else {
         return Err(Stop::Refused(70));
     };
@@ -91,6 +96,7 @@ pub(crate) fn ask(
     ensures dispatcher { IfOk result (λ a. a.wish.dispatcher ≡ wish.now.client.place) }
     ensures program { IfOk result (λ a. a.wish.interface ≡ wish.now.interface) }
     ensures binding { IfOk result (λ a. a.wish.opening.binding ≡ binding) }
+    ensures offered { IfOk result (λ a. IsOffered parts.now.names a.wish.opening.service.0 wish.now.interface a.server) }
 {
     let client = wish.client.core as usize;
     let Some(core) = parts.cores.get(client) else {

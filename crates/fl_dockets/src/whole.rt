@@ -5,6 +5,7 @@ ghost use Rattle.fl_jobs.specs.Jobs.{Job as TheJob};
 ghost use Rattle.fl_jobs.specs.Views.{job_of};
 ghost use Rattle.fl_dockets.specs.Dockets.{docket_of};
 ghost use Rattle.fl_dockets.specs.Faults.{rule_fault_at, RuleStops, JobStops};
+ghost use Rattle.fl_dockets.specs.Fitting.{JobsFit, NewFit};
 ghost use Rattle.fl_dockets.specs.Joined.{AreBindings, HasDockets};
 ghost use Rattle.fl_dockets.specs.Kept.{AreKept};
 ghost use Rattle.fl_dockets.specs.State.{joined_of, IsSafe, ArePlaced, AreJoined};
@@ -58,6 +59,7 @@ impl Joined {
         requires safe { IsSafe (length parts.old.cores.items) (joined_of self.old) }
         ensures ruled { OnOk result (Ruled parts.old.bindings.items end message.0 answer.0
             (joined_of self.old) parts.old.cores.items (joined_of self.new) parts.new.cores.items) }
+        ensures fits { OnOk result (NewFit parts.old.names parts.old.programs.items (joined_of self.old) (joined_of self.new)) }
         ensures beside { IsBeside parts.old parts.new }
         ensures refused { IfErr result (λ stop. RuleStops
             (rule_fault_at parts.old.programs.items self.old.bindings.items (map docket_of self.old.dockets.items) end message.0 answer.0)
@@ -75,6 +77,7 @@ impl Joined {
         requires safe { IsSafe (length parts.old.cores.items) (joined_of self.old) }
         ensures joins { OnOk result (Joins parts.old.bindings.items (job_of job.entry)
             (joined_of self.old) parts.old.cores.items (joined_of self.new) parts.new.cores.items) }
+        ensures fits { OnOk result (NewFit parts.old.names parts.old.programs.items (joined_of self.old) (joined_of self.new)) }
         ensures beside { IsBeside parts.old parts.new }
         ensures refused { IfErr result (λ stop. (asked : List TheJob) → AreJoined (length parts.old.cores.items) asked (joined_of self.old)
             → JobStops parts.old asked (joined_of self.old) (job_of job.entry) stop) }
@@ -100,9 +103,11 @@ impl Joined {
         requires joined { ArePlaced (length parts.old.cores.items) [] (joined_of self.old) }
         requires bound { AreBound parts.old.bindings.items [] (joined_of self.old) }
         requires kept { AreKept parts.old.bindings.items [] (joined_of self.old) }
+        requires none { self.old.jobs.items ≡ [] }
         ensures joined { OnOk result (ArePlaced (length parts.old.cores.items) (map job_of jobs.entry.items) (joined_of self.new)) }
         ensures bound { OnOk result (AreBound parts.old.bindings.items (map job_of jobs.entry.items) (joined_of self.new)) }
         ensures kept { OnOk result (AreKept parts.old.bindings.items (map job_of jobs.entry.items) (joined_of self.new)) }
+        ensures fits { OnOk result (JobsFit parts.old.names parts.old.programs.items (joined_of self.new)) }
         ensures rules { OnOk result (RulesOf parts.old.bindings.items (map job_of jobs.entry.items) parts.old.cores.items parts.new.cores.items) }
         ensures count { OnOk result (length parts.new.cores.items ≡ length parts.old.cores.items) }
         ensures beside { IsBeside parts.old parts.new }
@@ -134,6 +139,7 @@ fn set_up(alloc: Global, cores: usize, bindings: &[Binding]) -> Result<Joined, S
     ensures joined { IfOk result (λ j. ArePlaced cores [] (joined_of j)) }
     ensures bound { IfOk result (λ j. AreBound bindings.now [] (joined_of j)) }
     ensures kept { IfOk result (λ j. AreKept bindings.now [] (joined_of j)) }
+    ensures none { IfOk result (λ j. j.jobs.items ≡ []) }
 {
     let mut joined = Joined::new(alloc);
     for binding in bindings {
@@ -152,6 +158,7 @@ pub fn join_jobs(alloc: Global, parts: &mut Parts, jobs: Vec<Job<'_>>) -> Result
     ensures cores { OnOk result (length parts.new.cores.items ≡ length parts.old.cores.items) }
     ensures joined { IfOk result (λ j. AreJoined (length parts.old.cores.items) (map job_of jobs.entry.items) (joined_of j)) }
     ensures bound { IfOk result (λ j. AreBound parts.old.bindings.items (map job_of jobs.entry.items) (joined_of j)) }
+    ensures fits { IfOk result (λ j. JobsFit parts.old.names parts.old.programs.items (joined_of j)) }
     ensures due { IfOk result (λ j. AreDue (map job_of jobs.entry.items) (joined_of j)) }
     ensures rules { OnOk result (RulesOf parts.old.bindings.items (map job_of jobs.entry.items) parts.old.cores.items parts.new.cores.items) }
     ensures beside { IsBeside parts.old parts.new }

@@ -19,7 +19,7 @@ use Rattle.fl_worlds.specs.Picture.{Shows}
 use Rattle.fl_worlds.proofs.FramesBase.{gets, same_some}
 use Rattle.fl_worlds.proofs.PassingLanes.{lane_side}
 use Rattle.fl_setups.specs.Untouched.{IsOffLinks, Untouched}
-use Rattle.fl_setups.specs.Start.{CoresAreIdle}
+use Rattle.fl_setups.specs.Start.{CoresAreNumbered, CoresAreIdle}
 use Rattle.fl_setups.proofs.Apartness.{Linked, linked}
 
 no_route : (s : State) (n : ℕ) (route : Route) → Untouched s → Routed s n route → ⊥
@@ -72,6 +72,12 @@ outbox_at (link ∷ links) (x ∷ outboxes) (suc l) frags h q = outbox_at links 
 no_frags : (frags : List Frag) → AreFragsOf frags [] → frags ≡ []
 no_frags [] h = refl
 no_frags (f ∷ frags) h = absurd h
+
+pub cores_are_numbered : (w : TheWorld) (s : State) → Shows w s → CoresAreNumbered w
+cores_are_numbered w s shows n c c_is =
+    let (k, k_is) = gets w.cores s.cores n c (sym shows.picture.cores.count) c_is in
+    let core = shows.picture.cores.each n k c k_is c_is in
+    ap (λ (t : TheCircuits). t.core) core.monitor.circuits ∙ (shows.sound.cores n k k_is).number
 
 pub cores_are_idle : (w : TheWorld) (s : State) → Shows w s → Untouched s → CoresAreIdle w
 cores_are_idle w s shows h n c c_is =

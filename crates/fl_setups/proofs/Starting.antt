@@ -5,7 +5,7 @@ use Rattle.fl_queues.specs.Runs.{reached}
 use Rattle.fl_setups.proofs.Untouching.{set_ups_touch_nothing}
 use Rattle.fl_setups.proofs.Freshness.{ends_are_fresh, queues_are_new}
 use Rattle.fl_setups.proofs.Apartness.{side_cores, queue_cores, cores_are_apart, links_are_paired, sides_are_there}
-use Rattle.fl_setups.proofs.Idling.{cores_are_idle}
+use Rattle.fl_setups.proofs.Idling.{cores_are_numbered, cores_are_idle}
 use Rattle.fl_setups.proofs.Joining.{ends_have_bindings, bindings_are_joined, rings_have_one_binding}
 
 pub untouched_starts_fresh : UntouchedStartsFresh
@@ -18,6 +18,7 @@ untouched_starts_fresh w s shows h = record {
   queue_cores = queue_cores w s shows;
   side_cores = side_cores w s shows;
   links = links_are_paired w s shows;
+  numbers = cores_are_numbered w s shows;
   idle = cores_are_idle w s shows h;
   joined = bindings_are_joined w s shows h;
   rings = rings_have_one_binding w s shows;

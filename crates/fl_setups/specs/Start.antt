@@ -100,6 +100,10 @@ LinksArePaired w = (n l side : ℕ) (c : TheCore) → slice_get w.cores n ≡ So
 
 -- ---- circuits
 
+-- each core has its place as its number
+abbrev pub CoresAreNumbered : TheWorld → Type 0
+CoresAreNumbered w = (n : ℕ) (c : TheCore) → slice_get w.cores n ≡ Some c → c.monitor.circuits.core ≡ n
+
 -- no circuit was opened on a link, no number of one leads anywhere, and the monitor has nothing to say
 pub record IsIdle (c : TheCore) : Type 0 where
   pub counts : (l : ℕ) (link : LinkState) → slice_get c.monitor.circuits.links l ≡ Some link → (link.opened ≡ 0) × (link.taken ≡ 0)
@@ -159,6 +163,7 @@ pub record StartsFresh (w : TheWorld) : Type 0 where
   pub queue_cores : QueuesHaveOneCore w
   pub side_cores : SidesHaveOneCore w
   pub links : LinksArePaired w
+  pub numbers : CoresAreNumbered w
   pub idle : CoresAreIdle w
   pub joined : BindingsAreJoined w
   pub rings : RingsHaveOneBinding w

@@ -1,6 +1,7 @@
 use Rattle.std.proofs.Common.{map, length}
 use Rattle.fl_jobs.specs.Views.{job_of}
 use Rattle.fl_dockets.specs.State.{joined_of}
+use Rattle.fl_dockets.proofs.Fitting.{told_fits}
 use Rattle.fl_dockets.proofs.Keeping.{told_kept, all_joined}
 use Rattle.fl_dockets.proofs.Owed.{told_placed, all_due}
 use Rattle.fl_dockets.proofs.Stepwise.{told_bound}
@@ -28,3 +29,11 @@ pub returns-clause-bound : goal.returns-clause-bound
 returns-clause-bound c =
     told_bound c.args.parts.now.bindings.items (map job_of c.args.jobs.items) _ (joined_of c.join_all.new.self) (joined_of c.set_dues.new.self)
     c.in_ok-join_all.ensures.bound c.set_dues.ensures.dues
+
+pub returns-clause-fits : goal.returns-clause-fits
+returns-clause-fits c =
+    told_fits c.args.parts.now.names c.args.parts.now.programs.items _ (joined_of c.join_all.new.self) (joined_of c.set_dues.new.self)
+    c.in_ok-join_all.ensures.fits c.set_dues.ensures.dues
+
+pub join_all-requires-clause-none : goal.join_all-requires-clause-none
+join_all-requires-clause-none c = c.in-Ok.ensures.none

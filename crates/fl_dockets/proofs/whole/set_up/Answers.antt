@@ -1,4 +1,4 @@
-use Rattle.std.proofs.Common.{[], subst, sym}
+use Rattle.std.proofs.Common.{[], ◌∙◌, ap, subst, sym}
 use Rattle.fl_dockets.specs.State.{TheJoined, joined_of, ArePlaced}
 use Rattle.fl_dockets.specs.Kept.{AreKept}
 use Rattle.fl_dockets.specs.Whole.{AreBound}
@@ -12,6 +12,7 @@ loop-binding-init c = record {
   joined = subst (λ (t : TheJoined). ArePlaced c.args.cores [] t) (sym c.new-joined.ensures.none) (nothing c.args.cores);
   bound = subst (λ (t : TheJoined). AreBound [] [] t) (sym c.new-joined.ensures.none) (set_up_none c.args.bindings.now);
   kept = subst (λ (t : TheJoined). AreKept c.args.bindings.now [] t) (sym c.new-joined.ensures.none) (kept_none c.args.bindings.now);
+  none = ap (λ (t : TheJoined). t.jobs) c.new-joined.ensures.none;
 }
 
 pub loop-binding-preserved : goal.loop-binding-preserved
@@ -21,6 +22,7 @@ loop-binding-preserved c = record {
       c.loop-binding-test.true c.binding-item.is c.in_ok-set_up.ensures.set_up c.loop-binding.invariant.bound;
   kept = kept_set_up c.args.bindings.now c.args.cores _ (joined_of c.loop-binding.joined) (joined_of c.set_up.new.self) c.in_ok-set_up.ensures.set_up
       c.loop-binding.invariant.joined c.loop-binding.invariant.kept;
+  none = ap (λ (t : TheJoined). t.jobs) c.in_ok-set_up.ensures.set_up.rest ∙ c.loop-binding.invariant.none;
 }
 
 pub returns-clause-bound : goal.returns-clause-bound

@@ -1,4 +1,4 @@
-use Rattle.std.proofs.Common.{[], take}
+use Rattle.std.proofs.Common.{◌≡◌, [], take}
 use Rattle.fl_dockets.specs.State.{joined_of, ArePlaced}
 use Rattle.fl_dockets.specs.Kept.{AreKept}
 use Rattle.fl_dockets.specs.Whole.{AreBound}
@@ -10,4 +10,5 @@ invariant-loop-binding l = record {
   joined : ArePlaced l.cores [] (joined_of l.joined);
   bound : AreBound (take l.binding-index l.bindings) [] (joined_of l.joined);
   kept : AreKept l.bindings [] (joined_of l.joined);
+  none : l.joined.jobs.items ≡ [];
 }

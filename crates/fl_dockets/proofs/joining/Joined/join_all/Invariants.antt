@@ -1,6 +1,7 @@
 use Rattle.std.proofs.Common.{◌≡◌, ◌++◌, length, map}
 use Rattle.std.specs.Vec.Iter.{into_iter_items}
 use Rattle.fl_jobs.specs.Views.{job_of}
+use Rattle.fl_dockets.specs.Fitting.{JobsFit}
 use Rattle.fl_dockets.specs.Rules.{RulesOf}
 use Rattle.fl_dockets.specs.State.{joined_of, ArePlaced}
 use Rattle.fl_dockets.specs.Kept.{AreKept}
@@ -13,6 +14,7 @@ invariant-loop-job l = record {
   joined : ArePlaced (length l.fn.parts.cores.items) (map job_of l.yielded) (joined_of l.self);
   bound : AreBound l.fn.parts.bindings.items (map job_of l.yielded) (joined_of l.self);
   kept : AreKept l.fn.parts.bindings.items (map job_of l.yielded) (joined_of l.self);
+  fits : JobsFit l.fn.parts.names l.fn.parts.programs.items (joined_of l.self);
   rules : RulesOf l.fn.parts.bindings.items (map job_of l.yielded) l.fn.parts.cores.items l.parts.cores.items;
   count : length l.parts.cores.items ≡ length l.fn.parts.cores.items;
   beside : IsBeside l.fn.parts l.parts;

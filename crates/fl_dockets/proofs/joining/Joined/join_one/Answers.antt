@@ -2,6 +2,7 @@ use Rattle.std.proofs.Common.{refl, length}
 use Rattle.std.proofs.lemmas.Result.{on_ok_weaker}
 use Rattle.fl_value.specs.Value.{call_of}
 use Rattle.fl_dockets.specs.State.{joined_of}
+use Rattle.fl_dockets.proofs.Fitting.{call_fits}
 use Rattle.fl_dockets.proofs.Refusing.{rule_stops, call_stops}
 use Rattle.fl_dockets.proofs.joining.Joined.join_one.Goals as goal
 
@@ -12,6 +13,12 @@ returns-in-Reply-clause-refused c =
 
 pub returns-in-Call-clause-joins : goal.returns-in-Call-clause-joins
 returns-in-Call-clause-joins c = rw c.in-Call.is (on_ok_weaker c.plan_call.result (λ p. ((c.in-Call.call, refl, p), refl)) c.plan_call.ensures.planned)
+
+pub returns-in-Call-clause-fits : goal.returns-in-Call-clause-fits
+returns-in-Call-clause-fits c =
+    on_ok_weaker c.plan_call.result
+    (λ p. call_fits c.args.parts.now.names c.args.parts.now.programs.items (joined_of c.args.self.now) (joined_of c.plan_call.new.self) c.in-Call.end c.in-Call.call p)
+    c.plan_call.ensures.planned
 
 pub returns-in-Call-clause-refused : goal.returns-in-Call-clause-refused
 returns-in-Call-clause-refused c =

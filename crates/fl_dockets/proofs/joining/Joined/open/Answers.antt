@@ -1,7 +1,43 @@
-use Rattle.std.proofs.Common.{ap, length}
-use Rattle.fl_dockets.proofs.Slots.{opens_slot}
+use Rattle.std.proofs.Common.{refl, ◌∙◌, ap, subst, ◌<◌, List, length, Some}
+use Rattle.fl_node.specs.View.{client_of}
+use Rattle.fl_dockets.specs.declared.docket.Bound.{Bound}
+use Rattle.fl_dockets.specs.State.{joined_of}
+use Rattle.fl_dockets.proofs.Fitting.{opening_fits}
 use Rattle.fl_dockets.proofs.joining.Joined.open.Goals as goal
 
-pub add_job-requires-clause-there : goal.add_job-requires-clause-there
-add_job-requires-clause-there c =
-    opens_slot c.args.self.now c.add_binding.new.self _ (length c.as_slice-binding.result.now) (ap length c.as_slice-binding.ensures.value) c.in_ok-add_binding.ensures.added c.requires.safe.1
+pub returns-clause-opened : goal.returns-clause-opened
+returns-clause-opened c =
+    let asked = c.in_ok-asked.ensures in
+    let bound : Bound = record {
+      interface = c.args.wish.now.interface;
+      client = c.in_ok-asked.asked.client;
+      server = c.in_ok-asked.asked.server;
+      opened = Some (length c.as_slice.result.now);
+    } in
+    record {
+      bound = bound;
+      wish = c.in_ok-asked.asked.wish;
+      client = asked.client;
+      server = asked.server;
+      owner = asked.owner;
+      interface = refl;
+      opened = ap (λ owners. Some (length owners)) c.as_slice.ensures.value;
+      dispatcher = asked.dispatcher;
+      program = asked.program;
+      binding = asked.binding ∙ ap (λ bindings. length bindings) c.as_slice-binding.ensures.value;
+      few = subst (λ (bindings : List Bound). length bindings < 1024) c.as_slice-binding.ensures.value asked.few;
+      rest = c.in_ok-add_opening.ensures.added;
+    }
+
+pub returns-clause-fits : goal.returns-clause-fits
+returns-clause-fits c =
+    let asked = c.in_ok-asked.ensures in
+    let bound : Bound = record {
+      interface = c.args.wish.now.interface;
+      client = c.in_ok-asked.asked.client;
+      server = c.in_ok-asked.asked.server;
+      opened = Some (length c.as_slice.result.now);
+    } in
+    opening_fits c.args.parts.now.names c.args.parts.now.programs.items (joined_of c.args.self.now) (joined_of c.add_opening.new.self)
+    (client_of (length c.args.self.now.bindings.items)) bound c.in_ok-asked.asked.wish c.in_ok-add_opening.ensures.added
+    (asked.binding ∙ ap (λ bindings. length bindings) c.as_slice-binding.ensures.value) asked.program asked.offered
