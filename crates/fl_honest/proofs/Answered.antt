@@ -40,7 +40,7 @@ use Rattle.fl_monitor.specs.Saying.{Says}
 use Rattle.fl_monitor.proofs.Single.{says_no_other, says_the_same, says_what_is_written}
 use Rattle.fl_node.specs.View.{server_of}
 use Rattle.fl_running.specs.Led.{IsSettled}
-use Rattle.fl_running.proofs.Tables.{GoesOn, OneNew, way_there, way_of, leads_at, stands_there, ways_alike, opened_goes}
+use Rattle.fl_running.proofs.Tables.{GoesOn, OneNew, way_of, leads_at, stands_there, ways_alike, opened_goes}
 use Rattle.fl_running.proofs.TablesHeard.{new_by, heard_goes, server_made}
 use Rattle.fl_honest.specs.Named.{Has}
 use Rattle.fl_honest.specs.Answered.{IsOpenedIn, IsAnswered, IsOpenWay, IsOpen, AreAnswered}

@@ -57,7 +57,7 @@ stands_at e first (j ∷ jobs) i place at =
     by_test e first j jobs (places_of e (suc first) jobs) i place (λ k h. stands_at e (suc first) jobs k place h) (same_end e (end_of j)) refl at
 
 -- so a job of an end's is done there
-done_there : (jobs : List CoreJob) (e : EndId) (i place : ℕ) (j : CoreJob) → slice_get (places_of e 0 jobs) i ≡ Some place → slice_get jobs place ≡ Some j → e ≡ end_of j
+pub done_there : (jobs : List CoreJob) (e : EndId) (i place : ℕ) (j : CoreJob) → slice_get (places_of e 0 jobs) i ≡ Some place → slice_get jobs place ≡ Some j → e ≡ end_of j
 done_there jobs e i place j at is =
     let x = stands_at e 0 jobs i place at in
     let places : place ≡ x.nth = (let eq = x.place_is in omega (arith, eq)) in

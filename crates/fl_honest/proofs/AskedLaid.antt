@@ -3,18 +3,16 @@ use Rattle.std.proofs.Common.{◌≡◌, refl, sym, ap, ◌∙◌, subst, ℕ, z
 use Rattle.std.proofs.Common.{Option, Some, None, false, Result, Ok, Err}
 use Rattle.std.specs.Option.{option_map}
 use Rattle.fl_base.specs.declared.fragment.Frag.{Frag}
-use Rattle.fl_base.specs.declared.identity.EndId.{EndId}
 use Rattle.fl_base.specs.declared.identity.CoreId.{CoreId}
 use Rattle.fl_base.specs.declared.identity.LinkId.{LinkId}
 use Rattle.fl_base.specs.declared.identity.Circuit.{Circuit}
 use Rattle.fl_wire.specs.declared.fault.WireFault.TheVariants as wire
 use Rattle.fl_hop.specs.declared.entry.Hop.{Hop}
 use Rattle.fl_hop.specs.declared.entry.Way.TheVariants.{Link}
-use Rattle.fl_hop.specs.declared.forward.Outcome.{Outcome}
 use Rattle.fl_hop.specs.declared.forward.Outcome.TheVariants.{Moved, Full, Spent}
 use Rattle.fl_hop.specs.declared.links.LinkState.{LinkState}
 use Rattle.fl_hop.specs.Numbers.{with_opening, with_taking, changed, count_opening, count_taking}
-use Rattle.fl_hop.specs.Openings.{answered}
+use Rattle.fl_hop.specs.Openings.{opened as opened_table, answered}
 use Rattle.fl_hop.specs.Table.{TheCircuits, hop_at, without_entry}
 use Rattle.fl_monitor.specs.declared.heard.Heard.{Heard}
 use Rattle.fl_monitor.specs.declared.heard.Heard.TheVariants.{OpeningWentOn, ServerMade, OpeningFailed, AnswerWentOn, EndOpened, EndRefused}
@@ -24,8 +22,6 @@ use Rattle.fl_monitor.specs.Routing.{given, is_on_route}
 use Rattle.fl_monitor.specs.Fates.{comes_along}
 use Rattle.fl_monitor.specs.Hearing.{after_opening, table_after}
 use Rattle.fl_monitor.specs.Monitors.{TheMonitor}
-use Rattle.fl_node.specs.declared.answer.Ahead.{Ahead}
-use Rattle.fl_node.specs.declared.answer.Ahead.TheVariants as ahead
 use Rattle.fl_node.specs.declared.answer.MonitorWrite.TheVariants as said_as
 use Rattle.fl_node.specs.declared.answer.MonitorAnswer.{MonitorAnswer}
 use Rattle.fl_node.specs.declared.answer.MonitorAnswer.TheVariants as heard_as
@@ -36,12 +32,11 @@ use Rattle.fl_node.specs.declared.fault.OpenFault.TheVariants as opening
 use Rattle.fl_node.specs.declared.wire.Outlet.TheVariants as outlet
 use Rattle.fl_node.specs.declared.wire.Inlet.TheVariants as inlet
 use Rattle.fl_node.specs.View.{TheCore}
-use Rattle.fl_node.specs.Links.{LooksAhead, ArrivesAt}
 use Rattle.fl_node.specs.Making.{Asked, Asks}
 use Rattle.fl_node.specs.Hearing.{Offers, HearsFrag, HearsMessage, HearsAll}
 use Rattle.fl_running.specs.Run.{Ways, TheRun}
 use Rattle.fl_running.specs.Deeds.{Deed, looked, passed, arrived, heard, said, told, opened, called, ruled, wrote, acked, turned, Does}
-use Rattle.fl_honest.proofs.Logged.{follows_monitor}
+use Rattle.fl_honest.proofs.Logged.{follows_monitor, ahead_monitor, arrives_monitor}
 
 -- the core on a link's other side
 abbrev pub beside : TheCircuits → ℕ → Option CoreId
@@ -115,33 +110,15 @@ by_refusal : (t : TheCircuits) (l : LinkId) (c : Circuit) (o : Option Hop) → L
 by_refusal t l c None = laid_same t t refl
 by_refusal t l c (Some hop) = record { core = refl; links = λ i. refl }
 
-table_laid : (t : TheCircuits) (l : LinkId) (m : Message) (h : Heard) → Laid t (table_after t l m h)
+pub table_laid : (t : TheCircuits) (l : LinkId) (m : Message) (h : Heard) → Laid t (table_after t l m h)
 table_laid t l (OpenCircuit c b s p) h = by_opening t l c b h
 table_laid t l (CircuitOpened c) h = by_answer t l c (hop_at t l.0 c.0)
 table_laid t l (CircuitRefused c reason) h = by_refusal t l c (hop_at t l.0 c.0)
 
+pub opened_laid : (t : TheCircuits) (l : LinkId) (c : Circuit) (binding : ℕ) → Laid t (opened_table t l c binding)
+opened_laid t l c binding = record { core = refl; links = λ i. opening_beside t.links l.0 i }
+
 -- ---- events
-
-pub ahead_monitor : {S : Type 0} (w : Ways S) (l : ℕ) (k : TheCore) (p : S) (answer : Result Ahead LinkFault) (k2 : TheCore) (q : S) → LooksAhead w.takes w.front l k p answer k2 q → k2.monitor ≡ k.monitor
-ahead_monitor w l k p (Ok ahead.Nothing) k2 q h = ap (λ (x : TheCore). x.monitor) h.1
-ahead_monitor w l k p (Ok ahead.Acknowledged) k2 q h = ap (λ (x : TheCore). x.monitor) h.1
-ahead_monitor w l k p (Ok (ahead.Message frag)) k2 q h = ap (λ (x : TheCore). x.monitor) h.1
-ahead_monitor w l k p (Ok (ahead.Onward frag side c)) k2 q h = ap (λ (x : TheCore). x.monitor) h.1
-ahead_monitor w l k p (Ok (ahead.Arrival frag e)) k2 q h = ap (λ (x : TheCore). x.monitor) h.1
-ahead_monitor w l k p (Err link.Failed) k2 q h = ap (λ (x : TheCore). x.monitor) h.1
-ahead_monitor w l k p (Err link.Astray) k2 q h = ap (λ (x : TheCore). x.monitor) h.1
-ahead_monitor w l k p (Err link.Marked) k2 q h = ap (λ (x : TheCore). x.monitor) h.1
-ahead_monitor w l k p (Err (link.Wire f)) k2 q h = absurd h
-ahead_monitor w l k p (Err link.Memory) k2 q h = absurd h
-
-pub arrives_monitor : {S : Type 0} (w : Ways S) (l : ℕ) (frag : Frag) (e : EndId) (k : TheCore) (p : S) (answer : Result Outcome LinkFault) (k2 : TheCore) (q : S)
-    → ArrivesAt w.takes l frag e k p answer k2 q → k2.monitor ≡ k.monitor
-arrives_monitor w l frag e k p (Ok result) k2 q h = ap (λ (x : TheCore). x.monitor) h.rest
-arrives_monitor w l frag e k p (Err link.Astray) k2 q h = ap (λ (x : TheCore). x.monitor) h.1
-arrives_monitor w l frag e k p (Err link.Failed) k2 q h = absurd h
-arrives_monitor w l frag e k p (Err link.Marked) k2 q h = absurd h
-arrives_monitor w l frag e k p (Err (link.Wire f)) k2 q h = absurd h
-arrives_monitor w l frag e k p (Err link.Memory) k2 q h = absurd h
 
 module _ (k k2 : TheCore) where
   abbrev Stays : Type 0
@@ -186,7 +163,7 @@ module _ (k k2 : TheCore) where
 
   asks_laid : (a : Asked) (answer : Result ℕ OpenFault) → Asks a k answer k2 → Stays
   asks_laid a (Ok e) h =
-      subst (Laid k.monitor.circuits) (sym h.opens.3) (record { core = refl; links = λ i. opening_beside k.monitor.circuits.links a.link.0 i })
+      subst (Laid k.monitor.circuits) (sym h.opens.3) (opened_laid k.monitor.circuits a.link h.circuit a.opening.binding)
   asks_laid a (Err (opening.Board fault)) h = core_alike h.1
   asks_laid a (Err (opening.Monitor fault)) h = core_alike h.2
 

@@ -1,8 +1,7 @@
 -- An end that is made in a log was asked for: by what was heard, or by a job.
-use Rattle.std.proofs.Common.{◌≡◌, ◌≢◌, ◌⊎◌, inl, inr, refl, sym, ap, ◌∙◌, subst, ℕ, ◌<◌, ◌==◌, ◌&&◌, nat_lt, not, is_some, if◌then◌else◌, List, [], ◌∷◌, ◌++◌, length, slice_get, slice_set}
-use Rattle.std.proofs.Common.{Option, Some, None, Bool, true, false, Result, Ok, Err, arith}
+use Rattle.std.proofs.Common.{◌≡◌, ◌⊎◌, inl, inr, refl, sym, ap, ◌∙◌, subst, ℕ, ◌<◌, ◌==◌, ◌&&◌, nat_lt, not, is_some, if◌then◌else◌, List, [], ◌∷◌, ◌++◌, length, slice_get, slice_set}
+use Rattle.std.proofs.Common.{Option, Some, None, Bool, true, false, Result, Ok, Err}
 use Rattle.std.proofs.lemmas.Bool.{ltb-true}
-use Rattle.std.proofs.lemmas.List.{length-set}
 use Rattle.fl_base.specs.declared.fragment.Frag.{Frag}
 use Rattle.fl_base.specs.declared.identity.EndId.{EndId}
 use Rattle.fl_base.specs.declared.identity.LinkId.{LinkId}
@@ -17,10 +16,8 @@ use Rattle.fl_hop.specs.declared.forward.Outcome.TheVariants.{Moved, Full, Spent
 use Rattle.fl_hop.specs.OfCircuit.{as_carried, of_circuit}
 use Rattle.fl_hop.specs.Stretch.{Step, heard as hop_heard, taken_from}
 use Rattle.fl_hop.proofs.Laws.{is_eq}
-use Rattle.fl_core.proofs.Places.{one_stands, push_last}
-use Rattle.fl_core.specs.View.{TheSeat, TheBoard}
-use Rattle.fl_core.specs.Events.{Adds}
-use Rattle.fl_core.specs.declared.kind.Kind.{Kind}
+use Rattle.fl_core.proofs.Places.{one_stands}
+use Rattle.fl_core.specs.View.{TheSeat}
 use Rattle.fl_monitor.specs.declared.opening.Opening.{Opening}
 use Rattle.fl_monitor.specs.Fates.{comes_along}
 use Rattle.fl_monitor.specs.Hearing.{ComesTo, opening_of}
@@ -49,8 +46,7 @@ use Rattle.fl_node.specs.declared.fault.OpenFault.TheVariants as opening
 use Rattle.fl_node.specs.declared.wire.Arriving.{Arriving}
 use Rattle.fl_node.specs.declared.wire.Outlet.TheVariants as outlet
 use Rattle.fl_node.specs.declared.wire.Inlet.TheVariants as inlet
-use Rattle.fl_node.proofs.Named.{put_here, put_elsewhere, here_or_not}
-use Rattle.fl_node.proofs.Ported.{placed_below}
+use Rattle.fl_node.proofs.Named.{put_elsewhere, here_or_not}
 use Rattle.fl_node.proofs.Offers.{made_for, made_new, offer_found}
 use Rattle.fl_running.specs.declared.job.Job.{Job}
 use Rattle.fl_running.specs.declared.job.Wish.{Wish}
@@ -65,6 +61,7 @@ use Rattle.fl_running.proofs.Stepping.{log_steps}
 use Rattle.fl_honest.specs.Named.{Has}
 use Rattle.fl_honest.specs.Asked.{IsServedBy, IsOpenedBy}
 use Rattle.fl_honest.proofs.Named.{has_first, has_last}
+use Rattle.fl_honest.proofs.Added.{added_there, sits_last}
 use Rattle.fl_honest.proofs.Logged.{heard_joins, eq_true}
 use Rattle.fl_honest.proofs.Zero.{carried_zero, says_zero}
 use Rattle.fl_honest.proofs.Asked.{asks_of, came_along, came_more}
@@ -145,19 +142,8 @@ module _ (name : EndId) (k : TheCore) (absent : place_of k name ≡ None) where
   module _ (core : IsCore k) where
     module _ (How : TheEnd → Type 0) (k2 : TheCore) (place : ℕ) (new : EndId) (x : TheEnd) (has : HasEnd k2.board place x) (how : name ≡ new → How x) (last : place ≡ length k.board.seats)
         (few : new.binding < 1024) (places : k2.places ≡ slice_set k.places (slot_of new) (Some place)) where
-      only : (n : EndId) → place_in (slice_set k.places (slot_of new) (Some place)) n ≡ Some place → (n ≡ new) ⊎ (slot_of n ≢ slot_of new) → n ≡ new
-      only n is (inl same) = same
-      only n is (inr other) =
-          let before : place_of k n ≡ Some place = sym (put_elsewhere k.places new n (Some place) other) ∙ is in
-          let below = placed_below k n place core before in
-          absurd (omega (arith, below, last))
-
       sits : name ≡ new → Sits k2.places name place
-      sits same = record {
-        long = ap length places ∙ length-set k.places (slot_of new) (Some place) ∙ core.slots;
-        here = ap (λ (xs : List (Option ℕ)). place_in xs name) places ∙ ap (λ (n : EndId). place_in (slice_set k.places (slot_of new) (Some place)) n) same ∙ put_here k.places new (Some place) core.slots few;
-        only = λ n is. only n (ap (λ (xs : List (Option ℕ)). place_in xs n) (sym places) ∙ is) (here_or_not n new) ∙ sym same;
-      }
+      sits same = subst (λ (n : EndId). Sits k2.places n place) (sym same) (sits_last k core place new last few k2.places places)
 
       -- at the last place: this one, or another
       one_made : (place_of k2 name ≡ None) ⊎ MadeBy name How k2
@@ -170,15 +156,6 @@ module _ (name : EndId) (k : TheCore) (absent : place_of k name ≡ None) where
         })
         | inr other ↦ inl (ap (λ (xs : List (Option ℕ)). place_in xs name) places ∙ put_elsewhere k.places new name (Some place) other ∙ absent)
       ]
-
-    added_there : (b c : TheBoard) (n place : ℕ) (x : TheEnd) (kind : Kind) → Adds b n x kind (Ok place) c → HasEnd c place x
-    added_there b c n place x kind h =
-        let seat : TheSeat = record { end = x; dispatcher = n; channel = length h.1.0.ends; kind = kind } in
-        record {
-          seat = seat;
-          seat_is = ap (λ (d : TheBoard). slice_get d.seats place) h.1.3 ∙ ap (λ (j : ℕ). slice_get (b.seats ++ seat ∷ []) j) h.0 ∙ push_last b.seats seat;
-          end_is = refl;
-        }
 
     -- ---- by a message
 
@@ -289,7 +266,7 @@ module _ {S : Type 0} (w : Ways S) (jobs : List Job) (name : EndId) where
         → IsCopyOf s.offers.programs wish.interface program → Asks (asked wish.dispatcher program wish.link wish.opening) s.core answer m.core → ComesBy s m [] (opened n wish answer ∷ [])
     opens_come n wish (Ok place) program by few copy h =
         let j = job_there jobs s n wish by.0 in
-        one_made name s.core absent core _ m.core place (client_of wish.opening.binding) _ (added_there name s.core absent core s.core.board m.core.board wish.dispatcher place _ _ h.adds)
+        one_made name s.core absent core _ m.core place (client_of wish.opening.binding) _ (added_there s.core.board m.core.board wish.dispatcher place _ _ h.adds)
         (λ same. inr (record {
           opener = n;
           desk = j.desk;

@@ -1,5 +1,5 @@
 -- Over all cores: what is asked for is what jobs wish for, core by core back along the route.
-use Rattle.std.proofs.Common.{◌≡◌, ◌⊎◌, inl, inr, refl, sym, ap, ◌∙◌, subst, ℕ, zero, suc, ◌-◌, ◌<◌, ◌≤◌, nat_lt, ◌&&◌, not, if◌then◌else◌, Bool, true, false, List, slice_get}
+use Rattle.std.proofs.Common.{◌≡◌, ◌⊎◌, inl, inr, refl, sym, ap, ◌∙◌, ℕ, zero, suc, ◌-◌, ◌<◌, ◌≤◌, nat_lt, ◌&&◌, not, if◌then◌else◌, Bool, true, false, List, slice_get}
 use Rattle.std.proofs.Common.{Option, Some, None, position, arith}
 use Rattle.std.proofs.lemmas.Bool.{cases_lt, ltb-true}
 use Rattle.std.proofs.lemmas.List.Quantifiers.{position-Some}
@@ -9,7 +9,6 @@ use Rattle.fl_base.specs.declared.identity.CoreId.{CoreId}
 use Rattle.fl_base.specs.declared.identity.EndId.{EndId}
 use Rattle.fl_base.specs.declared.identity.LinkId.{LinkId}
 use Rattle.fl_base.specs.declared.identity.Side.TheVariants.{Client, Server}
-use Rattle.fl_base.specs.Prefix.{IsPrefix}
 use Rattle.fl_deal.specs.Settled.{RingsConserve}
 use Rattle.fl_hop.specs.declared.links.LinkState.{LinkState}
 use Rattle.fl_nameserv.specs.Registrations.{by_iref}
@@ -27,11 +26,9 @@ use Rattle.fl_node.specs.View.{TheCore, side_of_link, client_of, server_of}
 use Rattle.fl_running.specs.declared.job.Job.{Job}
 use Rattle.fl_honest.specs.Cores.{OneCore}
 use Rattle.fl_honest.specs.Circuits.{AreOneLink}
-use Rattle.fl_honest.specs.Crossing.{Crosses}
 use Rattle.fl_honest.specs.Named.{Has}
 use Rattle.fl_honest.specs.Asked.{AsksBy, IsWished, CameAlong, IsServedBy, IsOpenedBy, GoesAsking, CoresAsk, AreBeside, GoesWished, WishesAlone, IsServer, ServersAreWished, ClientsAreWished}
-use Rattle.fl_honest.proofs.Named.{has_first}
-use Rattle.fl_honest.proofs.Passages.{through_rings}
+use Rattle.fl_honest.proofs.OverLinks.{both_ways, has_before}
 use Rattle.fl_honest.proofs.Routes.{CircuitsPrefix}
 
 -- ---- places on a route
@@ -94,7 +91,7 @@ module _ (t : TheCircuits) (l : ℕ) (path : List CoreId) where
   stands_behind h = by_link (slice_get t.links l) refl h
 
 -- a link of the table has a side
-side_there : (k : TheCore) → IsCore k → (l : ℕ) (state : LinkState) → slice_get k.monitor.circuits.links l ≡ Some state → (side : ℕ) × (side_of_link k.lanes l ≡ Some side)
+pub side_there : (k : TheCore) → IsCore k → (l : ℕ) (state : LinkState) → slice_get k.monitor.circuits.links l ≡ Some state → (side : ℕ) × (side_of_link k.lanes l ≡ Some side)
 side_there k core l state at =
     let inside = within k.monitor.circuits.links l state at in
     let (lane, there) = at_within k.lanes l (omega (arith, inside, core.lanes)) in
@@ -102,25 +99,11 @@ side_there k core l state at =
 
 -- ---- over one link
 
-has_before : (f : Frag) (xs ys : List Frag) → IsPrefix xs ys → Has f xs → Has f ys
-has_before f xs ys p h = subst (Has f) (sym p.1) (has_first f xs p.0 h)
-
 module _ (rings : RingsConserve) (jobs : List Job) (c d : OneCore) (x : GoesAsking jobs c) (y : GoesAsking jobs d) (l m : LinkId) where
-  -- what the one core took there is the first of what the other put
-  crossed : (near far : ℕ) → side_of_link c.start.core.lanes l.0 ≡ Some near → side_of_link d.start.core.lanes m.0 ≡ Some far
-      → Crosses c.start.rings c.finish.rings d.start.rings d.finish.rings near far ⊎ Crosses d.start.rings d.finish.rings c.start.rings c.finish.rings far near
-      → IsPrefix (taken_from m.0 y.steps) (put_on l.0 x.steps)
-  crossed near far here there (inl ring) =
-      (through_rings rings c.start.rings c.finish.rings d.start.rings d.finish.rings near far ring (put_on l.0 x.steps) (taken_from l.0 x.steps) (put_on m.0 y.steps) (taken_from m.0 y.steps)
-      (x.links l.0 near ring.one here ring.one_is) (y.links m.0 far ring.two there ring.two_is)).0
-  crossed near far here there (inr ring) =
-      (through_rings rings d.start.rings d.finish.rings c.start.rings c.finish.rings far near ring (put_on m.0 y.steps) (taken_from m.0 y.steps) (put_on l.0 x.steps) (taken_from l.0 x.steps)
-      (y.links m.0 far ring.one there ring.one_is) (x.links l.0 near ring.two here ring.two_is)).1
-
   heard_was_said : CircuitsPrefix → AreOneLink c l d m → (f : Frag) → Has f (of_circuit 0 (taken_from m.0 y.steps)) → Has f (of_circuit 0 (put_on l.0 x.steps))
   heard_was_said prefix link f h =
       has_before f (of_circuit 0 (taken_from m.0 y.steps)) (of_circuit 0 (put_on l.0 x.steps))
-      (prefix 0 (taken_from m.0 y.steps) (put_on l.0 x.steps) (crossed link.near link.far link.near_is link.far_is link.ring)) h
+      (prefix 0 (taken_from m.0 y.steps) (put_on l.0 x.steps) (both_ways rings c d x.steps y.steps x.links y.links l m link).0) h
 
 -- ---- over all cores
 

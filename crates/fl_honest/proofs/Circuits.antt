@@ -31,7 +31,7 @@ use Rattle.fl_honest.proofs.Routes.{CircuitsPrefix, out_of, into, along_route}
 one_of : (a b : TheSeat) → Some a ≡ Some b → a ≡ b
 one_of a b same = cc
 
-same_seat : (seats : List TheSeat) (n : ℕ) (a b : TheSeat) → slice_get seats n ≡ Some a → slice_get seats n ≡ Some b → a ≡ b
+pub same_seat : (seats : List TheSeat) (n : ℕ) (a b : TheSeat) → slice_get seats n ≡ Some a → slice_get seats n ≡ Some b → a ≡ b
 same_seat seats n a b is is2 = one_of a b (sym is ∙ is2)
 
 abbrev no_number : Option ℕ
@@ -42,23 +42,23 @@ none_set zero = refl
 none_set (suc n) = none_set n
 
 module _ (l : Passing) (b : Below) (prefix : CircuitsPrefix) (jobs : List CoreJob) where
-  abbrev flows : (p : Point) → Leading jobs p.core → Flows shared_ways p.core.start p.core.finish p.core.log
+  abbrev pub flows : (p : Point) → Leading jobs p.core → Flows shared_ways p.core.start p.core.finish p.core.log
   flows p v = l.flow jobs p.core.start p.core.finish p.core.log v.went.core v.went.apart v.went.goes
 
   -- ---- an end
 
   module _ (d : TheDocket) (e : EndId) (p : Point) (v : Leading jobs p.core) (s : StandsBound jobs d e p) where
-    abbrev made : MadeCarries e p.core.log ((flows p v).put e) ((flows p v).took e) p.core.finish.core.board.seats s.place
+    abbrev pub made : MadeCarries e p.core.log ((flows p v).put e) ((flows p v).took e) p.core.finish.core.board.seats s.place
     made = (flows p v).made e s.place s.absent s.place_is
 
-    abbrev end : TheEnd
+    abbrev pub end : TheEnd
     end = made.carries.after.end
 
-    end_is : made.carries.after ≡ s.seat
+    pub end_is : made.carries.after ≡ s.seat
     end_is = same_seat p.core.finish.core.board.seats s.place made.carries.after s.seat made.carries.after_is s.seat_is
 
     -- what it took came to it by its number, and what it put went out under that
-    took_first : IsPrefix ((flows p v).took e) (of_circuit p.number.0 (into l.flow l.rings prefix jobs p.core v.went p.link))
+    pub took_first : IsPrefix ((flows p v).took e) (of_circuit p.number.0 (into l.flow l.rings prefix jobs p.core v.went p.link))
     took_first =
         let f = flows p v in
         let came = f.circuits_made e s.place s.arrivals p.link s.port s.absent s.place_is s.port_is s.wire_is in
@@ -87,7 +87,7 @@ module _ (l : Passing) (b : Below) (prefix : CircuitsPrefix) (jobs : List CoreJo
           (l.rules_first jobs p.core.start p.core.finish p.core.log e v.went.goes).1
           (subst (λ (places : List ℕ). HasNoRule jobs places) (sym (all_left d p.core.start e h)) (s.none is))
 
-      ran : EndRan d p.core e ((flows p v).put e) ((flows p v).took e) end
+      pub ran : EndRan d p.core e ((flows p v).put e) ((flows p v).took e) end
       ran = record {
         had = made.began.rules;
         since = since_new (traffic e made.began.rules p.core.log ((flows p v).put e) ((flows p v).took e)) made.began end made.new.outgoing made.new.parts made.carries.goes

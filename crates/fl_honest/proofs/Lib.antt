@@ -3,6 +3,7 @@ mod Desks
 mod Docketed
 mod Parties
 mod Passages
+mod OverLinks
 mod Starts
 mod OffLinks
 mod Routes
@@ -13,6 +14,7 @@ mod Named
 mod Zero
 mod Logged
 mod Refused
+mod LoggedNames
 mod LoggedRefusals
 mod Neighbours
 mod Back
@@ -26,7 +28,6 @@ mod Opened
 mod WholeFew
 mod WholeTrails
 mod WholeEnds
-mod WholeDesks
 mod WholeOpened
 mod WholeHome
 mod Asked
@@ -37,3 +38,10 @@ mod AskedMade
 mod AskedCores
 mod AskedRoutes
 mod AskedEnds
+mod Added
+mod Trails
+mod Wired
+mod Forth
+mod Standing
+mod Lone
+mod Runs

@@ -1,5 +1,5 @@
--- Over a log a core's numbers stay named by their bindings.
-use Rattle.std.proofs.Common.{◌≡◌, inl, inr, refl, sym, ap, ◌∙◌, subst, ℕ, ◌==◌, take, drop, if◌then◌else◌, Bool, true, false, List, [], ◌∷◌, ◌++◌, slice_get}
+-- What a core's monitor says and hears over a log: one walk for every predicate of that.
+use Rattle.std.proofs.Common.{◌≡◌, ◌⊎◌, inl, inr, refl, sym, ap, ◌∙◌, subst, ℕ, ◌==◌, take, drop, if◌then◌else◌, Bool, true, false, List, [], ◌∷◌, ◌++◌, slice_get}
 use Rattle.std.proofs.Common.{Option, Some, None, Result, Ok, Err, suc, ◌+◌, arith}
 use Rattle.std.proofs.lemmas.Bool.Decides.{nat_tests}
 use Rattle.std.proofs.lemmas.List.{append_assoc}
@@ -9,26 +9,25 @@ use Rattle.fl_base.specs.declared.identity.LinkId.{LinkId}
 use Rattle.fl_base.specs.declared.identity.Circuit.{Circuit}
 use Rattle.fl_base.specs.Control.{circuit_of, bare}
 use Rattle.fl_wire.specs.declared.fault.WireFault.TheVariants as wire
-use Rattle.fl_hop.specs.declared.entry.Way.TheVariants.{Link, End}
+use Rattle.fl_hop.specs.declared.entry.Way.TheVariants.{End}
 use Rattle.fl_hop.specs.declared.forward.Outcome.{Outcome}
 use Rattle.fl_hop.specs.declared.forward.Outcome.TheVariants.{Moved, Full, Spent}
 use Rattle.fl_hop.specs.Joined.{Sound}
 use Rattle.fl_hop.specs.Later.{Later}
-use Rattle.fl_hop.specs.Numbers.{OpenedThere}
 use Rattle.fl_hop.specs.OfCircuit.{as_carried, of_circuit}
 use Rattle.fl_hop.specs.Openings.{opened as opened_table}
 use Rattle.fl_hop.specs.Stretch.{Step, passed as hop_passed, wrote as hop_wrote, said as hop_said, heard as hop_heard, goes_through, put_by, taken_by, put_on, taken_from}
 use Rattle.fl_hop.specs.Table.{TheCircuits}
-use Rattle.fl_hop.specs.Numbers.{after_opening}
-use Rattle.fl_hop.proofs.Counting.{next_is, never_next}
+use Rattle.fl_hop.specs.Numbers.{next_own}
 use Rattle.fl_hop.proofs.Laws.{is_eq, of_join}
 use Rattle.fl_endpoint.specs.Laws.{OnAnotherCircuit}
 use Rattle.fl_monitor.specs.declared.heard.Heard.{Heard}
 use Rattle.fl_monitor.specs.declared.heard.Heard.TheVariants as outcome
 use Rattle.fl_monitor.specs.declared.message.Message.{Message}
-use Rattle.fl_monitor.specs.declared.message.Message.TheVariants.{OpenCircuit}
-use Rattle.fl_monitor.specs.Hearing.{says}
-use Rattle.fl_monitor.specs.Monitors.{TheMonitor, AllSaid, waiting_for, without_first}
+use Rattle.fl_monitor.specs.declared.opening.Opening.{Opening}
+use Rattle.fl_monitor.specs.Fates.{Known}
+use Rattle.fl_monitor.specs.Hearing.{ComesTo, says, table_after}
+use Rattle.fl_monitor.specs.Monitors.{TheMonitor, Said, AllSaid, waiting_for, without_first, asks as asking}
 use Rattle.fl_monitor.specs.Saying.{Says}
 use Rattle.fl_monitor.proofs.Single.{says_the_same}
 use Rattle.fl_node.specs.declared.answer.Ahead.{Ahead}
@@ -44,7 +43,7 @@ use Rattle.fl_node.specs.declared.fault.OpenFault.TheVariants as opening
 use Rattle.fl_node.specs.declared.wire.Arriving.{Arriving}
 use Rattle.fl_node.specs.declared.wire.Outlet.TheVariants as outlet
 use Rattle.fl_node.specs.declared.wire.Inlet.TheVariants as inlet
-use Rattle.fl_node.specs.View.{TheCore, client_of, arriving_at, with_monitor}
+use Rattle.fl_node.specs.View.{TheCore, arriving_at, with_monitor}
 use Rattle.fl_node.specs.Sound.{IsCore}
 use Rattle.fl_node.specs.Links.{LooksAhead, ArrivesAt}
 use Rattle.fl_node.specs.Making.{Asked, Asks}
@@ -61,10 +60,10 @@ use Rattle.fl_running.proofs.Leads.{does_led, does_later}
 use Rattle.fl_running.proofs.Looking.{if_arrived}
 use Rattle.fl_running.proofs.Stepping.{log_steps}
 use Rattle.fl_running.proofs.Wending.{event_went}
-use Rattle.fl_honest.specs.Named.{Has, IsGivenFor, AreNamed}
-use Rattle.fl_honest.proofs.Bound.{entry_binding, given_there}
-use Rattle.fl_honest.proofs.Counted.{taken_still, opened_new}
-use Rattle.fl_honest.proofs.Named.{has_split, has_first, has_last, waits, named_rests, asked_then, told_still, opening_parts, hears_named}
+use Rattle.fl_honest.specs.Named.{Has}
+use Rattle.fl_honest.specs.Asked.{IsWished}
+use Rattle.fl_honest.proofs.AskedDesks.{job_there}
+use Rattle.fl_honest.proofs.Named.{has_split, has_first, has_last, waits}
 use Rattle.fl_honest.proofs.Zero.{said_on, zero_said, carried_zero, says_zero}
 
 -- ---- what lists of steps say
@@ -129,6 +128,47 @@ follows_monitor o l msg (outcome.OpeningWentOn binding n c) k m answer k2 f = ap
 follows_monitor o l msg (outcome.OpeningFailed binding reason) k m answer k2 f = ap (λ (x : TheCore). x.monitor) f.1
 follows_monitor o l msg (outcome.AnswerWentOn binding n c) k m answer k2 f = ap (λ (x : TheCore). x.monitor) f.1
 
+pub ahead_monitor : {S : Type 0} (w : Ways S) (l : ℕ) (k : TheCore) (p : S) (answer : Result Ahead LinkFault) (k2 : TheCore) (q : S) → LooksAhead w.takes w.front l k p answer k2 q → k2.monitor ≡ k.monitor
+ahead_monitor w l k p (Ok ahead.Nothing) k2 q h = ap (λ (x : TheCore). x.monitor) h.1
+ahead_monitor w l k p (Ok ahead.Acknowledged) k2 q h = ap (λ (x : TheCore). x.monitor) h.1
+ahead_monitor w l k p (Ok (ahead.Message frag)) k2 q h = ap (λ (x : TheCore). x.monitor) h.1
+ahead_monitor w l k p (Ok (ahead.Onward frag side c)) k2 q h = ap (λ (x : TheCore). x.monitor) h.1
+ahead_monitor w l k p (Ok (ahead.Arrival frag e)) k2 q h = ap (λ (x : TheCore). x.monitor) h.1
+ahead_monitor w l k p (Err link.Failed) k2 q h = ap (λ (x : TheCore). x.monitor) h.1
+ahead_monitor w l k p (Err link.Astray) k2 q h = ap (λ (x : TheCore). x.monitor) h.1
+ahead_monitor w l k p (Err link.Marked) k2 q h = ap (λ (x : TheCore). x.monitor) h.1
+ahead_monitor w l k p (Err (link.Wire f)) k2 q h = absurd h
+ahead_monitor w l k p (Err link.Memory) k2 q h = absurd h
+
+pub arrives_monitor : {S : Type 0} (w : Ways S) (l : ℕ) (frag : Frag) (e : EndId) (k : TheCore) (p : S) (answer : Result Outcome LinkFault) (k2 : TheCore) (q : S)
+    → ArrivesAt w.takes l frag e k p answer k2 q → k2.monitor ≡ k.monitor
+arrives_monitor w l frag e k p (Ok result) k2 q h = ap (λ (x : TheCore). x.monitor) h.rest
+arrives_monitor w l frag e k p (Err link.Astray) k2 q h = ap (λ (x : TheCore). x.monitor) h.1
+arrives_monitor w l frag e k p (Err link.Failed) k2 q h = absurd h
+arrives_monitor w l frag e k p (Err link.Marked) k2 q h = absurd h
+arrives_monitor w l frag e k p (Err (link.Wire f)) k2 q h = absurd h
+arrives_monitor w l frag e k p (Err link.Memory) k2 q h = absurd h
+
+-- ---- a predicate of what a monitor said and heard, by link, and of the monitor
+
+-- what keeps it, whatever the monitor says and hears
+pub record IsKept (R : (ℕ → List Frag) → (ℕ → List Frag) → TheMonitor → Type 0) (jobs : List Job) : Type 0 where
+  -- where less was said, or more was heard
+  pub wider : (said said2 heard heard2 : ℕ → List Frag) (m : TheMonitor) → ((l : ℕ) (f : Frag) → Has f (said2 l) → Has f (said l))
+      → ((l : ℕ) (f : Frag) → Has f (heard l) → Has f (heard2 l)) → R said heard m → R said2 heard2 m
+  -- where nothing new is said, and the table is as it was
+  pub rests : (said heard said2 : ℕ → List Frag) (m m2 : TheMonitor) → Sound m2.circuits → Later m.circuits m2.circuits → m2.circuits ≡ m.circuits
+      → ((l : ℕ) (f : Frag) → Has f (said2 l) ⊎ Has f (waiting_for m2.outboxes l) → (g : Frag) × (bare g ≡ bare f) × (Has g (said l) ⊎ Has g (waiting_for m.outboxes l)))
+      → R said heard m → R said2 heard m2
+  -- a message is heard
+  pub hears : (said heard heard2 : ℕ → List Frag) (m m2 : TheMonitor) → Sound m.circuits → Sound m2.circuits → Later m.circuits m2.circuits → R said heard m
+      → ((l : ℕ) (f : Frag) → Has f (heard l) → Has f (heard2 l)) → (l : LinkId) (kn : Known) (frag : Frag) (msg : Message) (h : Heard) → Has frag (heard2 l.0) → Says frag msg
+      → ComesTo kn m.circuits l msg h → m2.circuits ≡ table_after m.circuits l msg h → AllSaid (says l msg h) m.outboxes m2.outboxes → R said heard2 m2
+  -- a circuit is asked for, for which a job wishes
+  pub asks : (said heard : ℕ → List Frag) (m m2 : TheMonitor) → Sound m.circuits → Sound m2.circuits → Later m.circuits m2.circuits → R said heard m
+      → (l : LinkId) (c : Circuit) (o : Opening) → IsWished jobs o → next_own m.circuits l.0 ≡ Some c.0 → m2.circuits ≡ opened_table m.circuits l c o.binding
+      → Said (record { link = l; message = asking c o }) m.outboxes m2.outboxes → R said heard m2
+
 -- ---- one event
 
 -- with what a list of steps put and took on circuit 0
@@ -138,10 +178,10 @@ then_said so steps l = so l ++ of_circuit 0 (put_on l steps)
 abbrev pub then_heard : (ℕ → List Frag) → List Step → ℕ → List Frag
 then_heard so steps l = so l ++ of_circuit 0 (taken_from l steps)
 
-module _ (said_so heard_so : ℕ → List Frag) (k k2 : TheCore) (sound : Sound k.monitor.circuits) (sound2 : Sound k2.monitor.circuits) (later : Later k.monitor.circuits k2.monitor.circuits)
-    (named : AreNamed said_so heard_so k.monitor) (steps : List Step) (went : goes_through k.monitor.circuits steps k2.monitor.circuits) where
+module _ (R : (ℕ → List Frag) → (ℕ → List Frag) → TheMonitor → Type 0) (jobs : List Job) (kept : IsKept R jobs) (said_so heard_so : ℕ → List Frag) (k k2 : TheCore)
+    (sound2 : Sound k2.monitor.circuits) (later : Later k.monitor.circuits k2.monitor.circuits) (steps : List Step) (went : goes_through k.monitor.circuits steps k2.monitor.circuits) where
   abbrev Then : Type 0
-  Then = AreNamed (then_said said_so steps) (then_heard heard_so steps) k2.monitor
+  Then = R (then_said said_so steps) (then_heard heard_so steps) k2.monitor
 
   heard_more : (l : ℕ) (f : Frag) → Has f (heard_so l) → Has f (then_heard heard_so steps l)
   heard_more l f h = has_first f (heard_so l) (of_circuit 0 (taken_from l steps)) h
@@ -152,10 +192,18 @@ module _ (said_so heard_so : ℕ → List Frag) (k k2 : TheCore) (sound : Sound 
     | inr new ↦ (let x = zero_said k.monitor.circuits steps k2.monitor.circuits went l f new in absurd (subst (Has x.frag) (none l) x.has))
   ]
 
+  rests_then : k2.monitor.circuits ≡ k.monitor.circuits
+      → ((l : ℕ) (f : Frag) → Has f (then_said said_so steps l) ⊎ Has f (waiting_for k2.monitor.outboxes l)
+      → (g : Frag) × (bare g ≡ bare f) × (Has g (said_so l) ⊎ Has g (waiting_for k.monitor.outboxes l)))
+      → R said_so heard_so k.monitor → Then
+  rests_then same from n =
+      kept.rests said_so (then_heard heard_so steps) (then_said said_so steps) k.monitor k2.monitor sound2 later same from
+      (kept.wider said_so said_so heard_so (then_heard heard_so steps) k.monitor (λ l f h. h) heard_more n)
+
   -- the monitor is as it was, and said nothing
-  unchanged : k2.monitor ≡ k.monitor → ((l : ℕ) → said_on l steps ≡ []) → Then
+  unchanged : k2.monitor ≡ k.monitor → ((l : ℕ) → said_on l steps ≡ []) → R said_so heard_so k.monitor → Then
   unchanged same none =
-      named_rests said_so heard_so (then_said said_so steps) (then_heard heard_so steps) k.monitor k2.monitor sound2 later named heard_more
+      rests_then (ap (λ (m : TheMonitor). m.circuits) same)
       (λ l f h. (
         f,
         refl,
@@ -164,7 +212,6 @@ module _ (said_so heard_so : ℕ → List Frag) (k k2 : TheCore) (sound : Sound 
           | inr b ↦ inr (subst (λ (m : TheMonitor). Has f (waiting_for m.outboxes l)) same b)
         ],
       ))
-      (λ l n there. subst (λ (m : TheMonitor). OpenedThere m.circuits l n) same there)
 
   -- the monitor put what waited first for a link
   module _ (l : LinkId) (rest : k2.monitor ≡ without_first l.0 k.monitor) (zero : (i : ℕ) (f : Frag) → slice_get (waiting_for k.monitor.outboxes l.0) i ≡ Some f → circuit_of f.control ≡ 0)
@@ -174,9 +221,9 @@ module _ (said_so heard_so : ℕ → List Frag) (k k2 : TheCore) (sound : Sound 
         let (i, at) = has_at g (waiting_for k.monitor.outboxes l.0) h in
         sym (ap bare (sym is) ∙ carried_zero g (zero i g at))
 
-    said_first : Then
+    said_first : R said_so heard_so k.monitor → Then
     said_first =
-        named_rests said_so heard_so (then_said said_so steps) (then_heard heard_so steps) k.monitor k2.monitor sound2 later named heard_more
+        rests_then (ap (λ (m : TheMonitor). m.circuits) rest)
         (λ i f h. elim h [
           | inl a ↦ elim (has_split f (said_so i) (of_circuit 0 (put_on i steps)) a) [
             | inl old ↦ (f, refl, inl old)
@@ -193,19 +240,16 @@ module _ (said_so heard_so : ℕ → List Frag) (k k2 : TheCore) (sound : Sound 
             ]),
           )
         ])
-        (λ i n there. subst (λ (m : TheMonitor). OpenedThere m.circuits i n) rest there)
 
   -- said nothing: what stands in the list of before
-  same_said : ((l : ℕ) → said_on l steps ≡ []) → (named2 : AreNamed said_so (then_heard heard_so steps) k2.monitor) → Then
-  same_said none n = record {
-    asked = λ l f c binding has asks. n.asked l f c binding (elim has [ inl a ↦ inl (said_before none l f a) | inr b ↦ inr b ]) asks;
-    told = n.told;
-  }
+  same_said : ((l : ℕ) → said_on l steps ≡ []) → R said_so (then_heard heard_so steps) k2.monitor → Then
+  same_said none n = kept.wider said_so (then_said said_so steps) (then_heard heard_so steps) (then_heard heard_so steps) k2.monitor (said_before none) (λ l f h. h) n
 
-module _ {S : Type 0} (w : Ways S) (jobs : List Job) (on : OnAnotherCircuit) (said_so heard_so : ℕ → List Frag) (s m : TheRun S) (core : IsCore s.core) (sound : Sound s.core.monitor.circuits)
-    (sound2 : Sound m.core.monitor.circuits) (led : IsLed s.core) (named : AreNamed said_so heard_so s.core.monitor) where
+module _ (R : (ℕ → List Frag) → (ℕ → List Frag) → TheMonitor → Type 0) (jobs : List Job) (kept : IsKept R jobs) {S : Type 0} (w : Ways S) (on : OnAnotherCircuit) (said_so heard_so : ℕ → List Frag)
+    (s m : TheRun S) (core : IsCore s.core) (sound : Sound s.core.monitor.circuits) (sound2 : Sound m.core.monitor.circuits) (led : IsLed s.core)
+    (holds : R said_so heard_so s.core.monitor) where
   abbrev After : (deed : Deed) → InPlace jobs s deed → Does w deed s m → Type 0
-  After deed by h = AreNamed (then_said said_so (event_steps w jobs deed s m by h)) (then_heard heard_so (event_steps w jobs deed s m by h)) m.core.monitor
+  After deed by h = R (then_said said_so (event_steps w jobs deed s m by h)) (then_heard heard_so (event_steps w jobs deed s m by h)) m.core.monitor
 
   module _ (deed : Deed) (by : InPlace jobs s deed) (acts : ActsSoundly deed s) (h : Does w deed s m) where
     onward : Later s.core.monitor.circuits m.core.monitor.circuits
@@ -215,39 +259,17 @@ module _ {S : Type 0} (w : Ways S) (jobs : List Job) (on : OnAnotherCircuit) (sa
     went_by = event_went w jobs on s m core sound led deed by acts h
 
     quiet : m.core.monitor ≡ s.core.monitor → ((l : ℕ) → said_on l (event_steps w jobs deed s m by h) ≡ []) → After deed by h
-    quiet same none = unchanged said_so heard_so s.core m.core sound sound2 onward named (event_steps w jobs deed s m by h) went_by same none
+    quiet same none = unchanged R jobs kept said_so heard_so s.core m.core sound2 onward (event_steps w jobs deed s m by h) went_by same none holds
 
-  none_said : (steps : List Step) → steps ≡ [] → (l : ℕ) → said_on l steps ≡ []
-  none_said steps is l = ap (said_on l) is
-
-  ahead_monitor : (l : ℕ) (p : S) (answer : Result Ahead LinkFault) (q : S) → LooksAhead w.takes w.front l s.core p answer m.core q → m.core.monitor ≡ s.core.monitor
-  ahead_monitor l p (Ok ahead.Nothing) q h = ap (λ (x : TheCore). x.monitor) h.1
-  ahead_monitor l p (Ok ahead.Acknowledged) q h = ap (λ (x : TheCore). x.monitor) h.1
-  ahead_monitor l p (Ok (ahead.Message frag)) q h = ap (λ (x : TheCore). x.monitor) h.1
-  ahead_monitor l p (Ok (ahead.Onward frag side c)) q h = ap (λ (x : TheCore). x.monitor) h.1
-  ahead_monitor l p (Ok (ahead.Arrival frag e)) q h = ap (λ (x : TheCore). x.monitor) h.1
-  ahead_monitor l p (Err link.Failed) q h = ap (λ (x : TheCore). x.monitor) h.1
-  ahead_monitor l p (Err link.Astray) q h = ap (λ (x : TheCore). x.monitor) h.1
-  ahead_monitor l p (Err link.Marked) q h = ap (λ (x : TheCore). x.monitor) h.1
-  ahead_monitor l p (Err (link.Wire f)) q h = absurd h
-  ahead_monitor l p (Err link.Memory) q h = absurd h
-
-  arrives_monitor : (l : ℕ) (frag : Frag) (e : EndId) (p : S) (answer : Result Outcome LinkFault) (q : S) → ArrivesAt w.takes l frag e s.core p answer m.core q → m.core.monitor ≡ s.core.monitor
-  arrives_monitor l frag e p (Ok result) q h = ap (λ (x : TheCore). x.monitor) h.rest
-  arrives_monitor l frag e p (Err link.Astray) q h = ap (λ (x : TheCore). x.monitor) h.1
-  arrives_monitor l frag e p (Err link.Failed) q h = absurd h
-  arrives_monitor l frag e p (Err link.Marked) q h = absurd h
-  arrives_monitor l frag e p (Err (link.Wire f)) q h = absurd h
-  arrives_monitor l frag e p (Err link.Memory) q h = absurd h
+    -- and there are no steps
+    rest_steps : event_steps w jobs deed s m by h ≡ [] → m.core.monitor ≡ s.core.monitor → After deed by h
+    rest_steps none same = quiet same (λ l. ap (said_on l) none)
 
   -- ---- a message
 
   module _ (l : LinkId) (frag : Frag) (msg : Message) (says_it : Says frag msg) where
     abbrev steps_heard : List Step
     steps_heard = steps_of s.core.monitor.circuits (hop_heard l.0) (frag ∷ [])
-
-    carried : Frag
-    carried = as_carried (bare frag)
 
     took_it : Has (as_carried (bare frag)) (of_circuit 0 (taken_from l.0 steps_heard))
     took_it =
@@ -256,21 +278,18 @@ module _ {S : Type 0} (w : Ways S) (jobs : List Job) (on : OnAnotherCircuit) (sa
 
     hears_all : circuit_of frag.control ≡ 0 → (answer : MonitorAnswer) → Later s.core.monitor.circuits m.core.monitor.circuits
         → goes_through s.core.monitor.circuits steps_heard m.core.monitor.circuits → HearsAll s.offers l msg s.core answer m.core
-        → AreNamed (then_said said_so steps_heard) (then_heard heard_so steps_heard) m.core.monitor
+        → R (then_said said_so steps_heard) (then_heard heard_so steps_heard) m.core.monitor
     hears_all zero answer later went h =
         let same = follows_monitor s.offers l msg h.heard s.core h.monitor answer m.core h.follows in
-        let more = heard_more said_so heard_so s.core m.core sound sound2 later named steps_heard went in
+        let more = heard_more R jobs kept said_so heard_so s.core m.core sound2 later steps_heard went in
         let now : Says (as_carried (bare frag)) msg = says_the_same frag (as_carried (bare frag)) msg (carried_zero frag zero) says_it in
-        let new = hears_named said_so heard_so (then_heard heard_so steps_heard) s.core.monitor m.core.monitor sound sound2 later named more l
+        let new = kept.hears said_so heard_so (then_heard heard_so steps_heard) s.core.monitor m.core.monitor sound sound2 later holds more l
         (known_for s.offers s.core msg) (as_carried (bare frag)) msg h.heard
         (has_last (as_carried (bare frag)) (heard_so l.0) (of_circuit 0 (taken_from l.0 steps_heard)) took_it) now h.hears.0
         (ap (λ (x : TheMonitor). x.circuits) same ∙ h.hears.2) (subst (λ (x : TheMonitor). AllSaid (says l msg h.heard) s.core.monitor.outboxes x.outboxes) (sym same) h.hears.3) in
-        same_said said_so heard_so s.core m.core sound sound2 later named steps_heard went (λ i. said_heard s.core.monitor.circuits i l.0 (frag ∷ [])) new
+        same_said R jobs kept said_so heard_so s.core m.core sound2 later steps_heard went (λ i. said_heard s.core.monitor.circuits i l.0 (frag ∷ [])) new
 
   -- ---- each event
-
-  rest_steps : (deed : Deed) (by : InPlace jobs s deed) → ActsSoundly deed s → (h : Does w deed s m) → event_steps w jobs deed s m by h ≡ [] → m.core.monitor ≡ s.core.monitor → After deed by h
-  rest_steps deed by acts h none same = quiet deed by acts h same (none_said (event_steps w jobs deed s m by h) none)
 
   hears : (n : ℕ) (l : LinkId) (frag : Frag) (answer : Result MonitorAnswer LinkFault) (by : InPlace jobs s (heard n l frag answer)) (h : Does w (heard n l frag answer) s m) → After (heard n l frag answer) by h
   hears n l frag (Ok heard_as.Full) by h = rest_steps (heard n l frag (Ok heard_as.Full)) by tt h refl (ap (λ (x : TheCore). x.monitor) h.event.0.2.1)
@@ -295,78 +314,57 @@ module _ {S : Type 0} (w : Ways S) (jobs : List Job) (on : OnAnotherCircuit) (sa
 
   says_first : (n : ℕ) (l : LinkId) (answer : MonitorWrite) (by : InPlace jobs s (said n l answer)) (h : Does w (said n l answer) s m) → After (said n l answer) by h
   says_first n l said_as.Written by h =
-      said_first said_so heard_so s.core m.core sound sound2 (onward (said n l said_as.Written) by tt h) named (event_steps w jobs (said n l said_as.Written) s m by h) (went_by (said n l said_as.Written) by tt h)
-      l (ap (λ (x : TheCore). x.monitor) h.event.4) (led.says l.0)
+      said_first R jobs kept said_so heard_so s.core m.core sound2 (onward (said n l said_as.Written) by tt h) (event_steps w jobs (said n l said_as.Written) s m by h)
+      (went_by (said n l said_as.Written) by tt h) l (ap (λ (x : TheCore). x.monitor) h.event.4) (led.says l.0)
       (λ i f has. (let both = said_said s.core.monitor.circuits i l.0 (l.0 == i) (take 1 (waiting_for s.core.monitor.outboxes l.0)) f refl has in
-      (eq_true l.0 i both.0, has_taken f (waiting_for s.core.monitor.outboxes l.0) both.1)))
+      (eq_true l.0 i both.0, has_taken f (waiting_for s.core.monitor.outboxes l.0) both.1))) holds
   says_first n l said_as.Full by h = rest_steps (said n l said_as.Full) by tt h refl (ap (λ (x : TheCore). x.monitor) h.event.2)
   says_first n l said_as.Spent by h = rest_steps (said n l said_as.Spent) by tt h refl (ap (λ (x : TheCore). x.monitor) h.event.2)
   says_first n l said_as.Nothing by h = rest_steps (said n l said_as.Nothing) by tt h refl (ap (λ (x : TheCore). x.monitor) h.event.1)
 
-  -- ---- a circuit is asked for
+  -- a circuit is asked for
+  asks : (a : Asked) → IsWished jobs a.opening → (answer : Result ℕ OpenFault) → Later s.core.monitor.circuits m.core.monitor.circuits
+      → goes_through s.core.monitor.circuits [] m.core.monitor.circuits → Asks a s.core answer m.core → R (then_said said_so []) (then_heard heard_so []) m.core.monitor
+  asks a wished (Ok e) later went h =
+      let new = kept.asks said_so heard_so s.core.monitor m.core.monitor sound sound2 later holds a.link h.circuit a.opening wished h.opens.2 h.opens.3 h.opens.4 in
+      kept.wider said_so (then_said said_so []) heard_so (then_heard heard_so []) m.core.monitor (said_before R jobs kept said_so heard_so s.core m.core sound2 later [] went (λ i. refl))
+      (heard_more R jobs kept said_so heard_so s.core m.core sound2 later [] went) new
+  asks a wished (Err (opening.Board fault)) later went h =
+      unchanged R jobs kept said_so heard_so s.core m.core sound2 later [] went (ap (λ (x : TheCore). x.monitor) h.1) (λ i. refl) holds
+  asks a wished (Err (opening.Monitor fault)) later went h =
+      unchanged R jobs kept said_so heard_so s.core m.core sound2 later [] went (ap (λ (x : TheCore). x.monitor) h.2) (λ i. refl) holds
 
-  asks : (a : Asked) (answer : Result ℕ OpenFault) → Later s.core.monitor.circuits m.core.monitor.circuits → goes_through s.core.monitor.circuits [] m.core.monitor.circuits
-      → Asks a s.core answer m.core → AreNamed (then_said said_so []) (then_heard heard_so []) m.core.monitor
-  asks a (Ok e) later went h =
-      let t : TheCircuits = s.core.monitor.circuits in
-      let u : TheCircuits = opened_table t a.link h.circuit a.opening.binding in
-      let more = heard_more said_so heard_so s.core m.core sound sound2 later named [] went in
-      let given_now : IsGivenFor u a.link.0 h.circuit.0 a.opening.binding = record {
-        given = opened_new t.core t.links a.link.0 h.circuit.0 (next_is t.core t.links a.link.0 h.circuit.0 h.opens.2);
-        entry = λ hop at. elim (entry_binding (after_opening t a.link.0) a.opening.binding false (End (client_of a.opening.binding)) (Link a.link h.circuit) a.link.0 h.circuit.0 hop at) [
-          | inl own ↦ own
-          | inr stood ↦ absurd (never_next t.core t.links sound.apart a.link.0 h.circuit.0 (next_is t.core t.links a.link.0 h.circuit.0 h.opens.2) (given_there t a.link.0 h.circuit.0 hop sound stood))
-        ];
-      } in
-      same_said said_so heard_so s.core m.core sound sound2 later named [] went (λ i. refl) (record {
-        asked = asked_then said_so heard_so said_so (then_heard heard_so []) s.core.monitor m.core.monitor sound2 later named more a.link
-            (OpenCircuit h.circuit a.opening.binding a.opening.service a.opening.path) h.opens.4 (λ k f g. g)
-            (λ d b x p same. (let (one, two) = opening_parts h.circuit d a.opening.binding b a.opening.service x a.opening.path p same in
-            subst (λ (i : Circuit). IsGivenFor m.core.monitor.circuits a.link.0 i.0 b) one (subst (λ (i : ℕ). IsGivenFor m.core.monitor.circuits a.link.0 h.circuit.0 i) two
-            (subst (λ (v : TheCircuits). IsGivenFor v a.link.0 h.circuit.0 a.opening.binding) (sym h.opens.3) given_now))));
-        told = λ k n hop there at.
-            told_still said_so heard_so said_so (then_heard heard_so []) s.core.monitor m.core.monitor sound2 later named more k n hop there
-            (inr (taken_still t.core t.links a.link.0 k n (slice_get t.links a.link.0) refl (subst (λ (v : TheCircuits). OpenedThere v k n) h.opens.3 there))) at;
-      })
-  asks a (Err (opening.Board fault)) later went h = unchanged said_so heard_so s.core m.core sound sound2 later named [] went (ap (λ (x : TheCore). x.monitor) h.1) (λ i. refl)
-  asks a (Err (opening.Monitor fault)) later went h = unchanged said_so heard_so s.core m.core sound sound2 later named [] went (ap (λ (x : TheCore). x.monitor) h.2) (λ i. refl)
-
-  pub does_named : (deed : Deed) (by : InPlace jobs s deed) → ActsSoundly deed s → (h : Does w deed s m) → After deed by h
-  does_named (looked n l answer) by acts h = rest_steps (looked n l answer) by acts h refl (ahead_monitor l.0 h.before answer h.after h.event)
-  does_named (passed n i frag c Moved) by acts h = quiet (passed n i frag c Moved) by acts h (ap (λ (x : TheCore). x.monitor) (h.2.event.1 ∙ h.1.event.1)) (λ l. refl)
-  does_named (passed n i frag c Full) by acts h = rest_steps (passed n i frag c Full) by acts h refl (ap (λ (x : TheCore). x.monitor) h.event.1)
-  does_named (passed n i frag c Spent) by acts h = rest_steps (passed n i frag c Spent) by acts h refl (ap (λ (x : TheCore). x.monitor) h.event.1)
-  does_named (arrived n l frag e answer) by acts h =
-      quiet (arrived n l frag e answer) by acts h (arrives_monitor l.0 frag e h.before answer h.after h.event) (λ i. said_arrived s.core.monitor.circuits i l.0 e (if_arrived answer frag))
-  does_named (heard n l frag answer) by acts h = hears n l frag answer by h
-  does_named (said n l answer) by acts h = says_first n l answer by h
-  does_named (told n l answer) by acts h = rest_steps (told n l answer) by acts h refl (ap (λ (x : TheCore). x.monitor) h.event.1)
-  does_named (opened name wish answer) by acts h = asks _ answer (onward (opened name wish answer) by acts h) (went_by (opened name wish answer) by acts h) h.event.asks
-  does_named (called name c answer) by acts h = rest_steps (called name c answer) by acts h refl (ap (λ (x : TheCore). x.monitor) h.2.event.rest)
-  does_named (ruled name msg reply answer) by acts h = rest_steps (ruled name msg reply answer) by acts h refl (ap (λ (x : TheCore). x.monitor) h.2.event.rest)
-  does_named (wrote name (outlet.Queue n) answer) by acts h =
+  pub does_keep : (deed : Deed) (by : InPlace jobs s deed) → ActsSoundly deed s → (h : Does w deed s m) → After deed by h
+  does_keep (looked n l answer) by acts h = rest_steps (looked n l answer) by acts h refl (ahead_monitor w l.0 s.core h.before answer m.core h.after h.event)
+  does_keep (passed n i frag c Moved) by acts h = quiet (passed n i frag c Moved) by acts h (ap (λ (x : TheCore). x.monitor) (h.2.event.1 ∙ h.1.event.1)) (λ l. refl)
+  does_keep (passed n i frag c Full) by acts h = rest_steps (passed n i frag c Full) by acts h refl (ap (λ (x : TheCore). x.monitor) h.event.1)
+  does_keep (passed n i frag c Spent) by acts h = rest_steps (passed n i frag c Spent) by acts h refl (ap (λ (x : TheCore). x.monitor) h.event.1)
+  does_keep (arrived n l frag e answer) by acts h =
+      quiet (arrived n l frag e answer) by acts h (arrives_monitor w l.0 frag e s.core h.before answer m.core h.after h.event) (λ i. said_arrived s.core.monitor.circuits i l.0 e (if_arrived answer frag))
+  does_keep (heard n l frag answer) by acts h = hears n l frag answer by h
+  does_keep (said n l answer) by acts h = says_first n l answer by h
+  does_keep (told n l answer) by acts h = rest_steps (told n l answer) by acts h refl (ap (λ (x : TheCore). x.monitor) h.event.1)
+  does_keep (opened name wish answer) by acts h =
+      let j = job_there jobs s name wish by.0 in
+      asks _ (record { place = j.place; wish = wish; job_is = j.job_is; opening_is = refl }) answer (onward (opened name wish answer) by acts h) (went_by (opened name wish answer) by acts h) h.event.asks
+  does_keep (called name c answer) by acts h = rest_steps (called name c answer) by acts h refl (ap (λ (x : TheCore). x.monitor) h.2.event.rest)
+  does_keep (ruled name msg reply answer) by acts h = rest_steps (ruled name msg reply answer) by acts h refl (ap (λ (x : TheCore). x.monitor) h.2.event.rest)
+  does_keep (wrote name (outlet.Queue n) answer) by acts h =
       quiet (wrote name (outlet.Queue n) answer) by acts h (ap (λ (x : TheCore). x.monitor) h.2.event.rest) (λ l. said_by_link s.core.monitor.circuits l (link_at s.core h.0) name (write_put w h.0 (outlet.Queue n) answer s m h.2))
-  does_named (wrote name (outlet.Side n) answer) by acts h =
+  does_keep (wrote name (outlet.Side n) answer) by acts h =
       quiet (wrote name (outlet.Side n) answer) by acts h (ap (λ (x : TheCore). x.monitor) h.2.event.rest) (λ l. said_by_link s.core.monitor.circuits l (link_at s.core h.0) name (write_put w h.0 (outlet.Side n) answer s m h.2))
-  does_named (acked name n answer) by acts h = rest_steps (acked name n answer) by acts h refl (ap (λ (x : TheCore). x.monitor) h.2.event.1)
-  does_named (turned d name (inlet.Queue n) answer) by acts h = rest_steps (turned d name (inlet.Queue n) answer) by acts h refl (ap (λ (x : TheCore). x.monitor) h.3.event.rest)
-  does_named (turned d name (inlet.Side n) answer) by acts h = rest_steps (turned d name (inlet.Side n) answer) by acts h refl (ap (λ (x : TheCore). x.monitor) h.3.event.rest)
-  does_named (turned d name inlet.Arrivals answer) by acts h = rest_steps (turned d name inlet.Arrivals answer) by acts h refl (ap (λ (x : TheCore). x.monitor) h.3.event.rest)
+  does_keep (acked name n answer) by acts h = rest_steps (acked name n answer) by acts h refl (ap (λ (x : TheCore). x.monitor) h.2.event.1)
+  does_keep (turned d name (inlet.Queue n) answer) by acts h = rest_steps (turned d name (inlet.Queue n) answer) by acts h refl (ap (λ (x : TheCore). x.monitor) h.3.event.rest)
+  does_keep (turned d name (inlet.Side n) answer) by acts h = rest_steps (turned d name (inlet.Side n) answer) by acts h refl (ap (λ (x : TheCore). x.monitor) h.3.event.rest)
+  does_keep (turned d name inlet.Arrivals answer) by acts h = rest_steps (turned d name inlet.Arrivals answer) by acts h refl (ap (λ (x : TheCore). x.monitor) h.3.event.rest)
 
 -- ---- a log
 
-wider : (said_so said2 heard_so heard2 : ℕ → List Frag) (m : TheMonitor) → ((l : ℕ) (f : Frag) → Has f (said2 l) → Has f (said_so l)) → ((l : ℕ) (f : Frag) → Has f (heard_so l) → Has f (heard2 l))
-    → AreNamed said_so heard_so m → AreNamed said2 heard2 m
-wider said_so said2 heard_so heard2 m fewer more n = record {
-  asked = λ l f c binding has asks. n.asked l f c binding (elim has [ inl a ↦ inl (fewer l f a) | inr b ↦ inr b ]) asks;
-  told = λ l i hop there at. (let a = n.told l i hop there at in record { frag = a.frag; has = more l a.frag a.has; circuit = a.circuit; number = a.number; asks = a.asks });
-}
-
-put_joins : (l : ℕ) (xs ys : List Step) → put_on l (xs ++ ys) ≡ put_on l xs ++ put_on l ys
+pub put_joins : (l : ℕ) (xs ys : List Step) → put_on l (xs ++ ys) ≡ put_on l xs ++ put_on l ys
 put_joins l [] ys = refl
 put_joins l (x ∷ xs) ys = ap (λ (fs : List Frag). put_by l x.deed ++ fs) (put_joins l xs ys) ∙ sym (append_assoc (put_by l x.deed) (put_on l xs) (put_on l ys))
 
-took_joins : (l : ℕ) (xs ys : List Step) → taken_from l (xs ++ ys) ≡ taken_from l xs ++ taken_from l ys
+pub took_joins : (l : ℕ) (xs ys : List Step) → taken_from l (xs ++ ys) ≡ taken_from l xs ++ taken_from l ys
 took_joins l [] ys = refl
 took_joins l (x ∷ xs) ys = ap (λ (fs : List Frag). taken_by l x.deed ++ fs) (took_joins l xs ys) ∙ sym (append_assoc (taken_by l x.deed) (taken_from l xs) (taken_from l ys))
 
@@ -380,18 +378,19 @@ heard_joins so xs ys l =
     ap (λ (fs : List Frag). so l ++ of_circuit 0 fs) (took_joins l xs ys) ∙ ap (λ (fs : List Frag). so l ++ fs) (of_join 0 (taken_from l xs) (taken_from l ys))
     ∙ sym (append_assoc (so l) (of_circuit 0 (taken_from l xs)) (of_circuit 0 (taken_from l ys)))
 
-module _ {S : Type 0} (w : Ways S) (jobs : List Job) (on : OnAnotherCircuit) where
+module _ (R : (ℕ → List Frag) → (ℕ → List Frag) → TheMonitor → Type 0) (jobs : List Job) (kept : IsKept R jobs) {S : Type 0} (w : Ways S) (on : OnAnotherCircuit) where
   sound_first : (log : List Deed) (s t : TheRun S) → Goes w jobs s log t → Sound t.core.monitor.circuits → Sound s.core.monitor.circuits
   sound_first [] s t h sound = subst (λ (x : TheRun S). Sound x.core.monitor.circuits) h sound
   sound_first (deed ∷ log) s t h sound = h.1.3.table
 
-  pub log_named : (log : List Deed) (s t : TheRun S) (h : Goes w jobs s log t) (said_so heard_so : ℕ → List Frag) → IsLed s.core → Sound t.core.monitor.circuits → AreNamed said_so heard_so s.core.monitor
-      → AreNamed (then_said said_so (log_steps w jobs log s t h)) (then_heard heard_so (log_steps w jobs log s t h)) t.core.monitor
-  log_named [] s t h said_so heard_so led sound n =
-      wider said_so (then_said said_so []) heard_so (then_heard heard_so []) t.core.monitor
+  -- over a whole log it is kept
+  pub log_keeps : (log : List Deed) (s t : TheRun S) (h : Goes w jobs s log t) (said_so heard_so : ℕ → List Frag) → IsLed s.core → Sound t.core.monitor.circuits → R said_so heard_so s.core.monitor
+      → R (then_said said_so (log_steps w jobs log s t h)) (then_heard heard_so (log_steps w jobs log s t h)) t.core.monitor
+  log_keeps [] s t h said_so heard_so led sound n =
+      kept.wider said_so (then_said said_so []) heard_so (then_heard heard_so []) t.core.monitor
       (λ l f has. elim (has_split f (said_so l) [] has) [ inl a ↦ a | inr b ↦ absurd b ])
-      (λ l f has. has_first f (heard_so l) [] has) (subst (λ (x : TheRun S). AreNamed said_so heard_so x.core.monitor) (sym h) n)
-  log_named (deed ∷ log) s t h said_so heard_so led sound n =
+      (λ l f has. has_first f (heard_so l) [] has) (subst (λ (x : TheRun S). R said_so heard_so x.core.monitor) (sym h) n)
+  log_keeps (deed ∷ log) s t h said_so heard_so led sound n =
       let m = h.1.0 in
       let u = h.0 in
       let aside : u.core ≡ m.core = core_aside m u deed h.1.2 in
@@ -399,9 +398,9 @@ module _ {S : Type 0} (w : Ways S) (jobs : List Job) (on : OnAnotherCircuit) whe
       let rest = log_steps w jobs log u t h.3 in
       let sound_u = sound_first log u t h.3 sound in
       let sound_m : Sound m.core.monitor.circuits = subst (λ (k : TheCore). Sound k.monitor.circuits) aside sound_u in
-      let one = does_named w jobs on said_so heard_so s m h.1.3.core h.1.3.table sound_m led n deed h.2 h.1.4 h.1.1 in
-      let now : AreNamed (then_said said_so first) (then_heard heard_so first) u.core.monitor = subst (λ (k : TheCore). AreNamed (then_said said_so first) (then_heard heard_so first) k.monitor) (sym aside) one in
+      let one = does_keep R jobs kept w on said_so heard_so s m h.1.3.core h.1.3.table sound_m led n deed h.2 h.1.4 h.1.1 in
+      let now : R (then_said said_so first) (then_heard heard_so first) u.core.monitor = subst (λ (k : TheCore). R (then_said said_so first) (then_heard heard_so first) k.monitor) (sym aside) one in
       let led_u : IsLed u.core = subst IsLed (sym aside) (does_led w jobs s m h.1.3.core h.1.3.table led deed h.2 h.1.1) in
-      let all = log_named log u t h.3 (then_said said_so first) (then_heard heard_so first) led_u sound now in
-      wider (then_said (then_said said_so first) rest) (then_said said_so (first ++ rest)) (then_heard (then_heard heard_so first) rest) (then_heard heard_so (first ++ rest)) t.core.monitor
+      let all = log_keeps log u t h.3 (then_said said_so first) (then_heard heard_so first) led_u sound now in
+      kept.wider (then_said (then_said said_so first) rest) (then_said said_so (first ++ rest)) (then_heard (then_heard heard_so first) rest) (then_heard heard_so (first ++ rest)) t.core.monitor
       (λ l f has. subst (Has f) (said_joins said_so first rest l) has) (λ l f has. subst (Has f) (sym (heard_joins heard_so first rest l)) has) all

@@ -1,10 +1,7 @@
 -- What one core heard of a number is what its neighbour said.
-use Rattle.std.proofs.Common.{◌≡◌, ◌⊎◌, inl, inr, refl, sym, ap, ◌∙◌, subst, ℕ, List, [], ◌∷◌, ◌++◌, map, slice_get, Option, Some, None, arith}
-use Rattle.std.proofs.lemmas.List.{map-append, append_assoc}
-use Rattle.fl_base.specs.declared.fragment.Frag.{Frag}
+use Rattle.std.proofs.Common.{◌≡◌, ◌⊎◌, inl, inr, refl, sym, ap, ◌∙◌, subst, ℕ, [], slice_get, Option, Some, None, arith}
 use Rattle.fl_base.specs.declared.identity.LinkId.{LinkId}
 use Rattle.fl_base.specs.declared.identity.Circuit.{Circuit as Number}
-use Rattle.fl_base.specs.Control.{bare}
 use Rattle.fl_base.specs.Prefix.{IsPrefix}
 use Rattle.fl_deal.specs.Settled.{RingsConserve}
 use Rattle.fl_endpoint.specs.Laws.{OnAnotherCircuit}
@@ -15,34 +12,20 @@ use Rattle.fl_hop.specs.Joined.{Leads, IsClientWay}
 use Rattle.fl_hop.specs.Table.{TheCircuits, hop_at, leading}
 use Rattle.fl_hop.proofs.Answering.{numbers_apart}
 use Rattle.fl_hop.specs.OfCircuit.{of_circuit}
-use Rattle.fl_hop.specs.Stretch.{Step, put_by, taken_by, put_on, taken_from}
+use Rattle.fl_hop.specs.Stretch.{put_on, taken_from}
 use Rattle.fl_monitor.specs.Monitors.{TheMonitor}
-use Rattle.fl_monitor.specs.Routing.{given}
-use Rattle.fl_node.specs.View.{side_of_link, client_of}
-use Rattle.fl_running.specs.declared.job.Job.{Job}
-use Rattle.fl_running.specs.Run.{Ways, TheRun}
-use Rattle.fl_running.specs.Deeds.{Deed}
-use Rattle.fl_running.specs.Logs.{Goes}
-use Rattle.fl_running.specs.Flows.{IsApart, SideCarries}
-use Rattle.fl_running.proofs.Apart.{side_after, stays_apart}
-use Rattle.fl_running.proofs.Bearing.{ring_put, log_ring_put, log_ring_took, log_bears}
-use Rattle.fl_running.proofs.Laning.{event_steps, links_put, links_took}
-use Rattle.fl_running.proofs.Stepping.{grows, log_steps}
-use Rattle.fl_honest.specs.Cores.{shared_ways, OneCore}
-use Rattle.fl_honest.specs.Crossing.{Crosses}
-use Rattle.fl_honest.specs.Named.{Has, IsGivenFor, AreNamed, AreRefused}
+use Rattle.fl_node.specs.View.{client_of}
+use Rattle.fl_running.proofs.Stepping.{log_steps}
+use Rattle.fl_honest.specs.Cores.{shared_ways}
+use Rattle.fl_honest.specs.Named.{IsGivenFor, AreNamed, AreRefused}
 use Rattle.fl_honest.specs.Neighbours.{IsUnused, GoesNamed, CoresName, StandsHere, NeighboursAgree, ComesFrom, EntriesLeadBack}
-use Rattle.fl_honest.proofs.Logged.{log_named}
-use Rattle.fl_honest.proofs.LoggedRefusals.{log_refused}
-use Rattle.fl_honest.proofs.Named.{has_first}
-use Rattle.fl_honest.proofs.Passages.{through_rings}
+use Rattle.fl_honest.proofs.Logged.{log_keeps}
+use Rattle.fl_honest.proofs.LoggedNames.{names_kept}
+use Rattle.fl_honest.proofs.LoggedRefusals.{refusals_kept}
+use Rattle.fl_honest.proofs.OverLinks.{none_waits, side_carries, both_ways, has_before}
 use Rattle.fl_honest.proofs.Routes.{CircuitsPrefix}
 
 -- ---- at the start
-
-none_waits : (f : Frag) (o : Option (List Frag)) → ((frags : List Frag) → o ≡ Some frags → frags ≡ []) → Has f (given o [] (λ box. box)) → ⊥
-none_waits f None none h = h
-none_waits f (Some frags) none h = subst (Has f) (none frags refl) h
 
 unused_named : (m : TheMonitor) → IsUnused m → AreNamed (λ l. []) (λ l. []) m
 unused_named m u = record {
@@ -62,50 +45,7 @@ unused_refused m u = record {
   gone = λ l n here at. (let (k, less, is) = here.among in let none = (u.counts l here.link here.there).0 in absurd (omega (arith, less, none)));
 }
 
--- ---- over a core's links
-
-module _ {S : Type 0} (w : Ways S) (jobs : List Job) where
-  put_joins : (l : ℕ) (xs ys : List Step) → put_on l (xs ++ ys) ≡ put_on l xs ++ put_on l ys
-  put_joins l [] ys = refl
-  put_joins l (x ∷ xs) ys = ap (λ (fs : List Frag). put_by l x.deed ++ fs) (put_joins l xs ys) ∙ sym (append_assoc (put_by l x.deed) (put_on l xs) (put_on l ys))
-
-  took_joins : (l : ℕ) (xs ys : List Step) → taken_from l (xs ++ ys) ≡ taken_from l xs ++ taken_from l ys
-  took_joins l [] ys = refl
-  took_joins l (x ∷ xs) ys = ap (λ (fs : List Frag). taken_by l x.deed ++ fs) (took_joins l xs ys) ∙ sym (append_assoc (taken_by l x.deed) (taken_from l xs) (taken_from l ys))
-
-  link_put : (log : List Deed) (s t : TheRun S) (h : Goes w jobs s log t) → IsApart s.core → (l i : ℕ) → side_of_link s.core.lanes l ≡ Some i
-      → map bare (log_ring_put w jobs log s t h i) ≡ put_on l (log_steps w jobs log s t h)
-  link_put [] s t h apart_is l i lane = refl
-  link_put (deed ∷ log) s t h apart_is l i lane =
-      let grown = grows w jobs deed s h.1.0 h.0 h.1.1 h.1.2 in
-      map-append bare (ring_put w deed s h.1.0 h.1.1 i) (log_ring_put w jobs log h.0 t h.3 i)
-      ∙ ap (λ (xs : List Frag). xs ++ map bare (log_ring_put w jobs log h.0 t h.3 i)) (links_put w jobs s h.1.0 apart_is l i lane deed h.2 h.1.1)
-      ∙ ap (λ (xs : List Frag). put_on l (event_steps w jobs deed s h.1.0 h.2 h.1.1) ++ xs)
-      (link_put log h.0 t h.3 (stays_apart s.core h.0.core grown apart_is) l i (side_after s.core.lanes h.0.core.lanes l i grown.lanes lane))
-      ∙ sym (put_joins l (event_steps w jobs deed s h.1.0 h.2 h.1.1) (log_steps w jobs log h.0 t h.3))
-
-  link_took : (log : List Deed) (s t : TheRun S) (h : Goes w jobs s log t) → IsApart s.core → (l i : ℕ) → side_of_link s.core.lanes l ≡ Some i
-      → log_ring_took w jobs log s t h i ≡ taken_from l (log_steps w jobs log s t h)
-  link_took [] s t h apart_is l i lane = refl
-  link_took (deed ∷ log) s t h apart_is l i lane =
-      let grown = grows w jobs deed s h.1.0 h.0 h.1.1 h.1.2 in
-      ap (λ (xs : List Frag). xs ++ log_ring_took w jobs log h.0 t h.3 i) (links_took w jobs s h.1.0 apart_is l i lane deed h.2 h.1.1)
-      ∙ ap (λ (xs : List Frag). taken_from l (event_steps w jobs deed s h.1.0 h.2 h.1.1) ++ xs)
-      (link_took log h.0 t h.3 (stays_apart s.core h.0.core grown apart_is) l i (side_after s.core.lanes h.0.core.lanes l i grown.lanes lane))
-      ∙ sym (took_joins l (event_steps w jobs deed s h.1.0 h.2 h.1.1) (log_steps w jobs log h.0 t h.3))
-
-  pub side_carries : (log : List Deed) (s t : TheRun S) (h : Goes w jobs s log t) → IsApart s.core → (l n : ℕ) (p : S) → side_of_link s.core.lanes l ≡ Some n → slice_get s.rings n ≡ Some p
-      → SideCarries w.puts w.takes (put_on l (log_steps w jobs log s t h)) (taken_from l (log_steps w jobs log s t h)) p t.rings n
-  side_carries log s t h apart_is l n p lane there =
-      let (q, after, c) = log_bears w jobs log s t h n p there in
-      record {
-        after = q;
-        after_is = after;
-        looks = c.looks;
-        led = c.led;
-        put_is = ap (map bare) c.put_is ∙ link_put log s t h apart_is l n lane;
-        took_is = c.took_is ∙ link_took log s t h apart_is l n lane;
-      }
+-- ---- a core
 
 pub cores_name : OnAnotherCircuit → CoresName
 cores_name on jobs c v unused =
@@ -113,28 +53,11 @@ cores_name on jobs c v unused =
     record {
       steps = log_steps shared_ways jobs c.log c.start c.finish g;
       links = λ l n p lane there. side_carries shared_ways jobs c.log c.start c.finish g v.went.apart l n p lane there;
-      named = log_named shared_ways jobs on c.log c.start c.finish g (λ l. []) (λ l. []) v.led v.table (unused_named c.start.core.monitor unused);
-      refused = log_refused shared_ways jobs on c.log c.start c.finish g (λ l. []) (λ l. []) v.led v.table (unused_refused c.start.core.monitor unused);
+      named = log_keeps AreNamed jobs (names_kept jobs) shared_ways on c.log c.start c.finish g (λ l. []) (λ l. []) v.led v.table (unused_named c.start.core.monitor unused);
+      refused = log_keeps AreRefused jobs (refusals_kept jobs) shared_ways on c.log c.start c.finish g (λ l. []) (λ l. []) v.led v.table (unused_refused c.start.core.monitor unused);
     }
 
 -- ---- over one link
-
-has_before : (f : Frag) (xs ys : List Frag) → IsPrefix xs ys → Has f xs → Has f ys
-has_before f xs ys p h = subst (Has f) (sym p.1) (has_first f xs p.0 h)
-
-module _ (rings : RingsConserve) (c d : OneCore) (x : GoesNamed c) (y : GoesNamed d) (l m : LinkId) where
-  abbrev BothWays : Type 0
-  BothWays = IsPrefix (taken_from m.0 y.steps) (put_on l.0 x.steps) × IsPrefix (taken_from l.0 x.steps) (put_on m.0 y.steps)
-
-  heard_said : (near far : ℕ) → side_of_link c.start.core.lanes l.0 ≡ Some near → side_of_link d.start.core.lanes m.0 ≡ Some far
-      → Crosses c.start.rings c.finish.rings d.start.rings d.finish.rings near far ⊎ Crosses d.start.rings d.finish.rings c.start.rings c.finish.rings far near → BothWays
-  heard_said near far here there (inl ring) =
-      through_rings rings c.start.rings c.finish.rings d.start.rings d.finish.rings near far ring (put_on l.0 x.steps) (taken_from l.0 x.steps) (put_on m.0 y.steps) (taken_from m.0 y.steps)
-      (x.links l.0 near ring.one here ring.one_is) (y.links m.0 far ring.two there ring.two_is)
-  heard_said near far here there (inr ring) =
-      let both = through_rings rings d.start.rings d.finish.rings c.start.rings c.finish.rings far near ring (put_on m.0 y.steps) (taken_from m.0 y.steps) (put_on l.0 x.steps) (taken_from l.0 x.steps)
-      (y.links m.0 far ring.one there ring.one_is) (x.links l.0 near ring.two here ring.two_is) in
-      (both.1, both.0)
 
 pub neighbours_agree : RingsConserve → CircuitsPrefix → CoresName → NeighboursAgree
 neighbours_agree rings prefix names jobs c d l m v u unused unused2 link n hop there at = by (hop_at c.finish.core.monitor.circuits l.0 n) refl where
@@ -144,8 +67,8 @@ neighbours_agree rings prefix names jobs c d l m v u unused unused2 link n hop t
   y : GoesNamed d
   y = names jobs d u unused2
 
-  both : BothWays rings c d x y l m
-  both = heard_said rings c d x y l m link.near link.far link.near_is link.far_is link.ring
+  both : IsPrefix (taken_from m.0 y.steps) (put_on l.0 x.steps) × IsPrefix (taken_from l.0 x.steps) (put_on m.0 y.steps)
+  both = both_ways rings c d x.steps y.steps x.links y.links l m link
 
   given_for : IsGivenFor c.finish.core.monitor.circuits l.0 n hop.binding
   given_for =
@@ -166,7 +89,7 @@ neighbours_agree rings prefix names jobs c d l m v u unused unused2 link n hop t
 
 -- ---- one station back
 
-leads_of : (t : TheCircuits) (l n : ℕ) (h : Hop) (binding : ℕ) (way : Way) → hop_at t l n ≡ Some h → h.binding ≡ binding → h.way ≡ way → Leads t l n binding way
+pub leads_of : (t : TheCircuits) (l n : ℕ) (h : Hop) (binding : ℕ) (way : Way) → hop_at t l n ≡ Some h → h.binding ≡ binding → h.way ≡ way → Leads t l n binding way
 leads_of t l n h binding way at same is =
     record { answered = h.answered; there = at ∙ ap (λ (b : ℕ). leading b h.answered h.way) same ∙ ap (λ (w : Way). leading binding h.answered w) is }
 

@@ -23,7 +23,7 @@ use Rattle.fl_dockets.specs.State.{TheJoined, AreJoined}
 use Rattle.fl_honest.specs.Cores.{shared_ways, OneCore, Went}
 use Rattle.fl_honest.specs.Ends.{HasDesk, StandsReady}
 use Rattle.fl_honest.specs.Told.{handled_by, made_by, IsOf, AreTold}
-use Rattle.fl_honest.specs.Bindings.{Party, IsParty, PartiesAreHonest, AreHonest, ByQueues, ByRing, HasCores, ReportsAreHonest, OffLinksIsHonest}
+use Rattle.fl_honest.specs.Bindings.{Party, IsParty, PartiesAreHonest, AreHonest, ByQueues, ByRing, HasCores, ReportsAreHonest}
 use Rattle.fl_honest.proofs.Prefixes.{as_same}
 use Rattle.fl_honest.proofs.Passages.{through_queues, through_rings}
 use Rattle.fl_honest.proofs.Starts.{off_links_arrived, flows_of, carried, ran, on_zero}
@@ -114,7 +114,7 @@ module _ (l : Passing) (honest : PartiesAreHonest) (asked : List Job) (j : TheJo
   abbrev Joined : OneCore → OneCore → ℕ → Type 0
   Joined c d n = ((c ≡ d) × ByQueues j n c) ⊎ ByRing j n c d
 
-  by_either : (n : ℕ) (c d : OneCore) → Went j.jobs c → Went j.jobs d → Joined c d n
+  pub by_either : (n : ℕ) (c d : OneCore) → Went j.jobs c → Went j.jobs d → Joined c d n
       → HasDesk (docket_at j.dockets (client_of n)) c.start (client_of n) → HasDesk (docket_at j.dockets (server_of n)) d.start (server_of n)
       → AreHonest asked j n c d
   by_either n c d w v (inl (same, b)) h g =
@@ -165,15 +165,3 @@ reports asked j cores r each told = record {
   handled = λ e. (by_binding asked j cores r each told e (slice_get j.bindings e.binding) refl).0;
   made = λ e. (by_binding asked j cores r each told e (slice_get j.bindings e.binding) refl).1;
 }
-
-pub off_links : Passing → PartiesAreHonest → OffLinksIsHonest
-off_links l honest asked j cores r k told =
-    reports asked j cores r (λ n b is.
-    let x = k.bindings n b is in (
-      x.client,
-      x.server,
-      x.cores,
-      by_either l honest asked j cores k.joined n x.client x.server (k.went b.client x.client x.cores.client) (k.went b.server x.server x.cores.server) x.joined
-          (k.desks (client_of n) x.client (record { bound = b; bound_is = is; core_is = x.cores.client }))
-          (k.desks (server_of n) x.server (record { bound = b; bound_is = is; core_is = x.cores.server })),
-    )) told

@@ -1,5 +1,5 @@
 -- What a circuit carries along a route.
-use Rattle.std.proofs.Common.{◌≡◌, ◌⊎◌, inl, inr, refl, sym, ap, ◌∙◌, ℕ, List, [], ◌∷◌, Some}
+use Rattle.std.proofs.Common.{◌≡◌, refl, sym, ap, ◌∙◌, ℕ, List, [], ◌∷◌}
 use Rattle.fl_base.specs.declared.fragment.Frag.{Frag}
 use Rattle.fl_base.specs.declared.identity.LinkId.{LinkId}
 use Rattle.fl_base.specs.declared.identity.Circuit.{Circuit as Number}
@@ -7,14 +7,12 @@ use Rattle.fl_base.specs.Prefix.{IsPrefix}
 use Rattle.fl_deal.specs.Settled.{RingsConserve}
 use Rattle.fl_hop.specs.OfCircuit.{of_circuit}
 use Rattle.fl_hop.specs.Stretch.{taken_from, put_on}
-use Rattle.fl_node.specs.View.{side_of_link}
 use Rattle.fl_running.specs.declared.job.Job.{Job as CoreJob}
 use Rattle.fl_running.specs.Flows.{LogsFlow}
 use Rattle.fl_honest.specs.Cores.{shared_ways, OneCore, Went}
-use Rattle.fl_honest.specs.Crossing.{Crosses}
 use Rattle.fl_honest.specs.Circuits.{Leading, AreOneLink, Point, Station, behind, PassesOn, IsRoute}
 use Rattle.fl_honest.proofs.Prefixes.{then_on, as_same}
-use Rattle.fl_honest.proofs.Passages.{through_rings}
+use Rattle.fl_honest.proofs.OverLinks.{both_ways}
 
 -- of a prefix a circuit carries a prefix
 abbrev pub CircuitsPrefix : Type 0
@@ -33,24 +31,11 @@ module _ (flow : LogsFlow shared_ways) (rings : RingsConserve) (prefix : Circuit
   abbrev BothWays : (out got out2 got2 : List Frag) → Type 0
   BothWays out got out2 got2 = IsPrefix got2 out × IsPrefix got out2
 
-  link_by : (c d : OneCore) (l m : LinkId) (w : Went jobs c) (v : Went jobs d) (near far : ℕ)
-      → side_of_link c.start.core.lanes l.0 ≡ Some near → side_of_link d.start.core.lanes m.0 ≡ Some far
-      → Crosses c.start.rings c.finish.rings d.start.rings d.finish.rings near far ⊎ Crosses d.start.rings d.finish.rings c.start.rings c.finish.rings far near
-      → BothWays (out_of c w l) (into c w l) (out_of d v m) (into d v m)
-  link_by c d l m w v near far here there (inl ring) =
-      let f = flow jobs c.start c.finish c.log w.core w.apart w.goes in
-      let g = flow jobs d.start d.finish d.log v.core v.apart v.goes in
-      through_rings rings c.start.rings c.finish.rings d.start.rings d.finish.rings near far ring (out_of c w l) (into c w l) (out_of d v m) (into d v m)
-      (f.links l.0 near ring.one here ring.one_is) (g.links m.0 far ring.two there ring.two_is)
-  link_by c d l m w v near far here there (inr ring) =
-      let f = flow jobs c.start c.finish c.log w.core w.apart w.goes in
-      let g = flow jobs d.start d.finish d.log v.core v.apart v.goes in
-      let both = through_rings rings d.start.rings d.finish.rings c.start.rings c.finish.rings far near ring (out_of d v m) (into d v m) (out_of c w l) (into c w l)
-      (g.links m.0 far ring.one there ring.one_is) (f.links l.0 near ring.two here ring.two_is) in
-      (both.1, both.0)
-
   over_link : (c d : OneCore) (l m : LinkId) (w : Went jobs c) (v : Went jobs d) → AreOneLink c l d m → BothWays (out_of c w l) (into c w l) (out_of d v m) (into d v m)
-  over_link c d l m w v link = link_by c d l m w v link.near link.far link.near_is link.far_is link.ring
+  over_link c d l m w v link =
+      let f = flow jobs c.start c.finish c.log w.core w.apart w.goes in
+      let g = flow jobs d.start d.finish d.log v.core v.apart v.goes in
+      both_ways rings c d f.steps g.steps f.links g.links l m link
 
   -- ---- through one core
 

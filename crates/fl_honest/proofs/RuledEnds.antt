@@ -1,24 +1,22 @@
 -- The reply rules of an end that is made in a run are set before it handles a call.
-use Rattle.std.proofs.Common.{◌≡◌, ◌≢◌, ◌⊎◌, inl, inr, refl, sym, ap, ◌∙◌, subst, ℕ, zero, suc, ◌<◌, ◌==◌, if◌then◌else◌, List, [], ◌∷◌, ◌++◌, length, replicate, map, take, drop, slice_get, slice_set, arith, rules}
+use Rattle.std.proofs.Common.{◌≡◌, ◌≢◌, inl, inr, refl, sym, ap, ◌∙◌, subst, ℕ, zero, suc, ◌<◌, ◌==◌, if◌then◌else◌, List, [], ◌∷◌, length, replicate, map, take, drop, slice_get, slice_set, arith, rules}
 use Rattle.std.proofs.Common.{Option, Some, None, IsSome, Bool, true, false, Result, Ok, Err}
 use Rattle.std.proofs.lemmas.Bool.Decides.{nat_tests}
 use Rattle.std.proofs.lemmas.List.{length-set, length-replicate}
 use Rattle.std.proofs.lemmas.Option.{slice_get_within}
 use Rattle.fl_base.specs.declared.identity.EndId.{EndId}
 use Rattle.fl_base.specs.declared.identity.MsgNo.{MsgNo}
-use Rattle.fl_value.specs.declared.value.Call.{Call}
-use Rattle.fl_value.specs.Value.{TheCall, call_of}
+use Rattle.fl_value.specs.Value.{call_of}
 use Rattle.fl_check.specs.Interface.{TheMessage, TheInterface}
 use Rattle.fl_compile.specs.declared.program.Program.{Program}
 use Rattle.fl_compile.specs.Programs.{program_of}
 use Rattle.fl_core.proofs.Places.{one_stands, set_here, set_elsewhere}
 use Rattle.fl_core.specs.View.{TheSeat}
-use Rattle.fl_endpoint.specs.View.{TheEnd, interface_in, no_rules, rule_in, rule_at as rule_of_end}
-use Rattle.fl_endpoint.specs.Events.{SetsRule, IsMessage}
+use Rattle.fl_endpoint.specs.View.{TheEnd, interface_in, rule_in, rule_at as rule_of_end}
+use Rattle.fl_endpoint.specs.Events.{SetsRule}
 use Rattle.fl_endpoint.specs.declared.fault.EndFault.{EndFault}
 use Rattle.fl_endpoint.specs.declared.fault.EndFault.TheVariants as fault
 use Rattle.fl_hop.proofs.Lists.{at_within}
-use Rattle.fl_hop.specs.Stretch.{same_end}
 use Rattle.fl_monitor.specs.Routing.{given}
 use Rattle.fl_node.specs.View.{place_of}
 use Rattle.fl_running.specs.declared.job.Job.{Job}
@@ -26,18 +24,16 @@ use Rattle.fl_running.specs.declared.job.Job.TheVariants as job
 use Rattle.fl_running.specs.Desks.{TheDesk}
 use Rattle.fl_running.specs.Run.{Ways, TheRun, next_job}
 use Rattle.fl_running.specs.Deeds.{Deed, looked, passed, arrived, heard, said, told, opened, called, ruled, wrote, acked, turned}
-use Rattle.fl_running.specs.Logs.{DesksTellHandled, InPlace, Goes, handled_at}
+use Rattle.fl_running.specs.Logs.{DesksTellHandled, Goes}
 use Rattle.fl_running.specs.Made.{LogsMakeJobs, DoneAreFirst, desk_of}
 use Rattle.fl_running.specs.Carried.{HasNoRule, RulesLead, rules_at}
 use Rattle.fl_running.specs.Flows.{Flows, LogsFlow, MadeCarries}
 use Rattle.fl_running.proofs.Carrying.{IsHere, log_goes}
 use Rattle.fl_running.proofs.Handling.{one_end}
 use Rattle.fl_running.proofs.Seating.{sits_first}
-use Rattle.fl_dockets.specs.Dockets.{TheDocket, rule_at, rule_behind, rule_by}
-use Rattle.fl_honest.specs.Cores.{shared_ways, OneCore, Went}
-use Rattle.fl_honest.specs.Ends.{HasDesk, AreItsRules}
-use Rattle.fl_honest.specs.Told.{handled_by}
-use Rattle.fl_honest.specs.Rules.{FitsInterface, RulesFit, SetsItsRules, RulesAreSet}
+use Rattle.fl_dockets.specs.Dockets.{rule_at, rule_behind, rule_by}
+use Rattle.fl_honest.specs.Cores.{shared_ways}
+use Rattle.fl_honest.specs.Rules.{FitsInterface, RulesFit, RulesAreSet}
 use Rattle.fl_honest.proofs.Desks.{handled_is}
 use Rattle.fl_honest.proofs.Ruled.{set_by, set_all, set_joins, next_of, next_at_desk, taken_first, set_none, IsTaken, happened, Left, none_left, AllTaken, Ruled, all_ruled}
 

@@ -62,7 +62,7 @@ no_rule (suc n) zero reply e = absurd cc
 no_rule (suc n) (suc msg) reply e = no_rule n msg reply e
 
 -- an end to which nothing happened is sound where one of its program and its circuit is
-fresh_sound : (x : TheEnd) → Sound x → Sound (fresh x.program x.circuit)
+pub fresh_sound : (x : TheEnd) → Sound x → Sound (fresh x.program x.circuit)
 fresh_sound x sound = record {
   within = sound.within;
   words = sound.words;

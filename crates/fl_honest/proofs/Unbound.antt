@@ -1,6 +1,6 @@
 -- Ends that aren't bound in the end did nothing.
-use Rattle.std.proofs.Common.{◌≡◌, ◌⊎◌, inl, inr, refl, sym, ap, ◌∙◌, subst, ℕ, if◌then◌else◌, List, [], ◌∷◌, ◌++◌, map, slice_get, rules}
-use Rattle.std.proofs.Common.{Option, Some, None, IsSome, Bool, true, false, Result, Ok, Err}
+use Rattle.std.proofs.Common.{◌≡◌, ◌⊎◌, inl, inr, refl, sym, ap, ◌∙◌, ℕ, if◌then◌else◌, List, [], ◌∷◌, ◌++◌, map, slice_get, rules}
+use Rattle.std.proofs.Common.{Option, Some, None, IsSome, Bool, true, false, Ok, Err}
 use Rattle.std.specs.List.{flat_map}
 use Rattle.std.proofs.lemmas.List.{append-nil}
 use Rattle.fl_base.specs.declared.identity.EndId.{EndId}
@@ -13,9 +13,7 @@ use Rattle.fl_hop.specs.Stretch.{same_end}
 use Rattle.fl_waitset.specs.declared.waitset.Pick.{Pick}
 use Rattle.fl_waitset.specs.declared.waitset.Pick.TheVariants as pick
 use Rattle.fl_endpoint.specs.View.{TheEnd}
-use Rattle.fl_endpoint.specs.declared.fault.EndFault.{EndFault}
 use Rattle.fl_core.specs.View.{TheSeat, TheBoard}
-use Rattle.fl_core.specs.declared.answer.TurnAnswer.{TurnAnswer}
 use Rattle.fl_core.specs.declared.answer.TurnAnswer.TheVariants as turn
 use Rattle.fl_core.specs.declared.kind.Kind.{Kind}
 use Rattle.fl_core.specs.Turns.{Moment, moment, over, Turns, LooksAt}
@@ -26,18 +24,16 @@ use Rattle.fl_node.specs.Sound.{IsCore}
 use Rattle.fl_running.specs.declared.job.Job.{Job as CoreJob}
 use Rattle.fl_running.specs.Run.{Ways, TheRun}
 use Rattle.fl_running.specs.Deeds.{Deed, looked, passed, arrived, heard, said, told, opened, called, ruled, wrote, acked, turned, TurnsOver}
-use Rattle.fl_running.specs.Logs.{DesksTellHandled, Goes, call_in, handled_in, handled_at}
+use Rattle.fl_running.specs.Logs.{DesksTellHandled, Goes, handled_in, handled_at}
 use Rattle.fl_running.specs.Made.{LogsMakeJobs, DoneAreFirst, made_in, made_at, done_of, calls_of_jobs}
-use Rattle.fl_running.specs.Carried.{calls_handled}
 use Rattle.fl_running.proofs.Carrying.{IsHere, log_goes}
 use Rattle.fl_running.proofs.Handling.{one_end}
 use Rattle.fl_running.proofs.Seating.{sits_first}
 use Rattle.fl_jobs.specs.Jobs.{Job, own_calls, handed_in}
 use Rattle.fl_dockets.specs.Dockets.{TheDocket, docket_at, is_ruled, reply_by, IsDocket}
-use Rattle.fl_honest.specs.Cores.{shared_ways, OneCore, Went}
-use Rattle.fl_honest.specs.Ends.{HasDesk}
+use Rattle.fl_honest.specs.Cores.{shared_ways, OneCore}
 use Rattle.fl_honest.specs.Told.{handled_by, made_by}
-use Rattle.fl_honest.specs.Unbound.{IsLoose, DidNothing, LooseEndsRest, HasEnd, SilenceIsHonest, LooseIsHonest}
+use Rattle.fl_honest.specs.Unbound.{IsLoose, LooseEndsRest, HasEnd, SilenceIsHonest, LooseIsHonest}
 use Rattle.fl_honest.proofs.Prefixes.{as_same, of_none}
 use Rattle.fl_honest.proofs.Desks.{handled_is, done_is, done_first}
 use Rattle.fl_honest.proofs.Docketed.{calls_there, handed_unruled}

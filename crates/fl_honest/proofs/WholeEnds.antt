@@ -23,6 +23,7 @@ use Rattle.fl_running.proofs.Tables.{leads_at}
 use Rattle.fl_dockets.specs.Dockets.{TheDocket}
 use Rattle.fl_honest.specs.Cores.{OneCore, shared_ways}
 use Rattle.fl_honest.specs.Circuits.{Leading, Point, StandsBound, IsRoute, CircuitsAreHonest}
+use Rattle.fl_honest.specs.Stands.{point_at}
 use Rattle.fl_honest.specs.Whole.{IsLast, RoutesBegin, AreBound, BoundEndsMeet, ClientsAreHome, BoundIsHonest}
 
 -- ---- an end that was made in the run has its name
@@ -52,7 +53,7 @@ module _ (jobs : List Job) (d : TheDocket) (e : EndId) (p : Point) (v : Leading 
   name_is : s.port.name ≡ e
   name_is = named_since shared_ways jobs e p.core.log p.core.start p.core.finish v.went.goes s.absent s.place s.port s.place_is s.port_is
 
-  settled : IsSettled p.core.finish.core.monitor.circuits p.link.0 p.number.0 e
+  pub settled : IsSettled p.core.finish.core.monitor.circuits p.link.0 p.number.0 e
   settled =
       let led = (log_led shared_ways jobs p.core.log p.core.start p.core.finish v.went.goes v.led).ends s.place s.arrivals p.link s.port s.seat s.port_is s.wire_is s.seat_is in
       subst (IsSettled p.core.finish.core.monitor.circuits p.link.0 p.number.0) name_is (led.bound p.number.0 s.circuit)
@@ -67,7 +68,7 @@ of_binding t sound l n binding e x = elim (sound.toward l n binding (End e) x) [
   | inr given ↦ sym (ap (λ (y : EndId). y.binding) given.1)
 ]
 
-bound_entry : (jobs : List Job) (d : TheDocket) (e : EndId) (p : Point) → Leading jobs p.core → StandsBound jobs d e p → Leads p.core.finish.core.monitor.circuits p.link.0 p.number.0 e.binding (End e)
+pub bound_entry : (jobs : List Job) (d : TheDocket) (e : EndId) (p : Point) → Leading jobs p.core → StandsBound jobs d e p → Leads p.core.finish.core.monitor.circuits p.link.0 p.number.0 e.binding (End e)
 bound_entry jobs d e p v s =
     let (hop, leads) = entry jobs d e p v s in
     subst (λ (b : ℕ). Leads p.core.finish.core.monitor.circuits p.link.0 p.number.0 b (End e)) (of_binding p.core.finish.core.monitor.circuits v.table p.link.0 p.number.0 hop.binding e leads) leads
@@ -79,9 +80,6 @@ one_entry t sound binding e l m c d x y = elim (sound.one l m c d binding (End e
   | inl same ↦ same
   | inr other ↦ absurd (cc)
 ]
-
-abbrev point_at : OneCore → LinkId → Number → Point
-point_at c l n = record { core = c; link = l; number = n }
 
 one_point : (binding : ℕ) (e : EndId) (p q : Point) → p.core ≡ q.core → Sound q.core.finish.core.monitor.circuits → Leads p.core.finish.core.monitor.circuits p.link.0 p.number.0 binding (End e)
     → Leads q.core.finish.core.monitor.circuits q.link.0 q.number.0 binding (End e) → p ≡ q

@@ -1,6 +1,5 @@
 -- A circuit's route back from the server's end passes no core twice, so it comes to the client's end.
-use Rattle.std.proofs.Common.{◌≡◌, ◌⊎◌, inl, inr, refl, sym, ap, ◌∙◌, subst, ℕ, zero, suc, ◌+◌, ◌<◌, ◌≤◌, Bool, List, [], ◌∷◌, map, length, slice_get, Some, arith}
-use Rattle.std.proofs.lemmas.Bool.{cases_eq}
+use Rattle.std.proofs.Common.{◌≡◌, ◌⊎◌, inl, inr, refl, sym, ap, ◌∙◌, subst, ℕ, zero, suc, ◌+◌, ◌<◌, ◌≤◌, Bool, List, [], ◌∷◌, length, slice_get, Some, arith}
 use Rattle.fl_base.specs.declared.identity.EndId.{EndId}
 use Rattle.fl_base.specs.declared.identity.LinkId.{LinkId}
 use Rattle.fl_base.specs.declared.identity.Circuit.{Circuit as Number}
@@ -20,7 +19,7 @@ use Rattle.fl_honest.specs.Circuits.{AreOneLink, Point, Station, IsRoute}
 use Rattle.fl_honest.specs.Neighbours.{ComesFrom, EntriesLeadBack}
 use Rattle.fl_honest.specs.Back.{HasNeighbour}
 use Rattle.fl_honest.specs.Whole.{GoesTo, ArePaired, Begins, RoutesBegin}
-use Rattle.fl_honest.proofs.WholeFew.{times, times_same, times_other, AllBelow, few}
+use Rattle.fl_honest.proofs.Trails.{IsTrail, few_stops}
 
 -- ---- one table
 
@@ -52,7 +51,7 @@ module _ (t : TheCircuits) (sound : Sound t) (binding : ℕ) where
     | inr given ↦ given.0
   ]
 
-one_place : (c : OneCore) (l : LinkId) (n m : ℕ) → GoesTo c l n → GoesTo c l m → n ≡ m
+pub one_place : (c : OneCore) (l : LinkId) (n m : ℕ) → GoesTo c l n → GoesTo c l m → n ≡ m
 one_place c l n m x y =
     let found : Some x.link ≡ Some y.link = sym x.link_is ∙ y.link_is in
     let same : x.link ≡ y.link = cc in
@@ -66,11 +65,8 @@ pub record Stop : Type 0 where
   pub link : LinkId
   pub number : Number
 
-abbrev places : List Stop → List ℕ
-places stops = map (λ (s : Stop). s.place) stops
-
 -- at its core an entry of the binding leads this way, from a number that the neighbour gave
-record IsStop (cores : List OneCore) (binding : ℕ) (s : Stop) (way : Way) : Type 0 where
+pub record IsStop (cores : List OneCore) (binding : ℕ) (s : Stop) (way : Way) : Type 0 where
   pub core_is : slice_get cores s.place ≡ Some s.core
   pub given : OpenedThere s.core.finish.core.monitor.circuits s.link.0 s.number.0
   pub leads : Leads s.core.finish.core.monitor.circuits s.link.0 s.number.0 binding way
@@ -82,17 +78,16 @@ record ComesBefore (cores : List OneCore) (binding : ℕ) (s r : Stop) : Type 0 
   pub goes : GoesTo s.core onto r.place
 
 -- from this stop over those to the server's end
-abbrev IsTrail : List OneCore → ℕ → Stop → List Stop → Type 0
-IsTrail cores binding s [] = IsStop cores binding s (End (server_of binding))
-IsTrail cores binding s (r ∷ rest) = ComesBefore cores binding s r × IsTrail cores binding r rest
+abbrev ComesTo : List OneCore → ℕ → Stop → List Stop → Type 0
+ComesTo cores binding s xs = IsTrail (λ (x : Stop). IsStop cores binding x (End (server_of binding))) (ComesBefore cores binding) s xs
 
-within : (cores : List OneCore) (n : ℕ) (c : OneCore) → slice_get cores n ≡ Some c → n < length cores
+pub within : (cores : List OneCore) (n : ℕ) (c : OneCore) → slice_get cores n ≡ Some c → n < length cores
 within [] n c is = absurd (cc)
 within (x ∷ xs) zero c is = omega arith
 within (x ∷ xs) (suc n) c is = omega (arith, within xs n c is)
 
 module _ (jobs : List Job) (cores : List OneCore) (paired : ArePaired jobs cores) (binding : ℕ) where
-  one_core : (n m : ℕ) (c d : OneCore) → slice_get cores n ≡ Some c → slice_get cores m ≡ Some d → n ≡ m → c ≡ d
+  pub one_core : (n m : ℕ) (c d : OneCore) → slice_get cores n ≡ Some c → slice_get cores m ≡ Some d → n ≡ m → c ≡ d
   one_core n m c d is is2 same = (let found : Some c ≡ Some d = sym is ∙ ap (slice_get cores) same ∙ is2 in cc)
 
   -- two stops at one place lead one way
@@ -117,48 +112,14 @@ module _ (jobs : List Job) (cores : List OneCore) (paired : ArePaired jobs cores
       one_place s.core x.onto r.place u.place x.goes
       (subst (λ (l : LinkId). GoesTo s.core l u.place) (sym links) (subst (λ (c : OneCore). GoesTo c y.onto u.place) (sym cored) y.goes))
 
-  -- from one place all trails are equally long
-  same_long : (s t : Stop) (xs ys : List Stop) → IsTrail cores binding s xs → IsTrail cores binding t ys → s.place ≡ t.place → length xs ≡ length ys
-  same_long s t [] [] x y same = refl
-  same_long s t [] (u ∷ ys) x y same =
-      absurd (let ways = same_way s t (End (server_of binding)) (Link y.0.onto u.number) x y.0.stop same in cc)
-  same_long s t (r ∷ xs) [] x y same =
-      absurd (let ways = same_way s t (Link x.0.onto r.number) (End (server_of binding)) x.0.stop y same in cc)
-  same_long s t (r ∷ xs) (u ∷ ys) x y same = ap suc (same_long r u xs ys x.1 y.1 (same_next s t r u x.0 y.0 same))
+  same_last : (s t r : Stop) → IsStop cores binding s (End (server_of binding)) → ComesBefore cores binding t r → s.place ≡ t.place → ⊥
+  same_last s t r x y same = absurd (let ways = same_way s t (End (server_of binding)) (Link y.onto r.number) x y.stop same in cc)
 
-  -- so a place comes but once
-  abbrev AllLong : ℕ → ℕ → Type 0
-  AllLong n long = (t : Stop) (ys : List Stop) → IsTrail cores binding t ys → t.place ≡ n → length ys ≡ long
-
-  none_later : (n long : ℕ) → AllLong n long → (s : Stop) (xs : List Stop) → IsTrail cores binding s xs → length xs < long → times n (places (s ∷ xs)) ≡ 0
-  none_later n long all s [] x less = times_other n s.place [] (λ same. (let own = all s [] x same in omega (arith, own, less)))
-  none_later n long all s (r ∷ xs) x less =
-      times_other n s.place (places (r ∷ xs)) (λ same. (let own = all s (r ∷ xs) x same in omega (arith, own, less)))
-      ∙ none_later n long all r xs x.1 (omega (arith, less))
-
-  once : (n : ℕ) (s : Stop) (xs : List Stop) → IsTrail cores binding s xs → times n (places (s ∷ xs)) ≤ 1
-  once n s [] x = elim (cases_eq s.place n) [
-    | inl same ↦ omega (arith, times_same n s.place [] same)
-    | inr other ↦ omega (arith, times_other n s.place [] other)
-  ]
-  once n s (r ∷ xs) x = elim (cases_eq s.place n) [
-    | inl same ↦
-        let none = none_later n (length (r ∷ xs)) (λ t ys y at. same_long t s ys (r ∷ xs) y x (at ∙ sym same)) r xs x.1 (omega arith) in
-        omega (arith, times_same n s.place (places (r ∷ xs)) same, none)
-    | inr other ↦ omega (arith, times_other n s.place (places (r ∷ xs)) other, once n r xs x.1)
-  ]
-
-  all_within : (s : Stop) (xs : List Stop) → IsTrail cores binding s xs → AllBelow (length cores) (places (s ∷ xs))
-  all_within s [] x = (within cores s.place s.core x.core_is, tt)
-  all_within s (r ∷ xs) x = (within cores s.place s.core x.0.stop.core_is, all_within r xs x.1)
-
-  places_long : (stops : List Stop) → length (places stops) ≡ length stops
-  places_long [] = refl
-  places_long (s ∷ stops) = ap suc (places_long stops)
-
-  -- and no trail has more stops than there are cores
-  few_stops : (s : Stop) (xs : List Stop) → IsTrail cores binding s xs → length (s ∷ xs) ≤ length cores
-  few_stops s xs x = omega (arith, few (length cores) (places (s ∷ xs)) (all_within s xs x) (λ n. once n s xs x), places_long (s ∷ xs))
+  -- no trail has more stops than there are cores
+  few_of : (s : Stop) (xs : List Stop) → ComesTo cores binding s xs → length (s ∷ xs) ≤ length cores
+  few_of s xs x =
+      few_stops (λ (y : Stop). IsStop cores binding y (End (server_of binding))) (ComesBefore cores binding) (λ (y : Stop). y.place) (length cores) same_last same_next
+      (λ y stop. within cores y.place y.core stop.core_is) (λ y r next. within cores y.place y.core next.stop.core_is) s xs x
 
   -- ---- one station after another
 
@@ -169,12 +130,12 @@ module _ (jobs : List Job) (cores : List OneCore) (paired : ArePaired jobs cores
   record Walked (q : Point) (count : ℕ) : Type 0 where
     pub stop : Stop
     pub rest : List Stop
-    pub trail : IsTrail cores binding stop rest
+    pub trail : ComesTo cores binding stop rest
     pub long : length rest ≡ count
     pub stations : List Station
     pub onward : Onward q stop stations
 
-  way_on : (s : Stop) (xs : List Stop) → IsTrail cores binding s xs → (way : Way) × IsStop cores binding s way
+  way_on : (s : Stop) (xs : List Stop) → ComesTo cores binding s xs → (way : Way) × IsStop cores binding s way
   way_on s [] x = (End (server_of binding), x)
   way_on s (r ∷ xs) x = (Link x.0.onto r.number, x.0.stop)
 
@@ -218,7 +179,7 @@ module _ (jobs : List Job) (cores : List OneCore) (paired : ArePaired jobs cores
       one_more q count w pair.across pair.back (before back w.stop way stop pair.across)
 
   walk : EntriesLeadBack → (left : ℕ) (q : Point) (count : ℕ) → Walked q count → count + left ≡ length cores → Begins jobs cores binding q
-  walk back zero q count w all = absurd (let less = few_stops w.stop w.rest w.trail in let long = w.long in omega (arith, less, long, all))
+  walk back zero q count w all = absurd (let less = few_of w.stop w.rest w.trail in let long = w.long in omega (arith, less, long, all))
   walk back (suc left) q count w all = elim (further back q count w) [
     | inl begins ↦ begins
     | inr more ↦ walk back left q (suc count) more (omega (arith, all))

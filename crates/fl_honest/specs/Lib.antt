@@ -13,3 +13,6 @@ pub mod Unbound
 pub mod Rules
 pub mod Answered
 pub mod Asked
+pub mod Stands
+pub mod Meeting
+pub mod Runs

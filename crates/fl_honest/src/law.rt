@@ -11,6 +11,9 @@ ghost use Rattle.fl_honest.specs.Rules.{RulesAreSet};
 ghost use Rattle.fl_honest.specs.Unbound.{LooseEndsRest, SilenceIsHonest, LooseIsHonest};
 ghost use Rattle.fl_honest.specs.Whole.{RoutesBegin, BoundEndsMeet, ClientsAreHome, BoundIsHonest};
 ghost use Rattle.fl_honest.specs.Asked.{CoresAsk, WishesAlone, ServersAreWished, ClientsAreWished, EndsAreAtHome};
+ghost use Rattle.fl_honest.specs.Stands.{LedClientsStand, LedServersAreBound, PlannedEndsStand};
+ghost use Rattle.fl_honest.specs.Meeting.{WiredArePaired, BoundClientsMeet, LoneServersRest};
+ghost use Rattle.fl_honest.specs.Runs.{OffLinkIsHonest, OpenedIsHonest, RunsAreHonest};
 
 use fl_deal::rings_conserve;
 use fl_endpoint::on_another_circuit;
@@ -56,9 +59,9 @@ pub fn reports_are_honest()
     ensures reports { ReportsAreHonest }
 {}
 
-/// A report that tells what desks have in the end is honest, where cores ran jobs that were joined for them, over bindings by queues and by rings.
-pub fn off_links_are_honest()
-    ensures honest { OffLinksIsHonest }
+/// What desks have in the end is honest of a binding by queues or by a ring, where cores ran jobs that were joined for them.
+pub fn off_link_is_honest()
+    ensures honest { OffLinkIsHonest }
 {
     ends_are_honest();
     logs_flow::<SharedSide>();
@@ -66,6 +69,14 @@ pub fn off_links_are_honest()
     ends_agree();
     queue_conserves();
     rings_conserve();
+}
+
+/// So a report that tells what desks have in the end is honest, where all bindings are such.
+pub fn off_links_are_honest()
+    ensures honest { OffLinksIsHonest }
+{
+    off_link_is_honest();
+    reports_are_honest();
 }
 
 /// What desks have is honest of a binding over a circuit whose two ends are bound in the end, where the tables of its route's cores lead from one to the other.
@@ -214,4 +225,74 @@ pub fn ends_are_at_home()
     ensures home { EndsAreAtHome }
 {
     ends_are_wished();
+}
+
+/// In a run of a core that opened nothing before, an end to which its table leads in the end is there, and a server's is bound.
+pub fn led_ends_stand()
+    ensures clients { LedClientsStand }
+    ensures servers { LedServersAreBound }
+{}
+
+/// An end that wasn't there as its core's run began is bound to no circuit in the end, or stands bound to a number of a link, with the rules of its docket
+/// where it handled a call.
+pub fn planned_ends_stand()
+    ensures stand { PlannedEndsStand }
+{
+    logs_flow::<SharedSide>();
+    rules_are_set();
+}
+
+/// Where all links of a run's cores have each a core on the other side, so has each on which that gave a number.
+pub fn links_are_paired()
+    ensures paired { WiredArePaired }
+{}
+
+/// Where a client's end is bound in the end, so is the server's: what was answered leads, core by core, to an open way, and no core is passed twice.
+pub fn bound_clients_meet()
+    ensures meet { BoundClientsMeet }
+{
+    neighbours_open();
+    neighbours_agree();
+    led_ends_stand();
+}
+
+/// A server's end that is bound in the end, where the client's isn't, handled no call.
+pub fn lone_servers_rest()
+    ensures rest { LoneServersRest }
+{
+    routes_begin();
+    led_ends_stand();
+    turns_are_logged::<SharedSide>();
+    jobs_are_made::<SharedSide>();
+    sent_by_rules();
+    logs_flow::<SharedSide>();
+    rules_come_first::<SharedSide>();
+    ends_agree();
+    queue_conserves();
+    rings_conserve();
+    circuits_join();
+}
+
+/// What desks have is honest of each binding that a job opens, whatever its opening came to, where cores were set up together and ran the jobs that were
+/// joined for them.
+pub fn opened_is_honest()
+    ensures honest { OpenedIsHonest }
+{
+    links_are_paired();
+    clients_are_home();
+    ends_are_at_home();
+    planned_ends_stand();
+    bound_is_honest();
+    loose_ends_rest();
+    bound_clients_meet();
+    lone_servers_rest();
+}
+
+/// So a report that tells what the desks of such cores have in the end is honest.
+pub fn runs_are_honest()
+    ensures honest { RunsAreHonest }
+{
+    reports_are_honest();
+    opened_is_honest();
+    off_link_is_honest();
 }

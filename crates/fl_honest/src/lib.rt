@@ -11,7 +11,10 @@
 //! ([`routes_go_back`], `specs/Back.antt`); no core is passed twice, so the route begins at the client's end ([`routes_begin`]), which is at the binding's own
 //! core ([`clients_are_home`]). So what is told of a binding whose two ends are bound in the end is honest ([`bound_is_honest`], `specs/Whole.antt`).
 //! Whatever the cores say, what is asked for between them is what jobs wish for, and an end that is made is at the core that its binding names
-//! ([`wishes_alone`], [`ends_are_at_home`], `specs/Asked.antt`).
+//! ([`wishes_alone`], [`ends_are_at_home`], `specs/Asked.antt`). In the end such an end is bound to no circuit, or stands bound ([`planned_ends_stand`],
+//! `specs/Stands.antt`). Where the client's end is bound, so is the server's ([`bound_clients_meet`]); where the server's alone is, it handled nothing
+//! ([`lone_servers_rest`], `specs/Meeting.antt`). So what is told of each binding is honest, and so is the report of a run of cores that were set up together
+//! ([`opened_is_honest`], [`runs_are_honest`], `specs/Runs.antt`).
 //!
 //! - `law.rt`: the laws
 #![tactic(auto)]
@@ -19,9 +22,10 @@
 mod law;
 
 pub use law::{
-    bound_ends_meet, bound_is_honest, circuits_are_honest, clients_are_home, cores_answer,
-    cores_ask, cores_go, cores_name, cross_off_links, ends_are_at_home, ends_are_honest,
-    ends_are_wished, entries_lead_back, loose_ends_rest, neighbours_agree, neighbours_open,
-    off_links_are_honest, reports_are_honest, routes_begin, routes_go_back, rules_are_set,
-    wishes_alone,
+    bound_clients_meet, bound_ends_meet, bound_is_honest, circuits_are_honest, clients_are_home,
+    cores_answer, cores_ask, cores_go, cores_name, cross_off_links, ends_are_at_home,
+    ends_are_honest, ends_are_wished, entries_lead_back, led_ends_stand, links_are_paired,
+    lone_servers_rest, loose_ends_rest, neighbours_agree, neighbours_open, off_link_is_honest,
+    off_links_are_honest, opened_is_honest, planned_ends_stand, reports_are_honest, routes_begin,
+    routes_go_back, rules_are_set, runs_are_honest, wishes_alone,
 };
