@@ -1,15 +1,18 @@
 -- Lists of stations, and of what came of them, the last one first.
-use Rattle.std.proofs.Common.{◌≡◌, refl, sym, ap, subst, arith, ℕ, suc, ◌+◌, List, [], ◌∷◌, ◌++◌, length, map, ◌∙◌, Result, Ok, Err, IfOk, IfErr, IsOkAnd}
+use borrow.Author.Count.{below_more}
+use Rattle.std.proofs.Common.{◌≡◌, refl, sym, ap, ◌∙◌, subst, arith, ℕ, zero, suc, ◌+◌, ◌<◌, List, [], ◌∷◌, ◌++◌, length, map, slice_get, Some, None, Result, Ok, Err, IfOk, IfErr, IsOkAnd}
 use Rattle.std.proofs.lemmas.List.{map-append}
+use Rattle.fl_core.specs.View.{TheSeat}
+use Rattle.fl_endpoint.specs.Accounts.{Sound as IsEnd}
 use Rattle.fl_node.specs.View.{TheCore}
+use Rattle.fl_node.specs.Sound.{IsCore}
 use Rattle.fl_running.specs.declared.job.Job.{Job}
 use Rattle.fl_cores.specs.declared.wiring.Station.{Station}
 use Rattle.fl_cores.specs.declared.fault.Stop.{Stop}
 use Rattle.fl_cores.specs.declared.fault.Stop.TheVariants as stop
 use Rattle.fl_cores.specs.declared.fork.Done.{Done}
-use Rattle.fl_cores.specs.Begins.{TheStation, TheCommon, Places, IsStation, AreStations, HasStations, common_in}
-use Rattle.fl_system.specs.declared.parts.Parts.{Parts}
-use Rattle.fl_dockets.specs.State.{TheJoined}
+use Rattle.fl_cores.specs.Begins.{TheStation, TheCommon, IsStation, AreStations}
+use Rattle.fl_cores.specs.Shares.{IsLeftSound}
 use Rattle.fl_cores.specs.Tells.{TheOutcome, RanTo, Each2}
 use Rattle.fl_cores.specs.Stations.{IsReady, AllReady, StationRan, station_of, outcome_of}
 
@@ -76,9 +79,46 @@ pub stations_from : (c : TheCommon) (m : ℕ) (all ks : List TheCore) (xs : List
 stations_from c m all ks xs k x whole at rest one =
     subst (λ (cores : List TheCore). AreStations c 0 cores (map station_of (xs ++ x ∷ []))) (sym whole) (stations_push c m ks xs k x at rest one)
 
-pub has_from : (p : Parts) (j : TheJoined) (at : Places) (c : TheCommon) (ss : List TheStation) → c ≡ common_in p j at
-    → AreStations c 0 p.cores.items ss → HasStations p j ss
-has_from p j at c ss is all = (at, subst (λ (d : TheCommon). AreStations d 0 p.cores.items ss) is all)
+-- ---- what they are given, and what they leave
+
+-- one hand more is given
+pub given_push : {X T : Type 0} (of : X → List T) (its : TheStation → List T) (all rest : List X) (hand : X) (xs : List Station) (x : Station) → all ≡ rest ++ hand ∷ []
+    → map its (map station_of xs) ≡ map of rest → its (station_of x) ≡ of hand → map its (map station_of (xs ++ x ∷ [])) ≡ map of all
+given_push {X} {T} of its all rest hand xs x whole so is =
+    ap (map its) (map-append station_of xs (x ∷ []))
+    ∙ map-append its (map station_of xs) (station_of x ∷ [])
+    ∙ ap (λ (hs : List (List T)). hs ++ its (station_of x) ∷ []) so
+    ∙ ap (λ (h : List T). map of rest ++ h ∷ []) is
+    ∙ sym (map-append of rest (hand ∷ []))
+    ∙ ap (map of) (sym whole)
+
+pub begin_sound : (xs : List Station) → AllReady xs → (n : ℕ) (s : TheStation) → slice_get (map station_of xs) n ≡ Some s → IsCore s.run.core
+begin_sound [] all n s at = absurd (let no : None ≡ Some s = at in cc)
+begin_sound (x ∷ xs) all zero s at =
+    let same : station_of x ≡ s = cc in
+    subst (λ (t : TheStation). IsCore t.run.core) same all.0.core
+begin_sound (x ∷ xs) all (suc n) s at = begin_sound xs all.1 n s at
+
+pub left_sound : (jobs : List Job) (limit : ℕ) (xs : List Station) (ys : List Done) → Each2 (StationRan jobs limit) xs ys → (n : ℕ) (o : TheOutcome)
+    → slice_get (map outcome_of ys) n ≡ Some o → IsLeftSound o
+left_sound jobs limit [] [] all n o at = absurd (let no : None ≡ Some o = at in cc)
+left_sound jobs limit [] (y ∷ ys) all n o at = absurd all
+left_sound jobs limit (x ∷ xs) [] all n o at = absurd all
+left_sound jobs limit (x ∷ xs) (y ∷ ys) all zero o at =
+    let same : outcome_of y ≡ o = cc in
+    subst IsLeftSound same all.0.left
+left_sound jobs limit (x ∷ xs) (y ∷ ys) all (suc n) o at = left_sound jobs limit xs ys all.1 n o at
+
+-- the ends of one place more
+pub end_more : (seats : List TheSeat) (n : ℕ) → ((place : ℕ) (seat : TheSeat) → place < n → slice_get seats place ≡ Some seat → IsEnd seat.end)
+    → ((seat : TheSeat) → slice_get seats n ≡ Some seat → IsEnd seat.end)
+    → (place : ℕ) (seat : TheSeat) → place < n + 1 → slice_get seats place ≡ Some seat → IsEnd seat.end
+end_more seats n before last place seat below =
+    below_more (λ (i : ℕ). (s : TheSeat) → slice_get seats i ≡ Some s → IsEnd s.end) n (λ i low s at. before i s low at) last place below seat
+
+-- a core that was moved is as sound
+pub core_moved : (k k2 : TheCore) → k2 ≡ k → IsCore k → IsCore k2
+core_moved k k2 same sound = subst IsCore (sym same) sound
 
 pub each_ran : (jobs : List Job) (limit : ℕ) (xs : List Station) (ys : List Done) → Each2 (StationRan jobs limit) xs ys
     → Each2 (RanTo jobs limit) (map station_of xs) (map outcome_of ys)

@@ -14,9 +14,13 @@ use Rattle.fl_dockets.specs.State.{TheJoined}
 use Rattle.fl_system.specs.declared.parts.Parts.{Parts}
 use Rattle.fl_cores.specs.declared.wiring.Station.{Station}
 use Rattle.fl_cores.specs.declared.fork.Done.{Done}
-use Rattle.fl_cores.specs.Stations.{StationRan, station_of, outcome_of}
-use Rattle.fl_cores.proofs.Each.{each_ran, as_many as as_many_stations}
-use Rattle.fl_cores.specs.Begins.{TheStation, HasStations, common_in}
+use Rattle.fl_deal.specs.Dealt.{AreDealt}
+use Rattle.fl_deal.specs.Settled.{Pair, sides_of, Each, IsNear, HoldRings}
+use Rattle.fl_cores.specs.Shares.{Shares, sides_left}
+use Rattle.fl_cores.specs.Dealing.{Dealing, Wires, RingsHold}
+use Rattle.fl_cores.specs.Stations.{AllReady, StationRan, station_of, outcome_of}
+use Rattle.fl_cores.proofs.Each.{each_ran, begin_sound, left_sound, as_many as as_many_stations}
+use Rattle.fl_cores.specs.Begins.{TheStation, Places, common_in}
 use Rattle.fl_cores.specs.Tells.{TheOutcome, RanTo, Each2, Tells, turns_in, left_off, was_told, is_unfinished}
 use Rattle.fl_jobs.specs.Jobs.{Job as TheJob}
 use Rattle.fl_jobs.specs.declared.report.Report.{Report}
@@ -84,20 +88,46 @@ keeps_of n limit j xs ys r count all tells = record {
 
 -- ---- the whole
 
-pub cores_ran : (p : Parts) (j : TheJoined) (limit : ℕ) (xs : List Station) (ys : List Done) (r : TheReport) → HasStations p j (map station_of xs)
-    → Each2 (StationRan j.jobs limit) xs ys → Tells j (map outcome_of ys) r → CoresRan p j limit r
-cores_ran p j limit xs ys r begin all tells = record {
+-- what was dealt, and rings that were put together again
+shares_of : (p : Parts) (at : Places) (stations : List TheStation) (outcomes : List TheOutcome) (owners : List ℕ) → Dealing p at stations owners
+    → ((after : List Pair) → AreDealt owners (sides_of after) (sides_left outcomes) → Each IsNear after) → Shares p at stations outcomes
+shares_of p at stations outcomes owners d near = record {
+  side_owners = owners;
+  sides_named = d.sides_named;
+  pairs = d.pairs;
+  new = d.new;
+  sides = d.sides;
+  queue_owners = d.queue_owners;
+  queues_named = d.queues_named;
+  queues = d.queues;
+  near = near;
+}
+
+-- the sides that were dealt are still in their owners' hands
+pub still_held : (p : Parts) (j : TheJoined) (limit : ℕ) (xs : List Station) (ys : List Done) (owners : List ℕ) → RingsHold → Wires p j (map station_of xs) owners
+    → Each2 (StationRan j.jobs limit) xs ys → HoldRings owners (sides_left (map outcome_of ys))
+still_held p j limit xs ys owners hold wires all =
+    hold j.jobs limit p.rings.items wires.dealing.pairs owners (map station_of xs) (map outcome_of ys) (each_ran j.jobs limit xs ys all) wires.dealing.new
+    wires.dealing.sides.dealt
+
+pub cores_ran : (p : Parts) (j : TheJoined) (limit : ℕ) (xs : List Station) (ys : List Done) (owners : List ℕ) (r : TheReport) → Wires p j (map station_of xs) owners
+    → AllReady xs → Each2 (StationRan j.jobs limit) xs ys
+    → ((after : List Pair) → AreDealt owners (sides_of after) (sides_left (map outcome_of ys)) → Each IsNear after) → Tells j (map outcome_of ys) r → CoresRan p j limit r
+cores_ran p j limit xs ys owners r wires ready all near tells = record {
   stations = map station_of xs;
-  begin = begin;
+  places = wires.places;
+  begin = wires.begin;
   outcomes = map outcome_of ys;
   ran = each_ran j.jobs limit xs ys all;
+  shares = shares_of p wires.places (map station_of xs) (map outcome_of ys) owners wires.dealing near;
+  sound = record { begin = begin_sound xs ready; left = left_sound j.jobs limit xs ys all };
   tells = tells;
 }
 
 pub keeps_ran : (p : Parts) (j : TheJoined) (limit : ℕ) (r : TheReport) → CoresRan p j limit r → Keeps (length p.cores.items) limit r
 keeps_ran p j limit r ran =
     keeps_of (length p.cores.items) limit j ran.stations ran.outcomes r
-    (as_many_stations (common_in p j ran.begin.0) 0 p.cores.items ran.stations ran.begin.1) ran.ran ran.tells
+    (as_many_stations (common_in p j ran.places) 0 p.cores.items ran.stations ran.begin) ran.ran ran.tells
 
 -- what a set-up makes ran
 pub reports_ran : (c : TheConfig) (jobs : List TheJob) (limit : ℕ) (p : Parts) (result : Result Report CoresFault) → IsAccepted c → Made c p

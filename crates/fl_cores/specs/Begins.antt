@@ -125,6 +125,3 @@ common_in p j at = record {
   offers = record { names = p.names; programs = p.programs.items };
   places = at;
 }
-
-abbrev pub HasStations : Parts → TheJoined → List TheStation → Type 0
-HasStations p j stations = (at : Places) × AreStations (common_in p j at) 0 p.cores.items stations

@@ -1,6 +1,8 @@
--- The public promises rest on Promised, and that on Begins and Tells; Stations has the same of the code's own types.
+-- The public promises rest on Promised, and that on Begins, Tells and Shares; Stations and Dealing have what the code's own functions say.
 pub mod Faults
 pub mod Begins
 pub mod Tells
+pub mod Shares
 pub mod Stations
+pub mod Dealing
 pub mod Promised

@@ -17,11 +17,13 @@ use Rattle.fl_system.specs.declared.booting.BootFault.TheVariants as boot
 use Rattle.fl_system.specs.declared.parts.Parts.{Parts}
 use Rattle.fl_system.specs.Apart.{is_making, AreParts}
 use Rattle.fl_system.specs.Booting.{TheConfig, has_bad_cores, passes, Stands, IsFaultOf}
+use Rattle.fl_dockets.specs.Fitting.{JobsFit}
 use Rattle.fl_dockets.specs.Rules.{RulesOf}
 use Rattle.fl_dockets.specs.State.{TheJoined, AreJoined}
 use Rattle.fl_dockets.specs.Whole.{AreBound, AreDue, IsBeside}
-use Rattle.fl_cores.specs.Begins.{TheStation, HasStations}
+use Rattle.fl_cores.specs.Begins.{TheStation, Places, common_in, AreStations}
 use Rattle.fl_cores.specs.Tells.{TheOutcome, RanTo, Each2, Tells}
+use Rattle.fl_cores.specs.Shares.{Shares, AreSound}
 use Rattle.fl_cores.specs.declared.fault.CoresFault.{CoresFault}
 use Rattle.fl_cores.specs.declared.fault.CoresFault.TheVariants as fault
 use Rattle.fl_cores.specs.declared.text.CoresEnd.{CoresEnd}
@@ -64,9 +66,12 @@ pub record Made (c : TheConfig) (p : Parts) : Type 0 where
 -- each core of these parts ran by its plan from what it was given, and the report tells what came of that
 pub record CoresRan (p : Parts) (j : TheJoined) (limit : ℕ) (r : TheReport) : Type 0 where
   pub stations : List TheStation
-  pub begin : HasStations p j stations
+  pub places : Places
+  pub begin : AreStations (common_in p j places) 0 p.cores.items stations
   pub outcomes : List TheOutcome
   pub ran : Each2 (RanTo j.jobs limit) stations outcomes
+  pub shares : Shares p places stations outcomes
+  pub sound : AreSound stations outcomes
   pub tells : Tells j outcomes r
 
 -- the jobs were joined to these parts, with the reply rules that are set at once, and then the cores ran
@@ -74,6 +79,7 @@ pub record RanFrom (p : Parts) (jobs : List Job) (limit : ℕ) (r : TheReport) :
   pub joined : TheJoined
   pub are_joined : AreJoined (length p.cores.items) jobs joined
   pub are_bound : AreBound p.bindings.items jobs joined
+  pub are_fit : JobsFit p.names p.programs.items joined
   pub are_due : AreDue jobs joined
   pub parts : Parts
   pub rules : RulesOf p.bindings.items jobs p.cores.items parts.cores.items

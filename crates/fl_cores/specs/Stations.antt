@@ -3,6 +3,7 @@ use Rattle.std.specs.Prelude.{ℕ, ◌≡◌, ◌+◌, ◌-◌, ◌<◌, Bool, L
 use Rattle.std.specs.List.{range_with_len}
 use Rattle.fl_tally.specs.declared.board.View.{View}
 use Rattle.fl_tally.specs.Tally.{opening_view}
+use Rattle.fl_node.specs.Sound.{IsCore}
 use Rattle.fl_running.specs.declared.job.Job.{Job}
 use Rattle.fl_running.specs.Run.{run_of}
 use Rattle.fl_running.specs.Words.{AreWords}
@@ -12,6 +13,7 @@ use Rattle.fl_cores.specs.declared.fork.Done.{Done}
 use Rattle.fl_dockets.specs.State.{joined_of}
 use Rattle.fl_cores.specs.declared.wiring.Common.{Common}
 use Rattle.fl_cores.specs.Begins.{TheStation, TheCommon}
+use Rattle.fl_cores.specs.Shares.{IsLeftSound}
 use Rattle.fl_cores.specs.Tells.{TheOutcome, RanTo, left_off, was_told}
 
 abbrev pub station_of : Station → TheStation
@@ -37,16 +39,18 @@ has_been_told d = was_told (outcome_of d)
 
 -- ---- one core
 
--- its run may begin: each end of its plan has a word, which its seat may use, and the seat may tell of its end, or of a stop
+-- its run may begin: its core is sound, each end of its plan has a word, which its seat may use, and the seat may tell of its end, or of a stop
 pub record IsReady (s : Station) : Type 0 where
+  pub core : IsCore s.running.core
   pub as_many : length s.ticket.words.items ≡ length s.plan.ends.items
   pub may : AreWords s.ticket.words.items s.ticket.seat.knows
   pub finishes : s.ticket.seat.knows.finished < length s.ticket.seat.knows.cores
   pub stops : s.ticket.seat.knows.stopped < s.ticket.seat.knows.seats
 
--- it ran, by its plan
+-- it ran, by its plan, and was left sound
 pub record StationRan (jobs : List Job) (limit : ℕ) (s : Station) (d : Done) : Type 0 where
   pub ran : RanTo jobs limit (station_of s) (outcome_of d)
+  pub left : IsLeftSound (outcome_of d)
 
 abbrev pub AllReady : List Station → Type 0
 AllReady [] = Unit {0}

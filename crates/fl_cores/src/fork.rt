@@ -1,7 +1,10 @@
 //! A thread for each core.
 
-ghost use Rattle.std.specs.Prelude.{◌≡◌, ◌+◌, ◌<◌, ◌∷◌, ◌++◌, [], IfOk, IfErr, IsOkAnd};
+ghost use Rattle.std.specs.Prelude.{ℕ, ◌≡◌, ◌+◌, ◌<◌, ◌∷◌, ◌++◌, [], length, slice_get, Some, IfOk, IfErr, IsOkAnd};
 ghost use Rattle.std.specs.Thread.{IsSync};
+ghost use Rattle.fl_hop.specs.Joined.{Sound as IsTable};
+ghost use Rattle.fl_endpoint.specs.Accounts.{Sound as IsEnd};
+ghost use Rattle.fl_core.specs.View.{TheSeat};
 ghost use Rattle.fl_cores.specs.declared.fault.Stop.TheVariants as stop;
 ghost use Rattle.fl_cores.specs.Tells.{Each2};
 ghost use Rattle.fl_cores.specs.Stations.{IsReady, AllReady, StationRan};
@@ -9,6 +12,8 @@ ghost use Rattle.fl_cores.specs.Stations.{IsReady, AllReady, StationRan};
 use crate::crossing::{done_sent, job_shared, station_sent};
 use crate::fault::Stop;
 use crate::wiring::Station;
+use fl_hop::never_shared;
+use fl_node::Core;
 use fl_running::{Gate, Job, Part, core_run};
 use fl_tally::EndSeat;
 use std::alloc::{AllocError, Global};
@@ -36,6 +41,25 @@ impl<'a> Promise<Result<Done, AllocError>> for RunOf<'a> {
     ghost kept_by = { λ p r. IfOk r (λ d. StationRan p.jobs.now p.limit p.was.value d) };
 }
 
+// What is known of the end at a place. It does nothing.
+fn sound_at(core: &Core, e: usize)
+    requires there { e < length core.now.board.seats }
+    ensures end { (seat : TheSeat) → slice_get core.now.board.seats e ≡ Some seat → IsEnd seat.end }
+{
+    core.board().end(e).sound();
+}
+
+// What is known of each end of a core, and of its circuits. It does nothing.
+fn sound(core: &Core)
+    ensures ends { (place : ℕ) (seat : TheSeat) → slice_get core.now.board.seats place ≡ Some seat → IsEnd seat.end }
+    ensures table { IsTable core.now.monitor.circuits }
+{
+    never_shared(core.monitor().circuits());
+    for e in 0..core.board().ends() {
+        sound_at(core, e);
+    }
+}
+
 // A core's whole run.
 fn run_one<R: Wait, G: Gate>(
     rt: &R,
@@ -57,7 +81,10 @@ fn run_one<R: Wait, G: Gate>(
         &mut station.ticket,
         gate,
     ) {
-        Ok(part) => Ok(Done { station, part }),
+        Ok(part) => {
+            sound(&station.running.core);
+            Ok(Done { station, part })
+        }
         Err(_) => Err(AllocError),
     }
 }

@@ -1,8 +1,10 @@
 //! Cores on threads of their own: what a set-up makes is taken apart, each core runs its jobs on a thread, and what came of that is told.
 //!
 //! - `run.rt`: the whole run
-//! - `wiring.rt`: each core is given its own sides of rings and its own queues
+//! - `sharing.rt`: whose each side of a ring and each queue is, and all of them dealt out
+//! - `wiring.rt`: each core is given what its thread needs
 //! - `fork.rt`: a thread for each core
+//! - `settling.rt`: the rings put together again
 //! - `crossing.rt`: what may go to a thread
 //! - `telling.rt`: the report
 //! - `text.rt`: a cores file run
@@ -13,6 +15,8 @@ mod crossing;
 mod fault;
 mod fork;
 mod run;
+mod settling;
+mod sharing;
 mod telling;
 mod text;
 mod wiring;

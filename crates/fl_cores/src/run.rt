@@ -13,6 +13,7 @@ ghost use Rattle.fl_cores.specs.Promised.{is_other, asks_other, cores_by, IsAcce
 
 use crate::fault::{CoresFault, Stop};
 use crate::fork::run_each;
+use crate::settling::{put_together, rings_hold};
 use crate::telling::tell;
 use crate::wiring::wire;
 use fl_dockets::{Joined, join_jobs};
@@ -119,10 +120,15 @@ fn run_joined<R: Threads + Wait + Sync, G: Gate + Sync>(
         owners: owners_of(alloc, &joined.owners)?,
     };
     let mut own = EndSeat::new(alloc, plan)?;
-    let stations = wire(alloc, parts, &joined, &mut own)?;
-    match run_each(rt, alloc, gate, own, stations, &joined.jobs, limit) {
+    let wired = wire(alloc, parts, &joined, &mut own)?;
+    rings_hold();
+    match run_each(rt, alloc, gate, own, wired.stations, &joined.jobs, limit) {
         Err((stop, _)) => Err(stop),
-        Ok((done, _)) => Ok(tell(alloc, &joined, &done)?),
+        Ok((done, _)) => {
+            let report = tell(alloc, &joined, &done)?;
+            put_together(alloc, wired.owners, done)?;
+            Ok(report)
+        }
     }
 }
 

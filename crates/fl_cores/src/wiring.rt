@@ -1,4 +1,4 @@
-//! Each core is given its own sides of rings and its own queues.
+//! Each core is given what its thread needs, with its own sides of rings and its own queues.
 
 ghost use Rattle.std.specs.Prelude.{◌≡◌, ◌+◌, ◌<◌, ◌≤◌, ◌==◌, ◌++◌, ◌∷◌, [], if◌then◌else◌, length, map, IfOk, OnOk};
 ghost use Rattle.fl_compile.specs.Programs.{program_of};
@@ -9,16 +9,19 @@ ghost use Rattle.fl_running.specs.declared.word.Word.TheVariants.{Tells, Hears};
 ghost use Rattle.fl_dockets.specs.Joined.{AreBindings, HasDockets};
 ghost use Rattle.fl_dockets.specs.State.{joined_of};
 ghost use Rattle.fl_cores.specs.Begins.{core_at, owns, ends_at, ends_from, word_by, words_at, words_of, desk_for, desks_of};
-ghost use Rattle.fl_cores.specs.Begins.{IsAlone, IsStation, AreStations, HasStations};
+ghost use Rattle.fl_cores.specs.Begins.{IsAlone, IsStation, AreStations};
+ghost use Rattle.fl_cores.specs.Shares.{sides_given, queues_given};
+ghost use Rattle.fl_cores.specs.Dealing.{Wires};
 ghost use Rattle.fl_cores.specs.Stations.{IsReady, AllReady, station_of, common_of, left_view};
 
+use crate::sharing::{Owners, deal_queues, deal_sides};
 use fl_base::{EndId, LinkId, Side};
 use fl_compile::Program;
 use fl_dockets::{Bound, Joined, slot_of};
 use fl_link::QueueLink;
 use fl_nameserv::Names;
-use fl_node::{Core, Inlet, Outlet};
-use fl_ring::{OneDuo, SharedSide, duo};
+use fl_node::Core;
+use fl_ring::SharedSide;
 use fl_running::{Desk, Plan, Running, Ticket, Word};
 use fl_system::Parts;
 use fl_tally::EndSeat;
@@ -33,137 +36,6 @@ pub(crate) struct Station {
     pub(crate) running: Running<SharedSide>,
     pub(crate) plan: Plan,
     pub(crate) ticket: Ticket,
-}
-
-// To which core each side of a ring goes, by ring, and each queue. What no core names goes to core 0.
-#[derive(Debug, Drop)]
-struct Owners {
-    rings: Vec<[usize; 2]>,
-    queues: Vec<usize>,
-}
-
-impl Owners {
-    fn new(alloc: Global, rings: usize, queues: usize) -> Result<Owners, AllocError> {
-        Ok(Owners {
-            rings: vec![in alloc; [0; 2]; rings]?,
-            queues: vec![in alloc; 0; queues]?,
-        })
-    }
-
-    // As the cores name them.
-    fn named(
-        alloc: Global,
-        rings: usize,
-        queues: usize,
-        cores: &[Core],
-    ) -> Result<Owners, AllocError> {
-        let mut owners = Owners::new(alloc, rings, queues)?;
-        for (k, core) in cores.iter().enumerate() {
-            owners.own_all(k, core);
-        }
-        Ok(owners)
-    }
-
-    fn own_side(&mut self, side: usize, core: usize) {
-        if let Some(two) = self.rings.get_mut(side / 2) {
-            two[side % 2] = core;
-        }
-    }
-
-    fn own_queue(&mut self, queue: usize, core: usize) {
-        if let Some(owner) = self.queues.get_mut(queue) {
-            *owner = core;
-        }
-    }
-
-    fn own_outlet(&mut self, outlet: Outlet, core: usize) {
-        match outlet {
-            Outlet::Queue(n) => self.own_queue(n, core),
-            Outlet::Side(n) => self.own_side(n, core),
-        }
-    }
-
-    fn own_inlet(&mut self, inlet: Inlet, core: usize) {
-        match inlet {
-            Inlet::Queue(n) => self.own_queue(n, core),
-            Inlet::Side(n) => self.own_side(n, core),
-            Inlet::Arrivals => (),
-        }
-    }
-
-    // What a core's links and ends name is that core's.
-    fn own_all(&mut self, k: usize, core: &Core) {
-        for link in 0..MAX_LINKS {
-            if let Some(side) = core.side(LinkId(link)) {
-                self.own_side(side, k);
-            }
-        }
-        for e in 0..core.board().ends() {
-            self.own_outlet(core.outlet(e), k);
-            self.own_inlet(core.inlet(e), k);
-        }
-    }
-}
-
-// Things that are dealt out: of each core those that it got, in order, and of each thing its place among them.
-#[derive(Drop)]
-struct Dealt<T> {
-    hands: Vec<Vec<T>>,
-    places: Vec<usize>,
-}
-
-impl<T: Drop> Dealt<T> {
-    fn new(alloc: Global, cores: usize) -> Result<Dealt<T>, AllocError> {
-        let mut hands = Vec::new(alloc);
-        for _ in 0..cores {
-            hands.push(Vec::new(alloc))?;
-        }
-        Ok(Dealt {
-            hands,
-            places: Vec::new(alloc),
-        })
-    }
-
-    // The next thing goes to a core.
-    fn give(&mut self, core: usize, thing: T) -> Result<(), AllocError> {
-        let Some(hand) = self.hands.get_mut(core) else {
-            return Ok(self.places.push(0)?);
-        };
-        self.places.push(hand.len())?;
-        Ok(hand.push(thing)?)
-    }
-}
-
-// New rings of the same sizes, whose sides go to their cores.
-fn deal_sides(
-    alloc: Global,
-    rings: &[OneDuo],
-    owners: &[[usize; 2]],
-    cores: usize,
-) -> Result<Dealt<SharedSide>, AllocError> {
-    let mut dealt = Dealt::new(alloc, cores)?;
-    for (ring, owner) in rings.iter().zip(owners) {
-        let Ok((one, two)) = duo(alloc, ring.words().len() / 16) else {
-            return Err(AllocError);
-        };
-        dealt.give(owner[0], one)?;
-        dealt.give(owner[1], two)?;
-    }
-    Ok(dealt)
-}
-
-// The queues go to their cores.
-fn deal_queues(
-    alloc: Global,
-    queues: Vec<QueueLink>,
-    owners: &[usize],
-    cores: usize,
-) -> Result<Dealt<QueueLink>, AllocError> {
-    let mut dealt = Dealt::new(alloc, cores)?;
-    for (queue, owner) in queues.into_iter().zip(owners) {
-        dealt.give(*owner, queue)?;
-    }
-    Ok(dealt)
 }
 
 /// The core of an end.
@@ -334,10 +206,13 @@ impl Common<'_> {
         requires seat { IsAlone self.now.joined.now.owners.items k seat.knows }
         ensures ready { IfOk result IsReady }
         ensures station { IfOk result (λ s. IsStation (common_of self.now) k core (station_of s)) }
+        ensures rings { IfOk result (λ s. s.running.rings.items ≡ rings.items) }
+        ensures queues { IfOk result (λ s. s.running.queues.items ≡ queues.items) }
     {
         let dispatchers = core.board().dispatchers();
         let mut core = core;
         core.renumber(self.sides, self.queues);
+        core.sound();
         let (ends, words) = ends_of(self.alloc, k, &self.joined.bindings)?;
         let plan = Plan {
             links: links_of(self.alloc, &core)?,
@@ -374,9 +249,13 @@ impl Common<'_> {
         requires dockets { HasDockets self.now.joined.now.bindings.items self.now.joined.now.dockets.items }
         requires few { length cores.items ≤ self.now.cores }
         requires own { own.old.knows ≡ left_view self.now.cores self.now.joined.now.owners.items 0 }
+        requires sides { length sides.items ≡ length cores.items }
+        requires queues { length queues.items ≡ length cores.items }
         ensures ready { IfOk result (λ v. AllReady v.items) }
         ensures stations { IfOk result (λ v. AreStations (common_of self.now) 0 cores.items (map station_of v.items)) }
         ensures left { OnOk result (own.new.knows ≡ left_view self.now.cores self.now.joined.now.owners.items (length cores.items)) }
+        ensures sides { IfOk result (λ v. sides_given (map station_of v.items) ≡ map (λ hand. hand.items) sides.items) }
+        ensures queues { IfOk result (λ v. queues_given (map station_of v.items) ≡ map (λ hand. hand.items) queues.items) }
     {
         let mut cores = cores;
         let Some(core) = cores.pop() else {
@@ -385,8 +264,12 @@ impl Common<'_> {
         let k = cores.as_slice().len();
         let mut sides = sides;
         let mut queues = queues;
-        let own_sides = sides.pop().unwrap_or(Vec::new(self.alloc));
-        let own_queues = queues.pop().unwrap_or(Vec::new(self.alloc));
+        let Some(own_sides) = sides.pop() else {
+            unreachable!();
+        };
+        let Some(own_queues) = queues.pop() else {
+            unreachable!();
+        };
         let mut stations = self.stations(own, cores, sides, queues)?;
         let seat = own.split()?;
         stations.push(self.station(k, core, own_sides, own_queues, seat)?)?;
@@ -394,19 +277,26 @@ impl Common<'_> {
     }
 }
 
+/// What the threads of all cores are given, and the owners of all sides of rings, by which these are put together again.
+#[derive(Drop)]
+pub(crate) struct Wired {
+    pub(crate) stations: Vec<Station>,
+    pub(crate) owners: Vec<usize>,
+}
+
 /// Gives each core what its thread needs, and a seat cut off everybody's. What is left of that is the run's own, by which it may tell of a stop.
-#[tactic(auto, using(crate::proofs::Seats::none_cut, crate::proofs::Seats::all_cut, crate::proofs::Each::has_from))]
+#[tactic(auto, using(crate::proofs::Seats::none_cut, crate::proofs::Seats::all_cut))]
 pub(crate) fn wire(
     alloc: Global,
     parts: Parts,
     joined: &Joined,
     own: &mut EndSeat,
-) -> Result<Vec<Station>, AllocError>
+) -> Result<Wired, AllocError>
     requires bindings { AreBindings (length parts.cores.items) joined.now.bindings.items joined.now.owners.items }
     requires dockets { HasDockets joined.now.bindings.items joined.now.dockets.items }
     requires own { own.old.knows ≡ opening_view (length parts.cores.items) joined.now.owners.items }
-    ensures ready { IfOk result (λ v. AllReady v.items) }
-    ensures stations { IfOk result (λ v. HasStations parts (joined_of joined.now) (map station_of v.items)) }
+    ensures ready { IfOk result (λ w. AllReady w.stations.items) }
+    ensures wires { IfOk result (λ w. Wires parts (joined_of joined.now) (map station_of w.stations.items) w.owners.items) }
     ensures able { OnOk result (own.new.knows.stopped < own.new.knows.seats) }
 {
     let Parts {
@@ -417,24 +307,26 @@ pub(crate) fn wire(
         names,
         bindings: _,
     } = parts;
+    if cores.is_empty() {
+        // A set-up has one core at least.
+        return Err(AllocError);
+    }
     let count = cores.as_slice().len();
-    let owners = Owners::named(alloc, rings.len(), queues.len(), &cores)?;
-    let Dealt {
-        hands: sides,
-        places: side_places,
-    } = deal_sides(alloc, &rings, &owners.rings, count)?;
-    let Dealt {
-        hands: queues,
-        places: queue_places,
-    } = deal_queues(alloc, queues, &owners.queues, count)?;
+    let by_name = Owners::named(alloc, rings.len(), queues.len(), &cores)?;
+    let sides = deal_sides(alloc, &rings, &by_name.sides, count)?;
+    let queues = deal_queues(alloc, queues, &by_name.queues, count)?;
+    let owners = sides.owners;
+    let side_hands = sides.hands;
+    let queue_hands = queues.hands;
     let common = Common {
         alloc,
         cores: count,
         joined,
         names: &names,
         programs: &programs,
-        sides: &side_places,
-        queues: &queue_places,
+        sides: &sides.places,
+        queues: &queues.places,
     };
-    common.stations(own, cores, sides, queues)
+    let stations = common.stations(own, cores, side_hands, queue_hands)?;
+    Ok(Wired { stations, owners })
 }

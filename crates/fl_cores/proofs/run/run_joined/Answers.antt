@@ -5,15 +5,24 @@ use Rattle.fl_dockets.specs.State.{joined_of}
 use Rattle.fl_cores.specs.declared.fork.Done.{Done}
 use Rattle.fl_cores.specs.Stations.{StationRan, outcome_of}
 use Rattle.fl_cores.specs.Tells.{Each2, Tells}
-use Rattle.fl_cores.proofs.Keeping.{cores_ran}
+use Rattle.fl_cores.proofs.Keeping.{still_held, cores_ran}
 use Rattle.fl_cores.proofs.run.run_joined.Goals as goal
+
+pub put_together-requires : goal.put_together-requires
+put_together-requires g c = record {
+  rings = still_held c.args.parts (joined_of c.args.joined) c.args.limit c.in_ok-wired.wired.stations.items c.in-Ok.done.items
+      c.in_ok-wired.wired.owners.items c.rings_hold.ensures.hold c.in_ok-wired.ensures.wires
+      (subst (λ (jobs : List Job). Each2 (StationRan jobs c.args.limit) c.in_ok-wired.wired.stations.items c.in-Ok.done.items)
+      c.deref-2.ensures.value c.in-Ok.ensures.each);
+}
 
 pub returns : goal.returns
 returns g c = record {
-  ran = cores_ran c.args.parts (joined_of c.args.joined) c.args.limit c.in_ok-stations.stations.items c.in-Ok.done.items
-      (report_of c.in_ok-tell-in-Ok.field-0) c.in_ok-stations.ensures.stations
-      (subst (λ (jobs : List Job). Each2 (StationRan jobs c.args.limit) c.in_ok-stations.stations.items c.in-Ok.done.items)
+  ran = cores_ran c.args.parts (joined_of c.args.joined) c.args.limit c.in_ok-wired.wired.stations.items c.in-Ok.done.items
+      c.in_ok-wired.wired.owners.items (report_of c.in_ok-report-in-Ok.report) c.in_ok-wired.ensures.wires c.in_ok-wired.ensures.ready
+      (subst (λ (jobs : List Job). Each2 (StationRan jobs c.args.limit) c.in_ok-wired.wired.stations.items c.in-Ok.done.items)
       c.deref-2.ensures.value c.in-Ok.ensures.each)
-      (subst (λ (ds : List Done). Tells (joined_of c.args.joined) (map outcome_of ds) (report_of c.in_ok-tell-in-Ok.field-0))
-      c.deref-in-Ok.ensures.value c.in_ok-tell-in-Ok.ensures.tells);
+      c.in_ok-put_together-in-Ok.ensures.near
+      (subst (λ (ds : List Done). Tells (joined_of c.args.joined) (map outcome_of ds) (report_of c.in_ok-report-in-Ok.report))
+      c.deref-in-Ok.ensures.value c.in_ok-report-in-Ok.ensures.tells);
 }

@@ -2,6 +2,7 @@ use Rattle.std.proofs.Common.{◌≡◌, sym, ap, ◌∙◌, subst, List, rules}
 use Rattle.fl_running.specs.declared.word.Word.{Word}
 use Rattle.fl_running.specs.Words.{AreWords}
 use Rattle.fl_cores.specs.Begins.{words_of}
+use Rattle.fl_cores.proofs.Each.{core_moved}
 use Rattle.fl_cores.proofs.Seats.{may_finish, may_stop}
 use Rattle.fl_cores.proofs.Wording.{words_are}
 use Rattle.fl_cores.proofs.wiring.Common.station.Goals as goal
@@ -13,6 +14,7 @@ returns c =
     let alone = c.requires.seat in
     record {
       ready = record {
+        core = core_moved c.renumber.new.self _ (search rules) c.sound.ensures.sound;
         as_many = c.in_ok-ends.ensures.as_many;
         may = subst (λ (words : List Word). AreWords words knows) (sym (c.in_ok-ends.ensures.words ∙ ap (words_of c.args.k) c.deref.ensures.value))
             (words_are c.args.self.now.cores joined.bindings.items joined.owners.items c.args.k knows c.requires.bindings alone);
@@ -30,4 +32,6 @@ returns c =
         words = search rules;
         seat = alone;
       };
+      rings = search rules;
+      queues = search rules;
     }
