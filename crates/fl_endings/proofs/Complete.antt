@@ -8,7 +8,6 @@ use Rattle.fl_base.specs.declared.identity.EndId.{EndId}
 use Rattle.fl_base.specs.declared.identity.Side.{Side}
 use Rattle.fl_base.specs.declared.identity.Side.TheVariants.{Client, Server}
 use Rattle.fl_base.specs.Ends.{peer}
-use Rattle.fl_base.specs.Prefix.{IsPrefix}
 use Rattle.fl_value.specs.Value.{TheCall, call_of}
 use Rattle.fl_hop.proofs.Lists.{at_within, within}
 use Rattle.fl_queues.specs.Given.{given}
@@ -20,14 +19,14 @@ use Rattle.fl_running.specs.declared.run.End.TheVariants.{Finished}
 use Rattle.fl_running.specs.Logs.{handled_of, TurnsAreLogged, DesksTellHandled}
 use Rattle.fl_running.specs.Ran.{CountedAreTurns}
 use Rattle.fl_jobs.specs.Jobs.{Job, own_calls, has_rules, reply_to, handed_in}
-use Rattle.fl_jobs.specs.Report.{TheReport, complete, at_end, refusal_of, AllHandled}
+use Rattle.fl_jobs.specs.Report.{TheReport, complete, at_end, refusal_of, Honest, AllHandled}
 use Rattle.fl_dockets.specs.declared.docket.Bound.{Bound}
 use Rattle.fl_dockets.specs.Dockets.{TheDocket, no_docket, docket_at, is_ruled, end_of, calls_at, core_calls}
 use Rattle.fl_dockets.specs.Joined.{core_of, AreBindings}
 use Rattle.fl_dockets.specs.State.{TheJoined, AreJoined}
 use Rattle.fl_endings.specs.Cores.{shared_ways, OneCore}
 use Rattle.fl_endings.specs.Begins.{core_at, Ran}
-use Rattle.fl_endings.specs.Complete.{Knows, AreNamed, CompleteHasAll}
+use Rattle.fl_endings.specs.Complete.{Knows, AreNamed, IsNamedAt, AsManyHandled, CompleteHasAsMany, IsFirst, CompleteHasThese, CompleteHasAll}
 use Rattle.fl_endings.proofs.Turns.{all_finished}
 use Rattle.fl_endings.proofs.Desks.{still, prefix_then, no_longer, whole}
 use Rattle.fl_endings.proofs.Ended.{to_finish, at_point_still, due_or_refused}
@@ -53,7 +52,7 @@ no_calls e (job ∷ jobs) away =
     ∙ ap (λ (t : List TheCall). t ++ core_calls jobs e) (no_calls_at e job (away 0 job refl))
     ∙ no_calls e jobs (λ n x at. away (suc n) x at)
 
-past : {X : Type 0} (xs : List X) (k : ℕ) → slice_get xs k ≡ None → length xs ≤ k
+pub past : {X : Type 0} (xs : List X) (k : ℕ) → slice_get xs k ≡ None → length xs ≤ k
 past [] k is = omega arith
 past (x ∷ xs) zero is = absurd (cc)
 past (x ∷ xs) (suc k) is = let l = past xs k is in omega (arith, l)
@@ -77,11 +76,11 @@ nothing_handed cores asked j joined e none =
 
 -- ---- the core of an end
 
-core_below : (cores : ℕ) (bindings : List Bound) (owners : List ℕ) → AreBindings cores bindings owners → (s : Side) (n : ℕ) (b : Bound) → slice_get bindings n ≡ Some b → core_of s b < cores
+pub core_below : (cores : ℕ) (bindings : List Bound) (owners : List ℕ) → AreBindings cores bindings owners → (s : Side) (n : ℕ) (b : Bound) → slice_get bindings n ≡ Some b → core_of s b < cores
 core_below cores bindings owners are Client n b at = are.client n b at
 core_below cores bindings owners are Server n b at = are.server n b at
 
-bound_by : (bindings : List Bound) (e : EndId) (n : ℕ) (o : Option Bound) → slice_get bindings e.binding ≡ o → given o None (λ (b : Bound). Some (core_of e.side b)) ≡ Some n
+pub bound_by : (bindings : List Bound) (e : EndId) (n : ℕ) (o : Option Bound) → slice_get bindings e.binding ≡ o → given o None (λ (b : Bound). Some (core_of e.side b)) ≡ Some n
     → e.binding < length bindings
 bound_by bindings e n None at is = absurd (cc)
 bound_by bindings e n (Some b) at is = within bindings e.binding b at
@@ -90,10 +89,6 @@ bound_by bindings e n (Some b) at is = within bindings e.binding b at
 
 module _ (logged : TurnsAreLogged shared_ways) (tell : DesksTellHandled shared_ways) (turns : CountedAreTurns shared_ways)
     (asked : List Job) (j : TheJoined) (limit : ℕ) (cores : List OneCore) (r : TheReport) (ran : Ran asked j limit cores r) where
-  -- what an end handled is told, and is the first of what is handed in
-  pub first_of : (e : EndId) → IsPrefix (at_end r.handled e) (handed_in asked (peer e))
-  first_of e = prefix_then (at_end r.handled e) (at_end r.made (peer e)) (handed_in asked (peer e)) (ran.honest.handled e) (ran.honest.made (peer e))
-
   module _ (n : ℕ) (c : OneCore) (at : slice_get cores n ≡ Some c) (e : EndId) (own : core_at j.bindings e ≡ Some n) where
     pub told_count : length (at_end r.handled e) ≡ length (handled_of c.finish e)
     told_count = ap length (ran.desks.handled e n c own at) ∙ length-map (handled_of c.finish e) call_of
@@ -113,24 +108,41 @@ module _ (logged : TurnsAreLogged shared_ways) (tell : DesksTellHandled shared_w
       | inr count ↦ inr (count ∙ ran.due.due e (bound_by j.bindings e n (slice_get j.bindings e.binding) refl own))
     ]
 
-  by_core : (named : AreNamed cores r) (done : r.ending ≡ complete) (e : EndId) → refusal_of r e.binding ≡ None → (o : Option Bound) → slice_get j.bindings e.binding ≡ o
-      → at_end r.handled e ≡ handed_in asked (peer e)
-  by_core named done e unnamed None is =
-      ran.desks.no_more e is ∙ sym (nothing_handed (length cores) asked j ran.joined (peer e) is)
-  by_core named done e unnamed (Some b) is =
-      let n : ℕ = core_of e.side b in
-      let (c, at) = at_within cores n (core_below (length cores) j.bindings j.owners ran.joined.bindings e.side e.binding b is) in
-      let own : core_at j.bindings e ≡ Some n = ap (λ (o : Option Bound). given o None (λ (x : Bound). Some (core_of e.side x))) is in
-      elim (all_or_refused n c at e own (all_finished cores r ran.turns done n c at)) [
-        | inl knows ↦ absurd (named n c e at knows unnamed)
-        | inr count ↦
-            (let one = told_count n c at e own in
-            let more = grown n c at e own in
-            whole (at_end r.handled e) (handed_in asked (peer e)) (first_of e) (omega (arith, one, more, count)))
-      ]
+  module _ (done : r.ending ≡ complete) (e : EndId) (named : IsNamedAt cores r e) (unnamed : refusal_of r e.binding ≡ None) where
+    many_by : (o : Option Bound) → slice_get j.bindings e.binding ≡ o → AsManyHandled asked r e
+    many_by None is =
+        let none = ap length (nothing_handed (length cores) asked j ran.joined (peer e) is) in
+        omega (arith, none)
+    many_by (Some b) is =
+        let n : ℕ = core_of e.side b in
+        let (c, at) = at_within cores n (core_below (length cores) j.bindings j.owners ran.joined.bindings e.side e.binding b is) in
+        let own : core_at j.bindings e ≡ Some n = ap (λ (o : Option Bound). given o None (λ (x : Bound). Some (core_of e.side x))) is in
+        elim (all_or_refused n c at e own (all_finished cores r ran.turns done n c at)) [
+          | inl knows ↦ absurd (named n c at knows unnamed)
+          | inr count ↦
+              (let one = told_count n c at e own in
+              let more = grown n c at e own in
+              omega (arith, count, one, more))
+        ]
 
-  pub all_handled : AreNamed cores r → r.ending ≡ complete → AllHandled asked r
-  all_handled named done e unnamed = by_core named done e unnamed (slice_get j.bindings e.binding) refl
+    pub as_many_handled : AsManyHandled asked r e
+    as_many_handled = many_by (slice_get j.bindings e.binding) refl
+
+    pub these_handled : IsFirst asked r e → at_end r.handled e ≡ handed_in asked (peer e)
+    these_handled first = whole (at_end r.handled e) (handed_in asked (peer e)) first as_many_handled
+
+  -- in an honest report each is the first of what is handed in
+  pub first_of : Honest asked r → (e : EndId) → IsFirst asked r e
+  first_of honest e = prefix_then (at_end r.handled e) (at_end r.made (peer e)) (handed_in asked (peer e)) (honest.handled e) (honest.made (peer e))
+
+  pub all_handled : Honest asked r → AreNamed cores r → r.ending ≡ complete → AllHandled asked r
+  all_handled honest named done e unnamed = these_handled done e (λ n c at. named n c e at) unnamed (first_of honest e)
+
+pub complete_as_many : TurnsAreLogged shared_ways → DesksTellHandled shared_ways → CountedAreTurns shared_ways → CompleteHasAsMany
+complete_as_many logged tell turns asked j limit cores r ran done e named unnamed = as_many_handled logged tell turns asked j limit cores r ran done e named unnamed
+
+pub complete_these : TurnsAreLogged shared_ways → DesksTellHandled shared_ways → CountedAreTurns shared_ways → CompleteHasThese
+complete_these logged tell turns asked j limit cores r ran done e first named unnamed = these_handled logged tell turns asked j limit cores r ran done e named unnamed first
 
 pub complete_all : TurnsAreLogged shared_ways → DesksTellHandled shared_ways → CountedAreTurns shared_ways → CompleteHasAll
-complete_all logged tell turns asked j limit cores r ran named done = all_handled logged tell turns asked j limit cores r ran named done
+complete_all logged tell turns asked j limit cores r ran honest named done = all_handled logged tell turns asked j limit cores r ran honest named done

@@ -34,7 +34,7 @@ use Rattle.fl_endings.proofs.Going.{Some_}
 abbrev pub due_in : TheDesk → ℕ
 due_in d = d.due
 
-map_set : {X Y : Type 0} (f : X → Y) (xs : List X) (n : ℕ) (x y : X) → slice_get xs n ≡ Some x → f y ≡ f x → map f (slice_set xs n y) ≡ map f xs
+pub map_set : {X Y : Type 0} (f : X → Y) (xs : List X) (n : ℕ) (x y : X) → slice_get xs n ≡ Some x → f y ≡ f x → map f (slice_set xs n y) ≡ map f xs
 map_set f [] n x y at same = refl
 map_set f (z ∷ xs) zero x y at same = let is : x ≡ z = cc in ap (λ v. v ∷ map f xs) (same ∙ ap f is)
 map_set f (z ∷ xs) (suc n) x y at same = ap (λ vs. f z ∷ vs) (map_set f xs n x y at same)
@@ -105,12 +105,12 @@ dues_stay jobs (deed ∷ log) s t (m, one, by, rest) =
 
 -- ---- the calls that were handled
 
-has_place : (o : Option ℕ) (desks : List TheDesk) (desk : TheDesk) → given o None (λ n. slice_get desks n) ≡ Some desk
+pub has_place : (o : Option ℕ) (desks : List TheDesk) (desk : TheDesk) → given o None (λ n. slice_get desks n) ≡ Some desk
     → (n : ℕ) × (o ≡ Some n) × (slice_get desks n ≡ Some desk)
 has_place None desks desk is = absurd (cc)
 has_place (Some n) desks desk is = (n, refl, is)
 
-is_some_by : (o : Option ℕ) (n : ℕ) → o ≡ Some n → IsSome o
+pub is_some_by : (o : Option ℕ) (n : ℕ) → o ≡ Some n → IsSome o
 is_some_by None n is = absurd (cc)
 is_some_by (Some m) n is = refl
 

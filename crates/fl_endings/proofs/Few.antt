@@ -1,7 +1,8 @@
 -- No dispatcher handled more calls than its core took turns.
-use Rattle.std.proofs.Common.{◌≡◌, refl, sym, ap, ◌∙◌, subst, ℕ, ◌+◌, ◌≤◌, ◌==◌, inl, inr, if◌then◌else◌, List, [], ◌∷◌, ◌++◌, length, slice_get, Option, Some, None, IsSome, Bool, true, false, Result, Ok, Err, arith}
+use Rattle.std.proofs.Common.{◌≡◌, ◌≢◌, refl, sym, ap, ◌∙◌, subst, ℕ, ◌+◌, ◌≤◌, ◌==◌, inl, inr, if◌then◌else◌, List, [], ◌∷◌, ◌++◌, length, slice_get, Option, Some, None, IsSome, Bool, true, false, Result, Ok, Err, arith}
 use Rattle.std.proofs.lemmas.Bool.Decides.{nat_tests}
 use Rattle.std.proofs.lemmas.List.{length-append}
+use Rattle.std.proofs.lemmas.Option.{same_Some}
 use Rattle.fl_base.specs.declared.identity.EndId.{EndId}
 use Rattle.fl_base.specs.Ends.{peer}
 use Rattle.fl_ring.specs.SharedSides.{TheSide}
@@ -29,19 +30,20 @@ use Rattle.fl_running.proofs.Handling.{one_end}
 use Rattle.fl_running.proofs.Stepping.{end_stays}
 use Rattle.fl_running.proofs.Aside.{core_aside}
 use Rattle.fl_jobs.specs.Jobs.{Job, handed_in}
-use Rattle.fl_jobs.specs.Report.{TheReport, BothEnds, at_end}
+use Rattle.fl_jobs.specs.Report.{TheReport, at_end}
 use Rattle.fl_dockets.specs.State.{TheJoined}
 use Rattle.fl_endings.specs.Cores.{shared_ways, OneCore}
 use Rattle.fl_endings.specs.Begins.{core_at, HasDesk, Ran}
-use Rattle.fl_endings.specs.Few.{IsAt, IsOther, AreEnds, handled_at_all, RefusedAreSilent, DispatchersHandleFew}
+use Rattle.fl_endings.specs.Complete.{Knows, IsFirst}
+use Rattle.fl_endings.specs.Few.{IsAt, EndsStay, IsOther, AreEnds, handled_at_all, UnfinishedHandleFew, AreFirst, DispatchersHandleFew}
 use Rattle.fl_endings.proofs.Desks.{no_longer}
 use Rattle.fl_endings.proofs.Seats.{does_keep}
-use Rattle.fl_endings.proofs.Ended.{to_finish}
-use Rattle.fl_endings.proofs.Complete.{first_of, told_count, all_or_refused}
+use Rattle.fl_endings.proofs.Ended.{to_point, to_finish}
+use Rattle.fl_endings.proofs.Complete.{told_count, all_or_refused}
 
 -- ---- ends stay with their dispatchers
 
-abbrev Settled : TheRun TheSide → TheRun TheSide → Type 0
+abbrev pub Settled : TheRun TheSide → TheRun TheSide → Type 0
 Settled s t = (e : EndId) (place : ℕ) (seat : TheSeat) → place_of s.core e ≡ Some place → slice_get s.core.board.seats place ≡ Some seat
     → (after : TheSeat) × (place_of t.core e ≡ Some place) × (slice_get t.core.board.seats place ≡ Some after) × (after.dispatcher ≡ seat.dispatcher)
 
@@ -56,7 +58,7 @@ settled_by jobs deed s t h by e place seat at there =
     let (after, stands, same) = does_keep shared_ways deed s h.0 h.1 place seat there in
     (after, end_stays shared_ways jobs deed s t e place h by at, ap (λ k. slice_get k.board.seats place) (core_aside h.0 t deed h.2) ∙ stands, same)
 
-settles : (jobs : List CoreJob) (log : List Deed) (s t : TheRun TheSide) → Goes shared_ways jobs s log t → Settled s t
+pub settles : (jobs : List CoreJob) (log : List Deed) (s t : TheRun TheSide) → Goes shared_ways jobs s log t → Settled s t
 settles jobs [] s t same = λ e place seat at there.
     (seat, ap (λ (x : TheRun TheSide). place_of x.core e) same ∙ at, ap (λ (x : TheRun TheSide). slice_get x.core.board.seats place) same ∙ there, refl)
 settles jobs (deed ∷ log) s t h = settled_then s h.0 t (settled_by jobs deed s h.0 h.1 h.2) (settles jobs log h.0 t h.3)
@@ -98,12 +100,6 @@ total_none f none [] = refl
 total_none f none (e ∷ ends) = let here = none e in let rest = total_none f none ends in omega (arith, here, rest)
 
 module _ (j : TheJoined) (n : ℕ) (c : OneCore) (d : ℕ) where
-  told_all : (handled : List BothEnds) (f : EndId → ℕ) → ((e : EndId) → core_at j.bindings e ≡ Some n → length (at_end handled e) ≤ f e)
-      → (ends : List EndId) → AreEnds j n c d ends → handled_at_all handled ends ≤ total f ends
-  told_all handled f each [] are = omega arith
-  told_all handled f each (e ∷ ends) are =
-      let here = each e are.0 in let rest = told_all handled f each ends are.3 in omega (arith, here, rest)
-
   -- ---- one event
 
   abbrev count_in : Deed → EndId → ℕ
@@ -193,7 +189,7 @@ none_there None desks desk is = absurd (cc)
 none_there (Some n) desks desk is = (ap in_desk is, refl)
 
 module _ (logged : TurnsAreLogged shared_ways) (tell : DesksTellHandled shared_ways) (turns : CountedAreTurns shared_ways)
-    (asked : List Job) (j : TheJoined) (limit : ℕ) (cores : List OneCore) (r : TheReport) (ran : Ran asked j limit cores r) (silent : RefusedAreSilent cores r)
+    (asked : List Job) (j : TheJoined) (limit : ℕ) (cores : List OneCore) (r : TheReport) (ran : Ran asked j limit cores r)
     (n : ℕ) (c : OneCore) (at : slice_get cores n ≡ Some c) where
   abbrev counted_log : Logged shared_ways j.jobs (λ d. c.part.turns) c.begin.run c.point.run
   counted_log = logged c.plan j.jobs c.part.turns c.begin.run c.point.run (turns (task c.plan j.jobs limit) c.begin c.point c.part (ran.went n c at).counted)
@@ -206,37 +202,87 @@ module _ (logged : TurnsAreLogged shared_ways) (tell : DesksTellHandled shared_w
       ap length (tell j.jobs c.begin.run c.point.run counted_log.log e start.1 counted_log.goes
       ∙ ap (λ (calls : List Call). calls ++ handled_at e counted_log.log) (start.0 ∙ desk.none_handled))
 
-  -- and no more is told
-  by_ending : (e : EndId) → core_at j.bindings e ≡ Some n → (end : End) → c.part.end ≡ end → GoesOn shared_ways (task c.plan j.jobs limit) end c.point.run c.finish
-      → length (at_end r.handled e) ≤ length (handled_of c.point.run e)
-  by_ending e own Finished is on = elim (all_or_refused logged tell turns asked j limit cores r ran n c at e own is) [
-    | inl knows ↦ (let none = ap length (silent n c e at knows) in omega (arith, none))
-    | inr count ↦ (let all = no_longer (at_end r.handled e) (handed_in asked (peer e)) (first_of logged tell turns asked j limit cores r ran e) in omega (arith, all, count))
+  -- no more is told of an end than it had handled by the point
+  abbrev NoMore : EndId → Type 0
+  NoMore e = length (at_end r.handled e) ≤ length (handled_of c.point.run e)
+
+  abbrev NoneMore : List EndId → Type 0
+  NoneMore [] = Unit {0}
+  NoneMore (e ∷ ends) = NoMore e × NoneMore ends
+
+  -- where the core didn't go on
+  stopped : c.finish ≡ c.point.run → (e : EndId) → core_at j.bindings e ≡ Some n → NoMore e
+  stopped on e own =
+      let same = told_count logged tell turns asked j limit cores r ran n c at e own in
+      let stays = ap (λ (x : TheRun TheSide). length (handled_of x e)) on in
+      omega (arith, same, stays)
+
+  all_stopped : (d : ℕ) → c.finish ≡ c.point.run → (ends : List EndId) → AreEnds j n c d ends → NoneMore ends
+  all_stopped d on [] are = tt
+  all_stopped d on (e ∷ ends) are = (stopped on e are.0, all_stopped d on ends are.3)
+
+  unfinished_by : (d : ℕ) (ends : List EndId) (end : End) → end ≢ Finished → GoesOn shared_ways (task c.plan j.jobs limit) end c.point.run c.finish → AreEnds j n c d ends → NoneMore ends
+  unfinished_by d ends Finished not on are = absurd (not refl)
+  unfinished_by d ends Unfinished not on are = all_stopped d on ends are
+  unfinished_by d ends Told not on are = all_stopped d on ends are
+
+  -- where it finished, and all that was handled was handed in
+  finished_by : c.part.end ≡ Finished → (e : EndId) → core_at j.bindings e ≡ Some n → IsFirst asked r e → (Knows c e → at_end r.handled e ≡ []) → NoMore e
+  finished_by is e own first silent = elim (all_or_refused logged tell turns asked j limit cores r ran n c at e own is) [
+    | inl knows ↦ (let none = ap length (silent knows) in omega (arith, none))
+    | inr count ↦ (let all = no_longer (at_end r.handled e) (handed_in asked (peer e)) first in omega (arith, all, count))
   ]
-  by_ending e own Unfinished is on =
-      let same = told_count logged tell turns asked j limit cores r ran n c at e own in
-      let stays = ap (λ (x : TheRun TheSide). length (handled_of x e)) on in
-      omega (arith, same, stays)
-  by_ending e own Told is on =
-      let same = told_count logged tell turns asked j limit cores r ran n c at e own in
-      let stays = ap (λ (x : TheRun TheSide). length (handled_of x e)) on in
-      omega (arith, same, stays)
 
-  each_told : (e : EndId) → core_at j.bindings e ≡ Some n → length (at_end r.handled e) ≤ length (handled_at e counted_log.log)
-  each_told e own =
-      let by = by_ending e own c.part.end refl (ran.went n c at).goes_on in
-      let same = by_point e own in
-      omega (arith, by, same)
+  all_finished : (d : ℕ) → c.part.end ≡ Finished → (ends : List EndId) → AreEnds j n c d ends → AreFirst asked c r ends → NoneMore ends
+  all_finished d is [] are firsts = tt
+  all_finished d is (e ∷ ends) are firsts = (finished_by is e are.0 firsts.0 firsts.1, all_finished d is ends are.3 firsts.2)
 
-  pub at_most : (d : ℕ) (ends : List EndId) → AreEnds j n c d ends → handled_at_all r.handled ends ≤ c.part.turns
-  at_most d ends are =
+  ended_by : (d : ℕ) (ends : List EndId) (end : End) → c.part.end ≡ end → GoesOn shared_ways (task c.plan j.jobs limit) end c.point.run c.finish → AreEnds j n c d ends
+      → AreFirst asked c r ends → NoneMore ends
+  ended_by d ends Finished is on are firsts = all_finished d is ends are firsts
+  ended_by d ends Unfinished is on are firsts = all_stopped d on ends are
+  ended_by d ends Told is on are firsts = all_stopped d on ends are
+
+  told_all : (d : ℕ) (ends : List EndId) → AreEnds j n c d ends → NoneMore ends → handled_at_all r.handled ends ≤ total (λ e. length (handled_at e counted_log.log)) ends
+  told_all d [] are none = omega arith
+  told_all d (e ∷ ends) are none =
+      let by = none.0 in
+      let same = by_point e are.0 in
+      let rest = told_all d ends are.3 none.1 in
+      omega (arith, by, same, rest)
+
+  pub at_most : (d : ℕ) (ends : List EndId) → AreEnds j n c d ends → NoneMore ends → handled_at_all r.handled ends ≤ c.part.turns
+  at_most d ends are none =
       let on = to_finish logged tell turns j limit n c (ran.begins n c at) (ran.went n c at) in
       let later = logged c.plan j.jobs on.0 c.point.run c.finish on.1 in
       let settled = settles j.jobs later.log c.point.run c.finish later.goes in
-      let told_of = told_all j n c d r.handled (λ e. length (handled_at e counted_log.log)) each_told ends are in
+      let told_of = told_all d ends are none in
       let in_log = log_few j n c d ends are j.jobs counted_log.log c.begin.run c.point.run counted_log.goes settled in
       let few = counted_log.few d in
       omega (arith, told_of, in_log, few)
 
+-- an end stays at its dispatcher
+pub ends_stay : TurnsAreLogged shared_ways → DesksTellHandled shared_ways → CountedAreTurns shared_ways → EndsStay
+ends_stay logged tell turns asked j limit cores r ran n place c e seat at there stands after sat here sits =
+    let begins = ran.begins n c at in
+    let went = ran.went n c at in
+    let one = to_point logged tell turns j limit n c begins went in
+    let two = to_finish logged tell turns j limit n c begins went in
+    let first = logged c.plan j.jobs one.0 c.begin.run c.point.run one.1 in
+    let rest = logged c.plan j.jobs two.0 c.point.run c.finish two.1 in
+    let (last, last_at, last_is, same) =
+    settled_then c.begin.run c.point.run c.finish (settles j.jobs first.log c.begin.run c.point.run first.goes) (settles j.jobs rest.log c.point.run c.finish rest.goes)
+    e place seat there stands in
+    let place_is : after ≡ place = same_Some after place (sym here ∙ last_at) in
+    let seat_is : sat ≡ last = same_Some sat last (sym sits ∙ ap (λ (i : ℕ). slice_get c.finish.core.board.seats i) place_is ∙ last_is) in
+    ap (λ (x : TheSeat). x.dispatcher) seat_is ∙ same
+
+pub unfinished_handle_few : TurnsAreLogged shared_ways → DesksTellHandled shared_ways → CountedAreTurns shared_ways → UnfinishedHandleFew
+unfinished_handle_few logged tell turns asked j limit cores r ran n d c ends at not are =
+    at_most logged tell turns asked j limit cores r ran n c at d ends are
+    (unfinished_by logged tell turns asked j limit cores r ran n c at d ends c.part.end not (ran.went n c at).goes_on are)
+
 pub handle_few : TurnsAreLogged shared_ways → DesksTellHandled shared_ways → CountedAreTurns shared_ways → DispatchersHandleFew
-handle_few logged tell turns asked j limit cores r ran silent n d c ends at are = at_most logged tell turns asked j limit cores r ran silent n c at d ends are
+handle_few logged tell turns asked j limit cores r ran n d c ends at are firsts =
+    at_most logged tell turns asked j limit cores r ran n c at d ends are
+    (ended_by logged tell turns asked j limit cores r ran n c at d ends c.part.end refl (ran.went n c at).goes_on are firsts)

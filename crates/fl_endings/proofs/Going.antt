@@ -1,10 +1,12 @@
 -- Turns in a row, put together.
-use Rattle.std.proofs.Common.{◌≡◌, refl, sym, subst, ℕ, zero, suc, List}
+use Rattle.std.proofs.Common.{◌≡◌, refl, sym, subst, ℕ, zero, suc, List, [], ◌∷◌, ◌++◌}
 use Rattle.fl_ring.specs.SharedSides.{TheSide}
 use Rattle.fl_running.specs.declared.job.Job.{Job as CoreJob}
 use Rattle.fl_running.specs.declared.plan.Plan.{Plan}
 use Rattle.fl_running.specs.declared.run.End.{End}
 use Rattle.fl_running.specs.declared.run.End.TheVariants.{Finished, Unfinished, Told}
+use Rattle.fl_running.specs.Deeds.{Deed}
+use Rattle.fl_running.specs.Logs.{Goes}
 use Rattle.fl_running.specs.Run.{TheRun}
 use Rattle.fl_running.specs.Turn.{OneTurn, Turned}
 use Rattle.fl_running.specs.Ran.{task, GoesOn, SomeTurns}
@@ -35,3 +37,9 @@ module _ (plan : Plan) (jobs : List CoreJob) where
   goes_on limit Finished s t h = h
   goes_on limit Unfinished s t h = none s t h
   goes_on limit Told s t h = none s t h
+
+-- ---- logs, one behind the other
+
+pub goes_then : (jobs : List CoreJob) (a b : List Deed) (s m t : TheRun TheSide) → Goes shared_ways jobs s a m → Goes shared_ways jobs m b t → Goes shared_ways jobs s (a ++ b) t
+goes_then jobs [] b s m t same h = subst (λ (x : TheRun TheSide). Goes shared_ways jobs x b t) same h
+goes_then jobs (deed ∷ a) b s m t g h = (g.0, g.1, g.2, goes_then jobs a b g.0 m t g.3 h)

@@ -141,10 +141,10 @@ module _ (F : EndId → Type 0) where
   -- ---- all words of a core
 
   module _ (ends : List EndId) (first : EndId → Word) where
-    -- each end's word came of its first one, and what was stored is told of an end of which F holds
+    -- each end's word came of its first one, and what was stored is told of an end here of which F holds
     pub record Tracks (s : Stock) : Type 0 where
       pub words : (k : ℕ) (e : EndId) → slice_get ends k ≡ Some e → (w : Word) × (slice_get s.words k ≡ Some w) × Became s.seat.knows.heard e (first e) w
-      pub stored : (job number : ℕ) → Among job number s.seat.knows.stored → (e : EndId) × (first e ≡ Tells job) × F e
+      pub stored : (job number : ℕ) → Among job number s.seat.knows.stored → (e : EndId) × (k : ℕ) × (slice_get ends k ≡ Some e) × (first e ≡ Tells job) × F e
 
     module _ (s : TheRun TheSide) (says : (e : EndId) → refusal_at s e ≢ 0 → F e) where
       one_word : (n : ℕ) (a b : Stock) (h : ExchangesAt s ends n a b) → Tracks a → (k : ℕ) (e : EndId) → slice_get ends k ≡ Some e → (t : Bool) → (k == n) ≡ t
@@ -169,13 +169,13 @@ module _ (F : EndId → Type 0) where
           )
 
       one_stored : (n : ℕ) (a b : Stock) (h : ExchangesAt s ends n a b) → Tracks a → (job number : ℕ) → Among job number b.seat.knows.stored
-          → (e : EndId) × (first e ≡ Tells job) × F e
+          → (e : EndId) × (k : ℕ) × (slice_get ends k ≡ Some e) × (first e ≡ Tells job) × F e
       one_stored n a b h tracks job number there = elim (stores_by s h.name h.word h.after a.seat b.seat h.exchanges job number there) [
         | inl old ↦ tracks.stored job number old
         | inr new ↦
             (let was = tracks.words n h.name h.name_is in
             let word : was.0 ≡ Tells job = one_stands a.words n was.0 h.word was.1 h.word_is ∙ new.0 in
-            (h.name, tells_first a.seat.knows.heard h.name (first h.name) job (subst (λ (x : Word). Became a.seat.knows.heard h.name (first h.name) x) word was.2), says h.name new.1))
+            (h.name, n, h.name_is, tells_first a.seat.knows.heard h.name (first h.name) job (subst (λ (x : Word). Became a.seat.knows.heard h.name (first h.name) x) word was.2), says h.name new.1))
       ]
 
       one : (n : ℕ) (a b : Stock) → ExchangesAt s ends n a b → Tracks a → Tracks b

@@ -4,6 +4,12 @@ pub mod Learning
 pub mod Desks
 pub mod Ended
 pub mod Complete
+pub mod Older
+pub mod Opening
+pub mod Entries
+pub mod Staying
 pub mod Named
 pub mod Seats
 pub mod Few
+pub mod Silent
+pub mod Rest

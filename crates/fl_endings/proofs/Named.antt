@@ -1,11 +1,13 @@
 -- Each binding of which a core knew that its opening was refused is named.
-use Rattle.std.proofs.Common.{◌≡◌, ◌≢◌, refl, sym, ap, ◌∙◌, subst, ℕ, ◌==◌, inl, inr, if◌then◌else◌, List, slice_get, Option, Some, None, Bool, true, false, arith}
+use Rattle.std.proofs.Common.{◌≡◌, ◌≢◌, refl, sym, ap, ◌∙◌, subst, ℕ, ◌==◌, inl, inr, if◌then◌else◌, List, length, slice_get, Option, Some, None, Bool, true, false, arith, ◌+◌, ◌⊎◌, [], ◌∷◌}
 use Rattle.std.proofs.lemmas.Option.{same_Some}
 use Rattle.std.proofs.lemmas.Bool.Decides.{nat_tests}
 use Rattle.fl_base.specs.declared.identity.EndId.{EndId}
 use Rattle.fl_base.specs.declared.identity.Side.{Side}
 use Rattle.fl_base.specs.declared.identity.Side.TheVariants.{Client, Server}
 use Rattle.fl_core.proofs.Places.{one_stands}
+use Rattle.fl_tally.specs.declared.board.Refusal.{Refusal}
+use Rattle.fl_tally.specs.Tally.{Agrees, number_of}
 use Rattle.fl_queues.specs.Given.{given}
 use Rattle.fl_node.specs.View.{client_of}
 use Rattle.fl_running.specs.declared.word.Word.{Word}
@@ -19,9 +21,11 @@ use Rattle.fl_dockets.specs.declared.docket.Bound.{Bound}
 use Rattle.fl_dockets.specs.State.{TheJoined}
 use Rattle.fl_endings.specs.Cores.{shared_ways, OneCore}
 use Rattle.fl_endings.specs.Begins.{core_at, word_by, word_at, word_of, Ran}
-use Rattle.fl_endings.specs.Complete.{AreNamed, RefusalsStay, Among, HeardIsTold, RefusalsAreNamed}
+use Rattle.fl_endings.specs.Complete.{Knows, AreNamed, RefusalsStay, RunsKeepRefusals, IsOwn, OwnRefusalsAreNamed, Among, HeardIsTold, TablesTell, RefusalsAreNamed}
+use Rattle.fl_endings.specs.Refused.{SetUpIsNotRefused}
 use Rattle.fl_endings.proofs.Learning.{Became, Tracks}
 use Rattle.fl_endings.proofs.Ended.{tracks}
+use Rattle.fl_endings.proofs.Staying.{refusals_stay}
 
 -- ---- whose word it is
 
@@ -95,7 +99,7 @@ named_by number false is some none = absurd (let clash : Some number ≡ None = 
 
 module _ (logged : TurnsAreLogged shared_ways) (tell : DesksTellHandled shared_ways) (turns : CountedAreTurns shared_ways)
     (asked : List Job) (j : TheJoined) (limit : ℕ) (cores : List OneCore) (r : TheReport) (ran : Ran asked j limit cores r)
-    (stay : (n : ℕ) (c : OneCore) → slice_get cores n ≡ Some c → RefusalsStay j.jobs c) (table : HeardIsTold j cores) where
+    (stay : (n : ℕ) (c : OneCore) → slice_get cores n ≡ Some c → RefusalsStay j.jobs c) where
   -- the desk of this end has a refusal in the end
   abbrev Refuses : OneCore → EndId → Type 0
   Refuses c e = refusal_at c.finish e ≢ 0
@@ -104,55 +108,163 @@ module _ (logged : TurnsAreLogged shared_ways) (tell : DesksTellHandled shared_w
   all_tracks n c at =
       tracks logged tell turns j limit n c (ran.begins n c at) (ran.went n c at) (Refuses c) (λ m e from on some. stay n c at m e from on some)
 
-  -- the client's core of a binding that a job opens has that refusal: the binding is named
-  names : (binding : ℕ) (b : Bound) (job : ℕ) (n : ℕ) (c : OneCore) → slice_get j.bindings binding ≡ Some b → b.opened ≡ Some job → slice_get j.owners job ≡ Some n
-      → slice_get cores n ≡ Some c → Refuses c (client_of binding) → refusal_of r binding ≢ None
-  names binding b job n c at opened owner there refuses none =
-      let client : b.client ≡ n = same_Some b.client n (sym (ran.joined.bindings.opened binding job b at opened) ∙ owner) in
-      let here : slice_get cores b.client ≡ Some c = subst (λ (i : ℕ). slice_get cores i ≡ Some c) (sym client) there in
-      let told = ran.desks.refused binding b c at here in
-      named_by (refusal_at c.finish (client_of binding)) (refusal_at c.finish (client_of binding) == 0) refl refuses (sym told ∙ none)
+  -- the client's core of a binding that a job opens has that refusal in the end
+  pub record RefusedThere (binding : ℕ) : Type 0 where
+    pub bound : Bound
+    pub bound_is : slice_get j.bindings binding ≡ Some bound
+    pub job : ℕ
+    pub opened : bound.opened ≡ Some job
+    pub core : OneCore
+    pub core_is : slice_get cores bound.client ≡ Some core
+    pub refuses : Refuses core (client_of binding)
 
-  -- what the core of a job's client stored is of the one binding that the job opens
-  stored_names : (binding : ℕ) (b : Bound) (job number n : ℕ) (c : OneCore) → slice_get j.bindings binding ≡ Some b → b.opened ≡ Some job
-      → slice_get j.owners job ≡ Some n → slice_get cores n ≡ Some c → Among job number c.point.ticket.seat.knows.stored → refusal_of r binding ≢ None
-  stored_names binding b job number n c at opened owner there among =
-      let (f, word, refuses) = (all_tracks n c there).stored job number among in
-      let o = opens_of j.bindings f job word in
-      let same : f.binding ≡ binding = ran.joined.bindings.apart f.binding binding job o.bound b o.bound_is at o.opened opened in
-      let end : f ≡ client_of binding = o.client ∙ ap client_of same in
-      names binding b job n c at opened owner there (subst (λ (x : EndId). Refuses c x) end refuses)
+  -- so the binding is named
+  names : (binding : ℕ) → RefusedThere binding → refusal_of r binding ≢ None
+  names binding there none =
+      let told = ran.desks.refused binding there.bound there.core there.bound_is there.core_is in
+      named_by (refusal_at there.core.finish (client_of binding)) (refusal_at there.core.finish (client_of binding) == 0) refl there.refuses (sym told ∙ none)
 
   -- a client's own core has that refusal
-  own_names : (n k job : ℕ) (c : OneCore) (e : EndId) → slice_get cores n ≡ Some c → slice_get c.plan.ends.items k ≡ Some e → Opens j.bindings e job → Refuses c e
-      → refusal_of r e.binding ≢ None
-  own_names n k job c e at place o refuses none =
+  own_there : (n k job : ℕ) (c : OneCore) (e : EndId) → slice_get cores n ≡ Some c → slice_get c.plan.ends.items k ≡ Some e → Opens j.bindings e job → Refuses c e
+      → RefusedThere e.binding
+  own_there n k job c e at place o refuses =
       let own : core_at j.bindings (client_of e.binding) ≡ Some n = subst (λ (x : EndId). core_at j.bindings x ≡ Some n) o.client ((ran.begins n c at).own k e place) in
       let client : o.bound.client ≡ n =
       same_Some o.bound.client n (sym (ap (λ (x : Option Bound). given x None (λ (b : Bound). Some b.client)) o.bound_is) ∙ own) in
-      let here : slice_get cores o.bound.client ≡ Some c = subst (λ (i : ℕ). slice_get cores i ≡ Some c) (sym client) at in
-      let told = ran.desks.refused e.binding o.bound c o.bound_is here in
-      let there : Refuses c (client_of e.binding) = subst (λ (x : EndId). Refuses c x) o.client refuses in
-      named_by (refusal_at c.finish (client_of e.binding)) (refusal_at c.finish (client_of e.binding) == 0) refl there (sym told ∙ none)
+      record {
+        bound = o.bound;
+        bound_is = o.bound_is;
+        job = job;
+        opened = o.opened;
+        core = c;
+        core_is = subst (λ (i : ℕ). slice_get cores i ≡ Some c) (sym client) at;
+        refuses = subst (λ (x : EndId). Refuses c x) o.client refuses;
+      }
 
-  by_word : (n k : ℕ) (c : OneCore) (e : EndId) (number : ℕ) → slice_get cores n ≡ Some c → slice_get c.plan.ends.items k ≡ Some e → (first : Word) → word_of j.bindings e ≡ first
-      → Became (Refuses c) c.point.ticket.seat.knows.heard e first (Refused number) → refusal_of r e.binding ≢ None
-  by_word n k c e number at place Silent word became = absurd (let clash : Refused number ≡ Silent = became in cc)
-  by_word n k c e number at place (Tells job) word (inl same) = absurd (let clash : Refused number ≡ Tells job = same in cc)
-  by_word n k c e number at place (Tells job) word (inr (refusal, is, refuses)) = own_names n k job c e at place (opens_of j.bindings e job word) refuses
-  by_word n k c e number at place (Hears job) word (inl same) = absurd (let clash : Refused number ≡ Hears job = same in cc)
-  by_word n k c e number at place (Hears job) word (inr (refusal, is, some, among)) =
+  -- what a core stored of a job is of the one binding that the job opens
+  stored_there : (binding : ℕ) (b : Bound) (job number n : ℕ) (c : OneCore) → slice_get j.bindings binding ≡ Some b → b.opened ≡ Some job
+      → slice_get cores n ≡ Some c → Among job number c.point.ticket.seat.knows.stored → RefusedThere binding
+  stored_there binding b job number n c at opened there among =
+      let (f, k, place, word, refuses) = (all_tracks n c there).stored job number among in
+      let o = opens_of j.bindings f job word in
+      let same : f.binding ≡ binding = ran.joined.bindings.apart f.binding binding job o.bound b o.bound_is at o.opened opened in
+      subst (λ (i : ℕ). RefusedThere i) same (own_there n k job c f there place o refuses)
+
+  -- what was heard of the job that opens this end's binding
+  abbrev HeardThere : OneCore → EndId → Type 0
+  HeardThere c e = (b : Bound) (job refusal : ℕ) → word_of j.bindings e ≡ Hears job → slice_get j.bindings e.binding ≡ Some b → b.opened ≡ Some job → refusal ≢ 0
+      → Among job refusal c.point.ticket.seat.knows.heard → RefusedThere e.binding
+
+  by_word : (n k : ℕ) (c : OneCore) (e : EndId) (number : ℕ) → HeardThere c e → slice_get cores n ≡ Some c → slice_get c.plan.ends.items k ≡ Some e → (first : Word)
+      → word_of j.bindings e ≡ first → Became (Refuses c) c.point.ticket.seat.knows.heard e first (Refused number) → RefusedThere e.binding
+  by_word n k c e number heard at place Silent word became = absurd (let clash : Refused number ≡ Silent = became in cc)
+  by_word n k c e number heard at place (Tells job) word (inl same) = absurd (let clash : Refused number ≡ Tells job = same in cc)
+  by_word n k c e number heard at place (Tells job) word (inr (refusal, is, refuses)) = own_there n k job c e at place (opens_of j.bindings e job word) refuses
+  by_word n k c e number heard at place (Hears job) word (inl same) = absurd (let clash : Refused number ≡ Hears job = same in cc)
+  by_word n k c e number heard at place (Hears job) word (inr (refusal, is, some, among)) =
       let (b, bound, opened) = hears_by j.bindings e job (slice_get j.bindings e.binding) refl word in
-      let (m, d, owner, there, stored) = table n job refusal c at some among in
-      stored_names e.binding b job refusal m d bound opened owner there stored
-  by_word n k c e number at place (Refused first) word became = absurd (plain e first (slice_get j.bindings e.binding) word)
+      heard b job refusal word bound opened some among
+  by_word n k c e number heard at place (Refused first) word became = absurd (plain e first (slice_get j.bindings e.binding) word)
 
-  pub are_named : AreNamed cores r
-  are_named n c e at knows =
+  refused_by : (n : ℕ) (c : OneCore) (e : EndId) → HeardThere c e → slice_get cores n ≡ Some c → Knows c e → RefusedThere e.binding
+  refused_by n c e heard at knows =
       let (word, there, became) = (all_tracks n c at).words knows.place e knows.end_is in
       let is : word ≡ Refused knows.number = one_stands c.point.ticket.words knows.place word (Refused knows.number) there knows.word_is in
-      by_word n knows.place c e knows.number at knows.end_is (word_of j.bindings e) refl
+      by_word n knows.place c e knows.number heard at knows.end_is (word_of j.bindings e) refl
       (subst (λ (w : Word). Became (Refuses c) c.point.ticket.seat.knows.heard e (word_of j.bindings e) w) is became)
 
+  -- where the core of the job's client told it
+  pub heard_there : HeardIsTold j cores → (n : ℕ) (c : OneCore) (e : EndId) → slice_get cores n ≡ Some c → Knows c e → RefusedThere e.binding
+  heard_there table n c e at knows = refused_by n c e
+      (λ b job refusal word bound opened some among.
+      (let (m, d, told, there, stored) = table n job refusal b.client c at (ran.joined.bindings.opened e.binding job b bound opened) some among in
+      stored_there e.binding b job told m d bound opened there stored))
+      at knows
+
+  pub are_named : HeardIsTold j cores → AreNamed cores r
+  are_named table n c e at knows = names e.binding (heard_there table n c e at knows)
+
+  -- at ends of which nothing is heard
+  not_heard : (e : EndId) (job : ℕ) (b : Bound) → slice_get j.bindings e.binding ≡ Some b → e.side ≡ Client → word_of j.bindings e ≡ Hears job → ⊥
+  not_heard e job b at client word =
+      no_hears_by b.opened job (sym (ap (λ (o : Option Bound). given o Silent (word_at e.side)) at ∙ ap (λ (s : Side). word_at s b) client) ∙ word)
+
+  opened_none : (b : Bound) (job : ℕ) → b.opened ≡ Some job → b.opened ≡ None → ⊥
+  opened_none b job some none = absurd (let clash : Some job ≡ None = sym some ∙ none in cc)
+
+  pub own_refused : (n : ℕ) (c : OneCore) (e : EndId) → slice_get cores n ≡ Some c → IsOwn j.bindings e → Knows c e → RefusedThere e.binding
+  own_refused n c e at own knows = refused_by n c e
+      (λ b job refusal word bound opened some among. elim own [
+        | inl client ↦ absurd (not_heard e job b bound client word)
+        | inr none ↦ absurd (opened_none b job opened (none b bound))
+      ])
+      at knows
+
+  pub own_named : (n : ℕ) (c : OneCore) (e : EndId) → slice_get cores n ≡ Some c → IsOwn j.bindings e → Knows c e → refusal_of r e.binding ≢ None
+  own_named n c e at own knows = names e.binding (own_refused n c e at own knows)
+
+  -- of an end of a binding that no job opens nothing is known
+  silent_word : (e : EndId) (b : Bound) → slice_get j.bindings e.binding ≡ Some b → b.opened ≡ None → word_of j.bindings e ≡ Silent
+  silent_word e b at none = ap (λ (o : Option Bound). given o Silent (word_at e.side)) at ∙ silent_by e.side where
+    silent_by : (s : Side) → word_at s b ≡ Silent
+    silent_by Client = ap (word_by Tells) none
+    silent_by Server = ap (word_by Hears) none
+
+  pub unknown : (n : ℕ) (c : OneCore) (e : EndId) (b : Bound) → slice_get cores n ≡ Some c → slice_get j.bindings e.binding ≡ Some b → b.opened ≡ None → Knows c e → ⊥
+  unknown n c e b at bound none knows =
+      let (word, there, became) = (all_tracks n c at).words knows.place e knows.end_is in
+      let is : word ≡ Refused knows.number = one_stands c.point.ticket.words knows.place word (Refused knows.number) there knows.word_is in
+      let still : word ≡ Silent =
+      subst (λ (first : Word). Became (Refuses c) c.point.ticket.seat.knows.heard e first word) (silent_word e b bound none) became in
+      let clash : Silent ≡ Refused knows.number = sym still ∙ is in
+      absurd (cc)
+
+-- in each run refusals stay
+pub stay_so : (logged : TurnsAreLogged shared_ways) (asked : List Job) (j : TheJoined) (limit : ℕ) (cores : List OneCore) (r : TheReport) → Ran asked j limit cores r
+    → (n : ℕ) (c : OneCore) → slice_get cores n ≡ Some c → RefusalsStay j.jobs c
+stay_so logged asked j limit cores r ran n c at = refusals_stay logged (length cores) asked j ran.joined n c (ran.begins n c at)
+
+pub keep_refusals : TurnsAreLogged shared_ways → RunsKeepRefusals
+keep_refusals logged asked j limit cores r ran n c at = stay_so logged asked j limit cores r ran n c at
+
+pub own_refusals : TurnsAreLogged shared_ways → DesksTellHandled shared_ways → CountedAreTurns shared_ways → OwnRefusalsAreNamed
+own_refusals logged tell turns asked j limit cores r ran n c e at own knows =
+    own_named logged tell turns asked j limit cores r ran (stay_so logged asked j limit cores r ran) n c e at own knows
+
 pub refusals_named : TurnsAreLogged shared_ways → DesksTellHandled shared_ways → CountedAreTurns shared_ways → RefusalsAreNamed
-refusals_named logged tell turns asked j limit cores r ran stay table = are_named logged tell turns asked j limit cores r ran stay table
+refusals_named logged tell turns asked j limit cores r ran table = are_named logged tell turns asked j limit cores r ran (stay_so logged asked j limit cores r ran) table
+
+pub not_refused : TurnsAreLogged shared_ways → DesksTellHandled shared_ways → CountedAreTurns shared_ways → SetUpIsNotRefused
+not_refused logged tell turns asked j limit cores r ran n c e b at bound none knows =
+    unknown logged tell turns asked j limit cores r ran (stay_so logged asked j limit cores r ran) n c e b at bound none knows
+
+-- ---- what the table tells of that
+
+agree_by : (job number found : ℕ) (heard : List Refusal) → Agrees job found heard → Among job number heard → (number ≡ 0) ⊎ (number ≡ found)
+agree_by job number found [] agrees there = absurd there
+agree_by job number found (r ∷ heard) agrees (inl (is, same)) = elim (agrees.0 is) [
+  | inl zero_is ↦ inl (sym same ∙ zero_is)
+  | inr found_is ↦ inr (sym same ∙ found_is)
+]
+agree_by job number found (r ∷ heard) agrees (inr there) = agree_by job number found heard agrees.1 there
+
+told_one : (job : ℕ) (r : Refusal) (rest : ℕ) (stored : List Refusal) (b : Bool) → (r.job == job) ≡ b → (rest ≢ 0 → (told : ℕ) × Among job told stored)
+    → (if b then rest + r.number else rest) ≢ 0 → (told : ℕ) × Among job told (r ∷ stored)
+told_one job r rest stored true is later some = let same : r.job ≡ job = grind (arith, nat_tests, is) in (r.number, inl (same, refl))
+told_one job r rest stored false is later some = let found = later some in (found.0, inr found.1)
+
+some_told : (job : ℕ) (stored : List Refusal) → number_of job stored ≢ 0 → (told : ℕ) × Among job told stored
+some_told job [] some = absurd (some refl)
+some_told job (r ∷ stored) some = told_one job r (number_of job stored) stored (r.job == job) refl (some_told job stored) some
+
+pub tables_tell : TablesTell
+tables_tell j cores stored heard together finds n job number owner c at owned some among =
+    let found = finds job owner owned in
+    let is = agree_by job number found.number heard found.agrees (together.heard_all n job number c at among) in
+    let told : number_of job stored ≢ 0 = λ none. elim is [
+      | inl zero_is ↦ some zero_is
+      | inr same ↦ some (same ∙ found.exact ∙ none)
+    ] in
+    let (number_told, there) = some_told job stored told in
+    let (m, d, stands, has) = together.told_by job number_told there in
+    (m, d, number_told, stands, has)

@@ -77,7 +77,7 @@ set_by b c f seat after there same is e s at false test =
 keeps_set : (b c : TheBoard) (f : ℕ) (seat after : TheSeat) → slice_get b.seats f ≡ Some seat → after.dispatcher ≡ seat.dispatcher → c.seats ≡ slice_set b.seats f after → Keeps b c
 keeps_set b c f seat after there same is e s at = set_by b c f seat after there same is e s at (e == f) refl
 
-keeps_end : (b c : TheBoard) (e : ℕ) (Event : TheEnd → TheEnd → Type 0) → ChangesEnd b e Event c → Keeps b c
+pub keeps_end : (b c : TheBoard) (e : ℕ) (Event : TheEnd → TheEnd → Type 0) → ChangesEnd b e Event c → Keeps b c
 keeps_end b c e Event h = keeps_set b c e h.seat _ h.seat_is refl (ap (λ (x : TheBoard). x.seats) h.board)
 
 keeps_lists : (b c : TheBoard) (e : ℕ) (Event : TheSeat → ThreeLists → ThreeLists → Type 0) → ChangesLists b e Event c → Keeps b c

@@ -1,21 +1,25 @@
 -- With what cores begin, and what a report tells of their desks.
-use Rattle.std.specs.Prelude.{ℕ, ◌≡◌, ◌==◌, if◌then◌else◌, List, [], map, length, slice_get, Option, Some, None}
+use Rattle.std.specs.Prelude.{ℕ, ◌≡◌, ◌⊎◌, ◌<◌, ◌==◌, if◌then◌else◌, List, [], ◌++◌, map, take, length, slice_get, Option, Some, None}
+use Rattle.std.specs.List.{flat_map}
 use Rattle.fl_base.specs.declared.identity.EndId.{EndId}
 use Rattle.fl_base.specs.declared.identity.Side.{Side}
 use Rattle.fl_base.specs.declared.identity.Side.TheVariants.{Client, Server}
 use Rattle.fl_value.specs.Value.{call_of}
 use Rattle.fl_queues.specs.Given.{given}
-use Rattle.fl_node.specs.View.{client_of}
+use Rattle.fl_hop.specs.Table.{hop_at}
+use Rattle.fl_monitor.specs.Monitors.{waiting_for}
+use Rattle.fl_node.specs.declared.wire.Port.{Port}
+use Rattle.fl_node.specs.View.{client_of, place_of, arrivals_by}
 use Rattle.fl_running.specs.declared.word.Word.{Word}
 use Rattle.fl_running.specs.declared.word.Word.TheVariants.{Silent, Tells, Hears}
 use Rattle.fl_running.specs.Desks.{TheDesk}
 use Rattle.fl_running.specs.Logs.{handled_of}
-use Rattle.fl_running.specs.Made.{desk_of}
+use Rattle.fl_running.specs.Made.{desk_of, calls_of_jobs}
 use Rattle.fl_running.specs.Words.{refusal_at}
 use Rattle.fl_jobs.specs.Jobs.{Job}
-use Rattle.fl_jobs.specs.Report.{TheReport, at_end, refusal_of, Honest}
+use Rattle.fl_jobs.specs.Report.{TheReport, at_end, refusal_of}
 use Rattle.fl_dockets.specs.declared.docket.Bound.{Bound}
-use Rattle.fl_dockets.specs.Dockets.{docket_at}
+use Rattle.fl_dockets.specs.Dockets.{docket_at, reply_by}
 use Rattle.fl_dockets.specs.Joined.{core_of}
 use Rattle.fl_dockets.specs.State.{TheJoined, AreJoined}
 use Rattle.fl_dockets.specs.Whole.{AreDue}
@@ -43,20 +47,35 @@ word_of bindings e = given (slice_get bindings e.binding) Silent (word_at e.side
 
 -- ---- as cores begin
 
--- the end's desk: so many calls are to be handled there as its docket has, and none was
+-- the end's desk, with the jobs of its docket: so many calls are to be handled there as that has, and none was
 pub record HasDesk (j : TheJoined) (c : OneCore) (e : EndId) : Type 0 where
   pub desk : TheDesk
   pub desk_is : desk_of c.begin.run e ≡ Some desk
+  pub jobs : desk.jobs ≡ (docket_at j.dockets e).jobs
   pub due : desk.due ≡ (docket_at j.dockets e).due
   pub none_handled : desk.handled ≡ []
 
--- core n has just its own ends in its plan, each with its word and with a desk; and its seat told nothing yet
+-- no job of this desk is done, of which there are those of its end's docket or none; and no refusal stands there
+pub record IsUntouched (j : TheJoined) (e : EndId) (d : TheDesk) : Type 0 where
+  pub jobs : (d.jobs ≡ (docket_at j.dockets e).jobs) ⊎ (d.jobs ≡ [])
+  pub done : d.done ≡ 0
+  pub refused : d.refused ≡ 0
+
+-- core n has just its own ends in its plan, each with its word and with a desk; its seat told nothing yet, no desk was touched, and no number of a link leads
+-- anywhere
 pub record Begins (j : TheJoined) (n : ℕ) (c : OneCore) : Type 0 where
   pub ends : (e : EndId) → core_at j.bindings e ≡ Some n → (k : ℕ) × (slice_get c.plan.ends.items k ≡ Some e)
   pub own : (k : ℕ) (e : EndId) → slice_get c.plan.ends.items k ≡ Some e → core_at j.bindings e ≡ Some n
   pub desks : (e : EndId) → core_at j.bindings e ≡ Some n → HasDesk j c e
   pub words : (k : ℕ) (e : EndId) → slice_get c.plan.ends.items k ≡ Some e → slice_get c.begin.ticket.words k ≡ Some (word_of j.bindings e)
   pub silent : c.begin.ticket.seat.knows.stored ≡ []
+  pub untouched : (e : EndId) (d : TheDesk) → desk_of c.begin.run e ≡ Some d → IsUntouched j e d
+  -- no end is one of a circuit, and none of a binding that a job opens is there yet; the monitor has nothing to say
+  pub off_links : (e : EndId) (place : ℕ) (p : Port) → place_of c.begin.run.core e ≡ Some place → slice_get c.begin.run.core.ports place ≡ Some p
+      → arrivals_by p.wire ≡ None
+  pub absent : (e : EndId) (b : Bound) (job : ℕ) → slice_get j.bindings e.binding ≡ Some b → b.opened ≡ Some job → place_of c.begin.run.core e ≡ None
+  pub quiet : (l : ℕ) → waiting_for c.begin.run.core.monitor.outboxes l ≡ []
+  pub idle : (l n : ℕ) → l < length c.begin.run.core.lanes → hop_at c.begin.run.core.monitor.circuits l n ≡ None
 
 -- ---- what is told
 
@@ -64,17 +83,24 @@ pub record Begins (j : TheJoined) (n : ℕ) (c : OneCore) : Type 0 where
 abbrev pub refusal_by : ℕ → Option ℕ
 refusal_by number = if number == 0 then None else Some number
 
--- of each end the calls that its desk has as handled, and of each binding the refusal at the client's desk; and of no others
+-- of each end the calls that its desk has as handled, and those that it made, and of each binding the refusal at the client's desk; and of no others
 pub record TellsDesks (j : TheJoined) (cores : List OneCore) (r : TheReport) : Type 0 where
   pub handled : (e : EndId) (n : ℕ) (c : OneCore) → core_at j.bindings e ≡ Some n → slice_get cores n ≡ Some c
       → at_end r.handled e ≡ map call_of (handled_of c.finish e)
+  -- what an end made: the calls of its docket's jobs that are done, and the replies by its rules to the calls that it handled
+  pub made : (e : EndId) (n : ℕ) (c : OneCore) (d : TheDesk) → core_at j.bindings e ≡ Some n → slice_get cores n ≡ Some c → desk_of c.finish e ≡ Some d
+      → at_end r.made e ≡ calls_of_jobs j.jobs (take d.done (docket_at j.dockets e).jobs)
+      ++ flat_map (reply_by (docket_at j.dockets e).rules) (map call_of (handled_of c.finish e))
   pub refused : (n : ℕ) (b : Bound) (c : OneCore) → slice_get j.bindings n ≡ Some b → slice_get cores b.client ≡ Some c
       → refusal_of r n ≡ refusal_by (refusal_at c.finish (client_of n))
+  pub unmade : (e : EndId) (n : ℕ) (c : OneCore) → core_at j.bindings e ≡ Some n → slice_get cores n ≡ Some c → desk_of c.finish e ≡ None
+      → at_end r.made e ≡ []
   pub no_more : (e : EndId) → slice_get j.bindings e.binding ≡ None → at_end r.handled e ≡ []
+  pub no_refusal : (n : ℕ) → slice_get j.bindings n ≡ None → refusal_of r n ≡ None
 
 -- ---- the whole
 
--- cores ran the jobs that were joined for them, and an honest report tells what came of it
+-- cores ran the jobs that were joined for them, and a report tells what came of it
 pub record Ran (asked : List Job) (j : TheJoined) (limit : ℕ) (cores : List OneCore) (r : TheReport) : Type 0 where
   pub joined : AreJoined (length cores) asked j
   pub due : AreDue asked j
@@ -82,4 +108,3 @@ pub record Ran (asked : List Job) (j : TheJoined) (limit : ℕ) (cores : List On
   pub went : AllWent j.jobs limit cores
   pub turns : TellsTurns cores r
   pub desks : TellsDesks j cores r
-  pub honest : Honest asked r

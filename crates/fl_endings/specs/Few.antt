@@ -1,5 +1,5 @@
 -- No dispatcher handled more calls than its core took turns. Law.
-use Rattle.std.specs.Prelude.{ℕ, ◌≡◌, ◌≤◌, ◌+◌, false, List, [], ◌∷◌, length, slice_get, Some}
+use Rattle.std.specs.Prelude.{ℕ, ◌≡◌, ◌≢◌, ◌≤◌, ◌+◌, false, List, [], ◌∷◌, length, slice_get, Some}
 use Rattle.fl_base.specs.declared.identity.EndId.{EndId}
 use Rattle.fl_ring.specs.SharedSides.{TheSide}
 use Rattle.fl_core.specs.View.{TheSeat}
@@ -7,15 +7,22 @@ use Rattle.fl_hop.specs.Stretch.{same_end}
 use Rattle.fl_node.specs.View.{place_of}
 use Rattle.fl_running.specs.Run.{TheRun}
 use Rattle.fl_jobs.specs.Jobs.{Job}
+use Rattle.fl_running.specs.declared.run.End.TheVariants.{Finished}
 use Rattle.fl_jobs.specs.Report.{TheReport, BothEnds, at_end}
 use Rattle.fl_dockets.specs.State.{TheJoined}
 use Rattle.fl_endings.specs.Cores.{OneCore}
 use Rattle.fl_endings.specs.Begins.{core_at, Ran}
-use Rattle.fl_endings.specs.Complete.{Knows}
+use Rattle.fl_endings.specs.Complete.{Knows, IsFirst}
 
 -- where this end is at the core, it is one of dispatcher d
 abbrev pub IsAt : TheRun TheSide → ℕ → EndId → Type 0
 IsAt t d e = (place : ℕ) (seat : TheSeat) → place_of t.core e ≡ Some place → slice_get t.core.board.seats place ≡ Some seat → seat.dispatcher ≡ d
+
+-- an end that is at a core as that begins stays at its dispatcher
+abbrev pub EndsStay : Type 0
+EndsStay = (asked : List Job) (j : TheJoined) (limit : ℕ) (cores : List OneCore) (r : TheReport) → Ran asked j limit cores r
+    → (n place : ℕ) (c : OneCore) (e : EndId) (seat : TheSeat) → slice_get cores n ≡ Some c → place_of c.begin.run.core e ≡ Some place
+    → slice_get c.begin.run.core.board.seats place ≡ Some seat → IsAt c.finish seat.dispatcher e
 
 -- this end is none of these
 abbrev pub IsOther : EndId → List EndId → Type 0
@@ -32,11 +39,19 @@ abbrev pub handled_at_all : List BothEnds → List EndId → ℕ
 handled_at_all handled [] = 0
 handled_at_all handled (e ∷ ends) = length (at_end handled e) + handled_at_all handled ends
 
--- where an opening was known to be refused nothing was handled
-abbrev pub RefusedAreSilent : List OneCore → TheReport → Type 0
-RefusedAreSilent cores r = (n : ℕ) (c : OneCore) (e : EndId) → slice_get cores n ≡ Some c → Knows c e → at_end r.handled e ≡ []
+-- of a core that didn't finish
+abbrev pub UnfinishedHandleFew : Type 0
+UnfinishedHandleFew = (asked : List Job) (j : TheJoined) (limit : ℕ) (cores : List OneCore) (r : TheReport) → Ran asked j limit cores r
+    → (n d : ℕ) (c : OneCore) (ends : List EndId) → slice_get cores n ≡ Some c → c.part.end ≢ Finished → AreEnds j n c d ends
+    → handled_at_all r.handled ends ≤ c.part.turns
 
+-- what is told of each of these is the first of what is handed in for it, and nothing, where the core knew that the opening was refused
+abbrev pub AreFirst : List Job → OneCore → TheReport → List EndId → Type 0
+AreFirst asked c r [] = Unit {0}
+AreFirst asked c r (e ∷ ends) = IsFirst asked r e × (Knows c e → at_end r.handled e ≡ []) × AreFirst asked c r ends
+
+-- then it is so of any core: one that finished went on, with turns that nobody counts
 abbrev pub DispatchersHandleFew : Type 0
 DispatchersHandleFew = (asked : List Job) (j : TheJoined) (limit : ℕ) (cores : List OneCore) (r : TheReport) → Ran asked j limit cores r
-    → RefusedAreSilent cores r → (n d : ℕ) (c : OneCore) (ends : List EndId) → slice_get cores n ≡ Some c → AreEnds j n c d ends
+    → (n d : ℕ) (c : OneCore) (ends : List EndId) → slice_get cores n ≡ Some c → AreEnds j n c d ends → AreFirst asked c r ends
     → handled_at_all r.handled ends ≤ c.part.turns

@@ -4,3 +4,4 @@ pub mod Turns
 pub mod Begins
 pub mod Complete
 pub mod Few
+pub mod Refused

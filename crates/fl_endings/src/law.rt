@@ -1,37 +1,69 @@
-//! What is promised of the report of running cores, beside that it is honest: laws, as the contracts of functions that do nothing.
+//! What is promised of the report of running cores, beside that it is honest: laws, as the contracts of
+//! functions that do nothing.
 
 ghost use Rattle.fl_endings.specs.Turns.{TurnsAreKept};
-ghost use Rattle.fl_endings.specs.Complete.{CompleteHasAll, RefusalsAreNamed};
-ghost use Rattle.fl_endings.specs.Few.{DispatchersHandleFew};
+ghost use Rattle.fl_endings.specs.Complete.{CompleteHasAsMany, CompleteHasThese, CompleteHasAll};
+ghost use Rattle.fl_endings.specs.Complete.{RunsKeepRefusals, OwnRefusalsAreNamed, RefusalsAreNamed, TablesTell};
+ghost use Rattle.fl_endings.specs.Few.{EndsStay, UnfinishedHandleFew, DispatchersHandleFew};
+ghost use Rattle.fl_endings.specs.Refused.{SetUpIsNotRefused, RefusedAreOpened, RefusedAreSilent, HonestHandleFew};
 
 use fl_ring::SharedSide;
-use fl_running::{counted_are_turns, turns_are_logged};
+use fl_running::{counted_are_turns, jobs_are_made, turns_are_logged};
 
-/// A report tells of as many turns as cores, each within the limit; and `turns out` only where a core that hadn't finished took all of its turns.
+/// A report tells of as many turns as cores, each within the limit; and `turns out` only where a core that
+/// hadn't finished took all of its turns.
 pub fn turns_are_kept()
     ensures kept { TurnsAreKept }
 {}
 
-/// Where each refusal that a core knew of is named, `complete` comes only where all that was handed in was handled, but on the bindings that are named.
+/// `complete` comes only where at each end, but on the bindings that are named as refused, as many calls
+/// were handled as are handed in for it, or more, unless a core knew there of a refusal that isn't named;
+/// and just those, where what is told of the end is the first of them, as in an honest report.
 pub fn complete_has_all()
+    ensures as_many { CompleteHasAsMany }
+    ensures these { CompleteHasThese }
     ensures all { CompleteHasAll }
 {
     counted_are_turns::<SharedSide>();
     turns_are_logged::<SharedSide>();
 }
 
-/// Each binding of which a core knew that its opening was refused is named.
+/// A refusal that stood at a desk stays there. So each binding of which a core knew that its opening was
+/// refused is named: what it knew of a client's end by itself, and what it heard of a job, where a core had
+/// told of that. So it is where a seat in which all seats are put looks for each job.
 pub fn refusals_are_named()
+    ensures stay { RunsKeepRefusals }
+    ensures own { OwnRefusalsAreNamed }
     ensures named { RefusalsAreNamed }
+    ensures set_up { SetUpIsNotRefused }
+    ensures heard { TablesTell }
 {
     counted_are_turns::<SharedSide>();
     turns_are_logged::<SharedSide>();
 }
 
-/// What the ends of a dispatcher handled is together at most its core's counted turns, also where the core went on with turns that nobody counts.
+/// What the ends of a dispatcher handled is together at most its core's counted turns, where the core
+/// didn't finish; and where what is told of these ends is the first of what is handed in, also where it
+/// finished and went on with turns that nobody counts. Ends stay at their dispatchers.
 pub fn dispatchers_handle_few()
+    ensures stay { EndsStay }
+    ensures unfinished { UnfinishedHandleFew }
     ensures few { DispatchersHandleFew }
 {
     counted_are_turns::<SharedSide>();
     turns_are_logged::<SharedSide>();
+}
+
+/// A binding that is named as refused is one that a job opens; its client's end handled nothing, and made
+/// no call. So in an honest report, where what cores heard of refusals was told, no end handled a call
+/// where its core knew of a refusal, and no dispatcher handled more calls than its core took turns.
+pub fn refused_do_nothing()
+    ensures opened { RefusedAreOpened }
+    ensures silent { RefusedAreSilent }
+    ensures few { HonestHandleFew }
+{
+    counted_are_turns::<SharedSide>();
+    turns_are_logged::<SharedSide>();
+    jobs_are_made::<SharedSide>();
+    dispatchers_handle_few();
 }
