@@ -1,0 +1,73 @@
+//! What is told of any report that a run of cores answers: laws, as the contracts of functions that do
+//! nothing.
+
+ghost use Rattle.fl_outcomes.specs.Outcomes.{ReportsAreOfRuns, ReportsKeepTurns, UnfinishedHandleFew, FirstAreFew};
+ghost use Rattle.fl_outcomes.specs.Outcomes.{HonestHandleFew, RefusedAreOpened, SetUpUnfinishedHandleFew, SetUpHandleFew};
+ghost use Rattle.fl_outcomes.specs.Outcomes.{CompleteHasOwn, CompleteHasOwnFirst, CompleteHasAsMany, CompleteHasAll};
+
+/// Behind each report stand cores that began with the jobs joined for them and ran by their plans; and it
+/// tells what came of that.
+pub fn reports_are_of_runs()
+    ensures runs { ReportsAreOfRuns }
+{
+    fl_setups::set_ups_start_fresh();
+}
+
+/// A report tells of as many turns as cores, each within the limit; and `turns out` only where a core that
+/// hadn't finished took all of its turns.
+pub fn reports_keep_turns()
+    ensures kept { ReportsKeepTurns }
+{
+    reports_are_of_runs();
+    fl_endings::turns_are_kept();
+}
+
+/// What the ends of a dispatcher handled is together at most the turns that are told of its core, where
+/// that didn't finish; and where what is told of these ends is the first of what is handed in for them,
+/// where it did. So it is of each in an honest report, where what cores heard of refusals was told.
+pub fn reports_handle_few()
+    ensures unfinished { UnfinishedHandleFew }
+    ensures few { FirstAreFew }
+    ensures honest { HonestHandleFew }
+{
+    reports_are_of_runs();
+    fl_endings::dispatchers_handle_few();
+    fl_endings::refused_do_nothing();
+}
+
+/// A binding that is named as refused is one that a job opens; its client's end handled nothing, and made
+/// no call.
+pub fn refused_are_opened()
+    ensures opened { RefusedAreOpened }
+{
+    reports_are_of_runs();
+    fl_endings::refused_do_nothing();
+}
+
+/// So it is of the ends that the machine has at a dispatcher behind the set-up: what they handled is
+/// together at most the turns that are told of its core.
+pub fn dispatchers_handle_few()
+    ensures unfinished { SetUpUnfinishedHandleFew }
+    ensures set_up { SetUpHandleFew }
+{
+    fl_setups::set_ups_start_fresh();
+    reports_are_of_runs();
+    reports_handle_few();
+    fl_endings::dispatchers_handle_few();
+    fl_endings::refusals_are_named();
+}
+
+/// `complete` comes only where as many calls were handled as are handed in, or more, at each end whose core
+/// knows by itself what came of its opening, but on the bindings that are named as refused; and just those,
+/// where what is told of the end is the first of them; at each other end, where what cores heard of
+/// refusals was told.
+pub fn complete_has_all()
+    ensures own { CompleteHasOwn }
+    ensures own_first { CompleteHasOwnFirst }
+    ensures as_many { CompleteHasAsMany }
+    ensures all { CompleteHasAll }
+{
+    reports_are_of_runs();
+    fl_endings::refusals_are_named();
+    fl_endings::complete_has_all();
+}
