@@ -24,7 +24,7 @@ use Rattle.flounder.specs.Deeds.{Deed, was_read, was_not_read, was_written, was_
 use Rattle.flounder.specs.Streams.{Output, Streams, Puts, PutsPrefix, Prints, IsUntouched, IsUnread}
 use Rattle.fl_cores.specs.declared.fault.CoresFault.{CoresFault}
 use Rattle.fl_cores.specs.declared.text.CoresEnd.{CoresEnd}
-use Rattle.fl_cores.specs.Promised as run
+use Rattle.fl_reports.specs.Honesty as run
 use Rattle.flounder.specs.Status.{cores_status}
 use Rattle.flounder.specs.Commands.{failed_status, end_status, IsTold, Compiles, Views, Execs, RunsCores, Helps, Performs, Runs}
 

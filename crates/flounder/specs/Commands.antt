@@ -18,7 +18,7 @@ use Rattle.fl_show.specs.Content.{StandsFor, IsImageOf, IsRefusalOf, Shows, IsRe
 use Rattle.fl_cores.specs.declared.fault.CoresFault.{CoresFault}
 use Rattle.fl_cores.specs.declared.text.CoresEnd.{CoresEnd}
 use Rattle.fl_cores.specs.declared.text.CoresEnd.TheVariants as end
-use Rattle.fl_cores.specs.Promised.{Appends}
+use Rattle.fl_reports.specs.Honesty.{Appends}
 use Rattle.flounder.specs.Status.{cores_status}
 use Rattle.flounder.specs.Words.{Asked, to_run, to_show, to_compile, to_run_cores, AskFor, refusals}
 use Rattle.flounder.specs.Deeds.{Deed, was_read, was_not_read, was_written, was_not_written}
@@ -130,7 +130,7 @@ Execs io status = Ran io status ⊎ (CutShort io status ⊎ NotFlushed io status
 
 -- ---- cores FILE --turns N
 
--- a text is all that is told of a cores file: its report, or the line that is refused
+-- a text is all that is told of a cores file: an honest report, or the line that is refused
 abbrev pub IsTold : List ℕ → ℕ → CoresEnd → List ℕ → Type 0
 IsTold bytes turns end told = Appends bytes turns end [] told
 

@@ -19,7 +19,8 @@ use crate::told::RefusedFile;
 use crate::words::{Request, read_words};
 use clap::error::ErrorKind;
 use fl_base::CoreId;
-use fl_cores::{CoresEnd, run_cores_text};
+use fl_cores::CoresEnd;
+use fl_reports::report_cores_text;
 use fl_running::Gate;
 use fl_show::{ShowFault, compile_text, show_content};
 use fl_system::World;
@@ -188,7 +189,7 @@ pub fn cores_file<T: Threads + Wait + Sync, F: FileStore, W: Write + Drop, E: Wr
         Err(error) => return finish(Err(unread(file, error)), errors),
     };
     let mut told = Vec::new(alloc);
-    let end = match run_cores_text(rt, alloc, &content, turns, &NoGate, &mut told) {
+    let end = match report_cores_text(rt, alloc, &content, turns, &NoGate, &mut told) {
         Ok(end) => end,
         Err(fault) => return finish(Err(Fault::Cores(fault)), errors),
     };

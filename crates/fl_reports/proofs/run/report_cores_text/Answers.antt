@@ -1,0 +1,8 @@
+use Rattle.std.proofs.lemmas.Result.{IfOk-weaker}
+use Rattle.fl_reports.proofs.Texts.{honestly}
+use Rattle.fl_reports.proofs.run.report_cores_text.Goals as goal
+
+pub returns : goal.returns
+returns g c = record {
+  told = IfOk-weaker c.run_cores_text.result _ _ (λ end told. honestly c.runs_report_honestly.ensures.honest c.runs_end_as_told.ensures.ends _ _ _ _ _ told) c.run_cores_text.ensures.told;
+}

@@ -1,0 +1,39 @@
+-- That what is reported of a run of cores is honest, and that it ended as is told. Public promises rest on this file.
+use Rattle.std.specs.Prelude.{ℕ, List}
+use Rattle.fl_jobs.specs.CoresFile.{CoresFile, Outcome, Reads, is_file, refused_at}
+use Rattle.fl_jobs.specs.Jobs.{Job}
+use Rattle.fl_jobs.specs.Report.{TheReport, Honest}
+use Rattle.fl_system.specs.Booting.{TheConfig}
+use Rattle.fl_cores.specs.declared.text.CoresEnd.{CoresEnd}
+use Rattle.fl_cores.specs.Promised.{Reports, config_in, AppendsReport, AppendsRefusal}
+use Rattle.fl_reports.specs.Endings.{EndsAsTold}
+
+-- ---- cores
+
+-- a run of cores is reported, and honestly: what an end handled is a prefix of what the other end made, and what it made of what was handed in for it
+pub record ReportsHonestly (c : TheConfig) (jobs : List Job) (limit : ℕ) (r : TheReport) : Type 0 where
+  pub reports : Reports c jobs limit r
+  pub honest : Honest jobs r
+  pub ends : EndsAsTold c jobs r
+
+-- each report of a run is honest. Law
+abbrev pub RunsReportHonestly : Type 0
+RunsReportHonestly = (c : TheConfig) (jobs : List Job) (limit : ℕ) (r : TheReport) → Reports c jobs limit r → Honest jobs r
+
+-- ---- cores files
+
+-- behind what stood there an honest report is told
+pub record AppendsHonestly (file : CoresFile) (limit : ℕ) (e : CoresEnd) (before after : List ℕ) : Type 0 where
+  pub appends : AppendsReport file limit e before after
+  pub honest : Honest file.jobs appends.report
+  pub ends : EndsAsTold (config_in file) file.jobs appends.report
+
+abbrev pub AppendsFor : Outcome → ℕ → CoresEnd → List ℕ → List ℕ → Type 0
+AppendsFor (is_file file) limit e before after = AppendsHonestly file limit e before after
+AppendsFor (refused_at line number) limit e before after = AppendsRefusal line number e before after
+
+-- whatever a text comes to
+pub record Appends (text : List ℕ) (limit : ℕ) (e : CoresEnd) (before after : List ℕ) : Type 0 where
+  pub outcome : Outcome
+  pub reads : Reads text outcome
+  pub appends : AppendsFor outcome limit e before after

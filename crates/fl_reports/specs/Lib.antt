@@ -1,0 +1,4 @@
+-- The promises rest on these, in this order.
+pub mod Runs
+pub mod Endings
+pub mod Honesty

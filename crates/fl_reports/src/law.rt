@@ -1,0 +1,35 @@
+//! That the report of a run of cores is honest, and that it ended as is told: laws, as the contracts of functions that do nothing.
+
+ghost use Rattle.fl_reports.specs.Endings.{RunsEndAsTold};
+ghost use Rattle.fl_reports.specs.Honesty.{RunsReportHonestly};
+
+use fl_deal::dealt_go_on;
+use fl_honest::{cores_go, runs_are_honest};
+use fl_outcomes::{complete_has_all, dispatchers_handle_few, refused_are_opened};
+use fl_ring::SharedSide;
+use fl_running::{leads_at_first, sides_go};
+use fl_setups::set_ups_start_fresh;
+
+/// What each end is reported to have handled is the first of what the other end made, and what it made is the first of what was handed in for it: on every
+/// binding, by queues, by a ring or over a circuit.
+pub fn runs_report_honestly()
+    ensures honest { RunsReportHonestly }
+{
+    set_ups_start_fresh();
+    cores_go();
+    dealt_go_on();
+    sides_go::<SharedSide>();
+    leads_at_first();
+    runs_are_honest();
+}
+
+/// `complete` is told only where all that was handed in was handled, at each end whose core knows by itself whether its binding was refused; no binding of the
+/// set-up is told as refused; and no dispatcher of the set-up handled more calls than its core took turns.
+pub fn runs_end_as_told()
+    ensures ends { RunsEndAsTold }
+{
+    runs_report_honestly();
+    complete_has_all();
+    refused_are_opened();
+    dispatchers_handle_few();
+}

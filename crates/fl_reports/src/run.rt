@@ -1,0 +1,56 @@
+//! Runs of cores, and of cores files, whose reports are honest.
+
+ghost use Rattle.std.specs.Prelude.{map, IfOk, IfErr};
+ghost use Rattle.fl_jobs.specs.Reports.{report_of};
+ghost use Rattle.fl_jobs.specs.Views.{job_of};
+ghost use Rattle.fl_system.specs.Booting.{config_of};
+ghost use Rattle.fl_cores.specs.Promised.{IsFault};
+ghost use Rattle.fl_reports.specs.Honesty.{ReportsHonestly, Appends};
+
+use crate::law::{runs_end_as_told, runs_report_honestly};
+use fl_cores::{CoresEnd, CoresFault, run_cores, run_cores_text};
+use fl_jobs::{Job, Report};
+use fl_running::Gate;
+use fl_system::Config;
+use std::alloc::Global;
+use std::sync::Wait;
+use std::thread::Threads;
+
+/// Runs cores on threads of their own, as [`run_cores`] does, and reports honestly what each end made and handled, and how the run ended.
+///
+/// # Errors
+/// [`CoresFault`]. Every thread was joined then.
+pub fn report_cores<R: Threads + Wait + Sync, G: Gate + Sync>(
+    rt: &R,
+    alloc: Global,
+    config: &Config<'_>,
+    jobs: Vec<Job<'_>>,
+    limit: u64,
+    gate: &G,
+) -> Result<Report, CoresFault>
+    ensures reports { IfOk result (λ r. ReportsHonestly (config_of config.now) (map job_of jobs.entry.items) limit (report_of r)) }
+    ensures refused { IfErr result (λ fault. IsFault (config_of config.now) fault) }
+{
+    runs_report_honestly();
+    runs_end_as_told();
+    run_cores(rt, alloc, config, jobs, limit, gate)
+}
+
+/// Runs a cores file, as [`run_cores_text`] does, and appends what is told of that: an honest report, or the line that is refused.
+///
+/// # Errors
+/// Out of memory, or a thread doesn't start.
+pub fn report_cores_text<R: Threads + Wait + Sync, G: Gate + Sync>(
+    rt: &R,
+    alloc: Global,
+    text: &[u8],
+    limit: u64,
+    gate: &G,
+    out: &mut Vec<u8>,
+) -> Result<CoresEnd, CoresFault>
+    ensures told { IfOk result (λ end. Appends text.now limit end out.old.items out.new.items) }
+{
+    runs_report_honestly();
+    runs_end_as_told();
+    run_cores_text(rt, alloc, text, limit, gate, out)
+}
