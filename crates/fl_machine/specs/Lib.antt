@@ -1,9 +1,10 @@
--- The public promises rest on these: the fragments that a run gives or was fed, and the laws.
+-- The public promises rest on these: the fragments that a run gives or was fed, the laws, and the faults' numbers.
 pub mod Sending
 pub mod Receiving
 pub mod Reassembling
 pub mod Rounds
 pub mod Laws
+pub mod Faults
 -- Working files: what runs store as the first group sees it (`Cursors`, `Taking`, `Runs`,
 -- `Reassembled`), and how a fragment is filled.
 pub mod Cursors

@@ -3,6 +3,7 @@
 ghost use Rattle.std.specs.Prelude.{◌≡◌, ◌≤◌, ◌+◌, ◌⊎◌, ℕ, [], take, length, None, IsSome, IfOk, IfErr};
 ghost use Rattle.std.specs.Vec.{vec_capacity};
 ghost use Rattle.fl_compile.specs.Programs.{program_of};
+ghost use Rattle.fl_machine.specs.Faults.{take_number};
 ghost use Rattle.fl_machine.specs.Receiving.{HoldsTapes, StandsIn, AddsUpTo, IsRefusedIn, parts_in};
 ghost use Rattle.fl_machine.specs.Receiving.{IsNew, stand_after};
 ghost use Rattle.fl_machine.specs.declared.recv.Stand.TheVariants.{Inside as inside};
@@ -33,6 +34,18 @@ pub enum TakeFault {
     Wire(WireFault),
     /// Memory ran out, over a fragment that is the last of its call (E99).
     Memory,
+}
+
+impl TakeFault {
+    /// The fault's number, as answers show it.
+    pub fn number(self) -> u8
+        ensures number { result ≡ take_number self }
+    {
+        match self {
+            TakeFault::Wire(fault) => fault.number(),
+            TakeFault::Memory => 99,
+        }
+    }
 }
 
 // What is stored of the call under way.

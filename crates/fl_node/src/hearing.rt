@@ -1,6 +1,6 @@
 //! What a core makes of a monitors' message.
 
-ghost use Rattle.std.specs.Prelude.{◌≡◌, ◌<◌, ◌==◌, ℕ, List, Option, length, slice_get, Some, None, IfSome, true};
+ghost use Rattle.std.specs.Prelude.{◌≡◌, ◌<◌, ◌==◌, ℕ, List, Option, length, slice_get, Some, None, IfSome, IfErr, true};
 ghost use Rattle.fl_base.specs.Control.{bare};
 ghost use Rattle.fl_base.specs.declared.identity.LinkId.{LinkId as TheLink};
 ghost use Rattle.fl_compile.specs.declared.program.Program.{Program as TheProgram};
@@ -8,6 +8,7 @@ ghost use Rattle.fl_compile.specs.Programs.{program_of};
 ghost use Rattle.fl_link.specs.Looks.{saw};
 ghost use Rattle.fl_core.specs.View.{TheBoard};
 ghost use Rattle.fl_monitor.specs.Hearing.{circuit_in};
+ghost use Rattle.fl_monitor.specs.Saying.{SaysSome};
 ghost use Rattle.fl_node.specs.declared.hearing.Offered.{Offered as TheOffer};
 ghost use Rattle.fl_node.specs.View.{arriving_at};
 ghost use Rattle.fl_node.specs.Making.{HasPlace};
@@ -370,6 +371,7 @@ impl Core {
         requires seen { T.front from.old ≡ saw (bare frag.now) }
         ensures hears { HearsFrag (record { names = names.now; programs = programs.now }) link frag.now self.old result self.new }
         ensures takes { TakesHeard T.takes frag.now from.old result from.new }
+        ensures memory { IfErr result (λ fault. fault ≡ LinkFault.Memory → SaysSome frag.now) }
     {
         let message = match self.messenger.read(frag) {
             Ok(message) => message,

@@ -1,6 +1,6 @@
 //! Links, dispatchers and ends of a core. Each takes all its memory first, and then makes the change.
 
-ghost use Rattle.std.specs.Prelude.{◌≡◌, ◌<◌, ◌++◌, ◌∷◌, [], ℕ, length, slice_set, Some, None, IfOk, IfErr, OnOk, OnErr, vec_len};
+ghost use Rattle.std.specs.Prelude.{◌≡◌, ◌⊎◌, ◌<◌, ◌++◌, ◌∷◌, [], ℕ, length, slice_set, Some, None, IfOk, IfErr, OnOk, OnErr, vec_len};
 ghost use Rattle.std.specs.Vec.{vec_capacity};
 ghost use Rattle.fl_hop.specs.Table.{link_fault};
 ghost use Rattle.fl_endpoint.specs.View.{fresh};
@@ -160,6 +160,7 @@ impl Core {
         ensures link { IfOk result (λ link. link.0 ≡ length self.old.lanes) }
         ensures linked { OnOk result (self.new ≡ linked self.old neighbour side) }
         ensures may { OnOk result (link_fault self.old.monitor.circuits neighbour.0 ≡ None) }
+        ensures refused { IfErr result (λ fault. (link_fault self.old.monitor.circuits neighbour.0 ≡ Some fault) ⊎ (fault ≡ HopFault.Memory)) }
         ensures kept { OnErr result (self.new ≡ self.old) }
     {
         self.lanes.reserve(1)?;

@@ -15,8 +15,8 @@ use Rattle.fl_dockets.specs.Whole.{About, about, bound_of, wish_in, AreBound}
 use Rattle.fl_endings.specs.Complete.{IsOwn, IsFirst}
 use Rattle.fl_endings.specs.Refused.{WasRefused}
 use Rattle.fl_endings.proofs.Desks.{prefix_then}
-use Rattle.fl_outcomes.specs.Cores.{joined_in}
-use Rattle.fl_outcomes.specs.Outcomes.{RefusedAreOpened, SetUpHandleFew, CompleteHasOwnFirst, AllFirst}
+use Rattle.fl_reports.specs.Cores.{joined_in}
+use Rattle.fl_reports.specs.Outcomes.{RefusedAreOpened, SetUpHandleFew, CompleteHasOwnFirst, AllFirst}
 use Rattle.fl_cores.specs.Promised.{Reports}
 use Rattle.fl_reports.specs.Honesty.{RunsReportHonestly}
 use Rattle.fl_reports.specs.Endings.{bindings_by, OpensNone, IsKnown, EndsAsTold, RunsEndAsTold}

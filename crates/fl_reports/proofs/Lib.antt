@@ -1,3 +1,12 @@
+pub mod CoresBegin
+pub mod CoresLists
+pub mod CoresEnd
+pub mod CoresStations
+pub mod CoresDesks
+pub mod CoresStart
+pub mod CoresRun
+pub mod CoresTold
+pub mod CoresSetUp
 pub mod Runs
 pub mod SidesPlaces
 pub mod SidesPairs

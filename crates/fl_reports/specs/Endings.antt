@@ -12,7 +12,7 @@ use Rattle.fl_jobs.specs.Report.{TheReport, at_end, complete, refusal_of, AllHan
 use Rattle.fl_system.specs.Booting.{TheConfig}
 use Rattle.fl_dockets.specs.Whole.{wish_in}
 use Rattle.fl_endings.specs.Few.{handled_at_all}
-use Rattle.fl_outcomes.specs.Outcomes.{AreSetUpAt}
+use Rattle.fl_reports.specs.Outcomes.{AreSetUpAt}
 use Rattle.fl_cores.specs.Promised.{Reports}
 
 -- so many bindings the set-up makes; those that jobs open, over circuits, have the numbers behind them

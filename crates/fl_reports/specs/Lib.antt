@@ -1,4 +1,6 @@
 -- The promises rest on these, in this order.
+pub mod Cores
+pub mod Outcomes
 pub mod Runs
 pub mod Endings
 pub mod Honesty

@@ -3,9 +3,9 @@
 ghost use Rattle.fl_reports.specs.Endings.{RunsEndAsTold};
 ghost use Rattle.fl_reports.specs.Honesty.{RunsReportHonestly};
 
+use crate::outcomes::{complete_has_all, dispatchers_handle_few, refused_are_opened};
 use fl_deal::dealt_go_on;
 use fl_honest::{cores_go, runs_are_honest};
-use fl_outcomes::{complete_has_all, dispatchers_handle_few, refused_are_opened};
 use fl_ring::SharedSide;
 use fl_running::{leads_at_first, sides_go};
 use fl_setups::set_ups_start_fresh;

@@ -18,7 +18,7 @@ use Rattle.fl_endings.specs.Complete.{IsOwn, HeardIsTold, AsManyHandled, IsFirst
 use Rattle.fl_endings.specs.Few.{IsOther, AreEnds, handled_at_all, AreFirst}
 use Rattle.fl_endings.specs.Refused.{WasRefused}
 use Rattle.fl_cores.specs.Promised.{Reports}
-use Rattle.fl_outcomes.specs.Cores.{joined_in, cores_in}
+use Rattle.fl_reports.specs.Cores.{joined_in, cores_in}
 
 -- ---- whose report it is
 

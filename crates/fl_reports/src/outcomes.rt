@@ -1,9 +1,9 @@
 //! What is told of any report that a run of cores answers: laws, as the contracts of functions that do
 //! nothing.
 
-ghost use Rattle.fl_outcomes.specs.Outcomes.{ReportsAreOfRuns, ReportsKeepTurns, UnfinishedHandleFew, FirstAreFew};
-ghost use Rattle.fl_outcomes.specs.Outcomes.{HonestHandleFew, RefusedAreOpened, SetUpUnfinishedHandleFew, SetUpHandleFew};
-ghost use Rattle.fl_outcomes.specs.Outcomes.{CompleteHasOwn, CompleteHasOwnFirst, CompleteHasAsMany, CompleteHasAll};
+ghost use Rattle.fl_reports.specs.Outcomes.{ReportsAreOfRuns, ReportsKeepTurns, UnfinishedHandleFew, FirstAreFew};
+ghost use Rattle.fl_reports.specs.Outcomes.{HonestHandleFew, RefusedAreOpened, SetUpUnfinishedHandleFew, SetUpHandleFew};
+ghost use Rattle.fl_reports.specs.Outcomes.{CompleteHasOwn, CompleteHasOwnFirst, CompleteHasAsMany, CompleteHasAll};
 
 /// Behind each report stand cores that began with the jobs joined for them and ran by their plans; and it
 /// tells what came of that.

@@ -8,8 +8,8 @@ use Rattle.fl_endings.specs.Complete as endings
 use Rattle.fl_endings.specs.Few as few
 use Rattle.fl_endings.specs.Refused as refused
 use Rattle.fl_endings.proofs.Turns.{to_map}
-use Rattle.fl_outcomes.specs.Cores.{joined_in, cores_in}
-use Rattle.fl_outcomes.specs.Outcomes.{ReportsAreOfRuns, ReportsKeepTurns, UnfinishedHandleFew, FirstAreFew, HonestHandleFew, RefusedAreOpened, CompleteHasOwn, CompleteHasOwnFirst, CompleteHasAsMany, CompleteHasAll}
+use Rattle.fl_reports.specs.Cores.{joined_in, cores_in}
+use Rattle.fl_reports.specs.Outcomes.{ReportsAreOfRuns, ReportsKeepTurns, UnfinishedHandleFew, FirstAreFew, HonestHandleFew, RefusedAreOpened, CompleteHasOwn, CompleteHasOwnFirst, CompleteHasAsMany, CompleteHasAll}
 
 pub keep_turns : ReportsAreOfRuns → TurnsAreKept → ReportsKeepTurns
 keep_turns runs kept c jobs limit r w =

@@ -35,10 +35,10 @@ use Rattle.fl_endings.specs.Refused.{SetUpIsNotRefused}
 use Rattle.fl_cores.proofs.Booted.{all_making}
 use Rattle.fl_cores.specs.Begins.{TheCommon, common_in}
 use Rattle.fl_cores.specs.Promised.{Reports}
-use Rattle.fl_outcomes.specs.Cores.{joined_in, cores_in}
-use Rattle.fl_outcomes.specs.Outcomes.{ReportsAreOfRuns, UnfinishedHandleFew, FirstAreFew, SetUpUnfinishedHandleFew, SetUpAt, AreSetUpAt, AllFirst, SetUpHandleFew}
-use Rattle.fl_outcomes.proofs.Begin.{places_in, are_stations}
-use Rattle.fl_outcomes.proofs.Stations.{AtStation, at_station, AtCore, at_core, WasAt, on_boards}
+use Rattle.fl_reports.specs.Cores.{joined_in, cores_in}
+use Rattle.fl_reports.specs.Outcomes.{ReportsAreOfRuns, UnfinishedHandleFew, FirstAreFew, SetUpUnfinishedHandleFew, SetUpAt, AreSetUpAt, AllFirst, SetUpHandleFew}
+use Rattle.fl_reports.proofs.CoresBegin.{places_in, are_stations}
+use Rattle.fl_reports.proofs.CoresStations.{AtStation, at_station, AtCore, at_core, WasAt, on_boards}
 
 core_side : (s : Side) (x : Binding) → core_of s (bound_of x) ≡ core_in s x
 core_side Client x = refl

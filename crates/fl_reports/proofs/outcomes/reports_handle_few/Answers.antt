@@ -1,5 +1,5 @@
-use Rattle.fl_outcomes.proofs.Told.{unfinished_few, first_few, honest_few}
-use Rattle.fl_outcomes.proofs.law.reports_handle_few.Goals as goal
+use Rattle.fl_reports.proofs.CoresTold.{unfinished_few, first_few, honest_few}
+use Rattle.fl_reports.proofs.outcomes.reports_handle_few.Goals as goal
 
 pub returns : goal.returns
 returns c = record {

@@ -27,13 +27,13 @@ use Rattle.fl_endings.specs.Begins.{core_at, Begins, TellsDesks, refusal_by}
 use Rattle.fl_endings.proofs.Complete.{past, bound_by}
 use Rattle.fl_cores.specs.Begins.{TheStation, Places, IsStation, AreStations, common_in, desk_for, desks_of}
 use Rattle.fl_cores.specs.Tells.{TheOutcome, RanTo, Each2, Tells, desk_left, handled_by, handled_at, made_by, made_at, refusal_in, refusal_at}
-use Rattle.fl_outcomes.specs.Cores.{core_of as the_core, cores_of, cores_in}
-use Rattle.fl_outcomes.specs.Outcomes.{ReportsAreOfRuns}
-use Rattle.fl_outcomes.proofs.Begin.{places_in, are_stations}
-use Rattle.fl_outcomes.proofs.Ends.{in_plan, is_in_plan}
-use Rattle.fl_outcomes.proofs.Desks.{at_slot, is_new, own_jobs, untouched, desk_found, desk_there, desk_missing, handled_there, handled_is, refused_is, told_at, told_past, told_number, no_number}
-use Rattle.fl_outcomes.proofs.Stations.{at_station, as_many_stations, AtCore, at_core, as_many_cores, turns_are, left_are, told_are, on_boards}
-use Rattle.fl_outcomes.proofs.Starts.{StartsQuiet, quiet_renumbered, ruled_quiet}
+use Rattle.fl_reports.specs.Cores.{core_of as the_core, cores_of, cores_in}
+use Rattle.fl_reports.specs.Outcomes.{ReportsAreOfRuns}
+use Rattle.fl_reports.proofs.CoresBegin.{places_in, are_stations}
+use Rattle.fl_reports.proofs.CoresEnd.{in_plan, is_in_plan}
+use Rattle.fl_reports.proofs.CoresDesks.{at_slot, is_new, own_jobs, untouched, desk_found, desk_there, desk_missing, handled_there, handled_is, refused_is, told_at, told_past, told_number, no_number}
+use Rattle.fl_reports.proofs.CoresStations.{at_station, as_many_stations, AtCore, at_core, as_many_cores, turns_are, left_are, told_are, on_boards}
+use Rattle.fl_reports.proofs.CoresStart.{StartsQuiet, quiet_renumbered, ruled_quiet}
 
 module _ (p : Parts) (j : TheJoined) (places : Places) (limit : ℕ) (stations : List TheStation) (outcomes : List TheOutcome) (r : TheReport)
     (few : length j.bindings ≤ 1024) (are : AreStations (common_in p j places) 0 p.cores.items stations)

@@ -5,7 +5,7 @@ use Rattle.fl_jobs.specs.Report.{TheReport}
 use Rattle.fl_system.specs.Booting.{TheConfig}
 use Rattle.fl_cores.specs.Begins.{Places, AreStations, common_in}
 use Rattle.fl_cores.specs.Promised.{Reports}
-use Rattle.fl_outcomes.specs.Cores.{joined_in}
+use Rattle.fl_reports.specs.Cores.{joined_in}
 
 module _ {c : TheConfig} {jobs : List Job} {limit : ℕ} {r : TheReport} (w : Reports c jobs limit r) where
   -- the numbers by which cores name sides of rings and queues

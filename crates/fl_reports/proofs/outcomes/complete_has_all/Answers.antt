@@ -1,5 +1,5 @@
-use Rattle.fl_outcomes.proofs.Told.{has_own, has_own_first, has_as_many, has_all}
-use Rattle.fl_outcomes.proofs.law.complete_has_all.Goals as goal
+use Rattle.fl_reports.proofs.CoresTold.{has_own, has_own_first, has_as_many, has_all}
+use Rattle.fl_reports.proofs.outcomes.complete_has_all.Goals as goal
 
 pub returns : goal.returns
 returns c = record {

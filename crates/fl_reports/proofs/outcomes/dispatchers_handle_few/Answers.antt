@@ -1,5 +1,5 @@
-use Rattle.fl_outcomes.proofs.SetUp.{set_up_unfinished, set_up_few}
-use Rattle.fl_outcomes.proofs.law.dispatchers_handle_few.Goals as goal
+use Rattle.fl_reports.proofs.CoresSetUp.{set_up_unfinished, set_up_few}
+use Rattle.fl_reports.proofs.outcomes.dispatchers_handle_few.Goals as goal
 
 pub returns : goal.returns
 returns c = record {

@@ -28,9 +28,9 @@ use Rattle.fl_dockets.specs.State.{TheJoined}
 use Rattle.fl_endings.proofs.Turns.{from_map}
 use Rattle.fl_cores.proofs.Booted.{all_making}
 use Rattle.fl_cores.specs.Promised.{Reports}
-use Rattle.fl_outcomes.specs.Cores.{joined_in}
-use Rattle.fl_outcomes.proofs.Ends.{end_by}
-use Rattle.fl_outcomes.proofs.Stations.{on_boards}
+use Rattle.fl_reports.specs.Cores.{joined_in}
+use Rattle.fl_reports.proofs.CoresEnd.{end_by}
+use Rattle.fl_reports.proofs.CoresStations.{on_boards}
 
 pub record StartsQuiet (j : TheJoined) (k : TheCore) : Type 0 where
   pub off_links : (e : EndId) (place : ℕ) (p : Port) → place_of k e ≡ Some place → slice_get k.ports place ≡ Some p → arrivals_by p.wire ≡ None

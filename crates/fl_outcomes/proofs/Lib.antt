@@ -1,9 +1,0 @@
-pub mod Begin
-pub mod Lists
-pub mod Ends
-pub mod Stations
-pub mod Desks
-pub mod Starts
-pub mod Runs
-pub mod Told
-pub mod SetUp
