@@ -1,4 +1,5 @@
-//! Tests of cores files that are run with threads. Each has an answer that is certain: one core, a limit that is large enough, or a gate that says when cores go on.
+//! Tests of cores files that are run with threads. Each has an answer that is certain: one core, a limit that is
+//! large enough, or a gate that says when cores go on.
 //!
 //! - `gates.rt`: gates
 //! - `texts.rt`: cores files, and what is told of them

@@ -23,11 +23,13 @@ const BROKEN_ROW: &[u8] =
     b"cores 3\nlink 0 1 4\ndisp d 0\ndisp e 2\nexport s e i\nbind p d i s hop 0 1 2\ncall p.c ping(1)\n";
 
 // Calls that are answered by a rule, over a ring.
-const ECHO: &[u8] =
-    b"idl\ninterface i { rpc echo(in uint32 x, out uint32 y); }\n.\ncores 2\ndisp d 0\ndisp e 1\nexport s e i\nbind p d i s ump 4\nreply p.s echo_call echo_response\ncall p.c echo_call(1)\ncall p.c echo_call(2)\ncall p.c echo_call(3)\n";
+const ECHO: &[u8] = b"idl\ninterface i { rpc echo(in uint32 x, out uint32 y); }\n.\n\
+cores 2\ndisp d 0\ndisp e 1\nexport s e i\nbind p d i s ump 4\nreply p.s echo_call echo_response\n\
+call p.c echo_call(1)\ncall p.c echo_call(2)\ncall p.c echo_call(3)\n";
 
 const ECHOED: &[u8] =
-    b"handle p.c echo_response(1)\nhandle p.c echo_response(2)\nhandle p.c echo_response(3)\nhandle p.s echo_call(1)\nhandle p.s echo_call(2)\nhandle p.s echo_call(3)\ncomplete\n";
+    b"handle p.c echo_response(1)\nhandle p.c echo_response(2)\nhandle p.c echo_response(3)\n\
+handle p.s echo_call(1)\nhandle p.s echo_call(2)\nhandle p.s echo_call(3)\ncomplete\n";
 
 // Eight lines, of which the last sets a rule.
 const RULED: &[u8] =

@@ -34,8 +34,8 @@ AreAt {T} owners things hands places =
 -- and of one owner's things no two are told the same place
 abbrev pub AreApart : List ℕ → List ℕ → Type 0
 AreApart owners places =
-    (n m owner place : ℕ) → slice_get owners n ≡ Some owner → slice_get owners m ≡ Some owner → slice_get places n ≡ Some place → slice_get places m ≡ Some place
-    → n ≡ m
+    (n m owner place : ℕ) → slice_get owners n ≡ Some owner → slice_get owners m ≡ Some owner
+    → slice_get places n ≡ Some place → slice_get places m ≡ Some place → n ≡ m
 
 -- how many things of an owner stand before this number
 abbrev pub own_before : ℕ → ℕ → List ℕ → ℕ
