@@ -3,10 +3,15 @@
 //   REFUSE_READ=N:E    the Nth read fails with the error E; N:0 has it find the end
 //   REFUSE_WRITE=N:E   the Nth write fails with the error E; N:0 has it take nothing; N:E+ refuses all from the Nth on
 //   REFUSE_SHORT=1     each read and write moves one byte
-//   REFUSE_TELL=FILE   at the end the numbers of requests, reads and writes are written to FILE
+//   REFUSE_THREAD=N    the Nth thread that is asked for doesn't start, from 1; N+ refuses all from the Nth on
+//   REFUSE_TELL=FILE   at the end the numbers of requests, reads and writes, of threads that were started and of those
+//                      that were joined are written to FILE
 #define _GNU_SOURCE
+#include <dlfcn.h>
 #include <errno.h>
 #include <fcntl.h>
+#include <pthread.h>
+#include <stdatomic.h>
 #include <stdio.h>
 #include <stdlib.h>
 #include <string.h>
@@ -20,7 +25,10 @@ extern void *__libc_realloc(void *, size_t);
 extern void *__libc_memalign(size_t, size_t);
 
 static int armed, short_ones;
-static long allocs, reads, writes;
+static atomic_long allocs;
+static long reads, writes, asked, started, joined, thread_at, thread_on;
+static int (*real_create)(pthread_t *, const pthread_attr_t *, void *(*)(void *), void *);
+static int (*real_join)(pthread_t, void **);
 static long alloc_at, alloc_on, read_at, read_error, write_at, write_error, write_on;
 static const char *tell_to;
 
@@ -42,6 +50,10 @@ __attribute__((constructor)) static void arm(void) {
     write_error = *rest == ':' ? atol(rest + 1) : EIO;
     write_on = strchr(rest, '+') != NULL;
     short_ones = getenv("REFUSE_SHORT") != NULL;
+    thread_at = number("REFUSE_THREAD", &rest);
+    thread_on = *rest == '+';
+    *(void **)&real_create = dlsym(RTLD_NEXT, "pthread_create");
+    *(void **)&real_join = dlsym(RTLD_NEXT, "pthread_join");
     tell_to = getenv("REFUSE_TELL");
     armed = 1;
 }
@@ -51,7 +63,7 @@ __attribute__((destructor)) static void tell(void) {
     armed = 0;
     if (!tell_to)
         return;
-    int length = snprintf(line, sizeof line, "%ld %ld %ld\n", allocs, reads, writes);
+    int length = snprintf(line, sizeof line, "%ld %ld %ld %ld %ld\n", (long)allocs, reads, writes, started, joined);
     int file = open(tell_to, O_WRONLY | O_CREAT | O_TRUNC, 0600);
     if (file >= 0) {
         syscall(SYS_write, file, line, length);
@@ -69,8 +81,8 @@ void _exit(int status) {
 static int is_refused(void) {
     if (!armed)
         return 0;
-    allocs++;
-    if (alloc_at && (allocs == alloc_at || (alloc_on && allocs > alloc_at))) {
+    long at = ++allocs;
+    if (alloc_at && (at == alloc_at || (alloc_on && at > alloc_at))) {
         errno = ENOMEM;
         return 1;
     }
@@ -131,4 +143,20 @@ ssize_t writev(int file, const struct iovec *parts, int count) {
         if (parts[k].iov_len)
             return write(file, parts[k].iov_base, parts[k].iov_len);
     return 0;
+}
+
+// One thread alone starts and joins the others.
+int pthread_create(pthread_t *made, const pthread_attr_t *how, void *(*run)(void *), void *given) {
+    asked++;
+    if (thread_at && (asked == thread_at || (thread_on && asked > thread_at)))
+        return EAGAIN;
+    int error = real_create(made, how, run, given);
+    started += !error;
+    return error;
+}
+
+int pthread_join(pthread_t thread, void **answer) {
+    int error = real_join(thread, answer);
+    joined += !error;
+    return error;
 }
