@@ -11,3 +11,4 @@ pub mod Queued
 pub mod Routes
 pub mod Runs
 pub mod Unused
+pub mod Stepped

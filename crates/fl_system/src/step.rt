@@ -88,6 +88,17 @@ impl World {
         self.may_set_cores = false;
     }
 
+    // The same for what an event came to, where it lies: an answer is large to move.
+    #[inline(always)]
+    fn settle_by(&mut self, event: &Event<'_>, outcome: &Result<Answer, AllocError>)
+        ensures settled { IfOk outcome.now (λ a. self.new ≡ settled (event_of event.now) (answer_of a) self.old) }
+        ensures kept { OnErr outcome.now (self.new ≡ self.old) }
+    {
+        if let Ok(answer) = outcome {
+            self.settle(event, answer);
+        }
+    }
+
     /// Does one event, which is lent: nothing of it is copied but what the world keeps.
     ///
     /// # Errors
@@ -100,9 +111,9 @@ impl World {
         ensures memory { OnErr result (may_want_memory (event_of event.now) ≡ true) }
     {
         steps_agree();
-        let answer = self.does(event)?;
-        self.settle(event, &answer);
-        Ok(answer)
+        let outcome = self.does(event);
+        self.settle_by(event, &outcome);
+        outcome
     }
 
     /// Does one event: a step of the machine.

@@ -1,12 +1,15 @@
-use Rattle.fl_worlds.specs.Step.{Steps}
-use Rattle.fl_lines.specs.Events.{event_of, answer_of}
+use Rattle.fl_lines.specs.Events.{event_of}
+use Rattle.fl_system.proofs.Stepped.{steps_by, agrees_by, kept_by}
 use Rattle.fl_system.proofs.world.World.replay.Goals as goal
 
-pub returns-clause-steps : goal.returns-clause-steps
-returns-clause-steps c = record { made = c.does.new.self; does = c.in_ok-answer.ensures.does; rest = c.settle.ensures.settled }
-
-pub returns-clause-agrees : goal.returns-clause-agrees
-returns-clause-agrees c = λ s h.
-    let steps : Steps (event_of c.args.event.now) c.args.self.now (answer_of c.in_ok-answer.answer) c.settle.new.self
-    = record { made = c.does.new.self; does = c.in_ok-answer.ensures.does; rest = c.settle.ensures.settled } in
-    c.steps_agree.ensures.agree _ _ _ s _ h steps
+pub returns : goal.returns
+returns c =
+    let event = event_of c.args.event.now in
+    let made = c.does-outcome.new.self in
+    let steps = steps_by event c.args.self.now made c.settle_by.new.self c.does-outcome.result c.does-outcome.ensures.does c.settle_by.ensures.settled in
+    record {
+      steps = steps;
+      agrees = agrees_by event c.args.self.now c.settle_by.new.self c.does-outcome.result c.steps_agree.ensures.agree steps;
+      kept = kept_by c.args.self.now made c.settle_by.new.self c.does-outcome.result c.does-outcome.ensures.kept c.settle_by.ensures.kept;
+      memory = c.does-outcome.ensures.memory;
+    }

@@ -1,0 +1,25 @@
+-- A step of the world by what its event came to, which is read where it lies.
+use Rattle.std.proofs.Common.{◌≡◌, ◌∙◌, Result, Ok, Err, IfOk}
+use Rattle.std.specs.Prelude.{OnErr}
+use Rattle.std.specs.declared.alloc.AllocError.{AllocError}
+use Rattle.fl_queues.specs.Events.{Event}
+use Rattle.fl_lines.specs.declared.answer.Answer.{Answer as RustAnswer}
+use Rattle.fl_lines.specs.Events.{answer_of}
+use Rattle.fl_worlds.specs.View.{TheWorld}
+use Rattle.fl_worlds.specs.Laws.{StepsAgree}
+use Rattle.fl_worlds.specs.Step.{Does, settled, Steps}
+use Rattle.fl_system.specs.Stepping.{StepsAlike}
+
+pub steps_by : (event : Event) (w made w2 : TheWorld) (r : Result RustAnswer AllocError) → IfOk r (λ a. Does event w (answer_of a) made)
+    → IfOk r (λ a. w2 ≡ settled event (answer_of a) made) → IfOk r (λ a. Steps event w (answer_of a) w2)
+steps_by event w made w2 (Ok a) does rest = record { made = made; does = does; rest = rest }
+steps_by event w made w2 (Err e) does rest = tt
+
+pub agrees_by : (event : Event) (w w2 : TheWorld) (r : Result RustAnswer AllocError) → StepsAgree → IfOk r (λ a. Steps event w (answer_of a) w2)
+    → IfOk r (λ a. StepsAlike event w (answer_of a) w2)
+agrees_by event w w2 (Ok a) agree steps = λ s shown. agree event w w2 s (answer_of a) shown steps
+agrees_by event w w2 (Err e) agree steps = tt
+
+pub kept_by : (w made w2 : TheWorld) (r : Result RustAnswer AllocError) → OnErr r (made ≡ w) → OnErr r (w2 ≡ made) → OnErr r (w2 ≡ w)
+kept_by w made w2 (Ok a) same kept = tt
+kept_by w made w2 (Err e) same kept = kept ∙ same
