@@ -17,11 +17,12 @@ use Rattle.fl_core.specs.Events.{Holds}
 use Rattle.fl_node.specs.View.{place_of}
 use Rattle.fl_running.specs.Run.{Ways, TheRun}
 use Rattle.fl_running.specs.Deeds.{IsSound, IsSoundAt}
-use Rattle.fl_running.specs.Steps.{CallsAt}
+use Rattle.fl_running.specs.Steps.{lacks_to_call, CallsAt}
 
 record Refuses (x : TheEnd) (c : TheCall) : Type 0 where
   pub fault : EndFault
   pub refuses : Calls x c (Err fault) x
+  pub memory : lacks_to_call (Err fault) ≡ false
 
 some_left : (frags : List Frag) → are_some frags ≡ true → frags ≡ [] → ⊥
 some_left [] h e = absurd cc
@@ -29,19 +30,19 @@ some_left (f ∷ frags) h e = absurd cc
 
 module _ (x : TheEnd) (c : TheCall) (busy : is_busy x.outgoing ≡ true) where
   by_failed : (b : Bool) → x.failed ≡ b → IsSome x.circuit → fits_of (interface_in x) c ≡ true → Refuses x c
-  by_failed true is bound fits = record { fault = Failed; refuses = (fits, (bound, is), refl) }
-  by_failed false is bound fits = record { fault = Busy; refuses = (fits, (bound, is), some_left x.outgoing.unwritten busy, refl) }
+  by_failed true is bound fits = record { fault = Failed; refuses = (fits, (bound, is), refl); memory = refl }
+  by_failed false is bound fits = record { fault = Busy; refuses = (fits, (bound, is), some_left x.outgoing.unwritten busy, refl); memory = refl }
 
   by_circuit : (o : Option ℕ) → x.circuit ≡ o → fits_of (interface_in x) c ≡ true → Refuses x c
-  by_circuit None is fits = record { fault = NotBound; refuses = (fits, is, refl) }
+  by_circuit None is fits = record { fault = NotBound; refuses = (fits, is, refl); memory = refl }
   by_circuit (Some circuit) is fits = by_failed x.failed refl (subst (λ (o : Option ℕ). IsSome o) (sym is) refl) fits
 
   by_fit : (b : Bool) → fits_of (interface_in x) c ≡ b → IsMessage (interface_in x) c.msg → Refuses x c
   by_fit true is message = by_circuit x.circuit refl is
-  by_fit false is message = record { fault = Misfit; refuses = (message, is, refl) }
+  by_fit false is message = record { fault = Misfit; refuses = (message, is, refl); memory = refl }
 
   by_message : (o : Option TheMessage) → slice_get (interface_in x).messages c.msg ≡ o → Refuses x c
-  by_message None is = record { fault = UnknownMessage; refuses = (is, refl) }
+  by_message None is = record { fault = UnknownMessage; refuses = (is, refl); memory = refl }
   by_message (Some message) is = by_fit (fits_of (interface_in x) c) refl (subst (λ (o : Option TheMessage). IsSome o) (sym is) refl)
 
   busy_refuses : Refuses x c
@@ -80,4 +81,5 @@ calls_nothing w name call s e x at holds busy sound sound_at =
         sound,
         sound_at,
       ),
+      refused.memory,
     )

@@ -1,25 +1,30 @@
 -- What a core does once for each of its links, ends and dispatchers in a turn: an event or two. Where the side that it needs isn't lent,
 -- nothing happens.
 use Rattle.std.specs.Prelude.{ℕ, ◌≡◌, ◌⊎◌, ◌≤◌, ◌&&◌, not, nat_lt, Bool, true, false, List, length, is_some}
-use Rattle.std.specs.Prelude.{Option, Some, None, Result, Ok}
+use Rattle.std.specs.Prelude.{Option, Some, None, Result, Ok, Err}
 use Rattle.fl_base.specs.declared.identity.EndId.{EndId}
 use Rattle.fl_base.specs.declared.identity.LinkId.{LinkId}
 use Rattle.fl_base.specs.declared.identity.MsgNo.{MsgNo}
 use Rattle.fl_value.specs.declared.value.Call.{Call as AnyCall}
 use Rattle.fl_value.specs.Value.{call_of}
 use Rattle.fl_endpoint.specs.declared.fault.EndFault.{EndFault}
+use Rattle.fl_endpoint.specs.declared.fault.EndFault.TheVariants as end
 use Rattle.fl_endpoint.specs.declared.answer.WriteAnswer.{WriteAnswer}
 use Rattle.fl_hop.specs.declared.forward.Outcome.{Outcome}
 use Rattle.fl_core.specs.declared.answer.TurnAnswer.{TurnAnswer}
 use Rattle.fl_core.specs.declared.answer.AckAnswer.{AckAnswer}
 use Rattle.fl_core.specs.declared.fault.BoardFault.{BoardFault}
+use Rattle.fl_core.specs.declared.fault.BoardFault.TheVariants as board
+use Rattle.fl_monitor.specs.declared.fault.MonitorFault.TheVariants as monitor
 use Rattle.fl_monitor.specs.Monitors.{can_say}
 use Rattle.fl_node.specs.declared.answer.Ahead.{Ahead}
 use Rattle.fl_node.specs.declared.answer.Ahead.TheVariants.{Message, Onward, Arrival}
 use Rattle.fl_node.specs.declared.answer.MonitorWrite.{MonitorWrite}
 use Rattle.fl_node.specs.declared.answer.MonitorAnswer.{MonitorAnswer}
 use Rattle.fl_node.specs.declared.fault.LinkFault.{LinkFault}
+use Rattle.fl_node.specs.declared.fault.LinkFault.TheVariants as link
 use Rattle.fl_node.specs.declared.fault.OpenFault.{OpenFault}
+use Rattle.fl_node.specs.declared.fault.OpenFault.TheVariants as opening
 use Rattle.fl_node.specs.View.{place_of, client_of, most_bindings}
 use Rattle.fl_running.specs.declared.job.Wish.{Wish}
 use Rattle.fl_running.specs.declared.job.Job.{Job}
@@ -30,12 +35,28 @@ use Rattle.fl_running.specs.declared.lent.Berth.{Berth}
 use Rattle.fl_running.specs.Run.{Ways, TheRun, next_job, lent_lane, lent_post, lent_due, lent_berth}
 use Rattle.fl_running.specs.Deeds.{looked, passed, arrived, heard, said, told, opened, called, ruled, wrote, acked, turned, Happens}
 
+-- ---- memory
+
+-- it was refused: to a message that was to be heard, to an opening, to a call. A turn ends there, so in whole turns it never is
+abbrev pub lacks_to_hear : Result MonitorAnswer LinkFault → Bool
+lacks_to_hear (Err link.Memory) = true
+lacks_to_hear answer = false
+
+abbrev pub lacks_to_open : Result ℕ OpenFault → Bool
+lacks_to_open (Err (opening.Board board.Memory)) = true
+lacks_to_open (Err (opening.Monitor monitor.Memory)) = true
+lacks_to_open answer = false
+
+abbrev pub lacks_to_call : Result (Unit {0}) EndFault → Bool
+lacks_to_call (Err end.Memory) = true
+lacks_to_call answer = false
+
 -- ---- for a link
 
 -- what a look found is heard, passed on, or brought to an end
 abbrev pub Deals : {S : Type 0} → Ways S → ℕ → LinkId → Result Ahead LinkFault → TheRun S → TheRun S → Type 0
 Deals w n l (Ok (Message frag)) s t =
-    (answer : Result MonitorAnswer LinkFault) × Happens w (heard n l frag answer) s t
+    (answer : Result MonitorAnswer LinkFault) × Happens w (heard n l frag answer) s t × (lacks_to_hear answer ≡ false)
 Deals w n l (Ok (Onward frag to c)) s t =
     ((outcome : Outcome) × Happens w (passed n to frag c outcome) s t) ⊎ (((n ≡ to) ⊎ (length s.rings ≤ to)) × (t ≡ s))
 Deals w n l (Ok (Arrival frag e)) s t = (answer : Result Outcome LinkFault) × Happens w (arrived n l frag e answer) s t
@@ -79,13 +100,13 @@ may_ask s wish =
 abbrev pub OpensIf : {S : Type 0} → Ways S → Bool → EndId → Wish → TheRun S → TheRun S → Type 0
 OpensIf w false name wish s t = t ≡ s
 OpensIf w true name wish s t =
-    (answer : Result ℕ OpenFault) × Happens w (opened name wish answer) s t
+    (answer : Result ℕ OpenFault) × Happens w (opened name wish answer) s t × (lacks_to_open answer ≡ false)
 
 -- a call is tried where its end is there, and waits where that refuses it
 abbrev pub CallsAt : {S : Type 0} → Ways S → EndId → AnyCall → Option ℕ → TheRun S → TheRun S → Type 0
 CallsAt w name call None s t = t ≡ s
 CallsAt w name call (Some e) s t =
-    (answer : Result (Unit {0}) EndFault) × Happens w (called name (call_of call) answer) s t
+    (answer : Result (Unit {0}) EndFault) × Happens w (called name (call_of call) answer) s t × (lacks_to_call answer ≡ false)
 
 -- a reply rule is set where its end is there
 abbrev pub RulesAt : {S : Type 0} → Ways S → EndId → MsgNo → MsgNo → Option ℕ → TheRun S → TheRun S → Type 0

@@ -1,6 +1,6 @@
 //! What is done for an end: its next job, a write, an acknowledgement.
 
-ghost use Rattle.std.specs.Prelude.{◌≡◌, ◌<◌, true, length, Some, Ok, IfOk, IfSome, IfNone, OnOk, None};
+ghost use Rattle.std.specs.Prelude.{◌≡◌, ◌<◌, true, false, length, Some, Ok, IfOk, IfSome, IfNone, OnOk, None};
 ghost use Rattle.fl_value.specs.Value.{call_of};
 ghost use Rattle.fl_node.specs.View.{place_of, inlet_of};
 ghost use Rattle.fl_node.specs.declared.wire.Inlet.TheVariants.{Side};
@@ -8,7 +8,7 @@ ghost use Rattle.fl_running.specs.Run.{ways, run_of, AtDesk, lends_out, lent_pos
 ghost use Rattle.fl_running.specs.Desks.{advanced};
 ghost use Rattle.fl_running.specs.Inside.{HasNext};
 ghost use Rattle.fl_running.specs.Deeds.{called, ruled, wrote, acked, Does, NotesCalled};
-ghost use Rattle.fl_running.specs.Steps.{Tries, WritesFrom, Serves, Acknowledges, CallsAt, RulesAt};
+ghost use Rattle.fl_running.specs.Steps.{lacks_to_call, Tries, WritesFrom, Serves, Acknowledges, CallsAt, RulesAt};
 ghost use Rattle.fl_running.specs.Turn.{ForEach};
 
 use crate::desk::find;
@@ -42,6 +42,16 @@ pub(crate) fn next_job<'a, S>(run: &Running<S>, jobs: &'a [Job], name: EndId) ->
     }
 }
 
+// Whether memory was refused.
+fn is_memory(answer: Result<(), EndFault>) -> bool
+    ensures memory { result ≡ lacks_to_call answer }
+{
+    match answer {
+        Ok(()) => false,
+        Err(fault) => matches!(fault, EndFault::Memory),
+    }
+}
+
 // Makes a call at an end.
 fn call<S: PutSide + TakeSide + Drop>(
     run: &mut Running<S>,
@@ -52,12 +62,14 @@ fn call<S: PutSide + TakeSide + Drop>(
     requires there { e < length run.old.core.board.seats }
     requires place { place_of run.old.core name ≡ Some e }
     ensures called { IfOk result (λ answer. Does (ways S.puts S.takes S.front) (called name (call_of call.now) answer) (run_of run.old) (run_of run.new)) }
+    ensures memory { IfOk result (λ answer. lacks_to_call answer ≡ false) }
     ensures left { HasNext name (run_of run.old) → HasNext name (run_of run.new) }
 {
-    match run.core.call(e, call) {
-        Err(EndFault::Memory) => Err(AllocError),
-        answer => Ok(answer),
+    let answer = run.core.call(e, call);
+    if is_memory(answer) {
+        return Err(AllocError);
     }
+    Ok(answer)
 }
 
 // The next job of an end is done.

@@ -5,7 +5,7 @@ ghost use Rattle.fl_base.specs.Control.{is_ack_only, with_circuit, bare};
 ghost use Rattle.fl_link.specs.Looks.{saw, found};
 ghost use Rattle.fl_running.specs.Run.{ways, run_of};
 ghost use Rattle.fl_running.specs.Deeds.{PutsAt, TakesAt, looked, passed, arrived, heard, said, told, Does, NotesHeard};
-ghost use Rattle.fl_running.specs.Steps.{Deals, Forwards, Says, Tells};
+ghost use Rattle.fl_running.specs.Steps.{lacks_to_hear, Deals, Forwards, Says, Tells};
 ghost use Rattle.fl_running.specs.Turn.{ForEach};
 ghost use Rattle.fl_running.specs.Inside.{Fronts, Foresees, put_label};
 
@@ -37,6 +37,16 @@ fn look<S: PutSide + TakeSide + Drop>(
     run.core.look(link, &mut run.rings[n])
 }
 
+// Whether memory was refused.
+fn is_memory(answer: Result<MonitorAnswer, LinkFault>) -> bool
+    ensures memory { result ≡ lacks_to_hear answer }
+{
+    match answer {
+        Ok(_) => false,
+        Err(fault) => matches!(fault, LinkFault::Memory),
+    }
+}
+
 // Hears the monitors' message that was seen to stand first.
 fn hear<S: PutSide + TakeSide + Drop>(
     run: &mut Running<S>,
@@ -48,14 +58,15 @@ fn hear<S: PutSide + TakeSide + Drop>(
     requires link { link.0 < length run.old.core.lanes }
     requires seen { (p : S) → slice_get run.old.rings.items n ≡ Some p → S.front p ≡ saw (bare frag.now) }
     ensures heard { IfOk result (λ answer. Does (ways S.puts S.takes S.front) (heard n link frag.now answer) (run_of run.old) (run_of run.new)) }
+    ensures memory { IfOk result (λ answer. lacks_to_hear answer ≡ false) }
 {
     let answer = run
         .core
         .hear(link, &mut run.rings[n], frag, &run.names, &run.programs);
-    match answer {
-        Err(LinkFault::Memory) => Err(AllocError),
-        answer => Ok(answer),
+    if is_memory(answer) {
+        return Err(AllocError);
     }
+    Ok(answer)
 }
 
 // Notes the word that an opening is refused.

@@ -1,12 +1,12 @@
 //! A job that opens a circuit.
 
-ghost use Rattle.std.specs.Prelude.{◌≡◌, ◌<◌, true, length, None, Ok, IfOk, OnOk};
+ghost use Rattle.std.specs.Prelude.{◌≡◌, ◌<◌, true, false, length, None, Ok, Err, IfOk, OnOk};
 ghost use Rattle.fl_monitor.specs.Monitors.{can_say};
 ghost use Rattle.fl_node.specs.View.{place_of, client_of};
 ghost use Rattle.fl_running.specs.Run.{ways, run_of, AtDesk};
 ghost use Rattle.fl_running.specs.Desks.{advanced, with_refusal};
 ghost use Rattle.fl_running.specs.Deeds.{IsCopyOf, opened, NotesOpened, Does};
-ghost use Rattle.fl_running.specs.Steps.{may_ask, OpensIf};
+ghost use Rattle.fl_running.specs.Steps.{lacks_to_open, may_ask, OpensIf};
 ghost use Rattle.fl_running.specs.Inside.{HasNext};
 
 use crate::desk::find;
@@ -67,7 +67,9 @@ fn copy<S>(run: &Running<S>, n: usize) -> Result<Program, AllocError>
 }
 
 // Whether memory was refused.
-fn is_memory(fault: OpenFault) -> bool {
+fn is_memory(fault: OpenFault) -> bool
+    ensures memory { result ≡ lacks_to_open (Err fault) }
+{
     match fault {
         OpenFault::Board(fault) => matches!(fault, BoardFault::Memory),
         OpenFault::Monitor(fault) => matches!(fault, MonitorFault::Memory),
@@ -85,6 +87,7 @@ fn ask<S: PutSide + TakeSide + Drop>(
     requires few { wish.now.opening.binding < 1024 }
     requires new { place_of run.old.core (client_of wish.now.opening.binding) ≡ None }
     ensures opened { IfOk result (λ answer. Does (ways S.puts S.takes S.front) (opened name wish.now answer) (run_of run.old) (run_of run.new)) }
+    ensures memory { IfOk result (λ answer. lacks_to_open answer ≡ false) }
     ensures left { HasNext name (run_of run.old) → HasNext name (run_of run.new) }
 {
     let program = copy(run, wish.interface)?;
