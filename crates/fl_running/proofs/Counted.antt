@@ -41,7 +41,7 @@ module _ {S : Type 0} (w : Ways S) (t : Task) (a : Moment S) (r : TheRun S) (c :
       record { after = moment r c; turns = swept; few = few; ends = (stock words v, count, (exchanges, left), (refl, seen), stop); rests = refl; seat = quiet }
 
 module _ {S : Type 0} (w : Ways S) (t : Task) where
-  are_turns : (k : ℕ) (a b : Moment S) → Swept (λ n. CountedTurn w t) k a b → Turned w t.plan t.jobs k a.run b.run
+  pub are_turns : (k : ℕ) (a b : Moment S) → Swept (λ n. CountedTurn w t) k a b → Turned w t.plan t.jobs k a.run b.run
   are_turns zero a b h = ap (λ (m : Moment S). m.run) h
   are_turns (suc k) a b h = (h.0.run, are_turns k a h.0 h.1, h.2.turn)
 

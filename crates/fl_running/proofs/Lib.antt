@@ -11,6 +11,7 @@ pub mod Aside
 pub mod Looking
 pub mod Copying
 pub mod Counted
+pub mod Stopping
 pub mod Doing
 pub mod Growing
 pub mod Lends

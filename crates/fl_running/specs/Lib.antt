@@ -7,6 +7,7 @@ pub mod Turn
 pub mod Words
 pub mod Finished
 pub mod Ran
+pub mod Stops
 pub mod Logs
 pub mod Made
 pub mod Lending

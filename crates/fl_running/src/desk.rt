@@ -79,6 +79,7 @@ impl Desk {
     // A call was handled at its end.
     pub(crate) fn take(&mut self, call: Call) -> Result<(), AllocError>
         ensures taken { OnOk result (self.new ≡ with_handled call self.old) }
+        ensures kept { OnErr result (self.new ≡ self.old) }
     {
         let Ok(()) = self.handled.push(call) else {
             return Err(AllocError);

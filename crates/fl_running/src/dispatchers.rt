@@ -1,12 +1,15 @@
 //! What is done for a dispatcher: a turn.
 
-ghost use Rattle.std.specs.Prelude.{◌≡◌, ◌<◌, true, length, Some, IfOk, OnOk};
+ghost use Rattle.std.specs.Prelude.{◌≡◌, ◌<◌, true, false, length, Some, Err, IfOk, IfErr, OnOk, OnErr};
+ghost use Rattle.fl_value.specs.declared.value.Call.{Call as TheCall};
 ghost use Rattle.fl_core.specs.View.{due};
+ghost use Rattle.fl_core.specs.declared.answer.TurnAnswer.TheVariants.{Handle};
 ghost use Rattle.fl_node.specs.View.{place_of, inlet_of};
 ghost use Rattle.fl_running.specs.Run.{ways, run_of, lends_in};
 ghost use Rattle.fl_running.specs.Deeds.{TurnsOver, turned, Does, NotesTurned};
 ghost use Rattle.fl_running.specs.Steps.{awaits, TurnsIf, TakesTurn};
 ghost use Rattle.fl_running.specs.Turn.{Swept};
+ghost use Rattle.fl_running.specs.Stops.{LeavesCall, LeavesTurn, StopsIn};
 
 use crate::desk::find;
 use crate::ends::next_job;
@@ -54,6 +57,7 @@ fn turn_named<S: PutSide + TakeSide + Drop>(
     requires inlet { inlet_of run.old.core e ≡ Some inlet }
     requires lent { lends_in (run_of run.old) inlet ≡ true }
     ensures turned { IfOk result (λ answer. Does (ways S.puts S.takes S.front) (turned dispatcher name inlet answer) (run_of run.old) (run_of run.new)) }
+    ensures left { IfErr result (λ error. TurnsOver (ways S.puts S.takes S.front) dispatcher e inlet (Err error) (run_of run.old) (run_of run.new)) }
 {
     let answer = turn_over(run, dispatcher, e, inlet)?;
     Ok(answer)
@@ -62,6 +66,7 @@ fn turn_named<S: PutSide + TakeSide + Drop>(
 // Notes a call that was handled.
 fn note<S>(run: &mut Running<S>, name: EndId, answer: TurnAnswer) -> Result<(), AllocError>
     ensures notes { OnOk result (NotesTurned name answer (run_of run.old) (run_of run.new)) }
+    ensures left { OnErr result ((call : TheCall) × (answer ≡ Handle call) × (run_of run.new ≡ run_of run.old)) }
 {
     match answer {
         TurnAnswer::Handle(call) => match find(&run.desks, name) {
@@ -107,6 +112,8 @@ fn turn_at<S: PutSide + TakeSide + Drop>(
     requires lent { lends_in (run_of run.old) at.inlet ≡ true }
     ensures turns { OnOk result (TurnsIf (ways S.puts S.takes S.front) (awaits jobs.now (run_of run.old) name) dispatcher name at
         (run_of run.old) (run_of run.new)) }
+    ensures left { OnErr result ((awaits jobs.now (run_of run.old) name ≡ false)
+        × LeavesCall (ways S.puts S.takes S.front) dispatcher name at (run_of run.old) (run_of run.new)) }
 {
     sound(run);
     sound_at(run, name, at.end);
@@ -124,6 +131,7 @@ fn turn<S: PutSide + TakeSide + Drop>(
     dispatcher: usize,
 ) -> Result<(), AllocError>
     ensures turns { OnOk result (TakesTurn (ways S.puts S.takes S.front) jobs.now dispatcher (run_of run.old) (run_of run.new)) }
+    ensures left { OnErr result (LeavesTurn (ways S.puts S.takes S.front) jobs.now dispatcher (run_of run.old) (run_of run.new)) }
 {
     match lent_due(run, dispatcher) {
         None => Ok(()),
@@ -141,6 +149,8 @@ pub(crate) fn turn_all<S: PutSide + TakeSide + Drop>(
     dispatchers: usize,
 ) -> Result<(), AllocError>
     ensures turns { OnOk result (Swept (TakesTurn (ways S.puts S.takes S.front) jobs.now) dispatchers (run_of run.old) (run_of run.new)) }
+    ensures stops { OnErr result (StopsIn (TakesTurn (ways S.puts S.takes S.front) jobs.now) (LeavesTurn (ways S.puts S.takes S.front) jobs.now) dispatchers
+        (run_of run.old) (run_of run.new)) }
 {
     for dispatcher in 0..dispatchers {
         turn(run, jobs, dispatcher)?;

@@ -1,6 +1,6 @@
 //! What is done for an end: its next job, a write, an acknowledgement.
 
-ghost use Rattle.std.specs.Prelude.{◌≡◌, ◌<◌, true, false, length, Some, Ok, IfOk, IfSome, IfNone, OnOk, None};
+ghost use Rattle.std.specs.Prelude.{◌≡◌, ◌<◌, true, false, length, Some, Ok, IfOk, IfSome, IfNone, OnOk, OnErr, None};
 ghost use Rattle.fl_value.specs.Value.{call_of};
 ghost use Rattle.fl_node.specs.View.{place_of, inlet_of};
 ghost use Rattle.fl_node.specs.declared.wire.Inlet.TheVariants.{Side};
@@ -10,6 +10,7 @@ ghost use Rattle.fl_running.specs.Inside.{HasNext};
 ghost use Rattle.fl_running.specs.Deeds.{called, ruled, wrote, acked, Does, NotesCalled};
 ghost use Rattle.fl_running.specs.Steps.{lacks_to_call, Tries, WritesFrom, Serves, Acknowledges, CallsAt, RulesAt};
 ghost use Rattle.fl_running.specs.Turn.{ForEach};
+ghost use Rattle.fl_running.specs.Stops.{LeavesJob, StopsAmong};
 
 use crate::desk::find;
 use crate::job::Job;
@@ -63,6 +64,7 @@ fn call<S: PutSide + TakeSide + Drop>(
     requires place { place_of run.old.core name ≡ Some e }
     ensures called { IfOk result (λ answer. Does (ways S.puts S.takes S.front) (called name (call_of call.now) answer) (run_of run.old) (run_of run.new)) }
     ensures memory { IfOk result (λ answer. lacks_to_call answer ≡ false) }
+    ensures kept { OnErr result (run_of run.new ≡ run_of run.old) }
     ensures left { HasNext name (run_of run.old) → HasNext name (run_of run.new) }
 {
     let answer = run.core.call(e, call);
@@ -101,6 +103,7 @@ fn try_call<S: PutSide + TakeSide + Drop>(
 ) -> Result<(), AllocError>
     requires left { HasNext name (run_of run.old) }
     ensures calls { OnOk result (CallsAt (ways S.puts S.takes S.front) name next.now (place_of run.old.core name) (run_of run.old) (run_of run.new)) }
+    ensures kept { OnErr result (run_of run.new ≡ run_of run.old) }
 {
     sound(run);
     match run.core.place(name) {
@@ -162,6 +165,7 @@ fn try_job<S: PutSide + TakeSide + Drop>(
     name: EndId,
 ) -> Result<(), AllocError>
     ensures tries { OnOk result (Tries (ways S.puts S.takes S.front) name (next_job jobs.now (run_of run.old) name) (run_of run.old) (run_of run.new)) }
+    ensures kept { OnErr result (run_of run.new ≡ run_of run.old) }
 {
     match next_job(run, jobs, name) {
         None => Ok(()),
@@ -217,6 +221,7 @@ fn serve<S: PutSide + TakeSide + Drop>(
     jobs: &[Job],
 ) -> Result<(), AllocError>
     ensures serves { OnOk result (Serves (ways S.puts S.takes S.front) jobs.now name (run_of run.old) (run_of run.new)) }
+    ensures left { OnErr result (LeavesJob name (run_of run.old) (run_of run.new)) }
 {
     try_job(run, jobs, name)?;
     write(run, name);
@@ -230,6 +235,7 @@ pub(crate) fn serve_all<S: PutSide + TakeSide + Drop>(
     jobs: &[Job],
 ) -> Result<(), AllocError>
     ensures serves { OnOk result (ForEach ends.now (Serves (ways S.puts S.takes S.front) jobs.now) (run_of run.old) (run_of run.new)) }
+    ensures stops { OnErr result (StopsAmong ends.now (Serves (ways S.puts S.takes S.front) jobs.now) LeavesJob (run_of run.old) (run_of run.new)) }
 {
     for k in 0..ends.len() {
         serve(run, ends[k], jobs)?;

@@ -1,12 +1,15 @@
 //! What is done for a link: a forward, a monitor write, an acknowledgement.
 
-ghost use Rattle.std.specs.Prelude.{◌≡◌, ◌≢◌, ◌<◌, false, ℕ, length, slice_get, Some, Ok, IfOk, OnOk};
+ghost use Rattle.std.specs.Prelude.{◌≡◌, ◌≢◌, ◌<◌, false, ℕ, length, slice_get, Some, Ok, IfOk, OnOk, OnErr};
 ghost use Rattle.fl_base.specs.Control.{is_ack_only, with_circuit, bare};
+ghost use Rattle.fl_base.specs.declared.fragment.Frag.{Frag as TheFrag};
 ghost use Rattle.fl_link.specs.Looks.{saw, found};
 ghost use Rattle.fl_running.specs.Run.{ways, run_of};
 ghost use Rattle.fl_running.specs.Deeds.{PutsAt, TakesAt, looked, passed, arrived, heard, said, told, Does, NotesHeard};
 ghost use Rattle.fl_running.specs.Steps.{lacks_to_hear, Deals, Forwards, Says, Tells};
 ghost use Rattle.fl_running.specs.Turn.{ForEach};
+ghost use Rattle.fl_running.specs.Stops.{LeavesMessage, StopsAmong};
+ghost use Rattle.fl_node.specs.declared.answer.Ahead.TheVariants.{Message};
 ghost use Rattle.fl_running.specs.Inside.{Fronts, Foresees, put_label};
 
 use crate::desk::find;
@@ -59,6 +62,7 @@ fn hear<S: PutSide + TakeSide + Drop>(
     requires seen { (p : S) → slice_get run.old.rings.items n ≡ Some p → S.front p ≡ saw (bare frag.now) }
     ensures heard { IfOk result (λ answer. Does (ways S.puts S.takes S.front) (heard n link frag.now answer) (run_of run.old) (run_of run.new)) }
     ensures memory { IfOk result (λ answer. lacks_to_hear answer ≡ false) }
+    ensures kept { OnErr result (run_of run.new ≡ run_of run.old) }
 {
     let answer = run
         .core
@@ -158,6 +162,7 @@ fn deal<S: PutSide + TakeSide + Drop>(
     requires link { link.0 < length run.old.core.lanes }
     requires foreseen { Foresees (ways S.puts S.takes S.front) n found (run_of run.old) }
     ensures deals { OnOk result (Deals (ways S.puts S.takes S.front) n link found (run_of run.old) (run_of run.new)) }
+    ensures left { OnErr result ((frag : TheFrag) × (found ≡ Ok (Message frag)) × (run_of run.new ≡ run_of run.old)) }
 {
     sound(run);
     match found {
@@ -186,6 +191,7 @@ fn forward<S: PutSide + TakeSide + Drop>(
     link: LinkId,
 ) -> Result<(), AllocError>
     ensures forwards { OnOk result (Forwards (ways S.puts S.takes S.front) link (run_of run.old) (run_of run.new)) }
+    ensures left { OnErr result (LeavesMessage (ways S.puts S.takes S.front) link (run_of run.old) (run_of run.new)) }
 {
     sound(run);
     match lent_lane(run, link) {
@@ -203,6 +209,8 @@ pub(crate) fn forward_all<S: PutSide + TakeSide + Drop>(
     links: &[LinkId],
 ) -> Result<(), AllocError>
     ensures forwards { OnOk result (ForEach links.now (Forwards (ways S.puts S.takes S.front)) (run_of run.old) (run_of run.new)) }
+    ensures stops { OnErr result (StopsAmong links.now (Forwards (ways S.puts S.takes S.front)) (LeavesMessage (ways S.puts S.takes S.front))
+        (run_of run.old) (run_of run.new)) }
 {
     for k in 0..links.len() {
         forward(run, links[k])?;

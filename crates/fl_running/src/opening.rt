@@ -1,6 +1,6 @@
 //! A job that opens a circuit.
 
-ghost use Rattle.std.specs.Prelude.{◌≡◌, ◌<◌, true, false, length, None, Ok, Err, IfOk, OnOk};
+ghost use Rattle.std.specs.Prelude.{◌≡◌, ◌<◌, true, false, length, None, Ok, Err, IfOk, OnOk, OnErr};
 ghost use Rattle.fl_monitor.specs.Monitors.{can_say};
 ghost use Rattle.fl_node.specs.View.{place_of, client_of};
 ghost use Rattle.fl_running.specs.Run.{ways, run_of, AtDesk};
@@ -88,6 +88,7 @@ fn ask<S: PutSide + TakeSide + Drop>(
     requires new { place_of run.old.core (client_of wish.now.opening.binding) ≡ None }
     ensures opened { IfOk result (λ answer. Does (ways S.puts S.takes S.front) (opened name wish.now answer) (run_of run.old) (run_of run.new)) }
     ensures memory { IfOk result (λ answer. lacks_to_open answer ≡ false) }
+    ensures kept { OnErr result (run_of run.new ≡ run_of run.old) }
     ensures left { HasNext name (run_of run.old) → HasNext name (run_of run.new) }
 {
     let program = copy(run, wish.interface)?;
@@ -137,6 +138,7 @@ pub(crate) fn open<S: PutSide + TakeSide + Drop>(
 ) -> Result<(), AllocError>
     requires left { HasNext name (run_of run.old) }
     ensures opens { OnOk result (OpensIf (ways S.puts S.takes S.front) (may_ask (run_of run.old) wish.now) name wish.now (run_of run.old) (run_of run.new)) }
+    ensures kept { OnErr result (run_of run.new ≡ run_of run.old) }
 {
     sound(run);
     if !may_ask(run, wish) {

@@ -5,6 +5,7 @@ ghost use Rattle.fl_running.specs.Run.{ways, run_of};
 ghost use Rattle.fl_running.specs.Words.{AreWords, ExchangesAll, SaidNothing};
 ghost use Rattle.fl_running.specs.Finished.{is_finished};
 ghost use Rattle.fl_running.specs.Ran.{ticket_of, task, moment, Counted, SomeTurns, HaveEnded, CoreRan};
+ghost use Rattle.fl_running.specs.Stops.{StopsInTurn};
 
 use crate::fault::CoresFault;
 use crate::finish::is_finished;
@@ -66,6 +67,7 @@ fn counted_turns<S: PutSide + TakeSide + Drop, G: Gate>(
     requires may { AreWords ticket.old.words.items ticket.old.seat.knows }
     ensures counted { IfOk result (λ part. Counted (ways S.puts S.takes S.front) (task plan.now jobs.now limit)
         (moment (run_of run.old) (ticket_of ticket.old)) part (moment (run_of run.new) (ticket_of ticket.new))) }
+    ensures part { OnErr result (StopsInTurn (ways S.puts S.takes S.front) plan.now jobs.now (run_of run.old) (run_of run.new)) }
     ensures seat { SaidNothing ticket.old.seat ticket.new.seat }
 {
     let core = run.core.monitor().circuits().core();
@@ -108,6 +110,7 @@ fn idle_turns<R: Wait, S: PutSide + TakeSide + Drop, G: Gate>(
     gate: &G,
 ) -> Result<(), AllocError>
     ensures turned { OnOk result (SomeTurns (ways S.puts S.takes S.front) plan.now jobs.now (run_of run.old) (run_of run.new)) }
+    ensures part { OnErr result (StopsInTurn (ways S.puts S.takes S.front) plan.now jobs.now (run_of run.old) (run_of run.new)) }
     ensures others { OnOk result (HaveEnded plan.now.cores ticket.new.seat.knows.seen) }
     ensures seat { SaidNothing ticket.old.seat ticket.new.seat }
     ensures stored { ticket.new.seat.knows.stored ≡ ticket.old.seat.knows.stored }
@@ -141,6 +144,7 @@ fn run_through<R: Wait, S: PutSide + TakeSide + Drop, G: Gate>(
     requires once { ticket.old.seat.knows.finished < length ticket.old.seat.knows.cores }
     ensures ran { IfOk result (λ part. CoreRan (ways S.puts S.takes S.front) (task plan.now jobs.now limit)
         (moment (run_of run.old) (ticket_of ticket.old)) part (moment (run_of run.new) (ticket_of ticket.new))) }
+    ensures part { OnErr result (StopsInTurn (ways S.puts S.takes S.front) plan.now jobs.now (run_of run.old) (run_of run.new)) }
     ensures stopped { ticket.new.seat.knows.stopped ≡ ticket.old.seat.knows.stopped }
     ensures seats { ticket.new.seat.knows.seats ≡ ticket.old.seat.knows.seats }
 {
@@ -163,7 +167,7 @@ fn run_through<R: Wait, S: PutSide + TakeSide + Drop, G: Gate>(
 /// to do, or the limit is reached; in the first case it goes on, with turns that aren't counted, until all cores have told so.
 ///
 /// # Errors
-/// Out of memory. That it stops is told then.
+/// Out of memory. That it stops is told then; it took so many whole turns, and a part of one more.
 pub fn core_run<R: Wait, S: PutSide + TakeSide + Drop, G: Gate>(
     rt: &R,
     run: &mut Running<S>,
@@ -178,6 +182,7 @@ pub fn core_run<R: Wait, S: PutSide + TakeSide + Drop, G: Gate>(
     requires silent { (ticket.old.seat.knows.finished < length ticket.old.seat.knows.cores) × (ticket.old.seat.knows.stopped < ticket.old.seat.knows.seats) }
     ensures ran { IfOk result (λ part. CoreRan (ways S.puts S.takes S.front) (task plan.now jobs.now limit)
         (moment (run_of run.old) (ticket_of ticket.old)) part (moment (run_of run.new) (ticket_of ticket.new))) }
+    ensures part { OnErr result (StopsInTurn (ways S.puts S.takes S.front) plan.now jobs.now (run_of run.old) (run_of run.new)) }
     ensures told { OnErr result (ticket.new.seat.knows.stopped ≡ ticket.old.seat.knows.stopped + 1) }
 {
     match run_through(rt, run, plan, jobs, limit, ticket, gate) {

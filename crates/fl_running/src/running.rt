@@ -1,10 +1,11 @@
 //! A core that runs.
 
-ghost use Rattle.std.specs.Prelude.{◌≡◌, ◌<◌, length, Some, OnOk};
+ghost use Rattle.std.specs.Prelude.{◌≡◌, ◌<◌, length, Some, OnOk, OnErr};
 ghost use Rattle.fl_running.specs.Run.{ways, run_of};
 ghost use Rattle.fl_running.specs.Deeds.{IsSound, IsSoundAt};
 ghost use Rattle.fl_node.specs.View.{place_of};
 ghost use Rattle.fl_running.specs.Turn.{OneTurn};
+ghost use Rattle.fl_running.specs.Stops.{PartOfTurn};
 
 use crate::desk::Desk;
 use crate::dispatchers::turn_all;
@@ -64,6 +65,7 @@ impl<S: PutSide + TakeSide + Drop> Running<S> {
     /// Out of memory. The turn wasn't finished then, and the core can take no other.
     pub fn turn(&mut self, plan: &Plan, jobs: &[Job]) -> Result<(), AllocError>
         ensures turn { OnOk result (OneTurn (ways S.puts S.takes S.front) plan.now jobs.now (run_of self.old) (run_of self.new)) }
+        ensures part { OnErr result (PartOfTurn (ways S.puts S.takes S.front) plan.now jobs.now (run_of self.old) (run_of self.new)) }
     {
         forward_all(self, &plan.links)?;
         say_all(self, &plan.links);

@@ -11,4 +11,5 @@ returns-then-is_busy g c = record {
       (sym c.place.ensures.place ∙ c.in-Some.is)
       (subst (λ (b : TheBoard). Holds b c.in-Some.e (λ seat. c.end.result.now ≡ seat.end)) c.board.ensures.board c.end.ensures.end)
       (sym c.is_busy.ensures.busy ∙ c.if-is_busy.true) c.sound.ensures.sound c.sound_at.ensures.sound;
+  kept = tt;
 }

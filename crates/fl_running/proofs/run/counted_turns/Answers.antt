@@ -5,6 +5,7 @@ use Rattle.fl_running.specs.Words.{AreWords}
 use Rattle.fl_running.specs.Ran.{ticket_of, task, moment}
 use Rattle.fl_running.proofs.Stock.{seen_words, seen_quiet, quiet_then}
 use Rattle.fl_running.proofs.Counted.{counted_turn, one_turn_more, at_limit, counted_finished, counted_unfinished, counted_told}
+use Rattle.fl_running.proofs.Stopping.{on_err, stopped_counting}
 use Rattle.fl_running.proofs.run.counted_turns.Goals as goal
 
 pub loop-turns-preserved : goal.loop-turns-preserved
@@ -59,3 +60,11 @@ returns-clause-counted g c =
     counted_unfinished w t first (run_of c.loop-turns.run) (ticket_of c.loop-turns.ticket) c.args.limit c.take_stock-2.new.ticket.words.items c.take_stock-2.new.ticket.seat
     (at_limit w t first _ c.loop-turns.turns c.args.limit c.loop-turns.invariant.0 c.loop-turns.invariant.4 (omega (arith, past))) (omega arith) c.take_stock-2.ensures.exchanges
     (sym c.take_stock-2.ensures.finished ∙ c.if-take_stock-2.false) refl (quiet_then _ _ _ c.loop-turns.invariant.3 c.take_stock-2.ensures.seat)
+
+pub returns-in_err-turn-clause-part : goal.returns-in_err-turn-clause-part
+returns-in_err-turn-clause-part g c =
+    on_err c.from_residual.result (
+    stopped_counting (ways g.S.PutSide.puts g.S.TakeSide.takes g.S.TakeSide.front) (task c.args.plan.now c.args.jobs.now c.args.limit) c.loop-turns.turns
+    (moment (run_of c.args.run.now) (ticket_of c.args.ticket.now)) (moment (run_of c.loop-turns.run) (ticket_of c.loop-turns.ticket)) (run_of c.turn.new.self)
+    c.loop-turns.invariant.0 c.in_err-turn.ensures.part
+    )

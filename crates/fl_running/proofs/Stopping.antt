@@ -1,0 +1,86 @@
+-- Where memory is wanted nothing is half done, but for what is told.
+use Rattle.std.proofs.Common.{◌≡◌, refl, sym, ap, ◌∙◌, subst, inr, ℕ, zero, suc, ◌+◌, ◌<◌, false, Bool, List, length, slice_set, slice_index_or, Result, Ok, Err, arith}
+use Rattle.std.specs.Prelude.{OnErr}
+use Rattle.std.proofs.lemmas.Option.{slice_get_read}
+use Rattle.std.proofs.lemmas.Result.{on_err_weaker}
+use Rattle.fl_base.specs.declared.identity.EndId.{EndId}
+use Rattle.fl_base.specs.declared.identity.LinkId.{LinkId}
+use Rattle.fl_value.specs.declared.value.Call.{Call}
+use Rattle.fl_core.proofs.Places.{set_same}
+use Rattle.fl_core.specs.declared.answer.TurnAnswer.{TurnAnswer}
+use Rattle.fl_core.specs.declared.answer.TurnAnswer.TheVariants.{Handle}
+use Rattle.fl_running.specs.declared.job.Job.{Job}
+use Rattle.fl_running.specs.declared.lent.Due.{Due}
+use Rattle.fl_running.specs.declared.plan.Plan.{Plan}
+use Rattle.fl_running.specs.declared.run.Part.{Part}
+use Rattle.fl_running.specs.Desks.{TheDesk}
+use Rattle.fl_running.specs.Run.{Ways, TheRun}
+use Rattle.fl_running.specs.Deeds.{turned, Does}
+use Rattle.fl_running.specs.Steps.{Forwards, Says, Serves, TakesTurn}
+use Rattle.fl_running.specs.Turn.{Swept, ForEach, OneTurn}
+use Rattle.fl_running.specs.Ran.{Task, Moment, CountedTurn, Counted}
+use Rattle.fl_running.specs.Stops.{LeavesJob, LeavesCall, LeavesTurn, StopsIn, StopsAmong, PartOfTurn, in_serves, in_turns, StopsInTurn}
+use Rattle.fl_running.proofs.Counted.{are_turns, turns_of}
+
+pub on_err : {T E P : Type 0} (r : Result T E) → P → OnErr r P
+on_err (Ok x) p = tt
+on_err (Err e) p = p
+
+-- ---- a call that was handled, and stands at no desk
+
+-- the desk that has no memory for it is as it was
+pub call_left : {S T E : Type 0} (s : TheRun S) (answer : TurnAnswer) (call : Call) (n : ℕ) (p q : TheDesk) (r : Result T E) → answer ≡ Handle call → n < length s.desks
+    → p ≡ slice_index_or s.desks n p → OnErr r (q ≡ p) → OnErr r ((x : Call) × (answer ≡ Handle x) × (record s { desks = slice_set s.desks n q } ≡ s))
+call_left s answer call n p q r is below value kept =
+    on_err_weaker r (λ same.
+    let desks : slice_set s.desks n q ≡ s.desks =
+    ap (λ (x : TheDesk). slice_set s.desks n x) same ∙ set_same s.desks n p (slice_get_read s.desks (length s.desks) n p refl below value) in
+    (call, is, ap (λ (xs : List TheDesk). record s { desks = xs }) desks)) kept
+
+pub handled_left : {S T E : Type 0} (w : Ways S) (d : ℕ) (name : EndId) (due : Due) (b : Bool) (answer : TurnAnswer) (s m t : TheRun S) (r : Result T E) → b ≡ false
+    → Does w (turned d name due.inlet answer) s m → OnErr r ((call : Call) × (answer ≡ Handle call) × (t ≡ m))
+    → OnErr r ((b ≡ false) × LeavesCall w d name due s t)
+handled_left w d name due b answer s m t r ready does left =
+    on_err_weaker r (λ h. (
+      ready,
+      inr (
+        h.0,
+        subst (λ (x : TheRun _). Does w (turned d name due.inlet (Handle h.0)) s x) (sym h.2)
+            (subst (λ (a : TurnAnswer). Does w (turned d name due.inlet a) s m) h.1 does),
+      ),
+    )) left
+
+-- ---- a part of a turn
+
+module _ {S : Type 0} (w : Ways S) (plan : Plan) (jobs : List Job) (links links2 : List LinkId) (ends : List EndId) (a : links ≡ plan.links.items)
+    (b : links2 ≡ plan.links.items) (e : ends ≡ plan.ends.items) (s m n : TheRun S) (forwards : ForEach links (Forwards w) s m)
+    (says : ForEach links2 (Says w) m n) where
+  forwards_by : ForEach plan.links.items (Forwards w) s m
+  forwards_by = subst (λ (xs : List LinkId). ForEach xs (Forwards w) s m) a forwards
+
+  says_by : ForEach plan.links.items (Says w) m n
+  says_by = subst (λ (xs : List LinkId). ForEach xs (Says w) m n) b says
+
+  pub serving : (t : TheRun S) → StopsAmong ends (Serves w jobs) LeavesJob n t → PartOfTurn w plan jobs s t
+  serving t stops = in_serves m n forwards_by says_by (subst (λ (xs : List EndId). StopsAmong xs (Serves w jobs) LeavesJob n t) e stops)
+
+  pub turning : (served t : TheRun S) → ForEach ends (Serves w jobs) n served → StopsIn (TakesTurn w jobs) (LeavesTurn w jobs) plan.dispatchers served t
+      → PartOfTurn w plan jobs s t
+  turning served t serves stops = in_turns m n served forwards_by says_by (subst (λ (xs : List EndId). ForEach xs (Serves w jobs) n served) e serves) stops
+
+-- ---- turns, and a part of one
+
+swept_join : {S : Type 0} (step : S → S → Type 0) (j k : ℕ) (s m t : S) → Swept (λ n. step) j s m → Swept (λ n. step) k m t → Swept (λ n. step) (j + k) s t
+swept_join step j zero s m t a b = subst (λ x. Swept (λ n. step) (j + 0) s x) (sym b) (let e : j ≡ j + 0 = omega arith in subst (λ (i : ℕ). Swept (λ n. step) i s m) e a)
+swept_join step j (suc k) s m t a b =
+    let e : suc (j + k) ≡ j + suc k = omega arith in
+    subst (λ (i : ℕ). Swept (λ n. step) i s t) e (b.0, swept_join step j k s m b.0 a b.1, b.2)
+
+pub stopped_counting : {S : Type 0} (w : Ways S) (t : Task) (k : ℕ) (a b : Moment S) (r : TheRun S) → Swept (λ n. CountedTurn w t) k a b
+    → PartOfTurn w t.plan t.jobs b.run r → StopsInTurn w t.plan t.jobs a.run r
+stopped_counting w t k a b r whole part = (k, b.run, are_turns w t k a b whole, part)
+
+pub stopped_behind : {S : Type 0} (w : Ways S) (t : Task) (a b : Moment S) (part : Part) (r : TheRun S) → Counted w t a part b
+    → StopsInTurn w t.plan t.jobs b.run r → StopsInTurn w t.plan t.jobs a.run r
+stopped_behind w t a b part r counted stops =
+    (part.turns + stops.0, stops.1, swept_join (OneTurn w t.plan t.jobs) part.turns stops.0 a.run b.run stops.1 (turns_of w t a b part counted) stops.2, stops.3)
