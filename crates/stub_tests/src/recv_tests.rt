@@ -9,7 +9,7 @@ use crate::rows::wrong;
 use fl_base::{Frag, MsgNo};
 use fl_compile::compile;
 use fl_layout::Plans;
-use fl_machine::{Fed, RecvRun, takes_fragments};
+use fl_machine::{Fed, Reassembly, RecvRun, TakeFault, Taken, takes_fragments};
 use fl_value::{Call, PlanNo, print_call};
 use std::alloc::{AllocError, Global};
 use std::test::Fail;
@@ -181,6 +181,42 @@ fn rows_hold(alloc: Global) -> Result<(), Fail> {
 fn fragments_fed_to_new_runs(rt: HostRuntime) -> Result<(), Fail> {
     takes_fragments();
     rows_hold(rt.alloc())
+}
+
+fn taken(alloc: Global, calls: &mut Reassembly, frag: &Frag) -> Result<Answer, AllocError> {
+    match calls.take(alloc, frag) {
+        Ok(Taken::Part) => Ok(Ok(Fed::Part)),
+        Ok(Taken::Whole(_)) => {
+            calls.finish();
+            Ok(Ok(Fed::Whole))
+        }
+        Err(TakeFault::Memory) => Err(AllocError),
+        Err(fault) => Ok(Err(fault.number())),
+    }
+}
+
+// Whether a new reassembly answers so to fragments, of which none is undone.
+fn reassembles(alloc: Global, text: &[u8], steps: &[Step]) -> Result<bool, AllocError> {
+    let Ok(interface) = interface(alloc, text) else {
+        return Err(AllocError);
+    };
+    let program = compile(alloc, &interface, PlanNo::One)?;
+    let most = capacity(program.plans());
+    let mut calls = Reassembly::new(alloc, program, most)?;
+    for (frag, wanted, _) in steps {
+        if taken(alloc, &mut calls, frag)? != *wanted {
+            return Ok(false);
+        }
+    }
+    Ok(true)
+}
+
+#[test]
+fn fragments_put_together(rt: HostRuntime) -> Result<(), Fail> {
+    let as_fed = reassembles(rt.alloc(), BLOB, INSIDE)?;
+    assert!(rt; as_fed);
+    assert_eq!(rt; TakeFault::Memory.number(), 99);
+    Ok(())
 }
 
 fn printed(alloc: Global, name: &[u8], call: &Call) -> Result<Vec<u8>, AllocError> {
