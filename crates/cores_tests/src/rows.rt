@@ -2,7 +2,7 @@
 
 use crate::gates::{Held, LockStep, Open, Together};
 use crate::texts::{Told, add, add_lines, run, skip_lines};
-use fl_cores::CoresEnd;
+use fl_cores::{CoresEnd, CoresFault};
 use std::alloc::{AllocError, Global};
 use std::test::Fail;
 
@@ -34,6 +34,25 @@ handle p.s echo_call(1)\nhandle p.s echo_call(2)\nhandle p.s echo_call(3)\ncompl
 // Eight lines, of which the last sets a rule.
 const RULED: &[u8] =
     b"idl\ninterface i { message a(uint32 v); }\n.\ndisp d 0\ndisp e 0\nexport s e i\nbind p d i s local 4\nreply p.s a a\n";
+
+const FAULTS: &[(CoresFault, Option<u8>)] = &[
+    (
+        CoresFault::Setup {
+            number: 73,
+            place: 4,
+        },
+        Some(73),
+    ),
+    (
+        CoresFault::Job {
+            number: 44,
+            place: 2,
+        },
+        Some(44),
+    ),
+    (CoresFault::Memory, Some(99)),
+    (CoresFault::Thread, None),
+];
 
 // Two parts of a text.
 fn joined(alloc: Global, one: &[u8], two: &[u8]) -> Result<Vec<u8>, AllocError> {
@@ -182,6 +201,14 @@ fn refused_lines(rt: HostRuntime) -> Result<(), Fail> {
         let told = run(&rt, rt.alloc(), &text, MANY, &Open)?;
         assert_eq!(rt; told.end, CoresEnd::Refused);
         assert_eq!(rt; told.text.as_slice(), wanted);
+    }
+    Ok(())
+}
+
+#[test]
+fn numbers_of_faults(rt: HostRuntime) -> Result<(), Fail> {
+    for (fault, number) in FAULTS {
+        assert_eq!(rt; fault.number(), *number);
     }
     Ok(())
 }

@@ -1,4 +1,5 @@
--- Which fault of a run comes of which fault below.
+-- Which fault of a run comes of which fault below, and the faults' numbers.
+use Rattle.std.specs.Prelude.{ℕ, Option, Some, None}
 use Rattle.fl_system.specs.declared.booting.BootFault.{BootFault}
 use Rattle.fl_system.specs.declared.booting.BootFault.TheVariants as boot
 use Rattle.fl_dockets.specs.declared.fault.JobFault.{JobFault}
@@ -19,3 +20,10 @@ by_job job.Memory = Memory
 abbrev pub by_stop : Stop → CoresFault
 by_stop stop.Memory = Memory
 by_stop stop.Thread = Thread
+
+-- the fault's number, as messages name it; a thread that doesn't start has none
+abbrev pub number_of : CoresFault → Option ℕ
+number_of (Setup number place) = Some number
+number_of (Job number place) = Some number
+number_of Memory = Some 99
+number_of Thread = None

@@ -2,7 +2,7 @@
 
 ghost use Rattle.std.specs.Prelude.{◌≡◌};
 ghost use Rattle.fl_cores.specs.declared.fault.CoresFault.TheVariants.{Memory as OutOfMemory};
-ghost use Rattle.fl_cores.specs.Faults.{by_boot, by_job, by_stop};
+ghost use Rattle.fl_cores.specs.Faults.{by_boot, by_job, by_stop, number_of};
 
 use fl_dockets::JobFault;
 use fl_system::BootFault;
@@ -24,6 +24,20 @@ pub enum CoresFault {
     /// A thread doesn't start.
     #[error("a thread doesn't start")]
     Thread,
+}
+
+impl CoresFault {
+    /// The fault's number, as messages name it; a thread that doesn't start has none.
+    pub fn number(self) -> Option<u8>
+        ensures number { result ≡ number_of self }
+    {
+        match self {
+            CoresFault::Setup { number, .. } => Some(number),
+            CoresFault::Job { number, .. } => Some(number),
+            CoresFault::Memory => Some(99),
+            CoresFault::Thread => None,
+        }
+    }
 }
 
 /// Why a run that was set up ends without a report.
