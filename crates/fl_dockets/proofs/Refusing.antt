@@ -1,5 +1,5 @@
 -- The first job that is refused.
-use Rattle.std.proofs.Common.{◌≡◌, append_assoc, inl, inr, refl, sym, ap, ◌∙◌, subst, ℕ, ◌+◌, List, [], ◌∷◌, ◌++◌, length, map, slice_get, Option, None, Result, Ok, Err}
+use Rattle.std.proofs.Common.{◌≡◌, append_assoc, inl, inr, refl, sym, ap, ◌∙◌, subst, ℕ, ◌+◌, ◌-◌, List, [], ◌∷◌, ◌++◌, length, map, take, slice_get, Option, None, Result, Ok, Err, arith}
 use Rattle.std.specs.Prelude.{IfErr, OnErr, IsSome}
 use Rattle.std.proofs.lemmas.List.{length-map, map-append}
 use Rattle.fl_base.specs.declared.identity.EndId.{EndId}
@@ -16,7 +16,9 @@ use Rattle.fl_dockets.specs.declared.fault.JobFault.{JobFault}
 use Rattle.fl_dockets.specs.declared.fault.JobFault.TheVariants as fault
 use Rattle.fl_dockets.specs.State.{TheJoined, AreJoined}
 use Rattle.fl_dockets.specs.Faults.{call_refusal, rule_refusal, call_fault_at, rule_fault_at, StopsFor, RuleStops, JobStops}
-use Rattle.fl_dockets.specs.Whole.{AreBound, IsBeside, FirstRefused, IsFault, fault_at}
+use Rattle.fl_node.specs.View.{TheCore}
+use Rattle.fl_dockets.specs.Rules.{RulesOf}
+use Rattle.fl_dockets.specs.Whole.{AreBound, IsBeside, FirstRefused, IsFault, HadSet, fault_at}
 use Rattle.fl_dockets.proofs.Alike.{call_refused, rule_refused}
 
 pub if_err_weaker : {T E : Type 0} (P Q : E → Type 0) (r : Result T E) → ((e : E) → P e → Q e) → IfErr r P → IfErr r Q
@@ -94,3 +96,32 @@ set_up_fault p jobs s f is = subst (λ (g : JobFault). IsFault p jobs g) (sym is
     by : (s : Stop) → IsFault p jobs (fault_at s 0)
     by (stop.Refused number) = inl refl
     by stop.Memory = tt
+
+-- ---- the rules that are set then
+
+take_front : {X : Type 0} (xs ys : List X) → take (length xs) (xs ++ ys) ≡ xs
+take_front [] ys = refl
+take_front (x ∷ xs) ys = ap (λ t. x ∷ t) (take_front xs ys)
+
+module _ (set_up : List Binding) (all : List Job) (done behind : List RustJob) (x : RustJob) (place : ℕ) (ks ks1 ks2 : List TheCore)
+    (whole : all ≡ map job_of done ++ job_of x ∷ map job_of behind) (count : place ≡ length done) (same : ks2 ≡ ks1)
+    (rules : RulesOf set_up (map job_of done) ks ks1) where
+  as_then : RulesOf set_up (map job_of done) ks ks2
+  as_then = subst (λ (t : List TheCore). RulesOf set_up (map job_of done) ks t) (sym same) rules
+
+  first_jobs : take (place + 1 - 1) all ≡ map job_of done
+  first_jobs =
+      let l = length-map done job_of in
+      let e : place + 1 - 1 ≡ length (map job_of done) = omega (arith, l, count) in
+      ap (λ (n : ℕ). take n all) e ∙ ap (λ (t : List Job). take (length (map job_of done)) t) whole
+      ∙ take_front (map job_of done) (job_of x ∷ map job_of behind)
+
+  first_set : RulesOf set_up (take (place + 1 - 1) all) ks ks2
+  first_set = subst (λ (t : List Job). RulesOf set_up t ks ks2) (sym first_jobs) as_then
+
+  had_by : (s : Stop) → HadSet set_up all (fault_at s (place + 1)) ks ks2
+  had_by (stop.Refused number) = first_set
+  had_by stop.Memory = (place + 1 - 1, first_set)
+
+  pub had_set : (s : Stop) (f : JobFault) → f ≡ fault_at s (place + 1) → HadSet set_up all f ks ks2
+  had_set s f is = subst (λ (g : JobFault). HadSet set_up all g ks ks2) (sym is) (had_by s)

@@ -1,5 +1,5 @@
 -- The jobs of a whole file, joined one after another to the bindings of a set-up.
-use Rattle.std.specs.Prelude.{ℕ, ◌≡◌, ◌⊎◌, ◌<◌, ◌≤◌, ◌+◌, ◌++◌, nat_lt, Bool, List, [], ◌∷◌, length, map, slice_get, Some, None}
+use Rattle.std.specs.Prelude.{ℕ, ◌≡◌, ◌⊎◌, ◌<◌, ◌≤◌, ◌+◌, ◌-◌, ◌++◌, nat_lt, Bool, List, [], ◌∷◌, length, map, take, slice_get, Some, None}
 use Rattle.std.specs.List.{flat_map}
 use Rattle.fl_base.specs.declared.identity.EndId.{EndId}
 use Rattle.fl_base.specs.declared.identity.MsgNo.{MsgNo}
@@ -17,7 +17,7 @@ use Rattle.fl_dockets.specs.declared.fault.JobFault.{JobFault}
 use Rattle.fl_dockets.specs.declared.fault.JobFault.TheVariants as fault
 use Rattle.fl_dockets.specs.Dockets.{docket_at}
 use Rattle.fl_dockets.specs.Faults.{JobStops}
-use Rattle.fl_dockets.specs.Rules.{RuleNow}
+use Rattle.fl_dockets.specs.Rules.{RuleNow, RulesOf}
 use Rattle.fl_dockets.specs.State.{TheJoined, with_binding, Opened, CallPlanned, RulePlanned, AreJoined}
 
 -- ---- bindings that are set up
@@ -114,6 +114,11 @@ FirstRefused p jobs fault.Memory = Unit {0}
 abbrev pub IsFault : Parts → List Job → JobFault → Type 0
 IsFault p jobs (fault.Refused number place) = (place ≡ 0) ⊎ RefusedAt p jobs number place
 IsFault p jobs fault.Memory = Unit {0}
+
+-- and which rules are set then: those of the jobs before the one that is refused; where memory was wanted, those of the first, so many
+abbrev pub HadSet : List Binding → List Job → JobFault → List TheCore → List TheCore → Type 0
+HadSet set_up jobs (fault.Refused number place) ks ks2 = RulesOf set_up (take (place - 1) jobs) ks ks2
+HadSet set_up jobs fault.Memory ks ks2 = (n : ℕ) × RulesOf set_up (take n jobs) ks ks2
 
 -- all that a world was made of, but its cores, is as it was
 pub record IsBeside (p p2 : Parts) : Type 0 where

@@ -22,6 +22,7 @@ fn core_in(side: Side, binding: &Binding) -> usize
 // The end of a name, which is at a core, has the rule from now on.
 fn rule_core(core: &mut Core, end: EndId, message: MsgNo, answer: MsgNo) -> Result<(), Stop>
     ensures rules { OnOk result (RulesCore end message.0 answer.0 core.old core.new) }
+    ensures kept { OnErr result (core.new ≡ core.old) }
 {
     let Some(place) = core.place(end) else {
         return Err(Stop::Refused(92));
@@ -41,6 +42,7 @@ fn rule_at(
     answer: MsgNo,
 ) -> Result<(), Stop>
     ensures rules { OnOk result (RulesAt n end message.0 answer.0 cores.old.items cores.new.items) }
+    ensures kept { OnErr result (cores.new.items ≡ cores.old.items) }
     ensures count { length cores.new.items ≡ length cores.old.items }
 {
     if n >= cores.len() {
@@ -50,7 +52,7 @@ fn rule_at(
     rule_core(core, end, message, answer)
 }
 
-/// An end of a binding that is set up has the rule from now on. Of any other end nothing is done.
+/// An end of a binding that is set up has the rule from now on. Of any other end nothing is done, nor where the rule is refused.
 pub(crate) fn rule_now(
     cores: &mut Vec<Core>,
     bindings: &[Binding],
@@ -60,6 +62,7 @@ pub(crate) fn rule_now(
 ) -> Result<(), Stop>
     ensures there { OnErr result (IsSome (slice_get bindings.now end.binding)) }
     ensures rules { OnOk result (RuleNow (slice_get bindings.now end.binding) end message.0 answer.0 cores.old.items cores.new.items) }
+    ensures kept { OnErr result (cores.new.items ≡ cores.old.items) }
     ensures count { length cores.new.items ≡ length cores.old.items }
 {
     match bindings.get(end.binding) {

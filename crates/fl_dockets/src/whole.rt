@@ -1,6 +1,6 @@
 //! The jobs of a whole file, joined one after another.
 
-ghost use Rattle.std.specs.Prelude.{◌≡◌, [], List, map, length, slice_get, IfOk, IfErr, OnOk};
+ghost use Rattle.std.specs.Prelude.{◌≡◌, [], List, map, length, slice_get, IfOk, IfErr, OnOk, OnErr};
 ghost use Rattle.fl_jobs.specs.Jobs.{Job as TheJob};
 ghost use Rattle.fl_jobs.specs.Views.{job_of};
 ghost use Rattle.fl_dockets.specs.Dockets.{docket_of};
@@ -10,7 +10,7 @@ ghost use Rattle.fl_dockets.specs.Joined.{AreBindings, HasDockets};
 ghost use Rattle.fl_dockets.specs.Kept.{AreKept};
 ghost use Rattle.fl_dockets.specs.State.{joined_of, IsSafe, ArePlaced, AreJoined};
 ghost use Rattle.fl_dockets.specs.Rules.{RulesOf};
-ghost use Rattle.fl_dockets.specs.Whole.{bound_of, SetUp, Ruled, Joins, IsBeside, AreBound, AreDue, fault_at, FirstRefused, IsFault};
+ghost use Rattle.fl_dockets.specs.Whole.{bound_of, SetUp, Ruled, Joins, IsBeside, AreBound, AreDue, fault_at, FirstRefused, IsFault, HadSet};
 
 use crate::docket::Bound;
 use crate::fault::JobFault;
@@ -64,6 +64,7 @@ impl Joined {
         ensures refused { IfErr result (λ stop. RuleStops
             (rule_fault_at parts.old.programs.items self.old.bindings.items (map docket_of self.old.dockets.items) end message.0 answer.0)
             (slice_get parts.old.bindings.items end.binding) stop) }
+        ensures set { OnErr result (parts.new.cores.items ≡ parts.old.cores.items) }
     {
         let is_there = end.binding < parts.bindings.as_slice().len();
         if let Err(stop) = self.plan_rule(&parts.programs, is_there, end, message, answer) {
@@ -81,6 +82,7 @@ impl Joined {
         ensures beside { IsBeside parts.old parts.new }
         ensures refused { IfErr result (λ stop. (asked : List TheJob) → AreJoined (length parts.old.cores.items) asked (joined_of self.old)
             → JobStops parts.old asked (joined_of self.old) (job_of job.entry) stop) }
+        ensures set { OnErr result (parts.new.cores.items ≡ parts.old.cores.items) }
     {
         match job {
             Job::Open(wish) => self.open(alloc, parts, &wish),
@@ -112,6 +114,8 @@ impl Joined {
         ensures count { OnOk result (length parts.new.cores.items ≡ length parts.old.cores.items) }
         ensures beside { IsBeside parts.old parts.new }
         ensures refused { IfErr result (λ fault. FirstRefused parts.old (map job_of jobs.entry.items) fault) }
+        ensures set { IfErr result (λ fault. HadSet parts.old.bindings.items (map job_of jobs.entry.items) fault
+            parts.old.cores.items parts.new.cores.items) }
     {
         let mut place = 0;
         for job in jobs {
@@ -151,7 +155,7 @@ fn set_up(alloc: Global, cores: usize, bindings: &[Binding]) -> Result<Joined, S
 /// Checks the jobs one by one and joins them to the cores of their ends. Reply rules are set at the ends that are there.
 ///
 /// # Errors
-/// [`JobFault`]: the first job that is refused, or want of memory.
+/// [`JobFault`]: the first job that is refused, or want of memory. The rules of the jobs before that are set then, and no others.
 pub fn join_jobs(alloc: Global, parts: &mut Parts, jobs: Vec<Job<'_>>) -> Result<Joined, JobFault>
     ensures bindings { IfOk result (λ j. AreBindings (length parts.old.cores.items) j.bindings.items j.owners.items) }
     ensures dockets { IfOk result (λ j. HasDockets j.bindings.items j.dockets.items) }
@@ -163,6 +167,7 @@ pub fn join_jobs(alloc: Global, parts: &mut Parts, jobs: Vec<Job<'_>>) -> Result
     ensures rules { OnOk result (RulesOf parts.old.bindings.items (map job_of jobs.entry.items) parts.old.cores.items parts.new.cores.items) }
     ensures beside { IsBeside parts.old parts.new }
     ensures refused { IfErr result (λ fault. IsFault parts.old (map job_of jobs.entry.items) fault) }
+    ensures set { IfErr result (λ fault. HadSet parts.old.bindings.items (map job_of jobs.entry.items) fault parts.old.cores.items parts.new.cores.items) }
 {
     let cores = parts.cores.as_slice().len();
     let mut joined = match set_up(alloc, cores, &parts.bindings) {

@@ -5,7 +5,7 @@ use Rattle.fl_dockets.specs.State.{joined_of, AreJoined}
 use Rattle.fl_dockets.proofs.Fitting.{fits_turn, fits_none}
 use Rattle.fl_dockets.proofs.Keeping.{kept_turn, all_joined}
 use Rattle.fl_dockets.proofs.Stepwise.{joined_turn, bound_turn, rules_turn, count_of, place_turn, beside_still}
-use Rattle.fl_dockets.proofs.Refusing.{left_turn, whole_of, first_refused}
+use Rattle.fl_dockets.proofs.Refusing.{left_turn, whole_of, first_refused, had_set}
 use Rattle.fl_dockets.proofs.joining.Joined.join_all.Goals as goal
 
 pub loop-job-init : goal.loop-job-init
@@ -57,3 +57,12 @@ returns-in-Err-clause-refused c =
     first_refused c.args.parts.now c.loop-job.parts c.args.jobs.items c.loop-job.yielded rest c.in-Some.job c.loop-job.place (joined_of c.loop-job.self)
     i.beside whole i.place joined i.bound c.in-Err.stop c.fault_at.result c.fault_at.ensures.fault
     (c.in-Err.ensures.refused (map job_of c.loop-job.yielded) were)
+
+pub returns-in-Err-clause-set : goal.returns-in-Err-clause-set
+returns-in-Err-clause-set c =
+    let i = c.loop-job.invariant in
+    let jobs = map job_of c.args.jobs.items in
+    let rest = into_iter_items c.next.new.self in
+    let whole = whole_of jobs c.loop-job.yielded (into_iter_items c.loop-job.job-iterator) rest c.in-Some.job c.in-Some.ensures.steps.0 i.left in
+    had_set c.args.parts.now.bindings.items jobs c.loop-job.yielded rest c.in-Some.job c.loop-job.place c.args.parts.now.cores.items c.loop-job.parts.cores.items
+    c.join_one.new.parts.cores.items whole i.place c.in-Err.ensures.set i.rules c.in-Err.stop c.fault_at.result c.fault_at.ensures.fault
