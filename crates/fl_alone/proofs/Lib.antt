@@ -1,0 +1,3 @@
+pub mod Standing
+pub mod Whole
+pub mod Writing

@@ -1,0 +1,121 @@
+-- Where the ends of one core by itself stand: each is joined by queues, which are the core's.
+use Rattle.std.proofs.Common.{◌≡◌, refl, sym, ◌∙◌, ap, subst, ℕ, true, false, nat_lt, if◌then◌else◌, List, [], ◌∷◌, length, slice_get, Option, Some, None, arith}
+use Rattle.fl_base.specs.declared.identity.EndId.{EndId}
+use Rattle.fl_base.specs.Ends.{peer}
+use Rattle.fl_hop.proofs.Lists.{within}
+use Rattle.fl_link.specs.Queue.{TheQueue}
+use Rattle.fl_node.specs.declared.wire.Wire.{Wire}
+use Rattle.fl_node.specs.declared.wire.Wire.TheVariants.{Queues, Ring as OverRing, Circuit}
+use Rattle.fl_node.specs.declared.wire.Lane.{Lane}
+use Rattle.fl_node.specs.declared.wire.Port.{Port}
+use Rattle.fl_node.specs.declared.wire.Outlet.{Outlet}
+use Rattle.fl_node.specs.declared.wire.Outlet.TheVariants as outlet
+use Rattle.fl_node.specs.declared.wire.Inlet.{Inlet}
+use Rattle.fl_node.specs.declared.wire.Inlet.TheVariants as inlet
+use Rattle.fl_node.specs.View.{TheCore, place_of, side_of_link, outlet_by, outlet_of, inlet_by, inlet_of}
+use Rattle.fl_monitor.specs.Routing.{given as given_at}
+use Rattle.fl_queues.specs.Given.{given}
+use Rattle.fl_queues.specs.Rings.{RingEnd}
+use Rattle.fl_queues.specs.State.{Back, local, over_ring, over_route, State, own_ring, side_of}
+use Rattle.fl_shows.proofs.Tests.{lt_true}
+use Rattle.fl_worlds.specs.View.{TheWorld, nowhere, made, spot_at, spot_of, core_in}
+use Rattle.fl_worlds.specs.Picture.{TakesFrom, IsWire, IsPicture, Shows}
+use Rattle.fl_worlds.proofs.Frames.{Stands}
+use Rattle.fl_worlds.proofs.FramesBase.{gets, not_both}
+use Rattle.fl_worlds.proofs.FramesFind.{spot_made}
+use Rattle.fl_worlds.proofs.WritingPieces.{stands_there}
+use Rattle.fl_worlds.proofs.WritingStreams.{own_ring_there}
+use Rattle.fl_worlds.proofs.WritingQueues.{peer_of}
+use Rattle.fl_running.specs.Run.{TheRun, lends_out, lends_in, lent_post}
+use Rattle.fl_alone.specs.Turns.{Alone}
+use Rattle.fl_alone.specs.Shown.{world_with, ShowsAlone}
+
+-- ---- where an end is
+
+pub spot_is : (w : TheWorld) (s : State) (e : EndId) (n place : ℕ) (h : Stands w s e n place) → IsPicture w s → spot_of w e ≡ made n place
+spot_is w s e n place h p =
+    let there = gets s.bindings w.bindings e.binding h.binding p.bindings.count h.binding_is in
+    let core : core_in e.side there.0 ≡ n = (p.bindings.each e.binding h.binding there.0 h.binding_is there.1).seated e h.seat refl h.seat_is ∙ h.core_at in
+    ap (λ o. given o nowhere (λ b. spot_at w.cores (core_in e.side b) e)) there.1
+    ∙ spot_made w.cores (core_in e.side there.0) e h.core place (ap (slice_get w.cores) core ∙ h.core_is) h.place_is
+    ∙ ap (λ k. made k place) core
+
+pub stands : {S : Type 0} (w : TheWorld) (r : TheRun S) (a : Alone) (e : EndId) (place : ℕ) → ShowsAlone w r a → place_of r.core e ≡ Some place
+    → Stands (world_with w r) a.state e 0 place
+stands w r a e place h q = stands_there (world_with w r) a.state e 0 place r.core h.shows refl q
+
+-- ---- it is joined by queues
+
+pub record Queued (w : TheWorld) (s : State) (e : EndId) (place : ℕ) (h : Stands w s e 0 place) : Type 0 where
+  pub out : ℕ
+  pub from : ℕ
+  pub wire : h.port.wire ≡ Queues out from
+
+no_lane : (lanes : List Lane) (l m : ℕ) → lanes ≡ [] → side_of_link lanes l ≡ Some m → ⊥
+no_lane lanes l m q r =
+    let none : None ≡ Some m = ap (λ (ls : List Lane). side_of_link ls l) (sym q) ∙ r in
+    cc
+
+own_back : (s : State) (e : EndId) (back : Back) (at : RingEnd) → own_ring e.side back ≡ Some at → (n : ℕ) × (back ≡ over_ring n)
+own_back s e local at q = absurd (cc)
+own_back s e (over_ring n) at q = (n, refl)
+own_back s e (over_route route) at q = absurd (cc)
+
+-- no ring is there
+no_own_ring : (w : TheWorld) (s : State) (e : EndId) (place : ℕ) (h : Stands w s e 0 place) (at : RingEnd) → Shows w s → w.rings ≡ []
+    → own_ring e.side h.binding.back ≡ Some at → ⊥
+no_own_ring w s e place h at shown none q =
+    let back = own_back s e h.binding.back at q in
+    let ring = own_ring_there s e h.binding back.0 shown.sound.ends h.binding_is back.1 in
+    let there = gets s.rings w.rings back.0 ring.0 shown.picture.rings.count ring.1 in
+    not_both (slice_get w.rings back.0) there.0 (ap (λ rs. slice_get rs back.0) none) there.1
+
+by_wire : (w : TheWorld) (s : State) (e : EndId) (place : ℕ) (h : Stands w s e 0 place) (wire : Wire) → Shows w s → w.rings ≡ [] → h.core.lanes ≡ []
+    → h.port.wire ≡ wire → IsWire w h.core s e h.binding wire → Queued w s e place h
+by_wire w s e place h (Queues out from) shown none lanes q wired = record { out = out; from = from; wire = q }
+by_wire w s e place h (OverRing m) shown none lanes q wired = absurd (no_own_ring w s e place h wired.0 shown none wired.1)
+by_wire w s e place h (Circuit link arrivals) shown none lanes q wired = absurd (no_lane h.core.lanes link.0 wired.0.0 lanes wired.0.1)
+
+some_core : (c d : TheCore) → Some c ≡ Some d → c ≡ d
+some_core c d q = cc
+
+pub queued : {S : Type 0} (w : TheWorld) (r : TheRun S) (a : Alone) (e : EndId) (place : ℕ) (x : ShowsAlone w r a) (h : Stands (world_with w r) a.state e 0 place)
+    → Queued (world_with w r) a.state e place h
+queued w r a e place x h =
+    let core : r.core ≡ h.core = some_core r.core h.core h.core_is in
+    by_wire (world_with w r) a.state e place h h.port.wire x.shows refl (ap (λ (c : TheCore). c.lanes) (sym core) ∙ x.no_links) refl h.wire
+
+-- ---- what is lent
+
+-- of an end that is at the core: where it puts, and where it takes from
+pub record Wired {S : Type 0} (r : TheRun S) (e : EndId) (place : ℕ) : Type 0 where
+  pub out : ℕ
+  pub from : ℕ
+  pub outlet_is : outlet_of r.core place ≡ Some (outlet.Queue out)
+  pub inlet_is : inlet_of r.core place ≡ Some (inlet.Queue from)
+  pub out_there : nat_lt out (length r.queues) ≡ true
+  pub from_there : nat_lt from (length r.queues) ≡ true
+
+pub wired : {S : Type 0} (w : TheWorld) (r : TheRun S) (a : Alone) (e : EndId) (place : ℕ) → ShowsAlone w r a → place_of r.core e ≡ Some place → Wired r e place
+wired w r a e place x q =
+    let h = stands w r a e place x q in
+    let k = queued w r a e place x h in
+    let core : r.core ≡ h.core = some_core r.core h.core h.core_is in
+    let port : slice_get r.core.ports place ≡ Some h.port = ap (λ (c : TheCore). slice_get c.ports place) core ∙ h.port_is in
+    let is : IsWire (world_with w r) h.core a.state e h.binding (Queues k.out k.from) = subst (IsWire (world_with w r) h.core a.state e h.binding) k.wire h.wire in
+    let other = peer_of (world_with w r) a.state e 0 place h k.out k.from x.shows k.wire in
+    record {
+      out = k.out;
+      from = k.from;
+      outlet_is = ap (λ (o : Option Port). given_at o None λ p. outlet_by r.core.lanes p.wire) port ∙ ap (outlet_by r.core.lanes) k.wire;
+      inlet_is = ap (λ (o : Option Port). given_at o None λ p. Some (inlet_by p.wire)) port ∙ ap (λ v. Some (inlet_by v)) k.wire;
+      out_there = lt_true k.out (length r.queues) (within r.queues k.out other.there other.there_is);
+      from_there = lt_true k.from (length r.queues) (within r.queues k.from is.1.there is.1.there_is);
+    }
+
+pub post_lent : {S : Type 0} (r : TheRun S) (e : EndId) (place : ℕ) (k : Wired r e place) → place_of r.core e ≡ Some place
+    → lent_post r e ≡ Some (record { end = place; outlet = outlet.Queue k.out })
+post_lent r e place k q =
+    ap (λ (o : Option ℕ). given_at o None λ n. given_at (outlet_of r.core n) None λ out. if lends_out r out then Some (record { end = n; outlet = out }) else None) q
+    ∙ ap (λ (o : Option Outlet). given_at o None λ out. if lends_out r out then Some (record { end = place; outlet = out }) else None) k.outlet_is
+    ∙ ap (λ b. if b then Some (record { end = place; outlet = outlet.Queue k.out }) else None) k.out_there

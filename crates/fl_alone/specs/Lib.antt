@@ -1,0 +1,4 @@
+-- The laws rest on these, in this order.
+pub mod Turns
+pub mod Shown
+pub mod Laws

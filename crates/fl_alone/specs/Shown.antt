@@ -1,0 +1,21 @@
+-- When a running core shows a state of the machine, with desks: by its own queues, and no link and no ring.
+use Rattle.std.specs.Prelude.{ℕ, ◌≡◌, false, List, [], ◌∷◌, map}
+use Rattle.fl_value.specs.Value.{call_of}
+use Rattle.fl_worlds.specs.View.{TheWorld}
+use Rattle.fl_worlds.specs.Picture.{Shows}
+use Rattle.fl_running.specs.Desks.{TheDesk}
+use Rattle.fl_running.specs.Run.{TheRun}
+use Rattle.fl_alone.specs.Turns.{Desk, Alone}
+
+abbrev pub desk_of : TheDesk → Desk
+desk_of d = record { jobs = d.jobs; done = d.done; due = d.due; handled = map call_of d.handled; refused = d.refused }
+
+-- what a set-up made, with this core and its queues as they are now: the world of one core
+abbrev pub world_with : {S : Type 0} → TheWorld → TheRun S → TheWorld
+world_with w r = record w { may_set_cores = false; cores = r.core ∷ []; rings = []; queues = r.queues }
+
+pub record ShowsAlone {S : Type 0} (w : TheWorld) (r : TheRun S) (a : Alone) : Type 0 where
+  pub shows : Shows (world_with w r) a.state
+  pub no_rings : r.rings ≡ []
+  pub no_links : r.core.lanes ≡ []
+  pub desks : a.desks ≡ map desk_of r.desks
