@@ -36,7 +36,7 @@ settled_same w r a = refl
 
 -- ---- the answer
 
-write_answer : Result WriteAnswer EndFault → Answer
+abbrev write_answer : Result WriteAnswer EndFault → Answer
 write_answer (Ok (Written k n)) = written k n
 write_answer (Ok Full) = full
 write_answer (Ok Nothing) = nothing
@@ -51,13 +51,13 @@ is_written (Err fault) = refl
 -- ---- the event
 
 -- what is changed of the world is what is changed of the core and its queues
-wrote_world : {S : Type 0} (w : TheWorld) (s m : TheRun S) (n : ℕ) (q : TheQueue) → m ≡ record s { core = m.core; queues = slice_set s.queues n q }
+pub wrote_world : {S : Type 0} (w : TheWorld) (s m : TheRun S) (n : ℕ) (q : TheQueue) → m ≡ record s { core = m.core; queues = slice_set s.queues n q }
     → world_with w m ≡ with_queue (with_core (world_with w s) 0 m.core) n q
 wrote_world {S} w s m n q h = ap (λ (x : TheRun S). world_with w x) h
 
 pub write_steps : {S : Type 0} (ways : Ways S) (law : StepsAgree) (w : TheWorld) (s t : TheRun S) (a : Alone) (name : EndId) (place : ℕ) (answer : Result WriteAnswer EndFault)
     (k : Wired s name place) → ShowsAlone w s a → IsSound t.core → place_of s.core name ≡ Some place → Happens ways (wrote name (outlet.Queue k.out) answer) s t
-    → WritesAsMachine w t a name answer
+    → WritesAsMachine w s t a name answer
 write_steps {S} ways law w s t a name place answer k x sound at (m, (e, found, on), same, before, soundly) =
     let h = stands w s a name place x at in
     let there : e ≡ place = same_some (place_of s.core name) e place found at in
@@ -92,6 +92,7 @@ write_steps {S} ways law w s t a name place answer k x sound at (m, (e, found, o
     record {
       answers = subst (IsWritten answer) (sym agrees.answer) (is_written answer);
       shows = subst (λ (r : TheRun S). ShowsAlone w r (goes (write name) a)) (sym same) shown;
+      places = ap (λ (r : TheRun S). r.core.places) same ∙ ap (λ (c : TheCore). c.places) on.event.rest;
     }
 
 -- ---- the law

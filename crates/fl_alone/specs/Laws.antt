@@ -1,28 +1,66 @@
 -- The laws of one core by itself. Each is of a core that shows a state of the machine.
-use Rattle.std.specs.Prelude.{ℕ, ◌≡◌, Some, Result, Err}
+use Rattle.std.specs.Prelude.{ℕ, ◌≡◌, ◌≢◌, Some, Result, Err}
 use Rattle.fl_base.specs.declared.identity.EndId.{EndId}
+use Rattle.fl_base.specs.declared.identity.MsgNo.{MsgNo}
+use Rattle.fl_value.specs.Value.{TheCall}
 use Rattle.fl_endpoint.specs.declared.fault.EndFault.{EndFault}
+use Rattle.fl_endpoint.specs.declared.fault.EndFault.TheVariants.{Memory}
 use Rattle.fl_endpoint.specs.declared.answer.WriteAnswer.{WriteAnswer}
-use Rattle.fl_queues.specs.Events.{write}
+use Rattle.fl_core.specs.declared.answer.TurnAnswer.{TurnAnswer}
+use Rattle.fl_node.specs.declared.wire.Outlet.{Outlet}
+use Rattle.fl_node.specs.declared.wire.Inlet.{Inlet}
+use Rattle.fl_node.specs.View.{place_of, outlet_of, inlet_of}
+use Rattle.fl_queues.specs.Events.{write, call, reply, turn}
 use Rattle.fl_queues.specs.Step.{step}
 use Rattle.fl_worlds.specs.View.{TheWorld}
-use Rattle.fl_worlds.specs.Sending.{IsWritten}
-use Rattle.fl_node.specs.declared.wire.Outlet.{Outlet}
-use Rattle.fl_node.specs.View.{place_of, outlet_of}
+use Rattle.fl_worlds.specs.Sending.{IsCalled, IsWritten}
+use Rattle.fl_worlds.specs.Taking.{turn_answer, IsRuled}
 use Rattle.fl_running.specs.Run.{Ways, TheRun}
-use Rattle.fl_running.specs.Deeds.{wrote, Happens, IsSound}
-use Rattle.fl_alone.specs.Turns.{Alone, goes}
+use Rattle.fl_running.specs.Deeds.{called, ruled, wrote, turned, Happens, IsSound}
+use Rattle.fl_alone.specs.Turns.{Alone, goes, calls, rules, here, turns_at}
 use Rattle.fl_alone.specs.Shown.{ShowsAlone}
 
--- ---- events
+-- ---- events: what an end or a dispatcher does is the machine's step. It answers the same, and afterwards the core shows the machine's next state; and the
+-- desks are those that the definition has then. Ends stay where they are
 
--- a write of an end is the machine's: it answers the same, and afterwards the core shows the machine's next state
-pub record WritesAsMachine {S : Type 0} (w : TheWorld) (t : TheRun S) (a : Alone) (name : EndId) (answer : Result WriteAnswer EndFault) : Type 0 where
+-- a call; that memory was wanted isn't an answer
+pub record CallsAsMachine {S : Type 0} (w : TheWorld) (s t : TheRun S) (a : Alone) (name : EndId) (c : TheCall) (answer : Result (Unit {0}) EndFault) : Type 0 where
+  pub answers : IsCalled answer (step a.state (call name c)).answer
+  pub shows : ShowsAlone w t (calls name c a)
+  pub places : t.core.places ≡ s.core.places
+
+abbrev pub CallsAreTheMachines : {S : Type 0} → Ways S → Type 0
+CallsAreTheMachines {S} ways = (w : TheWorld) (s t : TheRun S) (a : Alone) (name : EndId) (c : TheCall) (answer : Result (Unit {0}) EndFault)
+    → ShowsAlone w s a → IsSound t.core → answer ≢ Err Memory → Happens ways (called name c answer) s t → CallsAsMachine w s t a name c answer
+
+-- a reply rule
+pub record RulesAsMachine {S : Type 0} (w : TheWorld) (s t : TheRun S) (a : Alone) (name : EndId) (msg answer : ℕ) (r : Result (Unit {0}) EndFault) : Type 0 where
+  pub answers : IsRuled r (step a.state (reply name msg answer)).answer
+  pub shows : ShowsAlone w t (rules name msg answer a)
+  pub places : t.core.places ≡ s.core.places
+
+abbrev pub RulesAreTheMachines : {S : Type 0} → Ways S → Type 0
+RulesAreTheMachines {S} ways = (w : TheWorld) (s t : TheRun S) (a : Alone) (name : EndId) (msg answer : MsgNo) (r : Result (Unit {0}) EndFault)
+    → ShowsAlone w s a → IsSound t.core → Happens ways (ruled name msg answer r) s t → RulesAsMachine w s t a name msg.0 answer.0 r
+
+-- a write, to where the end puts
+pub record WritesAsMachine {S : Type 0} (w : TheWorld) (s t : TheRun S) (a : Alone) (name : EndId) (answer : Result WriteAnswer EndFault) : Type 0 where
   pub answers : IsWritten answer (step a.state (write name)).answer
   pub shows : ShowsAlone w t (goes (write name) a)
+  pub places : t.core.places ≡ s.core.places
 
 abbrev pub WritesAreTheMachines : {S : Type 0} → Ways S → Type 0
 WritesAreTheMachines {S} ways = (w : TheWorld) (s t : TheRun S) (a : Alone) (name : EndId) (e : ℕ) (out : Outlet) (answer : Result WriteAnswer EndFault)
     → ShowsAlone w s a → IsSound t.core → place_of s.core name ≡ Some e → outlet_of s.core e ≡ Some out
-    → Happens ways (wrote name out answer) s t
-    → WritesAsMachine w t a name answer
+    → Happens ways (wrote name out answer) s t → WritesAsMachine w s t a name answer
+
+-- a dispatcher's turn, over where the end that is due takes from
+pub record TurnsAsMachine {S : Type 0} (w : TheWorld) (s t : TheRun S) (a : Alone) (d : ℕ) (name : EndId) (answer : TurnAnswer) : Type 0 where
+  pub answers : (step a.state (turn (here d))).answer ≡ turn_answer name answer
+  pub shows : ShowsAlone w t (turns_at d a)
+  pub places : t.core.places ≡ s.core.places
+
+abbrev pub TurnsAreTheMachines : {S : Type 0} → Ways S → Type 0
+TurnsAreTheMachines {S} ways = (w : TheWorld) (s t : TheRun S) (a : Alone) (d : ℕ) (name : EndId) (e : ℕ) (from : Inlet) (answer : TurnAnswer)
+    → ShowsAlone w s a → IsSound t.core → place_of s.core name ≡ Some e → inlet_of s.core e ≡ Some from
+    → Happens ways (turned d name from answer) s t → TurnsAsMachine w s t a d name answer

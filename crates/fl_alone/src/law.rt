@@ -1,14 +1,17 @@
 //! What is promised of the run of one core by itself: laws, as the contracts of functions that do nothing.
 
 ghost use Rattle.fl_running.specs.Run.{ways};
-ghost use Rattle.fl_alone.specs.Laws.{WritesAreTheMachines};
+ghost use Rattle.fl_alone.specs.Laws.{CallsAreTheMachines, RulesAreTheMachines, WritesAreTheMachines, TurnsAreTheMachines};
 
 use fl_link::{PutSide, TakeSide};
 use fl_worlds::steps_agree;
 
 /// Each event of a core that shows a state of the machine is the machine's of that name.
 pub fn events_are_the_machines<S: PutSide + TakeSide>()
+    ensures call { CallsAreTheMachines (ways S.puts S.takes S.front) }
+    ensures rule { RulesAreTheMachines (ways S.puts S.takes S.front) }
     ensures write { WritesAreTheMachines (ways S.puts S.takes S.front) }
+    ensures turn { TurnsAreTheMachines (ways S.puts S.takes S.front) }
 {
     steps_agree();
 }

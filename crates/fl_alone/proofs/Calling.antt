@@ -1,0 +1,155 @@
+-- A call and a reply rule of an end of one core by itself are the machine's.
+use Rattle.std.proofs.Common.{◌≡◌, ◌≢◌, inl, inr, refl, sym, ◌∙◌, ap, subst, ℕ, true, nat_lt, List, [], ◌∷◌, map, slice_get, slice_set, Option, Some, None}
+use Rattle.std.specs.Prelude.{Result, Ok, Err}
+use Rattle.fl_base.specs.declared.identity.EndId.{EndId}
+use Rattle.fl_base.specs.declared.identity.MsgNo.{MsgNo}
+use Rattle.fl_value.specs.Value.{TheCall}
+use Rattle.fl_endpoint.specs.declared.fault.EndFault.{EndFault}
+use Rattle.fl_endpoint.specs.declared.fault.EndFault.TheVariants.{Memory, Spent, Busy, UnknownMessage, Misfit, NotBound, Failed, Wire}
+use Rattle.fl_endpoint.specs.Faults.{fault_number}
+use Rattle.fl_endpoint.specs.Events.{Calls, SetsRule}
+use Rattle.fl_core.specs.Events.{ChangesEnd}
+use Rattle.fl_node.specs.View.{TheCore, place_of}
+use Rattle.fl_node.specs.Ends.{OnBoard}
+use Rattle.fl_queues.specs.Events.{Event, call, reply, Answer, accepted, done, refused}
+use Rattle.fl_queues.specs.Step.{step}
+use Rattle.fl_worlds.specs.View.{TheWorld, Spot, made, spot_of, with_core}
+use Rattle.fl_worlds.specs.Lending.{AtCore}
+use Rattle.fl_worlds.specs.Sending.{IsCalled, CallsAt, MakesCall}
+use Rattle.fl_worlds.specs.Taking.{IsRuled, RulesAt, SetsReply}
+use Rattle.fl_worlds.specs.Step.{Steps}
+use Rattle.fl_worlds.specs.Laws.{StepAgrees, StepsAgree}
+use Rattle.fl_worlds.proofs.FramesBase.{same_some}
+use Rattle.fl_running.specs.Desks.{advanced as one_more}
+use Rattle.fl_running.specs.Run.{Ways, TheRun, AtDesk}
+use Rattle.fl_running.specs.Deeds.{OnCore, NotesCalled, called, ruled, Happens, IsSound}
+use Rattle.fl_alone.specs.Turns.{Alone, goes, at_desk, advanced, call_noted, calls, rules}
+use Rattle.fl_alone.specs.Shown.{desk_of, world_with, ShowsAlone}
+use Rattle.fl_alone.specs.Laws.{CallsAsMachine, RulesAsMachine, CallsAreTheMachines, RulesAreTheMachines}
+use Rattle.fl_alone.proofs.Standing.{spot_is, stands}
+use Rattle.fl_alone.proofs.Whole.{whole_of, whole_after}
+use Rattle.fl_alone.proofs.Desks.{is_few, same_advanced, desk_shown, same_core}
+use Rattle.fl_alone.proofs.Writing.{settled_same}
+
+-- ---- an event at the core's board alone
+
+core_world : {S : Type 0} (w : TheWorld) (s m : TheRun S) → m ≡ record s { core = m.core } → world_with w m ≡ with_core (world_with w s) 0 m.core
+core_world {S} w s m h = ap (λ (x : TheRun S). world_with w x) h
+
+-- the core alone has changed; it shows what the world shows
+pub core_shown : {S : Type 0} (w : TheWorld) (s m : TheRun S) (a : Alone) (event : Event) (answer : Answer) → ShowsAlone w s a → m ≡ record s { core = m.core }
+    → m.core.lanes ≡ s.core.lanes → StepAgrees event a.state answer (world_with w m) → ShowsAlone w m (goes event a)
+core_shown {S} w s m a event answer x rest lanes agrees = record {
+  shows = agrees.shows;
+  no_rings = ap (λ (r : TheRun S). r.rings) rest ∙ x.no_rings;
+  no_links = lanes ∙ x.no_links;
+  desks = x.desks ∙ ap (λ (r : TheRun S). map desk_of r.desks) (sym rest);
+}
+
+-- ---- a call
+
+abbrev pub call_answer : Result (Unit {0}) EndFault → Answer
+call_answer (Ok unit) = accepted
+call_answer (Err fault) = refused (fault_number fault)
+
+is_called : (r : Result (Unit {0}) EndFault) → r ≢ Err Memory → IsCalled r (call_answer r)
+is_called (Ok unit) h = refl
+is_called (Err Memory) h = absurd (h refl)
+is_called (Err Spent) h = refl
+is_called (Err Busy) h = refl
+is_called (Err UnknownMessage) h = refl
+is_called (Err Misfit) h = refl
+is_called (Err NotBound) h = refl
+is_called (Err Failed) h = refl
+is_called (Err (Wire f)) h = refl
+
+call_agrees : {S : Type 0} (law : StepsAgree) (w : TheWorld) (s m : TheRun S) (a : Alone) (name : EndId) (c : TheCall) (place : ℕ) (answer : Result (Unit {0}) EndFault)
+    → ShowsAlone w s a → IsSound s.core → IsSound m.core → place_of s.core name ≡ Some place → answer ≢ Err Memory
+    → OnCore s (λ k k2. OnBoard k (λ b b2. ChangesEnd b place (λ x y. Calls x c answer y) b2) k2) m
+    → StepAgrees (call name c) a.state (call_answer answer) (world_with w m)
+call_agrees {S} law w s m a name c place answer x before sound at some on =
+    let h = stands w s a name place x at in
+    let whole = whole_of w s a x before in
+    let is = is_called answer some in
+    let by : CallsAt (made 0 place) name c (world_with w s) (call_answer answer) (world_with w m) = record {
+      before = s.core;
+      before_is = refl;
+      whole = whole;
+      after = m.core;
+      still = whole_after s.core m.core whole sound (ap (λ (k : TheCore). k.monitor) on.event.rest);
+      event = (answer, on.event, is);
+      rest = core_world w s m on.rest;
+    } in
+    let does : MakesCall name c (world_with w s) (call_answer answer) (world_with w m)
+    = subst (λ (spot : Spot). CallsAt spot name c (world_with w s) (call_answer answer) (world_with w m))
+    (sym (spot_is (world_with w s) a.state name 0 place h x.shows.picture)) by in
+    let steps : Steps (call name c) (world_with w s) (call_answer answer) (world_with w m)
+    = record { made = world_with w m; does = does; rest = sym (settled_same w m (call_answer answer)) } in
+    law (call name c) (world_with w s) (world_with w m) a.state (call_answer answer) x.shows steps
+
+noted_core : {S : Type 0} (name : EndId) (answer : Result (Unit {0}) EndFault) (m t : TheRun S) → NotesCalled name answer m t → t.core ≡ m.core
+noted_core name (Ok unit) m t h = same_core m t name one_more h
+noted_core {S} name (Err fault) m t h = ap (λ (r : TheRun S). r.core) h
+
+noted_shown : {S : Type 0} (w : TheWorld) (name : EndId) (place : ℕ) (answer : Result (Unit {0}) EndFault) (m t : TheRun S) (b : Alone) → place_of m.core name ≡ Some place
+    → ShowsAlone w m b → NotesCalled name answer m t → ShowsAlone w t (call_noted name (call_answer answer) b)
+noted_shown w name place (Ok unit) m t b at x h = desk_shown w m t b name one_more advanced (is_few m.core name place at) same_advanced x h
+noted_shown {S} w name place (Err fault) m t b at x h = subst (λ (r : TheRun S). ShowsAlone w r b) (sym h) x
+
+pub calls_are : {S : Type 0} (ways : Ways S) → StepsAgree → CallsAreTheMachines ways
+calls_are {S} ways law w s t a name c answer x sound some (m, (e, found, on), notes, before, soundly) =
+    let core = noted_core name answer m t notes in
+    let agrees = call_agrees law w s m a name c e answer x before (subst IsSound core sound) found some on in
+    let shown = core_shown w s m a (call name c) (call_answer answer) x on.rest (ap (λ (k : TheCore). k.lanes) on.event.rest) agrees in
+    let places : place_of m.core name ≡ Some e = ap (λ (k : TheCore). place_of k name) on.event.rest ∙ found in
+    let noted = noted_shown w name e answer m t (goes (call name c) a) places shown notes in
+    record {
+      answers = subst (IsCalled answer) (sym agrees.answer) (is_called answer some);
+      shows = subst (λ v. ShowsAlone w t (call_noted name v (goes (call name c) a))) (sym agrees.answer) noted;
+      places = ap (λ (k : TheCore). k.places) core ∙ ap (λ (k : TheCore). k.places) on.event.rest;
+    }
+
+-- ---- a reply rule
+
+abbrev rule_answer : Result (Unit {0}) EndFault → Answer
+rule_answer (Ok unit) = done
+rule_answer (Err fault) = refused (fault_number fault)
+
+is_ruled : (r : Result (Unit {0}) EndFault) → IsRuled r (rule_answer r)
+is_ruled (Ok unit) = refl
+is_ruled (Err fault) = refl
+
+rule_agrees : {S : Type 0} (law : StepsAgree) (w : TheWorld) (s m : TheRun S) (a : Alone) (name : EndId) (msg answer : ℕ) (place : ℕ) (r : Result (Unit {0}) EndFault)
+    → ShowsAlone w s a → IsSound s.core → IsSound m.core → place_of s.core name ≡ Some place
+    → OnCore s (λ k k2. OnBoard k (λ b b2. ChangesEnd b place (λ x y. SetsRule x msg answer r y) b2) k2) m
+    → StepAgrees (reply name msg answer) a.state (rule_answer r) (world_with w m)
+rule_agrees {S} law w s m a name msg answer place r x before sound at on =
+    let h = stands w s a name place x at in
+    let whole = whole_of w s a x before in
+    let by : RulesAt (made 0 place) name msg answer (world_with w s) (rule_answer r) (world_with w m) = record {
+      before = s.core;
+      before_is = refl;
+      whole = whole;
+      after = m.core;
+      still = whole_after s.core m.core whole sound (ap (λ (k : TheCore). k.monitor) on.event.rest);
+      event = (r, on.event, is_ruled r);
+      rest = core_world w s m on.rest;
+    } in
+    let does : SetsReply name msg answer (world_with w s) (rule_answer r) (world_with w m)
+    = subst (λ (spot : Spot). RulesAt spot name msg answer (world_with w s) (rule_answer r) (world_with w m))
+    (sym (spot_is (world_with w s) a.state name 0 place h x.shows.picture)) by in
+    let steps : Steps (reply name msg answer) (world_with w s) (rule_answer r) (world_with w m)
+    = record { made = world_with w m; does = does; rest = sym (settled_same w m (rule_answer r)) } in
+    law (reply name msg answer) (world_with w s) (world_with w m) a.state (rule_answer r) x.shows steps
+
+pub rules_are : {S : Type 0} (ways : Ways S) → StepsAgree → RulesAreTheMachines ways
+rules_are {S} ways law w s t a name msg answer r x sound (m, (e, found, on), notes, before, soundly) =
+    let core = same_core m t name one_more notes in
+    let agrees = rule_agrees law w s m a name msg.0 answer.0 e r x before (subst IsSound core sound) found on in
+    let shown = core_shown w s m a (reply name msg.0 answer.0) (rule_answer r) x on.rest (ap (λ (k : TheCore). k.lanes) on.event.rest) agrees in
+    let places : place_of m.core name ≡ Some e = ap (λ (k : TheCore). place_of k name) on.event.rest ∙ found in
+    record {
+      answers = subst (IsRuled r) (sym agrees.answer) (is_ruled r);
+      shows = desk_shown w m t (goes (reply name msg.0 answer.0) a) name one_more advanced (is_few m.core name e places) same_advanced shown notes;
+      places = ap (λ (k : TheCore). k.places) core ∙ ap (λ (k : TheCore). k.places) on.event.rest;
+    }

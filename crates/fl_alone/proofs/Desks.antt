@@ -1,0 +1,142 @@
+-- Desks of a core, and the desks that they show.
+use Rattle.std.proofs.Common.{◌≡◌, refl, sym, ◌∙◌, ap, subst, ℕ, zero, suc, nat_lt, Bool, true, false, if◌then◌else◌, List, [], ◌∷◌, ◌++◌, length, map, slice_get, slice_set, Option, Some, None}
+use Rattle.fl_base.specs.declared.identity.EndId.{EndId}
+use Rattle.fl_value.specs.declared.value.Call.{Call}
+use Rattle.fl_value.specs.Value.{TheCall, call_of}
+use Rattle.fl_hop.proofs.Lists.{at_within, within}
+use Rattle.fl_monitor.specs.Routing.{given as given_at}
+use Rattle.fl_node.specs.View.{TheCore, place_of, slot_of, most_bindings}
+use Rattle.fl_queues.specs.Given.{given, changed_at}
+use Rattle.fl_shows.proofs.Tests.{lt_true, true_lt}
+use Rattle.fl_worlds.specs.View.{TheWorld}
+use Rattle.fl_worlds.specs.Picture.{Shows}
+use Rattle.fl_worlds.proofs.FramesBase.{same_some, not_both}
+use Rattle.fl_running.specs.declared.job.Job.{Job}
+use Rattle.fl_running.specs.Desks.{TheDesk, desk_place, ChangesIf, advanced as one_more, with_handled as and_handled}
+use Rattle.fl_running.specs.Run.{TheRun, AtDesk, next_job as job_there}
+use Rattle.fl_alone.specs.Turns.{Desk, Alone, desk_at, at_desk, advanced, with_handled, next_job}
+use Rattle.fl_alone.specs.Shown.{desk_of, world_with, ShowsAlone}
+
+-- ---- lists
+
+pub get_some : {X Y : Type 0} (f : X → Y) (xs : List X) (n : ℕ) (x : X) → slice_get xs n ≡ Some x → slice_get (map f xs) n ≡ Some (f x)
+get_some f [] n x q = absurd (cc)
+get_some f (y ∷ xs) zero x q = let same : y ≡ x = cc in ap (λ z. Some (f z)) same
+get_some f (y ∷ xs) (suc n) x q = get_some f xs n x q
+
+pub get_none : {X Y : Type 0} (f : X → Y) (xs : List X) (n : ℕ) → slice_get xs n ≡ None → slice_get (map f xs) n ≡ None
+get_none f [] n q = refl
+get_none f (y ∷ xs) zero q = absurd (cc)
+get_none f (y ∷ xs) (suc n) q = get_none f xs n q
+
+map_set : {X Y : Type 0} (f : X → Y) (xs : List X) (n : ℕ) (x : X) → map f (slice_set xs n x) ≡ slice_set (map f xs) n (f x)
+map_set f [] n x = refl
+map_set f (y ∷ xs) zero x = refl
+map_set f (y ∷ xs) (suc n) x = ap (λ ys. f y ∷ ys) (map_set f xs n x)
+
+map_more : {X Y : Type 0} (f : X → Y) (xs : List X) (x : X) → map f (xs ++ x ∷ []) ≡ map f xs ++ f x ∷ []
+map_more f [] x = refl
+map_more f (y ∷ xs) x = ap (λ ys. f y ∷ ys) (map_more f xs x)
+
+-- ---- where a desk is
+
+tested : (b : Bool) (o : Option ℕ) (place : ℕ) → (if b then o else None) ≡ Some place → b ≡ true
+tested true o place q = refl
+tested false o place q = absurd (cc)
+
+-- the binding of an end that is at a core has a number that ends may have
+pub is_few : (k : TheCore) (e : EndId) (place : ℕ) → place_of k e ≡ Some place → nat_lt e.binding most_bindings ≡ true
+is_few k e place q = tested (nat_lt e.binding most_bindings) _ place q
+
+abbrev placed_by : EndId → Bool → Bool → Option ℕ
+placed_by e a b = if a then (if b then Some (slot_of e) else None) else None
+
+desk_is : (desks : List TheDesk) (e : EndId) (b : Bool) → nat_lt e.binding most_bindings ≡ true → nat_lt (slot_of e) (length desks) ≡ b
+    → desk_place desks e ≡ (if b then Some (slot_of e) else None)
+desk_is desks e b few q = ap (λ a. placed_by e a (nat_lt (slot_of e) (length desks))) few ∙ ap (placed_by e true) q
+
+past : {X : Type 0} (xs : List X) (n : ℕ) → nat_lt n (length xs) ≡ false → slice_get xs n ≡ None
+past {X} xs n h = by (slice_get xs n) refl
+  where
+    by : (o : Option X) → slice_get xs n ≡ o → slice_get xs n ≡ None
+    by None r = r
+    by (Some y) r = let less = lt_true n (length xs) (within xs n y r) in let both : true ≡ false = sym less ∙ h in absurd (cc)
+
+-- ---- the job that is next
+
+abbrev job_in : List Job → Option TheDesk → Option Job
+job_in jobs o =
+    given_at o None λ desk.
+    given_at (slice_get desk.jobs desk.done) None λ place.
+    slice_get jobs place
+
+abbrev shown_in : List Job → Option Desk → Option Job
+shown_in jobs o =
+    given o None λ d.
+    given (slice_get d.jobs d.done) None λ place.
+    slice_get jobs place
+
+two_given : {X Y : Type 0} (o : Option X) (f : X → Option Y) → given_at o None f ≡ given o None f
+two_given None f = refl
+two_given (Some x) f = refl
+
+pub same_job : {S : Type 0} (jobs : List Job) (r : TheRun S) (a : Alone) (e : EndId) → a.desks ≡ map desk_of r.desks → nat_lt e.binding most_bindings ≡ true
+    → job_there jobs r e ≡ next_job jobs a e
+same_job {S} jobs r a e shown few = by (nat_lt (slot_of e) (length r.desks)) refl
+  where
+    there : (b : Bool) → nat_lt (slot_of e) (length r.desks) ≡ b
+        → job_there jobs r e ≡ given_at (if b then Some (slot_of e) else None) None λ n. job_in jobs (slice_get r.desks n)
+    there b q = ap (λ o. given_at o None λ n. job_in jobs (slice_get r.desks n)) (desk_is r.desks e b few q)
+
+    by : (b : Bool) → nat_lt (slot_of e) (length r.desks) ≡ b → job_there jobs r e ≡ next_job jobs a e
+    by true q =
+        let d = at_within r.desks (slot_of e) (true_lt (slot_of e) (length r.desks) q) in
+        let here : slice_get a.desks (slot_of e) ≡ Some (desk_of d.0) = ap (λ ds. slice_get ds (slot_of e)) shown ∙ get_some desk_of r.desks (slot_of e) d.0 d.1 in
+        there true q ∙ ap (job_in jobs) d.1 ∙ two_given (slice_get d.0.jobs d.0.done) (slice_get jobs) ∙ sym (ap (shown_in jobs) here)
+    by false q =
+        let none : slice_get a.desks (slot_of e) ≡ None = ap (λ ds. slice_get ds (slot_of e)) shown ∙ get_none desk_of r.desks (slot_of e) (past r.desks (slot_of e) q) in
+        there false q ∙ sym (ap (shown_in jobs) none)
+
+-- ---- a desk changes
+
+pub same_advanced : (d : TheDesk) → desk_of (one_more d) ≡ advanced (desk_of d)
+same_advanced d = refl
+
+pub same_handled : (c : Call) (d : TheDesk) → desk_of (and_handled c d) ≡ with_handled (call_of c) (desk_of d)
+same_handled c d = ap (λ cs. record (desk_of d) { handled = cs }) (map_more call_of d.handled c)
+
+pub desk_shown : {S : Type 0} (w : TheWorld) (m t : TheRun S) (a : Alone) (name : EndId) (change : TheDesk → TheDesk) (shown : Desk → Desk)
+    → nat_lt name.binding most_bindings ≡ true → ((d : TheDesk) → desk_of (change d) ≡ shown (desk_of d)) → ShowsAlone w m a → AtDesk name change m t
+    → ShowsAlone w t (at_desk name shown a)
+desk_shown {S} w m t a name change shown few same x at = record {
+  shows = subst (λ v. Shows v a.state) (sym (ap (λ (r : TheRun S). world_with w r) at.rest)) x.shows;
+  no_rings = ap (λ (r : TheRun S). r.rings) at.rest ∙ x.no_rings;
+  no_links = ap (λ (r : TheRun S). r.core.lanes) at.rest ∙ x.no_links;
+  desks = by (nat_lt (slot_of name) (length m.desks)) refl;
+}
+  where
+    changed : (b : Bool) → nat_lt (slot_of name) (length m.desks) ≡ b → ChangesIf (if b then Some (slot_of name) else None) m.desks change t.desks
+    changed b q = subst (λ o. ChangesIf o m.desks change t.desks) (desk_is m.desks name b few q) at.changes
+
+    here : (o : Option Desk) → slice_get a.desks (slot_of name) ≡ o → changed_at (slot_of name) shown a.desks ≡ given o a.desks (λ d. slice_set a.desks (slot_of name) (shown d))
+    here o q = ap (λ p. given p a.desks (λ d. slice_set a.desks (slot_of name) (shown d))) q
+
+    by : (b : Bool) → nat_lt (slot_of name) (length m.desks) ≡ b → changed_at (slot_of name) shown a.desks ≡ map desk_of t.desks
+    by true q =
+        let c = changed true q in
+        let is : slice_get a.desks (slot_of name) ≡ Some (desk_of c.desk)
+        = ap (λ ds. slice_get ds (slot_of name)) x.desks ∙ get_some desk_of m.desks (slot_of name) c.desk c.desk_is in
+        here (Some (desk_of c.desk)) is
+        ∙ ap (λ ds. slice_set ds (slot_of name) (shown (desk_of c.desk))) x.desks
+        ∙ ap (slice_set (map desk_of m.desks) (slot_of name)) (sym (same c.desk))
+        ∙ sym (map_set desk_of m.desks (slot_of name) (change c.desk))
+        ∙ ap (map desk_of) (sym c.rest)
+    by false q =
+        let none : slice_get a.desks (slot_of name) ≡ None
+        = ap (λ ds. slice_get ds (slot_of name)) x.desks ∙ get_none desk_of m.desks (slot_of name) (past m.desks (slot_of name) q) in
+        here None none ∙ x.desks ∙ ap (map desk_of) (sym (changed false q))
+
+-- ---- what a core is known by, behind a desk's change
+
+pub same_core : {S : Type 0} (m t : TheRun S) (name : EndId) (change : TheDesk → TheDesk) → AtDesk name change m t → t.core ≡ m.core
+same_core {S} m t name change at = ap (λ (r : TheRun S). r.core) at.rest
