@@ -4,3 +4,6 @@ pub mod Desks
 pub mod Writing
 pub mod Calling
 pub mod Turning
+pub mod Serving
+pub mod Due
+pub mod Rounds

@@ -1,5 +1,5 @@
 -- The laws of one core by itself. Each is of a core that shows a state of the machine.
-use Rattle.std.specs.Prelude.{ℕ, ◌≡◌, ◌≢◌, Some, Result, Err}
+use Rattle.std.specs.Prelude.{ℕ, ◌≡◌, ◌≢◌, List, Some, Result, Err}
 use Rattle.fl_base.specs.declared.identity.EndId.{EndId}
 use Rattle.fl_base.specs.declared.identity.MsgNo.{MsgNo}
 use Rattle.fl_value.specs.Value.{TheCall}
@@ -15,10 +15,13 @@ use Rattle.fl_queues.specs.Step.{step}
 use Rattle.fl_worlds.specs.View.{TheWorld}
 use Rattle.fl_worlds.specs.Sending.{IsCalled, IsWritten}
 use Rattle.fl_worlds.specs.Taking.{turn_answer, IsRuled}
+use Rattle.fl_running.specs.declared.job.Job.{Job}
+use Rattle.fl_running.specs.declared.plan.Plan.{Plan}
 use Rattle.fl_running.specs.Run.{Ways, TheRun}
-use Rattle.fl_running.specs.Deeds.{called, ruled, wrote, turned, Happens, IsSound}
-use Rattle.fl_alone.specs.Turns.{Alone, goes, calls, rules, here, turns_at}
-use Rattle.fl_alone.specs.Shown.{ShowsAlone}
+use Rattle.fl_running.specs.Turn.{Turned}
+use Rattle.fl_running.specs.Deeds.{called, ruled, wrote, turned as had_turn, Happens, IsSound}
+use Rattle.fl_alone.specs.Turns.{Alone, goes, calls, rules, here, turns_at, turned}
+use Rattle.fl_alone.specs.Shown.{work_of, ShowsAlone}
 
 -- ---- events: what an end or a dispatcher does is the machine's step. It answers the same, and afterwards the core shows the machine's next state; and the
 -- desks are those that the definition has then. Ends stay where they are
@@ -63,4 +66,11 @@ pub record TurnsAsMachine {S : Type 0} (w : TheWorld) (s t : TheRun S) (a : Alon
 abbrev pub TurnsAreTheMachines : {S : Type 0} → Ways S → Type 0
 TurnsAreTheMachines {S} ways = (w : TheWorld) (s t : TheRun S) (a : Alone) (d : ℕ) (name : EndId) (e : ℕ) (from : Inlet) (answer : TurnAnswer)
     → ShowsAlone w s a → IsSound t.core → place_of s.core name ≡ Some e → inlet_of s.core e ≡ Some from
-    → Happens ways (turned d name from answer) s t → TurnsAsMachine w s t a d name answer
+    → Happens ways (had_turn d name from answer) s t → TurnsAsMachine w s t a d name answer
+
+-- ---- turns
+
+-- so many turns of the core are so many of the machine's
+abbrev pub RoundsAreTheMachines : {S : Type 0} → Ways S → Type 0
+RoundsAreTheMachines {S} ways = (w : TheWorld) (plan : Plan) (jobs : List Job) (n : ℕ) (s t : TheRun S) (a : Alone) → ShowsAlone w s a → IsSound t.core
+    → Turned ways plan jobs n s t → ShowsAlone w t (turned (work_of plan jobs) n a)

@@ -5,10 +5,16 @@ use Rattle.fl_worlds.specs.View.{TheWorld}
 use Rattle.fl_worlds.specs.Picture.{Shows}
 use Rattle.fl_running.specs.Desks.{TheDesk}
 use Rattle.fl_running.specs.Run.{TheRun}
-use Rattle.fl_alone.specs.Turns.{Desk, Alone}
+use Rattle.fl_running.specs.declared.job.Job.{Job}
+use Rattle.fl_running.specs.declared.plan.Plan.{Plan}
+use Rattle.fl_alone.specs.Turns.{Desk, Alone, Work}
 
 abbrev pub desk_of : TheDesk → Desk
 desk_of d = record { jobs = d.jobs; done = d.done; due = d.due; handled = map call_of d.handled; refused = d.refused }
+
+-- what a plan's turns go over
+abbrev pub work_of : Plan → List Job → Work
+work_of plan jobs = record { ends = plan.ends.items; dispatchers = plan.dispatchers; jobs = jobs }
 
 -- what a set-up made, with this core and its queues as they are now: the world of one core
 abbrev pub world_with : {S : Type 0} → TheWorld → TheRun S → TheWorld

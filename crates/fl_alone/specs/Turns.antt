@@ -123,8 +123,8 @@ takes_turn jobs d a =
 
 -- ---- turns of the core
 
--- what its turns go over: ends, dispatchers, and all jobs
-pub record Plan : Type 0 where
+-- what its turns go over: ends and dispatchers; and all jobs
+pub record Work : Type 0 where
   pub ends : List EndId
   pub dispatchers : ℕ
   pub jobs : List Job
@@ -135,15 +135,15 @@ swept f zero a = a
 swept f (suc n) a = f n (swept f n a)
 
 -- for the end at place n, if there is one
-abbrev pub serves_at : Plan → ℕ → Alone → Alone
+abbrev pub serves_at : Work → ℕ → Alone → Alone
 serves_at p n a = given (slice_get p.ends n) a λ e. serves p.jobs e a
 
 -- one turn: each end in order, and then each dispatcher
-abbrev pub one_turn : Plan → Alone → Alone
+abbrev pub one_turn : Work → Alone → Alone
 one_turn p a = swept (takes_turn p.jobs) p.dispatchers (swept (serves_at p) (length p.ends) a)
 
 -- so many turns
-abbrev pub turned : Plan → ℕ → Alone → Alone
+abbrev pub turned : Work → ℕ → Alone → Alone
 turned p n a = swept (λ k. one_turn p) n a
 
 -- ---- when nothing is left to do
@@ -168,20 +168,20 @@ abbrev pub are_done : Alone → List EndId → ℕ → Bool
 are_done a ends zero = true
 are_done a ends (suc n) = are_done a ends n && given (slice_get ends n) true (is_done_at a)
 
-abbrev pub is_finished : Plan → Alone → Bool
+abbrev pub is_finished : Work → Alone → Bool
 is_finished p a = are_done a p.ends (length p.ends)
 
 -- ---- a run
 
 -- the first number of turns, from n on and at most so many more, at which nothing is left to do; or the last of these
-abbrev pub first_finished : Plan → Alone → ℕ → ℕ → ℕ
+abbrev pub first_finished : Work → Alone → ℕ → ℕ → ℕ
 first_finished p a n zero = n
 first_finished p a n (suc more) = if is_finished p (turned p n a) then n else first_finished p a (suc n) more
 
 -- how many turns are counted, with this limit
-abbrev pub counted : Plan → ℕ → Alone → ℕ
+abbrev pub counted : Work → ℕ → Alone → ℕ
 counted p limit a = first_finished p a 0 limit
 
 -- the core as it is then
-abbrev pub ran : Plan → ℕ → Alone → Alone
+abbrev pub ran : Work → ℕ → Alone → Alone
 ran p limit a = turned p (counted p limit a) a

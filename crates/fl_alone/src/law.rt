@@ -1,7 +1,7 @@
 //! What is promised of the run of one core by itself: laws, as the contracts of functions that do nothing.
 
 ghost use Rattle.fl_running.specs.Run.{ways};
-ghost use Rattle.fl_alone.specs.Laws.{CallsAreTheMachines, RulesAreTheMachines, WritesAreTheMachines, TurnsAreTheMachines};
+ghost use Rattle.fl_alone.specs.Laws.{CallsAreTheMachines, RulesAreTheMachines, WritesAreTheMachines, TurnsAreTheMachines, RoundsAreTheMachines};
 
 use fl_link::{PutSide, TakeSide};
 use fl_worlds::steps_agree;
@@ -12,6 +12,14 @@ pub fn events_are_the_machines<S: PutSide + TakeSide>()
     ensures rule { RulesAreTheMachines (ways S.puts S.takes S.front) }
     ensures write { WritesAreTheMachines (ways S.puts S.takes S.front) }
     ensures turn { TurnsAreTheMachines (ways S.puts S.takes S.front) }
+{
+    steps_agree();
+}
+
+/// So many turns of such a core are so many of the machine's: afterwards it shows the state, and its desks
+/// have, what these come to.
+pub fn turns_are_the_machines<S: PutSide + TakeSide>()
+    ensures rounds { RoundsAreTheMachines (ways S.puts S.takes S.front) }
 {
     steps_agree();
 }
