@@ -48,14 +48,14 @@ tested false o place q = absurd (cc)
 pub is_few : (k : TheCore) (e : EndId) (place : ℕ) → place_of k e ≡ Some place → nat_lt e.binding most_bindings ≡ true
 is_few k e place q = tested (nat_lt e.binding most_bindings) _ place q
 
-abbrev placed_by : EndId → Bool → Bool → Option ℕ
+abbrev pub placed_by : EndId → Bool → Bool → Option ℕ
 placed_by e a b = if a then (if b then Some (slot_of e) else None) else None
 
-desk_is : (desks : List TheDesk) (e : EndId) (b : Bool) → nat_lt e.binding most_bindings ≡ true → nat_lt (slot_of e) (length desks) ≡ b
+pub desk_is : (desks : List TheDesk) (e : EndId) (b : Bool) → nat_lt e.binding most_bindings ≡ true → nat_lt (slot_of e) (length desks) ≡ b
     → desk_place desks e ≡ (if b then Some (slot_of e) else None)
 desk_is desks e b few q = ap (λ a. placed_by e a (nat_lt (slot_of e) (length desks))) few ∙ ap (placed_by e true) q
 
-past : {X : Type 0} (xs : List X) (n : ℕ) → nat_lt n (length xs) ≡ false → slice_get xs n ≡ None
+pub past : {X : Type 0} (xs : List X) (n : ℕ) → nat_lt n (length xs) ≡ false → slice_get xs n ≡ None
 past {X} xs n h = by (slice_get xs n) refl
   where
     by : (o : Option X) → slice_get xs n ≡ o → slice_get xs n ≡ None

@@ -7,3 +7,5 @@ pub mod Turning
 pub mod Serving
 pub mod Due
 pub mod Rounds
+pub mod Finishing
+pub mod Counting

@@ -1,5 +1,5 @@
 -- The laws of one core by itself. Each is of a core that shows a state of the machine.
-use Rattle.std.specs.Prelude.{ℕ, ◌≡◌, ◌≢◌, List, Some, Result, Err}
+use Rattle.std.specs.Prelude.{ℕ, ◌≡◌, ◌≢◌, Bool, true, false, List, Some, Result, Err}
 use Rattle.fl_base.specs.declared.identity.EndId.{EndId}
 use Rattle.fl_base.specs.declared.identity.MsgNo.{MsgNo}
 use Rattle.fl_value.specs.Value.{TheCall}
@@ -17,11 +17,15 @@ use Rattle.fl_worlds.specs.Sending.{IsCalled, IsWritten}
 use Rattle.fl_worlds.specs.Taking.{turn_answer, IsRuled}
 use Rattle.fl_running.specs.declared.job.Job.{Job}
 use Rattle.fl_running.specs.declared.plan.Plan.{Plan}
+use Rattle.fl_running.specs.declared.run.End.{End}
+use Rattle.fl_running.specs.declared.run.End.TheVariants.{Finished, Unfinished, Told}
+use Rattle.fl_running.specs.declared.run.Part.{Part}
 use Rattle.fl_running.specs.Run.{Ways, TheRun}
 use Rattle.fl_running.specs.Turn.{Turned}
+use Rattle.fl_running.specs.Ran.{Task, Moment, Counted}
 use Rattle.fl_running.specs.Deeds.{called, ruled, wrote, turned as had_turn, Happens, IsSound}
-use Rattle.fl_alone.specs.Turns.{Alone, goes, calls, rules, here, turns_at, turned}
-use Rattle.fl_alone.specs.Shown.{work_of, ShowsAlone}
+use Rattle.fl_alone.specs.Turns.{Alone, goes, calls, rules, here, turns_at, turned, is_finished, counted, ran}
+use Rattle.fl_alone.specs.Shown.{work_of, ShowsAlone, HasFew, AreSilent}
 
 -- ---- events: what an end or a dispatcher does is the machine's step. It answers the same, and afterwards the core shows the machine's next state; and the
 -- desks are those that the definition has then. Ends stay where they are
@@ -74,3 +78,21 @@ TurnsAreTheMachines {S} ways = (w : TheWorld) (s t : TheRun S) (a : Alone) (d : 
 abbrev pub RoundsAreTheMachines : {S : Type 0} → Ways S → Type 0
 RoundsAreTheMachines {S} ways = (w : TheWorld) (plan : Plan) (jobs : List Job) (n : ℕ) (s t : TheRun S) (a : Alone) → ShowsAlone w s a → IsSound t.core
     → Turned ways plan jobs n s t → ShowsAlone w t (turned (work_of plan jobs) n a)
+
+-- ---- counted turns
+
+-- how it ended, by whether nothing is left to do
+abbrev pub end_of : Bool → End
+end_of true = Finished
+end_of false = Unfinished
+
+-- as many turns were counted as the definition says; the core shows what these come to, and ended as that says
+pub record RanAsMachine {S : Type 0} (w : TheWorld) (t : Task) (a : Alone) (part : Part) (b : TheRun S) : Type 0 where
+  pub turns : part.turns ≡ counted (work_of t.plan t.jobs) t.limit a
+  pub shows : ShowsAlone w b (ran (work_of t.plan t.jobs) t.limit a)
+  pub end : part.end ≡ end_of (is_finished (work_of t.plan t.jobs) (ran (work_of t.plan t.jobs) t.limit a))
+
+-- so it is of a core that wasn't told of a stop, where no job opens a binding
+abbrev pub CountsAreTheMachines : {S : Type 0} → Ways S → Type 0
+CountsAreTheMachines {S} ways = (w : TheWorld) (t : Task) (s b : Moment S) (part : Part) (a : Alone) → ShowsAlone w s.run a → IsSound b.run.core
+    → HasFew t.plan.ends.items → AreSilent t.plan.ends.items s.ticket.words → part.end ≢ Told → Counted ways t s part b → RanAsMachine w t a part b.run

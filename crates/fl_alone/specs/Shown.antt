@@ -1,12 +1,16 @@
 -- When a running core shows a state of the machine, with desks: by its own queues, and no link and no ring.
-use Rattle.std.specs.Prelude.{ℕ, ◌≡◌, false, List, [], ◌∷◌, map}
+use Rattle.std.specs.Prelude.{ℕ, ◌≡◌, ◌<◌, nat_lt, true, false, List, [], ◌∷◌, map, length, slice_get, Some}
+use Rattle.fl_base.specs.declared.identity.EndId.{EndId}
 use Rattle.fl_value.specs.Value.{call_of}
+use Rattle.fl_node.specs.View.{most_bindings}
 use Rattle.fl_worlds.specs.View.{TheWorld}
 use Rattle.fl_worlds.specs.Picture.{Shows}
 use Rattle.fl_running.specs.Desks.{TheDesk}
 use Rattle.fl_running.specs.Run.{TheRun}
 use Rattle.fl_running.specs.declared.job.Job.{Job}
 use Rattle.fl_running.specs.declared.plan.Plan.{Plan}
+use Rattle.fl_running.specs.declared.word.Word.{Word}
+use Rattle.fl_running.specs.declared.word.Word.TheVariants.{Silent}
 use Rattle.fl_alone.specs.Turns.{Desk, Alone, Work}
 
 abbrev pub desk_of : TheDesk → Desk
@@ -25,3 +29,13 @@ pub record ShowsAlone {S : Type 0} (w : TheWorld) (r : TheRun S) (a : Alone) : T
   pub no_rings : r.rings ≡ []
   pub no_links : r.core.lanes ≡ []
   pub desks : a.desks ≡ map desk_of r.desks
+
+-- ---- what a run begins with
+
+-- the ends' bindings have numbers that ends may have
+abbrev pub HasFew : List EndId → Type 0
+HasFew ends = (k : ℕ) (e : EndId) → slice_get ends k ≡ Some e → nat_lt e.binding most_bindings ≡ true
+
+-- no job opens a binding: each end has a word, and it is silent
+abbrev pub AreSilent : List EndId → List Word → Type 0
+AreSilent ends words = (k : ℕ) → k < length ends → slice_get words k ≡ Some Silent

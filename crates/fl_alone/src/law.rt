@@ -1,7 +1,7 @@
 //! What is promised of the run of one core by itself: laws, as the contracts of functions that do nothing.
 
 ghost use Rattle.fl_running.specs.Run.{ways};
-ghost use Rattle.fl_alone.specs.Laws.{CallsAreTheMachines, RulesAreTheMachines, WritesAreTheMachines, TurnsAreTheMachines, RoundsAreTheMachines};
+ghost use Rattle.fl_alone.specs.Laws.{CallsAreTheMachines, RulesAreTheMachines, WritesAreTheMachines, TurnsAreTheMachines, RoundsAreTheMachines, CountsAreTheMachines};
 
 use fl_link::{PutSide, TakeSide};
 use fl_worlds::steps_agree;
@@ -20,6 +20,14 @@ pub fn events_are_the_machines<S: PutSide + TakeSide>()
 /// have, what these come to.
 pub fn turns_are_the_machines<S: PutSide + TakeSide>()
     ensures rounds { RoundsAreTheMachines (ways S.puts S.takes S.front) }
+{
+    steps_agree();
+}
+
+/// The counted turns of such a core end at the first number at which the machine's state and the desks show
+/// that nothing is left to do, or at the limit.
+pub fn runs_are_the_machines<S: PutSide + TakeSide>()
+    ensures counts { CountsAreTheMachines (ways S.puts S.takes S.front) }
 {
     steps_agree();
 }

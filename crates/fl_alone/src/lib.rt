@@ -3,4 +3,4 @@
 
 mod law;
 
-pub use law::{events_are_the_machines, turns_are_the_machines};
+pub use law::{events_are_the_machines, runs_are_the_machines, turns_are_the_machines};

@@ -1,0 +1,143 @@
+-- The counted turns of a core by itself: they end at the first number at which nothing is left to do, or at the limit.
+use Rattle.std.proofs.Common.{◌≡◌, ◌≢◌, ◌⊎◌, inl, inr, refl, sym, ◌∙◌, ap, subst, ℕ, zero, suc, ◌+◌, ◌<◌, ◌≤◌, nat_lt, Bool, true, false, if◌then◌else◌, List, [], ◌∷◌, length, slice_get, slice_set, Option, Some, None, arith}
+use Rattle.fl_base.specs.declared.identity.EndId.{EndId}
+use Rattle.fl_hop.proofs.Lists.{within, set_same}
+use Rattle.fl_shows.proofs.Tests.{true_lt, false_lt}
+use Rattle.fl_tally.specs.Seats.{TheSeat}
+use Rattle.fl_worlds.specs.View.{TheWorld}
+use Rattle.fl_worlds.specs.Laws.{StepsAgree}
+use Rattle.fl_worlds.proofs.FramesBase.{same_some}
+use Rattle.fl_running.specs.declared.job.Job.{Job}
+use Rattle.fl_running.specs.declared.plan.Plan.{Plan}
+use Rattle.fl_running.specs.declared.run.End.{End}
+use Rattle.fl_running.specs.declared.run.End.TheVariants.{Finished, Unfinished, Told}
+use Rattle.fl_running.specs.declared.run.Part.{Part}
+use Rattle.fl_running.specs.declared.word.Word.{Word}
+use Rattle.fl_running.specs.declared.word.Word.TheVariants.{Silent}
+use Rattle.fl_running.specs.Run.{Ways, TheRun}
+use Rattle.fl_running.specs.Turn.{Swept, OneTurn}
+use Rattle.fl_running.specs.Words.{Stock, Exchanges, ExchangesAt, ExchangesAll}
+use Rattle.fl_running.specs.Finished.{is_finished as finished_at}
+use Rattle.fl_running.specs.Ran.{Task, Moment, TakesStock, CountedTurn, EndsAs, Counted}
+use Rattle.fl_running.specs.Deeds.{IsSound}
+use Rattle.fl_alone.specs.Turns.{Alone, Work, turned, is_finished, first_finished, counted, ran}
+use Rattle.fl_alone.specs.Shown.{work_of, ShowsAlone, HasFew, AreSilent}
+use Rattle.fl_alone.specs.Laws.{end_of, RanAsMachine, CountsAreTheMachines}
+use Rattle.fl_alone.proofs.Finishing.{all_same}
+use Rattle.fl_alone.proofs.Rounds.{round_sound, round_are}
+
+-- ---- silent words stay
+
+word_stays : {S : Type 0} (s : TheRun S) (ends : List EndId) (k : ℕ) (a b : Stock) → AreSilent ends a.words → ExchangesAt s ends k a b → b.words ≡ a.words
+word_stays s ends k a b silent x =
+    let is : slice_get a.words k ≡ Some Silent = silent k (within ends k x.name x.name_is) in
+    let word : x.word ≡ Silent = same_some (slice_get a.words k) x.word Silent x.word_is is in
+    let after : Exchanges s x.name Silent a.seat x.after b.seat = subst (λ v. Exchanges s x.name v a.seat x.after b.seat) word x.exchanges in
+    x.rest ∙ ap (slice_set a.words k) after.0 ∙ set_same a.words k Silent is
+
+words_stay : {S : Type 0} (s : TheRun S) (ends : List EndId) (n : ℕ) (a b : Stock) → AreSilent ends a.words → Swept (ExchangesAt s ends) n a b → b.words ≡ a.words
+words_stay s ends zero a b silent u = ap (λ (c : Stock). c.words) u
+words_stay s ends (suc n) a b silent (m, before, step) =
+    let one = words_stay s ends n a m silent before in
+    word_stays s ends n m b (subst (AreSilent ends) (sym one) silent) step ∙ one
+
+-- whether anything is left, as the core takes stock
+taken : {S : Type 0} (w : TheWorld) (plan : Plan) (jobs : List Job) (s : Moment S) (c : Stock) (a : Alone) (finished : Bool) → ShowsAlone w s.run a → HasFew plan.ends.items
+    → AreSilent plan.ends.items s.ticket.words → TakesStock plan s c finished → (is_finished (work_of plan jobs) a ≡ finished) × (c.words ≡ s.ticket.words)
+taken w plan jobs s c a finished x few silent takes =
+    let words = words_stay s.run plan.ends.items (length plan.ends.items) s.ticket c silent takes.0 in
+    let same = all_same w s.run a plan.ends.items c.words (length plan.ends.items) x few (subst (AreSilent plan.ends.items) (sym words) silent) in
+    (sym same ∙ takes.1, words)
+
+-- ---- counted turns
+
+record Came {S : Type 0} (w : TheWorld) (p : Work) (s m : Moment S) (a : Alone) (n : ℕ) : Type 0 where
+  pub shows : ShowsAlone w m.run (turned p n a)
+  pub words : m.ticket.words ≡ s.ticket.words
+  pub before : (k : ℕ) → k < n → is_finished p (turned p k a) ≡ false
+
+turn_by_turn : {S : Type 0} (ways : Ways S) (law : StepsAgree) (w : TheWorld) (t : Task) (s m : Moment S) (a : Alone) (n : ℕ) → ShowsAlone w s.run a → IsSound m.run.core
+    → HasFew t.plan.ends.items → AreSilent t.plan.ends.items s.ticket.words → Swept (λ k. CountedTurn ways t) n s m → Came w (work_of t.plan t.jobs) s m a n
+turn_by_turn {S} ways law w t s m a zero x sound few silent u = record {
+  shows = subst (λ (b : Moment S). ShowsAlone w b.run a) (sym u) x;
+  words = ap (λ (b : Moment S). b.ticket.words) u;
+  before = λ k less. absurd (omega (arith, less));
+}
+turn_by_turn {S} ways law w t s m a (suc n) x sound few silent (b, before, step) =
+    let p : Work = work_of t.plan t.jobs in
+    let one = turn_by_turn ways law w t s b a n x (round_sound ways t.plan t.jobs b.run m.run sound step.turn) few silent before in
+    let left = taken w t.plan t.jobs b step.stock (turned (work_of t.plan t.jobs) n a) false one.shows few
+    (subst (AreSilent t.plan.ends.items) (sym one.words) silent) step.left in
+    record {
+      shows = round_are ways law w t.plan t.jobs b.run m.run (turned (work_of t.plan t.jobs) n a) one.shows sound step.turn;
+      words = step.sees.0 ∙ left.1 ∙ one.words;
+      before = λ k less. by k (nat_lt k n) less refl one.before left.0;
+    }
+  where
+    by : (k : ℕ) (b : Bool) → k < suc n → nat_lt k n ≡ b → ((j : ℕ) → j < n → is_finished (work_of t.plan t.jobs) (turned (work_of t.plan t.jobs) j a) ≡ false)
+        → is_finished (work_of t.plan t.jobs) (turned (work_of t.plan t.jobs) n a) ≡ false → is_finished (work_of t.plan t.jobs) (turned (work_of t.plan t.jobs) k a) ≡ false
+    by k true less q all last = all k (true_lt k n q)
+    by k false less q all last =
+        let past = false_lt k n q in
+        let same : n ≡ k = omega (arith, less, past) in
+        subst (λ j. is_finished (work_of t.plan t.jobs) (turned (work_of t.plan t.jobs) j a) ≡ false) same last
+
+-- ---- the first number at which nothing is left, or the last
+
+first_is : (p : Work) (a : Alone) (n more t : ℕ) → n ≤ t → t ≤ n + more → ((k : ℕ) → k < t → is_finished p (turned p k a) ≡ false)
+    → (is_finished p (turned p t a) ≡ true) ⊎ (t ≡ n + more) → first_finished p a n more ≡ t
+first_is p a n zero t low high before last = omega (arith, low, high)
+first_is p a n (suc more) t low high before last =
+    by (nat_lt n t) refl (λ less. first_is p a (suc n) more t (omega (arith, less)) (omega (arith, high)) before (onward last))
+  where
+    at_last : n ≡ t → (is_finished p (turned p t a) ≡ true) ⊎ (t ≡ n + suc more) → first_finished p a n (suc more) ≡ t
+    at_last same (inl q) =
+        ap (λ b. if b then n else first_finished p a (suc n) more) (subst (λ k. is_finished p (turned p k a) ≡ true) (sym same) q) ∙ same
+    at_last same (inr q) = absurd (omega (arith, same, q))
+
+    onward : (is_finished p (turned p t a) ≡ true) ⊎ (t ≡ n + suc more) → (is_finished p (turned p t a) ≡ true) ⊎ (t ≡ suc n + more)
+    onward (inl q) = inl q
+    onward (inr q) = inr (omega (arith, q))
+
+    by : (b : Bool) → nat_lt n t ≡ b → (n < t → first_finished p a (suc n) more ≡ t) → first_finished p a n (suc more) ≡ t
+    by true q rest =
+        let less = true_lt n t q in
+        ap (λ b. if b then n else first_finished p a (suc n) more) (before n less) ∙ rest less
+    by false q rest = let past = false_lt n t q in at_last (omega (arith, low, past)) last
+
+-- ---- the law
+
+-- how the run came to its end
+record Ended {S : Type 0} (w : TheWorld) (t : Task) (s : Moment S) (a : Alone) (part : Part) (m : Moment S) : Type 0 where
+  pub last : (is_finished (work_of t.plan t.jobs) (turned (work_of t.plan t.jobs) part.turns a) ≡ true) ⊎ (part.turns ≡ t.limit)
+  pub end : part.end ≡ end_of (is_finished (work_of t.plan t.jobs) (turned (work_of t.plan t.jobs) part.turns a))
+
+ends_so : {S : Type 0} (w : TheWorld) (t : Task) (s : Moment S) (a : Alone) (part : Part) (m : Moment S) (c : Stock) (end : End) → HasFew t.plan.ends.items
+    → AreSilent t.plan.ends.items m.ticket.words → ShowsAlone w m.run (turned (work_of t.plan t.jobs) part.turns a) → part.end ≡ end → end ≢ Told
+    → EndsAs t part.turns end m c → Ended w t s a part m
+ends_so w t s a part m c Finished few silent x is not_told u =
+    let done = taken w t.plan t.jobs m c (turned (work_of t.plan t.jobs) part.turns a) true x few silent u in
+    record { last = inl done.0; end = is ∙ ap end_of (sym done.0) }
+ends_so w t s a part m c Unfinished few silent x is not_told u =
+    let left = taken w t.plan t.jobs m c (turned (work_of t.plan t.jobs) part.turns a) false x few silent u.1 in
+    record { last = inr u.0; end = is ∙ ap end_of (sym left.0) }
+ends_so w t s a part m c Told few silent x is not_told u = absurd (not_told refl)
+
+pub counts_are : {S : Type 0} (ways : Ways S) → StepsAgree → CountsAreTheMachines ways
+counts_are {S} ways law w t s b part a x sound few silent not_told h =
+    let p : Work = work_of t.plan t.jobs in
+    let core : IsSound h.after.run.core = subst (λ (r : TheRun S). IsSound r.core) h.rests sound in
+    let came = turn_by_turn ways law w t s h.after a part.turns x core few silent h.turns in
+    let ended = ends_so w t s a part h.after b.ticket part.end few (subst (AreSilent t.plan.ends.items) (sym came.words) silent) came.shows refl not_told h.ends in
+    let many : counted (work_of t.plan t.jobs) t.limit a ≡ part.turns
+    = first_is (work_of t.plan t.jobs) a 0 t.limit part.turns (omega arith) (let few_turns = h.few in omega (arith, few_turns)) came.before (from_limit ended.last) in
+    record {
+      turns = sym many;
+      shows = subst (λ n. ShowsAlone w b.run (turned (work_of t.plan t.jobs) n a)) (sym many)
+          (subst (λ (r : TheRun S). ShowsAlone w r (turned (work_of t.plan t.jobs) part.turns a)) (sym h.rests) came.shows);
+      end = ended.end ∙ ap (λ n. end_of (is_finished (work_of t.plan t.jobs) (turned (work_of t.plan t.jobs) n a))) (sym many);
+    }
+  where
+    from_limit : {P : Type 0} → P ⊎ (part.turns ≡ t.limit) → P ⊎ (part.turns ≡ 0 + t.limit)
+    from_limit (inl q) = inl q
+    from_limit (inr q) = inr (omega (arith, q))

@@ -1,0 +1,121 @@
+-- Whether anything is left to do at a core by itself is seen in the machine's state and the desks.
+use Rattle.std.proofs.Common.{◌≡◌, ◌≢◌, refl, sym, ◌∙◌, ap, subst, ℕ, zero, suc, ◌<◌, ◌&&◌, ◌==◌, not, nat_lt, Bool, true, false, if◌then◌else◌, List, [], ◌∷◌, length, map, slice_get, slice_set, Option, Some, None, is_some, arith}
+use Rattle.fl_base.specs.declared.fragment.Frag.{Frag}
+use Rattle.fl_base.specs.declared.identity.EndId.{EndId}
+use Rattle.fl_base.specs.Ends.{other}
+use Rattle.fl_value.specs.declared.value.Call.{Call}
+use Rattle.fl_value.specs.Value.{call_of}
+use Rattle.fl_hop.proofs.Lists.{at_within, within, set_same}
+use Rattle.fl_endpoint.specs.View.{TheEnd, TheOutgoing, is_circuit, are_some, is_busy as is_busy_at}
+use Rattle.fl_core.specs.View.{TheSeat}
+use Rattle.fl_monitor.specs.Routing.{given as given_at}
+use Rattle.fl_node.specs.View.{TheCore, place_of, slot_of, most_bindings}
+use Rattle.fl_queues.specs.Given.{given}
+use Rattle.fl_queues.specs.Calls.{Planned}
+use Rattle.fl_queues.specs.Ends.{End, Direction, is_bound, is_busy}
+use Rattle.fl_queues.specs.State.{Binding, State, binding_of, interface_of, end_in}
+use Rattle.fl_shows.specs.Ends.{EndShows}
+use Rattle.fl_shows.proofs.Calling.{busy_is, idle_is}
+use Rattle.fl_shows.proofs.Tests.{true_lt, lt_true}
+use Rattle.fl_worlds.specs.View.{TheWorld}
+use Rattle.fl_worlds.proofs.FramesBase.{same_some}
+use Rattle.fl_running.specs.declared.word.Word.{Word}
+use Rattle.fl_running.specs.declared.word.Word.TheVariants.{Silent}
+use Rattle.fl_running.specs.Desks.{TheDesk, desk_place, is_clear as is_clear_desk}
+use Rattle.fl_running.specs.Run.{TheRun}
+use Rattle.fl_running.specs.Finished.{is_still as is_still_end, is_at_rest, is_desk_clear, is_done_at as done_at, is_done, all_done}
+use Rattle.fl_alone.specs.Turns.{Desk, Alone, desk_at, is_there, is_still, is_clear, is_done_at, are_done}
+use Rattle.fl_alone.specs.Shown.{desk_of, world_with, ShowsAlone, HasFew, AreSilent}
+use Rattle.fl_alone.proofs.Standing.{stands}
+use Rattle.fl_alone.proofs.Desks.{get_some, get_none, desk_is, past}
+use Rattle.fl_alone.proofs.Serving.{end_there, end_away}
+
+-- ---- an end
+
+bound_same : (o : Option ℕ) → is_circuit o ≡ is_some o
+bound_same None = refl
+bound_same (Some c) = refl
+
+busy_same : (i : Planned) (x : End) (peer : Direction) (t : TheEnd) → EndShows i x peer t → is_busy_at t.outgoing ≡ is_busy i x.out
+busy_same i x peer t h = by t.outgoing.unwritten refl
+  where
+    by : (frags : List Frag) → t.outgoing.unwritten ≡ frags → are_some t.outgoing.unwritten ≡ is_busy i x.out
+    by [] q = ap are_some q ∙ sym (idle_is i x peer t h q)
+    by (f ∷ frags) q = ap are_some q ∙ sym (busy_is i x peer t h (λ none. let both : [] ≡ f ∷ frags = sym none ∙ q in absurd (cc)))
+
+still_same : (i : Planned) (x : End) (peer : Direction) (t : TheEnd) → EndShows i x peer t → is_still_end t ≡ (is_bound x && not (is_busy i x.out))
+still_same i x peer t h =
+    ap (λ b. b && not (is_busy_at t.outgoing)) (ap is_circuit h.circuit ∙ bound_same x.circuit)
+    ∙ ap (λ b. is_bound x && not b) (busy_same i x peer t h)
+
+rests_here : {S : Type 0} (w : TheWorld) (r : TheRun S) (a : Alone) (e : EndId) (place : ℕ) → ShowsAlone w r a → place_of r.core e ≡ Some place
+    → is_at_rest r.core e ≡ is_still a.state e
+rests_here w r a e place x at =
+    let h = stands w r a e place x at in
+    let same : Some r.core ≡ Some h.core = h.core_is in
+    let core : r.core ≡ h.core = cc in
+    let seat : slice_get r.core.board.seats place ≡ Some h.at = ap (λ (c : TheCore). slice_get c.board.seats place) core ∙ h.at_is in
+    let found : is_still a.state e ≡ (is_bound (end_in e.side h.binding) && not (is_busy h.interface (end_in e.side h.binding).out))
+    = ap (λ (o : Option Binding). given o true λ b. given (interface_of a.state b) true λ i. is_bound (end_in e.side b) && not (is_busy i (end_in e.side b).out)) h.binding_is
+    ∙ ap (λ (o : Option Planned). given o true λ i. is_bound (end_in e.side h.binding) && not (is_busy i (end_in e.side h.binding).out)) h.interface_is in
+    ap (λ o. given_at o true λ n. given_at (slice_get r.core.board.seats n) true λ (s : TheSeat). is_still_end s.end) at
+    ∙ ap (λ o. given_at o true λ (s : TheSeat). is_still_end s.end) seat
+    ∙ still_same h.interface (end_in e.side h.binding) (end_in (other e.side) h.binding).out h.at.end h.shows
+    ∙ sym found
+
+rests : {S : Type 0} (w : TheWorld) (r : TheRun S) (a : Alone) (e : EndId) → ShowsAlone w r a → is_at_rest r.core e ≡ (if is_there a.state e then is_still a.state e else true)
+rests w r a e x = by (place_of r.core e) refl
+  where
+    by : (o : Option ℕ) → place_of r.core e ≡ o → is_at_rest r.core e ≡ (if is_there a.state e then is_still a.state e else true)
+    by None q =
+        ap (λ o. given_at o true λ n. given_at (slice_get r.core.board.seats n) true λ (s : TheSeat). is_still_end s.end) q
+        ∙ sym (ap (λ b. if b then is_still a.state e else true) (end_away w r a e x q))
+    by (Some place) q = rests_here w r a e place x q ∙ sym (ap (λ b. if b then is_still a.state e else true) (end_there w r a e place x q))
+
+-- ---- its desk
+
+long_map : {X Y : Type 0} (f : X → Y) (xs : List X) → length (map f xs) ≡ length xs
+long_map f [] = refl
+long_map f (x ∷ xs) = ap suc (long_map f xs)
+
+clear_same : (d : TheDesk) → is_clear_desk d ≡ is_clear (Some (desk_of d))
+clear_same d = ap (λ n. (d.done == length d.jobs) && (n == d.due)) (sym (long_map call_of d.handled))
+
+clear : {S : Type 0} (w : TheWorld) (r : TheRun S) (a : Alone) (e : EndId) → ShowsAlone w r a → nat_lt e.binding most_bindings ≡ true → is_desk_clear r e ≡ is_clear (desk_at a e)
+clear w r a e x few = by (nat_lt (slot_of e) (length r.desks)) refl
+  where
+    there : (b : Bool) → nat_lt (slot_of e) (length r.desks) ≡ b
+        → is_desk_clear r e ≡ given_at (if b then Some (slot_of e) else None) true λ n. given_at (slice_get r.desks n) true is_clear_desk
+    there b q = ap (λ o. given_at o true λ n. given_at (slice_get r.desks n) true is_clear_desk) (desk_is r.desks e b few q)
+
+    by : (b : Bool) → nat_lt (slot_of e) (length r.desks) ≡ b → is_desk_clear r e ≡ is_clear (desk_at a e)
+    by true q =
+        let d = at_within r.desks (slot_of e) (true_lt (slot_of e) (length r.desks) q) in
+        let here : slice_get a.desks (slot_of e) ≡ Some (desk_of d.0) = ap (λ ds. slice_get ds (slot_of e)) x.desks ∙ get_some desk_of r.desks (slot_of e) d.0 d.1 in
+        there true q ∙ ap (λ o. given_at o true is_clear_desk) d.1 ∙ clear_same d.0 ∙ sym (ap is_clear here)
+    by false q =
+        let none : slice_get a.desks (slot_of e) ≡ None = ap (λ ds. slice_get ds (slot_of e)) x.desks ∙ get_none desk_of r.desks (slot_of e) (past r.desks (slot_of e) q) in
+        there false q ∙ sym (ap is_clear none)
+
+-- ---- all ends
+
+done_same : {S : Type 0} (w : TheWorld) (r : TheRun S) (a : Alone) (e : EndId) → ShowsAlone w r a → nat_lt e.binding most_bindings ≡ true → done_at r e Silent ≡ is_done_at a e
+done_same w r a e x few =
+    ap (λ b. b && is_at_rest r.core e) (clear w r a e x few)
+    ∙ ap (λ b. is_clear (desk_at a e) && b) (rests w r a e x)
+
+pub all_same : {S : Type 0} (w : TheWorld) (r : TheRun S) (a : Alone) (ends : List EndId) (words : List Word) (n : ℕ) → ShowsAlone w r a → HasFew ends → AreSilent ends words
+    → all_done r ends words n ≡ are_done a ends n
+all_same w r a ends words zero x few silent = refl
+all_same w r a ends words (suc n) x few silent =
+    ap (λ b. b && is_done r ends words n) (all_same w r a ends words n x few silent)
+    ∙ ap (λ b. are_done a ends n && b) (by (slice_get ends n) refl)
+  where
+    by : (o : Option EndId) → slice_get ends n ≡ o → is_done r ends words n ≡ given (slice_get ends n) true (is_done_at a)
+    by None q =
+        ap (λ o. given_at o true λ name. given_at (slice_get words n) true λ word. done_at r name word) q ∙ sym (ap (λ o. given o true (is_done_at a)) q)
+    by (Some e) q =
+        ap (λ o. given_at o true λ name. given_at (slice_get words n) true λ word. done_at r name word) q
+        ∙ ap (λ o. given_at o true λ word. done_at r e word) (silent n (within ends n e q))
+        ∙ done_same w r a e x (few n e q)
+        ∙ sym (ap (λ o. given o true (is_done_at a)) q)
