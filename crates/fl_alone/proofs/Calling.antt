@@ -10,6 +10,7 @@ use Rattle.fl_endpoint.specs.Faults.{fault_number}
 use Rattle.fl_endpoint.specs.Events.{Calls, SetsRule}
 use Rattle.fl_core.specs.Events.{ChangesEnd}
 use Rattle.fl_node.specs.View.{TheCore, place_of}
+use Rattle.fl_node.specs.Sound.{IsCore}
 use Rattle.fl_node.specs.Ends.{OnBoard}
 use Rattle.fl_queues.specs.Events.{Event, call, reply, Answer, accepted, done, refused}
 use Rattle.fl_queues.specs.Step.{step}
@@ -28,6 +29,7 @@ use Rattle.fl_alone.specs.Shown.{desk_of, world_with, ShowsAlone}
 use Rattle.fl_alone.specs.Laws.{CallsAsMachine, RulesAsMachine, CallsAreTheMachines, RulesAreTheMachines}
 use Rattle.fl_alone.proofs.Standing.{spot_is, stands}
 use Rattle.fl_alone.proofs.Whole.{whole_of, whole_after}
+use Rattle.fl_alone.proofs.Keeping.{call_keeps, rule_keeps}
 use Rattle.fl_alone.proofs.Desks.{is_few, same_advanced, desk_shown, same_core}
 use Rattle.fl_alone.proofs.Writing.{settled_same}
 
@@ -37,9 +39,10 @@ core_world : {S : Type 0} (w : TheWorld) (s m : TheRun S) → m ≡ record s { c
 core_world {S} w s m h = ap (λ (x : TheRun S). world_with w x) h
 
 -- the core alone has changed; it shows what the world shows
-pub core_shown : {S : Type 0} (w : TheWorld) (s m : TheRun S) (a : Alone) (event : Event) (answer : Answer) → ShowsAlone w s a → m ≡ record s { core = m.core }
+pub core_shown : {S : Type 0} (w : TheWorld) (s m : TheRun S) (a : Alone) (event : Event) (answer : Answer) → ShowsAlone w s a → IsCore m.core → m ≡ record s { core = m.core }
     → m.core.lanes ≡ s.core.lanes → StepAgrees event a.state answer (world_with w m) → ShowsAlone w m (goes event a)
-core_shown {S} w s m a event answer x rest lanes agrees = record {
+core_shown {S} w s m a event answer x core rest lanes agrees = record {
+  core = core;
   shows = agrees.shows;
   no_rings = ap (λ (r : TheRun S). r.rings) rest ∙ x.no_rings;
   no_links = lanes ∙ x.no_links;
@@ -97,10 +100,11 @@ noted_shown w name place (Ok unit) m t b at x h = desk_shown w m t b name one_mo
 noted_shown {S} w name place (Err fault) m t b at x h = subst (λ (r : TheRun S). ShowsAlone w r b) (sym h) x
 
 pub calls_are : {S : Type 0} (ways : Ways S) → StepsAgree → CallsAreTheMachines ways
-calls_are {S} ways law w s t a name c answer x sound some (m, (e, found, on), notes, before, soundly) =
+calls_are {S} ways law w s t a name c answer x some (m, (e, found, on), notes, before, soundly) =
     let core = noted_core name answer m t notes in
-    let agrees = call_agrees law w s m a name c e answer x before (subst IsSound core sound) found some on in
-    let shown = core_shown w s m a (call name c) (call_answer answer) x on.rest (ap (λ (k : TheCore). k.lanes) on.event.rest) agrees in
+    let kept = call_keeps s.core m.core e c answer before on.event in
+    let agrees = call_agrees law w s m a name c e answer x before kept found some on in
+    let shown = core_shown w s m a (call name c) (call_answer answer) x kept.core on.rest (ap (λ (k : TheCore). k.lanes) on.event.rest) agrees in
     let places : place_of m.core name ≡ Some e = ap (λ (k : TheCore). place_of k name) on.event.rest ∙ found in
     let noted = noted_shown w name e answer m t (goes (call name c) a) places shown notes in
     record {
@@ -143,10 +147,11 @@ rule_agrees {S} law w s m a name msg answer place r x before sound at on =
     law (reply name msg answer) (world_with w s) (world_with w m) a.state (rule_answer r) x.shows steps
 
 pub rules_are : {S : Type 0} (ways : Ways S) → StepsAgree → RulesAreTheMachines ways
-rules_are {S} ways law w s t a name msg answer r x sound (m, (e, found, on), notes, before, soundly) =
+rules_are {S} ways law w s t a name msg answer r x (m, (e, found, on), notes, before, soundly) =
     let core = same_core m t name one_more notes in
-    let agrees = rule_agrees law w s m a name msg.0 answer.0 e r x before (subst IsSound core sound) found on in
-    let shown = core_shown w s m a (reply name msg.0 answer.0) (rule_answer r) x on.rest (ap (λ (k : TheCore). k.lanes) on.event.rest) agrees in
+    let kept = rule_keeps s.core m.core e msg.0 answer.0 r before on.event in
+    let agrees = rule_agrees law w s m a name msg.0 answer.0 e r x before kept found on in
+    let shown = core_shown w s m a (reply name msg.0 answer.0) (rule_answer r) x kept.core on.rest (ap (λ (k : TheCore). k.lanes) on.event.rest) agrees in
     let places : place_of m.core name ≡ Some e = ap (λ (k : TheCore). place_of k name) on.event.rest ∙ found in
     record {
       answers = subst (IsRuled r) (sym agrees.answer) (is_ruled r);

@@ -19,12 +19,11 @@ use Rattle.fl_running.specs.Turn.{Swept, OneTurn}
 use Rattle.fl_running.specs.Words.{Stock, Exchanges, ExchangesAt, ExchangesAll}
 use Rattle.fl_running.specs.Finished.{is_finished as finished_at}
 use Rattle.fl_running.specs.Ran.{Task, Moment, TakesStock, CountedTurn, EndsAs, Counted}
-use Rattle.fl_running.specs.Deeds.{IsSound}
 use Rattle.fl_alone.specs.Turns.{Alone, Work, turned, is_finished, first_finished, counted, ran}
 use Rattle.fl_alone.specs.Shown.{work_of, ShowsAlone, HasFew, AreSilent}
 use Rattle.fl_alone.specs.Laws.{end_of, RanAsMachine, CountsAreTheMachines}
 use Rattle.fl_alone.proofs.Finishing.{all_same}
-use Rattle.fl_alone.proofs.Rounds.{round_sound, round_are}
+use Rattle.fl_alone.proofs.Rounds.{round_are}
 
 -- ---- silent words stay
 
@@ -56,20 +55,20 @@ record Came {S : Type 0} (w : TheWorld) (p : Work) (s m : Moment S) (a : Alone) 
   pub words : m.ticket.words ≡ s.ticket.words
   pub before : (k : ℕ) → k < n → is_finished p (turned p k a) ≡ false
 
-turn_by_turn : {S : Type 0} (ways : Ways S) (law : StepsAgree) (w : TheWorld) (t : Task) (s m : Moment S) (a : Alone) (n : ℕ) → ShowsAlone w s.run a → IsSound m.run.core
+turn_by_turn : {S : Type 0} (ways : Ways S) (law : StepsAgree) (w : TheWorld) (t : Task) (s m : Moment S) (a : Alone) (n : ℕ) → ShowsAlone w s.run a
     → HasFew t.plan.ends.items → AreSilent t.plan.ends.items s.ticket.words → Swept (λ k. CountedTurn ways t) n s m → Came w (work_of t.plan t.jobs) s m a n
-turn_by_turn {S} ways law w t s m a zero x sound few silent u = record {
+turn_by_turn {S} ways law w t s m a zero x few silent u = record {
   shows = subst (λ (b : Moment S). ShowsAlone w b.run a) (sym u) x;
   words = ap (λ (b : Moment S). b.ticket.words) u;
   before = λ k less. absurd (omega (arith, less));
 }
-turn_by_turn {S} ways law w t s m a (suc n) x sound few silent (b, before, step) =
+turn_by_turn {S} ways law w t s m a (suc n) x few silent (b, before, step) =
     let p : Work = work_of t.plan t.jobs in
-    let one = turn_by_turn ways law w t s b a n x (round_sound ways t.plan t.jobs b.run m.run sound step.turn) few silent before in
+    let one = turn_by_turn ways law w t s b a n x few silent before in
     let left = taken w t.plan t.jobs b step.stock (turned (work_of t.plan t.jobs) n a) false one.shows few
     (subst (AreSilent t.plan.ends.items) (sym one.words) silent) step.left in
     record {
-      shows = round_are ways law w t.plan t.jobs b.run m.run (turned (work_of t.plan t.jobs) n a) one.shows sound step.turn;
+      shows = round_are ways law w t.plan t.jobs b.run m.run (turned (work_of t.plan t.jobs) n a) one.shows step.turn;
       words = step.sees.0 ∙ left.1 ∙ one.words;
       before = λ k less. by k (nat_lt k n) less refl one.before left.0;
     }
@@ -124,10 +123,9 @@ ends_so w t s a part m c Unfinished few silent x is not_told u =
 ends_so w t s a part m c Told few silent x is not_told u = absurd (not_told refl)
 
 pub counts_are : {S : Type 0} (ways : Ways S) → StepsAgree → CountsAreTheMachines ways
-counts_are {S} ways law w t s b part a x sound few silent not_told h =
+counts_are {S} ways law w t s b part a x few silent not_told h =
     let p : Work = work_of t.plan t.jobs in
-    let core : IsSound h.after.run.core = subst (λ (r : TheRun S). IsSound r.core) h.rests sound in
-    let came = turn_by_turn ways law w t s h.after a part.turns x core few silent h.turns in
+    let came = turn_by_turn ways law w t s h.after a part.turns x few silent h.turns in
     let ended = ends_so w t s a part h.after b.ticket part.end few (subst (AreSilent t.plan.ends.items) (sym came.words) silent) came.shows refl not_told h.ends in
     let many : counted (work_of t.plan t.jobs) t.limit a ≡ part.turns
     = first_is (work_of t.plan t.jobs) a 0 t.limit part.turns (omega arith) (let few_turns = h.few in omega (arith, few_turns)) came.before (from_limit ended.last) in

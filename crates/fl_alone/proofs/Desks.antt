@@ -6,6 +6,7 @@ use Rattle.fl_value.specs.Value.{TheCall, call_of}
 use Rattle.fl_hop.proofs.Lists.{at_within, within}
 use Rattle.fl_monitor.specs.Routing.{given as given_at}
 use Rattle.fl_node.specs.View.{TheCore, place_of, slot_of, most_bindings}
+use Rattle.fl_node.specs.Sound.{IsCore}
 use Rattle.fl_queues.specs.Given.{given, changed_at}
 use Rattle.fl_shows.proofs.Tests.{lt_true, true_lt}
 use Rattle.fl_worlds.specs.View.{TheWorld}
@@ -109,6 +110,7 @@ pub desk_shown : {S : Type 0} (w : TheWorld) (m t : TheRun S) (a : Alone) (name 
     → nat_lt name.binding most_bindings ≡ true → ((d : TheDesk) → desk_of (change d) ≡ shown (desk_of d)) → ShowsAlone w m a → AtDesk name change m t
     → ShowsAlone w t (at_desk name shown a)
 desk_shown {S} w m t a name change shown few same x at = record {
+  core = subst (λ (r : TheRun S). IsCore r.core) (sym at.rest) x.core;
   shows = subst (λ v. Shows v a.state) (sym (ap (λ (r : TheRun S). world_with w r) at.rest)) x.shows;
   no_rings = ap (λ (r : TheRun S). r.rings) at.rest ∙ x.no_rings;
   no_links = ap (λ (r : TheRun S). r.core.lanes) at.rest ∙ x.no_links;

@@ -23,7 +23,6 @@ use Rattle.fl_running.specs.declared.job.Job.{Job}
 use Rattle.fl_running.specs.declared.job.Job.TheVariants as job
 use Rattle.fl_running.specs.Run.{Ways, TheRun, lends_in, lent_due, next_job as job_there}
 use Rattle.fl_running.specs.Steps.{is_before_calls as is_before, awaits, TurnsIf, TurnsAt, TakesTurn}
-use Rattle.fl_running.specs.Deeds.{IsSound}
 use Rattle.fl_alone.specs.Turns.{Alone, next_job, here, end_due, due_at, is_before_calls, turns_at, takes_turn}
 use Rattle.fl_alone.specs.Shown.{world_with, ShowsAlone}
 use Rattle.fl_alone.proofs.Standing.{Wired, wired}
@@ -96,8 +95,8 @@ none_shown {X} {Y} xs ys n e q = by (slice_get ys n) refl
     by None r = r
     by (Some y) r = let g = gets ys xs n y (sym e) r in not_both (slice_get xs n) g.0 q g.1
 
-pub same_due : {S : Type 0} (w : TheWorld) (s : TheRun S) (a : Alone) (d : ℕ) → ShowsAlone w s a → IsCore s.core → SameDue s.core (due_on s.core.board d) (due_at a.state d)
-same_due w s a d x is = by (slice_get s.core.board.dispatchers d) refl
+pub same_due : {S : Type 0} (w : TheWorld) (s : TheRun S) (a : Alone) (d : ℕ) → ShowsAlone w s a → SameDue s.core (due_on s.core.board d) (due_at a.state d)
+same_due w s a d x = by (slice_get s.core.board.dispatchers d) refl
   where
     by : (o : Option TheDispatcher) → slice_get s.core.board.dispatchers d ≡ o → SameDue s.core (due_in o) (due_at a.state d)
     by None q =
@@ -114,7 +113,7 @@ same_due w s a d x is = by (slice_get s.core.board.dispatchers d) refl
         = ap (λ (l : ThreeLists). end_picked there.ends (next_pick l)) found.2.lists in
         subst (λ o. SameDue s.core (end_picked there.ends (next_pick there.lists)) o) (sym machine)
         (subst (λ o. SameDue s.core o (end_due found.0 (due found.0))) (sym lists)
-        (by_lists s.core there found.0 found.0.lists.pending found.0.lists.polled is found.2))
+        (by_lists s.core there found.0 found.0.lists.pending found.0.lists.polled x.core found.2))
 
 -- ---- its turn
 
@@ -123,17 +122,6 @@ same_before None = refl
 same_before (Some (job.Open wish)) = refl
 same_before (Some (job.Reply e msg answer)) = refl
 same_before (Some (job.Call e c)) = refl
-
-pub turn_sound : {S : Type 0} (ways : Ways S) (jobs : List Job) (s t : TheRun S) (d : ℕ) → IsSound t.core → TakesTurn ways jobs d s t → IsSound s.core
-turn_sound {S} ways jobs s t d h u = by (lent_due s d) u
-  where
-    if_not : (b : Bool) (name : EndId) (x : _) → TurnsIf ways b d name x s t → IsSound s.core
-    if_not true name x v = subst (λ (r : TheRun S). IsSound r.core) v h
-    if_not false name x v = v.1.3
-
-    by : (o : _) → TurnsAt ways jobs d o s t → IsSound s.core
-    by None v = subst (λ (r : TheRun S). IsSound r.core) v h
-    by (Some x) v = if_not (awaits jobs s v.0) v.0 x v.2
 
 -- none is due
 no_turn : {S : Type 0} (ways : Ways S) (jobs : List Job) (s t : TheRun S) (d : ℕ) → due_on s.core.board d ≡ None → TakesTurn ways jobs d s t → t ≡ s
@@ -149,13 +137,13 @@ due_lent s d name place k q =
     ∙ ap (λ b. if b then Some (record { end = place; inlet = inlet.Queue k.from }) else None) k.from_there
 
 turn_here : {S : Type 0} (ways : Ways S) (law : StepsAgree) (w : TheWorld) (jobs : List Job) (s t : TheRun S) (a : Alone) (d : ℕ) (name : EndId) (place : ℕ)
-    → ShowsAlone w s a → IsSound s.core → IsSound t.core → due_on s.core.board d ≡ Some place → place_of s.core name ≡ Some place → TakesTurn ways jobs d s t
+    → ShowsAlone w s a → due_on s.core.board d ≡ Some place → place_of s.core name ≡ Some place → TakesTurn ways jobs d s t
     → ShowsAlone w t (if is_before_calls (next_job jobs a name) then a else turns_at d a)
-turn_here {S} ways law w jobs s t a d name place x before sound due_is at u =
+turn_here {S} ways law w jobs s t a d name place x due_is at u =
     let k = wired w s a name place x at in
     let v : TurnsAt ways jobs d (Some (record { end = place; inlet = inlet.Queue k.from })) s t
     = subst (λ o. TurnsAt ways jobs d o s t) (due_lent s d name place k due_is) u in
-    let one : v.0 ≡ name = one_name s.core place v.0 name before.core v.1 at in
+    let one : v.0 ≡ name = one_name s.core place v.0 name x.core v.1 at in
     let waits : awaits jobs s v.0 ≡ is_before_calls (next_job jobs a name)
     = ap (awaits jobs s) one ∙ ap is_before (same_job jobs s a name x.desks (is_few s.core name place at)) ∙ same_before (next_job jobs a name) in
     let y : TurnsIf ways (is_before_calls (next_job jobs a name)) d name (record { end = place; inlet = inlet.Queue k.from }) s t
@@ -165,19 +153,16 @@ turn_here {S} ways law w jobs s t a d name place x before sound due_is at u =
   where
     by : (k : Wired s name place) (b : Bool) → TurnsIf ways b d name (record { end = place; inlet = inlet.Queue k.from }) s t → ShowsAlone w t (if b then a else turns_at d a)
     by k true v = subst (λ (r : TheRun S). ShowsAlone w r a) (sym v) x
-    by k false v = (turn_steps ways law w s t a d name place v.0 k x sound at v.1).shows
+    by k false v = (turn_steps ways law w s t a d name place v.0 k x at v.1).shows
 
 pub turn_are : {S : Type 0} (ways : Ways S) (law : StepsAgree) (w : TheWorld) (jobs : List Job) (s t : TheRun S) (a : Alone) (d : ℕ)
-    → ShowsAlone w s a → IsSound t.core → TakesTurn ways jobs d s t → ShowsAlone w t (takes_turn jobs d a)
-turn_are {S} ways law w jobs s t a d x sound u = by (due_on s.core.board d) refl (same_due w s a d x before.core)
+    → ShowsAlone w s a → TakesTurn ways jobs d s t → ShowsAlone w t (takes_turn jobs d a)
+turn_are {S} ways law w jobs s t a d x u = by (due_on s.core.board d) refl (same_due w s a d x)
   where
-    before : IsSound s.core
-    before = turn_sound ways jobs s t d sound u
-
     by : (o : Option ℕ) → due_on s.core.board d ≡ o → SameDue s.core o (due_at a.state d) → ShowsAlone w t (takes_turn jobs d a)
     by None q none =
         subst (λ o. ShowsAlone w t (given o a λ e. if is_before_calls (next_job jobs a e) then a else turns_at d a)) (sym none)
         (subst (λ (r : TheRun S). ShowsAlone w r a) (sym (no_turn ways jobs s t d q u)) x)
     by (Some place) q (e, is, at) =
         subst (λ o. ShowsAlone w t (given o a λ f. if is_before_calls (next_job jobs a f) then a else turns_at d a)) (sym is)
-        (turn_here ways law w jobs s t a d e place x before sound q at u)
+        (turn_here ways law w jobs s t a d e place x q at u)

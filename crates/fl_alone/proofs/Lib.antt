@@ -1,5 +1,6 @@
 pub mod Standing
 pub mod Whole
+pub mod Keeping
 pub mod Desks
 pub mod Writing
 pub mod Calling

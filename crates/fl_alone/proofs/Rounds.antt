@@ -14,11 +14,10 @@ use Rattle.fl_running.specs.declared.plan.Plan.{Plan}
 use Rattle.fl_running.specs.Run.{Ways, TheRun, lent_lane, side_in, lent_berth}
 use Rattle.fl_running.specs.Steps.{ForwardsOver, Forwards, SaysOver, Says, TellsOver, Tells, Serves, AcksFrom, Acknowledges, TakesTurn}
 use Rattle.fl_running.specs.Turn.{Swept, At, OneTurn, Turned}
-use Rattle.fl_running.specs.Deeds.{IsSound}
 use Rattle.fl_alone.specs.Turns.{Alone, serves, takes_turn, Work, swept, serves_at, one_turn, turned}
 use Rattle.fl_alone.specs.Shown.{work_of, ShowsAlone}
-use Rattle.fl_alone.proofs.Serving.{serves_sound, serves_are}
-use Rattle.fl_alone.proofs.Due.{turn_sound, turn_are}
+use Rattle.fl_alone.proofs.Serving.{serves_are}
+use Rattle.fl_alone.proofs.Due.{turn_are}
 
 -- ---- what does nothing
 
@@ -64,63 +63,22 @@ acks_nothing {S} ways ends s none n t (name, is, u) = by (place_of s.core name) 
     by None v = v
     by (Some e) v = by_inlet e (inlet_of s.core e) v
 
--- ---- a sound core was sound before
-
-sound_swept : {S : Type 0} (R : ℕ → TheRun S → TheRun S → Type 0) → ((n : ℕ) (s t : TheRun S) → IsSound t.core → R n s t → IsSound s.core)
-    → (n : ℕ) (s t : TheRun S) → IsSound t.core → Swept R n s t → IsSound s.core
-sound_swept {S} R back zero s t h u = subst (λ (r : TheRun S). IsSound r.core) u h
-sound_swept R back (suc n) s t h (m, before, step) = sound_swept R back n s m (back n m t h step) before
-
-forward_sound : {S : Type 0} (ways : Ways S) (links : List LinkId) (n : ℕ) (s t : TheRun S) → IsSound t.core → At links (Forwards ways) n s t → IsSound s.core
-forward_sound {S} ways links n s t h (l, is, u) = by (lent_lane s l) u
-  where
-    by : (o : Option ℕ) → ForwardsOver ways l o s t → IsSound s.core
-    by None v = subst (λ (r : TheRun S). IsSound r.core) v h
-    by (Some side) v = v.2.3
-
-say_sound : {S : Type 0} (ways : Ways S) (links : List LinkId) (n : ℕ) (s t : TheRun S) → IsSound t.core → At links (Says ways) n s t → IsSound s.core
-say_sound {S} ways links n s t h (l, is, u) = by (lent_lane s l) u
-  where
-    by : (o : Option ℕ) → SaysOver ways l o s t → IsSound s.core
-    by None v = subst (λ (r : TheRun S). IsSound r.core) v h
-    by (Some side) v = v.1.3
-
-tell_sound : {S : Type 0} (ways : Ways S) (links : List LinkId) (n : ℕ) (s t : TheRun S) → IsSound t.core → At links (Tells ways) n s t → IsSound s.core
-tell_sound {S} ways links n s t h (l, is, u) = by (lent_lane s l) u
-  where
-    by : (o : Option ℕ) → TellsOver ways l o s t → IsSound s.core
-    by None v = subst (λ (r : TheRun S). IsSound r.core) v h
-    by (Some side) v = v.1.3
-
-ack_sound : {S : Type 0} (ways : Ways S) (ends : List EndId) (n : ℕ) (s t : TheRun S) → IsSound t.core → At ends (Acknowledges ways) n s t → IsSound s.core
-ack_sound {S} ways ends n s t h (e, is, u) = by (lent_berth s e) u
-  where
-    by : (o : _) → AcksFrom ways e o s t → IsSound s.core
-    by None v = subst (λ (r : TheRun S). IsSound r.core) v h
-    by (Some berth) v = v.1.3
-
-serve_sound : {S : Type 0} (ways : Ways S) (jobs : List Job) (ends : List EndId) (n : ℕ) (s t : TheRun S) → IsSound t.core → At ends (Serves ways jobs) n s t → IsSound s.core
-serve_sound ways jobs ends n s t h (e, is, u) = serves_sound ways jobs s t e h u
-
-dispatch_sound : {S : Type 0} (ways : Ways S) (jobs : List Job) (n : ℕ) (s t : TheRun S) → IsSound t.core → TakesTurn ways jobs n s t → IsSound s.core
-dispatch_sound ways jobs n s t h u = turn_sound ways jobs s t n h u
-
 -- ---- ends and dispatchers in order
 
 served_are : {S : Type 0} (ways : Ways S) (law : StepsAgree) (w : TheWorld) (p : Work) (s t : TheRun S) (a : Alone) (n : ℕ)
-    → ShowsAlone w s a → IsSound t.core → Swept (At p.ends (Serves ways p.jobs)) n s t → ShowsAlone w t (swept (serves_at p) n a)
-served_are {S} ways law w p s t a zero x sound u = subst (λ (r : TheRun S). ShowsAlone w r a) (sym u) x
-served_are ways law w p s t a (suc n) x sound (m, before, (e, is, step)) =
-    let one = served_are ways law w p s m a n x (serves_sound ways p.jobs m t e sound step) before in
-    let two = serves_are ways law w p.jobs m t (swept (serves_at p) n a) e one sound step in
+    → ShowsAlone w s a → Swept (At p.ends (Serves ways p.jobs)) n s t → ShowsAlone w t (swept (serves_at p) n a)
+served_are {S} ways law w p s t a zero x u = subst (λ (r : TheRun S). ShowsAlone w r a) (sym u) x
+served_are ways law w p s t a (suc n) x (m, before, (e, is, step)) =
+    let one = served_are ways law w p s m a n x before in
+    let two = serves_are ways law w p.jobs m t (swept (serves_at p) n a) e one step in
     subst (λ o. ShowsAlone w t (given o (swept (serves_at p) n a) λ f. serves p.jobs f (swept (serves_at p) n a))) (sym is) two
 
 turns_are : {S : Type 0} (ways : Ways S) (law : StepsAgree) (w : TheWorld) (jobs : List Job) (s t : TheRun S) (a : Alone) (n : ℕ)
-    → ShowsAlone w s a → IsSound t.core → Swept (TakesTurn ways jobs) n s t → ShowsAlone w t (swept (takes_turn jobs) n a)
-turns_are {S} ways law w jobs s t a zero x sound u = subst (λ (r : TheRun S). ShowsAlone w r a) (sym u) x
-turns_are ways law w jobs s t a (suc n) x sound (m, before, step) =
-    let one = turns_are ways law w jobs s m a n x (turn_sound ways jobs m t n sound step) before in
-    turn_are ways law w jobs m t (swept (takes_turn jobs) n a) n one sound step
+    → ShowsAlone w s a → Swept (TakesTurn ways jobs) n s t → ShowsAlone w t (swept (takes_turn jobs) n a)
+turns_are {S} ways law w jobs s t a zero x u = subst (λ (r : TheRun S). ShowsAlone w r a) (sym u) x
+turns_are ways law w jobs s t a (suc n) x (m, before, step) =
+    let one = turns_are ways law w jobs s m a n x before in
+    turn_are ways law w jobs m t (swept (takes_turn jobs) n a) n one step
 
 -- ---- a turn
 
@@ -139,39 +97,22 @@ second_half {S} ways plan jobs s t h lanes rings =
     still_swept (At plan.ends.items (Acknowledges ways)) h.turned (acks_nothing ways plan.ends.items h.turned rings) (length plan.ends.items) t
     (subst (λ (r : TheRun S). Swept (At plan.ends.items (Acknowledges ways)) (length plan.ends.items) r t) one h.acks)
 
-told_sound : {S : Type 0} (ways : Ways S) (plan : Plan) (jobs : List Job) (s t : TheRun S) (h : OneTurn ways plan jobs s t) → IsSound t.core → IsSound h.turned.core
-told_sound ways plan jobs s t h sound =
-    sound_swept (At plan.links.items (Tells ways)) (tell_sound ways plan.links.items) (length plan.links.items) h.turned h.told
-    (sound_swept (At plan.ends.items (Acknowledges ways)) (ack_sound ways plan.ends.items) (length plan.ends.items) h.told t sound h.acks) h.tells
-
-served_sound : {S : Type 0} (ways : Ways S) (plan : Plan) (jobs : List Job) (s t : TheRun S) (h : OneTurn ways plan jobs s t) → IsSound t.core → IsSound h.served.core
-served_sound ways plan jobs s t h sound =
-    sound_swept (TakesTurn ways jobs) (dispatch_sound ways jobs) plan.dispatchers h.served h.turned (told_sound ways plan jobs s t h sound) h.turns
-
-pub round_sound : {S : Type 0} (ways : Ways S) (plan : Plan) (jobs : List Job) (s t : TheRun S) → IsSound t.core → OneTurn ways plan jobs s t → IsSound s.core
-round_sound ways plan jobs s t sound h =
-    let said = sound_swept (At plan.ends.items (Serves ways jobs)) (serve_sound ways jobs plan.ends.items) (length plan.ends.items) h.said h.served
-    (served_sound ways plan jobs s t h sound) h.serves in
-    let forwarded = sound_swept (At plan.links.items (Says ways)) (say_sound ways plan.links.items) (length plan.links.items) h.forwarded h.said said h.says in
-    sound_swept (At plan.links.items (Forwards ways)) (forward_sound ways plan.links.items) (length plan.links.items) s h.forwarded forwarded h.forwards
-
 pub round_are : {S : Type 0} (ways : Ways S) (law : StepsAgree) (w : TheWorld) (plan : Plan) (jobs : List Job) (s t : TheRun S) (a : Alone)
-    → ShowsAlone w s a → IsSound t.core → OneTurn ways plan jobs s t → ShowsAlone w t (one_turn (work_of plan jobs) a)
-round_are {S} ways law w plan jobs s t a x sound h =
+    → ShowsAlone w s a → OneTurn ways plan jobs s t → ShowsAlone w t (one_turn (work_of plan jobs) a)
+round_are {S} ways law w plan jobs s t a x h =
     let p : Work = work_of plan jobs in
     let said : h.said ≡ s = first_half ways plan jobs s t h x.no_links in
     let serves : Swept (At plan.ends.items (Serves ways jobs)) (length plan.ends.items) s h.served
     = subst (λ (r : TheRun S). Swept (At plan.ends.items (Serves ways jobs)) (length plan.ends.items) r h.served) said h.serves in
-    let one = served_are ways law w (work_of plan jobs) s h.served a (length plan.ends.items) x (served_sound ways plan jobs s t h sound) serves in
-    let two = turns_are ways law w jobs h.served h.turned (swept (serves_at (work_of plan jobs)) (length plan.ends.items) a) plan.dispatchers one
-    (told_sound ways plan jobs s t h sound) h.turns in
+    let one = served_are ways law w (work_of plan jobs) s h.served a (length plan.ends.items) x serves in
+    let two = turns_are ways law w jobs h.served h.turned (swept (serves_at (work_of plan jobs)) (length plan.ends.items) a) plan.dispatchers one h.turns in
     subst (λ (r : TheRun S). ShowsAlone w r (one_turn (work_of plan jobs) a)) (sym (second_half ways plan jobs s t h two.no_links two.no_rings)) two
 
 -- ---- turns in a row
 
 pub rounds_are : {S : Type 0} (ways : Ways S) (law : StepsAgree) (w : TheWorld) (plan : Plan) (jobs : List Job) (n : ℕ) (s t : TheRun S) (a : Alone)
-    → ShowsAlone w s a → IsSound t.core → Turned ways plan jobs n s t → ShowsAlone w t (turned (work_of plan jobs) n a)
-rounds_are {S} ways law w plan jobs zero s t a x sound u = subst (λ (r : TheRun S). ShowsAlone w r a) (sym u) x
-rounds_are ways law w plan jobs (suc n) s t a x sound (m, before, step) =
-    let one = rounds_are ways law w plan jobs n s m a x (round_sound ways plan jobs m t sound step) before in
-    round_are ways law w plan jobs m t (turned (work_of plan jobs) n a) one sound step
+    → ShowsAlone w s a → Turned ways plan jobs n s t → ShowsAlone w t (turned (work_of plan jobs) n a)
+rounds_are {S} ways law w plan jobs zero s t a x u = subst (λ (r : TheRun S). ShowsAlone w r a) (sym u) x
+rounds_are ways law w plan jobs (suc n) s t a x (m, before, step) =
+    let one = rounds_are ways law w plan jobs n s m a x before in
+    round_are ways law w plan jobs m t (turned (work_of plan jobs) n a) one step

@@ -23,7 +23,6 @@ use Rattle.fl_running.specs.declared.job.Job.TheVariants as job
 use Rattle.fl_running.specs.declared.job.Wish.{Wish}
 use Rattle.fl_running.specs.Run.{Ways, TheRun, lends_out, lent_post, next_job as job_there}
 use Rattle.fl_running.specs.Steps.{lacks_to_call, may_ask, OpensIf, CallsAt, RulesAt, Tries, WritesFrom, Serves}
-use Rattle.fl_running.specs.Deeds.{IsSound}
 use Rattle.fl_alone.specs.Turns.{Alone, goes, is_there, tries, serves, next_job}
 use Rattle.fl_alone.specs.Shown.{world_with, ShowsAlone}
 use Rattle.fl_alone.proofs.Standing.{stands, wired, post_lent}
@@ -99,48 +98,18 @@ goes_not {S} w s t a x q = record {
 }
 
 tries_at : {S : Type 0} (ways : Ways S) (law : StepsAgree) (w : TheWorld) (s t : TheRun S) (a : Alone) (name : EndId) (place : ℕ) (o : Option Job)
-    → ShowsAlone w s a → IsSound t.core → place_of s.core name ≡ Some place → Tries ways name o s t → Goes w s t (tries name o a)
-tries_at ways law w s t a name place None x sound at u = goes_not w s t a x u
-tries_at ways law w s t a name place (Some (job.Open wish)) x sound at u =
+    → ShowsAlone w s a → place_of s.core name ≡ Some place → Tries ways name o s t → Goes w s t (tries name o a)
+tries_at ways law w s t a name place None x at u = goes_not w s t a x u
+tries_at ways law w s t a name place (Some (job.Open wish)) x at u =
     goes_not w s t a x (subst (λ b. OpensIf ways b name wish s t) (asks_nothing w s a wish x) u)
-tries_at ways law w s t a name place (Some (job.Call f c)) x sound at u =
+tries_at ways law w s t a name place (Some (job.Call f c)) x at u =
     let v : CallsAt ways name c (Some place) s t = subst (λ o. CallsAt ways name c o s t) at u in
-    let k = calls_are ways law w s t a name (call_of c) v.0 x sound (not_memory v.0 v.2) v.1 in
+    let k = calls_are ways law w s t a name (call_of c) v.0 x (not_memory v.0 v.2) v.1 in
     record { shows = k.shows; places = k.places }
-tries_at ways law w s t a name place (Some (job.Reply f msg answer)) x sound at u =
+tries_at ways law w s t a name place (Some (job.Reply f msg answer)) x at u =
     let v : RulesAt ways name msg answer (Some place) s t = subst (λ o. RulesAt ways name msg answer o s t) at u in
-    let k = rules_are ways law w s t a name msg answer v.0 x sound v.1 in
+    let k = rules_are ways law w s t a name msg answer v.0 x v.1 in
     record { shows = k.shows; places = k.places }
-
--- ---- a sound core was sound before
-
-tries_sound : {S : Type 0} (ways : Ways S) (s t : TheRun S) (name : EndId) (o : Option Job) → IsSound t.core → Tries ways name o s t → IsSound s.core
-tries_sound {S} ways s t name None h u = subst (λ (r : TheRun S). IsSound r.core) u h
-tries_sound {S} ways s t name (Some (job.Open wish)) h u = by (may_ask s wish) u
-  where
-    by : (b : Bool) → OpensIf ways b name wish s t → IsSound s.core
-    by false v = subst (λ (r : TheRun S). IsSound r.core) v h
-    by true v = v.1.3
-tries_sound {S} ways s t name (Some (job.Call f c)) h u = by (place_of s.core name) u
-  where
-    by : (o : Option ℕ) → CallsAt ways name c o s t → IsSound s.core
-    by None v = subst (λ (r : TheRun S). IsSound r.core) v h
-    by (Some place) v = v.1.3
-tries_sound {S} ways s t name (Some (job.Reply f msg answer)) h u = by (place_of s.core name) u
-  where
-    by : (o : Option ℕ) → RulesAt ways name msg answer o s t → IsSound s.core
-    by None v = subst (λ (r : TheRun S). IsSound r.core) v h
-    by (Some place) v = v.1.3
-
-writes_sound : {S : Type 0} (ways : Ways S) (s t : TheRun S) (name : EndId) → IsSound t.core → WritesFrom ways name (lent_post s name) s t → IsSound s.core
-writes_sound {S} ways s t name h u = by (lent_post s name) u
-  where
-    by : (o : _) → WritesFrom ways name o s t → IsSound s.core
-    by None v = subst (λ (r : TheRun S). IsSound r.core) v h
-    by (Some post) v = v.1.3
-
-pub serves_sound : {S : Type 0} (ways : Ways S) (jobs : List Job) (s t : TheRun S) (name : EndId) → IsSound t.core → Serves ways jobs name s t → IsSound s.core
-serves_sound ways jobs s t name h (m, before, after) = tries_sound ways s m name (job_there jobs s name) (writes_sound ways m t name h after) before
 
 -- ---- both
 
@@ -153,22 +122,21 @@ away_tries ways w s t a name (Some (job.Call f c)) x away u = subst (λ o. Calls
 away_tries ways w s t a name (Some (job.Reply f msg answer)) x away u = subst (λ o. RulesAt ways name msg answer o s t) away u
 
 writes_at : {S : Type 0} (ways : Ways S) (law : StepsAgree) (w : TheWorld) (s t : TheRun S) (a : Alone) (name : EndId) (place : ℕ)
-    → ShowsAlone w s a → IsSound t.core → place_of s.core name ≡ Some place → WritesFrom ways name (lent_post s name) s t → Goes w s t (goes (write name) a)
-writes_at ways law w s t a name place x sound at u =
+    → ShowsAlone w s a → place_of s.core name ≡ Some place → WritesFrom ways name (lent_post s name) s t → Goes w s t (goes (write name) a)
+writes_at ways law w s t a name place x at u =
     let k = wired w s a name place x at in
     let v : WritesFrom ways name (Some (record { end = place; outlet = outlet.Queue k.out })) s t
     = subst (λ o. WritesFrom ways name o s t) (post_lent s name place k at) u in
-    let d = write_steps ways law w s t a name place v.0 k x sound at v.1 in
+    let d = write_steps ways law w s t a name place v.0 k x at v.1 in
     record { shows = d.shows; places = d.places }
 
 serves_here : {S : Type 0} (ways : Ways S) (law : StepsAgree) (w : TheWorld) (jobs : List Job) (s t : TheRun S) (a : Alone) (name : EndId) (place : ℕ)
-    → ShowsAlone w s a → IsSound t.core → place_of s.core name ≡ Some place → Serves ways jobs name s t → Goes w s t (goes (write name) (tries name (next_job jobs a name) a))
-serves_here {S} ways law w jobs s t a name place x sound at (m, before, after) =
+    → ShowsAlone w s a → place_of s.core name ≡ Some place → Serves ways jobs name s t → Goes w s t (goes (write name) (tries name (next_job jobs a name) a))
+serves_here {S} ways law w jobs s t a name place x at (m, before, after) =
     let same = same_job jobs s a name x.desks (is_few s.core name place at) in
-    let middle = writes_sound ways m t name sound after in
-    let one = tries_at ways law w s m a name place (next_job jobs a name) x middle at (subst (λ o. Tries ways name o s m) same before) in
+    let one = tries_at ways law w s m a name place (next_job jobs a name) x at (subst (λ o. Tries ways name o s m) same before) in
     let there : place_of m.core name ≡ Some place = same_places m one.places ∙ at in
-    let two = writes_at ways law w m t (tries name (next_job jobs a name) a) name place one.shows sound there after in
+    let two = writes_at ways law w m t (tries name (next_job jobs a name) a) name place one.shows there after in
     record { shows = two.shows; places = two.places ∙ one.places }
   where
     same_places : (m : TheRun S) → m.core.places ≡ s.core.places → place_of m.core name ≡ place_of s.core name
@@ -189,12 +157,12 @@ serves_away {S} ways w jobs s t a name x away (m, before, after) =
     by (Some post) q v = absurd (cc)
 
 pub serves_are : {S : Type 0} (ways : Ways S) (law : StepsAgree) (w : TheWorld) (jobs : List Job) (s t : TheRun S) (a : Alone) (name : EndId)
-    → ShowsAlone w s a → IsSound t.core → Serves ways jobs name s t → ShowsAlone w t (serves jobs name a)
-serves_are {S} ways law w jobs s t a name x sound u = by (place_of s.core name) refl
+    → ShowsAlone w s a → Serves ways jobs name s t → ShowsAlone w t (serves jobs name a)
+serves_are {S} ways law w jobs s t a name x u = by (place_of s.core name) refl
   where
     shown : (b : Bool) → is_there a.state name ≡ b → ShowsAlone w t (if b then goes (write name) (tries name (next_job jobs a name) a) else a) → ShowsAlone w t (serves jobs name a)
     shown b q h = subst (λ c. ShowsAlone w t (if c then goes (write name) (tries name (next_job jobs a name) a) else a)) (sym q) h
 
     by : (o : Option ℕ) → place_of s.core name ≡ o → ShowsAlone w t (serves jobs name a)
     by None q = shown false (end_away w s a name x q) (subst (λ (r : TheRun S). ShowsAlone w r a) (sym (serves_away ways w jobs s t a name x q u)) x)
-    by (Some place) q = shown true (end_there w s a name place x q) (serves_here ways law w jobs s t a name place x sound q u).shows
+    by (Some place) q = shown true (end_there w s a name place x q) (serves_here ways law w jobs s t a name place x q u).shows

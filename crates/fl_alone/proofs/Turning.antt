@@ -32,6 +32,7 @@ use Rattle.fl_alone.specs.Laws.{TurnsAsMachine, TurnsAreTheMachines}
 use Rattle.fl_value.specs.Value.{call_of}
 use Rattle.fl_alone.proofs.Standing.{stands, Wired, wired}
 use Rattle.fl_alone.proofs.Whole.{whole_of, whole_after}
+use Rattle.fl_alone.proofs.Keeping.{turn_keeps}
 use Rattle.fl_alone.proofs.Desks.{is_few, same_handled, desk_shown, same_core}
 use Rattle.fl_alone.proofs.Writing.{settled_same, wrote_world}
 
@@ -102,19 +103,21 @@ noted_shown {S} w name place Nothing m t b at x h = subst (λ (r : TheRun S). Sh
 noted_shown {S} w name place (Refused fault) m t b at x h = subst (λ (r : TheRun S). ShowsAlone w r b) (sym h) x
 
 pub turn_steps : {S : Type 0} (ways : Ways S) (law : StepsAgree) (w : TheWorld) (s t : TheRun S) (a : Alone) (d : ℕ) (name : EndId) (place : ℕ) (answer : TurnAnswer)
-    (k : Wired s name place) → ShowsAlone w s a → IsSound t.core → place_of s.core name ≡ Some place → Happens ways (turned d name (inlet.Queue k.from) answer) s t
+    (k : Wired s name place) → ShowsAlone w s a → place_of s.core name ≡ Some place → Happens ways (turned d name (inlet.Queue k.from) answer) s t
     → TurnsAsMachine w s t a d name answer
-turn_steps {S} ways law w s t a d name place answer k x sound at (m, (e, found, is_due, on), notes, before, soundly) =
+turn_steps {S} ways law w s t a d name place answer k x at (m, (e, found, is_due, on), notes, before, soundly) =
     let core = noted_core name answer m t notes in
     let there : e ≡ place = same_some (place_of s.core name) e place found at in
+    let kept = turn_keeps s.core m.core d e on.before on.after answer before on.event in
     let h = stands w s a name place x at in
     let same : Some s.core ≡ Some h.core = h.core_is in
     let one : s.core ≡ h.core = cc in
     let seat : slice_get s.core.board.seats place ≡ Some h.at = ap (λ (c : TheCore). slice_get c.board.seats place) one ∙ h.at_is in
-    let agrees = turn_agrees law w s m a d name place k.from answer x before (subst IsSound core sound) at k.inlet_is (subst (λ i. due s.core.board d ≡ Some i) there is_due)
+    let agrees = turn_agrees law w s m a d name place k.from answer x before kept at k.inlet_is (subst (λ i. due s.core.board d ≡ Some i) there is_due)
     (h.at, seat, soundly place h.at at seat)
     (subst (λ i. OnQueue k.from s (λ c p c2 q. OnBoard c (λ b b2. Turns QueueTakes d i (over b p) (Ok answer) (over b2 q)) c2) m) there on) in
     let shown : ShowsAlone w m (goes (turn (here d)) a) = record {
+      core = kept.core;
       shows = agrees.shows;
       no_rings = ap (λ (r : TheRun S). r.rings) on.rest ∙ x.no_rings;
       no_links = ap (λ (c : TheCore). c.lanes) on.event.rest ∙ x.no_links;
@@ -129,7 +132,7 @@ turn_steps {S} ways law w s t a d name place answer k x sound at (m, (e, found, 
     }
 
 pub turns_are : {S : Type 0} (ways : Ways S) → StepsAgree → TurnsAreTheMachines ways
-turns_are {S} ways law w s t a d name place from answer x sound at there u =
+turns_are {S} ways law w s t a d name place from answer x at there u =
     let k = wired w s a name place x at in
     let same : from ≡ inlet.Queue k.from = same_some (inlet_of s.core place) from (inlet.Queue k.from) there k.inlet_is in
-    turn_steps ways law w s t a d name place answer k x sound at (subst (λ (i : Inlet). Happens ways (turned d name i answer) s t) same u)
+    turn_steps ways law w s t a d name place answer k x at (subst (λ (i : Inlet). Happens ways (turned d name i answer) s t) same u)

@@ -21,12 +21,13 @@ use Rattle.fl_worlds.specs.Step.{settled_by, settled, Steps}
 use Rattle.fl_worlds.specs.Laws.{StepAgrees, StepsAgree}
 use Rattle.fl_worlds.proofs.FramesBase.{same_some}
 use Rattle.fl_running.specs.Run.{Ways, TheRun}
-use Rattle.fl_running.specs.Deeds.{OnQueue, WritesOver as WritesThere, wrote, Happens, IsSound}
+use Rattle.fl_running.specs.Deeds.{OnQueue, wrote, Happens}
 use Rattle.fl_alone.specs.Turns.{Alone, goes}
 use Rattle.fl_alone.specs.Shown.{desk_of, world_with, ShowsAlone}
 use Rattle.fl_alone.specs.Laws.{WritesAsMachine, WritesAreTheMachines}
 use Rattle.fl_alone.proofs.Standing.{spot_is, stands, Wired, wired}
 use Rattle.fl_alone.proofs.Whole.{whole_of, whole_after}
+use Rattle.fl_alone.proofs.Keeping.{write_keeps}
 
 -- ---- the world of one core settles as it is
 
@@ -56,13 +57,13 @@ pub wrote_world : {S : Type 0} (w : TheWorld) (s m : TheRun S) (n : ℕ) (q : Th
 wrote_world {S} w s m n q h = ap (λ (x : TheRun S). world_with w x) h
 
 pub write_steps : {S : Type 0} (ways : Ways S) (law : StepsAgree) (w : TheWorld) (s t : TheRun S) (a : Alone) (name : EndId) (place : ℕ) (answer : Result WriteAnswer EndFault)
-    (k : Wired s name place) → ShowsAlone w s a → IsSound t.core → place_of s.core name ≡ Some place → Happens ways (wrote name (outlet.Queue k.out) answer) s t
+    (k : Wired s name place) → ShowsAlone w s a → place_of s.core name ≡ Some place → Happens ways (wrote name (outlet.Queue k.out) answer) s t
     → WritesAsMachine w s t a name answer
-write_steps {S} ways law w s t a name place answer k x sound at (m, (e, found, on), same, before, soundly) =
+write_steps {S} ways law w s t a name place answer k x at (m, (e, found, on), same, before, soundly) =
     let h = stands w s a name place x at in
     let there : e ≡ place = same_some (place_of s.core name) e place found at in
     let whole = whole_of w s a x before in
-    let after : m.core ≡ t.core = ap (λ (r : TheRun S). r.core) (sym same) in
+    let kept = write_keeps s.core m.core e on.before on.after answer before on.event in
     let over : OverQueue (world_with w s) 0 k.out (WritesWith QueuePuts place (write_answer answer)) (world_with w m) = record {
       before = s.core;
       before_is = refl;
@@ -70,7 +71,7 @@ write_steps {S} ways law w s t a name place answer k x sound at (m, (e, found, o
       queue = on.before;
       queue_is = on.before_is;
       after = m.core;
-      still = whole_after s.core m.core whole (subst IsSound (sym after) sound) (ap (λ (c : TheCore). c.monitor) on.event.rest);
+      still = whole_after s.core m.core whole kept (ap (λ (c : TheCore). c.monitor) on.event.rest);
       left = on.after;
       event = (answer, subst (λ (i : ℕ). WritesAt QueuePuts i s.core on.before answer m.core on.after) there on.event, is_written answer);
       rest = wrote_world w s m k.out on.after on.rest;
@@ -84,6 +85,7 @@ write_steps {S} ways law w s t a name place answer k x sound at (m, (e, found, o
     let agrees : StepAgrees (write name) a.state (write_answer answer) (world_with w m)
     = law (write name) (world_with w s) (world_with w m) a.state (write_answer answer) x.shows steps in
     let shown : ShowsAlone w m (goes (write name) a) = record {
+      core = kept.core;
       shows = agrees.shows;
       no_rings = ap (λ (r : TheRun S). r.rings) on.rest ∙ x.no_rings;
       no_links = ap (λ (c : TheCore). c.lanes) on.event.rest ∙ x.no_links;
@@ -98,7 +100,7 @@ write_steps {S} ways law w s t a name place answer k x sound at (m, (e, found, o
 -- ---- the law
 
 pub writes_are : {S : Type 0} (ways : Ways S) → StepsAgree → WritesAreTheMachines ways
-writes_are {S} ways law w s t a name place out answer x sound at there u =
+writes_are {S} ways law w s t a name place out answer x at there u =
     let k = wired w s a name place x at in
     let same : out ≡ outlet.Queue k.out = same_some (outlet_of s.core place) out (outlet.Queue k.out) there k.outlet_is in
-    write_steps ways law w s t a name place answer k x sound at (subst (λ (o : Outlet). Happens ways (wrote name o answer) s t) same u)
+    write_steps ways law w s t a name place answer k x at (subst (λ (o : Outlet). Happens ways (wrote name o answer) s t) same u)

@@ -23,7 +23,7 @@ use Rattle.fl_running.specs.declared.run.Part.{Part}
 use Rattle.fl_running.specs.Run.{Ways, TheRun}
 use Rattle.fl_running.specs.Turn.{Turned}
 use Rattle.fl_running.specs.Ran.{Task, Moment, Counted}
-use Rattle.fl_running.specs.Deeds.{called, ruled, wrote, turned as had_turn, Happens, IsSound}
+use Rattle.fl_running.specs.Deeds.{called, ruled, wrote, turned as had_turn, Happens}
 use Rattle.fl_alone.specs.Turns.{Alone, goes, calls, rules, here, turns_at, turned, is_finished, counted, ran}
 use Rattle.fl_alone.specs.Shown.{work_of, ShowsAlone, HasFew, AreSilent}
 
@@ -38,7 +38,7 @@ pub record CallsAsMachine {S : Type 0} (w : TheWorld) (s t : TheRun S) (a : Alon
 
 abbrev pub CallsAreTheMachines : {S : Type 0} → Ways S → Type 0
 CallsAreTheMachines {S} ways = (w : TheWorld) (s t : TheRun S) (a : Alone) (name : EndId) (c : TheCall) (answer : Result (Unit {0}) EndFault)
-    → ShowsAlone w s a → IsSound t.core → answer ≢ Err Memory → Happens ways (called name c answer) s t → CallsAsMachine w s t a name c answer
+    → ShowsAlone w s a → answer ≢ Err Memory → Happens ways (called name c answer) s t → CallsAsMachine w s t a name c answer
 
 -- a reply rule
 pub record RulesAsMachine {S : Type 0} (w : TheWorld) (s t : TheRun S) (a : Alone) (name : EndId) (msg answer : ℕ) (r : Result (Unit {0}) EndFault) : Type 0 where
@@ -48,7 +48,7 @@ pub record RulesAsMachine {S : Type 0} (w : TheWorld) (s t : TheRun S) (a : Alon
 
 abbrev pub RulesAreTheMachines : {S : Type 0} → Ways S → Type 0
 RulesAreTheMachines {S} ways = (w : TheWorld) (s t : TheRun S) (a : Alone) (name : EndId) (msg answer : MsgNo) (r : Result (Unit {0}) EndFault)
-    → ShowsAlone w s a → IsSound t.core → Happens ways (ruled name msg answer r) s t → RulesAsMachine w s t a name msg.0 answer.0 r
+    → ShowsAlone w s a → Happens ways (ruled name msg answer r) s t → RulesAsMachine w s t a name msg.0 answer.0 r
 
 -- a write, to where the end puts
 pub record WritesAsMachine {S : Type 0} (w : TheWorld) (s t : TheRun S) (a : Alone) (name : EndId) (answer : Result WriteAnswer EndFault) : Type 0 where
@@ -58,7 +58,7 @@ pub record WritesAsMachine {S : Type 0} (w : TheWorld) (s t : TheRun S) (a : Alo
 
 abbrev pub WritesAreTheMachines : {S : Type 0} → Ways S → Type 0
 WritesAreTheMachines {S} ways = (w : TheWorld) (s t : TheRun S) (a : Alone) (name : EndId) (e : ℕ) (out : Outlet) (answer : Result WriteAnswer EndFault)
-    → ShowsAlone w s a → IsSound t.core → place_of s.core name ≡ Some e → outlet_of s.core e ≡ Some out
+    → ShowsAlone w s a → place_of s.core name ≡ Some e → outlet_of s.core e ≡ Some out
     → Happens ways (wrote name out answer) s t → WritesAsMachine w s t a name answer
 
 -- a dispatcher's turn, over where the end that is due takes from
@@ -69,14 +69,14 @@ pub record TurnsAsMachine {S : Type 0} (w : TheWorld) (s t : TheRun S) (a : Alon
 
 abbrev pub TurnsAreTheMachines : {S : Type 0} → Ways S → Type 0
 TurnsAreTheMachines {S} ways = (w : TheWorld) (s t : TheRun S) (a : Alone) (d : ℕ) (name : EndId) (e : ℕ) (from : Inlet) (answer : TurnAnswer)
-    → ShowsAlone w s a → IsSound t.core → place_of s.core name ≡ Some e → inlet_of s.core e ≡ Some from
+    → ShowsAlone w s a → place_of s.core name ≡ Some e → inlet_of s.core e ≡ Some from
     → Happens ways (had_turn d name from answer) s t → TurnsAsMachine w s t a d name answer
 
 -- ---- turns
 
 -- so many turns of the core are so many of the machine's
 abbrev pub RoundsAreTheMachines : {S : Type 0} → Ways S → Type 0
-RoundsAreTheMachines {S} ways = (w : TheWorld) (plan : Plan) (jobs : List Job) (n : ℕ) (s t : TheRun S) (a : Alone) → ShowsAlone w s a → IsSound t.core
+RoundsAreTheMachines {S} ways = (w : TheWorld) (plan : Plan) (jobs : List Job) (n : ℕ) (s t : TheRun S) (a : Alone) → ShowsAlone w s a
     → Turned ways plan jobs n s t → ShowsAlone w t (turned (work_of plan jobs) n a)
 
 -- ---- counted turns
@@ -94,5 +94,5 @@ pub record RanAsMachine {S : Type 0} (w : TheWorld) (t : Task) (a : Alone) (part
 
 -- so it is of a core that wasn't told of a stop, where no job opens a binding
 abbrev pub CountsAreTheMachines : {S : Type 0} → Ways S → Type 0
-CountsAreTheMachines {S} ways = (w : TheWorld) (t : Task) (s b : Moment S) (part : Part) (a : Alone) → ShowsAlone w s.run a → IsSound b.run.core
+CountsAreTheMachines {S} ways = (w : TheWorld) (t : Task) (s b : Moment S) (part : Part) (a : Alone) → ShowsAlone w s.run a
     → HasFew t.plan.ends.items → AreSilent t.plan.ends.items s.ticket.words → part.end ≢ Told → Counted ways t s part b → RanAsMachine w t a part b.run

@@ -3,6 +3,7 @@ use Rattle.std.specs.Prelude.{ℕ, ◌≡◌, ◌<◌, nat_lt, true, false, List
 use Rattle.fl_base.specs.declared.identity.EndId.{EndId}
 use Rattle.fl_value.specs.Value.{call_of}
 use Rattle.fl_node.specs.View.{most_bindings}
+use Rattle.fl_node.specs.Sound.{IsCore}
 use Rattle.fl_worlds.specs.View.{TheWorld}
 use Rattle.fl_worlds.specs.Picture.{Shows}
 use Rattle.fl_running.specs.Desks.{TheDesk}
@@ -24,7 +25,9 @@ work_of plan jobs = record { ends = plan.ends.items; dispatchers = plan.dispatch
 abbrev pub world_with : {S : Type 0} → TheWorld → TheRun S → TheWorld
 world_with w r = record w { may_set_cores = false; cores = r.core ∷ []; rings = []; queues = r.queues }
 
+-- it is sound; with what the set-up made it is a world that shows the state; and its desks are these
 pub record ShowsAlone {S : Type 0} (w : TheWorld) (r : TheRun S) (a : Alone) : Type 0 where
+  pub core : IsCore r.core
   pub shows : Shows (world_with w r) a.state
   pub no_rings : r.rings ≡ []
   pub no_links : r.core.lanes ≡ []
