@@ -1,8 +1,7 @@
 -- A call and a reply rule of an end of one core by itself are the machine's.
-use Rattle.std.proofs.Common.{◌≡◌, ◌≢◌, inl, inr, refl, sym, ◌∙◌, ap, subst, ℕ, true, nat_lt, List, [], ◌∷◌, map, slice_get, slice_set, Option, Some, None}
+use Rattle.std.proofs.Common.{◌≡◌, ◌≢◌, refl, sym, ◌∙◌, ap, subst, ℕ, map, Some}
 use Rattle.std.specs.Prelude.{Result, Ok, Err}
 use Rattle.fl_base.specs.declared.identity.EndId.{EndId}
-use Rattle.fl_base.specs.declared.identity.MsgNo.{MsgNo}
 use Rattle.fl_value.specs.Value.{TheCall}
 use Rattle.fl_endpoint.specs.declared.fault.EndFault.{EndFault}
 use Rattle.fl_endpoint.specs.declared.fault.EndFault.TheVariants.{Memory, Spent, Busy, UnknownMessage, Misfit, NotBound, Failed, Wire}
@@ -13,20 +12,17 @@ use Rattle.fl_node.specs.View.{TheCore, place_of}
 use Rattle.fl_node.specs.Sound.{IsCore}
 use Rattle.fl_node.specs.Ends.{OnBoard}
 use Rattle.fl_queues.specs.Events.{Event, call, reply, Answer, accepted, done, refused}
-use Rattle.fl_queues.specs.Step.{step}
-use Rattle.fl_worlds.specs.View.{TheWorld, Spot, made, spot_of, with_core}
-use Rattle.fl_worlds.specs.Lending.{AtCore}
+use Rattle.fl_worlds.specs.View.{TheWorld, Spot, made, with_core}
 use Rattle.fl_worlds.specs.Sending.{IsCalled, CallsAt, MakesCall}
 use Rattle.fl_worlds.specs.Taking.{IsRuled, RulesAt, SetsReply}
 use Rattle.fl_worlds.specs.Step.{Steps}
 use Rattle.fl_worlds.specs.Laws.{StepAgrees, StepsAgree}
-use Rattle.fl_worlds.proofs.FramesBase.{same_some}
 use Rattle.fl_running.specs.Desks.{advanced as one_more}
-use Rattle.fl_running.specs.Run.{Ways, TheRun, AtDesk}
-use Rattle.fl_running.specs.Deeds.{OnCore, NotesCalled, called, ruled, Happens, IsSound}
-use Rattle.fl_alone.specs.Turns.{Alone, goes, at_desk, advanced, call_noted, calls, rules}
+use Rattle.fl_running.specs.Run.{Ways, TheRun}
+use Rattle.fl_running.specs.Deeds.{OnCore, NotesCalled, IsSound}
+use Rattle.fl_alone.specs.Turns.{Alone, goes, advanced, call_noted}
 use Rattle.fl_alone.specs.Shown.{desk_of, world_with, ShowsAlone}
-use Rattle.fl_alone.specs.Laws.{CallsAsMachine, RulesAsMachine, CallsAreTheMachines, RulesAreTheMachines}
+use Rattle.fl_alone.specs.Laws.{CallsAreTheMachines, RulesAreTheMachines}
 use Rattle.fl_alone.proofs.Standing.{spot_is, stands}
 use Rattle.fl_alone.proofs.Whole.{whole_of, whole_after}
 use Rattle.fl_alone.proofs.Keeping.{call_keeps, rule_keeps}

@@ -1,9 +1,8 @@
 -- The counted turns of a core by itself: they end at the first number at which nothing is left to do, or at the limit.
-use Rattle.std.proofs.Common.{◌≡◌, ◌≢◌, ◌⊎◌, inl, inr, refl, sym, ◌∙◌, ap, subst, ℕ, zero, suc, ◌+◌, ◌<◌, ◌≤◌, nat_lt, Bool, true, false, if◌then◌else◌, List, [], ◌∷◌, length, slice_get, slice_set, Option, Some, None, arith}
+use Rattle.std.proofs.Common.{◌≡◌, ◌≢◌, ◌⊎◌, inl, inr, refl, sym, ◌∙◌, ap, subst, ℕ, zero, suc, ◌+◌, ◌<◌, ◌≤◌, nat_lt, Bool, true, false, if◌then◌else◌, List, length, slice_get, slice_set, Some, arith}
 use Rattle.fl_base.specs.declared.identity.EndId.{EndId}
 use Rattle.fl_hop.proofs.Lists.{within, set_same}
 use Rattle.fl_shows.proofs.Tests.{true_lt, false_lt}
-use Rattle.fl_tally.specs.Seats.{TheSeat}
 use Rattle.fl_worlds.specs.View.{TheWorld}
 use Rattle.fl_worlds.specs.Laws.{StepsAgree}
 use Rattle.fl_worlds.proofs.FramesBase.{same_some}
@@ -12,16 +11,14 @@ use Rattle.fl_running.specs.declared.plan.Plan.{Plan}
 use Rattle.fl_running.specs.declared.run.End.{End}
 use Rattle.fl_running.specs.declared.run.End.TheVariants.{Finished, Unfinished, Told}
 use Rattle.fl_running.specs.declared.run.Part.{Part}
-use Rattle.fl_running.specs.declared.word.Word.{Word}
 use Rattle.fl_running.specs.declared.word.Word.TheVariants.{Silent}
 use Rattle.fl_running.specs.Run.{Ways, TheRun}
-use Rattle.fl_running.specs.Turn.{Swept, OneTurn}
-use Rattle.fl_running.specs.Words.{Stock, Exchanges, ExchangesAt, ExchangesAll}
-use Rattle.fl_running.specs.Finished.{is_finished as finished_at}
-use Rattle.fl_running.specs.Ran.{Task, Moment, TakesStock, CountedTurn, EndsAs, Counted}
-use Rattle.fl_alone.specs.Turns.{Alone, Work, turned, is_finished, first_finished, counted, ran}
+use Rattle.fl_running.specs.Turn.{Swept}
+use Rattle.fl_running.specs.Words.{Stock, Exchanges, ExchangesAt}
+use Rattle.fl_running.specs.Ran.{Task, Moment, TakesStock, CountedTurn, EndsAs}
+use Rattle.fl_alone.specs.Turns.{Alone, Work, turned, is_finished, first_finished, counted}
 use Rattle.fl_alone.specs.Shown.{work_of, ShowsAlone, HasFew, AreSilent}
-use Rattle.fl_alone.specs.Laws.{end_of, RanAsMachine, CountsAreTheMachines}
+use Rattle.fl_alone.specs.Laws.{end_of, CountsAreTheMachines}
 use Rattle.fl_alone.proofs.Finishing.{all_same}
 use Rattle.fl_alone.proofs.Rounds.{round_are}
 

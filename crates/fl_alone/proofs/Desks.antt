@@ -2,7 +2,7 @@
 use Rattle.std.proofs.Common.{◌≡◌, refl, sym, ◌∙◌, ap, subst, ℕ, zero, suc, nat_lt, Bool, true, false, if◌then◌else◌, List, [], ◌∷◌, ◌++◌, length, map, slice_get, slice_set, Option, Some, None}
 use Rattle.fl_base.specs.declared.identity.EndId.{EndId}
 use Rattle.fl_value.specs.declared.value.Call.{Call}
-use Rattle.fl_value.specs.Value.{TheCall, call_of}
+use Rattle.fl_value.specs.Value.{call_of}
 use Rattle.fl_hop.proofs.Lists.{at_within, within}
 use Rattle.fl_monitor.specs.Routing.{given as given_at}
 use Rattle.fl_node.specs.View.{TheCore, place_of, slot_of, most_bindings}
@@ -11,11 +11,10 @@ use Rattle.fl_queues.specs.Given.{given, changed_at}
 use Rattle.fl_shows.proofs.Tests.{lt_true, true_lt}
 use Rattle.fl_worlds.specs.View.{TheWorld}
 use Rattle.fl_worlds.specs.Picture.{Shows}
-use Rattle.fl_worlds.proofs.FramesBase.{same_some, not_both}
 use Rattle.fl_running.specs.declared.job.Job.{Job}
 use Rattle.fl_running.specs.Desks.{TheDesk, desk_place, ChangesIf, advanced as one_more, with_handled as and_handled}
 use Rattle.fl_running.specs.Run.{TheRun, AtDesk, next_job as job_there}
-use Rattle.fl_alone.specs.Turns.{Desk, Alone, desk_at, at_desk, advanced, with_handled, next_job}
+use Rattle.fl_alone.specs.Turns.{Desk, Alone, at_desk, advanced, with_handled, next_job}
 use Rattle.fl_alone.specs.Shown.{desk_of, world_with, ShowsAlone}
 
 -- ---- lists

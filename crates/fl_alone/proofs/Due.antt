@@ -1,5 +1,5 @@
 -- Which end is due at a dispatcher of a core by itself, and its turn.
-use Rattle.std.proofs.Common.{◌≡◌, refl, sym, ◌∙◌, ap, subst, ℕ, zero, suc, nat_lt, Bool, true, false, if◌then◌else◌, List, [], ◌∷◌, length, map, slice_get, Option, Some, None}
+use Rattle.std.proofs.Common.{◌≡◌, refl, sym, ◌∙◌, ap, subst, ℕ, zero, suc, Bool, true, false, if◌then◌else◌, List, [], ◌∷◌, length, map, slice_get, Option, Some, None}
 use Rattle.fl_base.specs.declared.identity.EndId.{EndId}
 use Rattle.fl_lists.specs.ThreeLists.{ThreeLists}
 use Rattle.fl_waitset.specs.Waiting.{next_pick, first_of}
@@ -11,9 +11,9 @@ use Rattle.fl_node.specs.declared.wire.Port.{Port}
 use Rattle.fl_node.specs.View.{TheCore, place_of, inlet_of}
 use Rattle.fl_node.specs.Sound.{IsCore}
 use Rattle.fl_queues.specs.Given.{given}
-use Rattle.fl_queues.specs.Waits.{Dispatcher, Due, pending, polled, no_one, due, first_due}
+use Rattle.fl_queues.specs.Waits.{Dispatcher, due, first_due}
 use Rattle.fl_queues.specs.Monitors.{Core}
-use Rattle.fl_queues.specs.State.{State, dispatcher_of}
+use Rattle.fl_queues.specs.State.{dispatcher_of}
 use Rattle.fl_worlds.specs.View.{TheWorld}
 use Rattle.fl_worlds.specs.Picture.{name_at, DispatcherShows}
 use Rattle.fl_worlds.specs.Laws.{StepsAgree}
@@ -21,7 +21,7 @@ use Rattle.fl_worlds.proofs.FramesBase.{gets, same_some, not_both}
 use Rattle.fl_worlds.proofs.WritingPieces.{dispatcher_shown}
 use Rattle.fl_running.specs.declared.job.Job.{Job}
 use Rattle.fl_running.specs.declared.job.Job.TheVariants as job
-use Rattle.fl_running.specs.Run.{Ways, TheRun, lends_in, lent_due, next_job as job_there}
+use Rattle.fl_running.specs.Run.{Ways, TheRun, lends_in, lent_due}
 use Rattle.fl_running.specs.Steps.{is_before_calls as is_before, awaits, TurnsIf, TurnsAt, TakesTurn}
 use Rattle.fl_alone.specs.Turns.{Alone, next_job, here, end_due, due_at, is_before_calls, turns_at, takes_turn}
 use Rattle.fl_alone.specs.Shown.{world_with, ShowsAlone}

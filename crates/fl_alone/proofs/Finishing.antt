@@ -1,31 +1,29 @@
 -- Whether anything is left to do at a core by itself is seen in the machine's state and the desks.
-use Rattle.std.proofs.Common.{◌≡◌, ◌≢◌, refl, sym, ◌∙◌, ap, subst, ℕ, zero, suc, ◌<◌, ◌&&◌, ◌==◌, not, nat_lt, Bool, true, false, if◌then◌else◌, List, [], ◌∷◌, length, map, slice_get, slice_set, Option, Some, None, is_some, arith}
+use Rattle.std.proofs.Common.{◌≡◌, refl, sym, ◌∙◌, ap, ℕ, zero, suc, ◌&&◌, ◌==◌, not, nat_lt, Bool, true, false, if◌then◌else◌, List, [], ◌∷◌, length, map, slice_get, Option, Some, None, is_some}
 use Rattle.fl_base.specs.declared.fragment.Frag.{Frag}
 use Rattle.fl_base.specs.declared.identity.EndId.{EndId}
 use Rattle.fl_base.specs.Ends.{other}
-use Rattle.fl_value.specs.declared.value.Call.{Call}
 use Rattle.fl_value.specs.Value.{call_of}
-use Rattle.fl_hop.proofs.Lists.{at_within, within, set_same}
-use Rattle.fl_endpoint.specs.View.{TheEnd, TheOutgoing, is_circuit, are_some, is_busy as is_busy_at}
+use Rattle.fl_hop.proofs.Lists.{at_within, within}
+use Rattle.fl_endpoint.specs.View.{TheEnd, is_circuit, are_some, is_busy as is_busy_at}
 use Rattle.fl_core.specs.View.{TheSeat}
 use Rattle.fl_monitor.specs.Routing.{given as given_at}
 use Rattle.fl_node.specs.View.{TheCore, place_of, slot_of, most_bindings}
 use Rattle.fl_queues.specs.Given.{given}
 use Rattle.fl_queues.specs.Calls.{Planned}
 use Rattle.fl_queues.specs.Ends.{End, Direction, is_bound, is_busy}
-use Rattle.fl_queues.specs.State.{Binding, State, binding_of, interface_of, end_in}
+use Rattle.fl_queues.specs.State.{Binding, interface_of, end_in}
 use Rattle.fl_shows.specs.Ends.{EndShows}
 use Rattle.fl_shows.proofs.Calling.{busy_is, idle_is}
-use Rattle.fl_shows.proofs.Tests.{true_lt, lt_true}
+use Rattle.fl_shows.proofs.Tests.{true_lt}
 use Rattle.fl_worlds.specs.View.{TheWorld}
-use Rattle.fl_worlds.proofs.FramesBase.{same_some}
 use Rattle.fl_running.specs.declared.word.Word.{Word}
 use Rattle.fl_running.specs.declared.word.Word.TheVariants.{Silent}
-use Rattle.fl_running.specs.Desks.{TheDesk, desk_place, is_clear as is_clear_desk}
+use Rattle.fl_running.specs.Desks.{TheDesk, is_clear as is_clear_desk}
 use Rattle.fl_running.specs.Run.{TheRun}
 use Rattle.fl_running.specs.Finished.{is_still as is_still_end, is_at_rest, is_desk_clear, is_done_at as done_at, is_done, all_done}
-use Rattle.fl_alone.specs.Turns.{Desk, Alone, desk_at, is_there, is_still, is_clear, is_done_at, are_done}
-use Rattle.fl_alone.specs.Shown.{desk_of, world_with, ShowsAlone, HasFew, AreSilent}
+use Rattle.fl_alone.specs.Turns.{Alone, desk_at, is_there, is_still, is_clear, is_done_at, are_done}
+use Rattle.fl_alone.specs.Shown.{desk_of, ShowsAlone, HasFew, AreSilent}
 use Rattle.fl_alone.proofs.Standing.{stands}
 use Rattle.fl_alone.proofs.Desks.{get_some, get_none, desk_is, past}
 use Rattle.fl_alone.proofs.Serving.{end_there, end_away}

@@ -1,9 +1,9 @@
 -- What is known of a core is kept by the events of its ends and dispatchers over its own queues.
-use Rattle.std.proofs.Common.{◌≡◌, refl, sym, ◌∙◌, ap, subst, ℕ, Bool, true, false, List, slice_get, Option, Some, None}
-use Rattle.std.specs.Prelude.{Result, Ok, Err}
+use Rattle.std.proofs.Common.{◌≡◌, refl, sym, ◌∙◌, subst, ℕ, Bool, true, false, slice_get, Option, Some, None}
+use Rattle.std.specs.Prelude.{Result, Ok}
 use Rattle.fl_lists.specs.declared.place.Place.{Place}
 use Rattle.fl_lists.specs.declared.place.Place.TheVariants as place
-use Rattle.fl_lists.specs.ThreeLists.{ThreeLists, list_at, is_in, place_of as list_of_channel, unlinked, pushed, moved, IsApart}
+use Rattle.fl_lists.specs.ThreeLists.{ThreeLists, list_at, is_in, unlinked, pushed, IsApart}
 use Rattle.fl_lists.proofs.Tables.{front_in, pop_is}
 use Rattle.fl_waitset.specs.declared.waitset.Pick.{Pick}
 use Rattle.fl_waitset.specs.declared.waitset.Pick.TheVariants as pick
@@ -20,7 +20,7 @@ use Rattle.fl_endpoint.specs.Events.{IsReady, Calls, SetsRule, Writes}
 use Rattle.fl_core.specs.declared.kind.Kind.{Kind}
 use Rattle.fl_core.specs.declared.answer.TurnAnswer.{TurnAnswer}
 use Rattle.fl_core.specs.declared.answer.TurnAnswer.TheVariants.{Handle, Part, Ready, Quiet, Full, Nothing, Refused}
-use Rattle.fl_core.specs.View.{TheDispatcher, TheSeat, TheBoard, with_end, with_lists}
+use Rattle.fl_core.specs.View.{TheBoard}
 use Rattle.fl_core.specs.Sound.{IsBoard}
 use Rattle.fl_core.specs.Events.{ChangesEnd}
 use Rattle.fl_core.specs.Turns.{Turns, LooksAt, moment, over, put_off}

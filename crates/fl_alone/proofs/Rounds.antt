@@ -1,17 +1,17 @@
 -- Whole turns of a core by itself, and turns in a row, are the machine's.
-use Rattle.std.proofs.Common.{◌≡◌, refl, sym, ◌∙◌, ap, subst, ℕ, zero, suc, nat_lt, Bool, true, false, if◌then◌else◌, List, [], ◌∷◌, length, slice_get, Option, Some, None, arith}
+use Rattle.std.proofs.Common.{◌≡◌, sym, ◌∙◌, ap, subst, ℕ, zero, suc, nat_lt, Bool, true, false, if◌then◌else◌, List, [], length, Option, Some, None, arith}
 use Rattle.fl_base.specs.declared.identity.EndId.{EndId}
 use Rattle.fl_base.specs.declared.identity.LinkId.{LinkId}
 use Rattle.fl_monitor.specs.Routing.{given as given_at}
 use Rattle.fl_node.specs.declared.wire.Inlet.{Inlet}
-use Rattle.fl_node.specs.View.{TheCore, place_of, side_of_link, inlet_of}
+use Rattle.fl_node.specs.View.{place_of, side_of_link, inlet_of}
 use Rattle.fl_queues.specs.Given.{given}
 use Rattle.fl_shows.proofs.Tests.{lt_false}
 use Rattle.fl_worlds.specs.View.{TheWorld}
 use Rattle.fl_worlds.specs.Laws.{StepsAgree}
 use Rattle.fl_running.specs.declared.job.Job.{Job}
 use Rattle.fl_running.specs.declared.plan.Plan.{Plan}
-use Rattle.fl_running.specs.Run.{Ways, TheRun, lent_lane, side_in, lent_berth}
+use Rattle.fl_running.specs.Run.{Ways, TheRun, lent_lane, side_in}
 use Rattle.fl_running.specs.Steps.{ForwardsOver, Forwards, SaysOver, Says, TellsOver, Tells, Serves, AcksFrom, Acknowledges, TakesTurn}
 use Rattle.fl_running.specs.Turn.{Swept, At, OneTurn, Turned}
 use Rattle.fl_alone.specs.Turns.{Alone, serves, takes_turn, Work, swept, serves_at, one_turn, turned}

@@ -1,6 +1,6 @@
 -- What a core by itself does for an end in a turn is what the machine does: its next job, and a write.
-use Rattle.std.proofs.Common.{◌≡◌, ◌≢◌, inl, inr, refl, sym, ◌∙◌, ap, subst, ℕ, zero, suc, ◌&&◌, not, nat_lt, Bool, true, false, if◌then◌else◌, List, [], ◌∷◌, length, map, slice_get, Option, Some, None, is_some}
-use Rattle.std.specs.Prelude.{Result, Ok, Err}
+use Rattle.std.proofs.Common.{◌≡◌, ◌≢◌, refl, sym, ◌∙◌, ap, subst, ℕ, zero, suc, ◌&&◌, not, nat_lt, Bool, true, false, if◌then◌else◌, List, [], ◌∷◌, length, slice_get, Option, Some, None, is_some}
+use Rattle.std.specs.Prelude.{Result, Err}
 use Rattle.fl_base.specs.declared.fragment.Frag.{Frag}
 use Rattle.fl_base.specs.declared.identity.EndId.{EndId}
 use Rattle.fl_value.specs.Value.{call_of}
@@ -13,7 +13,7 @@ use Rattle.fl_node.specs.View.{TheCore, place_in, place_of, outlet_of, client_of
 use Rattle.fl_queues.specs.Given.{given}
 use Rattle.fl_queues.specs.Events.{write}
 use Rattle.fl_queues.specs.Ends.{End}
-use Rattle.fl_queues.specs.State.{State, Binding, end_of, end_in, binding_of}
+use Rattle.fl_queues.specs.State.{end_of}
 use Rattle.fl_worlds.specs.View.{TheWorld}
 use Rattle.fl_worlds.specs.Laws.{StepsAgree}
 use Rattle.fl_worlds.proofs.FramesBase.{not_both, end_of_binding, binding_of_end}
@@ -24,7 +24,7 @@ use Rattle.fl_running.specs.declared.job.Wish.{Wish}
 use Rattle.fl_running.specs.Run.{Ways, TheRun, lends_out, lent_post, next_job as job_there}
 use Rattle.fl_running.specs.Steps.{lacks_to_call, may_ask, OpensIf, CallsAt, RulesAt, Tries, WritesFrom, Serves}
 use Rattle.fl_alone.specs.Turns.{Alone, goes, is_there, tries, serves, next_job}
-use Rattle.fl_alone.specs.Shown.{world_with, ShowsAlone}
+use Rattle.fl_alone.specs.Shown.{ShowsAlone}
 use Rattle.fl_alone.proofs.Standing.{stands, wired, post_lent}
 use Rattle.fl_alone.proofs.Whole.{no_outboxes}
 use Rattle.fl_alone.proofs.Desks.{is_few, same_job}

@@ -1,32 +1,29 @@
 -- Where the ends of one core by itself stand: each is joined by queues, which are the core's.
-use Rattle.std.proofs.Common.{◌≡◌, refl, sym, ◌∙◌, ap, subst, ℕ, true, false, nat_lt, if◌then◌else◌, List, [], ◌∷◌, length, slice_get, Option, Some, None, arith}
+use Rattle.std.proofs.Common.{◌≡◌, refl, sym, ◌∙◌, ap, subst, ℕ, true, nat_lt, if◌then◌else◌, List, [], length, slice_get, Option, Some, None}
 use Rattle.fl_base.specs.declared.identity.EndId.{EndId}
-use Rattle.fl_base.specs.Ends.{peer}
 use Rattle.fl_hop.proofs.Lists.{within}
-use Rattle.fl_link.specs.Queue.{TheQueue}
 use Rattle.fl_node.specs.declared.wire.Wire.{Wire}
 use Rattle.fl_node.specs.declared.wire.Wire.TheVariants.{Queues, Ring as OverRing, Circuit}
 use Rattle.fl_node.specs.declared.wire.Lane.{Lane}
 use Rattle.fl_node.specs.declared.wire.Port.{Port}
 use Rattle.fl_node.specs.declared.wire.Outlet.{Outlet}
 use Rattle.fl_node.specs.declared.wire.Outlet.TheVariants as outlet
-use Rattle.fl_node.specs.declared.wire.Inlet.{Inlet}
 use Rattle.fl_node.specs.declared.wire.Inlet.TheVariants as inlet
 use Rattle.fl_node.specs.View.{TheCore, place_of, side_of_link, outlet_by, outlet_of, inlet_by, inlet_of}
 use Rattle.fl_monitor.specs.Routing.{given as given_at}
 use Rattle.fl_queues.specs.Given.{given}
 use Rattle.fl_queues.specs.Rings.{RingEnd}
-use Rattle.fl_queues.specs.State.{Back, local, over_ring, over_route, State, own_ring, side_of}
+use Rattle.fl_queues.specs.State.{Back, local, over_ring, over_route, State, own_ring}
 use Rattle.fl_shows.proofs.Tests.{lt_true}
 use Rattle.fl_worlds.specs.View.{TheWorld, nowhere, made, spot_at, spot_of, core_in}
-use Rattle.fl_worlds.specs.Picture.{TakesFrom, IsWire, IsPicture, Shows}
+use Rattle.fl_worlds.specs.Picture.{IsWire, IsPicture, Shows}
 use Rattle.fl_worlds.proofs.Frames.{Stands}
 use Rattle.fl_worlds.proofs.FramesBase.{gets, not_both}
 use Rattle.fl_worlds.proofs.FramesFind.{spot_made}
 use Rattle.fl_worlds.proofs.WritingPieces.{stands_there}
 use Rattle.fl_worlds.proofs.WritingStreams.{own_ring_there}
 use Rattle.fl_worlds.proofs.WritingQueues.{peer_of}
-use Rattle.fl_running.specs.Run.{TheRun, lends_out, lends_in, lent_post}
+use Rattle.fl_running.specs.Run.{TheRun, lends_out, lent_post}
 use Rattle.fl_alone.specs.Turns.{Alone}
 use Rattle.fl_alone.specs.Shown.{world_with, ShowsAlone}
 

@@ -1,32 +1,31 @@
 -- A dispatcher's turn of one core by itself is the machine's.
-use Rattle.std.proofs.Common.{◌≡◌, inl, inr, refl, sym, ◌∙◌, ap, subst, ℕ, not, nat_lt, Bool, true, false, List, [], ◌∷◌, length, map, slice_get, slice_set, Option, Some, None}
-use Rattle.std.specs.Prelude.{Result, Ok, Err}
+use Rattle.std.proofs.Common.{◌≡◌, inl, refl, sym, ◌∙◌, ap, subst, ℕ, not, true, length, map, slice_get, Option, Some, None}
+use Rattle.std.specs.Prelude.{Ok}
 use Rattle.fl_base.specs.declared.identity.EndId.{EndId}
 use Rattle.fl_hop.proofs.Lists.{within}
-use Rattle.fl_link.specs.Queue.{TheQueue, QueueTakes}
+use Rattle.fl_link.specs.Queue.{QueueTakes}
 use Rattle.fl_endpoint.specs.Accounts.{Sound as IsEnd}
 use Rattle.fl_core.specs.declared.answer.TurnAnswer.{TurnAnswer}
 use Rattle.fl_core.specs.declared.answer.TurnAnswer.TheVariants.{Handle, Part, Ready, Quiet, Full, Nothing, Refused}
-use Rattle.fl_core.specs.View.{TheDispatcher, TheSeat, due, due_in}
+use Rattle.fl_core.specs.View.{TheDispatcher, due, due_in}
 use Rattle.fl_core.specs.Events.{Holds}
 use Rattle.fl_core.specs.Turns.{Turns, over}
 use Rattle.fl_node.specs.declared.wire.Inlet.{Inlet}
 use Rattle.fl_node.specs.declared.wire.Inlet.TheVariants as inlet
 use Rattle.fl_node.specs.View.{TheCore, place_of, inlet_of}
 use Rattle.fl_node.specs.Ends.{OnBoard}
-use Rattle.fl_queues.specs.Events.{Event, turn, Answer}
-use Rattle.fl_queues.specs.Step.{step}
+use Rattle.fl_queues.specs.Events.{turn}
 use Rattle.fl_shows.proofs.Tests.{lt_true}
-use Rattle.fl_worlds.specs.View.{Given, If, TheWorld, has_dispatcher, with_core, with_queue}
+use Rattle.fl_worlds.specs.View.{Given, If, TheWorld, has_dispatcher}
 use Rattle.fl_worlds.specs.Lending.{Refuses, DoesNothing, OverQueue}
-use Rattle.fl_worlds.specs.Taking.{turn_answer, IsDue, TurnsWith, TurnsOver, TurnsAt, due_at, HasTurn}
+use Rattle.fl_worlds.specs.Taking.{turn_answer, TurnsWith, TurnsAt, HasTurn}
 use Rattle.fl_worlds.specs.Step.{Steps}
 use Rattle.fl_worlds.specs.Laws.{StepAgrees, StepsAgree}
 use Rattle.fl_worlds.proofs.FramesBase.{same_some}
 use Rattle.fl_running.specs.Desks.{with_handled as and_handled}
-use Rattle.fl_running.specs.Run.{Ways, TheRun, AtDesk}
+use Rattle.fl_running.specs.Run.{Ways, TheRun}
 use Rattle.fl_running.specs.Deeds.{OnQueue, NotesTurned, turned, Happens, IsSound}
-use Rattle.fl_alone.specs.Turns.{Alone, goes, here, with_handled, turn_noted, turns_at}
+use Rattle.fl_alone.specs.Turns.{Alone, goes, here, with_handled, turn_noted}
 use Rattle.fl_alone.specs.Shown.{desk_of, world_with, ShowsAlone}
 use Rattle.fl_alone.specs.Laws.{TurnsAsMachine, TurnsAreTheMachines}
 use Rattle.fl_value.specs.Value.{call_of}

@@ -1,12 +1,10 @@
 -- What is known of the core at any moment, as worlds want it.
-use Rattle.std.proofs.Common.{◌≡◌, refl, sym, ◌∙◌, ap, subst, ℕ, List, [], ◌∷◌, length, map, slice_get, Some, arith}
+use Rattle.std.proofs.Common.{◌≡◌, refl, sym, ◌∙◌, ap, subst, List, [], ◌∷◌, length, map, arith}
 use Rattle.fl_base.specs.declared.fragment.Frag.{Frag}
-use Rattle.fl_hop.specs.declared.links.LinkState.{LinkState}
 use Rattle.fl_node.specs.declared.wire.Lane.{Lane}
 use Rattle.fl_node.specs.View.{TheCore}
-use Rattle.fl_monitor.specs.Monitors.{TheMonitor, HasOutboxes}
-use Rattle.fl_queues.specs.Monitors.{Core, Link}
-use Rattle.fl_queues.specs.State.{State, core_of}
+use Rattle.fl_monitor.specs.Monitors.{HasOutboxes}
+use Rattle.fl_queues.specs.Monitors.{Link}
 use Rattle.fl_shows.specs.Cores.{OutboxesShow}
 use Rattle.fl_worlds.specs.View.{TheWorld, IsWhole}
 use Rattle.fl_worlds.specs.Picture.{lane_of, CoreShows}

@@ -1,5 +1,5 @@
 -- A write of an end of one core by itself is the machine's.
-use Rattle.std.proofs.Common.{◌≡◌, inl, inr, refl, sym, ◌∙◌, ap, subst, ℕ, true, false, List, [], ◌∷◌, map, slice_get, slice_set, Option, Some, None}
+use Rattle.std.proofs.Common.{◌≡◌, inl, refl, sym, ◌∙◌, ap, subst, ℕ, map, slice_set, Some}
 use Rattle.std.specs.Prelude.{Result, Ok, Err}
 use Rattle.fl_base.specs.declared.identity.EndId.{EndId}
 use Rattle.fl_link.specs.Queue.{TheQueue, QueuePuts}
@@ -11,17 +11,15 @@ use Rattle.fl_node.specs.declared.wire.Outlet.{Outlet}
 use Rattle.fl_node.specs.declared.wire.Outlet.TheVariants as outlet
 use Rattle.fl_node.specs.View.{TheCore, place_of, outlet_of}
 use Rattle.fl_node.specs.Ends.{WritesAt}
-use Rattle.fl_queues.specs.Events.{Event, write, Answer, nothing, full, written, refused}
-use Rattle.fl_queues.specs.State.{State}
-use Rattle.fl_queues.specs.Step.{step}
-use Rattle.fl_worlds.specs.View.{TheWorld, Spot, made, spot_of, with_core, with_queue}
+use Rattle.fl_queues.specs.Events.{write, Answer, nothing, full, written, refused}
+use Rattle.fl_worlds.specs.View.{TheWorld, Spot, made, with_core, with_queue}
 use Rattle.fl_worlds.specs.Lending.{OverQueue}
-use Rattle.fl_worlds.specs.Sending.{IsWritten, WritesWith, HasOutlet, WritesOver, WritesBy, WritesFragment}
-use Rattle.fl_worlds.specs.Step.{settled_by, settled, Steps}
+use Rattle.fl_worlds.specs.Sending.{IsWritten, WritesWith, WritesBy, WritesFragment}
+use Rattle.fl_worlds.specs.Step.{settled_by, Steps}
 use Rattle.fl_worlds.specs.Laws.{StepAgrees, StepsAgree}
 use Rattle.fl_worlds.proofs.FramesBase.{same_some}
 use Rattle.fl_running.specs.Run.{Ways, TheRun}
-use Rattle.fl_running.specs.Deeds.{OnQueue, wrote, Happens}
+use Rattle.fl_running.specs.Deeds.{wrote, Happens}
 use Rattle.fl_alone.specs.Turns.{Alone, goes}
 use Rattle.fl_alone.specs.Shown.{desk_of, world_with, ShowsAlone}
 use Rattle.fl_alone.specs.Laws.{WritesAsMachine, WritesAreTheMachines}

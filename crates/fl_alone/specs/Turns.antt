@@ -5,8 +5,7 @@ use Rattle.fl_base.specs.declared.identity.EndId.{EndId}
 use Rattle.fl_value.specs.Value.{TheCall, call_of}
 use Rattle.fl_queues.specs.Given.{given, changed_at}
 use Rattle.fl_queues.specs.Events.{DispatcherId, Event, call, write, turn, reply, Answer, accepted, handle}
-use Rattle.fl_queues.specs.Calls.{Planned}
-use Rattle.fl_queues.specs.Ends.{End, is_bound, is_busy}
+use Rattle.fl_queues.specs.Ends.{is_bound, is_busy}
 use Rattle.fl_queues.specs.Waits.{Dispatcher, Due, pending, polled, no_one, due}
 use Rattle.fl_queues.specs.State.{State, dispatcher_of, binding_of, interface_of, end_in, end_of}
 use Rattle.fl_queues.specs.Step.{step}
