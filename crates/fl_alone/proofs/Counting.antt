@@ -15,12 +15,12 @@ use Rattle.fl_running.specs.declared.word.Word.TheVariants.{Silent}
 use Rattle.fl_running.specs.Run.{Ways, TheRun}
 use Rattle.fl_running.specs.Turn.{Swept}
 use Rattle.fl_running.specs.Words.{Stock, Exchanges, ExchangesAt}
-use Rattle.fl_running.specs.Ran.{Task, Moment, TakesStock, CountedTurn, EndsAs}
-use Rattle.fl_alone.specs.Turns.{Alone, Work, turned, is_finished, first_finished, counted}
+use Rattle.fl_running.specs.Ran.{Task, Moment, TakesStock, CountedTurn, EndsAs, GoesOn, CoreRan}
+use Rattle.fl_alone.specs.Turns.{Alone, Work, turned, is_finished, first_finished, counted, ran}
 use Rattle.fl_alone.specs.Shown.{work_of, ShowsAlone, HasFew, AreSilent}
-use Rattle.fl_alone.specs.Laws.{end_of, CountsAreTheMachines}
+use Rattle.fl_alone.specs.Laws.{end_of, RanAsMachine, WentAsMachine, CountsAreTheMachines, RunsAreTheMachines}
 use Rattle.fl_alone.proofs.Finishing.{all_same}
-use Rattle.fl_alone.proofs.Rounds.{round_are}
+use Rattle.fl_alone.proofs.Rounds.{round_are, rounds_are}
 
 -- ---- silent words stay
 
@@ -60,7 +60,6 @@ turn_by_turn {S} ways law w t s m a zero x few silent u = record {
   before = λ k less. absurd (omega (arith, less));
 }
 turn_by_turn {S} ways law w t s m a (suc n) x few silent (b, before, step) =
-    let p : Work = work_of t.plan t.jobs in
     let one = turn_by_turn ways law w t s b a n x few silent before in
     let left = taken w t.plan t.jobs b step.stock (turned (work_of t.plan t.jobs) n a) false one.shows few
     (subst (AreSilent t.plan.ends.items) (sym one.words) silent) step.left in
@@ -121,7 +120,6 @@ ends_so w t s a part m c Told few silent x is not_told u = absurd (not_told refl
 
 pub counts_are : {S : Type 0} (ways : Ways S) → StepsAgree → CountsAreTheMachines ways
 counts_are {S} ways law w t s b part a x few silent not_told h =
-    let p : Work = work_of t.plan t.jobs in
     let came = turn_by_turn ways law w t s h.after a part.turns x few silent h.turns in
     let ended = ends_so w t s a part h.after b.ticket part.end few (subst (AreSilent t.plan.ends.items) (sym came.words) silent) came.shows refl not_told h.ends in
     let many : counted (work_of t.plan t.jobs) t.limit a ≡ part.turns
@@ -136,3 +134,14 @@ counts_are {S} ways law w t s b part a x few silent not_told h =
     from_limit : {P : Type 0} → P ⊎ (part.turns ≡ t.limit) → P ⊎ (part.turns ≡ 0 + t.limit)
     from_limit (inl q) = inl q
     from_limit (inr q) = inr (omega (arith, q))
+
+pub runs_are : {S : Type 0} (ways : Ways S) → StepsAgree → RunsAreTheMachines ways
+runs_are {S} ways law w t s b part a x few silent not_told h =
+    let one = counts_are ways law w t s h.middle part a x few silent not_told h.counted in
+    by one part.end refl h.goes_on
+  where
+    by : (one : RanAsMachine w t a part h.middle.run) (end : End) → part.end ≡ end → GoesOn ways t end h.middle.run b.run → WentAsMachine w t a part h.middle.run b.run
+    by one Finished is (more, turns) =
+        record { ran = one; more = more; shows = rounds_are ways law w t.plan t.jobs more h.middle.run b.run (ran (work_of t.plan t.jobs) t.limit a) one.shows turns }
+    by one Unfinished is same = record { ran = one; more = 0; shows = subst (λ (r : TheRun S). ShowsAlone w r (ran (work_of t.plan t.jobs) t.limit a)) (sym same) one.shows }
+    by one Told is same = absurd (not_told is)

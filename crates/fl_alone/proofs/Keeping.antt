@@ -92,7 +92,6 @@ end_board b b2 e Event sound ready h =
 triggered_board : (o : Option ℕ) (b b2 : TheBoard) → IsBoard b → TriggersIf o b b2 → IsBoard b2
 triggered_board None b b2 sound h = subst IsBoard (sym h) sound
 triggered_board (Some e) b b2 sound h =
-    let d = h.dispatcher in
     let known = sound.dispatchers h.seat.dispatcher h.dispatcher h.dispatcher_is in
     let apart : IsApart h.lists = subst IsApart (sym h.event) (triggered_apart h.dispatcher.lists h.seat.channel known.apart) in
     subst IsBoard (sym h.board)

@@ -10,3 +10,4 @@ pub mod Due
 pub mod Rounds
 pub mod Finishing
 pub mod Counting
+pub mod Later

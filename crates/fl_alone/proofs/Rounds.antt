@@ -100,7 +100,6 @@ second_half {S} ways plan jobs s t h lanes rings =
 pub round_are : {S : Type 0} (ways : Ways S) (law : StepsAgree) (w : TheWorld) (plan : Plan) (jobs : List Job) (s t : TheRun S) (a : Alone)
     → ShowsAlone w s a → OneTurn ways plan jobs s t → ShowsAlone w t (one_turn (work_of plan jobs) a)
 round_are {S} ways law w plan jobs s t a x h =
-    let p : Work = work_of plan jobs in
     let said : h.said ≡ s = first_half ways plan jobs s t h x.no_links in
     let serves : Swept (At plan.ends.items (Serves ways jobs)) (length plan.ends.items) s h.served
     = subst (λ (r : TheRun S). Swept (At plan.ends.items (Serves ways jobs)) (length plan.ends.items) r h.served) said h.serves in

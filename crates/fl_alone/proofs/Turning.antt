@@ -55,7 +55,6 @@ turn_agrees : {S : Type 0} (law : StepsAgree) (w : TheWorld) (s m : TheRun S) (a
     → StepAgrees (turn (here d)) a.state (turn_answer name answer) (world_with w m)
 turn_agrees {S} law w s m a d name place from answer x before sound at takes is_due ready on =
     let whole = whole_of w s a x before in
-    let a2 = turn_answer name answer in
     let lent : OverQueue (world_with w s) 0 from (TurnsWith QueueTakes d place name (turn_answer name answer)) (world_with w m) = record {
       before = s.core;
       before_is = refl;

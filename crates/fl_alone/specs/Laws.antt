@@ -1,5 +1,5 @@
 -- The laws of one core by itself. Each is of a core that shows a state of the machine.
-use Rattle.std.specs.Prelude.{ℕ, ◌≡◌, ◌≢◌, Bool, true, false, List, Some, Result, Err}
+use Rattle.std.specs.Prelude.{ℕ, ◌≡◌, ◌≢◌, ◌≤◌, Bool, true, false, List, [], ◌∷◌, length, Some, Result, Err}
 use Rattle.fl_base.specs.declared.identity.EndId.{EndId}
 use Rattle.fl_base.specs.declared.identity.MsgNo.{MsgNo}
 use Rattle.fl_value.specs.Value.{TheCall}
@@ -22,9 +22,9 @@ use Rattle.fl_running.specs.declared.run.End.TheVariants.{Finished, Unfinished, 
 use Rattle.fl_running.specs.declared.run.Part.{Part}
 use Rattle.fl_running.specs.Run.{Ways, TheRun}
 use Rattle.fl_running.specs.Turn.{Turned}
-use Rattle.fl_running.specs.Ran.{Task, Moment, Counted}
+use Rattle.fl_running.specs.Ran.{Task, Moment, Counted, CoreRan}
 use Rattle.fl_running.specs.Deeds.{called, ruled, wrote, turned as had_turn, Happens}
-use Rattle.fl_alone.specs.Turns.{Alone, goes, calls, rules, here, turns_at, turned, is_finished, counted, ran}
+use Rattle.fl_alone.specs.Turns.{Desk, Alone, goes, calls, rules, here, turns_at, Work, turned, is_clear, is_finished, counted, ran as ran_to}
 use Rattle.fl_alone.specs.Shown.{work_of, ShowsAlone, HasFew, AreSilent}
 
 -- ---- events: what an end or a dispatcher does is the machine's step. It answers the same, and afterwards the core shows the machine's next state; and the
@@ -89,10 +89,40 @@ end_of false = Unfinished
 -- as many turns were counted as the definition says; the core shows what these come to, and ended as that says
 pub record RanAsMachine {S : Type 0} (w : TheWorld) (t : Task) (a : Alone) (part : Part) (b : TheRun S) : Type 0 where
   pub turns : part.turns ≡ counted (work_of t.plan t.jobs) t.limit a
-  pub shows : ShowsAlone w b (ran (work_of t.plan t.jobs) t.limit a)
-  pub end : part.end ≡ end_of (is_finished (work_of t.plan t.jobs) (ran (work_of t.plan t.jobs) t.limit a))
+  pub shows : ShowsAlone w b (ran_to (work_of t.plan t.jobs) t.limit a)
+  pub end : part.end ≡ end_of (is_finished (work_of t.plan t.jobs) (ran_to (work_of t.plan t.jobs) t.limit a))
 
 -- so it is of a core that wasn't told of a stop, where no job opens a binding
 abbrev pub CountsAreTheMachines : {S : Type 0} → Ways S → Type 0
 CountsAreTheMachines {S} ways = (w : TheWorld) (t : Task) (s b : Moment S) (part : Part) (a : Alone) → ShowsAlone w s.run a
     → HasFew t.plan.ends.items → AreSilent t.plan.ends.items s.ticket.words → part.end ≢ Told → Counted ways t s part b → RanAsMachine w t a part b.run
+
+-- ---- the whole run
+
+-- at the point at which the counted turns came to an end the core shows what these come to, and in the end what so many turns more do
+pub record WentAsMachine {S : Type 0} (w : TheWorld) (t : Task) (a : Alone) (part : Part) (point finish : TheRun S) : Type 0 where
+  pub ran : RanAsMachine w t a part point
+  pub more : ℕ
+  pub shows : ShowsAlone w finish (turned (work_of t.plan t.jobs) more (ran_to (work_of t.plan t.jobs) t.limit a))
+
+abbrev pub RunsAreTheMachines : {S : Type 0} → Ways S → Type 0
+RunsAreTheMachines {S} ways = (w : TheWorld) (t : Task) (s b : Moment S) (part : Part) (a : Alone) → ShowsAlone w s.run a
+    → HasFew t.plan.ends.items → AreSilent t.plan.ends.items s.ticket.words → part.end ≢ Told → (h : CoreRan ways t s part b)
+    → WentAsMachine w t a part h.middle.run b.run
+
+-- ---- turns behind those that are counted
+
+abbrev pub EachDesk : (Desk → Type 0) → List Desk → Type 0
+EachDesk Holds [] = Unit {0}
+EachDesk Holds (d ∷ desks) = Holds d × EachDesk Holds desks
+
+abbrev pub IsClear : Desk → Type 0
+IsClear d = is_clear (Some d) ≡ true
+
+-- not more is handled than is to be, as it is behind an honest report
+abbrev pub HasNoMore : Desk → Type 0
+HasNoMore d = length d.handled ≤ d.due
+
+-- where each desk is clear, and none has more handled afterwards than is to be, they change no desk: what is told of calls is what the counted turns come to
+abbrev pub LaterTurnsChangeNothing : Type 0
+LaterTurnsChangeNothing = (p : Work) (a : Alone) (n : ℕ) → EachDesk IsClear a.desks → EachDesk HasNoMore (turned p n a).desks → (turned p n a).desks ≡ a.desks

@@ -1,7 +1,7 @@
 //! What is promised of the run of one core by itself: laws, as the contracts of functions that do nothing.
 
 ghost use Rattle.fl_running.specs.Run.{ways};
-ghost use Rattle.fl_alone.specs.Laws.{CallsAreTheMachines, RulesAreTheMachines, WritesAreTheMachines, TurnsAreTheMachines, RoundsAreTheMachines, CountsAreTheMachines};
+ghost use Rattle.fl_alone.specs.Laws.{CallsAreTheMachines, RulesAreTheMachines, WritesAreTheMachines, TurnsAreTheMachines, RoundsAreTheMachines, CountsAreTheMachines, RunsAreTheMachines, LaterTurnsChangeNothing};
 
 use fl_link::{PutSide, TakeSide};
 use fl_worlds::steps_agree;
@@ -25,9 +25,16 @@ pub fn turns_are_the_machines<S: PutSide + TakeSide>()
 }
 
 /// The counted turns of such a core end at the first number at which the machine's state and the desks show
-/// that nothing is left to do, or at the limit.
+/// that nothing is left to do, or at the limit. In the end it shows what so many turns more come to.
 pub fn runs_are_the_machines<S: PutSide + TakeSide>()
     ensures counts { CountsAreTheMachines (ways S.puts S.takes S.front) }
+    ensures runs { RunsAreTheMachines (ways S.puts S.takes S.front) }
 {
     steps_agree();
 }
+
+/// Turns behind those that are counted change no desk, where each was clear, and none has more handled in
+/// the end than is to be.
+pub fn later_turns_change_nothing()
+    ensures nothing { LaterTurnsChangeNothing }
+{}

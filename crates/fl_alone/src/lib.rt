@@ -3,4 +3,7 @@
 
 mod law;
 
-pub use law::{events_are_the_machines, runs_are_the_machines, turns_are_the_machines};
+pub use law::{
+    events_are_the_machines, later_turns_change_nothing, runs_are_the_machines,
+    turns_are_the_machines,
+};
