@@ -11,3 +11,4 @@ pub mod Rounds
 pub mod Finishing
 pub mod Counting
 pub mod Later
+pub mod Handing

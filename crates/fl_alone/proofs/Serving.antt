@@ -39,7 +39,7 @@ end_there w s a name place x at =
     let h = stands w s a name place x at in
     ap (λ o. given o false (λ (y : End). is_some y.seat)) (end_of_binding a.state name h.binding h.binding_is) ∙ ap is_some h.seat_is
 
-one_core : (c d : TheCore) (n : ℕ) → slice_get (c ∷ []) n ≡ Some d → d ≡ c
+pub one_core : (c d : TheCore) (n : ℕ) → slice_get (c ∷ []) n ≡ Some d → d ≡ c
 one_core c d zero q = cc
 one_core c d (suc n) q = absurd (cc)
 

@@ -13,7 +13,7 @@ use Rattle.fl_node.specs.View.{TheCore, place_of, side_of_link, outlet_by, outle
 use Rattle.fl_monitor.specs.Routing.{given as given_at}
 use Rattle.fl_queues.specs.Given.{given}
 use Rattle.fl_queues.specs.Rings.{RingEnd}
-use Rattle.fl_queues.specs.State.{Back, local, over_ring, over_route, State, own_ring}
+use Rattle.fl_queues.specs.State.{Back, local, over_ring, over_route, Binding, State, binding_of, own_ring}
 use Rattle.fl_shows.proofs.Tests.{lt_true}
 use Rattle.fl_worlds.specs.View.{TheWorld, nowhere, made, spot_at, spot_of, core_in}
 use Rattle.fl_worlds.specs.Picture.{IsWire, IsPicture, Shows}
@@ -48,7 +48,7 @@ pub record Queued (w : TheWorld) (s : State) (e : EndId) (place : ℕ) (h : Stan
   pub from : ℕ
   pub wire : h.port.wire ≡ Queues out from
 
-no_lane : (lanes : List Lane) (l m : ℕ) → lanes ≡ [] → side_of_link lanes l ≡ Some m → ⊥
+pub no_lane : (lanes : List Lane) (l m : ℕ) → lanes ≡ [] → side_of_link lanes l ≡ Some m → ⊥
 no_lane lanes l m q r =
     let none : None ≡ Some m = ap (λ (ls : List Lane). side_of_link ls l) (sym q) ∙ r in
     cc
@@ -59,18 +59,18 @@ own_back s e (over_ring n) at q = (n, refl)
 own_back s e (over_route route) at q = absurd (cc)
 
 -- no ring is there
-no_own_ring : (w : TheWorld) (s : State) (e : EndId) (place : ℕ) (h : Stands w s e 0 place) (at : RingEnd) → Shows w s → w.rings ≡ []
-    → own_ring e.side h.binding.back ≡ Some at → ⊥
-no_own_ring w s e place h at shown none q =
-    let back = own_back s e h.binding.back at q in
-    let ring = own_ring_there s e h.binding back.0 shown.sound.ends h.binding_is back.1 in
+pub no_ring_end : (w : TheWorld) (s : State) (e : EndId) (b : Binding) (at : RingEnd) → Shows w s → w.rings ≡ [] → binding_of s e ≡ Some b
+    → own_ring e.side b.back ≡ Some at → ⊥
+no_ring_end w s e b at shown none is q =
+    let back = own_back s e b.back at q in
+    let ring = own_ring_there s e b back.0 shown.sound.ends is back.1 in
     let there = gets s.rings w.rings back.0 ring.0 shown.picture.rings.count ring.1 in
     not_both (slice_get w.rings back.0) there.0 (ap (λ rs. slice_get rs back.0) none) there.1
 
 by_wire : (w : TheWorld) (s : State) (e : EndId) (place : ℕ) (h : Stands w s e 0 place) (wire : Wire) → Shows w s → w.rings ≡ [] → h.core.lanes ≡ []
     → h.port.wire ≡ wire → IsWire w h.core s e h.binding wire → Queued w s e place h
 by_wire w s e place h (Queues out from) shown none lanes q wired = record { out = out; from = from; wire = q }
-by_wire w s e place h (OverRing m) shown none lanes q wired = absurd (no_own_ring w s e place h wired.0 shown none wired.1)
+by_wire w s e place h (OverRing m) shown none lanes q wired = absurd (no_ring_end w s e h.binding wired.0 shown none h.binding_is wired.1)
 by_wire w s e place h (Circuit link arrivals) shown none lanes q wired = absurd (no_lane h.core.lanes link.0 wired.0.0 lanes wired.0.1)
 
 some_core : (c d : TheCore) → Some c ≡ Some d → c ≡ d

@@ -2,3 +2,4 @@
 pub mod Turns
 pub mod Shown
 pub mod Laws
+pub mod Handed

@@ -2,7 +2,8 @@
 use Rattle.std.specs.Prelude.{ℕ, ◌≡◌, ◌<◌, nat_lt, true, false, List, [], ◌∷◌, map, length, slice_get, Some}
 use Rattle.fl_base.specs.declared.identity.EndId.{EndId}
 use Rattle.fl_value.specs.Value.{call_of}
-use Rattle.fl_node.specs.View.{most_bindings}
+use Rattle.fl_link.specs.Queue.{TheQueue}
+use Rattle.fl_node.specs.View.{TheCore, most_bindings}
 use Rattle.fl_node.specs.Sound.{IsCore}
 use Rattle.fl_worlds.specs.View.{TheWorld}
 use Rattle.fl_worlds.specs.Picture.{Shows}
@@ -21,9 +22,13 @@ desk_of d = record { jobs = d.jobs; done = d.done; due = d.due; handled = map ca
 abbrev pub work_of : Plan → List Job → Work
 work_of plan jobs = record { ends = plan.ends.items; dispatchers = plan.dispatchers; jobs = jobs }
 
--- what a set-up made, with this core and its queues as they are now: the world of one core
+-- what a set-up made, with this core and these queues alone: a world of one core
+abbrev pub alone_with : TheWorld → TheCore → List TheQueue → TheWorld
+alone_with w k queues = record w { may_set_cores = false; cores = k ∷ []; rings = []; queues = queues }
+
+-- with the core and its queues as they are now
 abbrev pub world_with : {S : Type 0} → TheWorld → TheRun S → TheWorld
-world_with w r = record w { may_set_cores = false; cores = r.core ∷ []; rings = []; queues = r.queues }
+world_with w r = alone_with w r.core r.queues
 
 -- it is sound; with what the set-up made it is a world that shows the state; and its desks are these
 pub record ShowsAlone {S : Type 0} (w : TheWorld) (r : TheRun S) (a : Alone) : Type 0 where

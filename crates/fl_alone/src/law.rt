@@ -1,6 +1,7 @@
 //! What is promised of the run of one core by itself: laws, as the contracts of functions that do nothing.
 
 ghost use Rattle.fl_running.specs.Run.{ways};
+ghost use Rattle.fl_alone.specs.Handed.{HandedShow};
 ghost use Rattle.fl_alone.specs.Laws.{CallsAreTheMachines, RulesAreTheMachines, WritesAreTheMachines, TurnsAreTheMachines, RoundsAreTheMachines, CountsAreTheMachines, RunsAreTheMachines, LaterTurnsChangeNothing};
 
 use fl_link::{PutSide, TakeSide};
@@ -37,4 +38,9 @@ pub fn runs_are_the_machines<S: PutSide + TakeSide>()
 /// the end than is to be.
 pub fn later_turns_change_nothing()
     ensures nothing { LaterTurnsChangeNothing }
+{}
+
+/// A core that names its queues by other numbers, and has them where these say, shows what it showed.
+pub fn handed_cores_show()
+    ensures show { HandedShow }
 {}

@@ -4,6 +4,6 @@
 mod law;
 
 pub use law::{
-    events_are_the_machines, later_turns_change_nothing, runs_are_the_machines,
+    events_are_the_machines, handed_cores_show, later_turns_change_nothing, runs_are_the_machines,
     turns_are_the_machines,
 };
