@@ -35,7 +35,8 @@ core_world : {S : Type 0} (w : TheWorld) (s m : TheRun S) → m ≡ record s { c
 core_world {S} w s m h = ap (λ (x : TheRun S). world_with w x) h
 
 -- the core alone has changed; it shows what the world shows
-pub core_shown : {S : Type 0} (w : TheWorld) (s m : TheRun S) (a : Alone) (event : Event) (answer : Answer) → ShowsAlone w s a → IsCore m.core → m ≡ record s { core = m.core }
+pub core_shown : {S : Type 0} (w : TheWorld) (s m : TheRun S) (a : Alone) (event : Event) (answer : Answer) → ShowsAlone w s a → IsCore m.core
+    → m ≡ record s { core = m.core }
     → m.core.lanes ≡ s.core.lanes → StepAgrees event a.state answer (world_with w m) → ShowsAlone w m (goes event a)
 core_shown {S} w s m a event answer x core rest lanes agrees = record {
   core = core;
@@ -62,7 +63,8 @@ is_called (Err NotBound) h = refl
 is_called (Err Failed) h = refl
 is_called (Err (Wire f)) h = refl
 
-call_agrees : {S : Type 0} (law : StepsAgree) (w : TheWorld) (s m : TheRun S) (a : Alone) (name : EndId) (c : TheCall) (place : ℕ) (answer : Result (Unit {0}) EndFault)
+call_agrees : {S : Type 0} (law : StepsAgree) (w : TheWorld) (s m : TheRun S) (a : Alone) (name : EndId) (c : TheCall) (place : ℕ) (answer : Result
+    (Unit {0}) EndFault)
     → ShowsAlone w s a → IsSound s.core → IsSound m.core → place_of s.core name ≡ Some place → answer ≢ Err Memory
     → OnCore s (λ k k2. OnBoard k (λ b b2. ChangesEnd b place (λ x y. Calls x c answer y) b2) k2) m
     → StepAgrees (call name c) a.state (call_answer answer) (world_with w m)
@@ -90,7 +92,8 @@ noted_core : {S : Type 0} (name : EndId) (answer : Result (Unit {0}) EndFault) (
 noted_core name (Ok unit) m t h = same_core m t name one_more h
 noted_core {S} name (Err fault) m t h = ap (λ (r : TheRun S). r.core) h
 
-noted_shown : {S : Type 0} (w : TheWorld) (name : EndId) (place : ℕ) (answer : Result (Unit {0}) EndFault) (m t : TheRun S) (b : Alone) → place_of m.core name ≡ Some place
+noted_shown : {S : Type 0} (w : TheWorld) (name : EndId) (place : ℕ) (answer : Result (Unit {0}) EndFault) (m t : TheRun S) (b : Alone)
+    → place_of m.core name ≡ Some place
     → ShowsAlone w m b → NotesCalled name answer m t → ShowsAlone w t (call_noted name (call_answer answer) b)
 noted_shown w name place (Ok unit) m t b at x h = desk_shown w m t b name one_more advanced (is_few m.core name place at) same_advanced x h
 noted_shown {S} w name place (Err fault) m t b at x h = subst (λ (r : TheRun S). ShowsAlone w r b) (sym h) x
@@ -119,7 +122,8 @@ is_ruled : (r : Result (Unit {0}) EndFault) → IsRuled r (rule_answer r)
 is_ruled (Ok unit) = refl
 is_ruled (Err fault) = refl
 
-rule_agrees : {S : Type 0} (law : StepsAgree) (w : TheWorld) (s m : TheRun S) (a : Alone) (name : EndId) (msg answer : ℕ) (place : ℕ) (r : Result (Unit {0}) EndFault)
+rule_agrees : {S : Type 0} (law : StepsAgree) (w : TheWorld) (s m : TheRun S) (a : Alone) (name : EndId) (msg answer : ℕ) (place : ℕ) (r : Result
+    (Unit {0}) EndFault)
     → ShowsAlone w s a → IsSound s.core → IsSound m.core → place_of s.core name ≡ Some place
     → OnCore s (λ k k2. OnBoard k (λ b b2. ChangesEnd b place (λ x y. SetsRule x msg answer r y) b2) k2) m
     → StepAgrees (reply name msg answer) a.state (rule_answer r) (world_with w m)

@@ -1,5 +1,6 @@
 -- The counted turns of a core by itself: they end at the first number at which nothing is left to do, or at the limit.
-use Rattle.std.proofs.Common.{◌≡◌, ◌≢◌, ◌⊎◌, inl, inr, refl, sym, ◌∙◌, ap, subst, ℕ, zero, suc, ◌+◌, ◌<◌, ◌≤◌, nat_lt, Bool, true, false, if◌then◌else◌, List, length, slice_get, slice_set, Some, arith}
+use Rattle.std.proofs.Common.{◌≡◌, ◌≢◌, ◌⊎◌, inl, inr, refl, sym, ◌∙◌, ap, subst, ℕ, zero, suc, ◌+◌, ◌<◌, ◌≤◌, nat_lt, Bool, true, false}
+use Rattle.std.proofs.Common.{if◌then◌else◌, List, length, slice_get, slice_set, Some, arith}
 use Rattle.fl_base.specs.declared.identity.EndId.{EndId}
 use Rattle.fl_hop.proofs.Lists.{within, set_same}
 use Rattle.fl_shows.proofs.Tests.{true_lt, false_lt}
@@ -31,14 +32,16 @@ word_stays s ends k a b silent x =
     let after : Exchanges s x.name Silent a.seat x.after b.seat = subst (λ v. Exchanges s x.name v a.seat x.after b.seat) word x.exchanges in
     x.rest ∙ ap (slice_set a.words k) after.0 ∙ set_same a.words k Silent is
 
-words_stay : {S : Type 0} (s : TheRun S) (ends : List EndId) (n : ℕ) (a b : Stock) → AreSilent ends a.words → Swept (ExchangesAt s ends) n a b → b.words ≡ a.words
+words_stay : {S : Type 0} (s : TheRun S) (ends : List EndId) (n : ℕ) (a b : Stock) → AreSilent ends a.words → Swept (ExchangesAt s ends) n a b
+    → b.words ≡ a.words
 words_stay s ends zero a b silent u = ap (λ (c : Stock). c.words) u
 words_stay s ends (suc n) a b silent (m, before, step) =
     let one = words_stay s ends n a m silent before in
     word_stays s ends n m b (subst (AreSilent ends) (sym one) silent) step ∙ one
 
 -- whether anything is left, as the core takes stock
-taken : {S : Type 0} (w : TheWorld) (plan : Plan) (jobs : List Job) (s : Moment S) (c : Stock) (a : Alone) (finished : Bool) → ShowsAlone w s.run a → HasFew plan.ends.items
+taken : {S : Type 0} (w : TheWorld) (plan : Plan) (jobs : List Job) (s : Moment S) (c : Stock) (a : Alone) (finished : Bool) → ShowsAlone w s.run a
+    → HasFew plan.ends.items
     → AreSilent plan.ends.items s.ticket.words → TakesStock plan s c finished → (is_finished (work_of plan jobs) a ≡ finished) × (c.words ≡ s.ticket.words)
 taken w plan jobs s c a finished x few silent takes =
     let words = words_stay s.run plan.ends.items (length plan.ends.items) s.ticket c silent takes.0 in
@@ -69,8 +72,10 @@ turn_by_turn {S} ways law w t s m a (suc n) x few silent (b, before, step) =
       before = λ k less. by k (nat_lt k n) less refl one.before left.0;
     }
   where
-    by : (k : ℕ) (b : Bool) → k < suc n → nat_lt k n ≡ b → ((j : ℕ) → j < n → is_finished (work_of t.plan t.jobs) (turned (work_of t.plan t.jobs) j a) ≡ false)
-        → is_finished (work_of t.plan t.jobs) (turned (work_of t.plan t.jobs) n a) ≡ false → is_finished (work_of t.plan t.jobs) (turned (work_of t.plan t.jobs) k a) ≡ false
+    by : (k : ℕ) (b : Bool) → k < suc n → nat_lt k n ≡ b → ((j : ℕ) → j < n → is_finished (work_of t.plan t.jobs) (turned
+        (work_of t.plan t.jobs) j a) ≡ false)
+        → is_finished (work_of t.plan t.jobs) (turned (work_of t.plan t.jobs) n a) ≡ false → is_finished (work_of t.plan t.jobs) (turned
+        (work_of t.plan t.jobs) k a) ≡ false
     by k true less q all last = all k (true_lt k n q)
     by k false less q all last =
         let past = false_lt k n q in
@@ -121,9 +126,11 @@ ends_so w t s a part m c Told few silent x is not_told u = absurd (not_told refl
 pub counts_are : {S : Type 0} (ways : Ways S) → StepsAgree → CountsAreTheMachines ways
 counts_are {S} ways law w t s b part a x few silent not_told h =
     let came = turn_by_turn ways law w t s h.after a part.turns x few silent h.turns in
-    let ended = ends_so w t s a part h.after b.ticket part.end few (subst (AreSilent t.plan.ends.items) (sym came.words) silent) came.shows refl not_told h.ends in
+    let ended = ends_so w t s a part h.after b.ticket part.end few (subst (AreSilent t.plan.ends.items)
+    (sym came.words) silent) came.shows refl not_told h.ends in
     let many : counted (work_of t.plan t.jobs) t.limit a ≡ part.turns
-    = first_is (work_of t.plan t.jobs) a 0 t.limit part.turns (omega arith) (let few_turns = h.few in omega (arith, few_turns)) came.before (from_limit ended.last) in
+    = first_is (work_of t.plan t.jobs) a 0 t.limit part.turns (omega arith) (let few_turns = h.few in omega (arith, few_turns)) came.before
+    (from_limit ended.last) in
     record {
       turns = sym many;
       shows = subst (λ n. ShowsAlone w b.run (turned (work_of t.plan t.jobs) n a)) (sym many)
@@ -140,8 +147,19 @@ runs_are {S} ways law w t s b part a x few silent not_told h =
     let one = counts_are ways law w t s h.middle part a x few silent not_told h.counted in
     by one part.end refl h.goes_on
   where
-    by : (one : RanAsMachine w t a part h.middle.run) (end : End) → part.end ≡ end → GoesOn ways t end h.middle.run b.run → WentAsMachine w t a part h.middle.run b.run
+    by : (one : RanAsMachine w t a part h.middle.run) (end : End) → part.end ≡ end → GoesOn ways t end h.middle.run b.run
+        → WentAsMachine w t a part h.middle.run b.run
     by one Finished is (more, turns) =
-        record { ran = one; more = more; shows = rounds_are ways law w t.plan t.jobs more h.middle.run b.run (ran (work_of t.plan t.jobs) t.limit a) one.shows turns }
-    by one Unfinished is same = record { ran = one; more = 0; shows = subst (λ (r : TheRun S). ShowsAlone w r (ran (work_of t.plan t.jobs) t.limit a)) (sym same) one.shows }
+        record {
+          ran = one;
+          more = more;
+          shows = rounds_are ways law w t.plan t.jobs more h.middle.run b.run (ran
+              (work_of t.plan t.jobs) t.limit a) one.shows turns;
+        }
+    by one Unfinished is same = record {
+      ran = one;
+      more = 0;
+      shows = subst (λ (r : TheRun S). ShowsAlone w r (ran
+          (work_of t.plan t.jobs) t.limit a)) (sym same) one.shows;
+    }
     by one Told is same = absurd (not_told is)

@@ -1,5 +1,6 @@
 -- Desks of a core, and the desks that they show.
-use Rattle.std.proofs.Common.{◌≡◌, refl, sym, ◌∙◌, ap, subst, ℕ, zero, suc, nat_lt, Bool, true, false, if◌then◌else◌, List, [], ◌∷◌, ◌++◌, length, map, slice_get, slice_set, Option, Some, None}
+use Rattle.std.proofs.Common.{◌≡◌, refl, sym, ◌∙◌, ap, subst, ℕ, zero, suc, nat_lt, Bool, true, false, if◌then◌else◌, List, [], ◌∷◌, ◌++◌, length}
+use Rattle.std.proofs.Common.{map, slice_get, slice_set, Option, Some, None}
 use Rattle.fl_base.specs.declared.identity.EndId.{EndId}
 use Rattle.fl_value.specs.declared.value.Call.{Call}
 use Rattle.fl_value.specs.Value.{call_of}
@@ -91,10 +92,12 @@ same_job {S} jobs r a e shown few = by (nat_lt (slot_of e) (length r.desks)) ref
     by : (b : Bool) → nat_lt (slot_of e) (length r.desks) ≡ b → job_there jobs r e ≡ next_job jobs a e
     by true q =
         let d = at_within r.desks (slot_of e) (true_lt (slot_of e) (length r.desks) q) in
-        let here : slice_get a.desks (slot_of e) ≡ Some (desk_of d.0) = ap (λ ds. slice_get ds (slot_of e)) shown ∙ get_some desk_of r.desks (slot_of e) d.0 d.1 in
+        let here : slice_get a.desks (slot_of e) ≡ Some (desk_of d.0) = ap (λ ds. slice_get ds (slot_of e)) shown
+        ∙ get_some desk_of r.desks (slot_of e) d.0 d.1 in
         there true q ∙ ap (job_in jobs) d.1 ∙ two_given (slice_get d.0.jobs d.0.done) (slice_get jobs) ∙ sym (ap (shown_in jobs) here)
     by false q =
-        let none : slice_get a.desks (slot_of e) ≡ None = ap (λ ds. slice_get ds (slot_of e)) shown ∙ get_none desk_of r.desks (slot_of e) (past r.desks (slot_of e) q) in
+        let none : slice_get a.desks (slot_of e) ≡ None = ap (λ ds. slice_get ds (slot_of e)) shown
+        ∙ get_none desk_of r.desks (slot_of e) (past r.desks (slot_of e) q) in
         there false q ∙ sym (ap (shown_in jobs) none)
 
 -- ---- a desk changes
@@ -119,7 +122,8 @@ desk_shown {S} w m t a name change shown few same x at = record {
     changed : (b : Bool) → nat_lt (slot_of name) (length m.desks) ≡ b → ChangesIf (if b then Some (slot_of name) else None) m.desks change t.desks
     changed b q = subst (λ o. ChangesIf o m.desks change t.desks) (desk_is m.desks name b few q) at.changes
 
-    here : (o : Option Desk) → slice_get a.desks (slot_of name) ≡ o → changed_at (slot_of name) shown a.desks ≡ given o a.desks (λ d. slice_set a.desks (slot_of name) (shown d))
+    here : (o : Option Desk) → slice_get a.desks (slot_of name) ≡ o
+        → changed_at (slot_of name) shown a.desks ≡ given o a.desks (λ d. slice_set a.desks (slot_of name) (shown d))
     here o q = ap (λ p. given p a.desks (λ d. slice_set a.desks (slot_of name) (shown d))) q
 
     by : (b : Bool) → nat_lt (slot_of name) (length m.desks) ≡ b → changed_at (slot_of name) shown a.desks ≡ map desk_of t.desks

@@ -1,5 +1,6 @@
 -- Which end is due at a dispatcher of a core by itself, and its turn.
-use Rattle.std.proofs.Common.{◌≡◌, refl, sym, ◌∙◌, ap, subst, ℕ, zero, suc, Bool, true, false, if◌then◌else◌, List, [], ◌∷◌, length, map, slice_get, Option, Some, None}
+use Rattle.std.proofs.Common.{◌≡◌, refl, sym, ◌∙◌, ap, subst, ℕ, zero, suc, Bool, true, false, if◌then◌else◌, List, [], ◌∷◌, length, map, slice_get}
+use Rattle.std.proofs.Common.{Option, Some, None}
 use Rattle.fl_base.specs.declared.identity.EndId.{EndId}
 use Rattle.fl_lists.specs.ThreeLists.{ThreeLists}
 use Rattle.fl_waitset.specs.Waiting.{next_pick, first_of}
@@ -73,7 +74,8 @@ abbrev pub SameDue : TheCore → Option ℕ → Option EndId → Type 0
 SameDue c None o = o ≡ None
 SameDue c (Some place) o = (e : EndId) × (o ≡ Some e) × (place_of c e ≡ Some place)
 
-by_channel : (c : TheCore) (there : TheDispatcher) (x : Dispatcher) (n : ℕ) → IsCore c → DispatcherShows c x there → SameDue c (slice_get there.ends n) (slice_get x.ends n)
+by_channel : (c : TheCore) (there : TheDispatcher) (x : Dispatcher) (n : ℕ) → IsCore c → DispatcherShows c x there
+    → SameDue c (slice_get there.ends n) (slice_get x.ends n)
 by_channel c there x n is shown = by (slice_get there.ends n) refl
   where
     by : (o : Option ℕ) → slice_get there.ends n ≡ o → SameDue c o (slice_get x.ends n)
@@ -127,12 +129,14 @@ same_before (Some (job.Call e c)) = refl
 no_turn : {S : Type 0} (ways : Ways S) (jobs : List Job) (s t : TheRun S) (d : ℕ) → due_on s.core.board d ≡ None → TakesTurn ways jobs d s t → t ≡ s
 no_turn {S} ways jobs s t d none u =
     subst (λ o. TurnsAt ways jobs d o s t)
-    (ap (λ o. given_at o None λ e. given_at (inlet_of s.core e) None λ from. if lends_in s from then Some (record { end = e; inlet = from }) else None) none) u
+    (ap (λ o. given_at o None λ e. given_at (inlet_of s.core e) None λ from. if lends_in s from then Some
+    (record { end = e; inlet = from }) else None) none) u
 
 due_lent : {S : Type 0} (s : TheRun S) (d : ℕ) (name : EndId) (place : ℕ) (k : Wired s name place) → due_on s.core.board d ≡ Some place
     → lent_due s d ≡ Some (record { end = place; inlet = inlet.Queue k.from })
 due_lent s d name place k q =
-    ap (λ (o : Option ℕ). given_at o None λ n. given_at (inlet_of s.core n) None λ from. if lends_in s from then Some (record { end = n; inlet = from }) else None) q
+    ap (λ (o : Option ℕ). given_at o None λ n. given_at (inlet_of s.core n) None λ from. if lends_in s from then Some
+    (record { end = n; inlet = from }) else None) q
     ∙ ap (λ (o : Option Inlet). given_at o None λ from. if lends_in s from then Some (record { end = place; inlet = from }) else None) k.inlet_is
     ∙ ap (λ b. if b then Some (record { end = place; inlet = inlet.Queue k.from }) else None) k.from_there
 
@@ -151,7 +155,8 @@ turn_here {S} ways law w jobs s t a d name place x due_is at u =
     (subst (λ n. TurnsIf ways (awaits jobs s v.0) d n (record { end = place; inlet = inlet.Queue k.from }) s t) one v.2) in
     by k (is_before_calls (next_job jobs a name)) y
   where
-    by : (k : Wired s name place) (b : Bool) → TurnsIf ways b d name (record { end = place; inlet = inlet.Queue k.from }) s t → ShowsAlone w t (if b then a else turns_at d a)
+    by : (k : Wired s name place) (b : Bool) → TurnsIf ways b d name (record { end = place; inlet = inlet.Queue k.from }) s t
+        → ShowsAlone w t (if b then a else turns_at d a)
     by k true v = subst (λ (r : TheRun S). ShowsAlone w r a) (sym v) x
     by k false v = (turn_steps ways law w s t a d name place v.0 k x at v.1).shows
 

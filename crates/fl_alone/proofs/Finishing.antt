@@ -1,5 +1,6 @@
 -- Whether anything is left to do at a core by itself is seen in the machine's state and the desks.
-use Rattle.std.proofs.Common.{◌≡◌, refl, sym, ◌∙◌, ap, ℕ, zero, suc, ◌&&◌, ◌==◌, not, nat_lt, Bool, true, false, if◌then◌else◌, List, [], ◌∷◌, length, map, slice_get, Option, Some, None, is_some}
+use Rattle.std.proofs.Common.{◌≡◌, refl, sym, ◌∙◌, ap, ℕ, zero, suc, ◌&&◌, ◌==◌, not, nat_lt, Bool, true, false, if◌then◌else◌, List, [], ◌∷◌}
+use Rattle.std.proofs.Common.{length, map, slice_get, Option, Some, None, is_some}
 use Rattle.fl_base.specs.declared.fragment.Frag.{Frag}
 use Rattle.fl_base.specs.declared.identity.EndId.{EndId}
 use Rattle.fl_base.specs.Ends.{other}
@@ -54,14 +55,16 @@ rests_here w r a e place x at =
     let core : r.core ≡ h.core = cc in
     let seat : slice_get r.core.board.seats place ≡ Some h.at = ap (λ (c : TheCore). slice_get c.board.seats place) core ∙ h.at_is in
     let found : is_still a.state e ≡ (is_bound (end_in e.side h.binding) && not (is_busy h.interface (end_in e.side h.binding).out))
-    = ap (λ (o : Option Binding). given o true λ b. given (interface_of a.state b) true λ i. is_bound (end_in e.side b) && not (is_busy i (end_in e.side b).out)) h.binding_is
+    = ap (λ (o : Option Binding). given o true λ b. given (interface_of a.state b) true λ i. is_bound (end_in e.side b) && not (is_busy i
+    (end_in e.side b).out)) h.binding_is
     ∙ ap (λ (o : Option Planned). given o true λ i. is_bound (end_in e.side h.binding) && not (is_busy i (end_in e.side h.binding).out)) h.interface_is in
     ap (λ o. given_at o true λ n. given_at (slice_get r.core.board.seats n) true λ (s : TheSeat). is_still_end s.end) at
     ∙ ap (λ o. given_at o true λ (s : TheSeat). is_still_end s.end) seat
     ∙ still_same h.interface (end_in e.side h.binding) (end_in (other e.side) h.binding).out h.at.end h.shows
     ∙ sym found
 
-rests : {S : Type 0} (w : TheWorld) (r : TheRun S) (a : Alone) (e : EndId) → ShowsAlone w r a → is_at_rest r.core e ≡ (if is_there a.state e then is_still a.state e else true)
+rests : {S : Type 0} (w : TheWorld) (r : TheRun S) (a : Alone) (e : EndId) → ShowsAlone w r a
+    → is_at_rest r.core e ≡ (if is_there a.state e then is_still a.state e else true)
 rests w r a e x = by (place_of r.core e) refl
   where
     by : (o : Option ℕ) → place_of r.core e ≡ o → is_at_rest r.core e ≡ (if is_there a.state e then is_still a.state e else true)
@@ -79,7 +82,8 @@ long_map f (x ∷ xs) = ap suc (long_map f xs)
 clear_same : (d : TheDesk) → is_clear_desk d ≡ is_clear (Some (desk_of d))
 clear_same d = ap (λ n. (d.done == length d.jobs) && (n == d.due)) (sym (long_map call_of d.handled))
 
-clear : {S : Type 0} (w : TheWorld) (r : TheRun S) (a : Alone) (e : EndId) → ShowsAlone w r a → nat_lt e.binding most_bindings ≡ true → is_desk_clear r e ≡ is_clear (desk_at a e)
+clear : {S : Type 0} (w : TheWorld) (r : TheRun S) (a : Alone) (e : EndId) → ShowsAlone w r a → nat_lt e.binding most_bindings ≡ true
+    → is_desk_clear r e ≡ is_clear (desk_at a e)
 clear w r a e x few = by (nat_lt (slot_of e) (length r.desks)) refl
   where
     there : (b : Bool) → nat_lt (slot_of e) (length r.desks) ≡ b
@@ -89,20 +93,24 @@ clear w r a e x few = by (nat_lt (slot_of e) (length r.desks)) refl
     by : (b : Bool) → nat_lt (slot_of e) (length r.desks) ≡ b → is_desk_clear r e ≡ is_clear (desk_at a e)
     by true q =
         let d = at_within r.desks (slot_of e) (true_lt (slot_of e) (length r.desks) q) in
-        let here : slice_get a.desks (slot_of e) ≡ Some (desk_of d.0) = ap (λ ds. slice_get ds (slot_of e)) x.desks ∙ get_some desk_of r.desks (slot_of e) d.0 d.1 in
+        let here : slice_get a.desks (slot_of e) ≡ Some (desk_of d.0) = ap (λ ds. slice_get ds (slot_of e)) x.desks
+        ∙ get_some desk_of r.desks (slot_of e) d.0 d.1 in
         there true q ∙ ap (λ o. given_at o true is_clear_desk) d.1 ∙ clear_same d.0 ∙ sym (ap is_clear here)
     by false q =
-        let none : slice_get a.desks (slot_of e) ≡ None = ap (λ ds. slice_get ds (slot_of e)) x.desks ∙ get_none desk_of r.desks (slot_of e) (past r.desks (slot_of e) q) in
+        let none : slice_get a.desks (slot_of e) ≡ None = ap (λ ds. slice_get ds (slot_of e)) x.desks
+        ∙ get_none desk_of r.desks (slot_of e) (past r.desks (slot_of e) q) in
         there false q ∙ sym (ap is_clear none)
 
 -- ---- all ends
 
-done_same : {S : Type 0} (w : TheWorld) (r : TheRun S) (a : Alone) (e : EndId) → ShowsAlone w r a → nat_lt e.binding most_bindings ≡ true → done_at r e Silent ≡ is_done_at a e
+done_same : {S : Type 0} (w : TheWorld) (r : TheRun S) (a : Alone) (e : EndId) → ShowsAlone w r a → nat_lt e.binding most_bindings ≡ true
+    → done_at r e Silent ≡ is_done_at a e
 done_same w r a e x few =
     ap (λ b. b && is_at_rest r.core e) (clear w r a e x few)
     ∙ ap (λ b. is_clear (desk_at a e) && b) (rests w r a e x)
 
-pub all_same : {S : Type 0} (w : TheWorld) (r : TheRun S) (a : Alone) (ends : List EndId) (words : List Word) (n : ℕ) → ShowsAlone w r a → HasFew ends → AreSilent ends words
+pub all_same : {S : Type 0} (w : TheWorld) (r : TheRun S) (a : Alone) (ends : List EndId) (words : List Word) (n : ℕ) → ShowsAlone w r a
+    → HasFew ends → AreSilent ends words
     → all_done r ends words n ≡ are_done a ends n
 all_same w r a ends words zero x few silent = refl
 all_same w r a ends words (suc n) x few silent =

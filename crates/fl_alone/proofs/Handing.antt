@@ -18,7 +18,8 @@ use Rattle.fl_queues.specs.Waits.{Dispatcher}
 use Rattle.fl_queues.specs.Monitors.{Core}
 use Rattle.fl_queues.specs.State.{Binding, State, binding_of, interface_of, end_in}
 use Rattle.fl_worlds.specs.View.{TheWorld}
-use Rattle.fl_worlds.specs.Picture.{lane_of, name_at, DispatcherShows, CoreShows, CoresShow, TakesFrom, wire_of, IsWire, IsMade, SitsAt, EndsShow, BindingsShow, RingsShow, IsPicture, Shows}
+use Rattle.fl_worlds.specs.Picture.{lane_of, name_at, DispatcherShows, CoreShows, CoresShow, TakesFrom, wire_of, IsWire, IsMade, SitsAt, EndsShow}
+use Rattle.fl_worlds.specs.Picture.{BindingsShow, RingsShow, IsPicture, Shows}
 use Rattle.fl_worlds.proofs.FramesBase.{same_some}
 use Rattle.fl_alone.specs.Shown.{alone_with}
 use Rattle.fl_alone.specs.Handed.{NamesQueue, AreHanded, HandedShow}
@@ -44,10 +45,12 @@ module _ (sides numbers : List ℕ) (k : TheCore) where
           ∙ sym (ap (λ o. given o None λ (x : Port). Some x.name) q)
 
 -- the wire of an end, by how it was
-moved_some : (sides numbers : List ℕ) (k : TheCore) (e : EndId) (v : Wire) → wire_of k e ≡ Some v → wire_of (renumbered sides numbers k) e ≡ Some (moved_wire sides numbers v)
+moved_some : (sides numbers : List ℕ) (k : TheCore) (e : EndId) (v : Wire) → wire_of k e ≡ Some v
+    → wire_of (renumbered sides numbers k) e ≡ Some (moved_wire sides numbers v)
 moved_some sides numbers k e v q = by (place_of k e) refl
   where
-    at : (place : ℕ) → place_of k e ≡ Some place → (o : Option Port) → slice_get k.ports place ≡ o → wire_of (renumbered sides numbers k) e ≡ Some (moved_wire sides numbers v)
+    at : (place : ℕ) → place_of k e ≡ Some place → (o : Option Port) → slice_get k.ports place ≡ o
+        → wire_of (renumbered sides numbers k) e ≡ Some (moved_wire sides numbers v)
     at place there None r =
         let none : wire_of k e ≡ None
         = ap (λ o. given o None λ n. given (slice_get k.ports n) None λ (x : Port). Some x.wire) there ∙ ap (λ o. given o None λ (x : Port). Some x.wire) r in
@@ -82,7 +85,8 @@ moved_back sides numbers k e v q = by (wire_of k e) refl
             ∙ ap (λ o. given o None λ (x : Port). Some x.wire) (get_none (moved_port sides numbers) k.ports place r)
         port place at (Some p) r =
             let was : wire_of k e ≡ Some p.wire
-            = ap (λ o. given o None λ n. given (slice_get k.ports n) None λ (x : Port). Some x.wire) at ∙ ap (λ o. given o None λ (x : Port). Some x.wire) r in
+            = ap (λ o. given o None λ n. given (slice_get k.ports n) None λ (x : Port). Some x.wire) at
+            ∙ ap (λ o. given o None λ (x : Port). Some x.wire) r in
             let both : None ≡ Some p.wire = sym w ∙ was in
             absurd (cc)
 
@@ -96,13 +100,18 @@ moved_back sides numbers k e v q = by (wire_of k e) refl
 
 -- ---- the parts of the picture
 
-module _ (w : TheWorld) (k : TheCore) (sides numbers : List ℕ) (queues : List TheQueue) (s : State) (shown : Shows w s) (cores : w.cores ≡ k ∷ []) (none : w.rings ≡ [])
+module _ (w : TheWorld) (k : TheCore) (sides numbers : List ℕ) (queues : List TheQueue) (s : State) (shown : Shows w s) (cores : w.cores ≡ k ∷ [])
+    (none : w.rings ≡ [])
     (lanes : k.lanes ≡ []) (h : AreHanded w k numbers queues) where
   core_there : slice_get w.cores 0 ≡ Some k
   core_there = ap (λ cs. slice_get cs 0) cores
 
   dispatcher_shows : (x : Dispatcher) (d : TheDispatcher) → DispatcherShows k x d → DispatcherShows (renumbered sides numbers k) x d
-  dispatcher_shows x d g = record { lists = g.lists; ends = map_same (name_at (renumbered sides numbers k)) (name_at k) d.ends (λ i place q. same_name sides numbers k place) ∙ g.ends }
+  dispatcher_shows x d g = record {
+    lists = g.lists;
+    ends = map_same (name_at (renumbered sides numbers k)) (name_at k) d.ends
+        (λ i place q. same_name sides numbers k place) ∙ g.ends;
+  }
 
   core_shows : (c : Core) → CoreShows c k → CoreShows c (renumbered sides numbers k)
   core_shows c g = record {
@@ -115,14 +124,17 @@ module _ (w : TheWorld) (k : TheCore) (sides numbers : List ℕ) (queues : List 
   -- an end that is made is wired by the queues of its new numbers
   wire_moves : (e : EndId) (b : Binding) (v : Wire) → binding_of s e ≡ Some b → wire_of k e ≡ Some v → IsWire w k s e b v
       → IsWire (alone_with w (renumbered sides numbers k) queues) (renumbered sides numbers k) s e b (moved_wire sides numbers v)
-  wire_moves e b (Queues out from) q is g =
-      (g.0, record {
-        queue = g.1.queue;
-        queue_is = g.1.queue_is;
-        there = g.1.there;
-        there_is = h.there from g.1.there (inr (e, out, is)) g.1.there_is;
-        shows = g.1.shows;
-      }, moved_some sides numbers k (peer e) (Queues from out) g.2)
+  wire_moves e b (Queues out from) q is g = (
+    g.0,
+    record {
+      queue = g.1.queue;
+      queue_is = g.1.queue_is;
+      there = g.1.there;
+      there_is = h.there from g.1.there (inr (e, out, is)) g.1.there_is;
+      shows = g.1.shows;
+    },
+    moved_some sides numbers k (peer e) (Queues from out) g.2,
+  )
   wire_moves e b (OverRing m) q is g = absurd (no_ring_end w s e b g.0 shown none q g.1)
   wire_moves e b (Circuit link arrivals) q is g = absurd (no_lane k.lanes link.0 g.0.0 lanes g.0.1)
 
@@ -134,7 +146,8 @@ module _ (w : TheWorld) (k : TheCore) (sides numbers : List ℕ) (queues : List 
       let place_is : place_of k e ≡ Some m.place = ap (λ (c : TheCore). place_of c e) (sym same) ∙ m.place_is in
       let port_is : slice_get k.ports m.place ≡ Some m.port = ap (λ (c : TheCore). slice_get c.ports m.place) (sym same) ∙ m.port_is in
       let is : wire_of k e ≡ Some m.port.wire
-      = ap (λ o. given o None λ n. given (slice_get k.ports n) None λ (x : Port). Some x.wire) place_is ∙ ap (λ o. given o None λ (x : Port). Some x.wire) port_is in
+      = ap (λ o. given o None λ n. given (slice_get k.ports n) None λ (x : Port). Some x.wire) place_is
+      ∙ ap (λ o. given o None λ (x : Port). Some x.wire) port_is in
       record {
         core = renumbered sides numbers k;
         core_is = alone_at seat.dispatcher.core m.core found;
@@ -156,7 +169,8 @@ module _ (w : TheWorld) (k : TheCore) (sides numbers : List ℕ) (queues : List 
       alone_at (suc n) c r = absurd (cc)
 
   -- two ends that take from one queue took from one before
-  both_queues : (e f : EndId) (x y q : ℕ) (u v : Wire) → wire_of k e ≡ Some u → wire_of k f ≡ Some v → moved_wire sides numbers u ≡ Queues x q → moved_wire sides numbers v ≡ Queues y q → e ≡ f
+  both_queues : (e f : EndId) (x y q : ℕ) (u v : Wire) → wire_of k e ≡ Some u → wire_of k f ≡ Some v → moved_wire sides numbers u ≡ Queues x q
+      → moved_wire sides numbers v ≡ Queues y q → e ≡ f
   both_queues e f x y q (Queues a m) (Queues b n) p r g t =
       let first : moved numbers m ≡ q = cc in
       let second : moved numbers n ≡ q = cc in
@@ -167,7 +181,8 @@ module _ (w : TheWorld) (k : TheCore) (sides numbers : List ℕ) (queues : List 
   both_queues e f x y q (OverRing l) v p r g t = absurd (cc)
   both_queues e f x y q (Circuit l i) v p r g t = absurd (cc)
 
-  apart_still : (n m : ℕ) (c d : TheCore) (e f : EndId) (x y q : ℕ) → slice_get (renumbered sides numbers k ∷ []) n ≡ Some c → slice_get (renumbered sides numbers k ∷ []) m ≡ Some d
+  apart_still : (n m : ℕ) (c d : TheCore) (e f : EndId) (x y q : ℕ) → slice_get (renumbered sides numbers k ∷ []) n ≡ Some c
+      → slice_get (renumbered sides numbers k ∷ []) m ≡ Some d
       → wire_of c e ≡ Some (Queues x q) → wire_of d f ≡ Some (Queues y q) → e ≡ f
   apart_still n m c d e f x y q p r g t =
       let one : c ≡ renumbered sides numbers k = one_core (renumbered sides numbers k) c n p in
@@ -183,7 +198,8 @@ module _ (w : TheWorld) (k : TheCore) (sides numbers : List ℕ) (queues : List 
       subst (CoreShows c) (sym same) (core_shows c (shown.picture.cores.each 0 c k p core_there))
   core_at (suc n) c d p q = absurd (cc)
 
-  only_still : (n : ℕ) (c : TheCore) (e : EndId) (place : ℕ) → slice_get (renumbered sides numbers k ∷ []) n ≡ Some c → place_of c e ≡ Some place → SitsAt s e n
+  only_still : (n : ℕ) (c : TheCore) (e : EndId) (place : ℕ) → slice_get (renumbered sides numbers k ∷ []) n ≡ Some c → place_of c e ≡ Some place
+      → SitsAt s e n
   only_still zero c e place p q =
       let same : c ≡ renumbered sides numbers k = one_core (renumbered sides numbers k) c 0 p in
       shown.picture.ends.only 0 k e place core_there (ap (λ (z : TheCore). place_of z e) (sym same) ∙ q)

@@ -87,7 +87,8 @@ end_board : (b b2 : TheBoard) (e : ℕ) (Event : TheEnd → TheEnd → Type 0) �
     → ChangesEnd b e Event b2 → IsBoard b2
 end_board b b2 e Event sound ready h =
     subst IsBoard (sym h.board)
-    (end_kept b sound e h.seat h.seat_is h.end (λ d at list registered. ready h.seat.end h.end h.event (seated_ready b sound e h.seat h.seat_is d at list registered)))
+    (end_kept b sound e h.seat h.seat_is h.end (λ d at list registered. ready h.seat.end h.end h.event
+    (seated_ready b sound e h.seat h.seat_is d at list registered)))
 
 triggered_board : (o : Option ℕ) (b b2 : TheBoard) → IsBoard b → TriggersIf o b b2 → IsBoard b2
 triggered_board None b b2 sound h = subst IsBoard (sym h) sound
@@ -98,7 +99,8 @@ triggered_board (Some e) b b2 sound h =
     (kept_triggered b b refl e (within b.seats e h.seat h.seat_is) h.seat h.seat (sym (index_there b.seats e h.seat h.seat h.seat_is)) refl sound
     h.dispatcher h.dispatcher (sym (index_there b.dispatchers h.seat.dispatcher h.dispatcher h.dispatcher h.dispatcher_is)) refl h.lists h.event apart)
 
-turned_board : (b b2 : TheBoard) (n e : ℕ) (p q : TheQueue) (answer : TurnAnswer) → IsBoard b → Turns QueueTakes n e (over b p) (Ok answer) (over b2 q) → IsBoard b2
+turned_board : (b b2 : TheBoard) (n e : ℕ) (p q : TheQueue) (answer : TurnAnswer) → IsBoard b → Turns QueueTakes n e (over b p) (Ok answer)
+    (over b2 q) → IsBoard b2
 turned_board b b2 n e p q answer sound h =
     let known = sound.dispatchers n h.dispatcher h.dispatcher_is in
     subst IsBoard (sym h.board)
@@ -107,7 +109,8 @@ turned_board b b2 n e p q answer sound h =
 
 -- ---- cores
 
-board_sound : (k k2 : TheCore) → IsSound k → k2 ≡ with_board k k2.board → IsBoard k2.board → kinds_seated k2.board.seats ≡ kinds_seated k.board.seats → IsSound k2
+board_sound : (k k2 : TheCore) → IsSound k → k2 ≡ with_board k k2.board → IsBoard k2.board
+    → kinds_seated k2.board.seats ≡ kinds_seated k.board.seats → IsSound k2
 board_sound k k2 sound rest board kinds = record {
   core = subst IsCore (sym rest) (board_kept k k2.board sound.core kinds);
   board = board;
@@ -123,7 +126,8 @@ call_keeps k k2 e c r sound h =
 pub rule_keeps : (k k2 : TheCore) (e msg answer : ℕ) (r : Result (Unit {0}) EndFault) → IsSound k
     → OnBoard k (λ b b2. ChangesEnd b e (λ x y. SetsRule x msg answer r y) b2) k2 → IsSound k2
 rule_keeps k k2 e msg answer r sound h =
-    board_sound k k2 sound h.rest (end_board k.board k2.board e (λ x y. SetsRule x msg answer r y) sound.board (λ x y event. sets_ready x y msg answer r event) h.event)
+    board_sound k k2 sound h.rest (end_board k.board k2.board e (λ x y. SetsRule x msg answer r y) sound.board
+    (λ x y event. sets_ready x y msg answer r event) h.event)
     (end_kinds k.board k2.board e (λ x y. SetsRule x msg answer r y) h.event)
 
 pub write_keeps : (k k2 : TheCore) (e : ℕ) (p q : TheQueue) (r : Result WriteAnswer EndFault) → IsSound k → WritesAt QueuePuts e k p r k2 q → IsSound k2

@@ -1,14 +1,17 @@
 -- Turns behind those that are counted: they change no desk where each was clear, and none has more handled in the end than is to be.
-use Rattle.std.proofs.Common.{◌≡◌, refl, sym, ◌∙◌, ap, subst, ℕ, zero, suc, ◌+◌, ◌≤◌, ◌==◌, ◌&&◌, ◌++◌, Bool, true, false, if◌then◌else◌, List, [], ◌∷◌, length, length-append, slice_get, slice_set, Option, Some, None, arith}
+use Rattle.std.proofs.Common.{◌≡◌, refl, sym, ◌∙◌, ap, subst, ℕ, zero, suc, ◌+◌, ◌≤◌, ◌==◌, ◌&&◌, ◌++◌, Bool, true, false, if◌then◌else◌, List, []}
+use Rattle.std.proofs.Common.{◌∷◌, length, length-append, slice_get, slice_set, Option, Some, None, arith}
 use Rattle.std.proofs.lemmas.Bool.Decides.{nat_tests}
 use Rattle.fl_base.specs.declared.identity.EndId.{EndId}
 use Rattle.fl_value.specs.Value.{TheCall}
 use Rattle.fl_node.specs.View.{slot_of}
 use Rattle.fl_queues.specs.Given.{given, changed_at}
-use Rattle.fl_queues.specs.Events.{write, turn, Answer, done, accepted, nothing, full, written, handle, part, ready, quiet, forwarded, opened, opening_refused, words, refused}
+use Rattle.fl_queues.specs.Events.{write, turn, Answer, done, accepted, nothing, full, written, handle, part, ready, quiet, forwarded, opened}
+use Rattle.fl_queues.specs.Events.{opening_refused, words, refused}
 use Rattle.fl_queues.specs.Step.{step}
 use Rattle.fl_running.specs.declared.job.Job.{Job}
-use Rattle.fl_alone.specs.Turns.{Desk, Alone, desk_at, goes, is_there, tries, serves, next_job, with_handled, turn_noted, here, due_at, is_before_calls, turns_at, takes_turn, Work, swept, serves_at, one_turn, turned, is_clear}
+use Rattle.fl_alone.specs.Turns.{Desk, Alone, desk_at, goes, is_there, tries, serves, next_job, with_handled, turn_noted, here, due_at}
+use Rattle.fl_alone.specs.Turns.{is_before_calls, turns_at, takes_turn, Work, swept, serves_at, one_turn, turned, is_clear}
 use Rattle.fl_alone.specs.Laws.{EachDesk, IsClear, HasNoMore, LaterTurnsChangeNothing}
 
 -- ---- desks that grew
@@ -135,7 +138,8 @@ turn_grows jobs d a = by (due_at a.state d) refl
     either false = noted (step a.state (turn (here d))).answer (goes (turn (here d)) a)
 
     by : (o : Option EndId) → due_at a.state d ≡ o → Grown a.desks (takes_turn jobs d a).desks
-    by None q = subst (λ o. Grown a.desks (Alone.desks (given o a λ e. if is_before_calls (next_job jobs a e) then a else turns_at d a))) (sym q) (all_stay a.desks)
+    by None q = subst (λ o. Grown a.desks (Alone.desks (given o a λ e. if is_before_calls (next_job jobs a e) then a else turns_at d a))) (sym q)
+        (all_stay a.desks)
     by (Some e) q =
         subst (λ o. Grown a.desks (Alone.desks (given o a λ f. if is_before_calls (next_job jobs a f) then a else turns_at d a))) (sym q)
         (either (is_before_calls (next_job jobs a e)))
@@ -156,11 +160,13 @@ ends_nothing p (suc n) a all =
 turns_grow : (jobs : List Job) (n : ℕ) (a : Alone) → Grown a.desks (swept (takes_turn jobs) n a).desks
 turns_grow jobs zero a = all_stay a.desks
 turns_grow jobs (suc n) a =
-    grown_on a.desks (swept (takes_turn jobs) n a).desks (takes_turn jobs n (swept (takes_turn jobs) n a)).desks (turns_grow jobs n a) (turn_grows jobs n (swept (takes_turn jobs) n a))
+    grown_on a.desks (swept (takes_turn jobs) n a).desks (takes_turn jobs n (swept (takes_turn jobs) n a)).desks (turns_grow jobs n a)
+    (turn_grows jobs n (swept (takes_turn jobs) n a))
 
 round_grows : (p : Work) (a : Alone) → AreDone a.desks → Grown a.desks (one_turn p a).desks
 round_grows p a all =
-    subst (λ ds. Grown ds (one_turn p a).desks) (ends_nothing p (length p.ends) a all) (turns_grow p.jobs p.dispatchers (swept (serves_at p) (length p.ends) a))
+    subst (λ ds. Grown ds (one_turn p a).desks) (ends_nothing p (length p.ends) a all) (turns_grow p.jobs p.dispatchers (swept (serves_at p)
+    (length p.ends) a))
 
 rounds_grow : (p : Work) (n : ℕ) (a : Alone) → AreDone a.desks → Grown a.desks (turned p n a).desks
 rounds_grow p zero a all = all_stay a.desks
@@ -174,7 +180,8 @@ rounds_grow p (suc n) a all =
 clear_parts : (d : Desk) → is_clear (Some d) ≡ true → (d.done ≡ length d.jobs) × (length d.handled ≡ d.due)
 clear_parts d h = by (d.done == length d.jobs) (length d.handled == d.due) refl refl h
   where
-    by : (a b : Bool) → (d.done == length d.jobs) ≡ a → (length d.handled == d.due) ≡ b → (a && b) ≡ true → (d.done ≡ length d.jobs) × (length d.handled ≡ d.due)
+    by : (a b : Bool) → (d.done == length d.jobs) ≡ a → (length d.handled == d.due) ≡ b → (a && b) ≡ true
+        → (d.done ≡ length d.jobs) × (length d.handled ≡ d.due)
     by true true p q r = (grind (arith, nat_tests, p), grind (arith, nat_tests, q))
     by true false p q r = absurd (cc)
     by false b p q r = absurd (cc)
@@ -199,7 +206,8 @@ one_same d e h clear few =
   where
     same_desk : (x y : Desk) → y.jobs ≡ x.jobs → y.done ≡ x.done → y.due ≡ x.due → y.handled ≡ x.handled → y.refused ≡ x.refused → y ≡ x
     same_desk x y a b c f g =
-        ap (λ js. record y { jobs = js }) a ∙ ap (λ n. record y { jobs = x.jobs; done = n }) b ∙ ap (λ n. record y { jobs = x.jobs; done = x.done; due = n }) c
+        ap (λ js. record y { jobs = js }) a ∙ ap (λ n. record y { jobs = x.jobs; done = n }) b
+        ∙ ap (λ n. record y { jobs = x.jobs; done = x.done; due = n }) c
         ∙ ap (λ cs. record y { jobs = x.jobs; done = x.done; due = x.due; handled = cs }) f
         ∙ ap (λ n. record x { refused = n }) g
 

@@ -30,30 +30,37 @@ still_swept {X} R s still (suc n) t (m, before, step) =
 no_lane : {S : Type 0} (s : TheRun S) (l : LinkId) → s.core.lanes ≡ [] → lent_lane s l ≡ None
 no_lane s l none = ap (λ ls. given_at (side_of_link ls l.0) None λ n. if nat_lt n (length s.rings) then Some n else None) none
 
-forwards_nothing : {S : Type 0} (ways : Ways S) (links : List LinkId) (s : TheRun S) → s.core.lanes ≡ [] → (n : ℕ) (t : TheRun S) → At links (Forwards ways) n s t → t ≡ s
+forwards_nothing : {S : Type 0} (ways : Ways S) (links : List LinkId) (s : TheRun S) → s.core.lanes ≡ [] → (n : ℕ) (t : TheRun S)
+    → At links (Forwards ways) n s t → t ≡ s
 forwards_nothing ways links s none n t (l, is, u) = subst (λ o. ForwardsOver ways l o s t) (no_lane s l none) u
 
-says_nothing : {S : Type 0} (ways : Ways S) (links : List LinkId) (s : TheRun S) → s.core.lanes ≡ [] → (n : ℕ) (t : TheRun S) → At links (Says ways) n s t → t ≡ s
+says_nothing : {S : Type 0} (ways : Ways S) (links : List LinkId) (s : TheRun S) → s.core.lanes ≡ [] → (n : ℕ) (t : TheRun S)
+    → At links (Says ways) n s t → t ≡ s
 says_nothing ways links s none n t (l, is, u) = subst (λ o. SaysOver ways l o s t) (no_lane s l none) u
 
-tells_nothing : {S : Type 0} (ways : Ways S) (links : List LinkId) (s : TheRun S) → s.core.lanes ≡ [] → (n : ℕ) (t : TheRun S) → At links (Tells ways) n s t → t ≡ s
+tells_nothing : {S : Type 0} (ways : Ways S) (links : List LinkId) (s : TheRun S) → s.core.lanes ≡ [] → (n : ℕ) (t : TheRun S)
+    → At links (Tells ways) n s t → t ≡ s
 tells_nothing ways links s none n t (l, is, u) = subst (λ o. TellsOver ways l o s t) (no_lane s l none) u
 
 none_below : (n : ℕ) → nat_lt n 0 ≡ false
 none_below n = lt_false n 0 (omega arith)
 
-acks_nothing : {S : Type 0} (ways : Ways S) (ends : List EndId) (s : TheRun S) → s.rings ≡ [] → (n : ℕ) (t : TheRun S) → At ends (Acknowledges ways) n s t → t ≡ s
+acks_nothing : {S : Type 0} (ways : Ways S) (ends : List EndId) (s : TheRun S) → s.rings ≡ [] → (n : ℕ) (t : TheRun S)
+    → At ends (Acknowledges ways) n s t → t ≡ s
 acks_nothing {S} ways ends s none n t (name, is, u) = by (place_of s.core name) u
   where
     over : (e n : ℕ) (b : Bool) → b ≡ false → AcksFrom ways name (if b then Some (record { end = e; side = n }) else None) s t → t ≡ s
     over e n false q v = v
     over e n true q v = absurd (cc)
 
-    by_side : (e : ℕ) (o : Option ℕ) → AcksFrom ways name (given_at o None λ m. if nat_lt m (length s.rings) then Some (record { end = e; side = m }) else None) s t → t ≡ s
+    by_side : (e : ℕ) (o : Option ℕ) → AcksFrom ways name (given_at o None λ m. if nat_lt m (length s.rings) then Some
+        (record { end = e; side = m }) else None) s t → t ≡ s
     by_side e None v = v
     by_side e (Some m) v = over e m (nat_lt m (length s.rings)) (ap (λ (rs : List S). nat_lt m (length rs)) none ∙ none_below m) v
 
-    by_inlet : (e : ℕ) (o : Option Inlet) → AcksFrom ways name (given_at o None λ from. given_at (side_in from) None λ m. if nat_lt m (length s.rings) then Some (record { end = e; side = m }) else None) s t
+    by_inlet : (e : ℕ) (o : Option Inlet)
+        → AcksFrom ways name (given_at o None λ from. given_at (side_in from) None λ m. if nat_lt m (length s.rings) then Some
+        (record { end = e; side = m }) else None) s t
         → t ≡ s
     by_inlet e None v = v
     by_inlet e (Some from) v = by_side e (side_in from) v
@@ -84,12 +91,14 @@ turns_are ways law w jobs s t a (suc n) x (m, before, step) =
 
 first_half : {S : Type 0} (ways : Ways S) (plan : Plan) (jobs : List Job) (s t : TheRun S) (h : OneTurn ways plan jobs s t) → s.core.lanes ≡ [] → h.said ≡ s
 first_half {S} ways plan jobs s t h lanes =
-    let one : h.forwarded ≡ s = still_swept (At plan.links.items (Forwards ways)) s (forwards_nothing ways plan.links.items s lanes) (length plan.links.items) h.forwarded h.forwards in
+    let one : h.forwarded ≡ s = still_swept (At plan.links.items (Forwards ways)) s (forwards_nothing ways plan.links.items s lanes)
+    (length plan.links.items) h.forwarded h.forwards in
     still_swept (At plan.links.items (Says ways)) s (says_nothing ways plan.links.items s lanes) (length plan.links.items) h.said
     (subst (λ (r : TheRun S). Swept (At plan.links.items (Says ways)) (length plan.links.items) r h.said) one h.says)
 
 -- the core behind the turns of dispatchers is the core behind the whole turn
-second_half : {S : Type 0} (ways : Ways S) (plan : Plan) (jobs : List Job) (s t : TheRun S) (h : OneTurn ways plan jobs s t) → h.turned.core.lanes ≡ [] → h.turned.rings ≡ []
+second_half : {S : Type 0} (ways : Ways S) (plan : Plan) (jobs : List Job) (s t : TheRun S) (h : OneTurn ways plan jobs s t)
+    → h.turned.core.lanes ≡ [] → h.turned.rings ≡ []
     → t ≡ h.turned
 second_half {S} ways plan jobs s t h lanes rings =
     let one : h.told ≡ h.turned

@@ -1,5 +1,6 @@
 -- What a core by itself does for an end in a turn is what the machine does: its next job, and a write.
-use Rattle.std.proofs.Common.{◌≡◌, ◌≢◌, refl, sym, ◌∙◌, ap, subst, ℕ, zero, suc, ◌&&◌, not, nat_lt, Bool, true, false, if◌then◌else◌, List, [], ◌∷◌, length, slice_get, Option, Some, None, is_some}
+use Rattle.std.proofs.Common.{◌≡◌, ◌≢◌, refl, sym, ◌∙◌, ap, subst, ℕ, zero, suc, ◌&&◌, not, nat_lt, Bool, true, false, if◌then◌else◌, List, [], ◌∷◌}
+use Rattle.std.proofs.Common.{length, slice_get, Option, Some, None, is_some}
 use Rattle.std.specs.Prelude.{Result, Err}
 use Rattle.fl_base.specs.declared.fragment.Frag.{Frag}
 use Rattle.fl_base.specs.declared.identity.EndId.{EndId}
@@ -51,7 +52,8 @@ end_seen : (o : Option End) → given o false (λ (y : End). is_some y.seat) ≡
 end_seen None q = absurd (cc)
 end_seen (Some x) q = (x, refl, q)
 
-pub end_away : {S : Type 0} (w : TheWorld) (s : TheRun S) (a : Alone) (name : EndId) → ShowsAlone w s a → place_of s.core name ≡ None → is_there a.state name ≡ false
+pub end_away : {S : Type 0} (w : TheWorld) (s : TheRun S) (a : Alone) (name : EndId) → ShowsAlone w s a → place_of s.core name ≡ None
+    → is_there a.state name ≡ false
 end_away w s a name x away = by (is_there a.state name) refl
   where
     by : (b : Bool) → is_there a.state name ≡ b → is_there a.state name ≡ false
@@ -114,7 +116,8 @@ tries_at ways law w s t a name place (Some (job.Reply f msg answer)) x at u =
 -- ---- both
 
 -- nothing happens at an end that isn't there
-away_tries : {S : Type 0} (ways : Ways S) (w : TheWorld) (s t : TheRun S) (a : Alone) (name : EndId) (o : Option Job) → ShowsAlone w s a → place_of s.core name ≡ None
+away_tries : {S : Type 0} (ways : Ways S) (w : TheWorld) (s t : TheRun S) (a : Alone) (name : EndId) (o : Option Job) → ShowsAlone w s a
+    → place_of s.core name ≡ None
     → Tries ways name o s t → t ≡ s
 away_tries ways w s t a name None x away u = u
 away_tries ways w s t a name (Some (job.Open wish)) x away u = subst (λ b. OpensIf ways b name wish s t) (asks_nothing w s a wish x) u
@@ -150,7 +153,8 @@ serves_away {S} ways w jobs s t a name x away (m, before, after) =
     by (lent_post s name) (no_post s away) there
   where
     no_post : (r : TheRun S) → place_of r.core name ≡ None → lent_post r name ≡ None
-    no_post r q = ap (λ o. given_at o None λ n. given_at (outlet_of r.core n) None λ out. if lends_out r out then Some (record { end = n; outlet = out }) else None) q
+    no_post r q = ap (λ o. given_at o None λ n. given_at (outlet_of r.core n) None λ out. if lends_out r out then Some
+        (record { end = n; outlet = out }) else None) q
 
     by : (o : _) → o ≡ None → WritesFrom ways name o s t → t ≡ s
     by None q v = v
@@ -160,7 +164,8 @@ pub serves_are : {S : Type 0} (ways : Ways S) (law : StepsAgree) (w : TheWorld) 
     → ShowsAlone w s a → Serves ways jobs name s t → ShowsAlone w t (serves jobs name a)
 serves_are {S} ways law w jobs s t a name x u = by (place_of s.core name) refl
   where
-    shown : (b : Bool) → is_there a.state name ≡ b → ShowsAlone w t (if b then goes (write name) (tries name (next_job jobs a name) a) else a) → ShowsAlone w t (serves jobs name a)
+    shown : (b : Bool) → is_there a.state name ≡ b → ShowsAlone w t (if b then goes (write name) (tries name (next_job jobs a name) a) else a)
+        → ShowsAlone w t (serves jobs name a)
     shown b q h = subst (λ c. ShowsAlone w t (if c then goes (write name) (tries name (next_job jobs a name) a) else a)) (sym q) h
 
     by : (o : Option ℕ) → place_of s.core name ≡ o → ShowsAlone w t (serves jobs name a)

@@ -76,7 +76,8 @@ by_wire w s e place h (Circuit link arrivals) shown none lanes q wired = absurd 
 some_core : (c d : TheCore) → Some c ≡ Some d → c ≡ d
 some_core c d q = cc
 
-pub queued : {S : Type 0} (w : TheWorld) (r : TheRun S) (a : Alone) (e : EndId) (place : ℕ) (x : ShowsAlone w r a) (h : Stands (world_with w r) a.state e 0 place)
+pub queued : {S : Type 0} (w : TheWorld) (r : TheRun S) (a : Alone) (e : EndId) (place : ℕ) (x : ShowsAlone w r a) (h : Stands
+    (world_with w r) a.state e 0 place)
     → Queued (world_with w r) a.state e place h
 queued w r a e place x h =
     let core : r.core ≡ h.core = some_core r.core h.core h.core_is in
@@ -93,13 +94,15 @@ pub record Wired {S : Type 0} (r : TheRun S) (e : EndId) (place : ℕ) : Type 0 
   pub out_there : nat_lt out (length r.queues) ≡ true
   pub from_there : nat_lt from (length r.queues) ≡ true
 
-pub wired : {S : Type 0} (w : TheWorld) (r : TheRun S) (a : Alone) (e : EndId) (place : ℕ) → ShowsAlone w r a → place_of r.core e ≡ Some place → Wired r e place
+pub wired : {S : Type 0} (w : TheWorld) (r : TheRun S) (a : Alone) (e : EndId) (place : ℕ) → ShowsAlone w r a → place_of r.core e ≡ Some place
+    → Wired r e place
 wired w r a e place x q =
     let h = stands w r a e place x q in
     let k = queued w r a e place x h in
     let core : r.core ≡ h.core = some_core r.core h.core h.core_is in
     let port : slice_get r.core.ports place ≡ Some h.port = ap (λ (c : TheCore). slice_get c.ports place) core ∙ h.port_is in
-    let is : IsWire (world_with w r) h.core a.state e h.binding (Queues k.out k.from) = subst (IsWire (world_with w r) h.core a.state e h.binding) k.wire h.wire in
+    let is : IsWire (world_with w r) h.core a.state e h.binding (Queues k.out k.from) = subst (IsWire
+    (world_with w r) h.core a.state e h.binding) k.wire h.wire in
     let other = peer_of (world_with w r) a.state e 0 place h k.out k.from x.shows k.wire in
     record {
       out = k.out;
@@ -113,6 +116,7 @@ wired w r a e place x q =
 pub post_lent : {S : Type 0} (r : TheRun S) (e : EndId) (place : ℕ) (k : Wired r e place) → place_of r.core e ≡ Some place
     → lent_post r e ≡ Some (record { end = place; outlet = outlet.Queue k.out })
 post_lent r e place k q =
-    ap (λ (o : Option ℕ). given_at o None λ n. given_at (outlet_of r.core n) None λ out. if lends_out r out then Some (record { end = n; outlet = out }) else None) q
+    ap (λ (o : Option ℕ). given_at o None λ n. given_at (outlet_of r.core n) None λ out. if lends_out r out then Some
+    (record { end = n; outlet = out }) else None) q
     ∙ ap (λ (o : Option Outlet). given_at o None λ out. if lends_out r out then Some (record { end = place; outlet = out }) else None) k.outlet_is
     ∙ ap (λ b. if b then Some (record { end = place; outlet = outlet.Queue k.out }) else None) k.out_there

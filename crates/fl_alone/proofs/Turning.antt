@@ -92,7 +92,8 @@ noted_core {S} name (Refused fault) m t h = ap (λ (r : TheRun S). r.core) h
 
 noted_shown : {S : Type 0} (w : TheWorld) (name : EndId) (place : ℕ) (answer : TurnAnswer) (m t : TheRun S) (b : Alone) → place_of m.core name ≡ Some place
     → ShowsAlone w m b → NotesTurned name answer m t → ShowsAlone w t (turn_noted (turn_answer name answer) b)
-noted_shown w name place (Handle c) m t b at x h = desk_shown w m t b name (and_handled c) (with_handled (call_of c)) (is_few m.core name place at) (same_handled c) x h
+noted_shown w name place (Handle c) m t b at x h = desk_shown w m t b name (and_handled c) (with_handled (call_of c)) (is_few m.core name place at)
+    (same_handled c) x h
 noted_shown {S} w name place Part m t b at x h = subst (λ (r : TheRun S). ShowsAlone w r b) (sym h) x
 noted_shown {S} w name place Ready m t b at x h = subst (λ (r : TheRun S). ShowsAlone w r b) (sym h) x
 noted_shown {S} w name place Quiet m t b at x h = subst (λ (r : TheRun S). ShowsAlone w r b) (sym h) x
@@ -100,7 +101,8 @@ noted_shown {S} w name place Full m t b at x h = subst (λ (r : TheRun S). Shows
 noted_shown {S} w name place Nothing m t b at x h = subst (λ (r : TheRun S). ShowsAlone w r b) (sym h) x
 noted_shown {S} w name place (Refused fault) m t b at x h = subst (λ (r : TheRun S). ShowsAlone w r b) (sym h) x
 
-pub turn_steps : {S : Type 0} (ways : Ways S) (law : StepsAgree) (w : TheWorld) (s t : TheRun S) (a : Alone) (d : ℕ) (name : EndId) (place : ℕ) (answer : TurnAnswer)
+pub turn_steps : {S : Type 0} (ways : Ways S) (law : StepsAgree) (w : TheWorld) (s t : TheRun S) (a : Alone) (d : ℕ) (name : EndId) (place : ℕ)
+    (answer : TurnAnswer)
     (k : Wired s name place) → ShowsAlone w s a → place_of s.core name ≡ Some place → Happens ways (turned d name (inlet.Queue k.from) answer) s t
     → TurnsAsMachine w s t a d name answer
 turn_steps {S} ways law w s t a d name place answer k x at (m, (e, found, is_due, on), notes, before, soundly) =

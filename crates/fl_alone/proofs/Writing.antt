@@ -54,7 +54,8 @@ pub wrote_world : {S : Type 0} (w : TheWorld) (s m : TheRun S) (n : ℕ) (q : Th
     → world_with w m ≡ with_queue (with_core (world_with w s) 0 m.core) n q
 wrote_world {S} w s m n q h = ap (λ (x : TheRun S). world_with w x) h
 
-pub write_steps : {S : Type 0} (ways : Ways S) (law : StepsAgree) (w : TheWorld) (s t : TheRun S) (a : Alone) (name : EndId) (place : ℕ) (answer : Result WriteAnswer EndFault)
+pub write_steps : {S : Type 0} (ways : Ways S) (law : StepsAgree) (w : TheWorld) (s t : TheRun S) (a : Alone) (name : EndId) (place : ℕ)
+    (answer : Result WriteAnswer EndFault)
     (k : Wired s name place) → ShowsAlone w s a → place_of s.core name ≡ Some place → Happens ways (wrote name (outlet.Queue k.out) answer) s t
     → WritesAsMachine w s t a name answer
 write_steps {S} ways law w s t a name place answer k x at (m, (e, found, on), same, before, soundly) =
@@ -77,7 +78,8 @@ write_steps {S} ways law w s t a name place answer k x at (m, (e, found, on), sa
     let by : WritesBy (made 0 place) (world_with w s) (write_answer answer) (world_with w m)
     = (outlet.Queue k.out, record { core = s.core; core_is = refl; outlet_is = k.outlet_is }, inl over) in
     let does : WritesFragment name (world_with w s) (write_answer answer) (world_with w m)
-    = subst (λ (spot : Spot). WritesBy spot (world_with w s) (write_answer answer) (world_with w m)) (sym (spot_is (world_with w s) a.state name 0 place h x.shows.picture)) by in
+    = subst (λ (spot : Spot). WritesBy spot (world_with w s) (write_answer answer) (world_with w m)) (sym (spot_is
+    (world_with w s) a.state name 0 place h x.shows.picture)) by in
     let steps : Steps (write name) (world_with w s) (write_answer answer) (world_with w m)
     = record { made = world_with w m; does = does; rest = sym (settled_same w m (write_answer answer)) } in
     let agrees : StepAgrees (write name) a.state (write_answer answer) (world_with w m)

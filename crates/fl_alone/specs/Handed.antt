@@ -23,5 +23,6 @@ pub record AreHanded (w : TheWorld) (k : TheCore) (numbers : List ℕ) (queues :
 
 -- the world of one core, without links and rings, whose number of cores stands, shows what it showed
 abbrev pub HandedShow : Type 0
-HandedShow = (w : TheWorld) (k : TheCore) (sides numbers : List ℕ) (queues : List TheQueue) (s : State) → Shows w s → w.cores ≡ k ∷ [] → w.rings ≡ [] → k.lanes ≡ []
+HandedShow = (w : TheWorld) (k : TheCore) (sides numbers : List ℕ) (queues : List TheQueue) (s : State) → Shows w s → w.cores ≡ k ∷ []
+    → w.rings ≡ [] → k.lanes ≡ []
     → s.may_set_cores ≡ false → AreHanded w k numbers queues → Shows (alone_with w (renumbered sides numbers k) queues) s

@@ -31,7 +31,8 @@ use Rattle.fl_alone.specs.Shown.{work_of, ShowsAlone, HasFew, AreSilent}
 -- desks are those that the definition has then. Ends stay where they are
 
 -- a call; that memory was wanted isn't an answer
-pub record CallsAsMachine {S : Type 0} (w : TheWorld) (s t : TheRun S) (a : Alone) (name : EndId) (c : TheCall) (answer : Result (Unit {0}) EndFault) : Type 0 where
+pub record CallsAsMachine {S : Type 0} (w : TheWorld) (s t : TheRun S) (a : Alone) (name : EndId) (c : TheCall) (answer : Result
+    (Unit {0}) EndFault) : Type 0 where
   pub answers : IsCalled answer (step a.state (call name c)).answer
   pub shows : ShowsAlone w t (calls name c a)
   pub places : t.core.places ≡ s.core.places
@@ -41,7 +42,8 @@ CallsAreTheMachines {S} ways = (w : TheWorld) (s t : TheRun S) (a : Alone) (name
     → ShowsAlone w s a → answer ≢ Err Memory → Happens ways (called name c answer) s t → CallsAsMachine w s t a name c answer
 
 -- a reply rule
-pub record RulesAsMachine {S : Type 0} (w : TheWorld) (s t : TheRun S) (a : Alone) (name : EndId) (msg answer : ℕ) (r : Result (Unit {0}) EndFault) : Type 0 where
+pub record RulesAsMachine {S : Type 0} (w : TheWorld) (s t : TheRun S) (a : Alone) (name : EndId) (msg answer : ℕ) (r : Result
+    (Unit {0}) EndFault) : Type 0 where
   pub answers : IsRuled r (step a.state (reply name msg answer)).answer
   pub shows : ShowsAlone w t (rules name msg answer a)
   pub places : t.core.places ≡ s.core.places

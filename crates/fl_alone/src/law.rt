@@ -2,7 +2,8 @@
 
 ghost use Rattle.fl_running.specs.Run.{ways};
 ghost use Rattle.fl_alone.specs.Handed.{HandedShow};
-ghost use Rattle.fl_alone.specs.Laws.{CallsAreTheMachines, RulesAreTheMachines, WritesAreTheMachines, TurnsAreTheMachines, RoundsAreTheMachines, CountsAreTheMachines, RunsAreTheMachines, LaterTurnsChangeNothing};
+ghost use Rattle.fl_alone.specs.Laws.{CallsAreTheMachines, RulesAreTheMachines, WritesAreTheMachines, TurnsAreTheMachines};
+ghost use Rattle.fl_alone.specs.Laws.{RoundsAreTheMachines, CountsAreTheMachines, RunsAreTheMachines, LaterTurnsChangeNothing};
 
 use fl_link::{PutSide, TakeSide};
 use fl_worlds::steps_agree;
