@@ -16,7 +16,7 @@ use Rattle.fl_running.specs.declared.word.Word.TheVariants.{Silent}
 use Rattle.fl_running.specs.Run.{Ways, TheRun}
 use Rattle.fl_running.specs.Turn.{Swept}
 use Rattle.fl_running.specs.Words.{Stock, Exchanges, ExchangesAt}
-use Rattle.fl_running.specs.Ran.{Task, Moment, TakesStock, CountedTurn, EndsAs, GoesOn, CoreRan}
+use Rattle.fl_running.specs.Ran.{Task, Moment, TakesStock, CountedTurn, EndsAs, GoesOn}
 use Rattle.fl_alone.specs.Turns.{Alone, Work, turned, is_finished, first_finished, counted, ran}
 use Rattle.fl_alone.specs.Shown.{work_of, ShowsAlone, HasFew, AreSilent}
 use Rattle.fl_alone.specs.Laws.{end_of, RanAsMachine, WentAsMachine, CountsAreTheMachines, RunsAreTheMachines}

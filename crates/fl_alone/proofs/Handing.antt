@@ -1,28 +1,27 @@
 -- A core with other numbers for its queues is no other picture.
-use Rattle.std.proofs.Common.{◌≡◌, inl, inr, refl, sym, ◌∙◌, ap, subst, ℕ, zero, suc, false, List, [], ◌∷◌, length, map, slice_get, Option, Some, None}
+use Rattle.std.proofs.Common.{◌≡◌, inr, refl, sym, ◌∙◌, ap, subst, ℕ, zero, suc, false, List, [], ◌∷◌, length, map, slice_get, Option, Some, None}
 use Rattle.fl_base.specs.declared.identity.EndId.{EndId}
-use Rattle.fl_base.specs.Ends.{other, peer}
+use Rattle.fl_base.specs.Ends.{peer}
 use Rattle.fl_hop.proofs.Lists.{map_same}
 use Rattle.fl_link.specs.Queue.{TheQueue}
 use Rattle.fl_core.specs.View.{TheDispatcher}
 use Rattle.fl_node.specs.declared.wire.Wire.{Wire}
 use Rattle.fl_node.specs.declared.wire.Wire.TheVariants.{Queues, Ring as OverRing, Circuit}
-use Rattle.fl_node.specs.declared.wire.Lane.{Lane}
 use Rattle.fl_node.specs.declared.wire.Port.{Port}
 use Rattle.fl_node.specs.View.{TheCore, place_of}
 use Rattle.fl_node.specs.Numbers.{moved, moved_lane, moved_wire, moved_port, renumbered}
 use Rattle.fl_queues.specs.Given.{given}
 use Rattle.fl_queues.specs.Calls.{Planned}
-use Rattle.fl_queues.specs.Ends.{Seat, End}
+use Rattle.fl_queues.specs.Ends.{Seat}
 use Rattle.fl_queues.specs.Waits.{Dispatcher}
 use Rattle.fl_queues.specs.Monitors.{Core}
-use Rattle.fl_queues.specs.State.{Binding, State, binding_of, interface_of, end_in}
+use Rattle.fl_queues.specs.State.{Binding, State, binding_of}
 use Rattle.fl_worlds.specs.View.{TheWorld}
-use Rattle.fl_worlds.specs.Picture.{lane_of, name_at, DispatcherShows, CoreShows, CoresShow, TakesFrom, wire_of, IsWire, IsMade, SitsAt, EndsShow}
-use Rattle.fl_worlds.specs.Picture.{BindingsShow, RingsShow, IsPicture, Shows}
+use Rattle.fl_worlds.specs.Picture.{name_at, DispatcherShows, CoreShows, wire_of, IsWire, IsMade, SitsAt}
+use Rattle.fl_worlds.specs.Picture.{Shows}
 use Rattle.fl_worlds.proofs.FramesBase.{same_some}
 use Rattle.fl_alone.specs.Shown.{alone_with}
-use Rattle.fl_alone.specs.Handed.{NamesQueue, AreHanded, HandedShow}
+use Rattle.fl_alone.specs.Handed.{AreHanded, HandedShow}
 use Rattle.fl_alone.proofs.Standing.{no_lane, no_ring_end}
 use Rattle.fl_alone.proofs.Desks.{get_some, get_none}
 use Rattle.fl_alone.proofs.Serving.{one_core}

@@ -10,7 +10,7 @@ use Rattle.fl_queues.specs.Events.{write, turn, Answer, done, accepted, nothing,
 use Rattle.fl_queues.specs.Events.{opening_refused, words, refused}
 use Rattle.fl_queues.specs.Step.{step}
 use Rattle.fl_running.specs.declared.job.Job.{Job}
-use Rattle.fl_alone.specs.Turns.{Desk, Alone, desk_at, goes, is_there, tries, serves, next_job, with_handled, turn_noted, here, due_at}
+use Rattle.fl_alone.specs.Turns.{Desk, Alone, goes, is_there, tries, serves, next_job, with_handled, turn_noted, here, due_at}
 use Rattle.fl_alone.specs.Turns.{is_before_calls, turns_at, takes_turn, Work, swept, serves_at, one_turn, turned, is_clear}
 use Rattle.fl_alone.specs.Laws.{EachDesk, IsClear, HasNoMore, LaterTurnsChangeNothing}
 
