@@ -5,9 +5,10 @@ use Rattle.fl_monitor.specs.Monitors.{TheMonitor}
 use Rattle.fl_running.specs.declared.job.Job.{Job}
 use Rattle.fl_running.proofs.Stepping.{log_steps}
 use Rattle.fl_hop.specs.Table.{TheCircuits}
-use Rattle.fl_honest.specs.Cores.{shared_ways}
+use Rattle.fl_honest.specs.Cores.{shared_ways, OneCore}
+use Rattle.fl_honest.specs.Circuits.{Leading}
 use Rattle.fl_honest.specs.Neighbours.{IsUnused}
-use Rattle.fl_honest.specs.Asked.{AreAsked, CoresAsk}
+use Rattle.fl_honest.specs.Asked.{AreAsked, GoesAsking, CoresAsk}
 use Rattle.fl_honest.proofs.AskedLaid.{laid_same}
 use Rattle.fl_honest.proofs.AskedLogs.{AreAskedFrom, asks_kept}
 use Rattle.fl_honest.proofs.Logged.{log_keeps}
@@ -16,14 +17,15 @@ use Rattle.fl_honest.proofs.OverLinks.{none_waits, side_carries}
 
 -- ---- at the start
 
-unused_asked : (jobs : List Job) (t : TheCircuits) (m : TheMonitor) → IsUnused m → AreAsked jobs t (λ l. []) (λ l. []) m
+pub unused_asked : (jobs : List Job) (t : TheCircuits) (m : TheMonitor) → IsUnused m → AreAsked jobs t (λ l. []) (λ l. []) m
 unused_asked jobs t m u l f o has a = elim has [
   | inl none ↦ absurd none
   | inr waits ↦ absurd (none_waits f (slice_get m.outboxes l) (u.outboxes l) waits)
 ]
 
-pub cores_ask : OnAnotherCircuit → CoresAsk
-cores_ask on jobs c v unused =
+-- what it comes to, with the steps of the log
+abbrev pub asking_of : OnAnotherCircuit → (jobs : List Job) (c : OneCore) → Leading jobs c → IsUnused c.start.core.monitor → GoesAsking jobs c
+asking_of on jobs c v unused =
     let g = v.went.goes in
     let t0 = c.start.core.monitor.circuits in
     record {
@@ -33,3 +35,6 @@ cores_ask on jobs c v unused =
           (laid_same t0 t0 refl, unused_asked jobs t0 c.start.core.monitor unused)).1;
       made = λ name e seat absent at there. log_made shared_ways jobs name c.log c.start c.finish g absent e seat at there;
     }
+
+pub cores_ask : OnAnotherCircuit → CoresAsk
+cores_ask on jobs c v unused = asking_of on jobs c v unused

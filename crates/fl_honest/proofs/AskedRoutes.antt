@@ -46,7 +46,7 @@ first_place p xs i x (Some q) at test is =
     ]
 
 -- the core stands on the route, and that on the link's other side before it
-record StandsBehind (t : TheCircuits) (l : ℕ) (path : List CoreId) : Type 0 where
+pub record StandsBehind (t : TheCircuits) (l : ℕ) (path : List CoreId) : Type 0 where
   pub state : LinkState
   pub state_is : slice_get t.links l ≡ Some state
   pub place : ℕ
@@ -87,7 +87,7 @@ module _ (t : TheCircuits) (l : ℕ) (path : List CoreId) where
   by_link None at h = absurd (cc)
   by_link (Some state) at h = by_position state at (position (is_core t.core) path) refl h
 
-  stands_behind : comes_along t l path ≡ true → StandsBehind t l path
+  pub stands_behind : comes_along t l path ≡ true → StandsBehind t l path
   stands_behind h = by_link (slice_get t.links l) refl h
 
 -- a link of the table has a side
@@ -168,7 +168,7 @@ module _ (rings : RingsConserve) (prefix : CircuitsPrefix) (ask : CoresAsk) (job
         said_wished most x.n x.core x.core_is x.link.0 x.frag o x.has x.asks (λ p at. (let fewer = x.less p at in omega (arith, less, fewer))))
   ]
 
-  heard_wished : (n : ℕ) (c : OneCore) (is : slice_get cores n ≡ Some c) (o : Opening) → Heard n c is o → IsWished jobs o
+  pub heard_wished : (n : ℕ) (c : OneCore) (is : slice_get cores n ≡ Some c) (o : Opening) → Heard n c is o → IsWished jobs o
   heard_wished n c is o came =
       let b = stands_behind c.start.core.monitor.circuits came.link.0 o.path came.along in
       let x = back n c is o came b in

@@ -44,6 +44,22 @@ entry_binding t binding ok a b l n h at =
       ]
     ]
 
+way_in : (binding : ℕ) (ok : Bool) (way : Way) (h : Hop) → leading binding ok way ≡ Some h → h.way ≡ way
+way_in binding ok way h is = let same : record { binding = binding; way = way; answered = ok } ≡ h = cc in sym (ap (λ (x : Hop). x.way) same)
+
+-- and it leads one of the entry's two ways, or stood there before
+pub entry_way : (t : TheCircuits) (binding : ℕ) (ok : Bool) (a b : Way) (l n : ℕ) (h : Hop) → hop_at (with_entry t binding ok a b) l n ≡ Some h
+    → (h.way ≡ a) ⊎ (h.way ≡ b) ⊎ (hop_at t l n ≡ Some h)
+entry_way t binding ok a b l n h at =
+    let first : TheCircuits = with_hops t (put_at a (leading binding ok b) t.hops) in
+    elim (put_binding first b (leading binding ok a) l n h at) [
+      | inl new ↦ inl (way_in binding ok a h new)
+      | inr old ↦ elim (put_binding t a (leading binding ok b) l n h old) [
+        | inl new ↦ inr (inl (way_in binding ok b h new))
+        | inr older ↦ inr (inr older)
+      ]
+    ]
+
 -- ---- an entry that stood
 
 pub given_there : (t : TheCircuits) (l n : ℕ) (h : Hop) → Sound t → hop_at t l n ≡ Some h → Given t l n

@@ -45,3 +45,6 @@ mod Forth
 mod Standing
 mod Lone
 mod Runs
+mod Reasoned
+mod ReasonedHears
+mod ReasonsAll

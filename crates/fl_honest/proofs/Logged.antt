@@ -21,6 +21,7 @@ use Rattle.fl_hop.specs.Table.{TheCircuits}
 use Rattle.fl_hop.specs.Numbers.{next_own}
 use Rattle.fl_hop.proofs.Laws.{is_eq, of_join}
 use Rattle.fl_endpoint.specs.Laws.{OnAnotherCircuit}
+use Rattle.fl_nameserv.specs.Registrations.{TheRegistration}
 use Rattle.fl_monitor.specs.declared.heard.Heard.{Heard}
 use Rattle.fl_monitor.specs.declared.heard.Heard.TheVariants as outcome
 use Rattle.fl_monitor.specs.declared.message.Message.{Message}
@@ -62,7 +63,7 @@ use Rattle.fl_running.proofs.Stepping.{log_steps}
 use Rattle.fl_running.proofs.Wending.{event_went}
 use Rattle.fl_honest.specs.Named.{Has}
 use Rattle.fl_honest.specs.Asked.{IsWished}
-use Rattle.fl_honest.proofs.AskedDesks.{job_there}
+use Rattle.fl_honest.proofs.AskedDesks.{job_there, offers_stay}
 use Rattle.fl_honest.proofs.Named.{has_split, has_first, has_last, waits}
 use Rattle.fl_honest.proofs.Zero.{said_on, zero_said, carried_zero, says_zero}
 
@@ -169,6 +170,33 @@ pub record IsKept (R : (ℕ → List Frag) → (ℕ → List Frag) → TheMonito
       → (l : LinkId) (c : Circuit) (o : Opening) → IsWished jobs o → next_own m.circuits l.0 ≡ Some c.0 → m2.circuits ≡ opened_table m.circuits l c o.binding
       → Said (record { link = l; message = asking c o }) m.outboxes m2.outboxes → R said heard m2
 
+-- the same of a core that offers these services
+pub record IsKeptBy (names : List TheRegistration) (R : (ℕ → List Frag) → (ℕ → List Frag) → TheMonitor → Type 0) (jobs : List Job) : Type 0 where
+  -- where less was said, or more was heard
+  pub wider : (said said2 heard heard2 : ℕ → List Frag) (m : TheMonitor) → ((l : ℕ) (f : Frag) → Has f (said2 l) → Has f (said l))
+      → ((l : ℕ) (f : Frag) → Has f (heard l) → Has f (heard2 l)) → R said heard m → R said2 heard2 m
+  -- where nothing new is said, and the table is as it was
+  pub rests : (said heard said2 : ℕ → List Frag) (m m2 : TheMonitor) → Sound m2.circuits → Later m.circuits m2.circuits → m2.circuits ≡ m.circuits
+      → ((l : ℕ) (f : Frag) → Has f (said2 l) ⊎ Has f (waiting_for m2.outboxes l) → (g : Frag) × (bare g ≡ bare f) × (Has g (said l) ⊎ Has g (waiting_for m.outboxes l)))
+      → R said heard m → R said2 heard m2
+  -- a message is heard
+  pub hears : (said heard heard2 : ℕ → List Frag) (m m2 : TheMonitor) → Sound m.circuits → Sound m2.circuits → Later m.circuits m2.circuits → R said heard m
+      → ((l : ℕ) (f : Frag) → Has f (heard l) → Has f (heard2 l)) → (l : LinkId) (kn : Known) → kn.names ≡ names → (frag : Frag) (msg : Message) (h : Heard) → Has frag (heard2 l.0) → Says frag msg
+      → ComesTo kn m.circuits l msg h → m2.circuits ≡ table_after m.circuits l msg h → AllSaid (says l msg h) m.outboxes m2.outboxes → R said heard2 m2
+  -- a circuit is asked for, for which a job wishes
+  pub asks : (said heard : ℕ → List Frag) (m m2 : TheMonitor) → Sound m.circuits → Sound m2.circuits → Later m.circuits m2.circuits → R said heard m
+      → (l : LinkId) (c : Circuit) (o : Opening) → IsWished jobs o → next_own m.circuits l.0 ≡ Some c.0 → m2.circuits ≡ opened_table m.circuits l c o.binding
+      → Said (record { link = l; message = asking c o }) m.outboxes m2.outboxes → R said heard m2
+
+pub kept_by : (names : List TheRegistration) (R : (ℕ → List Frag) → (ℕ → List Frag) → TheMonitor → Type 0) (jobs : List Job) → IsKept R jobs → IsKeptBy names R jobs
+kept_by names R jobs kept = record {
+  wider = kept.wider;
+  rests = kept.rests;
+  hears = λ said heard heard2 m m2 sound sound2 later n more l kn offers frag msg h has says_it comes is put.
+      kept.hears said heard heard2 m m2 sound sound2 later n more l kn frag msg h has says_it comes is put;
+  asks = kept.asks;
+}
+
 -- ---- one event
 
 -- with what a list of steps put and took on circuit 0
@@ -178,7 +206,7 @@ then_said so steps l = so l ++ of_circuit 0 (put_on l steps)
 abbrev pub then_heard : (ℕ → List Frag) → List Step → ℕ → List Frag
 then_heard so steps l = so l ++ of_circuit 0 (taken_from l steps)
 
-module _ (R : (ℕ → List Frag) → (ℕ → List Frag) → TheMonitor → Type 0) (jobs : List Job) (kept : IsKept R jobs) (said_so heard_so : ℕ → List Frag) (k k2 : TheCore)
+module _ {names : List TheRegistration} (R : (ℕ → List Frag) → (ℕ → List Frag) → TheMonitor → Type 0) (jobs : List Job) (kept : IsKeptBy names R jobs) (said_so heard_so : ℕ → List Frag) (k k2 : TheCore)
     (sound2 : Sound k2.monitor.circuits) (later : Later k.monitor.circuits k2.monitor.circuits) (steps : List Step) (went : goes_through k.monitor.circuits steps k2.monitor.circuits) where
   abbrev Then : Type 0
   Then = R (then_said said_so steps) (then_heard heard_so steps) k2.monitor
@@ -245,9 +273,10 @@ module _ (R : (ℕ → List Frag) → (ℕ → List Frag) → TheMonitor → Typ
   same_said : ((l : ℕ) → said_on l steps ≡ []) → R said_so (then_heard heard_so steps) k2.monitor → Then
   same_said none n = kept.wider said_so (then_said said_so steps) (then_heard heard_so steps) (then_heard heard_so steps) k2.monitor (said_before none) (λ l f h. h) n
 
-module _ (R : (ℕ → List Frag) → (ℕ → List Frag) → TheMonitor → Type 0) (jobs : List Job) (kept : IsKept R jobs) {S : Type 0} (w : Ways S) (on : OnAnotherCircuit) (said_so heard_so : ℕ → List Frag)
+module _ {names : List TheRegistration} (R : (ℕ → List Frag) → (ℕ → List Frag) → TheMonitor → Type 0) (jobs : List Job) (kept : IsKeptBy names R jobs) {S : Type 0} (w : Ways S)
+    (on : OnAnotherCircuit) (said_so heard_so : ℕ → List Frag)
     (s m : TheRun S) (core : IsCore s.core) (sound : Sound s.core.monitor.circuits) (sound2 : Sound m.core.monitor.circuits) (led : IsLed s.core)
-    (holds : R said_so heard_so s.core.monitor) where
+    (offers : s.offers.names ≡ names) (holds : R said_so heard_so s.core.monitor) where
   abbrev After : (deed : Deed) → InPlace jobs s deed → Does w deed s m → Type 0
   After deed by h = R (then_said said_so (event_steps w jobs deed s m by h)) (then_heard heard_so (event_steps w jobs deed s m by h)) m.core.monitor
 
@@ -284,7 +313,7 @@ module _ (R : (ℕ → List Frag) → (ℕ → List Frag) → TheMonitor → Typ
         let more = heard_more R jobs kept said_so heard_so s.core m.core sound2 later steps_heard went in
         let now : Says (as_carried (bare frag)) msg = says_the_same frag (as_carried (bare frag)) msg (carried_zero frag zero) says_it in
         let new = kept.hears said_so heard_so (then_heard heard_so steps_heard) s.core.monitor m.core.monitor sound sound2 later holds more l
-        (known_for s.offers s.core msg) (as_carried (bare frag)) msg h.heard
+        (known_for s.offers s.core msg) offers (as_carried (bare frag)) msg h.heard
         (has_last (as_carried (bare frag)) (heard_so l.0) (of_circuit 0 (taken_from l.0 steps_heard)) took_it) now h.hears.0
         (ap (λ (x : TheMonitor). x.circuits) same ∙ h.hears.2) (subst (λ (x : TheMonitor). AllSaid (says l msg h.heard) s.core.monitor.outboxes x.outboxes) (sym same) h.hears.3) in
         same_said R jobs kept said_so heard_so s.core m.core sound2 later steps_heard went (λ i. said_heard s.core.monitor.circuits i l.0 (frag ∷ [])) new
@@ -378,19 +407,20 @@ heard_joins so xs ys l =
     ap (λ (fs : List Frag). so l ++ of_circuit 0 fs) (took_joins l xs ys) ∙ ap (λ (fs : List Frag). so l ++ fs) (of_join 0 (taken_from l xs) (taken_from l ys))
     ∙ sym (append_assoc (so l) (of_circuit 0 (taken_from l xs)) (of_circuit 0 (taken_from l ys)))
 
-module _ (R : (ℕ → List Frag) → (ℕ → List Frag) → TheMonitor → Type 0) (jobs : List Job) (kept : IsKept R jobs) {S : Type 0} (w : Ways S) (on : OnAnotherCircuit) where
+module _ {names : List TheRegistration} (R : (ℕ → List Frag) → (ℕ → List Frag) → TheMonitor → Type 0) (jobs : List Job) (kept : IsKeptBy names R jobs) {S : Type 0} (w : Ways S)
+    (on : OnAnotherCircuit) where
   sound_first : (log : List Deed) (s t : TheRun S) → Goes w jobs s log t → Sound t.core.monitor.circuits → Sound s.core.monitor.circuits
   sound_first [] s t h sound = subst (λ (x : TheRun S). Sound x.core.monitor.circuits) h sound
   sound_first (deed ∷ log) s t h sound = h.1.3.table
 
   -- over a whole log it is kept
-  pub log_keeps : (log : List Deed) (s t : TheRun S) (h : Goes w jobs s log t) (said_so heard_so : ℕ → List Frag) → IsLed s.core → Sound t.core.monitor.circuits → R said_so heard_so s.core.monitor
+  pub log_keeps_by : (log : List Deed) (s t : TheRun S) (h : Goes w jobs s log t) (said_so heard_so : ℕ → List Frag) → s.offers.names ≡ names → IsLed s.core → Sound t.core.monitor.circuits → R said_so heard_so s.core.monitor
       → R (then_said said_so (log_steps w jobs log s t h)) (then_heard heard_so (log_steps w jobs log s t h)) t.core.monitor
-  log_keeps [] s t h said_so heard_so led sound n =
+  log_keeps_by [] s t h said_so heard_so offers led sound n =
       kept.wider said_so (then_said said_so []) heard_so (then_heard heard_so []) t.core.monitor
       (λ l f has. elim (has_split f (said_so l) [] has) [ inl a ↦ a | inr b ↦ absurd b ])
       (λ l f has. has_first f (heard_so l) [] has) (subst (λ (x : TheRun S). R said_so heard_so x.core.monitor) (sym h) n)
-  log_keeps (deed ∷ log) s t h said_so heard_so led sound n =
+  log_keeps_by (deed ∷ log) s t h said_so heard_so offers led sound n =
       let m = h.1.0 in
       let u = h.0 in
       let aside : u.core ≡ m.core = core_aside m u deed h.1.2 in
@@ -398,9 +428,17 @@ module _ (R : (ℕ → List Frag) → (ℕ → List Frag) → TheMonitor → Typ
       let rest = log_steps w jobs log u t h.3 in
       let sound_u = sound_first log u t h.3 sound in
       let sound_m : Sound m.core.monitor.circuits = subst (λ (k : TheCore). Sound k.monitor.circuits) aside sound_u in
-      let one = does_keep R jobs kept w on said_so heard_so s m h.1.3.core h.1.3.table sound_m led n deed h.2 h.1.4 h.1.1 in
+      let one = does_keep R jobs kept w on said_so heard_so s m h.1.3.core h.1.3.table sound_m led offers n deed h.2 h.1.4 h.1.1 in
       let now : R (then_said said_so first) (then_heard heard_so first) u.core.monitor = subst (λ (k : TheCore). R (then_said said_so first) (then_heard heard_so first) k.monitor) (sym aside) one in
       let led_u : IsLed u.core = subst IsLed (sym aside) (does_led w jobs s m h.1.3.core h.1.3.table led deed h.2 h.1.1) in
-      let all = log_keeps log u t h.3 (then_said said_so first) (then_heard heard_so first) led_u sound now in
+      let still : u.offers.names ≡ names = ap (λ (o : Offers). o.names) (offers_stay w deed s m u h.1.1 h.1.2) ∙ offers in
+      let all = log_keeps_by log u t h.3 (then_said said_so first) (then_heard heard_so first) still led_u sound now in
       kept.wider (then_said (then_said said_so first) rest) (then_said said_so (first ++ rest)) (then_heard (then_heard heard_so first) rest) (then_heard heard_so (first ++ rest)) t.core.monitor
       (λ l f has. subst (Has f) (said_joins said_so first rest l) has) (λ l f has. subst (Has f) (sym (heard_joins heard_so first rest l)) has) all
+
+-- the same, whatever the core offers
+pub log_keeps : (R : (ℕ → List Frag) → (ℕ → List Frag) → TheMonitor → Type 0) (jobs : List Job) → IsKept R jobs → {S : Type 0} (w : Ways S) → OnAnotherCircuit
+    → (log : List Deed) (s t : TheRun S) (h : Goes w jobs s log t) (said_so heard_so : ℕ → List Frag) → IsLed s.core → Sound t.core.monitor.circuits → R said_so heard_so s.core.monitor
+    → R (then_said said_so (log_steps w jobs log s t h)) (then_heard heard_so (log_steps w jobs log s t h)) t.core.monitor
+log_keeps R jobs kept w on log s t h said_so heard_so led sound n =
+    log_keeps_by R jobs (kept_by s.offers.names R jobs kept) w on log s t h said_so heard_so refl led sound n

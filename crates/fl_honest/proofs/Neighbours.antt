@@ -27,7 +27,7 @@ use Rattle.fl_honest.proofs.Routes.{CircuitsPrefix}
 
 -- ---- at the start
 
-unused_named : (m : TheMonitor) → IsUnused m → AreNamed (λ l. []) (λ l. []) m
+pub unused_named : (m : TheMonitor) → IsUnused m → AreNamed (λ l. []) (λ l. []) m
 unused_named m u = record {
   asked = λ l f c binding has asks. elim has [
     | inl none ↦ absurd none

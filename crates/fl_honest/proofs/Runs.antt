@@ -41,6 +41,26 @@ off_links reports off asked j cores r k told =
 
 -- ---- a binding that a job opens
 
+-- each link has a core on the other side, which the table names
+pub all_beside : (asked : List Job) (j : TheJoined) (cores : List OneCore) (names : List TheRegistration) (programs : List TheProgram) → AreSetUp asked j cores names programs
+    → AreBeside j.jobs cores
+all_beside asked j cores names programs s = record {
+  leading = s.wired.leading;
+  unused = s.wired.unused;
+  beside = λ n side d m is lane.
+      (let x = s.wired.links n side d m is lane in
+      record {
+        place = x.across.place;
+        core = x.across.core;
+        core_is = x.across.core_is;
+        link = x.across.link;
+        one = x.across.one;
+        state = x.forth.link;
+        state_is = x.forth.link_is;
+        number = s.numbered x.across.place x.across.core x.across.core_is ∙ sym x.forth.neighbour;
+      });
+}
+
 -- what the laws below say of its ends
 pub record Ended : Type 0 where
   pub paired : WiredArePaired
@@ -61,22 +81,7 @@ module _ (l : Ended) (asked : List Job) (j : TheJoined) (cores : List OneCore) (
   paired = l.paired j.jobs cores s.wired
 
   beside : AreBeside j.jobs cores
-  beside = record {
-    leading = s.wired.leading;
-    unused = s.wired.unused;
-    beside = λ n side d m is lane.
-        (let x = s.wired.links n side d m is lane in
-        record {
-          place = x.across.place;
-          core = x.across.core;
-          core_is = x.across.core_is;
-          link = x.across.link;
-          one = x.across.one;
-          state = x.forth.link;
-          state_is = x.forth.link_is;
-          number = s.numbered x.across.place x.across.core x.across.core_is ∙ sym x.forth.neighbour;
-        });
-  }
+  beside = all_beside asked j cores names programs s
 
   own_job : (n : ℕ) (e : EndId) (desk : TheDesk) (turn k : ℕ) → slice_get desk.jobs turn ≡ Some k → (desk.jobs ≡ []) ⊎ HasOwn j n e desk.jobs → IsOwnJob j n e k
   own_job n e desk turn k at (inl none) = absurd (let no : None ≡ Some k = sym (ap (λ (xs : List ℕ). slice_get xs turn) none) ∙ at in cc)

@@ -16,3 +16,4 @@ pub mod Asked
 pub mod Stands
 pub mod Meeting
 pub mod Runs
+pub mod Reasons

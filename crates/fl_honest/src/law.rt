@@ -14,6 +14,7 @@ ghost use Rattle.fl_honest.specs.Asked.{CoresAsk, WishesAlone, ServersAreWished,
 ghost use Rattle.fl_honest.specs.Stands.{LedClientsStand, LedServersAreBound, PlannedEndsStand};
 ghost use Rattle.fl_honest.specs.Meeting.{WiredArePaired, BoundClientsMeet, LoneServersRest};
 ghost use Rattle.fl_honest.specs.Runs.{OffLinkIsHonest, OpenedIsHonest, RunsAreHonest};
+ghost use Rattle.fl_honest.specs.Reasons.{CoresReason, ReasonsAlone};
 
 use fl_deal::rings_conserve;
 use fl_endpoint::on_another_circuit;
@@ -295,4 +296,22 @@ pub fn runs_are_honest()
     reports_are_honest();
     opened_is_honest();
     off_link_is_honest();
+}
+
+/// In a run of a core that had nothing to say before, what its monitor said to be refused is an opening that it heard, for a reason of its own, for want of the
+/// service, or as it heard from the core to which it passed the opening on.
+pub fn cores_reason()
+    ensures reason { CoresReason }
+{
+    on_another_circuit();
+}
+
+/// So where cores were set up together, what is heard between them to be refused is for a reason: the way forth along the route ends, and what jobs wish for is
+/// there.
+pub fn reasons_alone()
+    ensures reasons { ReasonsAlone }
+{
+    cores_reason();
+    rings_conserve();
+    circuits_join();
 }

@@ -1,0 +1,360 @@
+-- What a monitor says and hears of refusals: each has its reason, here or further on.
+use Rattle.std.proofs.Common.{◌≡◌, ◌⊎◌, inl, inr, refl, sym, ap, ◌∙◌, subst, ℕ, ◌==◌, if◌then◌else◌, Bool, true, false, List, [], ◌∷◌, ◌++◌, slice_get}
+use Rattle.std.proofs.Common.{Option, Some, None}
+use Rattle.std.specs.Option.{option_map}
+use Rattle.fl_base.specs.declared.fragment.Frag.{Frag}
+use Rattle.fl_base.specs.declared.identity.CoreId.{CoreId}
+use Rattle.fl_base.specs.declared.identity.IRef.{IRef}
+use Rattle.fl_base.specs.declared.identity.LinkId.{LinkId}
+use Rattle.fl_base.specs.declared.identity.Circuit.{Circuit}
+use Rattle.fl_base.specs.declared.identity.Side.TheVariants.{Server}
+use Rattle.fl_base.specs.Control.{bare}
+use Rattle.fl_hop.specs.declared.entry.Hop.{Hop}
+use Rattle.fl_hop.specs.declared.entry.Way.{Way}
+use Rattle.fl_hop.specs.declared.entry.Way.TheVariants.{Link, End}
+use Rattle.fl_hop.specs.Joined.{Sound}
+use Rattle.fl_hop.specs.Later.{Later, unanswered}
+use Rattle.fl_hop.specs.Numbers.{Given, IsOpened, OpenedHere, next_own, next_due, after_opening, after_taking, count_opening, count_taking}
+use Rattle.fl_hop.specs.Openings.{IsWaiting, passed_on, answered}
+use Rattle.fl_hop.specs.Table.{TheCircuits, hop_at, link_of, without_entry}
+use Rattle.fl_hop.proofs.Counting.{Next, next_is, never_next}
+use Rattle.fl_nameserv.specs.Registrations.{TheRegistration, by_iref}
+use Rattle.fl_monitor.specs.declared.opening.Opening.{Opening}
+use Rattle.fl_monitor.specs.declared.fate.Fate.{Fate}
+use Rattle.fl_monitor.specs.declared.fate.Fate.TheVariants.{GoesOn, EndsAt, Fails}
+use Rattle.fl_monitor.specs.declared.heard.Heard.{Heard}
+use Rattle.fl_monitor.specs.declared.heard.Heard.TheVariants.{OpeningWentOn, ServerMade, OpeningFailed, AnswerWentOn, EndOpened, EndRefused}
+use Rattle.fl_monitor.specs.declared.message.Message.{Message}
+use Rattle.fl_monitor.specs.declared.message.Message.TheVariants.{OpenCircuit, CircuitOpened, CircuitRefused}
+use Rattle.fl_monitor.specs.Routing.{given, next_on}
+use Rattle.fl_monitor.specs.Fates.{Known, link_id, circuit_id, arrival, onward, passage, fate, comes_along}
+use Rattle.fl_monitor.specs.Hearing.{heard_by, opened_at, refused_at, ComesTo, says, after_opening as table_of_opening, table_after}
+use Rattle.fl_monitor.specs.Monitors.{TheMonitor, AllSaid, Said, waiting_for, asks}
+use Rattle.fl_monitor.specs.Saying.{Says}
+use Rattle.fl_monitor.proofs.Single.{says_no_other, says_the_same, says_what_is_written}
+use Rattle.fl_honest.specs.Named.{Has, AsksFor, AreNamed}
+use Rattle.fl_honest.specs.Reasons.{IsReason, CameUnder, AsksOnly, HeardRefused, IsRefusedFor, AreReasoned}
+use Rattle.fl_honest.proofs.Bound.{given_there, map_some, entry_way}
+use Rattle.fl_honest.proofs.Counted.{next_still}
+use Rattle.fl_honest.proofs.Named.{has_split, waits, IsNext, opening_next, due_in_place}
+use Rattle.fl_honest.proofs.Neighbours.{leads_of}
+use Rattle.fl_honest.proofs.Refused.{opened_still, opened_before, newest_next}
+
+-- ---- a core's own reasons
+
+-- what an opening that fails here fails for
+abbrev IsGood : Type 0 → Fate → Type 0
+IsGood L (Fails fault) = IsReason fault ⊎ L
+IsGood L (GoesOn m n) = Unit {0}
+IsGood L (EndsAt dispatcher) = Unit {0}
+
+module _ (kn : Known) (t : TheCircuits) (l : ℕ) (o : Opening) where
+  abbrev Lacks : Type 0
+  Lacks = by_iref o.service.0 kn.names ≡ None
+
+  at_place : (b : Bool) (r : TheRegistration) → IsGood Lacks (if b then EndsAt r.service.dispatcher else Fails 54)
+  at_place true r = tt
+  at_place false r = inl (inl refl)
+
+  at_last : (x : Option TheRegistration) → by_iref o.service.0 kn.names ≡ x → IsGood Lacks (given x (Fails 70) λ r. if kn.here.has_place then EndsAt r.service.dispatcher else Fails 54)
+  at_last None is = inr is
+  at_last (Some r) is = at_place kn.here.has_place r
+
+  at_own : (m : ℕ) (x : Option ℕ) → IsGood Lacks (given x (Fails 74) λ n. GoesOn (link_id m) (circuit_id n))
+  at_own m None = inl (inr (inr refl))
+  at_own m (Some n) = tt
+
+  at_link : (m : ℕ) (b : Bool) → IsGood Lacks (if b then Fails 73 else onward t m)
+  at_link m true = inl (inr (inl refl))
+  at_link m false = at_own m (next_own t m)
+
+  on_the_way : (x : Option ℕ) → IsGood Lacks (given x (Fails 73) λ m. if l == m then Fails 73 else onward t m)
+  on_the_way None = inl (inr (inl refl))
+  on_the_way (Some m) = at_link m (l == m)
+
+  by_route : (x : Option CoreId) → IsGood Lacks (given x (arrival kn o.service.0) λ next. passage t l next.0)
+  by_route None = at_last (by_iref o.service.0 kn.names) refl
+  by_route (Some next) = on_the_way (link_of t next.0)
+
+  pub own_reason : (reason : ℕ) → fate kn t l o ≡ Fails reason → IsReason reason ⊎ Lacks
+  own_reason reason is = subst (IsGood Lacks) is (by_route (next_on o.path t.core))
+
+-- ---- what asks, and what refuses
+
+refused_parts : (c d : Circuit) (r q : ℕ) → CircuitRefused c r ≡ CircuitRefused d q → (c ≡ d) × (r ≡ q)
+refused_parts c d r q same = (let one : c ≡ d = cc in one, let two : r ≡ q = cc in two)
+
+pub asks_parts : (c d : Circuit) (a b : Opening) → asks c a ≡ asks d b → (c ≡ d) × (b ≡ a)
+asks_parts c d a b same =
+    let circuits : c ≡ d = cc in
+    let bindings : b.binding ≡ a.binding = cc in
+    let services : b.service ≡ a.service = cc in
+    let paths : b.path ≡ a.path = cc in (
+      circuits,
+      ap (λ (n : ℕ). let o : Opening = record { binding = n; service = b.service; path = b.path } in o) bindings
+      ∙ ap (λ (x : IRef). let o : Opening = record { binding = a.binding; service = x; path = b.path } in o) services
+      ∙ ap (λ (p : List CoreId). let o : Opening = record { binding = a.binding; service = a.service; path = p } in o) paths,
+    )
+
+-- what asks is no answer, and no answer asks
+opened_asks : (d c : Circuit) (o : Opening) → CircuitOpened d ≡ asks c o → ⊥
+opened_asks d c o is = cc
+
+refused_asks : (d c : Circuit) (r : ℕ) (o : Opening) → CircuitRefused d r ≡ asks c o → ⊥
+refused_asks d c r o is = cc
+
+asks_refused : (d c : Circuit) (r : ℕ) (o : Opening) → asks c o ≡ CircuitRefused d r → ⊥
+asks_refused d c r o is = cc
+
+opened_refused : (c d : Circuit) (r : ℕ) → CircuitOpened c ≡ CircuitRefused d r → ⊥
+opened_refused c d r is = cc
+
+-- an entry that stood at a number that was given leads the same way
+old_way : (t u : TheCircuits) (l n : ℕ) (h : Hop) → Later t u → Given t l n → hop_at u l n ≡ Some h → (x : Hop) × (hop_at t l n ≡ Some x) × (x.way ≡ h.way)
+old_way t u l n h later given at = elim (later.kept l n given) [
+  | inl same ↦ (let (x, there, is) = map_some (hop_at t l n) (unanswered h) (sym same ∙ ap (option_map unanswered) at) in (x, there, ap (λ (y : Hop). y.way) is))
+  | inr gone ↦ (let clash : None ≡ Some h = sym gone ∙ at in absurd (cc))
+]
+
+pub came_more : (t : TheCircuits) (heard heard2 : ℕ → List Frag) → ((l : ℕ) (f : Frag) → Has f (heard l) → Has f (heard2 l)) → (l n : ℕ) (o : Opening) → CameUnder t heard l n o → CameUnder t heard2 l n o
+came_more t heard heard2 more l n o a = record { frag = a.frag; has = more l a.frag a.has; circuit = a.circuit; number = a.number; says = a.says; along = a.along }
+
+-- ---- less was said, more was heard, or nothing new
+
+module _ (names : List TheRegistration) (t : TheCircuits) where
+  pub wider : (said said2 heard heard2 : ℕ → List Frag) (m : TheMonitor) → ((l : ℕ) (f : Frag) → Has f (said2 l) → Has f (said l)) → ((l : ℕ) (f : Frag) → Has f (heard l) → Has f (heard2 l))
+      → AreReasoned names t said heard m → AreReasoned names t said2 heard2 m
+  wider said said2 heard heard2 m fewer more n = record {
+    passed = λ l i hop x d here at way.
+        (let (o, came, only) = n.passed l i hop x d here at way in (o, came_more t heard heard2 more x.0 d.0 o came, only_fewer l i o only));
+    refused = λ l f c reason has says_it.
+        (let (o, came, why) = n.refused l f c reason (in_more l f has) says_it in (o, came_more t heard heard2 more l c.0 o came, elim why [
+          | inl good ↦ inl good
+          | inr others ↦ elim others [
+            | inl lacks ↦ inr (inl lacks)
+            | inr h ↦ inr (inr (record { link = h.link; frag = h.frag; has = more h.link h.frag h.has; circuit = h.circuit; says = h.says; given = h.given; only = only_fewer h.link h.circuit.0 o h.only }))
+          ]
+        ]));
+  } where
+    in_more : (l : ℕ) (f : Frag) → Has f (said2 l) ⊎ Has f (waiting_for m.outboxes l) → Has f (said l) ⊎ Has f (waiting_for m.outboxes l)
+    in_more l f has = elim has [ inl a ↦ inl (fewer l f a) | inr b ↦ inr b ]
+
+    only_fewer : (l i : ℕ) (o : Opening) → AsksOnly said m l i o → AsksOnly said2 m l i o
+    only_fewer l i o only f c x has is says_it = only f c x (in_more l f has) is says_it
+
+  pub rests : (said said2 heard : ℕ → List Frag) (m m2 : TheMonitor) → m2.circuits ≡ m.circuits
+      → ((l : ℕ) (f : Frag) → Has f (said2 l) ⊎ Has f (waiting_for m2.outboxes l) → (g : Frag) × (bare g ≡ bare f) × (Has g (said l) ⊎ Has g (waiting_for m.outboxes l)))
+      → AreReasoned names t said heard m → AreReasoned names t said2 heard m2
+  rests said said2 heard m m2 same from n = record {
+    passed = λ l i hop x d here at way.
+        (let (o, came, only) = n.passed l i hop x d (subst (λ (u : TheCircuits). OpenedHere u l i) same here) (sym (ap (λ (u : TheCircuits). hop_at u l i) same) ∙ at) way in (o, came, only_still l i o only));
+    refused = λ l f c reason has says_it.
+        (let (g, alike, before) = from l f has in
+        let (o, came, why) = n.refused l g c reason before (says_the_same f g (CircuitRefused c reason) alike says_it) in (o, came, elim why [
+          | inl good ↦ inl good
+          | inr others ↦ elim others [
+            | inl lacks ↦ inr (inl lacks)
+            | inr h ↦ inr (inr (record {
+              link = h.link;
+              frag = h.frag;
+              has = h.has;
+              circuit = h.circuit;
+              says = h.says;
+              given = subst (λ (u : TheCircuits). OpenedHere u h.link h.circuit.0) (sym same) h.given;
+              only = only_still h.link h.circuit.0 o h.only;
+            }))
+          ]
+        ]));
+  } where
+    only_still : (l i : ℕ) (o : Opening) → AsksOnly said m l i o → AsksOnly said2 m2 l i o
+    only_still l i o only f c x has is says_it = (let (g, alike, before) = from l f has in only g c x before is (says_the_same f g (asks c x) alike says_it))
+
+-- ---- the monitor of before, and of afterwards
+
+module _ (names : List TheRegistration) (t0 : TheCircuits) (said heard heard2 : ℕ → List Frag) (m m2 : TheMonitor) (sound : Sound m.circuits) (sound2 : Sound m2.circuits)
+    (later : Later m.circuits m2.circuits) (named : AreNamed said heard m) (reasoned : AreReasoned names t0 said heard m) (more : (l : ℕ) (f : Frag) → Has f (heard l) → Has f (heard2 l)) where
+  abbrev Before : ℕ → Frag → Type 0
+  Before l f = Has f (said l) ⊎ Has f (waiting_for m.outboxes l)
+
+  abbrev Now : ℕ → Frag → Type 0
+  Now l f = Has f (said l) ⊎ Has f (waiting_for m2.outboxes l)
+
+  -- what asks was given before
+  asked_given : (l : ℕ) (f : Frag) (c : Circuit) (o : Opening) → Before l f → Says f (asks c o) → OpenedHere m.circuits l c.0
+  asked_given l f c o before says_it =
+      let asked : AsksFor f c o.binding = record { service = o.service; path = o.path; says = says_it } in
+      (named.asked l f c o.binding before asked).given
+
+  -- a number that is next wasn't given
+  never_given : (x : LinkId) (d : Circuit) (l n : ℕ) → next_own m.circuits x.0 ≡ Some d.0 → l ≡ x.0 → n ≡ d.0 → OpenedHere m.circuits l n → ⊥
+  never_given x d l n next links numbers here =
+      never_next m.circuits.core m.circuits.links sound.apart x.0 d.0 (next_is m.circuits.core m.circuits.links x.0 d.0 next)
+      (inl (subst (λ (i : ℕ). OpenedHere m.circuits x.0 i) numbers (subst (λ (i : ℕ). OpenedHere m.circuits i n) links here)))
+
+  -- with one message more, what is said was said before, or is that
+  said_then : (x : LinkId) (msg : Message) → Said (record { link = x; message = msg }) m.outboxes m2.outboxes → (l : ℕ) (f : Frag) (other : Message) → Now l f → Says f other
+      → Before l f ⊎ ((l ≡ x.0) × (msg ≡ other))
+  said_then x msg put l f other (inl h) says_it = inl (inl h)
+  said_then x msg put l f other (inr h) says_it =
+      elim (waits f m.outboxes x.0 (put.outbox ++ put.frag ∷ []) l (subst (λ (boxes : List (List Frag)). Has f (waiting_for boxes l)) put.more h)) [
+        | inl old ↦ inl (inr old)
+        | inr p ↦ elim (has_split f put.outbox (put.frag ∷ []) p.1) [
+          | inl old ↦ inl (inr (subst (λ (o : Option (List Frag)). Has f (given o [] (λ b. b))) (sym (ap (slice_get m.outboxes) p.0 ∙ put.there)) old))
+          | inr new ↦ elim new [
+            | inl same ↦ inr (
+              p.0,
+              says_no_other put.frag msg other (says_what_is_written put.frag msg put.is.widths put.is.written) (says_the_same f put.frag other (ap bare same) says_it),
+            )
+            | inr none ↦ absurd none
+          ]
+        ]
+      ]
+
+  -- what is new of it: which openings it asks for, by link and number, and what it refuses
+  module _ (Asks : ℕ → Circuit → Opening → Type 0) (Refuses : ℕ → Circuit → ℕ → Type 0)
+      (asks_then : (l : ℕ) (f : Frag) (c : Circuit) (o : Opening) → Now l f → Says f (asks c o) → Before l f ⊎ Asks l c o)
+      (refuses_then : (l : ℕ) (f : Frag) (c : Circuit) (reason : ℕ) → Now l f → Says f (CircuitRefused c reason) → Before l f ⊎ Refuses l c reason)
+      (fresh : (l n : ℕ) (c : Circuit) (o : Opening) → OpenedHere m.circuits l n → Asks l c o → c.0 ≡ n → ⊥) where
+    only_still : (l n : ℕ) (o : Opening) → OpenedHere m.circuits l n → AsksOnly said m l n o → AsksOnly said m2 l n o
+    only_still l n o here only f c x has is says_it = elim (asks_then l f c x has says_it) [
+      | inl old ↦ only f c x old is says_it
+      | inr new ↦ absurd (fresh l n c x here new is)
+    ]
+
+    heard_still : (o : Opening) (reason : ℕ) → HeardRefused said heard m o reason → HeardRefused said heard2 m2 o reason
+    heard_still o reason h = record {
+      link = h.link;
+      frag = h.frag;
+      has = more h.link h.frag h.has;
+      circuit = h.circuit;
+      says = h.says;
+      given = later.here h.link h.circuit.0 h.given;
+      only = only_still h.link h.circuit.0 o h.given h.only;
+    }
+
+    why_still : (o : Opening) (reason : ℕ) → IsRefusedFor names said heard m o reason → IsRefusedFor names said heard2 m2 o reason
+    why_still o reason (inl good) = inl good
+    why_still o reason (inr (inl lacks)) = inr (inl lacks)
+    why_still o reason (inr (inr h)) = inr (inr (heard_still o reason h))
+
+    abbrev Passed : ℕ → ℕ → LinkId → Circuit → Type 0
+    Passed l n x d = (o : Opening) × CameUnder t0 heard2 x.0 d.0 o × AsksOnly said m2 l n o
+
+    abbrev IsRefused : ℕ → Circuit → ℕ → Type 0
+    IsRefused l c reason = (o : Opening) × CameUnder t0 heard2 l c.0 o × IsRefusedFor names said heard2 m2 o reason
+
+    passed_still : (l n : ℕ) (hop : Hop) (x : LinkId) (d : Circuit) → OpenedHere m.circuits l n → hop_at m2.circuits l n ≡ Some hop → hop.way ≡ Link x d → Passed l n x d
+    passed_still l n hop x d here at way =
+        let (was, there, same) = old_way m.circuits m2.circuits l n hop later (inl here) at in
+        let (o, came, only) = reasoned.passed l n was x d here there (same ∙ way) in
+        (o, came_more t0 heard heard2 more x.0 d.0 o came, only_still l n o here only)
+
+    reasoned_then : ((l n : ℕ) → OpenedHere m2.circuits l n → OpenedHere m.circuits l n ⊎ ((hop : Hop) (x : LinkId) (d : Circuit) → hop_at m2.circuits l n ≡ Some hop → hop.way ≡ Link x d → Passed l n x d))
+        → ((l : ℕ) (c : Circuit) (reason : ℕ) → Refuses l c reason → IsRefused l c reason) → AreReasoned names t0 said heard2 m2
+    reasoned_then opened_then new = record {
+      passed = λ l n hop x d here at way. elim (opened_then l n here) [
+        | inl old ↦ passed_still l n hop x d old at way
+        | inr entry ↦ entry hop x d at way
+      ];
+      refused = λ l f c reason has says_it. elim (refuses_then l f c reason has says_it) [
+        | inl old ↦ (let (o, came, why) = reasoned.refused l f c reason old says_it in (o, came_more t0 heard heard2 more l c.0 o came, why_still o reason why))
+        | inr now ↦ new l c reason now
+      ];
+    }
+
+  -- ---- where nothing asks and nothing refuses
+
+  abbrev No : ℕ → Circuit → Opening → Type 0
+  No l c o = ⊥
+
+  abbrev None_refused : ℕ → Circuit → ℕ → Type 0
+  None_refused l c reason = ⊥
+
+  no_fresh : (l n : ℕ) (c : Circuit) (o : Opening) → OpenedHere m.circuits l n → No l c o → c.0 ≡ n → ⊥
+  no_fresh l n c o here none is = none
+
+  silent : m2.outboxes ≡ m.outboxes → (l : ℕ) (f : Frag) → Now l f → Before l f
+  silent same l f has = elim has [ inl h ↦ inl h | inr h ↦ inr (subst (λ (boxes : List (List Frag)). Has f (waiting_for boxes l)) same h) ]
+
+  pub by_silence : m2.outboxes ≡ m.outboxes → ((l n : ℕ) → OpenedHere m2.circuits l n → OpenedHere m.circuits l n) → AreReasoned names t0 said heard2 m2
+  by_silence same opened_then =
+      reasoned_then No None_refused (λ l f c o has says_it. inl (silent same l f has)) (λ l f c reason has says_it. inl (silent same l f has)) no_fresh
+      (λ l n here. inl (opened_then l n here)) (λ l c reason none. absurd none)
+
+  -- a message more, which says that a circuit is open
+  pub by_opened : (x : LinkId) (d : Circuit) → Said (record { link = x; message = CircuitOpened d }) m.outboxes m2.outboxes
+      → ((l n : ℕ) → OpenedHere m2.circuits l n → OpenedHere m.circuits l n) → AreReasoned names t0 said heard2 m2
+  by_opened x d put opened_then =
+      reasoned_then No None_refused
+      (λ l f c o has says_it. elim (said_then x (CircuitOpened d) put l f (asks c o) has says_it) [ inl old ↦ inl old | inr new ↦ absurd (opened_asks d c o new.1) ])
+      (λ l f c reason has says_it. elim (said_then x (CircuitOpened d) put l f (CircuitRefused c reason) has says_it) [ inl old ↦ inl old | inr new ↦ absurd (opened_refused d c reason new.1) ])
+      no_fresh (λ l n here. inl (opened_then l n here)) (λ l c reason none. absurd none)
+
+  -- ---- one that refuses an opening
+
+  module _ (x : LinkId) (d : Circuit) (r : ℕ) (put : Said (record { link = x; message = CircuitRefused d r }) m.outboxes m2.outboxes) where
+    abbrev This : ℕ → Circuit → ℕ → Type 0
+    This l c reason = (l ≡ x.0) × (CircuitRefused d r ≡ CircuitRefused c reason)
+
+    no_asks : (l : ℕ) (f : Frag) (c : Circuit) (o : Opening) → Now l f → Says f (asks c o) → Before l f ⊎ No l c o
+    no_asks l f c o has says_it = elim (said_then x (CircuitRefused d r) put l f (asks c o) has says_it) [ inl old ↦ inl old | inr new ↦ absurd (refused_asks d c r o new.1) ]
+
+    this_refuses : (l : ℕ) (f : Frag) (c : Circuit) (reason : ℕ) → Now l f → Says f (CircuitRefused c reason) → Before l f ⊎ This l c reason
+    this_refuses l f c reason has says_it = said_then x (CircuitRefused d r) put l f (CircuitRefused c reason) has says_it
+
+    -- what was heard further on stays so
+    still_heard : (o : Opening) (reason : ℕ) → HeardRefused said heard m o reason → HeardRefused said heard2 m2 o reason
+    still_heard o reason h = heard_still No This no_asks this_refuses no_fresh o reason h
+
+    pub still_only : (l n : ℕ) (o : Opening) → OpenedHere m.circuits l n → AsksOnly said m l n o → AsksOnly said m2 l n o
+    still_only l n o here only = only_still No This no_asks this_refuses no_fresh l n o here only
+
+    pub by_refusal : ((l n : ℕ) → OpenedHere m2.circuits l n → OpenedHere m.circuits l n) → (o : Opening) → CameUnder t0 heard2 x.0 d.0 o → IsRefusedFor names said heard2 m2 o r
+        → AreReasoned names t0 said heard2 m2
+    by_refusal opened_then o came why =
+        reasoned_then No This no_asks this_refuses no_fresh (λ l n here. inl (opened_then l n here))
+        (λ l c reason new. (let (circuits, reasons) = refused_parts d c r reason new.1 in (
+          o,
+          subst (λ (i : ℕ). CameUnder t0 heard2 i c.0 o) (sym new.0) (subst (λ (i : Circuit). CameUnder t0 heard2 x.0 i.0 o) circuits came),
+          subst (λ (q : ℕ). IsRefusedFor names said heard2 m2 o q) reasons why,
+        )))
+
+  -- ---- one that asks for an opening, under the next number of a link
+
+  module _ (x : LinkId) (d : Circuit) (o : Opening) (put : Said (record { link = x; message = asks d o }) m.outboxes m2.outboxes) (next : next_own m.circuits x.0 ≡ Some d.0) where
+    abbrev That : ℕ → Circuit → Opening → Type 0
+    That l c y = (l ≡ x.0) × (asks d o ≡ asks c y)
+
+    that_asks : (l : ℕ) (f : Frag) (c : Circuit) (y : Opening) → Now l f → Says f (asks c y) → Before l f ⊎ That l c y
+    that_asks l f c y has says_it = said_then x (asks d o) put l f (asks c y) has says_it
+
+    none_refuses : (l : ℕ) (f : Frag) (c : Circuit) (reason : ℕ) → Now l f → Says f (CircuitRefused c reason) → Before l f ⊎ None_refused l c reason
+    none_refuses l f c reason has says_it = elim (said_then x (asks d o) put l f (CircuitRefused c reason) has says_it) [ inl old ↦ inl old | inr new ↦ absurd (asks_refused c d reason o new.1) ]
+
+    that_fresh : (l n : ℕ) (c : Circuit) (y : Opening) → OpenedHere m.circuits l n → That l c y → c.0 ≡ n → ⊥
+    that_fresh l n c y here new is =
+        let (circuits, openings) = asks_parts d c o y new.1 in
+        never_given x d l n next new.0 (sym is ∙ ap (λ (i : Circuit). i.0) (sym circuits)) here
+
+    -- just that was asked for under it
+    only_that : AsksOnly said m2 x.0 d.0 o
+    only_that f c y has is says_it = elim (that_asks x.0 f c y has says_it) [
+      | inl old ↦ absurd (never_given x d x.0 c.0 next refl is (asked_given x.0 f c y old says_it))
+      | inr new ↦ (asks_parts d c o y new.1).1
+    ]
+
+    pub by_asking : ((l n : ℕ) → OpenedHere m2.circuits l n → OpenedHere m.circuits l n ⊎ ((l ≡ x.0) × (n ≡ d.0)))
+        → ((hop : Hop) (y : LinkId) (e : Circuit) → hop_at m2.circuits x.0 d.0 ≡ Some hop → hop.way ≡ Link y e → CameUnder t0 heard2 y.0 e.0 o)
+        → AreReasoned names t0 said heard2 m2
+    by_asking opened_then entry =
+        reasoned_then That None_refused that_asks none_refuses that_fresh
+        (λ l n here. elim (opened_then l n here) [
+          | inl old ↦ inl old
+          | inr new ↦ inr (λ hop y e at way.
+              (let there : hop_at m2.circuits x.0 d.0 ≡ Some hop = sym (ap (λ (i : ℕ). hop_at m2.circuits i d.0) new.0) ∙ sym (ap (hop_at m2.circuits l) new.1) ∙ at in (
+                o,
+                entry hop y e there way,
+                subst (λ (i : ℕ). AsksOnly said m2 i n o) (sym new.0) (subst (λ (i : ℕ). AsksOnly said m2 x.0 i o) (sym new.1) only_that),
+              )))
+        ])
+        (λ l c reason none. absurd none)

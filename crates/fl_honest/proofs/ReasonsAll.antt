@@ -1,0 +1,194 @@
+-- Over all cores: what was heard to be refused is for a reason, core by core forth along the route.
+use Rattle.std.proofs.Common.{◌≡◌, ◌⊎◌, inl, inr, refl, sym, ap, ◌∙◌, subst, ℕ, zero, suc, ◌+◌, ◌<◌, ◌≤◌, List, [], length, slice_get, position, Option, Some, None, arith}
+use Rattle.std.proofs.lemmas.List.Quantifiers.{position-Some}
+use Rattle.fl_base.specs.declared.fragment.Frag.{Frag}
+use Rattle.fl_base.specs.declared.identity.CoreId.{CoreId}
+use Rattle.fl_base.specs.declared.identity.LinkId.{LinkId}
+use Rattle.fl_base.specs.declared.identity.Circuit.{Circuit}
+use Rattle.fl_deal.specs.Settled.{RingsConserve}
+use Rattle.fl_endpoint.specs.Laws.{OnAnotherCircuit}
+use Rattle.fl_nameserv.specs.Registrations.{TheRegistration, by_iref}
+use Rattle.fl_compile.specs.Programs.{TheProgram}
+use Rattle.fl_hop.specs.declared.links.LinkState.{LinkState}
+use Rattle.fl_hop.specs.OfCircuit.{of_circuit}
+use Rattle.fl_hop.specs.Stretch.{taken_from, put_on}
+use Rattle.fl_hop.specs.Table.{TheCircuits}
+use Rattle.fl_hop.proofs.Lists.{at_within}
+use Rattle.fl_monitor.specs.declared.message.Message.TheVariants.{CircuitRefused}
+use Rattle.fl_monitor.specs.declared.opening.Opening.{Opening}
+use Rattle.fl_monitor.specs.Fates.{comes_along}
+use Rattle.fl_monitor.specs.Monitors.{TheMonitor}
+use Rattle.fl_monitor.specs.Routing.{is_core}
+use Rattle.fl_monitor.specs.Saying.{Says}
+use Rattle.fl_running.specs.declared.job.Job.{Job as CoreJob}
+use Rattle.fl_running.specs.declared.job.Job.TheVariants as job
+use Rattle.fl_jobs.specs.Jobs.{Job}
+use Rattle.fl_dockets.specs.State.{TheJoined}
+use Rattle.fl_honest.specs.Cores.{OneCore, shared_ways}
+use Rattle.fl_honest.specs.Circuits.{Leading}
+use Rattle.fl_honest.specs.Named.{Has}
+use Rattle.fl_honest.specs.Neighbours.{IsUnused}
+use Rattle.fl_honest.specs.Asked.{IsWished, CameAlong, GoesAsking, CoresAsk, AreBeside}
+use Rattle.fl_honest.specs.Meeting.{IsPaired}
+use Rattle.fl_honest.specs.Runs.{AreSetUp}
+use Rattle.fl_honest.specs.Reasons.{IsReason, CameUnder, AsksOnly, HeardRefused, IsRefusedFor, AreReasoned, GoesReasoned, CoresReason, HearsReasons, ReasonsAlone}
+use Rattle.fl_honest.proofs.AskedCores.{asking_of}
+use Rattle.fl_honest.proofs.AskedLaid.{laid_same}
+use Rattle.fl_honest.proofs.AskedRoutes.{StandsBehind, stands_behind, side_there, heard_wished}
+use Rattle.fl_honest.proofs.Logged.{log_keeps_by}
+use Rattle.fl_honest.proofs.Neighbours.{unused_named}
+use Rattle.fl_honest.proofs.OverLinks.{none_waits, both_ways, has_before}
+use Rattle.fl_honest.proofs.ReasonedHears.{AreReasonedFrom, reasons_kept}
+use Rattle.fl_honest.proofs.Routes.{CircuitsPrefix}
+use Rattle.fl_honest.proofs.Runs.{all_beside}
+use Rattle.fl_honest.proofs.Wired.{lane_there}
+
+-- ---- one core
+
+unused_reasoned : (names : List TheRegistration) (t : TheCircuits) (m : TheMonitor) → IsUnused m → AreReasoned names t (λ l. []) (λ l. []) m
+unused_reasoned names t m u = record {
+  passed = λ l n hop x d here at way. (let (k, less, is) = here.among in let none = (u.counts l here.link here.there).0 in absurd (omega (arith, less, none)));
+  refused = λ l f c reason has says_it. elim has [
+    | inl none ↦ absurd none
+    | inr waits ↦ absurd (none_waits f (slice_get m.outboxes l) (u.outboxes l) waits)
+  ];
+}
+
+pub cores_reason : OnAnotherCircuit → CoresReason
+cores_reason on jobs c v unused =
+    let t0 = c.start.core.monitor.circuits in
+    let names = c.start.offers.names in
+    record {
+      asking = asking_of on jobs c v unused;
+      reasoned = (log_keeps_by (AreReasonedFrom names t0) jobs (reasons_kept names t0 jobs) shared_ways on c.log c.start c.finish v.went.goes (λ l. []) (λ l. []) refl v.led v.table
+          (laid_same t0 t0 refl, unused_named c.start.core.monitor unused, unused_reasoned names t0 c.start.core.monitor unused)).2;
+    }
+
+-- ---- all cores
+
+one_number : (a b : ℕ) → Some a ≡ Some b → a ≡ b
+one_number a b same = cc
+
+one_state : (a b : LinkState) → Some a ≡ Some b → a ≡ b
+one_state a b same = cc
+
+abbrev link_of_number : ℕ → LinkId
+link_of_number l = record { 0 = l }
+
+module _ (rings : RingsConserve) (prefix : CircuitsPrefix) (reason : CoresReason) (asked : List Job) (j : TheJoined) (cores : List OneCore) (names : List TheRegistration)
+    (programs : List TheProgram) (all : AreSetUp asked j cores names programs) where
+  beside : AreBeside j.jobs cores
+  beside = all_beside asked j cores names programs all
+
+  abbrev went : (n : ℕ) (c : OneCore) → slice_get cores n ≡ Some c → GoesReasoned j.jobs c
+  went n c is = reason j.jobs c (beside.leading n c is) (beside.unused n c is)
+
+  abbrev Heard : (n : ℕ) (c : OneCore) → slice_get cores n ≡ Some c → ℕ → List Frag
+  Heard n c is l = of_circuit 0 (taken_from l (went n c is).asking.steps)
+
+  abbrev Said : (n : ℕ) (c : OneCore) → slice_get cores n ≡ Some c → ℕ → List Frag
+  Said n c is l = of_circuit 0 (put_on l (went n c is).asking.steps)
+
+  abbrev Came : (n : ℕ) (c : OneCore) → slice_get cores n ≡ Some c → ℕ → ℕ → Opening → Type 0
+  Came n c is l i o = CameUnder c.start.core.monitor.circuits (Heard n c is) l i o
+
+  abbrev Why : (n : ℕ) (c : OneCore) → slice_get cores n ≡ Some c → Opening → ℕ → Type 0
+  Why n c is o r = IsRefusedFor c.start.offers.names (Said n c is) (Heard n c is) c.finish.core.monitor o r
+
+  -- what is asked for between cores is for a service that is there
+  is_offered : (n : ℕ) (c : OneCore) (is : slice_get cores n ≡ Some c) (l i : ℕ) (o : Opening) → Came n c is l i o → by_iref o.service.0 c.start.offers.names ≡ None → ⊥
+  is_offered n c is l i o came none =
+      let along : CameAlong c.start.core.monitor.circuits (Heard n c is) o =
+      record { link = link_of_number l; frag = came.frag; has = came.has; asks = record { circuit = came.circuit; says = came.says }; along = came.along } in
+      let w : IsWished j.jobs o = heard_wished rings prefix (λ jobs d v u. (reason jobs d v u).asking) j.jobs cores beside n c is o along in
+      let (b, b_is) = at_within j.bindings w.wish.opening.binding (all.joined.there w.place (job.Open w.wish) w.job_is) in
+      let offered = all.wishes w.place w.wish b w.job_is b_is in
+      let found : by_iref o.service.0 names ≡ Some offered.registration = ap (λ (x : Opening). by_iref x.service.0 names) (sym w.opening_is) ∙ offered.service in
+      let lacks : by_iref o.service.0 names ≡ None = ap (by_iref o.service.0) (sym (all.named n c is)) ∙ none in
+      let clash : Some offered.registration ≡ None = sym found ∙ lacks in
+      absurd (cc)
+
+  -- ---- over one link
+
+  -- the core on the other side of a link: what was heard there it said, and what it heard was said here
+  record Across (n : ℕ) (c : OneCore) (is : slice_get cores n ≡ Some c) (l : ℕ) : Type 0 where
+    pub place : ℕ
+    pub core : OneCore
+    pub core_is : slice_get cores place ≡ Some core
+    pub link : ℕ
+    pub said : (f : Frag) → Has f (Heard n c is l) → Has f (Said place core core_is link)
+    pub heard : (f : Frag) → Has f (Heard place core core_is link) → Has f (Said n c is l)
+    pub state : LinkState
+    pub state_is : slice_get core.start.core.monitor.circuits.links link ≡ Some state
+    pub back : state.neighbour.0 ≡ c.start.core.monitor.circuits.core
+
+  across_by : (n : ℕ) (c : OneCore) (is : slice_get cores n ≡ Some c) (l : ℕ) → IsPaired cores n c (link_of_number l) → Across n c is l
+  across_by n c is l x =
+      let g = went n c is in
+      let h = went x.across.place x.across.core x.across.core_is in
+      let both = both_ways rings x.across.core c h.asking.steps g.asking.steps h.asking.links g.asking.links x.across.link (link_of_number l) x.across.one in
+      record {
+        place = x.across.place;
+        core = x.across.core;
+        core_is = x.across.core_is;
+        link = x.across.link.0;
+        said = λ f has. has_before f (Heard n c is l) (Said x.across.place x.across.core x.across.core_is x.across.link.0)
+            (prefix 0 (taken_from l g.asking.steps) (put_on x.across.link.0 h.asking.steps) both.0) has;
+        heard = λ f has. has_before f (Heard x.across.place x.across.core x.across.core_is x.across.link.0) (Said n c is l)
+            (prefix 0 (taken_from x.across.link.0 h.asking.steps) (put_on l g.asking.steps) both.1) has;
+        state = x.back.link;
+        state_is = x.back.link_is;
+        back = x.back.neighbour ∙ sym (all.numbered n c is);
+      }
+
+  across_start : (n : ℕ) (c : OneCore) (is : slice_get cores n ≡ Some c) (l : ℕ) (link : LinkState) → slice_get c.start.core.monitor.circuits.links l ≡ Some link → Across n c is l
+  across_start n c is l link there =
+      let (side, lane) = side_there c.start.core (beside.leading n c is).went.core l link there in
+      across_by n c is l (all.wired.links n side c (link_of_number l) is lane)
+
+  across_finish : (n : ℕ) (c : OneCore) (is : slice_get cores n ≡ Some c) (l : ℕ) (link : LinkState) → slice_get c.finish.core.monitor.circuits.links l ≡ Some link → Across n c is l
+  across_finish n c is l link there =
+      let (side, lane) = lane_there j.jobs c (beside.leading n c is) l link there in
+      across_by n c is l (all.wired.links n side c (link_of_number l) is lane)
+
+  -- ---- forth along the route
+
+  -- an opening that came to a core at this place of its route was refused there for a reason, whatever it was refused for further on
+  why_good : (most n : ℕ) (c : OneCore) (is : slice_get cores n ≡ Some c) (l i : ℕ) (o : Opening) (r place : ℕ) → Came n c is l i o → Why n c is o r
+      → position (is_core c.start.core.monitor.circuits.core) o.path ≡ Some place → length o.path ≤ place + most → IsReason r
+  why_good most n c is l i o r place came (inl good) at within = good
+  why_good most n c is l i o r place came (inr (inl lacks)) at within = absurd (is_offered n c is l i o came lacks)
+  why_good zero n c is l i o r place came (inr (inr h)) at within =
+      let found = position-Some (is_core c.start.core.monitor.circuits.core) o.path place (link_core c) at in
+      let inside = found.0 in
+      absurd (omega (arith, inside, within))
+    where
+      link_core : OneCore → CoreId
+      link_core d = record { 0 = d.start.core.monitor.circuits.core }
+  why_good (suc most) n c is l i o r place came (inr (inr h)) at within =
+      let x = across_finish n c is h.link h.given.link h.given.there in
+      let g = went x.place x.core x.core_is in
+      let (o2, came2, why2) = g.reasoned.refused x.link h.frag h.circuit r (inl (x.said h.frag h.has)) h.says in
+      let same : o2 ≡ o = h.only came2.frag came2.circuit o2 (inl (x.heard came2.frag came2.has)) came2.number came2.says in
+      let came3 = subst (λ (y : Opening). Came x.place x.core x.core_is x.link h.circuit.0 y) same came2 in
+      let why3 = subst (λ (y : Opening). Why x.place x.core x.core_is y r) same why2 in
+      let b = stands_behind x.core.start.core.monitor.circuits x.link o.path came3.along in
+      let states : b.state ≡ x.state = one_state b.state x.state (sym b.state_is ∙ x.state_is) in
+      let number : b.state.neighbour.0 ≡ c.start.core.monitor.circuits.core = ap (λ (a : LinkState). a.neighbour.0) states ∙ x.back in
+      let before : b.before ≡ place = one_number b.before place (sym b.before_is ∙ ap (λ (k : ℕ). position (is_core k) o.path) number ∙ at) in
+      let less = b.less in
+      why_good most x.place x.core x.core_is x.link h.circuit.0 o r b.place came3 why3 b.place_is (omega (arith, before, less, within))
+
+  heard_good : (n : ℕ) (c : OneCore) (is : slice_get cores n ≡ Some c) (l : ℕ) (link : LinkState) (f : Frag) (i : Circuit) (r : ℕ) → slice_get c.start.core.monitor.circuits.links l ≡ Some link
+      → Has f (Heard n c is l) → Says f (CircuitRefused i r) → IsReason r
+  heard_good n c is l link f i r there has says_it =
+      let x = across_start n c is l link there in
+      let (o, came, why) = (went x.place x.core x.core_is).reasoned.refused x.link f i r (inl (x.said f has)) says_it in
+      let b = stands_behind x.core.start.core.monitor.circuits x.link o.path came.along in
+      why_good (length o.path) x.place x.core x.core_is x.link i.0 o r b.place came why b.place_is (omega arith)
+
+pub reasons_alone : RingsConserve → CircuitsPrefix → CoresReason → ReasonsAlone
+reasons_alone rings prefix reason asked j cores names programs all n c is = record {
+  goes = went rings prefix reason asked j cores names programs all n c is;
+  reasons = heard_good rings prefix reason asked j cores names programs all n c is;
+}

@@ -1,0 +1,93 @@
+-- Why circuits are refused: what cores tell each other. Laws.
+use Rattle.std.specs.Prelude.{ℕ, ◌≡◌, ◌⊎◌, true, List, slice_get, Some, None}
+use Rattle.fl_base.specs.declared.fragment.Frag.{Frag}
+use Rattle.fl_base.specs.declared.identity.LinkId.{LinkId}
+use Rattle.fl_base.specs.declared.identity.Circuit.{Circuit}
+use Rattle.fl_nameserv.specs.Registrations.{TheRegistration, by_iref}
+use Rattle.fl_hop.specs.declared.entry.Hop.{Hop}
+use Rattle.fl_hop.specs.declared.entry.Way.TheVariants.{Link}
+use Rattle.fl_hop.specs.declared.links.LinkState.{LinkState}
+use Rattle.fl_hop.specs.Numbers.{OpenedHere}
+use Rattle.fl_hop.specs.OfCircuit.{of_circuit}
+use Rattle.fl_hop.specs.Stretch.{taken_from, put_on}
+use Rattle.fl_hop.specs.Table.{TheCircuits, hop_at}
+use Rattle.fl_monitor.specs.declared.message.Message.TheVariants.{CircuitRefused}
+use Rattle.fl_monitor.specs.declared.opening.Opening.{Opening}
+use Rattle.fl_monitor.specs.Fates.{comes_along}
+use Rattle.fl_monitor.specs.Monitors.{TheMonitor, waiting_for, asks}
+use Rattle.fl_monitor.specs.Saying.{Says}
+use Rattle.fl_running.specs.declared.job.Job.{Job as CoreJob}
+use Rattle.fl_jobs.specs.Jobs.{Job}
+use Rattle.fl_compile.specs.Programs.{TheProgram}
+use Rattle.fl_dockets.specs.State.{TheJoined}
+use Rattle.fl_honest.specs.Cores.{OneCore}
+use Rattle.fl_honest.specs.Circuits.{Leading}
+use Rattle.fl_honest.specs.Named.{Has}
+use Rattle.fl_honest.specs.Neighbours.{IsUnused}
+use Rattle.fl_honest.specs.Asked.{GoesAsking}
+use Rattle.fl_honest.specs.Runs.{AreSetUp}
+
+-- a dispatcher has no place for one end more (54), a core of the route has no link that leads on (73), or no number is left on that link (74)
+abbrev pub IsReason : ℕ → Type 0
+IsReason n = (n ≡ 54) ⊎ (n ≡ 73) ⊎ (n ≡ 74)
+
+-- ---- one core
+
+-- this opening was heard under this number of a link, from the core that comes before this one on its route
+pub record CameUnder (t : TheCircuits) (heard : ℕ → List Frag) (l n : ℕ) (o : Opening) : Type 0 where
+  pub frag : Frag
+  pub has : Has frag (heard l)
+  pub circuit : Circuit
+  pub number : circuit.0 ≡ n
+  pub says : Says frag (asks circuit o)
+  pub along : comes_along t l o.path ≡ true
+
+-- what was asked for under this number, or has still to be, is this opening
+abbrev pub AsksOnly : (ℕ → List Frag) → TheMonitor → ℕ → ℕ → Opening → Type 0
+AsksOnly said m l n o = (f : Frag) (c : Circuit) (x : Opening) → Has f (said l) ⊎ Has f (waiting_for m.outboxes l) → c.0 ≡ n → Says f (asks c x) → x ≡ o
+
+-- this core asked further on for that opening, and heard that it is refused for this reason
+pub record HeardRefused (said heard : ℕ → List Frag) (m : TheMonitor) (o : Opening) (reason : ℕ) : Type 0 where
+  pub link : ℕ
+  pub frag : Frag
+  pub has : Has frag (heard link)
+  pub circuit : Circuit
+  pub says : Says frag (CircuitRefused circuit reason)
+  pub given : OpenedHere m.circuits link circuit.0
+  pub only : AsksOnly said m link circuit.0 o
+
+-- why an opening is refused at a core that offers these services: for a reason of its own; for want of the service; or as it heard from further on
+abbrev pub IsRefusedFor : List TheRegistration → (ℕ → List Frag) → (ℕ → List Frag) → TheMonitor → Opening → ℕ → Type 0
+IsRefusedFor names said heard m o reason = IsReason reason ⊎ (by_iref o.service.0 names ≡ None) ⊎ HeardRefused said heard m o reason
+
+-- of a monitor that said and heard these fragments, by link
+pub record AreReasoned (names : List TheRegistration) (t : TheCircuits) (said heard : ℕ → List Frag) (m : TheMonitor) : Type 0 where
+  -- where an entry leads from a number that this core gave to another link, an opening was heard under the number there, and just it was asked for under this one
+  pub passed : (l n : ℕ) (hop : Hop) (x : LinkId) (d : Circuit) → OpenedHere m.circuits l n → hop_at m.circuits l n ≡ Some hop → hop.way ≡ Link x d
+      → (o : Opening) × CameUnder t heard x.0 d.0 o × AsksOnly said m l n o
+  -- what it says to be refused, or has still to say, is an opening that was heard under that number
+  pub refused : (l : ℕ) (f : Frag) (c : Circuit) (reason : ℕ) → Has f (said l) ⊎ Has f (waiting_for m.outboxes l) → Says f (CircuitRefused c reason)
+      → (o : Opening) × CameUnder t heard l c.0 o × IsRefusedFor names said heard m o reason
+
+-- so it is of a core, with what it asked for
+pub record GoesReasoned (jobs : List CoreJob) (c : OneCore) : Type 0 where
+  pub asking : GoesAsking jobs c
+  pub reasoned : AreReasoned c.start.offers.names c.start.core.monitor.circuits (λ l. of_circuit 0 (put_on l asking.steps)) (λ l. of_circuit 0 (taken_from l asking.steps))
+      c.finish.core.monitor
+
+-- in every run of a core that had nothing to say before. Law
+abbrev pub CoresReason : Type 0
+CoresReason = (jobs : List CoreJob) (c : OneCore) → Leading jobs c → IsUnused c.start.core.monitor → GoesReasoned jobs c
+
+-- ---- all cores. Law
+
+-- whatever a core heard over its links to be refused, that is for a reason
+pub record HearsReasons (jobs : List CoreJob) (c : OneCore) : Type 0 where
+  pub goes : GoesReasoned jobs c
+  pub reasons : (l : ℕ) (link : LinkState) (f : Frag) (n : Circuit) (reason : ℕ) → slice_get c.start.core.monitor.circuits.links l ≡ Some link
+      → Has f (of_circuit 0 (taken_from l goes.asking.steps)) → Says f (CircuitRefused n reason) → IsReason reason
+
+-- where cores were set up together and ran the jobs that were joined for them
+abbrev pub ReasonsAlone : Type 0
+ReasonsAlone = (asked : List Job) (j : TheJoined) (cores : List OneCore) (names : List TheRegistration) (programs : List TheProgram)
+    → AreSetUp asked j cores names programs → (n : ℕ) (c : OneCore) → slice_get cores n ≡ Some c → HearsReasons j.jobs c
