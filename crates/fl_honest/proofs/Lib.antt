@@ -48,3 +48,4 @@ mod Runs
 mod Reasoned
 mod ReasonedHears
 mod ReasonsAll
+mod ReasonsHere

@@ -14,20 +14,18 @@ use Rattle.fl_hop.specs.declared.entry.Way.{Way}
 use Rattle.fl_hop.specs.declared.entry.Way.TheVariants.{Link, End}
 use Rattle.fl_hop.specs.Joined.{Sound}
 use Rattle.fl_hop.specs.Later.{Later, unanswered}
-use Rattle.fl_hop.specs.Numbers.{Given, IsOpened, OpenedHere, next_own, next_due, after_opening, after_taking, count_opening, count_taking}
+use Rattle.fl_hop.specs.Numbers.{Given, OpenedHere, OpenedThere, next_own, next_due, after_opening, after_taking, count_opening, count_taking}
 use Rattle.fl_hop.specs.Openings.{IsWaiting, passed_on, answered}
 use Rattle.fl_hop.specs.Table.{TheCircuits, hop_at, link_of, without_entry}
 use Rattle.fl_hop.proofs.Counting.{Next, next_is, never_next}
 use Rattle.fl_nameserv.specs.Registrations.{TheRegistration, by_iref}
 use Rattle.fl_monitor.specs.declared.opening.Opening.{Opening}
-use Rattle.fl_monitor.specs.declared.fate.Fate.{Fate}
-use Rattle.fl_monitor.specs.declared.fate.Fate.TheVariants.{GoesOn, EndsAt, Fails}
 use Rattle.fl_monitor.specs.declared.heard.Heard.{Heard}
 use Rattle.fl_monitor.specs.declared.heard.Heard.TheVariants.{OpeningWentOn, ServerMade, OpeningFailed, AnswerWentOn, EndOpened, EndRefused}
 use Rattle.fl_monitor.specs.declared.message.Message.{Message}
 use Rattle.fl_monitor.specs.declared.message.Message.TheVariants.{OpenCircuit, CircuitOpened, CircuitRefused}
 use Rattle.fl_monitor.specs.Routing.{given, next_on}
-use Rattle.fl_monitor.specs.Fates.{Known, link_id, circuit_id, arrival, onward, passage, fate, comes_along}
+use Rattle.fl_monitor.specs.Fates.{Known, arrival, passage, fate}
 use Rattle.fl_monitor.specs.Hearing.{heard_by, opened_at, refused_at, ComesTo, says, after_opening as table_of_opening, table_after}
 use Rattle.fl_monitor.specs.Monitors.{TheMonitor, AllSaid, Said, waiting_for, asks}
 use Rattle.fl_monitor.specs.Saying.{Says}
@@ -43,41 +41,37 @@ use Rattle.fl_honest.proofs.Refused.{opened_still, opened_before, newest_next}
 -- ---- a core's own reasons
 
 -- what an opening that fails here fails for
-abbrev IsGood : Type 0 → Fate → Type 0
-IsGood L (Fails fault) = IsReason fault ⊎ L
-IsGood L (GoesOn m n) = Unit {0}
-IsGood L (EndsAt dispatcher) = Unit {0}
+abbrev pub IsGood : Type 0 → Heard → Type 0
+IsGood L (OpeningFailed binding reason) = IsReason reason ⊎ L
+IsGood L (OpeningWentOn binding m n) = Unit {0}
+IsGood L (ServerMade binding dispatcher c) = Unit {0}
+IsGood L (AnswerWentOn binding m c) = Unit {0}
+IsGood L (EndOpened e c) = Unit {0}
+IsGood L (EndRefused e reason) = Unit {0}
 
-module _ (kn : Known) (t : TheCircuits) (l : ℕ) (o : Opening) where
-  abbrev Lacks : Type 0
-  Lacks = by_iref o.service.0 kn.names ≡ None
+module _ (kn : Known) (t : TheCircuits) (binding : ℕ) (c : Circuit) (L : Type 0) where
+  at_last : (iref : ℕ) → (by_iref iref kn.names ≡ None → L) → (r : Option TheRegistration) (place : Bool) → by_iref iref kn.names ≡ r → kn.here.has_place ≡ place
+      → IsGood L (heard_by binding c (arrival kn iref))
+  at_last iref lacks None place is has = rw is (inr (lacks is))
+  at_last iref lacks (Some r) true is has = rw (is, has) tt
+  at_last iref lacks (Some r) false is has = rw (is, has) (inl (inl refl))
 
-  at_place : (b : Bool) (r : TheRegistration) → IsGood Lacks (if b then EndsAt r.service.dispatcher else Fails 54)
-  at_place true r = tt
-  at_place false r = inl (inl refl)
+  at_link : (l next m : ℕ) (same : Bool) (n : Option ℕ) → link_of t next ≡ Some m → (l == m) ≡ same → next_own t m ≡ n → IsGood L (heard_by binding c (passage t l next))
+  at_link l next m true n is test own = rw (is, test) (inl (inr (inl refl)))
+  at_link l next m false None is test own = rw (is, test, own) (inl (inr (inr refl)))
+  at_link l next m false (Some n) is test own = rw (is, test, own) tt
 
-  at_last : (x : Option TheRegistration) → by_iref o.service.0 kn.names ≡ x → IsGood Lacks (given x (Fails 70) λ r. if kn.here.has_place then EndsAt r.service.dispatcher else Fails 54)
-  at_last None is = inr is
-  at_last (Some r) is = at_place kn.here.has_place r
+  on_the_way : (l next : ℕ) (m : Option ℕ) → link_of t next ≡ m → IsGood L (heard_by binding c (passage t l next))
+  on_the_way l next None is = rw is (inl (inr (inl refl)))
+  on_the_way l next (Some m) is = at_link l next m (l == m) (next_own t m) is refl refl
 
-  at_own : (m : ℕ) (x : Option ℕ) → IsGood Lacks (given x (Fails 74) λ n. GoesOn (link_id m) (circuit_id n))
-  at_own m None = inl (inr (inr refl))
-  at_own m (Some n) = tt
+  by_route : (l : ℕ) (o : Opening) → (by_iref o.service.0 kn.names ≡ None → L) → (next : Option CoreId) → next_on o.path t.core ≡ next → IsGood L (heard_by binding c (fate kn t l o))
+  by_route l o lacks None is = rw is (at_last o.service.0 lacks (by_iref o.service.0 kn.names) kn.here.has_place refl refl)
+  by_route l o lacks (Some next) is = rw is (on_the_way l next.0 (link_of t next.0) refl)
 
-  at_link : (m : ℕ) (b : Bool) → IsGood Lacks (if b then Fails 73 else onward t m)
-  at_link m true = inl (inr (inl refl))
-  at_link m false = at_own m (next_own t m)
-
-  on_the_way : (x : Option ℕ) → IsGood Lacks (given x (Fails 73) λ m. if l == m then Fails 73 else onward t m)
-  on_the_way None = inl (inr (inl refl))
-  on_the_way (Some m) = at_link m (l == m)
-
-  by_route : (x : Option CoreId) → IsGood Lacks (given x (arrival kn o.service.0) λ next. passage t l next.0)
-  by_route None = at_last (by_iref o.service.0 kn.names) refl
-  by_route (Some next) = on_the_way (link_of t next.0)
-
-  pub own_reason : (reason : ℕ) → fate kn t l o ≡ Fails reason → IsReason reason ⊎ Lacks
-  own_reason reason is = subst (IsGood Lacks) is (by_route (next_on o.path t.core))
+pub opening_good : (kn : Known) (t : TheCircuits) (l : ℕ) (c : Circuit) (o : Opening) (L : Type 0) → (by_iref o.service.0 kn.names ≡ None → L) → (h : Heard)
+    → h ≡ heard_by o.binding c (fate kn t l o) → IsGood L h
+opening_good kn t l c o L lacks h is = subst (IsGood L) (sym is) (by_route kn t o.binding c L l o lacks (next_on o.path t.core) refl)
 
 -- ---- what asks, and what refuses
 
@@ -110,9 +104,9 @@ opened_refused : (c d : Circuit) (r : ℕ) → CircuitOpened c ≡ CircuitRefuse
 opened_refused c d r is = cc
 
 -- an entry that stood at a number that was given leads the same way
-old_way : (t u : TheCircuits) (l n : ℕ) (h : Hop) → Later t u → Given t l n → hop_at u l n ≡ Some h → (x : Hop) × (hop_at t l n ≡ Some x) × (x.way ≡ h.way)
+old_way : (t u : TheCircuits) (l n : ℕ) (h : Hop) → Later t u → Given t l n → hop_at u l n ≡ Some h → (x : Hop) × (hop_at t l n ≡ Some x) × (x.way ≡ h.way) × (x.binding ≡ h.binding)
 old_way t u l n h later given at = elim (later.kept l n given) [
-  | inl same ↦ (let (x, there, is) = map_some (hop_at t l n) (unanswered h) (sym same ∙ ap (option_map unanswered) at) in (x, there, ap (λ (y : Hop). y.way) is))
+  | inl same ↦ (let (x, there, is) = map_some (hop_at t l n) (unanswered h) (sym same ∙ ap (option_map unanswered) at) in (x, there, ap (λ (y : Hop). y.way) is, ap (λ (y : Hop). y.binding) is))
   | inr gone ↦ (let clash : None ≡ Some h = sym gone ∙ at in absurd (cc))
 ]
 
@@ -125,6 +119,7 @@ module _ (names : List TheRegistration) (t : TheCircuits) where
   pub wider : (said said2 heard heard2 : ℕ → List Frag) (m : TheMonitor) → ((l : ℕ) (f : Frag) → Has f (said2 l) → Has f (said l)) → ((l : ℕ) (f : Frag) → Has f (heard l) → Has f (heard2 l))
       → AreReasoned names t said heard m → AreReasoned names t said2 heard2 m
   wider said said2 heard heard2 m fewer more n = record {
+    told = λ l i hop there at. (let (o, came, same) = n.told l i hop there at in (o, came_more t heard heard2 more l i o came, same));
     passed = λ l i hop x d here at way.
         (let (o, came, only) = n.passed l i hop x d here at way in (o, came_more t heard heard2 more x.0 d.0 o came, only_fewer l i o only));
     refused = λ l f c reason has says_it.
@@ -146,6 +141,7 @@ module _ (names : List TheRegistration) (t : TheCircuits) where
       → ((l : ℕ) (f : Frag) → Has f (said2 l) ⊎ Has f (waiting_for m2.outboxes l) → (g : Frag) × (bare g ≡ bare f) × (Has g (said l) ⊎ Has g (waiting_for m.outboxes l)))
       → AreReasoned names t said heard m → AreReasoned names t said2 heard m2
   rests said said2 heard m m2 same from n = record {
+    told = λ l i hop there at. n.told l i hop (subst (λ (u : TheCircuits). OpenedThere u l i) same there) (sym (ap (λ (u : TheCircuits). hop_at u l i) same) ∙ at);
     passed = λ l i hop x d here at way.
         (let (o, came, only) = n.passed l i hop x d (subst (λ (u : TheCircuits). OpenedHere u l i) same here) (sym (ap (λ (u : TheCircuits). hop_at u l i) same) ∙ at) way in (o, came, only_still l i o only));
     refused = λ l f c reason has says_it.
@@ -178,6 +174,14 @@ module _ (names : List TheRegistration) (t0 : TheCircuits) (said heard heard2 : 
 
   abbrev Now : ℕ → Frag → Type 0
   Now l f = Has f (said l) ⊎ Has f (waiting_for m2.outboxes l)
+
+  -- an opening of the entry's binding was heard under its number
+  abbrev Told : ℕ → ℕ → Hop → Type 0
+  Told l n hop = (o : Opening) × CameUnder t0 heard2 l n o × (o.binding ≡ hop.binding)
+
+  -- so it is at each number of a neighbour's that wasn't given before
+  abbrev Taken : Type 0
+  Taken = (l n : ℕ) → OpenedThere m2.circuits l n → OpenedThere m.circuits l n ⊎ ((hop : Hop) → hop_at m2.circuits l n ≡ Some hop → Told l n hop)
 
   -- what asks was given before
   asked_given : (l : ℕ) (f : Frag) (c : Circuit) (o : Opening) → Before l f → Says f (asks c o) → OpenedHere m.circuits l c.0
@@ -245,13 +249,23 @@ module _ (names : List TheRegistration) (t0 : TheCircuits) (said heard heard2 : 
 
     passed_still : (l n : ℕ) (hop : Hop) (x : LinkId) (d : Circuit) → OpenedHere m.circuits l n → hop_at m2.circuits l n ≡ Some hop → hop.way ≡ Link x d → Passed l n x d
     passed_still l n hop x d here at way =
-        let (was, there, same) = old_way m.circuits m2.circuits l n hop later (inl here) at in
+        let (was, there, same, binding) = old_way m.circuits m2.circuits l n hop later (inl here) at in
         let (o, came, only) = reasoned.passed l n was x d here there (same ∙ way) in
         (o, came_more t0 heard heard2 more x.0 d.0 o came, only_still l n o here only)
 
-    reasoned_then : ((l n : ℕ) → OpenedHere m2.circuits l n → OpenedHere m.circuits l n ⊎ ((hop : Hop) (x : LinkId) (d : Circuit) → hop_at m2.circuits l n ≡ Some hop → hop.way ≡ Link x d → Passed l n x d))
+    told_still : (l n : ℕ) (hop : Hop) → OpenedThere m.circuits l n → hop_at m2.circuits l n ≡ Some hop → Told l n hop
+    told_still l n hop there at =
+        let (was, stood, way, binding) = old_way m.circuits m2.circuits l n hop later (inr there) at in
+        let (o, came, same) = reasoned.told l n was there stood in
+        (o, came_more t0 heard heard2 more l n o came, same ∙ binding)
+
+    reasoned_then : Taken → ((l n : ℕ) → OpenedHere m2.circuits l n → OpenedHere m.circuits l n ⊎ ((hop : Hop) (x : LinkId) (d : Circuit) → hop_at m2.circuits l n ≡ Some hop → hop.way ≡ Link x d → Passed l n x d))
         → ((l : ℕ) (c : Circuit) (reason : ℕ) → Refuses l c reason → IsRefused l c reason) → AreReasoned names t0 said heard2 m2
-    reasoned_then opened_then new = record {
+    reasoned_then taken_then opened_then new = record {
+      told = λ l n hop there at. elim (taken_then l n there) [
+        | inl old ↦ told_still l n hop old at
+        | inr entry ↦ entry hop at
+      ];
       passed = λ l n hop x d here at way. elim (opened_then l n here) [
         | inl old ↦ passed_still l n hop x d old at way
         | inr entry ↦ entry hop x d at way
@@ -276,19 +290,19 @@ module _ (names : List TheRegistration) (t0 : TheCircuits) (said heard heard2 : 
   silent : m2.outboxes ≡ m.outboxes → (l : ℕ) (f : Frag) → Now l f → Before l f
   silent same l f has = elim has [ inl h ↦ inl h | inr h ↦ inr (subst (λ (boxes : List (List Frag)). Has f (waiting_for boxes l)) same h) ]
 
-  pub by_silence : m2.outboxes ≡ m.outboxes → ((l n : ℕ) → OpenedHere m2.circuits l n → OpenedHere m.circuits l n) → AreReasoned names t0 said heard2 m2
-  by_silence same opened_then =
-      reasoned_then No None_refused (λ l f c o has says_it. inl (silent same l f has)) (λ l f c reason has says_it. inl (silent same l f has)) no_fresh
+  pub by_silence : m2.outboxes ≡ m.outboxes → Taken → ((l n : ℕ) → OpenedHere m2.circuits l n → OpenedHere m.circuits l n) → AreReasoned names t0 said heard2 m2
+  by_silence same taken_then opened_then =
+      reasoned_then No None_refused (λ l f c o has says_it. inl (silent same l f has)) (λ l f c reason has says_it. inl (silent same l f has)) no_fresh taken_then
       (λ l n here. inl (opened_then l n here)) (λ l c reason none. absurd none)
 
   -- a message more, which says that a circuit is open
-  pub by_opened : (x : LinkId) (d : Circuit) → Said (record { link = x; message = CircuitOpened d }) m.outboxes m2.outboxes
+  pub by_opened : (x : LinkId) (d : Circuit) → Said (record { link = x; message = CircuitOpened d }) m.outboxes m2.outboxes → Taken
       → ((l n : ℕ) → OpenedHere m2.circuits l n → OpenedHere m.circuits l n) → AreReasoned names t0 said heard2 m2
-  by_opened x d put opened_then =
+  by_opened x d put taken_then opened_then =
       reasoned_then No None_refused
       (λ l f c o has says_it. elim (said_then x (CircuitOpened d) put l f (asks c o) has says_it) [ inl old ↦ inl old | inr new ↦ absurd (opened_asks d c o new.1) ])
       (λ l f c reason has says_it. elim (said_then x (CircuitOpened d) put l f (CircuitRefused c reason) has says_it) [ inl old ↦ inl old | inr new ↦ absurd (opened_refused d c reason new.1) ])
-      no_fresh (λ l n here. inl (opened_then l n here)) (λ l c reason none. absurd none)
+      no_fresh taken_then (λ l n here. inl (opened_then l n here)) (λ l c reason none. absurd none)
 
   -- ---- one that refuses an opening
 
@@ -309,10 +323,10 @@ module _ (names : List TheRegistration) (t0 : TheCircuits) (said heard heard2 : 
     pub still_only : (l n : ℕ) (o : Opening) → OpenedHere m.circuits l n → AsksOnly said m l n o → AsksOnly said m2 l n o
     still_only l n o here only = only_still No This no_asks this_refuses no_fresh l n o here only
 
-    pub by_refusal : ((l n : ℕ) → OpenedHere m2.circuits l n → OpenedHere m.circuits l n) → (o : Opening) → CameUnder t0 heard2 x.0 d.0 o → IsRefusedFor names said heard2 m2 o r
+    pub by_refusal : Taken → ((l n : ℕ) → OpenedHere m2.circuits l n → OpenedHere m.circuits l n) → (o : Opening) → CameUnder t0 heard2 x.0 d.0 o → IsRefusedFor names said heard2 m2 o r
         → AreReasoned names t0 said heard2 m2
-    by_refusal opened_then o came why =
-        reasoned_then No This no_asks this_refuses no_fresh (λ l n here. inl (opened_then l n here))
+    by_refusal taken_then opened_then o came why =
+        reasoned_then No This no_asks this_refuses no_fresh taken_then (λ l n here. inl (opened_then l n here))
         (λ l c reason new. (let (circuits, reasons) = refused_parts d c r reason new.1 in (
           o,
           subst (λ (i : ℕ). CameUnder t0 heard2 i c.0 o) (sym new.0) (subst (λ (i : Circuit). CameUnder t0 heard2 x.0 i.0 o) circuits came),
@@ -343,11 +357,11 @@ module _ (names : List TheRegistration) (t0 : TheCircuits) (said heard heard2 : 
       | inr new ↦ (asks_parts d c o y new.1).1
     ]
 
-    pub by_asking : ((l n : ℕ) → OpenedHere m2.circuits l n → OpenedHere m.circuits l n ⊎ ((l ≡ x.0) × (n ≡ d.0)))
+    pub by_asking : Taken → ((l n : ℕ) → OpenedHere m2.circuits l n → OpenedHere m.circuits l n ⊎ ((l ≡ x.0) × (n ≡ d.0)))
         → ((hop : Hop) (y : LinkId) (e : Circuit) → hop_at m2.circuits x.0 d.0 ≡ Some hop → hop.way ≡ Link y e → CameUnder t0 heard2 y.0 e.0 o)
         → AreReasoned names t0 said heard2 m2
-    by_asking opened_then entry =
-        reasoned_then That None_refused that_asks none_refuses that_fresh
+    by_asking taken_then opened_then entry =
+        reasoned_then That None_refused that_asks none_refuses that_fresh taken_then
         (λ l n here. elim (opened_then l n here) [
           | inl old ↦ inl old
           | inr new ↦ inr (λ hop y e at way.

@@ -9,36 +9,34 @@ use Rattle.fl_hop.specs.declared.entry.Way.{Way}
 use Rattle.fl_hop.specs.declared.entry.Way.TheVariants.{Link, End}
 use Rattle.fl_hop.specs.Joined.{Sound}
 use Rattle.fl_hop.specs.Later.{Later}
-use Rattle.fl_hop.specs.Numbers.{OpenedHere, next_own, after_opening, after_taking, count_taking}
+use Rattle.fl_hop.specs.Numbers.{Given, OpenedHere, OpenedThere, next_own, next_due, after_opening, after_taking, count_taking}
 use Rattle.fl_hop.specs.Openings.{IsWaiting, opened as opened_table, passed_on, arrived, answered}
 use Rattle.fl_hop.specs.Table.{TheCircuits, hop_at, without_entry}
-use Rattle.fl_hop.proofs.Counting.{next_is, never_next}
-use Rattle.fl_hop.proofs.Laws.{later_same}
+use Rattle.fl_hop.proofs.Counting.{next_is, due_is, never_next, never_due}
 use Rattle.fl_nameserv.specs.Registrations.{TheRegistration, by_iref}
 use Rattle.fl_monitor.specs.declared.opening.Opening.{Opening}
-use Rattle.fl_monitor.specs.declared.fate.Fate.{Fate}
-use Rattle.fl_monitor.specs.declared.fate.Fate.TheVariants.{GoesOn, EndsAt, Fails}
 use Rattle.fl_monitor.specs.declared.heard.Heard.{Heard}
+use Rattle.fl_monitor.specs.declared.heard.Heard.TheVariants.{OpeningWentOn, ServerMade, OpeningFailed, AnswerWentOn, EndOpened, EndRefused}
 use Rattle.fl_monitor.specs.declared.message.Message.{Message}
 use Rattle.fl_monitor.specs.declared.message.Message.TheVariants.{OpenCircuit, CircuitOpened, CircuitRefused}
 use Rattle.fl_monitor.specs.Routing.{given}
-use Rattle.fl_monitor.specs.Fates.{Known, fate, is_in_place, comes_along}
-use Rattle.fl_monitor.specs.Hearing.{heard_by, opened_at, refused_at, ComesTo, says, after_opening as table_of_opening, table_after}
+use Rattle.fl_monitor.specs.Fates.{Known, is_in_place, comes_along}
+use Rattle.fl_monitor.specs.Hearing.{opened_at, refused_at, ComesTo, says, after_opening as table_of_opening, table_after}
 use Rattle.fl_monitor.specs.Monitors.{TheMonitor, AllSaid, Said, asks}
 use Rattle.fl_monitor.specs.Saying.{Says}
-use Rattle.fl_node.specs.View.{client_of}
+use Rattle.fl_node.specs.View.{client_of, server_of}
 use Rattle.fl_running.specs.declared.job.Job.{Job}
 use Rattle.fl_honest.specs.Named.{Has, AreNamed}
 use Rattle.fl_honest.specs.Reasons.{CameUnder, IsRefusedFor, AreReasoned}
 use Rattle.fl_honest.proofs.Asked.{along_in_place}
 use Rattle.fl_honest.proofs.AskedLaid.{Laid, laid_same, laid_then, laid_along, table_laid, opened_laid}
-use Rattle.fl_honest.proofs.Bound.{given_there, entry_way}
-use Rattle.fl_honest.proofs.Counted.{next_still}
+use Rattle.fl_honest.proofs.Bound.{given_there, entry_binding, entry_way}
+use Rattle.fl_honest.proofs.Counted.{IsNewest, taken_still, taken_before, newest_due, next_still}
 use Rattle.fl_honest.proofs.Logged.{IsKept, IsKeptBy}
 use Rattle.fl_honest.proofs.LoggedNames.{names_kept}
-use Rattle.fl_honest.proofs.Named.{IsNext, opening_next}
+use Rattle.fl_honest.proofs.Named.{IsNext, opening_next, due_in_place}
 use Rattle.fl_honest.proofs.Neighbours.{leads_of}
-use Rattle.fl_honest.proofs.Reasoned.{own_reason, came_more, wider, rests, by_silence, by_opened, by_refusal, still_only, by_asking}
+use Rattle.fl_honest.proofs.Reasoned.{IsGood, opening_good, came_more, wider, rests, by_silence, by_opened, by_refusal, still_only, by_asking}
 use Rattle.fl_honest.proofs.Refused.{opened_still, opened_before, newest_next}
 
 -- two ways over links are one
@@ -52,6 +50,9 @@ module _ (names : List TheRegistration) (t0 : TheCircuits) (said heard heard2 : 
 
   abbrev Reasoned : Type 0
   Reasoned = AreReasoned names t0 said heard2 m2
+
+  abbrev Taken : Type 0
+  Taken = (k n : ℕ) → OpenedThere m2.circuits k n → OpenedThere t k n ⊎ ((hop : Hop) → hop_at m2.circuits k n ≡ Some hop → (o : Opening) × CameUnder t0 heard2 k n o × (o.binding ≡ hop.binding))
 
   -- an entry at a new number doesn't lead to itself, and didn't stand before
   no_loop : (x : LinkId) (d : Circuit) (hop : Hop) → hop_at m2.circuits x.0 d.0 ≡ Some hop → hop.way ≡ Link x d → ⊥
@@ -67,8 +68,34 @@ module _ (names : List TheRegistration) (t0 : TheCircuits) (said heard heard2 : 
     came : CameUnder t0 heard2 l.0 c.0 o
     came = record { frag = frag; has = has; circuit = c; number = refl; says = says_it; along = sym (laid o.path) ∙ along_in_place kn t l.0 c.0 o place }
 
+    due : next_due t l.0 ≡ Some c.0
+    due = due_in_place kn t l c o place
+
+    -- an entry at the number that is taken now is of this opening
+    taken_then : (binding_of : (k n : ℕ) (hop : Hop) → hop_at m2.circuits k n ≡ Some hop → (hop.binding ≡ o.binding) ⊎ (hop_at t k n ≡ Some hop))
+        → ((k n : ℕ) → OpenedThere m2.circuits k n → OpenedThere t k n ⊎ IsNewest t.core t.links l.0 k n) → Taken
+    taken_then binding_of taken k n there = elim (taken k n there) [
+      | inl old ↦ inl old
+      | inr new ↦ inr (λ hop at.
+          (let number : n ≡ c.0 = newest_due t.core t.links l.0 k n c.0 (due_is t.core t.links l.0 c.0 due) new in
+          elim (binding_of k n hop at) [
+            | inl own ↦ (o, subst (λ (i : ℕ). CameUnder t0 heard2 i n o) (sym new.link_is) (subst (λ (i : ℕ). CameUnder t0 heard2 l.0 i o) (sym number) came), sym own)
+            | inr stood ↦ absurd (never_due t.core t.links sound.apart l.0 c.0 (due_is t.core t.links l.0 c.0 due)
+                (subst (λ (i : ℕ). Given t i c.0) new.link_is (subst (λ (i : ℕ). Given t k i) number (given_there t k n hop sound stood))))
+          ]))
+    ]
+
     went_on : (x : LinkId) (d : Circuit) → next_own t x.0 ≡ Some d.0 → m2.circuits ≡ passed_on t l c x d o.binding → Said (record { link = x; message = asks d o }) m.outboxes m2.outboxes → Reasoned
-    went_on x d next is put = by_asking names t0 said heard heard2 m m2 sound sound2 later named reasoned more x d o put next new entry where
+    went_on x d next is put = by_asking names t0 said heard heard2 m m2 sound sound2 later named reasoned more x d o put next (taken_then bindings taken) new entry where
+      bindings : (k n : ℕ) (hop : Hop) → hop_at m2.circuits k n ≡ Some hop → (hop.binding ≡ o.binding) ⊎ (hop_at t k n ≡ Some hop)
+      bindings k n hop at =
+          entry_binding (after_opening (after_taking t l.0) x.0) o.binding false (Link l c) (Link x d) k n hop (ap (λ (v : TheCircuits). hop_at v k n) (sym is) ∙ at)
+
+      taken : (k n : ℕ) → OpenedThere m2.circuits k n → OpenedThere t k n ⊎ IsNewest t.core t.links l.0 k n
+      taken k n there =
+          taken_before t.core t.links l.0 k n (slice_get t.links l.0) refl
+          (taken_still t.core (count_taking t.links l.0) x.0 k n (slice_get (count_taking t.links l.0) x.0) refl (subst (λ (v : TheCircuits). OpenedThere v k n) is there))
+
       new : (k n : ℕ) → OpenedHere m2.circuits k n → OpenedHere t k n ⊎ ((k ≡ x.0) × (n ≡ d.0))
       new k n here = elim (opened_before t.core (count_taking t.links l.0) x.0 k n (slice_get (count_taking t.links l.0) x.0) refl (subst (λ (v : TheCircuits). OpenedHere v k n) is here)) [
         | inl old ↦ inl (opened_still t.core t.links l.0 k n (slice_get t.links l.0) refl old)
@@ -86,20 +113,28 @@ module _ (names : List TheRegistration) (t0 : TheCircuits) (said heard heard2 : 
             ]
           ]
 
-    by_fate : (f : Fate) → fate kn t l.0 o ≡ f → (h : Heard) → h ≡ heard_by o.binding c f → IsNext t h → m2.circuits ≡ table_of_opening t l c o.binding h
+    taken_one : (k n : ℕ) → OpenedThere (after_taking t l.0) k n → OpenedThere t k n ⊎ IsNewest t.core t.links l.0 k n
+    taken_one k n there = taken_before t.core t.links l.0 k n (slice_get t.links l.0) refl there
+
+    opened_one : (k n : ℕ) → OpenedHere (after_taking t l.0) k n → OpenedHere t k n
+    opened_one k n here = opened_still t.core t.links l.0 k n (slice_get t.links l.0) refl here
+
+    by_heard : (h : Heard) → IsNext t h → IsGood (by_iref o.service.0 names ≡ None) h → m2.circuits ≡ table_of_opening t l c o.binding h
         → AllSaid (says l (asks c o) h) m.outboxes m2.outboxes → Reasoned
-    by_fate (GoesOn x d) at h is next table put =
-        went_on x d (subst (IsNext t) is next) (table ∙ ap (table_of_opening t l c o.binding) is) (subst (λ (y : Heard). AllSaid (says l (asks c o) y) m.outboxes m2.outboxes) is put)
-    by_fate (EndsAt e) at h is next table put =
-        by_opened names t0 said heard heard2 m m2 sound sound2 later named reasoned more l c (subst (λ (y : Heard). AllSaid (says l (asks c o) y) m.outboxes m2.outboxes) is put)
-        (λ k n here. opened_still t.core t.links l.0 k n (slice_get t.links l.0) refl (subst (λ (v : TheCircuits). OpenedHere v k n) (table ∙ ap (table_of_opening t l c o.binding) is) here))
-    by_fate (Fails reason) at h is next table put =
-        by_refusal names t0 said heard heard2 m m2 sound sound2 later named reasoned more l c reason (subst (λ (y : Heard). AllSaid (says l (asks c o) y) m.outboxes m2.outboxes) is put)
-        (λ k n here. opened_still t.core t.links l.0 k n (slice_get t.links l.0) refl (subst (λ (v : TheCircuits). OpenedHere v k n) (table ∙ ap (table_of_opening t l c o.binding) is) here))
-        o came (elim (own_reason kn t l.0 o reason at) [
-          | inl good ↦ inl good
-          | inr lacks ↦ inr (inl (ap (by_iref o.service.0) (sym offers) ∙ lacks))
-        ])
+    by_heard (OpeningWentOn b x d) next good is put = went_on x d next is put
+    by_heard (ServerMade b e d) next good is put =
+        by_opened names t0 said heard heard2 m m2 sound sound2 later named reasoned more l d put
+        (taken_then (λ k n hop at. entry_binding (after_taking t l.0) o.binding false (Link l c) (End (server_of o.binding)) k n hop (ap (λ (v : TheCircuits). hop_at v k n) (sym is) ∙ at))
+        (λ k n there. taken_one k n (subst (λ (v : TheCircuits). OpenedThere v k n) is there)))
+        (λ k n here. opened_one k n (subst (λ (v : TheCircuits). OpenedHere v k n) is here))
+    by_heard (OpeningFailed b reason) next good is put =
+        by_refusal names t0 said heard heard2 m m2 sound sound2 later named reasoned more l c reason put
+        (taken_then (λ k n hop at. inr (ap (λ (v : TheCircuits). hop_at v k n) (sym is) ∙ at)) (λ k n there. taken_one k n (subst (λ (v : TheCircuits). OpenedThere v k n) is there)))
+        (λ k n here. opened_one k n (subst (λ (v : TheCircuits). OpenedHere v k n) is here))
+        o came (elim good [ inl own ↦ inl own | inr lacks ↦ inr (inl lacks) ])
+    by_heard (AnswerWentOn b x d) next good is put = absurd next
+    by_heard (EndOpened e x) next good is put = absurd next
+    by_heard (EndRefused e reason) next good is put = absurd next
 
   -- ---- an answer
 
@@ -107,17 +142,18 @@ module _ (names : List TheRegistration) (t0 : TheCircuits) (said heard heard2 : 
     open_by : (way : Way) → hop.way ≡ way → m2.circuits ≡ answered t l c hop → (h : Heard) → h ≡ opened_at c hop.binding way → AllSaid (says l (CircuitOpened c) h) m.outboxes m2.outboxes → Reasoned
     open_by (Link x d) same is h comes put =
         by_opened names t0 said heard heard2 m m2 sound sound2 later named reasoned more x d (subst (λ (y : Heard). AllSaid (says l (CircuitOpened c) y) m.outboxes m2.outboxes) comes put)
-        (λ k n here. subst (λ (v : TheCircuits). OpenedHere v k n) is here)
+        (λ k n there. inl (subst (λ (v : TheCircuits). OpenedThere v k n) is there)) (λ k n here. subst (λ (v : TheCircuits). OpenedHere v k n) is here)
     open_by (End e) same is h comes put =
         by_silence names t0 said heard heard2 m m2 sound sound2 later named reasoned more (subst (λ (y : Heard). AllSaid (says l (CircuitOpened c) y) m.outboxes m2.outboxes) comes put)
-        (λ k n here. subst (λ (v : TheCircuits). OpenedHere v k n) is here)
+        (λ k n there. inl (subst (λ (v : TheCircuits). OpenedThere v k n) is there)) (λ k n here. subst (λ (v : TheCircuits). OpenedHere v k n) is here)
 
     refused_by : (r : ℕ) (frag : Frag) → Has frag (heard2 l.0) → Says frag (CircuitRefused c r) → (way : Way) → hop.way ≡ way → m2.circuits ≡ without_entry t (Link l c) hop.way
         → (h : Heard) → h ≡ refused_at r hop.binding way → AllSaid (says l (CircuitRefused c r) h) m.outboxes m2.outboxes → Reasoned
     refused_by r frag has says_it (Link x d) same is h comes put =
         let said_now = subst (λ (y : Heard). AllSaid (says l (CircuitRefused c r) y) m.outboxes m2.outboxes) comes put in
         let (o, before, only) = reasoned.passed l.0 c.0 hop x d waits.here waits.there same in
-        by_refusal names t0 said heard heard2 m m2 sound sound2 later named reasoned more x d r said_now (λ k n here. subst (λ (v : TheCircuits). OpenedHere v k n) is here)
+        by_refusal names t0 said heard heard2 m m2 sound sound2 later named reasoned more x d r said_now
+        (λ k n there. inl (subst (λ (v : TheCircuits). OpenedThere v k n) is there)) (λ k n here. subst (λ (v : TheCircuits). OpenedHere v k n) is here)
         o (came_more t0 heard heard2 more x.0 d.0 o before) (inr (inr (record {
           link = l.0;
           frag = frag;
@@ -129,7 +165,7 @@ module _ (names : List TheRegistration) (t0 : TheCircuits) (said heard heard2 : 
         })))
     refused_by r frag has says_it (End e) same is h comes put =
         by_silence names t0 said heard heard2 m m2 sound sound2 later named reasoned more (subst (λ (y : Heard). AllSaid (says l (CircuitRefused c r) y) m.outboxes m2.outboxes) comes put)
-        (λ k n here. subst (λ (v : TheCircuits). OpenedHere v k n) is here)
+        (λ k n there. inl (subst (λ (v : TheCircuits). OpenedThere v k n) is there)) (λ k n here. subst (λ (v : TheCircuits). OpenedHere v k n) is here)
 
   -- ---- whatever is heard
 
@@ -137,7 +173,8 @@ module _ (names : List TheRegistration) (t0 : TheCircuits) (said heard heard2 : 
       → Has frag (heard2 l.0) → Says frag msg → ComesTo kn t l msg h → m2.circuits ≡ table_after t l msg h → AllSaid (says l msg h) m.outboxes m2.outboxes → Reasoned
   hears_reasoned l laid kn offers frag (OpenCircuit c binding service path) h has says_it comes is put =
       let o : Opening = record { binding = binding; service = service; path = path } in
-      by_fate l laid kn offers frag c o has says_it comes.0 (fate kn t l.0 o) refl h comes.1 (opening_next kn t l.0 c o h comes.1) is put
+      by_heard l laid kn offers frag c o has says_it comes.0 h (opening_next kn t l.0 c o h comes.1)
+      (opening_good kn t l.0 c o (by_iref service.0 names ≡ None) (λ lacks. ap (by_iref service.0) (sym offers) ∙ lacks) h comes.1) is put
   hears_reasoned l laid kn offers frag (CircuitOpened c) h has says_it (hop, waits, comes) is put =
       open_by l c hop waits hop.way refl (is ∙ ap (λ (o : Option Hop). given o t λ x. answered t l c x) waits.there) h comes put
   hears_reasoned l laid kn offers frag (CircuitRefused c r) h has says_it (hop, waits, comes) is put =
@@ -147,7 +184,10 @@ module _ (names : List TheRegistration) (t0 : TheCircuits) (said heard heard2 : 
 
   pub asks_reasoned : (l : LinkId) (c : Circuit) (o : Opening) → next_own t l.0 ≡ Some c.0 → m2.circuits ≡ opened_table t l c o.binding
       → Said (record { link = l; message = asks c o }) m.outboxes m2.outboxes → Reasoned
-  asks_reasoned l c o next is put = by_asking names t0 said heard heard2 m m2 sound sound2 later named reasoned more l c o put next new entry where
+  asks_reasoned l c o next is put = by_asking names t0 said heard heard2 m m2 sound sound2 later named reasoned more l c o put next taken new entry where
+    taken : Taken
+    taken k n there = inl (taken_still t.core t.links l.0 k n (slice_get t.links l.0) refl (subst (λ (v : TheCircuits). OpenedThere v k n) is there))
+
     new : (k n : ℕ) → OpenedHere m2.circuits k n → OpenedHere t k n ⊎ ((k ≡ l.0) × (n ≡ c.0))
     new k n here = elim (opened_before t.core t.links l.0 k n (slice_get t.links l.0) refl (subst (λ (v : TheCircuits). OpenedHere v k n) is here)) [
       | inl old ↦ inl old

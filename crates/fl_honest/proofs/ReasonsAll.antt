@@ -47,6 +47,7 @@ use Rattle.fl_honest.proofs.Wired.{lane_there}
 
 unused_reasoned : (names : List TheRegistration) (t : TheCircuits) (m : TheMonitor) → IsUnused m → AreReasoned names t (λ l. []) (λ l. []) m
 unused_reasoned names t m u = record {
+  told = λ l n hop there at. (let (k, less, is) = there.among in let none = (u.counts l there.link there.there).1 in absurd (omega (arith, less, none)));
   passed = λ l n hop x d here at way. (let (k, less, is) = here.among in let none = (u.counts l here.link here.there).0 in absurd (omega (arith, less, none)));
   refused = λ l f c reason has says_it. elim has [
     | inl none ↦ absurd none

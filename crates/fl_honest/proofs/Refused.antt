@@ -123,11 +123,11 @@ put_long : (way : Way) (o : Option Hop) (xs : List (Option Hop)) → length (put
 put_long (Link l c) o xs = set_long xs (slot l.0 c.0) o
 put_long (End e) o xs = refl
 
-test_true : (b : Bool) (o p : Option Hop) → b ≡ true → (if b then o else p) ≡ o
+pub test_true : (b : Bool) (o p : Option Hop) → b ≡ true → (if b then o else p) ≡ o
 test_true true o p is = refl
 test_true false o p is = absurd (cc)
 
-less_true : (a b : ℕ) → a < b → nat_lt a b ≡ true
+pub less_true : (a b : ℕ) → a < b → nat_lt a b ≡ true
 less_true a b less = grind (arith, nat_tests, less)
 
 last_stands : (t : TheCircuits) (hops : List (Option Hop)) (m : LinkId) (d : Circuit) (o : Option Hop) (links : ℕ) → length hops ≡ 2047 * links → m.0 < links → d.0 ≤ 2046

@@ -7,7 +7,7 @@ use Rattle.fl_nameserv.specs.Registrations.{TheRegistration, by_iref}
 use Rattle.fl_hop.specs.declared.entry.Hop.{Hop}
 use Rattle.fl_hop.specs.declared.entry.Way.TheVariants.{Link}
 use Rattle.fl_hop.specs.declared.links.LinkState.{LinkState}
-use Rattle.fl_hop.specs.Numbers.{OpenedHere}
+use Rattle.fl_hop.specs.Numbers.{OpenedHere, OpenedThere}
 use Rattle.fl_hop.specs.OfCircuit.{of_circuit}
 use Rattle.fl_hop.specs.Stretch.{taken_from, put_on}
 use Rattle.fl_hop.specs.Table.{TheCircuits, hop_at}
@@ -62,6 +62,8 @@ IsRefusedFor names said heard m o reason = IsReason reason ⊎ (by_iref o.servic
 
 -- of a monitor that said and heard these fragments, by link
 pub record AreReasoned (names : List TheRegistration) (t : TheCircuits) (said heard : ℕ → List Frag) (m : TheMonitor) : Type 0 where
+  -- where an entry stands at a number of the neighbour's, an opening of its binding was heard under that
+  pub told : (l n : ℕ) (hop : Hop) → OpenedThere m.circuits l n → hop_at m.circuits l n ≡ Some hop → (o : Opening) × CameUnder t heard l n o × (o.binding ≡ hop.binding)
   -- where an entry leads from a number that this core gave to another link, an opening was heard under the number there, and just it was asked for under this one
   pub passed : (l n : ℕ) (hop : Hop) (x : LinkId) (d : Circuit) → OpenedHere m.circuits l n → hop_at m.circuits l n ≡ Some hop → hop.way ≡ Link x d
       → (o : Opening) × CameUnder t heard x.0 d.0 o × AsksOnly said m l n o

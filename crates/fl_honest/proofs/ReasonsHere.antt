@@ -1,0 +1,147 @@
+-- Why a core refuses the opening that a job of its own asks for.
+use Rattle.std.proofs.Common.{◌≡◌, ◌⊎◌, inl, inr, refl, sym, ap, ◌∙◌, subst, ℕ, suc, ◌+◌, ◌*◌, ◌<◌, ◌≤◌, ◌==◌, ◌||◌, ◌&&◌, nat_lt, not, is_some, if◌then◌else◌}
+use Rattle.std.proofs.Common.{Bool, true, false, List, [], ◌∷◌, length, slice_get, slice_index_or, Option, Some, None, Result, Ok, Err, arith}
+use Rattle.std.specs.List.{list_any}
+use Rattle.std.proofs.lemmas.Bool.Decides.{nat_tests}
+use Rattle.fl_base.specs.declared.fragment.Frag.{Frag}
+use Rattle.fl_base.specs.declared.identity.LinkId.{LinkId}
+use Rattle.fl_base.specs.declared.identity.Circuit.{Circuit}
+use Rattle.fl_base.specs.declared.identity.EndId.{EndId}
+use Rattle.fl_core.specs.declared.fault.BoardFault.{BoardFault}
+use Rattle.fl_core.specs.declared.fault.BoardFault.TheVariants as board
+use Rattle.fl_core.specs.Events.{Adds}
+use Rattle.fl_core.specs.View.{TheBoard}
+use Rattle.fl_core.specs.declared.kind.Kind.{Kind}
+use Rattle.fl_endpoint.specs.View.{TheEnd}
+use Rattle.fl_nameserv.specs.Registrations.{TheRegistration}
+use Rattle.fl_hop.specs.declared.entry.Hop.{Hop}
+use Rattle.fl_hop.specs.declared.entry.Way.{Way}
+use Rattle.fl_hop.specs.declared.entry.Way.TheVariants.{Link, End}
+use Rattle.fl_hop.specs.declared.fault.HopFault.{HopFault}
+use Rattle.fl_hop.specs.declared.fault.HopFault.TheVariants.{NoLink, UsedUp, Astray}
+use Rattle.fl_hop.specs.Joined.{Sound, Leads, IsClientWay}
+use Rattle.fl_hop.specs.Later.{way_at}
+use Rattle.fl_hop.specs.Numbers.{OpenedHere, OpenedThere, next_own}
+use Rattle.fl_hop.specs.Openings.{if_used_up, open_fault}
+use Rattle.fl_hop.specs.Table.{TheCircuits, slot, hop_at, is_of, stands}
+use Rattle.fl_hop.proofs.Lists.{index_there, within}
+use Rattle.fl_monitor.specs.declared.fault.MonitorFault.{MonitorFault}
+use Rattle.fl_monitor.specs.declared.fault.MonitorFault.TheVariants as monitor
+use Rattle.fl_monitor.specs.declared.opening.Opening.{Opening}
+use Rattle.fl_monitor.specs.Monitors.{TheMonitor, Opens}
+use Rattle.fl_node.specs.declared.fault.OpenFault.{OpenFault}
+use Rattle.fl_node.specs.declared.fault.OpenFault.TheVariants as opening
+use Rattle.fl_node.specs.Faults.{open_number}
+use Rattle.fl_node.specs.Making.{Asked, Asks}
+use Rattle.fl_node.specs.View.{TheCore, client_of}
+use Rattle.fl_running.proofs.Tables.{way_of}
+use Rattle.fl_honest.specs.Named.{Has}
+use Rattle.fl_honest.specs.Reasons.{IsReason, CameUnder, AreReasoned}
+use Rattle.fl_honest.proofs.Neighbours.{leads_of}
+use Rattle.fl_honest.proofs.Refused.{test_true, less_true}
+
+-- ---- an entry of a binding
+
+both_tests : (a b : Bool) → (a || b) ≡ true → (a ≡ true) ⊎ (b ≡ true)
+both_tests true b h = inl refl
+both_tests false b h = inr h
+
+its_binding : (binding : ℕ) (o : Option Hop) → is_of binding o ≡ true → (hop : Hop) × (o ≡ Some hop) × (hop.binding ≡ binding)
+its_binding binding None h = absurd (cc)
+its_binding binding (Some hop) h = (hop, refl, grind (arith, nat_tests, h))
+
+entry_in : (binding : ℕ) (xs : List (Option Hop)) → list_any (is_of binding) xs ≡ true → (i : ℕ) × (hop : Hop) × (slice_get xs i ≡ Some (Some hop)) × (hop.binding ≡ binding)
+entry_in binding [] h = absurd (cc)
+entry_in binding (x ∷ xs) h = elim (both_tests (is_of binding x) (list_any (is_of binding) xs) h) [
+  | inl here ↦ (let (hop, is, same) = its_binding binding x here in (0, hop, ap Some is, same))
+  | inr there ↦ (let (i, hop, at, same) = entry_in binding xs there in (suc i, hop, at, same))
+]
+
+-- the binding has an entry at this number
+pub record HasEntry (t : TheCircuits) (binding : ℕ) : Type 0 where
+  pub link : ℕ
+  pub number : ℕ
+  pub hop : Hop
+  pub at : hop_at t link number ≡ Some hop
+  pub binding_is : hop.binding ≡ binding
+
+number_of : (i : ℕ) → (l : ℕ) × (n : ℕ) × (slot l n ≡ i) × (n ≤ 2046)
+number_of i = (i / 2047, i % 2047, omega arith, omega arith)
+
+pub has_entry : (t : TheCircuits) (binding : ℕ) → stands t binding ≡ true → HasEntry t binding
+has_entry t binding h =
+    let (i, hop, at, same) = entry_in binding t.hops h in
+    let (l, n, is, few) = number_of i in
+    record {
+      link = l;
+      number = n;
+      hop = hop;
+      at = test_true (nat_lt n 2047) _ None (less_true n 2047 (omega (arith, few))) ∙ index_there t.hops (slot l n) None (Some hop) (ap (slice_get t.hops) is ∙ at);
+      binding_is = same;
+    }
+
+-- it leads to the client's end, or an opening of the binding was heard
+pub entry_came : (names : List TheRegistration) (t0 : TheCircuits) (said heard : ℕ → List Frag) (m : TheMonitor) → Sound m.circuits → AreReasoned names t0 said heard m → (binding : ℕ) → HasEntry m.circuits binding
+    → ((l n : ℕ) × (way_at m.circuits l n ≡ Some (End (client_of binding)))) ⊎ ((l n : ℕ) × (o : Opening) × CameUnder t0 heard l n o × (o.binding ≡ binding))
+entry_came names t0 said heard m sound reasoned binding x = by x.hop.way refl where
+  abbrev t : TheCircuits
+  t = m.circuits
+
+  leads : (way : Way) → x.hop.way ≡ way → Leads t x.link x.number binding way
+  leads way same = leads_of t x.link x.number x.hop binding way x.at x.binding_is same
+
+  came : (l n : ℕ) (hop : Hop) → OpenedThere t l n → hop_at t l n ≡ Some hop → hop.binding ≡ binding → (l n : ℕ) × (o : Opening) × CameUnder t0 heard l n o × (o.binding ≡ binding)
+  came l n hop there at same = (let (o, c, is) = reasoned.told l n hop there at in (l, n, o, c, is ∙ same))
+
+  here : (way : Way) → x.hop.way ≡ way → IsClientWay t.core t.links binding way
+      → ((l n : ℕ) × (way_at t l n ≡ Some (End (client_of binding)))) ⊎ ((l n : ℕ) × (o : Opening) × CameUnder t0 heard l n o × (o.binding ≡ binding))
+  here (End e) same client = inl (x.link, x.number, way_of t x.link x.number x.hop (End (client_of binding)) x.at (same ∙ ap End client))
+  here (Link m d) same taken =
+      let back = sound.both (record { 0 = x.link }) m (record { 0 = x.number }) d binding (leads (Link m d) same) in
+      let hop : Hop = record { binding = binding; way = Link (record { 0 = x.link }) (record { 0 = x.number }); answered = back.answered } in
+      inr (came m.0 d.0 hop taken back.there refl)
+
+  by : (way : Way) → x.hop.way ≡ way → ((l n : ℕ) × (way_at t l n ≡ Some (End (client_of binding)))) ⊎ ((l n : ℕ) × (o : Opening) × CameUnder t0 heard l n o × (o.binding ≡ binding))
+  by way same = elim (sound.toward x.link x.number binding way (leads way same)) [
+    | inl own ↦ here way same own.1
+    | inr other ↦ inr (came x.link x.number x.hop other.0 x.at x.binding_is)
+  ]
+
+-- ---- why an opening is refused
+
+used_up : (o : Option ℕ) → if_used_up o ≡ Some Astray → ⊥
+used_up None h = cc
+used_up (Some n) h = cc
+
+stands_by : (a b : Bool) (o : Option ℕ) → (if a then (if b then Some Astray else if_used_up o) else Some NoLink) ≡ Some Astray → b ≡ true
+stands_by true true o h = refl
+stands_by true false o h = absurd (used_up o h)
+stands_by false b o h = absurd (cc)
+
+-- for a reason; since an entry of the binding stands; or for want of memory
+by_board : (b : TheBoard) (n : ℕ) (s : TheEnd) (kind : Kind) (fault : BoardFault) → Adds b n s kind (Err fault) b → IsReason (open_number (opening.Board fault)) ⊎ (open_number (opening.Board fault) ≡ 99)
+by_board b n s kind board.TooManyEnds h = inl (inl refl)
+by_board b n s kind board.Memory h = inr refl
+by_board b n s kind board.NotBound h = absurd h
+by_board b n s kind board.Registered h = absurd h
+by_board b n s kind board.NotRegistered h = absurd h
+by_board b n s kind board.Failed h = absurd h
+
+by_monitor : (l : LinkId) (o : Opening) (m : TheMonitor) (fault : MonitorFault) → Opens l o m (Err fault) m → (fault ≡ monitor.OutboxFull → ⊥)
+    → IsReason (open_number (opening.Monitor fault)) ⊎ (stands m.circuits o.binding ≡ true) ⊎ (open_number (opening.Monitor fault) ≡ 99)
+by_monitor l o m monitor.OutboxFull h some = absurd (some refl)
+by_monitor l o m monitor.Memory h some = inr (inr refl)
+by_monitor l o m monitor.NoRoute h some = inl (inr (inl refl))
+by_monitor l o m monitor.UsedUp h some = inl (inr (inr refl))
+by_monitor l o m monitor.Astray h some =
+    inr (inl (stands_by (nat_lt l.0 (length m.circuits.links)) (stands m.circuits o.binding) (next_own m.circuits l.0) h.0))
+by_monitor l o m monitor.Differs h some = absurd h.0
+by_monitor l o m monitor.PlansDiffer h some = absurd h.0
+
+pub refused_here : (a : Asked) (k k2 : TheCore) (fault : OpenFault) → Asks a k (Err fault) k2 → (fault ≡ opening.Monitor monitor.OutboxFull → ⊥)
+    → IsReason (open_number fault) ⊎ (stands k.monitor.circuits a.opening.binding ≡ true) ⊎ (open_number fault ≡ 99)
+refused_here a k k2 (opening.Board fault) h some = elim (by_board k.board a.dispatcher _ _ fault h.0) [
+  | inl good ↦ inl good
+  | inr memory ↦ inr (inr memory)
+]
+refused_here a k k2 (opening.Monitor fault) h some = by_monitor a.link a.opening k.monitor fault h.1 (λ is. some (ap opening.Monitor is))
