@@ -171,6 +171,19 @@ desk_before s t name u stay is = by (desk_place s.desks name) refl where
       let (d, stood, jobs_are) = stay.1 n u there in
       (d, ap (λ (o : Option ℕ). given o None λ i. slice_get s.desks i) at ∙ stood, jobs_are)
 
+-- so what was one of its jobs then was one before
+pub job_before : {S : Type 0} (jobs : List Job) (s u : TheRun S) (name : EndId) (wish : Wish) → JobsStay s.desks u.desks → JobAt jobs u name wish → JobAt jobs s name wish
+job_before jobs s u name wish stay a =
+    let (desk, is, same) = desk_before s u name a.desk stay a.desk_is in
+    record {
+      desk = desk;
+      desk_is = is;
+      turn = a.turn;
+      place = a.place;
+      place_is = sym (ap (λ (xs : List ℕ). slice_get xs a.turn) same) ∙ a.place_is;
+      job_is = a.job_is;
+    }
+
 -- ---- what a core offers
 
 offers_done : {S : Type 0} (w : Ways S) (deed : Deed) (s m : TheRun S) → Does w deed s m → m.offers ≡ s.offers

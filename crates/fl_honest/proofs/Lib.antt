@@ -47,5 +47,6 @@ mod Lone
 mod Runs
 mod Reasoned
 mod ReasonedHears
-mod ReasonsAll
 mod ReasonsHere
+mod ReasonsDesks
+mod ReasonsAll

@@ -115,10 +115,14 @@ came_more t heard heard2 more l n o a = record { frag = a.frag; has = more l a.f
 
 -- ---- less was said, more was heard, or nothing new
 
-module _ (names : List TheRegistration) (t : TheCircuits) where
+module _ (names : List TheRegistration) (Wishes : Opening → Type 0) (t : TheCircuits) where
   pub wider : (said said2 heard heard2 : ℕ → List Frag) (m : TheMonitor) → ((l : ℕ) (f : Frag) → Has f (said2 l) → Has f (said l)) → ((l : ℕ) (f : Frag) → Has f (heard l) → Has f (heard2 l))
-      → AreReasoned names t said heard m → AreReasoned names t said2 heard2 m
+      → AreReasoned names Wishes t said heard m → AreReasoned names Wishes t said2 heard2 m
   wider said said2 heard heard2 m fewer more n = record {
+    asked = λ l f c o has says_it. elim (n.asked l f c o (in_more l f has) says_it) [
+      | inl own ↦ inl own
+      | inr came ↦ inr (came.0, came.1, came_more t heard heard2 more came.0 came.1 o came.2)
+    ];
     told = λ l i hop there at. (let (o, came, same) = n.told l i hop there at in (o, came_more t heard heard2 more l i o came, same));
     passed = λ l i hop x d here at way.
         (let (o, came, only) = n.passed l i hop x d here at way in (o, came_more t heard heard2 more x.0 d.0 o came, only_fewer l i o only));
@@ -139,8 +143,9 @@ module _ (names : List TheRegistration) (t : TheCircuits) where
 
   pub rests : (said said2 heard : ℕ → List Frag) (m m2 : TheMonitor) → m2.circuits ≡ m.circuits
       → ((l : ℕ) (f : Frag) → Has f (said2 l) ⊎ Has f (waiting_for m2.outboxes l) → (g : Frag) × (bare g ≡ bare f) × (Has g (said l) ⊎ Has g (waiting_for m.outboxes l)))
-      → AreReasoned names t said heard m → AreReasoned names t said2 heard m2
+      → AreReasoned names Wishes t said heard m → AreReasoned names Wishes t said2 heard m2
   rests said said2 heard m m2 same from n = record {
+    asked = λ l f c o has says_it. (let (g, alike, before) = from l f has in n.asked l g c o before (says_the_same f g (asks c o) alike says_it));
     told = λ l i hop there at. n.told l i hop (subst (λ (u : TheCircuits). OpenedThere u l i) same there) (sym (ap (λ (u : TheCircuits). hop_at u l i) same) ∙ at);
     passed = λ l i hop x d here at way.
         (let (o, came, only) = n.passed l i hop x d (subst (λ (u : TheCircuits). OpenedHere u l i) same here) (sym (ap (λ (u : TheCircuits). hop_at u l i) same) ∙ at) way in (o, came, only_still l i o only));
@@ -167,8 +172,8 @@ module _ (names : List TheRegistration) (t : TheCircuits) where
 
 -- ---- the monitor of before, and of afterwards
 
-module _ (names : List TheRegistration) (t0 : TheCircuits) (said heard heard2 : ℕ → List Frag) (m m2 : TheMonitor) (sound : Sound m.circuits) (sound2 : Sound m2.circuits)
-    (later : Later m.circuits m2.circuits) (named : AreNamed said heard m) (reasoned : AreReasoned names t0 said heard m) (more : (l : ℕ) (f : Frag) → Has f (heard l) → Has f (heard2 l)) where
+module _ (names : List TheRegistration) (Wishes : Opening → Type 0) (t0 : TheCircuits) (said heard heard2 : ℕ → List Frag) (m m2 : TheMonitor) (sound : Sound m.circuits) (sound2 : Sound m2.circuits)
+    (later : Later m.circuits m2.circuits) (named : AreNamed said heard m) (reasoned : AreReasoned names Wishes t0 said heard m) (more : (l : ℕ) (f : Frag) → Has f (heard l) → Has f (heard2 l)) where
   abbrev Before : ℕ → Frag → Type 0
   Before l f = Has f (said l) ⊎ Has f (waiting_for m.outboxes l)
 
@@ -178,6 +183,10 @@ module _ (names : List TheRegistration) (t0 : TheCircuits) (said heard heard2 : 
   -- an opening of the entry's binding was heard under its number
   abbrev Told : ℕ → ℕ → Hop → Type 0
   Told l n hop = (o : Opening) × CameUnder t0 heard2 l n o × (o.binding ≡ hop.binding)
+
+  -- a job here wishes for it, or it was heard
+  abbrev Founded : Opening → Type 0
+  Founded o = Wishes o ⊎ ((k n : ℕ) × CameUnder t0 heard2 k n o)
 
   -- so it is at each number of a neighbour's that wasn't given before
   abbrev Taken : Type 0
@@ -259,9 +268,16 @@ module _ (names : List TheRegistration) (t0 : TheCircuits) (said heard heard2 : 
         let (o, came, same) = reasoned.told l n was there stood in
         (o, came_more t0 heard heard2 more l n o came, same ∙ binding)
 
-    reasoned_then : Taken → ((l n : ℕ) → OpenedHere m2.circuits l n → OpenedHere m.circuits l n ⊎ ((hop : Hop) (x : LinkId) (d : Circuit) → hop_at m2.circuits l n ≡ Some hop → hop.way ≡ Link x d → Passed l n x d))
-        → ((l : ℕ) (c : Circuit) (reason : ℕ) → Refuses l c reason → IsRefused l c reason) → AreReasoned names t0 said heard2 m2
-    reasoned_then taken_then opened_then new = record {
+    reasoned_then : ((l : ℕ) (c : Circuit) (o : Opening) → Asks l c o → Founded o) → Taken → ((l n : ℕ) → OpenedHere m2.circuits l n → OpenedHere m.circuits l n ⊎ ((hop : Hop) (x : LinkId) (d : Circuit) → hop_at m2.circuits l n ≡ Some hop → hop.way ≡ Link x d → Passed l n x d))
+        → ((l : ℕ) (c : Circuit) (reason : ℕ) → Refuses l c reason → IsRefused l c reason) → AreReasoned names Wishes t0 said heard2 m2
+    reasoned_then founded taken_then opened_then new = record {
+      asked = λ l f c o has says_it. elim (asks_then l f c o has says_it) [
+        | inl old ↦ elim (reasoned.asked l f c o old says_it) [
+          | inl own ↦ inl own
+          | inr came ↦ inr (came.0, came.1, came_more t0 heard heard2 more came.0 came.1 o came.2)
+        ]
+        | inr now ↦ founded l c o now
+      ];
       told = λ l n hop there at. elim (taken_then l n there) [
         | inl old ↦ told_still l n hop old at
         | inr entry ↦ entry hop at
@@ -290,19 +306,19 @@ module _ (names : List TheRegistration) (t0 : TheCircuits) (said heard heard2 : 
   silent : m2.outboxes ≡ m.outboxes → (l : ℕ) (f : Frag) → Now l f → Before l f
   silent same l f has = elim has [ inl h ↦ inl h | inr h ↦ inr (subst (λ (boxes : List (List Frag)). Has f (waiting_for boxes l)) same h) ]
 
-  pub by_silence : m2.outboxes ≡ m.outboxes → Taken → ((l n : ℕ) → OpenedHere m2.circuits l n → OpenedHere m.circuits l n) → AreReasoned names t0 said heard2 m2
+  pub by_silence : m2.outboxes ≡ m.outboxes → Taken → ((l n : ℕ) → OpenedHere m2.circuits l n → OpenedHere m.circuits l n) → AreReasoned names Wishes t0 said heard2 m2
   by_silence same taken_then opened_then =
-      reasoned_then No None_refused (λ l f c o has says_it. inl (silent same l f has)) (λ l f c reason has says_it. inl (silent same l f has)) no_fresh taken_then
+      reasoned_then No None_refused (λ l f c o has says_it. inl (silent same l f has)) (λ l f c reason has says_it. inl (silent same l f has)) no_fresh (λ l c o none. absurd none) taken_then
       (λ l n here. inl (opened_then l n here)) (λ l c reason none. absurd none)
 
   -- a message more, which says that a circuit is open
   pub by_opened : (x : LinkId) (d : Circuit) → Said (record { link = x; message = CircuitOpened d }) m.outboxes m2.outboxes → Taken
-      → ((l n : ℕ) → OpenedHere m2.circuits l n → OpenedHere m.circuits l n) → AreReasoned names t0 said heard2 m2
+      → ((l n : ℕ) → OpenedHere m2.circuits l n → OpenedHere m.circuits l n) → AreReasoned names Wishes t0 said heard2 m2
   by_opened x d put taken_then opened_then =
       reasoned_then No None_refused
       (λ l f c o has says_it. elim (said_then x (CircuitOpened d) put l f (asks c o) has says_it) [ inl old ↦ inl old | inr new ↦ absurd (opened_asks d c o new.1) ])
       (λ l f c reason has says_it. elim (said_then x (CircuitOpened d) put l f (CircuitRefused c reason) has says_it) [ inl old ↦ inl old | inr new ↦ absurd (opened_refused d c reason new.1) ])
-      no_fresh taken_then (λ l n here. inl (opened_then l n here)) (λ l c reason none. absurd none)
+      no_fresh (λ l c o none. absurd none) taken_then (λ l n here. inl (opened_then l n here)) (λ l c reason none. absurd none)
 
   -- ---- one that refuses an opening
 
@@ -324,9 +340,9 @@ module _ (names : List TheRegistration) (t0 : TheCircuits) (said heard heard2 : 
     still_only l n o here only = only_still No This no_asks this_refuses no_fresh l n o here only
 
     pub by_refusal : Taken → ((l n : ℕ) → OpenedHere m2.circuits l n → OpenedHere m.circuits l n) → (o : Opening) → CameUnder t0 heard2 x.0 d.0 o → IsRefusedFor names said heard2 m2 o r
-        → AreReasoned names t0 said heard2 m2
+        → AreReasoned names Wishes t0 said heard2 m2
     by_refusal taken_then opened_then o came why =
-        reasoned_then No This no_asks this_refuses no_fresh taken_then (λ l n here. inl (opened_then l n here))
+        reasoned_then No This no_asks this_refuses no_fresh (λ l c o none. absurd none) taken_then (λ l n here. inl (opened_then l n here))
         (λ l c reason new. (let (circuits, reasons) = refused_parts d c r reason new.1 in (
           o,
           subst (λ (i : ℕ). CameUnder t0 heard2 i c.0 o) (sym new.0) (subst (λ (i : Circuit). CameUnder t0 heard2 x.0 i.0 o) circuits came),
@@ -357,11 +373,11 @@ module _ (names : List TheRegistration) (t0 : TheCircuits) (said heard heard2 : 
       | inr new ↦ (asks_parts d c o y new.1).1
     ]
 
-    pub by_asking : Taken → ((l n : ℕ) → OpenedHere m2.circuits l n → OpenedHere m.circuits l n ⊎ ((l ≡ x.0) × (n ≡ d.0)))
+    pub by_asking : Founded o → Taken → ((l n : ℕ) → OpenedHere m2.circuits l n → OpenedHere m.circuits l n ⊎ ((l ≡ x.0) × (n ≡ d.0)))
         → ((hop : Hop) (y : LinkId) (e : Circuit) → hop_at m2.circuits x.0 d.0 ≡ Some hop → hop.way ≡ Link y e → CameUnder t0 heard2 y.0 e.0 o)
-        → AreReasoned names t0 said heard2 m2
-    by_asking taken_then opened_then entry =
-        reasoned_then That None_refused that_asks none_refuses that_fresh taken_then
+        → AreReasoned names Wishes t0 said heard2 m2
+    by_asking founded taken_then opened_then entry =
+        reasoned_then That None_refused that_asks none_refuses that_fresh (λ l c y new. subst Founded (sym (asks_parts d c o y new.1).1) founded) taken_then
         (λ l n here. elim (opened_then l n here) [
           | inl old ↦ inl old
           | inr new ↦ inr (λ hop y e at way.

@@ -27,6 +27,7 @@ use Rattle.fl_monitor.specs.Saying.{Says}
 use Rattle.fl_node.specs.View.{client_of, server_of}
 use Rattle.fl_running.specs.declared.job.Job.{Job}
 use Rattle.fl_honest.specs.Named.{Has, AreNamed}
+use Rattle.fl_honest.specs.Asked.{IsWished}
 use Rattle.fl_honest.specs.Reasons.{CameUnder, IsRefusedFor, AreReasoned}
 use Rattle.fl_honest.proofs.Asked.{along_in_place}
 use Rattle.fl_honest.proofs.AskedLaid.{Laid, laid_same, laid_then, laid_along, table_laid, opened_laid}
@@ -43,13 +44,13 @@ use Rattle.fl_honest.proofs.Refused.{opened_still, opened_before, newest_next}
 same_links : (x y : LinkId) (d e : Circuit) → Link x d ≡ Link y e → (x ≡ y) × (d ≡ e)
 same_links x y d e is = (let one : x ≡ y = cc in one, let two : d ≡ e = cc in two)
 
-module _ (names : List TheRegistration) (t0 : TheCircuits) (said heard heard2 : ℕ → List Frag) (m m2 : TheMonitor) (sound : Sound m.circuits) (sound2 : Sound m2.circuits)
-    (later : Later m.circuits m2.circuits) (named : AreNamed said heard m) (reasoned : AreReasoned names t0 said heard m) (more : (l : ℕ) (f : Frag) → Has f (heard l) → Has f (heard2 l)) where
+module _ (names : List TheRegistration) (Wishes : Opening → Type 0) (t0 : TheCircuits) (said heard heard2 : ℕ → List Frag) (m m2 : TheMonitor) (sound : Sound m.circuits) (sound2 : Sound m2.circuits)
+    (later : Later m.circuits m2.circuits) (named : AreNamed said heard m) (reasoned : AreReasoned names Wishes t0 said heard m) (more : (l : ℕ) (f : Frag) → Has f (heard l) → Has f (heard2 l)) where
   abbrev t : TheCircuits
   t = m.circuits
 
   abbrev Reasoned : Type 0
-  Reasoned = AreReasoned names t0 said heard2 m2
+  Reasoned = AreReasoned names Wishes t0 said heard2 m2
 
   abbrev Taken : Type 0
   Taken = (k n : ℕ) → OpenedThere m2.circuits k n → OpenedThere t k n ⊎ ((hop : Hop) → hop_at m2.circuits k n ≡ Some hop → (o : Opening) × CameUnder t0 heard2 k n o × (o.binding ≡ hop.binding))
@@ -86,7 +87,7 @@ module _ (names : List TheRegistration) (t0 : TheCircuits) (said heard heard2 : 
     ]
 
     went_on : (x : LinkId) (d : Circuit) → next_own t x.0 ≡ Some d.0 → m2.circuits ≡ passed_on t l c x d o.binding → Said (record { link = x; message = asks d o }) m.outboxes m2.outboxes → Reasoned
-    went_on x d next is put = by_asking names t0 said heard heard2 m m2 sound sound2 later named reasoned more x d o put next (taken_then bindings taken) new entry where
+    went_on x d next is put = by_asking names Wishes t0 said heard heard2 m m2 sound sound2 later named reasoned more x d o put next (inr (l.0, c.0, came)) (taken_then bindings taken) new entry where
       bindings : (k n : ℕ) (hop : Hop) → hop_at m2.circuits k n ≡ Some hop → (hop.binding ≡ o.binding) ⊎ (hop_at t k n ≡ Some hop)
       bindings k n hop at =
           entry_binding (after_opening (after_taking t l.0) x.0) o.binding false (Link l c) (Link x d) k n hop (ap (λ (v : TheCircuits). hop_at v k n) (sym is) ∙ at)
@@ -123,12 +124,12 @@ module _ (names : List TheRegistration) (t0 : TheCircuits) (said heard heard2 : 
         → AllSaid (says l (asks c o) h) m.outboxes m2.outboxes → Reasoned
     by_heard (OpeningWentOn b x d) next good is put = went_on x d next is put
     by_heard (ServerMade b e d) next good is put =
-        by_opened names t0 said heard heard2 m m2 sound sound2 later named reasoned more l d put
+        by_opened names Wishes t0 said heard heard2 m m2 sound sound2 later named reasoned more l d put
         (taken_then (λ k n hop at. entry_binding (after_taking t l.0) o.binding false (Link l c) (End (server_of o.binding)) k n hop (ap (λ (v : TheCircuits). hop_at v k n) (sym is) ∙ at))
         (λ k n there. taken_one k n (subst (λ (v : TheCircuits). OpenedThere v k n) is there)))
         (λ k n here. opened_one k n (subst (λ (v : TheCircuits). OpenedHere v k n) is here))
     by_heard (OpeningFailed b reason) next good is put =
-        by_refusal names t0 said heard heard2 m m2 sound sound2 later named reasoned more l c reason put
+        by_refusal names Wishes t0 said heard heard2 m m2 sound sound2 later named reasoned more l c reason put
         (taken_then (λ k n hop at. inr (ap (λ (v : TheCircuits). hop_at v k n) (sym is) ∙ at)) (λ k n there. taken_one k n (subst (λ (v : TheCircuits). OpenedThere v k n) is there)))
         (λ k n here. opened_one k n (subst (λ (v : TheCircuits). OpenedHere v k n) is here))
         o came (elim good [ inl own ↦ inl own | inr lacks ↦ inr (inl lacks) ])
@@ -141,10 +142,10 @@ module _ (names : List TheRegistration) (t0 : TheCircuits) (said heard heard2 : 
   module _ (l : LinkId) (c : Circuit) (hop : Hop) (waits : IsWaiting t l.0 c.0 hop) where
     open_by : (way : Way) → hop.way ≡ way → m2.circuits ≡ answered t l c hop → (h : Heard) → h ≡ opened_at c hop.binding way → AllSaid (says l (CircuitOpened c) h) m.outboxes m2.outboxes → Reasoned
     open_by (Link x d) same is h comes put =
-        by_opened names t0 said heard heard2 m m2 sound sound2 later named reasoned more x d (subst (λ (y : Heard). AllSaid (says l (CircuitOpened c) y) m.outboxes m2.outboxes) comes put)
+        by_opened names Wishes t0 said heard heard2 m m2 sound sound2 later named reasoned more x d (subst (λ (y : Heard). AllSaid (says l (CircuitOpened c) y) m.outboxes m2.outboxes) comes put)
         (λ k n there. inl (subst (λ (v : TheCircuits). OpenedThere v k n) is there)) (λ k n here. subst (λ (v : TheCircuits). OpenedHere v k n) is here)
     open_by (End e) same is h comes put =
-        by_silence names t0 said heard heard2 m m2 sound sound2 later named reasoned more (subst (λ (y : Heard). AllSaid (says l (CircuitOpened c) y) m.outboxes m2.outboxes) comes put)
+        by_silence names Wishes t0 said heard heard2 m m2 sound sound2 later named reasoned more (subst (λ (y : Heard). AllSaid (says l (CircuitOpened c) y) m.outboxes m2.outboxes) comes put)
         (λ k n there. inl (subst (λ (v : TheCircuits). OpenedThere v k n) is there)) (λ k n here. subst (λ (v : TheCircuits). OpenedHere v k n) is here)
 
     refused_by : (r : ℕ) (frag : Frag) → Has frag (heard2 l.0) → Says frag (CircuitRefused c r) → (way : Way) → hop.way ≡ way → m2.circuits ≡ without_entry t (Link l c) hop.way
@@ -152,7 +153,7 @@ module _ (names : List TheRegistration) (t0 : TheCircuits) (said heard heard2 : 
     refused_by r frag has says_it (Link x d) same is h comes put =
         let said_now = subst (λ (y : Heard). AllSaid (says l (CircuitRefused c r) y) m.outboxes m2.outboxes) comes put in
         let (o, before, only) = reasoned.passed l.0 c.0 hop x d waits.here waits.there same in
-        by_refusal names t0 said heard heard2 m m2 sound sound2 later named reasoned more x d r said_now
+        by_refusal names Wishes t0 said heard heard2 m m2 sound sound2 later named reasoned more x d r said_now
         (λ k n there. inl (subst (λ (v : TheCircuits). OpenedThere v k n) is there)) (λ k n here. subst (λ (v : TheCircuits). OpenedHere v k n) is here)
         o (came_more t0 heard heard2 more x.0 d.0 o before) (inr (inr (record {
           link = l.0;
@@ -161,10 +162,10 @@ module _ (names : List TheRegistration) (t0 : TheCircuits) (said heard heard2 : 
           circuit = c;
           says = says_it;
           given = later.here l.0 c.0 waits.here;
-          only = still_only names t0 said heard heard2 m m2 sound sound2 later named reasoned more x d r said_now l.0 c.0 o waits.here only;
+          only = still_only names Wishes t0 said heard heard2 m m2 sound sound2 later named reasoned more x d r said_now l.0 c.0 o waits.here only;
         })))
     refused_by r frag has says_it (End e) same is h comes put =
-        by_silence names t0 said heard heard2 m m2 sound sound2 later named reasoned more (subst (λ (y : Heard). AllSaid (says l (CircuitRefused c r) y) m.outboxes m2.outboxes) comes put)
+        by_silence names Wishes t0 said heard heard2 m m2 sound sound2 later named reasoned more (subst (λ (y : Heard). AllSaid (says l (CircuitRefused c r) y) m.outboxes m2.outboxes) comes put)
         (λ k n there. inl (subst (λ (v : TheCircuits). OpenedThere v k n) is there)) (λ k n here. subst (λ (v : TheCircuits). OpenedHere v k n) is here)
 
   -- ---- whatever is heard
@@ -182,9 +183,9 @@ module _ (names : List TheRegistration) (t0 : TheCircuits) (said heard heard2 : 
 
   -- ---- a circuit is asked for
 
-  pub asks_reasoned : (l : LinkId) (c : Circuit) (o : Opening) → next_own t l.0 ≡ Some c.0 → m2.circuits ≡ opened_table t l c o.binding
+  pub asks_reasoned : (l : LinkId) (c : Circuit) (o : Opening) → Wishes o → next_own t l.0 ≡ Some c.0 → m2.circuits ≡ opened_table t l c o.binding
       → Said (record { link = l; message = asks c o }) m.outboxes m2.outboxes → Reasoned
-  asks_reasoned l c o next is put = by_asking names t0 said heard heard2 m m2 sound sound2 later named reasoned more l c o put next taken new entry where
+  asks_reasoned l c o wished next is put = by_asking names Wishes t0 said heard heard2 m m2 sound sound2 later named reasoned more l c o put next (inl wished) taken new entry where
     taken : Taken
     taken k n there = inl (taken_still t.core t.links l.0 k n (slice_get t.links l.0) refl (subst (λ (v : TheCircuits). OpenedThere v k n) is there))
 
@@ -207,26 +208,27 @@ module _ (names : List TheRegistration) (t0 : TheCircuits) (said heard heard2 : 
 -- ---- a log
 
 -- with the core and the neighbours of this table, and numbers named by their bindings
-abbrev pub AreReasonedFrom : List TheRegistration → TheCircuits → (ℕ → List Frag) → (ℕ → List Frag) → TheMonitor → Type 0
-AreReasonedFrom names t0 said heard m = Laid t0 m.circuits × AreNamed said heard m × AreReasoned names t0 said heard m
+abbrev pub AreReasonedFrom : List TheRegistration → (Opening → Type 0) → TheCircuits → (ℕ → List Frag) → (ℕ → List Frag) → TheMonitor → Type 0
+AreReasonedFrom names Wishes t0 said heard m = Laid t0 m.circuits × AreNamed said heard m × AreReasoned names Wishes t0 said heard m
 
-pub reasons_kept : (names : List TheRegistration) (t0 : TheCircuits) (jobs : List Job) → IsKeptBy names (AreReasonedFrom names t0) jobs
-reasons_kept names t0 jobs = record {
+pub reasons_kept : (names : List TheRegistration) (jobs : List Job) (Wishes : Opening → Type 0) → ((o : Opening) → Wishes o → IsWished jobs o) → (t0 : TheCircuits)
+    → IsKeptBy names Wishes (AreReasonedFrom names Wishes t0)
+reasons_kept names jobs Wishes wish t0 = record {
   wider = λ said said2 heard heard2 m fewer more n.
-      (n.0, (names_kept jobs).wider said said2 heard heard2 m fewer more n.1, wider names t0 said said2 heard heard2 m fewer more n.2);
+      (n.0, (names_kept jobs).wider said said2 heard heard2 m fewer more n.1, wider names Wishes t0 said said2 heard heard2 m fewer more n.2);
   rests = λ said heard said2 m m2 sound2 later same from n. (
     laid_then t0 m.circuits m2.circuits n.0 (laid_same m.circuits m2.circuits same),
     (names_kept jobs).rests said heard said2 m m2 sound2 later same from n.1,
-    rests names t0 said said2 heard m m2 same from n.2,
+    rests names Wishes t0 said said2 heard m m2 same from n.2,
   );
   hears = λ said heard heard2 m m2 sound sound2 later n more l kn offers frag msg h has says_it comes is put. (
     laid_then t0 m.circuits m2.circuits n.0 (subst (Laid m.circuits) (sym is) (table_laid m.circuits l msg h)),
     (names_kept jobs).hears said heard heard2 m m2 sound sound2 later n.1 more l kn frag msg h has says_it comes is put,
-    hears_reasoned names t0 said heard heard2 m m2 sound sound2 later n.1 n.2 more l (λ path. laid_along t0 m.circuits n.0 l.0 path) kn offers frag msg h has says_it comes is put,
+    hears_reasoned names Wishes t0 said heard heard2 m m2 sound sound2 later n.1 n.2 more l (λ path. laid_along t0 m.circuits n.0 l.0 path) kn offers frag msg h has says_it comes is put,
   );
   asks = λ said heard m m2 sound sound2 later n l c o wished next is put. (
     laid_then t0 m.circuits m2.circuits n.0 (subst (Laid m.circuits) (sym is) (opened_laid m.circuits l c o.binding)),
-    (names_kept jobs).asks said heard m m2 sound sound2 later n.1 l c o wished next is put,
-    asks_reasoned names t0 said heard heard m m2 sound sound2 later n.1 n.2 (λ k f h. h) l c o next is put,
+    (names_kept jobs).asks said heard m m2 sound sound2 later n.1 l c o (wish o wished) next is put,
+    asks_reasoned names Wishes t0 said heard heard m m2 sound sound2 later n.1 n.2 (λ k f h. h) l c o wished next is put,
   );
 }

@@ -1,14 +1,16 @@
 -- Over all cores: what was heard to be refused is for a reason, core by core forth along the route.
-use Rattle.std.proofs.Common.{◌≡◌, ◌⊎◌, inl, inr, refl, sym, ap, ◌∙◌, subst, ℕ, zero, suc, ◌+◌, ◌<◌, ◌≤◌, List, [], length, slice_get, position, Option, Some, None, arith}
+use Rattle.std.proofs.Common.{◌≡◌, ◌⊎◌, inl, inr, refl, sym, ap, ◌∙◌, subst, ℕ, zero, suc, ◌+◌, ◌<◌, ◌≤◌, true, false, List, [], length, slice_get, position, Option, Some, None, arith}
 use Rattle.std.proofs.lemmas.List.Quantifiers.{position-Some}
 use Rattle.fl_base.specs.declared.fragment.Frag.{Frag}
 use Rattle.fl_base.specs.declared.identity.CoreId.{CoreId}
+use Rattle.fl_base.specs.declared.identity.EndId.{EndId}
 use Rattle.fl_base.specs.declared.identity.LinkId.{LinkId}
 use Rattle.fl_base.specs.declared.identity.Circuit.{Circuit}
 use Rattle.fl_deal.specs.Settled.{RingsConserve}
 use Rattle.fl_endpoint.specs.Laws.{OnAnotherCircuit}
 use Rattle.fl_nameserv.specs.Registrations.{TheRegistration, by_iref}
 use Rattle.fl_compile.specs.Programs.{TheProgram}
+use Rattle.fl_hop.specs.declared.entry.Way.TheVariants.{End}
 use Rattle.fl_hop.specs.declared.links.LinkState.{LinkState}
 use Rattle.fl_hop.specs.OfCircuit.{of_circuit}
 use Rattle.fl_hop.specs.Stretch.{taken_from, put_on}
@@ -20,18 +22,24 @@ use Rattle.fl_monitor.specs.Fates.{comes_along}
 use Rattle.fl_monitor.specs.Monitors.{TheMonitor}
 use Rattle.fl_monitor.specs.Routing.{is_core}
 use Rattle.fl_monitor.specs.Saying.{Says}
+use Rattle.fl_running.specs.Words.{refusal_at}
+use Rattle.fl_running.proofs.Stepping.{log_steps}
 use Rattle.fl_running.specs.declared.job.Job.{Job as CoreJob}
 use Rattle.fl_running.specs.declared.job.Job.TheVariants as job
+use Rattle.fl_node.specs.View.{client_of}
 use Rattle.fl_jobs.specs.Jobs.{Job}
+use Rattle.fl_dockets.specs.declared.docket.Bound.{Bound}
+use Rattle.fl_dockets.specs.Joined.{core_of}
 use Rattle.fl_dockets.specs.State.{TheJoined}
 use Rattle.fl_honest.specs.Cores.{OneCore, shared_ways}
 use Rattle.fl_honest.specs.Circuits.{Leading}
 use Rattle.fl_honest.specs.Named.{Has}
 use Rattle.fl_honest.specs.Neighbours.{IsUnused}
-use Rattle.fl_honest.specs.Asked.{IsWished, CameAlong, GoesAsking, CoresAsk, AreBeside}
+use Rattle.fl_honest.specs.Asked.{IsWished, CameAlong, AreBeside}
+use Rattle.fl_honest.specs.Whole.{HasOwn}
 use Rattle.fl_honest.specs.Meeting.{IsPaired}
 use Rattle.fl_honest.specs.Runs.{AreSetUp}
-use Rattle.fl_honest.specs.Reasons.{IsReason, CameUnder, AsksOnly, HeardRefused, IsRefusedFor, AreReasoned, GoesReasoned, CoresReason, HearsReasons, ReasonsAlone}
+use Rattle.fl_honest.specs.Reasons.{IsReason, CameUnder, AsksOnly, HeardRefused, IsRefusedFor, AreReasoned, GoesReasoned, CoresReason, IsOwnWish, AskedAgain, ReasonsAlone, DesksTellReasons}
 use Rattle.fl_honest.proofs.AskedCores.{asking_of}
 use Rattle.fl_honest.proofs.AskedLaid.{laid_same}
 use Rattle.fl_honest.proofs.AskedRoutes.{StandsBehind, stands_behind, side_there, heard_wished}
@@ -39,14 +47,23 @@ use Rattle.fl_honest.proofs.Logged.{log_keeps_by}
 use Rattle.fl_honest.proofs.Neighbours.{unused_named}
 use Rattle.fl_honest.proofs.OverLinks.{none_waits, both_ways, has_before}
 use Rattle.fl_honest.proofs.ReasonedHears.{AreReasonedFrom, reasons_kept}
+use Rattle.fl_honest.proofs.ReasonsDesks.{Placed, own_wish, told_at, log_tells}
+use Rattle.fl_ring.specs.SharedSides.{TheSide}
+use Rattle.fl_running.specs.Run.{TheRun}
 use Rattle.fl_honest.proofs.Routes.{CircuitsPrefix}
 use Rattle.fl_honest.proofs.Runs.{all_beside}
+use Rattle.fl_honest.proofs.WholeHome.{opener}
+use Rattle.fl_honest.proofs.WholeOpened.{none_leads, sound_first}
 use Rattle.fl_honest.proofs.Wired.{lane_there}
 
 -- ---- one core
 
-unused_reasoned : (names : List TheRegistration) (t : TheCircuits) (m : TheMonitor) → IsUnused m → AreReasoned names t (λ l. []) (λ l. []) m
-unused_reasoned names t m u = record {
+unused_reasoned : (names : List TheRegistration) (Wishes : Opening → Type 0) (t : TheCircuits) (m : TheMonitor) → IsUnused m → AreReasoned names Wishes t (λ l. []) (λ l. []) m
+unused_reasoned names Wishes t m u = record {
+  asked = λ l f c o has says_it. elim has [
+    | inl none ↦ absurd none
+    | inr waits ↦ absurd (none_waits f (slice_get m.outboxes l) (u.outboxes l) waits)
+  ];
   told = λ l n hop there at. (let (k, less, is) = there.among in let none = (u.counts l there.link there.there).1 in absurd (omega (arith, less, none)));
   passed = λ l n hop x d here at way. (let (k, less, is) = here.among in let none = (u.counts l here.link here.there).0 in absurd (omega (arith, less, none)));
   refused = λ l f c reason has says_it. elim has [
@@ -55,20 +72,42 @@ unused_reasoned names t m u = record {
   ];
 }
 
+at_start : (names : List TheRegistration) (Wishes : Opening → Type 0) (c : OneCore) → IsUnused c.start.core.monitor
+    → AreReasonedFrom names Wishes c.start.core.monitor.circuits (λ l. []) (λ l. []) c.start.core.monitor
+at_start names Wishes c unused =
+    let t0 = c.start.core.monitor.circuits in
+    (laid_same t0 t0 refl, unused_named c.start.core.monitor unused, unused_reasoned names Wishes t0 c.start.core.monitor unused)
+
+own_wished : (jobs : List CoreJob) (s : TheRun TheSide) (o : Opening) → IsOwnWish jobs s o → IsWished jobs o
+own_wished jobs s o w = record { place = w.place; wish = w.wish; job_is = w.job_is; opening_is = w.opening_is }
+
+none_placed : (jobs : List CoreJob) (c : OneCore) → Leading jobs c → IsUnused c.start.core.monitor → Placed c.start.core
+none_placed jobs c v unused l n name way =
+    absurd (none_leads c.start.core.monitor (sound_first shared_ways jobs c.log c.start c.finish v.went.goes v.table) unused l n (End name) way)
+
 pub cores_reason : OnAnotherCircuit → CoresReason
 cores_reason on jobs c v unused =
     let t0 = c.start.core.monitor.circuits in
     let names = c.start.offers.names in
+    let Wishes = IsOwnWish jobs c.start in
     record {
       asking = asking_of on jobs c v unused;
-      reasoned = (log_keeps_by (AreReasonedFrom names t0) jobs (reasons_kept names t0 jobs) shared_ways on c.log c.start c.finish v.went.goes (λ l. []) (λ l. []) refl v.led v.table
-          (laid_same t0 t0 refl, unused_named c.start.core.monitor unused, unused_reasoned names t0 c.start.core.monitor unused)).2;
+      reasoned = (log_keeps_by (AreReasonedFrom names Wishes t0) jobs (reasons_kept names jobs Wishes (own_wished jobs c.start) t0) shared_ways on c.log c.start c.finish v.went.goes (λ l. []) (λ l. []) refl (own_wish jobs c.start) v.led v.table
+          (at_start names Wishes c unused)).2;
+      desks = λ e. elim (log_tells shared_ways on names jobs Wishes (own_wished jobs c.start) t0 e c.log c.start c.finish v.went.goes (λ l. []) (λ l. []) refl (own_wish jobs c.start) v.led
+          (none_placed jobs c v unused) v.table (at_start names Wishes c unused)) [
+        | inl same ↦ inl same
+        | inr told ↦ inr (told_at jobs c.start (λ l. of_circuit 0 (taken_from l (log_steps shared_ways jobs c.log c.start c.finish v.went.goes))) (refusal_at c.finish e) told)
+      ];
     }
 
 -- ---- all cores
 
 one_number : (a b : ℕ) → Some a ≡ Some b → a ≡ b
 one_number a b same = cc
+
+one_bound : (a b : Bound) → Some a ≡ Some b → a ≡ b
+one_bound a b same = cc
 
 one_state : (a b : LinkState) → Some a ≡ Some b → a ≡ b
 one_state a b same = cc
@@ -122,6 +161,7 @@ module _ (rings : RingsConserve) (prefix : CircuitsPrefix) (reason : CoresReason
     pub state : LinkState
     pub state_is : slice_get core.start.core.monitor.circuits.links link ≡ Some state
     pub back : state.neighbour.0 ≡ c.start.core.monitor.circuits.core
+    pub forth : (a : LinkState) → slice_get c.start.core.monitor.circuits.links l ≡ Some a → core.start.core.monitor.circuits.core ≡ a.neighbour.0
 
   across_by : (n : ℕ) (c : OneCore) (is : slice_get cores n ≡ Some c) (l : ℕ) → IsPaired cores n c (link_of_number l) → Across n c is l
   across_by n c is l x =
@@ -140,6 +180,8 @@ module _ (rings : RingsConserve) (prefix : CircuitsPrefix) (reason : CoresReason
         state = x.back.link;
         state_is = x.back.link_is;
         back = x.back.neighbour ∙ sym (all.numbered n c is);
+        forth = λ a at. all.numbered x.across.place x.across.core x.across.core_is ∙ sym x.forth.neighbour
+            ∙ ap (λ (y : LinkState). y.neighbour.0) (one_state x.forth.link a (sym x.forth.link_is ∙ at));
       }
 
   across_start : (n : ℕ) (c : OneCore) (is : slice_get cores n ≡ Some c) (l : ℕ) (link : LinkState) → slice_get c.start.core.monitor.circuits.links l ≡ Some link → Across n c is l
@@ -187,6 +229,98 @@ module _ (rings : RingsConserve) (prefix : CircuitsPrefix) (reason : CoresReason
       let (o, came, why) = (went x.place x.core x.core_is).reasoned.refused x.link f i r (inl (x.said f has)) says_it in
       let b = stands_behind x.core.start.core.monitor.circuits x.link o.path came.along in
       why_good (length o.path) x.place x.core x.core_is x.link i.0 o r b.place came why b.place_is (omega arith)
+
+  -- ---- at desks
+
+  -- the core at a place whose desk has a job that wishes for an opening is that of the client of the opening's binding
+  at_home : (n : ℕ) (c : OneCore) → slice_get cores n ≡ Some c → (o : Opening) → IsOwnWish j.jobs c.start o → (b : Bound) → slice_get j.bindings o.binding ≡ Some b → b.client ≡ n
+  at_home n c is o w b b_is = by (all.own n c w.name w.desk is w.desk_is) where
+    by : (w.desk.jobs ≡ []) ⊎ HasOwn j n w.name w.desk.jobs → b.client ≡ n
+    by (inl none) = absurd (let no : None ≡ Some w.place = sym (ap (λ (xs : List ℕ). slice_get xs w.turn) none) ∙ w.place_is in cc)
+    by (inr x) =
+        let end : client_of w.wish.opening.binding ≡ w.name = opener asked j (length cores) all.joined w.name w.desk.jobs w.turn w.place (job.Open w.wish) x.jobs_are w.place_is w.job_is in
+        let name : client_of o.binding ≡ w.name = ap (λ (y : Opening). client_of y.binding) (sym w.opening_is) ∙ end in
+        let bounds : Some b ≡ Some x.bound = sym b_is ∙ ap (λ (e : EndId). slice_get j.bindings e.binding) name ∙ x.bound_is in
+        let same : b ≡ x.bound = one_bound b x.bound bounds in
+        ap (λ (y : Bound). y.client) same ∙ ap (λ (e : EndId). core_of e.side x.bound) name ∙ x.core_is
+
+  -- back along the route an opening was wished for, at a core that stands before
+  record Origin (o : Opening) (place : ℕ) : Type 0 where
+    pub n : ℕ
+    pub core : OneCore
+    pub core_is : slice_get cores n ≡ Some core
+    pub wished : IsOwnWish j.jobs core.start o
+    pub before : ℕ
+    pub before_is : position (is_core core.start.core.monitor.circuits.core) o.path ≡ Some before
+    pub less : before < place
+
+  origin : (most n : ℕ) (c : OneCore) (is : slice_get cores n ≡ Some c) (l i : ℕ) (o : Opening) (place : ℕ) → Came n c is l i o
+      → position (is_core c.start.core.monitor.circuits.core) o.path ≡ Some place → place < most → Origin o place
+  origin zero n c is l i o place came at within = absurd (omega (arith, within))
+  origin (suc most) n c is l i o place came at within =
+      let b = stands_behind c.start.core.monitor.circuits l o.path came.along in
+      let x = across_start n c is l b.state b.state_is in
+      let here : b.place ≡ place = one_number b.place place (sym b.place_is ∙ at) in
+      let less = b.less in
+      elim ((went x.place x.core x.core_is).reasoned.asked x.link came.frag came.circuit o (inl (x.said came.frag came.has)) came.says) [
+        | inl own ↦ record {
+          n = x.place;
+          core = x.core;
+          core_is = x.core_is;
+          wished = own;
+          before = b.before;
+          before_is = ap (λ (k : ℕ). position (is_core k) o.path) (x.forth b.state b.state_is) ∙ b.before_is;
+          less = omega (arith, here, less);
+        }
+        | inr on ↦
+            (let d = stands_behind x.core.start.core.monitor.circuits on.0 o.path on.2.along in
+            let there : d.place ≡ b.before = one_number d.place b.before
+                (sym d.place_is ∙ ap (λ (k : ℕ). position (is_core k) o.path) (x.forth b.state b.state_is) ∙ b.before_is) in
+            let g = origin most x.place x.core x.core_is on.0 on.1 o d.place on.2 d.place_is (omega (arith, here, less, there, within)) in
+            let fewer = g.less in
+            record {
+              n = g.n;
+              core = g.core;
+              core_is = g.core_is;
+              wished = g.wished;
+              before = g.before;
+              before_is = g.before_is;
+              less = omega (arith, here, less, there, fewer);
+            })
+      ]
+
+  -- so no opening comes to the core of its own binding's client
+  not_again : (n : ℕ) (c : OneCore) (is : slice_get cores n ≡ Some c) → AskedAgain j.jobs c.start (Heard n c is) → ⊥
+  not_again n c is a =
+      let b = stands_behind c.start.core.monitor.circuits a.link a.opening.path a.came.along in
+      let g = origin (suc b.place) n c is a.link a.number a.opening b.place a.came b.place_is (omega arith) in
+      let (bound, bound_is) = at_within j.bindings a.wished.wish.opening.binding (all.joined.there a.wished.place (job.Open a.wished.wish) a.wished.job_is) in
+      let own_is : slice_get j.bindings a.own.binding ≡ Some bound = ap (λ (o : Opening). slice_get j.bindings o.binding) (sym a.wished.opening_is) ∙ bound_is in
+      let one : bound.client ≡ n = at_home n c is a.own a.wished bound own_is in
+      let two : bound.client ≡ g.n = at_home g.n g.core g.core_is a.opening g.wished bound (ap (slice_get j.bindings) a.binding_is ∙ own_is) in
+      let numbers : g.core.start.core.monitor.circuits.core ≡ c.start.core.monitor.circuits.core = all.numbered g.n g.core g.core_is ∙ sym two ∙ one ∙ sym (all.numbered n c is) in
+      let places : b.place ≡ g.before = one_number b.place g.before (sym b.place_is ∙ ap (λ (k : ℕ). position (is_core k) a.opening.path) (sym numbers) ∙ g.before_is) in
+      let less = g.less in
+      omega (arith, places, less)
+
+  desk_told : (n : ℕ) (c : OneCore) (e : EndId) → slice_get cores n ≡ Some c → refusal_at c.start e ≡ 0
+      → (refusal_at c.finish e ≡ 0) ⊎ IsReason (refusal_at c.finish e) ⊎ (refusal_at c.finish e ≡ 99)
+  desk_told n c e is none = elim ((went n c is).desks e) [
+    | inl same ↦ inl (same ∙ none)
+    | inr told ↦ elim told [
+      | inl h ↦ inr (inl (heard_good n c is h.link h.state h.frag h.circuit (refusal_at c.finish e) h.state_is h.has h.says))
+      | inr others ↦ elim others [
+        | inl good ↦ inr (inl good)
+        | inr rest ↦ elim rest [
+          | inl again ↦ absurd (not_again n c is again)
+          | inr memory ↦ inr (inr memory)
+        ]
+      ]
+    ]
+  ]
+
+pub desks_tell : RingsConserve → CircuitsPrefix → CoresReason → DesksTellReasons
+desks_tell rings prefix reason asked j cores names programs all n c e is none = desk_told rings prefix reason asked j cores names programs all n c e is none
 
 pub reasons_alone : RingsConserve → CircuitsPrefix → CoresReason → ReasonsAlone
 reasons_alone rings prefix reason asked j cores names programs all n c is = record {

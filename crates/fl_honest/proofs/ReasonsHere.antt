@@ -1,5 +1,5 @@
 -- Why a core refuses the opening that a job of its own asks for.
-use Rattle.std.proofs.Common.{◌≡◌, ◌⊎◌, inl, inr, refl, sym, ap, ◌∙◌, subst, ℕ, suc, ◌+◌, ◌*◌, ◌<◌, ◌≤◌, ◌==◌, ◌||◌, ◌&&◌, nat_lt, not, is_some, if◌then◌else◌}
+use Rattle.std.proofs.Common.{◌≡◌, ◌⊎◌, inl, inr, refl, sym, ap, ◌∙◌, subst, ℕ, suc, ◌+◌, ◌*◌, ◌<◌, ◌≤◌, ◌/◌, ◌%◌, ◌==◌, ◌||◌, ◌&&◌, nat_lt, not, is_some, if◌then◌else◌}
 use Rattle.std.proofs.Common.{Bool, true, false, List, [], ◌∷◌, length, slice_get, slice_index_or, Option, Some, None, Result, Ok, Err, arith}
 use Rattle.std.specs.List.{list_any}
 use Rattle.std.proofs.lemmas.Bool.Decides.{nat_tests}
@@ -12,7 +12,8 @@ use Rattle.fl_core.specs.declared.fault.BoardFault.TheVariants as board
 use Rattle.fl_core.specs.Events.{Adds}
 use Rattle.fl_core.specs.View.{TheBoard}
 use Rattle.fl_core.specs.declared.kind.Kind.{Kind}
-use Rattle.fl_endpoint.specs.View.{TheEnd}
+use Rattle.fl_core.specs.declared.kind.Kind.TheVariants.{Queue}
+use Rattle.fl_endpoint.specs.View.{TheEnd, fresh}
 use Rattle.fl_nameserv.specs.Registrations.{TheRegistration}
 use Rattle.fl_hop.specs.declared.entry.Hop.{Hop}
 use Rattle.fl_hop.specs.declared.entry.Way.{Way}
@@ -81,27 +82,24 @@ has_entry t binding h =
     }
 
 -- it leads to the client's end, or an opening of the binding was heard
-pub entry_came : (names : List TheRegistration) (t0 : TheCircuits) (said heard : ℕ → List Frag) (m : TheMonitor) → Sound m.circuits → AreReasoned names t0 said heard m → (binding : ℕ) → HasEntry m.circuits binding
+pub entry_came : (names : List TheRegistration) (Wishes : Opening → Type 0) (t0 : TheCircuits) (said heard : ℕ → List Frag) (m : TheMonitor) → Sound m.circuits → AreReasoned names Wishes t0 said heard m → (binding : ℕ) → HasEntry m.circuits binding
     → ((l n : ℕ) × (way_at m.circuits l n ≡ Some (End (client_of binding)))) ⊎ ((l n : ℕ) × (o : Opening) × CameUnder t0 heard l n o × (o.binding ≡ binding))
-entry_came names t0 said heard m sound reasoned binding x = by x.hop.way refl where
-  abbrev t : TheCircuits
-  t = m.circuits
+entry_came names Wishes t0 said heard m sound reasoned binding x = by x.hop.way refl where
+  leads : (way : Way) → x.hop.way ≡ way → Leads m.circuits x.link x.number binding way
+  leads way same = leads_of m.circuits x.link x.number x.hop binding way x.at x.binding_is same
 
-  leads : (way : Way) → x.hop.way ≡ way → Leads t x.link x.number binding way
-  leads way same = leads_of t x.link x.number x.hop binding way x.at x.binding_is same
-
-  came : (l n : ℕ) (hop : Hop) → OpenedThere t l n → hop_at t l n ≡ Some hop → hop.binding ≡ binding → (l n : ℕ) × (o : Opening) × CameUnder t0 heard l n o × (o.binding ≡ binding)
+  came : (l n : ℕ) (hop : Hop) → OpenedThere m.circuits l n → hop_at m.circuits l n ≡ Some hop → hop.binding ≡ binding → (l n : ℕ) × (o : Opening) × CameUnder t0 heard l n o × (o.binding ≡ binding)
   came l n hop there at same = (let (o, c, is) = reasoned.told l n hop there at in (l, n, o, c, is ∙ same))
 
-  here : (way : Way) → x.hop.way ≡ way → IsClientWay t.core t.links binding way
-      → ((l n : ℕ) × (way_at t l n ≡ Some (End (client_of binding)))) ⊎ ((l n : ℕ) × (o : Opening) × CameUnder t0 heard l n o × (o.binding ≡ binding))
-  here (End e) same client = inl (x.link, x.number, way_of t x.link x.number x.hop (End (client_of binding)) x.at (same ∙ ap End client))
+  here : (way : Way) → x.hop.way ≡ way → IsClientWay m.circuits.core m.circuits.links binding way
+      → ((l n : ℕ) × (way_at m.circuits l n ≡ Some (End (client_of binding)))) ⊎ ((l n : ℕ) × (o : Opening) × CameUnder t0 heard l n o × (o.binding ≡ binding))
+  here (End e) same client = inl (x.link, x.number, way_of m.circuits x.link x.number x.hop (End (client_of binding)) x.at (same ∙ ap End client))
   here (Link m d) same taken =
       let back = sound.both (record { 0 = x.link }) m (record { 0 = x.number }) d binding (leads (Link m d) same) in
       let hop : Hop = record { binding = binding; way = Link (record { 0 = x.link }) (record { 0 = x.number }); answered = back.answered } in
       inr (came m.0 d.0 hop taken back.there refl)
 
-  by : (way : Way) → x.hop.way ≡ way → ((l n : ℕ) × (way_at t l n ≡ Some (End (client_of binding)))) ⊎ ((l n : ℕ) × (o : Opening) × CameUnder t0 heard l n o × (o.binding ≡ binding))
+  by : (way : Way) → x.hop.way ≡ way → ((l n : ℕ) × (way_at m.circuits l n ≡ Some (End (client_of binding)))) ⊎ ((l n : ℕ) × (o : Opening) × CameUnder t0 heard l n o × (o.binding ≡ binding))
   by way same = elim (sound.toward x.link x.number binding way (leads way same)) [
     | inl own ↦ here way same own.1
     | inr other ↦ inr (came x.link x.number x.hop other.0 x.at x.binding_is)
@@ -140,7 +138,7 @@ by_monitor l o m monitor.PlansDiffer h some = absurd h.0
 
 pub refused_here : (a : Asked) (k k2 : TheCore) (fault : OpenFault) → Asks a k (Err fault) k2 → (fault ≡ opening.Monitor monitor.OutboxFull → ⊥)
     → IsReason (open_number fault) ⊎ (stands k.monitor.circuits a.opening.binding ≡ true) ⊎ (open_number fault ≡ 99)
-refused_here a k k2 (opening.Board fault) h some = elim (by_board k.board a.dispatcher _ _ fault h.0) [
+refused_here a k k2 (opening.Board fault) h some = elim (by_board k.board a.dispatcher (fresh a.program None) Queue fault h.0) [
   | inl good ↦ inl good
   | inr memory ↦ inr (inr memory)
 ]

@@ -14,7 +14,7 @@ use Rattle.fl_honest.proofs.AskedEnds.{done_there}
 use Rattle.fl_honest.proofs.WholeOpened.{IsAsked, client_asked}
 
 -- a job that stands among an end's places is done at that end
-opener : (asked : List Job) (j : TheJoined) (count : ℕ) → AreJoined count asked j → (e : EndId) (own : List ℕ) (turn place : ℕ) (x : CoreJob) → own ≡ (docket_at j.dockets e).jobs
+pub opener : (asked : List Job) (j : TheJoined) (count : ℕ) → AreJoined count asked j → (e : EndId) (own : List ℕ) (turn place : ℕ) (x : CoreJob) → own ≡ (docket_at j.dockets e).jobs
     → slice_get own turn ≡ Some place → slice_get j.jobs place ≡ Some x → end_of x ≡ e
 opener asked j count joined e own turn place x same at is =
     sym (done_there j.jobs e turn place x (sym (ap (λ (xs : List ℕ). slice_get xs turn) (same ∙ (joined.each e).places)) ∙ at) is)

@@ -53,7 +53,7 @@ use Rattle.fl_honest.specs.Stands.{IsThere, LedClientsStand, LedServersAreBound}
 use Rattle.fl_honest.proofs.Added.{added_there, sits_last}
 use Rattle.fl_honest.proofs.Bound.{given_there}
 use Rattle.fl_honest.proofs.Logged.{follows_monitor, ahead_monitor, arrives_monitor}
-use Rattle.fl_honest.proofs.AskedDesks.{JobAt, job_there, JobsStay, desk_before, event_jobs}
+use Rattle.fl_honest.proofs.AskedDesks.{JobAt, job_there, JobsStay, job_before, event_jobs}
 
 -- ---- an end that stands
 
@@ -204,7 +204,7 @@ module _ {S : Type 0} (w : Ways S) (jobs : List Job) (s m : TheRun S) (core : Is
   asks name wish a at same few (Err (opening.Board fault)) h = same_core h.1
   asks name wish a at same few (Err (opening.Monitor fault)) h = same_core h.2
 
-  does : (deed : Deed) → InPlace jobs s deed → Does w deed s m → Comes
+  pub does : (deed : Deed) → InPlace jobs s deed → Does w deed s m → Comes
   does (looked n l answer) by h = on_board (ahead_monitor w l.0 s.core h.before answer m.core h.after h.event)
   does (passed n i frag c Moved) by h = on_board (ap (λ (x : TheCore). x.monitor) (h.2.event.1 ∙ h.1.event.1))
   does (passed n i frag c Full) by h = on_board (ap (λ (x : TheCore). x.monitor) h.event.1)
@@ -229,14 +229,7 @@ module _ {S : Type 0} (w : Ways S) (jobs : List Job) (s m : TheRun S) (core : Is
 -- ---- a log
 
 asked_before : {S : Type 0} (jobs : List Job) (s t : TheRun S) (binding : ℕ) → JobsStay s.desks t.desks → IsAsked jobs t binding → IsAsked jobs s binding
-asked_before jobs s t binding stay a =
-    let (desk, is, same) = desk_before s t a.name a.job.desk stay a.job.desk_is in
-    record {
-      name = a.name;
-      wish = a.wish;
-      job = record { desk = desk; desk_is = is; turn = a.job.turn; place = a.job.place; place_is = sym (ap (λ (xs : List ℕ). slice_get xs a.job.turn) same) ∙ a.job.place_is; job_is = a.job.job_is };
-      binding_is = a.binding_is;
-    }
+asked_before jobs s t binding stay a = record { name = a.name; wish = a.wish; job = job_before jobs s t a.name a.wish stay a.job; binding_is = a.binding_is }
 
 module _ {S : Type 0} (w : Ways S) (jobs : List Job) where
   log_comes : (log : List Deed) (s t : TheRun S) → Goes w jobs s log t → (l n : ℕ) (name : EndId) → way_at t.core.monitor.circuits l n ≡ Some (End name)
@@ -256,12 +249,12 @@ module _ {S : Type 0} (w : Ways S) (jobs : List Job) where
         })
       ]
 
-  sound_first : (log : List Deed) (s t : TheRun S) → Goes w jobs s log t → Sound t.core.monitor.circuits → Sound s.core.monitor.circuits
+  pub sound_first : (log : List Deed) (s t : TheRun S) → Goes w jobs s log t → Sound t.core.monitor.circuits → Sound s.core.monitor.circuits
   sound_first [] s t h sound = subst (λ (x : TheRun S). Sound x.core.monitor.circuits) h sound
   sound_first (deed ∷ log) s t h sound = h.1.3.table
 
 -- at a core that opened nothing before its run no number leads anywhere as that begins
-none_leads : (m : TheMonitor) → Sound m.circuits → IsUnused m → (l n : ℕ) (way : Way) → way_at m.circuits l n ≡ Some way → ⊥
+pub none_leads : (m : TheMonitor) → Sound m.circuits → IsUnused m → (l n : ℕ) (way : Way) → way_at m.circuits l n ≡ Some way → ⊥
 none_leads m sound unused l n way led =
     let (hop, at, is) = way_there m.circuits l n way led in
     elim (given_there m.circuits l n hop sound at) [

@@ -1,6 +1,7 @@
 -- Why circuits are refused: what cores tell each other. Laws.
 use Rattle.std.specs.Prelude.{ℕ, ◌≡◌, ◌⊎◌, true, List, slice_get, Some, None}
 use Rattle.fl_base.specs.declared.fragment.Frag.{Frag}
+use Rattle.fl_base.specs.declared.identity.EndId.{EndId}
 use Rattle.fl_base.specs.declared.identity.LinkId.{LinkId}
 use Rattle.fl_base.specs.declared.identity.Circuit.{Circuit}
 use Rattle.fl_nameserv.specs.Registrations.{TheRegistration, by_iref}
@@ -16,7 +17,14 @@ use Rattle.fl_monitor.specs.declared.opening.Opening.{Opening}
 use Rattle.fl_monitor.specs.Fates.{comes_along}
 use Rattle.fl_monitor.specs.Monitors.{TheMonitor, waiting_for, asks}
 use Rattle.fl_monitor.specs.Saying.{Says}
+use Rattle.fl_ring.specs.SharedSides.{TheSide}
 use Rattle.fl_running.specs.declared.job.Job.{Job as CoreJob}
+use Rattle.fl_running.specs.declared.job.Job.TheVariants as job
+use Rattle.fl_running.specs.declared.job.Wish.{Wish}
+use Rattle.fl_running.specs.Desks.{TheDesk}
+use Rattle.fl_running.specs.Made.{desk_of}
+use Rattle.fl_running.specs.Run.{TheRun}
+use Rattle.fl_running.specs.Words.{refusal_at}
 use Rattle.fl_jobs.specs.Jobs.{Job}
 use Rattle.fl_compile.specs.Programs.{TheProgram}
 use Rattle.fl_dockets.specs.State.{TheJoined}
@@ -60,8 +68,11 @@ pub record HeardRefused (said heard : ℕ → List Frag) (m : TheMonitor) (o : O
 abbrev pub IsRefusedFor : List TheRegistration → (ℕ → List Frag) → (ℕ → List Frag) → TheMonitor → Opening → ℕ → Type 0
 IsRefusedFor names said heard m o reason = IsReason reason ⊎ (by_iref o.service.0 names ≡ None) ⊎ HeardRefused said heard m o reason
 
--- of a monitor that said and heard these fragments, by link
-pub record AreReasoned (names : List TheRegistration) (t : TheCircuits) (said heard : ℕ → List Frag) (m : TheMonitor) : Type 0 where
+-- of a monitor that said and heard these fragments, by link; jobs here wish for these openings
+pub record AreReasoned (names : List TheRegistration) (Wishes : Opening → Type 0) (t : TheCircuits) (said heard : ℕ → List Frag) (m : TheMonitor) : Type 0 where
+  -- what it asks for, or has still to ask for, such a job wishes for, or it was heard
+  pub asked : (l : ℕ) (f : Frag) (c : Circuit) (o : Opening) → Has f (said l) ⊎ Has f (waiting_for m.outboxes l) → Says f (asks c o)
+      → Wishes o ⊎ ((k n : ℕ) × CameUnder t heard k n o)
   -- where an entry stands at a number of the neighbour's, an opening of its binding was heard under that
   pub told : (l n : ℕ) (hop : Hop) → OpenedThere m.circuits l n → hop_at m.circuits l n ≡ Some hop → (o : Opening) × CameUnder t heard l n o × (o.binding ≡ hop.binding)
   -- where an entry leads from a number that this core gave to another link, an opening was heard under the number there, and just it was asked for under this one
@@ -71,17 +82,59 @@ pub record AreReasoned (names : List TheRegistration) (t : TheCircuits) (said he
   pub refused : (l : ℕ) (f : Frag) (c : Circuit) (reason : ℕ) → Has f (said l) ⊎ Has f (waiting_for m.outboxes l) → Says f (CircuitRefused c reason)
       → (o : Opening) × CameUnder t heard l c.0 o × IsRefusedFor names said heard m o reason
 
+-- ---- at desks
+
+-- a desk has a job that wishes for it
+pub record IsOwnWish (jobs : List CoreJob) (s : TheRun TheSide) (o : Opening) : Type 0 where
+  pub name : EndId
+  pub desk : TheDesk
+  pub desk_is : desk_of s name ≡ Some desk
+  pub turn : ℕ
+  pub place : ℕ
+  pub place_is : slice_get desk.jobs turn ≡ Some place
+  pub wish : Wish
+  pub job_is : slice_get jobs place ≡ Some (job.Open wish)
+  pub opening_is : wish.opening ≡ o
+
+-- one of the fragments that were heard, over a link that was there as the run began, says that an opening is refused for this reason
+pub record WasHeard (t : TheCircuits) (heard : ℕ → List Frag) (reason : ℕ) : Type 0 where
+  pub link : ℕ
+  pub state : LinkState
+  pub state_is : slice_get t.links link ≡ Some state
+  pub frag : Frag
+  pub has : Has frag (heard link)
+  pub circuit : Circuit
+  pub says : Says frag (CircuitRefused circuit reason)
+
+-- an opening was heard of a binding of which a job of a desk wishes for one
+pub record AskedAgain (jobs : List CoreJob) (s : TheRun TheSide) (heard : ℕ → List Frag) : Type 0 where
+  pub own : Opening
+  pub wished : IsOwnWish jobs s own
+  pub link : ℕ
+  pub number : ℕ
+  pub opening : Opening
+  pub came : CameUnder s.core.monitor.circuits heard link number opening
+  pub binding_is : opening.binding ≡ own.binding
+
+-- why a refusal stands at a desk: as was heard; for a reason of this core's own; since an entry of the binding stood there (67); or for want of memory (99)
+abbrev pub IsRefusedAt : List CoreJob → TheRun TheSide → (ℕ → List Frag) → ℕ → Type 0
+IsRefusedAt jobs s heard reason = WasHeard s.core.monitor.circuits heard reason ⊎ IsReason reason ⊎ AskedAgain jobs s heard ⊎ (reason ≡ 99)
+
+-- ---- one core. Law
+
 -- so it is of a core, with what it asked for
 pub record GoesReasoned (jobs : List CoreJob) (c : OneCore) : Type 0 where
   pub asking : GoesAsking jobs c
-  pub reasoned : AreReasoned c.start.offers.names c.start.core.monitor.circuits (λ l. of_circuit 0 (put_on l asking.steps)) (λ l. of_circuit 0 (taken_from l asking.steps))
+  pub reasoned : AreReasoned c.start.offers.names (IsOwnWish jobs c.start) c.start.core.monitor.circuits (λ l. of_circuit 0 (put_on l asking.steps)) (λ l. of_circuit 0 (taken_from l asking.steps))
       c.finish.core.monitor
+  pub desks : (e : EndId) → (refusal_at c.finish e ≡ refusal_at c.start e)
+      ⊎ IsRefusedAt jobs c.start (λ l. of_circuit 0 (taken_from l asking.steps)) (refusal_at c.finish e)
 
--- in every run of a core that had nothing to say before. Law
+-- in every run of a core that had nothing to say before
 abbrev pub CoresReason : Type 0
 CoresReason = (jobs : List CoreJob) (c : OneCore) → Leading jobs c → IsUnused c.start.core.monitor → GoesReasoned jobs c
 
--- ---- all cores. Law
+-- ---- all cores. Laws
 
 -- whatever a core heard over its links to be refused, that is for a reason
 pub record HearsReasons (jobs : List CoreJob) (c : OneCore) : Type 0 where
@@ -93,3 +146,9 @@ pub record HearsReasons (jobs : List CoreJob) (c : OneCore) : Type 0 where
 abbrev pub ReasonsAlone : Type 0
 ReasonsAlone = (asked : List Job) (j : TheJoined) (cores : List OneCore) (names : List TheRegistration) (programs : List TheProgram)
     → AreSetUp asked j cores names programs → (n : ℕ) (c : OneCore) → slice_get cores n ≡ Some c → HearsReasons j.jobs c
+
+-- so a refusal that stands at a desk in the end is for a reason, where none stood there as the run began; or memory was wanted
+abbrev pub DesksTellReasons : Type 0
+DesksTellReasons = (asked : List Job) (j : TheJoined) (cores : List OneCore) (names : List TheRegistration) (programs : List TheProgram)
+    → AreSetUp asked j cores names programs → (n : ℕ) (c : OneCore) (e : EndId) → slice_get cores n ≡ Some c
+    → refusal_at c.start e ≡ 0 → (refusal_at c.finish e ≡ 0) ⊎ IsReason (refusal_at c.finish e) ⊎ (refusal_at c.finish e ≡ 99)

@@ -14,7 +14,7 @@ ghost use Rattle.fl_honest.specs.Asked.{CoresAsk, WishesAlone, ServersAreWished,
 ghost use Rattle.fl_honest.specs.Stands.{LedClientsStand, LedServersAreBound, PlannedEndsStand};
 ghost use Rattle.fl_honest.specs.Meeting.{WiredArePaired, BoundClientsMeet, LoneServersRest};
 ghost use Rattle.fl_honest.specs.Runs.{OffLinkIsHonest, OpenedIsHonest, RunsAreHonest};
-ghost use Rattle.fl_honest.specs.Reasons.{CoresReason, ReasonsAlone};
+ghost use Rattle.fl_honest.specs.Reasons.{CoresReason, ReasonsAlone, DesksTellReasons};
 
 use fl_deal::rings_conserve;
 use fl_endpoint::on_another_circuit;
@@ -310,6 +310,15 @@ pub fn cores_reason()
 /// there.
 pub fn reasons_alone()
     ensures reasons { ReasonsAlone }
+{
+    cores_reason();
+    rings_conserve();
+    circuits_join();
+}
+
+/// And the number for which a desk has its opening as refused in the end is that of a reason, or of want of memory.
+pub fn desks_tell_reasons()
+    ensures tell { DesksTellReasons }
 {
     cores_reason();
     rings_conserve();

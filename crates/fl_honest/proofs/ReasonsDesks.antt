@@ -1,0 +1,473 @@
+-- What stands at desks as refused: what one event adds, and a log.
+use Rattle.std.proofs.Common.{◌≡◌, ◌≢◌, ◌⊎◌, inl, inr, refl, sym, ap, ◌∙◌, subst, ℕ, ◌<◌, ◌==◌, nat_lt, not, is_some, if◌then◌else◌, List, [], ◌∷◌, ◌++◌, length, slice_get, slice_set}
+use Rattle.std.proofs.Common.{Bool, true, false, Option, Some, None, Result, Ok, Err, arith}
+use Rattle.std.specs.Option.{option_map}
+use Rattle.std.proofs.lemmas.Bool.{cases_eq}
+use Rattle.fl_base.specs.declared.fragment.Frag.{Frag}
+use Rattle.fl_base.specs.declared.identity.CoreId.{CoreId}
+use Rattle.fl_base.specs.declared.identity.EndId.{EndId}
+use Rattle.fl_base.specs.declared.identity.LinkId.{LinkId}
+use Rattle.fl_base.specs.declared.identity.Circuit.{Circuit}
+use Rattle.fl_base.specs.Control.{circuit_of, bare}
+use Rattle.fl_core.proofs.Places.{set_here, set_elsewhere}
+use Rattle.fl_core.specs.declared.answer.TurnAnswer.{TurnAnswer}
+use Rattle.fl_core.specs.declared.answer.TurnAnswer.TheVariants as turn
+use Rattle.fl_endpoint.specs.declared.fault.EndFault.{EndFault}
+use Rattle.fl_endpoint.specs.Laws.{OnAnotherCircuit}
+use Rattle.fl_nameserv.specs.Registrations.{TheRegistration}
+use Rattle.fl_hop.specs.declared.entry.Hop.{Hop}
+use Rattle.fl_hop.specs.declared.entry.Way.{Way}
+use Rattle.fl_hop.specs.declared.entry.Way.TheVariants.{Link, End}
+use Rattle.fl_hop.specs.declared.links.LinkState.{LinkState}
+use Rattle.fl_hop.specs.Joined.{Sound}
+use Rattle.fl_hop.specs.Later.{way_at}
+use Rattle.fl_hop.specs.OfCircuit.{as_carried, of_circuit}
+use Rattle.fl_hop.specs.Stretch.{heard as hop_heard, taken_from}
+use Rattle.fl_hop.specs.Table.{TheCircuits, stands}
+use Rattle.fl_monitor.specs.declared.fault.MonitorFault.{MonitorFault}
+use Rattle.fl_monitor.specs.declared.fault.MonitorFault.TheVariants as monitor
+use Rattle.fl_monitor.specs.declared.heard.Heard.{Heard}
+use Rattle.fl_monitor.specs.declared.heard.Heard.TheVariants as outcome
+use Rattle.fl_monitor.specs.declared.message.Message.{Message}
+use Rattle.fl_monitor.specs.declared.message.Message.TheVariants.{OpenCircuit, CircuitOpened, CircuitRefused}
+use Rattle.fl_monitor.specs.declared.opening.Opening.{Opening}
+use Rattle.fl_monitor.specs.Fates.{Known}
+use Rattle.fl_monitor.specs.Hearing.{ComesTo, opened_at, refused_at}
+use Rattle.fl_monitor.specs.Monitors.{TheMonitor, can_say}
+use Rattle.fl_monitor.specs.Routing.{given}
+use Rattle.fl_monitor.specs.Saying.{Says}
+use Rattle.fl_monitor.proofs.Single.{says_the_same}
+use Rattle.fl_compile.specs.declared.program.Program.{Program}
+use Rattle.fl_node.specs.declared.hearing.Offered.{Offered}
+use Rattle.fl_node.specs.declared.answer.MonitorAnswer.{MonitorAnswer}
+use Rattle.fl_node.specs.declared.answer.MonitorAnswer.TheVariants as heard_as
+use Rattle.fl_node.specs.declared.fault.LinkFault.{LinkFault}
+use Rattle.fl_node.specs.declared.fault.OpenFault.{OpenFault}
+use Rattle.fl_node.specs.declared.fault.OpenFault.TheVariants as opening
+use Rattle.fl_node.specs.Faults.{open_number}
+use Rattle.fl_node.specs.Hearing.{Offers, known_for, offer_for, HearsAll, Follows}
+use Rattle.fl_node.specs.Making.{asked}
+use Rattle.fl_node.specs.View.{TheCore, place_of, client_of, with_monitor}
+use Rattle.fl_running.specs.declared.job.Job.{Job}
+use Rattle.fl_running.specs.declared.job.Wish.{Wish}
+use Rattle.fl_running.specs.Desks.{TheDesk, desk_place, advanced, with_handled, with_refusal, ChangesIf}
+use Rattle.fl_running.specs.Run.{Ways, TheRun, AtDesk}
+use Rattle.fl_running.specs.Deeds.{Deed, looked, passed, arrived, heard, said, told, opened, called, ruled, wrote, acked, turned, Does, NotesHeard, NotesOpened, NotesCalled, NotesTurned, Notes}
+use Rattle.fl_running.specs.Led.{IsLed}
+use Rattle.fl_running.specs.Logs.{InPlace, Goes}
+use Rattle.fl_running.specs.Words.{refusal_at}
+use Rattle.fl_running.proofs.Aside.{core_aside}
+use Rattle.fl_running.proofs.Carrying.{five, not_there}
+use Rattle.fl_running.proofs.Handling.{desks_stay, as_many, same_place}
+use Rattle.fl_running.proofs.Laning.{steps_of, event_steps}
+use Rattle.fl_running.proofs.Leads.{does_led}
+use Rattle.fl_running.proofs.Stepping.{log_steps, end_stays}
+use Rattle.fl_honest.specs.Named.{Has}
+use Rattle.fl_ring.specs.SharedSides.{TheSide}
+use Rattle.fl_honest.specs.Reasons.{IsReason, CameUnder, IsOwnWish, WasHeard, IsRefusedAt}
+use Rattle.fl_honest.specs.Asked.{IsWished}
+use Rattle.fl_honest.proofs.AskedDesks.{JobAt, job_there, JobsStay, job_before, event_jobs, offers_stay}
+use Rattle.fl_honest.proofs.AskedLaid.{beside}
+use Rattle.fl_honest.proofs.Logged.{took_heard, then_said, then_heard, heard_joins, does_keep}
+use Rattle.fl_honest.proofs.Named.{has_first, has_last, opening_next}
+use Rattle.fl_honest.proofs.Reasoned.{came_more}
+use Rattle.fl_honest.proofs.ReasonedHears.{AreReasonedFrom, reasons_kept}
+use Rattle.fl_honest.proofs.ReasonsHere.{has_entry, entry_came, refused_here}
+use Rattle.fl_honest.proofs.WholeOpened.{does as event_comes, sound_first}
+use Rattle.fl_honest.proofs.Zero.{carried_zero}
+
+-- ---- a list of desks
+
+abbrev pub refused_in : List TheDesk → EndId → ℕ
+refused_in desks e = given (desk_place desks e) 0 λ n. given (slice_get desks n) 0 λ (d : TheDesk). d.refused
+
+-- where the desk of some end has changed, another has what it had, or it was that
+module _ (xs ys : List TheDesk) (change : TheDesk → TheDesk) (e : EndId) where
+  abbrev Changed : Type 0
+  Changed = (refused_in ys e ≡ refused_in xs e) ⊎ ((d : TheDesk) × (refused_in xs e ≡ d.refused) × (refused_in ys e ≡ (change d).refused))
+
+  abbrev read : Option TheDesk → ℕ
+  read o = given o 0 λ (d : TheDesk). d.refused
+
+  by_place : (i : ℕ) → (h : ChangesIf (Some i) xs change ys) → (o : Option ℕ) → desk_place xs e ≡ o → Changed
+  by_place i h None is =
+      let place : desk_place ys e ≡ None = same_place xs ys e (as_many (Some i) xs ys change h) ∙ is in
+      inl (ap (λ (o : Option ℕ). given o 0 λ n. read (slice_get ys n)) place ∙ sym (ap (λ (o : Option ℕ). given o 0 λ n. read (slice_get xs n)) is))
+  by_place i h (Some k) is =
+      let place : desk_place ys e ≡ Some k = same_place xs ys e (as_many (Some i) xs ys change h) ∙ is in
+      let now : refused_in ys e ≡ read (slice_get ys k) = ap (λ (o : Option ℕ). given o 0 λ n. read (slice_get ys n)) place in
+      let before : refused_in xs e ≡ read (slice_get xs k) = ap (λ (o : Option ℕ). given o 0 λ n. read (slice_get xs n)) is in
+      elim (cases_eq k i) [
+        | inl same ↦
+            (let was : slice_get xs k ≡ Some h.desk = ap (slice_get xs) same ∙ h.desk_is in
+            let put : slice_get ys k ≡ Some (change h.desk) = ap (λ (ds : List TheDesk). slice_get ds k) h.rest ∙ ap (slice_get (slice_set xs i (change h.desk))) same ∙ set_here xs i h.desk (change h.desk) h.desk_is in
+            inr (h.desk, before ∙ ap read was, now ∙ ap read put))
+        | inr other ↦
+            (let kept : slice_get ys k ≡ slice_get xs k = ap (λ (ds : List TheDesk). slice_get ds k) h.rest ∙ set_elsewhere xs i k (change h.desk) other in
+            inl (now ∙ ap read kept ∙ sym before))
+      ]
+
+  changed : (o : Option ℕ) → ChangesIf o xs change ys → Changed
+  changed None h = inl (ap (λ (ds : List TheDesk). refused_in ds e) h)
+  changed (Some i) h = by_place i h (desk_place xs e) refl
+
+-- ---- what is noted of one event
+
+-- the number that an event notes as a refusal
+abbrev pub NewHeard : Result MonitorAnswer LinkFault → ℕ → Type 0
+NewHeard (Ok (heard_as.OpeningRefused e reason)) r = r ≡ reason
+NewHeard answer r = ⊥
+
+abbrev pub NewOpened : Result ℕ OpenFault → ℕ → Type 0
+NewOpened (Ok e) r = ⊥
+NewOpened (Err (opening.Monitor monitor.OutboxFull)) r = ⊥
+NewOpened (Err fault) r = r ≡ open_number fault
+
+abbrev pub New : Deed → ℕ → Type 0
+New (heard n l frag answer) r = NewHeard answer r
+New (opened name wish answer) r = NewOpened answer r
+New deed r = ⊥
+
+module _ {S : Type 0} (m t : TheRun S) (e : EndId) where
+  abbrev Stays : Type 0
+  Stays = refusal_at t e ≡ refusal_at m e
+
+  abbrev Notes_new : (ℕ → Type 0) → Type 0
+  Notes_new N = Stays ⊎ N (refusal_at t e)
+
+  same : t ≡ m → Stays
+  same h = ap (λ (x : TheRun S). refusal_at x e) h
+
+  keeps : (f : EndId) (change : TheDesk → TheDesk) → ((d : TheDesk) → (change d).refused ≡ d.refused) → AtDesk f change m t → Stays
+  keeps f change keep h = elim (changed m.desks t.desks change e (desk_place m.desks f) h.changes) [
+    | inl still ↦ still
+    | inr x ↦ x.2 ∙ keep x.0 ∙ sym x.1
+  ]
+
+  sets : (f : EndId) (change : TheDesk → TheDesk) (r : ℕ) → ((d : TheDesk) → (change d).refused ≡ r) → AtDesk f change m t → Stays ⊎ (refusal_at t e ≡ r)
+  sets f change r put h = elim (changed m.desks t.desks change e (desk_place m.desks f) h.changes) [
+    | inl still ↦ inl still
+    | inr x ↦ inr (x.2 ∙ put x.0)
+  ]
+
+  refuses : (f : EndId) (r : ℕ) → AtDesk f (λ d. advanced (with_refusal r d)) m t → Stays ⊎ (refusal_at t e ≡ r)
+  refuses f r h = sets f (λ d. advanced (with_refusal r d)) r (λ d. refl) h
+
+  noted_heard : (answer : Result MonitorAnswer LinkFault) → NotesHeard answer m t → Notes_new (NewHeard answer)
+  noted_heard (Ok (heard_as.OpeningRefused f reason)) h = sets f (with_refusal reason) reason (λ d. refl) h
+  noted_heard (Ok heard_as.Full) h = inl (same h)
+  noted_heard (Ok heard_as.Done) h = inl (same h)
+  noted_heard (Ok (heard_as.Opened f)) h = inl (same h)
+  noted_heard (Err fault) h = inl (same h)
+
+  noted_opened : (f : EndId) (answer : Result ℕ OpenFault) → NotesOpened f answer m t → Notes_new (NewOpened answer)
+  noted_opened f (Ok k) h = inl (keeps f advanced (λ d. refl) h)
+  noted_opened f (Err (opening.Board fault)) h = refuses f _ h
+  noted_opened f (Err (opening.Monitor monitor.OutboxFull)) h = inl (same h)
+  noted_opened f (Err (opening.Monitor monitor.Astray)) h = refuses f _ h
+  noted_opened f (Err (opening.Monitor monitor.Differs)) h = refuses f _ h
+  noted_opened f (Err (opening.Monitor monitor.NoRoute)) h = refuses f _ h
+  noted_opened f (Err (opening.Monitor monitor.UsedUp)) h = refuses f _ h
+  noted_opened f (Err (opening.Monitor monitor.PlansDiffer)) h = refuses f _ h
+  noted_opened f (Err (opening.Monitor monitor.Memory)) h = refuses f _ h
+
+  noted_called : (f : EndId) (answer : Result (Unit {0}) EndFault) → NotesCalled f answer m t → Stays
+  noted_called f (Ok done) h = keeps f advanced (λ d. refl) h
+  noted_called f (Err fault) h = same h
+
+  noted_turned : (f : EndId) (answer : TurnAnswer) → NotesTurned f answer m t → Stays
+  noted_turned f (turn.Handle call) h = keeps f (with_handled call) (λ d. refl) h
+  noted_turned f turn.Part h = same h
+  noted_turned f turn.Ready h = same h
+  noted_turned f turn.Quiet h = same h
+  noted_turned f turn.Full h = same h
+  noted_turned f turn.Nothing h = same h
+  noted_turned f (turn.Refused fault) h = same h
+
+  noted : (deed : Deed) → Notes deed m t → Notes_new (New deed)
+  noted (looked n l answer) h = inl (same h)
+  noted (passed n k frag c outcome) h = inl (same h)
+  noted (arrived n l frag f answer) h = inl (same h)
+  noted (heard n l frag answer) h = noted_heard answer h
+  noted (said n l answer) h = inl (same h)
+  noted (told n l answer) h = inl (same h)
+  noted (opened f wish answer) h = noted_opened f answer h
+  noted (called f c answer) h = inl (noted_called f answer h)
+  noted (ruled f msg reply answer) h = inl (keeps f advanced (λ d. refl) h)
+  noted (wrote f out answer) h = inl (same h)
+  noted (acked f n answer) h = inl (same h)
+  noted (turned d f from answer) h = inl (noted_turned f answer h)
+
+-- over an event, a refusal that stands at a desk stood there, or the event notes it
+pub event_notes : {S : Type 0} (w : Ways S) (deed : Deed) (s m t : TheRun S) (e : EndId) → Does w deed s m → Notes deed m t
+    → (refusal_at t e ≡ refusal_at s e) ⊎ New deed (refusal_at t e)
+event_notes w deed s m t e does notes = elim (noted m t e deed notes) [
+  | inl still ↦ inl (still ∙ ap (λ (ds : List TheDesk). refused_in ds e) (desks_stay w deed s m does))
+  | inr new ↦ inr new
+]
+
+-- ---- what a message says that refuses an end's opening
+
+-- the message refuses a number, for this reason, on a link that is there
+pub record Refusing (t : TheCircuits) (l : ℕ) (msg : Message) (r : ℕ) : Type 0 where
+  pub circuit : Circuit
+  pub is : msg ≡ CircuitRefused circuit r
+  pub link : LinkState
+  pub there : slice_get t.links l ≡ Some link
+
+refused_at_end : (t : TheCircuits) (l : LinkId) (c : Circuit) (binding r : ℕ) (e : EndId) (reason : ℕ) (way : Way) (link : LinkState) → slice_get t.links l.0 ≡ Some link
+    → outcome.EndRefused e reason ≡ refused_at r binding way → Refusing t l.0 (CircuitRefused c r) reason
+refused_at_end t l c binding r e reason (Link x d) link there is = absurd (cc)
+refused_at_end t l c binding r e reason (End f) link there is =
+    let same : r ≡ reason = cc in
+    record { circuit = c; is = ap (CircuitRefused c) same; link = link; there = there }
+
+not_opened_at : (c : Circuit) (binding : ℕ) (e : EndId) (reason : ℕ) (way : Way) → outcome.EndRefused e reason ≡ opened_at c binding way → ⊥
+not_opened_at c binding e reason (Link x d) is = cc
+not_opened_at c binding e reason (End f) is = cc
+
+-- an end's opening is refused by such a message alone
+refusing : (kn : Known) (t : TheCircuits) (l : LinkId) (msg : Message) (e : EndId) (reason : ℕ) → ComesTo kn t l msg (outcome.EndRefused e reason) → Refusing t l.0 msg reason
+refusing kn t l (OpenCircuit c binding service path) e reason comes =
+    absurd (opening_next kn t l.0 c (record { binding = binding; service = service; path = path }) (outcome.EndRefused e reason) comes.1)
+refusing kn t l (CircuitOpened c) e reason (hop, waits, is) = absurd (not_opened_at c hop.binding e reason hop.way is)
+refusing kn t l (CircuitRefused c r) e reason (hop, waits, is) = refused_at_end t l c hop.binding r e reason hop.way waits.here.link waits.here.there is
+
+-- and just then it is told
+told_so : (programs : List Program) (offer : Option Offered) (l : LinkId) (h : Heard) (k : TheCore) (f : EndId) (reason : ℕ) (k2 : TheCore)
+    → Follows programs offer l h k (heard_as.OpeningRefused f reason) k2 → (e : EndId) × (h ≡ outcome.EndRefused e reason)
+told_so programs offer l (outcome.EndRefused e r) k f reason k2 x = (e, let same : r ≡ reason = cc (x.0) in ap (outcome.EndRefused e) same)
+told_so programs offer l (outcome.ServerMade b d c) k f reason k2 x = absurd (cc (x.0))
+told_so programs offer l (outcome.EndOpened e c) k f reason k2 x = absurd (cc (x.0))
+told_so programs offer l (outcome.OpeningWentOn b n c) k f reason k2 x = absurd (cc (x.0))
+told_so programs offer l (outcome.OpeningFailed b r) k f reason k2 x = absurd (cc (x.0))
+told_so programs offer l (outcome.AnswerWentOn b n c) k f reason k2 x = absurd (cc (x.0))
+
+-- ---- what an opening's own core refuses
+
+new_opened : (fault : OpenFault) (r : ℕ) → NewOpened (Err fault) r → (r ≡ open_number fault) × (fault ≡ opening.Monitor monitor.OutboxFull → ⊥)
+new_opened (opening.Board fault) r new = (new, λ is. cc)
+new_opened (opening.Monitor monitor.OutboxFull) r new = absurd new
+new_opened (opening.Monitor monitor.Astray) r new = (new, λ is. cc)
+new_opened (opening.Monitor monitor.Differs) r new = (new, λ is. cc)
+new_opened (opening.Monitor monitor.NoRoute) r new = (new, λ is. cc)
+new_opened (opening.Monitor monitor.UsedUp) r new = (new, λ is. cc)
+new_opened (opening.Monitor monitor.PlansDiffer) r new = (new, λ is. cc)
+new_opened (opening.Monitor monitor.Memory) r new = (new, λ is. cc)
+
+-- ---- ends that are there
+
+-- each end to which the table leads is there
+abbrev pub Placed : TheCore → Type 0
+Placed k = (l n : ℕ) (name : EndId) → way_at k.monitor.circuits l n ≡ Some (End name) → (p : ℕ) × (place_of k name ≡ Some p)
+
+-- ---- why a refusal stands at a desk
+
+state_at : (t : TheCircuits) (l : ℕ) (near : CoreId) (o : Option LinkState) → slice_get t.links l ≡ o → option_map (λ (a : LinkState). a.neighbour) o ≡ Some near
+    → (a : LinkState) × (slice_get t.links l ≡ Some a)
+state_at t l near None at is = absurd (cc)
+state_at t l near (Some a) at is = (a, at)
+
+-- an opening was heard of a binding of which a job of a desk wishes for one, as a core's table has its links
+pub record Again (jobs : List Job) (t0 : TheCircuits) (s : TheRun TheSide) (hs : ℕ → List Frag) : Type 0 where
+  pub name : EndId
+  pub wish : Wish
+  pub job : JobAt jobs s name wish
+  pub link : ℕ
+  pub number : ℕ
+  pub opening : Opening
+  pub came : CameUnder t0 hs link number opening
+  pub binding_is : opening.binding ≡ wish.opening.binding
+
+-- a refusal that a core starting so tells of what it heard since
+abbrev pub Tells : List Job → TheCircuits → TheRun TheSide → (ℕ → List Frag) → ℕ → Type 0
+Tells jobs t0 s hs r = WasHeard t0 hs r ⊎ IsReason r ⊎ Again jobs t0 s hs ⊎ (r ≡ 99)
+
+module _ (jobs : List Job) (t0 : TheCircuits) where
+  more_told : (s : TheRun TheSide) (hs hs2 : ℕ → List Frag) → ((l : ℕ) (f : Frag) → Has f (hs l) → Has f (hs2 l)) → (r : ℕ) → Tells jobs t0 s hs r → Tells jobs t0 s hs2 r
+  more_told s hs hs2 more r (inl h) = inl (record {
+    link = h.link;
+    state = h.state;
+    state_is = h.state_is;
+    frag = h.frag;
+    has = more h.link h.frag h.has;
+    circuit = h.circuit;
+    says = h.says;
+  })
+  more_told s hs hs2 more r (inr (inl good)) = inr (inl good)
+  more_told s hs hs2 more r (inr (inr (inl a))) = inr (inr (inl (record {
+    name = a.name;
+    wish = a.wish;
+    job = a.job;
+    link = a.link;
+    number = a.number;
+    opening = a.opening;
+    came = came_more t0 hs hs2 more a.link a.number a.opening a.came;
+    binding_is = a.binding_is;
+  })))
+  more_told s hs hs2 more r (inr (inr (inr memory))) = inr (inr (inr memory))
+
+  -- a desk has had its jobs before
+  told_before : (s u : TheRun TheSide) (hs : ℕ → List Frag) → JobsStay s.desks u.desks → (r : ℕ) → Tells jobs t0 u hs r → Tells jobs t0 s hs r
+  told_before s u hs stay r (inl h) = inl h
+  told_before s u hs stay r (inr (inl good)) = inr (inl good)
+  told_before s u hs stay r (inr (inr (inl a))) = inr (inr (inl (record {
+    name = a.name;
+    wish = a.wish;
+    job = job_before jobs s u a.name a.wish stay a.job;
+    link = a.link;
+    number = a.number;
+    opening = a.opening;
+    came = a.came;
+    binding_is = a.binding_is;
+  })))
+  told_before s u hs stay r (inr (inr (inr memory))) = inr (inr (inr memory))
+
+-- in the words of the law
+pub own_wish : (jobs : List Job) (s : TheRun TheSide) (name : EndId) (wish : Wish) → JobAt jobs s name wish → IsOwnWish jobs s wish.opening
+own_wish jobs s name wish a = record {
+  name = name;
+  desk = a.desk;
+  desk_is = a.desk_is;
+  turn = a.turn;
+  place = a.place;
+  place_is = a.place_is;
+  wish = wish;
+  job_is = a.job_is;
+  opening_is = refl;
+}
+
+pub told_at : (jobs : List Job) (s : TheRun TheSide) (hs : ℕ → List Frag) (r : ℕ) → Tells jobs s.core.monitor.circuits s hs r → IsRefusedAt jobs s hs r
+told_at jobs s hs r (inl h) = inl h
+told_at jobs s hs r (inr (inl good)) = inr (inl good)
+told_at jobs s hs r (inr (inr (inl a))) = inr (inr (inl (record {
+  own = a.wish.opening;
+  wished = own_wish jobs s a.name a.wish a.job;
+  link = a.link;
+  number = a.number;
+  opening = a.opening;
+  came = a.came;
+  binding_is = a.binding_is;
+})))
+told_at jobs s hs r (inr (inr (inr memory))) = inr (inr (inr memory))
+
+-- ---- over an event
+
+module _ (w : Ways TheSide) (names : List TheRegistration) (Wishes : Opening → Type 0) (t0 : TheCircuits) (jobs : List Job) (said_so heard_so : ℕ → List Frag) (s m : TheRun TheSide) (sound : Sound s.core.monitor.circuits)
+    (placed : Placed s.core) (holds : AreReasonedFrom names Wishes t0 said_so heard_so s.core.monitor) where
+  abbrev Then : (deed : Deed) → InPlace jobs s deed → Does w deed s m → ℕ → Type 0
+  Then deed by h r = Tells jobs t0 s (then_heard heard_so (event_steps w jobs deed s m by h)) r
+
+  hears_told : (n : ℕ) (l : LinkId) (frag : Frag) (f : EndId) (reason : ℕ) (by : InPlace jobs s (heard n l frag (Ok (heard_as.OpeningRefused f reason))))
+      (h : Does w (heard n l frag (Ok (heard_as.OpeningRefused f reason))) s m) → Then (heard n l frag (Ok (heard_as.OpeningRefused f reason))) by h reason
+  hears_told n l frag f reason by h =
+      let msg = h.event.0.0 in
+      let says_it : Says frag msg = h.event.0.1 in
+      let all : HearsAll s.offers l msg s.core (heard_as.OpeningRefused f reason) m.core = h.event.0.2 in
+      let (e, is) = told_so s.offers.programs (offer_for s.offers s.core msg) l all.heard (with_monitor s.core all.monitor) f reason m.core all.follows in
+      let kn = known_for s.offers s.core msg in
+      let x = refusing kn s.core.monitor.circuits l msg e reason (subst (λ (y : Heard). ComesTo kn s.core.monitor.circuits l msg y) is all.hears.0) in
+      let near : beside t0 l.0 ≡ Some x.link.neighbour = sym (holds.0.links l.0) ∙ ap (option_map (λ (a : LinkState). a.neighbour)) x.there in
+      let (state, state_is) = state_at t0 l.0 x.link.neighbour (slice_get t0.links l.0) refl near in
+      inl (record {
+        link = l.0;
+        state = state;
+        state_is = state_is;
+        frag = as_carried (bare frag);
+        has = has_last (as_carried (bare frag)) (heard_so l.0) (of_circuit 0 (taken_from l.0 (steps_of s.core.monitor.circuits (hop_heard l.0) (frag ∷ []))))
+            (took_heard s.core.monitor.circuits l frag msg says_it);
+        circuit = x.circuit;
+        says = subst (Says (as_carried (bare frag))) x.is (says_the_same frag (as_carried (bare frag)) msg (carried_zero frag by.1) says_it);
+      })
+
+  opens_told : (name : EndId) (wish : Wish) (fault : OpenFault) (r : ℕ) (by : InPlace jobs s (opened name wish (Err fault))) (h : Does w (opened name wish (Err fault)) s m)
+      → NewOpened (Err fault) r → Then (opened name wish (Err fault)) by h r
+  opens_told name wish fault r by h new =
+      let (number, other) = new_opened fault r new in
+      elim (refused_here (asked wish.dispatcher h.event.program wish.link wish.opening) s.core m.core fault h.event.asks other) [
+        | inl good ↦ inr (inl (subst IsReason (sym number) good))
+        | inr others ↦ elim others [
+          | inl stood ↦ elim (entry_came names Wishes t0 said_so heard_so s.core.monitor sound holds.2 wish.opening.binding (has_entry s.core.monitor.circuits wish.opening.binding stood)) [
+            | inl own ↦
+                (let (p, at) = placed own.0 own.1 (client_of wish.opening.binding) own.2 in
+                let tests = five (nat_lt wish.dispatcher (length s.core.board.dispatchers)) (nat_lt wish.interface (length s.offers.programs)) (nat_lt wish.opening.binding 1024)
+                (not (is_some (place_of s.core (client_of wish.opening.binding)))) (can_say s.core.monitor.outboxes wish.link.0) by.1 in
+                let none = not_there (place_of s.core (client_of wish.opening.binding)) tests.1 in
+                let clash : Some p ≡ None = sym at ∙ none in absurd (cc))
+            | inr came ↦ inr (inr (inl (record {
+              name = name;
+              wish = wish;
+              job = job_there jobs s name wish by.0;
+              link = came.0;
+              number = came.1;
+              opening = came.2;
+              came = came_more t0 heard_so (then_heard heard_so []) (λ l f has. has_first f (heard_so l) [] has) came.0 came.1 came.2 came.3;
+              binding_is = came.4;
+            })))
+          ]
+          | inr memory ↦ inr (inr (inr (number ∙ memory)))
+        ]
+      ]
+
+  event_tells : (deed : Deed) (by : InPlace jobs s deed) (h : Does w deed s m) (r : ℕ) → New deed r → Then deed by h r
+  event_tells (heard n l frag (Ok (heard_as.OpeningRefused f reason))) by h r new =
+      subst (Then (heard n l frag (Ok (heard_as.OpeningRefused f reason))) by h) (sym new) (hears_told n l frag f reason by h)
+  event_tells (heard n l frag (Ok heard_as.Full)) by h r new = absurd new
+  event_tells (heard n l frag (Ok heard_as.Done)) by h r new = absurd new
+  event_tells (heard n l frag (Ok (heard_as.Opened f))) by h r new = absurd new
+  event_tells (heard n l frag (Err fault)) by h r new = absurd new
+  event_tells (opened name wish (Ok k)) by h r new = absurd new
+  event_tells (opened name wish (Err fault)) by h r new = opens_told name wish fault r by h new
+  event_tells (looked n l answer) by h r new = absurd new
+  event_tells (passed n k frag c answer) by h r new = absurd new
+  event_tells (arrived n l frag f answer) by h r new = absurd new
+  event_tells (said n l answer) by h r new = absurd new
+  event_tells (told n l answer) by h r new = absurd new
+  event_tells (called f c answer) by h r new = absurd new
+  event_tells (ruled f msg reply answer) by h r new = absurd new
+  event_tells (wrote f out answer) by h r new = absurd new
+  event_tells (acked f n answer) by h r new = absurd new
+  event_tells (turned d f from answer) by h r new = absurd new
+
+-- ---- over a log
+
+module _ (w : Ways TheSide) (on : OnAnotherCircuit) (names : List TheRegistration) (jobs : List Job) (Wishes : Opening → Type 0) (wished : (o : Opening) → Wishes o → IsWished jobs o)
+    (t0 : TheCircuits) (e : EndId) where
+  -- ends to which the table leads are there still
+  placed_on : (deed : Deed) (log : List Deed) (s t : TheRun TheSide) → (h : Goes w jobs s (deed ∷ log) t) → Placed s.core → Placed h.0.core
+  placed_on deed log s t h placed l n name way =
+      let aside : h.0.core ≡ h.1.0.core = core_aside h.1.0 h.0 deed h.1.2 in
+      elim (event_comes w jobs s h.1.0 h.1.3.core h.1.3.table deed h.2 h.1.1 l n name (sym (ap (λ (k : TheCore). way_at k.monitor.circuits l n) aside) ∙ way)) [
+        | inl before ↦ (let (p, at) = placed l n name before in (p, end_stays w jobs deed s h.0 name p h.1 h.2 at))
+        | inr new ↦ (new.stands.place, ap (λ (k : TheCore). place_of k name) aside ∙ new.stands.here.sits.here)
+      ]
+
+  pub log_tells : (log : List Deed) (s t : TheRun TheSide) (h : Goes w jobs s log t) (said_so heard_so : ℕ → List Frag) → s.offers.names ≡ names
+      → ((name : EndId) (wish : Wish) → JobAt jobs s name wish → Wishes wish.opening) → IsLed s.core → Placed s.core
+      → Sound t.core.monitor.circuits → AreReasonedFrom names Wishes t0 said_so heard_so s.core.monitor
+      → (refusal_at t e ≡ refusal_at s e) ⊎ Tells jobs t0 s (then_heard heard_so (log_steps w jobs log s t h)) (refusal_at t e)
+  log_tells [] s t h said_so heard_so offers own led placed sound n = inl (ap (λ (x : TheRun TheSide). refusal_at x e) h)
+  log_tells (deed ∷ log) s t h said_so heard_so offers own led placed sound n =
+      let m = h.1.0 in
+      let u = h.0 in
+      let aside : u.core ≡ m.core = core_aside m u deed h.1.2 in
+      let first = event_steps w jobs deed s m h.2 h.1.1 in
+      let rest = log_steps w jobs log u t h.3 in
+      let sound_u = sound_first w jobs log u t h.3 sound in
+      let sound_m : Sound m.core.monitor.circuits = subst (λ (k : TheCore). Sound k.monitor.circuits) aside sound_u in
+      let one = does_keep (AreReasonedFrom names Wishes t0) jobs (reasons_kept names jobs Wishes wished t0) w on said_so heard_so s m h.1.3.core h.1.3.table sound_m led offers own n deed h.2 h.1.4 h.1.1 in
+      let now = subst (λ (k : TheCore). AreReasonedFrom names Wishes t0 (then_said said_so first) (then_heard heard_so first) k.monitor) (sym aside) one in
+      let led_u : IsLed u.core = subst IsLed (sym aside) (does_led w jobs s m h.1.3.core h.1.3.table led deed h.2 h.1.1) in
+      let still : u.offers.names ≡ names = ap (λ (o : Offers). o.names) (offers_stay w deed s m u h.1.1 h.1.2) ∙ offers in
+      let own_u = λ (name : EndId) (wish : Wish) (a : JobAt jobs u name wish). own name wish (job_before jobs s u name wish (event_jobs w deed s m u h.1.1 h.1.2) a) in
+      elim (log_tells log u t h.3 (then_said said_so first) (then_heard heard_so first) still own_u led_u (placed_on deed log s t h placed) sound now) [
+        | inl same ↦ elim (event_notes w deed s m u e h.1.1 h.1.2) [
+          | inl before ↦ inl (same ∙ before)
+          | inr new ↦ inr (more_told jobs t0 s (then_heard heard_so first) (then_heard heard_so (first ++ rest))
+              (λ l f has. subst (Has f) (sym (heard_joins heard_so first rest l)) (has_first f (then_heard heard_so first l) (of_circuit 0 (taken_from l rest)) has)) (refusal_at t e)
+              (event_tells w names Wishes t0 jobs said_so heard_so s m h.1.3.table placed n deed h.2 h.1.1 (refusal_at t e) (subst (New deed) (sym same) new)))
+        ]
+        | inr later ↦ inr (more_told jobs t0 s (then_heard (then_heard heard_so first) rest) (then_heard heard_so (first ++ rest))
+            (λ l f has. subst (Has f) (sym (heard_joins heard_so first rest l)) has) (refusal_at t e)
+            (told_before jobs t0 s u (then_heard (then_heard heard_so first) rest) (event_jobs w deed s m u h.1.1 h.1.2) (refusal_at t e) later))
+      ]
