@@ -86,8 +86,8 @@ asks_parts c d a b same =
     let paths : b.path ≡ a.path = cc in (
       circuits,
       ap (λ (n : ℕ). let o : Opening = record { binding = n; service = b.service; path = b.path } in o) bindings
-      ∙ ap (λ (x : IRef). let o : Opening = record { binding = a.binding; service = x; path = b.path } in o) services
-      ∙ ap (λ (p : List CoreId). let o : Opening = record { binding = a.binding; service = a.service; path = p } in o) paths,
+          ∙ ap (λ (x : IRef). let o : Opening = record { binding = a.binding; service = x; path = b.path } in o) services
+          ∙ ap (λ (p : List CoreId). let o : Opening = record { binding = a.binding; service = a.service; path = p } in o) paths,
     )
 
 -- what asks is no answer, and no answer asks
@@ -127,13 +127,17 @@ module _ (names : List TheRegistration) (Wishes : Opening → Type 0) (t : TheCi
     passed = λ l i hop x d here at way.
         (let (o, came, only) = n.passed l i hop x d here at way in (o, came_more t heard heard2 more x.0 d.0 o came, only_fewer l i o only));
     refused = λ l f c reason has says_it.
-        (let (o, came, why) = n.refused l f c reason (in_more l f has) says_it in (o, came_more t heard heard2 more l c.0 o came, elim why [
-          | inl good ↦ inl good
-          | inr others ↦ elim others [
-            | inl lacks ↦ inr (inl lacks)
-            | inr h ↦ inr (inr (record { link = h.link; frag = h.frag; has = more h.link h.frag h.has; circuit = h.circuit; says = h.says; given = h.given; only = only_fewer h.link h.circuit.0 o h.only }))
-          ]
-        ]));
+        (let (o, came, why) = n.refused l f c reason (in_more l f has) says_it in (
+          o,
+          came_more t heard heard2 more l c.0 o came,
+          elim why [
+            | inl good ↦ inl good
+            | inr others ↦ elim others [
+              | inl lacks ↦ inr (inl lacks)
+              | inr h ↦ inr (inr (record { link = h.link; frag = h.frag; has = more h.link h.frag h.has; circuit = h.circuit; says = h.says; given = h.given; only = only_fewer h.link h.circuit.0 o h.only }))
+            ]
+          ],
+        ));
   } where
     in_more : (l : ℕ) (f : Frag) → Has f (said2 l) ⊎ Has f (waiting_for m.outboxes l) → Has f (said l) ⊎ Has f (waiting_for m.outboxes l)
     in_more l f has = elim has [ inl a ↦ inl (fewer l f a) | inr b ↦ inr b ]
@@ -151,21 +155,25 @@ module _ (names : List TheRegistration) (Wishes : Opening → Type 0) (t : TheCi
         (let (o, came, only) = n.passed l i hop x d (subst (λ (u : TheCircuits). OpenedHere u l i) same here) (sym (ap (λ (u : TheCircuits). hop_at u l i) same) ∙ at) way in (o, came, only_still l i o only));
     refused = λ l f c reason has says_it.
         (let (g, alike, before) = from l f has in
-        let (o, came, why) = n.refused l g c reason before (says_the_same f g (CircuitRefused c reason) alike says_it) in (o, came, elim why [
-          | inl good ↦ inl good
-          | inr others ↦ elim others [
-            | inl lacks ↦ inr (inl lacks)
-            | inr h ↦ inr (inr (record {
-              link = h.link;
-              frag = h.frag;
-              has = h.has;
-              circuit = h.circuit;
-              says = h.says;
-              given = subst (λ (u : TheCircuits). OpenedHere u h.link h.circuit.0) (sym same) h.given;
-              only = only_still h.link h.circuit.0 o h.only;
-            }))
-          ]
-        ]));
+        let (o, came, why) = n.refused l g c reason before (says_the_same f g (CircuitRefused c reason) alike says_it) in (
+          o,
+          came,
+          elim why [
+            | inl good ↦ inl good
+            | inr others ↦ elim others [
+              | inl lacks ↦ inr (inl lacks)
+              | inr h ↦ inr (inr (record {
+                link = h.link;
+                frag = h.frag;
+                has = h.has;
+                circuit = h.circuit;
+                says = h.says;
+                given = subst (λ (u : TheCircuits). OpenedHere u h.link h.circuit.0) (sym same) h.given;
+                only = only_still h.link h.circuit.0 o h.only;
+              }))
+            ]
+          ],
+        ));
   } where
     only_still : (l i : ℕ) (o : Opening) → AsksOnly said m l i o → AsksOnly said2 m2 l i o
     only_still l i o only f c x has is says_it = (let (g, alike, before) = from l f has in only g c x before is (says_the_same f g (asks c x) alike says_it))

@@ -96,9 +96,9 @@ cores_reason on jobs c v unused =
           (at_start names Wishes c unused)).2;
       desks = λ e. elim (log_tells shared_ways on names jobs Wishes (own_wished jobs c.start) t0 e c.log c.start c.finish v.went.goes (λ l. []) (λ l. []) refl (own_wish jobs c.start) v.led
           (none_placed jobs c v unused) v.table (at_start names Wishes c unused)) [
-        | inl same ↦ inl same
-        | inr told ↦ inr (told_at jobs c.start (λ l. of_circuit 0 (taken_from l (log_steps shared_ways jobs c.log c.start c.finish v.went.goes))) (refusal_at c.finish e) told)
-      ];
+            | inl same ↦ inl same
+            | inr told ↦ inr (told_at jobs c.start (λ l. of_circuit 0 (taken_from l (log_steps shared_ways jobs c.log c.start c.finish v.went.goes))) (refusal_at c.finish e) told)
+          ];
     }
 
 -- ---- all cores
@@ -275,7 +275,7 @@ module _ (rings : RingsConserve) (prefix : CircuitsPrefix) (reason : CoresReason
         | inr on ↦
             (let d = stands_behind x.core.start.core.monitor.circuits on.0 o.path on.2.along in
             let there : d.place ≡ b.before = one_number d.place b.before
-                (sym d.place_is ∙ ap (λ (k : ℕ). position (is_core k) o.path) (x.forth b.state b.state_is) ∙ b.before_is) in
+            (sym d.place_is ∙ ap (λ (k : ℕ). position (is_core k) o.path) (x.forth b.state b.state_is) ∙ b.before_is) in
             let g = origin most x.place x.core x.core_is on.0 on.1 o d.place on.2 d.place_is (omega (arith, here, less, there, within)) in
             let fewer = g.less in
             record {

@@ -74,8 +74,10 @@ pub record AreReasoned (names : List TheRegistration) (Wishes : Opening → Type
   pub asked : (l : ℕ) (f : Frag) (c : Circuit) (o : Opening) → Has f (said l) ⊎ Has f (waiting_for m.outboxes l) → Says f (asks c o)
       → Wishes o ⊎ ((k n : ℕ) × CameUnder t heard k n o)
   -- where an entry stands at a number of the neighbour's, an opening of its binding was heard under that
-  pub told : (l n : ℕ) (hop : Hop) → OpenedThere m.circuits l n → hop_at m.circuits l n ≡ Some hop → (o : Opening) × CameUnder t heard l n o × (o.binding ≡ hop.binding)
-  -- where an entry leads from a number that this core gave to another link, an opening was heard under the number there, and just it was asked for under this one
+  pub told : (l n : ℕ) (hop : Hop) → OpenedThere m.circuits l n → hop_at m.circuits l n ≡ Some hop
+      → (o : Opening) × CameUnder t heard l n o × (o.binding ≡ hop.binding)
+  -- where an entry leads from a number that this core gave to another link, an opening was heard under the number there, and just it was asked for under
+  -- this one
   pub passed : (l n : ℕ) (hop : Hop) (x : LinkId) (d : Circuit) → OpenedHere m.circuits l n → hop_at m.circuits l n ≡ Some hop → hop.way ≡ Link x d
       → (o : Opening) × CameUnder t heard x.0 d.0 o × AsksOnly said m l n o
   -- what it says to be refused, or has still to say, is an opening that was heard under that number
@@ -125,8 +127,8 @@ IsRefusedAt jobs s heard reason = WasHeard s.core.monitor.circuits heard reason 
 -- so it is of a core, with what it asked for
 pub record GoesReasoned (jobs : List CoreJob) (c : OneCore) : Type 0 where
   pub asking : GoesAsking jobs c
-  pub reasoned : AreReasoned c.start.offers.names (IsOwnWish jobs c.start) c.start.core.monitor.circuits (λ l. of_circuit 0 (put_on l asking.steps)) (λ l. of_circuit 0 (taken_from l asking.steps))
-      c.finish.core.monitor
+  pub reasoned : AreReasoned c.start.offers.names (IsOwnWish jobs c.start) c.start.core.monitor.circuits
+      (λ l. of_circuit 0 (put_on l asking.steps)) (λ l. of_circuit 0 (taken_from l asking.steps)) c.finish.core.monitor
   pub desks : (e : EndId) → (refusal_at c.finish e ≡ refusal_at c.start e)
       ⊎ IsRefusedAt jobs c.start (λ l. of_circuit 0 (taken_from l asking.steps)) (refusal_at c.finish e)
 
