@@ -1,5 +1,5 @@
 -- What a monitor says and hears of refusals: each has its reason, here or further on.
-use Rattle.std.proofs.Common.{◌≡◌, ◌⊎◌, inl, inr, refl, sym, ap, ◌∙◌, subst, ℕ, ◌==◌, if◌then◌else◌, Bool, true, false, List, [], ◌∷◌, ◌++◌, slice_get}
+use Rattle.std.proofs.Common.{◌≡◌, ◌⊎◌, inl, inr, refl, sym, ap, ◌∙◌, subst, ℕ, ◌==◌, Bool, true, false, List, [], ◌∷◌, ◌++◌, slice_get}
 use Rattle.std.proofs.Common.{Option, Some, None}
 use Rattle.std.specs.Option.{option_map}
 use Rattle.fl_base.specs.declared.fragment.Frag.{Frag}
@@ -7,36 +7,30 @@ use Rattle.fl_base.specs.declared.identity.CoreId.{CoreId}
 use Rattle.fl_base.specs.declared.identity.IRef.{IRef}
 use Rattle.fl_base.specs.declared.identity.LinkId.{LinkId}
 use Rattle.fl_base.specs.declared.identity.Circuit.{Circuit}
-use Rattle.fl_base.specs.declared.identity.Side.TheVariants.{Server}
 use Rattle.fl_base.specs.Control.{bare}
 use Rattle.fl_hop.specs.declared.entry.Hop.{Hop}
-use Rattle.fl_hop.specs.declared.entry.Way.{Way}
-use Rattle.fl_hop.specs.declared.entry.Way.TheVariants.{Link, End}
+use Rattle.fl_hop.specs.declared.entry.Way.TheVariants.{Link}
 use Rattle.fl_hop.specs.Joined.{Sound}
 use Rattle.fl_hop.specs.Later.{Later, unanswered}
-use Rattle.fl_hop.specs.Numbers.{Given, OpenedHere, OpenedThere, next_own, next_due, after_opening, after_taking, count_opening, count_taking}
-use Rattle.fl_hop.specs.Openings.{IsWaiting, passed_on, answered}
-use Rattle.fl_hop.specs.Table.{TheCircuits, hop_at, link_of, without_entry}
-use Rattle.fl_hop.proofs.Counting.{Next, next_is, never_next}
+use Rattle.fl_hop.specs.Numbers.{Given, OpenedHere, OpenedThere, next_own}
+use Rattle.fl_hop.specs.Table.{TheCircuits, hop_at, link_of}
+use Rattle.fl_hop.proofs.Counting.{next_is, never_next}
 use Rattle.fl_nameserv.specs.Registrations.{TheRegistration, by_iref}
 use Rattle.fl_monitor.specs.declared.opening.Opening.{Opening}
 use Rattle.fl_monitor.specs.declared.heard.Heard.{Heard}
 use Rattle.fl_monitor.specs.declared.heard.Heard.TheVariants.{OpeningWentOn, ServerMade, OpeningFailed, AnswerWentOn, EndOpened, EndRefused}
 use Rattle.fl_monitor.specs.declared.message.Message.{Message}
-use Rattle.fl_monitor.specs.declared.message.Message.TheVariants.{OpenCircuit, CircuitOpened, CircuitRefused}
+use Rattle.fl_monitor.specs.declared.message.Message.TheVariants.{CircuitOpened, CircuitRefused}
 use Rattle.fl_monitor.specs.Routing.{given, next_on}
 use Rattle.fl_monitor.specs.Fates.{Known, arrival, passage, fate}
-use Rattle.fl_monitor.specs.Hearing.{heard_by, opened_at, refused_at, ComesTo, says, after_opening as table_of_opening, table_after}
-use Rattle.fl_monitor.specs.Monitors.{TheMonitor, AllSaid, Said, waiting_for, asks}
+use Rattle.fl_monitor.specs.Hearing.{heard_by}
+use Rattle.fl_monitor.specs.Monitors.{TheMonitor, Said, waiting_for, asks}
 use Rattle.fl_monitor.specs.Saying.{Says}
 use Rattle.fl_monitor.proofs.Single.{says_no_other, says_the_same, says_what_is_written}
 use Rattle.fl_honest.specs.Named.{Has, AsksFor, AreNamed}
 use Rattle.fl_honest.specs.Reasons.{IsReason, CameUnder, AsksOnly, HeardRefused, IsRefusedFor, AreReasoned}
-use Rattle.fl_honest.proofs.Bound.{given_there, map_some, entry_way}
-use Rattle.fl_honest.proofs.Counted.{next_still}
-use Rattle.fl_honest.proofs.Named.{has_split, waits, IsNext, opening_next, due_in_place}
-use Rattle.fl_honest.proofs.Neighbours.{leads_of}
-use Rattle.fl_honest.proofs.Refused.{opened_still, opened_before, newest_next}
+use Rattle.fl_honest.proofs.Bound.{map_some}
+use Rattle.fl_honest.proofs.Named.{has_split, waits}
 
 -- ---- a core's own reasons
 

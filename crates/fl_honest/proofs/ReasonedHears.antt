@@ -10,7 +10,7 @@ use Rattle.fl_hop.specs.declared.entry.Way.TheVariants.{Link, End}
 use Rattle.fl_hop.specs.Joined.{Sound}
 use Rattle.fl_hop.specs.Later.{Later}
 use Rattle.fl_hop.specs.Numbers.{Given, OpenedHere, OpenedThere, next_own, next_due, after_opening, after_taking, count_taking}
-use Rattle.fl_hop.specs.Openings.{IsWaiting, opened as opened_table, passed_on, arrived, answered}
+use Rattle.fl_hop.specs.Openings.{IsWaiting, opened as opened_table, passed_on, answered}
 use Rattle.fl_hop.specs.Table.{TheCircuits, hop_at, without_entry}
 use Rattle.fl_hop.proofs.Counting.{next_is, due_is, never_next, never_due}
 use Rattle.fl_nameserv.specs.Registrations.{TheRegistration, by_iref}
@@ -28,12 +28,12 @@ use Rattle.fl_node.specs.View.{client_of, server_of}
 use Rattle.fl_running.specs.declared.job.Job.{Job}
 use Rattle.fl_honest.specs.Named.{Has, AreNamed}
 use Rattle.fl_honest.specs.Asked.{IsWished}
-use Rattle.fl_honest.specs.Reasons.{CameUnder, IsRefusedFor, AreReasoned}
+use Rattle.fl_honest.specs.Reasons.{CameUnder, AreReasoned}
 use Rattle.fl_honest.proofs.Asked.{along_in_place}
 use Rattle.fl_honest.proofs.AskedLaid.{Laid, laid_same, laid_then, laid_along, table_laid, opened_laid}
 use Rattle.fl_honest.proofs.Bound.{given_there, entry_binding, entry_way}
 use Rattle.fl_honest.proofs.Counted.{IsNewest, taken_still, taken_before, newest_due, next_still}
-use Rattle.fl_honest.proofs.Logged.{IsKept, IsKeptBy}
+use Rattle.fl_honest.proofs.Logged.{IsKeptBy}
 use Rattle.fl_honest.proofs.LoggedNames.{names_kept}
 use Rattle.fl_honest.proofs.Named.{IsNext, opening_next, due_in_place}
 use Rattle.fl_honest.proofs.Neighbours.{leads_of}

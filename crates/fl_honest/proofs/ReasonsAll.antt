@@ -1,5 +1,5 @@
 -- Over all cores: what was heard to be refused is for a reason, core by core forth along the route.
-use Rattle.std.proofs.Common.{◌≡◌, ◌⊎◌, inl, inr, refl, sym, ap, ◌∙◌, subst, ℕ, zero, suc, ◌+◌, ◌<◌, ◌≤◌, true, false, List, [], length, slice_get, position, Option, Some, None, arith}
+use Rattle.std.proofs.Common.{◌≡◌, ◌⊎◌, inl, inr, refl, sym, ap, ◌∙◌, subst, ℕ, zero, suc, ◌+◌, ◌<◌, ◌≤◌, List, [], length, slice_get, position, Some, None, arith}
 use Rattle.std.proofs.lemmas.List.Quantifiers.{position-Some}
 use Rattle.fl_base.specs.declared.fragment.Frag.{Frag}
 use Rattle.fl_base.specs.declared.identity.CoreId.{CoreId}
@@ -18,7 +18,6 @@ use Rattle.fl_hop.specs.Table.{TheCircuits}
 use Rattle.fl_hop.proofs.Lists.{at_within}
 use Rattle.fl_monitor.specs.declared.message.Message.TheVariants.{CircuitRefused}
 use Rattle.fl_monitor.specs.declared.opening.Opening.{Opening}
-use Rattle.fl_monitor.specs.Fates.{comes_along}
 use Rattle.fl_monitor.specs.Monitors.{TheMonitor}
 use Rattle.fl_monitor.specs.Routing.{is_core}
 use Rattle.fl_monitor.specs.Saying.{Says}
@@ -39,10 +38,10 @@ use Rattle.fl_honest.specs.Asked.{IsWished, CameAlong, AreBeside}
 use Rattle.fl_honest.specs.Whole.{HasOwn}
 use Rattle.fl_honest.specs.Meeting.{IsPaired}
 use Rattle.fl_honest.specs.Runs.{AreSetUp}
-use Rattle.fl_honest.specs.Reasons.{IsReason, CameUnder, AsksOnly, HeardRefused, IsRefusedFor, AreReasoned, GoesReasoned, CoresReason, IsOwnWish, AskedAgain, ReasonsAlone, DesksTellReasons}
+use Rattle.fl_honest.specs.Reasons.{IsReason, CameUnder, IsRefusedFor, AreReasoned, GoesReasoned, CoresReason, IsOwnWish, AskedAgain, ReasonsAlone, DesksTellReasons}
 use Rattle.fl_honest.proofs.AskedCores.{asking_of}
 use Rattle.fl_honest.proofs.AskedLaid.{laid_same}
-use Rattle.fl_honest.proofs.AskedRoutes.{StandsBehind, stands_behind, side_there, heard_wished}
+use Rattle.fl_honest.proofs.AskedRoutes.{stands_behind, side_there, heard_wished}
 use Rattle.fl_honest.proofs.Logged.{log_keeps_by}
 use Rattle.fl_honest.proofs.Neighbours.{unused_named}
 use Rattle.fl_honest.proofs.OverLinks.{none_waits, both_ways, has_before}

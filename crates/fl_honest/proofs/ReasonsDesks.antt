@@ -1,6 +1,6 @@
 -- What stands at desks as refused: what one event adds, and a log.
-use Rattle.std.proofs.Common.{◌≡◌, ◌≢◌, ◌⊎◌, inl, inr, refl, sym, ap, ◌∙◌, subst, ℕ, ◌<◌, ◌==◌, nat_lt, not, is_some, if◌then◌else◌, List, [], ◌∷◌, ◌++◌, length, slice_get, slice_set}
-use Rattle.std.proofs.Common.{Bool, true, false, Option, Some, None, Result, Ok, Err, arith}
+use Rattle.std.proofs.Common.{◌≡◌, ◌⊎◌, inl, inr, refl, sym, ap, ◌∙◌, subst, ℕ, nat_lt, not, is_some, List, [], ◌∷◌, ◌++◌, length, slice_get, slice_set}
+use Rattle.std.proofs.Common.{Option, Some, None, Result, Ok, Err}
 use Rattle.std.specs.Option.{option_map}
 use Rattle.std.proofs.lemmas.Bool.{cases_eq}
 use Rattle.fl_base.specs.declared.fragment.Frag.{Frag}
@@ -8,14 +8,13 @@ use Rattle.fl_base.specs.declared.identity.CoreId.{CoreId}
 use Rattle.fl_base.specs.declared.identity.EndId.{EndId}
 use Rattle.fl_base.specs.declared.identity.LinkId.{LinkId}
 use Rattle.fl_base.specs.declared.identity.Circuit.{Circuit}
-use Rattle.fl_base.specs.Control.{circuit_of, bare}
+use Rattle.fl_base.specs.Control.{bare}
 use Rattle.fl_core.proofs.Places.{set_here, set_elsewhere}
 use Rattle.fl_core.specs.declared.answer.TurnAnswer.{TurnAnswer}
 use Rattle.fl_core.specs.declared.answer.TurnAnswer.TheVariants as turn
 use Rattle.fl_endpoint.specs.declared.fault.EndFault.{EndFault}
 use Rattle.fl_endpoint.specs.Laws.{OnAnotherCircuit}
 use Rattle.fl_nameserv.specs.Registrations.{TheRegistration}
-use Rattle.fl_hop.specs.declared.entry.Hop.{Hop}
 use Rattle.fl_hop.specs.declared.entry.Way.{Way}
 use Rattle.fl_hop.specs.declared.entry.Way.TheVariants.{Link, End}
 use Rattle.fl_hop.specs.declared.links.LinkState.{LinkState}
@@ -23,8 +22,7 @@ use Rattle.fl_hop.specs.Joined.{Sound}
 use Rattle.fl_hop.specs.Later.{way_at}
 use Rattle.fl_hop.specs.OfCircuit.{as_carried, of_circuit}
 use Rattle.fl_hop.specs.Stretch.{heard as hop_heard, taken_from}
-use Rattle.fl_hop.specs.Table.{TheCircuits, stands}
-use Rattle.fl_monitor.specs.declared.fault.MonitorFault.{MonitorFault}
+use Rattle.fl_hop.specs.Table.{TheCircuits}
 use Rattle.fl_monitor.specs.declared.fault.MonitorFault.TheVariants as monitor
 use Rattle.fl_monitor.specs.declared.heard.Heard.{Heard}
 use Rattle.fl_monitor.specs.declared.heard.Heard.TheVariants as outcome
@@ -33,7 +31,7 @@ use Rattle.fl_monitor.specs.declared.message.Message.TheVariants.{OpenCircuit, C
 use Rattle.fl_monitor.specs.declared.opening.Opening.{Opening}
 use Rattle.fl_monitor.specs.Fates.{Known}
 use Rattle.fl_monitor.specs.Hearing.{ComesTo, opened_at, refused_at}
-use Rattle.fl_monitor.specs.Monitors.{TheMonitor, can_say}
+use Rattle.fl_monitor.specs.Monitors.{can_say}
 use Rattle.fl_monitor.specs.Routing.{given}
 use Rattle.fl_monitor.specs.Saying.{Says}
 use Rattle.fl_monitor.proofs.Single.{says_the_same}

@@ -1,12 +1,10 @@
 -- Why a core refuses the opening that a job of its own asks for.
-use Rattle.std.proofs.Common.{◌≡◌, ◌⊎◌, inl, inr, refl, sym, ap, ◌∙◌, subst, ℕ, suc, ◌+◌, ◌*◌, ◌<◌, ◌≤◌, ◌/◌, ◌%◌, ◌==◌, ◌||◌, ◌&&◌, nat_lt, not, is_some, if◌then◌else◌}
-use Rattle.std.proofs.Common.{Bool, true, false, List, [], ◌∷◌, length, slice_get, slice_index_or, Option, Some, None, Result, Ok, Err, arith}
+use Rattle.std.proofs.Common.{◌≡◌, ◌⊎◌, inl, inr, refl, ap, ◌∙◌, ℕ, suc, ◌≤◌, ◌/◌, ◌%◌, ◌||◌, nat_lt, if◌then◌else◌}
+use Rattle.std.proofs.Common.{Bool, true, false, List, [], ◌∷◌, length, slice_get, Option, Some, None, Err, arith}
 use Rattle.std.specs.List.{list_any}
 use Rattle.std.proofs.lemmas.Bool.Decides.{nat_tests}
 use Rattle.fl_base.specs.declared.fragment.Frag.{Frag}
 use Rattle.fl_base.specs.declared.identity.LinkId.{LinkId}
-use Rattle.fl_base.specs.declared.identity.Circuit.{Circuit}
-use Rattle.fl_base.specs.declared.identity.EndId.{EndId}
 use Rattle.fl_core.specs.declared.fault.BoardFault.{BoardFault}
 use Rattle.fl_core.specs.declared.fault.BoardFault.TheVariants as board
 use Rattle.fl_core.specs.Events.{Adds}
@@ -18,14 +16,13 @@ use Rattle.fl_nameserv.specs.Registrations.{TheRegistration}
 use Rattle.fl_hop.specs.declared.entry.Hop.{Hop}
 use Rattle.fl_hop.specs.declared.entry.Way.{Way}
 use Rattle.fl_hop.specs.declared.entry.Way.TheVariants.{Link, End}
-use Rattle.fl_hop.specs.declared.fault.HopFault.{HopFault}
-use Rattle.fl_hop.specs.declared.fault.HopFault.TheVariants.{NoLink, UsedUp, Astray}
+use Rattle.fl_hop.specs.declared.fault.HopFault.TheVariants.{NoLink, Astray}
 use Rattle.fl_hop.specs.Joined.{Sound, Leads, IsClientWay}
 use Rattle.fl_hop.specs.Later.{way_at}
-use Rattle.fl_hop.specs.Numbers.{OpenedHere, OpenedThere, next_own}
-use Rattle.fl_hop.specs.Openings.{if_used_up, open_fault}
+use Rattle.fl_hop.specs.Numbers.{OpenedThere, next_own}
+use Rattle.fl_hop.specs.Openings.{if_used_up}
 use Rattle.fl_hop.specs.Table.{TheCircuits, slot, hop_at, is_of, stands}
-use Rattle.fl_hop.proofs.Lists.{index_there, within}
+use Rattle.fl_hop.proofs.Lists.{index_there}
 use Rattle.fl_monitor.specs.declared.fault.MonitorFault.{MonitorFault}
 use Rattle.fl_monitor.specs.declared.fault.MonitorFault.TheVariants as monitor
 use Rattle.fl_monitor.specs.declared.opening.Opening.{Opening}
@@ -36,7 +33,6 @@ use Rattle.fl_node.specs.Faults.{open_number}
 use Rattle.fl_node.specs.Making.{Asked, Asks}
 use Rattle.fl_node.specs.View.{TheCore, client_of}
 use Rattle.fl_running.proofs.Tables.{way_of}
-use Rattle.fl_honest.specs.Named.{Has}
 use Rattle.fl_honest.specs.Reasons.{IsReason, CameUnder, AreReasoned}
 use Rattle.fl_honest.proofs.Neighbours.{leads_of}
 use Rattle.fl_honest.proofs.Refused.{test_true, less_true}

@@ -1,5 +1,5 @@
 -- What a core's table leads to stands in the end: a server's end is bound, and a client's was asked for by a job of a desk at the core.
-use Rattle.std.proofs.Common.{◌≡◌, refl, sym, ap, ◌∙◌, subst, ℕ, ◌⊎◌, inl, inr, ◌<◌, nat_lt, not, is_some, List, [], ◌∷◌, length, slice_get, Some, None, Result, Ok, Err, arith}
+use Rattle.std.proofs.Common.{◌≡◌, refl, sym, ap, ◌∙◌, subst, ℕ, ◌⊎◌, inl, inr, ◌<◌, nat_lt, not, is_some, List, [], ◌∷◌, length, Some, None, Result, Ok, Err, arith}
 use Rattle.std.proofs.lemmas.Bool.{ltb-true}
 use Rattle.fl_base.specs.declared.fragment.Frag.{Frag}
 use Rattle.fl_base.specs.declared.identity.EndId.{EndId}
