@@ -26,7 +26,7 @@ use Rattle.fl_dockets.specs.Joined.{core_of, AreBindings}
 use Rattle.fl_dockets.specs.State.{TheJoined, AreJoined}
 use Rattle.fl_endings.specs.Cores.{shared_ways, OneCore}
 use Rattle.fl_endings.specs.Begins.{core_at, Ran}
-use Rattle.fl_endings.specs.Complete.{Knows, AreNamed, IsNamedAt, AsManyHandled, CompleteHasAsMany, IsFirst, CompleteHasThese, CompleteHasAll}
+use Rattle.fl_endings.specs.Complete.{Knows, AreNamed, RefusalsAreNamed, AsManyHandled, CompleteHasAsMany, IsFirst, CompleteHasThese, CompleteHasAll}
 use Rattle.fl_endings.proofs.Turns.{all_finished}
 use Rattle.fl_endings.proofs.Desks.{still, prefix_then, no_longer, whole}
 use Rattle.fl_endings.proofs.Ended.{to_finish, at_point_still, due_or_refused}
@@ -108,7 +108,7 @@ module _ (logged : TurnsAreLogged shared_ways) (tell : DesksTellHandled shared_w
       | inr count ↦ inr (count ∙ ran.due.due e (bound_by j.bindings e n (slice_get j.bindings e.binding) refl own))
     ]
 
-  module _ (done : r.ending ≡ complete) (e : EndId) (named : IsNamedAt cores r e) (unnamed : refusal_of r e.binding ≡ None) where
+  module _ (named : AreNamed cores r) (done : r.ending ≡ complete) (e : EndId) (unnamed : refusal_of r e.binding ≡ None) where
     many_by : (o : Option Bound) → slice_get j.bindings e.binding ≡ o → AsManyHandled asked r e
     many_by None is =
         let none = ap length (nothing_handed (length cores) asked j ran.joined (peer e) is) in
@@ -118,7 +118,7 @@ module _ (logged : TurnsAreLogged shared_ways) (tell : DesksTellHandled shared_w
         let (c, at) = at_within cores n (core_below (length cores) j.bindings j.owners ran.joined.bindings e.side e.binding b is) in
         let own : core_at j.bindings e ≡ Some n = ap (λ (o : Option Bound). given o None (λ (x : Bound). Some (core_of e.side x))) is in
         elim (all_or_refused n c at e own (all_finished cores r ran.turns done n c at)) [
-          | inl knows ↦ absurd (named n c at knows unnamed)
+          | inl knows ↦ absurd (named n c e at knows unnamed)
           | inr count ↦
               (let one = told_count n c at e own in
               let more = grown n c at e own in
@@ -135,14 +135,17 @@ module _ (logged : TurnsAreLogged shared_ways) (tell : DesksTellHandled shared_w
   pub first_of : Honest asked r → (e : EndId) → IsFirst asked r e
   first_of honest e = prefix_then (at_end r.handled e) (at_end r.made (peer e)) (handed_in asked (peer e)) (honest.handled e) (honest.made (peer e))
 
-  pub all_handled : Honest asked r → AreNamed cores r → r.ending ≡ complete → AllHandled asked r
-  all_handled honest named done e unnamed = these_handled done e (λ n c at. named n c e at) unnamed (first_of honest e)
+  pub all_handled : AreNamed cores r → Honest asked r → r.ending ≡ complete → AllHandled asked r
+  all_handled named honest done e unnamed = these_handled named done e unnamed (first_of honest e)
 
-pub complete_as_many : TurnsAreLogged shared_ways → DesksTellHandled shared_ways → CountedAreTurns shared_ways → CompleteHasAsMany
-complete_as_many logged tell turns asked j limit cores r ran done e named unnamed = as_many_handled logged tell turns asked j limit cores r ran done e named unnamed
+pub complete_as_many : TurnsAreLogged shared_ways → DesksTellHandled shared_ways → CountedAreTurns shared_ways → RefusalsAreNamed → CompleteHasAsMany
+complete_as_many logged tell turns named asked j limit cores r ran done e unnamed =
+    as_many_handled logged tell turns asked j limit cores r ran (named asked j limit cores r ran) done e unnamed
 
-pub complete_these : TurnsAreLogged shared_ways → DesksTellHandled shared_ways → CountedAreTurns shared_ways → CompleteHasThese
-complete_these logged tell turns asked j limit cores r ran done e first named unnamed = these_handled logged tell turns asked j limit cores r ran done e named unnamed first
+pub complete_these : TurnsAreLogged shared_ways → DesksTellHandled shared_ways → CountedAreTurns shared_ways → RefusalsAreNamed → CompleteHasThese
+complete_these logged tell turns named asked j limit cores r ran done e first unnamed =
+    these_handled logged tell turns asked j limit cores r ran (named asked j limit cores r ran) done e unnamed first
 
-pub complete_all : TurnsAreLogged shared_ways → DesksTellHandled shared_ways → CountedAreTurns shared_ways → CompleteHasAll
-complete_all logged tell turns asked j limit cores r ran honest named done = all_handled logged tell turns asked j limit cores r ran honest named done
+pub complete_all : TurnsAreLogged shared_ways → DesksTellHandled shared_ways → CountedAreTurns shared_ways → RefusalsAreNamed → CompleteHasAll
+complete_all logged tell turns named asked j limit cores r ran honest done =
+    all_handled logged tell turns asked j limit cores r ran (named asked j limit cores r ran) honest done

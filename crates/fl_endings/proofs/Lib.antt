@@ -1,4 +1,5 @@
 pub mod Turns
+pub mod Heard
 pub mod Going
 pub mod Learning
 pub mod Desks

@@ -6,8 +6,6 @@ use Rattle.fl_base.specs.declared.identity.EndId.{EndId}
 use Rattle.fl_base.specs.declared.identity.Side.{Side}
 use Rattle.fl_base.specs.declared.identity.Side.TheVariants.{Client, Server}
 use Rattle.fl_core.proofs.Places.{one_stands}
-use Rattle.fl_tally.specs.declared.board.Refusal.{Refusal}
-use Rattle.fl_tally.specs.Tally.{Agrees, number_of}
 use Rattle.fl_queues.specs.Given.{given}
 use Rattle.fl_node.specs.View.{client_of}
 use Rattle.fl_running.specs.declared.word.Word.{Word}
@@ -21,7 +19,8 @@ use Rattle.fl_dockets.specs.declared.docket.Bound.{Bound}
 use Rattle.fl_dockets.specs.State.{TheJoined}
 use Rattle.fl_endings.specs.Cores.{shared_ways, OneCore}
 use Rattle.fl_endings.specs.Begins.{core_at, word_by, word_at, word_of, Ran}
-use Rattle.fl_endings.specs.Complete.{Knows, AreNamed, RefusalsStay, RunsKeepRefusals, IsOwn, OwnRefusalsAreNamed, Among, HeardIsTold, TablesTell, RefusalsAreNamed}
+use Rattle.fl_endings.specs.Heard.{Among}
+use Rattle.fl_endings.specs.Complete.{Knows, AreNamed, RefusalsStay, RunsKeepRefusals, RefusalsAreNamed}
 use Rattle.fl_endings.specs.Refused.{SetUpIsNotRefused}
 use Rattle.fl_endings.proofs.Learning.{Became, Tracks}
 use Rattle.fl_endings.proofs.Ended.{tracks}
@@ -64,10 +63,6 @@ opens_of bindings e job is = opens_by bindings e job (slice_get bindings e.bindi
 heard_job : (o : Option ℕ) (job : ℕ) → word_by Hears o ≡ Hears job → o ≡ Some job
 heard_job None job is = absurd (let clash : Silent ≡ Hears job = is in cc)
 heard_job (Some i) job is = let same : i ≡ job = cc in ap Some same
-
-no_hears_by : (o : Option ℕ) (job : ℕ) → word_by Tells o ≡ Hears job → ⊥
-no_hears_by None job is = absurd (let clash : Silent ≡ Hears job = is in cc)
-no_hears_by (Some i) job is = absurd (let clash : Tells i ≡ Hears job = is in cc)
 
 hears_at : (job : ℕ) (b : Bound) (s : Side) → word_at s b ≡ Hears job → b.opened ≡ Some job
 hears_at job b Client is = absurd (no_hears_by b.opened job is)
@@ -150,58 +145,28 @@ module _ (logged : TurnsAreLogged shared_ways) (tell : DesksTellHandled shared_w
       let same : f.binding ≡ binding = ran.joined.bindings.apart f.binding binding job o.bound b o.bound_is at o.opened opened in
       subst (λ (i : ℕ). RefusedThere i) same (own_there n k job c f there place o refuses)
 
-  -- what was heard of the job that opens this end's binding
-  abbrev HeardThere : OneCore → EndId → Type 0
-  HeardThere c e = (b : Bound) (job refusal : ℕ) → word_of j.bindings e ≡ Hears job → slice_get j.bindings e.binding ≡ Some b → b.opened ≡ Some job → refusal ≢ 0
-      → Among job refusal c.point.ticket.seat.knows.heard → RefusedThere e.binding
-
-  by_word : (n k : ℕ) (c : OneCore) (e : EndId) (number : ℕ) → HeardThere c e → slice_get cores n ≡ Some c → slice_get c.plan.ends.items k ≡ Some e → (first : Word)
+  by_word : (n k : ℕ) (c : OneCore) (e : EndId) (number : ℕ) → slice_get cores n ≡ Some c → slice_get c.plan.ends.items k ≡ Some e → (first : Word)
       → word_of j.bindings e ≡ first → Became (Refuses c) c.point.ticket.seat.knows.heard e first (Refused number) → RefusedThere e.binding
-  by_word n k c e number heard at place Silent word became = absurd (let clash : Refused number ≡ Silent = became in cc)
-  by_word n k c e number heard at place (Tells job) word (inl same) = absurd (let clash : Refused number ≡ Tells job = same in cc)
-  by_word n k c e number heard at place (Tells job) word (inr (refusal, is, refuses)) = own_there n k job c e at place (opens_of j.bindings e job word) refuses
-  by_word n k c e number heard at place (Hears job) word (inl same) = absurd (let clash : Refused number ≡ Hears job = same in cc)
-  by_word n k c e number heard at place (Hears job) word (inr (refusal, is, some, among)) =
+  by_word n k c e number at place Silent word became = absurd (let clash : Refused number ≡ Silent = became in cc)
+  by_word n k c e number at place (Tells job) word (inl same) = absurd (let clash : Refused number ≡ Tells job = same in cc)
+  by_word n k c e number at place (Tells job) word (inr (refusal, is, refuses)) = own_there n k job c e at place (opens_of j.bindings e job word) refuses
+  by_word n k c e number at place (Hears job) word (inl same) = absurd (let clash : Refused number ≡ Hears job = same in cc)
+  -- what was heard of the job that opens this end's binding a core told
+  by_word n k c e number at place (Hears job) word (inr (refusal, is, some, among)) =
       let (b, bound, opened) = hears_by j.bindings e job (slice_get j.bindings e.binding) refl word in
-      heard b job refusal word bound opened some among
-  by_word n k c e number heard at place (Refused first) word became = absurd (plain e first (slice_get j.bindings e.binding) word)
+      let (m, d, told, there, stored) = ran.heard n job refusal b.client c at (ran.joined.bindings.opened e.binding job b bound opened) some among in
+      stored_there e.binding b job told m d bound opened there stored
+  by_word n k c e number at place (Refused first) word became = absurd (plain e first (slice_get j.bindings e.binding) word)
 
-  refused_by : (n : ℕ) (c : OneCore) (e : EndId) → HeardThere c e → slice_get cores n ≡ Some c → Knows c e → RefusedThere e.binding
-  refused_by n c e heard at knows =
+  pub refused_there : (n : ℕ) (c : OneCore) (e : EndId) → slice_get cores n ≡ Some c → Knows c e → RefusedThere e.binding
+  refused_there n c e at knows =
       let (word, there, became) = (all_tracks n c at).words knows.place e knows.end_is in
       let is : word ≡ Refused knows.number = one_stands c.point.ticket.words knows.place word (Refused knows.number) there knows.word_is in
-      by_word n knows.place c e knows.number heard at knows.end_is (word_of j.bindings e) refl
+      by_word n knows.place c e knows.number at knows.end_is (word_of j.bindings e) refl
       (subst (λ (w : Word). Became (Refuses c) c.point.ticket.seat.knows.heard e (word_of j.bindings e) w) is became)
 
-  -- where the core of the job's client told it
-  pub heard_there : HeardIsTold j cores → (n : ℕ) (c : OneCore) (e : EndId) → slice_get cores n ≡ Some c → Knows c e → RefusedThere e.binding
-  heard_there table n c e at knows = refused_by n c e
-      (λ b job refusal word bound opened some among.
-      (let (m, d, told, there, stored) = table n job refusal b.client c at (ran.joined.bindings.opened e.binding job b bound opened) some among in
-      stored_there e.binding b job told m d bound opened there stored))
-      at knows
-
-  pub are_named : HeardIsTold j cores → AreNamed cores r
-  are_named table n c e at knows = names e.binding (heard_there table n c e at knows)
-
-  -- at ends of which nothing is heard
-  not_heard : (e : EndId) (job : ℕ) (b : Bound) → slice_get j.bindings e.binding ≡ Some b → e.side ≡ Client → word_of j.bindings e ≡ Hears job → ⊥
-  not_heard e job b at client word =
-      no_hears_by b.opened job (sym (ap (λ (o : Option Bound). given o Silent (word_at e.side)) at ∙ ap (λ (s : Side). word_at s b) client) ∙ word)
-
-  opened_none : (b : Bound) (job : ℕ) → b.opened ≡ Some job → b.opened ≡ None → ⊥
-  opened_none b job some none = absurd (let clash : Some job ≡ None = sym some ∙ none in cc)
-
-  pub own_refused : (n : ℕ) (c : OneCore) (e : EndId) → slice_get cores n ≡ Some c → IsOwn j.bindings e → Knows c e → RefusedThere e.binding
-  own_refused n c e at own knows = refused_by n c e
-      (λ b job refusal word bound opened some among. elim own [
-        | inl client ↦ absurd (not_heard e job b bound client word)
-        | inr none ↦ absurd (opened_none b job opened (none b bound))
-      ])
-      at knows
-
-  pub own_named : (n : ℕ) (c : OneCore) (e : EndId) → slice_get cores n ≡ Some c → IsOwn j.bindings e → Knows c e → refusal_of r e.binding ≢ None
-  own_named n c e at own knows = names e.binding (own_refused n c e at own knows)
+  pub are_named : AreNamed cores r
+  are_named n c e at knows = names e.binding (refused_there n c e at knows)
 
   -- of an end of a binding that no job opens nothing is known
   silent_word : (e : EndId) (b : Bound) → slice_get j.bindings e.binding ≡ Some b → b.opened ≡ None → word_of j.bindings e ≡ Silent
@@ -227,44 +192,9 @@ stay_so logged asked j limit cores r ran n c at = refusals_stay logged (length c
 pub keep_refusals : TurnsAreLogged shared_ways → RunsKeepRefusals
 keep_refusals logged asked j limit cores r ran n c at = stay_so logged asked j limit cores r ran n c at
 
-pub own_refusals : TurnsAreLogged shared_ways → DesksTellHandled shared_ways → CountedAreTurns shared_ways → OwnRefusalsAreNamed
-own_refusals logged tell turns asked j limit cores r ran n c e at own knows =
-    own_named logged tell turns asked j limit cores r ran (stay_so logged asked j limit cores r ran) n c e at own knows
-
 pub refusals_named : TurnsAreLogged shared_ways → DesksTellHandled shared_ways → CountedAreTurns shared_ways → RefusalsAreNamed
-refusals_named logged tell turns asked j limit cores r ran table = are_named logged tell turns asked j limit cores r ran (stay_so logged asked j limit cores r ran) table
+refusals_named logged tell turns asked j limit cores r ran = are_named logged tell turns asked j limit cores r ran (stay_so logged asked j limit cores r ran)
 
 pub not_refused : TurnsAreLogged shared_ways → DesksTellHandled shared_ways → CountedAreTurns shared_ways → SetUpIsNotRefused
 not_refused logged tell turns asked j limit cores r ran n c e b at bound none knows =
     unknown logged tell turns asked j limit cores r ran (stay_so logged asked j limit cores r ran) n c e b at bound none knows
-
--- ---- what the table tells of that
-
-agree_by : (job number found : ℕ) (heard : List Refusal) → Agrees job found heard → Among job number heard → (number ≡ 0) ⊎ (number ≡ found)
-agree_by job number found [] agrees there = absurd there
-agree_by job number found (r ∷ heard) agrees (inl (is, same)) = elim (agrees.0 is) [
-  | inl zero_is ↦ inl (sym same ∙ zero_is)
-  | inr found_is ↦ inr (sym same ∙ found_is)
-]
-agree_by job number found (r ∷ heard) agrees (inr there) = agree_by job number found heard agrees.1 there
-
-told_one : (job : ℕ) (r : Refusal) (rest : ℕ) (stored : List Refusal) (b : Bool) → (r.job == job) ≡ b → (rest ≢ 0 → (told : ℕ) × Among job told stored)
-    → (if b then rest + r.number else rest) ≢ 0 → (told : ℕ) × Among job told (r ∷ stored)
-told_one job r rest stored true is later some = let same : r.job ≡ job = grind (arith, nat_tests, is) in (r.number, inl (same, refl))
-told_one job r rest stored false is later some = let found = later some in (found.0, inr found.1)
-
-some_told : (job : ℕ) (stored : List Refusal) → number_of job stored ≢ 0 → (told : ℕ) × Among job told stored
-some_told job [] some = absurd (some refl)
-some_told job (r ∷ stored) some = told_one job r (number_of job stored) stored (r.job == job) refl (some_told job stored) some
-
-pub tables_tell : TablesTell
-tables_tell j cores stored heard together finds n job number owner c at owned some among =
-    let found = finds job owner owned in
-    let is = agree_by job number found.number heard found.agrees (together.heard_all n job number c at among) in
-    let told : number_of job stored ≢ 0 = λ none. elim is [
-      | inl zero_is ↦ some zero_is
-      | inr same ↦ some (same ∙ found.exact ∙ none)
-    ] in
-    let (number_told, there) = some_told job stored told in
-    let (m, d, stands, has) = together.told_by job number_told there in
-    (m, d, number_told, stands, has)

@@ -31,14 +31,14 @@ use Rattle.fl_dockets.specs.Joined.{core_of}
 use Rattle.fl_dockets.specs.State.{TheJoined}
 use Rattle.fl_endings.specs.Cores.{shared_ways, OneCore}
 use Rattle.fl_endings.specs.Begins.{core_at, HasDesk, Begins, Ran}
-use Rattle.fl_endings.specs.Complete.{Knows, HeardIsTold}
+use Rattle.fl_endings.specs.Complete.{Knows}
 use Rattle.fl_endings.specs.Few.{AreEnds, AreFirst, DispatchersHandleFew}
 use Rattle.fl_endings.specs.Refused.{WasRefused, RefusedAreOpened, RefusedAreSilent, HonestHandleFew}
 use Rattle.fl_endings.proofs.Complete.{core_below, first_of}
 use Rattle.fl_endings.proofs.Desks.{has_place, is_some_by}
 use Rattle.fl_endings.proofs.Ended.{to_point, to_finish}
 use Rattle.fl_endings.proofs.Going.{goes_then}
-use Rattle.fl_endings.proofs.Named.{heard_there, stay_so}
+use Rattle.fl_endings.proofs.Named.{refused_there, stay_so}
 use Rattle.fl_endings.proofs.Older.{log_older}
 use Rattle.fl_endings.proofs.Silent.{DidNothing, unbound_did_nothing}
 use Rattle.fl_endings.proofs.Staying.{IsOver, by_log}
@@ -170,26 +170,25 @@ module _ (logged : TurnsAreLogged shared_ways) (tell : DesksTellHandled shared_w
         let is : peer e ≡ client_of binding = ap (λ (s : Side). peer (record { binding = e.binding; side = s })) side ∙ ap (λ (n : ℕ). client_of n) same in
         first_of_none (at_end r.handled e) (at_end r.made (peer e)) (honest.handled e) (ap (λ (x : EndId). at_end r.made x) is ∙ refused.made)
 
-  pub refused_silent : Honest asked r → HeardIsTold j cores → (n : ℕ) (c : OneCore) (e : EndId) → slice_get cores n ≡ Some c → Knows c e → at_end r.handled e ≡ []
-  refused_silent honest told n c e at knows =
-      let there = heard_there logged tell turns asked j limit cores r ran (stay_so logged asked j limit cores r ran) told n c e at knows in
+  pub refused_silent : Honest asked r → (n : ℕ) (c : OneCore) (e : EndId) → slice_get cores n ≡ Some c → Knows c e → at_end r.handled e ≡ []
+  refused_silent honest n c e at knows =
+      let there = refused_there logged tell turns asked j limit cores r ran (stay_so logged asked j limit cores r ran) n c e at knows in
       silent_by honest e.binding (was_refused e.binding there.bound there.core there.bound_is there.core_is there.refuses) e refl e.side refl
 
-  are_first : Honest asked r → HeardIsTold j cores → (n d : ℕ) (c : OneCore) → slice_get cores n ≡ Some c → (ends : List EndId) → AreEnds j n c d ends → AreFirst asked c r ends
-  are_first honest told n d c at [] are = tt
-  are_first honest told n d c at (e ∷ ends) are = (
+  are_first : Honest asked r → (n d : ℕ) (c : OneCore) → slice_get cores n ≡ Some c → (ends : List EndId) → AreEnds j n c d ends → AreFirst asked c r ends
+  are_first honest n d c at [] are = tt
+  are_first honest n d c at (e ∷ ends) are = (
     first_of logged tell turns asked j limit cores r ran honest e,
-    λ knows. refused_silent honest told n c e at knows,
-    are_first honest told n d c at ends are.3,
+    λ knows. refused_silent honest n c e at knows,
+    are_first honest n d c at ends are.3,
   )
 
 pub opened_refused : TurnsAreLogged shared_ways → DesksTellHandled shared_ways → CountedAreTurns shared_ways → LogsMakeJobs shared_ways → RefusedAreOpened
 opened_refused logged tell turns make asked j limit cores r ran binding fault told = refused_opened logged tell turns make asked j limit cores r ran binding fault told
 
 pub silent_refused : TurnsAreLogged shared_ways → DesksTellHandled shared_ways → CountedAreTurns shared_ways → LogsMakeJobs shared_ways → RefusedAreSilent
-silent_refused logged tell turns make asked j limit cores r ran honest told n c e at knows =
-    refused_silent logged tell turns make asked j limit cores r ran honest told n c e at knows
+silent_refused logged tell turns make asked j limit cores r ran honest n c e at knows = refused_silent logged tell turns make asked j limit cores r ran honest n c e at knows
 
 pub honest_few : TurnsAreLogged shared_ways → DesksTellHandled shared_ways → CountedAreTurns shared_ways → LogsMakeJobs shared_ways → DispatchersHandleFew → HonestHandleFew
-honest_few logged tell turns make law asked j limit cores r ran honest told n d c ends at are =
-    law asked j limit cores r ran n d c ends at are (are_first logged tell turns make asked j limit cores r ran honest told n d c at ends are)
+honest_few logged tell turns make law asked j limit cores r ran honest n d c ends at are =
+    law asked j limit cores r ran n d c ends at are (are_first logged tell turns make asked j limit cores r ran honest n d c at ends are)

@@ -25,6 +25,7 @@ use Rattle.fl_dockets.specs.State.{TheJoined, AreJoined}
 use Rattle.fl_dockets.specs.Whole.{AreDue}
 use Rattle.fl_endings.specs.Cores.{OneCore, AllWent}
 use Rattle.fl_endings.specs.Turns.{TellsTurns}
+use Rattle.fl_endings.specs.Heard.{HeardIsTold}
 
 -- ---- whose an end is, and its word
 
@@ -100,11 +101,12 @@ pub record TellsDesks (j : TheJoined) (cores : List OneCore) (r : TheReport) : T
 
 -- ---- the whole
 
--- cores ran the jobs that were joined for them, and a report tells what came of it
+-- cores ran the jobs that were joined for them, what they heard of refused openings was told, and a report tells what came of it
 pub record Ran (asked : List Job) (j : TheJoined) (limit : ℕ) (cores : List OneCore) (r : TheReport) : Type 0 where
   pub joined : AreJoined (length cores) asked j
   pub due : AreDue asked j
   pub begins : (n : ℕ) (c : OneCore) → slice_get cores n ≡ Some c → Begins j n c
   pub went : AllWent j.jobs limit cores
+  pub heard : HeardIsTold j cores
   pub turns : TellsTurns cores r
   pub desks : TellsDesks j cores r

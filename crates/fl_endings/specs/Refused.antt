@@ -8,7 +8,7 @@ use Rattle.fl_dockets.specs.declared.docket.Bound.{Bound}
 use Rattle.fl_dockets.specs.State.{TheJoined}
 use Rattle.fl_endings.specs.Cores.{OneCore}
 use Rattle.fl_endings.specs.Begins.{Ran}
-use Rattle.fl_endings.specs.Complete.{Knows, HeardIsTold}
+use Rattle.fl_endings.specs.Complete.{Knows}
 use Rattle.fl_endings.specs.Few.{AreEnds, handled_at_all}
 
 -- a binding that is named as refused is one that a job opens; its client's end handled nothing, and made no call
@@ -30,13 +30,13 @@ SetUpIsNotRefused = (asked : List Job) (j : TheJoined) (limit : ℕ) (cores : Li
     → (n : ℕ) (c : OneCore) (e : EndId) (b : Bound) → slice_get cores n ≡ Some c → slice_get j.bindings e.binding ≡ Some b → b.opened ≡ None
     → Knows c e → ⊥
 
--- so in an honest report nothing was handled at an end where the core knew of a refusal, if what cores had heard was told
+-- so in an honest report nothing was handled at an end where the core knew of a refusal
 abbrev pub RefusedAreSilent : Type 0
 RefusedAreSilent = (asked : List Job) (j : TheJoined) (limit : ℕ) (cores : List OneCore) (r : TheReport) → Ran asked j limit cores r
-    → Honest asked r → HeardIsTold j cores → (n : ℕ) (c : OneCore) (e : EndId) → slice_get cores n ≡ Some c → Knows c e → at_end r.handled e ≡ []
+    → Honest asked r → (n : ℕ) (c : OneCore) (e : EndId) → slice_get cores n ≡ Some c → Knows c e → at_end r.handled e ≡ []
 
 -- and no dispatcher handled more calls than its core took turns
 abbrev pub HonestHandleFew : Type 0
 HonestHandleFew = (asked : List Job) (j : TheJoined) (limit : ℕ) (cores : List OneCore) (r : TheReport) → Ran asked j limit cores r
-    → Honest asked r → HeardIsTold j cores → (n d : ℕ) (c : OneCore) (ends : List EndId) → slice_get cores n ≡ Some c → AreEnds j n c d ends
+    → Honest asked r → (n d : ℕ) (c : OneCore) (ends : List EndId) → slice_get cores n ≡ Some c → AreEnds j n c d ends
     → handled_at_all r.handled ends ≤ c.part.turns

@@ -2,8 +2,9 @@
 //! functions that do nothing.
 
 ghost use Rattle.fl_endings.specs.Turns.{TurnsAreKept};
+ghost use Rattle.fl_endings.specs.Heard.{TablesTell};
+ghost use Rattle.fl_endings.specs.Complete.{RunsKeepRefusals, RefusalsAreNamed};
 ghost use Rattle.fl_endings.specs.Complete.{CompleteHasAsMany, CompleteHasThese, CompleteHasAll};
-ghost use Rattle.fl_endings.specs.Complete.{RunsKeepRefusals, OwnRefusalsAreNamed, RefusalsAreNamed, TablesTell};
 ghost use Rattle.fl_endings.specs.Few.{EndsStay, UnfinishedHandleFew, DispatchersHandleFew};
 ghost use Rattle.fl_endings.specs.Refused.{SetUpIsNotRefused, RefusedAreOpened, RefusedAreSilent, HonestHandleFew};
 
@@ -16,9 +17,26 @@ pub fn turns_are_kept()
     ensures kept { TurnsAreKept }
 {}
 
+/// What cores had heard of a job's refusal was told, where a seat in which all seats are put finds in each
+/// job's word what was heard of it.
+pub fn tables_tell()
+    ensures heard { TablesTell }
+{}
+
+/// A refusal that stood at a desk stays there. So each binding of which a core knew that its opening was
+/// refused is named: what it knew of a client's end by itself, and what it heard of a job, which was told.
+pub fn refusals_are_named()
+    ensures stay { RunsKeepRefusals }
+    ensures named { RefusalsAreNamed }
+    ensures set_up { SetUpIsNotRefused }
+{
+    counted_are_turns::<SharedSide>();
+    turns_are_logged::<SharedSide>();
+}
+
 /// `complete` comes only where at each end, but on the bindings that are named as refused, as many calls
-/// were handled as are handed in for it, or more, unless a core knew there of a refusal that isn't named;
-/// and just those, where what is told of the end is the first of them, as in an honest report.
+/// were handled as are handed in for it, or more; and just those, where what is told of the end is the first
+/// of them, as in an honest report.
 pub fn complete_has_all()
     ensures as_many { CompleteHasAsMany }
     ensures these { CompleteHasThese }
@@ -26,20 +44,7 @@ pub fn complete_has_all()
 {
     counted_are_turns::<SharedSide>();
     turns_are_logged::<SharedSide>();
-}
-
-/// A refusal that stood at a desk stays there. So each binding of which a core knew that its opening was
-/// refused is named: what it knew of a client's end by itself, and what it heard of a job, where a core had
-/// told of that. So it is where a seat in which all seats are put looks for each job.
-pub fn refusals_are_named()
-    ensures stay { RunsKeepRefusals }
-    ensures own { OwnRefusalsAreNamed }
-    ensures named { RefusalsAreNamed }
-    ensures set_up { SetUpIsNotRefused }
-    ensures heard { TablesTell }
-{
-    counted_are_turns::<SharedSide>();
-    turns_are_logged::<SharedSide>();
+    refusals_are_named();
 }
 
 /// What the ends of a dispatcher handled is together at most its core's counted turns, where the core
@@ -55,8 +60,8 @@ pub fn dispatchers_handle_few()
 }
 
 /// A binding that is named as refused is one that a job opens; its client's end handled nothing, and made
-/// no call. So in an honest report, where what cores heard of refusals was told, no end handled a call
-/// where its core knew of a refusal, and no dispatcher handled more calls than its core took turns.
+/// no call. So in an honest report no end handled a call where its core knew of a refusal, and no
+/// dispatcher handled more calls than its core took turns.
 pub fn refused_do_nothing()
     ensures opened { RefusedAreOpened }
     ensures silent { RefusedAreSilent }
