@@ -21,7 +21,7 @@ use Rattle.fl_cores.specs.Dealing.{Dealing, Wires, RingsHold}
 use Rattle.fl_cores.specs.Stations.{AllReady, StationRan, station_of, outcome_of}
 use Rattle.fl_cores.proofs.Each.{each_ran, begin_sound, left_sound, as_many as as_many_stations}
 use Rattle.fl_cores.specs.Begins.{TheStation, Places, common_in}
-use Rattle.fl_cores.specs.Tells.{TheOutcome, RanTo, Each2, Tells, turns_in, left_off, was_told, is_unfinished}
+use Rattle.fl_cores.specs.Tells.{TheOutcome, RanTo, Each2, seats_left, HeardAsTold, Tells, turns_in, left_off, was_told, is_unfinished}
 use Rattle.fl_jobs.specs.Jobs.{Job as TheJob}
 use Rattle.fl_jobs.specs.declared.report.Report.{Report}
 use Rattle.fl_jobs.specs.Reports.{report_of}
@@ -112,8 +112,9 @@ still_held p j limit xs ys owners hold wires all =
 
 pub cores_ran : (p : Parts) (j : TheJoined) (limit : ℕ) (xs : List Station) (ys : List Done) (owners : List ℕ) (r : TheReport) → Wires p j (map station_of xs) owners
     → AllReady xs → Each2 (StationRan j.jobs limit) xs ys
-    → ((after : List Pair) → AreDealt owners (sides_of after) (sides_left (map outcome_of ys)) → Each IsNear after) → Tells j (map outcome_of ys) r → CoresRan p j limit r
-cores_ran p j limit xs ys owners r wires ready all near tells = record {
+    → ((after : List Pair) → AreDealt owners (sides_of after) (sides_left (map outcome_of ys)) → Each IsNear after) → (count : ℕ) → count ≡ length j.owners
+    → HeardAsTold count (seats_left (map outcome_of ys)) → Tells j (map outcome_of ys) r → CoresRan p j limit r
+cores_ran p j limit xs ys owners r wires ready all near count is heard tells = record {
   stations = map station_of xs;
   places = wires.places;
   begin = wires.begin;
@@ -121,6 +122,7 @@ cores_ran p j limit xs ys owners r wires ready all near tells = record {
   ran = each_ran j.jobs limit xs ys all;
   shares = shares_of p wires.places (map station_of xs) (map outcome_of ys) owners wires.dealing near;
   sound = record { begin = begin_sound xs ready; left = left_sound j.jobs limit xs ys all };
+  heard = subst (λ (n : ℕ). HeardAsTold n (seats_left (map outcome_of ys))) is heard;
   tells = tells;
 }
 

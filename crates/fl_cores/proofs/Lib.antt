@@ -1,6 +1,7 @@
 pub mod Boards
 pub mod Booted
 pub mod Each
+pub mod Together
 pub mod Handing
 pub mod Keeping
 pub mod Lists

@@ -22,7 +22,7 @@ use Rattle.fl_dockets.specs.Rules.{RulesOf}
 use Rattle.fl_dockets.specs.State.{TheJoined, AreJoined}
 use Rattle.fl_dockets.specs.Whole.{AreBound, AreDue, IsBeside}
 use Rattle.fl_cores.specs.Begins.{TheStation, Places, common_in, AreStations}
-use Rattle.fl_cores.specs.Tells.{TheOutcome, RanTo, Each2, Tells}
+use Rattle.fl_cores.specs.Tells.{TheOutcome, RanTo, Each2, seats_left, HeardAsTold, Tells}
 use Rattle.fl_cores.specs.Shares.{Shares, AreSound}
 use Rattle.fl_cores.specs.declared.fault.CoresFault.{CoresFault}
 use Rattle.fl_cores.specs.declared.fault.CoresFault.TheVariants as fault
@@ -63,7 +63,7 @@ pub record Made (c : TheConfig) (p : Parts) : Type 0 where
   pub stands : Stands c world
   pub parts : AreParts world p
 
--- each core of these parts ran by its plan from what it was given, and the report tells what came of that
+-- each core of these parts ran by its plan from what it was given, what they heard of refused openings was told, and the report tells what came of all that
 pub record CoresRan (p : Parts) (j : TheJoined) (limit : ℕ) (r : TheReport) : Type 0 where
   pub stations : List TheStation
   pub places : Places
@@ -72,6 +72,7 @@ pub record CoresRan (p : Parts) (j : TheJoined) (limit : ℕ) (r : TheReport) : 
   pub ran : Each2 (RanTo j.jobs limit) stations outcomes
   pub shares : Shares p places stations outcomes
   pub sound : AreSound stations outcomes
+  pub heard : HeardAsTold (length j.owners) (seats_left outcomes)
   pub tells : Tells j outcomes r
 
 -- the jobs were joined to these parts, with the reply rules that are set at once, and then the cores ran

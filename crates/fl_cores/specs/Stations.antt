@@ -2,7 +2,8 @@
 use Rattle.std.specs.Prelude.{ℕ, ◌≡◌, ◌+◌, ◌-◌, ◌<◌, Bool, List, [], ◌∷◌, length}
 use Rattle.std.specs.List.{range_with_len}
 use Rattle.fl_tally.specs.declared.board.View.{View}
-use Rattle.fl_tally.specs.Tally.{opening_view}
+use Rattle.fl_tally.specs.Tally.{opening_view, both}
+use Rattle.fl_tally.specs.Seats.{TheSeat}
 use Rattle.fl_node.specs.Sound.{IsCore}
 use Rattle.fl_running.specs.declared.job.Job.{Job}
 use Rattle.fl_running.specs.Run.{run_of}
@@ -57,6 +58,29 @@ AllReady [] = Unit {0}
 AllReady (s ∷ stations) = IsReady s × AllReady stations
 
 -- ---- seats
+
+-- by core, the seat that it was given
+abbrev pub seats_given : List TheStation → List TheSeat
+seats_given stations = map (λ (s : TheStation). s.ticket.seat) stations
+
+-- these are of one table with this seat, and each stands for one core
+abbrev pub AreSeats : TheSeat → List TheSeat → Type 0
+AreSeats own [] = Unit {0}
+AreSeats own (s ∷ seats) = (s.table ≡ own.table) × (s.knows.seats ≡ 1) × AreSeats own seats
+
+-- what is known once all of these are put in one
+abbrev pub all_in : View → List TheSeat → View
+all_in v [] = v
+all_in v (s ∷ seats) = all_in (both v s.knows) seats
+
+-- with these a seat is everybody's, of a table for so many jobs that open a binding; itself it told and heard nothing
+pub record IsRest (own : TheSeat) (jobs : ℕ) (seats : List TheSeat) : Type 0 where
+  pub some : 0 < own.knows.seats
+  pub all : own.knows.seats + length seats ≡ own.knows.whole
+  pub jobs_are : length own.knows.owners ≡ jobs
+  pub told : own.knows.stored ≡ []
+  pub heard : own.knows.heard ≡ []
+  pub each : AreSeats own seats
 
 -- what is left of everybody's seat once those of the first k cores are cut off
 abbrev pub left_view : ℕ → List ℕ → ℕ → View

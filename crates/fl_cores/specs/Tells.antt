@@ -1,7 +1,10 @@
 -- What comes of the cores of a run, and what a report tells of that.
-use Rattle.std.specs.Prelude.{ℕ, ◌≡◌, ◌==◌, Bool, true, false, if◌then◌else◌, List, [], ◌∷◌, ◌++◌, map, take, length, slice_get, Option, Some, None}
+use Rattle.std.specs.Prelude.{ℕ, ◌≡◌, ◌<◌, ◌==◌, Bool, true, false, if◌then◌else◌, List, [], ◌∷◌, ◌++◌, map, take, length, slice_get, Option, Some, None}
 use Rattle.std.specs.List.{flat_map, list_any, range_with_len}
 use Rattle.fl_base.specs.declared.identity.EndId.{EndId}
+use Rattle.fl_tally.specs.declared.board.Refusal.{Refusal}
+use Rattle.fl_tally.specs.Tally.{Agrees, number_of}
+use Rattle.fl_tally.specs.Seats.{TheSeat}
 use Rattle.fl_value.specs.Value.{TheCall, call_of}
 use Rattle.fl_ring.specs.SharedSeats.{front_seen}
 use Rattle.fl_ring.specs.SharedSides.{TheSide, SharedPuts, SharedTakes}
@@ -101,6 +104,23 @@ left_off o = is_unfinished o.part.end
 
 abbrev pub was_told : TheOutcome → Bool
 was_told o = is_told o.part.end
+
+-- ---- refused openings
+
+-- by core, the seat that it has in the end
+abbrev pub seats_left : List TheOutcome → List TheSeat
+seats_left outcomes = map (λ (o : TheOutcome). o.ticket.seat) outcomes
+
+-- what all seats told, and what they heard
+abbrev pub told_by : List TheSeat → List Refusal
+told_by seats = flat_map (λ (s : TheSeat). s.knows.stored) seats
+
+abbrev pub heard_by : List TheSeat → List Refusal
+heard_by seats = flat_map (λ (s : TheSeat). s.knows.heard) seats
+
+-- of each of so many jobs that open a binding: what was heard of it is 0, or just what was told of it
+abbrev pub HeardAsTold : ℕ → List TheSeat → Type 0
+HeardAsTold jobs seats = (job : ℕ) → job < jobs → Agrees job (number_of job (told_by seats)) (heard_by seats)
 
 -- ---- a report
 

@@ -4,6 +4,7 @@
 //! - `sharing.rt`: whose each side of a ring and each queue is, and all of them dealt out
 //! - `wiring.rt`: each core is given what its thread needs
 //! - `fork.rt`: a thread for each core
+//! - `gathering.rt`: the cores' seats put in one
 //! - `settling.rt`: the rings put together again
 //! - `crossing.rt`: what may go to a thread
 //! - `telling.rt`: the report
@@ -14,6 +15,7 @@
 mod crossing;
 mod fault;
 mod fork;
+mod gathering;
 mod run;
 mod settling;
 mod sharing;

@@ -124,9 +124,10 @@ fn run_joined<R: Threads + Wait + Sync, G: Gate + Sync>(
     rings_hold();
     match run_each(rt, alloc, gate, own, wired.stations, &joined.jobs, limit) {
         Err((stop, _)) => Err(stop),
-        Ok((done, _)) => {
+        Ok((done, own)) => {
             let report = tell(alloc, &joined, &done)?;
-            put_together(alloc, wired.owners, done)?;
+            let jobs = joined.owners.as_slice().len();
+            put_together(alloc, own, jobs, wired.owners, done)?;
             Ok(report)
         }
     }

@@ -12,7 +12,7 @@ ghost use Rattle.fl_cores.specs.Begins.{core_at, owns, ends_at, ends_from, word_
 ghost use Rattle.fl_cores.specs.Begins.{IsAlone, IsStation, AreStations};
 ghost use Rattle.fl_cores.specs.Shares.{sides_given, queues_given};
 ghost use Rattle.fl_cores.specs.Dealing.{Wires};
-ghost use Rattle.fl_cores.specs.Stations.{IsReady, AllReady, station_of, common_of, left_view};
+ghost use Rattle.fl_cores.specs.Stations.{IsReady, AllReady, station_of, common_of, seats_given, AreSeats, left_view};
 
 use crate::sharing::{Owners, deal_queues, deal_sides};
 use fl_base::{EndId, LinkId, Side};
@@ -206,6 +206,7 @@ impl Common<'_> {
         requires seat { IsAlone self.now.joined.now.owners.items k seat.knows }
         ensures ready { IfOk result IsReady }
         ensures station { IfOk result (λ s. IsStation (common_of self.now) k core (station_of s)) }
+        ensures seat { IfOk result (λ s. s.ticket.seat ≡ seat) }
         ensures rings { IfOk result (λ s. s.running.rings.items ≡ rings.items) }
         ensures queues { IfOk result (λ s. s.running.queues.items ≡ queues.items) }
     {
@@ -254,6 +255,8 @@ impl Common<'_> {
         ensures ready { IfOk result (λ v. AllReady v.items) }
         ensures stations { IfOk result (λ v. AreStations (common_of self.now) 0 cores.items (map station_of v.items)) }
         ensures left { OnOk result (own.new.knows ≡ left_view self.now.cores self.now.joined.now.owners.items (length cores.items)) }
+        ensures table { OnOk result (own.new.table ≡ own.old.table) }
+        ensures seats { IfOk result (λ v. AreSeats own.old (seats_given (map station_of v.items))) }
         ensures sides { IfOk result (λ v. sides_given (map station_of v.items) ≡ map (λ hand. hand.items) sides.items) }
         ensures queues { IfOk result (λ v. queues_given (map station_of v.items) ≡ map (λ hand. hand.items) queues.items) }
     {
@@ -297,7 +300,10 @@ pub(crate) fn wire(
     requires own { own.old.knows ≡ opening_view (length parts.cores.items) joined.now.owners.items }
     ensures ready { IfOk result (λ w. AllReady w.stations.items) }
     ensures wires { IfOk result (λ w. Wires parts (joined_of joined.now) (map station_of w.stations.items) w.owners.items) }
+    ensures left { OnOk result (own.new.knows ≡ left_view (length parts.cores.items) joined.now.owners.items (length parts.cores.items)) }
     ensures able { OnOk result (own.new.knows.stopped < own.new.knows.seats) }
+    ensures table { OnOk result (own.new.table ≡ own.old.table) }
+    ensures seats { IfOk result (λ w. AreSeats own.old (seats_given (map station_of w.stations.items))) }
 {
     let Parts {
         cores,

@@ -21,7 +21,8 @@ use Rattle.fl_dockets.specs.Dockets.{docket_at}
 use Rattle.fl_dockets.specs.State.{TheJoined}
 use Rattle.fl_endings.specs.Cores.{shared_ways, OneCore, Went}
 use Rattle.fl_endings.specs.Begins.{core_at, word_of, HasDesk, Begins}
-use Rattle.fl_endings.specs.Complete.{Among, Knows}
+use Rattle.fl_endings.specs.Heard.{Among}
+use Rattle.fl_endings.specs.Complete.{Knows}
 use Rattle.fl_endings.proofs.Going.{Some_, goes_on}
 use Rattle.fl_endings.proofs.Learning.{Tracks, same_first, at_point}
 use Rattle.fl_endings.proofs.Desks.{StillThere, still, as_many_as_due}

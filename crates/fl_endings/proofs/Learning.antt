@@ -18,7 +18,7 @@ use Rattle.fl_running.specs.Turn.{Swept}
 use Rattle.fl_running.specs.Words.{refusal_at, TellsIf, HearsOf, Exchanges, Stock, ExchangesAt, ExchangesAll}
 use Rattle.fl_running.specs.Ran.{task, Moment, Sees, CountedTurn, EndsAs}
 use Rattle.fl_endings.specs.Cores.{shared_ways, OneCore, Went}
-use Rattle.fl_endings.specs.Complete.{Among}
+use Rattle.fl_endings.specs.Heard.{Among}
 use Rattle.fl_endings.proofs.Going.{Some_, none, behind, before, goes_on}
 
 by_word : (t : Word → Type 0) (x y : Word) → x ≡ y → t x → t y

@@ -64,6 +64,10 @@ heard_job : (o : Option ℕ) (job : ℕ) → word_by Hears o ≡ Hears job → o
 heard_job None job is = absurd (let clash : Silent ≡ Hears job = is in cc)
 heard_job (Some i) job is = let same : i ≡ job = cc in ap Some same
 
+no_hears_by : (o : Option ℕ) (job : ℕ) → word_by Tells o ≡ Hears job → ⊥
+no_hears_by None job is = absurd (let clash : Silent ≡ Hears job = is in cc)
+no_hears_by (Some i) job is = absurd (let clash : Tells i ≡ Hears job = is in cc)
+
 hears_at : (job : ℕ) (b : Bound) (s : Side) → word_at s b ≡ Hears job → b.opened ≡ Some job
 hears_at job b Client is = absurd (no_hears_by b.opened job is)
 hears_at job b Server is = heard_job b.opened job is

@@ -23,6 +23,7 @@ use Rattle.fl_dockets.specs.Joined.{core_of}
 use Rattle.fl_dockets.specs.State.{TheJoined, AreJoined}
 use Rattle.fl_endings.specs.Cores.{OneCore, Went}
 use Rattle.fl_endings.specs.Turns.{TellsTurns}
+use Rattle.fl_endings.specs.Heard.{TablesTell}
 use Rattle.fl_endings.specs.Begins.{core_at, Begins, TellsDesks, refusal_by}
 use Rattle.fl_endings.proofs.Complete.{past, bound_by}
 use Rattle.fl_cores.specs.Begins.{TheStation, Places, IsStation, AreStations, common_in, desk_for, desks_of}
@@ -33,6 +34,7 @@ use Rattle.fl_reports.proofs.CoresBegin.{places_in, are_stations}
 use Rattle.fl_reports.proofs.CoresEnd.{in_plan, is_in_plan}
 use Rattle.fl_reports.proofs.CoresDesks.{at_slot, is_new, own_jobs, untouched, desk_found, desk_there, desk_missing, handled_there, handled_is, refused_is, told_at, told_past, told_number, no_number}
 use Rattle.fl_reports.proofs.CoresStations.{at_station, as_many_stations, AtCore, at_core, as_many_cores, turns_are, left_are, told_are, on_boards}
+use Rattle.fl_reports.proofs.CoresHeard.{heard_is_told}
 use Rattle.fl_reports.proofs.CoresStart.{StartsQuiet, quiet_renumbered, ruled_quiet}
 
 module _ (p : Parts) (j : TheJoined) (places : Places) (limit : ℕ) (stations : List TheStation) (outcomes : List TheOutcome) (r : TheReport)
@@ -170,8 +172,8 @@ module _ (p : Parts) (j : TheJoined) (places : Places) (limit : ℕ) (stations :
 
 -- ---- the whole
 
-pub runs_of : SetUpsStartFresh → ReportsAreOfRuns
-runs_of fresh c jobs limit r w =
+pub runs_of : SetUpsStartFresh → TablesTell → ReportsAreOfRuns
+runs_of fresh tables c jobs limit r w =
     let from = w.ran.ran in
     let j = from.joined in
     let p = from.parts in
@@ -188,6 +190,7 @@ runs_of fresh c jobs limit r w =
       due = from.are_due;
       begins = begins p j places limit all.stations all.outcomes r few are all.ran all.tells starts;
       went = went p j places limit all.stations all.outcomes r few are all.ran all.tells starts;
+      heard = heard_is_told tables j limit all.stations all.outcomes all.ran all.heard;
       turns = told_turns p j places limit all.stations all.outcomes r few are all.ran all.tells starts;
       desks = told_desks p j places limit all.stations all.outcomes r few are all.ran all.tells starts;
     }

@@ -30,13 +30,12 @@ use Rattle.fl_dockets.specs.Joined.{core_of}
 use Rattle.fl_dockets.specs.Whole.{bound_of}
 use Rattle.fl_endings.specs.Cores.{OneCore}
 use Rattle.fl_endings.specs.Begins.{core_at, Ran}
-use Rattle.fl_endings.specs.Few.{IsAt, EndsStay, AreEnds, AreFirst}
-use Rattle.fl_endings.specs.Refused.{SetUpIsNotRefused}
+use Rattle.fl_endings.specs.Few.{IsAt, EndsStay, AreEnds}
 use Rattle.fl_cores.proofs.Booted.{all_making}
 use Rattle.fl_cores.specs.Begins.{TheCommon, common_in}
 use Rattle.fl_cores.specs.Promised.{Reports}
 use Rattle.fl_reports.specs.Cores.{joined_in, cores_in}
-use Rattle.fl_reports.specs.Outcomes.{ReportsAreOfRuns, UnfinishedHandleFew, FirstAreFew, SetUpUnfinishedHandleFew, SetUpAt, AreSetUpAt, AllFirst, SetUpHandleFew}
+use Rattle.fl_reports.specs.Outcomes.{ReportsAreOfRuns, UnfinishedHandleFew, HonestHandleFew, SetUpUnfinishedHandleFew, SetUpAt, AreSetUpAt, SetUpHandleFew}
 use Rattle.fl_reports.proofs.CoresBegin.{places_in, are_stations}
 use Rattle.fl_reports.proofs.CoresStations.{AtStation, at_station, AtCore, at_core, WasAt, on_boards}
 
@@ -152,23 +151,13 @@ module _ (fresh : SetUpsStartFresh) (c : TheConfig) (jobs : List Job) (limit : �
     are_ends [] are = tt
     are_ends (e ∷ ends) are = let s = sits e are.0 in (s.own, is_at e s, are.1, are_ends ends are.2)
 
-    are_first : SetUpIsNotRefused → (ends : List EndId) → AreSetUpAt c d ends → AllFirst jobs r ends → AreFirst jobs core r ends
-    are_first known [] are firsts = tt
-    are_first known (e ∷ ends) are firsts =
-        let s = sits e are.0 in (
-          firsts.0,
-          λ knows. absurd (known jobs (joined_in w) limit (cores_in w) r ran d.core core e s.bound at s.bound_is s.opened knows),
-          are_first known ends are.2 firsts.1,
-        )
-
-pub set_up_few : SetUpsStartFresh → ReportsAreOfRuns → FirstAreFew → EndsStay → SetUpIsNotRefused → SetUpHandleFew
-set_up_few fresh runs law stay known c jobs limit r w d ends turns are firsts told =
+pub set_up_few : SetUpsStartFresh → ReportsAreOfRuns → HonestHandleFew → EndsStay → SetUpHandleFew
+set_up_few fresh runs law stay c jobs limit r w honest d ends turns are told =
     let ran = runs c jobs limit r w in
     let many : length r.turns ≡ length (cores_in w) = ap length ran.turns.turns ∙ length-map (cores_in w) (λ (x : OneCore). x.part.turns) in
     let below = within r.turns d.core turns told in
     let (core, at) = at_within (cores_in w) d.core (omega (arith, many, below)) in
-    law c jobs limit r w d.core d.place turns core ends at (are_ends fresh c jobs limit r w d stay ran core at ends are)
-    (are_first fresh c jobs limit r w d stay ran core at known ends are firsts) told
+    law c jobs limit r w honest d.core d.place turns core ends at (are_ends fresh c jobs limit r w d stay ran core at ends are) told
 
 pub set_up_unfinished : SetUpsStartFresh → ReportsAreOfRuns → UnfinishedHandleFew → EndsStay → SetUpUnfinishedHandleFew
 set_up_unfinished fresh runs law stay c jobs limit r w d ends turns core at left are told =

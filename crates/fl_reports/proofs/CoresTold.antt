@@ -9,7 +9,7 @@ use Rattle.fl_endings.specs.Few as few
 use Rattle.fl_endings.specs.Refused as refused
 use Rattle.fl_endings.proofs.Turns.{to_map}
 use Rattle.fl_reports.specs.Cores.{joined_in, cores_in}
-use Rattle.fl_reports.specs.Outcomes.{ReportsAreOfRuns, ReportsKeepTurns, UnfinishedHandleFew, FirstAreFew, HonestHandleFew, RefusedAreOpened, CompleteHasOwn, CompleteHasOwnFirst, CompleteHasAsMany, CompleteHasAll}
+use Rattle.fl_reports.specs.Outcomes.{ReportsAreOfRuns, ReportsKeepTurns, UnfinishedHandleFew, FirstAreFew, HonestHandleFew, RefusedAreOpened, CompleteHasAsMany, CompleteHasAll}
 
 pub keep_turns : ReportsAreOfRuns → TurnsAreKept → ReportsKeepTurns
 keep_turns runs kept c jobs limit r w =
@@ -35,30 +35,16 @@ first_few runs law c jobs limit r w n d turns core ends at are firsts told =
     (law jobs (joined_in w) limit (cores_in w) r ran n d core ends at are firsts)
 
 pub honest_few : ReportsAreOfRuns → refused.HonestHandleFew → HonestHandleFew
-honest_few runs law c jobs limit r w honest heard n d turns core ends at are told =
+honest_few runs law c jobs limit r w honest n d turns core ends at are told =
     let ran = runs c jobs limit r w in
     subst (λ (t : ℕ). few.handled_at_all r.handled ends ≤ t) (turns_of (cores_in w) r ran.turns n turns core at told)
-    (law jobs (joined_in w) limit (cores_in w) r ran honest heard n d core ends at are)
+    (law jobs (joined_in w) limit (cores_in w) r ran honest n d core ends at are)
 
 pub refused_opened : ReportsAreOfRuns → refused.RefusedAreOpened → RefusedAreOpened
 refused_opened runs law c jobs limit r w binding fault told = law jobs (joined_in w) limit (cores_in w) r (runs c jobs limit r w) binding fault told
 
-pub has_own : ReportsAreOfRuns → endings.OwnRefusalsAreNamed → endings.CompleteHasAsMany → CompleteHasOwn
-has_own runs own law c jobs limit r w done e is unnamed =
-    let ran = runs c jobs limit r w in
-    law jobs (joined_in w) limit (cores_in w) r ran done e (λ n core at knows. own jobs (joined_in w) limit (cores_in w) r ran n core e at is knows) unnamed
+pub has_as_many : ReportsAreOfRuns → endings.CompleteHasAsMany → CompleteHasAsMany
+has_as_many runs law c jobs limit r w done e unnamed = law jobs (joined_in w) limit (cores_in w) r (runs c jobs limit r w) done e unnamed
 
-pub has_own_first : ReportsAreOfRuns → endings.OwnRefusalsAreNamed → endings.CompleteHasThese → CompleteHasOwnFirst
-has_own_first runs own law c jobs limit r w done e is first unnamed =
-    let ran = runs c jobs limit r w in
-    law jobs (joined_in w) limit (cores_in w) r ran done e first (λ n core at knows. own jobs (joined_in w) limit (cores_in w) r ran n core e at is knows) unnamed
-
-pub has_as_many : ReportsAreOfRuns → endings.RefusalsAreNamed → endings.CompleteHasAsMany → CompleteHasAsMany
-has_as_many runs named law c jobs limit r w told done e unnamed =
-    let ran = runs c jobs limit r w in
-    law jobs (joined_in w) limit (cores_in w) r ran done e (λ n core at. named jobs (joined_in w) limit (cores_in w) r ran told n core e at) unnamed
-
-pub has_all : ReportsAreOfRuns → endings.RefusalsAreNamed → endings.CompleteHasAll → CompleteHasAll
-has_all runs named law c jobs limit r w told honest done =
-    let ran = runs c jobs limit r w in
-    law jobs (joined_in w) limit (cores_in w) r ran honest (named jobs (joined_in w) limit (cores_in w) r ran told) done
+pub has_all : ReportsAreOfRuns → endings.CompleteHasAll → CompleteHasAll
+has_all runs law c jobs limit r w honest done = law jobs (joined_in w) limit (cores_in w) r (runs c jobs limit r w) honest done

@@ -1,6 +1,7 @@
 pub mod CoresBegin
 pub mod CoresLists
 pub mod CoresEnd
+pub mod CoresHeard
 pub mod CoresStations
 pub mod CoresDesks
 pub mod CoresStart

@@ -2,9 +2,8 @@
 use Rattle.std.specs.Prelude.{ℕ, ◌≡◌, ◌≢◌, ◌≤◌, List, [], ◌∷◌, slice_get, Some, None}
 use Rattle.fl_base.specs.declared.identity.EndId.{EndId}
 use Rattle.fl_running.specs.declared.run.End.TheVariants.{Finished}
-use Rattle.fl_base.specs.Ends.{peer}
-use Rattle.fl_jobs.specs.Jobs.{Job, handed_in}
-use Rattle.fl_jobs.specs.Report.{TheReport, at_end, complete, refusal_of, Honest, AllHandled}
+use Rattle.fl_jobs.specs.Jobs.{Job}
+use Rattle.fl_jobs.specs.Report.{TheReport, complete, refusal_of, Honest, AllHandled}
 use Rattle.fl_queues.specs.Ends.{Seat, End}
 use Rattle.fl_queues.specs.Events.{DispatcherId}
 use Rattle.fl_queues.specs.Runs.{reached}
@@ -14,7 +13,7 @@ use Rattle.fl_system.specs.Booting.{TheConfig}
 use Rattle.fl_endings.specs.Cores.{OneCore}
 use Rattle.fl_endings.specs.Turns.{KeepsTurns}
 use Rattle.fl_endings.specs.Begins.{Ran}
-use Rattle.fl_endings.specs.Complete.{IsOwn, HeardIsTold, AsManyHandled, IsFirst}
+use Rattle.fl_endings.specs.Complete.{AsManyHandled}
 use Rattle.fl_endings.specs.Few.{IsOther, AreEnds, handled_at_all, AreFirst}
 use Rattle.fl_endings.specs.Refused.{WasRefused}
 use Rattle.fl_cores.specs.Promised.{Reports}
@@ -22,7 +21,7 @@ use Rattle.fl_reports.specs.Cores.{joined_in, cores_in}
 
 -- ---- whose report it is
 
--- its cores ran the jobs that were joined for them, and it tells what came of that
+-- its cores ran the jobs that were joined for them, what they heard of refused openings was told, and it tells what came of that
 abbrev pub ReportsAreOfRuns : Type 0
 ReportsAreOfRuns = (c : TheConfig) (jobs : List Job) (limit : ℕ) (r : TheReport) (w : Reports c jobs limit r)
     → Ran jobs (joined_in w) limit (cores_in w) r
@@ -47,11 +46,11 @@ FirstAreFew = (c : TheConfig) (jobs : List Job) (limit : ℕ) (r : TheReport) (w
     (ends : List EndId) → slice_get (cores_in w) n ≡ Some core → AreEnds (joined_in w) n core d ends → AreFirst jobs core r ends
     → slice_get r.turns n ≡ Some turns → handled_at_all r.handled ends ≤ turns
 
--- in an honest report of any core, where what cores had heard of refusals was told
+-- in an honest report of any core
 abbrev pub HonestHandleFew : Type 0
 HonestHandleFew = (c : TheConfig) (jobs : List Job) (limit : ℕ) (r : TheReport) (w : Reports c jobs limit r) → Honest jobs r
-    → HeardIsTold (joined_in w) (cores_in w) → (n d turns : ℕ) (core : OneCore) (ends : List EndId) → slice_get (cores_in w) n ≡ Some core
-    → AreEnds (joined_in w) n core d ends → slice_get r.turns n ≡ Some turns → handled_at_all r.handled ends ≤ turns
+    → (n d turns : ℕ) (core : OneCore) (ends : List EndId) → slice_get (cores_in w) n ≡ Some core → AreEnds (joined_in w) n core d ends
+    → slice_get r.turns n ≡ Some turns → handled_at_all r.handled ends ≤ turns
 
 -- ---- refusals
 
@@ -82,36 +81,20 @@ SetUpUnfinishedHandleFew = (c : TheConfig) (jobs : List Job) (limit : ℕ) (r : 
     → slice_get (cores_in w) d.core ≡ Some core → core.part.end ≢ Finished → AreSetUpAt c d ends → slice_get r.turns d.core ≡ Some turns
     → handled_at_all r.handled ends ≤ turns
 
--- what is told of each of these is the first of what is handed in for it
-abbrev pub AllFirst : List Job → TheReport → List EndId → Type 0
-AllFirst jobs r [] = Unit {0}
-AllFirst jobs r (e ∷ ends) = IsFirst jobs r e × AllFirst jobs r ends
-
--- then it is so of any core
+-- in an honest report of any core
 abbrev pub SetUpHandleFew : Type 0
-SetUpHandleFew = (c : TheConfig) (jobs : List Job) (limit : ℕ) (r : TheReport) (w : Reports c jobs limit r)
-    (d : DispatcherId) (ends : List EndId) (turns : ℕ)
-    → AreSetUpAt c d ends → AllFirst jobs r ends → slice_get r.turns d.core ≡ Some turns → handled_at_all r.handled ends ≤ turns
+SetUpHandleFew = (c : TheConfig) (jobs : List Job) (limit : ℕ) (r : TheReport) (w : Reports c jobs limit r) → Honest jobs r
+    → (d : DispatcherId) (ends : List EndId) (turns : ℕ) → AreSetUpAt c d ends → slice_get r.turns d.core ≡ Some turns
+    → handled_at_all r.handled ends ≤ turns
 
 -- ---- what `complete` says
 
--- it comes only where as many calls were handled as are handed in, or more, at each client's end, and at both ends of each binding that no job opens, but on
--- bindings that are named as refused
-abbrev pub CompleteHasOwn : Type 0
-CompleteHasOwn = (c : TheConfig) (jobs : List Job) (limit : ℕ) (r : TheReport) (w : Reports c jobs limit r) → r.ending ≡ complete
-    → (e : EndId) → IsOwn (joined_in w).bindings e → refusal_of r e.binding ≡ None → AsManyHandled jobs r e
-
--- and at each other end, where what cores had heard of refusals was told
+-- it comes only where as many calls were handled as are handed in, or more, at both ends of each binding, but on bindings that are named as refused
 abbrev pub CompleteHasAsMany : Type 0
-CompleteHasAsMany = (c : TheConfig) (jobs : List Job) (limit : ℕ) (r : TheReport) (w : Reports c jobs limit r) → HeardIsTold (joined_in w) (cores_in w)
-    → r.ending ≡ complete → (e : EndId) → refusal_of r e.binding ≡ None → AsManyHandled jobs r e
+CompleteHasAsMany = (c : TheConfig) (jobs : List Job) (limit : ℕ) (r : TheReport) (w : Reports c jobs limit r) → r.ending ≡ complete
+    → (e : EndId) → refusal_of r e.binding ≡ None → AsManyHandled jobs r e
 
--- and just those, where what is told of the end is the first of them
-abbrev pub CompleteHasOwnFirst : Type 0
-CompleteHasOwnFirst = (c : TheConfig) (jobs : List Job) (limit : ℕ) (r : TheReport) (w : Reports c jobs limit r) → r.ending ≡ complete
-    → (e : EndId) → IsOwn (joined_in w).bindings e → IsFirst jobs r e → refusal_of r e.binding ≡ None → at_end r.handled e ≡ handed_in jobs (peer e)
-
--- so all was handled, where that was told, and the report is honest
+-- so all was handled, where the report is honest
 abbrev pub CompleteHasAll : Type 0
-CompleteHasAll = (c : TheConfig) (jobs : List Job) (limit : ℕ) (r : TheReport) (w : Reports c jobs limit r) → HeardIsTold (joined_in w) (cores_in w)
-    → Honest jobs r → r.ending ≡ complete → AllHandled jobs r
+CompleteHasAll = (c : TheConfig) (jobs : List Job) (limit : ℕ) (r : TheReport) (w : Reports c jobs limit r) → Honest jobs r → r.ending ≡ complete
+    → AllHandled jobs r

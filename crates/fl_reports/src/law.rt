@@ -23,8 +23,8 @@ pub fn runs_report_honestly()
     runs_are_honest();
 }
 
-/// `complete` is told only where all that was handed in was handled, at each end whose core knows by itself whether its binding was refused; no binding of the
-/// set-up is told as refused; and no dispatcher of the set-up handled more calls than its core took turns.
+/// `complete` is told only where all that was handed in was handled, at both ends of each binding that isn't told as refused; none of the set-up is, and neither
+/// end of one that is handled anything; and no dispatcher of the set-up handled more calls than its core took turns.
 pub fn runs_end_as_told()
     ensures ends { RunsEndAsTold }
 {

@@ -3,14 +3,15 @@
 
 ghost use Rattle.fl_reports.specs.Outcomes.{ReportsAreOfRuns, ReportsKeepTurns, UnfinishedHandleFew, FirstAreFew};
 ghost use Rattle.fl_reports.specs.Outcomes.{HonestHandleFew, RefusedAreOpened, SetUpUnfinishedHandleFew, SetUpHandleFew};
-ghost use Rattle.fl_reports.specs.Outcomes.{CompleteHasOwn, CompleteHasOwnFirst, CompleteHasAsMany, CompleteHasAll};
+ghost use Rattle.fl_reports.specs.Outcomes.{CompleteHasAsMany, CompleteHasAll};
 
-/// Behind each report stand cores that began with the jobs joined for them and ran by their plans; and it
-/// tells what came of that.
+/// Behind each report stand cores that began with the jobs joined for them and ran by their plans; what they
+/// heard of refused openings was told; and it tells what came of that.
 pub fn reports_are_of_runs()
     ensures runs { ReportsAreOfRuns }
 {
     fl_setups::set_ups_start_fresh();
+    fl_endings::tables_tell();
 }
 
 /// A report tells of as many turns as cores, each within the limit; and `turns out` only where a core that
@@ -24,7 +25,7 @@ pub fn reports_keep_turns()
 
 /// What the ends of a dispatcher handled is together at most the turns that are told of its core, where
 /// that didn't finish; and where what is told of these ends is the first of what is handed in for them,
-/// where it did. So it is of each in an honest report, where what cores heard of refusals was told.
+/// where it did. So it is of each in an honest report.
 pub fn reports_handle_few()
     ensures unfinished { UnfinishedHandleFew }
     ensures few { FirstAreFew }
@@ -45,7 +46,7 @@ pub fn refused_are_opened()
 }
 
 /// So it is of the ends that the machine has at a dispatcher behind the set-up: what they handled is
-/// together at most the turns that are told of its core.
+/// together at most the turns that are told of its core, where that didn't finish, and in an honest report.
 pub fn dispatchers_handle_few()
     ensures unfinished { SetUpUnfinishedHandleFew }
     ensures set_up { SetUpHandleFew }
@@ -54,20 +55,14 @@ pub fn dispatchers_handle_few()
     reports_are_of_runs();
     reports_handle_few();
     fl_endings::dispatchers_handle_few();
-    fl_endings::refusals_are_named();
 }
 
-/// `complete` comes only where as many calls were handled as are handed in, or more, at each end whose core
-/// knows by itself what came of its opening, but on the bindings that are named as refused; and just those,
-/// where what is told of the end is the first of them; at each other end, where what cores heard of
-/// refusals was told.
+/// `complete` comes only where as many calls were handled as are handed in, or more, at both ends of each
+/// binding, but on bindings that are named as refused; and just those, where the report is honest.
 pub fn complete_has_all()
-    ensures own { CompleteHasOwn }
-    ensures own_first { CompleteHasOwnFirst }
     ensures as_many { CompleteHasAsMany }
     ensures all { CompleteHasAll }
 {
     reports_are_of_runs();
-    fl_endings::refusals_are_named();
     fl_endings::complete_has_all();
 }

@@ -5,6 +5,6 @@ pub returns : goal.returns
 returns c = record {
   unfinished = set_up_unfinished c.set_ups_start_fresh.ensures.fresh c.reports_are_of_runs.ensures.runs c.reports_handle_few.ensures.unfinished
       c.dispatchers_handle_few.ensures.stay;
-  set_up = set_up_few c.set_ups_start_fresh.ensures.fresh c.reports_are_of_runs.ensures.runs c.reports_handle_few.ensures.few c.dispatchers_handle_few.ensures.stay
-      c.refusals_are_named.ensures.set_up;
+  set_up = set_up_few c.set_ups_start_fresh.ensures.fresh c.reports_are_of_runs.ensures.runs c.reports_handle_few.ensures.honest
+      c.dispatchers_handle_few.ensures.stay;
 }

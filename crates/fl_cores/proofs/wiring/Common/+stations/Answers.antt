@@ -4,8 +4,9 @@ use Rattle.fl_tally.specs.Seats.{TheSeat}
 use Rattle.fl_tally.specs.Tally.{core_alone, without_core}
 use Rattle.fl_cores.specs.declared.wiring.Station.{Station}
 use Rattle.fl_cores.specs.Begins.{AreStations}
-use Rattle.fl_cores.specs.Stations.{station_of, common_of}
+use Rattle.fl_cores.specs.Stations.{station_of, common_of, seats_given, AreSeats}
 use Rattle.fl_cores.proofs.Each.{stations_from}
+use Rattle.fl_cores.proofs.Together.{seats_more}
 use Rattle.fl_cores.proofs.Seats.{alone_from, left_from}
 use Rattle.fl_cores.proofs.wiring.Common.+stations.Goals as goal
 
@@ -36,3 +37,13 @@ returns-clause-stations t c =
     subst (λ (xs : List Station). AreStations (common_of c.args.self.now) 0 c.args.cores.items (map station_of xs)) (sym pushed)
     (stations_from (common_of c.args.self.now) (length c.as_slice-k.result.now) c.args.cores.items c.pop.new.self.items
     c.in_ok-stations.stations.items c.in-Some.core c.in_ok-station.field-0 whole k c.in_ok-stations.ensures.stations c.in_ok-station.ensures.station)
+
+pub returns-clause-table : goal.returns-clause-table
+returns-clause-table t c = ap (λ (s : TheSeat). s.table) c.in_ok-seat.ensures.left ∙ c.in_ok-stations.ensures.table
+
+pub returns-clause-seats : goal.returns-clause-seats
+returns-clause-seats t c =
+    let pushed : c.push.new.self.items ≡ c.in_ok-stations.stations.items ++ c.in_ok-station.field-0 ∷ [] = search rules in
+    subst (λ (xs : List Station). AreSeats c.args.own.now (seats_given (map station_of xs))) (sym pushed)
+    (seats_more c.args.own.now c.stations.new.own c.in_ok-seat.seat c.in_ok-stations.stations.items c.in_ok-station.field-0 c.in_ok-stations.ensures.seats
+    c.in_ok-stations.ensures.table c.in_ok-seat.ensures.right c.in_ok-station.ensures.seat)

@@ -32,6 +32,7 @@ returns c =
         words = search rules;
         seat = alone;
       };
+      seat = search rules;
       rings = search rules;
       queues = search rules;
     }
