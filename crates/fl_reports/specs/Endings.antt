@@ -7,15 +7,17 @@ use Rattle.fl_queues.specs.Worlds.{start_with}
 use Rattle.fl_jobs.specs.Jobs.{Job}
 use Rattle.fl_jobs.specs.Report.{TheReport, at_end, complete, refusal_of, AllHandled}
 use Rattle.fl_system.specs.Booting.{TheConfig}
-use Rattle.fl_endings.specs.Few.{handled_at_all}
-use Rattle.fl_reports.specs.Outcomes.{AreSetUpAt}
+use Rattle.fl_endings.specs.Cores.{OneCore}
+use Rattle.fl_endings.specs.Few.{AreEnds, handled_at_all}
 use Rattle.fl_cores.specs.Promised.{Reports}
+use Rattle.fl_reports.specs.Cores.{joined_in, cores_in}
+use Rattle.fl_reports.specs.Outcomes.{AreSetUpAt}
 
 -- so many bindings the set-up makes; those that jobs open, over circuits, have the numbers behind them
 abbrev pub bindings_by : TheConfig → ℕ
 bindings_by c = length (reached (start_with c.cores) c.setup).bindings
 
-pub record EndsAsTold (c : TheConfig) (jobs : List Job) (r : TheReport) : Type 0 where
+pub record EndsAsTold {c : TheConfig} {jobs : List Job} {limit : ℕ} {r : TheReport} (w : Reports c jobs limit r) : Type 0 where
   -- `complete` comes only where each end, of any binding, handled all that was handed in for it, but on bindings that are named as refused
   pub all : r.ending ≡ complete → AllHandled jobs r
   -- these are none of the set-up, and neither end of one handled anything
@@ -24,7 +26,10 @@ pub record EndsAsTold (c : TheConfig) (jobs : List Job) (r : TheReport) : Type 0
   -- what ends that the set-up makes at one dispatcher handled is together at most the turns that are told of its core
   pub few : (d : DispatcherId) (ends : List EndId) (turns : ℕ) → AreSetUpAt c d ends → slice_get r.turns d.core ≡ Some turns
       → handled_at_all r.handled ends ≤ turns
+  -- so it is of the ends of any bindings, also of those that jobs opened, that sit at one dispatcher of a core in the end
+  pub few_there : (n d turns : ℕ) (core : OneCore) (ends : List EndId) → slice_get (cores_in w) n ≡ Some core → AreEnds (joined_in w) n core d ends
+      → slice_get r.turns n ≡ Some turns → handled_at_all r.handled ends ≤ turns
 
 -- each report of a run ends as it tells. Law
 abbrev pub RunsEndAsTold : Type 0
-RunsEndAsTold = (c : TheConfig) (jobs : List Job) (limit : ℕ) (r : TheReport) → Reports c jobs limit r → EndsAsTold c jobs r
+RunsEndAsTold = (c : TheConfig) (jobs : List Job) (limit : ℕ) (r : TheReport) (w : Reports c jobs limit r) → EndsAsTold w

@@ -5,7 +5,7 @@ use Rattle.fl_jobs.specs.Jobs.{Job}
 use Rattle.fl_jobs.specs.Report.{TheReport, Honest}
 use Rattle.fl_system.specs.Booting.{TheConfig}
 use Rattle.fl_cores.specs.declared.text.CoresEnd.{CoresEnd}
-use Rattle.fl_cores.specs.Promised.{Reports, config_in, AppendsReport, AppendsRefusal}
+use Rattle.fl_cores.specs.Promised.{Reports, AppendsReport, AppendsRefusal}
 use Rattle.fl_reports.specs.Endings.{EndsAsTold}
 
 -- ---- cores
@@ -14,7 +14,7 @@ use Rattle.fl_reports.specs.Endings.{EndsAsTold}
 pub record ReportsHonestly (c : TheConfig) (jobs : List Job) (limit : ℕ) (r : TheReport) : Type 0 where
   pub reports : Reports c jobs limit r
   pub honest : Honest jobs r
-  pub ends : EndsAsTold c jobs r
+  pub ends : EndsAsTold reports
 
 -- each report of a run is honest. Law
 abbrev pub RunsReportHonestly : Type 0
@@ -26,7 +26,7 @@ RunsReportHonestly = (c : TheConfig) (jobs : List Job) (limit : ℕ) (r : TheRep
 pub record AppendsHonestly (file : CoresFile) (limit : ℕ) (e : CoresEnd) (before after : List ℕ) : Type 0 where
   pub appends : AppendsReport file limit e before after
   pub honest : Honest file.jobs appends.report
-  pub ends : EndsAsTold (config_in file) file.jobs appends.report
+  pub ends : EndsAsTold appends.reports
 
 abbrev pub AppendsFor : Outcome → ℕ → CoresEnd → List ℕ → List ℕ → Type 0
 AppendsFor (is_file file) limit e before after = AppendsHonestly file limit e before after

@@ -3,7 +3,9 @@
 ghost use Rattle.fl_reports.specs.Endings.{RunsEndAsTold};
 ghost use Rattle.fl_reports.specs.Honesty.{RunsReportHonestly};
 
-use crate::outcomes::{complete_has_all, dispatchers_handle_few, refused_are_opened};
+use crate::outcomes::{
+    complete_has_all, dispatchers_handle_few, refused_are_opened, reports_handle_few,
+};
 use fl_deal::dealt_go_on;
 use fl_honest::{cores_go, runs_are_honest};
 use fl_ring::SharedSide;
@@ -24,7 +26,7 @@ pub fn runs_report_honestly()
 }
 
 /// `complete` is told only where all that was handed in was handled, at both ends of each binding that isn't told as refused; none of the set-up is, and neither
-/// end of one that is handled anything; and no dispatcher of the set-up handled more calls than its core took turns.
+/// end of one that is handled anything; and no dispatcher handled more calls than its core took turns.
 pub fn runs_end_as_told()
     ensures ends { RunsEndAsTold }
 {
@@ -32,4 +34,5 @@ pub fn runs_end_as_told()
     complete_has_all();
     refused_are_opened();
     dispatchers_handle_few();
+    reports_handle_few();
 }
