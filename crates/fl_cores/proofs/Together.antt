@@ -134,8 +134,8 @@ pub seats_more : (own was seat : TheSeat) (xs : List Station) (x : Station) → 
     → seat ≡ knowing was (core_alone was.knows) → x.ticket.seat ≡ seat → AreSeats own (seats_given (map station_of (xs ++ x ∷ [])))
 seats_more own was seat [] x are same cut is =
     let all : x.ticket.seat ≡ knowing was (core_alone was.knows) = is ∙ cut in
-    (ap (λ (u : TheSeat). u.table) all ∙ same, (ap (λ (u : TheSeat). u.knows.seats) all, tt))
-seats_more own was seat (y ∷ xs) x are same cut is = (are.0, (are.1, seats_more own was seat xs x are.2 same cut is))
+    (ap (λ (u : TheSeat). u.table) all ∙ same, ap (λ (u : TheSeat). u.knows.seats) all, tt)
+seats_more own was seat (y ∷ xs) x are same cut is = (are.0, are.1, seats_more own was seat xs x are.2 same cut is)
 
 table_told : (e : End) (v u : TheSeat) → TellsEnd e v u → u.table ≡ v.table
 table_told Finished v u is = ap (λ (s : TheSeat). s.table) is
@@ -160,7 +160,8 @@ seats_ran jobs limit own [] (y ∷ ys) all are = absurd all
 seats_ran jobs limit own (x ∷ xs) [] all are = absurd all
 seats_ran jobs limit own (x ∷ xs) (y ∷ ys) all are = (
   same_table jobs limit (station_of x) (outcome_of y) all.0.ran ∙ are.0,
-  (same_seats jobs limit (station_of x) (outcome_of y) all.0.ran ∙ are.1, seats_ran jobs limit own xs ys all.1 are.2),
+  same_seats jobs limit (station_of x) (outcome_of y) all.0.ran ∙ are.1,
+  seats_ran jobs limit own xs ys all.1 are.2,
 )
 
 many_left : (ys : List Done) → length (seats_left (map outcome_of ys)) ≡ length ys
@@ -175,7 +176,7 @@ many_ran jobs limit (x ∷ xs) (y ∷ ys) all = ap suc (many_ran jobs limit xs y
 
 moved : (first own : TheSeat) (ss : List TheSeat) → own.table ≡ first.table → AreSeats first ss → AreSeats own ss
 moved first own [] table all = tt
-moved first own (s ∷ ss) table all = (all.0 ∙ sym table, (all.1, moved first own ss table all.2))
+moved first own (s ∷ ss) table all = (all.0 ∙ sym table, all.1, moved first own ss table all.2)
 
 -- what is left of everybody's seat, with the seats that all cores have in the end
 rest_is : (n : ℕ) (owners : List ℕ) (own : TheSeat) (ss : List TheSeat) → own.knows ≡ left_view n owners n → length ss ≡ n → AreSeats own ss

@@ -1,5 +1,5 @@
 -- What a core is given for its thread, and what comes of it, as the code has them.
-use Rattle.std.specs.Prelude.{ℕ, ◌≡◌, ◌+◌, ◌-◌, ◌<◌, Bool, List, [], ◌∷◌, length}
+use Rattle.std.specs.Prelude.{ℕ, ◌≡◌, ◌+◌, ◌-◌, ◌<◌, Bool, List, [], ◌∷◌, map, length}
 use Rattle.std.specs.List.{range_with_len}
 use Rattle.fl_tally.specs.declared.board.View.{View}
 use Rattle.fl_tally.specs.Tally.{opening_view, both}
