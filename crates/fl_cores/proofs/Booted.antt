@@ -7,10 +7,10 @@ use Rattle.fl_lines.specs.declared.event.Event.{Event as RustEvent}
 use Rattle.fl_lines.specs.Events.{event_of}
 use Rattle.fl_queues.specs.Events.{Event}
 use Rattle.fl_worlds.specs.View.{TheWorld}
-use Rattle.fl_system.specs.declared.parts.Parts.{Parts}
+use Rattle.fl_worlds.specs.declared.parts.Parts.{Parts}
 use Rattle.fl_system.specs.declared.booting.BootFault.{BootFault}
 use Rattle.fl_system.specs.declared.booting.BootFault.TheVariants as boot
-use Rattle.fl_system.specs.Apart.{is_making, AreParts}
+use Rattle.fl_worlds.specs.Apart.{is_making, AreParts}
 use Rattle.fl_system.specs.Booting.{TheConfig, Stands, IsFaultOf}
 use Rattle.fl_cores.specs.declared.fault.CoresFault.{CoresFault}
 use Rattle.fl_cores.specs.declared.fault.CoresFault.TheVariants.{Setup, Job, Memory, Thread}

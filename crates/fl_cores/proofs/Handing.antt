@@ -5,7 +5,7 @@ use Rattle.std.proofs.lemmas.Option.{slice_get-get_or}
 use Rattle.fl_link.specs.Queue.{TheQueue}
 use Rattle.fl_ring.specs.Duo.{TheDuo}
 use Rattle.fl_ring.specs.SharedSides.{TheSide}
-use Rattle.fl_system.specs.declared.parts.Parts.{Parts}
+use Rattle.fl_worlds.specs.declared.parts.Parts.{Parts}
 use Rattle.fl_deal.specs.declared.deal.Dealt.{Dealt}
 use Rattle.fl_deal.specs.Dealt.{AreNew, hands_in, Holds, Gives, Deals}
 use Rattle.fl_deal.specs.Settled.{Pair, sides_of}

@@ -11,7 +11,7 @@ use Rattle.fl_running.specs.Ran.{Task, task, Moment, EndsAs}
 use Rattle.fl_ring.specs.SharedSides.{TheSide}
 use Rattle.fl_jobs.specs.Report.{TheReport, Ending, complete, turns_out}
 use Rattle.fl_dockets.specs.State.{TheJoined}
-use Rattle.fl_system.specs.declared.parts.Parts.{Parts}
+use Rattle.fl_worlds.specs.declared.parts.Parts.{Parts}
 use Rattle.fl_cores.specs.declared.wiring.Station.{Station}
 use Rattle.fl_cores.specs.declared.fork.Done.{Done}
 use Rattle.fl_deal.specs.Dealt.{AreDealt}

@@ -13,7 +13,7 @@ use Rattle.fl_running.specs.Ran.{TellsEnd}
 use Rattle.fl_cores.specs.declared.wiring.Station.{Station}
 use Rattle.fl_cores.specs.declared.fork.Done.{Done}
 use Rattle.fl_dockets.specs.State.{TheJoined}
-use Rattle.fl_system.specs.declared.parts.Parts.{Parts}
+use Rattle.fl_worlds.specs.declared.parts.Parts.{Parts}
 use Rattle.fl_cores.specs.Begins.{TheStation, common_in}
 use Rattle.fl_cores.specs.Dealing.{Wires}
 use Rattle.fl_cores.specs.Tells.{TheOutcome, RanTo, Each2, seats_left, told_by, heard_by, HeardAsTold}

@@ -9,7 +9,7 @@ use Rattle.fl_tally.specs.declared.board.View.{View}
 use Rattle.fl_node.specs.View.{TheCore, client_of, server_of, slot_of}
 use Rattle.fl_node.specs.Numbers.{renumbered}
 use Rattle.fl_node.specs.Hearing.{Offers}
-use Rattle.fl_system.specs.declared.parts.Parts.{Parts}
+use Rattle.fl_worlds.specs.declared.parts.Parts.{Parts}
 use Rattle.fl_running.specs.declared.plan.Plan.{Plan}
 use Rattle.fl_running.specs.declared.word.Word.{Word}
 use Rattle.fl_running.specs.declared.word.Word.TheVariants.{Silent, Tells, Hears}

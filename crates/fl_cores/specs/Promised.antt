@@ -14,8 +14,8 @@ use Rattle.fl_jobs.specs.CoresFile.{CoresFile, Outcome, Reads, is_file, refused_
 use Rattle.fl_jobs.specs.Report.{TheReport, Ending, complete, turns_out}
 use Rattle.fl_jobs.specs.Printed.{refusal_text, report_text}
 use Rattle.fl_system.specs.declared.booting.BootFault.TheVariants as boot
-use Rattle.fl_system.specs.declared.parts.Parts.{Parts}
-use Rattle.fl_system.specs.Apart.{is_making, AreParts}
+use Rattle.fl_worlds.specs.declared.parts.Parts.{Parts}
+use Rattle.fl_worlds.specs.Apart.{is_making, AreParts}
 use Rattle.fl_system.specs.Booting.{TheConfig, has_bad_cores, passes, Stands, IsFaultOf}
 use Rattle.fl_dockets.specs.Fitting.{JobsFit}
 use Rattle.fl_dockets.specs.Rules.{RulesOf}

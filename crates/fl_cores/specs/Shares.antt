@@ -11,7 +11,7 @@ use Rattle.fl_hop.specs.Joined.{Sound as IsTable}
 use Rattle.fl_core.specs.View.{TheSeat}
 use Rattle.fl_endpoint.specs.Accounts.{Sound as IsEnd}
 use Rattle.fl_worlds.specs.Picture.{wire_of}
-use Rattle.fl_system.specs.declared.parts.Parts.{Parts}
+use Rattle.fl_worlds.specs.declared.parts.Parts.{Parts}
 use Rattle.fl_deal.specs.Dealt.{AreDealt, AreAt, AreApart, AreCounted, AreNew}
 use Rattle.fl_deal.specs.Settled.{Pair, sides_of, Each, IsNear}
 use Rattle.fl_cores.specs.Begins.{TheStation, Places}

@@ -3,7 +3,7 @@
 ghost use Rattle.std.specs.Prelude.{◌≡◌, ◌≤◌, None, map, position, length, IfOk, IfErr};
 ghost use Rattle.fl_lines.specs.Events.{event_of};
 ghost use Rattle.fl_jobs.specs.Reports.{report_of};
-ghost use Rattle.fl_system.specs.Apart.{is_making};
+ghost use Rattle.fl_worlds.specs.Apart.{is_making};
 ghost use Rattle.fl_system.specs.Booting.{config_of, IsFaultOf};
 ghost use Rattle.fl_jobs.specs.Views.{job_of};
 ghost use Rattle.fl_worlds.specs.View.{TheWorld};
@@ -20,7 +20,8 @@ use fl_dockets::{Joined, join_jobs};
 use fl_jobs::{Job, Report};
 use fl_lines::{BackEnd, Event};
 use fl_running::Gate;
-use fl_system::{BootFault, Config, Parts, World};
+use fl_system::{BootFault, Config, World};
+use fl_worlds::Parts;
 use fl_tally::{EndSeat, Plan};
 use std::alloc::{AllocError, Global};
 use std::sync::Wait;

@@ -23,7 +23,7 @@ use fl_nameserv::Names;
 use fl_node::Core;
 use fl_ring::SharedSide;
 use fl_running::{Desk, Plan, Running, Ticket, Word};
-use fl_system::Parts;
+use fl_worlds::Parts;
 use fl_tally::EndSeat;
 use std::alloc::{AllocError, Global};
 

@@ -16,7 +16,7 @@ use Rattle.fl_worlds.specs.View.{core_in}
 use Rattle.fl_jobs.specs.declared.job.Job.{Job as RustJob}
 use Rattle.fl_jobs.specs.Jobs.{Job, Wish, opens, replies, calls}
 use Rattle.fl_jobs.specs.Views.{job_of}
-use Rattle.fl_system.specs.declared.parts.Parts.{Parts}
+use Rattle.fl_worlds.specs.declared.parts.Parts.{Parts}
 use Rattle.fl_dockets.specs.declared.docket.Bound.{Bound}
 use Rattle.fl_dockets.specs.declared.joining.Joined.{Joined}
 use Rattle.fl_dockets.specs.Dockets.{docket_of, end_of}

@@ -21,7 +21,7 @@ use fl_check::same_args;
 use fl_compile::Program;
 use fl_jobs::{Stop, Wish};
 use fl_running::{Job as CoreJob, Wish as CoreWish};
-use fl_system::Parts;
+use fl_worlds::Parts;
 use fl_value::{Call, fits};
 use std::alloc::{AllocError, Global};
 

@@ -10,7 +10,7 @@ use fl_monitor::{Opening, Path};
 use fl_nameserv::{Names, each_is_found, found_is_registered};
 use fl_node::Core;
 use fl_running::Wish as CoreWish;
-use fl_system::Parts;
+use fl_worlds::Parts;
 use std::alloc::Global;
 
 /// What is asked for, and the cores of both ends.

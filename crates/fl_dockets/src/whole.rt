@@ -18,7 +18,7 @@ use crate::joining::Joined;
 use crate::rules::rule_now;
 use fl_base::{EndId, MAX_BINDINGS, MsgNo};
 use fl_jobs::{Job, Stop};
-use fl_system::Parts;
+use fl_worlds::Parts;
 use fl_worlds::Binding;
 use std::alloc::Global;
 

@@ -16,7 +16,7 @@ use Rattle.fl_running.specs.Desks.{TheDesk, desk_place}
 use Rattle.fl_running.specs.Logs.{handled_of}
 use Rattle.fl_running.specs.Words.{refusal_at as refusal_there}
 use Rattle.fl_jobs.specs.Report.{TheReport, BothEnds, at_end, refusal_of, complete, turns_out}
-use Rattle.fl_system.specs.declared.parts.Parts.{Parts}
+use Rattle.fl_worlds.specs.declared.parts.Parts.{Parts}
 use Rattle.fl_setups.specs.Start.{SetUpsStartFresh}
 use Rattle.fl_dockets.specs.declared.docket.Bound.{Bound}
 use Rattle.fl_dockets.specs.Joined.{core_of}

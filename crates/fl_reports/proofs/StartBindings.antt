@@ -20,8 +20,8 @@ use Rattle.fl_running.specs.Carried.{HasNoRule}
 use Rattle.fl_worlds.specs.declared.binding.Binding.{Binding}
 use Rattle.fl_worlds.specs.View.{TheWorld, core_in}
 use Rattle.fl_worlds.specs.Binding.{new_queue}
-use Rattle.fl_system.specs.declared.parts.Parts.{Parts}
-use Rattle.fl_system.specs.Apart.{AreParts}
+use Rattle.fl_worlds.specs.declared.parts.Parts.{Parts}
+use Rattle.fl_worlds.specs.Apart.{AreParts}
 use Rattle.fl_jobs.specs.Jobs.{Job}
 use Rattle.fl_dockets.specs.declared.docket.Bound.{Bound}
 use Rattle.fl_dockets.specs.Dockets.{docket_at}

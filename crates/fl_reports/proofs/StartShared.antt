@@ -8,8 +8,8 @@ use Rattle.fl_node.specs.Numbers.{moved, renumbered}
 use Rattle.fl_running.specs.Flows.{IsApart}
 use Rattle.fl_worlds.specs.View.{TheWorld, ring_at}
 use Rattle.fl_worlds.specs.Binding.{new_queue}
-use Rattle.fl_system.specs.declared.parts.Parts.{Parts}
-use Rattle.fl_system.specs.Apart.{AreParts}
+use Rattle.fl_worlds.specs.declared.parts.Parts.{Parts}
+use Rattle.fl_worlds.specs.Apart.{AreParts}
 use Rattle.fl_jobs.specs.Jobs.{Job}
 use Rattle.fl_dockets.specs.Rules.{RulesOf}
 use Rattle.fl_dockets.specs.Whole.{IsBeside}

@@ -25,7 +25,7 @@ use Rattle.fl_laws.proofs.Cases.{either, by_given, Each, none_at_end, each_push,
 use Rattle.fl_laws.proofs.Small.{both_are}
 use Rattle.fl_laws.proofs.WaitsetsStep.{places, seated_there}
 use Rattle.fl_worlds.proofs.JoiningStages.{at_dispatcher, dispatcher_in, next_end, sat, bound_to, new_end, joined_binding, both_stage}
-use Rattle.fl_system.specs.Apart.{is_making}
+use Rattle.fl_worlds.specs.Apart.{is_making}
 use Rattle.fl_setups.specs.Untouched.{IsUntouched, IsOffLinks, IsNewBinding, SetUpsTouchNothing}
 
 -- ---- a new binding

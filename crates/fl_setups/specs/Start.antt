@@ -23,7 +23,7 @@ use Rattle.fl_worlds.specs.declared.binding.Binding.{Binding}
 use Rattle.fl_worlds.specs.View.{TheWorld, ring_at, core_in}
 use Rattle.fl_worlds.specs.Binding.{new_queue}
 use Rattle.fl_worlds.specs.Picture.{wire_of, Shows}
-use Rattle.fl_system.specs.Apart.{is_making}
+use Rattle.fl_worlds.specs.Apart.{is_making}
 use Rattle.fl_setups.specs.Untouched.{Untouched}
 
 -- ---- ends

@@ -8,7 +8,7 @@ use Rattle.fl_queues.specs.Monitors.{Core}
 use Rattle.fl_queues.specs.State.{Back, local, over_ring, over_route, Binding, State, core_of}
 use Rattle.fl_queues.specs.Worlds.{start_with}
 use Rattle.fl_queues.specs.Runs.{reached}
-use Rattle.fl_system.specs.Apart.{is_making}
+use Rattle.fl_worlds.specs.Apart.{is_making}
 
 -- the end has its seat and is bound, off links; it has no reply rule; no call of its was accepted, none waits, and no fragment
 -- passed the write or the other end's take; nothing stands in its queue, if it has one

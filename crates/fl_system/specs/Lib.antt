@@ -1,4 +1,4 @@
--- What a world makes of any event, of many, and of a set-up (`Stepping`, `Booting`), and its parts (`Apart`), are public promises. The others say what
+-- What a world makes of any event, of many (`Stepping`), and of a set-up (`Booting`), are public promises. The others say what
 -- fl_worlds says of a world of the parts that an event touches.
 pub mod Places
 pub mod Parts
@@ -10,4 +10,3 @@ pub mod Queued
 pub mod Routes
 pub mod Stepping
 pub mod Booting
-pub mod Apart

@@ -6,7 +6,7 @@ ghost use Rattle.fl_lines.specs.Events.{event_of, answer_of};
 ghost use Rattle.fl_queues.specs.State.{State};
 ghost use Rattle.fl_queues.specs.Step.{step};
 ghost use Rattle.fl_worlds.specs.Picture.{Shows};
-ghost use Rattle.fl_system.specs.Apart.{AllUnused, is_making, KeepsUnused};
+ghost use Rattle.fl_worlds.specs.Apart.{AllUnused, is_making, KeepsUnused};
 ghost use Rattle.fl_system.specs.Booting.{config_of, Passes, Stands, IsFaultOf, number_of, StopsBy, StopsAt};
 ghost use Rattle.fl_system.specs.Stepping.{fault_in};
 

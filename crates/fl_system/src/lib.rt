@@ -3,7 +3,7 @@
 //! Contract for the layers above: a [`World`] is the record of `fl_worlds/specs/View.antt`. One event is one step of its relations: what is
 //! answered and what the world is then, exactly ([`World::step`]). Where memory is refused the world is as it was. By the laws of `fl_worlds` each is then a
 //! step of the queue machine: a world is what scripts run on (`fl_transcript::QueueMachine`), it does lists of events ([`World::run`]), it is booted
-//! by a set-up ([`World::boot`], `specs/Booting.antt`), and taken apart before it was used ([`World::into_parts`], `specs/Apart.antt`).
+//! by a set-up ([`World::boot`], `specs/Booting.antt`), and taken apart before it was used ([`World::into_parts`], into the `Parts` of `fl_worlds`).
 //!
 //! - `world.rt`: `World`, and what contracts see of it
 //! - `step.rt`: whatever event is asked, and many
@@ -40,5 +40,4 @@ mod taking;
 mod world;
 
 pub use booting::{BootFault, Config};
-pub use parts::Parts;
 pub use world::World;

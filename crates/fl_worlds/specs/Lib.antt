@@ -1,4 +1,4 @@
--- The public promises rest on View and Picture, and on the relations of events: Making, Binding, Sending, Taking, Linking, Step.
+-- The public promises rest on View and Picture, on the relations of events (Making, Binding, Sending, Taking, Linking, Step), and on Apart.
 pub mod View
 pub mod Picture
 pub mod Lending
@@ -10,3 +10,4 @@ pub mod Linking
 pub mod Step
 pub mod Laws
 pub mod Hearing
+pub mod Apart

@@ -3,7 +3,7 @@
 ghost use Rattle.std.specs.Prelude.{◌≡◌, map};
 ghost use Rattle.std.specs.List.{list_all};
 ghost use Rattle.fl_lines.specs.Events.{event_of};
-ghost use Rattle.fl_system.specs.Apart.{is_making};
+ghost use Rattle.fl_worlds.specs.Apart.{is_making};
 
 use crate::acts::{AT_0, AT_1, Act, CLIENT, Joint, NEXT_AT_0, PING, SERVER, SERVER_1};
 use crate::worlds::config;
@@ -11,7 +11,8 @@ use fl_base::EndId;
 use fl_lines::{BackEnd, Event};
 use fl_node::Core;
 use fl_ring::{OneDuo, Which};
-use fl_system::{BootFault, Config, Parts, World};
+use fl_system::{BootFault, Config, World};
+use fl_worlds::Parts;
 use std::alloc::{AllocError, Global};
 use std::test::Fail;
 

@@ -1,6 +1,6 @@
 use Rattle.std.proofs.Common.{sym, subst}
 use Rattle.fl_worlds.specs.View.{TheWorld}
-use Rattle.fl_system.specs.Apart.{AllUnused}
+use Rattle.fl_worlds.specs.Apart.{AllUnused}
 use Rattle.fl_system.proofs.world.World.into_parts.Goals as goal
 
 pub returns-clause-unused : goal.returns-clause-unused

@@ -2,7 +2,7 @@ use Rattle.std.proofs.Common.{map, take}
 use Rattle.fl_lines.specs.Events.{event_of}
 use Rattle.fl_queues.specs.State.{State}
 use Rattle.fl_worlds.specs.Picture.{Shows}
-use Rattle.fl_system.specs.Apart.{KeepsUnused}
+use Rattle.fl_worlds.specs.Apart.{KeepsUnused}
 use Rattle.fl_system.specs.Booting.{Passes}
 use Rattle.fl_system.proofs.world.World.set_up.Given as goal
 

@@ -5,7 +5,7 @@ use Rattle.fl_ring.specs.Duo.{TheDuo}
 use Rattle.fl_queues.specs.Events.{Event, add_interface, set_cores, add_link, add_dispatcher, export, bind, by_queues, by_ring}
 use Rattle.fl_worlds.specs.Making.{new_duo}
 use Rattle.fl_worlds.specs.View.{TheWorld}
-use Rattle.fl_system.specs.declared.parts.Parts.{Parts}
+use Rattle.fl_worlds.specs.declared.parts.Parts.{Parts}
 
 -- nothing was put on any of these rings
 abbrev pub AllUnused : List TheDuo → Type 0
