@@ -12,10 +12,10 @@ use Rattle.fl_system.specs.declared.booting.BootFault.{BootFault}
 use Rattle.fl_system.specs.declared.booting.BootFault.TheVariants as boot
 use Rattle.fl_worlds.specs.Apart.{is_making, AreParts}
 use Rattle.fl_system.specs.Booting.{TheConfig, Stands, IsFaultOf}
-use Rattle.fl_cores.specs.declared.fault.CoresFault.{CoresFault}
-use Rattle.fl_cores.specs.declared.fault.CoresFault.TheVariants.{Setup, Job, Memory, Thread}
-use Rattle.fl_cores.specs.Faults.{by_boot}
-use Rattle.fl_cores.specs.Promised.{is_other, asks_other, cores_by, IsAccepted, IsRefusedAt, IsRefused, IsFault, IsLater}
+use Rattle.fl_threads.specs.declared.fault.RunFault.{RunFault}
+use Rattle.fl_threads.specs.declared.fault.RunFault.TheVariants as run
+use Rattle.fl_cores.specs.Faults.{by_boot, by_run}
+use Rattle.fl_cores.specs.Promised.{is_other, asks_other, cores_by, IsAccepted, IsRefusedAt, IsRefused, IsFault}
 
 -- ---- no other event: each makes something at once
 
@@ -49,11 +49,10 @@ not_booted c (boot.Refused number place) making is = subst (λ late. IsRefusedAt
 not_booted c boot.Memory making is = making
 
 -- a fault behind an accepted set-up
-pub late_fault : (c : TheConfig) (fault : CoresFault) → IsAccepted c → IsLater fault → IsFault c fault
-late_fault c (Setup number place) accepted later = absurd later
-late_fault c (Job number place) accepted later = accepted
-late_fault c Memory accepted later = accepted.making
-late_fault c Thread accepted later = accepted
+pub late_fault : (c : TheConfig) (fault : RunFault) → IsAccepted c → IsFault c (by_run fault)
+late_fault c (run.Refused number place) accepted = accepted
+late_fault c run.Memory accepted = accepted.making
+late_fault c run.Thread accepted = accepted
 
 -- ---- the first other event
 

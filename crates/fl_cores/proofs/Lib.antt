@@ -1,12 +1,2 @@
-pub mod Boards
 pub mod Booted
-pub mod Each
-pub mod Together
-pub mod Handing
-pub mod Keeping
-pub mod Lists
-pub mod Owning
-pub mod Ringing
-pub mod Seats
-pub mod Sending
-pub mod Wording
+pub mod Reporting

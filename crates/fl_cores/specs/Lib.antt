@@ -1,8 +1,3 @@
--- The public promises rest on Promised, and that on Begins, Tells and Shares; Stations and Dealing have what the code's own functions say.
+-- The public promises rest on Promised, and on the numbers in Faults.
 pub mod Faults
-pub mod Begins
-pub mod Tells
-pub mod Shares
-pub mod Stations
-pub mod Dealing
 pub mod Promised

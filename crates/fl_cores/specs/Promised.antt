@@ -1,29 +1,21 @@
 -- What is promised of a run of cores, beside what its report will be shown to say of calls.
-use Rattle.std.specs.Prelude.{ℕ, ◌≡◌, ◌+◌, ◌≤◌, Bool, true, false, not, List, ◌++◌, length, slice_get, Option, Some, None, position}
+use Rattle.std.specs.Prelude.{ℕ, ◌≡◌, ◌+◌, Bool, true, false, not, List, ◌++◌, length, Option, Some, None, position}
 use Rattle.std.specs.List.{list_all}
-use Rattle.fl_queues.specs.Given.{given}
 use Rattle.fl_queues.specs.Events.{Event}
 use Rattle.fl_lines.specs.declared.event.Event.{Event as RustEvent}
 use Rattle.fl_lines.specs.Events.{event_of}
-use Rattle.fl_queues.specs.State.{State}
 use Rattle.fl_queues.specs.Runs.{answers_to, reached}
 use Rattle.fl_queues.specs.Worlds.{start_with}
 use Rattle.fl_worlds.specs.View.{TheWorld}
 use Rattle.fl_jobs.specs.Jobs.{Job}
 use Rattle.fl_jobs.specs.CoresFile.{CoresFile, Outcome, Reads, is_file, refused_at}
 use Rattle.fl_jobs.specs.Report.{TheReport, Ending, complete, turns_out}
+use Rattle.fl_threads.specs.Ran.{Keeps, RanFrom}
 use Rattle.fl_jobs.specs.Printed.{refusal_text, report_text}
 use Rattle.fl_system.specs.declared.booting.BootFault.TheVariants as boot
 use Rattle.fl_worlds.specs.declared.parts.Parts.{Parts}
 use Rattle.fl_worlds.specs.Apart.{is_making, AreParts}
 use Rattle.fl_system.specs.Booting.{TheConfig, has_bad_cores, passes, Stands, IsFaultOf}
-use Rattle.fl_dockets.specs.Fitting.{JobsFit}
-use Rattle.fl_dockets.specs.Rules.{RulesOf}
-use Rattle.fl_dockets.specs.State.{TheJoined, AreJoined}
-use Rattle.fl_dockets.specs.Whole.{AreBound, AreDue, IsBeside}
-use Rattle.fl_cores.specs.Begins.{TheStation, Places, common_in, AreStations}
-use Rattle.fl_cores.specs.Tells.{TheOutcome, RanTo, Each2, seats_left, HeardAsTold, Tells}
-use Rattle.fl_cores.specs.Shares.{Shares, AreSound}
 use Rattle.fl_cores.specs.declared.fault.CoresFault.{CoresFault}
 use Rattle.fl_cores.specs.declared.fault.CoresFault.TheVariants as fault
 use Rattle.fl_cores.specs.declared.text.CoresEnd.{CoresEnd}
@@ -50,42 +42,11 @@ pub record IsAccepted (c : TheConfig) : Type 0 where
 
 -- ---- a report
 
-pub record Keeps (cores limit : ℕ) (r : TheReport) : Type 0 where
-  -- there are as many turns as cores, and none above the limit
-  pub count : length r.turns ≡ cores
-  pub within : (core turns : ℕ) → slice_get r.turns core ≡ Some turns → turns ≤ limit
-  -- `turns out` only where a core took all its turns
-  pub out : r.ending ≡ turns_out → (core : ℕ) × (slice_get r.turns core ≡ Some limit)
-
 -- the set-up makes a world of these parts
 pub record Made (c : TheConfig) (p : Parts) : Type 0 where
   pub world : TheWorld
   pub stands : Stands c world
   pub parts : AreParts world p
-
--- each core of these parts ran by its plan from what it was given, what they heard of refused openings was told, and the report tells what came of all that
-pub record CoresRan (p : Parts) (j : TheJoined) (limit : ℕ) (r : TheReport) : Type 0 where
-  pub stations : List TheStation
-  pub places : Places
-  pub begin : AreStations (common_in p j places) 0 p.cores.items stations
-  pub outcomes : List TheOutcome
-  pub ran : Each2 (RanTo j.jobs limit) stations outcomes
-  pub shares : Shares p places stations outcomes
-  pub sound : AreSound stations outcomes
-  pub heard : HeardAsTold (length j.owners) (seats_left outcomes)
-  pub tells : Tells j outcomes r
-
--- the jobs were joined to these parts, with the reply rules that are set at once, and then the cores ran
-pub record RanFrom (p : Parts) (jobs : List Job) (limit : ℕ) (r : TheReport) : Type 0 where
-  pub joined : TheJoined
-  pub are_joined : AreJoined (length p.cores.items) jobs joined
-  pub are_bound : AreBound p.bindings.items jobs joined
-  pub are_fit : JobsFit p.names p.programs.items joined
-  pub are_due : AreDue jobs joined
-  pub parts : Parts
-  pub rules : RulesOf p.bindings.items jobs p.cores.items parts.cores.items
-  pub beside : IsBeside p parts
-  pub ran : CoresRan parts joined limit r
 
 -- so what the set-up makes ran, with these jobs
 pub record Ran (c : TheConfig) (jobs : List Job) (limit : ℕ) (r : TheReport) : Type 0 where
@@ -115,11 +76,6 @@ IsFault c (fault.Setup number place) = IsRefused c number place
 IsFault c (fault.Job number place) = IsAccepted c
 IsFault c fault.Memory = position is_other c.setup ≡ None
 IsFault c fault.Thread = IsAccepted c
-
--- a fault behind the set-up
-abbrev pub IsLater : CoresFault → Type 0
-IsLater (fault.Setup number place) = ⊥
-IsLater other = Unit {0}
 
 -- ---- a cores file
 

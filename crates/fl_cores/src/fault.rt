@@ -2,10 +2,10 @@
 
 ghost use Rattle.std.specs.Prelude.{◌≡◌};
 ghost use Rattle.fl_cores.specs.declared.fault.CoresFault.TheVariants.{Memory as OutOfMemory};
-ghost use Rattle.fl_cores.specs.Faults.{by_boot, by_job, by_stop, number_of};
+ghost use Rattle.fl_cores.specs.Faults.{by_boot, by_run, number_of};
 
-use fl_dockets::JobFault;
 use fl_system::BootFault;
+use fl_threads::RunFault;
 use std::alloc::{AllocError, AllocFailed};
 use thiserror::Error;
 
@@ -40,39 +40,11 @@ impl CoresFault {
     }
 }
 
-/// Why a run that was set up ends without a report.
-#[derive(Clone, Copy, Debug, PartialEq, Eq, Error)]
-pub(crate) enum Stop {
-    /// Out of memory (E99).
-    #[error("out of memory")]
-    Memory,
-    /// A thread doesn't start.
-    #[error("a thread doesn't start")]
-    Thread,
-}
-
-impl From<AllocError> for Stop {
-    fn from(_e: AllocError) -> Stop {
-        Stop::Memory
-    }
-}
-
 impl From<AllocError> for CoresFault {
     ghost from_gives = { λ _ e. e ≡ OutOfMemory };
 
     fn from(_e: AllocError) -> CoresFault {
         CoresFault::Memory
-    }
-}
-
-impl From<Stop> for CoresFault {
-    ghost from_gives = { λ stop e. e ≡ by_stop stop };
-
-    fn from(stop: Stop) -> CoresFault {
-        match stop {
-            Stop::Memory => CoresFault::Memory,
-            Stop::Thread => CoresFault::Thread,
-        }
     }
 }
 
@@ -87,13 +59,14 @@ impl From<BootFault> for CoresFault {
     }
 }
 
-impl From<JobFault> for CoresFault {
-    ghost from_gives = { λ fault e. e ≡ by_job fault };
+impl From<RunFault> for CoresFault {
+    ghost from_gives = { λ fault e. e ≡ by_run fault };
 
-    fn from(fault: JobFault) -> CoresFault {
+    fn from(fault: RunFault) -> CoresFault {
         match fault {
-            JobFault::Refused { number, place } => CoresFault::Job { number, place },
-            JobFault::Memory => CoresFault::Memory,
+            RunFault::Refused { number, place } => CoresFault::Job { number, place },
+            RunFault::Memory => CoresFault::Memory,
+            RunFault::Thread => CoresFault::Thread,
         }
     }
 }

@@ -6,24 +6,16 @@ ghost use Rattle.fl_jobs.specs.Reports.{report_of};
 ghost use Rattle.fl_worlds.specs.Apart.{is_making};
 ghost use Rattle.fl_system.specs.Booting.{config_of, IsFaultOf};
 ghost use Rattle.fl_jobs.specs.Views.{job_of};
-ghost use Rattle.fl_worlds.specs.View.{TheWorld};
-ghost use Rattle.fl_dockets.specs.Joined.{AreBindings, HasDockets};
-ghost use Rattle.fl_dockets.specs.State.{joined_of};
-ghost use Rattle.fl_cores.specs.Promised.{is_other, asks_other, cores_by, IsAccepted, Keeps, Made, CoresRan, RanFrom, Reports, IsFault, IsLater};
+ghost use Rattle.fl_cores.specs.Promised.{is_other, asks_other, cores_by, IsAccepted, Made, Reports, IsFault};
 
-use crate::fault::{CoresFault, Stop};
-use crate::fork::run_each;
-use crate::settling::{put_together, rings_hold};
-use crate::telling::tell;
-use crate::wiring::wire;
-use fl_dockets::{Joined, join_jobs};
+use crate::fault::CoresFault;
 use fl_jobs::{Job, Report};
 use fl_lines::{BackEnd, Event};
 use fl_running::Gate;
 use fl_system::{BootFault, Config, World};
+use fl_threads::run_parts;
 use fl_worlds::Parts;
-use fl_tally::{EndSeat, Plan};
-use std::alloc::{AllocError, Global};
+use std::alloc::Global;
 use std::sync::Wait;
 use std::thread::Threads;
 
@@ -75,17 +67,6 @@ fn first_other(events: &[Event<'_>]) -> Option<usize>
     place_of_other(events)
 }
 
-// Of each job that opens a binding the core that does it.
-fn owners_of(alloc: Global, owners: &[usize]) -> Result<Vec<u64>, AllocError>
-    ensures owners { IfOk result (λ v. v.items ≡ owners.now) }
-{
-    let mut copies = Vec::new(alloc);
-    for owner in owners {
-        copies.push(*owner as u64)?;
-    }
-    Ok(copies)
-}
-
 // What a set-up makes, taken apart.
 #[tactic(auto, using(crate::proofs::Booted::all_making, crate::proofs::Booted::accepted, crate::proofs::Booted::cores_are))]
 fn boot(alloc: Global, config: &Config<'_>) -> Result<Parts, BootFault>
@@ -100,59 +81,6 @@ fn boot(alloc: Global, config: &Config<'_>) -> Result<Parts, BootFault>
         Ok(world) => Ok(world.into_parts()),
         Err(fault) => Err(fault),
     }
-}
-
-// The run of what a set-up made, with the jobs that were joined to it.
-fn run_joined<R: Threads + Wait + Sync, G: Gate + Sync>(
-    rt: &R,
-    alloc: Global,
-    parts: Parts,
-    joined: Joined,
-    limit: u64,
-    gate: &G,
-) -> Result<Report, Stop>
-    requires few { length parts.cores.items ≤ 16 }
-    requires bindings { AreBindings (length parts.cores.items) joined.bindings.items joined.owners.items }
-    requires dockets { HasDockets joined.bindings.items joined.dockets.items }
-    ensures ran { IfOk result (λ r. CoresRan parts (joined_of joined) limit (report_of r)) }
-{
-    let plan = Plan {
-        cores: parts.cores.as_slice().len() as u64,
-        owners: owners_of(alloc, &joined.owners)?,
-    };
-    let mut own = EndSeat::new(alloc, plan)?;
-    let wired = wire(alloc, parts, &joined, &mut own)?;
-    rings_hold();
-    match run_each(rt, alloc, gate, own, wired.stations, &joined.jobs, limit) {
-        Err((stop, _)) => Err(stop),
-        Ok((done, own)) => {
-            let report = tell(alloc, &joined, &done)?;
-            let jobs = joined.owners.as_slice().len();
-            put_together(alloc, own, jobs, wired.owners, done)?;
-            Ok(report)
-        }
-    }
-}
-
-// The run of what a set-up made, with these jobs.
-#[tactic(auto, using(crate::proofs::Keeping::keeps_ran))]
-fn run_parts<R: Threads + Wait + Sync, G: Gate + Sync>(
-    rt: &R,
-    alloc: Global,
-    parts: Parts,
-    jobs: Vec<Job<'_>>,
-    limit: u64,
-    gate: &G,
-) -> Result<Report, CoresFault>
-    requires few { length parts.cores.items ≤ 16 }
-    ensures ran { IfOk result (λ r. RanFrom parts (map job_of jobs.entry.items) limit (report_of r)) }
-    ensures keeps { IfOk result (λ r. Keeps (length parts.cores.items) limit (report_of r)) }
-    ensures later { IfErr result IsLater }
-{
-    let mut parts = parts;
-    let joined = join_jobs(alloc, &mut parts, jobs)?;
-    let report = run_joined(rt, alloc, parts, joined, limit, gate)?;
-    Ok(report)
 }
 
 /// Runs cores on threads of their own, each with its jobs, until all have finished or so many turns of one are counted.
@@ -178,5 +106,6 @@ pub fn run_cores<R: Threads + Wait + Sync, G: Gate + Sync>(
         });
     }
     let parts = boot(alloc, config)?;
-    run_parts(rt, alloc, parts, jobs, limit, gate)
+    let report = run_parts(rt, alloc, parts, jobs, limit, gate)?;
+    Ok(report)
 }

@@ -21,8 +21,8 @@ use fl_check::same_args;
 use fl_compile::Program;
 use fl_jobs::{Stop, Wish};
 use fl_running::{Job as CoreJob, Wish as CoreWish};
-use fl_worlds::Parts;
 use fl_value::{Call, fits};
+use fl_worlds::Parts;
 use std::alloc::{AllocError, Global};
 
 /// The jobs as cores do them, and the bindings that they name.

@@ -18,8 +18,7 @@ use crate::joining::Joined;
 use crate::rules::rule_now;
 use fl_base::{EndId, MAX_BINDINGS, MsgNo};
 use fl_jobs::{Job, Stop};
-use fl_worlds::Parts;
-use fl_worlds::Binding;
+use fl_worlds::{Binding, Parts};
 use std::alloc::Global;
 
 fn bound_of(binding: &Binding) -> Bound

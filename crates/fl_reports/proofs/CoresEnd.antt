@@ -12,7 +12,7 @@ use Rattle.fl_running.specs.declared.word.Word.TheVariants.{Silent, Tells, Hears
 use Rattle.fl_dockets.specs.declared.docket.Bound.{Bound}
 use Rattle.fl_dockets.specs.Joined.{core_of}
 use Rattle.fl_endings.specs.Begins.{core_at, word_by, word_at, word_of}
-use Rattle.fl_cores.specs.Begins.{ends_from, words_of, word_by as first_word}
+use Rattle.fl_threads.specs.Begins.{ends_from, words_of, word_by as first_word}
 use Rattle.fl_reports.proofs.CoresLists.{behind, first_in, second_in, one_of}
 
 same_number : (m n : ℕ) → (m == n) ≡ true → m ≡ n

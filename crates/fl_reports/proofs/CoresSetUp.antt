@@ -32,7 +32,7 @@ use Rattle.fl_endings.specs.Cores.{OneCore}
 use Rattle.fl_endings.specs.Begins.{core_at, Ran}
 use Rattle.fl_endings.specs.Few.{IsAt, EndsStay, AreEnds}
 use Rattle.fl_cores.proofs.Booted.{all_making}
-use Rattle.fl_cores.specs.Begins.{TheCommon, common_in}
+use Rattle.fl_threads.specs.Begins.{TheCommon, common_in}
 use Rattle.fl_cores.specs.Promised.{Reports}
 use Rattle.fl_reports.specs.Cores.{joined_in, cores_in}
 use Rattle.fl_reports.specs.Outcomes.{ReportsAreOfRuns, UnfinishedHandleFew, HonestHandleFew, SetUpUnfinishedHandleFew, SetUpAt, AreSetUpAt, SetUpHandleFew}

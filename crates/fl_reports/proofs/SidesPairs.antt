@@ -4,7 +4,7 @@ use Rattle.fl_ring.specs.Duo.{TheDuo}
 use Rattle.fl_ring.specs.SharedSides.{TheSide}
 use Rattle.fl_deal.specs.Dealt.{AreNew}
 use Rattle.fl_deal.specs.Settled.{Pair, sides_of, Each}
-use Rattle.fl_cores.specs.Shares.{AreNewRings}
+use Rattle.fl_threads.specs.Shares.{AreNewRings}
 
 -- the sides of ring r are number 2 r and 2 r + 1
 pub side_one : (pairs : List Pair) (r : ℕ) (p : Pair) → slice_get pairs r ≡ Some p → slice_get (sides_of pairs) (2 * r) ≡ Some p.one

@@ -16,7 +16,7 @@ use Rattle.fl_setups.specs.Start.{SetUpsStartFresh}
 use Rattle.fl_honest.specs.Cores.{OneCore, CoresGo}
 use Rattle.fl_honest.specs.Told.{AreTold}
 use Rattle.fl_honest.specs.Runs.{HaveDesks, RunsAreHonest}
-use Rattle.fl_cores.specs.Begins.{common_in}
+use Rattle.fl_threads.specs.Begins.{common_in}
 use Rattle.fl_cores.specs.Promised.{Reports}
 use Rattle.fl_cores.proofs.Booted.{all_making}
 use Rattle.fl_reports.specs.Runs.{AreRuns}

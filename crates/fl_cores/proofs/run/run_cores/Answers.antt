@@ -1,7 +1,7 @@
 use Rattle.std.proofs.Common.{map}
 use Rattle.fl_jobs.specs.Views.{job_of}
 use Rattle.fl_system.specs.Booting.{config_of}
-use Rattle.fl_cores.proofs.Keeping.{reports_ran}
+use Rattle.fl_cores.proofs.Reporting.{reports_ran}
 use Rattle.fl_cores.proofs.run.run_cores.Goals as goal
 
 pub returns-clause-reports : goal.returns-clause-reports

@@ -1,0 +1,134 @@
+-- Rings and queues dealt, one after another.
+use Rattle.std.proofs.Common.{◌≡◌, refl, sym, ap, ◌∙◌, subst, arith, ℕ, zero, suc, ◌+◌, ◌*◌, ◌<◌, ◌≤◌, List, [], ◌∷◌, ◌++◌, length, take, get_or, slice_get, Some}
+use Rattle.std.proofs.lemmas.List.{append_assoc, length-append, take_more, take_all}
+use Rattle.std.proofs.lemmas.Option.{slice_get-get_or}
+use Rattle.fl_link.specs.Queue.{TheQueue}
+use Rattle.fl_ring.specs.Duo.{TheDuo}
+use Rattle.fl_ring.specs.SharedSides.{TheSide}
+use Rattle.fl_worlds.specs.declared.parts.Parts.{Parts}
+use Rattle.fl_deal.specs.declared.deal.Dealt.{Dealt}
+use Rattle.fl_deal.specs.Dealt.{AreNew, hands_in, Holds, Gives, Deals}
+use Rattle.fl_deal.specs.Settled.{Pair, sides_of}
+use Rattle.fl_dockets.specs.State.{TheJoined}
+use Rattle.fl_threads.specs.Begins.{TheStation, TheCommon, Places, common_in, AreStations}
+use Rattle.fl_threads.specs.Shares.{NamesSide, NamesQueue, AreOwners, AreShared, AreNewRings, sides_given, queues_given}
+use Rattle.fl_threads.specs.Dealing.{AreOf, HaveOwners, DealsRings, DealsQueues, Wires}
+
+-- ---- owners
+
+-- the owner at a place is one of the cores
+pub owner_of : (cores : ℕ) (owners : List ℕ) (place owner : ℕ) → AreOf cores owners → place < length owners → owner ≡ get_or owners place 0 → owner < cores
+owner_of cores owners place owner of below is = of place owner (slice_get-get_or owners place 0 below ∙ ap Some (sym is))
+
+one_owner : (owners : List ℕ) (place owner : ℕ) → place < length owners → owner ≡ get_or owners place 0 → take (place + 1) owners ≡ take place owners ++ owner ∷ []
+one_owner owners place owner below is = take_more owners place 0 below ∙ ap (λ (x : ℕ). take place owners ++ x ∷ []) (sym is)
+
+two_owners : (owners : List ℕ) (place first second : ℕ) → place + 1 < length owners → first ≡ get_or owners place 0 → second ≡ get_or owners (place + 1) 0
+    → take (place + 2) owners ≡ take place owners ++ first ∷ second ∷ []
+two_owners owners place first second below one two =
+    let next : place + 2 ≡ place + 1 + 1 = omega arith in
+    ap (λ (n : ℕ). take n owners) next
+    ∙ one_owner owners (place + 1) second below two
+    ∙ ap (λ (xs : List ℕ). xs ++ second ∷ []) (one_owner owners place first (omega (arith, below)) one)
+    ∙ append_assoc (take place owners) (first ∷ []) (second ∷ [])
+
+-- ---- rings
+
+new_more : (rings : List TheDuo) (pairs : List Pair) (r : TheDuo) (p : Pair) → AreNewRings rings pairs → AreNew r.size p.one p.two
+    → AreNewRings (rings ++ r ∷ []) (pairs ++ p ∷ [])
+new_more [] [] r p new one = (one, tt)
+new_more [] (q ∷ pairs) r p new one = absurd new
+new_more (s ∷ rings) [] r p new one = absurd new
+new_more (s ∷ rings) (q ∷ pairs) r p new one = (new.0, new_more rings pairs r p new.1 one)
+
+sides_more : (pairs : List Pair) (p : Pair) → sides_of (pairs ++ p ∷ []) ≡ sides_of pairs ++ p.one ∷ p.two ∷ []
+sides_more [] p = refl
+sides_more (q ∷ pairs) p = ap (λ (xs : List TheSide). q.one ∷ q.two ∷ xs) (sides_more pairs p)
+
+pub no_ring_yet : (cores : ℕ) (d : Dealt TheSide) → d.owners.items ≡ [] → length d.hands.items ≡ cores → Holds d [] → DealsRings [] [] cores d
+no_ring_yet cores d owners same holds = record { pairs = []; new = tt; holds = holds; owners_are = owners; as_many = same }
+
+pub one_ring_more : (rings : List TheDuo) (owners : List ℕ) (cores i place : ℕ) (d d2 : Dealt TheSide) (r : TheDuo) (first second : ℕ) → i < length rings
+    → r ≡ get_or rings i r → place + 1 < length owners → first ≡ get_or owners place 0 → second ≡ get_or owners (place + 1) 0
+    → DealsRings (take i rings) (take place owners) cores d → Deals r.size first second d d2 → DealsRings (take (i + 1) rings) (take (place + 2) owners) cores d2
+one_ring_more rings owners cores i place d d2 r first second below is within one two so deals =
+    let p : Pair = record { one = deals.one; two = deals.two } in
+    let whole : take (i + 1) rings ≡ take i rings ++ r ∷ [] = take_more rings i r below ∙ ap (λ (x : TheDuo). take i rings ++ x ∷ []) (sym is) in
+    record {
+      pairs = so.pairs ++ p ∷ [];
+      new = subst (λ (rs : List TheDuo). AreNewRings rs (so.pairs ++ p ∷ [])) (sym whole) (new_more (take i rings) so.pairs r p so.new deals.new);
+      holds = subst (Holds d2) (sym (sides_more so.pairs p)) (deals.holds (sides_of so.pairs) so.holds);
+      owners_are = deals.owners ∙ ap (λ (xs : List ℕ). xs ++ first ∷ second ∷ []) so.owners_are ∙ sym (two_owners owners place first second within one two);
+      as_many = deals.cores ∙ so.as_many;
+    }
+
+pub all_rings : (rings : List TheDuo) (owners : List ℕ) (cores i place : ℕ) (d : Dealt TheSide) → length rings ≤ i → length owners ≤ place
+    → DealsRings (take i rings) (take place owners) cores d → DealsRings rings owners cores d
+all_rings rings owners cores i place d all whole so =
+    subst (λ (os : List ℕ). DealsRings rings os cores d) (take_all place owners whole)
+    (subst (λ (rs : List TheDuo). DealsRings rs (take place owners) cores d) (take_all i rings all) so)
+
+-- ---- queues
+
+pub no_queue_yet : (cores : ℕ) (d : Dealt TheQueue) → d.owners.items ≡ [] → length d.hands.items ≡ cores → Holds d [] → DealsQueues [] [] cores d
+no_queue_yet cores d owners same holds = record { holds = holds; owners_are = owners; as_many = same }
+
+pub one_queue_more : (queues : List TheQueue) (owners : List ℕ) (cores place : ℕ) (d d2 : Dealt TheQueue) (q : TheQueue) (owner : ℕ) → place < length owners
+    → owner ≡ get_or owners place 0 → DealsQueues queues (take place owners) cores d → Gives owner q d d2
+    → DealsQueues (queues ++ q ∷ []) (take (place + 1) owners) cores d2
+one_queue_more queues owners cores place d d2 q owner below is so gives = record {
+  holds = gives.holds queues so.holds;
+  owners_are = gives.owners ∙ ap (λ (xs : List ℕ). xs ++ owner ∷ []) so.owners_are ∙ sym (one_owner owners place owner below is);
+  as_many = gives.cores ∙ so.as_many;
+}
+
+-- what was still to come, but for the one that came
+pub left_more : (queues yielded rest rest2 : List TheQueue) (q : TheQueue) → rest ≡ q ∷ rest2 → yielded ++ rest ≡ queues → (yielded ++ q ∷ []) ++ rest2 ≡ queues
+left_more queues yielded rest rest2 q step left = append_assoc yielded (q ∷ []) rest2 ∙ ap (λ (qs : List TheQueue). yielded ++ qs) (sym step) ∙ left
+
+-- each has an owner
+pub owned_yet : (queues yielded rest rest2 : List TheQueue) (owners : List ℕ) (place : ℕ) (q : TheQueue) → rest ≡ q ∷ rest2 → yielded ++ rest ≡ queues
+    → length owners ≡ length queues → place ≡ length yielded → place < length owners
+owned_yet queues yielded rest rest2 owners place q step left count is =
+    let whole : length yielded + length rest ≡ length queues = sym (length-append yielded rest) ∙ ap length left in
+    let more : length rest ≡ suc (length rest2) = ap length step in
+    omega (arith, whole, more, count, is)
+
+pub all_queues : (queues yielded : List TheQueue) (owners : List ℕ) (cores place : ℕ) (d : Dealt TheQueue) → yielded ≡ queues → length owners ≤ place
+    → DealsQueues yielded (take place owners) cores d → DealsQueues queues owners cores d
+all_queues queues yielded owners cores place d all whole so =
+    subst (λ (os : List ℕ). DealsQueues queues os cores d) (take_all place owners whole)
+    (subst (λ (qs : List TheQueue). DealsQueues qs (take place owners) cores d) all so)
+
+-- ---- what stations are given
+
+-- what is told of things that a record of dealing holds
+shared_of : {T : Type 0} (d : Dealt T) (things : List T) (owners : List ℕ) (hands : List (List T)) → Holds d things → d.owners.items ≡ owners → hands ≡ hands_in d
+    → AreShared owners things d.places.items hands
+shared_of {T} d things owners hands holds same is =
+    subst (λ (os : List ℕ). AreShared os things d.places.items hands) same
+    (subst (λ (hs : List (List T)). AreShared d.owners.items things d.places.items hs) (sym is)
+    (record { dealt = holds.dealt; at = holds.places; apart = holds.apart; counted = holds.counted }))
+
+pub wires_of : (p : Parts) (j : TheJoined) (c : TheCommon) (stations : List TheStation) (rings queues cores : ℕ) (by_sides by_queues : List ℕ)
+    (s : Dealt TheSide) (q : Dealt TheQueue) → c ≡ common_in p j (record { sides = s.places.items; queues = q.places.items })
+    → rings ≡ length p.rings.items → queues ≡ length p.queues.items
+    → HaveOwners p.cores.items NamesSide (2 * rings) by_sides → HaveOwners p.cores.items NamesQueue queues by_queues
+    → DealsRings p.rings.items by_sides cores s → DealsQueues p.queues.items by_queues cores q → AreStations c 0 p.cores.items stations
+    → sides_given stations ≡ hands_in s → queues_given stations ≡ hands_in q → Wires p j stations s.owners.items
+wires_of p j c stations rings queues cores by_sides by_queues s q common is_rings is_queues named_sides named_queues deals_s deals_q are hands_s hands_q =
+    let at : Places = record { sides = s.places.items; queues = q.places.items } in
+    record {
+      places = at;
+      begin = subst (λ (d : TheCommon). AreStations d 0 p.cores.items stations) common are;
+      dealing = record {
+        sides_named = subst (λ (n : ℕ). AreOwners p.cores.items NamesSide (2 * n) s.owners.items) is_rings
+            (subst (AreOwners p.cores.items NamesSide (2 * rings)) (sym deals_s.owners_are) named_sides.named);
+        pairs = deals_s.pairs;
+        new = deals_s.new;
+        sides = shared_of s (sides_of deals_s.pairs) s.owners.items (sides_given stations) deals_s.holds refl hands_s;
+        queue_owners = by_queues;
+        queues_named = subst (λ (n : ℕ). AreOwners p.cores.items NamesQueue n by_queues) is_queues named_queues.named;
+        queues = shared_of q p.queues.items by_queues (queues_given stations) deals_q.holds deals_q.owners_are hands_q;
+      };
+    }

@@ -1,0 +1,140 @@
+-- The sides of rings, from the first moment of a run to its last.
+use Rattle.std.proofs.Common.{◌≡◌, refl, sym, ap, ◌∙◌, subst, arith, ℕ, zero, suc, List, [], ◌∷◌, ◌++◌, length, slice_get, Some}
+use Rattle.std.proofs.lemmas.List.{length-set}
+use Rattle.fl_hop.specs.declared.forward.Outcome.TheVariants.{Moved, Full, Spent}
+use Rattle.fl_link.specs.Queue.{TheQueue}
+use Rattle.fl_node.specs.declared.wire.Outlet.TheVariants as outlet
+use Rattle.fl_node.specs.declared.wire.Inlet.TheVariants as inlet
+use Rattle.fl_node.specs.View.{TheCore}
+use Rattle.fl_ring.specs.Duo.{TheDuo}
+use Rattle.fl_ring.specs.SharedSides.{TheSide, SharedPuts, SharedTakes}
+use Rattle.fl_running.specs.declared.job.Job.{Job}
+use Rattle.fl_running.specs.declared.run.End.{End}
+use Rattle.fl_running.specs.declared.run.End.TheVariants.{Finished, Unfinished, Told}
+use Rattle.fl_running.specs.Run.{Ways, TheRun}
+use Rattle.fl_running.specs.Deeds.{Deed, looked, passed, arrived, heard, said, told, opened, called, ruled, wrote, acked, turned, OnRing, OnQueue, Does}
+use Rattle.fl_running.specs.Logs.{Goes, TurnsAreLogged, SidesGo, LogsLook}
+use Rattle.fl_running.specs.Ran.{Task, task, GoesOn, CountedAreTurns}
+use Rattle.fl_running.proofs.Aside.{rings_aside}
+use Rattle.fl_deal.specs.Dealt.{AreDealt, AreNew}
+use Rattle.fl_deal.specs.Settled.{WentOn, AllWentOn, HandsWentOn, Pair, sides_of, Each, IsRing, HoldRings, DealtGoOn, RingsStay}
+use Rattle.fl_threads.specs.Begins.{TheStation}
+use Rattle.fl_threads.specs.Tells.{TheOutcome, shared_ways, RanTo, Each2}
+use Rattle.fl_threads.specs.Shares.{AreNewRings, sides_given, sides_left}
+use Rattle.fl_threads.specs.Dealing.{RingsHold}
+
+-- ---- a core's whole run is a log
+
+goes_then : {S : Type 0} (w : Ways S) (jobs : List Job) (xs ys : List Deed) (s m t : TheRun S) → Goes w jobs s xs m → Goes w jobs m ys t → Goes w jobs s (xs ++ ys) t
+goes_then w jobs [] ys s m t h g = subst (λ x. Goes w jobs x ys t) h g
+goes_then w jobs (x ∷ xs) ys s m t h g = (h.0, h.1, h.2, goes_then w jobs xs ys h.0 m t h.3 g)
+
+abbrev IsLog : {S : Type 0} → Ways S → List Job → TheRun S → TheRun S → Type 0
+IsLog w jobs s t = (log : List Deed) × Goes w jobs s log t
+
+on_by : {S : Type 0} (w : Ways S) (t : Task) → TurnsAreLogged w → (e : End) (s u : TheRun S) → GoesOn w t e s u → IsLog w t.jobs s u
+on_by w t logged Finished s u h = (let x = logged t.plan t.jobs h.0 s u h.1 in (x.log, x.goes))
+on_by w t logged Unfinished s u h = ([], h)
+on_by w t logged Told s u h = ([], h)
+
+run_log : CountedAreTurns shared_ways → TurnsAreLogged shared_ways → (jobs : List Job) (limit : ℕ) (s : TheStation) (o : TheOutcome) → RanTo jobs limit s o
+    → IsLog shared_ways jobs s.run o.run
+run_log counted logged jobs limit s o ran =
+    let t = task s.plan jobs limit in
+    let first = logged s.plan jobs o.part.turns s.run ran.middle.run (counted t _ ran.middle o.part ran.counted) in
+    let more = on_by shared_ways t logged o.part.end ran.middle.run o.run ran.goes_on in
+    (first.log ++ more.0, goes_then shared_ways jobs first.log more.0 s.run ran.middle.run o.run first.goes more.1)
+
+-- ---- as many sides as before
+
+on_ring : {S : Type 0} (n : ℕ) (s m : TheRun S) (Event : TheCore → S → TheCore → S → Type 0) → OnRing n s Event m → length m.rings ≡ length s.rings
+on_ring n s m Event h = ap (λ (x : TheRun _). length x.rings) h.rest ∙ length-set s.rings n h.after
+
+on_queue : {S : Type 0} (n : ℕ) (s m : TheRun S) (Event : TheCore → TheQueue → TheCore → TheQueue → Type 0) → OnQueue n s Event m → length m.rings ≡ length s.rings
+on_queue n s m Event h = ap (λ (x : TheRun _). length x.rings) h.rest
+
+on_core : {S : Type 0} (s m : TheRun S) → m ≡ record s { core = m.core } → length m.rings ≡ length s.rings
+on_core s m rest = ap (λ (x : TheRun _). length x.rings) rest
+
+as_many : {S : Type 0} (w : Ways S) (deed : Deed) (s m : TheRun S) → Does w deed s m → length m.rings ≡ length s.rings
+as_many w (looked n l answer) s m h = on_ring n s m _ h
+as_many w (passed n k frag c Moved) s m h = on_ring n h.0 m _ h.2 ∙ on_ring k s h.0 _ h.1
+as_many w (passed n k frag c Full) s m h = on_ring k s m _ h
+as_many w (passed n k frag c Spent) s m h = on_ring k s m _ h
+as_many w (arrived n l frag e answer) s m h = on_ring n s m _ h
+as_many w (heard n l frag answer) s m h = on_ring n s m _ h
+as_many w (said n l answer) s m h = on_ring n s m _ h
+as_many w (told n l answer) s m h = on_ring n s m _ h
+as_many w (opened name wish answer) s m h = on_core s m h.rest
+as_many w (called name c answer) s m h = on_core s m h.2.rest
+as_many w (ruled name msg reply answer) s m h = on_core s m h.2.rest
+as_many w (wrote name (outlet.Queue n) answer) s m h = on_queue n s m _ h.2
+as_many w (wrote name (outlet.Side n) answer) s m h = on_ring n s m _ h.2
+as_many w (acked name n answer) s m h = on_ring n s m _ h.2
+as_many w (turned d name (inlet.Queue n) answer) s m h = on_queue n s m _ h.3
+as_many w (turned d name (inlet.Side n) answer) s m h = on_ring n s m _ h.3
+as_many w (turned d name inlet.Arrivals answer) s m h = on_core s m h.3.rest
+
+log_many : {S : Type 0} (w : Ways S) (jobs : List Job) (s t : TheRun S) (log : List Deed) → Goes w jobs s log t → length t.rings ≡ length s.rings
+log_many w jobs s t [] h = ap (λ (x : TheRun _). length x.rings) h
+log_many w jobs s t (deed ∷ log) h =
+    log_many w jobs h.0 t log h.3 ∙ ap length (rings_aside h.1.0 h.0 deed h.1.2) ∙ as_many w deed s h.1.0 h.1.1
+
+-- ---- each side went on
+
+all_went : (ps qs : List TheSide) → length qs ≡ length ps → SidesGo SharedPuts SharedTakes ps qs → AllWentOn ps qs
+all_went [] [] same go = tt
+all_went [] (q ∷ qs) same go = absurd (omega (arith, same))
+all_went (p ∷ ps) [] same go = absurd (omega (arith, same))
+all_went (p ∷ ps) (q ∷ qs) same go =
+    let first = go zero p refl in
+    let at : Some q ≡ Some first.0 = first.1 in
+    let is : first.0 ≡ q = cc in
+    (subst (λ (x : TheSide). WentOn p x) is first.2, all_went ps qs (omega (arith, same)) (λ n x there. go (suc n) x there))
+
+module _ (counted : CountedAreTurns shared_ways) (logged : TurnsAreLogged shared_ways) (looks : LogsLook shared_ways) (jobs : List Job) (limit : ℕ) where
+  core_went : (s : TheStation) (o : TheOutcome) → RanTo jobs limit s o → AllWentOn s.run.rings o.run.rings
+  core_went s o ran =
+      let log = run_log counted logged jobs limit s o ran in
+      all_went s.run.rings o.run.rings (log_many shared_ways jobs s.run o.run log.0 log.1) (looks jobs s.run o.run log.0 log.1)
+
+  hands_went : (stations : List TheStation) (outcomes : List TheOutcome) → Each2 (RanTo jobs limit) stations outcomes
+      → HandsWentOn (sides_given stations) (sides_left outcomes)
+  hands_went [] [] all core = tt
+  hands_went [] (o ∷ outcomes) all core = absurd all
+  hands_went (s ∷ stations) [] all core = absurd all
+  hands_went (s ∷ stations) (o ∷ outcomes) all zero = core_went s o all.0
+  hands_went (s ∷ stations) (o ∷ outcomes) all (suc core) = hands_went stations outcomes all.1 core
+
+-- ---- rings by their two sides
+
+record StillRings (sides : List TheSide) : Type 0 where
+  pub pairs : List Pair
+  pub sides_are : sides ≡ sides_of pairs
+  pub rings : Each IsRing pairs
+
+still_rings : RingsStay → (rings : List TheDuo) (pairs : List Pair) (sides : List TheSide) → AreNewRings rings pairs → AllWentOn (sides_of pairs) sides → StillRings sides
+still_rings stay [] [] [] new went = record { pairs = []; sides_are = refl; rings = tt }
+still_rings stay [] [] (s ∷ sides) new went = absurd went
+still_rings stay [] (p ∷ pairs) sides new went = absurd new
+still_rings stay (r ∷ rings) [] sides new went = absurd new
+still_rings stay (r ∷ rings) (p ∷ pairs) [] new went = absurd went
+still_rings stay (r ∷ rings) (p ∷ pairs) (s ∷ []) new went = absurd went.1
+still_rings stay (r ∷ rings) (p ∷ pairs) (s ∷ t ∷ sides) new went =
+    let more = still_rings stay rings pairs sides new.1 went.1.1 in
+    record {
+      pairs = record { one = s; two = t } ∷ more.pairs;
+      sides_are = ap (λ (xs : List TheSide). s ∷ t ∷ xs) more.sides_are;
+      rings = (stay p.one s went.0 ∙ ap (λ (x : TheSide). x.ring) new.0.one_is ∙ sym (stay p.two t went.1.0), more.rings);
+    }
+
+pub rings_hold : CountedAreTurns shared_ways → TurnsAreLogged shared_ways → LogsLook shared_ways → DealtGoOn → RingsStay → RingsHold
+rings_hold counted logged looks go_on stay jobs limit rings pairs owners stations outcomes ran new dealt =
+    let (sides, still, went) =
+    go_on owners (sides_of pairs) (sides_given stations) (sides_left outcomes) dealt (hands_went counted logged looks jobs limit stations outcomes ran) in
+    let rs = still_rings stay rings pairs sides new went in
+    record {
+      pairs = rs.pairs;
+      dealt = subst (λ (xs : List TheSide). AreDealt owners xs (sides_left outcomes)) rs.sides_are still;
+      rings = rs.rings;
+    }

@@ -1,0 +1,20 @@
+use Rattle.std.proofs.Common.{◌≡◌, ◌+◌, ◌∙◌, ap, sym, refl, length, ◌++◌, ◌∷◌, [], get_or}
+use Rattle.std.proofs.lemmas.List.{length-append}
+use Rattle.std.specs.Vec.Iter.{into_iter_items}
+use Rattle.fl_threads.proofs.Handing.{one_queue_more, left_more, owned_yet}
+use Rattle.fl_threads.proofs.sharing.deal_queues.Goals as goal
+
+pub loop-queue-preserved : goal.loop-queue-preserved
+loop-queue-preserved c =
+    let i = c.loop-queue.invariant in
+    let owners = c.args.owners.now in
+    let step = c.in-Some.ensures.steps.0 in
+    let below = owned_yet c.args.queues.items c.loop-queue.yielded (into_iter_items c.loop-queue.queue-iterator) (into_iter_items c.next.new.self) owners
+    c.loop-queue.place c.in-Some.queue step i.left c.requires.count i.place in
+    record {
+      place = ap (λ n. n + 1) i.place ∙ sym (length-append c.loop-queue.yielded (c.in-Some.queue ∷ []));
+      left = left_more c.args.queues.items c.loop-queue.yielded (into_iter_items c.loop-queue.queue-iterator) (into_iter_items c.next.new.self) c.in-Some.queue
+          step i.left;
+      deals = one_queue_more c.loop-queue.yielded owners c.args.cores c.loop-queue.place c.loop-queue.dealt c.in_ok-dealt-2.dealt c.in-Some.queue
+          (get_or owners c.loop-queue.place 0) below refl i.deals c.in_ok-dealt-2.ensures.given;
+    }

@@ -1,0 +1,18 @@
+use Rattle.std.proofs.Common.{◌≡◌, ◌+◌, ◌<◌, ◌*◌, refl, length, arith, get_or}
+use Rattle.fl_threads.proofs.Handing.{one_ring_more}
+use Rattle.fl_threads.proofs.sharing.deal_sides.Goals as goal
+
+pub loop-ring-preserved : goal.loop-ring-preserved
+loop-ring-preserved c =
+    let i = c.loop-ring.invariant in
+    let at = i.place in
+    let owners = c.args.owners.now in
+    let count = c.requires.count in
+    let below = c.loop-ring-test.true in
+    let within : c.loop-ring.place + 1 < length owners = omega (arith, at, count, below) in
+    record {
+      place = omega (arith, at);
+      deals = one_ring_more c.args.rings.now owners c.args.cores c.loop-ring.ring-index c.loop-ring.place c.loop-ring.dealt c.in_ok-dealt-2.dealt c.ring-item.result
+          (get_or owners c.loop-ring.place 0) (get_or owners (c.loop-ring.place + 1) 0) below c.ring-item.is within refl refl i.deals
+          c.in_ok-dealt-2.ensures.deals;
+    }

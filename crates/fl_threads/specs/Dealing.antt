@@ -1,0 +1,102 @@
+-- How what a set-up made is dealt out to stations, as the code has it.
+use Rattle.std.specs.Prelude.{ℕ, ◌≡◌, ◌⊎◌, ◌*◌, ◌<◌, List, length, slice_get, Some}
+use Rattle.fl_link.specs.Queue.{TheQueue}
+use Rattle.fl_ring.specs.Duo.{TheDuo}
+use Rattle.fl_ring.specs.SharedSides.{TheSide}
+use Rattle.fl_node.specs.declared.wire.Lane.{Lane}
+use Rattle.fl_node.specs.declared.wire.Inlet.TheVariants as inlet
+use Rattle.fl_node.specs.declared.wire.Outlet.TheVariants as outlet
+use Rattle.fl_node.specs.View.{TheCore, side_of_link, inlet_of, outlet_of}
+use Rattle.fl_running.specs.declared.job.Job.{Job}
+use Rattle.fl_worlds.specs.declared.parts.Parts.{Parts}
+use Rattle.fl_dockets.specs.State.{TheJoined}
+use Rattle.fl_deal.specs.declared.deal.Dealt.{Dealt}
+use Rattle.fl_deal.specs.Dealt.{Holds, AreDealt}
+use Rattle.fl_deal.specs.Settled.{Pair, sides_of, HoldRings}
+use Rattle.fl_threads.specs.Begins.{TheStation, Places, common_in, AreStations}
+use Rattle.fl_threads.specs.Shares.{NamesSide, NamesQueue, AreOwners, AreShared, AreNewRings, sides_given, queues_given, sides_left}
+use Rattle.fl_threads.specs.Tells.{TheOutcome, RanTo, Each2}
+
+-- ---- what is named
+
+-- the side of link l
+abbrev pub IsLinkSide : List Lane → ℕ → ℕ → Type 0
+IsLinkSide lanes l side = side_of_link lanes l ≡ Some side
+
+-- the side, and the queue, from which the end at place e takes
+abbrev pub TakesSide : TheCore → ℕ → ℕ → Type 0
+TakesSide c e side = inlet_of c e ≡ Some (inlet.Side side)
+
+abbrev pub TakesQueue : TheCore → ℕ → ℕ → Type 0
+TakesQueue c e queue = inlet_of c e ≡ Some (inlet.Queue queue)
+
+-- the queue to which it puts
+abbrev pub PutsQueue : TheCore → ℕ → ℕ → Type 0
+PutsQueue c e queue = outlet_of c e ≡ Some (outlet.Queue queue)
+
+-- either
+abbrev pub UsesQueue : TheCore → ℕ → ℕ → Type 0
+UsesQueue c e queue = TakesQueue c e queue ⊎ PutsQueue c e queue
+
+-- at one of the first n places
+abbrev pub Below : (ℕ → ℕ → Type 0) → ℕ → ℕ → Type 0
+Below Named n thing = (place : ℕ) × (place < n) × Named place thing
+
+-- ---- owners
+
+-- afterwards the things that are named so are this core's, and all others are whose they were
+pub record Owns (Named : ℕ → Type 0) (core : ℕ) (before after : List ℕ) : Type 0 where
+  pub count : length after ≡ length before
+  pub own : (thing : ℕ) → Named thing → thing < length before → slice_get after thing ≡ Some core
+  pub others : (thing : ℕ) → (slice_get after thing ≡ slice_get before thing) ⊎ Named thing
+
+-- each owner is one of so many cores
+abbrev pub AreOf : ℕ → List ℕ → Type 0
+AreOf cores owners = (thing owner : ℕ) → slice_get owners thing ≡ Some owner → owner < cores
+
+-- the owners of so many things, by what these cores name, and each is one of them
+pub record HaveOwners (cores : List TheCore) (Names : TheCore → ℕ → Type 0) (many : ℕ) (owners : List ℕ) : Type 0 where
+  pub named : AreOwners cores Names many owners
+  pub of : AreOf (length cores) owners
+
+-- ---- things dealt
+
+-- to so many cores new rings of the sizes of these, with these owners of their sides
+pub record DealsRings (rings : List TheDuo) (owners : List ℕ) (cores : ℕ) (d : Dealt TheSide) : Type 0 where
+  pub pairs : List Pair
+  pub new : AreNewRings rings pairs
+  pub holds : Holds d (sides_of pairs)
+  pub owners_are : d.owners.items ≡ owners
+  pub as_many : length d.hands.items ≡ cores
+
+-- these queues, with these owners
+pub record DealsQueues (queues : List TheQueue) (owners : List ℕ) (cores : ℕ) (d : Dealt TheQueue) : Type 0 where
+  pub holds : Holds d queues
+  pub owners_are : d.owners.items ≡ owners
+  pub as_many : length d.hands.items ≡ cores
+
+-- ---- stations
+
+-- what a set-up made is shared out so, with these owners of the sides of rings
+pub record Dealing (p : Parts) (at : Places) (stations : List TheStation) (owners : List ℕ) : Type 0 where
+  pub sides_named : AreOwners p.cores.items NamesSide (2 * length p.rings.items) owners
+  pub pairs : List Pair
+  pub new : AreNewRings p.rings.items pairs
+  pub sides : AreShared owners (sides_of pairs) at.sides (sides_given stations)
+  pub queue_owners : List ℕ
+  pub queues_named : AreOwners p.cores.items NamesQueue (length p.queues.items) queue_owners
+  pub queues : AreShared queue_owners p.queues.items at.queues (queues_given stations)
+
+-- the stations of what a set-up made and the jobs joined to it, and how that is shared out
+pub record Wires (p : Parts) (j : TheJoined) (stations : List TheStation) (owners : List ℕ) : Type 0 where
+  pub places : Places
+  pub begin : AreStations (common_in p j places) 0 p.cores.items stations
+  pub dealing : Dealing p places stations owners
+
+-- ---- rings after the run
+
+-- where cores ran, the sides of new rings that were dealt to them are still in their owners' hands. Law
+abbrev pub RingsHold : Type 0
+RingsHold = (jobs : List Job) (limit : ℕ) (rings : List TheDuo) (pairs : List Pair) (owners : List ℕ) (stations : List TheStation) (outcomes : List TheOutcome)
+    → Each2 (RanTo jobs limit) stations outcomes → AreNewRings rings pairs → AreDealt owners (sides_of pairs) (sides_given stations)
+    → HoldRings owners (sides_left outcomes)

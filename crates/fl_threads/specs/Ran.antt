@@ -1,0 +1,44 @@
+-- What is promised of a run of a world's parts on threads. Public promises rest on this file.
+use Rattle.std.specs.Prelude.{ℕ, ◌≡◌, ◌≤◌, List, length, slice_get, Some}
+use Rattle.fl_jobs.specs.Jobs.{Job}
+use Rattle.fl_jobs.specs.Report.{TheReport, turns_out}
+use Rattle.fl_worlds.specs.declared.parts.Parts.{Parts}
+use Rattle.fl_dockets.specs.Fitting.{JobsFit}
+use Rattle.fl_dockets.specs.Rules.{RulesOf}
+use Rattle.fl_dockets.specs.State.{TheJoined, AreJoined}
+use Rattle.fl_dockets.specs.Whole.{AreBound, AreDue, IsBeside}
+use Rattle.fl_threads.specs.Begins.{TheStation, Places, common_in, AreStations}
+use Rattle.fl_threads.specs.Tells.{TheOutcome, RanTo, Each2, seats_left, HeardAsTold, Tells}
+use Rattle.fl_threads.specs.Shares.{Shares, AreSound}
+
+-- what a report says of turns
+pub record Keeps (cores limit : ℕ) (r : TheReport) : Type 0 where
+  -- there are as many turns as cores, and none above the limit
+  pub count : length r.turns ≡ cores
+  pub within : (core turns : ℕ) → slice_get r.turns core ≡ Some turns → turns ≤ limit
+  -- `turns out` only where a core took all its turns
+  pub out : r.ending ≡ turns_out → (core : ℕ) × (slice_get r.turns core ≡ Some limit)
+
+-- each core of these parts ran by its plan from what it was given, what they heard of refused openings was told, and the report tells what came of all that
+pub record CoresRan (p : Parts) (j : TheJoined) (limit : ℕ) (r : TheReport) : Type 0 where
+  pub stations : List TheStation
+  pub places : Places
+  pub begin : AreStations (common_in p j places) 0 p.cores.items stations
+  pub outcomes : List TheOutcome
+  pub ran : Each2 (RanTo j.jobs limit) stations outcomes
+  pub shares : Shares p places stations outcomes
+  pub sound : AreSound stations outcomes
+  pub heard : HeardAsTold (length j.owners) (seats_left outcomes)
+  pub tells : Tells j outcomes r
+
+-- the jobs were joined to these parts, with the reply rules that are set at once, and then the cores ran
+pub record RanFrom (p : Parts) (jobs : List Job) (limit : ℕ) (r : TheReport) : Type 0 where
+  pub joined : TheJoined
+  pub are_joined : AreJoined (length p.cores.items) jobs joined
+  pub are_bound : AreBound p.bindings.items jobs joined
+  pub are_fit : JobsFit p.names p.programs.items joined
+  pub are_due : AreDue jobs joined
+  pub parts : Parts
+  pub rules : RulesOf p.bindings.items jobs p.cores.items parts.cores.items
+  pub beside : IsBeside p parts
+  pub ran : CoresRan parts joined limit r

@@ -1,0 +1,90 @@
+-- Which sides of rings and which queues each core of a run is given, and what came of the rings.
+use Rattle.std.specs.Prelude.{ℕ, ◌≡◌, ◌⊎◌, ◌*◌, ◌<◌, List, [], ◌∷◌, map, length, slice_get, Some}
+use Rattle.fl_base.specs.declared.identity.EndId.{EndId}
+use Rattle.fl_link.specs.Queue.{TheQueue}
+use Rattle.fl_ring.specs.Duo.{TheDuo}
+use Rattle.fl_ring.specs.SharedSides.{TheSide}
+use Rattle.fl_node.specs.declared.wire.Wire.TheVariants.{Queues, Ring}
+use Rattle.fl_node.specs.View.{TheCore, side_of_link}
+use Rattle.fl_node.specs.Sound.{IsCore}
+use Rattle.fl_hop.specs.Joined.{Sound as IsTable}
+use Rattle.fl_core.specs.View.{TheSeat}
+use Rattle.fl_endpoint.specs.Accounts.{Sound as IsEnd}
+use Rattle.fl_worlds.specs.Picture.{wire_of}
+use Rattle.fl_worlds.specs.declared.parts.Parts.{Parts}
+use Rattle.fl_deal.specs.Dealt.{AreDealt, AreAt, AreApart, AreCounted, AreNew}
+use Rattle.fl_deal.specs.Settled.{Pair, sides_of, Each, IsNear}
+use Rattle.fl_threads.specs.Begins.{TheStation, Places}
+use Rattle.fl_threads.specs.Tells.{TheOutcome}
+
+-- ---- which sides of rings and which queues a core names
+
+-- as the side of a link, or as that of an end
+abbrev pub NamesSide : TheCore → ℕ → Type 0
+NamesSide c side = ((l : ℕ) × (side_of_link c.lanes l ≡ Some side)) ⊎ ((e : EndId) × (wire_of c e ≡ Some (Ring side)))
+
+-- as that which an end puts to, or as that which an end takes from
+abbrev pub NamesQueue : TheCore → ℕ → Type 0
+NamesQueue c queue =
+    ((e : EndId) × (from : ℕ) × (wire_of c e ≡ Some (Queues queue from)))
+    ⊎ ((e : EndId) × (out : ℕ) × (wire_of c e ≡ Some (Queues out queue)))
+
+-- ---- whose each thing is
+
+-- of things that cores name by number the core that has each: what one core alone names is that core's
+pub record AreOwners (cores : List TheCore) (Names : TheCore → ℕ → Type 0) (many : ℕ) (owners : List ℕ) : Type 0 where
+  pub count : length owners ≡ many
+  pub each : (n thing : ℕ) (c : TheCore) → slice_get cores n ≡ Some c → Names c thing → thing < many
+      → ((m : ℕ) (d : TheCore) → slice_get cores m ≡ Some d → Names d thing → m ≡ n) → slice_get owners thing ≡ Some n
+
+-- things are in their owners' hands, each at the place that is told of it: as many stand before it there as its owner has of smaller numbers
+pub record AreShared {T : Type 0} (owners : List ℕ) (things : List T) (places : List ℕ) (hands : List (List T)) : Type 0 where
+  pub dealt : AreDealt owners things hands
+  pub at : AreAt owners things hands places
+  pub apart : AreApart owners places
+  pub counted : AreCounted owners places
+
+-- ---- rings
+
+-- new ones, of the sizes of these
+abbrev pub AreNewRings : List TheDuo → List Pair → Type 0
+AreNewRings [] [] = Unit {0}
+AreNewRings (r ∷ rings) (p ∷ pairs) = AreNew r.size p.one p.two × AreNewRings rings pairs
+AreNewRings rings pairs = ⊥
+
+-- by core, the sides that it has: as its run began, and in the end
+abbrev pub sides_given : List TheStation → List (List TheSide)
+sides_given stations = map (λ (s : TheStation). s.run.rings) stations
+
+abbrev pub sides_left : List TheOutcome → List (List TheSide)
+sides_left outcomes = map (λ (o : TheOutcome). o.run.rings) outcomes
+
+-- and the queues that it was given
+abbrev pub queues_given : List TheStation → List (List TheQueue)
+queues_given stations = map (λ (s : TheStation). s.run.queues) stations
+
+-- ---- the whole
+
+-- what a set-up made is shared out so; and after the run the rings were put together again
+pub record Shares (p : Parts) (at : Places) (stations : List TheStation) (outcomes : List TheOutcome) : Type 0 where
+  pub side_owners : List ℕ
+  pub sides_named : AreOwners p.cores.items NamesSide (2 * length p.rings.items) side_owners
+  pub pairs : List Pair
+  pub new : AreNewRings p.rings.items pairs
+  pub sides : AreShared side_owners (sides_of pairs) at.sides (sides_given stations)
+  pub queue_owners : List ℕ
+  pub queues_named : AreOwners p.cores.items NamesQueue (length p.queues.items) queue_owners
+  pub queues : AreShared queue_owners p.queues.items at.queues (queues_given stations)
+  pub near : (after : List Pair) → AreDealt side_owners (sides_of after) (sides_left outcomes) → Each IsNear after
+
+-- ---- what cores tell of themselves
+
+-- in the end each of its ends is sound, and so is its table of circuits
+pub record IsLeftSound (o : TheOutcome) : Type 0 where
+  pub ends : (place : ℕ) (seat : TheSeat) → slice_get o.run.core.board.seats place ≡ Some seat → IsEnd seat.end
+  pub table : IsTable o.run.core.monitor.circuits
+
+-- as the runs begin, and in the end
+pub record AreSound (stations : List TheStation) (outcomes : List TheOutcome) : Type 0 where
+  pub begin : (n : ℕ) (s : TheStation) → slice_get stations n ≡ Some s → IsCore s.run.core
+  pub left : (n : ℕ) (o : TheOutcome) → slice_get outcomes n ≡ Some o → IsLeftSound o

@@ -1,0 +1,87 @@
+-- What a core is given for its thread, and what comes of it, as the code has them.
+use Rattle.std.specs.Prelude.{ℕ, ◌≡◌, ◌+◌, ◌-◌, ◌<◌, Bool, List, [], ◌∷◌, map, length}
+use Rattle.std.specs.List.{range_with_len}
+use Rattle.fl_tally.specs.declared.board.View.{View}
+use Rattle.fl_tally.specs.Tally.{opening_view, both}
+use Rattle.fl_tally.specs.Seats.{TheSeat}
+use Rattle.fl_node.specs.Sound.{IsCore}
+use Rattle.fl_running.specs.declared.job.Job.{Job}
+use Rattle.fl_running.specs.Run.{run_of}
+use Rattle.fl_running.specs.Words.{AreWords}
+use Rattle.fl_running.specs.Ran.{ticket_of}
+use Rattle.fl_threads.specs.declared.wiring.Station.{Station}
+use Rattle.fl_threads.specs.declared.fork.Done.{Done}
+use Rattle.fl_dockets.specs.State.{joined_of}
+use Rattle.fl_threads.specs.declared.wiring.Common.{Common}
+use Rattle.fl_threads.specs.Begins.{TheStation, TheCommon}
+use Rattle.fl_threads.specs.Shares.{IsLeftSound}
+use Rattle.fl_threads.specs.Tells.{TheOutcome, RanTo, left_off, was_told}
+
+abbrev pub station_of : Station → TheStation
+station_of s = record { run = run_of s.running; plan = s.plan; ticket = ticket_of s.ticket }
+
+abbrev pub outcome_of : Done → TheOutcome
+outcome_of d = record { run = run_of d.station.running; ticket = ticket_of d.station.ticket; part = d.part }
+
+abbrev pub common_of : Common → TheCommon
+common_of c = record {
+  cores = c.cores;
+  joined = joined_of c.joined.now;
+  offers = record { names = c.names.now; programs = c.programs.now };
+  places = record { sides = c.sides.now; queues = c.queues.now };
+}
+
+-- how it ended
+abbrev pub has_left_off : Done → Bool
+has_left_off d = left_off (outcome_of d)
+
+abbrev pub has_been_told : Done → Bool
+has_been_told d = was_told (outcome_of d)
+
+-- ---- one core
+
+-- its run may begin: its core is sound, each end of its plan has a word, which its seat may use, and the seat may tell of its end, or of a stop
+pub record IsReady (s : Station) : Type 0 where
+  pub core : IsCore s.running.core
+  pub as_many : length s.ticket.words.items ≡ length s.plan.ends.items
+  pub may : AreWords s.ticket.words.items s.ticket.seat.knows
+  pub finishes : s.ticket.seat.knows.finished < length s.ticket.seat.knows.cores
+  pub stops : s.ticket.seat.knows.stopped < s.ticket.seat.knows.seats
+
+-- it ran, by its plan, and was left sound
+pub record StationRan (jobs : List Job) (limit : ℕ) (s : Station) (d : Done) : Type 0 where
+  pub ran : RanTo jobs limit (station_of s) (outcome_of d)
+  pub left : IsLeftSound (outcome_of d)
+
+abbrev pub AllReady : List Station → Type 0
+AllReady [] = Unit {0}
+AllReady (s ∷ stations) = IsReady s × AllReady stations
+
+-- ---- seats
+
+-- by core, the seat that it was given
+abbrev pub seats_given : List TheStation → List TheSeat
+seats_given stations = map (λ (s : TheStation). s.ticket.seat) stations
+
+-- these are of one table with this seat, and each stands for one core
+abbrev pub AreSeats : TheSeat → List TheSeat → Type 0
+AreSeats own [] = Unit {0}
+AreSeats own (s ∷ seats) = (s.table ≡ own.table) × (s.knows.seats ≡ 1) × AreSeats own seats
+
+-- what is known once all of these are put in one
+abbrev pub all_in : View → List TheSeat → View
+all_in v [] = v
+all_in v (s ∷ seats) = all_in (both v s.knows) seats
+
+-- with these a seat is everybody's, of a table for so many jobs that open a binding; itself it told and heard nothing
+pub record IsRest (own : TheSeat) (jobs : ℕ) (seats : List TheSeat) : Type 0 where
+  pub some : 0 < own.knows.seats
+  pub all : own.knows.seats + length seats ≡ own.knows.whole
+  pub jobs_are : length own.knows.owners ≡ jobs
+  pub told : own.knows.stored ≡ []
+  pub heard : own.knows.heard ≡ []
+  pub each : AreSeats own seats
+
+-- what is left of everybody's seat once those of the first k cores are cut off
+abbrev pub left_view : ℕ → List ℕ → ℕ → View
+left_view cores owners k = record (opening_view cores owners) { seats = cores + 1 - k; cores = range_with_len k (cores - k) }

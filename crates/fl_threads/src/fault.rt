@@ -1,0 +1,62 @@
+//! Why a run ends without a report.
+
+ghost use Rattle.std.specs.Prelude.{◌≡◌};
+ghost use Rattle.fl_threads.specs.declared.fault.RunFault.TheVariants.{Memory as OutOfMemory};
+ghost use Rattle.fl_threads.specs.Faults.{by_job, by_stop};
+
+use fl_dockets::JobFault;
+use std::alloc::{AllocError, AllocFailed};
+use thiserror::Error;
+
+/// Why there is no report of a run of parts. Every thread was joined then.
+#[derive(Clone, Copy, Debug, PartialEq, Eq, Error)]
+pub enum RunFault {
+    /// The job at this place, from 1, is refused, with the fault's number.
+    #[error("a job is refused")]
+    Refused { number: u8, place: usize },
+    /// Out of memory (E99).
+    #[error("out of memory")]
+    Memory,
+    /// A thread doesn't start.
+    #[error("a thread doesn't start")]
+    Thread,
+}
+
+/// Why a run that was set up ends without a report.
+#[derive(Clone, Copy, Debug, PartialEq, Eq, Error)]
+pub(crate) enum Stop {
+    /// Out of memory (E99).
+    #[error("out of memory")]
+    Memory,
+    /// A thread doesn't start.
+    #[error("a thread doesn't start")]
+    Thread,
+}
+
+impl From<AllocError> for Stop {
+    fn from(_e: AllocError) -> Stop {
+        Stop::Memory
+    }
+}
+
+impl From<Stop> for RunFault {
+    ghost from_gives = { λ stop e. e ≡ by_stop stop };
+
+    fn from(stop: Stop) -> RunFault {
+        match stop {
+            Stop::Memory => RunFault::Memory,
+            Stop::Thread => RunFault::Thread,
+        }
+    }
+}
+
+impl From<JobFault> for RunFault {
+    ghost from_gives = { λ fault e. e ≡ by_job fault };
+
+    fn from(fault: JobFault) -> RunFault {
+        match fault {
+            JobFault::Refused { number, place } => RunFault::Refused { number, place },
+            JobFault::Memory => RunFault::Memory,
+        }
+    }
+}

@@ -1,0 +1,176 @@
+//! A thread for each core.
+
+ghost use Rattle.std.specs.Prelude.{ℕ, ◌≡◌, ◌+◌, ◌<◌, ◌∷◌, ◌++◌, [], length, slice_get, Some, IfOk, IfErr, IsOkAnd};
+ghost use Rattle.std.specs.Thread.{IsSync};
+ghost use Rattle.fl_hop.specs.Joined.{Sound as IsTable};
+ghost use Rattle.fl_endpoint.specs.Accounts.{Sound as IsEnd};
+ghost use Rattle.fl_core.specs.View.{TheSeat};
+ghost use Rattle.fl_threads.specs.declared.fault.Stop.TheVariants as stop;
+ghost use Rattle.fl_threads.specs.Tells.{Each2};
+ghost use Rattle.fl_threads.specs.Stations.{IsReady, AllReady, StationRan};
+
+use crate::crossing::{done_sent, job_shared, station_sent};
+use crate::fault::Stop;
+use crate::wiring::Station;
+use fl_hop::never_shared;
+use fl_node::Core;
+use fl_running::{Gate, Job, Part, core_run};
+use fl_tally::EndSeat;
+use std::alloc::{AllocError, Global};
+use std::snapshot::Snapshot;
+use std::sync::Wait;
+use std::thread;
+use std::thread::{Promise, Threads};
+
+/// A core after its run, and its share of the report.
+#[derive(Drop)]
+pub(crate) struct Done {
+    pub(crate) station: Station,
+    pub(crate) part: Part,
+}
+
+// What a core's thread hands on: what came of its station.
+#[derive(Drop)]
+struct RunOf<'a> {
+    was: Snapshot<Station>,
+    jobs: &'a [Job],
+    limit: u64,
+}
+
+impl<'a> Promise<Result<Done, AllocError>> for RunOf<'a> {
+    ghost kept_by = { λ p r. IfOk r (λ d. StationRan p.jobs.now p.limit p.was.value d) };
+}
+
+// What is known of the end at a place. It does nothing.
+fn sound_at(core: &Core, e: usize)
+    requires there { e < length core.now.board.seats }
+    ensures end { (seat : TheSeat) → slice_get core.now.board.seats e ≡ Some seat → IsEnd seat.end }
+{
+    core.board().end(e).sound();
+}
+
+// What is known of each end of a core, and of its circuits. It does nothing.
+fn sound(core: &Core)
+    ensures ends { (place : ℕ) (seat : TheSeat) → slice_get core.now.board.seats place ≡ Some seat → IsEnd seat.end }
+    ensures table { IsTable core.now.monitor.circuits }
+{
+    never_shared(core.monitor().circuits());
+    for e in 0..core.board().ends() {
+        sound_at(core, e);
+    }
+}
+
+// A core's whole run.
+fn run_one<R: Wait, G: Gate>(
+    rt: &R,
+    gate: &G,
+    station: Station,
+    jobs: &[Job],
+    limit: u64,
+) -> Result<Done, AllocError>
+    requires ready { IsReady station }
+    ensures ran { IfOk result (λ d. StationRan jobs.now limit station d) }
+{
+    let mut station = station;
+    match core_run(
+        rt,
+        &mut station.running,
+        &station.plan,
+        jobs,
+        limit,
+        &mut station.ticket,
+        gate,
+    ) {
+        Ok(part) => {
+            sound(&station.running.core);
+            Ok(Done { station, part })
+        }
+        Err(_) => Err(AllocError),
+    }
+}
+
+// The last core behind those that ran before it.
+fn push_last(
+    rest: Vec<Done>,
+    last: Result<Done, AllocError>,
+    own: EndSeat,
+) -> Result<(Vec<Done>, EndSeat), (Stop, EndSeat)>
+    ensures pushed { IfOk result (λ r. IsOkAnd last (λ d. r.0.items ≡ rest.items ++ d ∷ [])) }
+    ensures own { IfOk result (λ r. r.1 ≡ own) }
+    ensures memory { IfErr result (λ e. e.0 ≡ stop.Memory) }
+{
+    let mut rest = rest;
+    let Ok(last) = last else {
+        return Err((Stop::Memory, own));
+    };
+    match rest.push(last) {
+        Ok(()) => Ok((rest, own)),
+        Err(_) => Err((Stop::Memory, own)),
+    }
+}
+
+/// Runs each core on a thread of its own, and joins all threads. The seat is the caller's own: by it the cores are told where a thread doesn't start. It comes
+/// back in either case.
+#[tactic(auto, using(crate::proofs::Each::ready_rest, crate::proofs::Each::ready_last))]
+pub(crate) fn run_each<R: Threads + Wait + Sync, G: Gate + Sync>(
+    rt: &R,
+    alloc: Global,
+    gate: &G,
+    own: EndSeat,
+    todo: Vec<Station>,
+    jobs: &[Job],
+    limit: u64,
+) -> Result<(Vec<Done>, EndSeat), (Stop, EndSeat)>
+    requires own { own.knows.stopped < own.knows.seats }
+    requires ready { AllReady todo.items }
+    ensures each { IfOk result (λ r. Each2 (StationRan jobs.now limit) todo.items r.0.items) }
+    ensures own { IfOk result (λ r. r.1 ≡ own) }
+    ensures told { IfErr result (λ e. e.0 ≡ stop.Thread → e.1.knows.stopped ≡ own.knows.stopped + 1) }
+{
+    let mut todo = todo;
+    let Some(last) = todo.pop() else {
+        return Ok((Vec::new(alloc), own));
+    };
+    thread::scope(
+        thread::scope_env(),
+        rt,
+        move |scope| -> Result<(Vec<Done>, EndSeat), (Stop, EndSeat)>
+            requires shared { IsSync R.row }
+            requires gate { IsSync G.row }
+            requires own { own.knows.stopped < own.knows.seats }
+            requires ready { AllReady todo.items }
+            requires last { IsReady last }
+            ensures each { IfOk result (λ r. Each2 (StationRan jobs.entry.now limit) (todo.items ++ last ∷ []) r.0.items) }
+            ensures own { IfOk result (λ r. r.1 ≡ own) }
+            ensures told { IfErr result (λ e. e.0 ≡ stop.Thread → e.1.knows.stopped ≡ own.knows.stopped + 1) }
+        {
+            station_sent();
+            done_sent();
+            job_shared();
+            let mut own = own;
+            let promise = RunOf {
+                was: Snapshot::of(&last),
+                jobs,
+                limit,
+            };
+            let Ok(child) = scope.spawn_with(
+                promise,
+                move || -> Result<Done, AllocError>
+                    requires shared { IsSync R.row }
+                    requires gate { IsSync G.row }
+                    requires ready { IsReady last }
+                    ensures ran { IfOk result (λ d. StationRan jobs.entry.now limit last d) }
+                { run_one(rt, gate, last, jobs, limit) },
+            ) else {
+                own.stop();
+                return Err((Stop::Thread, own));
+            };
+            let rest = run_each(rt, alloc, gate, own, todo, jobs, limit);
+            let done = child.join(rt);
+            match rest {
+                Ok((rest, own)) => push_last(rest, done, own),
+                Err(fault) => Err(fault),
+            }
+        },
+    )
+}

@@ -1,0 +1,88 @@
+//! A run of parts, from their jobs to the report.
+
+ghost use Rattle.std.specs.Prelude.{◌≡◌, ◌≤◌, map, length, IfOk};
+ghost use Rattle.fl_jobs.specs.Reports.{report_of};
+ghost use Rattle.fl_jobs.specs.Views.{job_of};
+ghost use Rattle.fl_dockets.specs.Joined.{AreBindings, HasDockets};
+ghost use Rattle.fl_dockets.specs.State.{joined_of};
+ghost use Rattle.fl_threads.specs.Ran.{Keeps, CoresRan, RanFrom};
+
+use crate::fault::{RunFault, Stop};
+use crate::fork::run_each;
+use crate::settling::{put_together, rings_hold};
+use crate::telling::tell;
+use crate::wiring::wire;
+use fl_dockets::{Joined, join_jobs};
+use fl_jobs::{Job, Report};
+use fl_running::Gate;
+use fl_tally::{EndSeat, Plan};
+use fl_worlds::Parts;
+use std::alloc::{AllocError, Global};
+use std::sync::Wait;
+use std::thread::Threads;
+
+// Of each job that opens a binding the core that does it.
+fn owners_of(alloc: Global, owners: &[usize]) -> Result<Vec<u64>, AllocError>
+    ensures owners { IfOk result (λ v. v.items ≡ owners.now) }
+{
+    let mut copies = Vec::new(alloc);
+    for owner in owners {
+        copies.push(*owner as u64)?;
+    }
+    Ok(copies)
+}
+
+// The run of parts with the jobs that were joined to them.
+fn run_joined<R: Threads + Wait + Sync, G: Gate + Sync>(
+    rt: &R,
+    alloc: Global,
+    parts: Parts,
+    joined: Joined,
+    limit: u64,
+    gate: &G,
+) -> Result<Report, Stop>
+    requires few { length parts.cores.items ≤ 16 }
+    requires bindings { AreBindings (length parts.cores.items) joined.bindings.items joined.owners.items }
+    requires dockets { HasDockets joined.bindings.items joined.dockets.items }
+    ensures ran { IfOk result (λ r. CoresRan parts (joined_of joined) limit (report_of r)) }
+{
+    let plan = Plan {
+        cores: parts.cores.as_slice().len() as u64,
+        owners: owners_of(alloc, &joined.owners)?,
+    };
+    let mut own = EndSeat::new(alloc, plan)?;
+    let wired = wire(alloc, parts, &joined, &mut own)?;
+    rings_hold();
+    match run_each(rt, alloc, gate, own, wired.stations, &joined.jobs, limit) {
+        Err((stop, _)) => Err(stop),
+        Ok((done, own)) => {
+            let report = tell(alloc, &joined, &done)?;
+            let jobs = joined.owners.as_slice().len();
+            put_together(alloc, own, jobs, wired.owners, done)?;
+            Ok(report)
+        }
+    }
+}
+
+/// Runs the cores of a world's parts on threads of their own, each with its jobs, until all have finished or so many turns of one are counted.
+///
+/// # Errors
+/// [`RunFault`]: a job is refused, out of memory, or a thread doesn't start. Every thread was joined then.
+#[tactic(auto, using(crate::proofs::Keeping::keeps_ran))]
+pub fn run_parts<R: Threads + Wait + Sync, G: Gate + Sync>(
+    rt: &R,
+    alloc: Global,
+    parts: Parts,
+    jobs: Vec<Job<'_>>,
+    limit: u64,
+    gate: &G,
+) -> Result<Report, RunFault>
+    requires few { length parts.cores.items ≤ 16 }
+    ensures ran { IfOk result (λ r. RanFrom parts (map job_of jobs.entry.items) limit (report_of r)) }
+    ensures keeps { IfOk result (λ r. Keeps (length parts.cores.items) limit (report_of r)) }
+{
+    let mut parts = parts;
+    let joined = join_jobs(alloc, &mut parts, jobs)?;
+    let report = run_joined(rt, alloc, parts, joined, limit, gate)?;
+    Ok(report)
+}

@@ -1,0 +1,215 @@
+//! Whose each side of a ring and each queue is, and all of them dealt out.
+
+ghost use Rattle.std.specs.Prelude.{◌≡◌, ◌+◌, ◌*◌, ◌<◌, length, slice_get, slice_set, Some, IfOk};
+ghost use Rattle.fl_threads.specs.Shares.{NamesSide, NamesQueue};
+ghost use Rattle.fl_threads.specs.Dealing.{IsLinkSide, TakesSide, TakesQueue, PutsQueue, Below, Owns, AreOf, HaveOwners, DealsRings, DealsQueues};
+ghost use Rattle.fl_deal.specs.Dealt.{Deals};
+
+use fl_base::LinkId;
+use fl_deal::Dealt;
+use fl_hop::never_shared;
+use fl_link::QueueLink;
+use fl_node::{Core, Inlet, Outlet};
+use fl_ring::{OneDuo, SharedSide};
+use std::alloc::{AllocError, Global};
+
+// A core has no more links than this.
+const MAX_LINKS: u16 = 15;
+
+// ---- owners
+
+// The thing of this number is the core's.
+fn own(owners: &mut Vec<usize>, thing: usize, core: usize)
+    ensures own { owners.new.items ≡ slice_set owners.old.items thing core }
+{
+    if let Some(owner) = owners.get_mut(thing) {
+        *owner = core;
+    }
+}
+
+// The side of a link, if there is one, is its core's.
+fn own_link(owners: &mut Vec<usize>, k: usize, core: &Core, link: LinkId)
+    ensures owns { Owns (IsLinkSide core.now.lanes link.0) k owners.old.items owners.new.items }
+{
+    match core.side(link) {
+        None => (),
+        Some(side) => own(owners, side, k),
+    }
+}
+
+fn own_links(owners: &mut Vec<usize>, k: usize, core: &Core)
+    ensures owns { Owns (Below (IsLinkSide core.now.lanes) 15) k owners.old.items owners.new.items }
+{
+    for number in 0..MAX_LINKS {
+        own_link(owners, k, core, LinkId(number));
+    }
+}
+
+// The side from which an end takes, if it takes from one.
+fn own_side(owners: &mut Vec<usize>, k: usize, core: &Core, e: usize)
+    requires there { e < length core.now.board.seats }
+    ensures owns { Owns (TakesSide core.now e) k owners.old.items owners.new.items }
+{
+    match core.inlet(e) {
+        Inlet::Side(side) => own(owners, side, k),
+        Inlet::Queue(_) => (),
+        Inlet::Arrivals => (),
+    }
+}
+
+fn own_end_sides(owners: &mut Vec<usize>, k: usize, core: &Core)
+    ensures owns { Owns (Below (TakesSide core.now) (length core.now.board.seats)) k owners.old.items owners.new.items }
+{
+    for e in 0..core.board().ends() {
+        own_side(owners, k, core, e);
+    }
+}
+
+// All sides that a core names are its own.
+fn own_sides(owners: &mut Vec<usize>, k: usize, core: &Core)
+    ensures owns { Owns (NamesSide core.now) k owners.old.items owners.new.items }
+{
+    core.sound();
+    never_shared(core.monitor().circuits());
+    own_links(owners, k, core);
+    own_end_sides(owners, k, core);
+}
+
+// The queue from which an end takes, if it takes from one, and the one to which it puts.
+fn own_inlet(owners: &mut Vec<usize>, k: usize, core: &Core, e: usize)
+    requires there { e < length core.now.board.seats }
+    ensures owns { Owns (TakesQueue core.now e) k owners.old.items owners.new.items }
+{
+    match core.inlet(e) {
+        Inlet::Queue(queue) => own(owners, queue, k),
+        Inlet::Side(_) => (),
+        Inlet::Arrivals => (),
+    }
+}
+
+fn own_outlet(owners: &mut Vec<usize>, k: usize, core: &Core, e: usize)
+    requires there { e < length core.now.board.seats }
+    ensures owns { Owns (PutsQueue core.now e) k owners.old.items owners.new.items }
+{
+    match core.outlet(e) {
+        Outlet::Queue(queue) => own(owners, queue, k),
+        Outlet::Side(_) => (),
+    }
+}
+
+// All queues that a core names are its own.
+fn own_queues(owners: &mut Vec<usize>, k: usize, core: &Core)
+    ensures owns { Owns (NamesQueue core.now) k owners.old.items owners.new.items }
+{
+    core.sound();
+    for e in 0..core.board().ends() {
+        own_inlet(owners, k, core, e);
+        own_outlet(owners, k, core, e);
+    }
+}
+
+/// To which core each side of a ring goes, and each queue. What no core names goes to core 0.
+#[derive(Debug, Drop)]
+pub(crate) struct Owners {
+    pub(crate) sides: Vec<usize>,
+    pub(crate) queues: Vec<usize>,
+}
+
+// So many rings, whose sides all go to core 0.
+fn all_to_first(alloc: Global, rings: usize) -> Result<Vec<usize>, AllocError>
+    ensures count { IfOk result (λ v. length v.items ≡ 2 * rings) }
+    ensures of { IfOk result (λ v. AreOf 1 v.items) }
+{
+    let mut sides = Vec::new(alloc);
+    for _ in 0..rings {
+        sides.push(0)?;
+        sides.push(0)?;
+    }
+    Ok(sides)
+}
+
+impl Owners {
+    /// As the cores name them.
+    pub(crate) fn named(
+        alloc: Global,
+        rings: usize,
+        queues: usize,
+        cores: &[Core],
+    ) -> Result<Owners, AllocError>
+        requires some { 0 < length cores.now }
+        ensures sides { IfOk result (λ o. HaveOwners cores.now NamesSide (2 * rings) o.sides.items) }
+        ensures queues { IfOk result (λ o. HaveOwners cores.now NamesQueue queues o.queues.items) }
+    {
+        let mut sides = all_to_first(alloc, rings)?;
+        let mut all_queues = vec![in alloc; 0; queues]?;
+        for k in 0..cores.len() {
+            own_sides(&mut sides, k, &cores[k]);
+            own_queues(&mut all_queues, k, &cores[k]);
+        }
+        Ok(Owners {
+            sides,
+            queues: all_queues,
+        })
+    }
+}
+
+// ---- dealing
+
+// A new ring of the size of this one, whose sides go to these cores.
+fn deal_ring(
+    alloc: Global,
+    dealt: Dealt<SharedSide>,
+    ring: &OneDuo,
+    first: usize,
+    second: usize,
+) -> Result<Dealt<SharedSide>, AllocError>
+    requires first { first < length dealt.hands.items }
+    requires second { second < length dealt.hands.items }
+    ensures deals { IfOk result (λ d. Deals ring.now.size first second dealt d) }
+{
+    let size = ring.words().len() / 16;
+    match dealt.deal(alloc, size, first, second) {
+        Ok(dealt) => Ok(dealt),
+        Err(_) => Err(AllocError),
+    }
+}
+
+/// New rings of the same sizes, whose sides go to their cores.
+pub(crate) fn deal_sides(
+    alloc: Global,
+    rings: &[OneDuo],
+    owners: &[usize],
+    cores: usize,
+) -> Result<Dealt<SharedSide>, AllocError>
+    requires count { length owners.now ≡ 2 * length rings.now }
+    requires of { AreOf cores owners.now }
+    ensures deals { IfOk result (λ d. DealsRings rings.now owners.now cores d) }
+{
+    let mut dealt = Dealt::new(alloc, cores)?;
+    let mut place = 0;
+    for ring in rings {
+        dealt = deal_ring(alloc, dealt, ring, owners[place], owners[place + 1])?;
+        place += 2;
+    }
+    Ok(dealt)
+}
+
+/// The queues go to their cores.
+pub(crate) fn deal_queues(
+    alloc: Global,
+    queues: Vec<QueueLink>,
+    owners: &[usize],
+    cores: usize,
+) -> Result<Dealt<QueueLink>, AllocError>
+    requires count { length owners.now ≡ length queues.items }
+    requires of { AreOf cores owners.now }
+    ensures deals { IfOk result (λ d. DealsQueues queues.items owners.now cores d) }
+{
+    let mut dealt = Dealt::new(alloc, cores)?;
+    let mut place = 0;
+    for queue in queues {
+        dealt = dealt.give(owners[place], queue)?;
+        place += 1;
+    }
+    Ok(dealt)
+}

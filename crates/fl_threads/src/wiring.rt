@@ -1,0 +1,338 @@
+//! Each core is given what its thread needs, with its own sides of rings and its own queues.
+
+ghost use Rattle.std.specs.Prelude.{◌≡◌, ◌+◌, ◌<◌, ◌≤◌, ◌==◌, ◌++◌, ◌∷◌, [], if◌then◌else◌, length, map, IfOk, OnOk};
+ghost use Rattle.fl_compile.specs.Programs.{program_of};
+ghost use Rattle.fl_node.specs.View.{slot_of};
+ghost use Rattle.fl_tally.specs.Tally.{opening_view};
+ghost use Rattle.fl_running.specs.Words.{AreWords};
+ghost use Rattle.fl_running.specs.declared.word.Word.TheVariants.{Tells, Hears};
+ghost use Rattle.fl_dockets.specs.Joined.{AreBindings, HasDockets};
+ghost use Rattle.fl_dockets.specs.State.{joined_of};
+ghost use Rattle.fl_threads.specs.Begins.{core_at, owns, ends_at, ends_from, word_by, words_at, words_of, desk_for, desks_of};
+ghost use Rattle.fl_threads.specs.Begins.{IsAlone, IsStation, AreStations};
+ghost use Rattle.fl_threads.specs.Shares.{sides_given, queues_given};
+ghost use Rattle.fl_threads.specs.Dealing.{Wires};
+ghost use Rattle.fl_threads.specs.Stations.{IsReady, AllReady, station_of, common_of, seats_given, AreSeats, left_view};
+
+use crate::sharing::{Owners, deal_queues, deal_sides};
+use fl_base::{EndId, LinkId, Side};
+use fl_compile::Program;
+use fl_dockets::{Bound, Joined, slot_of};
+use fl_link::QueueLink;
+use fl_nameserv::Names;
+use fl_node::Core;
+use fl_ring::SharedSide;
+use fl_running::{Desk, Plan, Running, Ticket, Word};
+use fl_tally::EndSeat;
+use fl_worlds::Parts;
+use std::alloc::{AllocError, Global};
+
+// A core has no more links than this.
+const MAX_LINKS: u16 = 15;
+
+/// A core with all that its thread needs.
+#[derive(Drop)]
+pub(crate) struct Station {
+    pub(crate) running: Running<SharedSide>,
+    pub(crate) plan: Plan,
+    pub(crate) ticket: Ticket,
+}
+
+/// The core of an end.
+pub(crate) fn core_at(bindings: &[Bound], end: EndId) -> Option<usize>
+    ensures core { result ≡ core_at bindings.now end }
+{
+    match bindings.get(end.binding) {
+        None => None,
+        Some(bound) => Some(bound.core(end.side)),
+    }
+}
+
+fn owns(core: usize, bindings: &[Bound], end: EndId) -> bool
+    ensures owns { result ≡ owns core bindings.now end }
+{
+    match core_at(bindings, end) {
+        None => false,
+        Some(c) => c == core,
+    }
+}
+
+// The desk of an end; it has the jobs of its docket where the end is this core's.
+fn desk_for(alloc: Global, core: usize, joined: &Joined, end: EndId) -> Result<Desk, AllocError>
+    requires few { end.binding < 1024 }
+    requires docket { slot_of end < length joined.now.dockets.items }
+    ensures desk { IfOk result (λ desk. desk ≡ desk_for core (joined_of joined.now) end) }
+{
+    let docket = &joined.dockets[slot_of(end)];
+    let mut jobs = Vec::new(alloc);
+    if owns(core, &joined.bindings, end) {
+        jobs.extend_from_slice(&docket.jobs)?;
+    }
+    Ok(Desk::new(alloc, jobs, docket.due))
+}
+
+// The desks of all ends.
+#[tactic(auto, using(crate::proofs::Lists::two_more))]
+fn desks_for(alloc: Global, core: usize, joined: &Joined) -> Result<Vec<Desk>, AllocError>
+    requires few { length joined.now.bindings.items ≤ 1024 }
+    requires dockets { HasDockets joined.now.bindings.items joined.now.dockets.items }
+    ensures desks { IfOk result (λ desks. desks.items ≡ desks_of core (joined_of joined.now)) }
+{
+    let mut desks = Vec::new(alloc);
+    for binding in 0..joined.bindings.as_slice().len() {
+        let side = Side::Client;
+        desks.push(desk_for(alloc, core, joined, EndId { binding, side })?)?;
+        let side = Side::Server;
+        desks.push(desk_for(alloc, core, joined, EndId { binding, side })?)?;
+    }
+    Ok(desks)
+}
+
+// What is known at the start of the opening of a binding: where no job opens it nothing, else where the job's word stands.
+fn client_word(opened: Option<usize>) -> Word
+    ensures word { result ≡ word_by Tells opened }
+{
+    match opened {
+        None => Word::Silent,
+        Some(job) => Word::Tells(job),
+    }
+}
+
+fn server_word(opened: Option<usize>) -> Word
+    ensures word { result ≡ word_by Hears opened }
+{
+    match opened {
+        None => Word::Silent,
+        Some(job) => Word::Hears(job),
+    }
+}
+
+// The ends of a binding at a core, and their words, are added to these.
+fn add_ends(
+    core: usize,
+    binding: usize,
+    bound: Bound,
+    ends: &mut Vec<EndId>,
+    words: &mut Vec<Word>,
+) -> Result<(), AllocError>
+    requires as_many { length words.old.items ≡ length ends.old.items }
+    ensures ends { OnOk result (ends.new.items ≡ ends.old.items ++ ends_at core binding bound) }
+    ensures words { OnOk result (words.new.items ≡ words.old.items ++ words_at core bound) }
+    ensures as_many { OnOk result (length words.new.items ≡ length ends.new.items) }
+{
+    if bound.client == core {
+        ends.push(EndId {
+            binding,
+            side: Side::Client,
+        })?;
+        words.push(client_word(bound.opened))?;
+    }
+    if bound.server == core {
+        ends.push(EndId {
+            binding,
+            side: Side::Server,
+        })?;
+        words.push(server_word(bound.opened))?;
+    }
+    Ok(())
+}
+
+// The ends at a core, and what is known of their openings.
+#[tactic(auto, using(crate::proofs::Lists::ends_more))]
+fn ends_of(
+    alloc: Global,
+    core: usize,
+    bindings: &[Bound],
+) -> Result<(Vec<EndId>, Vec<Word>), AllocError>
+    ensures ends { IfOk result (λ r. r.0.items ≡ ends_from core 0 bindings.now) }
+    ensures words { IfOk result (λ r. r.1.items ≡ words_of core bindings.now) }
+    ensures as_many { IfOk result (λ r. length r.1.items ≡ length r.0.items) }
+{
+    let mut ends = Vec::new(alloc);
+    let mut words = Vec::new(alloc);
+    for (binding, bound) in bindings.iter().enumerate() {
+        add_ends(core, binding, *bound, &mut ends, &mut words)?;
+    }
+    Ok((ends, words))
+}
+
+// The links of a core.
+fn links_of(alloc: Global, core: &Core) -> Result<Vec<LinkId>, AllocError> {
+    let mut links = Vec::new(alloc);
+    for number in 0..MAX_LINKS {
+        if core.side(LinkId(number)).is_some() {
+            links.push(LinkId(number))?;
+        }
+    }
+    Ok(links)
+}
+
+// Copies of the programs.
+fn copies(alloc: Global, programs: &[Program]) -> Result<Vec<Program>, AllocError>
+    ensures equal { IfOk result (λ all. map program_of all.items ≡ map program_of programs.now) }
+{
+    let mut all = Vec::new(alloc);
+    for program in programs {
+        all.push(program.duplicate(alloc)?)?;
+    }
+    Ok(all)
+}
+
+// What all stations are made of, but for what is each core's own.
+#[derive(Drop)]
+struct Common<'a> {
+    alloc: Global,
+    cores: usize,
+    joined: &'a Joined,
+    names: &'a Names,
+    programs: &'a [Program],
+    // the places of all sides and queues among those of their cores
+    sides: &'a [usize],
+    queues: &'a [usize],
+}
+
+impl Common<'_> {
+    // The station of core k, with its sides, queues and seat.
+    fn station(
+        &self,
+        k: usize,
+        core: Core,
+        rings: Vec<SharedSide>,
+        queues: Vec<QueueLink>,
+        seat: EndSeat,
+    ) -> Result<Station, AllocError>
+        requires bindings { AreBindings self.now.cores self.now.joined.now.bindings.items self.now.joined.now.owners.items }
+        requires dockets { HasDockets self.now.joined.now.bindings.items self.now.joined.now.dockets.items }
+        requires seat { IsAlone self.now.joined.now.owners.items k seat.knows }
+        ensures ready { IfOk result IsReady }
+        ensures station { IfOk result (λ s. IsStation (common_of self.now) k core (station_of s)) }
+        ensures seat { IfOk result (λ s. s.ticket.seat ≡ seat) }
+        ensures rings { IfOk result (λ s. s.running.rings.items ≡ rings.items) }
+        ensures queues { IfOk result (λ s. s.running.queues.items ≡ queues.items) }
+    {
+        let dispatchers = core.board().dispatchers();
+        let mut core = core;
+        core.renumber(self.sides, self.queues);
+        core.sound();
+        let (ends, words) = ends_of(self.alloc, k, &self.joined.bindings)?;
+        let plan = Plan {
+            links: links_of(self.alloc, &core)?,
+            ends,
+            dispatchers,
+            cores: self.cores as u64,
+        };
+        let running = Running {
+            alloc: self.alloc,
+            core,
+            rings,
+            queues,
+            desks: desks_for(self.alloc, k, self.joined)?,
+            names: self.names.duplicate()?,
+            programs: copies(self.alloc, self.programs)?,
+        };
+        Ok(Station {
+            running,
+            plan,
+            ticket: Ticket { seat, words },
+        })
+    }
+
+    // The stations of the first cores, each with a seat cut off everybody's.
+    #[tactic(auto, using(crate::proofs::Each::ready_push))]
+    fn stations(
+        &self,
+        own: &mut EndSeat,
+        cores: Vec<Core>,
+        sides: Vec<Vec<SharedSide>>,
+        queues: Vec<Vec<QueueLink>>,
+    ) -> Result<Vec<Station>, AllocError>
+        requires bindings { AreBindings self.now.cores self.now.joined.now.bindings.items self.now.joined.now.owners.items }
+        requires dockets { HasDockets self.now.joined.now.bindings.items self.now.joined.now.dockets.items }
+        requires few { length cores.items ≤ self.now.cores }
+        requires own { own.old.knows ≡ left_view self.now.cores self.now.joined.now.owners.items 0 }
+        requires sides { length sides.items ≡ length cores.items }
+        requires queues { length queues.items ≡ length cores.items }
+        ensures ready { IfOk result (λ v. AllReady v.items) }
+        ensures stations { IfOk result (λ v. AreStations (common_of self.now) 0 cores.items (map station_of v.items)) }
+        ensures left { OnOk result (own.new.knows ≡ left_view self.now.cores self.now.joined.now.owners.items (length cores.items)) }
+        ensures table { OnOk result (own.new.table ≡ own.old.table) }
+        ensures seats { IfOk result (λ v. AreSeats own.old (seats_given (map station_of v.items))) }
+        ensures sides { IfOk result (λ v. sides_given (map station_of v.items) ≡ map (λ hand. hand.items) sides.items) }
+        ensures queues { IfOk result (λ v. queues_given (map station_of v.items) ≡ map (λ hand. hand.items) queues.items) }
+    {
+        let mut cores = cores;
+        let Some(core) = cores.pop() else {
+            return Ok(Vec::new(self.alloc));
+        };
+        let k = cores.as_slice().len();
+        let mut sides = sides;
+        let mut queues = queues;
+        let Some(own_sides) = sides.pop() else {
+            unreachable!();
+        };
+        let Some(own_queues) = queues.pop() else {
+            unreachable!();
+        };
+        let mut stations = self.stations(own, cores, sides, queues)?;
+        let seat = own.split()?;
+        stations.push(self.station(k, core, own_sides, own_queues, seat)?)?;
+        Ok(stations)
+    }
+}
+
+/// What the threads of all cores are given, and the owners of all sides of rings, by which these are put together again.
+#[derive(Drop)]
+pub(crate) struct Wired {
+    pub(crate) stations: Vec<Station>,
+    pub(crate) owners: Vec<usize>,
+}
+
+/// Gives each core what its thread needs, and a seat cut off everybody's. What is left of that is the run's own, by which it may tell of a stop.
+#[tactic(auto, using(crate::proofs::Seats::none_cut, crate::proofs::Seats::all_cut))]
+pub(crate) fn wire(
+    alloc: Global,
+    parts: Parts,
+    joined: &Joined,
+    own: &mut EndSeat,
+) -> Result<Wired, AllocError>
+    requires bindings { AreBindings (length parts.cores.items) joined.now.bindings.items joined.now.owners.items }
+    requires dockets { HasDockets joined.now.bindings.items joined.now.dockets.items }
+    requires own { own.old.knows ≡ opening_view (length parts.cores.items) joined.now.owners.items }
+    ensures ready { IfOk result (λ w. AllReady w.stations.items) }
+    ensures wires { IfOk result (λ w. Wires parts (joined_of joined.now) (map station_of w.stations.items) w.owners.items) }
+    ensures left { OnOk result (own.new.knows ≡ left_view (length parts.cores.items) joined.now.owners.items (length parts.cores.items)) }
+    ensures able { OnOk result (own.new.knows.stopped < own.new.knows.seats) }
+    ensures table { OnOk result (own.new.table ≡ own.old.table) }
+    ensures seats { IfOk result (λ w. AreSeats own.old (seats_given (map station_of w.stations.items))) }
+{
+    let Parts {
+        cores,
+        rings,
+        queues,
+        programs,
+        names,
+        bindings: _,
+    } = parts;
+    if cores.is_empty() {
+        // A set-up has one core at least.
+        return Err(AllocError);
+    }
+    let count = cores.as_slice().len();
+    let by_name = Owners::named(alloc, rings.len(), queues.len(), &cores)?;
+    let sides = deal_sides(alloc, &rings, &by_name.sides, count)?;
+    let queues = deal_queues(alloc, queues, &by_name.queues, count)?;
+    let owners = sides.owners;
+    let side_hands = sides.hands;
+    let queue_hands = queues.hands;
+    let common = Common {
+        alloc,
+        cores: count,
+        joined,
+        names: &names,
+        programs: &programs,
+        sides: &sides.places,
+        queues: &queues.places,
+    };
+    let stations = common.stations(own, cores, side_hands, queue_hands)?;
+    Ok(Wired { stations, owners })
+}
