@@ -12,10 +12,12 @@ use Rattle.fl_system.specs.declared.booting.BootFault.{BootFault}
 use Rattle.fl_system.specs.declared.booting.BootFault.TheVariants as boot
 use Rattle.fl_worlds.specs.Apart.{is_making, AreParts}
 use Rattle.fl_system.specs.Booting.{TheConfig, Stands, IsFaultOf}
+use Rattle.fl_jobs.specs.Jobs.{Job as TheJob}
+use Rattle.fl_threads.specs.Faults.{IsRunFault}
 use Rattle.fl_threads.specs.declared.fault.RunFault.{RunFault}
 use Rattle.fl_threads.specs.declared.fault.RunFault.TheVariants as run
 use Rattle.fl_cores.specs.Faults.{by_boot, by_run}
-use Rattle.fl_cores.specs.Promised.{is_other, asks_other, cores_by, IsAccepted, IsRefusedAt, IsRefused, IsFault}
+use Rattle.fl_cores.specs.Promised.{is_other, asks_other, cores_by, IsAccepted, Made, IsRefusedAt, IsRefused, IsFault}
 
 -- ---- no other event: each makes something at once
 
@@ -44,15 +46,16 @@ cores_are c w p stands parts = ap length parts.cores ∙ stands.1.shown.picture.
 
 -- ---- none does
 
-pub not_booted : (c : TheConfig) (fault : BootFault) → position is_other c.setup ≡ None → IsFaultOf c fault → IsFault c (by_boot fault)
-not_booted c (boot.Refused number place) making is = subst (λ late. IsRefusedAt c number place late) (sym making) is
-not_booted c boot.Memory making is = making
+pub not_booted : (c : TheConfig) (jobs : List TheJob) (fault : BootFault) → position is_other c.setup ≡ None → IsFaultOf c fault → IsFault c jobs (by_boot fault)
+not_booted c jobs (boot.Refused number place) making is = subst (λ late. IsRefusedAt c number place late) (sym making) is
+not_booted c jobs boot.Memory making is = making
 
 -- a fault behind an accepted set-up
-pub late_fault : (c : TheConfig) (fault : RunFault) → IsAccepted c → IsFault c (by_run fault)
-late_fault c (run.Refused number place) accepted = accepted
-late_fault c run.Memory accepted = accepted.making
-late_fault c run.Thread accepted = accepted
+pub late_fault : (c : TheConfig) (jobs : List TheJob) (p : Parts) (fault : RunFault) → IsAccepted c → Made c p → IsRunFault p jobs fault
+    → IsFault c jobs (by_run fault)
+late_fault c jobs p (run.Refused number place) accepted made is = record { accepted = accepted; parts = p; made = made; refused = is }
+late_fault c jobs p run.Memory accepted made is = accepted.making
+late_fault c jobs p run.Thread accepted made is = accepted
 
 -- ---- the first other event
 

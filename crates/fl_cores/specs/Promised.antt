@@ -10,6 +10,8 @@ use Rattle.fl_worlds.specs.View.{TheWorld}
 use Rattle.fl_jobs.specs.Jobs.{Job}
 use Rattle.fl_jobs.specs.CoresFile.{CoresFile, Outcome, Reads, is_file, refused_at}
 use Rattle.fl_jobs.specs.Report.{TheReport, Ending, complete, turns_out}
+use Rattle.fl_threads.specs.declared.fault.RunFault.TheVariants as run
+use Rattle.fl_threads.specs.Faults.{IsRunFault}
 use Rattle.fl_threads.specs.Ran.{Keeps, RanFrom}
 use Rattle.fl_jobs.specs.Printed.{refusal_text, report_text}
 use Rattle.fl_system.specs.declared.booting.BootFault.TheVariants as boot
@@ -70,12 +72,19 @@ IsRefusedAt c number place (Some n) = (number ≡ 93) × (place ≡ n + 1)
 abbrev pub IsRefused : TheConfig → ℕ → ℕ → Type 0
 IsRefused c number place = IsRefusedAt c number place (position is_other c.setup)
 
+-- the set-up is accepted, and of these jobs the one at this place is the first that can't be joined to what it makes
+pub record RefusesJob (c : TheConfig) (jobs : List Job) (number place : ℕ) : Type 0 where
+  pub accepted : IsAccepted c
+  pub parts : Parts
+  pub made : Made c parts
+  pub refused : IsRunFault parts jobs (run.Refused number place)
+
 -- a job is refused, or a thread, only where the set-up isn't; and memory only where each event is of a set-up
-abbrev pub IsFault : TheConfig → CoresFault → Type 0
-IsFault c (fault.Setup number place) = IsRefused c number place
-IsFault c (fault.Job number place) = IsAccepted c
-IsFault c fault.Memory = position is_other c.setup ≡ None
-IsFault c fault.Thread = IsAccepted c
+abbrev pub IsFault : TheConfig → List Job → CoresFault → Type 0
+IsFault c jobs (fault.Setup number place) = IsRefused c number place
+IsFault c jobs (fault.Job number place) = RefusesJob c jobs number place
+IsFault c jobs fault.Memory = position is_other c.setup ≡ None
+IsFault c jobs fault.Thread = IsAccepted c
 
 -- ---- a cores file
 

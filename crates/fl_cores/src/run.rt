@@ -97,7 +97,7 @@ pub fn run_cores<R: Threads + Wait + Sync, G: Gate + Sync>(
     gate: &G,
 ) -> Result<Report, CoresFault>
     ensures reports { IfOk result (λ r. Reports (config_of config.now) (map job_of jobs.entry.items) limit (report_of r)) }
-    ensures refused { IfErr result (λ fault. IsFault (config_of config.now) fault) }
+    ensures refused { IfErr result (λ fault. IsFault (config_of config.now) (map job_of jobs.entry.items) fault) }
 {
     if let Some(place) = first_other(&config.setup) {
         return Err(CoresFault::Setup {

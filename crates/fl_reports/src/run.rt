@@ -29,7 +29,7 @@ pub fn report_cores<R: Threads + Wait + Sync, G: Gate + Sync>(
     gate: &G,
 ) -> Result<Report, CoresFault>
     ensures reports { IfOk result (λ r. ReportsHonestly (config_of config.now) (map job_of jobs.entry.items) limit (report_of r)) }
-    ensures refused { IfErr result (λ fault. IsFault (config_of config.now) fault) }
+    ensures refused { IfErr result (λ fault. IsFault (config_of config.now) (map job_of jobs.entry.items) fault) }
 {
     runs_report_honestly();
     runs_end_as_told();

@@ -1,5 +1,6 @@
 pub mod Boards
 pub mod Each
+pub mod Faults
 pub mod Together
 pub mod Handing
 pub mod Keeping

@@ -1,4 +1,8 @@
--- Which fault of a run comes of which fault below.
+-- Which fault of a run comes of which fault below, and why there is one. The public promise rests on `IsRunFault`.
+use Rattle.std.specs.Prelude.{List}
+use Rattle.fl_jobs.specs.Jobs.{Job}
+use Rattle.fl_worlds.specs.declared.parts.Parts.{Parts}
+use Rattle.fl_dockets.specs.Whole.{IsFault}
 use Rattle.fl_dockets.specs.declared.fault.JobFault.{JobFault}
 use Rattle.fl_dockets.specs.declared.fault.JobFault.TheVariants as job
 use Rattle.fl_threads.specs.declared.fault.Stop.{Stop}
@@ -13,3 +17,9 @@ by_job job.Memory = Memory
 abbrev pub by_stop : Stop → RunFault
 by_stop stop.Memory = Memory
 by_stop stop.Thread = Thread
+
+-- a job is refused only where joining refuses it: it is the first, with its number; memory and threads may be wanted at any time
+abbrev pub IsRunFault : Parts → List Job → RunFault → Type 0
+IsRunFault p jobs (Refused number place) = IsFault p jobs (job.Refused number place)
+IsRunFault p jobs Memory = Unit {0}
+IsRunFault p jobs Thread = Unit {0}

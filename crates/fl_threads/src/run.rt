@@ -1,10 +1,11 @@
 //! A run of parts, from their jobs to the report.
 
-ghost use Rattle.std.specs.Prelude.{◌≡◌, ◌≤◌, map, length, IfOk};
+ghost use Rattle.std.specs.Prelude.{◌≡◌, ◌≤◌, map, length, IfOk, IfErr};
 ghost use Rattle.fl_jobs.specs.Reports.{report_of};
 ghost use Rattle.fl_jobs.specs.Views.{job_of};
 ghost use Rattle.fl_dockets.specs.Joined.{AreBindings, HasDockets};
 ghost use Rattle.fl_dockets.specs.State.{joined_of};
+ghost use Rattle.fl_threads.specs.Faults.{IsRunFault};
 ghost use Rattle.fl_threads.specs.Ran.{Keeps, CoresRan, RanFrom};
 
 use crate::fault::{RunFault, Stop};
@@ -68,7 +69,7 @@ fn run_joined<R: Threads + Wait + Sync, G: Gate + Sync>(
 ///
 /// # Errors
 /// [`RunFault`]: a job is refused, out of memory, or a thread doesn't start. Every thread was joined then.
-#[tactic(auto, using(crate::proofs::Keeping::keeps_ran))]
+#[tactic(auto, using(crate::proofs::Keeping::keeps_ran, crate::proofs::Faults::job_refused, crate::proofs::Faults::run_stopped))]
 pub fn run_parts<R: Threads + Wait + Sync, G: Gate + Sync>(
     rt: &R,
     alloc: Global,
@@ -80,6 +81,7 @@ pub fn run_parts<R: Threads + Wait + Sync, G: Gate + Sync>(
     requires few { length parts.cores.items ≤ 16 }
     ensures ran { IfOk result (λ r. RanFrom parts (map job_of jobs.entry.items) limit (report_of r)) }
     ensures keeps { IfOk result (λ r. Keeps (length parts.cores.items) limit (report_of r)) }
+    ensures refused { IfErr result (λ fault. IsRunFault parts (map job_of jobs.entry.items) fault) }
 {
     let mut parts = parts;
     let joined = join_jobs(alloc, &mut parts, jobs)?;

@@ -1,0 +1,18 @@
+-- Why a run ends without a report.
+use Rattle.std.proofs.Common.{List}
+use Rattle.fl_jobs.specs.Jobs.{Job}
+use Rattle.fl_worlds.specs.declared.parts.Parts.{Parts}
+use Rattle.fl_dockets.specs.Whole.{IsFault}
+use Rattle.fl_dockets.specs.declared.fault.JobFault.{JobFault}
+use Rattle.fl_dockets.specs.declared.fault.JobFault.TheVariants as job
+use Rattle.fl_threads.specs.declared.fault.Stop.{Stop}
+use Rattle.fl_threads.specs.declared.fault.Stop.TheVariants as stop
+use Rattle.fl_threads.specs.Faults.{by_job, by_stop, IsRunFault}
+
+pub job_refused : (p : Parts) (jobs : List Job) (f : JobFault) → IsFault p jobs f → IsRunFault p jobs (by_job f)
+job_refused p jobs (job.Refused number place) is = is
+job_refused p jobs job.Memory is = tt
+
+pub run_stopped : (p : Parts) (jobs : List Job) (s : Stop) → IsRunFault p jobs (by_stop s)
+run_stopped p jobs stop.Memory = tt
+run_stopped p jobs stop.Thread = tt
