@@ -13,7 +13,8 @@ use Rattle.fl_running.specs.Carried.{HasNoRule, RulesLead}
 use Rattle.fl_jobs.specs.Jobs.{Wish, Job}
 use Rattle.fl_dockets.specs.declared.docket.Bound.{Bound}
 use Rattle.fl_dockets.specs.declared.joining.Joined.{Joined}
-use Rattle.fl_dockets.specs.Dockets.{TheDocket, docket_of, no_docket, docket_at, with_place, end_of, is_ruled, rule_at, rule_by, due_in, IsDocket, Rules, OpensFirst, OpensNever}
+use Rattle.fl_dockets.specs.Dockets.{TheDocket, docket_of, no_docket, docket_at, with_place, end_of, is_ruled, rule_at, rule_by, due_in}
+use Rattle.fl_dockets.specs.Dockets.{IsDocket, Rules, OpensFirst, OpensNever}
 use Rattle.fl_dockets.specs.Joined.{AreBindings}
 
 -- the jobs as cores do them, bindings, dockets by end, and of each job that opens a binding the core that does it

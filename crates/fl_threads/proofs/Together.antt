@@ -203,3 +203,6 @@ rest_joined p j limit jobs xs ys owners first own after same count table is are 
     many_left ys ∙ many_ran j.jobs limit xs ys ran ∙ as_many (common_in p j wires.places) 0 p.cores.items (map station_of xs) wires.begin in
     let rest : IsRest own (length j.owners) ss = rest_is n j.owners own ss is many (moved first own ss table (seats_ran j.jobs limit first xs ys ran are)) in
     subst (λ (s : TheSeat). IsRest s jobs ss) (sym same) (subst (λ (m : ℕ). IsRest own m ss) (sym count) rest)
+
+-- a seat more put in one
+pub ruleset joins = (joins_none, joins_table, joins_seated, joins_one, joins_all)

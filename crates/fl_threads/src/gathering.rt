@@ -24,7 +24,7 @@ fn parts_of(done: Done) -> (Vec<SharedSide>, EndSeat)
 }
 
 // Puts the seat of each core in this one; by core the sides that are left.
-#[tactic(auto, using(crate::proofs::Together::joins_none, crate::proofs::Together::joins_table, crate::proofs::Together::joins_seated, crate::proofs::Together::joins_one, crate::proofs::Together::joins_all))]
+#[tactic(auto, using(crate::proofs::Together::joins))]
 fn take_apart(
     alloc: Global,
     own: &mut EndSeat,
@@ -56,8 +56,8 @@ fn ask_all(own: &mut EndSeat, jobs: usize)
     }
 }
 
-/// Puts the seats of cores that ran in the run's own, and asks by that for the words of all jobs that open a binding: what cores heard of them was told. By core
-/// the sides of rings that are left.
+/// Puts the seats of cores that ran in the run's own, and asks by that for the words of all jobs that open a binding:
+/// what cores heard of them was told. By core the sides of rings that are left.
 #[tactic(auto, using(crate::proofs::Together::rest_some, crate::proofs::Together::rest_each, crate::proofs::Together::rest_jobs))]
 pub(crate) fn gather(
     alloc: Global,

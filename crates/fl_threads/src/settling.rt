@@ -26,8 +26,8 @@ pub(crate) fn rings_hold()
     sides_go::<SharedSide>();
 }
 
-/// The seats of cores that ran are put in the run's own, and their rings together again: what they heard of refused openings was told, and what each side took is
-/// the first of what the other put.
+/// The seats of cores that ran are put in the run's own, and their rings together again: what they heard of refused
+/// openings was told, and what each side took is the first of what the other put.
 pub(crate) fn put_together(
     alloc: Global,
     own: EndSeat,
