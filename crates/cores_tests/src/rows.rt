@@ -35,23 +35,23 @@ handle p.s echo_call(1)\nhandle p.s echo_call(2)\nhandle p.s echo_call(3)\ncompl
 const RULED: &[u8] =
     b"idl\ninterface i { message a(uint32 v); }\n.\ndisp d 0\ndisp e 0\nexport s e i\nbind p d i s local 4\nreply p.s a a\n";
 
-const FAULTS: &[(CoresFault, Option<u8>)] = &[
+const FAULTS: &[(CoresFault, u8)] = &[
     (
         CoresFault::Setup {
             number: 73,
             place: 4,
         },
-        Some(73),
+        73,
     ),
     (
         CoresFault::Job {
             number: 44,
             place: 2,
         },
-        Some(44),
+        44,
     ),
-    (CoresFault::Memory, Some(99)),
-    (CoresFault::Thread, None),
+    (CoresFault::Memory, 99),
+    (CoresFault::Thread, 3),
 ];
 
 // Two parts of a text.

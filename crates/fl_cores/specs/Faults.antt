@@ -1,5 +1,5 @@
 -- Which fault of a run comes of which fault below, and the faults' numbers.
-use Rattle.std.specs.Prelude.{ℕ, Option, Some, None}
+use Rattle.std.specs.Prelude.{ℕ}
 use Rattle.fl_system.specs.declared.booting.BootFault.{BootFault}
 use Rattle.fl_system.specs.declared.booting.BootFault.TheVariants as boot
 use Rattle.fl_threads.specs.declared.fault.RunFault.{RunFault}
@@ -16,9 +16,9 @@ by_run (run.Refused number place) = Job number place
 by_run run.Memory = Memory
 by_run run.Thread = Thread
 
--- the fault's number, as messages name it; a thread that doesn't start has none
-abbrev pub number_of : CoresFault → Option ℕ
-number_of (Setup number place) = Some number
-number_of (Job number place) = Some number
-number_of Memory = Some 99
-number_of Thread = None
+-- the fault's number; of a thread that doesn't start the program's status
+abbrev pub number_of : CoresFault → ℕ
+number_of (Setup number place) = number
+number_of (Job number place) = number
+number_of Memory = 99
+number_of Thread = 3

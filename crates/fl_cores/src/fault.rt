@@ -27,15 +27,15 @@ pub enum CoresFault {
 }
 
 impl CoresFault {
-    /// The fault's number, as messages name it; a thread that doesn't start has none.
-    pub fn number(self) -> Option<u8>
+    /// The fault's number; of a thread that doesn't start the program's status, 3.
+    pub fn number(self) -> u8
         ensures number { result ≡ number_of self }
     {
         match self {
-            CoresFault::Setup { number, .. } => Some(number),
-            CoresFault::Job { number, .. } => Some(number),
-            CoresFault::Memory => Some(99),
-            CoresFault::Thread => None,
+            CoresFault::Setup { number, .. } => number,
+            CoresFault::Job { number, .. } => number,
+            CoresFault::Memory => 99,
+            CoresFault::Thread => 3,
         }
     }
 }

@@ -1,6 +1,6 @@
 //! A cores file run.
 
-ghost use Rattle.std.specs.Prelude.{IfOk};
+ghost use Rattle.std.specs.Prelude.{◌≡◌, IfOk, OnErr};
 ghost use Rattle.fl_jobs.specs.Files.{file_from};
 ghost use Rattle.fl_cores.specs.Promised.{Appends, AppendsReport};
 
@@ -34,6 +34,7 @@ fn run_file<R: Threads + Wait + Sync, G: Gate + Sync>(
     out: &mut Vec<u8>,
 ) -> Result<CoresEnd, CoresFault>
     ensures told { IfOk result (λ end. AppendsReport (file_from file.entry) limit end out.old.items out.new.items) }
+    ensures kept { OnErr result (out.new.items ≡ out.old.items) }
 {
     let CoresFile {
         cores,
@@ -70,7 +71,7 @@ fn run_file<R: Threads + Wait + Sync, G: Gate + Sync>(
 /// Runs a cores file and appends what is told of that: its report, or the line that is refused.
 ///
 /// # Errors
-/// Out of memory, or a thread doesn't start.
+/// Out of memory, or a thread doesn't start. Nothing is appended then.
 pub fn run_cores_text<R: Threads + Wait + Sync, G: Gate + Sync>(
     rt: &R,
     alloc: Global,
@@ -80,6 +81,7 @@ pub fn run_cores_text<R: Threads + Wait + Sync, G: Gate + Sync>(
     out: &mut Vec<u8>,
 ) -> Result<CoresEnd, CoresFault>
     ensures told { IfOk result (λ end. Appends text.now limit end out.old.items out.new.items) }
+    ensures kept { OnErr result (out.new.items ≡ out.old.items) }
 {
     match read_cores_text(alloc, text)? {
         CoresText::File(file) => run_file(rt, alloc, file, limit, gate, out),

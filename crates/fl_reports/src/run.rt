@@ -1,6 +1,6 @@
 //! Runs of cores, and of cores files, whose reports are honest.
 
-ghost use Rattle.std.specs.Prelude.{map, IfOk, IfErr};
+ghost use Rattle.std.specs.Prelude.{◌≡◌, map, IfOk, IfErr, OnErr};
 ghost use Rattle.fl_jobs.specs.Reports.{report_of};
 ghost use Rattle.fl_jobs.specs.Views.{job_of};
 ghost use Rattle.fl_system.specs.Booting.{config_of};
@@ -39,7 +39,7 @@ pub fn report_cores<R: Threads + Wait + Sync, G: Gate + Sync>(
 /// Runs a cores file, as [`run_cores_text`] does, and appends what is told of that: an honest report, or the line that is refused.
 ///
 /// # Errors
-/// Out of memory, or a thread doesn't start.
+/// Out of memory, or a thread doesn't start. Nothing is appended then.
 pub fn report_cores_text<R: Threads + Wait + Sync, G: Gate + Sync>(
     rt: &R,
     alloc: Global,
@@ -49,6 +49,7 @@ pub fn report_cores_text<R: Threads + Wait + Sync, G: Gate + Sync>(
     out: &mut Vec<u8>,
 ) -> Result<CoresEnd, CoresFault>
     ensures told { IfOk result (λ end. Appends text.now limit end out.old.items out.new.items) }
+    ensures kept { OnErr result (out.new.items ≡ out.old.items) }
 {
     runs_report_honestly();
     runs_end_as_told();

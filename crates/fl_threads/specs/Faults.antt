@@ -1,5 +1,5 @@
 -- Which fault of a run comes of which fault below, and why there is one. The public promise rests on `IsRunFault`.
-use Rattle.std.specs.Prelude.{List}
+use Rattle.std.specs.Prelude.{ℕ, List}
 use Rattle.fl_jobs.specs.Jobs.{Job}
 use Rattle.fl_worlds.specs.declared.parts.Parts.{Parts}
 use Rattle.fl_dockets.specs.Whole.{IsFault}
@@ -23,3 +23,9 @@ abbrev pub IsRunFault : Parts → List Job → RunFault → Type 0
 IsRunFault p jobs (Refused number place) = IsFault p jobs (job.Refused number place)
 IsRunFault p jobs Memory = Unit {0}
 IsRunFault p jobs Thread = Unit {0}
+
+-- the fault's number; of a thread that doesn't start the program's status
+abbrev pub number_of : RunFault → ℕ
+number_of (Refused number place) = number
+number_of Memory = 99
+number_of Thread = 3

@@ -2,7 +2,7 @@
 
 ghost use Rattle.std.specs.Prelude.{◌≡◌};
 ghost use Rattle.fl_threads.specs.declared.fault.RunFault.TheVariants.{Memory as OutOfMemory};
-ghost use Rattle.fl_threads.specs.Faults.{by_job, by_stop};
+ghost use Rattle.fl_threads.specs.Faults.{by_job, by_stop, number_of};
 
 use fl_dockets::JobFault;
 use std::alloc::{AllocError, AllocFailed};
@@ -22,7 +22,20 @@ pub enum RunFault {
     Thread,
 }
 
-/// Why a run that was set up ends without a report.
+impl RunFault {
+    /// The fault's number; of a thread that doesn't start the program's status, 3.
+    pub fn number(self) -> u8
+        ensures number { result ≡ number_of self }
+    {
+        match self {
+            RunFault::Refused { number, .. } => number,
+            RunFault::Memory => 99,
+            RunFault::Thread => 3,
+        }
+    }
+}
+
+/// Why a run ends without a report, once its jobs are joined.
 #[derive(Clone, Copy, Debug, PartialEq, Eq, Error)]
 pub(crate) enum Stop {
     /// Out of memory (E99).

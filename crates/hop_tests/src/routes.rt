@@ -3,7 +3,10 @@
 use crate::fragments::{call, put};
 use crate::openings::table;
 use fl_base::{Circuit, Frag, LinkId};
-use fl_hop::{Circuits, First, Forwarded, HopFault, Outcome, Way, deliver};
+use fl_hop::{
+    Circuits, First, Forwarded, HopFault, Outcome, Way, deliver, forward_adds, later_on,
+    openings_lead, passage_adds, stretches_join,
+};
 use fl_link::{QueueLink, Sight, TakeSide, Told};
 use fl_ring::{SharedSide, duo};
 use std::alloc::Global;
@@ -231,9 +234,19 @@ fn answered(alloc: Global, control: u64) -> Result<[Result<Forwarded, HopFault>;
     ])
 }
 
+// The laws by which steps at a core join, over a shared ring's side and an arrival queue: they may be called here.
+fn know_stretches() {
+    openings_lead();
+    later_on();
+    stretches_join();
+    passage_adds::<SharedSide, QueueLink>();
+    forward_adds::<SharedSide>();
+}
+
 // A fragment of a circuit without an entry stays, and so does one that would only acknowledge at its end.
 #[test]
 fn fragments_that_stay(rt: HostRuntime) -> Result<(), Fail> {
+    know_stretches();
     assert_eq!(rt;
         answered(rt.alloc(), 0x0003_0000_0003)?,
         [Err(HopFault::Astray); 2]
