@@ -19,7 +19,7 @@ use Rattle.fl_endpoint.specs.declared.outgoing.Queued.{Queued}
 use Rattle.fl_endpoint.specs.declared.outgoing.Sending.{Sending}
 use Rattle.fl_endpoint.specs.declared.outgoing.Outgoing.{Outgoing}
 use Rattle.fl_endpoint.specs.declared.rules.Rules.{Rules}
-use Rattle.fl_endpoint.specs.declared.end.End.TheInside.{Inside}
+use Rattle.fl_endpoint.specs.declared.parts.Parts.TheInside.{Inside}
 use Rattle.fl_endpoint.specs.Stored.{queued_frags, sending_frags, outgoing_of, IsOwn, IsQueued, AreQueued, Queues, QueuesReply, IsInTransmission, IsOutgoing}
 use Rattle.fl_endpoint.specs.Inside.{circuit_of, program_in, end_of, IsEnd}
 use Rattle.fl_endpoint.proofs.Sounds.{has_room, sound_exchanged}

@@ -1,58 +1,44 @@
 //! An end of a binding.
 
-ghost use Rattle.std.specs.Prelude.{◌≡◌, ℕ, true, false, length, slice_get, Some, None, IfOk, IfSome};
+ghost use Rattle.std.specs.Prelude.{◌≡◌, length, Some, None, IfOk};
 ghost use Rattle.fl_value.specs.Value.{call_of};
-ghost use Rattle.fl_value.specs.Fits.{fits_of};
-ghost use Rattle.fl_base.specs.Control.{bare};
 ghost use Rattle.fl_endpoint.specs.Accounts.{Sound};
 ghost use Rattle.fl_endpoint.specs.Rules.{rule_of};
-ghost use Rattle.fl_endpoint.specs.Stored.{IsOwn};
 ghost use Rattle.fl_endpoint.specs.Inside.{circuit_of};
-ghost use Rattle.fl_endpoint.specs.View.{interface_in, fresh, bound, is_circuit, is_busy, rule_at, has_rules, holds_back};
-ghost use Rattle.fl_endpoint.specs.Events.{Readies, Admits, Calls, Writes, ShowsNext, TakesIn, Receives, Handles, SetsRule, Exchanges};
+ghost use Rattle.fl_endpoint.specs.View.{interface_in, fresh, bound, is_circuit, is_busy, rule_at, has_rules};
+ghost use Rattle.fl_endpoint.specs.Events.{Calls, Writes, ShowsNext, Receives, SetsRule, Exchanges};
 
 use crate::answer::{ReceiveAnswer, WriteAnswer};
 use crate::fault::EndFault;
-use crate::incoming::{Incoming, without_stamp};
-use crate::outgoing::{MOST_WAITING, Outgoing, Queued};
-use crate::rules::{Rules, message};
+use crate::parts::Parts;
 use fl_base::{Circuit, Frag, MsgNo};
-use fl_check::same_args;
 use fl_compile::Program;
-use fl_link::{PutFault, PutSide, Sight, TakeSide};
-use fl_machine::{TakeFault, Taken};
-use fl_value::{Call, fits};
-use fl_wire::one_reading;
+use fl_link::{PutSide, TakeSide};
+use fl_value::Call;
 use std::alloc::{AllocError, Global};
 use std::marker::Model;
-use std::mem;
 
 /// One end of a binding. It sends calls, one at a time, by the side that a write is lent, and handles those that come by
 /// the side that a receive is lent.
 ///
 /// An end that was given a fragment that can't follow those before it has failed, and answers E64 for good.
+///
+/// It is a box, so that what holds many ends stays small: their parts lie beside the memory that each of them takes.
 #[derive(Drop)]
 pub struct End {
-    incoming: Incoming,
-    rules: Rules,
-    circuit: Option<Circuit>,
-    outgoing: Outgoing,
-    failed: bool,
+    parts: Box<Parts>,
 }
 
 impl Model for End {
     ghost use Rattle.std.specs.Coded.{codes};
     ghost use Rattle.fl_compile.specs.contracts.program.Program.{the_row};
     ghost use Rattle.fl_endpoint.specs.View.{TheEnd};
-    ghost use Rattle.fl_endpoint.specs.Inside.{end_of, IsEnd};
 
     ghost Value = { TheEnd };
 
     ghost coded = { Prim.hlevel (codes, the_row.coded) };
 
-    ghost view = { end_of };
-
-    ghost invariant = { IsEnd };
+    ghost view = { λ e. e.parts.value };
 }
 
 impl End {
@@ -65,11 +51,9 @@ impl End {
         ensures made { IfOk result (λ e. e ≡ fresh program (Some circuit.0)) }
         ensures sound { IfOk result (λ e. Sound e) }
     {
-        // It has 16 bits, which the proof knows once it is read.
-        let _number = circuit.0;
-        let mut end = End::unbound(alloc, program)?;
-        end.bind(circuit);
-        Ok(end)
+        let parts = Parts::new(alloc, program, circuit)?;
+        let parts = Box::new(alloc, parts)?;
+        Ok(End { parts })
     }
 
     /// An end that isn't bound yet: until [`End::bind`] it answers E43 to calls, writes, looks and receives. Rules may be
@@ -81,88 +65,89 @@ impl End {
         ensures made { IfOk result (λ e. e ≡ fresh program None) }
         ensures sound { IfOk result (λ e. Sound e) }
     {
-        let rules = Rules::new(alloc, program.interface().messages.len())?;
-        let outgoing = Outgoing::new(alloc)?;
-        let incoming = Incoming::new(alloc, program)?;
-        Ok(End {
-            incoming,
-            rules,
-            circuit: None,
-            outgoing,
-            failed: false,
-        })
+        let parts = Parts::unbound(alloc, program)?;
+        let parts = Box::new(alloc, parts)?;
+        Ok(End { parts })
     }
 
     /// Binds the end to a circuit. An end that is bound already stays as it is.
+    #[inline]
     pub fn bind(&mut self, circuit: Circuit)
         ensures bound { self.new ≡ bound self.old circuit.0 }
     {
-        if self.circuit.is_none() {
-            self.circuit = Some(circuit);
-        }
+        self.parts.bind(circuit);
     }
 
     /// What is known of an end at any time: a law of each end, for the layers above. It does nothing.
+    #[inline]
     pub fn sound(&self)
         ensures sound { Sound self.now }
     {
-        let _circuit = self.circuit;
+        self.parts.sound();
     }
 
     /// The program of the binding's interface.
+    #[inline]
     pub fn program(&self) -> &Program
         ensures program { result.now ≡ self.now.program }
     {
-        self.incoming.recv.program()
+        self.parts.program()
     }
 
     /// The circuit; none where the end isn't bound yet.
+    #[inline]
     pub fn circuit(&self) -> Option<Circuit>
         ensures circuit { circuit_of result ≡ self.now.circuit }
     {
-        self.circuit
+        self.parts.circuit()
     }
 
     /// Whether the end is bound.
+    #[inline]
     pub fn is_bound(&self) -> bool
         ensures bound { result ≡ is_circuit self.now.circuit }
     {
-        self.circuit.is_some()
+        self.parts.is_bound()
     }
 
     /// Whether the end failed: it was given a fragment that can't follow those before it.
+    #[inline]
     pub fn is_failed(&self) -> bool
         ensures failed { result ≡ self.now.failed }
     {
-        self.failed
+        self.parts.is_failed()
     }
 
     /// Whether a call is in transmission.
+    #[inline]
     pub fn is_busy(&self) -> bool
         ensures busy { result ≡ is_busy self.now.outgoing }
     {
-        self.outgoing.is_busy()
+        self.parts.is_busy()
     }
 
     /// How many replies wait, at most 16.
+    #[inline]
     pub fn replies_waiting(&self) -> usize
         ensures waiting { result ≡ length self.now.outgoing.waiting }
     {
-        self.outgoing.waiting()
+        self.parts.replies_waiting()
     }
 
     /// Whether the end has a reply rule for any message.
+    #[inline]
     pub fn has_rules(&self) -> bool
         ensures rules { result ≡ has_rules self.now.rules }
     {
-        self.rules.any()
+        self.parts.has_rules()
     }
 
     /// The message of the reply to a message, where there is a rule.
+    #[inline]
     pub fn rule_for(&self, msg: MsgNo) -> Option<MsgNo>
         ensures rule { rule_of result ≡ rule_at self.now.rules msg.0 }
     {
-        self.rules.reply_to(msg)
+        self.parts.rule_for(msg)
     }
 
     /// Sets a rule: each call of the first message that the end handles is answered by a call of the second with the same
@@ -170,72 +155,23 @@ impl End {
     ///
     /// # Errors
     /// The interface doesn't have both messages (E41); their argument types differ (E42). The end is as it was then.
+    #[inline]
     pub fn reply_rule(&mut self, msg: MsgNo, reply: MsgNo) -> Result<(), EndFault>
         ensures sets { SetsRule self.old msg.0 reply.0 result self.new }
     {
-        let interface = self.incoming.recv.program().interface();
-        let Some(from) = message(interface, msg) else {
-            return Err(EndFault::UnknownMessage);
-        };
-        let Some(to) = message(interface, reply) else {
-            return Err(EndFault::UnknownMessage);
-        };
-        if !same_args(&from.args, &to.args) {
-            return Err(EndFault::Misfit);
-        }
-        self.rules.set(msg, reply);
-        Ok(())
+        self.parts.reply_rule(msg, reply)
     }
 
     /// The two ends exchange their reply rules, and nothing else. Takes no memory.
     ///
     /// So the rules of an end that can't be made yet are set at another end of the same interface, and it gets them once it
     /// is made.
+    #[inline]
     pub fn exchange_rules(&mut self, other: &mut End)
         requires interface { interface_in self.old ≡ interface_in other.old }
         ensures exchanges { Exchanges self.old other.old self.new other.new }
     {
-        mem::swap(&mut self.rules, &mut other.rules);
-    }
-
-    // The circuit of an end that is bound and has not failed.
-    fn ready(&self) -> Result<Circuit, EndFault>
-        ensures ready { Readies self.now result }
-    {
-        match self.circuit {
-            None => Err(EndFault::NotBound),
-            Some(_) if self.failed => Err(EndFault::Failed),
-            Some(circuit) => Ok(circuit),
-        }
-    }
-
-    // The fragment that is to be written next: no link changes it, or takes it for an acknowledgement.
-    fn next(&self) -> Option<Frag>
-        ensures next { result ≡ slice_get self.now.outgoing.unwritten 0 }
-        ensures own { IfSome result IsOwn }
-    {
-        self.outgoing.next()
-    }
-
-    // Why a call may not be made, before memory is asked for; else the circuit.
-    fn admit(&self, call: &Call) -> Result<Circuit, EndFault>
-        ensures admits { Admits self.now (call_of call.now) result }
-    {
-        let interface = self.incoming.recv.program().interface();
-        if usize::from(call.msg.0) >= interface.messages.len() {
-            return Err(EndFault::UnknownMessage);
-        }
-        if !fits(call, interface) {
-            return Err(EndFault::Misfit);
-        }
-        let circuit = match self.ready() {
-            Ok(circuit) => circuit,
-            Err(fault) => return Err(fault),
-        };
-        if self.is_busy() {
-            return Err(EndFault::Busy);
-        }
-        Ok(circuit)
+        self.parts.exchange_rules(&mut other.parts);
     }
 
     /// Makes a call: it is accepted, and the end is busy until its last fragment is written.
@@ -244,20 +180,11 @@ impl End {
     /// In this order: the interface has no such message (E41), the arguments don't fit (E42), the end isn't bound yet
     /// (E43), it failed earlier (E64), a call is in transmission (E40); then out of memory (E99). The end is as it was
     /// then.
+    #[inline]
     pub fn call(&mut self, call: &Call) -> Result<(), EndFault>
         ensures calls { Calls self.old (call_of call.now) result self.new }
     {
-        let circuit = match self.admit(call) {
-            Ok(circuit) => circuit,
-            Err(fault) => return Err(fault),
-        };
-        let incoming = &self.incoming;
-        let program = incoming.recv.program();
-        let Ok(queued) = Queued::of(incoming.alloc, program, call) else {
-            return Err(EndFault::Memory);
-        };
-        self.outgoing.queue(program, circuit, queued);
-        Ok(())
+        self.parts.call(call)
     }
 
     /// The fragment that [`End::write`] would put next, with the epoch and the number told that the side would give it;
@@ -265,16 +192,11 @@ impl End {
     ///
     /// # Errors
     /// The end isn't bound yet (E43), or failed earlier (E64).
+    #[inline]
     pub fn show<P: PutSide>(&self, out: &P) -> Result<Option<Frag>, EndFault>
         ensures shows { ShowsNext (P.epoch_of out.now) (P.told_of out.now) self.now result }
     {
-        if let Err(fault) = self.ready() {
-            return Err(fault);
-        }
-        match self.next() {
-            None => Ok(None),
-            Some(frag) => Ok(Some(frag.stamp(out.next_epoch(), out.next_told()))),
-        }
+        self.parts.show(out)
     }
 
     /// Puts the next fragment of the call in transmission. Where it was the last, the first reply that waits is accepted
@@ -283,64 +205,11 @@ impl End {
     /// # Errors
     /// The end isn't bound yet (E43), or failed earlier (E64); the side has carried as many fragments as it ever will
     /// (E33). End and side are as they were then.
+    #[inline]
     pub fn write<P: PutSide>(&mut self, out: &mut P) -> Result<WriteAnswer, EndFault>
         ensures writes { Writes P.puts self.old out.old result self.new out.new }
     {
-        let circuit = match self.ready() {
-            Ok(circuit) => circuit,
-            Err(fault) => return Err(fault),
-        };
-        let Some(frag) = self.next() else {
-            return Ok(WriteAnswer::Nothing);
-        };
-        match out.put(&frag) {
-            Err(PutFault::Full) => Ok(WriteAnswer::Full),
-            Err(PutFault::Spent) => Err(EndFault::Spent),
-            Ok(()) => {
-                let (number, count) = self
-                    .outgoing
-                    .mark_written(self.incoming.recv.program(), circuit);
-                Ok(WriteAnswer::Written { number, count })
-            }
-        }
-    }
-
-    // A call that is whole is handled, and the reply to it by rule accepted.
-    fn handle(&mut self, circuit: Circuit, call: Call) -> Result<ReceiveAnswer, EndFault>
-        requires bound { self.old.circuit ≡ Some circuit.0 }
-        requires takes { holds_back self.old ≡ false }
-        requires fits { fits_of (interface_in self.old) (call_of call) ≡ true }
-        ensures handles { Handles self.old (call_of call) result self.new }
-    {
-        let mut call = call;
-        match self.incoming.reply(&self.rules, &mut call) {
-            Err(_) => Err(EndFault::Memory),
-            Ok(reply) => {
-                self.incoming.recv.finish();
-                let program = self.incoming.recv.program();
-                self.outgoing.accept(program, circuit, reply);
-                Ok(ReceiveAnswer::Handle(call))
-            }
-        }
-    }
-
-    // What a fragment that is to be taken comes to.
-    fn take_in(&mut self, circuit: Circuit, frag: &Frag) -> Result<ReceiveAnswer, EndFault>
-        requires bare { bare frag.now ≡ frag.now }
-        requires bound { self.old.circuit ≡ Some circuit.0 }
-        requires takes { holds_back self.old ≡ false }
-        ensures takes_in { TakesIn self.old frag.now result self.new }
-    {
-        one_reading();
-        match self.incoming.recv.take(self.incoming.alloc, frag) {
-            Err(TakeFault::Memory) => Err(EndFault::Memory),
-            Err(TakeFault::Wire(fault)) => {
-                self.failed = true;
-                Err(EndFault::Wire(fault))
-            }
-            Ok(Taken::Part) => Ok(ReceiveAnswer::Part),
-            Ok(Taken::Whole(call)) => self.handle(circuit, call),
-        }
+        self.parts.write(out)
     }
 
     /// Takes the fragment that stands first, and handles the call that it makes whole. Where the message has a rule, the
@@ -351,29 +220,10 @@ impl End {
     /// The end isn't bound yet (E43), or failed earlier (E64). The fragment can't follow those before it (E60 to E63,
     /// E65, E66): it is left, and the end has failed for good. Out of memory (E99): the fragment is left, and the end
     /// is as it was.
+    #[inline]
     pub fn receive<T: TakeSide>(&mut self, from: &mut T) -> Result<ReceiveAnswer, EndFault>
         ensures receives { Receives T.takes self.old from.old result self.new from.new }
     {
-        let circuit = match self.ready() {
-            Ok(circuit) => circuit,
-            Err(fault) => return Err(fault),
-        };
-        if self.replies_waiting() == MOST_WAITING && self.has_rules() {
-            return Ok(ReceiveAnswer::HeldBack);
-        }
-        match from.peek() {
-            Sight::Empty => Ok(ReceiveAnswer::Empty),
-            Sight::Acknowledgement => {
-                let _ = from.take();
-                Ok(ReceiveAnswer::Quiet)
-            }
-            Sight::Data(frag) => match self.take_in(circuit, &without_stamp(&frag)) {
-                Err(fault) => Err(fault),
-                Ok(answer) => {
-                    let _ = from.take();
-                    Ok(answer)
-                }
-            },
-        }
+        self.parts.receive(from)
     }
 }

@@ -9,6 +9,7 @@
 //! order, and what was taken is what was handled and a rest.
 //!
 //! - `end.rt`: `End`
+//! - `parts.rt`: what an end has, and what it does
 //! - `outgoing.rt`: the call in transmission, and the replies that wait
 //! - `incoming.rt`: the calls that come to an end, put together from fragments
 //! - `rules.rt`: reply rules
@@ -23,6 +24,7 @@ mod fault;
 mod incoming;
 mod law;
 mod outgoing;
+mod parts;
 mod rules;
 
 pub use answer::{ReceiveAnswer, WriteAnswer};

@@ -1,9 +1,9 @@
 //! Reply rules: to which message of an interface a call of which other is the reply.
 
-ghost use Rattle.std.specs.Prelude.{◌≡◌, ◌<◌, length, slice_get, slice_set, replicate, None, Some, IfOk};
+ghost use Rattle.std.specs.Prelude.{◌≡◌, ◌<◌, false, length, slice_get, slice_set, replicate, None, Some, IfOk};
 ghost use Rattle.std.specs.Option.{option_map};
 ghost use Rattle.fl_check.specs.Interface.{message_of, interface_of};
-ghost use Rattle.fl_endpoint.specs.Rules.{rules_of, rule_of};
+ghost use Rattle.fl_endpoint.specs.Rules.{rules_of, rule_of, AreNone};
 ghost use Rattle.fl_endpoint.specs.View.{rule_at, has_rules};
 
 use fl_base::MsgNo;
@@ -21,6 +21,9 @@ pub(crate) fn message(interface: &Interface, msg: MsgNo) -> Option<&Message>
 #[derive(Drop)]
 pub(crate) struct Rules {
     replies: Vec<Option<MsgNo>>,
+    // Whether a rule was ever set. Until then the rules, which lie in memory that is seldom read, are left alone.
+    some: bool,
+    ghost none: { some ≡ false → AreNone replies.items },
 }
 
 impl Rules {
@@ -29,13 +32,19 @@ impl Rules {
         ensures none { IfOk result (λ rules. rules_of rules.replies.items ≡ replicate messages None) }
     {
         let replies = vec![in alloc; None; messages]?;
-        Ok(Rules { replies })
+        Ok(Rules {
+            replies,
+            some: false,
+        })
     }
 
     // The message of the reply to a message.
     pub(crate) fn reply_to(&self, msg: MsgNo) -> Option<MsgNo>
         ensures rule { rule_of result ≡ rule_at (rules_of self.now.replies.items) msg.0 }
     {
+        if !self.some {
+            return None;
+        }
         match self.replies.get(usize::from(msg.0)) {
             Some(rule) => *rule,
             None => None,
@@ -59,6 +68,7 @@ impl Rules {
         requires { msg.0 < length self.old.replies.items }
         ensures set { rules_of self.new.replies.items ≡ slice_set (rules_of self.old.replies.items) msg.0 (Some reply.0) }
     {
+        self.some = true;
         self.replies[usize::from(msg.0)] = Some(reply);
     }
 }

@@ -11,7 +11,7 @@ use Rattle.fl_endpoint.specs.Stored.{queued_frags, outgoing_of, IsOutgoing}
 use Rattle.fl_endpoint.specs.Inside.{program_in, end_of}
 use Rattle.fl_endpoint.proofs.Sounds.{sound_handled}
 use Rattle.fl_endpoint.proofs.Insides.{handled_end, handled_is_end, room_for}
-use Rattle.fl_endpoint.proofs.end.End.handle.Goals as goal
+use Rattle.fl_endpoint.proofs.parts.Parts.handle.Goals as goal
 
 pub accept-requires-clause-room : goal.accept-requires-clause-room
 accept-requires-clause-room c =

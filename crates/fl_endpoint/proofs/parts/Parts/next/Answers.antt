@@ -5,7 +5,7 @@ use Rattle.fl_endpoint.specs.View.{TheEnd, number_or_0}
 use Rattle.fl_endpoint.specs.Stored.{IsOwn}
 use Rattle.fl_endpoint.specs.Inside.{circuit_of, program_in}
 use Rattle.fl_endpoint.proofs.Insides.{next_own}
-use Rattle.fl_endpoint.proofs.end.End.next.Goals as goal
+use Rattle.fl_endpoint.proofs.parts.Parts.next.Goals as goal
 
 pub returns : goal.returns
 returns c =

@@ -8,7 +8,7 @@ use Rattle.fl_endpoint.specs.Accounts.{IsRule}
 use Rattle.fl_endpoint.specs.Inside.{end_of, program_in}
 use Rattle.fl_endpoint.proofs.Sounds.{sound_rule}
 use Rattle.fl_endpoint.proofs.Insides.{ruled_view, ruled_is_end, rule_found}
-use Rattle.fl_endpoint.proofs.end.End.reply_rule.Goals as goal
+use Rattle.fl_endpoint.proofs.parts.Parts.reply_rule.Goals as goal
 
 pub invariant_of-self : goal.invariant_of-self
 invariant_of-self c =

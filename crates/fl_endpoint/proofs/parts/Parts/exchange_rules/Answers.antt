@@ -1,10 +1,10 @@
 use Rattle.std.proofs.Common.{◌≡◌, sym, ap, ◌∙◌, subst}
 use Rattle.fl_endpoint.specs.declared.rules.Rules.{Rules}
-use Rattle.fl_endpoint.specs.declared.end.End.TheInside.{Inside}
+use Rattle.fl_endpoint.specs.declared.parts.Parts.TheInside.{Inside}
 use Rattle.fl_endpoint.specs.View.{TheEnd, interface_in, with_rules_of}
 use Rattle.fl_endpoint.specs.Inside.{end_of, IsEnd}
 use Rattle.fl_endpoint.proofs.Insides.{with_rules, exchanged_is_end}
-use Rattle.fl_endpoint.proofs.end.End.exchange_rules.Goals as goal
+use Rattle.fl_endpoint.proofs.parts.Parts.exchange_rules.Goals as goal
 
 -- the two are of one interface, by their fields
 same : (e f : Inside) (s t : TheEnd) → end_of e ≡ s → end_of f ≡ t → interface_in s ≡ interface_in t → interface_in (end_of e) ≡ interface_in (end_of f)

@@ -11,7 +11,7 @@ use Rattle.fl_endpoint.specs.Inside.{program_in, end_of}
 use Rattle.fl_endpoint.proofs.Outgoings.{none_first, first_and_rest, not_none}
 use Rattle.fl_endpoint.proofs.Sounds.{sound_written}
 use Rattle.fl_endpoint.proofs.Insides.{written_end, busy_sending}
-use Rattle.fl_endpoint.proofs.end.End.write.Goals as goal
+use Rattle.fl_endpoint.proofs.parts.Parts.write.Goals as goal
 
 pub returns-in_default : goal.returns-in_default
 returns-in_default g c = record { writes = ((search rules, search rules), none_first c.args.self.now.outgoing.unwritten (sym c.in_default.ensures.next), refl, refl) }

@@ -12,7 +12,7 @@ use Rattle.fl_endpoint.specs.Rules.{rules_of}
 use Rattle.fl_endpoint.specs.Stored.{outgoing_of}
 use Rattle.fl_endpoint.specs.Accounts.{Sound}
 use Rattle.fl_endpoint.proofs.Sounds.{sound_fresh}
-use Rattle.fl_endpoint.proofs.end.End.unbound.Goals as goal
+use Rattle.fl_endpoint.proofs.parts.Parts.unbound.Goals as goal
 
 -- an end of these parts is a new one
 new_end : (program made : Program) (of_it : List (Option ℕ)) (outgoing : TheOutgoing) (parts : List Frag) → made ≡ program → of_it ≡ no_rules program

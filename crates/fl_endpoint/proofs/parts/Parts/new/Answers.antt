@@ -2,7 +2,7 @@ use Rattle.std.proofs.Common.{◌<◌, ◌^◌, sym, subst, rules}
 use Rattle.fl_endpoint.specs.View.{TheEnd}
 use Rattle.fl_endpoint.specs.Accounts.{Sound}
 use Rattle.fl_endpoint.proofs.Sounds.{sound_bound}
-use Rattle.fl_endpoint.proofs.end.End.new.Goals as goal
+use Rattle.fl_endpoint.proofs.parts.Parts.new.Goals as goal
 
 pub returns-clause-sound : goal.returns-clause-sound
 returns-clause-sound c =

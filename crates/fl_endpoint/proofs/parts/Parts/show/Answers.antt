@@ -1,7 +1,7 @@
 use Rattle.std.proofs.Common.{ℕ, drop, sym, ap, ◌∙◌, rules}
 use Rattle.fl_base.specs.Control.{stamped}
 use Rattle.fl_endpoint.proofs.Outgoings.{none_first, first_and_rest}
-use Rattle.fl_endpoint.proofs.end.End.show.Goals as goal
+use Rattle.fl_endpoint.proofs.parts.Parts.show.Goals as goal
 
 pub returns-in-None : goal.returns-in-None
 returns-in-None g c = record { shows = ((search rules, search rules), none_first c.args.self.now.outgoing.unwritten (sym c.in-None.ensures.next)) }

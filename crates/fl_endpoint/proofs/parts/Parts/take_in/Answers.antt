@@ -15,7 +15,7 @@ use Rattle.fl_endpoint.specs.declared.fault.EndFault.{EndFault}
 use Rattle.fl_endpoint.specs.declared.fault.EndFault.TheVariants.{Spent, Busy, UnknownMessage, Misfit, NotBound, Failed, Wire, Memory}
 use Rattle.fl_endpoint.proofs.Sounds.{sound_failed, sound_part, are_call}
 use Rattle.fl_endpoint.proofs.Insides.{with_recv, fed_is_end, failed_is_end}
-use Rattle.fl_endpoint.proofs.end.End.take_in.Goals as goal
+use Rattle.fl_endpoint.proofs.parts.Parts.take_in.Goals as goal
 
 -- a call that a fragment made whole, handled
 handled_in : (s : TheEnd) (f : Frag) (c : TheCall) (r : Result ReceiveAnswer EndFault) (t : TheEnd) → AreCall s (s.parts ++ f ∷ []) c → Handles s c r t → TakesIn s f r t

@@ -1,7 +1,7 @@
 use Rattle.std.proofs.Common.{ap, ◌∙◌}
 use Rattle.fl_endpoint.specs.View.{TheEnd, is_busy, number_or_0}
 use Rattle.fl_endpoint.specs.Inside.{circuit_of, program_in}
-use Rattle.fl_endpoint.proofs.end.End.is_busy.Goals as goal
+use Rattle.fl_endpoint.proofs.parts.Parts.is_busy.Goals as goal
 
 pub returns : goal.returns
 returns c =

@@ -9,7 +9,7 @@ use Rattle.fl_endpoint.specs.Stored.{queued_frags, outgoing_of, Queues, IsOutgoi
 use Rattle.fl_endpoint.specs.Inside.{end_of, program_in}
 use Rattle.fl_endpoint.proofs.Sounds.{Fits, sound_call, idle_end}
 use Rattle.fl_endpoint.proofs.Insides.{queued_end}
-use Rattle.fl_endpoint.proofs.end.End.call.Goals as goal
+use Rattle.fl_endpoint.proofs.parts.Parts.call.Goals as goal
 
 pub invariant_of-self : goal.invariant_of-self
 invariant_of-self c =

@@ -1,7 +1,7 @@
 use Rattle.std.proofs.Common.{◌≡◌, true, false, sym, ◌∙◌, rules}
 use Rattle.fl_endpoint.specs.View.{are_some}
 use Rattle.fl_endpoint.proofs.Outgoings.{some_are, none_are}
-use Rattle.fl_endpoint.proofs.end.End.admit.Goals as goal
+use Rattle.fl_endpoint.proofs.parts.Parts.admit.Goals as goal
 
 pub returns-then-is_busy : goal.returns-then-is_busy
 returns-then-is_busy c =
