@@ -1,6 +1,6 @@
 -- Known bytes, and a script's items one after another.
 use Rattle.std.proofs.Common.{◌≡◌, ◌∙◌, ◌+◌, ◌++◌, ◌∷◌, [], ◌≤◌, ◌<◌, List, ℕ, Bool, true, false, length, take, drop, sym, ap, subst, append_assoc, append-nil, refl, arith, Option, Some, None, length-append}
-use Rattle.std.specs.Prelude.{IfSome, IfErr, OnErr, Result, Ok, Err, codes, ◌==◌}
+use Rattle.std.specs.Prelude.{IfSome, IfErr, OnErr, Result, Ok, Err, codes, ◌==◌, ◌≢◌, ⊤}
 use Rattle.std.proofs.lemmas.Bool.{true≢false, false≢true}
 use Rattle.std.specs.Bool.{MatchBool}
 use Rattle.std.proofs.lemmas.List.{take-append-drop}
@@ -13,7 +13,8 @@ use Rattle.fl_transcript.specs.declared.running.ExecFault.TheVariants.{Memory, R
 use Rattle.fl_transcript.specs.declared.script.Script.{Script as RustScript}
 use Rattle.fl_queues.specs.State.{State}
 use Rattle.fl_transcript.specs.Shown.{IsAt}
-use Rattle.fl_transcript.specs.Reading.{ReadsWhole, CanBeUnread, StopsWith, GoesOn}
+use Rattle.fl_transcript.specs.Counting.{CountsOne, CountsUpTo}
+use Rattle.fl_transcript.specs.Reading.{ReadsWhole, CanBeUnread, GivesSome, GivesScript, GivesUntil, StopsWith, GoesOn}
 use Rattle.fl_base.specs.Prefix.{IsPrefix}
 use Rattle.fl_transcript.specs.CutShort.{IsProperPrefix, SomeAnswers, PartOfAnswers, LeavesWritten}
 use Rattle.fl_transcript.specs.Transcript.{Script, Effect, Does, AllDo, Runs, text_of, Transcript, is_too_long, beginning, line}
@@ -117,6 +118,65 @@ some_read (Some xs) (Some ys) (Some zs) text more x y some =
 pub never_read : (u : Option (List ℕ)) → IfSome u (λ input. CanBeUnread Read input)
 never_read None = tt
 never_read (Some xs) = tt
+
+-- ---- What the reader has given.
+
+consumes_kept : (u v w : Option (List ℕ)) (text : List ℕ) → Consumes u v text → Keeps v w → Consumes u w text
+consumes_kept None v w text x y = tt
+consumes_kept (Some xs) None w text x y = absurd x
+consumes_kept (Some xs) (Some ys) None text x y = absurd y
+consumes_kept (Some xs) (Some ys) (Some zs) text x y = x ∙ ap (λ (t : List ℕ). text ++ t) (sym y)
+
+-- a script and one read more
+both_few : (text more : List ℕ) → length text ≤ 1048576 → length more ≤ 4096 → length (text ++ more) ≤ 1052672
+both_few text more few chunk = omega (arith, length-append text more, few, chunk)
+
+pub gives_some : (u v w : Option (List ℕ)) (text : List ℕ) → Consumes u v text → length text ≤ 1048576 → Keeps v w → GivesSome u w
+gives_some u v w text x few y = (text, (consumes_kept u v w text x y, omega (arith, few)))
+
+pub gives_more : (u v w : Option (List ℕ)) (text more : List ℕ) → Consumes u v text → length text ≤ 1048576 → Consumes v w more → length more ≤ 4096
+    → GivesSome u w
+gives_more u v w text more x few y chunk = (text ++ more, (consumes_then u v w text more x y, both_few text more few chunk))
+
+pub on_err : {T E P : Type 0} (r : Result T E) → P → OnErr r P
+on_err (Ok x) p = tt
+on_err (Err e) p = p
+
+pub gives_all : (u v w : Option (List ℕ)) (text : List ℕ) → Consumes u v text → length text ≤ 1048576 → Consumes v w [] → IsAtEnd w → GivesScript u text w
+gives_all u v w text x few y end = (
+  (subst (λ (t : List ℕ). Consumes u w t) (append-nil text) (consumes_then u v w text [] x y), omega (arith, few)),
+  at_test (is_too_long text) ⊤ (IsAtEnd w) (λ _. tt) (λ _. end),
+)
+
+opposites : {X : Type 0} (b : Bool) → b ≡ true → b ≡ false → X
+opposites b t f = let e : true ≡ false = sym t ∙ f in absurd (cc)
+
+pub gives_long : (u v : Option (List ℕ)) (text : List ℕ) → Consumes u v text → length text ≤ 1052672 → 1048576 < length text → GivesScript u text v
+gives_long u v text x few h = ((x, few), at_test (is_too_long text) ⊤ (IsAtEnd v) (λ _. tt) (λ f. opposites (is_too_long text) (long_text text h) f))
+
+pub given_until : (u v : Option (List ℕ)) (r : Result (Unit {0}) ExecFault) (text : List ℕ) → GivesScript u text v → GivesUntil u r v
+given_until u v (Ok done) text g = (text, g)
+given_until u v (Err Write) text g = (text, g)
+given_until u v (Err Memory) text g = (text, g.0)
+given_until u v (Err Read) text g = (text, g.0)
+
+pub given_some : (u v : Option (List ℕ)) (fault : ExecFault) → fault ≢ Write → GivesSome u v → GivesUntil u (Err fault) v
+given_some u v Write other g = absurd (other refl)
+given_some u v Memory other g = g
+given_some u v Read other g = g
+
+-- ---- How often it was read.
+
+pub counts_none : (u : Option ℕ) → CountsUpTo 0 u u
+counts_none None = tt
+counts_none (Some n) = omega arith
+
+pub counts_more : (k most : ℕ) (u v w : Option ℕ) → CountsUpTo k u v → CountsOne v w → k < most → CountsUpTo most u w
+counts_more k most None v w x y h = tt
+counts_more k most (Some a) None None x y h = tt
+counts_more k most (Some a) None (Some c) x y h = absurd y
+counts_more k most (Some a) (Some b) None x y h = tt
+counts_more k most (Some a) (Some b) (Some c) x y h = omega (arith, x, y, h)
 
 -- ---- Items
 

@@ -2,6 +2,7 @@ pub mod Transcript
 pub mod CutShort
 pub mod Steps
 pub mod Shown
+pub mod Counting
 pub mod Reading
 pub mod Written
 pub mod Handled

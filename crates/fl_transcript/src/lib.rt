@@ -9,11 +9,13 @@
 //! - `running.rt`: `exec`, which reads a script whole, runs it, and writes item by item
 //! - `script.rt`: a running script; each item's answer
 //! - `machine.rt`: what a script runs on
+//! - `reader.rt`: what it is read from
 //! - `law.rt`: the laws
 #![tactic(auto)]
 
 mod law;
 mod machine;
+mod reader;
 mod running;
 mod script;
 
@@ -22,4 +24,5 @@ pub use law::{
     prefix_of_the_transcript,
 };
 pub use machine::QueueMachine;
+pub use reader::ScriptReader;
 pub use running::{ExecFault, MAX_SCRIPT, exec};

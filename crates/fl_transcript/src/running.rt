@@ -6,14 +6,16 @@ ghost use Rattle.fl_transcript.specs.declared.running.ExecFault.TheVariants.{Mem
 ghost use Rattle.fl_transcript.specs.Transcript.{Script as TheScript};
 ghost use Rattle.fl_transcript.specs.CutShort.{IsProperPrefix};
 ghost use Rattle.fl_transcript.specs.Shown.{IsAt};
-ghost use Rattle.fl_transcript.specs.Reading.{status_of, ReadsWhole, CanBeUnread};
+ghost use Rattle.fl_transcript.specs.Counting.{CountsUpTo};
+ghost use Rattle.fl_transcript.specs.Reading.{status_of, ReadsWhole, CanBeUnread, GivesSome, GivesScript, GivesUntil};
 ghost use Rattle.fl_transcript.specs.Written.{WritesTranscript, WritesPrefix, WritesAnswers, WritesUntil};
 
 use crate::machine::QueueMachine;
+use crate::reader::ScriptReader;
 use crate::script::Script;
 use fl_lines::next_part;
 use std::alloc::{AllocError, AllocFailed, Global};
-use std::io::{Read, Write};
+use std::io::Write;
 use thiserror::Error;
 
 /// Bytes of the longest script; a longer one has the transcript `refused E91`.
@@ -54,14 +56,18 @@ impl From<AllocError> for ExecFault {
     }
 }
 
-// Reads all there is, or more than a script may have.
-fn read_script<R: Read>(alloc: Global, reader: &mut R) -> Result<Vec<u8>, ExecFault>
+// Reads all there is, or more than a script may have. Each read but the last gives a byte of a script that isn't too long.
+fn read_script<R: ScriptReader>(alloc: Global, reader: &mut R) -> Result<Vec<u8>, ExecFault>
     ensures whole { IfOk result (λ text. IfSome (R.remaining reader.old) (λ input. ReadsWhole input text.items)) }
     ensures err { IfErr result (λ fault. IfSome (R.remaining reader.old) (λ input. CanBeUnread fault input)) }
+    ensures given { IfOk result (λ text. GivesScript (R.remaining reader.old) text.items (R.remaining reader.new)) }
+    ensures some { OnErr result (GivesSome (R.remaining reader.old) (R.remaining reader.new)) }
+    ensures fault { IfErr result (λ fault. fault ≢ ExecFault.Write) }
+    ensures reads { CountsUpTo 1048577 (R.reads reader.old) (R.reads reader.new) }
 {
     let mut text = Vec::new(alloc);
     let mut chunk = [0; 4096];
-    for _turn in 0..1_048_578_usize {
+    for _turn in 0..1_048_577_usize {
         let Ok(n) = reader.read(&mut chunk) else {
             return Err(ExecFault::Read);
         };
@@ -126,14 +132,16 @@ fn run<M: QueueMachine, W: Write>(
 
 /// Reads a script and writes its transcript.
 ///
-/// Reads to the end first (at most 1,048,578 reads), then writes line by line with as many writes as
-/// it takes; a write that takes no byte is a fault.
+/// Reads to the end first, or until a script is too long (at most 1,048,577 reads, and no more than 4,096
+/// bytes behind the longest script), then writes line by line with as many writes as it takes; a write that
+/// takes no byte is a fault.
 ///
 /// # Errors
 /// [`ExecFault`]: memory was refused, or a read or a write failed. What was written then is a prefix of
 /// the transcript: whole answers after want of memory, not all of it after a failed write, and nothing after
-/// a failed read (`specs/CutShort.antt`).
-pub fn exec<M: QueueMachine + Drop, R: Read, W: Write>(
+/// a failed read (`specs/CutShort.antt`). The reader then has given some of its first bytes; all of a script
+/// where a write failed (`specs/Reading.antt`).
+pub fn exec<M: QueueMachine + Drop, R: ScriptReader, W: Write>(
     alloc: Global,
     reader: &mut R,
     writer: &mut W,
@@ -141,6 +149,8 @@ pub fn exec<M: QueueMachine + Drop, R: Read, W: Write>(
     ensures ok { OnOk result (WritesTranscript (R.remaining reader.old) (W.contents writer.old) (W.contents writer.new)) }
     ensures err { IfErr result (λ fault. WritesPrefix fault (R.remaining reader.old) (W.contents writer.old) (W.contents writer.new)) }
     ensures unread { result ≡ Err ExecFault.Read → writer.new ≡ writer.old }
+    ensures given { GivesUntil (R.remaining reader.old) result (R.remaining reader.new) }
+    ensures reads { CountsUpTo 1048577 (R.reads reader.old) (R.reads reader.new) }
 {
     let text = match read_script(alloc, reader) {
         Ok(text) => text,

@@ -1,7 +1,9 @@
 //! Readers and writers that give and take little, or fail, and memory that is refused.
 
+ghost use Rattle.std.specs.Prelude.{◌≤◌, IfSome};
+
 use crate::still::Still;
-use fl_transcript::{ExecFault, exec};
+use fl_transcript::{ExecFault, ScriptReader, exec};
 use std::alloc::Global;
 use std::io;
 use std::io::{Read, Write};
@@ -41,6 +43,28 @@ impl Read for Source<'_> {
             return Err(io::Error::from(io::ErrorKind::Other));
         }
         let n = self.rest.len().min(buf.len()).min(self.step);
+        buf[..n].copy_from_slice(&self.rest[..n]);
+        self.rest = &self.rest[n..];
+        Ok(n)
+    }
+}
+
+// Bytes that are read one a call, with a count of the calls.
+#[derive(Drop)]
+struct Counter<'a> {
+    rest: &'a [u8],
+    calls: Option<usize>,
+}
+
+impl ScriptReader for Counter<'_> {
+    ghost reads = { λ r. r.calls };
+
+    fn read(&mut self, buf: &mut [u8]) -> io::Result<usize> {
+        self.calls = match self.calls {
+            Some(calls) => calls.checked_add(1),
+            None => None,
+        };
+        let n = self.rest.len().min(buf.len()).min(1);
         buf[..n].copy_from_slice(&self.rest[..n]);
         self.rest = &self.rest[n..];
         Ok(n)
@@ -99,6 +123,20 @@ impl Write for Sheet {
 
 fn run(alloc: Global, reader: &mut Source<'_>, writer: &mut Sheet) -> Result<(), ExecFault> {
     exec::<Still, _, _>(alloc, reader, writer)
+}
+
+// How often a script is read: a count that `exec` bounds, whatever the script is.
+fn reads_of(alloc: Global, script: &[u8], writer: &mut Sheet) -> Option<usize>
+    ensures { IfSome result (λ calls. calls ≤ 1048577) }
+{
+    let mut reader = Counter {
+        rest: script,
+        calls: Some(0),
+    };
+    match exec::<Still, _, _>(alloc, &mut reader, writer) {
+        Ok(()) => reader.calls,
+        Err(_) => None,
+    }
 }
 
 // The fault, and that what was written until then is a prefix of the transcript.
@@ -173,7 +211,16 @@ fn memory_is_refused(rt: HostRuntime) {
     }
 }
 
-// A reader that gives one byte a call is asked at most 1,048,578 times, however long its script is.
+// A byte a call, and one call more that finds the end.
+#[test]
+fn reads_are_counted(rt: HostRuntime) {
+    let mut writer = Sheet::new(512, 0, 0);
+    let calls = reads_of(rt.alloc(), SCRIPT, &mut writer);
+    assert_eq!(rt; calls, Some(SCRIPT.len() + 1));
+    assert_eq!(rt; writer.written(), TRANSCRIPT);
+}
+
+// A reader that gives one byte a call is asked at most 1,048,577 times, however long its script is.
 #[test]
 fn reads_are_few(rt: HostRuntime) -> Result<(), Fail> {
     let mut script = Vec::with_capacity(rt.alloc(), 1_048_600)?;
@@ -184,7 +231,7 @@ fn reads_are_few(rt: HostRuntime) -> Result<(), Fail> {
     let mut writer = Sheet::new(16, 0, 0);
     assert_eq!(rt; run(rt.alloc(), &mut reader, &mut writer), Ok(()));
     assert_eq!(rt; writer.written(), b"".as_slice());
-    assert!(rt; reader.calls <= 1_048_578);
+    assert!(rt; reader.calls <= 1_048_577);
     for _ in 0..24u32 {
         script.push(b'\n')?;
     }
@@ -192,6 +239,6 @@ fn reads_are_few(rt: HostRuntime) -> Result<(), Fail> {
     let mut writer = Sheet::new(16, 0, 0);
     assert_eq!(rt; run(rt.alloc(), &mut reader, &mut writer), Ok(()));
     assert_eq!(rt; writer.written(), b"refused E91\n".as_slice());
-    assert!(rt; reader.calls <= 1_048_578);
+    assert!(rt; reader.calls <= 1_048_577);
     Ok(())
 }
