@@ -19,6 +19,7 @@ mod LoggedRefusals
 mod Neighbours
 mod Back
 mod Whole
+mod Ample
 mod Unbound
 mod Ruled
 mod RuledEnds

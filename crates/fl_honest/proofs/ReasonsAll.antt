@@ -30,7 +30,7 @@ use Rattle.fl_jobs.specs.Jobs.{Job}
 use Rattle.fl_dockets.specs.declared.docket.Bound.{Bound}
 use Rattle.fl_dockets.specs.Joined.{core_of}
 use Rattle.fl_dockets.specs.State.{TheJoined}
-use Rattle.fl_honest.specs.Cores.{OneCore, shared_ways}
+use Rattle.fl_honest.specs.Cores.{OneCore, shared_ways, AllAmple}
 use Rattle.fl_honest.specs.Circuits.{Leading}
 use Rattle.fl_honest.specs.Named.{Has}
 use Rattle.fl_honest.specs.Neighbours.{IsUnused}
@@ -93,7 +93,7 @@ cores_reason on jobs c v unused =
       asking = asking_of on jobs c v unused;
       reasoned = (log_keeps_by (AreReasonedFrom names Wishes t0) jobs (reasons_kept names jobs Wishes (own_wished jobs c.start) t0) shared_ways on c.log c.start c.finish v.went.goes (λ l. []) (λ l. []) refl (own_wish jobs c.start) v.led v.table
           (at_start names Wishes c unused)).2;
-      desks = λ e. elim (log_tells shared_ways on names jobs Wishes (own_wished jobs c.start) t0 e c.log c.start c.finish v.went.goes (λ l. []) (λ l. []) refl (own_wish jobs c.start) v.led
+      desks = λ ample e. elim (log_tells shared_ways on names jobs Wishes (own_wished jobs c.start) t0 e c.log c.start c.finish v.went.goes (λ l. []) (λ l. []) ample refl (own_wish jobs c.start) v.led
           (none_placed jobs c v unused) v.table (at_start names Wishes c unused)) [
             | inl same ↦ inl same
             | inr told ↦ inr (told_at jobs c.start (λ l. of_circuit 0 (taken_from l (log_steps shared_ways jobs c.log c.start c.finish v.went.goes))) (refusal_at c.finish e) told)
@@ -302,24 +302,21 @@ module _ (rings : RingsConserve) (prefix : CircuitsPrefix) (reason : CoresReason
       let less = g.less in
       omega (arith, places, less)
 
-  desk_told : (n : ℕ) (c : OneCore) (e : EndId) → slice_get cores n ≡ Some c → refusal_at c.start e ≡ 0
-      → (refusal_at c.finish e ≡ 0) ⊎ IsReason (refusal_at c.finish e) ⊎ (refusal_at c.finish e ≡ 99)
-  desk_told n c e is none = elim ((went n c is).desks e) [
+  desk_told : AllAmple cores → (n : ℕ) (c : OneCore) (e : EndId) → slice_get cores n ≡ Some c → refusal_at c.start e ≡ 0
+      → (refusal_at c.finish e ≡ 0) ⊎ IsReason (refusal_at c.finish e)
+  desk_told ample n c e is none = elim ((went n c is).desks (ample n c is) e) [
     | inl same ↦ inl (same ∙ none)
     | inr told ↦ elim told [
-      | inl h ↦ inr (inl (heard_good n c is h.link h.state h.frag h.circuit (refusal_at c.finish e) h.state_is h.has h.says))
+      | inl h ↦ inr (heard_good n c is h.link h.state h.frag h.circuit (refusal_at c.finish e) h.state_is h.has h.says)
       | inr others ↦ elim others [
-        | inl good ↦ inr (inl good)
-        | inr rest ↦ elim rest [
-          | inl again ↦ absurd (not_again n c is again)
-          | inr memory ↦ inr (inr memory)
-        ]
+        | inl good ↦ inr good
+        | inr again ↦ absurd (not_again n c is again)
       ]
     ]
   ]
 
 pub desks_tell : RingsConserve → CircuitsPrefix → CoresReason → DesksTellReasons
-desks_tell rings prefix reason asked j cores names programs all n c e is none = desk_told rings prefix reason asked j cores names programs all n c e is none
+desks_tell rings prefix reason asked j cores names programs all ample n c e is none = desk_told rings prefix reason asked j cores names programs all ample n c e is none
 
 pub reasons_alone : RingsConserve → CircuitsPrefix → CoresReason → ReasonsAlone
 reasons_alone rings prefix reason asked j cores names programs all n c is = record {

@@ -1,6 +1,6 @@
 -- What stands at desks as refused: what one event adds, and a log.
 use Rattle.std.proofs.Common.{◌≡◌, ◌⊎◌, inl, inr, refl, sym, ap, ◌∙◌, subst, ℕ, nat_lt, not, is_some, List, [], ◌∷◌, ◌++◌, length, slice_get, slice_set}
-use Rattle.std.proofs.Common.{Option, Some, None, Result, Ok, Err}
+use Rattle.std.proofs.Common.{Option, Some, None, Result, Ok, Err, false}
 use Rattle.std.specs.Option.{option_map}
 use Rattle.std.proofs.lemmas.Bool.{cases_eq}
 use Rattle.fl_base.specs.declared.fragment.Frag.{Frag}
@@ -53,6 +53,7 @@ use Rattle.fl_running.specs.Run.{Ways, TheRun, AtDesk}
 use Rattle.fl_running.specs.Deeds.{Deed, looked, passed, arrived, heard, said, told, opened, called, ruled, wrote, acked, turned, Does, NotesHeard, NotesOpened, NotesCalled, NotesTurned, Notes}
 use Rattle.fl_running.specs.Led.{IsLed}
 use Rattle.fl_running.specs.Logs.{InPlace, Goes}
+use Rattle.fl_running.specs.Steps.{lacks_to_open}
 use Rattle.fl_running.specs.Words.{refusal_at}
 use Rattle.fl_running.proofs.Aside.{core_aside}
 use Rattle.fl_running.proofs.Carrying.{five, not_there}
@@ -60,6 +61,7 @@ use Rattle.fl_running.proofs.Handling.{desks_stay, as_many, same_place}
 use Rattle.fl_running.proofs.Laning.{steps_of, event_steps}
 use Rattle.fl_running.proofs.Leads.{does_led}
 use Rattle.fl_running.proofs.Stepping.{log_steps, end_stays}
+use Rattle.fl_honest.specs.Cores.{IsAmple, AreAmple}
 use Rattle.fl_honest.specs.Named.{Has}
 use Rattle.fl_ring.specs.SharedSides.{TheSide}
 use Rattle.fl_honest.specs.Reasons.{IsReason, CameUnder, IsOwnWish, WasHeard, IsRefusedAt}
@@ -279,7 +281,7 @@ pub record Again (jobs : List Job) (t0 : TheCircuits) (s : TheRun TheSide) (hs :
 
 -- a refusal that a core starting so tells of what it heard since
 abbrev pub Tells : List Job → TheCircuits → TheRun TheSide → (ℕ → List Frag) → ℕ → Type 0
-Tells jobs t0 s hs r = WasHeard t0 hs r ⊎ IsReason r ⊎ Again jobs t0 s hs ⊎ (r ≡ 99)
+Tells jobs t0 s hs r = WasHeard t0 hs r ⊎ IsReason r ⊎ Again jobs t0 s hs
 
 module _ (jobs : List Job) (t0 : TheCircuits) where
   more_told : (s : TheRun TheSide) (hs hs2 : ℕ → List Frag) → ((l : ℕ) (f : Frag) → Has f (hs l) → Has f (hs2 l)) → (r : ℕ) → Tells jobs t0 s hs r → Tells jobs t0 s hs2 r
@@ -293,7 +295,7 @@ module _ (jobs : List Job) (t0 : TheCircuits) where
     says = h.says;
   })
   more_told s hs hs2 more r (inr (inl good)) = inr (inl good)
-  more_told s hs hs2 more r (inr (inr (inl a))) = inr (inr (inl (record {
+  more_told s hs hs2 more r (inr (inr a)) = inr (inr (record {
     name = a.name;
     wish = a.wish;
     job = a.job;
@@ -302,14 +304,13 @@ module _ (jobs : List Job) (t0 : TheCircuits) where
     opening = a.opening;
     came = came_more t0 hs hs2 more a.link a.number a.opening a.came;
     binding_is = a.binding_is;
-  })))
-  more_told s hs hs2 more r (inr (inr (inr memory))) = inr (inr (inr memory))
+  }))
 
   -- a desk has had its jobs before
   told_before : (s u : TheRun TheSide) (hs : ℕ → List Frag) → JobsStay s.desks u.desks → (r : ℕ) → Tells jobs t0 u hs r → Tells jobs t0 s hs r
   told_before s u hs stay r (inl h) = inl h
   told_before s u hs stay r (inr (inl good)) = inr (inl good)
-  told_before s u hs stay r (inr (inr (inl a))) = inr (inr (inl (record {
+  told_before s u hs stay r (inr (inr a)) = inr (inr (record {
     name = a.name;
     wish = a.wish;
     job = job_before jobs s u a.name a.wish stay a.job;
@@ -318,8 +319,7 @@ module _ (jobs : List Job) (t0 : TheCircuits) where
     opening = a.opening;
     came = a.came;
     binding_is = a.binding_is;
-  })))
-  told_before s u hs stay r (inr (inr (inr memory))) = inr (inr (inr memory))
+  }))
 
 -- in the words of the law
 pub own_wish : (jobs : List Job) (s : TheRun TheSide) (name : EndId) (wish : Wish) → JobAt jobs s name wish → IsOwnWish jobs s wish.opening
@@ -338,7 +338,7 @@ own_wish jobs s name wish a = record {
 pub told_at : (jobs : List Job) (s : TheRun TheSide) (hs : ℕ → List Frag) (r : ℕ) → Tells jobs s.core.monitor.circuits s hs r → IsRefusedAt jobs s hs r
 told_at jobs s hs r (inl h) = inl h
 told_at jobs s hs r (inr (inl good)) = inr (inl good)
-told_at jobs s hs r (inr (inr (inl a))) = inr (inr (inl (record {
+told_at jobs s hs r (inr (inr a)) = inr (inr (record {
   own = a.wish.opening;
   wished = own_wish jobs s a.name a.wish a.job;
   link = a.link;
@@ -346,8 +346,7 @@ told_at jobs s hs r (inr (inr (inl a))) = inr (inr (inl (record {
   opening = a.opening;
   came = a.came;
   binding_is = a.binding_is;
-})))
-told_at jobs s hs r (inr (inr (inr memory))) = inr (inr (inr memory))
+}))
 
 -- ---- over an event
 
@@ -379,53 +378,50 @@ module _ (w : Ways TheSide) (names : List TheRegistration) (Wishes : Opening →
       })
 
   opens_told : (name : EndId) (wish : Wish) (fault : OpenFault) (r : ℕ) (by : InPlace jobs s (opened name wish (Err fault))) (h : Does w (opened name wish (Err fault)) s m)
-      → NewOpened (Err fault) r → Then (opened name wish (Err fault)) by h r
-  opens_told name wish fault r by h new =
+      → lacks_to_open (Err fault) ≡ false → NewOpened (Err fault) r → Then (opened name wish (Err fault)) by h r
+  opens_told name wish fault r by h ample new =
       let (number, other) = new_opened fault r new in
-      elim (refused_here (asked wish.dispatcher h.event.program wish.link wish.opening) s.core m.core fault h.event.asks other) [
+      elim (refused_here (asked wish.dispatcher h.event.program wish.link wish.opening) s.core m.core fault h.event.asks other ample) [
         | inl good ↦ inr (inl (subst IsReason (sym number) good))
-        | inr others ↦ elim others [
-          | inl stood ↦ elim (entry_came names Wishes t0 said_so heard_so s.core.monitor sound holds.2 wish.opening.binding (has_entry s.core.monitor.circuits wish.opening.binding stood)) [
-            | inl own ↦
-                (let (p, at) = placed own.0 own.1 (client_of wish.opening.binding) own.2 in
-                let tests = five (nat_lt wish.dispatcher (length s.core.board.dispatchers)) (nat_lt wish.interface (length s.offers.programs)) (nat_lt wish.opening.binding 1024)
-                (not (is_some (place_of s.core (client_of wish.opening.binding)))) (can_say s.core.monitor.outboxes wish.link.0) by.1 in
-                let none = not_there (place_of s.core (client_of wish.opening.binding)) tests.1 in
-                let clash : Some p ≡ None = sym at ∙ none in absurd (cc))
-            | inr came ↦ inr (inr (inl (record {
-              name = name;
-              wish = wish;
-              job = job_there jobs s name wish by.0;
-              link = came.0;
-              number = came.1;
-              opening = came.2;
-              came = came_more t0 heard_so (then_heard heard_so []) (λ l f has. has_first f (heard_so l) [] has) came.0 came.1 came.2 came.3;
-              binding_is = came.4;
-            })))
-          ]
-          | inr memory ↦ inr (inr (inr (number ∙ memory)))
+        | inr stood ↦ elim (entry_came names Wishes t0 said_so heard_so s.core.monitor sound holds.2 wish.opening.binding (has_entry s.core.monitor.circuits wish.opening.binding stood)) [
+          | inl own ↦
+              (let (p, at) = placed own.0 own.1 (client_of wish.opening.binding) own.2 in
+              let tests = five (nat_lt wish.dispatcher (length s.core.board.dispatchers)) (nat_lt wish.interface (length s.offers.programs)) (nat_lt wish.opening.binding 1024)
+              (not (is_some (place_of s.core (client_of wish.opening.binding)))) (can_say s.core.monitor.outboxes wish.link.0) by.1 in
+              let none = not_there (place_of s.core (client_of wish.opening.binding)) tests.1 in
+              let clash : Some p ≡ None = sym at ∙ none in absurd (cc))
+          | inr came ↦ inr (inr (record {
+            name = name;
+            wish = wish;
+            job = job_there jobs s name wish by.0;
+            link = came.0;
+            number = came.1;
+            opening = came.2;
+            came = came_more t0 heard_so (then_heard heard_so []) (λ l f has. has_first f (heard_so l) [] has) came.0 came.1 came.2 came.3;
+            binding_is = came.4;
+          }))
         ]
       ]
 
-  event_tells : (deed : Deed) (by : InPlace jobs s deed) (h : Does w deed s m) (r : ℕ) → New deed r → Then deed by h r
-  event_tells (heard n l frag (Ok (heard_as.OpeningRefused f reason))) by h r new =
+  event_tells : (deed : Deed) (by : InPlace jobs s deed) (h : Does w deed s m) (r : ℕ) → IsAmple deed → New deed r → Then deed by h r
+  event_tells (heard n l frag (Ok (heard_as.OpeningRefused f reason))) by h r ample new =
       subst (Then (heard n l frag (Ok (heard_as.OpeningRefused f reason))) by h) (sym new) (hears_told n l frag f reason by h)
-  event_tells (heard n l frag (Ok heard_as.Full)) by h r new = absurd new
-  event_tells (heard n l frag (Ok heard_as.Done)) by h r new = absurd new
-  event_tells (heard n l frag (Ok (heard_as.Opened f))) by h r new = absurd new
-  event_tells (heard n l frag (Err fault)) by h r new = absurd new
-  event_tells (opened name wish (Ok k)) by h r new = absurd new
-  event_tells (opened name wish (Err fault)) by h r new = opens_told name wish fault r by h new
-  event_tells (looked n l answer) by h r new = absurd new
-  event_tells (passed n k frag c answer) by h r new = absurd new
-  event_tells (arrived n l frag f answer) by h r new = absurd new
-  event_tells (said n l answer) by h r new = absurd new
-  event_tells (told n l answer) by h r new = absurd new
-  event_tells (called f c answer) by h r new = absurd new
-  event_tells (ruled f msg reply answer) by h r new = absurd new
-  event_tells (wrote f out answer) by h r new = absurd new
-  event_tells (acked f n answer) by h r new = absurd new
-  event_tells (turned d f from answer) by h r new = absurd new
+  event_tells (heard n l frag (Ok heard_as.Full)) by h r ample new = absurd new
+  event_tells (heard n l frag (Ok heard_as.Done)) by h r ample new = absurd new
+  event_tells (heard n l frag (Ok (heard_as.Opened f))) by h r ample new = absurd new
+  event_tells (heard n l frag (Err fault)) by h r ample new = absurd new
+  event_tells (opened name wish (Ok k)) by h r ample new = absurd new
+  event_tells (opened name wish (Err fault)) by h r ample new = opens_told name wish fault r by h ample new
+  event_tells (looked n l answer) by h r ample new = absurd new
+  event_tells (passed n k frag c answer) by h r ample new = absurd new
+  event_tells (arrived n l frag f answer) by h r ample new = absurd new
+  event_tells (said n l answer) by h r ample new = absurd new
+  event_tells (told n l answer) by h r ample new = absurd new
+  event_tells (called f c answer) by h r ample new = absurd new
+  event_tells (ruled f msg reply answer) by h r ample new = absurd new
+  event_tells (wrote f out answer) by h r ample new = absurd new
+  event_tells (acked f n answer) by h r ample new = absurd new
+  event_tells (turned d f from answer) by h r ample new = absurd new
 
 -- ---- over a log
 
@@ -440,12 +436,12 @@ module _ (w : Ways TheSide) (on : OnAnotherCircuit) (names : List TheRegistratio
         | inr new ↦ (new.stands.place, ap (λ (k : TheCore). place_of k name) aside ∙ new.stands.here.sits.here)
       ]
 
-  pub log_tells : (log : List Deed) (s t : TheRun TheSide) (h : Goes w jobs s log t) (said_so heard_so : ℕ → List Frag) → s.offers.names ≡ names
+  pub log_tells : (log : List Deed) (s t : TheRun TheSide) (h : Goes w jobs s log t) (said_so heard_so : ℕ → List Frag) → AreAmple log → s.offers.names ≡ names
       → ((name : EndId) (wish : Wish) → JobAt jobs s name wish → Wishes wish.opening) → IsLed s.core → Placed s.core
       → Sound t.core.monitor.circuits → AreReasonedFrom names Wishes t0 said_so heard_so s.core.monitor
       → (refusal_at t e ≡ refusal_at s e) ⊎ Tells jobs t0 s (then_heard heard_so (log_steps w jobs log s t h)) (refusal_at t e)
-  log_tells [] s t h said_so heard_so offers own led placed sound n = inl (ap (λ (x : TheRun TheSide). refusal_at x e) h)
-  log_tells (deed ∷ log) s t h said_so heard_so offers own led placed sound n =
+  log_tells [] s t h said_so heard_so ample offers own led placed sound n = inl (ap (λ (x : TheRun TheSide). refusal_at x e) h)
+  log_tells (deed ∷ log) s t h said_so heard_so ample offers own led placed sound n =
       let m = h.1.0 in
       let u = h.0 in
       let aside : u.core ≡ m.core = core_aside m u deed h.1.2 in
@@ -458,12 +454,12 @@ module _ (w : Ways TheSide) (on : OnAnotherCircuit) (names : List TheRegistratio
       let led_u : IsLed u.core = subst IsLed (sym aside) (does_led w jobs s m h.1.3.core h.1.3.table led deed h.2 h.1.1) in
       let still : u.offers.names ≡ names = ap (λ (o : Offers). o.names) (offers_stay w deed s m u h.1.1 h.1.2) ∙ offers in
       let own_u = λ (name : EndId) (wish : Wish) (a : JobAt jobs u name wish). own name wish (job_before jobs s u name wish (event_jobs w deed s m u h.1.1 h.1.2) a) in
-      elim (log_tells log u t h.3 (then_said said_so first) (then_heard heard_so first) still own_u led_u (placed_on deed log s t h placed) sound now) [
+      elim (log_tells log u t h.3 (then_said said_so first) (then_heard heard_so first) ample.1 still own_u led_u (placed_on deed log s t h placed) sound now) [
         | inl same ↦ elim (event_notes w deed s m u e h.1.1 h.1.2) [
           | inl before ↦ inl (same ∙ before)
           | inr new ↦ inr (more_told jobs t0 s (then_heard heard_so first) (then_heard heard_so (first ++ rest))
               (λ l f has. subst (Has f) (sym (heard_joins heard_so first rest l)) (has_first f (then_heard heard_so first l) (of_circuit 0 (taken_from l rest)) has)) (refusal_at t e)
-              (event_tells w names Wishes t0 jobs said_so heard_so s m h.1.3.table placed n deed h.2 h.1.1 (refusal_at t e) (subst (New deed) (sym same) new)))
+              (event_tells w names Wishes t0 jobs said_so heard_so s m h.1.3.table placed n deed h.2 h.1.1 (refusal_at t e) ample.0 (subst (New deed) (sym same) new)))
         ]
         | inr later ↦ inr (more_told jobs t0 s (then_heard (then_heard heard_so first) rest) (then_heard heard_so (first ++ rest))
             (λ l f has. subst (Has f) (sym (heard_joins heard_so first rest l)) has) (refusal_at t e)

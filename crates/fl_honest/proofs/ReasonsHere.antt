@@ -32,6 +32,7 @@ use Rattle.fl_node.specs.declared.fault.OpenFault.TheVariants as opening
 use Rattle.fl_node.specs.Faults.{open_number}
 use Rattle.fl_node.specs.Making.{Asked, Asks}
 use Rattle.fl_node.specs.View.{TheCore, client_of}
+use Rattle.fl_running.specs.Steps.{lacks_to_open}
 use Rattle.fl_running.proofs.Tables.{way_of}
 use Rattle.fl_honest.specs.Reasons.{IsReason, CameUnder, AreReasoned}
 use Rattle.fl_honest.proofs.Neighbours.{leads_of}
@@ -112,30 +113,28 @@ stands_by true true o h = refl
 stands_by true false o h = absurd (used_up o h)
 stands_by false b o h = absurd (cc)
 
--- for a reason; since an entry of the binding stands; or for want of memory
-by_board : (b : TheBoard) (n : ℕ) (s : TheEnd) (kind : Kind) (fault : BoardFault) → Adds b n s kind (Err fault) b → IsReason (open_number (opening.Board fault)) ⊎ (open_number (opening.Board fault) ≡ 99)
-by_board b n s kind board.TooManyEnds h = inl (inl refl)
-by_board b n s kind board.Memory h = inr refl
-by_board b n s kind board.NotBound h = absurd h
-by_board b n s kind board.Registered h = absurd h
-by_board b n s kind board.NotRegistered h = absurd h
-by_board b n s kind board.Failed h = absurd h
+-- for a reason, or since an entry of the binding stands, where memory wasn't wanted
+by_board : (b : TheBoard) (n : ℕ) (s : TheEnd) (kind : Kind) (fault : BoardFault) → Adds b n s kind (Err fault) b → lacks_to_open (Err (opening.Board fault)) ≡ false
+    → IsReason (open_number (opening.Board fault))
+by_board b n s kind board.TooManyEnds h ample = inl refl
+by_board b n s kind board.Memory h ample = absurd (cc)
+by_board b n s kind board.NotBound h ample = absurd h
+by_board b n s kind board.Registered h ample = absurd h
+by_board b n s kind board.NotRegistered h ample = absurd h
+by_board b n s kind board.Failed h ample = absurd h
 
 by_monitor : (l : LinkId) (o : Opening) (m : TheMonitor) (fault : MonitorFault) → Opens l o m (Err fault) m → (fault ≡ monitor.OutboxFull → ⊥)
-    → IsReason (open_number (opening.Monitor fault)) ⊎ (stands m.circuits o.binding ≡ true) ⊎ (open_number (opening.Monitor fault) ≡ 99)
-by_monitor l o m monitor.OutboxFull h some = absurd (some refl)
-by_monitor l o m monitor.Memory h some = inr (inr refl)
-by_monitor l o m monitor.NoRoute h some = inl (inr (inl refl))
-by_monitor l o m monitor.UsedUp h some = inl (inr (inr refl))
-by_monitor l o m monitor.Astray h some =
-    inr (inl (stands_by (nat_lt l.0 (length m.circuits.links)) (stands m.circuits o.binding) (next_own m.circuits l.0) h.0))
-by_monitor l o m monitor.Differs h some = absurd h.0
-by_monitor l o m monitor.PlansDiffer h some = absurd h.0
+    → lacks_to_open (Err (opening.Monitor fault)) ≡ false → IsReason (open_number (opening.Monitor fault)) ⊎ (stands m.circuits o.binding ≡ true)
+by_monitor l o m monitor.OutboxFull h some ample = absurd (some refl)
+by_monitor l o m monitor.Memory h some ample = absurd (cc)
+by_monitor l o m monitor.NoRoute h some ample = inl (inr (inl refl))
+by_monitor l o m monitor.UsedUp h some ample = inl (inr (inr refl))
+by_monitor l o m monitor.Astray h some ample =
+    inr (stands_by (nat_lt l.0 (length m.circuits.links)) (stands m.circuits o.binding) (next_own m.circuits l.0) h.0)
+by_monitor l o m monitor.Differs h some ample = absurd h.0
+by_monitor l o m monitor.PlansDiffer h some ample = absurd h.0
 
 pub refused_here : (a : Asked) (k k2 : TheCore) (fault : OpenFault) → Asks a k (Err fault) k2 → (fault ≡ opening.Monitor monitor.OutboxFull → ⊥)
-    → IsReason (open_number fault) ⊎ (stands k.monitor.circuits a.opening.binding ≡ true) ⊎ (open_number fault ≡ 99)
-refused_here a k k2 (opening.Board fault) h some = elim (by_board k.board a.dispatcher (fresh a.program None) Queue fault h.0) [
-  | inl good ↦ inl good
-  | inr memory ↦ inr (inr memory)
-]
-refused_here a k k2 (opening.Monitor fault) h some = by_monitor a.link a.opening k.monitor fault h.1 (λ is. some (ap opening.Monitor is))
+    → lacks_to_open (Err fault) ≡ false → IsReason (open_number fault) ⊎ (stands k.monitor.circuits a.opening.binding ≡ true)
+refused_here a k k2 (opening.Board fault) h some ample = inl (by_board k.board a.dispatcher (fresh a.program None) Queue fault h.0 ample)
+refused_here a k k2 (opening.Monitor fault) h some ample = by_monitor a.link a.opening k.monitor fault h.1 (λ is. some (ap opening.Monitor is)) ample

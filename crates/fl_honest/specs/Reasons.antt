@@ -28,7 +28,7 @@ use Rattle.fl_running.specs.Words.{refusal_at}
 use Rattle.fl_jobs.specs.Jobs.{Job}
 use Rattle.fl_compile.specs.Programs.{TheProgram}
 use Rattle.fl_dockets.specs.State.{TheJoined}
-use Rattle.fl_honest.specs.Cores.{OneCore}
+use Rattle.fl_honest.specs.Cores.{OneCore, AreAmple, AllAmple}
 use Rattle.fl_honest.specs.Circuits.{Leading}
 use Rattle.fl_honest.specs.Named.{Has}
 use Rattle.fl_honest.specs.Neighbours.{IsUnused}
@@ -118,18 +118,18 @@ pub record AskedAgain (jobs : List CoreJob) (s : TheRun TheSide) (heard : ℕ �
   pub came : CameUnder s.core.monitor.circuits heard link number opening
   pub binding_is : opening.binding ≡ own.binding
 
--- why a refusal stands at a desk: as was heard; for a reason of this core's own; since an entry of the binding stood there (67); or for want of memory (99)
+-- why a refusal stands at a desk: as was heard; for a reason of this core's own; or since an entry of the binding stood there (67)
 abbrev pub IsRefusedAt : List CoreJob → TheRun TheSide → (ℕ → List Frag) → ℕ → Type 0
-IsRefusedAt jobs s heard reason = WasHeard s.core.monitor.circuits heard reason ⊎ IsReason reason ⊎ AskedAgain jobs s heard ⊎ (reason ≡ 99)
+IsRefusedAt jobs s heard reason = WasHeard s.core.monitor.circuits heard reason ⊎ IsReason reason ⊎ AskedAgain jobs s heard
 
 -- ---- one core. Law
 
--- so it is of a core, with what it asked for
+-- so it is of a core, with what it asked for; at desks, where memory was never wanted for an opening
 pub record GoesReasoned (jobs : List CoreJob) (c : OneCore) : Type 0 where
   pub asking : GoesAsking jobs c
   pub reasoned : AreReasoned c.start.offers.names (IsOwnWish jobs c.start) c.start.core.monitor.circuits
       (λ l. of_circuit 0 (put_on l asking.steps)) (λ l. of_circuit 0 (taken_from l asking.steps)) c.finish.core.monitor
-  pub desks : (e : EndId) → (refusal_at c.finish e ≡ refusal_at c.start e)
+  pub desks : AreAmple c.log → (e : EndId) → (refusal_at c.finish e ≡ refusal_at c.start e)
       ⊎ IsRefusedAt jobs c.start (λ l. of_circuit 0 (taken_from l asking.steps)) (refusal_at c.finish e)
 
 -- in every run of a core that had nothing to say before
@@ -149,8 +149,8 @@ abbrev pub ReasonsAlone : Type 0
 ReasonsAlone = (asked : List Job) (j : TheJoined) (cores : List OneCore) (names : List TheRegistration) (programs : List TheProgram)
     → AreSetUp asked j cores names programs → (n : ℕ) (c : OneCore) → slice_get cores n ≡ Some c → HearsReasons j.jobs c
 
--- so a refusal that stands at a desk in the end is for a reason, where none stood there as the run began; or memory was wanted
+-- so a refusal that stands at a desk in the end is for a reason, where none stood there as the run began, and memory was never wanted for an opening
 abbrev pub DesksTellReasons : Type 0
 DesksTellReasons = (asked : List Job) (j : TheJoined) (cores : List OneCore) (names : List TheRegistration) (programs : List TheProgram)
-    → AreSetUp asked j cores names programs → (n : ℕ) (c : OneCore) (e : EndId) → slice_get cores n ≡ Some c
-    → refusal_at c.start e ≡ 0 → (refusal_at c.finish e ≡ 0) ⊎ IsReason (refusal_at c.finish e) ⊎ (refusal_at c.finish e ≡ 99)
+    → AreSetUp asked j cores names programs → AllAmple cores → (n : ℕ) (c : OneCore) (e : EndId) → slice_get cores n ≡ Some c
+    → refusal_at c.start e ≡ 0 → (refusal_at c.finish e ≡ 0) ⊎ IsReason (refusal_at c.finish e)

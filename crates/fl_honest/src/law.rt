@@ -3,7 +3,7 @@
 ghost use Rattle.fl_honest.specs.Crossing.{ThroughQueues, ThroughRings};
 ghost use Rattle.fl_honest.specs.Bindings.{PartiesAreHonest, ReportsAreHonest, OffLinksIsHonest};
 ghost use Rattle.fl_honest.specs.Circuits.{CircuitsAreHonest};
-ghost use Rattle.fl_honest.specs.Cores.{CoresGo};
+ghost use Rattle.fl_honest.specs.Cores.{CoresGo, CoresGoAmply};
 ghost use Rattle.fl_honest.specs.Neighbours.{CoresName, NeighboursAgree, EntriesLeadBack};
 ghost use Rattle.fl_honest.specs.Back.{RoutesGoBack};
 ghost use Rattle.fl_honest.specs.Answered.{CoresAnswer, NeighboursOpen};
@@ -26,9 +26,10 @@ use fl_running::{
     turns_are_logged,
 };
 
-/// A core's whole run, the turns that were counted and those that weren't, is a log.
+/// A core's whole run, the turns that were counted and those that weren't, is a log; and one in which no opening is refused for want of memory.
 pub fn cores_go()
     ensures goes { CoresGo }
+    ensures amply { CoresGoAmply }
 {
     counted_are_turns::<SharedSide>();
     turns_are_logged::<SharedSide>();
@@ -316,7 +317,7 @@ pub fn reasons_alone()
     circuits_join();
 }
 
-/// And the number for which a desk has its opening as refused in the end is that of a reason, or of want of memory.
+/// And the number for which a desk has its opening as refused in the end is that of a reason, where memory was never wanted for an opening.
 pub fn desks_tell_reasons()
     ensures tell { DesksTellReasons }
 {
