@@ -46,7 +46,9 @@ mod Forth
 mod Standing
 mod Lone
 mod Runs
+mod ReasonsOwn
 mod Reasoned
+mod ReasonsKept
 mod ReasonedHears
 mod ReasonsHere
 mod ReasonsDesks

@@ -18,13 +18,14 @@ use Rattle.fl_hop.specs.Table.{TheCircuits}
 use Rattle.fl_hop.proofs.Lists.{at_within}
 use Rattle.fl_monitor.specs.declared.message.Message.TheVariants.{CircuitRefused}
 use Rattle.fl_monitor.specs.declared.opening.Opening.{Opening}
-use Rattle.fl_monitor.specs.Monitors.{TheMonitor}
+use Rattle.fl_monitor.specs.Monitors.{TheMonitor, asks}
 use Rattle.fl_monitor.specs.Routing.{is_core}
 use Rattle.fl_monitor.specs.Saying.{Says}
 use Rattle.fl_running.specs.Words.{refusal_at}
 use Rattle.fl_running.proofs.Stepping.{log_steps}
 use Rattle.fl_running.specs.declared.job.Job.{Job as CoreJob}
 use Rattle.fl_running.specs.declared.job.Job.TheVariants as job
+use Rattle.fl_running.specs.declared.job.Wish.{Wish}
 use Rattle.fl_node.specs.View.{client_of}
 use Rattle.fl_jobs.specs.Jobs.{Job}
 use Rattle.fl_dockets.specs.declared.docket.Bound.{Bound}
@@ -38,7 +39,7 @@ use Rattle.fl_honest.specs.Asked.{IsWished, CameAlong, AreBeside}
 use Rattle.fl_honest.specs.Whole.{HasOwn}
 use Rattle.fl_honest.specs.Meeting.{IsPaired}
 use Rattle.fl_honest.specs.Runs.{AreSetUp}
-use Rattle.fl_honest.specs.Reasons.{IsReason, CameUnder, IsRefusedFor, AreReasoned, GoesReasoned, CoresReason, IsOwnWish, AskedAgain, ReasonsAlone, DesksTellReasons}
+use Rattle.fl_honest.specs.Reasons.{IsReason, Refuses, RefusesWish, CameUnder, IsRefusedFor, AreReasoned, GoesReasoned, CoresReason, IsOwnWish, WasRefused, AskedAgain, RefusesOne, IsRefused, ReasonsAlone, DesksTellReasons, RefusedForReason}
 use Rattle.fl_honest.proofs.AskedCores.{asking_of}
 use Rattle.fl_honest.proofs.AskedLaid.{laid_same}
 use Rattle.fl_honest.proofs.AskedRoutes.{stands_behind, side_there, heard_wished}
@@ -64,7 +65,7 @@ unused_reasoned names Wishes t m u = record {
     | inr waits ↦ absurd (none_waits f (slice_get m.outboxes l) (u.outboxes l) waits)
   ];
   told = λ l n hop there at. (let (k, less, is) = there.among in let none = (u.counts l there.link there.there).1 in absurd (omega (arith, less, none)));
-  passed = λ l n hop x d here at way. (let (k, less, is) = here.among in let none = (u.counts l here.link here.there).0 in absurd (omega (arith, less, none)));
+  given = λ l n hop here at. (let (k, less, is) = here.among in let none = (u.counts l here.link here.there).0 in absurd (omega (arith, less, none)));
   refused = λ l f c reason has says_it. elim has [
     | inl none ↦ absurd none
     | inr waits ↦ absurd (none_waits f (slice_get m.outboxes l) (u.outboxes l) waits)
@@ -96,7 +97,8 @@ cores_reason on jobs c v unused =
       desks = λ ample e. elim (log_tells shared_ways on names jobs Wishes (own_wished jobs c.start) t0 e c.log c.start c.finish v.went.goes (λ l. []) (λ l. []) ample refl (own_wish jobs c.start) v.led
           (none_placed jobs c v unused) v.table (at_start names Wishes c unused)) [
             | inl same ↦ inl same
-            | inr told ↦ inr (told_at jobs c.start (λ l. of_circuit 0 (taken_from l (log_steps shared_ways jobs c.log c.start c.finish v.went.goes))) (refusal_at c.finish e) told)
+            | inr told ↦ inr (told_at jobs c.finish.core.monitor e (λ l. of_circuit 0 (put_on l (log_steps shared_ways jobs c.log c.start c.finish v.went.goes))) c.start
+                (λ l. of_circuit 0 (taken_from l (log_steps shared_ways jobs c.log c.start c.finish v.went.goes))) (refusal_at c.finish e) told)
           ];
     }
 
@@ -132,7 +134,7 @@ module _ (rings : RingsConserve) (prefix : CircuitsPrefix) (reason : CoresReason
   Came n c is l i o = CameUnder c.start.core.monitor.circuits (Heard n c is) l i o
 
   abbrev Why : (n : ℕ) (c : OneCore) → slice_get cores n ≡ Some c → Opening → ℕ → Type 0
-  Why n c is o r = IsRefusedFor c.start.offers.names (Said n c is) (Heard n c is) c.finish.core.monitor o r
+  Why n c is o r = IsRefusedFor c.start.offers.names c.start.core.monitor.circuits (Said n c is) (Heard n c is) c.finish.core.monitor o r
 
   -- what is asked for between cores is for a service that is there
   is_offered : (n : ℕ) (c : OneCore) (is : slice_get cores n ≡ Some c) (l i : ℕ) (o : Opening) → Came n c is l i o → by_iref o.service.0 c.start.offers.names ≡ None → ⊥
@@ -195,10 +197,10 @@ module _ (rings : RingsConserve) (prefix : CircuitsPrefix) (reason : CoresReason
 
   -- ---- forth along the route
 
-  -- an opening that came to a core at this place of its route was refused there for a reason, whatever it was refused for further on
+  -- an opening that came to a core at this place of its route was refused there, or by a core further on
   why_good : (most n : ℕ) (c : OneCore) (is : slice_get cores n ≡ Some c) (l i : ℕ) (o : Opening) (r place : ℕ) → Came n c is l i o → Why n c is o r
-      → position (is_core c.start.core.monitor.circuits.core) o.path ≡ Some place → length o.path ≤ place + most → IsReason r
-  why_good most n c is l i o r place came (inl good) at within = good
+      → position (is_core c.start.core.monitor.circuits.core) o.path ≡ Some place → length o.path ≤ place + most → RefusesOne cores o r
+  why_good most n c is l i o r place came (inl own) at within = record { place = n; core = c; core_is = is; why = own }
   why_good most n c is l i o r place came (inr (inl lacks)) at within = absurd (is_offered n c is l i o came lacks)
   why_good zero n c is l i o r place came (inr (inr h)) at within =
       let found = position-Some (is_core c.start.core.monitor.circuits.core) o.path place (link_core c) at in
@@ -221,13 +223,31 @@ module _ (rings : RingsConserve) (prefix : CircuitsPrefix) (reason : CoresReason
       let less = b.less in
       why_good most x.place x.core x.core_is x.link h.circuit.0 o r b.place came3 why3 b.place_is (omega (arith, before, less, within))
 
+  -- what a core heard to be refused was asked for there, under that number, and one of the cores refuses it
+  record WasAsked (n : ℕ) (c : OneCore) (is : slice_get cores n ≡ Some c) (l : ℕ) (i : Circuit) (r : ℕ) : Type 0 where
+    pub opening : Opening
+    pub frag : Frag
+    pub has : Has frag (Said n c is l)
+    pub circuit : Circuit
+    pub number : circuit.0 ≡ i.0
+    pub says : Says frag (asks circuit opening)
+    pub refused : RefusesOne cores opening r
+
   heard_good : (n : ℕ) (c : OneCore) (is : slice_get cores n ≡ Some c) (l : ℕ) (link : LinkState) (f : Frag) (i : Circuit) (r : ℕ) → slice_get c.start.core.monitor.circuits.links l ≡ Some link
-      → Has f (Heard n c is l) → Says f (CircuitRefused i r) → IsReason r
+      → Has f (Heard n c is l) → Says f (CircuitRefused i r) → WasAsked n c is l i r
   heard_good n c is l link f i r there has says_it =
       let x = across_start n c is l link there in
       let (o, came, why) = (went x.place x.core x.core_is).reasoned.refused x.link f i r (inl (x.said f has)) says_it in
       let b = stands_behind x.core.start.core.monitor.circuits x.link o.path came.along in
-      why_good (length o.path) x.place x.core x.core_is x.link i.0 o r b.place came why b.place_is (omega arith)
+      record {
+        opening = o;
+        frag = came.frag;
+        has = x.heard came.frag came.has;
+        circuit = came.circuit;
+        number = came.number;
+        says = came.says;
+        refused = why_good (length o.path) x.place x.core x.core_is x.link i.0 o r b.place came why b.place_is (omega arith);
+      }
 
   -- ---- at desks
 
@@ -302,14 +322,41 @@ module _ (rings : RingsConserve) (prefix : CircuitsPrefix) (reason : CoresReason
       let less = g.less in
       omega (arith, places, less)
 
+  -- the opening of an own wish is refused, which is that of the end
+  of_wish : (n : ℕ) (c : OneCore) → slice_get cores n ≡ Some c → (e : EndId) (r : ℕ) (o : Opening) → IsOwnWish j.jobs c.start o → client_of o.binding ≡ e → RefusesOne cores o r
+      → IsRefused j.jobs cores c e r
+  of_wish n c is e r o w ends refused = record {
+    place = w.place;
+    wish = w.wish;
+    job_is = w.job_is;
+    end_is = ap (λ (x : Opening). client_of x.binding) w.opening_is ∙ ends;
+    why = inr (subst (λ (x : Opening). RefusesOne cores x r) (sym w.opening_is) refused);
+  }
+
+  -- a job of an end's desk wishes for an opening of that end's binding
+  of_desk : (n : ℕ) (c : OneCore) → slice_get cores n ≡ Some c → (e : EndId) (r : ℕ) → WasRefused j.jobs c.start c.finish.core.monitor.circuits e r → IsRefused j.jobs cores c e r
+  of_desk n c is e r x = by (all.own n c e x.desk is x.desk_is) where
+    by : (x.desk.jobs ≡ []) ⊎ HasOwn j n e x.desk.jobs → IsRefused j.jobs cores c e r
+    by (inl none) = absurd (let no : None ≡ Some x.place = sym (ap (λ (xs : List ℕ). slice_get xs x.turn) none) ∙ x.place_is in cc)
+    by (inr own) = record {
+      place = x.place;
+      wish = x.wish;
+      job_is = x.job_is;
+      end_is = opener asked j (length cores) all.joined e x.desk.jobs x.turn x.place (job.Open x.wish) own.jobs_are x.place_is x.job_is;
+      why = inl x.why;
+    }
+
   desk_told : AllAmple cores → (n : ℕ) (c : OneCore) (e : EndId) → slice_get cores n ≡ Some c → refusal_at c.start e ≡ 0
-      → (refusal_at c.finish e ≡ 0) ⊎ IsReason (refusal_at c.finish e)
+      → (refusal_at c.finish e ≡ 0) ⊎ IsRefused j.jobs cores c e (refusal_at c.finish e)
   desk_told ample n c e is none = elim ((went n c is).desks (ample n c is) e) [
     | inl same ↦ inl (same ∙ none)
     | inr told ↦ elim told [
-      | inl h ↦ inr (heard_good n c is h.link h.state h.frag h.circuit (refusal_at c.finish e) h.state_is h.has h.says)
+      | inl h ↦ inr
+          (let x = heard_good n c is h.link h.state h.frag h.circuit (refusal_at c.finish e) h.state_is h.has h.says in
+          let same : x.opening ≡ h.own = h.only x.frag x.circuit x.opening (inl x.has) x.number x.says in
+          of_wish n c is e (refusal_at c.finish e) h.own h.wished h.end_is (subst (λ (o : Opening). RefusesOne cores o (refusal_at c.finish e)) same x.refused))
       | inr others ↦ elim others [
-        | inl good ↦ inr good
+        | inl own ↦ inr (of_desk n c is e (refusal_at c.finish e) own)
         | inr again ↦ absurd (not_again n c is again)
       ]
     ]
@@ -321,5 +368,24 @@ desks_tell rings prefix reason asked j cores names programs all ample n c e is n
 pub reasons_alone : RingsConserve → CircuitsPrefix → CoresReason → ReasonsAlone
 reasons_alone rings prefix reason asked j cores names programs all n c is = record {
   goes = went rings prefix reason asked j cores names programs all n c is;
-  reasons = heard_good rings prefix reason asked j cores names programs all n c is;
+  reasons = λ l link f i r there has says_it.
+      (let x = heard_good rings prefix reason asked j cores names programs all n c is l link f i r there has says_it in (x.opening, x.refused));
 }
+
+-- ---- one of three
+
+by_heard : (t u : TheCircuits) (o : Opening) (r : ℕ) → Refuses t u o r → IsReason r
+by_heard t u o r (inl full) = inl full.0
+by_heard t u o r (inr (inl nowhere)) = inr (inl nowhere.0)
+by_heard t u o r (inr (inr used)) = inr (inr used.0)
+
+by_wish : (t u : TheCircuits) (w : Wish) (r : ℕ) → RefusesWish t u w r → IsReason r
+by_wish t u w r (inl full) = inl full
+by_wish t u w r (inr (inl nowhere)) = inr (inl nowhere.0)
+by_wish t u w r (inr (inr used)) = inr (inr used.0)
+
+pub for_reason : RefusedForReason
+for_reason jobs cores c e r x = elim x.why [
+  | inl own ↦ by_wish c.start.core.monitor.circuits c.finish.core.monitor.circuits x.wish r own
+  | inr y ↦ by_heard y.core.start.core.monitor.circuits y.core.finish.core.monitor.circuits x.wish.opening r y.why
+]

@@ -1,7 +1,8 @@
 -- Why a core refuses the opening that a job of its own asks for.
-use Rattle.std.proofs.Common.{◌≡◌, ◌⊎◌, inl, inr, refl, ap, ◌∙◌, ℕ, suc, ◌≤◌, ◌/◌, ◌%◌, ◌||◌, nat_lt, if◌then◌else◌}
+use Rattle.std.proofs.Common.{◌≡◌, ◌⊎◌, inl, inr, refl, ap, ◌∙◌, ℕ, zero, suc, ◌≤◌, ◌/◌, ◌%◌, ◌||◌, nat_lt, if◌then◌else◌}
 use Rattle.std.proofs.Common.{Bool, true, false, List, [], ◌∷◌, length, slice_get, Option, Some, None, Err, arith}
 use Rattle.std.specs.List.{list_any}
+use Rattle.std.proofs.lemmas.Bool.{ltb-true}
 use Rattle.std.proofs.lemmas.Bool.Decides.{nat_tests}
 use Rattle.fl_base.specs.declared.fragment.Frag.{Frag}
 use Rattle.fl_base.specs.declared.identity.LinkId.{LinkId}
@@ -16,13 +17,13 @@ use Rattle.fl_nameserv.specs.Registrations.{TheRegistration}
 use Rattle.fl_hop.specs.declared.entry.Hop.{Hop}
 use Rattle.fl_hop.specs.declared.entry.Way.{Way}
 use Rattle.fl_hop.specs.declared.entry.Way.TheVariants.{Link, End}
-use Rattle.fl_hop.specs.declared.fault.HopFault.TheVariants.{NoLink, Astray}
+use Rattle.fl_hop.specs.declared.fault.HopFault.TheVariants.{NoLink, Astray, UsedUp as NoNumber}
 use Rattle.fl_hop.specs.Joined.{Sound, Leads, IsClientWay}
 use Rattle.fl_hop.specs.Later.{way_at}
 use Rattle.fl_hop.specs.Numbers.{OpenedThere, next_own}
-use Rattle.fl_hop.specs.Openings.{if_used_up}
+use Rattle.fl_hop.specs.Openings.{if_used_up, open_fault}
 use Rattle.fl_hop.specs.Table.{TheCircuits, slot, hop_at, is_of, stands}
-use Rattle.fl_hop.proofs.Lists.{index_there}
+use Rattle.fl_hop.proofs.Lists.{at_within, index_there}
 use Rattle.fl_monitor.specs.declared.fault.MonitorFault.{MonitorFault}
 use Rattle.fl_monitor.specs.declared.fault.MonitorFault.TheVariants as monitor
 use Rattle.fl_monitor.specs.declared.opening.Opening.{Opening}
@@ -34,8 +35,9 @@ use Rattle.fl_node.specs.Making.{Asked, Asks}
 use Rattle.fl_node.specs.View.{TheCore, client_of}
 use Rattle.fl_running.specs.Steps.{lacks_to_open}
 use Rattle.fl_running.proofs.Tables.{way_of}
-use Rattle.fl_honest.specs.Reasons.{IsReason, CameUnder, AreReasoned}
+use Rattle.fl_honest.specs.Reasons.{IsUsedUp, CameUnder, AreReasoned}
 use Rattle.fl_honest.proofs.Neighbours.{leads_of}
+use Rattle.fl_honest.proofs.ReasonsOwn.{is_used_up}
 use Rattle.fl_honest.proofs.Refused.{test_true, less_true}
 
 -- ---- an entry of a binding
@@ -113,10 +115,42 @@ stands_by true true o h = refl
 stands_by true false o h = absurd (used_up o h)
 stands_by false b o h = absurd (cc)
 
+no_link_by : (a b : Bool) (o : Option ℕ) → (if a then (if b then Some Astray else if_used_up o) else Some NoLink) ≡ Some NoLink → a ≡ false
+no_link_by true true o h = absurd (cc)
+no_link_by true false None h = absurd (cc)
+no_link_by true false (Some n) h = absurd (cc)
+no_link_by false b o h = refl
+
+no_number_by : (a b : Bool) (o : Option ℕ) → (if a then (if b then Some Astray else if_used_up o) else Some NoLink) ≡ Some NoNumber → (a ≡ true) × (o ≡ None)
+no_number_by true true o h = absurd (cc)
+no_number_by true false None h = (refl, refl)
+no_number_by true false (Some n) h = absurd (cc)
+no_number_by false b o h = absurd (cc)
+
+none_past : {X : Type 0} (xs : List X) (l : ℕ) → length xs ≤ l → slice_get xs l ≡ None
+none_past [] l past = refl
+none_past (x ∷ xs) zero past = absurd (omega (arith, past))
+none_past (x ∷ xs) (suc l) past = none_past xs l (omega (arith, past))
+
+-- why a core whose table is this refuses the opening that is to begin on link l
+abbrev pub RefusesOn : TheCircuits → ℕ → ℕ → Type 0
+RefusesOn t l reason = (reason ≡ 54) ⊎ ((reason ≡ 73) × (slice_get t.links l ≡ None)) ⊎ ((reason ≡ 74) × IsUsedUp t l)
+
+no_link : (t : TheCircuits) (l binding : ℕ) → open_fault t l binding ≡ Some NoLink → slice_get t.links l ≡ None
+no_link t l binding h =
+    let past : nat_lt l (length t.links) ≡ false = no_link_by (nat_lt l (length t.links)) (stands t binding) (next_own t l) h in
+    none_past t.links l (grind (arith, nat_tests, past))
+
+no_number : (t : TheCircuits) (l binding : ℕ) → open_fault t l binding ≡ Some NoNumber → IsUsedUp t l
+no_number t l binding h =
+    let (inside, none) = no_number_by (nat_lt l (length t.links)) (stands t binding) (next_own t l) h in
+    let (link, at) = at_within t.links l (ltb-true l (length t.links) inside) in
+    is_used_up t l link at none
+
 -- for a reason, or since an entry of the binding stands, where memory wasn't wanted
 by_board : (b : TheBoard) (n : ℕ) (s : TheEnd) (kind : Kind) (fault : BoardFault) → Adds b n s kind (Err fault) b → lacks_to_open (Err (opening.Board fault)) ≡ false
-    → IsReason (open_number (opening.Board fault))
-by_board b n s kind board.TooManyEnds h ample = inl refl
+    → open_number (opening.Board fault) ≡ 54
+by_board b n s kind board.TooManyEnds h ample = refl
 by_board b n s kind board.Memory h ample = absurd (cc)
 by_board b n s kind board.NotBound h ample = absurd h
 by_board b n s kind board.Registered h ample = absurd h
@@ -124,17 +158,17 @@ by_board b n s kind board.NotRegistered h ample = absurd h
 by_board b n s kind board.Failed h ample = absurd h
 
 by_monitor : (l : LinkId) (o : Opening) (m : TheMonitor) (fault : MonitorFault) → Opens l o m (Err fault) m → (fault ≡ monitor.OutboxFull → ⊥)
-    → lacks_to_open (Err (opening.Monitor fault)) ≡ false → IsReason (open_number (opening.Monitor fault)) ⊎ (stands m.circuits o.binding ≡ true)
+    → lacks_to_open (Err (opening.Monitor fault)) ≡ false → RefusesOn m.circuits l.0 (open_number (opening.Monitor fault)) ⊎ (stands m.circuits o.binding ≡ true)
 by_monitor l o m monitor.OutboxFull h some ample = absurd (some refl)
 by_monitor l o m monitor.Memory h some ample = absurd (cc)
-by_monitor l o m monitor.NoRoute h some ample = inl (inr (inl refl))
-by_monitor l o m monitor.UsedUp h some ample = inl (inr (inr refl))
+by_monitor l o m monitor.NoRoute h some ample = inl (inr (inl (refl, no_link m.circuits l.0 o.binding h.0)))
+by_monitor l o m monitor.UsedUp h some ample = inl (inr (inr (refl, no_number m.circuits l.0 o.binding h.0)))
 by_monitor l o m monitor.Astray h some ample =
     inr (stands_by (nat_lt l.0 (length m.circuits.links)) (stands m.circuits o.binding) (next_own m.circuits l.0) h.0)
 by_monitor l o m monitor.Differs h some ample = absurd h.0
 by_monitor l o m monitor.PlansDiffer h some ample = absurd h.0
 
 pub refused_here : (a : Asked) (k k2 : TheCore) (fault : OpenFault) → Asks a k (Err fault) k2 → (fault ≡ opening.Monitor monitor.OutboxFull → ⊥)
-    → lacks_to_open (Err fault) ≡ false → IsReason (open_number fault) ⊎ (stands k.monitor.circuits a.opening.binding ≡ true)
-refused_here a k k2 (opening.Board fault) h some ample = inl (by_board k.board a.dispatcher (fresh a.program None) Queue fault h.0 ample)
+    → lacks_to_open (Err fault) ≡ false → RefusesOn k.monitor.circuits a.link.0 (open_number fault) ⊎ (stands k.monitor.circuits a.opening.binding ≡ true)
+refused_here a k k2 (opening.Board fault) h some ample = inl (inl (by_board k.board a.dispatcher (fresh a.program None) Queue fault h.0 ample))
 refused_here a k k2 (opening.Monitor fault) h some ample = by_monitor a.link a.opening k.monitor fault h.1 (λ is. some (ap opening.Monitor is)) ample

@@ -14,7 +14,7 @@ ghost use Rattle.fl_honest.specs.Asked.{CoresAsk, WishesAlone, ServersAreWished,
 ghost use Rattle.fl_honest.specs.Stands.{LedClientsStand, LedServersAreBound, PlannedEndsStand};
 ghost use Rattle.fl_honest.specs.Meeting.{WiredArePaired, BoundClientsMeet, LoneServersRest};
 ghost use Rattle.fl_honest.specs.Runs.{OffLinkIsHonest, OpenedIsHonest, RunsAreHonest};
-ghost use Rattle.fl_honest.specs.Reasons.{CoresReason, ReasonsAlone, DesksTellReasons};
+ghost use Rattle.fl_honest.specs.Reasons.{CoresReason, ReasonsAlone, DesksTellReasons, RefusedForReason};
 
 use fl_deal::rings_conserve;
 use fl_endpoint::on_another_circuit;
@@ -307,7 +307,7 @@ pub fn cores_reason()
     on_another_circuit();
 }
 
-/// So where cores were set up together, what is heard between them to be refused is for a reason: the way forth along the route ends, and what jobs wish for is
+/// So where cores were set up together, what is heard between them to be refused one of them refuses: the way forth along the route ends, and what jobs wish for is
 /// there.
 pub fn reasons_alone()
     ensures reasons { ReasonsAlone }
@@ -317,9 +317,11 @@ pub fn reasons_alone()
     circuits_join();
 }
 
-/// And the number for which a desk has its opening as refused in the end is that of a reason, where memory was never wanted for an opening.
+/// And where a desk has its opening as refused in the end, the core itself refuses it or one of those that heard it, for one of three reasons, where memory was
+/// never wanted for an opening.
 pub fn desks_tell_reasons()
     ensures tell { DesksTellReasons }
+    ensures reason { RefusedForReason }
 {
     cores_reason();
     rings_conserve();
