@@ -29,3 +29,5 @@ pub mod Ends
 pub mod Texts
 pub mod RunsSetUp
 pub mod Whole
+pub mod ReasonsSetUp
+pub mod Reasons

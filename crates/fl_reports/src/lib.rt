@@ -15,7 +15,7 @@ mod law;
 mod outcomes;
 mod run;
 
-pub use law::{runs_end_as_told, runs_report_honestly};
+pub use law::{refusals_have_reasons, runs_end_as_told, runs_report_honestly};
 pub use outcomes::{
     complete_has_all, dispatchers_handle_few, refused_are_opened, reports_are_of_runs,
     reports_handle_few, reports_keep_turns,

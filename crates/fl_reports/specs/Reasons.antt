@@ -1,0 +1,93 @@
+-- Why bindings are named as refused, by the jobs as cores do them and what the machine has behind the set-up. Public promises rest on this file.
+use Rattle.std.specs.Prelude.{ℕ, ◌≡◌, ◌⊎◌, ◌+◌, false, List, slice_get, Some, None}
+use Rattle.fl_base.specs.declared.identity.CoreId.{CoreId}
+use Rattle.fl_monitor.specs.Routing.{all_differ}
+use Rattle.fl_running.specs.declared.job.Job.TheVariants as job
+use Rattle.fl_running.specs.declared.job.Wish.{Wish}
+use Rattle.fl_queues.specs.Making.{has_link}
+use Rattle.fl_queues.specs.Monitors.{Core, link_to}
+use Rattle.fl_queues.specs.Runs.{reached}
+use Rattle.fl_queues.specs.State.{State, core_of}
+use Rattle.fl_queues.specs.Worlds.{start_with}
+use Rattle.fl_jobs.specs.Jobs.{Job}
+use Rattle.fl_jobs.specs.Report.{TheReport, refusal_of}
+use Rattle.fl_system.specs.Booting.{TheConfig}
+use Rattle.fl_dockets.specs.declared.docket.Bound.{Bound}
+use Rattle.fl_honest.specs.Reasons.{IsReason, IsUsedUp as UsedUp}
+use Rattle.fl_endings.specs.Cores.{OneCore}
+use Rattle.fl_cores.specs.Promised.{Reports}
+use Rattle.fl_reports.specs.Cores.{joined_in, cores_in}
+
+-- what the machine is behind the set-up
+abbrev pub behind : TheConfig → State
+behind c = reached (start_with c.cores) c.setup
+
+-- ---- no link (73)
+
+-- a core of the route has no link to the one behind it
+pub record HasGap (c : TheConfig) (path : List CoreId) : Type 0 where
+  pub place : ℕ
+  pub core : CoreId
+  pub core_is : slice_get path place ≡ Some core
+  pub next : CoreId
+  pub next_is : slice_get path (place + 1) ≡ Some next
+  pub none : has_link core.0 next.0 (behind c) ≡ false
+
+-- the link on which the route is to begin isn't one of the client's core
+pub record BeginsNowhere (c : TheConfig) (client : ℕ) (wish : Wish) : Type 0 where
+  pub core : Core
+  pub core_is : core_of (behind c) client ≡ Some core
+  pub none : slice_get core.circuits.links wish.link.0 ≡ None
+
+-- so it is of the job that opens the binding, as its core does it, or its route names a core twice
+pub record IsUnlinked {c : TheConfig} {jobs : List Job} {limit : ℕ} {r : TheReport} (w : Reports c jobs limit r) (n : ℕ) : Type 0 where
+  pub bound : Bound
+  pub bound_is : slice_get (joined_in w).bindings n ≡ Some bound
+  pub place : ℕ
+  pub wish : Wish
+  pub job_is : slice_get (joined_in w).jobs place ≡ Some (job.Open wish)
+  pub binding_is : wish.opening.binding ≡ n
+  pub why : HasGap c wish.opening.path ⊎ (all_differ wish.opening.path ≡ false) ⊎ BeginsNowhere c bound.client wish
+
+-- ---- no number left (74)
+
+-- core n gave all its numbers on link l, as it ended
+pub record IsUsedUp {c : TheConfig} {jobs : List Job} {limit : ℕ} {r : TheReport} (w : Reports c jobs limit r) (n l : ℕ) : Type 0 where
+  pub core : OneCore
+  pub core_is : slice_get (cores_in w) n ≡ Some core
+  pub used_up : UsedUp core.finish.core.monitor.circuits l
+
+-- the route leads from a core over such a link to the core behind it
+pub record LeadsOver {c : TheConfig} {jobs : List Job} {limit : ℕ} {r : TheReport} (w : Reports c jobs limit r) (path : List CoreId) : Type 0 where
+  pub place : ℕ
+  pub core : CoreId
+  pub core_is : slice_get path place ≡ Some core
+  pub next : CoreId
+  pub next_is : slice_get path (place + 1) ≡ Some next
+  pub behind_it : Core
+  pub behind_is : core_of (behind c) core.0 ≡ Some behind_it
+  pub link : ℕ
+  pub link_is : link_to next.0 behind_it ≡ Some link
+  pub used_up : IsUsedUp w core.0 link
+
+-- so does that of the job which opens the binding, as its core does it, or the link on which that is to begin is such a one
+pub record IsSpent {c : TheConfig} {jobs : List Job} {limit : ℕ} {r : TheReport} (w : Reports c jobs limit r) (n : ℕ) : Type 0 where
+  pub bound : Bound
+  pub bound_is : slice_get (joined_in w).bindings n ≡ Some bound
+  pub place : ℕ
+  pub wish : Wish
+  pub job_is : slice_get (joined_in w).jobs place ≡ Some (job.Open wish)
+  pub binding_is : wish.opening.binding ≡ n
+  pub why : LeadsOver w wish.opening.path ⊎ IsUsedUp w bound.client wish.link.0
+
+-- ---- law
+
+-- a binding is named as refused for a reason alone
+pub record HasReason {c : TheConfig} {jobs : List Job} {limit : ℕ} {r : TheReport} (w : Reports c jobs limit r) (n fault : ℕ) : Type 0 where
+  pub reason : IsReason fault
+  pub unlinked : fault ≡ 73 → IsUnlinked w n
+  pub spent : fault ≡ 74 → IsSpent w n
+
+abbrev pub RefusalsHaveReasons : Type 0
+RefusalsHaveReasons = (c : TheConfig) (jobs : List Job) (limit : ℕ) (r : TheReport) (w : Reports c jobs limit r) (n fault : ℕ)
+    → refusal_of r n ≡ Some fault → HasReason w n fault
