@@ -538,7 +538,7 @@ module _ (w : Ways TheSide) (on : OnAnotherCircuit) (names : List TheRegistratio
       → ((name : EndId) (wish : Wish) → JobAt jobs s name wish → Wishes wish.opening) → IsLed s.core → Placed s.core
       → Sound t.core.monitor.circuits → AreReasonedFrom names Wishes t0 said_so heard_so s.core.monitor
       → (refusal_at t e ≡ refusal_at s e) ⊎ Tells jobs Wishes t0 t.core.monitor e (then_said said_so (log_steps w jobs log s t h)) s
-          (then_heard heard_so (log_steps w jobs log s t h)) (refusal_at t e)
+      (then_heard heard_so (log_steps w jobs log s t h)) (refusal_at t e)
   log_tells [] s t h said_so heard_so ample offers own led placed sound n = inl (ap (λ (x : TheRun TheSide). refusal_at x e) h)
   log_tells (deed ∷ log) s t h said_so heard_so ample offers own led placed sound n =
       let m = h.1.0 in

@@ -91,18 +91,24 @@ refuses_later t u v o reason grows (inr (inr (is, x))) =
 -- and as its table was before
 pub refuses_laid : (t u : TheCircuits) (o : Opening) (reason : ℕ) → Laid t u → Refuses u u o reason → Refuses t u o reason
 refuses_laid t u o reason laid (inl (is, last)) = inl (is, ap (next_on o.path) (sym laid.core) ∙ last)
-refuses_laid t u o reason laid (inr (inl (is, x))) = inr (inl (is, record {
-  next = x.next;
-  next_is = ap (next_on o.path) (sym laid.core) ∙ x.next_is;
-  none = elim x.none [ inl none ↦ inl (sym (laid_link t u laid x.next.0) ∙ none) | inr twice ↦ inr twice ];
-}))
-refuses_laid t u o reason laid (inr (inr (is, x))) = inr (inr (is, record {
-  next = x.next;
-  next_is = ap (next_on o.path) (sym laid.core) ∙ x.next_is;
-  link = x.link;
-  link_is = sym (laid_link t u laid x.next.0) ∙ x.link_is;
-  used_up = x.used_up;
-}))
+refuses_laid t u o reason laid (inr (inl (is, x))) = inr (inl (
+  is,
+  record {
+    next = x.next;
+    next_is = ap (next_on o.path) (sym laid.core) ∙ x.next_is;
+    none = elim x.none [ inl none ↦ inl (sym (laid_link t u laid x.next.0) ∙ none) | inr twice ↦ inr twice ];
+  },
+))
+refuses_laid t u o reason laid (inr (inr (is, x))) = inr (inr (
+  is,
+  record {
+    next = x.next;
+    next_is = ap (next_on o.path) (sym laid.core) ∙ x.next_is;
+    link = x.link;
+    link_is = sym (laid_link t u laid x.next.0) ∙ x.link_is;
+    used_up = x.used_up;
+  },
+))
 
 -- ---- a route that turns back names a core twice
 

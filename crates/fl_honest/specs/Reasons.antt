@@ -193,7 +193,7 @@ pub record GoesReasoned (jobs : List CoreJob) (c : OneCore) : Type 0 where
       (λ l. of_circuit 0 (put_on l asking.steps)) (λ l. of_circuit 0 (taken_from l asking.steps)) c.finish.core.monitor
   pub desks : AreAmple c.log → (e : EndId) → (refusal_at c.finish e ≡ refusal_at c.start e)
       ⊎ IsRefusedAt jobs c.start (λ l. of_circuit 0 (put_on l asking.steps)) (λ l. of_circuit 0 (taken_from l asking.steps)) c.finish.core.monitor
-          e (refusal_at c.finish e)
+      e (refusal_at c.finish e)
 
 -- in every run of a core that had nothing to say before
 abbrev pub CoresReason : Type 0

@@ -257,7 +257,7 @@ module _ (fresh : SetUpsStartFresh) (tell : DesksTellReasons) (for_reason : Refu
       let (two, two_is) = is_there cores b.client (omega (arith, many, all_many, below)) in
       let t = twin b.client two two_is in
       let none : refusal_at two.start e ≡ 0 = ap (λ (s : TheRun TheSide). refusal_at s e) t.start
-          ∙ none_stands t.one.begin.run e (λ d is. ((ran.begins b.client t.one t.one_is).untouched e d is).refused) in
+      ∙ none_stands t.one.begin.run e (λ d is. ((ran.begins b.client t.one t.one_is).untouched e d is).refused) in
       let (number, some) = told_number (refusal_at t.one.finish e) fault (sym (ran.desks.refused n b t.one bound t.one_is) ∙ told) in
       let same : refusal_at two.finish e ≡ fault = ap (λ (s : TheRun TheSide). refusal_at s e) t.finish ∙ number in
       elim (tell asked j cores x.ran.parts.names (map program_of x.ran.parts.programs.items) set ample b.client two e two_is none) [
