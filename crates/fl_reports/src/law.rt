@@ -41,8 +41,8 @@ pub fn refusals_have_reasons()
     reports_are_of_runs();
 }
 
-/// `complete` is told only where all that was handed in was handled, at both ends of each binding that isn't told as refused; none of the set-up is, and neither
-/// end of one that is handled anything; each that is has its reason; and no dispatcher handled more calls than its core took turns.
+/// `complete` is told only where all that was handed in was handled, at both ends of each binding that isn't told as refused; none of the set-up is, and
+/// neither end of one that is handled anything; each that is has its reason; and no dispatcher handled more calls than its core took turns.
 pub fn runs_end_as_told()
     ensures ends { RunsEndAsTold }
 {
