@@ -12,6 +12,8 @@ use Rattle.fl_base.specs.declared.identity.Side.TheVariants.{Client, Server}
 use Rattle.fl_base.specs.declared.identity.Circuit.{Circuit}
 use Rattle.fl_base.specs.Control.{bare}
 use Rattle.fl_core.proofs.Places.{set_here, set_elsewhere}
+use Rattle.fl_core.specs.Sound.{IsBoard}
+use Rattle.fl_core.specs.View.{TheDispatcher}
 use Rattle.fl_core.specs.declared.answer.TurnAnswer.{TurnAnswer}
 use Rattle.fl_core.specs.declared.answer.TurnAnswer.TheVariants as turn
 use Rattle.fl_endpoint.specs.declared.fault.EndFault.{EndFault}
@@ -49,7 +51,7 @@ use Rattle.fl_node.specs.declared.fault.LinkFault.{LinkFault}
 use Rattle.fl_node.specs.declared.fault.OpenFault.{OpenFault}
 use Rattle.fl_node.specs.declared.fault.OpenFault.TheVariants as opening
 use Rattle.fl_node.specs.Faults.{open_number}
-use Rattle.fl_node.specs.Hearing.{Offers, known_for, offer_for, HearsAll, Follows}
+use Rattle.fl_node.specs.Hearing.{known_for, offer_for, HearsAll, Follows}
 use Rattle.fl_node.specs.Making.{asked}
 use Rattle.fl_node.specs.View.{TheCore, place_of, slot_of, client_of, with_monitor}
 use Rattle.fl_running.specs.declared.job.Job.{Job}
@@ -70,7 +72,7 @@ use Rattle.fl_running.proofs.Stepping.{log_steps, end_stays}
 use Rattle.fl_honest.specs.Cores.{IsAmple, AreAmple}
 use Rattle.fl_honest.specs.Named.{Has}
 use Rattle.fl_ring.specs.SharedSides.{TheSide}
-use Rattle.fl_honest.specs.Reasons.{IsUsedUp, RefusesWish, CameUnder, AsksOnly, IsFrom, IsOwnWish, WasHeard, IsRefusedAt}
+use Rattle.fl_honest.specs.Reasons.{IsUsedUp, RefusesWish, CameUnder, AsksOnly, IsFrom, IsOwnWish, WasHeard, WasFull, IsRefusedAt}
 use Rattle.fl_honest.specs.Asked.{IsWished}
 use Rattle.fl_honest.proofs.AskedDesks.{JobAt, job_there, JobsStay, job_before, event_jobs, offers_stay}
 use Rattle.fl_honest.proofs.AskedLaid.{beside}
@@ -78,7 +80,7 @@ use Rattle.fl_honest.proofs.Logged.{took_heard, then_said, then_heard, said_join
 use Rattle.fl_honest.proofs.Named.{has_first, has_last, opening_next}
 use Rattle.fl_honest.proofs.Neighbours.{leads_of}
 use Rattle.fl_honest.proofs.Reasoned.{came_more}
-use Rattle.fl_honest.proofs.ReasonedHears.{AreReasonedFrom, reasons_kept}
+use Rattle.fl_honest.proofs.ReasonedHears.{AreReasonedFrom, KnowsPlaces, reasons_kept}
 use Rattle.fl_honest.proofs.ReasonsHere.{RefusesOn, has_entry, entry_came, refused_here}
 use Rattle.fl_honest.proofs.ReasonsKept.{Remembers, remembers_kept, used_kept}
 use Rattle.fl_honest.proofs.ReasonsOwn.{laid_none}
@@ -323,18 +325,18 @@ pub record Again (jobs : List Job) (t0 : TheCircuits) (s : TheRun TheSide) (hs :
   pub binding_is : opening.binding ≡ wish.opening.binding
 
 -- a job of the end's desk wishes for an opening that this core refuses, whose table is u now
-pub record Here (jobs : List Job) (t0 u : TheCircuits) (e : EndId) (s : TheRun TheSide) (r : ℕ) : Type 0 where
+pub record Here (jobs : List Job) (Full : ℕ → Type 0) (t0 u : TheCircuits) (e : EndId) (s : TheRun TheSide) (r : ℕ) : Type 0 where
   pub wish : Wish
   pub job : JobAt jobs s e wish
-  pub why : RefusesWish t0 u wish r
+  pub why : RefusesWish Full t0 u wish r
 
 -- a refusal that a core starting so tells at the desk of an end, of what it heard since; in the end it said all this, and its monitor is m
-abbrev pub Tells : List Job → (Opening → Type 0) → TheCircuits → TheMonitor → EndId → (ℕ → List Frag) → TheRun TheSide → (ℕ → List Frag) → ℕ → Type 0
-Tells jobs Wishes t0 m e spoken s hs r = WasHeard Wishes t0 spoken hs m e r ⊎ Here jobs t0 m.circuits e s r ⊎ Again jobs t0 s hs
+abbrev pub Tells : List Job → (Opening → Type 0) → (ℕ → Type 0) → TheCircuits → TheMonitor → EndId → (ℕ → List Frag) → TheRun TheSide → (ℕ → List Frag) → ℕ → Type 0
+Tells jobs Wishes Full t0 m e spoken s hs r = WasHeard Wishes t0 spoken hs m e r ⊎ Here jobs Full t0 m.circuits e s r ⊎ Again jobs t0 s hs
 
-module _ (jobs : List Job) (Wishes : Opening → Type 0) (t0 : TheCircuits) (m : TheMonitor) (e : EndId) where
+module _ (jobs : List Job) (Wishes : Opening → Type 0) (Full : ℕ → Type 0) (t0 : TheCircuits) (m : TheMonitor) (e : EndId) where
   abbrev Told : (ℕ → List Frag) → TheRun TheSide → (ℕ → List Frag) → ℕ → Type 0
-  Told spoken s hs r = Tells jobs Wishes t0 m e spoken s hs r
+  Told spoken s hs r = Tells jobs Wishes Full t0 m e spoken s hs r
 
   more_told : (s : TheRun TheSide) (spoken spoken2 hs hs2 : ℕ → List Frag) → ((l : ℕ) (f : Frag) → Has f (spoken2 l) → Has f (spoken l)) → ((l : ℕ) (f : Frag) → Has f (hs l) → Has f (hs2 l))
       → (r : ℕ) → Told spoken s hs r → Told spoken2 s hs2 r
@@ -393,10 +395,10 @@ own_wish jobs s name wish a = record {
   opening_is = refl;
 }
 
-pub told_at : (jobs : List Job) (m : TheMonitor) (e : EndId) (spoken : ℕ → List Frag) (s : TheRun TheSide) (hs : ℕ → List Frag) (r : ℕ)
-    → Tells jobs (IsOwnWish jobs s) s.core.monitor.circuits m e spoken s hs r → IsRefusedAt jobs s spoken hs m e r
-told_at jobs m e spoken s hs r (inl h) = inl h
-told_at jobs m e spoken s hs r (inr (inl own)) = inr (inl (record {
+pub told_at : (jobs : List Job) (finish : TheRun TheSide) (e : EndId) (spoken : ℕ → List Frag) (s : TheRun TheSide) (hs : ℕ → List Frag) (r : ℕ)
+    → Tells jobs (IsOwnWish jobs s) (WasFull jobs finish) s.core.monitor.circuits finish.core.monitor e spoken s hs r → IsRefusedAt jobs s spoken hs finish e r
+told_at jobs finish e spoken s hs r (inl h) = inl h
+told_at jobs finish e spoken s hs r (inr (inl own)) = inr (inl (record {
   desk = own.job.desk;
   desk_is = own.job.desk_is;
   turn = own.job.turn;
@@ -406,7 +408,7 @@ told_at jobs m e spoken s hs r (inr (inl own)) = inr (inl (record {
   job_is = own.job.job_is;
   why = own.why;
 }))
-told_at jobs m e spoken s hs r (inr (inr a)) = inr (inr (record {
+told_at jobs finish e spoken s hs r (inr (inr a)) = inr (inr (record {
   own = a.wish.opening;
   wished = own_wish jobs s a.name a.wish a.job;
   link = a.link;
@@ -418,12 +420,13 @@ told_at jobs m e spoken s hs r (inr (inr a)) = inr (inr (record {
 
 -- ---- over an event
 
-module _ (w : Ways TheSide) (names : List TheRegistration) (Wishes : Opening → Type 0) (t0 : TheCircuits) (jobs : List Job) (said_so heard_so : ℕ → List Frag) (s m : TheRun TheSide) (sound : Sound s.core.monitor.circuits)
-    (placed : Placed s.core) (holds : AreReasonedFrom names Wishes t0 said_so heard_so s.core.monitor) (e : EndId) (said_last : ℕ → List Frag) (last : TheMonitor)
+module _ (w : Ways TheSide) (names : List TheRegistration) (NoPlace Wishes : Opening → Type 0) (t0 : TheCircuits) (jobs : List Job) (said_so heard_so : ℕ → List Frag) (s m : TheRun TheSide) (sound : Sound s.core.monitor.circuits)
+    (placed : Placed s.core) (holds : AreReasonedFrom names NoPlace Wishes t0 said_so heard_so s.core.monitor) (e : EndId) (said_last : ℕ → List Frag) (last : TheMonitor)
     (only : (l n : ℕ) (o : Opening) → OpenedHere s.core.monitor.circuits l n → AsksOnly said_so s.core.monitor l n o → AsksOnly said_last last l n o)
-    (grows : (l : ℕ) → IsUsedUp s.core.monitor.circuits l → IsUsedUp last.circuits l) where
+    (grows : (l : ℕ) → IsUsedUp s.core.monitor.circuits l → IsUsedUp last.circuits l) (Full : ℕ → Type 0)
+    (full : (d : ℕ) (x : TheDispatcher) → slice_get s.core.board.dispatchers d ≡ Some x → length x.ends ≡ 1024 → Full d) where
   abbrev Then : (deed : Deed) → InPlace jobs s deed → Does w deed s m → ℕ → Type 0
-  Then deed by h r = Tells jobs Wishes t0 last e said_last s (then_heard heard_so (event_steps w jobs deed s m by h)) r
+  Then deed by h r = Tells jobs Wishes Full t0 last e said_last s (then_heard heard_so (event_steps w jobs deed s m by h)) r
 
   hears_told : (n : ℕ) (l : LinkId) (frag : Frag) (f : EndId) (reason : ℕ) (by : InPlace jobs s (heard n l frag (Ok (heard_as.OpeningRefused f reason))))
       (h : Does w (heard n l frag (Ok (heard_as.OpeningRefused f reason))) s m) → f ≡ e → Then (heard n l frag (Ok (heard_as.OpeningRefused f reason))) by h reason
@@ -452,8 +455,8 @@ module _ (w : Ways TheSide) (names : List TheRegistration) (Wishes : Opening →
         end_is = ap client_of it.binding_is ∙ client_end s.core.monitor.circuits sound l.0 x.circuit.0 x.hop f x.waits.here x.waits.there x.way ∙ ends;
       })
 
-  refused_last : (wish : Wish) (r number : ℕ) → r ≡ number → RefusesOn s.core.monitor.circuits wish.link.0 number → RefusesWish t0 last.circuits wish r
-  refused_last wish r number same (inl full) = inl (same ∙ full)
+  refused_last : (wish : Wish) (r number : ℕ) → r ≡ number → RefusesOn (Full wish.dispatcher) s.core.monitor.circuits wish.link.0 number → RefusesWish Full t0 last.circuits wish r
+  refused_last wish r number same (inl (is, taken)) = inl (same ∙ is, taken)
   refused_last wish r number same (inr (inl (is, none))) = inr (inl (same ∙ is, laid_none t0 s.core.monitor.circuits holds.0 wish.link.0 none))
   refused_last wish r number same (inr (inr (is, used))) = inr (inr (same ∙ is, grows wish.link.0 used))
 
@@ -461,13 +464,13 @@ module _ (w : Ways TheSide) (names : List TheRegistration) (Wishes : Opening →
       → lacks_to_open (Err fault) ≡ false → name ≡ e → NewOpened (Err fault) r → Then (opened name wish (Err fault)) by h r
   opens_told name wish fault r by h ample ends new =
       let (number, other) = new_opened fault r new in
-      elim (refused_here (asked wish.dispatcher h.event.program wish.link wish.opening) s.core m.core fault h.event.asks other ample) [
+      elim (refused_here (Full wish.dispatcher) (asked wish.dispatcher h.event.program wish.link wish.opening) s.core m.core fault (full wish.dispatcher) h.event.asks other ample) [
         | inl why ↦ inr (inl (record {
           wish = wish;
           job = subst (λ (i : EndId). JobAt jobs s i wish) ends (job_there jobs s name wish by.0);
           why = refused_last wish r (open_number fault) number why;
         }))
-        | inr stood ↦ elim (entry_came names Wishes t0 said_so heard_so s.core.monitor sound holds.2 wish.opening.binding (has_entry s.core.monitor.circuits wish.opening.binding stood)) [
+        | inr stood ↦ elim (entry_came names NoPlace Wishes t0 said_so heard_so s.core.monitor sound holds.2 wish.opening.binding (has_entry s.core.monitor.circuits wish.opening.binding stood)) [
           | inl own ↦
               (let (p, at) = placed own.0 own.1 (client_of wish.opening.binding) own.2 in
               let tests = five (nat_lt wish.dispatcher (length s.core.board.dispatchers)) (nat_lt wish.interface (length s.offers.programs)) (nat_lt wish.opening.binding 1024)
@@ -509,8 +512,13 @@ module _ (w : Ways TheSide) (names : List TheRegistration) (Wishes : Opening →
 
 -- ---- over a log
 
-module _ (w : Ways TheSide) (on : OnAnotherCircuit) (names : List TheRegistration) (jobs : List Job) (Wishes : Opening → Type 0) (wished : (o : Opening) → Wishes o → IsWished jobs o)
-    (t0 : TheCircuits) (e : EndId) where
+module _ (w : Ways TheSide) (on : OnAnotherCircuit) (names : List TheRegistration) (jobs : List Job) (NoPlace Wishes : Opening → Type 0) (wished : (o : Opening) → Wishes o → IsWished jobs o)
+    (t0 : TheCircuits) (Full : ℕ → Type 0) (e : EndId) where
+  -- at each moment from which the core came to its end, it knows this when it hears a message
+  abbrev Knowing : TheRun TheSide → TheRun TheSide → Type 0
+  Knowing s t = (u : TheRun TheSide) (rest : List Deed) → Goes w jobs u rest t → IsBoard u.core.board → u.offers ≡ s.offers → (msg : Message)
+      → KnowsPlaces names NoPlace (known_for u.offers u.core msg) msg
+
   -- ends to which the table leads are there still
   placed_on : (deed : Deed) (log : List Deed) (s t : TheRun TheSide) → (h : Goes w jobs s (deed ∷ log) t) → Placed s.core → Placed h.0.core
   placed_on deed log s t h placed l n name way =
@@ -521,26 +529,28 @@ module _ (w : Ways TheSide) (on : OnAnotherCircuit) (names : List TheRegistratio
       ]
 
   -- what was asked for under a number that was given is all that ever is, and links stay used up
-  only_then : (log : List Deed) (s t : TheRun TheSide) (h : Goes w jobs s log t) (said_so heard_so : ℕ → List Frag) → s.offers.names ≡ names
+  only_then : (log : List Deed) (s t : TheRun TheSide) (h : Goes w jobs s log t) (said_so heard_so : ℕ → List Frag) → Knowing s t
       → ((name : EndId) (wish : Wish) → JobAt jobs s name wish → Wishes wish.opening) → IsLed s.core → Sound t.core.monitor.circuits
       → (l n : ℕ) (o : Opening) → OpenedHere s.core.monitor.circuits l n → AsksOnly said_so s.core.monitor l n o
       → AsksOnly (then_said said_so (log_steps w jobs log s t h)) t.core.monitor l n o
-  only_then log s t h said_so heard_so offers own led sound l n o here only =
-      (log_keeps_by (Remembers l n o) jobs (remembers_kept names Wishes l n o) w on log s t h said_so heard_so offers own led sound (here, only)).1
+  only_then log s t h said_so heard_so knows own led sound l n o here only =
+      (log_keeps_by (Remembers l n o) jobs (remembers_kept (KnowsPlaces names NoPlace) Wishes l n o) w on log s t h said_so heard_so knows own led sound (here, only)).1
 
-  used_then : (log : List Deed) (s t : TheRun TheSide) (h : Goes w jobs s log t) (said_so heard_so : ℕ → List Frag) → s.offers.names ≡ names
+  used_then : (log : List Deed) (s t : TheRun TheSide) (h : Goes w jobs s log t) (said_so heard_so : ℕ → List Frag) → Knowing s t
       → ((name : EndId) (wish : Wish) → JobAt jobs s name wish → Wishes wish.opening) → IsLed s.core → Sound t.core.monitor.circuits
       → (l : ℕ) → IsUsedUp s.core.monitor.circuits l → IsUsedUp t.core.monitor.circuits l
-  used_then log s t h said_so heard_so offers own led sound l used =
-      log_keeps_by (λ spoken listened m. IsUsedUp m.circuits l) jobs (used_kept names Wishes l) w on log s t h said_so heard_so offers own led sound used
+  used_then log s t h said_so heard_so knows own led sound l used =
+      log_keeps_by (λ spoken listened m. IsUsedUp m.circuits l) jobs (used_kept (KnowsPlaces names NoPlace) Wishes l) w on log s t h said_so heard_so knows own led sound used
 
-  pub log_tells : (log : List Deed) (s t : TheRun TheSide) (h : Goes w jobs s log t) (said_so heard_so : ℕ → List Frag) → AreAmple log → s.offers.names ≡ names
+  pub log_tells : (log : List Deed) (s t : TheRun TheSide) (h : Goes w jobs s log t) (said_so heard_so : ℕ → List Frag) → AreAmple log → Knowing s t
+      → ((u : TheRun TheSide) (rest : List Deed) → Goes w jobs u rest t → IsBoard u.core.board → (d : ℕ) (x : TheDispatcher) → slice_get u.core.board.dispatchers d ≡ Some x
+      → length x.ends ≡ 1024 → Full d)
       → ((name : EndId) (wish : Wish) → JobAt jobs s name wish → Wishes wish.opening) → IsLed s.core → Placed s.core
-      → Sound t.core.monitor.circuits → AreReasonedFrom names Wishes t0 said_so heard_so s.core.monitor
-      → (refusal_at t e ≡ refusal_at s e) ⊎ Tells jobs Wishes t0 t.core.monitor e (then_said said_so (log_steps w jobs log s t h)) s
+      → Sound t.core.monitor.circuits → AreReasonedFrom names NoPlace Wishes t0 said_so heard_so s.core.monitor
+      → (refusal_at t e ≡ refusal_at s e) ⊎ Tells jobs Wishes Full t0 t.core.monitor e (then_said said_so (log_steps w jobs log s t h)) s
       (then_heard heard_so (log_steps w jobs log s t h)) (refusal_at t e)
-  log_tells [] s t h said_so heard_so ample offers own led placed sound n = inl (ap (λ (x : TheRun TheSide). refusal_at x e) h)
-  log_tells (deed ∷ log) s t h said_so heard_so ample offers own led placed sound n =
+  log_tells [] s t h said_so heard_so ample knows fulls own led placed sound n = inl (ap (λ (x : TheRun TheSide). refusal_at x e) h)
+  log_tells (deed ∷ log) s t h said_so heard_so ample knows fulls own led placed sound n =
       let m = h.1.0 in
       let u = h.0 in
       let aside : u.core ≡ m.core = core_aside m u deed h.1.2 in
@@ -548,22 +558,22 @@ module _ (w : Ways TheSide) (on : OnAnotherCircuit) (names : List TheRegistratio
       let rest = log_steps w jobs log u t h.3 in
       let sound_u = sound_first w jobs log u t h.3 sound in
       let sound_m : Sound m.core.monitor.circuits = subst (λ (k : TheCore). Sound k.monitor.circuits) aside sound_u in
-      let one = does_keep (AreReasonedFrom names Wishes t0) jobs (reasons_kept names jobs Wishes wished t0) w on said_so heard_so s m h.1.3.core h.1.3.table sound_m led offers own n deed h.2 h.1.4 h.1.1 in
-      let now = subst (λ (k : TheCore). AreReasonedFrom names Wishes t0 (then_said said_so first) (then_heard heard_so first) k.monitor) (sym aside) one in
+      let one = does_keep (AreReasonedFrom names NoPlace Wishes t0) jobs (reasons_kept names jobs NoPlace Wishes wished t0) w on said_so heard_so s m h.1.3.core h.1.3.table sound_m led (knows s (deed ∷ log) h h.1.3.board refl) own n deed h.2 h.1.4 h.1.1 in
+      let now = subst (λ (k : TheCore). AreReasonedFrom names NoPlace Wishes t0 (then_said said_so first) (then_heard heard_so first) k.monitor) (sym aside) one in
       let led_u : IsLed u.core = subst IsLed (sym aside) (does_led w jobs s m h.1.3.core h.1.3.table led deed h.2 h.1.1) in
-      let still : u.offers.names ≡ names = ap (λ (o : Offers). o.names) (offers_stay w deed s m u h.1.1 h.1.2) ∙ offers in
+      let still : Knowing u t = λ v later_on g board same msg. knows v later_on g board (same ∙ offers_stay w deed s m u h.1.1 h.1.2) msg in
       let own_u = λ (name : EndId) (wish : Wish) (a : JobAt jobs u name wish). own name wish (job_before jobs s u name wish (event_jobs w deed s m u h.1.1 h.1.2) a) in
-      elim (log_tells log u t h.3 (then_said said_so first) (then_heard heard_so first) ample.1 still own_u led_u (placed_on deed log s t h placed) sound now) [
+      elim (log_tells log u t h.3 (then_said said_so first) (then_heard heard_so first) ample.1 still fulls own_u led_u (placed_on deed log s t h placed) sound now) [
         | inl same ↦ elim (event_notes w deed s m u e h.1.1 h.1.2) [
           | inl before ↦ inl (same ∙ before)
-          | inr new ↦ inr (more_told jobs Wishes t0 t.core.monitor e s (then_said said_so (first ++ rest)) (then_said said_so (first ++ rest)) (then_heard heard_so first)
+          | inr new ↦ inr (more_told jobs Wishes Full t0 t.core.monitor e s (then_said said_so (first ++ rest)) (then_said said_so (first ++ rest)) (then_heard heard_so first)
               (then_heard heard_so (first ++ rest)) (λ l f has. has) (λ l f has. subst (Has f) (sym (heard_joins heard_so first rest l)) (has_first f (then_heard heard_so first l) (of_circuit 0 (taken_from l rest)) has)) (refusal_at t e)
-              (event_tells w names Wishes t0 jobs said_so heard_so s m h.1.3.table placed n e (then_said said_so (first ++ rest)) t.core.monitor
-              (only_then (deed ∷ log) s t h said_so heard_so offers own led sound) (used_then (deed ∷ log) s t h said_so heard_so offers own led sound)
-              deed h.2 h.1.1 (refusal_at t e) ample.0 (subst (New e deed) (sym same) new)))
+              (event_tells w names NoPlace Wishes t0 jobs said_so heard_so s m h.1.3.table placed n e (then_said said_so (first ++ rest)) t.core.monitor
+              (only_then (deed ∷ log) s t h said_so heard_so knows own led sound) (used_then (deed ∷ log) s t h said_so heard_so knows own led sound)
+              Full (fulls s (deed ∷ log) h h.1.3.board) deed h.2 h.1.1 (refusal_at t e) ample.0 (subst (New e deed) (sym same) new)))
         ]
-        | inr later ↦ inr (more_told jobs Wishes t0 t.core.monitor e s (then_said (then_said said_so first) rest) (then_said said_so (first ++ rest))
+        | inr later ↦ inr (more_told jobs Wishes Full t0 t.core.monitor e s (then_said (then_said said_so first) rest) (then_said said_so (first ++ rest))
             (then_heard (then_heard heard_so first) rest) (then_heard heard_so (first ++ rest)) (λ l f has. subst (Has f) (said_joins said_so first rest l) has)
             (λ l f has. subst (Has f) (sym (heard_joins heard_so first rest l)) has) (refusal_at t e)
-            (told_before jobs Wishes t0 t.core.monitor e s u (then_said (then_said said_so first) rest) (then_heard (then_heard heard_so first) rest) (event_jobs w deed s m u h.1.1 h.1.2) (refusal_at t e) later))
+            (told_before jobs Wishes Full t0 t.core.monitor e s u (then_said (then_said said_so first) rest) (then_heard (then_heard heard_so first) rest) (event_jobs w deed s m u h.1.1 h.1.2) (refusal_at t e) later))
       ]

@@ -9,7 +9,7 @@ use Rattle.fl_base.specs.declared.identity.LinkId.{LinkId}
 use Rattle.fl_core.specs.declared.fault.BoardFault.{BoardFault}
 use Rattle.fl_core.specs.declared.fault.BoardFault.TheVariants as board
 use Rattle.fl_core.specs.Events.{Adds}
-use Rattle.fl_core.specs.View.{TheBoard}
+use Rattle.fl_core.specs.View.{TheDispatcher, TheBoard}
 use Rattle.fl_core.specs.declared.kind.Kind.{Kind}
 use Rattle.fl_core.specs.declared.kind.Kind.TheVariants.{Queue}
 use Rattle.fl_endpoint.specs.View.{TheEnd, fresh}
@@ -81,9 +81,9 @@ has_entry t binding h =
     }
 
 -- it leads to the client's end, or an opening of the binding was heard
-pub entry_came : (names : List TheRegistration) (Wishes : Opening → Type 0) (t0 : TheCircuits) (said heard : ℕ → List Frag) (m : TheMonitor) → Sound m.circuits → AreReasoned names Wishes t0 said heard m → (binding : ℕ) → HasEntry m.circuits binding
+pub entry_came : (names : List TheRegistration) (NoPlace Wishes : Opening → Type 0) (t0 : TheCircuits) (said heard : ℕ → List Frag) (m : TheMonitor) → Sound m.circuits → AreReasoned names NoPlace Wishes t0 said heard m → (binding : ℕ) → HasEntry m.circuits binding
     → ((l n : ℕ) × (way_at m.circuits l n ≡ Some (End (client_of binding)))) ⊎ ((l n : ℕ) × (o : Opening) × CameUnder t0 heard l n o × (o.binding ≡ binding))
-entry_came names Wishes t0 said heard m sound reasoned binding x = by x.hop.way refl where
+entry_came names NoPlace Wishes t0 said heard m sound reasoned binding x = by x.hop.way refl where
   leads : (way : Way) → x.hop.way ≡ way → Leads m.circuits x.link x.number binding way
   leads way same = leads_of m.circuits x.link x.number x.hop binding way x.at x.binding_is same
 
@@ -133,8 +133,8 @@ none_past (x ∷ xs) zero past = absurd (omega (arith, past))
 none_past (x ∷ xs) (suc l) past = none_past xs l (omega (arith, past))
 
 -- why a core whose table is this refuses the opening that is to begin on link l
-abbrev pub RefusesOn : TheCircuits → ℕ → ℕ → Type 0
-RefusesOn t l reason = (reason ≡ 54) ⊎ ((reason ≡ 73) × (slice_get t.links l ≡ None)) ⊎ ((reason ≡ 74) × IsUsedUp t l)
+abbrev pub RefusesOn : Type 0 → TheCircuits → ℕ → ℕ → Type 0
+RefusesOn Full t l reason = ((reason ≡ 54) × Full) ⊎ ((reason ≡ 73) × (slice_get t.links l ≡ None)) ⊎ ((reason ≡ 74) × IsUsedUp t l)
 
 no_link : (t : TheCircuits) (l binding : ℕ) → open_fault t l binding ≡ Some NoLink → slice_get t.links l ≡ None
 no_link t l binding h =
@@ -148,27 +148,29 @@ no_number t l binding h =
     is_used_up t l link at none
 
 -- for a reason, or since an entry of the binding stands, where memory wasn't wanted
-by_board : (b : TheBoard) (n : ℕ) (s : TheEnd) (kind : Kind) (fault : BoardFault) → Adds b n s kind (Err fault) b → lacks_to_open (Err (opening.Board fault)) ≡ false
-    → open_number (opening.Board fault) ≡ 54
-by_board b n s kind board.TooManyEnds h ample = refl
-by_board b n s kind board.Memory h ample = absurd (cc)
-by_board b n s kind board.NotBound h ample = absurd h
-by_board b n s kind board.Registered h ample = absurd h
-by_board b n s kind board.NotRegistered h ample = absurd h
-by_board b n s kind board.Failed h ample = absurd h
+by_board : (Full : Type 0) (b : TheBoard) (n : ℕ) (s : TheEnd) (kind : Kind) (fault : BoardFault)
+    → ((d : TheDispatcher) → slice_get b.dispatchers n ≡ Some d → length d.ends ≡ 1024 → Full) → Adds b n s kind (Err fault) b
+    → lacks_to_open (Err (opening.Board fault)) ≡ false → (open_number (opening.Board fault) ≡ 54) × Full
+by_board Full b n s kind board.TooManyEnds full h ample = (refl, full h.0.0 h.0.1 h.0.2)
+by_board Full b n s kind board.Memory full h ample = absurd (cc)
+by_board Full b n s kind board.NotBound full h ample = absurd h
+by_board Full b n s kind board.Registered full h ample = absurd h
+by_board Full b n s kind board.NotRegistered full h ample = absurd h
+by_board Full b n s kind board.Failed full h ample = absurd h
 
-by_monitor : (l : LinkId) (o : Opening) (m : TheMonitor) (fault : MonitorFault) → Opens l o m (Err fault) m → (fault ≡ monitor.OutboxFull → ⊥)
-    → lacks_to_open (Err (opening.Monitor fault)) ≡ false → RefusesOn m.circuits l.0 (open_number (opening.Monitor fault)) ⊎ (stands m.circuits o.binding ≡ true)
-by_monitor l o m monitor.OutboxFull h some ample = absurd (some refl)
-by_monitor l o m monitor.Memory h some ample = absurd (cc)
-by_monitor l o m monitor.NoRoute h some ample = inl (inr (inl (refl, no_link m.circuits l.0 o.binding h.0)))
-by_monitor l o m monitor.UsedUp h some ample = inl (inr (inr (refl, no_number m.circuits l.0 o.binding h.0)))
-by_monitor l o m monitor.Astray h some ample =
+by_monitor : (Full : Type 0) (l : LinkId) (o : Opening) (m : TheMonitor) (fault : MonitorFault) → Opens l o m (Err fault) m → (fault ≡ monitor.OutboxFull → ⊥)
+    → lacks_to_open (Err (opening.Monitor fault)) ≡ false → RefusesOn Full m.circuits l.0 (open_number (opening.Monitor fault)) ⊎ (stands m.circuits o.binding ≡ true)
+by_monitor Full l o m monitor.OutboxFull h some ample = absurd (some refl)
+by_monitor Full l o m monitor.Memory h some ample = absurd (cc)
+by_monitor Full l o m monitor.NoRoute h some ample = inl (inr (inl (refl, no_link m.circuits l.0 o.binding h.0)))
+by_monitor Full l o m monitor.UsedUp h some ample = inl (inr (inr (refl, no_number m.circuits l.0 o.binding h.0)))
+by_monitor Full l o m monitor.Astray h some ample =
     inr (stands_by (nat_lt l.0 (length m.circuits.links)) (stands m.circuits o.binding) (next_own m.circuits l.0) h.0)
-by_monitor l o m monitor.Differs h some ample = absurd h.0
-by_monitor l o m monitor.PlansDiffer h some ample = absurd h.0
+by_monitor Full l o m monitor.Differs h some ample = absurd h.0
+by_monitor Full l o m monitor.PlansDiffer h some ample = absurd h.0
 
-pub refused_here : (a : Asked) (k k2 : TheCore) (fault : OpenFault) → Asks a k (Err fault) k2 → (fault ≡ opening.Monitor monitor.OutboxFull → ⊥)
-    → lacks_to_open (Err fault) ≡ false → RefusesOn k.monitor.circuits a.link.0 (open_number fault) ⊎ (stands k.monitor.circuits a.opening.binding ≡ true)
-refused_here a k k2 (opening.Board fault) h some ample = inl (inl (by_board k.board a.dispatcher (fresh a.program None) Queue fault h.0 ample))
-refused_here a k k2 (opening.Monitor fault) h some ample = by_monitor a.link a.opening k.monitor fault h.1 (λ is. some (ap opening.Monitor is)) ample
+pub refused_here : (Full : Type 0) (a : Asked) (k k2 : TheCore) (fault : OpenFault)
+    → ((d : TheDispatcher) → slice_get k.board.dispatchers a.dispatcher ≡ Some d → length d.ends ≡ 1024 → Full) → Asks a k (Err fault) k2 → (fault ≡ opening.Monitor monitor.OutboxFull → ⊥)
+    → lacks_to_open (Err fault) ≡ false → RefusesOn Full k.monitor.circuits a.link.0 (open_number fault) ⊎ (stands k.monitor.circuits a.opening.binding ≡ true)
+refused_here Full a k k2 (opening.Board fault) full h some ample = inl (inl (by_board Full k.board a.dispatcher (fresh a.program None) Queue fault full h.0 ample))
+refused_here Full a k k2 (opening.Monitor fault) full h some ample = by_monitor Full a.link a.opening k.monitor fault h.1 (λ is. some (ap opening.Monitor is)) ample

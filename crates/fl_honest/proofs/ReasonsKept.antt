@@ -4,7 +4,6 @@ use Rattle.fl_base.specs.declared.fragment.Frag.{Frag}
 use Rattle.fl_base.specs.declared.identity.LinkId.{LinkId}
 use Rattle.fl_base.specs.declared.identity.Circuit.{Circuit}
 use Rattle.fl_base.specs.Control.{bare}
-use Rattle.fl_nameserv.specs.Registrations.{TheRegistration}
 use Rattle.fl_hop.specs.declared.entry.Way.{Way}
 use Rattle.fl_hop.specs.declared.entry.Way.TheVariants.{Link, End}
 use Rattle.fl_hop.specs.Joined.{Sound}
@@ -85,26 +84,26 @@ module _ (l n : ℕ) (o : Opening) (said : ℕ → List Frag) (m m2 : TheMonitor
   by_hearing kn k (CircuitRefused e r) h (hop, waits, comes) put =
       by_refused k e r hop.binding hop.way (subst (λ (y : Heard). AllSaid (says k (CircuitRefused e r) y) m.outboxes m2.outboxes) comes put)
 
-pub remembers_kept : (names : List TheRegistration) (Wishes : Opening → Type 0) (l n : ℕ) (o : Opening) → IsKeptBy names Wishes (Remembers l n o)
-remembers_kept names Wishes l n o = record {
+pub remembers_kept : (Knows : Known → Message → Type 0) (Wishes : Opening → Type 0) (l n : ℕ) (o : Opening) → IsKeptBy Knows Wishes (Remembers l n o)
+remembers_kept Knows Wishes l n o = record {
   wider = λ said said2 heard heard2 m fewer more x.
       (x.0, λ f c y has is says_it. x.1 f c y (elim has [ inl a ↦ inl (fewer l f a) | inr b ↦ inr b ]) is says_it);
   rests = λ said heard said2 m m2 sound2 later same from x. (
     later.here l n x.0,
     λ f c y has is says_it. (let (g, alike, before) = from l f has in x.1 g c y before is (says_the_same f g (asks c y) alike says_it)),
   );
-  hears = λ said heard heard2 m m2 sound sound2 later x more k kn offers frag msg h has says_it comes is put.
+  hears = λ said heard heard2 m m2 sound sound2 later x more k kn frag msg h known has says_it comes is put.
       (later.here l n x.0, by_hearing l n o said m m2 sound x.0 x.1 kn k msg h comes put);
   asks = λ said heard m m2 sound sound2 later x k c y wished next is put. (later.here l n x.0, by_asking l n o said m m2 sound x.0 x.1 k c y next put);
 }
 
 -- ---- a link that is used up
 
-pub used_kept : (names : List TheRegistration) (Wishes : Opening → Type 0) (l : ℕ) → IsKeptBy names Wishes (λ said heard m. IsUsedUp m.circuits l)
-used_kept names Wishes l = record {
+pub used_kept : (Knows : Known → Message → Type 0) (Wishes : Opening → Type 0) (l : ℕ) → IsKeptBy Knows Wishes (λ said heard m. IsUsedUp m.circuits l)
+used_kept Knows Wishes l = record {
   wider = λ said said2 heard heard2 m fewer more x. x;
   rests = λ said heard said2 m m2 sound2 later same from x. subst (λ (u : TheCircuits). IsUsedUp u l) (sym same) x;
-  hears = λ said heard heard2 m m2 sound sound2 later x more k kn offers frag msg h has says_it comes is put.
+  hears = λ said heard heard2 m m2 sound sound2 later x more k kn frag msg h known has says_it comes is put.
       used_later m.circuits m2.circuits (subst (Laid m.circuits) (sym is) (table_laid m.circuits k msg h)) later l x;
   asks = λ said heard m m2 sound sound2 later x k c y wished next is put.
       used_later m.circuits m2.circuits (subst (Laid m.circuits) (sym is) (opened_laid m.circuits k c y.binding)) later l x;

@@ -13,14 +13,15 @@ use Rattle.fl_base.specs.declared.identity.Circuit.{Circuit}
 use Rattle.fl_nameserv.specs.Registrations.{TheRegistration, by_iref}
 use Rattle.fl_hop.specs.declared.links.LinkState.{LinkState}
 use Rattle.fl_hop.specs.Later.{Later}
-use Rattle.fl_hop.specs.Numbers.{OpenedHere, number, next_here, next_own}
-use Rattle.fl_hop.specs.Table.{TheCircuits, link_of}
+use Rattle.fl_hop.specs.Numbers.{OpenedHere, number, next_here, next_own, next_due}
+use Rattle.fl_hop.specs.Openings.{is_next}
+use Rattle.fl_hop.specs.Table.{TheCircuits, link_of, stands}
 use Rattle.fl_hop.proofs.Lists.{at_within}
 use Rattle.fl_hop.proofs.Numbering.{number_once}
 use Rattle.fl_monitor.specs.declared.opening.Opening.{Opening}
 use Rattle.fl_monitor.specs.declared.heard.Heard.{Heard}
 use Rattle.fl_monitor.specs.declared.heard.Heard.TheVariants.{OpeningWentOn, ServerMade, OpeningFailed, AnswerWentOn, EndOpened, EndRefused}
-use Rattle.fl_monitor.specs.Fates.{Known, arrival, passage, fate, comes_along}
+use Rattle.fl_monitor.specs.Fates.{Known, arrival, passage, fate, comes_along, is_offered_elsewhere, is_for_another, is_in_place}
 use Rattle.fl_monitor.specs.Hearing.{heard_by}
 use Rattle.fl_monitor.specs.Routing.{given, is_core, all_differ, next_on, comes_after, is_named_behind, is_on_route}
 use Rattle.fl_honest.specs.Reasons.{LeadsNowhere, IsUsedUp, LeadsOverUsedUp, Refuses}
@@ -82,33 +83,42 @@ used_later t u laid later l x =
     all = x.all
 
 -- where its table was t at first, a core refuses for the same reason later on
-pub refuses_later : (t u v : TheCircuits) (o : Opening) (reason : ℕ) → ((l : ℕ) → IsUsedUp u l → IsUsedUp v l) → Refuses t u o reason → Refuses t v o reason
-refuses_later t u v o reason grows (inl full) = inl full
-refuses_later t u v o reason grows (inr (inl nowhere)) = inr (inl nowhere)
-refuses_later t u v o reason grows (inr (inr (is, x))) =
-    inr (inr (is, record { next = x.next; next_is = x.next_is; link = x.link; link_is = x.link_is; used_up = grows x.link x.used_up }))
+module _ (names : List TheRegistration) (NoPlace : Opening → Type 0) where
+  pub refuses_later : (t u v : TheCircuits) (o : Opening) (reason : ℕ) → ((l : ℕ) → IsUsedUp u l → IsUsedUp v l) → Refuses names NoPlace t u o reason
+      → Refuses names NoPlace t v o reason
+  refuses_later t u v o reason grows (inl full) = inl full
+  refuses_later t u v o reason grows (inr (inl nowhere)) = inr (inl nowhere)
+  refuses_later t u v o reason grows (inr (inr (is, x))) =
+      inr (inr (is, record { next = x.next; next_is = x.next_is; link = x.link; link_is = x.link_is; used_up = grows x.link x.used_up }))
 
--- and as its table was before
-pub refuses_laid : (t u : TheCircuits) (o : Opening) (reason : ℕ) → Laid t u → Refuses u u o reason → Refuses t u o reason
-refuses_laid t u o reason laid (inl (is, last)) = inl (is, ap (next_on o.path) (sym laid.core) ∙ last)
-refuses_laid t u o reason laid (inr (inl (is, x))) = inr (inl (
-  is,
-  record {
-    next = x.next;
-    next_is = ap (next_on o.path) (sym laid.core) ∙ x.next_is;
-    none = elim x.none [ inl none ↦ inl (sym (laid_link t u laid x.next.0) ∙ none) | inr twice ↦ inr twice ];
-  },
-))
-refuses_laid t u o reason laid (inr (inr (is, x))) = inr (inr (
-  is,
-  record {
-    next = x.next;
-    next_is = ap (next_on o.path) (sym laid.core) ∙ x.next_is;
-    link = x.link;
-    link_is = sym (laid_link t u laid x.next.0) ∙ x.link_is;
-    used_up = x.used_up;
-  },
-))
+  -- and as its table was before
+  pub refuses_laid : (t u : TheCircuits) (o : Opening) (reason : ℕ) → Laid t u → Refuses names NoPlace u u o reason → Refuses names NoPlace t u o reason
+  refuses_laid t u o reason laid (inl (is, x)) = inl (
+    is,
+    record {
+      last = ap (next_on o.path) (sym laid.core) ∙ x.last;
+      own = ap (λ (core : ℕ). is_offered_elsewhere names core o.service.0) (sym laid.core) ∙ x.own;
+      none = x.none;
+    },
+  )
+  refuses_laid t u o reason laid (inr (inl (is, x))) = inr (inl (
+    is,
+    record {
+      next = x.next;
+      next_is = ap (next_on o.path) (sym laid.core) ∙ x.next_is;
+      none = elim x.none [ inl none ↦ inl (sym (laid_link t u laid x.next.0) ∙ none) | inr twice ↦ inr twice ];
+    },
+  ))
+  refuses_laid t u o reason laid (inr (inr (is, x))) = inr (inr (
+    is,
+    record {
+      next = x.next;
+      next_is = ap (next_on o.path) (sym laid.core) ∙ x.next_is;
+      link = x.link;
+      link_is = sym (laid_link t u laid x.next.0) ∙ x.link_is;
+      used_up = x.used_up;
+    },
+  ))
 
 -- ---- a route that turns back names a core twice
 
@@ -221,15 +231,41 @@ IsGood Own L (AnswerWentOn binding m c) = Unit {0}
 IsGood Own L (EndOpened e c) = Unit {0}
 IsGood Own L (EndRefused e reason) = Unit {0}
 
-module _ (kn : Known) (t : TheCircuits) (l : ℕ) (o : Opening) (along : comes_along t l o.path ≡ true) (c : Circuit) (L : Type 0) (lacks : by_iref o.service.0 kn.names ≡ None → L) where
+sixth : (a b c d e f : Bool) → (a && b && not c && not d && e && not f) ≡ true → f ≡ false
+sixth a b c d e false h = refl
+sixth true true false false true true h = absurd (cc)
+sixth false b c d e true h = absurd (cc)
+sixth true false c d e true h = absurd (cc)
+sixth true true true d e true h = absurd (cc)
+sixth true true false true e true h = absurd (cc)
+sixth true true false false false true h = absurd (cc)
+
+-- whose service isn't another core's, where the route ends here
+pub own_in_place : (kn : Known) (t : TheCircuits) (l c : ℕ) (o : Opening) → is_in_place kn t l c o ≡ true → next_on o.path t.core ≡ None
+    → is_offered_elsewhere kn.names t.core o.service.0 ≡ false
+own_in_place kn t l c o h last =
+    ap (λ (next : Option CoreId). given next (is_offered_elsewhere kn.names t.core o.service.0) λ core. false) (sym last)
+    ∙ sixth (is_next (next_due t l) c) (nat_lt o.binding 1024) kn.here.has_end (stands t o.binding) (comes_along t l o.path) (is_for_another kn.names t o) h
+
+module _ (names : List TheRegistration) (NoPlace : Opening → Type 0) (kn : Known) (known : kn.names ≡ names) (t : TheCircuits) (l : ℕ) (o : Opening)
+    (none_here : kn.here.has_place ≡ false → NoPlace o) (along : comes_along t l o.path ≡ true)
+    (own : next_on o.path t.core ≡ None → is_offered_elsewhere kn.names t.core o.service.0 ≡ false) (c : Circuit) (L : Type 0)
+    (lacks : by_iref o.service.0 kn.names ≡ None → L) where
   abbrev Good : Heard → Type 0
-  Good h = IsGood (Refuses t t o) L h
+  Good h = IsGood (Refuses names NoPlace t t o) L h
 
   at_last : next_on o.path t.core ≡ None → (r : Option TheRegistration) (place : Bool) → by_iref o.service.0 kn.names ≡ r → kn.here.has_place ≡ place
       → Good (heard_by o.binding c (arrival kn o.service.0))
   at_last last None place is has = rw is (inr (lacks is))
   at_last last (Some r) true is has = rw (is, has) tt
-  at_last last (Some r) false is has = rw (is, has) (inl (inl (refl, last)))
+  at_last last (Some r) false is has = rw (is, has) (inl (inl (
+    refl,
+    record {
+      last = last;
+      own = ap (λ (ns : List TheRegistration). is_offered_elsewhere ns t.core o.service.0) (sym known) ∙ own last;
+      none = none_here has;
+    },
+  )))
 
   -- the link to the next core isn't the one on which the opening came, but where the route turns back
   turns_back : (next : CoreId) → next_on o.path t.core ≡ Some next → link_of t next.0 ≡ Some l → all_differ o.path ≡ false

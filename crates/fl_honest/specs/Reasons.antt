@@ -1,5 +1,5 @@
 -- Why circuits are refused: what cores tell each other. Laws.
-use Rattle.std.specs.Prelude.{ℕ, ◌≡◌, ◌⊎◌, ◌≤◌, true, false, List, slice_get, Some, None}
+use Rattle.std.specs.Prelude.{ℕ, ◌≡◌, ◌⊎◌, ◌≤◌, true, false, List, length, slice_get, Some, None}
 use Rattle.fl_base.specs.declared.fragment.Frag.{Frag}
 use Rattle.fl_base.specs.declared.identity.CoreId.{CoreId}
 use Rattle.fl_base.specs.declared.identity.EndId.{EndId}
@@ -15,23 +15,28 @@ use Rattle.fl_hop.specs.Stretch.{taken_from, put_on}
 use Rattle.fl_hop.specs.Table.{TheCircuits, hop_at, link_of, most_openings}
 use Rattle.fl_monitor.specs.declared.message.Message.TheVariants.{CircuitRefused}
 use Rattle.fl_monitor.specs.declared.opening.Opening.{Opening}
-use Rattle.fl_monitor.specs.Fates.{comes_along}
+use Rattle.fl_monitor.specs.Fates.{comes_along, is_offered_elsewhere}
 use Rattle.fl_monitor.specs.Routing.{next_on, all_differ}
 use Rattle.fl_monitor.specs.Monitors.{TheMonitor, waiting_for, asks}
 use Rattle.fl_monitor.specs.Saying.{Says}
+use Rattle.fl_core.specs.Sound.{IsBoard}
+use Rattle.fl_core.specs.View.{TheDispatcher}
+use Rattle.fl_node.specs.Hearing.{offer_of}
 use Rattle.fl_node.specs.View.{client_of}
 use Rattle.fl_ring.specs.SharedSides.{TheSide}
 use Rattle.fl_running.specs.declared.job.Job.{Job as CoreJob}
 use Rattle.fl_running.specs.declared.job.Job.TheVariants as job
 use Rattle.fl_running.specs.declared.job.Wish.{Wish}
+use Rattle.fl_running.specs.Deeds.{Deed}
 use Rattle.fl_running.specs.Desks.{TheDesk}
+use Rattle.fl_running.specs.Logs.{Goes}
 use Rattle.fl_running.specs.Made.{desk_of}
 use Rattle.fl_running.specs.Run.{TheRun}
 use Rattle.fl_running.specs.Words.{refusal_at}
 use Rattle.fl_jobs.specs.Jobs.{Job}
 use Rattle.fl_compile.specs.Programs.{TheProgram}
 use Rattle.fl_dockets.specs.State.{TheJoined}
-use Rattle.fl_honest.specs.Cores.{OneCore, AreAmple, AllAmple}
+use Rattle.fl_honest.specs.Cores.{shared_ways, OneCore, AreAmple, AllAmple}
 use Rattle.fl_honest.specs.Circuits.{Leading}
 use Rattle.fl_honest.specs.Named.{Has}
 use Rattle.fl_honest.specs.Neighbours.{IsUnused}
@@ -64,15 +69,43 @@ pub record LeadsOverUsedUp (t u : TheCircuits) (path : List CoreId) : Type 0 whe
   pub link_is : link_of t next.0 ≡ Some link
   pub used_up : IsUsedUp u link
 
--- an opening that it heard: the route ends here, and there is no place; or it leads nowhere, or over a link that is used up
-abbrev pub Refuses : TheCircuits → TheCircuits → Opening → ℕ → Type 0
-Refuses t u o reason =
-    ((reason ≡ 54) × (next_on o.path t.core ≡ None)) ⊎ ((reason ≡ 73) × LeadsNowhere t o.path) ⊎ ((reason ≡ 74) × LeadsOverUsedUp t u o.path)
+-- the route ends here, at a service that isn't another core's, of those that are offered; and there was no place for it
+pub record HasNoPlace (names : List TheRegistration) (NoPlace : Opening → Type 0) (t : TheCircuits) (o : Opening) : Type 0 where
+  pub last : next_on o.path t.core ≡ None
+  pub own : is_offered_elsewhere names t.core o.service.0 ≡ false
+  pub none : NoPlace o
 
--- one that a job of its own wishes for: there is no place, or not the link on which it is to begin, or that is used up
-abbrev pub RefusesWish : TheCircuits → TheCircuits → Wish → ℕ → Type 0
-RefusesWish t u w reason =
-    (reason ≡ 54) ⊎ ((reason ≡ 73) × (slice_get t.links w.link.0 ≡ None)) ⊎ ((reason ≡ 74) × IsUsedUp u w.link.0)
+-- an opening that it heard: the route ends here, and there was no place; or it leads nowhere, or over a link that is used up
+abbrev pub Refuses : List TheRegistration → (Opening → Type 0) → TheCircuits → TheCircuits → Opening → ℕ → Type 0
+Refuses names NoPlace t u o reason =
+    ((reason ≡ 54) × HasNoPlace names NoPlace t o) ⊎ ((reason ≡ 73) × LeadsNowhere t o.path) ⊎ ((reason ≡ 74) × LeadsOverUsedUp t u o.path)
+
+-- one that a job of its own wishes for: its dispatcher was full, or the link on which it is to begin isn't there, or that is used up
+abbrev pub RefusesWish : (ℕ → Type 0) → TheCircuits → TheCircuits → Wish → ℕ → Type 0
+RefusesWish Full t u w reason =
+    ((reason ≡ 54) × Full w.dispatcher) ⊎ ((reason ≡ 73) × (slice_get t.links w.link.0 ≡ None)) ⊎ ((reason ≡ 74) × IsUsedUp u w.link.0)
+
+-- ---- at a moment of a run
+
+-- the core, which offers what it did, found no place for a server's end of this opening
+pub record FoundNoPlace (jobs : List CoreJob) (c : OneCore) (o : Opening) : Type 0 where
+  pub moment : TheRun TheSide
+  pub log : List Deed
+  pub goes : Goes shared_ways jobs moment log c.finish
+  pub board : IsBoard moment.core.board
+  pub number : moment.core.monitor.circuits.core ≡ c.start.core.monitor.circuits.core
+  pub offers : moment.offers ≡ c.start.offers
+  pub none : offer_of moment.offers moment.core o.service.0 ≡ None
+
+-- a dispatcher had 1,024 ends, in one that came to this end
+pub record WasFull (jobs : List CoreJob) (finish : TheRun TheSide) (d : ℕ) : Type 0 where
+  pub moment : TheRun TheSide
+  pub log : List Deed
+  pub goes : Goes shared_ways jobs moment log finish
+  pub board : IsBoard moment.core.board
+  pub dispatcher : TheDispatcher
+  pub dispatcher_is : slice_get moment.core.board.dispatchers d ≡ Some dispatcher
+  pub full : length dispatcher.ends ≡ 1024
 
 -- ---- one core
 
@@ -100,8 +133,8 @@ pub record HeardRefused (said heard : ℕ → List Frag) (m : TheMonitor) (o : O
   pub only : AsksOnly said m link circuit.0 o
 
 -- why an opening is refused at a core that offers these services: for a reason of its own; for want of the service; or as it heard from further on
-abbrev pub IsRefusedFor : List TheRegistration → TheCircuits → (ℕ → List Frag) → (ℕ → List Frag) → TheMonitor → Opening → ℕ → Type 0
-IsRefusedFor names t said heard m o reason = Refuses t m.circuits o reason ⊎ (by_iref o.service.0 names ≡ None) ⊎ HeardRefused said heard m o reason
+abbrev pub IsRefusedFor : List TheRegistration → (Opening → Type 0) → TheCircuits → (ℕ → List Frag) → (ℕ → List Frag) → TheMonitor → Opening → ℕ → Type 0
+IsRefusedFor names NoPlace t said heard m o reason = Refuses names NoPlace t m.circuits o reason ⊎ (by_iref o.service.0 names ≡ None) ⊎ HeardRefused said heard m o reason
 
 -- where an entry leads this way, its opening was heard there, or a job here wishes for it
 abbrev pub IsFrom : (Opening → Type 0) → TheCircuits → (ℕ → List Frag) → Way → Opening → Type 0
@@ -115,8 +148,8 @@ pub record IsFor (Wishes : Opening → Type 0) (t : TheCircuits) (said heard : �
   pub origin : IsFrom Wishes t heard hop.way opening
   pub only : AsksOnly said m l n opening
 
--- of a monitor that said and heard these fragments, by link; jobs here wish for these openings
-pub record AreReasoned (names : List TheRegistration) (Wishes : Opening → Type 0) (t : TheCircuits) (said heard : ℕ → List Frag) (m : TheMonitor) : Type 0 where
+-- of a monitor that said and heard these fragments, by link; jobs here wish for these openings, and there was no place for those
+pub record AreReasoned (names : List TheRegistration) (NoPlace Wishes : Opening → Type 0) (t : TheCircuits) (said heard : ℕ → List Frag) (m : TheMonitor) : Type 0 where
   -- what it asks for, or has still to ask for, such a job wishes for, or it was heard
   pub asked : (l : ℕ) (f : Frag) (c : Circuit) (o : Opening) → Has f (said l) ⊎ Has f (waiting_for m.outboxes l) → Says f (asks c o)
       → Wishes o ⊎ ((k n : ℕ) × CameUnder t heard k n o)
@@ -127,7 +160,7 @@ pub record AreReasoned (names : List TheRegistration) (Wishes : Opening → Type
   pub given : (l n : ℕ) (hop : Hop) → OpenedHere m.circuits l n → hop_at m.circuits l n ≡ Some hop → IsFor Wishes t said heard m l n hop
   -- what it says to be refused, or has still to say, is an opening that was heard under that number
   pub refused : (l : ℕ) (f : Frag) (c : Circuit) (reason : ℕ) → Has f (said l) ⊎ Has f (waiting_for m.outboxes l) → Says f (CircuitRefused c reason)
-      → (o : Opening) × CameUnder t heard l c.0 o × IsRefusedFor names t said heard m o reason
+      → (o : Opening) × CameUnder t heard l c.0 o × IsRefusedFor names NoPlace t said heard m o reason
 
 -- ---- at desks
 
@@ -159,7 +192,7 @@ pub record WasHeard (Wishes : Opening → Type 0) (t : TheCircuits) (said heard 
   pub end_is : client_of own.binding ≡ e
 
 -- a job of the end's desk wishes for an opening that this core refused
-pub record WasRefused (jobs : List CoreJob) (s : TheRun TheSide) (u : TheCircuits) (e : EndId) (reason : ℕ) : Type 0 where
+pub record WasRefused (jobs : List CoreJob) (s finish : TheRun TheSide) (e : EndId) (reason : ℕ) : Type 0 where
   pub desk : TheDesk
   pub desk_is : desk_of s e ≡ Some desk
   pub turn : ℕ
@@ -167,7 +200,7 @@ pub record WasRefused (jobs : List CoreJob) (s : TheRun TheSide) (u : TheCircuit
   pub place_is : slice_get desk.jobs turn ≡ Some place
   pub wish : Wish
   pub job_is : slice_get jobs place ≡ Some (job.Open wish)
-  pub why : RefusesWish s.core.monitor.circuits u wish reason
+  pub why : RefusesWish (WasFull jobs finish) s.core.monitor.circuits finish.core.monitor.circuits wish reason
 
 -- an opening was heard of a binding of which a job of a desk wishes for one
 pub record AskedAgain (jobs : List CoreJob) (s : TheRun TheSide) (heard : ℕ → List Frag) : Type 0 where
@@ -180,19 +213,20 @@ pub record AskedAgain (jobs : List CoreJob) (s : TheRun TheSide) (heard : ℕ �
   pub binding_is : opening.binding ≡ own.binding
 
 -- why a refusal stands at the desk of an end: as was heard; for a reason of this core's own; or since an entry of the binding stood there (67)
-abbrev pub IsRefusedAt : List CoreJob → TheRun TheSide → (ℕ → List Frag) → (ℕ → List Frag) → TheMonitor → EndId → ℕ → Type 0
-IsRefusedAt jobs s said heard m e reason =
-    WasHeard (IsOwnWish jobs s) s.core.monitor.circuits said heard m e reason ⊎ WasRefused jobs s m.circuits e reason ⊎ AskedAgain jobs s heard
+abbrev pub IsRefusedAt : List CoreJob → TheRun TheSide → (ℕ → List Frag) → (ℕ → List Frag) → TheRun TheSide → EndId → ℕ → Type 0
+IsRefusedAt jobs s said heard finish e reason =
+    WasHeard (IsOwnWish jobs s) s.core.monitor.circuits said heard finish.core.monitor e reason ⊎ WasRefused jobs s finish e reason
+    ⊎ AskedAgain jobs s heard
 
 -- ---- one core. Law
 
 -- so it is of a core, with what it asked for; at desks, where memory was never wanted for an opening
 pub record GoesReasoned (jobs : List CoreJob) (c : OneCore) : Type 0 where
   pub asking : GoesAsking jobs c
-  pub reasoned : AreReasoned c.start.offers.names (IsOwnWish jobs c.start) c.start.core.monitor.circuits
+  pub reasoned : AreReasoned c.start.offers.names (FoundNoPlace jobs c) (IsOwnWish jobs c.start) c.start.core.monitor.circuits
       (λ l. of_circuit 0 (put_on l asking.steps)) (λ l. of_circuit 0 (taken_from l asking.steps)) c.finish.core.monitor
   pub desks : AreAmple c.log → (e : EndId) → (refusal_at c.finish e ≡ refusal_at c.start e)
-      ⊎ IsRefusedAt jobs c.start (λ l. of_circuit 0 (put_on l asking.steps)) (λ l. of_circuit 0 (taken_from l asking.steps)) c.finish.core.monitor
+      ⊎ IsRefusedAt jobs c.start (λ l. of_circuit 0 (put_on l asking.steps)) (λ l. of_circuit 0 (taken_from l asking.steps)) c.finish
       e (refusal_at c.finish e)
 
 -- in every run of a core that had nothing to say before
@@ -202,17 +236,17 @@ CoresReason = (jobs : List CoreJob) (c : OneCore) → Leading jobs c → IsUnuse
 -- ---- all cores. Laws
 
 -- one of the cores refuses this opening, which it heard
-pub record RefusesOne (cores : List OneCore) (o : Opening) (reason : ℕ) : Type 0 where
+pub record RefusesOne (jobs : List CoreJob) (cores : List OneCore) (o : Opening) (reason : ℕ) : Type 0 where
   pub place : ℕ
   pub core : OneCore
   pub core_is : slice_get cores place ≡ Some core
-  pub why : Refuses core.start.core.monitor.circuits core.finish.core.monitor.circuits o reason
+  pub why : Refuses core.start.offers.names (FoundNoPlace jobs core) core.start.core.monitor.circuits core.finish.core.monitor.circuits o reason
 
 -- whatever a core heard over its links to be refused, one of the cores refuses
 pub record HearsReasons (jobs : List CoreJob) (cores : List OneCore) (c : OneCore) : Type 0 where
   pub goes : GoesReasoned jobs c
   pub reasons : (l : ℕ) (link : LinkState) (f : Frag) (n : Circuit) (reason : ℕ) → slice_get c.start.core.monitor.circuits.links l ≡ Some link
-      → Has f (of_circuit 0 (taken_from l goes.asking.steps)) → Says f (CircuitRefused n reason) → (o : Opening) × RefusesOne cores o reason
+      → Has f (of_circuit 0 (taken_from l goes.asking.steps)) → Says f (CircuitRefused n reason) → (o : Opening) × RefusesOne jobs cores o reason
 
 -- where cores were set up together and ran the jobs that were joined for them
 abbrev pub ReasonsAlone : Type 0
@@ -225,7 +259,7 @@ pub record IsRefused (jobs : List CoreJob) (cores : List OneCore) (c : OneCore) 
   pub wish : Wish
   pub job_is : slice_get jobs place ≡ Some (job.Open wish)
   pub end_is : client_of wish.opening.binding ≡ e
-  pub why : RefusesWish c.start.core.monitor.circuits c.finish.core.monitor.circuits wish reason ⊎ RefusesOne cores wish.opening reason
+  pub why : RefusesWish (WasFull jobs c.finish) c.start.core.monitor.circuits c.finish.core.monitor.circuits wish reason ⊎ RefusesOne jobs cores wish.opening reason
 
 -- so it is where a refusal stands at a desk in the end, where none stood there as the run began, and memory was never wanted for an opening
 abbrev pub DesksTellReasons : Type 0
