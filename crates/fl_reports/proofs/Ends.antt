@@ -54,6 +54,7 @@ module _ (c : TheConfig) (jobs : List Job) (limit : ℕ) (r : TheReport) (w : Re
     reasons = λ n fault told. (reasons c jobs limit r w n fault told).reason;
     unlinked = λ n told. (reasons c jobs limit r w n 73 told).unlinked refl;
     spent = λ n told. (reasons c jobs limit r w n 74 told).spent refl;
+    crowded = λ n told. (reasons c jobs limit r w n 54 told).crowded refl;
     few = λ d ends turns are told. few c jobs limit r w honest d ends turns are told;
     few_there = λ n d turns core ends at are told. few_there c jobs limit r w honest n d turns core ends at are told;
   }

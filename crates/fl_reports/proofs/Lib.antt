@@ -30,4 +30,5 @@ pub mod Texts
 pub mod RunsSetUp
 pub mod Whole
 pub mod ReasonsSetUp
+pub mod ReasonsFull
 pub mod Reasons

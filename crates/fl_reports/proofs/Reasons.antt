@@ -1,19 +1,22 @@
 -- A binding is told as refused for a reason alone: what stands at its client's desk is what the laws over cores say.
-use Rattle.std.proofs.Common.{◌≡◌, ◌⊎◌, inl, inr, refl, sym, ap, ◌∙◌, subst, ℕ, zero, suc, ◌==◌, if◌then◌else◌, Bool, true, false, List, [], ◌∷◌, length, map, slice_get, Option, Some, None, arith}
+use Rattle.std.proofs.Common.{◌≡◌, ◌⊎◌, inl, inr, refl, sym, ap, ◌∙◌, subst, ℕ, zero, suc, ◌==◌, if◌then◌else◌, Bool, true, false, List, [], ◌∷◌, length, map, slice_get, get_or, Option, Some, None, arith}
 use Rattle.std.proofs.lemmas.Bool.Decides.{nat_tests}
 use Rattle.std.proofs.lemmas.Option.{same_Some, slice_get_within}
 use Rattle.fl_base.specs.declared.identity.CoreId.{CoreId}
 use Rattle.fl_base.specs.declared.identity.EndId.{EndId}
 use Rattle.fl_compile.specs.Programs.{program_of}
 use Rattle.fl_ring.specs.SharedSides.{TheSide}
+use Rattle.fl_nameserv.specs.Registrations.{TheRegistration, by_iref}
 use Rattle.fl_hop.specs.Table.{TheCircuits, link_of}
 use Rattle.fl_monitor.specs.declared.opening.Opening.{Opening}
 use Rattle.fl_monitor.specs.Routing.{given, all_differ}
+use Rattle.fl_node.specs.Hearing.{Offers}
 use Rattle.fl_node.specs.View.{client_of}
 use Rattle.fl_running.specs.declared.job.Job.{Job as CoreJob}
 use Rattle.fl_running.specs.declared.job.Wish.{Wish}
 use Rattle.fl_running.specs.Desks.{TheDesk, desk_place}
 use Rattle.fl_running.specs.Led.{LeadsAtFirst}
+use Rattle.fl_running.specs.Logs.{Goes}
 use Rattle.fl_running.specs.Made.{desk_of}
 use Rattle.fl_running.specs.Ran.{task, moment}
 use Rattle.fl_running.specs.Run.{TheRun}
@@ -26,8 +29,8 @@ use Rattle.fl_jobs.specs.Report.{TheReport, refusal_of}
 use Rattle.fl_dockets.specs.declared.docket.Bound.{Bound}
 use Rattle.fl_dockets.specs.State.{TheJoined}
 use Rattle.fl_setups.specs.Start.{SetUpsStartFresh}
-use Rattle.fl_honest.specs.Cores.{OneCore, AreAmple, AllAmple, CoresGoAmply}
-use Rattle.fl_honest.specs.Reasons.{LeadsNowhere, IsUsedUp as UsedUp, LeadsOverUsedUp, Refuses, RefusesWish, RefusesOne, IsRefused, DesksTellReasons, RefusedForReason}
+use Rattle.fl_honest.specs.Cores.{shared_ways, OneCore, AreAmple, AllAmple, CoresGoAmply}
+use Rattle.fl_honest.specs.Reasons.{LeadsNowhere, IsUsedUp as UsedUp, LeadsOverUsedUp, HasNoPlace, Refuses, RefusesWish, FoundNoPlace, WasFull, RefusesOne, IsRefused, DesksTellReasons, RefusedForReason}
 use Rattle.fl_honest.specs.Runs.{AreSetUp}
 use Rattle.fl_endings.specs.Begins.{Ran, refusal_by}
 use Rattle.fl_endings.specs.Cores.{OneCore as EndedCore}
@@ -36,9 +39,10 @@ use Rattle.fl_cores.specs.Tells.{TheOutcome, RanTo, Each2}
 use Rattle.fl_cores.specs.Promised.{Reports}
 use Rattle.fl_reports.specs.Cores.{joined_in, cores_in}
 use Rattle.fl_reports.specs.Outcomes.{ReportsAreOfRuns}
-use Rattle.fl_reports.specs.Reasons.{behind, HasGap, BeginsNowhere, IsUnlinked, IsUsedUp, LeadsOver, IsSpent, HasReason, RefusalsHaveReasons}
+use Rattle.fl_reports.specs.Reasons.{behind, HasGap, BeginsNowhere, IsUnlinked, IsUsedUp, LeadsOver, IsSpent, SitsAt, IsFull, HasNone, IsCrowded, HasReason, RefusalsHaveReasons}
 use Rattle.fl_reports.specs.Runs.{AreRuns}
 use Rattle.fl_reports.proofs.CoresStations.{at_core, as_many_cores}
+use Rattle.fl_reports.proofs.ReasonsFull.{ends_apart, sits_there, still_sits, own_service, lacks_what, no_place_why}
 use Rattle.fl_reports.proofs.ReasonsSetUp.{stands_on, starts_as, no_link, its_core}
 use Rattle.fl_reports.proofs.Runs.{is_there, run_at, as_many}
 use Rattle.fl_reports.proofs.SidesCross.{SideLaws}
@@ -151,9 +155,9 @@ module _ (fresh : SetUpsStartFresh) (tell : DesksTellReasons) (for_reason : Refu
   ]
 
   -- a refusal for want of a link, by the core itself or by another
-  by_own : (n : ℕ) (one : OneCore) → slice_get cores n ≡ Some one → (w : Wish) → RefusesWish one.start.core.monitor.circuits one.finish.core.monitor.circuits w 73
+  by_own : (n : ℕ) (one : OneCore) → slice_get cores n ≡ Some one → (w : Wish) → RefusesWish (WasFull j.jobs one.finish) one.start.core.monitor.circuits one.finish.core.monitor.circuits w 73
       → BeginsNowhere c n w
-  by_own n one one_is w (inl full) = absurd (omega (arith, full))
+  by_own n one one_is w (inl full) = absurd (let is = full.0 in omega (arith, is))
   by_own n one one_is w (inr (inl lost)) =
       let (k, k_is) = its_core all begins (behind c) x.ran.made.stands.1.shown n one one_is in
       record {
@@ -163,7 +167,7 @@ module _ (fresh : SetUpsStartFresh) (tell : DesksTellReasons) (for_reason : Refu
       }
   by_own n one one_is w (inr (inr used)) = absurd (let is = used.0 in omega (arith, is))
 
-  by_another : (o : Opening) (y : RefusesOne cores o 73) → Refuses y.core.start.core.monitor.circuits y.core.finish.core.monitor.circuits o 73
+  by_another : (o : Opening) (y : RefusesOne j.jobs cores o 73) → Refuses y.core.start.offers.names (FoundNoPlace j.jobs y.core) y.core.start.core.monitor.circuits y.core.finish.core.monitor.circuits o 73
       → HasGap c o.path ⊎ (all_differ o.path ≡ false)
   by_another o y (inl full) = absurd (let is = full.0 in omega (arith, is))
   by_another o y (inr (inl lost)) = gap y.place y.core y.core_is o.path lost.1
@@ -197,13 +201,13 @@ module _ (fresh : SetUpsStartFresh) (tell : DesksTellReasons) (for_reason : Refu
         used_up = subst (λ (i : ℕ). IsUsedUp x i used.link) (sym number) (used_at n two two_is used.link used.used_up);
       }
 
-  own_used : (n : ℕ) (two : OneCore) → slice_get cores n ≡ Some two → (w : Wish) → RefusesWish two.start.core.monitor.circuits two.finish.core.monitor.circuits w 74
+  own_used : (n : ℕ) (two : OneCore) → slice_get cores n ≡ Some two → (w : Wish) → RefusesWish (WasFull j.jobs two.finish) two.start.core.monitor.circuits two.finish.core.monitor.circuits w 74
       → IsUsedUp x n w.link.0
-  own_used n two two_is w (inl full) = absurd (omega (arith, full))
+  own_used n two two_is w (inl full) = absurd (let is = full.0 in omega (arith, is))
   own_used n two two_is w (inr (inl lost)) = absurd (let is = lost.0 in omega (arith, is))
   own_used n two two_is w (inr (inr used)) = used_at n two two_is w.link.0 used.1
 
-  another_used : (o : Opening) (y : RefusesOne cores o 74) → Refuses y.core.start.core.monitor.circuits y.core.finish.core.monitor.circuits o 74 → LeadsOver x o.path
+  another_used : (o : Opening) (y : RefusesOne j.jobs cores o 74) → Refuses y.core.start.offers.names (FoundNoPlace j.jobs y.core) y.core.start.core.monitor.circuits y.core.finish.core.monitor.circuits o 74 → LeadsOver x o.path
   another_used o y (inl full) = absurd (let is = full.0 in omega (arith, is))
   another_used o y (inr (inl lost)) = absurd (let is = lost.0 in omega (arith, is))
   another_used o y (inr (inr used)) = over_by y.place y.core y.core_is o.path used.1
@@ -222,6 +226,97 @@ module _ (fresh : SetUpsStartFresh) (tell : DesksTellReasons) (for_reason : Refu
       | inr other ↦ inl (another_used y.wish.opening other other.why)
     ];
   }
+
+  -- ---- places that are taken
+
+  -- where a dispatcher was full, as many ends sit there as the core ended
+  full_at : (i : ℕ) (two : OneCore) → slice_get cores i ≡ Some two → (d : ℕ) → WasFull j.jobs two.finish d → IsFull x i d
+  full_at i two two_is d f =
+      let t = twin i two two_is in
+      record {
+        core = t.one;
+        core_is = t.one_is;
+        ends = λ k. get_or f.dispatcher.ends k 0;
+        apart = λ a b below more same. ends_apart f.moment.core.board f.board d f.dispatcher f.dispatcher_is f.full a b below more same;
+        sits = λ k below. subst (λ (s : TheRun TheSide). SitsAt s.core.board d (get_or f.dispatcher.ends k 0)) t.finish
+            (still_sits j.jobs f.log f.moment two.finish f.goes d (get_or f.dispatcher.ends k 0)
+            (sits_there f.moment.core.board f.board d f.dispatcher f.dispatcher_is f.full k below));
+      }
+
+  -- a service's own core found no place for it: its dispatcher is full, or not there
+  service_full : (n : ℕ) (two : OneCore) → slice_get cores n ≡ Some two → (o : Opening) (g : TheRegistration) → by_iref o.service.0 x.ran.parts.names ≡ Some g
+      → HasNoPlace two.start.offers.names (FoundNoPlace j.jobs two) two.start.core.monitor.circuits o → IsFull x g.service.core.0 g.service.dispatcher ⊎ HasNone x g.service.core.0 g.service
+  service_full n two two_is o g g_is h =
+      let t = twin n two two_is in
+      let f = h.none in
+      let found : by_iref o.service.0 two.start.offers.names ≡ Some g = ap (by_iref o.service.0) (set.named n two two_is) ∙ g_is in
+      let at_home : g.service.core.0 ≡ two.start.core.monitor.circuits.core = own_service two.start.offers.names two.start.core.monitor.circuits.core o.service.0 g found h.own in
+      let number : g.service.core.0 ≡ n = at_home ∙ set.numbered n two two_is in
+      let there : by_iref o.service.0 f.moment.offers.names ≡ Some g = ap (λ (y : Offers). by_iref o.service.0 y.names) f.offers ∙ found in
+      elim (lacks_what f.moment.offers f.moment.core o.service.0 g there (at_home ∙ sym f.number) f.none) [
+        | inl full ↦ elim (no_place_why f.moment.core.board f.board g.service.dispatcher full) [
+          | inl none ↦ inr (record {
+            core = t.one;
+            core_is = ap (slice_get (cores_in x)) number ∙ t.one_is;
+            moment = f.moment;
+            log = f.log;
+            goes = subst (λ (s : TheRun TheSide). Goes shared_ways j.jobs f.moment f.log s) t.finish f.goes;
+            none = inl none;
+          })
+          | inr taken ↦ inl (subst (λ (i : ℕ). IsFull x i g.service.dispatcher) (sym number) (full_at n two two_is g.service.dispatcher (record {
+            moment = f.moment;
+            log = f.log;
+            goes = f.goes;
+            board = f.board;
+            dispatcher = taken.0;
+            dispatcher_is = taken.1;
+            full = taken.2;
+          })))
+        ]
+        | inr past ↦ inr (record {
+          core = t.one;
+          core_is = ap (slice_get (cores_in x)) number ∙ t.one_is;
+          moment = f.moment;
+          log = f.log;
+          goes = subst (λ (s : TheRun TheSide). Goes shared_ways j.jobs f.moment f.log s) t.finish f.goes;
+          none = inr past;
+        })
+      ]
+
+  own_crowded : (n : ℕ) (two : OneCore) → slice_get cores n ≡ Some two → (w : Wish)
+      → RefusesWish (WasFull j.jobs two.finish) two.start.core.monitor.circuits two.finish.core.monitor.circuits w 54 → IsFull x n w.dispatcher
+  own_crowded n two two_is w (inl full) = full_at n two two_is w.dispatcher full.1
+  own_crowded n two two_is w (inr (inl lost)) = absurd (let is = lost.0 in omega (arith, is))
+  own_crowded n two two_is w (inr (inr used)) = absurd (let is = used.0 in omega (arith, is))
+
+  another_crowded : (o : Opening) (g : TheRegistration) → by_iref o.service.0 x.ran.parts.names ≡ Some g → (y : RefusesOne j.jobs cores o 54)
+      → Refuses y.core.start.offers.names (FoundNoPlace j.jobs y.core) y.core.start.core.monitor.circuits y.core.finish.core.monitor.circuits o 54
+      → IsFull x g.service.core.0 g.service.dispatcher ⊎ HasNone x g.service.core.0 g.service
+  another_crowded o g g_is y (inl full) = service_full y.place y.core y.core_is o g g_is full.1
+  another_crowded o g g_is y (inr (inl lost)) = absurd (let is = lost.0 in omega (arith, is))
+  another_crowded o g g_is y (inr (inr used)) = absurd (let is = used.0 in omega (arith, is))
+
+  crowded_by : (n : ℕ) (b : Bound) → slice_get j.bindings n ≡ Some b → (one : OneCore) → slice_get cores b.client ≡ Some one
+      → IsRefused j.jobs cores one (client_of n) 54 → IsCrowded x n
+  crowded_by n b bound one one_is y =
+      let binding : y.wish.opening.binding ≡ n = ap (λ (e : EndId). e.binding) y.end_is in
+      let offered = set.wishes y.place y.wish b y.job_is (ap (slice_get j.bindings) binding ∙ bound) in
+      record {
+        bound = b;
+        bound_is = bound;
+        place = y.place;
+        wish = y.wish;
+        job_is = y.job_is;
+        binding_is = binding;
+        why = elim y.why [
+          | inl own ↦ inl (own_crowded b.client one one_is y.wish own)
+          | inr other ↦ inr (record {
+            registration = offered.registration;
+            registered = offered.service;
+            why = another_crowded y.wish.opening offered.registration offered.service other other.why;
+          })
+        ];
+      }
 
   unlinked_by : (n : ℕ) (b : Bound) → slice_get j.bindings n ≡ Some b → (one : OneCore) → slice_get cores b.client ≡ Some one
       → IsRefused j.jobs cores one (client_of n) 73 → IsUnlinked x n
@@ -244,6 +339,7 @@ module _ (fresh : SetUpsStartFresh) (tell : DesksTellReasons) (for_reason : Refu
     reason = for_reason j.jobs cores one (client_of n) fault y;
     unlinked = λ is. unlinked_by n b bound one one_is (subst (IsRefused j.jobs cores one (client_of n)) is y);
     spent = λ is. spent_by n b bound one one_is (subst (IsRefused j.jobs cores one (client_of n)) is y);
+    crowded = λ is. crowded_by n b bound one one_is (subst (IsRefused j.jobs cores one (client_of n)) is y);
   }
 
   -- ---- at the client's core

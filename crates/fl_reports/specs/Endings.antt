@@ -13,7 +13,7 @@ use Rattle.fl_endings.specs.Few.{AreEnds, handled_at_all}
 use Rattle.fl_cores.specs.Promised.{Reports}
 use Rattle.fl_reports.specs.Cores.{joined_in, cores_in}
 use Rattle.fl_reports.specs.Outcomes.{AreSetUpAt}
-use Rattle.fl_reports.specs.Reasons.{IsUnlinked, IsSpent}
+use Rattle.fl_reports.specs.Reasons.{IsUnlinked, IsSpent, IsCrowded}
 
 -- so many bindings the set-up makes; those that jobs open, over circuits, have the numbers behind them
 abbrev pub bindings_by : TheConfig → ℕ
@@ -32,6 +32,8 @@ pub record EndsAsTold {c : TheConfig} {jobs : List Job} {limit : ℕ} {r : TheRe
   pub unlinked : (n : ℕ) → refusal_of r n ≡ Some 73 → IsUnlinked w n
   -- and for want of a number (74) only where a core of the route gave all that it has on a link of the route
   pub spent : (n : ℕ) → refusal_of r n ≡ Some 74 → IsSpent w n
+  -- and for want of a place (54) only where 1,024 ends sit at the client's dispatcher or the service's, which may also not be there
+  pub crowded : (n : ℕ) → refusal_of r n ≡ Some 54 → IsCrowded w n
   -- what ends that the set-up makes at one dispatcher handled is together at most the turns that are told of its core
   pub few : (d : DispatcherId) (ends : List EndId) (turns : ℕ) → AreSetUpAt c d ends → slice_get r.turns d.core ≡ Some turns
       → handled_at_all r.handled ends ≤ turns

@@ -1,9 +1,16 @@
 -- Why bindings are named as refused, by the jobs as cores do them and what the machine has behind the set-up. Public promises rest on this file.
-use Rattle.std.specs.Prelude.{ℕ, ◌≡◌, ◌⊎◌, ◌+◌, false, List, slice_get, Some, None}
+use Rattle.std.specs.Prelude.{ℕ, ◌≡◌, ◌⊎◌, ◌+◌, ◌<◌, ◌≤◌, false, List, length, slice_get, Some, None}
 use Rattle.fl_base.specs.declared.identity.CoreId.{CoreId}
+use Rattle.fl_nameserv.specs.declared.registration.Service.{Service}
+use Rattle.fl_nameserv.specs.Registrations.{TheRegistration, by_iref}
+use Rattle.fl_ring.specs.SharedSides.{TheSide}
+use Rattle.fl_core.specs.View.{TheSeat, TheBoard}
 use Rattle.fl_monitor.specs.Routing.{all_differ}
 use Rattle.fl_running.specs.declared.job.Job.TheVariants as job
 use Rattle.fl_running.specs.declared.job.Wish.{Wish}
+use Rattle.fl_running.specs.Deeds.{Deed}
+use Rattle.fl_running.specs.Logs.{Goes}
+use Rattle.fl_running.specs.Run.{TheRun}
 use Rattle.fl_queues.specs.Making.{has_link}
 use Rattle.fl_queues.specs.Monitors.{Core, link_to}
 use Rattle.fl_queues.specs.Runs.{reached}
@@ -13,6 +20,7 @@ use Rattle.fl_jobs.specs.Jobs.{Job}
 use Rattle.fl_jobs.specs.Report.{TheReport, refusal_of}
 use Rattle.fl_system.specs.Booting.{TheConfig}
 use Rattle.fl_dockets.specs.declared.docket.Bound.{Bound}
+use Rattle.fl_honest.specs.Cores.{shared_ways}
 use Rattle.fl_honest.specs.Reasons.{IsReason, IsUsedUp as UsedUp}
 use Rattle.fl_endings.specs.Cores.{OneCore}
 use Rattle.fl_cores.specs.Promised.{Reports}
@@ -80,6 +88,47 @@ pub record IsSpent {c : TheConfig} {jobs : List Job} {limit : ℕ} {r : TheRepor
   pub binding_is : wish.opening.binding ≡ n
   pub why : LeadsOver w wish.opening.path ⊎ IsUsedUp w bound.client wish.link.0
 
+-- ---- no place (54)
+
+-- the end at this place of a board sits at dispatcher d
+pub record SitsAt (b : TheBoard) (d place : ℕ) : Type 0 where
+  pub seat : TheSeat
+  pub seat_is : slice_get b.seats place ≡ Some seat
+  pub dispatcher_is : seat.dispatcher ≡ d
+
+-- 1,024 ends, each another, sit at dispatcher d of core n, as that ended
+pub record IsFull {c : TheConfig} {jobs : List Job} {limit : ℕ} {r : TheReport} (w : Reports c jobs limit r) (n d : ℕ) : Type 0 where
+  pub core : OneCore
+  pub core_is : slice_get (cores_in w) n ≡ Some core
+  pub ends : ℕ → ℕ
+  pub apart : (i k : ℕ) → i < 1024 → k < 1024 → ends i ≡ ends k → i ≡ k
+  pub sits : (i : ℕ) → i < 1024 → SitsAt core.finish.core.board d (ends i)
+
+-- at some moment of a run of this core it had no such dispatcher, or no program for the service
+pub record HasNone {c : TheConfig} {jobs : List Job} {limit : ℕ} {r : TheReport} (w : Reports c jobs limit r) (n : ℕ) (service : Service) : Type 0 where
+  pub core : OneCore
+  pub core_is : slice_get (cores_in w) n ≡ Some core
+  pub moment : TheRun TheSide
+  pub log : List Deed
+  pub goes : Goes shared_ways (joined_in w).jobs moment log core.finish
+  pub none : (slice_get moment.core.board.dispatchers service.dispatcher ≡ None) ⊎ (length moment.offers.programs ≤ service.interface)
+
+-- the dispatcher of the service that is wished for is full, or isn't there
+pub record IsServiceFull {c : TheConfig} {jobs : List Job} {limit : ℕ} {r : TheReport} (w : Reports c jobs limit r) (wish : Wish) : Type 0 where
+  pub registration : TheRegistration
+  pub registered : by_iref wish.opening.service.0 w.ran.parts.names ≡ Some registration
+  pub why : IsFull w registration.service.core.0 registration.service.dispatcher ⊎ HasNone w registration.service.core.0 registration.service
+
+-- that of the job which opens the binding, as its core does it, or the client's dispatcher is full
+pub record IsCrowded {c : TheConfig} {jobs : List Job} {limit : ℕ} {r : TheReport} (w : Reports c jobs limit r) (n : ℕ) : Type 0 where
+  pub bound : Bound
+  pub bound_is : slice_get (joined_in w).bindings n ≡ Some bound
+  pub place : ℕ
+  pub wish : Wish
+  pub job_is : slice_get (joined_in w).jobs place ≡ Some (job.Open wish)
+  pub binding_is : wish.opening.binding ≡ n
+  pub why : IsFull w bound.client wish.dispatcher ⊎ IsServiceFull w wish
+
 -- ---- law
 
 -- a binding is named as refused for a reason alone
@@ -87,6 +136,7 @@ pub record HasReason {c : TheConfig} {jobs : List Job} {limit : ℕ} {r : TheRep
   pub reason : IsReason fault
   pub unlinked : fault ≡ 73 → IsUnlinked w n
   pub spent : fault ≡ 74 → IsSpent w n
+  pub crowded : fault ≡ 54 → IsCrowded w n
 
 abbrev pub RefusalsHaveReasons : Type 0
 RefusalsHaveReasons = (c : TheConfig) (jobs : List Job) (limit : ℕ) (r : TheReport) (w : Reports c jobs limit r) (n fault : ℕ)

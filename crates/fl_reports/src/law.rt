@@ -28,7 +28,8 @@ pub fn runs_report_honestly()
 }
 
 /// A binding is told as refused for a reason alone: a dispatcher without a place (E54), a core of its route without a link that leads on (E73), or a link whose
-/// numbers are used up (E74); and for want of a link only where the set-up made none between two cores of its route.
+/// numbers are used up (E74); and each only where that is so: where the set-up made no link between two cores of its route, where a core of it gave all its
+/// numbers on a link, and where the client's or the service's dispatcher has 1,024 ends.
 pub fn refusals_have_reasons()
     ensures reasons { RefusalsHaveReasons }
 {
