@@ -22,7 +22,6 @@ use Rattle.fl_hop.specs.Numbers.{next_own}
 use Rattle.fl_hop.proofs.Laws.{is_eq, of_join}
 use Rattle.fl_core.specs.Sound.{IsBoard}
 use Rattle.fl_endpoint.specs.Laws.{OnAnotherCircuit}
-use Rattle.fl_nameserv.specs.Registrations.{TheRegistration}
 use Rattle.fl_monitor.specs.declared.heard.Heard.{Heard}
 use Rattle.fl_monitor.specs.declared.heard.Heard.TheVariants as outcome
 use Rattle.fl_monitor.specs.declared.message.Message.{Message}

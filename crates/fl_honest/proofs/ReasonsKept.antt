@@ -1,9 +1,8 @@
 -- What stays over a log: the only opening that was asked for under a number which was given, and a link whose numbers are used up.
-use Rattle.std.proofs.Common.{◌≡◌, ◌⊎◌, inl, inr, refl, sym, ap, ◌∙◌, subst, ℕ, List, Option, Some, None}
+use Rattle.std.proofs.Common.{◌≡◌, inl, inr, sym, ap, ◌∙◌, subst, ℕ, List, Some}
 use Rattle.fl_base.specs.declared.fragment.Frag.{Frag}
 use Rattle.fl_base.specs.declared.identity.LinkId.{LinkId}
 use Rattle.fl_base.specs.declared.identity.Circuit.{Circuit}
-use Rattle.fl_base.specs.Control.{bare}
 use Rattle.fl_hop.specs.declared.entry.Way.{Way}
 use Rattle.fl_hop.specs.declared.entry.Way.TheVariants.{Link, End}
 use Rattle.fl_hop.specs.Joined.{Sound}
@@ -18,7 +17,6 @@ use Rattle.fl_monitor.specs.declared.message.Message.TheVariants.{OpenCircuit, C
 use Rattle.fl_monitor.specs.Fates.{Known}
 use Rattle.fl_monitor.specs.Hearing.{ComesTo, says, opened_at, refused_at}
 use Rattle.fl_monitor.specs.Monitors.{TheMonitor, AllSaid, Said, waiting_for, asks}
-use Rattle.fl_monitor.specs.Saying.{Says}
 use Rattle.fl_monitor.proofs.Single.{says_the_same}
 use Rattle.fl_honest.specs.Named.{Has}
 use Rattle.fl_honest.specs.Reasons.{IsUsedUp, AsksOnly}
