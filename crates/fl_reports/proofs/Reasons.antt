@@ -13,6 +13,7 @@ use Rattle.fl_monitor.specs.Routing.{given, all_differ}
 use Rattle.fl_node.specs.Hearing.{Offers}
 use Rattle.fl_node.specs.View.{client_of}
 use Rattle.fl_running.specs.declared.job.Job.{Job as CoreJob}
+use Rattle.fl_running.specs.declared.job.Job.TheVariants as job
 use Rattle.fl_running.specs.declared.job.Wish.{Wish}
 use Rattle.fl_running.specs.Desks.{TheDesk, desk_place}
 use Rattle.fl_running.specs.Led.{LeadsAtFirst}
@@ -39,7 +40,7 @@ use Rattle.fl_cores.specs.Tells.{TheOutcome, RanTo, Each2}
 use Rattle.fl_cores.specs.Promised.{Reports}
 use Rattle.fl_reports.specs.Cores.{joined_in, cores_in}
 use Rattle.fl_reports.specs.Outcomes.{ReportsAreOfRuns}
-use Rattle.fl_reports.specs.Reasons.{behind, HasGap, BeginsNowhere, IsUnlinked, IsUsedUp, LeadsOver, IsSpent, SitsAt, IsFull, HasNone, IsCrowded, HasReason, RefusalsHaveReasons}
+use Rattle.fl_reports.specs.Reasons.{behind, Opener, HasGap, BeginsNowhere, IsUnlinked, IsUsedUp, LeadsOver, IsSpent, SitsAt, IsFull, HasNone, IsCrowded, HasReason, RefusalsHaveReasons}
 use Rattle.fl_reports.specs.Runs.{AreRuns}
 use Rattle.fl_reports.proofs.CoresStations.{at_core, as_many_cores}
 use Rattle.fl_reports.proofs.ReasonsFull.{ends_apart, sits_there, still_sits, own_service, lacks_what, no_place_why}
@@ -173,6 +174,12 @@ module _ (fresh : SetUpsStartFresh) (tell : DesksTellReasons) (for_reason : Refu
   by_another o y (inr (inl lost)) = gap y.place y.core y.core_is o.path lost.1
   by_another o y (inr (inr used)) = absurd (let is = used.0 in omega (arith, is))
 
+  -- the job that opens a binding
+  abbrev opener_of : (n : ℕ) (b : Bound) → slice_get j.bindings n ≡ Some b → (place : ℕ) (w : Wish) → slice_get j.jobs place ≡ Some (job.Open w) → client_of w.opening.binding ≡ client_of n
+      → Opener x n
+  opener_of n b bound place w job_is end_is =
+      record { bound = b; bound_is = bound; place = place; wish = w; job_is = job_is; binding_is = ap (λ (e : EndId). e.binding) end_is }
+
   -- ---- numbers that are used up
 
   -- a core gave all its numbers on a link
@@ -215,12 +222,7 @@ module _ (fresh : SetUpsStartFresh) (tell : DesksTellReasons) (for_reason : Refu
   spent_by : (n : ℕ) (b : Bound) → slice_get j.bindings n ≡ Some b → (one : OneCore) → slice_get cores b.client ≡ Some one
       → IsRefused j.jobs cores one (client_of n) 74 → IsSpent x n
   spent_by n b bound one one_is y = record {
-    bound = b;
-    bound_is = bound;
-    place = y.place;
-    wish = y.wish;
-    job_is = y.job_is;
-    binding_is = ap (λ (e : EndId). e.binding) y.end_is;
+    opener = opener_of n b bound y.place y.wish y.job_is y.end_is;
     why = elim y.why [
       | inl own ↦ inr (own_used b.client one one_is y.wish own)
       | inr other ↦ inl (another_used y.wish.opening other other.why)
@@ -302,12 +304,7 @@ module _ (fresh : SetUpsStartFresh) (tell : DesksTellReasons) (for_reason : Refu
       let binding : y.wish.opening.binding ≡ n = ap (λ (e : EndId). e.binding) y.end_is in
       let offered = set.wishes y.place y.wish b y.job_is (ap (slice_get j.bindings) binding ∙ bound) in
       record {
-        bound = b;
-        bound_is = bound;
-        place = y.place;
-        wish = y.wish;
-        job_is = y.job_is;
-        binding_is = binding;
+        opener = opener_of n b bound y.place y.wish y.job_is y.end_is;
         why = elim y.why [
           | inl own ↦ inl (own_crowded b.client one one_is y.wish own)
           | inr other ↦ inr (record {
@@ -321,12 +318,7 @@ module _ (fresh : SetUpsStartFresh) (tell : DesksTellReasons) (for_reason : Refu
   unlinked_by : (n : ℕ) (b : Bound) → slice_get j.bindings n ≡ Some b → (one : OneCore) → slice_get cores b.client ≡ Some one
       → IsRefused j.jobs cores one (client_of n) 73 → IsUnlinked x n
   unlinked_by n b bound one one_is y = record {
-    bound = b;
-    bound_is = bound;
-    place = y.place;
-    wish = y.wish;
-    job_is = y.job_is;
-    binding_is = ap (λ (e : EndId). e.binding) y.end_is;
+    opener = opener_of n b bound y.place y.wish y.job_is y.end_is;
     why = elim y.why [
       | inl own ↦ inr (inr (by_own b.client one one_is y.wish own))
       | inr other ↦ elim (by_another y.wish.opening other other.why) [ inl lost ↦ inl lost | inr twice ↦ inr (inl twice) ]

@@ -1,4 +1,4 @@
--- Why bindings are named as refused, by the jobs as cores do them and what the machine has behind the set-up. Public promises rest on this file.
+-- Why bindings are named as refused: by the jobs as cores do them, what the machine has behind the set-up, and how cores ended. Public promises rest on this file.
 use Rattle.std.specs.Prelude.{ℕ, ◌≡◌, ◌⊎◌, ◌+◌, ◌<◌, ◌≤◌, false, List, length, slice_get, Some, None}
 use Rattle.fl_base.specs.declared.identity.CoreId.{CoreId}
 use Rattle.fl_nameserv.specs.declared.registration.Service.{Service}
@@ -30,6 +30,15 @@ use Rattle.fl_reports.specs.Cores.{joined_in, cores_in}
 abbrev pub behind : TheConfig → State
 behind c = reached (start_with c.cores) c.setup
 
+-- binding n, and the job that opens it, as the client's core does that
+pub record Opener {c : TheConfig} {jobs : List Job} {limit : ℕ} {r : TheReport} (w : Reports c jobs limit r) (n : ℕ) : Type 0 where
+  pub bound : Bound
+  pub bound_is : slice_get (joined_in w).bindings n ≡ Some bound
+  pub place : ℕ
+  pub wish : Wish
+  pub job_is : slice_get (joined_in w).jobs place ≡ Some (job.Open wish)
+  pub binding_is : wish.opening.binding ≡ n
+
 -- ---- no link (73)
 
 -- a core of the route has no link to the one behind it
@@ -47,15 +56,10 @@ pub record BeginsNowhere (c : TheConfig) (client : ℕ) (wish : Wish) : Type 0 w
   pub core_is : core_of (behind c) client ≡ Some core
   pub none : slice_get core.circuits.links wish.link.0 ≡ None
 
--- so it is of the job that opens the binding, as its core does it, or its route names a core twice
+-- so it is of the job that opens binding n; or its route names a core twice, or it begins nowhere
 pub record IsUnlinked {c : TheConfig} {jobs : List Job} {limit : ℕ} {r : TheReport} (w : Reports c jobs limit r) (n : ℕ) : Type 0 where
-  pub bound : Bound
-  pub bound_is : slice_get (joined_in w).bindings n ≡ Some bound
-  pub place : ℕ
-  pub wish : Wish
-  pub job_is : slice_get (joined_in w).jobs place ≡ Some (job.Open wish)
-  pub binding_is : wish.opening.binding ≡ n
-  pub why : HasGap c wish.opening.path ⊎ (all_differ wish.opening.path ≡ false) ⊎ BeginsNowhere c bound.client wish
+  pub opener : Opener w n
+  pub why : HasGap c opener.wish.opening.path ⊎ (all_differ opener.wish.opening.path ≡ false) ⊎ BeginsNowhere c opener.bound.client opener.wish
 
 -- ---- no number left (74)
 
@@ -78,15 +82,10 @@ pub record LeadsOver {c : TheConfig} {jobs : List Job} {limit : ℕ} {r : TheRep
   pub link_is : link_to next.0 behind_it ≡ Some link
   pub used_up : IsUsedUp w core.0 link
 
--- so does that of the job which opens the binding, as its core does it, or the link on which that is to begin is such a one
+-- so does that of the job which opens binding n, or the link on which that is to begin is such a one
 pub record IsSpent {c : TheConfig} {jobs : List Job} {limit : ℕ} {r : TheReport} (w : Reports c jobs limit r) (n : ℕ) : Type 0 where
-  pub bound : Bound
-  pub bound_is : slice_get (joined_in w).bindings n ≡ Some bound
-  pub place : ℕ
-  pub wish : Wish
-  pub job_is : slice_get (joined_in w).jobs place ≡ Some (job.Open wish)
-  pub binding_is : wish.opening.binding ≡ n
-  pub why : LeadsOver w wish.opening.path ⊎ IsUsedUp w bound.client wish.link.0
+  pub opener : Opener w n
+  pub why : LeadsOver w opener.wish.opening.path ⊎ IsUsedUp w opener.bound.client opener.wish.link.0
 
 -- ---- no place (54)
 
@@ -119,15 +118,10 @@ pub record IsServiceFull {c : TheConfig} {jobs : List Job} {limit : ℕ} {r : Th
   pub registered : by_iref wish.opening.service.0 w.ran.parts.names ≡ Some registration
   pub why : IsFull w registration.service.core.0 registration.service.dispatcher ⊎ HasNone w registration.service.core.0 registration.service
 
--- that of the job which opens the binding, as its core does it, or the client's dispatcher is full
+-- so it is of the job which opens binding n, or its client's dispatcher is full
 pub record IsCrowded {c : TheConfig} {jobs : List Job} {limit : ℕ} {r : TheReport} (w : Reports c jobs limit r) (n : ℕ) : Type 0 where
-  pub bound : Bound
-  pub bound_is : slice_get (joined_in w).bindings n ≡ Some bound
-  pub place : ℕ
-  pub wish : Wish
-  pub job_is : slice_get (joined_in w).jobs place ≡ Some (job.Open wish)
-  pub binding_is : wish.opening.binding ≡ n
-  pub why : IsFull w bound.client wish.dispatcher ⊎ IsServiceFull w wish
+  pub opener : Opener w n
+  pub why : IsFull w opener.bound.client opener.wish.dispatcher ⊎ IsServiceFull w opener.wish
 
 -- ---- law
 
