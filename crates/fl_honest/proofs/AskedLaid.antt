@@ -34,8 +34,11 @@ use Rattle.fl_node.specs.declared.wire.Inlet.TheVariants as inlet
 use Rattle.fl_node.specs.View.{TheCore}
 use Rattle.fl_node.specs.Making.{Asked, Asks}
 use Rattle.fl_node.specs.Hearing.{Offers, HearsFrag, HearsMessage, HearsAll}
+use Rattle.fl_running.specs.declared.job.Job.{Job}
 use Rattle.fl_running.specs.Run.{Ways, TheRun}
 use Rattle.fl_running.specs.Deeds.{Deed, looked, passed, arrived, heard, said, told, opened, called, ruled, wrote, acked, turned, Does}
+use Rattle.fl_running.specs.Logs.{Goes}
+use Rattle.fl_running.proofs.Aside.{core_aside}
 use Rattle.fl_honest.proofs.Logged.{follows_monitor, ahead_monitor, arrives_monitor}
 
 -- the core on a link's other side
@@ -189,3 +192,14 @@ does_laid w (acked name n answer) s m h = core_alike s.core m.core h.2.event.1
 does_laid w (turned d name (inlet.Queue n) answer) s m h = alike s.core m.core (ap (λ (x : TheCore). x.monitor) h.3.event.rest)
 does_laid w (turned d name (inlet.Side n) answer) s m h = alike s.core m.core (ap (λ (x : TheCore). x.monitor) h.3.event.rest)
 does_laid w (turned d name inlet.Arrivals answer) s m h = alike s.core m.core (ap (λ (x : TheCore). x.monitor) h.3.event.rest)
+
+-- and over a log
+pub goes_laid : {S : Type 0} (w : Ways S) (jobs : List Job) (log : List Deed) (s t : TheRun S) → Goes w jobs s log t → Laid s.core.monitor.circuits t.core.monitor.circuits
+goes_laid w jobs [] s t h = laid_same s.core.monitor.circuits t.core.monitor.circuits (ap (λ (x : TheRun _). x.core.monitor.circuits) h)
+goes_laid w jobs (deed ∷ log) s t h =
+    let m = h.1.0 in
+    let u = h.0 in
+    let aside : u.core ≡ m.core = core_aside m u deed h.1.2 in
+    let one : Laid s.core.monitor.circuits u.core.monitor.circuits =
+    subst (λ (k : TheCore). Laid s.core.monitor.circuits k.monitor.circuits) (sym aside) (does_laid w deed s m h.1.1) in
+    laid_then s.core.monitor.circuits u.core.monitor.circuits t.core.monitor.circuits one (goes_laid w jobs log u t h.3)

@@ -19,6 +19,7 @@ mod LoggedRefusals
 mod Neighbours
 mod Back
 mod Whole
+mod Ample
 mod Unbound
 mod Ruled
 mod RuledEnds
@@ -45,7 +46,9 @@ mod Forth
 mod Standing
 mod Lone
 mod Runs
+mod ReasonsOwn
 mod Reasoned
+mod ReasonsKept
 mod ReasonedHears
 mod ReasonsHere
 mod ReasonsDesks

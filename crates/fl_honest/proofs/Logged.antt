@@ -20,8 +20,8 @@ use Rattle.fl_hop.specs.Stretch.{Step, passed as hop_passed, wrote as hop_wrote,
 use Rattle.fl_hop.specs.Table.{TheCircuits}
 use Rattle.fl_hop.specs.Numbers.{next_own}
 use Rattle.fl_hop.proofs.Laws.{is_eq, of_join}
+use Rattle.fl_core.specs.Sound.{IsBoard}
 use Rattle.fl_endpoint.specs.Laws.{OnAnotherCircuit}
-use Rattle.fl_nameserv.specs.Registrations.{TheRegistration}
 use Rattle.fl_monitor.specs.declared.heard.Heard.{Heard}
 use Rattle.fl_monitor.specs.declared.heard.Heard.TheVariants as outcome
 use Rattle.fl_monitor.specs.declared.message.Message.{Message}
@@ -171,8 +171,8 @@ pub record IsKept (R : (ℕ → List Frag) → (ℕ → List Frag) → TheMonito
       → (l : LinkId) (c : Circuit) (o : Opening) → IsWished jobs o → next_own m.circuits l.0 ≡ Some c.0 → m2.circuits ≡ opened_table m.circuits l c o.binding
       → Said (record { link = l; message = asking c o }) m.outboxes m2.outboxes → R said heard m2
 
--- the same of a core that offers these services, and whose own jobs wish for these openings
-pub record IsKeptBy (names : List TheRegistration) (Wishes : Opening → Type 0) (R : (ℕ → List Frag) → (ℕ → List Frag) → TheMonitor → Type 0) : Type 0 where
+-- the same of a core that knows this when it hears a message, and whose own jobs wish for these openings
+pub record IsKeptBy (Knows : Known → Message → Type 0) (Wishes : Opening → Type 0) (R : (ℕ → List Frag) → (ℕ → List Frag) → TheMonitor → Type 0) : Type 0 where
   -- where less was said, or more was heard
   pub wider : (said said2 heard heard2 : ℕ → List Frag) (m : TheMonitor) → ((l : ℕ) (f : Frag) → Has f (said2 l) → Has f (said l))
       → ((l : ℕ) (f : Frag) → Has f (heard l) → Has f (heard2 l)) → R said heard m → R said2 heard2 m
@@ -182,18 +182,18 @@ pub record IsKeptBy (names : List TheRegistration) (Wishes : Opening → Type 0)
       → R said heard m → R said2 heard m2
   -- a message is heard
   pub hears : (said heard heard2 : ℕ → List Frag) (m m2 : TheMonitor) → Sound m.circuits → Sound m2.circuits → Later m.circuits m2.circuits → R said heard m
-      → ((l : ℕ) (f : Frag) → Has f (heard l) → Has f (heard2 l)) → (l : LinkId) (kn : Known) → kn.names ≡ names → (frag : Frag) (msg : Message) (h : Heard) → Has frag (heard2 l.0) → Says frag msg
+      → ((l : ℕ) (f : Frag) → Has f (heard l) → Has f (heard2 l)) → (l : LinkId) (kn : Known) (frag : Frag) (msg : Message) (h : Heard) → Knows kn msg → Has frag (heard2 l.0) → Says frag msg
       → ComesTo kn m.circuits l msg h → m2.circuits ≡ table_after m.circuits l msg h → AllSaid (says l msg h) m.outboxes m2.outboxes → R said heard2 m2
   -- a circuit is asked for, for which a job here wishes
   pub asks : (said heard : ℕ → List Frag) (m m2 : TheMonitor) → Sound m.circuits → Sound m2.circuits → Later m.circuits m2.circuits → R said heard m
       → (l : LinkId) (c : Circuit) (o : Opening) → Wishes o → next_own m.circuits l.0 ≡ Some c.0 → m2.circuits ≡ opened_table m.circuits l c o.binding
       → Said (record { link = l; message = asking c o }) m.outboxes m2.outboxes → R said heard m2
 
-pub kept_by : (names : List TheRegistration) (R : (ℕ → List Frag) → (ℕ → List Frag) → TheMonitor → Type 0) (jobs : List Job) → IsKept R jobs → IsKeptBy names (IsWished jobs) R
-kept_by names R jobs kept = record {
+pub kept_by : (Knows : Known → Message → Type 0) (R : (ℕ → List Frag) → (ℕ → List Frag) → TheMonitor → Type 0) (jobs : List Job) → IsKept R jobs → IsKeptBy Knows (IsWished jobs) R
+kept_by Knows R jobs kept = record {
   wider = kept.wider;
   rests = kept.rests;
-  hears = λ said heard heard2 m m2 sound sound2 later n more l kn offers frag msg h has says_it comes is put.
+  hears = λ said heard heard2 m m2 sound sound2 later n more l kn frag msg h known has says_it comes is put.
       kept.hears said heard heard2 m m2 sound sound2 later n more l kn frag msg h has says_it comes is put;
   asks = kept.asks;
 }
@@ -213,7 +213,7 @@ then_said so steps l = so l ++ of_circuit 0 (put_on l steps)
 abbrev pub then_heard : (ℕ → List Frag) → List Step → ℕ → List Frag
 then_heard so steps l = so l ++ of_circuit 0 (taken_from l steps)
 
-module _ {names : List TheRegistration} {Wishes : Opening → Type 0} (R : (ℕ → List Frag) → (ℕ → List Frag) → TheMonitor → Type 0) (jobs : List Job) (kept : IsKeptBy names Wishes R) (said_so heard_so : ℕ → List Frag) (k k2 : TheCore)
+module _ {Knows : Known → Message → Type 0} {Wishes : Opening → Type 0} (R : (ℕ → List Frag) → (ℕ → List Frag) → TheMonitor → Type 0) (jobs : List Job) (kept : IsKeptBy Knows Wishes R) (said_so heard_so : ℕ → List Frag) (k k2 : TheCore)
     (sound2 : Sound k2.monitor.circuits) (later : Later k.monitor.circuits k2.monitor.circuits) (steps : List Step) (went : goes_through k.monitor.circuits steps k2.monitor.circuits) where
   abbrev Then : Type 0
   Then = R (then_said said_so steps) (then_heard heard_so steps) k2.monitor
@@ -280,10 +280,10 @@ module _ {names : List TheRegistration} {Wishes : Opening → Type 0} (R : (ℕ 
   same_said : ((l : ℕ) → said_on l steps ≡ []) → R said_so (then_heard heard_so steps) k2.monitor → Then
   same_said none n = kept.wider said_so (then_said said_so steps) (then_heard heard_so steps) (then_heard heard_so steps) k2.monitor (said_before none) (λ l f h. h) n
 
-module _ {names : List TheRegistration} {Wishes : Opening → Type 0} (R : (ℕ → List Frag) → (ℕ → List Frag) → TheMonitor → Type 0) (jobs : List Job) (kept : IsKeptBy names Wishes R) {S : Type 0} (w : Ways S)
+module _ {Knows : Known → Message → Type 0} {Wishes : Opening → Type 0} (R : (ℕ → List Frag) → (ℕ → List Frag) → TheMonitor → Type 0) (jobs : List Job) (kept : IsKeptBy Knows Wishes R) {S : Type 0} (w : Ways S)
     (on : OnAnotherCircuit) (said_so heard_so : ℕ → List Frag)
     (s m : TheRun S) (core : IsCore s.core) (sound : Sound s.core.monitor.circuits) (sound2 : Sound m.core.monitor.circuits) (led : IsLed s.core)
-    (offers : s.offers.names ≡ names) (own : (name : EndId) (wish : Wish) → JobAt jobs s name wish → Wishes wish.opening) (holds : R said_so heard_so s.core.monitor) where
+    (knows : (msg : Message) → Knows (known_for s.offers s.core msg) msg) (own : (name : EndId) (wish : Wish) → JobAt jobs s name wish → Wishes wish.opening) (holds : R said_so heard_so s.core.monitor) where
   abbrev After : (deed : Deed) → InPlace jobs s deed → Does w deed s m → Type 0
   After deed by h = R (then_said said_so (event_steps w jobs deed s m by h)) (then_heard heard_so (event_steps w jobs deed s m by h)) m.core.monitor
 
@@ -315,7 +315,7 @@ module _ {names : List TheRegistration} {Wishes : Opening → Type 0} (R : (ℕ 
         let more = heard_more R jobs kept said_so heard_so s.core m.core sound2 later steps_heard went in
         let now : Says (as_carried (bare frag)) msg = says_the_same frag (as_carried (bare frag)) msg (carried_zero frag zero) says_it in
         let new = kept.hears said_so heard_so (then_heard heard_so steps_heard) s.core.monitor m.core.monitor sound sound2 later holds more l
-        (known_for s.offers s.core msg) offers (as_carried (bare frag)) msg h.heard
+        (known_for s.offers s.core msg) (as_carried (bare frag)) msg h.heard (knows msg)
         (has_last (as_carried (bare frag)) (heard_so l.0) (of_circuit 0 (taken_from l.0 steps_heard)) (took_heard s.core.monitor.circuits l frag msg says_it)) now h.hears.0
         (ap (λ (x : TheMonitor). x.circuits) same ∙ h.hears.2) (subst (λ (x : TheMonitor). AllSaid (says l msg h.heard) s.core.monitor.outboxes x.outboxes) (sym same) h.hears.3) in
         same_said R jobs kept said_so heard_so s.core m.core sound2 later steps_heard went (λ i. said_heard s.core.monitor.circuits i l.0 (frag ∷ [])) new
@@ -408,21 +408,22 @@ heard_joins so xs ys l =
     ap (λ (fs : List Frag). so l ++ of_circuit 0 fs) (took_joins l xs ys) ∙ ap (λ (fs : List Frag). so l ++ fs) (of_join 0 (taken_from l xs) (taken_from l ys))
     ∙ sym (append_assoc (so l) (of_circuit 0 (taken_from l xs)) (of_circuit 0 (taken_from l ys)))
 
-module _ {names : List TheRegistration} {Wishes : Opening → Type 0} (R : (ℕ → List Frag) → (ℕ → List Frag) → TheMonitor → Type 0) (jobs : List Job) (kept : IsKeptBy names Wishes R) {S : Type 0} (w : Ways S)
+module _ {Knows : Known → Message → Type 0} {Wishes : Opening → Type 0} (R : (ℕ → List Frag) → (ℕ → List Frag) → TheMonitor → Type 0) (jobs : List Job) (kept : IsKeptBy Knows Wishes R) {S : Type 0} (w : Ways S)
     (on : OnAnotherCircuit) where
   sound_first : (log : List Deed) (s t : TheRun S) → Goes w jobs s log t → Sound t.core.monitor.circuits → Sound s.core.monitor.circuits
   sound_first [] s t h sound = subst (λ (x : TheRun S). Sound x.core.monitor.circuits) h sound
   sound_first (deed ∷ log) s t h sound = h.1.3.table
 
   -- over a whole log it is kept
-  pub log_keeps_by : (log : List Deed) (s t : TheRun S) (h : Goes w jobs s log t) (said_so heard_so : ℕ → List Frag) → s.offers.names ≡ names
+  pub log_keeps_by : (log : List Deed) (s t : TheRun S) (h : Goes w jobs s log t) (said_so heard_so : ℕ → List Frag)
+      → ((u : TheRun S) (rest : List Deed) → Goes w jobs u rest t → IsBoard u.core.board → u.offers ≡ s.offers → (msg : Message) → Knows (known_for u.offers u.core msg) msg)
       → ((name : EndId) (wish : Wish) → JobAt jobs s name wish → Wishes wish.opening) → IsLed s.core → Sound t.core.monitor.circuits → R said_so heard_so s.core.monitor
       → R (then_said said_so (log_steps w jobs log s t h)) (then_heard heard_so (log_steps w jobs log s t h)) t.core.monitor
-  log_keeps_by [] s t h said_so heard_so offers own led sound n =
+  log_keeps_by [] s t h said_so heard_so knows own led sound n =
       kept.wider said_so (then_said said_so []) heard_so (then_heard heard_so []) t.core.monitor
       (λ l f has. elim (has_split f (said_so l) [] has) [ inl a ↦ a | inr b ↦ absurd b ])
       (λ l f has. has_first f (heard_so l) [] has) (subst (λ (x : TheRun S). R said_so heard_so x.core.monitor) (sym h) n)
-  log_keeps_by (deed ∷ log) s t h said_so heard_so offers own led sound n =
+  log_keeps_by (deed ∷ log) s t h said_so heard_so knows own led sound n =
       let m = h.1.0 in
       let u = h.0 in
       let aside : u.core ≡ m.core = core_aside m u deed h.1.2 in
@@ -430,10 +431,11 @@ module _ {names : List TheRegistration} {Wishes : Opening → Type 0} (R : (ℕ 
       let rest = log_steps w jobs log u t h.3 in
       let sound_u = sound_first log u t h.3 sound in
       let sound_m : Sound m.core.monitor.circuits = subst (λ (k : TheCore). Sound k.monitor.circuits) aside sound_u in
-      let one = does_keep R jobs kept w on said_so heard_so s m h.1.3.core h.1.3.table sound_m led offers own n deed h.2 h.1.4 h.1.1 in
+      let one = does_keep R jobs kept w on said_so heard_so s m h.1.3.core h.1.3.table sound_m led (knows s (deed ∷ log) h h.1.3.board refl) own n deed h.2 h.1.4 h.1.1 in
       let now : R (then_said said_so first) (then_heard heard_so first) u.core.monitor = subst (λ (k : TheCore). R (then_said said_so first) (then_heard heard_so first) k.monitor) (sym aside) one in
       let led_u : IsLed u.core = subst IsLed (sym aside) (does_led w jobs s m h.1.3.core h.1.3.table led deed h.2 h.1.1) in
-      let still : u.offers.names ≡ names = ap (λ (o : Offers). o.names) (offers_stay w deed s m u h.1.1 h.1.2) ∙ offers in
+      let still = λ (v : TheRun S) (later_on : List Deed) (g : Goes w jobs v later_on t) (board : IsBoard v.core.board) (same : v.offers ≡ u.offers) (msg : Message).
+      knows v later_on g board (same ∙ offers_stay w deed s m u h.1.1 h.1.2) msg in
       let all = log_keeps_by log u t h.3 (then_said said_so first) (then_heard heard_so first) still (λ name wish a. own name wish (job_before jobs s u name wish (event_jobs w deed s m u h.1.1 h.1.2) a)) led_u sound now in
       kept.wider (then_said (then_said said_so first) rest) (then_said said_so (first ++ rest)) (then_heard (then_heard heard_so first) rest) (then_heard heard_so (first ++ rest)) t.core.monitor
       (λ l f has. subst (Has f) (said_joins said_so first rest l) has) (λ l f has. subst (Has f) (sym (heard_joins heard_so first rest l)) has) all
@@ -443,5 +445,5 @@ pub log_keeps : (R : (ℕ → List Frag) → (ℕ → List Frag) → TheMonitor 
     → (log : List Deed) (s t : TheRun S) (h : Goes w jobs s log t) (said_so heard_so : ℕ → List Frag) → IsLed s.core → Sound t.core.monitor.circuits → R said_so heard_so s.core.monitor
     → R (then_said said_so (log_steps w jobs log s t h)) (then_heard heard_so (log_steps w jobs log s t h)) t.core.monitor
 log_keeps R jobs kept w on log s t h said_so heard_so led sound n =
-    log_keeps_by R jobs (kept_by s.offers.names R jobs kept) w on log s t h said_so heard_so refl
+    log_keeps_by R jobs (kept_by (λ kn msg. Unit {0}) R jobs kept) w on log s t h said_so heard_so (λ u rest g board same msg. tt)
     (λ name wish a. record { place = a.place; wish = wish; job_is = a.job_is; opening_is = refl }) led sound n

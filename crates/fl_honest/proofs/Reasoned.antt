@@ -1,5 +1,5 @@
 -- What a monitor says and hears of refusals: each has its reason, here or further on.
-use Rattle.std.proofs.Common.{◌≡◌, ◌⊎◌, inl, inr, refl, sym, ap, ◌∙◌, subst, ℕ, ◌==◌, Bool, true, false, List, [], ◌∷◌, ◌++◌, slice_get}
+use Rattle.std.proofs.Common.{◌≡◌, ◌⊎◌, inl, inr, refl, sym, ap, ◌∙◌, subst, ℕ, List, [], ◌∷◌, ◌++◌, slice_get}
 use Rattle.std.proofs.Common.{Option, Some, None}
 use Rattle.std.specs.Option.{option_map}
 use Rattle.fl_base.specs.declared.fragment.Frag.{Frag}
@@ -9,63 +9,26 @@ use Rattle.fl_base.specs.declared.identity.LinkId.{LinkId}
 use Rattle.fl_base.specs.declared.identity.Circuit.{Circuit}
 use Rattle.fl_base.specs.Control.{bare}
 use Rattle.fl_hop.specs.declared.entry.Hop.{Hop}
-use Rattle.fl_hop.specs.declared.entry.Way.TheVariants.{Link}
+use Rattle.fl_hop.specs.declared.entry.Way.{Way}
+use Rattle.fl_hop.specs.declared.entry.Way.TheVariants.{Link, End}
 use Rattle.fl_hop.specs.Joined.{Sound}
 use Rattle.fl_hop.specs.Later.{Later, unanswered}
 use Rattle.fl_hop.specs.Numbers.{Given, OpenedHere, OpenedThere, next_own}
-use Rattle.fl_hop.specs.Table.{TheCircuits, hop_at, link_of}
+use Rattle.fl_hop.specs.Table.{TheCircuits, hop_at}
 use Rattle.fl_hop.proofs.Counting.{next_is, never_next}
-use Rattle.fl_nameserv.specs.Registrations.{TheRegistration, by_iref}
+use Rattle.fl_nameserv.specs.Registrations.{TheRegistration}
 use Rattle.fl_monitor.specs.declared.opening.Opening.{Opening}
-use Rattle.fl_monitor.specs.declared.heard.Heard.{Heard}
-use Rattle.fl_monitor.specs.declared.heard.Heard.TheVariants.{OpeningWentOn, ServerMade, OpeningFailed, AnswerWentOn, EndOpened, EndRefused}
 use Rattle.fl_monitor.specs.declared.message.Message.{Message}
 use Rattle.fl_monitor.specs.declared.message.Message.TheVariants.{CircuitOpened, CircuitRefused}
-use Rattle.fl_monitor.specs.Routing.{given, next_on}
-use Rattle.fl_monitor.specs.Fates.{Known, arrival, passage, fate}
-use Rattle.fl_monitor.specs.Hearing.{heard_by}
+use Rattle.fl_monitor.specs.Routing.{given}
 use Rattle.fl_monitor.specs.Monitors.{TheMonitor, Said, waiting_for, asks}
 use Rattle.fl_monitor.specs.Saying.{Says}
 use Rattle.fl_monitor.proofs.Single.{says_no_other, says_the_same, says_what_is_written}
 use Rattle.fl_honest.specs.Named.{Has, AsksFor, AreNamed}
-use Rattle.fl_honest.specs.Reasons.{IsReason, CameUnder, AsksOnly, HeardRefused, IsRefusedFor, AreReasoned}
+use Rattle.fl_honest.specs.Reasons.{IsUsedUp, Refuses, CameUnder, AsksOnly, HeardRefused, IsRefusedFor, IsFrom, IsFor, AreReasoned}
 use Rattle.fl_honest.proofs.Bound.{map_some}
 use Rattle.fl_honest.proofs.Named.{has_split, waits}
-
--- ---- a core's own reasons
-
--- what an opening that fails here fails for
-abbrev pub IsGood : Type 0 → Heard → Type 0
-IsGood L (OpeningFailed binding reason) = IsReason reason ⊎ L
-IsGood L (OpeningWentOn binding m n) = Unit {0}
-IsGood L (ServerMade binding dispatcher c) = Unit {0}
-IsGood L (AnswerWentOn binding m c) = Unit {0}
-IsGood L (EndOpened e c) = Unit {0}
-IsGood L (EndRefused e reason) = Unit {0}
-
-module _ (kn : Known) (t : TheCircuits) (binding : ℕ) (c : Circuit) (L : Type 0) where
-  at_last : (iref : ℕ) → (by_iref iref kn.names ≡ None → L) → (r : Option TheRegistration) (place : Bool) → by_iref iref kn.names ≡ r → kn.here.has_place ≡ place
-      → IsGood L (heard_by binding c (arrival kn iref))
-  at_last iref lacks None place is has = rw is (inr (lacks is))
-  at_last iref lacks (Some r) true is has = rw (is, has) tt
-  at_last iref lacks (Some r) false is has = rw (is, has) (inl (inl refl))
-
-  at_link : (l next m : ℕ) (same : Bool) (n : Option ℕ) → link_of t next ≡ Some m → (l == m) ≡ same → next_own t m ≡ n → IsGood L (heard_by binding c (passage t l next))
-  at_link l next m true n is test own = rw (is, test) (inl (inr (inl refl)))
-  at_link l next m false None is test own = rw (is, test, own) (inl (inr (inr refl)))
-  at_link l next m false (Some n) is test own = rw (is, test, own) tt
-
-  on_the_way : (l next : ℕ) (m : Option ℕ) → link_of t next ≡ m → IsGood L (heard_by binding c (passage t l next))
-  on_the_way l next None is = rw is (inl (inr (inl refl)))
-  on_the_way l next (Some m) is = at_link l next m (l == m) (next_own t m) is refl refl
-
-  by_route : (l : ℕ) (o : Opening) → (by_iref o.service.0 kn.names ≡ None → L) → (next : Option CoreId) → next_on o.path t.core ≡ next → IsGood L (heard_by binding c (fate kn t l o))
-  by_route l o lacks None is = rw is (at_last o.service.0 lacks (by_iref o.service.0 kn.names) kn.here.has_place refl refl)
-  by_route l o lacks (Some next) is = rw is (on_the_way l next.0 (link_of t next.0) refl)
-
-pub opening_good : (kn : Known) (t : TheCircuits) (l : ℕ) (c : Circuit) (o : Opening) (L : Type 0) → (by_iref o.service.0 kn.names ≡ None → L) → (h : Heard)
-    → h ≡ heard_by o.binding c (fate kn t l o) → IsGood L h
-opening_good kn t l c o L lacks h is = subst (IsGood L) (sym is) (by_route kn t o.binding c L l o lacks (next_on o.path t.core) refl)
+use Rattle.fl_honest.proofs.ReasonsOwn.{refuses_later}
 
 -- ---- what asks, and what refuses
 
@@ -85,10 +48,10 @@ asks_parts c d a b same =
     )
 
 -- what asks is no answer, and no answer asks
-opened_asks : (d c : Circuit) (o : Opening) → CircuitOpened d ≡ asks c o → ⊥
+pub opened_asks : (d c : Circuit) (o : Opening) → CircuitOpened d ≡ asks c o → ⊥
 opened_asks d c o is = cc
 
-refused_asks : (d c : Circuit) (r : ℕ) (o : Opening) → CircuitRefused d r ≡ asks c o → ⊥
+pub refused_asks : (d c : Circuit) (r : ℕ) (o : Opening) → CircuitRefused d r ≡ asks c o → ⊥
 refused_asks d c r o is = cc
 
 asks_refused : (d c : Circuit) (r : ℕ) (o : Opening) → asks c o ≡ CircuitRefused d r → ⊥
@@ -96,6 +59,25 @@ asks_refused d c r o is = cc
 
 opened_refused : (c d : Circuit) (r : ℕ) → CircuitOpened c ≡ CircuitRefused d r → ⊥
 opened_refused c d r is = cc
+
+-- with one message more, what is said was said before, or is that
+pub said_or_new : (said : ℕ → List Frag) (m m2 : TheMonitor) (x : LinkId) (msg : Message) → Said (record { link = x; message = msg }) m.outboxes m2.outboxes → (l : ℕ) (f : Frag)
+    (other : Message) → Has f (said l) ⊎ Has f (waiting_for m2.outboxes l) → Says f other → (Has f (said l) ⊎ Has f (waiting_for m.outboxes l)) ⊎ ((l ≡ x.0) × (msg ≡ other))
+said_or_new said m m2 x msg put l f other (inl h) says_it = inl (inl h)
+said_or_new said m m2 x msg put l f other (inr h) says_it =
+    elim (waits f m.outboxes x.0 (put.outbox ++ put.frag ∷ []) l (subst (λ (boxes : List (List Frag)). Has f (waiting_for boxes l)) put.more h)) [
+      | inl old ↦ inl (inr old)
+      | inr p ↦ elim (has_split f put.outbox (put.frag ∷ []) p.1) [
+        | inl old ↦ inl (inr (subst (λ (o : Option (List Frag)). Has f (given o [] (λ b. b))) (sym (ap (slice_get m.outboxes) p.0 ∙ put.there)) old))
+        | inr new ↦ elim new [
+          | inl same ↦ inr (
+            p.0,
+            says_no_other put.frag msg other (says_what_is_written put.frag msg put.is.widths put.is.written) (says_the_same f put.frag other (ap bare same) says_it),
+          )
+          | inr none ↦ absurd none
+        ]
+      ]
+    ]
 
 -- an entry that stood at a number that was given leads the same way
 old_way : (t u : TheCircuits) (l n : ℕ) (h : Hop) → Later t u → Given t l n → hop_at u l n ≡ Some h → (x : Hop) × (hop_at t l n ≡ Some x) × (x.way ≡ h.way) × (x.binding ≡ h.binding)
@@ -107,19 +89,28 @@ old_way t u l n h later given at = elim (later.kept l n given) [
 pub came_more : (t : TheCircuits) (heard heard2 : ℕ → List Frag) → ((l : ℕ) (f : Frag) → Has f (heard l) → Has f (heard2 l)) → (l n : ℕ) (o : Opening) → CameUnder t heard l n o → CameUnder t heard2 l n o
 came_more t heard heard2 more l n o a = record { frag = a.frag; has = more l a.frag a.has; circuit = a.circuit; number = a.number; says = a.says; along = a.along }
 
+pub from_more : (Wishes : Opening → Type 0) (t : TheCircuits) (heard heard2 : ℕ → List Frag) → ((l : ℕ) (f : Frag) → Has f (heard l) → Has f (heard2 l)) → (way : Way) (o : Opening)
+    → IsFrom Wishes t heard way o → IsFrom Wishes t heard2 way o
+from_more Wishes t heard heard2 more (Link x d) o came = came_more t heard heard2 more x.0 d.0 o came
+from_more Wishes t heard heard2 more (End e) o wished = wished
+
 -- ---- less was said, more was heard, or nothing new
 
-module _ (names : List TheRegistration) (Wishes : Opening → Type 0) (t : TheCircuits) where
+module _ (names : List TheRegistration) (NoPlace Wishes : Opening → Type 0) (t : TheCircuits) where
   pub wider : (said said2 heard heard2 : ℕ → List Frag) (m : TheMonitor) → ((l : ℕ) (f : Frag) → Has f (said2 l) → Has f (said l)) → ((l : ℕ) (f : Frag) → Has f (heard l) → Has f (heard2 l))
-      → AreReasoned names Wishes t said heard m → AreReasoned names Wishes t said2 heard2 m
+      → AreReasoned names NoPlace Wishes t said heard m → AreReasoned names NoPlace Wishes t said2 heard2 m
   wider said said2 heard heard2 m fewer more n = record {
     asked = λ l f c o has says_it. elim (n.asked l f c o (in_more l f has) says_it) [
       | inl own ↦ inl own
       | inr came ↦ inr (came.0, came.1, came_more t heard heard2 more came.0 came.1 o came.2)
     ];
     told = λ l i hop there at. (let (o, came, same) = n.told l i hop there at in (o, came_more t heard heard2 more l i o came, same));
-    passed = λ l i hop x d here at way.
-        (let (o, came, only) = n.passed l i hop x d here at way in (o, came_more t heard heard2 more x.0 d.0 o came, only_fewer l i o only));
+    given = λ l i hop here at. (let x = n.given l i hop here at in record {
+      opening = x.opening;
+      binding_is = x.binding_is;
+      origin = from_more Wishes t heard heard2 more hop.way x.opening x.origin;
+      only = only_fewer l i x.opening x.only;
+    });
     refused = λ l f c reason has says_it.
         (let (o, came, why) = n.refused l f c reason (in_more l f has) says_it in (
           o,
@@ -141,19 +132,20 @@ module _ (names : List TheRegistration) (Wishes : Opening → Type 0) (t : TheCi
 
   pub rests : (said said2 heard : ℕ → List Frag) (m m2 : TheMonitor) → m2.circuits ≡ m.circuits
       → ((l : ℕ) (f : Frag) → Has f (said2 l) ⊎ Has f (waiting_for m2.outboxes l) → (g : Frag) × (bare g ≡ bare f) × (Has g (said l) ⊎ Has g (waiting_for m.outboxes l)))
-      → AreReasoned names Wishes t said heard m → AreReasoned names Wishes t said2 heard m2
+      → AreReasoned names NoPlace Wishes t said heard m → AreReasoned names NoPlace Wishes t said2 heard m2
   rests said said2 heard m m2 same from n = record {
     asked = λ l f c o has says_it. (let (g, alike, before) = from l f has in n.asked l g c o before (says_the_same f g (asks c o) alike says_it));
     told = λ l i hop there at. n.told l i hop (subst (λ (u : TheCircuits). OpenedThere u l i) same there) (sym (ap (λ (u : TheCircuits). hop_at u l i) same) ∙ at);
-    passed = λ l i hop x d here at way.
-        (let (o, came, only) = n.passed l i hop x d (subst (λ (u : TheCircuits). OpenedHere u l i) same here) (sym (ap (λ (u : TheCircuits). hop_at u l i) same) ∙ at) way in (o, came, only_still l i o only));
+    given = λ l i hop here at.
+        (let x = n.given l i hop (subst (λ (u : TheCircuits). OpenedHere u l i) same here) (sym (ap (λ (u : TheCircuits). hop_at u l i) same) ∙ at) in
+        record { opening = x.opening; binding_is = x.binding_is; origin = x.origin; only = only_still l i x.opening x.only });
     refused = λ l f c reason has says_it.
         (let (g, alike, before) = from l f has in
         let (o, came, why) = n.refused l g c reason before (says_the_same f g (CircuitRefused c reason) alike says_it) in (
           o,
           came,
           elim why [
-            | inl good ↦ inl good
+            | inl good ↦ inl (subst (λ (u : TheCircuits). Refuses names NoPlace t u o reason) (sym same) good)
             | inr others ↦ elim others [
               | inl lacks ↦ inr (inl lacks)
               | inr h ↦ inr (inr (record {
@@ -174,8 +166,9 @@ module _ (names : List TheRegistration) (Wishes : Opening → Type 0) (t : TheCi
 
 -- ---- the monitor of before, and of afterwards
 
-module _ (names : List TheRegistration) (Wishes : Opening → Type 0) (t0 : TheCircuits) (said heard heard2 : ℕ → List Frag) (m m2 : TheMonitor) (sound : Sound m.circuits) (sound2 : Sound m2.circuits)
-    (later : Later m.circuits m2.circuits) (named : AreNamed said heard m) (reasoned : AreReasoned names Wishes t0 said heard m) (more : (l : ℕ) (f : Frag) → Has f (heard l) → Has f (heard2 l)) where
+module _ (names : List TheRegistration) (NoPlace Wishes : Opening → Type 0) (t0 : TheCircuits) (said heard heard2 : ℕ → List Frag) (m m2 : TheMonitor) (sound : Sound m.circuits) (sound2 : Sound m2.circuits)
+    (later : Later m.circuits m2.circuits) (grows : (l : ℕ) → IsUsedUp m.circuits l → IsUsedUp m2.circuits l) (named : AreNamed said heard m)
+    (reasoned : AreReasoned names NoPlace Wishes t0 said heard m) (more : (l : ℕ) (f : Frag) → Has f (heard l) → Has f (heard2 l)) where
   abbrev Before : ℕ → Frag → Type 0
   Before l f = Has f (said l) ⊎ Has f (waiting_for m.outboxes l)
 
@@ -209,21 +202,7 @@ module _ (names : List TheRegistration) (Wishes : Opening → Type 0) (t0 : TheC
   -- with one message more, what is said was said before, or is that
   said_then : (x : LinkId) (msg : Message) → Said (record { link = x; message = msg }) m.outboxes m2.outboxes → (l : ℕ) (f : Frag) (other : Message) → Now l f → Says f other
       → Before l f ⊎ ((l ≡ x.0) × (msg ≡ other))
-  said_then x msg put l f other (inl h) says_it = inl (inl h)
-  said_then x msg put l f other (inr h) says_it =
-      elim (waits f m.outboxes x.0 (put.outbox ++ put.frag ∷ []) l (subst (λ (boxes : List (List Frag)). Has f (waiting_for boxes l)) put.more h)) [
-        | inl old ↦ inl (inr old)
-        | inr p ↦ elim (has_split f put.outbox (put.frag ∷ []) p.1) [
-          | inl old ↦ inl (inr (subst (λ (o : Option (List Frag)). Has f (given o [] (λ b. b))) (sym (ap (slice_get m.outboxes) p.0 ∙ put.there)) old))
-          | inr new ↦ elim new [
-            | inl same ↦ inr (
-              p.0,
-              says_no_other put.frag msg other (says_what_is_written put.frag msg put.is.widths put.is.written) (says_the_same f put.frag other (ap bare same) says_it),
-            )
-            | inr none ↦ absurd none
-          ]
-        ]
-      ]
+  said_then x msg put l f other now says_it = said_or_new said m m2 x msg put l f other now says_it
 
   -- what is new of it: which openings it asks for, by link and number, and what it refuses
   module _ (Asks : ℕ → Circuit → Opening → Type 0) (Refuses : ℕ → Circuit → ℕ → Type 0)
@@ -247,22 +226,27 @@ module _ (names : List TheRegistration) (Wishes : Opening → Type 0) (t0 : TheC
       only = only_still h.link h.circuit.0 o h.given h.only;
     }
 
-    why_still : (o : Opening) (reason : ℕ) → IsRefusedFor names said heard m o reason → IsRefusedFor names said heard2 m2 o reason
-    why_still o reason (inl good) = inl good
+    why_still : (o : Opening) (reason : ℕ) → IsRefusedFor names NoPlace t0 said heard m o reason → IsRefusedFor names NoPlace t0 said heard2 m2 o reason
+    why_still o reason (inl good) = inl (refuses_later names NoPlace t0 m.circuits m2.circuits o reason grows good)
     why_still o reason (inr (inl lacks)) = inr (inl lacks)
     why_still o reason (inr (inr h)) = inr (inr (heard_still o reason h))
 
-    abbrev Passed : ℕ → ℕ → LinkId → Circuit → Type 0
-    Passed l n x d = (o : Opening) × CameUnder t0 heard2 x.0 d.0 o × AsksOnly said m2 l n o
+    abbrev For : ℕ → ℕ → Hop → Type 0
+    For l n hop = IsFor Wishes t0 said heard2 m2 l n hop
 
     abbrev IsRefused : ℕ → Circuit → ℕ → Type 0
-    IsRefused l c reason = (o : Opening) × CameUnder t0 heard2 l c.0 o × IsRefusedFor names said heard2 m2 o reason
+    IsRefused l c reason = (o : Opening) × CameUnder t0 heard2 l c.0 o × IsRefusedFor names NoPlace t0 said heard2 m2 o reason
 
-    passed_still : (l n : ℕ) (hop : Hop) (x : LinkId) (d : Circuit) → OpenedHere m.circuits l n → hop_at m2.circuits l n ≡ Some hop → hop.way ≡ Link x d → Passed l n x d
-    passed_still l n hop x d here at way =
-        let (was, there, same, binding) = old_way m.circuits m2.circuits l n hop later (inl here) at in
-        let (o, came, only) = reasoned.passed l n was x d here there (same ∙ way) in
-        (o, came_more t0 heard heard2 more x.0 d.0 o came, only_still l n o here only)
+    given_still : (l n : ℕ) (hop : Hop) → OpenedHere m.circuits l n → hop_at m2.circuits l n ≡ Some hop → For l n hop
+    given_still l n hop here at =
+        let (was, there, way, binding) = old_way m.circuits m2.circuits l n hop later (inl here) at in
+        let x = reasoned.given l n was here there in
+        record {
+          opening = x.opening;
+          binding_is = x.binding_is ∙ binding;
+          origin = subst (λ (w : Way). IsFrom Wishes t0 heard2 w x.opening) way (from_more Wishes t0 heard heard2 more was.way x.opening x.origin);
+          only = only_still l n x.opening here x.only;
+        }
 
     told_still : (l n : ℕ) (hop : Hop) → OpenedThere m.circuits l n → hop_at m2.circuits l n ≡ Some hop → Told l n hop
     told_still l n hop there at =
@@ -270,8 +254,8 @@ module _ (names : List TheRegistration) (Wishes : Opening → Type 0) (t0 : TheC
         let (o, came, same) = reasoned.told l n was there stood in
         (o, came_more t0 heard heard2 more l n o came, same ∙ binding)
 
-    reasoned_then : ((l : ℕ) (c : Circuit) (o : Opening) → Asks l c o → Founded o) → Taken → ((l n : ℕ) → OpenedHere m2.circuits l n → OpenedHere m.circuits l n ⊎ ((hop : Hop) (x : LinkId) (d : Circuit) → hop_at m2.circuits l n ≡ Some hop → hop.way ≡ Link x d → Passed l n x d))
-        → ((l : ℕ) (c : Circuit) (reason : ℕ) → Refuses l c reason → IsRefused l c reason) → AreReasoned names Wishes t0 said heard2 m2
+    reasoned_then : ((l : ℕ) (c : Circuit) (o : Opening) → Asks l c o → Founded o) → Taken → ((l n : ℕ) → OpenedHere m2.circuits l n → OpenedHere m.circuits l n ⊎ ((hop : Hop) → hop_at m2.circuits l n ≡ Some hop → For l n hop))
+        → ((l : ℕ) (c : Circuit) (reason : ℕ) → Refuses l c reason → IsRefused l c reason) → AreReasoned names NoPlace Wishes t0 said heard2 m2
     reasoned_then founded taken_then opened_then new = record {
       asked = λ l f c o has says_it. elim (asks_then l f c o has says_it) [
         | inl old ↦ elim (reasoned.asked l f c o old says_it) [
@@ -284,9 +268,9 @@ module _ (names : List TheRegistration) (Wishes : Opening → Type 0) (t0 : TheC
         | inl old ↦ told_still l n hop old at
         | inr entry ↦ entry hop at
       ];
-      passed = λ l n hop x d here at way. elim (opened_then l n here) [
-        | inl old ↦ passed_still l n hop x d old at way
-        | inr entry ↦ entry hop x d at way
+      given = λ l n hop here at. elim (opened_then l n here) [
+        | inl old ↦ given_still l n hop old at
+        | inr entry ↦ entry hop at
       ];
       refused = λ l f c reason has says_it. elim (refuses_then l f c reason has says_it) [
         | inl old ↦ (let (o, came, why) = reasoned.refused l f c reason old says_it in (o, came_more t0 heard heard2 more l c.0 o came, why_still o reason why))
@@ -308,14 +292,14 @@ module _ (names : List TheRegistration) (Wishes : Opening → Type 0) (t0 : TheC
   silent : m2.outboxes ≡ m.outboxes → (l : ℕ) (f : Frag) → Now l f → Before l f
   silent same l f has = elim has [ inl h ↦ inl h | inr h ↦ inr (subst (λ (boxes : List (List Frag)). Has f (waiting_for boxes l)) same h) ]
 
-  pub by_silence : m2.outboxes ≡ m.outboxes → Taken → ((l n : ℕ) → OpenedHere m2.circuits l n → OpenedHere m.circuits l n) → AreReasoned names Wishes t0 said heard2 m2
+  pub by_silence : m2.outboxes ≡ m.outboxes → Taken → ((l n : ℕ) → OpenedHere m2.circuits l n → OpenedHere m.circuits l n) → AreReasoned names NoPlace Wishes t0 said heard2 m2
   by_silence same taken_then opened_then =
       reasoned_then No None_refused (λ l f c o has says_it. inl (silent same l f has)) (λ l f c reason has says_it. inl (silent same l f has)) no_fresh (λ l c o none. absurd none) taken_then
       (λ l n here. inl (opened_then l n here)) (λ l c reason none. absurd none)
 
   -- a message more, which says that a circuit is open
   pub by_opened : (x : LinkId) (d : Circuit) → Said (record { link = x; message = CircuitOpened d }) m.outboxes m2.outboxes → Taken
-      → ((l n : ℕ) → OpenedHere m2.circuits l n → OpenedHere m.circuits l n) → AreReasoned names Wishes t0 said heard2 m2
+      → ((l n : ℕ) → OpenedHere m2.circuits l n → OpenedHere m.circuits l n) → AreReasoned names NoPlace Wishes t0 said heard2 m2
   by_opened x d put taken_then opened_then =
       reasoned_then No None_refused
       (λ l f c o has says_it. elim (said_then x (CircuitOpened d) put l f (asks c o) has says_it) [ inl old ↦ inl old | inr new ↦ absurd (opened_asks d c o new.1) ])
@@ -341,14 +325,14 @@ module _ (names : List TheRegistration) (Wishes : Opening → Type 0) (t0 : TheC
     pub still_only : (l n : ℕ) (o : Opening) → OpenedHere m.circuits l n → AsksOnly said m l n o → AsksOnly said m2 l n o
     still_only l n o here only = only_still No This no_asks this_refuses no_fresh l n o here only
 
-    pub by_refusal : Taken → ((l n : ℕ) → OpenedHere m2.circuits l n → OpenedHere m.circuits l n) → (o : Opening) → CameUnder t0 heard2 x.0 d.0 o → IsRefusedFor names said heard2 m2 o r
-        → AreReasoned names Wishes t0 said heard2 m2
+    pub by_refusal : Taken → ((l n : ℕ) → OpenedHere m2.circuits l n → OpenedHere m.circuits l n) → (o : Opening) → CameUnder t0 heard2 x.0 d.0 o → IsRefusedFor names NoPlace t0 said heard2 m2 o r
+        → AreReasoned names NoPlace Wishes t0 said heard2 m2
     by_refusal taken_then opened_then o came why =
         reasoned_then No This no_asks this_refuses no_fresh (λ l c o none. absurd none) taken_then (λ l n here. inl (opened_then l n here))
         (λ l c reason new. (let (circuits, reasons) = refused_parts d c r reason new.1 in (
           o,
           subst (λ (i : ℕ). CameUnder t0 heard2 i c.0 o) (sym new.0) (subst (λ (i : Circuit). CameUnder t0 heard2 x.0 i.0 o) circuits came),
-          subst (λ (q : ℕ). IsRefusedFor names said heard2 m2 o q) reasons why,
+          subst (λ (q : ℕ). IsRefusedFor names NoPlace t0 said heard2 m2 o q) reasons why,
         )))
 
   -- ---- one that asks for an opening, under the next number of a link
@@ -376,17 +360,20 @@ module _ (names : List TheRegistration) (Wishes : Opening → Type 0) (t0 : TheC
     ]
 
     pub by_asking : Founded o → Taken → ((l n : ℕ) → OpenedHere m2.circuits l n → OpenedHere m.circuits l n ⊎ ((l ≡ x.0) × (n ≡ d.0)))
-        → ((hop : Hop) (y : LinkId) (e : Circuit) → hop_at m2.circuits x.0 d.0 ≡ Some hop → hop.way ≡ Link y e → CameUnder t0 heard2 y.0 e.0 o)
-        → AreReasoned names Wishes t0 said heard2 m2
+        → ((hop : Hop) → hop_at m2.circuits x.0 d.0 ≡ Some hop → (o.binding ≡ hop.binding) × IsFrom Wishes t0 heard2 hop.way o)
+        → AreReasoned names NoPlace Wishes t0 said heard2 m2
     by_asking founded taken_then opened_then entry =
         reasoned_then That None_refused that_asks none_refuses that_fresh (λ l c y new. subst Founded (sym (asks_parts d c o y new.1).1) founded) taken_then
         (λ l n here. elim (opened_then l n here) [
           | inl old ↦ inl old
-          | inr new ↦ inr (λ hop y e at way.
-              (let there : hop_at m2.circuits x.0 d.0 ≡ Some hop = sym (ap (λ (i : ℕ). hop_at m2.circuits i d.0) new.0) ∙ sym (ap (hop_at m2.circuits l) new.1) ∙ at in (
-                o,
-                entry hop y e there way,
-                subst (λ (i : ℕ). AsksOnly said m2 i n o) (sym new.0) (subst (λ (i : ℕ). AsksOnly said m2 x.0 i o) (sym new.1) only_that),
-              )))
+          | inr new ↦ inr (λ hop at.
+              (let there : hop_at m2.circuits x.0 d.0 ≡ Some hop = sym (ap (λ (i : ℕ). hop_at m2.circuits i d.0) new.0) ∙ sym (ap (hop_at m2.circuits l) new.1) ∙ at in
+              let (binding, origin) = entry hop there in
+              record {
+                opening = o;
+                binding_is = binding;
+                origin = origin;
+                only = subst (λ (i : ℕ). AsksOnly said m2 i n o) (sym new.0) (subst (λ (i : ℕ). AsksOnly said m2 x.0 i o) (sym new.1) only_that);
+              }))
         ])
         (λ l c reason none. absurd none)

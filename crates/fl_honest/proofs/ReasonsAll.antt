@@ -1,5 +1,5 @@
 -- Over all cores: what was heard to be refused is for a reason, core by core forth along the route.
-use Rattle.std.proofs.Common.{◌≡◌, ◌⊎◌, inl, inr, refl, sym, ap, ◌∙◌, subst, ℕ, zero, suc, ◌+◌, ◌<◌, ◌≤◌, List, [], length, slice_get, position, Some, None, arith}
+use Rattle.std.proofs.Common.{◌≡◌, ◌⊎◌, inl, inr, refl, sym, ap, ◌∙◌, subst, ℕ, zero, suc, ◌+◌, ◌<◌, ◌≤◌, List, [], length, slice_get, position, is_some, false, Option, Some, None, arith}
 use Rattle.std.proofs.lemmas.List.Quantifiers.{position-Some}
 use Rattle.fl_base.specs.declared.fragment.Frag.{Frag}
 use Rattle.fl_base.specs.declared.identity.CoreId.{CoreId}
@@ -18,19 +18,25 @@ use Rattle.fl_hop.specs.Table.{TheCircuits}
 use Rattle.fl_hop.proofs.Lists.{at_within}
 use Rattle.fl_monitor.specs.declared.message.Message.TheVariants.{CircuitRefused}
 use Rattle.fl_monitor.specs.declared.opening.Opening.{Opening}
-use Rattle.fl_monitor.specs.Monitors.{TheMonitor}
-use Rattle.fl_monitor.specs.Routing.{is_core}
+use Rattle.fl_monitor.specs.Monitors.{TheMonitor, asks}
+use Rattle.fl_monitor.specs.declared.message.Message.{Message}
+use Rattle.fl_monitor.specs.Hearing.{opening_of}
+use Rattle.fl_monitor.specs.Routing.{given, is_core}
 use Rattle.fl_monitor.specs.Saying.{Says}
 use Rattle.fl_running.specs.Words.{refusal_at}
 use Rattle.fl_running.proofs.Stepping.{log_steps}
 use Rattle.fl_running.specs.declared.job.Job.{Job as CoreJob}
 use Rattle.fl_running.specs.declared.job.Job.TheVariants as job
+use Rattle.fl_running.specs.declared.job.Wish.{Wish}
+use Rattle.fl_core.specs.Sound.{IsBoard}
+use Rattle.fl_core.specs.View.{TheDispatcher}
+use Rattle.fl_node.specs.Hearing.{Offers, known_for, offer_for, offer_of}
 use Rattle.fl_node.specs.View.{client_of}
 use Rattle.fl_jobs.specs.Jobs.{Job}
 use Rattle.fl_dockets.specs.declared.docket.Bound.{Bound}
 use Rattle.fl_dockets.specs.Joined.{core_of}
 use Rattle.fl_dockets.specs.State.{TheJoined}
-use Rattle.fl_honest.specs.Cores.{OneCore, shared_ways}
+use Rattle.fl_honest.specs.Cores.{OneCore, shared_ways, AllAmple}
 use Rattle.fl_honest.specs.Circuits.{Leading}
 use Rattle.fl_honest.specs.Named.{Has}
 use Rattle.fl_honest.specs.Neighbours.{IsUnused}
@@ -38,16 +44,18 @@ use Rattle.fl_honest.specs.Asked.{IsWished, CameAlong, AreBeside}
 use Rattle.fl_honest.specs.Whole.{HasOwn}
 use Rattle.fl_honest.specs.Meeting.{IsPaired}
 use Rattle.fl_honest.specs.Runs.{AreSetUp}
-use Rattle.fl_honest.specs.Reasons.{IsReason, CameUnder, IsRefusedFor, AreReasoned, GoesReasoned, CoresReason, IsOwnWish, AskedAgain, ReasonsAlone, DesksTellReasons}
+use Rattle.fl_honest.specs.Reasons.{IsReason, Refuses, RefusesWish, CameUnder, IsRefusedFor, AreReasoned, GoesReasoned, CoresReason, IsOwnWish, FoundNoPlace, WasFull, WasRefused, AskedAgain, RefusesOne, IsRefused, ReasonsAlone, DesksTellReasons, RefusedForReason}
 use Rattle.fl_honest.proofs.AskedCores.{asking_of}
-use Rattle.fl_honest.proofs.AskedLaid.{laid_same}
+use Rattle.fl_honest.proofs.AskedLaid.{laid_same, goes_laid}
 use Rattle.fl_honest.proofs.AskedRoutes.{stands_behind, side_there, heard_wished}
 use Rattle.fl_honest.proofs.Logged.{log_keeps_by}
 use Rattle.fl_honest.proofs.Neighbours.{unused_named}
 use Rattle.fl_honest.proofs.OverLinks.{none_waits, both_ways, has_before}
-use Rattle.fl_honest.proofs.ReasonedHears.{AreReasonedFrom, reasons_kept}
+use Rattle.fl_honest.proofs.ReasonedHears.{AreReasonedFrom, KnowsPlaces, reasons_kept}
 use Rattle.fl_honest.proofs.ReasonsDesks.{Placed, own_wish, told_at, log_tells}
 use Rattle.fl_ring.specs.SharedSides.{TheSide}
+use Rattle.fl_running.specs.Deeds.{Deed}
+use Rattle.fl_running.specs.Logs.{Goes}
 use Rattle.fl_running.specs.Run.{TheRun}
 use Rattle.fl_honest.proofs.Routes.{CircuitsPrefix}
 use Rattle.fl_honest.proofs.Runs.{all_beside}
@@ -57,25 +65,25 @@ use Rattle.fl_honest.proofs.Wired.{lane_there}
 
 -- ---- one core
 
-unused_reasoned : (names : List TheRegistration) (Wishes : Opening → Type 0) (t : TheCircuits) (m : TheMonitor) → IsUnused m → AreReasoned names Wishes t (λ l. []) (λ l. []) m
-unused_reasoned names Wishes t m u = record {
+unused_reasoned : (names : List TheRegistration) (NoPlace Wishes : Opening → Type 0) (t : TheCircuits) (m : TheMonitor) → IsUnused m → AreReasoned names NoPlace Wishes t (λ l. []) (λ l. []) m
+unused_reasoned names NoPlace Wishes t m u = record {
   asked = λ l f c o has says_it. elim has [
     | inl none ↦ absurd none
     | inr waits ↦ absurd (none_waits f (slice_get m.outboxes l) (u.outboxes l) waits)
   ];
   told = λ l n hop there at. (let (k, less, is) = there.among in let none = (u.counts l there.link there.there).1 in absurd (omega (arith, less, none)));
-  passed = λ l n hop x d here at way. (let (k, less, is) = here.among in let none = (u.counts l here.link here.there).0 in absurd (omega (arith, less, none)));
+  given = λ l n hop here at. (let (k, less, is) = here.among in let none = (u.counts l here.link here.there).0 in absurd (omega (arith, less, none)));
   refused = λ l f c reason has says_it. elim has [
     | inl none ↦ absurd none
     | inr waits ↦ absurd (none_waits f (slice_get m.outboxes l) (u.outboxes l) waits)
   ];
 }
 
-at_start : (names : List TheRegistration) (Wishes : Opening → Type 0) (c : OneCore) → IsUnused c.start.core.monitor
-    → AreReasonedFrom names Wishes c.start.core.monitor.circuits (λ l. []) (λ l. []) c.start.core.monitor
-at_start names Wishes c unused =
+at_start : (names : List TheRegistration) (NoPlace Wishes : Opening → Type 0) (c : OneCore) → IsUnused c.start.core.monitor
+    → AreReasonedFrom names NoPlace Wishes c.start.core.monitor.circuits (λ l. []) (λ l. []) c.start.core.monitor
+at_start names NoPlace Wishes c unused =
     let t0 = c.start.core.monitor.circuits in
-    (laid_same t0 t0 refl, unused_named c.start.core.monitor unused, unused_reasoned names Wishes t0 c.start.core.monitor unused)
+    (laid_same t0 t0 refl, unused_named c.start.core.monitor unused, unused_reasoned names NoPlace Wishes t0 c.start.core.monitor unused)
 
 own_wished : (jobs : List CoreJob) (s : TheRun TheSide) (o : Opening) → IsOwnWish jobs s o → IsWished jobs o
 own_wished jobs s o w = record { place = w.place; wish = w.wish; job_is = w.job_is; opening_is = w.opening_is }
@@ -84,19 +92,49 @@ none_placed : (jobs : List CoreJob) (c : OneCore) → Leading jobs c → IsUnuse
 none_placed jobs c v unused l n name way =
     absurd (none_leads c.start.core.monitor (sound_first shared_ways jobs c.log c.start c.finish v.went.goes v.table) unused l n (End name) way)
 
+-- what a core knows at each moment when it hears a message, and where a dispatcher is full
+none_there : {X : Type 0} (o : Option X) → is_some o ≡ false → o ≡ None
+none_there None is = refl
+none_there (Some x) is = absurd (cc)
+
+no_place : (u : TheRun TheSide) (msg : Message) (o : Opening) → opening_of msg ≡ Some o → is_some (offer_for u.offers u.core msg) ≡ false → offer_of u.offers u.core o.service.0 ≡ None
+no_place u msg o is none =
+    sym (ap (λ (x : Option Opening). given x None λ opening. offer_of u.offers u.core opening.service.0) is) ∙ none_there (offer_for u.offers u.core msg) none
+
+knows_places : (jobs : List CoreJob) (c : OneCore) → Leading jobs c → (u : TheRun TheSide) (rest : List Deed) → Goes shared_ways jobs u rest c.finish → IsBoard u.core.board
+    → u.offers ≡ c.start.offers → (msg : Message) → KnowsPlaces c.start.offers.names (FoundNoPlace jobs c) (known_for u.offers u.core msg) msg
+knows_places jobs c v u rest goes board same msg = (
+  ap (λ (o : Offers). o.names) same,
+  λ o is none. record {
+    moment = u;
+    log = rest;
+    goes = goes;
+    board = board;
+    number = sym (goes_laid shared_ways jobs rest u c.finish goes).core ∙ (goes_laid shared_ways jobs c.log c.start c.finish v.went.goes).core;
+    offers = same;
+    none = no_place u msg o is none;
+  },
+)
+
+was_full : (jobs : List CoreJob) (finish u : TheRun TheSide) (rest : List Deed) → Goes shared_ways jobs u rest finish → IsBoard u.core.board → (d : ℕ) (x : TheDispatcher)
+    → slice_get u.core.board.dispatchers d ≡ Some x → length x.ends ≡ 1024 → WasFull jobs finish d
+was_full jobs finish u rest goes board d x at full = record { moment = u; log = rest; goes = goes; board = board; dispatcher = x; dispatcher_is = at; full = full }
+
 pub cores_reason : OnAnotherCircuit → CoresReason
 cores_reason on jobs c v unused =
     let t0 = c.start.core.monitor.circuits in
     let names = c.start.offers.names in
     let Wishes = IsOwnWish jobs c.start in
+    let NoPlace = FoundNoPlace jobs c in
     record {
       asking = asking_of on jobs c v unused;
-      reasoned = (log_keeps_by (AreReasonedFrom names Wishes t0) jobs (reasons_kept names jobs Wishes (own_wished jobs c.start) t0) shared_ways on c.log c.start c.finish v.went.goes (λ l. []) (λ l. []) refl (own_wish jobs c.start) v.led v.table
-          (at_start names Wishes c unused)).2;
-      desks = λ e. elim (log_tells shared_ways on names jobs Wishes (own_wished jobs c.start) t0 e c.log c.start c.finish v.went.goes (λ l. []) (λ l. []) refl (own_wish jobs c.start) v.led
-          (none_placed jobs c v unused) v.table (at_start names Wishes c unused)) [
+      reasoned = (log_keeps_by (AreReasonedFrom names NoPlace Wishes t0) jobs (reasons_kept names jobs NoPlace Wishes (own_wished jobs c.start) t0) shared_ways on c.log c.start c.finish v.went.goes (λ l. []) (λ l. [])
+          (knows_places jobs c v) (own_wish jobs c.start) v.led v.table (at_start names NoPlace Wishes c unused)).2;
+      desks = λ ample e. elim (log_tells shared_ways on names jobs NoPlace Wishes (own_wished jobs c.start) t0 (WasFull jobs c.finish) e c.log c.start c.finish v.went.goes (λ l. []) (λ l. []) ample
+          (knows_places jobs c v) (was_full jobs c.finish) (own_wish jobs c.start) v.led (none_placed jobs c v unused) v.table (at_start names NoPlace Wishes c unused)) [
             | inl same ↦ inl same
-            | inr told ↦ inr (told_at jobs c.start (λ l. of_circuit 0 (taken_from l (log_steps shared_ways jobs c.log c.start c.finish v.went.goes))) (refusal_at c.finish e) told)
+            | inr told ↦ inr (told_at jobs c.finish e (λ l. of_circuit 0 (put_on l (log_steps shared_ways jobs c.log c.start c.finish v.went.goes))) c.start
+                (λ l. of_circuit 0 (taken_from l (log_steps shared_ways jobs c.log c.start c.finish v.went.goes))) (refusal_at c.finish e) told)
           ];
     }
 
@@ -132,7 +170,7 @@ module _ (rings : RingsConserve) (prefix : CircuitsPrefix) (reason : CoresReason
   Came n c is l i o = CameUnder c.start.core.monitor.circuits (Heard n c is) l i o
 
   abbrev Why : (n : ℕ) (c : OneCore) → slice_get cores n ≡ Some c → Opening → ℕ → Type 0
-  Why n c is o r = IsRefusedFor c.start.offers.names (Said n c is) (Heard n c is) c.finish.core.monitor o r
+  Why n c is o r = IsRefusedFor c.start.offers.names (FoundNoPlace j.jobs c) c.start.core.monitor.circuits (Said n c is) (Heard n c is) c.finish.core.monitor o r
 
   -- what is asked for between cores is for a service that is there
   is_offered : (n : ℕ) (c : OneCore) (is : slice_get cores n ≡ Some c) (l i : ℕ) (o : Opening) → Came n c is l i o → by_iref o.service.0 c.start.offers.names ≡ None → ⊥
@@ -195,10 +233,10 @@ module _ (rings : RingsConserve) (prefix : CircuitsPrefix) (reason : CoresReason
 
   -- ---- forth along the route
 
-  -- an opening that came to a core at this place of its route was refused there for a reason, whatever it was refused for further on
+  -- an opening that came to a core at this place of its route was refused there, or by a core further on
   why_good : (most n : ℕ) (c : OneCore) (is : slice_get cores n ≡ Some c) (l i : ℕ) (o : Opening) (r place : ℕ) → Came n c is l i o → Why n c is o r
-      → position (is_core c.start.core.monitor.circuits.core) o.path ≡ Some place → length o.path ≤ place + most → IsReason r
-  why_good most n c is l i o r place came (inl good) at within = good
+      → position (is_core c.start.core.monitor.circuits.core) o.path ≡ Some place → length o.path ≤ place + most → RefusesOne j.jobs cores o r
+  why_good most n c is l i o r place came (inl own) at within = record { place = n; core = c; core_is = is; why = own }
   why_good most n c is l i o r place came (inr (inl lacks)) at within = absurd (is_offered n c is l i o came lacks)
   why_good zero n c is l i o r place came (inr (inr h)) at within =
       let found = position-Some (is_core c.start.core.monitor.circuits.core) o.path place (link_core c) at in
@@ -221,13 +259,31 @@ module _ (rings : RingsConserve) (prefix : CircuitsPrefix) (reason : CoresReason
       let less = b.less in
       why_good most x.place x.core x.core_is x.link h.circuit.0 o r b.place came3 why3 b.place_is (omega (arith, before, less, within))
 
+  -- what a core heard to be refused was asked for there, under that number, and one of the cores refuses it
+  record WasAsked (n : ℕ) (c : OneCore) (is : slice_get cores n ≡ Some c) (l : ℕ) (i : Circuit) (r : ℕ) : Type 0 where
+    pub opening : Opening
+    pub frag : Frag
+    pub has : Has frag (Said n c is l)
+    pub circuit : Circuit
+    pub number : circuit.0 ≡ i.0
+    pub says : Says frag (asks circuit opening)
+    pub refused : RefusesOne j.jobs cores opening r
+
   heard_good : (n : ℕ) (c : OneCore) (is : slice_get cores n ≡ Some c) (l : ℕ) (link : LinkState) (f : Frag) (i : Circuit) (r : ℕ) → slice_get c.start.core.monitor.circuits.links l ≡ Some link
-      → Has f (Heard n c is l) → Says f (CircuitRefused i r) → IsReason r
+      → Has f (Heard n c is l) → Says f (CircuitRefused i r) → WasAsked n c is l i r
   heard_good n c is l link f i r there has says_it =
       let x = across_start n c is l link there in
       let (o, came, why) = (went x.place x.core x.core_is).reasoned.refused x.link f i r (inl (x.said f has)) says_it in
       let b = stands_behind x.core.start.core.monitor.circuits x.link o.path came.along in
-      why_good (length o.path) x.place x.core x.core_is x.link i.0 o r b.place came why b.place_is (omega arith)
+      record {
+        opening = o;
+        frag = came.frag;
+        has = x.heard came.frag came.has;
+        circuit = came.circuit;
+        number = came.number;
+        says = came.says;
+        refused = why_good (length o.path) x.place x.core x.core_is x.link i.0 o r b.place came why b.place_is (omega arith);
+      }
 
   -- ---- at desks
 
@@ -302,27 +358,70 @@ module _ (rings : RingsConserve) (prefix : CircuitsPrefix) (reason : CoresReason
       let less = g.less in
       omega (arith, places, less)
 
-  desk_told : (n : ℕ) (c : OneCore) (e : EndId) → slice_get cores n ≡ Some c → refusal_at c.start e ≡ 0
-      → (refusal_at c.finish e ≡ 0) ⊎ IsReason (refusal_at c.finish e) ⊎ (refusal_at c.finish e ≡ 99)
-  desk_told n c e is none = elim ((went n c is).desks e) [
+  -- the opening of an own wish is refused, which is that of the end
+  of_wish : (n : ℕ) (c : OneCore) → slice_get cores n ≡ Some c → (e : EndId) (r : ℕ) (o : Opening) → IsOwnWish j.jobs c.start o → client_of o.binding ≡ e → RefusesOne j.jobs cores o r
+      → IsRefused j.jobs cores c e r
+  of_wish n c is e r o w ends refused = record {
+    place = w.place;
+    wish = w.wish;
+    job_is = w.job_is;
+    end_is = ap (λ (x : Opening). client_of x.binding) w.opening_is ∙ ends;
+    why = inr (subst (λ (x : Opening). RefusesOne j.jobs cores x r) (sym w.opening_is) refused);
+  }
+
+  -- a job of an end's desk wishes for an opening of that end's binding
+  of_desk : (n : ℕ) (c : OneCore) → slice_get cores n ≡ Some c → (e : EndId) (r : ℕ) → WasRefused j.jobs c.start c.finish e r → IsRefused j.jobs cores c e r
+  of_desk n c is e r x = by (all.own n c e x.desk is x.desk_is) where
+    by : (x.desk.jobs ≡ []) ⊎ HasOwn j n e x.desk.jobs → IsRefused j.jobs cores c e r
+    by (inl none) = absurd (let no : None ≡ Some x.place = sym (ap (λ (xs : List ℕ). slice_get xs x.turn) none) ∙ x.place_is in cc)
+    by (inr own) = record {
+      place = x.place;
+      wish = x.wish;
+      job_is = x.job_is;
+      end_is = opener asked j (length cores) all.joined e x.desk.jobs x.turn x.place (job.Open x.wish) own.jobs_are x.place_is x.job_is;
+      why = inl x.why;
+    }
+
+  desk_told : AllAmple cores → (n : ℕ) (c : OneCore) (e : EndId) → slice_get cores n ≡ Some c → refusal_at c.start e ≡ 0
+      → (refusal_at c.finish e ≡ 0) ⊎ IsRefused j.jobs cores c e (refusal_at c.finish e)
+  desk_told ample n c e is none = elim ((went n c is).desks (ample n c is) e) [
     | inl same ↦ inl (same ∙ none)
     | inr told ↦ elim told [
-      | inl h ↦ inr (inl (heard_good n c is h.link h.state h.frag h.circuit (refusal_at c.finish e) h.state_is h.has h.says))
+      | inl h ↦ inr
+          (let x = heard_good n c is h.link h.state h.frag h.circuit (refusal_at c.finish e) h.state_is h.has h.says in
+          let same : x.opening ≡ h.own = h.only x.frag x.circuit x.opening (inl x.has) x.number x.says in
+          of_wish n c is e (refusal_at c.finish e) h.own h.wished h.end_is (subst (λ (o : Opening). RefusesOne j.jobs cores o (refusal_at c.finish e)) same x.refused))
       | inr others ↦ elim others [
-        | inl good ↦ inr (inl good)
-        | inr rest ↦ elim rest [
-          | inl again ↦ absurd (not_again n c is again)
-          | inr memory ↦ inr (inr memory)
-        ]
+        | inl own ↦ inr (of_desk n c is e (refusal_at c.finish e) own)
+        | inr again ↦ absurd (not_again n c is again)
       ]
     ]
   ]
 
 pub desks_tell : RingsConserve → CircuitsPrefix → CoresReason → DesksTellReasons
-desks_tell rings prefix reason asked j cores names programs all n c e is none = desk_told rings prefix reason asked j cores names programs all n c e is none
+desks_tell rings prefix reason asked j cores names programs all ample n c e is none = desk_told rings prefix reason asked j cores names programs all ample n c e is none
 
 pub reasons_alone : RingsConserve → CircuitsPrefix → CoresReason → ReasonsAlone
 reasons_alone rings prefix reason asked j cores names programs all n c is = record {
   goes = went rings prefix reason asked j cores names programs all n c is;
-  reasons = heard_good rings prefix reason asked j cores names programs all n c is;
+  reasons = λ l link f i r there has says_it.
+      (let x = heard_good rings prefix reason asked j cores names programs all n c is l link f i r there has says_it in (x.opening, x.refused));
 }
+
+-- ---- one of three
+
+by_heard : (names : List TheRegistration) (NoPlace : Opening → Type 0) (t u : TheCircuits) (o : Opening) (r : ℕ) → Refuses names NoPlace t u o r → IsReason r
+by_heard names NoPlace t u o r (inl full) = inl full.0
+by_heard names NoPlace t u o r (inr (inl nowhere)) = inr (inl nowhere.0)
+by_heard names NoPlace t u o r (inr (inr used)) = inr (inr used.0)
+
+by_wish : (Full : ℕ → Type 0) (t u : TheCircuits) (w : Wish) (r : ℕ) → RefusesWish Full t u w r → IsReason r
+by_wish Full t u w r (inl full) = inl full.0
+by_wish Full t u w r (inr (inl nowhere)) = inr (inl nowhere.0)
+by_wish Full t u w r (inr (inr used)) = inr (inr used.0)
+
+pub for_reason : RefusedForReason
+for_reason jobs cores c e r x = elim x.why [
+  | inl own ↦ by_wish (WasFull jobs c.finish) c.start.core.monitor.circuits c.finish.core.monitor.circuits x.wish r own
+  | inr y ↦ by_heard y.core.start.offers.names (FoundNoPlace jobs y.core) y.core.start.core.monitor.circuits y.core.finish.core.monitor.circuits x.wish.opening r y.why
+]

@@ -1,28 +1,36 @@
 -- What stands at desks as refused: what one event adds, and a log.
 use Rattle.std.proofs.Common.{◌≡◌, ◌⊎◌, inl, inr, refl, sym, ap, ◌∙◌, subst, ℕ, nat_lt, not, is_some, List, [], ◌∷◌, ◌++◌, length, slice_get, slice_set}
-use Rattle.std.proofs.Common.{Option, Some, None, Result, Ok, Err}
+use Rattle.std.proofs.Common.{Bool, true, false, if◌then◌else◌, Option, Some, None, Result, Ok, Err, arith}
 use Rattle.std.specs.Option.{option_map}
 use Rattle.std.proofs.lemmas.Bool.{cases_eq}
 use Rattle.fl_base.specs.declared.fragment.Frag.{Frag}
 use Rattle.fl_base.specs.declared.identity.CoreId.{CoreId}
 use Rattle.fl_base.specs.declared.identity.EndId.{EndId}
 use Rattle.fl_base.specs.declared.identity.LinkId.{LinkId}
+use Rattle.fl_base.specs.declared.identity.Side.{Side}
+use Rattle.fl_base.specs.declared.identity.Side.TheVariants.{Client, Server}
 use Rattle.fl_base.specs.declared.identity.Circuit.{Circuit}
 use Rattle.fl_base.specs.Control.{bare}
 use Rattle.fl_core.proofs.Places.{set_here, set_elsewhere}
+use Rattle.fl_core.specs.Sound.{IsBoard}
+use Rattle.fl_core.specs.View.{TheDispatcher}
 use Rattle.fl_core.specs.declared.answer.TurnAnswer.{TurnAnswer}
 use Rattle.fl_core.specs.declared.answer.TurnAnswer.TheVariants as turn
 use Rattle.fl_endpoint.specs.declared.fault.EndFault.{EndFault}
 use Rattle.fl_endpoint.specs.Laws.{OnAnotherCircuit}
 use Rattle.fl_nameserv.specs.Registrations.{TheRegistration}
+use Rattle.fl_hop.specs.declared.entry.Hop.{Hop}
 use Rattle.fl_hop.specs.declared.entry.Way.{Way}
 use Rattle.fl_hop.specs.declared.entry.Way.TheVariants.{Link, End}
 use Rattle.fl_hop.specs.declared.links.LinkState.{LinkState}
 use Rattle.fl_hop.specs.Joined.{Sound}
 use Rattle.fl_hop.specs.Later.{way_at}
+use Rattle.fl_hop.specs.Numbers.{OpenedHere}
 use Rattle.fl_hop.specs.OfCircuit.{as_carried, of_circuit}
+use Rattle.fl_hop.specs.Openings.{IsWaiting}
 use Rattle.fl_hop.specs.Stretch.{heard as hop_heard, taken_from}
-use Rattle.fl_hop.specs.Table.{TheCircuits}
+use Rattle.fl_hop.specs.Table.{TheCircuits, hop_at}
+use Rattle.fl_hop.proofs.Answering.{numbers_apart}
 use Rattle.fl_monitor.specs.declared.fault.MonitorFault.TheVariants as monitor
 use Rattle.fl_monitor.specs.declared.heard.Heard.{Heard}
 use Rattle.fl_monitor.specs.declared.heard.Heard.TheVariants as outcome
@@ -31,7 +39,7 @@ use Rattle.fl_monitor.specs.declared.message.Message.TheVariants.{OpenCircuit, C
 use Rattle.fl_monitor.specs.declared.opening.Opening.{Opening}
 use Rattle.fl_monitor.specs.Fates.{Known}
 use Rattle.fl_monitor.specs.Hearing.{ComesTo, opened_at, refused_at}
-use Rattle.fl_monitor.specs.Monitors.{can_say}
+use Rattle.fl_monitor.specs.Monitors.{TheMonitor, can_say}
 use Rattle.fl_monitor.specs.Routing.{given}
 use Rattle.fl_monitor.specs.Saying.{Says}
 use Rattle.fl_monitor.proofs.Single.{says_the_same}
@@ -43,9 +51,9 @@ use Rattle.fl_node.specs.declared.fault.LinkFault.{LinkFault}
 use Rattle.fl_node.specs.declared.fault.OpenFault.{OpenFault}
 use Rattle.fl_node.specs.declared.fault.OpenFault.TheVariants as opening
 use Rattle.fl_node.specs.Faults.{open_number}
-use Rattle.fl_node.specs.Hearing.{Offers, known_for, offer_for, HearsAll, Follows}
+use Rattle.fl_node.specs.Hearing.{known_for, offer_for, HearsAll, Follows}
 use Rattle.fl_node.specs.Making.{asked}
-use Rattle.fl_node.specs.View.{TheCore, place_of, client_of, with_monitor}
+use Rattle.fl_node.specs.View.{TheCore, place_of, slot_of, client_of, with_monitor}
 use Rattle.fl_running.specs.declared.job.Job.{Job}
 use Rattle.fl_running.specs.declared.job.Wish.{Wish}
 use Rattle.fl_running.specs.Desks.{TheDesk, desk_place, advanced, with_handled, with_refusal, ChangesIf}
@@ -53,6 +61,7 @@ use Rattle.fl_running.specs.Run.{Ways, TheRun, AtDesk}
 use Rattle.fl_running.specs.Deeds.{Deed, looked, passed, arrived, heard, said, told, opened, called, ruled, wrote, acked, turned, Does, NotesHeard, NotesOpened, NotesCalled, NotesTurned, Notes}
 use Rattle.fl_running.specs.Led.{IsLed}
 use Rattle.fl_running.specs.Logs.{InPlace, Goes}
+use Rattle.fl_running.specs.Steps.{lacks_to_open}
 use Rattle.fl_running.specs.Words.{refusal_at}
 use Rattle.fl_running.proofs.Aside.{core_aside}
 use Rattle.fl_running.proofs.Carrying.{five, not_there}
@@ -60,17 +69,21 @@ use Rattle.fl_running.proofs.Handling.{desks_stay, as_many, same_place}
 use Rattle.fl_running.proofs.Laning.{steps_of, event_steps}
 use Rattle.fl_running.proofs.Leads.{does_led}
 use Rattle.fl_running.proofs.Stepping.{log_steps, end_stays}
+use Rattle.fl_honest.specs.Cores.{IsAmple, AreAmple}
 use Rattle.fl_honest.specs.Named.{Has}
 use Rattle.fl_ring.specs.SharedSides.{TheSide}
-use Rattle.fl_honest.specs.Reasons.{IsReason, CameUnder, IsOwnWish, WasHeard, IsRefusedAt}
+use Rattle.fl_honest.specs.Reasons.{IsUsedUp, RefusesWish, CameUnder, AsksOnly, IsFrom, IsOwnWish, WasHeard, WasFull, IsRefusedAt}
 use Rattle.fl_honest.specs.Asked.{IsWished}
 use Rattle.fl_honest.proofs.AskedDesks.{JobAt, job_there, JobsStay, job_before, event_jobs, offers_stay}
 use Rattle.fl_honest.proofs.AskedLaid.{beside}
-use Rattle.fl_honest.proofs.Logged.{took_heard, then_said, then_heard, heard_joins, does_keep}
+use Rattle.fl_honest.proofs.Logged.{took_heard, then_said, then_heard, said_joins, heard_joins, does_keep, log_keeps_by}
 use Rattle.fl_honest.proofs.Named.{has_first, has_last, opening_next}
+use Rattle.fl_honest.proofs.Neighbours.{leads_of}
 use Rattle.fl_honest.proofs.Reasoned.{came_more}
-use Rattle.fl_honest.proofs.ReasonedHears.{AreReasonedFrom, reasons_kept}
-use Rattle.fl_honest.proofs.ReasonsHere.{has_entry, entry_came, refused_here}
+use Rattle.fl_honest.proofs.ReasonedHears.{AreReasonedFrom, KnowsPlaces, reasons_kept}
+use Rattle.fl_honest.proofs.ReasonsHere.{RefusesOn, has_entry, entry_came, refused_here}
+use Rattle.fl_honest.proofs.ReasonsKept.{Remembers, remembers_kept, used_kept}
+use Rattle.fl_honest.proofs.ReasonsOwn.{laid_none}
 use Rattle.fl_honest.proofs.WholeOpened.{does as event_comes, sound_first}
 use Rattle.fl_honest.proofs.Zero.{carried_zero}
 
@@ -79,19 +92,40 @@ use Rattle.fl_honest.proofs.Zero.{carried_zero}
 abbrev pub refused_in : List TheDesk → EndId → ℕ
 refused_in desks e = given (desk_place desks e) 0 λ n. given (slice_get desks n) 0 λ (d : TheDesk). d.refused
 
--- where the desk of some end has changed, another has what it had, or it was that
-module _ (xs ys : List TheDesk) (change : TheDesk → TheDesk) (e : EndId) where
+-- the desk of an end stands at its own place
+place_by : (slot k : ℕ) (a b : Bool) → (if a then (if b then Some slot else None) else None) ≡ Some k → k ≡ slot
+place_by slot k true true is = let same : slot ≡ k = cc in sym same
+place_by slot k true false is = absurd (cc)
+place_by slot k false b is = absurd (cc)
+
+desk_slot : (desks : List TheDesk) (e : EndId) (k : ℕ) → desk_place desks e ≡ Some k → k ≡ slot_of e
+desk_slot desks e k is = place_by (slot_of e) k (nat_lt e.binding 1024) (nat_lt (slot_of e) (length desks)) is
+
+abbrev an_end : ℕ → Side → EndId
+an_end binding side = record { binding = binding; side = side }
+
+one_end : (a b : ℕ) (s t : Side) → slot_of (an_end a s) ≡ slot_of (an_end b t) → an_end a s ≡ an_end b t
+one_end a b Client Client same = let one : a ≡ b = omega (arith, same) in ap (λ (n : ℕ). an_end n Client) one
+one_end a b Client Server same = absurd (omega (arith, same))
+one_end a b Server Client same = absurd (omega (arith, same))
+one_end a b Server Server same = let one : a ≡ b = omega (arith, same) in ap (λ (n : ℕ). an_end n Server) one
+
+one_slot : (f e : EndId) → slot_of f ≡ slot_of e → f ≡ e
+one_slot f e same = one_end f.binding e.binding f.side e.side same
+
+-- where the desk of some end has changed, that of this one has what it had, or it was that
+module _ (xs ys : List TheDesk) (change : TheDesk → TheDesk) (f e : EndId) where
   abbrev Changed : Type 0
-  Changed = (refused_in ys e ≡ refused_in xs e) ⊎ ((d : TheDesk) × (refused_in xs e ≡ d.refused) × (refused_in ys e ≡ (change d).refused))
+  Changed = (refused_in ys e ≡ refused_in xs e) ⊎ ((f ≡ e) × (d : TheDesk) × (refused_in xs e ≡ d.refused) × (refused_in ys e ≡ (change d).refused))
 
   abbrev read : Option TheDesk → ℕ
   read o = given o 0 λ (d : TheDesk). d.refused
 
-  by_place : (i : ℕ) → (h : ChangesIf (Some i) xs change ys) → (o : Option ℕ) → desk_place xs e ≡ o → Changed
-  by_place i h None is =
+  by_place : (i : ℕ) → desk_place xs f ≡ Some i → (h : ChangesIf (Some i) xs change ys) → (o : Option ℕ) → desk_place xs e ≡ o → Changed
+  by_place i at h None is =
       let place : desk_place ys e ≡ None = same_place xs ys e (as_many (Some i) xs ys change h) ∙ is in
       inl (ap (λ (o : Option ℕ). given o 0 λ n. read (slice_get ys n)) place ∙ sym (ap (λ (o : Option ℕ). given o 0 λ n. read (slice_get xs n)) is))
-  by_place i h (Some k) is =
+  by_place i at h (Some k) is =
       let place : desk_place ys e ≡ Some k = same_place xs ys e (as_many (Some i) xs ys change h) ∙ is in
       let now : refused_in ys e ≡ read (slice_get ys k) = ap (λ (o : Option ℕ). given o 0 λ n. read (slice_get ys n)) place in
       let before : refused_in xs e ≡ read (slice_get xs k) = ap (λ (o : Option ℕ). given o 0 λ n. read (slice_get xs n)) is in
@@ -99,32 +133,32 @@ module _ (xs ys : List TheDesk) (change : TheDesk → TheDesk) (e : EndId) where
         | inl same ↦
             (let was : slice_get xs k ≡ Some h.desk = ap (slice_get xs) same ∙ h.desk_is in
             let put : slice_get ys k ≡ Some (change h.desk) = ap (λ (ds : List TheDesk). slice_get ds k) h.rest ∙ ap (slice_get (slice_set xs i (change h.desk))) same ∙ set_here xs i h.desk (change h.desk) h.desk_is in
-            inr (h.desk, before ∙ ap read was, now ∙ ap read put))
+            inr (one_slot f e (sym (desk_slot xs f i at) ∙ sym same ∙ desk_slot xs e k is), h.desk, before ∙ ap read was, now ∙ ap read put))
         | inr other ↦
             (let kept : slice_get ys k ≡ slice_get xs k = ap (λ (ds : List TheDesk). slice_get ds k) h.rest ∙ set_elsewhere xs i k (change h.desk) other in
             inl (now ∙ ap read kept ∙ sym before))
       ]
 
-  changed : (o : Option ℕ) → ChangesIf o xs change ys → Changed
-  changed None h = inl (ap (λ (ds : List TheDesk). refused_in ds e) h)
-  changed (Some i) h = by_place i h (desk_place xs e) refl
+  changed : (o : Option ℕ) → desk_place xs f ≡ o → ChangesIf o xs change ys → Changed
+  changed None at h = inl (ap (λ (ds : List TheDesk). refused_in ds e) h)
+  changed (Some i) at h = by_place i at h (desk_place xs e) refl
 
 -- ---- what is noted of one event
 
--- the number that an event notes as a refusal
-abbrev pub NewHeard : Result MonitorAnswer LinkFault → ℕ → Type 0
-NewHeard (Ok (heard_as.OpeningRefused e reason)) r = r ≡ reason
-NewHeard answer r = ⊥
+-- the number that an event notes as a refusal at the desk of this end
+abbrev pub NewHeard : EndId → Result MonitorAnswer LinkFault → ℕ → Type 0
+NewHeard e (Ok (heard_as.OpeningRefused f reason)) r = (f ≡ e) × (r ≡ reason)
+NewHeard e answer r = ⊥
 
 abbrev pub NewOpened : Result ℕ OpenFault → ℕ → Type 0
 NewOpened (Ok e) r = ⊥
 NewOpened (Err (opening.Monitor monitor.OutboxFull)) r = ⊥
 NewOpened (Err fault) r = r ≡ open_number fault
 
-abbrev pub New : Deed → ℕ → Type 0
-New (heard n l frag answer) r = NewHeard answer r
-New (opened name wish answer) r = NewOpened answer r
-New deed r = ⊥
+abbrev pub New : EndId → Deed → ℕ → Type 0
+New e (heard n l frag answer) r = NewHeard e answer r
+New e (opened name wish answer) r = (name ≡ e) × NewOpened answer r
+New e deed r = ⊥
 
 module _ {S : Type 0} (m t : TheRun S) (e : EndId) where
   abbrev Stays : Type 0
@@ -137,28 +171,28 @@ module _ {S : Type 0} (m t : TheRun S) (e : EndId) where
   same h = ap (λ (x : TheRun S). refusal_at x e) h
 
   keeps : (f : EndId) (change : TheDesk → TheDesk) → ((d : TheDesk) → (change d).refused ≡ d.refused) → AtDesk f change m t → Stays
-  keeps f change keep h = elim (changed m.desks t.desks change e (desk_place m.desks f) h.changes) [
+  keeps f change keep h = elim (changed m.desks t.desks change f e (desk_place m.desks f) refl h.changes) [
     | inl still ↦ still
-    | inr x ↦ x.2 ∙ keep x.0 ∙ sym x.1
+    | inr x ↦ x.3 ∙ keep x.1 ∙ sym x.2
   ]
 
-  sets : (f : EndId) (change : TheDesk → TheDesk) (r : ℕ) → ((d : TheDesk) → (change d).refused ≡ r) → AtDesk f change m t → Stays ⊎ (refusal_at t e ≡ r)
-  sets f change r put h = elim (changed m.desks t.desks change e (desk_place m.desks f) h.changes) [
+  sets : (f : EndId) (change : TheDesk → TheDesk) (r : ℕ) → ((d : TheDesk) → (change d).refused ≡ r) → AtDesk f change m t → Stays ⊎ ((f ≡ e) × (refusal_at t e ≡ r))
+  sets f change r put h = elim (changed m.desks t.desks change f e (desk_place m.desks f) refl h.changes) [
     | inl still ↦ inl still
-    | inr x ↦ inr (x.2 ∙ put x.0)
+    | inr x ↦ inr (x.0, x.3 ∙ put x.1)
   ]
 
-  refuses : (f : EndId) (r : ℕ) → AtDesk f (λ d. advanced (with_refusal r d)) m t → Stays ⊎ (refusal_at t e ≡ r)
+  refuses : (f : EndId) (r : ℕ) → AtDesk f (λ d. advanced (with_refusal r d)) m t → Stays ⊎ ((f ≡ e) × (refusal_at t e ≡ r))
   refuses f r h = sets f (λ d. advanced (with_refusal r d)) r (λ d. refl) h
 
-  noted_heard : (answer : Result MonitorAnswer LinkFault) → NotesHeard answer m t → Notes_new (NewHeard answer)
+  noted_heard : (answer : Result MonitorAnswer LinkFault) → NotesHeard answer m t → Notes_new (NewHeard e answer)
   noted_heard (Ok (heard_as.OpeningRefused f reason)) h = sets f (with_refusal reason) reason (λ d. refl) h
   noted_heard (Ok heard_as.Full) h = inl (same h)
   noted_heard (Ok heard_as.Done) h = inl (same h)
   noted_heard (Ok (heard_as.Opened f)) h = inl (same h)
   noted_heard (Err fault) h = inl (same h)
 
-  noted_opened : (f : EndId) (answer : Result ℕ OpenFault) → NotesOpened f answer m t → Notes_new (NewOpened answer)
+  noted_opened : (f : EndId) (answer : Result ℕ OpenFault) → NotesOpened f answer m t → Notes_new (λ r. (f ≡ e) × NewOpened answer r)
   noted_opened f (Ok k) h = inl (keeps f advanced (λ d. refl) h)
   noted_opened f (Err (opening.Board fault)) h = refuses f _ h
   noted_opened f (Err (opening.Monitor monitor.OutboxFull)) h = inl (same h)
@@ -182,7 +216,7 @@ module _ {S : Type 0} (m t : TheRun S) (e : EndId) where
   noted_turned f turn.Nothing h = same h
   noted_turned f (turn.Refused fault) h = same h
 
-  noted : (deed : Deed) → Notes deed m t → Notes_new (New deed)
+  noted : (deed : Deed) → Notes deed m t → Notes_new (New e deed)
   noted (looked n l answer) h = inl (same h)
   noted (passed n k frag c outcome) h = inl (same h)
   noted (arrived n l frag f answer) h = inl (same h)
@@ -198,7 +232,7 @@ module _ {S : Type 0} (m t : TheRun S) (e : EndId) where
 
 -- over an event, a refusal that stands at a desk stood there, or the event notes it
 pub event_notes : {S : Type 0} (w : Ways S) (deed : Deed) (s m t : TheRun S) (e : EndId) → Does w deed s m → Notes deed m t
-    → (refusal_at t e ≡ refusal_at s e) ⊎ New deed (refusal_at t e)
+    → (refusal_at t e ≡ refusal_at s e) ⊎ New e deed (refusal_at t e)
 event_notes w deed s m t e does notes = elim (noted m t e deed notes) [
   | inl still ↦ inl (still ∙ ap (λ (ds : List TheDesk). refused_in ds e) (desks_stay w deed s m does))
   | inr new ↦ inr new
@@ -206,35 +240,48 @@ event_notes w deed s m t e does notes = elim (noted m t e deed notes) [
 
 -- ---- what a message says that refuses an end's opening
 
--- the message refuses a number, for this reason, on a link that is there
-pub record Refusing (t : TheCircuits) (l : ℕ) (msg : Message) (r : ℕ) : Type 0 where
+-- the message refuses a number on a link, for this reason, that waits to be answered and leads to the end
+pub record Refusing (t : TheCircuits) (l : ℕ) (msg : Message) (e : EndId) (r : ℕ) : Type 0 where
   pub circuit : Circuit
   pub is : msg ≡ CircuitRefused circuit r
-  pub link : LinkState
-  pub there : slice_get t.links l ≡ Some link
+  pub hop : Hop
+  pub waits : IsWaiting t l circuit.0 hop
+  pub way : hop.way ≡ End e
 
-refused_at_end : (t : TheCircuits) (l : LinkId) (c : Circuit) (binding r : ℕ) (e : EndId) (reason : ℕ) (way : Way) (link : LinkState) → slice_get t.links l.0 ≡ Some link
-    → outcome.EndRefused e reason ≡ refused_at r binding way → Refusing t l.0 (CircuitRefused c r) reason
-refused_at_end t l c binding r e reason (Link x d) link there is = absurd (cc)
-refused_at_end t l c binding r e reason (End f) link there is =
+refused_at_end : (t : TheCircuits) (l : LinkId) (c : Circuit) (hop : Hop) (r : ℕ) (e : EndId) (reason : ℕ) (way : Way) → IsWaiting t l.0 c.0 hop → hop.way ≡ way
+    → outcome.EndRefused e reason ≡ refused_at r hop.binding way → Refusing t l.0 (CircuitRefused c r) e reason
+refused_at_end t l c hop r e reason (Link x d) waits way is = absurd (cc)
+refused_at_end t l c hop r e reason (End f) waits way is =
     let same : r ≡ reason = cc in
-    record { circuit = c; is = ap (CircuitRefused c) same; link = link; there = there }
+    let ends : f ≡ e = cc in
+    record { circuit = c; is = ap (CircuitRefused c) same; hop = hop; waits = waits; way = way ∙ ap End ends }
 
 not_opened_at : (c : Circuit) (binding : ℕ) (e : EndId) (reason : ℕ) (way : Way) → outcome.EndRefused e reason ≡ opened_at c binding way → ⊥
 not_opened_at c binding e reason (Link x d) is = cc
 not_opened_at c binding e reason (End f) is = cc
 
 -- an end's opening is refused by such a message alone
-refusing : (kn : Known) (t : TheCircuits) (l : LinkId) (msg : Message) (e : EndId) (reason : ℕ) → ComesTo kn t l msg (outcome.EndRefused e reason) → Refusing t l.0 msg reason
+refusing : (kn : Known) (t : TheCircuits) (l : LinkId) (msg : Message) (e : EndId) (reason : ℕ) → ComesTo kn t l msg (outcome.EndRefused e reason) → Refusing t l.0 msg e reason
 refusing kn t l (OpenCircuit c binding service path) e reason comes =
     absurd (opening_next kn t l.0 c (record { binding = binding; service = service; path = path }) (outcome.EndRefused e reason) comes.1)
 refusing kn t l (CircuitOpened c) e reason (hop, waits, is) = absurd (not_opened_at c hop.binding e reason hop.way is)
-refusing kn t l (CircuitRefused c r) e reason (hop, waits, is) = refused_at_end t l c hop.binding r e reason hop.way waits.here.link waits.here.there is
+refusing kn t l (CircuitRefused c r) e reason (hop, waits, is) =
+    refused_at_end t l c hop r e reason hop.way waits refl is
+
+-- at a number that this core gave that is the client's end of the entry's binding
+client_end : (t : TheCircuits) → Sound t → (l n : ℕ) (hop : Hop) (e : EndId) → OpenedHere t l n → hop_at t l n ≡ Some hop → hop.way ≡ End e → client_of hop.binding ≡ e
+client_end t sound l n hop e here at way = elim (sound.toward l n hop.binding (End e) (leads_of t l n hop hop.binding (End e) at refl way)) [
+  | inl own ↦ sym own.1
+  | inr other ↦ absurd (numbers_apart t sound l n here other.0)
+]
 
 -- and just then it is told
 told_so : (programs : List Program) (offer : Option Offered) (l : LinkId) (h : Heard) (k : TheCore) (f : EndId) (reason : ℕ) (k2 : TheCore)
-    → Follows programs offer l h k (heard_as.OpeningRefused f reason) k2 → (e : EndId) × (h ≡ outcome.EndRefused e reason)
-told_so programs offer l (outcome.EndRefused e r) k f reason k2 x = (e, let same : r ≡ reason = cc (x.0) in ap (outcome.EndRefused e) same)
+    → Follows programs offer l h k (heard_as.OpeningRefused f reason) k2 → h ≡ outcome.EndRefused f reason
+told_so programs offer l (outcome.EndRefused e r) k f reason k2 x =
+    let same : r ≡ reason = cc (x.0) in
+    let ends : e ≡ f = cc (x.0) in
+    ap (outcome.EndRefused e) same ∙ ap (λ (i : EndId). outcome.EndRefused i reason) ends
 told_so programs offer l (outcome.ServerMade b d c) k f reason k2 x = absurd (cc (x.0))
 told_so programs offer l (outcome.EndOpened e c) k f reason k2 x = absurd (cc (x.0))
 told_so programs offer l (outcome.OpeningWentOn b n c) k f reason k2 x = absurd (cc (x.0))
@@ -277,13 +324,23 @@ pub record Again (jobs : List Job) (t0 : TheCircuits) (s : TheRun TheSide) (hs :
   pub came : CameUnder t0 hs link number opening
   pub binding_is : opening.binding ≡ wish.opening.binding
 
--- a refusal that a core starting so tells of what it heard since
-abbrev pub Tells : List Job → TheCircuits → TheRun TheSide → (ℕ → List Frag) → ℕ → Type 0
-Tells jobs t0 s hs r = WasHeard t0 hs r ⊎ IsReason r ⊎ Again jobs t0 s hs ⊎ (r ≡ 99)
+-- a job of the end's desk wishes for an opening that this core refuses, whose table is u now
+pub record Here (jobs : List Job) (Full : ℕ → Type 0) (t0 u : TheCircuits) (e : EndId) (s : TheRun TheSide) (r : ℕ) : Type 0 where
+  pub wish : Wish
+  pub job : JobAt jobs s e wish
+  pub why : RefusesWish Full t0 u wish r
 
-module _ (jobs : List Job) (t0 : TheCircuits) where
-  more_told : (s : TheRun TheSide) (hs hs2 : ℕ → List Frag) → ((l : ℕ) (f : Frag) → Has f (hs l) → Has f (hs2 l)) → (r : ℕ) → Tells jobs t0 s hs r → Tells jobs t0 s hs2 r
-  more_told s hs hs2 more r (inl h) = inl (record {
+-- a refusal that a core starting so tells at the desk of an end, of what it heard since; in the end it said all this, and its monitor is m
+abbrev pub Tells : List Job → (Opening → Type 0) → (ℕ → Type 0) → TheCircuits → TheMonitor → EndId → (ℕ → List Frag) → TheRun TheSide → (ℕ → List Frag) → ℕ → Type 0
+Tells jobs Wishes Full t0 m e spoken s hs r = WasHeard Wishes t0 spoken hs m e r ⊎ Here jobs Full t0 m.circuits e s r ⊎ Again jobs t0 s hs
+
+module _ (jobs : List Job) (Wishes : Opening → Type 0) (Full : ℕ → Type 0) (t0 : TheCircuits) (m : TheMonitor) (e : EndId) where
+  abbrev Told : (ℕ → List Frag) → TheRun TheSide → (ℕ → List Frag) → ℕ → Type 0
+  Told spoken s hs r = Tells jobs Wishes Full t0 m e spoken s hs r
+
+  more_told : (s : TheRun TheSide) (spoken spoken2 hs hs2 : ℕ → List Frag) → ((l : ℕ) (f : Frag) → Has f (spoken2 l) → Has f (spoken l)) → ((l : ℕ) (f : Frag) → Has f (hs l) → Has f (hs2 l))
+      → (r : ℕ) → Told spoken s hs r → Told spoken2 s hs2 r
+  more_told s spoken spoken2 hs hs2 fewer more r (inl h) = inl (record {
     link = h.link;
     state = h.state;
     state_is = h.state_is;
@@ -291,9 +348,13 @@ module _ (jobs : List Job) (t0 : TheCircuits) where
     has = more h.link h.frag h.has;
     circuit = h.circuit;
     says = h.says;
+    own = h.own;
+    wished = h.wished;
+    only = λ f c x has is says_it. h.only f c x (elim has [ inl a ↦ inl (fewer h.link f a) | inr b ↦ inr b ]) is says_it;
+    end_is = h.end_is;
   })
-  more_told s hs hs2 more r (inr (inl good)) = inr (inl good)
-  more_told s hs hs2 more r (inr (inr (inl a))) = inr (inr (inl (record {
+  more_told s spoken spoken2 hs hs2 fewer more r (inr (inl own)) = inr (inl own)
+  more_told s spoken spoken2 hs hs2 fewer more r (inr (inr a)) = inr (inr (record {
     name = a.name;
     wish = a.wish;
     job = a.job;
@@ -302,14 +363,14 @@ module _ (jobs : List Job) (t0 : TheCircuits) where
     opening = a.opening;
     came = came_more t0 hs hs2 more a.link a.number a.opening a.came;
     binding_is = a.binding_is;
-  })))
-  more_told s hs hs2 more r (inr (inr (inr memory))) = inr (inr (inr memory))
+  }))
 
   -- a desk has had its jobs before
-  told_before : (s u : TheRun TheSide) (hs : ℕ → List Frag) → JobsStay s.desks u.desks → (r : ℕ) → Tells jobs t0 u hs r → Tells jobs t0 s hs r
-  told_before s u hs stay r (inl h) = inl h
-  told_before s u hs stay r (inr (inl good)) = inr (inl good)
-  told_before s u hs stay r (inr (inr (inl a))) = inr (inr (inl (record {
+  told_before : (s u : TheRun TheSide) (spoken hs : ℕ → List Frag) → JobsStay s.desks u.desks → (r : ℕ) → Told spoken u hs r → Told spoken s hs r
+  told_before s u spoken hs stay r (inl h) = inl h
+  told_before s u spoken hs stay r (inr (inl own)) =
+      inr (inl (record { wish = own.wish; job = job_before jobs s u e own.wish stay own.job; why = own.why }))
+  told_before s u spoken hs stay r (inr (inr a)) = inr (inr (record {
     name = a.name;
     wish = a.wish;
     job = job_before jobs s u a.name a.wish stay a.job;
@@ -318,8 +379,7 @@ module _ (jobs : List Job) (t0 : TheCircuits) where
     opening = a.opening;
     came = a.came;
     binding_is = a.binding_is;
-  })))
-  told_before s u hs stay r (inr (inr (inr memory))) = inr (inr (inr memory))
+  }))
 
 -- in the words of the law
 pub own_wish : (jobs : List Job) (s : TheRun TheSide) (name : EndId) (wish : Wish) → JobAt jobs s name wish → IsOwnWish jobs s wish.opening
@@ -335,10 +395,20 @@ own_wish jobs s name wish a = record {
   opening_is = refl;
 }
 
-pub told_at : (jobs : List Job) (s : TheRun TheSide) (hs : ℕ → List Frag) (r : ℕ) → Tells jobs s.core.monitor.circuits s hs r → IsRefusedAt jobs s hs r
-told_at jobs s hs r (inl h) = inl h
-told_at jobs s hs r (inr (inl good)) = inr (inl good)
-told_at jobs s hs r (inr (inr (inl a))) = inr (inr (inl (record {
+pub told_at : (jobs : List Job) (finish : TheRun TheSide) (e : EndId) (spoken : ℕ → List Frag) (s : TheRun TheSide) (hs : ℕ → List Frag) (r : ℕ)
+    → Tells jobs (IsOwnWish jobs s) (WasFull jobs finish) s.core.monitor.circuits finish.core.monitor e spoken s hs r → IsRefusedAt jobs s spoken hs finish e r
+told_at jobs finish e spoken s hs r (inl h) = inl h
+told_at jobs finish e spoken s hs r (inr (inl own)) = inr (inl (record {
+  desk = own.job.desk;
+  desk_is = own.job.desk_is;
+  turn = own.job.turn;
+  place = own.job.place;
+  place_is = own.job.place_is;
+  wish = own.wish;
+  job_is = own.job.job_is;
+  why = own.why;
+}))
+told_at jobs finish e spoken s hs r (inr (inr a)) = inr (inr (record {
   own = a.wish.opening;
   wished = own_wish jobs s a.name a.wish a.job;
   link = a.link;
@@ -346,27 +416,30 @@ told_at jobs s hs r (inr (inr (inl a))) = inr (inr (inl (record {
   opening = a.opening;
   came = a.came;
   binding_is = a.binding_is;
-})))
-told_at jobs s hs r (inr (inr (inr memory))) = inr (inr (inr memory))
+}))
 
 -- ---- over an event
 
-module _ (w : Ways TheSide) (names : List TheRegistration) (Wishes : Opening → Type 0) (t0 : TheCircuits) (jobs : List Job) (said_so heard_so : ℕ → List Frag) (s m : TheRun TheSide) (sound : Sound s.core.monitor.circuits)
-    (placed : Placed s.core) (holds : AreReasonedFrom names Wishes t0 said_so heard_so s.core.monitor) where
+module _ (w : Ways TheSide) (names : List TheRegistration) (NoPlace Wishes : Opening → Type 0) (t0 : TheCircuits) (jobs : List Job) (said_so heard_so : ℕ → List Frag) (s m : TheRun TheSide) (sound : Sound s.core.monitor.circuits)
+    (placed : Placed s.core) (holds : AreReasonedFrom names NoPlace Wishes t0 said_so heard_so s.core.monitor) (e : EndId) (said_last : ℕ → List Frag) (last : TheMonitor)
+    (only : (l n : ℕ) (o : Opening) → OpenedHere s.core.monitor.circuits l n → AsksOnly said_so s.core.monitor l n o → AsksOnly said_last last l n o)
+    (grows : (l : ℕ) → IsUsedUp s.core.monitor.circuits l → IsUsedUp last.circuits l) (Full : ℕ → Type 0)
+    (full : (d : ℕ) (x : TheDispatcher) → slice_get s.core.board.dispatchers d ≡ Some x → length x.ends ≡ 1024 → Full d) where
   abbrev Then : (deed : Deed) → InPlace jobs s deed → Does w deed s m → ℕ → Type 0
-  Then deed by h r = Tells jobs t0 s (then_heard heard_so (event_steps w jobs deed s m by h)) r
+  Then deed by h r = Tells jobs Wishes Full t0 last e said_last s (then_heard heard_so (event_steps w jobs deed s m by h)) r
 
   hears_told : (n : ℕ) (l : LinkId) (frag : Frag) (f : EndId) (reason : ℕ) (by : InPlace jobs s (heard n l frag (Ok (heard_as.OpeningRefused f reason))))
-      (h : Does w (heard n l frag (Ok (heard_as.OpeningRefused f reason))) s m) → Then (heard n l frag (Ok (heard_as.OpeningRefused f reason))) by h reason
-  hears_told n l frag f reason by h =
+      (h : Does w (heard n l frag (Ok (heard_as.OpeningRefused f reason))) s m) → f ≡ e → Then (heard n l frag (Ok (heard_as.OpeningRefused f reason))) by h reason
+  hears_told n l frag f reason by h ends =
       let msg = h.event.0.0 in
       let says_it : Says frag msg = h.event.0.1 in
       let all : HearsAll s.offers l msg s.core (heard_as.OpeningRefused f reason) m.core = h.event.0.2 in
-      let (e, is) = told_so s.offers.programs (offer_for s.offers s.core msg) l all.heard (with_monitor s.core all.monitor) f reason m.core all.follows in
+      let is = told_so s.offers.programs (offer_for s.offers s.core msg) l all.heard (with_monitor s.core all.monitor) f reason m.core all.follows in
       let kn = known_for s.offers s.core msg in
-      let x = refusing kn s.core.monitor.circuits l msg e reason (subst (λ (y : Heard). ComesTo kn s.core.monitor.circuits l msg y) is all.hears.0) in
-      let near : beside t0 l.0 ≡ Some x.link.neighbour = sym (holds.0.links l.0) ∙ ap (option_map (λ (a : LinkState). a.neighbour)) x.there in
-      let (state, state_is) = state_at t0 l.0 x.link.neighbour (slice_get t0.links l.0) refl near in
+      let x = refusing kn s.core.monitor.circuits l msg f reason (subst (λ (y : Heard). ComesTo kn s.core.monitor.circuits l msg y) is all.hears.0) in
+      let near : beside t0 l.0 ≡ Some x.waits.here.link.neighbour = sym (holds.0.links l.0) ∙ ap (option_map (λ (a : LinkState). a.neighbour)) x.waits.here.there in
+      let (state, state_is) = state_at t0 l.0 x.waits.here.link.neighbour (slice_get t0.links l.0) refl near in
+      let it = holds.2.given l.0 x.circuit.0 x.hop x.waits.here x.waits.there in
       inl (record {
         link = l.0;
         state = state;
@@ -376,61 +449,76 @@ module _ (w : Ways TheSide) (names : List TheRegistration) (Wishes : Opening →
             (took_heard s.core.monitor.circuits l frag msg says_it);
         circuit = x.circuit;
         says = subst (Says (as_carried (bare frag))) x.is (says_the_same frag (as_carried (bare frag)) msg (carried_zero frag by.1) says_it);
+        own = it.opening;
+        wished = subst (λ (way : Way). IsFrom Wishes t0 heard_so way it.opening) x.way it.origin;
+        only = only l.0 x.circuit.0 it.opening x.waits.here it.only;
+        end_is = ap client_of it.binding_is ∙ client_end s.core.monitor.circuits sound l.0 x.circuit.0 x.hop f x.waits.here x.waits.there x.way ∙ ends;
       })
 
+  refused_last : (wish : Wish) (r number : ℕ) → r ≡ number → RefusesOn (Full wish.dispatcher) s.core.monitor.circuits wish.link.0 number → RefusesWish Full t0 last.circuits wish r
+  refused_last wish r number same (inl (is, taken)) = inl (same ∙ is, taken)
+  refused_last wish r number same (inr (inl (is, none))) = inr (inl (same ∙ is, laid_none t0 s.core.monitor.circuits holds.0 wish.link.0 none))
+  refused_last wish r number same (inr (inr (is, used))) = inr (inr (same ∙ is, grows wish.link.0 used))
+
   opens_told : (name : EndId) (wish : Wish) (fault : OpenFault) (r : ℕ) (by : InPlace jobs s (opened name wish (Err fault))) (h : Does w (opened name wish (Err fault)) s m)
-      → NewOpened (Err fault) r → Then (opened name wish (Err fault)) by h r
-  opens_told name wish fault r by h new =
+      → lacks_to_open (Err fault) ≡ false → name ≡ e → NewOpened (Err fault) r → Then (opened name wish (Err fault)) by h r
+  opens_told name wish fault r by h ample ends new =
       let (number, other) = new_opened fault r new in
-      elim (refused_here (asked wish.dispatcher h.event.program wish.link wish.opening) s.core m.core fault h.event.asks other) [
-        | inl good ↦ inr (inl (subst IsReason (sym number) good))
-        | inr others ↦ elim others [
-          | inl stood ↦ elim (entry_came names Wishes t0 said_so heard_so s.core.monitor sound holds.2 wish.opening.binding (has_entry s.core.monitor.circuits wish.opening.binding stood)) [
-            | inl own ↦
-                (let (p, at) = placed own.0 own.1 (client_of wish.opening.binding) own.2 in
-                let tests = five (nat_lt wish.dispatcher (length s.core.board.dispatchers)) (nat_lt wish.interface (length s.offers.programs)) (nat_lt wish.opening.binding 1024)
-                (not (is_some (place_of s.core (client_of wish.opening.binding)))) (can_say s.core.monitor.outboxes wish.link.0) by.1 in
-                let none = not_there (place_of s.core (client_of wish.opening.binding)) tests.1 in
-                let clash : Some p ≡ None = sym at ∙ none in absurd (cc))
-            | inr came ↦ inr (inr (inl (record {
-              name = name;
-              wish = wish;
-              job = job_there jobs s name wish by.0;
-              link = came.0;
-              number = came.1;
-              opening = came.2;
-              came = came_more t0 heard_so (then_heard heard_so []) (λ l f has. has_first f (heard_so l) [] has) came.0 came.1 came.2 came.3;
-              binding_is = came.4;
-            })))
-          ]
-          | inr memory ↦ inr (inr (inr (number ∙ memory)))
+      elim (refused_here (Full wish.dispatcher) (asked wish.dispatcher h.event.program wish.link wish.opening) s.core m.core fault (full wish.dispatcher) h.event.asks other ample) [
+        | inl why ↦ inr (inl (record {
+          wish = wish;
+          job = subst (λ (i : EndId). JobAt jobs s i wish) ends (job_there jobs s name wish by.0);
+          why = refused_last wish r (open_number fault) number why;
+        }))
+        | inr stood ↦ elim (entry_came names NoPlace Wishes t0 said_so heard_so s.core.monitor sound holds.2 wish.opening.binding (has_entry s.core.monitor.circuits wish.opening.binding stood)) [
+          | inl own ↦
+              (let (p, at) = placed own.0 own.1 (client_of wish.opening.binding) own.2 in
+              let tests = five (nat_lt wish.dispatcher (length s.core.board.dispatchers)) (nat_lt wish.interface (length s.offers.programs)) (nat_lt wish.opening.binding 1024)
+              (not (is_some (place_of s.core (client_of wish.opening.binding)))) (can_say s.core.monitor.outboxes wish.link.0) by.1 in
+              let none = not_there (place_of s.core (client_of wish.opening.binding)) tests.1 in
+              let clash : Some p ≡ None = sym at ∙ none in absurd (cc))
+          | inr came ↦ inr (inr (record {
+            name = name;
+            wish = wish;
+            job = job_there jobs s name wish by.0;
+            link = came.0;
+            number = came.1;
+            opening = came.2;
+            came = came_more t0 heard_so (then_heard heard_so []) (λ l f has. has_first f (heard_so l) [] has) came.0 came.1 came.2 came.3;
+            binding_is = came.4;
+          }))
         ]
       ]
 
-  event_tells : (deed : Deed) (by : InPlace jobs s deed) (h : Does w deed s m) (r : ℕ) → New deed r → Then deed by h r
-  event_tells (heard n l frag (Ok (heard_as.OpeningRefused f reason))) by h r new =
-      subst (Then (heard n l frag (Ok (heard_as.OpeningRefused f reason))) by h) (sym new) (hears_told n l frag f reason by h)
-  event_tells (heard n l frag (Ok heard_as.Full)) by h r new = absurd new
-  event_tells (heard n l frag (Ok heard_as.Done)) by h r new = absurd new
-  event_tells (heard n l frag (Ok (heard_as.Opened f))) by h r new = absurd new
-  event_tells (heard n l frag (Err fault)) by h r new = absurd new
-  event_tells (opened name wish (Ok k)) by h r new = absurd new
-  event_tells (opened name wish (Err fault)) by h r new = opens_told name wish fault r by h new
-  event_tells (looked n l answer) by h r new = absurd new
-  event_tells (passed n k frag c answer) by h r new = absurd new
-  event_tells (arrived n l frag f answer) by h r new = absurd new
-  event_tells (said n l answer) by h r new = absurd new
-  event_tells (told n l answer) by h r new = absurd new
-  event_tells (called f c answer) by h r new = absurd new
-  event_tells (ruled f msg reply answer) by h r new = absurd new
-  event_tells (wrote f out answer) by h r new = absurd new
-  event_tells (acked f n answer) by h r new = absurd new
-  event_tells (turned d f from answer) by h r new = absurd new
+  event_tells : (deed : Deed) (by : InPlace jobs s deed) (h : Does w deed s m) (r : ℕ) → IsAmple deed → New e deed r → Then deed by h r
+  event_tells (heard n l frag (Ok (heard_as.OpeningRefused f reason))) by h r ample new =
+      subst (Then (heard n l frag (Ok (heard_as.OpeningRefused f reason))) by h) (sym new.1) (hears_told n l frag f reason by h new.0)
+  event_tells (heard n l frag (Ok heard_as.Full)) by h r ample new = absurd new
+  event_tells (heard n l frag (Ok heard_as.Done)) by h r ample new = absurd new
+  event_tells (heard n l frag (Ok (heard_as.Opened f))) by h r ample new = absurd new
+  event_tells (heard n l frag (Err fault)) by h r ample new = absurd new
+  event_tells (opened name wish (Ok k)) by h r ample new = absurd new.1
+  event_tells (opened name wish (Err fault)) by h r ample new = opens_told name wish fault r by h ample new.0 new.1
+  event_tells (looked n l answer) by h r ample new = absurd new
+  event_tells (passed n k frag c answer) by h r ample new = absurd new
+  event_tells (arrived n l frag f answer) by h r ample new = absurd new
+  event_tells (said n l answer) by h r ample new = absurd new
+  event_tells (told n l answer) by h r ample new = absurd new
+  event_tells (called f c answer) by h r ample new = absurd new
+  event_tells (ruled f msg reply answer) by h r ample new = absurd new
+  event_tells (wrote f out answer) by h r ample new = absurd new
+  event_tells (acked f n answer) by h r ample new = absurd new
+  event_tells (turned d f from answer) by h r ample new = absurd new
 
 -- ---- over a log
 
-module _ (w : Ways TheSide) (on : OnAnotherCircuit) (names : List TheRegistration) (jobs : List Job) (Wishes : Opening → Type 0) (wished : (o : Opening) → Wishes o → IsWished jobs o)
-    (t0 : TheCircuits) (e : EndId) where
+module _ (w : Ways TheSide) (on : OnAnotherCircuit) (names : List TheRegistration) (jobs : List Job) (NoPlace Wishes : Opening → Type 0) (wished : (o : Opening) → Wishes o → IsWished jobs o)
+    (t0 : TheCircuits) (Full : ℕ → Type 0) (e : EndId) where
+  -- at each moment from which the core came to its end, it knows this when it hears a message
+  abbrev Knowing : TheRun TheSide → TheRun TheSide → Type 0
+  Knowing s t = (u : TheRun TheSide) (rest : List Deed) → Goes w jobs u rest t → IsBoard u.core.board → u.offers ≡ s.offers → (msg : Message)
+      → KnowsPlaces names NoPlace (known_for u.offers u.core msg) msg
+
   -- ends to which the table leads are there still
   placed_on : (deed : Deed) (log : List Deed) (s t : TheRun TheSide) → (h : Goes w jobs s (deed ∷ log) t) → Placed s.core → Placed h.0.core
   placed_on deed log s t h placed l n name way =
@@ -440,12 +528,29 @@ module _ (w : Ways TheSide) (on : OnAnotherCircuit) (names : List TheRegistratio
         | inr new ↦ (new.stands.place, ap (λ (k : TheCore). place_of k name) aside ∙ new.stands.here.sits.here)
       ]
 
-  pub log_tells : (log : List Deed) (s t : TheRun TheSide) (h : Goes w jobs s log t) (said_so heard_so : ℕ → List Frag) → s.offers.names ≡ names
+  -- what was asked for under a number that was given is all that ever is, and links stay used up
+  only_then : (log : List Deed) (s t : TheRun TheSide) (h : Goes w jobs s log t) (said_so heard_so : ℕ → List Frag) → Knowing s t
+      → ((name : EndId) (wish : Wish) → JobAt jobs s name wish → Wishes wish.opening) → IsLed s.core → Sound t.core.monitor.circuits
+      → (l n : ℕ) (o : Opening) → OpenedHere s.core.monitor.circuits l n → AsksOnly said_so s.core.monitor l n o
+      → AsksOnly (then_said said_so (log_steps w jobs log s t h)) t.core.monitor l n o
+  only_then log s t h said_so heard_so knows own led sound l n o here only =
+      (log_keeps_by (Remembers l n o) jobs (remembers_kept (KnowsPlaces names NoPlace) Wishes l n o) w on log s t h said_so heard_so knows own led sound (here, only)).1
+
+  used_then : (log : List Deed) (s t : TheRun TheSide) (h : Goes w jobs s log t) (said_so heard_so : ℕ → List Frag) → Knowing s t
+      → ((name : EndId) (wish : Wish) → JobAt jobs s name wish → Wishes wish.opening) → IsLed s.core → Sound t.core.monitor.circuits
+      → (l : ℕ) → IsUsedUp s.core.monitor.circuits l → IsUsedUp t.core.monitor.circuits l
+  used_then log s t h said_so heard_so knows own led sound l used =
+      log_keeps_by (λ spoken listened m. IsUsedUp m.circuits l) jobs (used_kept (KnowsPlaces names NoPlace) Wishes l) w on log s t h said_so heard_so knows own led sound used
+
+  pub log_tells : (log : List Deed) (s t : TheRun TheSide) (h : Goes w jobs s log t) (said_so heard_so : ℕ → List Frag) → AreAmple log → Knowing s t
+      → ((u : TheRun TheSide) (rest : List Deed) → Goes w jobs u rest t → IsBoard u.core.board → (d : ℕ) (x : TheDispatcher) → slice_get u.core.board.dispatchers d ≡ Some x
+      → length x.ends ≡ 1024 → Full d)
       → ((name : EndId) (wish : Wish) → JobAt jobs s name wish → Wishes wish.opening) → IsLed s.core → Placed s.core
-      → Sound t.core.monitor.circuits → AreReasonedFrom names Wishes t0 said_so heard_so s.core.monitor
-      → (refusal_at t e ≡ refusal_at s e) ⊎ Tells jobs t0 s (then_heard heard_so (log_steps w jobs log s t h)) (refusal_at t e)
-  log_tells [] s t h said_so heard_so offers own led placed sound n = inl (ap (λ (x : TheRun TheSide). refusal_at x e) h)
-  log_tells (deed ∷ log) s t h said_so heard_so offers own led placed sound n =
+      → Sound t.core.monitor.circuits → AreReasonedFrom names NoPlace Wishes t0 said_so heard_so s.core.monitor
+      → (refusal_at t e ≡ refusal_at s e) ⊎ Tells jobs Wishes Full t0 t.core.monitor e (then_said said_so (log_steps w jobs log s t h)) s
+      (then_heard heard_so (log_steps w jobs log s t h)) (refusal_at t e)
+  log_tells [] s t h said_so heard_so ample knows fulls own led placed sound n = inl (ap (λ (x : TheRun TheSide). refusal_at x e) h)
+  log_tells (deed ∷ log) s t h said_so heard_so ample knows fulls own led placed sound n =
       let m = h.1.0 in
       let u = h.0 in
       let aside : u.core ≡ m.core = core_aside m u deed h.1.2 in
@@ -453,19 +558,22 @@ module _ (w : Ways TheSide) (on : OnAnotherCircuit) (names : List TheRegistratio
       let rest = log_steps w jobs log u t h.3 in
       let sound_u = sound_first w jobs log u t h.3 sound in
       let sound_m : Sound m.core.monitor.circuits = subst (λ (k : TheCore). Sound k.monitor.circuits) aside sound_u in
-      let one = does_keep (AreReasonedFrom names Wishes t0) jobs (reasons_kept names jobs Wishes wished t0) w on said_so heard_so s m h.1.3.core h.1.3.table sound_m led offers own n deed h.2 h.1.4 h.1.1 in
-      let now = subst (λ (k : TheCore). AreReasonedFrom names Wishes t0 (then_said said_so first) (then_heard heard_so first) k.monitor) (sym aside) one in
+      let one = does_keep (AreReasonedFrom names NoPlace Wishes t0) jobs (reasons_kept names jobs NoPlace Wishes wished t0) w on said_so heard_so s m h.1.3.core h.1.3.table sound_m led (knows s (deed ∷ log) h h.1.3.board refl) own n deed h.2 h.1.4 h.1.1 in
+      let now = subst (λ (k : TheCore). AreReasonedFrom names NoPlace Wishes t0 (then_said said_so first) (then_heard heard_so first) k.monitor) (sym aside) one in
       let led_u : IsLed u.core = subst IsLed (sym aside) (does_led w jobs s m h.1.3.core h.1.3.table led deed h.2 h.1.1) in
-      let still : u.offers.names ≡ names = ap (λ (o : Offers). o.names) (offers_stay w deed s m u h.1.1 h.1.2) ∙ offers in
+      let still : Knowing u t = λ v later_on g board same msg. knows v later_on g board (same ∙ offers_stay w deed s m u h.1.1 h.1.2) msg in
       let own_u = λ (name : EndId) (wish : Wish) (a : JobAt jobs u name wish). own name wish (job_before jobs s u name wish (event_jobs w deed s m u h.1.1 h.1.2) a) in
-      elim (log_tells log u t h.3 (then_said said_so first) (then_heard heard_so first) still own_u led_u (placed_on deed log s t h placed) sound now) [
+      elim (log_tells log u t h.3 (then_said said_so first) (then_heard heard_so first) ample.1 still fulls own_u led_u (placed_on deed log s t h placed) sound now) [
         | inl same ↦ elim (event_notes w deed s m u e h.1.1 h.1.2) [
           | inl before ↦ inl (same ∙ before)
-          | inr new ↦ inr (more_told jobs t0 s (then_heard heard_so first) (then_heard heard_so (first ++ rest))
-              (λ l f has. subst (Has f) (sym (heard_joins heard_so first rest l)) (has_first f (then_heard heard_so first l) (of_circuit 0 (taken_from l rest)) has)) (refusal_at t e)
-              (event_tells w names Wishes t0 jobs said_so heard_so s m h.1.3.table placed n deed h.2 h.1.1 (refusal_at t e) (subst (New deed) (sym same) new)))
+          | inr new ↦ inr (more_told jobs Wishes Full t0 t.core.monitor e s (then_said said_so (first ++ rest)) (then_said said_so (first ++ rest)) (then_heard heard_so first)
+              (then_heard heard_so (first ++ rest)) (λ l f has. has) (λ l f has. subst (Has f) (sym (heard_joins heard_so first rest l)) (has_first f (then_heard heard_so first l) (of_circuit 0 (taken_from l rest)) has)) (refusal_at t e)
+              (event_tells w names NoPlace Wishes t0 jobs said_so heard_so s m h.1.3.table placed n e (then_said said_so (first ++ rest)) t.core.monitor
+              (only_then (deed ∷ log) s t h said_so heard_so knows own led sound) (used_then (deed ∷ log) s t h said_so heard_so knows own led sound)
+              Full (fulls s (deed ∷ log) h h.1.3.board) deed h.2 h.1.1 (refusal_at t e) ample.0 (subst (New e deed) (sym same) new)))
         ]
-        | inr later ↦ inr (more_told jobs t0 s (then_heard (then_heard heard_so first) rest) (then_heard heard_so (first ++ rest))
+        | inr later ↦ inr (more_told jobs Wishes Full t0 t.core.monitor e s (then_said (then_said said_so first) rest) (then_said said_so (first ++ rest))
+            (then_heard (then_heard heard_so first) rest) (then_heard heard_so (first ++ rest)) (λ l f has. subst (Has f) (said_joins said_so first rest l) has)
             (λ l f has. subst (Has f) (sym (heard_joins heard_so first rest l)) has) (refusal_at t e)
-            (told_before jobs t0 s u (then_heard (then_heard heard_so first) rest) (event_jobs w deed s m u h.1.1 h.1.2) (refusal_at t e) later))
+            (told_before jobs Wishes Full t0 t.core.monitor e s u (then_said (then_said said_so first) rest) (then_heard (then_heard heard_so first) rest) (event_jobs w deed s m u h.1.1 h.1.2) (refusal_at t e) later))
       ]

@@ -9,7 +9,7 @@ use Rattle.fl_running.specs.Logs.{Goes, TurnsAreLogged}
 use Rattle.fl_running.specs.Ran.{Task, GoesOn, CountedAreTurns}
 use Rattle.fl_honest.specs.Cores.{shared_ways, CoresGo}
 
-goes_then : {S : Type 0} (w : Ways S) (jobs : List Job) (xs ys : List Deed) (s m t : TheRun S) → Goes w jobs s xs m → Goes w jobs m ys t → Goes w jobs s (xs ++ ys) t
+pub goes_then : {S : Type 0} (w : Ways S) (jobs : List Job) (xs ys : List Deed) (s m t : TheRun S) → Goes w jobs s xs m → Goes w jobs m ys t → Goes w jobs s (xs ++ ys) t
 goes_then w jobs [] ys s m t h g = subst (λ x. Goes w jobs x ys t) h g
 goes_then w jobs (x ∷ xs) ys s m t h g = (h.0, h.1, h.2, goes_then w jobs xs ys h.0 m t h.3 g)
 

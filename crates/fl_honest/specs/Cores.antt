@@ -1,5 +1,5 @@
 -- A run of cores, each by what happened there.
-use Rattle.std.specs.Prelude.{ℕ, ◌≡◌, List, slice_get, Some}
+use Rattle.std.specs.Prelude.{ℕ, ◌≡◌, false, List, [], ◌∷◌, slice_get, Some}
 use Rattle.fl_running.specs.declared.run.Part.{Part}
 use Rattle.fl_ring.specs.SharedSeats.{front_seen}
 use Rattle.fl_ring.specs.SharedSides.{TheSide, SharedPuts, SharedTakes}
@@ -8,8 +8,9 @@ use Rattle.fl_endpoint.specs.Accounts.{Sound as IsEnd}
 use Rattle.fl_node.specs.Sound.{IsCore}
 use Rattle.fl_running.specs.declared.job.Job.{Job as CoreJob}
 use Rattle.fl_running.specs.Run.{Ways, ways, TheRun}
-use Rattle.fl_running.specs.Deeds.{Deed}
+use Rattle.fl_running.specs.Deeds.{Deed, opened}
 use Rattle.fl_running.specs.Logs.{Goes}
+use Rattle.fl_running.specs.Steps.{lacks_to_open}
 use Rattle.fl_running.specs.Flows.{IsApart}
 use Rattle.fl_running.specs.Ran.{Task, Moment, CoreRan}
 
@@ -34,8 +35,29 @@ pub record Went (jobs : List CoreJob) (c : OneCore) : Type 0 where
 abbrev pub AllWent : List CoreJob → List OneCore → Type 0
 AllWent jobs cores = (n : ℕ) (c : OneCore) → slice_get cores n ≡ Some c → Went jobs c
 
--- ---- law
+-- ---- memory
+
+-- an opening isn't one that was refused for want of memory
+abbrev pub IsAmple : Deed → Type 0
+IsAmple (opened name wish answer) = lacks_to_open answer ≡ false
+IsAmple deed = Unit {0}
+
+-- none of a log is
+abbrev pub AreAmple : List Deed → Type 0
+AreAmple [] = Unit {0}
+AreAmple (deed ∷ log) = IsAmple deed × AreAmple log
+
+-- so it was at each core
+abbrev pub AllAmple : List OneCore → Type 0
+AllAmple cores = (n : ℕ) (c : OneCore) → slice_get cores n ≡ Some c → AreAmple c.log
+
+-- ---- laws
 
 -- a core's whole run is a log: its turns that were counted, and then those that weren't
 abbrev pub CoresGo : Type 0
 CoresGo = (t : Task) (a b : Moment TheSide) (part : Part) → CoreRan shared_ways t a part b → (log : List Deed) × Goes shared_ways t.jobs a.run log b.run
+
+-- and no opening of it was refused for want of memory
+abbrev pub CoresGoAmply : Type 0
+CoresGoAmply = (t : Task) (a b : Moment TheSide) (part : Part) → CoreRan shared_ways t a part b
+    → (log : List Deed) × Goes shared_ways t.jobs a.run log b.run × AreAmple log

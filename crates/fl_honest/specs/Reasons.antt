@@ -1,34 +1,42 @@
 -- Why circuits are refused: what cores tell each other. Laws.
-use Rattle.std.specs.Prelude.{ℕ, ◌≡◌, ◌⊎◌, true, List, slice_get, Some, None}
+use Rattle.std.specs.Prelude.{ℕ, ◌≡◌, ◌⊎◌, ◌≤◌, true, false, List, length, slice_get, Some, None}
 use Rattle.fl_base.specs.declared.fragment.Frag.{Frag}
+use Rattle.fl_base.specs.declared.identity.CoreId.{CoreId}
 use Rattle.fl_base.specs.declared.identity.EndId.{EndId}
-use Rattle.fl_base.specs.declared.identity.LinkId.{LinkId}
 use Rattle.fl_base.specs.declared.identity.Circuit.{Circuit}
 use Rattle.fl_nameserv.specs.Registrations.{TheRegistration, by_iref}
 use Rattle.fl_hop.specs.declared.entry.Hop.{Hop}
-use Rattle.fl_hop.specs.declared.entry.Way.TheVariants.{Link}
+use Rattle.fl_hop.specs.declared.entry.Way.{Way}
+use Rattle.fl_hop.specs.declared.entry.Way.TheVariants.{Link, End}
 use Rattle.fl_hop.specs.declared.links.LinkState.{LinkState}
 use Rattle.fl_hop.specs.Numbers.{OpenedHere, OpenedThere}
 use Rattle.fl_hop.specs.OfCircuit.{of_circuit}
 use Rattle.fl_hop.specs.Stretch.{taken_from, put_on}
-use Rattle.fl_hop.specs.Table.{TheCircuits, hop_at}
+use Rattle.fl_hop.specs.Table.{TheCircuits, hop_at, link_of, most_openings}
 use Rattle.fl_monitor.specs.declared.message.Message.TheVariants.{CircuitRefused}
 use Rattle.fl_monitor.specs.declared.opening.Opening.{Opening}
-use Rattle.fl_monitor.specs.Fates.{comes_along}
+use Rattle.fl_monitor.specs.Fates.{comes_along, is_offered_elsewhere}
+use Rattle.fl_monitor.specs.Routing.{next_on, all_differ}
 use Rattle.fl_monitor.specs.Monitors.{TheMonitor, waiting_for, asks}
 use Rattle.fl_monitor.specs.Saying.{Says}
+use Rattle.fl_core.specs.Sound.{IsBoard}
+use Rattle.fl_core.specs.View.{TheDispatcher}
+use Rattle.fl_node.specs.Hearing.{offer_of}
+use Rattle.fl_node.specs.View.{client_of}
 use Rattle.fl_ring.specs.SharedSides.{TheSide}
 use Rattle.fl_running.specs.declared.job.Job.{Job as CoreJob}
 use Rattle.fl_running.specs.declared.job.Job.TheVariants as job
 use Rattle.fl_running.specs.declared.job.Wish.{Wish}
+use Rattle.fl_running.specs.Deeds.{Deed}
 use Rattle.fl_running.specs.Desks.{TheDesk}
+use Rattle.fl_running.specs.Logs.{Goes}
 use Rattle.fl_running.specs.Made.{desk_of}
 use Rattle.fl_running.specs.Run.{TheRun}
 use Rattle.fl_running.specs.Words.{refusal_at}
 use Rattle.fl_jobs.specs.Jobs.{Job}
 use Rattle.fl_compile.specs.Programs.{TheProgram}
 use Rattle.fl_dockets.specs.State.{TheJoined}
-use Rattle.fl_honest.specs.Cores.{OneCore}
+use Rattle.fl_honest.specs.Cores.{shared_ways, OneCore, AreAmple, AllAmple}
 use Rattle.fl_honest.specs.Circuits.{Leading}
 use Rattle.fl_honest.specs.Named.{Has}
 use Rattle.fl_honest.specs.Neighbours.{IsUnused}
@@ -38,6 +46,66 @@ use Rattle.fl_honest.specs.Runs.{AreSetUp}
 -- a dispatcher has no place for one end more (54), a core of the route has no link that leads on (73), or no number is left on that link (74)
 abbrev pub IsReason : ℕ → Type 0
 IsReason n = (n ≡ 54) ⊎ (n ≡ 73) ⊎ (n ≡ 74)
+
+-- ---- why a core refuses, whose table was t as its run began, and is u
+
+-- the route leads on from it to a core to which it has no link, or names a core twice
+pub record LeadsNowhere (t : TheCircuits) (path : List CoreId) : Type 0 where
+  pub next : CoreId
+  pub next_is : next_on path t.core ≡ Some next
+  pub none : (link_of t next.0 ≡ None) ⊎ (all_differ path ≡ false)
+
+-- it gave all the numbers of its own on a link
+pub record IsUsedUp (u : TheCircuits) (l : ℕ) : Type 0 where
+  pub state : LinkState
+  pub state_is : slice_get u.links l ≡ Some state
+  pub all : most_openings ≤ state.opened
+
+-- the route leads on from it over such a link
+pub record LeadsOverUsedUp (t u : TheCircuits) (path : List CoreId) : Type 0 where
+  pub next : CoreId
+  pub next_is : next_on path t.core ≡ Some next
+  pub link : ℕ
+  pub link_is : link_of t next.0 ≡ Some link
+  pub used_up : IsUsedUp u link
+
+-- the route ends here, at a service that isn't another core's, of those that are offered; and there was no place for it
+pub record HasNoPlace (names : List TheRegistration) (NoPlace : Opening → Type 0) (t : TheCircuits) (o : Opening) : Type 0 where
+  pub last : next_on o.path t.core ≡ None
+  pub own : is_offered_elsewhere names t.core o.service.0 ≡ false
+  pub none : NoPlace o
+
+-- an opening that it heard: the route ends here, and there was no place; or it leads nowhere, or over a link that is used up
+abbrev pub Refuses : List TheRegistration → (Opening → Type 0) → TheCircuits → TheCircuits → Opening → ℕ → Type 0
+Refuses names NoPlace t u o reason =
+    ((reason ≡ 54) × HasNoPlace names NoPlace t o) ⊎ ((reason ≡ 73) × LeadsNowhere t o.path) ⊎ ((reason ≡ 74) × LeadsOverUsedUp t u o.path)
+
+-- one that a job of its own wishes for: its dispatcher was full, or the link on which it is to begin isn't there, or that is used up
+abbrev pub RefusesWish : (ℕ → Type 0) → TheCircuits → TheCircuits → Wish → ℕ → Type 0
+RefusesWish Full t u w reason =
+    ((reason ≡ 54) × Full w.dispatcher) ⊎ ((reason ≡ 73) × (slice_get t.links w.link.0 ≡ None)) ⊎ ((reason ≡ 74) × IsUsedUp u w.link.0)
+
+-- ---- at a moment of a run
+
+-- the core, which offers what it did, found no place for a server's end of this opening
+pub record FoundNoPlace (jobs : List CoreJob) (c : OneCore) (o : Opening) : Type 0 where
+  pub moment : TheRun TheSide
+  pub log : List Deed
+  pub goes : Goes shared_ways jobs moment log c.finish
+  pub board : IsBoard moment.core.board
+  pub number : moment.core.monitor.circuits.core ≡ c.start.core.monitor.circuits.core
+  pub offers : moment.offers ≡ c.start.offers
+  pub none : offer_of moment.offers moment.core o.service.0 ≡ None
+
+-- a dispatcher had 1,024 ends, in one that came to this end
+pub record WasFull (jobs : List CoreJob) (finish : TheRun TheSide) (d : ℕ) : Type 0 where
+  pub moment : TheRun TheSide
+  pub log : List Deed
+  pub goes : Goes shared_ways jobs moment log finish
+  pub board : IsBoard moment.core.board
+  pub dispatcher : TheDispatcher
+  pub dispatcher_is : slice_get moment.core.board.dispatchers d ≡ Some dispatcher
+  pub full : length dispatcher.ends ≡ 1024
 
 -- ---- one core
 
@@ -65,24 +133,34 @@ pub record HeardRefused (said heard : ℕ → List Frag) (m : TheMonitor) (o : O
   pub only : AsksOnly said m link circuit.0 o
 
 -- why an opening is refused at a core that offers these services: for a reason of its own; for want of the service; or as it heard from further on
-abbrev pub IsRefusedFor : List TheRegistration → (ℕ → List Frag) → (ℕ → List Frag) → TheMonitor → Opening → ℕ → Type 0
-IsRefusedFor names said heard m o reason = IsReason reason ⊎ (by_iref o.service.0 names ≡ None) ⊎ HeardRefused said heard m o reason
+abbrev pub IsRefusedFor : List TheRegistration → (Opening → Type 0) → TheCircuits → (ℕ → List Frag) → (ℕ → List Frag) → TheMonitor → Opening → ℕ → Type 0
+IsRefusedFor names NoPlace t said heard m o reason = Refuses names NoPlace t m.circuits o reason ⊎ (by_iref o.service.0 names ≡ None) ⊎ HeardRefused said heard m o reason
 
--- of a monitor that said and heard these fragments, by link; jobs here wish for these openings
-pub record AreReasoned (names : List TheRegistration) (Wishes : Opening → Type 0) (t : TheCircuits) (said heard : ℕ → List Frag) (m : TheMonitor) : Type 0 where
+-- where an entry leads this way, its opening was heard there, or a job here wishes for it
+abbrev pub IsFrom : (Opening → Type 0) → TheCircuits → (ℕ → List Frag) → Way → Opening → Type 0
+IsFrom Wishes t heard (Link x d) o = CameUnder t heard x.0 d.0 o
+IsFrom Wishes t heard (End e) o = Wishes o
+
+-- just one opening was asked for under this number, and it is that of the entry which stands there
+pub record IsFor (Wishes : Opening → Type 0) (t : TheCircuits) (said heard : ℕ → List Frag) (m : TheMonitor) (l n : ℕ) (hop : Hop) : Type 0 where
+  pub opening : Opening
+  pub binding_is : opening.binding ≡ hop.binding
+  pub origin : IsFrom Wishes t heard hop.way opening
+  pub only : AsksOnly said m l n opening
+
+-- of a monitor that said and heard these fragments, by link; jobs here wish for these openings, and there was no place for those
+pub record AreReasoned (names : List TheRegistration) (NoPlace Wishes : Opening → Type 0) (t : TheCircuits) (said heard : ℕ → List Frag) (m : TheMonitor) : Type 0 where
   -- what it asks for, or has still to ask for, such a job wishes for, or it was heard
   pub asked : (l : ℕ) (f : Frag) (c : Circuit) (o : Opening) → Has f (said l) ⊎ Has f (waiting_for m.outboxes l) → Says f (asks c o)
       → Wishes o ⊎ ((k n : ℕ) × CameUnder t heard k n o)
   -- where an entry stands at a number of the neighbour's, an opening of its binding was heard under that
   pub told : (l n : ℕ) (hop : Hop) → OpenedThere m.circuits l n → hop_at m.circuits l n ≡ Some hop
       → (o : Opening) × CameUnder t heard l n o × (o.binding ≡ hop.binding)
-  -- where an entry leads from a number that this core gave to another link, an opening was heard under the number there, and just it was asked for under
-  -- this one
-  pub passed : (l n : ℕ) (hop : Hop) (x : LinkId) (d : Circuit) → OpenedHere m.circuits l n → hop_at m.circuits l n ≡ Some hop → hop.way ≡ Link x d
-      → (o : Opening) × CameUnder t heard x.0 d.0 o × AsksOnly said m l n o
+  -- where an entry stands at a number that this core gave, just its opening was asked for under that
+  pub given : (l n : ℕ) (hop : Hop) → OpenedHere m.circuits l n → hop_at m.circuits l n ≡ Some hop → IsFor Wishes t said heard m l n hop
   -- what it says to be refused, or has still to say, is an opening that was heard under that number
   pub refused : (l : ℕ) (f : Frag) (c : Circuit) (reason : ℕ) → Has f (said l) ⊎ Has f (waiting_for m.outboxes l) → Says f (CircuitRefused c reason)
-      → (o : Opening) × CameUnder t heard l c.0 o × IsRefusedFor names said heard m o reason
+      → (o : Opening) × CameUnder t heard l c.0 o × IsRefusedFor names NoPlace t said heard m o reason
 
 -- ---- at desks
 
@@ -98,8 +176,9 @@ pub record IsOwnWish (jobs : List CoreJob) (s : TheRun TheSide) (o : Opening) : 
   pub job_is : slice_get jobs place ≡ Some (job.Open wish)
   pub opening_is : wish.opening ≡ o
 
--- one of the fragments that were heard, over a link that was there as the run began, says that an opening is refused for this reason
-pub record WasHeard (t : TheCircuits) (heard : ℕ → List Frag) (reason : ℕ) : Type 0 where
+-- one of the fragments that were heard, over a link that was there as the run began, says that an opening is refused for this reason: the only one that was
+-- asked for under that number, for which a job wishes, and of this client's end
+pub record WasHeard (Wishes : Opening → Type 0) (t : TheCircuits) (said heard : ℕ → List Frag) (m : TheMonitor) (e : EndId) (reason : ℕ) : Type 0 where
   pub link : ℕ
   pub state : LinkState
   pub state_is : slice_get t.links link ≡ Some state
@@ -107,6 +186,21 @@ pub record WasHeard (t : TheCircuits) (heard : ℕ → List Frag) (reason : ℕ)
   pub has : Has frag (heard link)
   pub circuit : Circuit
   pub says : Says frag (CircuitRefused circuit reason)
+  pub own : Opening
+  pub wished : Wishes own
+  pub only : AsksOnly said m link circuit.0 own
+  pub end_is : client_of own.binding ≡ e
+
+-- a job of the end's desk wishes for an opening that this core refused
+pub record WasRefused (jobs : List CoreJob) (s finish : TheRun TheSide) (e : EndId) (reason : ℕ) : Type 0 where
+  pub desk : TheDesk
+  pub desk_is : desk_of s e ≡ Some desk
+  pub turn : ℕ
+  pub place : ℕ
+  pub place_is : slice_get desk.jobs turn ≡ Some place
+  pub wish : Wish
+  pub job_is : slice_get jobs place ≡ Some (job.Open wish)
+  pub why : RefusesWish (WasFull jobs finish) s.core.monitor.circuits finish.core.monitor.circuits wish reason
 
 -- an opening was heard of a binding of which a job of a desk wishes for one
 pub record AskedAgain (jobs : List CoreJob) (s : TheRun TheSide) (heard : ℕ → List Frag) : Type 0 where
@@ -118,19 +212,22 @@ pub record AskedAgain (jobs : List CoreJob) (s : TheRun TheSide) (heard : ℕ �
   pub came : CameUnder s.core.monitor.circuits heard link number opening
   pub binding_is : opening.binding ≡ own.binding
 
--- why a refusal stands at a desk: as was heard; for a reason of this core's own; since an entry of the binding stood there (67); or for want of memory (99)
-abbrev pub IsRefusedAt : List CoreJob → TheRun TheSide → (ℕ → List Frag) → ℕ → Type 0
-IsRefusedAt jobs s heard reason = WasHeard s.core.monitor.circuits heard reason ⊎ IsReason reason ⊎ AskedAgain jobs s heard ⊎ (reason ≡ 99)
+-- why a refusal stands at the desk of an end: as was heard; for a reason of this core's own; or since an entry of the binding stood there (67)
+abbrev pub IsRefusedAt : List CoreJob → TheRun TheSide → (ℕ → List Frag) → (ℕ → List Frag) → TheRun TheSide → EndId → ℕ → Type 0
+IsRefusedAt jobs s said heard finish e reason =
+    WasHeard (IsOwnWish jobs s) s.core.monitor.circuits said heard finish.core.monitor e reason ⊎ WasRefused jobs s finish e reason
+    ⊎ AskedAgain jobs s heard
 
 -- ---- one core. Law
 
--- so it is of a core, with what it asked for
+-- so it is of a core, with what it asked for; at desks, where memory was never wanted for an opening
 pub record GoesReasoned (jobs : List CoreJob) (c : OneCore) : Type 0 where
   pub asking : GoesAsking jobs c
-  pub reasoned : AreReasoned c.start.offers.names (IsOwnWish jobs c.start) c.start.core.monitor.circuits
+  pub reasoned : AreReasoned c.start.offers.names (FoundNoPlace jobs c) (IsOwnWish jobs c.start) c.start.core.monitor.circuits
       (λ l. of_circuit 0 (put_on l asking.steps)) (λ l. of_circuit 0 (taken_from l asking.steps)) c.finish.core.monitor
-  pub desks : (e : EndId) → (refusal_at c.finish e ≡ refusal_at c.start e)
-      ⊎ IsRefusedAt jobs c.start (λ l. of_circuit 0 (taken_from l asking.steps)) (refusal_at c.finish e)
+  pub desks : AreAmple c.log → (e : EndId) → (refusal_at c.finish e ≡ refusal_at c.start e)
+      ⊎ IsRefusedAt jobs c.start (λ l. of_circuit 0 (put_on l asking.steps)) (λ l. of_circuit 0 (taken_from l asking.steps)) c.finish
+      e (refusal_at c.finish e)
 
 -- in every run of a core that had nothing to say before
 abbrev pub CoresReason : Type 0
@@ -138,19 +235,38 @@ CoresReason = (jobs : List CoreJob) (c : OneCore) → Leading jobs c → IsUnuse
 
 -- ---- all cores. Laws
 
--- whatever a core heard over its links to be refused, that is for a reason
-pub record HearsReasons (jobs : List CoreJob) (c : OneCore) : Type 0 where
+-- one of the cores refuses this opening, which it heard
+pub record RefusesOne (jobs : List CoreJob) (cores : List OneCore) (o : Opening) (reason : ℕ) : Type 0 where
+  pub place : ℕ
+  pub core : OneCore
+  pub core_is : slice_get cores place ≡ Some core
+  pub why : Refuses core.start.offers.names (FoundNoPlace jobs core) core.start.core.monitor.circuits core.finish.core.monitor.circuits o reason
+
+-- whatever a core heard over its links to be refused, one of the cores refuses
+pub record HearsReasons (jobs : List CoreJob) (cores : List OneCore) (c : OneCore) : Type 0 where
   pub goes : GoesReasoned jobs c
   pub reasons : (l : ℕ) (link : LinkState) (f : Frag) (n : Circuit) (reason : ℕ) → slice_get c.start.core.monitor.circuits.links l ≡ Some link
-      → Has f (of_circuit 0 (taken_from l goes.asking.steps)) → Says f (CircuitRefused n reason) → IsReason reason
+      → Has f (of_circuit 0 (taken_from l goes.asking.steps)) → Says f (CircuitRefused n reason) → (o : Opening) × RefusesOne jobs cores o reason
 
 -- where cores were set up together and ran the jobs that were joined for them
 abbrev pub ReasonsAlone : Type 0
 ReasonsAlone = (asked : List Job) (j : TheJoined) (cores : List OneCore) (names : List TheRegistration) (programs : List TheProgram)
-    → AreSetUp asked j cores names programs → (n : ℕ) (c : OneCore) → slice_get cores n ≡ Some c → HearsReasons j.jobs c
+    → AreSetUp asked j cores names programs → (n : ℕ) (c : OneCore) → slice_get cores n ≡ Some c → HearsReasons j.jobs cores c
 
--- so a refusal that stands at a desk in the end is for a reason, where none stood there as the run began; or memory was wanted
+-- the opening for which a job of a client's end at this core wishes is refused here, or by one of the cores that heard it
+pub record IsRefused (jobs : List CoreJob) (cores : List OneCore) (c : OneCore) (e : EndId) (reason : ℕ) : Type 0 where
+  pub place : ℕ
+  pub wish : Wish
+  pub job_is : slice_get jobs place ≡ Some (job.Open wish)
+  pub end_is : client_of wish.opening.binding ≡ e
+  pub why : RefusesWish (WasFull jobs c.finish) c.start.core.monitor.circuits c.finish.core.monitor.circuits wish reason ⊎ RefusesOne jobs cores wish.opening reason
+
+-- so it is where a refusal stands at a desk in the end, where none stood there as the run began, and memory was never wanted for an opening
 abbrev pub DesksTellReasons : Type 0
 DesksTellReasons = (asked : List Job) (j : TheJoined) (cores : List OneCore) (names : List TheRegistration) (programs : List TheProgram)
-    → AreSetUp asked j cores names programs → (n : ℕ) (c : OneCore) (e : EndId) → slice_get cores n ≡ Some c
-    → refusal_at c.start e ≡ 0 → (refusal_at c.finish e ≡ 0) ⊎ IsReason (refusal_at c.finish e) ⊎ (refusal_at c.finish e ≡ 99)
+    → AreSetUp asked j cores names programs → AllAmple cores → (n : ℕ) (c : OneCore) (e : EndId) → slice_get cores n ≡ Some c
+    → refusal_at c.start e ≡ 0 → (refusal_at c.finish e ≡ 0) ⊎ IsRefused j.jobs cores c e (refusal_at c.finish e)
+
+-- each reason is one of three
+abbrev pub RefusedForReason : Type 0
+RefusedForReason = (jobs : List CoreJob) (cores : List OneCore) (c : OneCore) (e : EndId) (reason : ℕ) → IsRefused jobs cores c e reason → IsReason reason

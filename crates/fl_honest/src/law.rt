@@ -3,7 +3,7 @@
 ghost use Rattle.fl_honest.specs.Crossing.{ThroughQueues, ThroughRings};
 ghost use Rattle.fl_honest.specs.Bindings.{PartiesAreHonest, ReportsAreHonest, OffLinksIsHonest};
 ghost use Rattle.fl_honest.specs.Circuits.{CircuitsAreHonest};
-ghost use Rattle.fl_honest.specs.Cores.{CoresGo};
+ghost use Rattle.fl_honest.specs.Cores.{CoresGo, CoresGoAmply};
 ghost use Rattle.fl_honest.specs.Neighbours.{CoresName, NeighboursAgree, EntriesLeadBack};
 ghost use Rattle.fl_honest.specs.Back.{RoutesGoBack};
 ghost use Rattle.fl_honest.specs.Answered.{CoresAnswer, NeighboursOpen};
@@ -14,7 +14,7 @@ ghost use Rattle.fl_honest.specs.Asked.{CoresAsk, WishesAlone, ServersAreWished,
 ghost use Rattle.fl_honest.specs.Stands.{LedClientsStand, LedServersAreBound, PlannedEndsStand};
 ghost use Rattle.fl_honest.specs.Meeting.{WiredArePaired, BoundClientsMeet, LoneServersRest};
 ghost use Rattle.fl_honest.specs.Runs.{OffLinkIsHonest, OpenedIsHonest, RunsAreHonest};
-ghost use Rattle.fl_honest.specs.Reasons.{CoresReason, ReasonsAlone, DesksTellReasons};
+ghost use Rattle.fl_honest.specs.Reasons.{CoresReason, ReasonsAlone, DesksTellReasons, RefusedForReason};
 
 use fl_deal::rings_conserve;
 use fl_endpoint::on_another_circuit;
@@ -26,9 +26,10 @@ use fl_running::{
     turns_are_logged,
 };
 
-/// A core's whole run, the turns that were counted and those that weren't, is a log.
+/// A core's whole run, the turns that were counted and those that weren't, is a log; and one in which no opening is refused for want of memory.
 pub fn cores_go()
     ensures goes { CoresGo }
+    ensures amply { CoresGoAmply }
 {
     counted_are_turns::<SharedSide>();
     turns_are_logged::<SharedSide>();
@@ -306,8 +307,8 @@ pub fn cores_reason()
     on_another_circuit();
 }
 
-/// So where cores were set up together, what is heard between them to be refused is for a reason: the way forth along the route ends, and what jobs wish for is
-/// there.
+/// So where cores were set up together, what is heard between them to be refused one of them refuses: the way forth along the route ends, and what jobs wish for
+/// is there.
 pub fn reasons_alone()
     ensures reasons { ReasonsAlone }
 {
@@ -316,9 +317,11 @@ pub fn reasons_alone()
     circuits_join();
 }
 
-/// And the number for which a desk has its opening as refused in the end is that of a reason, or of want of memory.
+/// And where a desk has its opening as refused in the end, the core itself refuses it or one of those that heard it, for one of three reasons, where memory was
+/// never wanted for an opening.
 pub fn desks_tell_reasons()
     ensures tell { DesksTellReasons }
+    ensures reason { RefusedForReason }
 {
     cores_reason();
     rings_conserve();

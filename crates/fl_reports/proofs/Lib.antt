@@ -29,3 +29,6 @@ pub mod Ends
 pub mod Texts
 pub mod RunsSetUp
 pub mod Whole
+pub mod ReasonsSetUp
+pub mod ReasonsFull
+pub mod Reasons

@@ -15,7 +15,7 @@ use Rattle.fl_dockets.specs.State.{AreJoined}
 use Rattle.fl_setups.specs.Start.{SetUpsStartFresh}
 use Rattle.fl_honest.specs.Cores.{OneCore, CoresGo}
 use Rattle.fl_honest.specs.Told.{AreTold}
-use Rattle.fl_honest.specs.Runs.{HaveDesks, RunsAreHonest}
+use Rattle.fl_honest.specs.Runs.{HaveDesks, AreSetUp, RunsAreHonest}
 use Rattle.fl_threads.specs.Begins.{common_in}
 use Rattle.fl_cores.specs.Promised.{Reports}
 use Rattle.fl_cores.proofs.Booted.{all_making}
@@ -48,7 +48,7 @@ rules_of bindings (job ∷ jobs) ks ks2 (m, one, rest) = rules_of bindings jobs 
 module _ (fresh : SetUpsStartFresh) (c : TheConfig) (asked : List Job) (limit : ℕ) (r : TheReport) (x : Reports c asked limit r) (cores : List OneCore)
     (are : AreRuns x.ran.ran.joined.jobs x.ran.ran.ran.stations x.ran.ran.ran.outcomes cores) where
   -- all that it began with
-  abbrev beginning : TheBeginning
+  abbrev pub beginning : TheBeginning
   beginning = record {
     world = x.ran.made.world;
     made = x.ran.parts;
@@ -61,7 +61,7 @@ module _ (fresh : SetUpsStartFresh) (c : TheConfig) (asked : List Job) (limit : 
     cores = cores;
   }
 
-  begun : IsBegun beginning
+  pub begun : IsBegun beginning
   begun = record {
     fresh = fresh c.cores c.setup x.ran.made.world (all_making c.setup x.accepted.making) x.ran.made.stands.1.shown;
     made = x.ran.made.parts;
@@ -102,10 +102,13 @@ module _ (fresh : SetUpsStartFresh) (c : TheConfig) (asked : List Job) (limit : 
   told : AreTold x.ran.ran.joined cores r.made r.handled
   told = are_told x.ran.ran.joined cores x.ran.ran.ran.outcomes run r x.ran.ran.ran.tells
 
+  pub set_up : SideLaws → LeadsAtFirst → AreSetUp asked x.ran.ran.joined cores x.ran.parts.names (map program_of x.ran.parts.programs.items)
+  set_up l first = are_set_up beginning begun x.ran.ran.are_fit l first joined desks
+
   run_honest : SideLaws → LeadsAtFirst → RunsAreHonest → Honest asked r
   run_honest l first honest =
       honest asked x.ran.ran.joined cores x.ran.parts.names (map program_of x.ran.parts.programs.items) r
-      (are_set_up beginning begun x.ran.ran.are_fit l first joined desks) (off_links beginning begun l) told
+      (set_up l first) (off_links beginning begun l) told
 
 -- ---- the whole
 

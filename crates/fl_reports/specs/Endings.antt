@@ -7,11 +7,13 @@ use Rattle.fl_queues.specs.Worlds.{start_with}
 use Rattle.fl_jobs.specs.Jobs.{Job}
 use Rattle.fl_jobs.specs.Report.{TheReport, at_end, complete, refusal_of, AllHandled}
 use Rattle.fl_system.specs.Booting.{TheConfig}
+use Rattle.fl_honest.specs.Reasons.{IsReason}
 use Rattle.fl_endings.specs.Cores.{OneCore}
 use Rattle.fl_endings.specs.Few.{AreEnds, handled_at_all}
 use Rattle.fl_cores.specs.Promised.{Reports}
 use Rattle.fl_reports.specs.Cores.{joined_in, cores_in}
 use Rattle.fl_reports.specs.Outcomes.{AreSetUpAt}
+use Rattle.fl_reports.specs.Reasons.{IsUnlinked, IsSpent, IsCrowded}
 
 -- so many bindings the set-up makes; those that jobs open, over circuits, have the numbers behind them
 abbrev pub bindings_by : TheConfig → ℕ
@@ -23,6 +25,15 @@ pub record EndsAsTold {c : TheConfig} {jobs : List Job} {limit : ℕ} {r : TheRe
   -- these are none of the set-up, and neither end of one handled anything
   pub unrefused : (n : ℕ) → n < bindings_by c → refusal_of r n ≡ None
   pub silent : (e : EndId) → refusal_of r e.binding ≢ None → at_end r.handled e ≡ []
+  -- each is for a reason: a dispatcher had no place for one end more (54), a core of the route had no link that leads on (73), or no number was left on that
+  -- link (74)
+  pub reasons : (n fault : ℕ) → refusal_of r n ≡ Some fault → IsReason fault
+  -- for want of a link only where the set-up makes none between two cores of the route
+  pub unlinked : (n : ℕ) → refusal_of r n ≡ Some 73 → IsUnlinked w n
+  -- for want of a number only where a core of the route gave all that it has on its link to the next
+  pub spent : (n : ℕ) → refusal_of r n ≡ Some 74 → IsSpent w n
+  -- and for want of a place only where 1,024 ends sit at the client's dispatcher or the service's, or that isn't there
+  pub crowded : (n : ℕ) → refusal_of r n ≡ Some 54 → IsCrowded w n
   -- what ends that the set-up makes at one dispatcher handled is together at most the turns that are told of its core
   pub few : (d : DispatcherId) (ends : List EndId) (turns : ℕ) → AreSetUpAt c d ends → slice_get r.turns d.core ≡ Some turns
       → handled_at_all r.handled ends ≤ turns

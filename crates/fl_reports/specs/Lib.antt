@@ -2,5 +2,6 @@
 pub mod Cores
 pub mod Outcomes
 pub mod Runs
+pub mod Reasons
 pub mod Endings
 pub mod Honesty

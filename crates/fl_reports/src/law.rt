@@ -2,12 +2,14 @@
 
 ghost use Rattle.fl_reports.specs.Endings.{RunsEndAsTold};
 ghost use Rattle.fl_reports.specs.Honesty.{RunsReportHonestly};
+ghost use Rattle.fl_reports.specs.Reasons.{RefusalsHaveReasons};
 
 use crate::outcomes::{
-    complete_has_all, dispatchers_handle_few, refused_are_opened, reports_handle_few,
+    complete_has_all, dispatchers_handle_few, refused_are_opened, reports_are_of_runs,
+    reports_handle_few,
 };
 use fl_deal::dealt_go_on;
-use fl_honest::{cores_go, runs_are_honest};
+use fl_honest::{cores_go, desks_tell_reasons, runs_are_honest};
 use fl_ring::SharedSide;
 use fl_running::{leads_at_first, sides_go};
 use fl_setups::set_ups_start_fresh;
@@ -25,14 +27,30 @@ pub fn runs_report_honestly()
     runs_are_honest();
 }
 
-/// `complete` is told only where all that was handed in was handled, at both ends of each binding that isn't told as refused; none of the set-up is, and neither
-/// end of one that is handled anything; and no dispatcher handled more calls than its core took turns.
+/// A binding is told as refused for a reason alone: a dispatcher without a place (E54), a core of its route without a link that leads on (E73), or a link whose
+/// numbers are used up (E74); and each only where that is so: where the set-up made no link between two cores of its route, where a core of it gave all its
+/// numbers on a link, and where the client's or the service's dispatcher has 1,024 ends.
+pub fn refusals_have_reasons()
+    ensures reasons { RefusalsHaveReasons }
+{
+    set_ups_start_fresh();
+    cores_go();
+    dealt_go_on();
+    sides_go::<SharedSide>();
+    leads_at_first();
+    desks_tell_reasons();
+    reports_are_of_runs();
+}
+
+/// `complete` is told only where all that was handed in was handled, at both ends of each binding that isn't told as refused; none of the set-up is, and
+/// neither end of one that is handled anything; each that is has its reason; and no dispatcher handled more calls than its core took turns.
 pub fn runs_end_as_told()
     ensures ends { RunsEndAsTold }
 {
     runs_report_honestly();
     complete_has_all();
     refused_are_opened();
+    refusals_have_reasons();
     dispatchers_handle_few();
     reports_handle_few();
 }

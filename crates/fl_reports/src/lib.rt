@@ -2,20 +2,21 @@
 //!
 //! Contract for the layer above: what an end is reported to have handled is a prefix of what the other end
 //! made, and what it made is a prefix of what was handed in for it, on every binding (`specs/Honesty.antt`);
-//! and the run ended as is told (`specs/Endings.antt`). Behind each report stand cores as `fl_honest` and
+//! and the run ended as is told (`specs/Endings.antt`), bindings being refused for the reasons that are told
+//! (`specs/Reasons.antt`). Behind each report stand cores as `fl_honest` and
 //! `fl_endings` speak of them (`specs/Outcomes.antt`), so it follows by their laws from what `fl_cores`
 //! tells of a run.
 //!
 //! - `run.rt`: cores, and a cores file, run
 //! - `outcomes.rt`: which cores stand behind a report, and what of the laws of endings holds of it
-//! - `law.rt`: each report is honest, and tells how the run ended
+//! - `law.rt`: each report is honest, and tells how the run ended, and why bindings were refused
 #![tactic(auto)]
 
 mod law;
 mod outcomes;
 mod run;
 
-pub use law::{runs_end_as_told, runs_report_honestly};
+pub use law::{refusals_have_reasons, runs_end_as_told, runs_report_honestly};
 pub use outcomes::{
     complete_has_all, dispatchers_handle_few, refused_are_opened, reports_are_of_runs,
     reports_handle_few, reports_keep_turns,

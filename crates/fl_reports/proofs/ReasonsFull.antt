@@ -1,0 +1,114 @@
+-- Dispatchers without a place: whose ends stay there; and why a service's core finds none.
+use Rattle.std.proofs.Common.{◌≡◌, ◌⊎◌, inl, inr, refl, sym, ap, ◌∙◌, subst, ℕ, ◌<◌, ◌≤◌, ◌==◌, ◌&&◌, not, nat_lt, if◌then◌else◌, Bool, true, false, List, [], ◌∷◌, length, slice_get, get_or}
+use Rattle.std.proofs.Common.{Option, Some, None, arith}
+use Rattle.std.proofs.lemmas.Bool.Decides.{nat_tests}
+use Rattle.std.proofs.lemmas.Option.{get_or_from_slice_get}
+use Rattle.fl_base.specs.declared.identity.CoreId.{CoreId}
+use Rattle.fl_nameserv.specs.Registrations.{TheRegistration, by_iref}
+use Rattle.fl_ring.specs.SharedSides.{TheSide}
+use Rattle.fl_core.proofs.Places.{one_stands}
+use Rattle.fl_core.specs.Sound.{IsBoard, HasChannel}
+use Rattle.fl_core.specs.View.{TheDispatcher, TheSeat, TheBoard}
+use Rattle.fl_monitor.specs.Fates.{is_offered_elsewhere}
+use Rattle.fl_monitor.specs.Routing.{given}
+use Rattle.fl_node.specs.declared.hearing.Offered.{Offered}
+use Rattle.fl_node.specs.Hearing.{Offers, has_place, may_offer, offer_of}
+use Rattle.fl_node.specs.View.{TheCore}
+use Rattle.fl_running.specs.declared.job.Job.{Job}
+use Rattle.fl_running.specs.Deeds.{Deed}
+use Rattle.fl_running.specs.Logs.{Goes}
+use Rattle.fl_running.specs.Run.{TheRun}
+use Rattle.fl_running.proofs.Aside.{core_aside}
+use Rattle.fl_endings.proofs.Seats.{Keeps, keeps_same, keeps_then, does_keep}
+use Rattle.fl_honest.specs.Cores.{shared_ways}
+use Rattle.fl_reports.specs.Reasons.{SitsAt}
+use Rattle.fl_reports.proofs.Runs.{is_there}
+
+-- ---- ends of a full dispatcher
+
+module _ (b : TheBoard) (board : IsBoard b) (d : ℕ) (x : TheDispatcher) (at : slice_get b.dispatchers d ≡ Some x) (full : length x.ends ≡ 1024) where
+  -- each channel is an end's
+  channel : (k : ℕ) → k < 1024 → HasChannel b.seats d k (get_or x.ends k 0)
+  channel k below =
+      let (e, there) = is_there x.ends k (omega (arith, below, full)) in
+      subst (HasChannel b.seats d k) (sym (get_or_from_slice_get x.ends k e 0 there)) ((board.dispatchers d x at).ends k e there)
+
+  pub sits_there : (k : ℕ) → k < 1024 → SitsAt b d (get_or x.ends k 0)
+  sits_there k below = let h = channel k below in record { seat = h.seat; seat_is = h.seat_is; dispatcher_is = h.dispatcher_is }
+
+  -- and no two are one end's
+  pub ends_apart : (i k : ℕ) → i < 1024 → k < 1024 → get_or x.ends i 0 ≡ get_or x.ends k 0 → i ≡ k
+  ends_apart i k below more same =
+      let one = channel i below in
+      let two = channel k more in
+      let seats : one.seat ≡ two.seat = one_stands b.seats (get_or x.ends i 0) one.seat two.seat one.seat_is (ap (slice_get b.seats) same ∙ two.seat_is) in
+      sym one.channel_is ∙ ap (λ (s : TheSeat). s.channel) seats ∙ two.channel_is
+
+-- ---- over a log
+
+goes_keep : (jobs : List Job) (log : List Deed) (s t : TheRun TheSide) → Goes shared_ways jobs s log t → Keeps s.core.board t.core.board
+goes_keep jobs [] s t h = keeps_same s.core.board t.core.board (ap (λ (x : TheRun TheSide). x.core.board) h)
+goes_keep jobs (deed ∷ log) s t h =
+    let m = h.1.0 in
+    let u = h.0 in
+    let aside : u.core ≡ m.core = core_aside m u deed h.1.2 in
+    let one : Keeps s.core.board u.core.board = subst (λ (k : TheCore). Keeps s.core.board k.board) (sym aside) (does_keep shared_ways deed s m h.1.1) in
+    keeps_then s.core.board u.core.board t.core.board one (goes_keep jobs log u t h.3)
+
+pub still_sits : (jobs : List Job) (log : List Deed) (s t : TheRun TheSide) → Goes shared_ways jobs s log t → (d place : ℕ) → SitsAt s.core.board d place → SitsAt t.core.board d place
+still_sits jobs log s t goes d place x =
+    let (seat, there, same) = goes_keep jobs log s t goes place x.seat x.seat_is in
+    record { seat = seat; seat_is = there; dispatcher_is = same ∙ x.dispatcher_is }
+
+-- ---- why there is no offer
+
+own_by : (a core : ℕ) (b : Bool) → (a == core) ≡ b → not b ≡ false → a ≡ core
+own_by a core true is h = grind (arith, nat_tests, is)
+own_by a core false is h = absurd (cc)
+
+-- a service that isn't another core's is this core's
+pub own_service : (names : List TheRegistration) (core iref : ℕ) (r : TheRegistration) → by_iref iref names ≡ Some r → is_offered_elsewhere names core iref ≡ false
+    → r.service.core.0 ≡ core
+own_service names core iref r is h =
+    own_by r.service.core.0 core (r.service.core.0 == core) refl
+    (sym (ap (λ (o : Option TheRegistration). given o false λ x. not (x.service.core.0 == core)) is) ∙ h)
+
+none_by : (b : Bool) (x : Offered) → (if b then Some x else None) ≡ None → b ≡ false
+none_by true x h = absurd (cc)
+none_by false x h = refl
+
+three : (a b c : Bool) → a ≡ true → (a && b && c) ≡ false → (b ≡ false) ⊎ (c ≡ false)
+three true true true is h = absurd (cc)
+three true true false is h = inr refl
+three true false c is h = inl refl
+three false b c is h = absurd (cc)
+
+past_by : (n m : ℕ) → nat_lt n m ≡ false → m ≤ n
+past_by n m h = grind (arith, nat_tests, h)
+
+-- the dispatcher of a service of this core's has no place, or its program isn't there
+pub lacks_what : (o : Offers) (k : TheCore) (iref : ℕ) (r : TheRegistration) → by_iref iref o.names ≡ Some r → r.service.core.0 ≡ k.monitor.circuits.core → offer_of o k iref ≡ None
+    → (has_place k.board r.service.dispatcher ≡ false) ⊎ (length o.programs ≤ r.service.interface)
+lacks_what o k iref r is home none =
+    let offer : Offered = record { dispatcher = r.service.dispatcher; interface = r.service.interface } in
+    let lacks : (if may_offer o k r then Some offer else None) ≡ None =
+    sym (ap (λ (x : Option TheRegistration). given x None λ y. if may_offer o k y then Some (record { dispatcher = y.service.dispatcher; interface = y.service.interface }) else None) is) ∙ none in
+    let test : (r.service.core.0 == k.monitor.circuits.core) ≡ true = grind (arith, nat_tests, home) in
+    elim (three (r.service.core.0 == k.monitor.circuits.core) (has_place k.board r.service.dispatcher) (nat_lt r.service.interface (length o.programs)) test
+    (none_by (may_offer o k r) offer lacks)) [
+      | inl full ↦ inl full
+      | inr past ↦ inr (past_by r.service.interface (length o.programs) past)
+    ]
+
+-- a dispatcher that has no place isn't there, or has 1,024 ends
+pub no_place_why : (b : TheBoard) → IsBoard b → (d : ℕ) → has_place b d ≡ false
+    → (slice_get b.dispatchers d ≡ None) ⊎ ((x : TheDispatcher) × (slice_get b.dispatchers d ≡ Some x) × (length x.ends ≡ 1024))
+no_place_why b board d h = by (slice_get b.dispatchers d) refl where
+  by : (o : Option TheDispatcher) → slice_get b.dispatchers d ≡ o
+      → (slice_get b.dispatchers d ≡ None) ⊎ ((x : TheDispatcher) × (slice_get b.dispatchers d ≡ Some x) × (length x.ends ≡ 1024))
+  by None at = inl at
+  by (Some x) at =
+      let few = (board.dispatchers d x at).few in
+      let test : nat_lt (length x.ends) 1024 ≡ false = sym (ap (λ (o : Option TheDispatcher). given o false λ y. nat_lt (length y.ends) 1024) at) ∙ h in
+      let past = past_by (length x.ends) 1024 test in
+      inr (x, at, omega (arith, few, past))
