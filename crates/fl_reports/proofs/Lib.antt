@@ -26,6 +26,16 @@ pub mod RunsLinked
 pub mod ToldDesks
 pub mod Told
 pub mod Ends
+pub mod OneBare
+pub mod OneFile
 pub mod Texts
 pub mod RunsSetUp
 pub mod Whole
+pub mod OneKept
+pub mod OneJoined
+pub mod OneRules
+pub mod OneBegin
+pub mod OneRan
+pub mod OneReport
+pub mod OneWhole
+pub mod Again

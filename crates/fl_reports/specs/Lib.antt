@@ -3,4 +3,6 @@ pub mod Cores
 pub mod Outcomes
 pub mod Runs
 pub mod Endings
+pub mod OneCore
 pub mod Honesty
+pub mod Again

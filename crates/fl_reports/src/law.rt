@@ -1,16 +1,20 @@
 //! That the report of a run of cores is honest, and that it ended as is told: laws, as the contracts of functions that do nothing.
 
+ghost use Rattle.fl_reports.specs.Again.{OneReport, OneText};
 ghost use Rattle.fl_reports.specs.Endings.{RunsEndAsTold};
 ghost use Rattle.fl_reports.specs.Honesty.{RunsReportHonestly};
+ghost use Rattle.fl_reports.specs.OneCore.{RunsOfOneCore};
 
 use crate::outcomes::{
     complete_has_all, dispatchers_handle_few, refused_are_opened, reports_handle_few,
 };
 use fl_deal::dealt_go_on;
 use fl_honest::{cores_go, runs_are_honest};
+use fl_jobs::one_outcome;
 use fl_ring::SharedSide;
 use fl_running::{leads_at_first, sides_go};
 use fl_setups::set_ups_start_fresh;
+use fl_worlds::steps_agree;
 
 /// What each end is reported to have handled is the first of what the other end made, and what it made is the first of what was handed in for it: on every
 /// binding, by queues, by a ring or over a circuit.
@@ -35,4 +39,23 @@ pub fn runs_end_as_told()
     refused_are_opened();
     dispatchers_handle_few();
     reports_handle_few();
+}
+
+/// The report of a run of one core, in which no job opens a binding, is a function of the configuration, the jobs and the limit: what so many turns of the
+/// machine come to, from the state that the set-up leads to, with the rules of the jobs.
+pub fn runs_of_one_core()
+    ensures one { RunsOfOneCore }
+{
+    set_ups_start_fresh();
+    steps_agree();
+    runs_report_honestly();
+}
+
+/// So two runs of one configuration on one core, with the same jobs and limit, have one report; and two runs of such a file append the same text.
+pub fn one_report()
+    ensures report { OneReport }
+    ensures text { OneText }
+{
+    one_outcome();
+    runs_of_one_core();
 }
