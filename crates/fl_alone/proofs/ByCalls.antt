@@ -1,5 +1,5 @@
 -- Where each job is a call, turns of one core by itself are turns by these calls.
-use Rattle.std.proofs.Common.{◌≡◌, ◌⊎◌, inl, inr, refl, sym, ◌∙◌, ap, subst, ℕ, zero, suc, ◌==◌, ◌&&◌, nat_le, not, Bool, true, false, if◌then◌else◌, List, []}
+use Rattle.std.proofs.Common.{◌≡◌, refl, sym, ◌∙◌, ap, subst, ℕ, zero, suc, ◌==◌, ◌&&◌, nat_le, not, Bool, true, false, if◌then◌else◌, List, []}
 use Rattle.std.proofs.Common.{◌∷◌, ◌++◌, length, map, slice_get, slice_set, Option, Some, None, IsSome, is_some}
 use Rattle.fl_base.specs.declared.identity.EndId.{EndId}
 use Rattle.fl_base.specs.declared.identity.Side.{Side}
@@ -11,19 +11,19 @@ use Rattle.fl_node.specs.View.{slot_of}
 use Rattle.fl_queues.specs.Given.{given, changed_at}
 use Rattle.fl_queues.specs.Events.{Event, call, write, turn, Answer, accepted, handle, nothing, refused}
 use Rattle.fl_queues.specs.Calls.{Planned}
-use Rattle.fl_queues.specs.Ends.{End, is_bound, is_busy, accepts}
+use Rattle.fl_queues.specs.Ends.{End, is_bound}
 use Rattle.fl_queues.specs.Sending.{makes_call, writes_next, calls as machine_calls, writes_fragment}
 use Rattle.fl_queues.specs.Sound.{Sound}
 use Rattle.fl_queues.specs.SoundRoutes.{BoundBy, BoundWhere}
 use Rattle.fl_queues.specs.State.{Verdict, undecided, granted, denied, Back, local, over_ring, over_route, Binding, State, Outcome, answers, binding_of}
-use Rattle.fl_queues.specs.State.{Route, interface_of, end_in, end_of, dispatcher_of, change_out}
-use Rattle.fl_queues.specs.Step.{does as machine_does, settles_by, settles, step}
+use Rattle.fl_queues.specs.State.{Route, interface_of, end_in, end_of, dispatcher_of}
+use Rattle.fl_queues.specs.Step.{settles_by, settles, step}
 use Rattle.fl_queues.specs.Taking.{turns as machine_turns, turns_by, gives, chosen, examines}
 use Rattle.fl_queues.specs.Waits.{Dispatcher, Due, pending, polled, no_one, due}
 use Rattle.fl_laws.proofs.Cases.{either, each_changed}
 use Rattle.fl_laws.proofs.Refusals.{refusals_same}
 use Rattle.fl_laws.proofs.SoundSteps.{steps_are_sound}
-use Rattle.fl_worlds.proofs.FramesBase.{not_both, same_some}
+use Rattle.fl_worlds.proofs.FramesBase.{not_both}
 use Rattle.fl_running.specs.declared.job.Job.{Job}
 use Rattle.fl_running.specs.declared.job.Job.TheVariants as job
 use Rattle.fl_running.specs.Logs.{calls_of_job}
@@ -32,7 +32,7 @@ use Rattle.fl_alone.specs.Turns.{Desk, Alone, at_desk, advanced, with_handled as
 use Rattle.fl_alone.specs.Turns.{serves as desk_serves, here, end_due, due_at, is_before_calls, turn_noted, turns_at, takes_turn, Work, swept}
 use Rattle.fl_alone.specs.Turns.{serves_at as desk_serves_at, one_turn as desk_turn, turned as desk_turned, is_still, is_clear as desk_is_clear}
 use Rattle.fl_alone.specs.Turns.{is_done_at as desk_is_done_at, are_done as desks_are_done, is_finished as desks_finished, first_finished as desks_first}
-use Rattle.fl_alone.specs.Calls.{Post, Solo, post_at, next_call, does, one_made, one_handled, with_made, with_handled, calls, serves, has_turn, Span, serves_at}
+use Rattle.fl_alone.specs.Calls.{Post, Solo, post_at, next_call, does, one_made, one_handled, with_made, with_handled, calls, serves, has_turn, serves_at}
 use Rattle.fl_alone.specs.Calls.{one_turn, turned, is_clear, is_done_at, are_done, is_finished, first_finished, AreCalls, EachCalls, post_of, solo_of, span_of}
 use Rattle.fl_alone.specs.Calls.{JobsGoByCalls}
 use Rattle.fl_alone.proofs.Desks.{get_some, get_none, map_set}

@@ -1,12 +1,10 @@
 -- Two runs of one core come to the same.
-use Rattle.std.proofs.Common.{◌≡◌, refl, sym, ◌∙◌, ap, subst, ℕ, ◌++◌, List, []}
-use Rattle.std.specs.List.{flat_map}
-use Rattle.fl_jobs.specs.CoresFile.{CoresFile, Outcome, Reads, OneOutcome, is_file, refused_at}
+use Rattle.std.proofs.Common.{◌≡◌, sym, ◌∙◌, ap, subst, ℕ, ◌++◌, List}
+use Rattle.fl_jobs.specs.CoresFile.{CoresFile, Reads, OneOutcome, is_file}
 use Rattle.fl_jobs.specs.Printed.{report_text}
 use Rattle.fl_jobs.specs.Report.{TheReport}
-use Rattle.fl_dockets.specs.Whole.{wish_in}
 use Rattle.fl_cores.specs.declared.text.CoresEnd.{CoresEnd}
-use Rattle.fl_cores.specs.Promised.{cores_by, config_in, ending_by}
+use Rattle.fl_cores.specs.Promised.{ending_by}
 use Rattle.fl_reports.specs.Honesty.{AppendsHonestly, AppendsFor, Appends}
 use Rattle.fl_reports.specs.OneCore.{RunsOfOneCore}
 use Rattle.fl_reports.specs.Again.{OneReport, OneText}

@@ -1,6 +1,6 @@
 -- Where a set-up makes one core there is no link and no ring.
 use Rattle.std.proofs.Common.{◌≡◌, refl, sym, ◌∙◌, ap, subst, ℕ, zero, suc, ◌<◌, ◌==◌, ◌||◌, ◌&&◌, ◌+◌, ◌-◌, ◌%◌, nat_lt, nat_le, not, Bool, true, false, if◌then◌else◌, List}
-use Rattle.std.proofs.Common.{[], ◌∷◌, ◌++◌, length, map, slice_get, Option, Some, None, arith}
+use Rattle.std.proofs.Common.{[], ◌∷◌, ◌++◌, length, slice_get, Option, Some, None, arith}
 use Rattle.std.specs.List.{list_all}
 use Rattle.fl_base.specs.declared.identity.Side.TheVariants.{Client}
 use Rattle.fl_check.specs.Interface.{TheInterface}

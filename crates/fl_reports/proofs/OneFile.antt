@@ -1,17 +1,13 @@
 -- A cores file of one core opens no binding: each route has two cores at least.
 use Rattle.std.proofs.Common.{◌≡◌, ◌⊎◌, inl, inr, refl, sym, ◌∙◌, ap, subst, ℕ, zero, suc, ◌+◌, ◌<◌, ◌≤◌, ◌==◌, ◌&&◌, ◌||◌, nat_lt, nat_le, not, Bool, true, false}
-use Rattle.std.proofs.Common.{if◌then◌else◌, List, [], ◌∷◌, ◌++◌, length, map, slice_get, Option, Some, None, arith}
+use Rattle.std.proofs.Common.{List, [], ◌∷◌, ◌++◌, length, map, None, arith}
 use Rattle.std.specs.Prelude.{position}
 use Rattle.std.specs.Bool.{MatchBool}
 use Rattle.std.specs.List.{flat_map, list_all, range_with_len}
 use Rattle.std.proofs.lemmas.Bool.Decides.{nat_tests}
 use Rattle.std.proofs.lemmas.List.{length-map}
 use Rattle.std.proofs.lemmas.List.Concat.{flat_map-append}
-use Rattle.fl_base.specs.declared.identity.EndId.{EndId}
-use Rattle.fl_base.specs.declared.identity.Side.TheVariants.{Client}
-use Rattle.fl_check.specs.Interface.{TheInterface}
 use Rattle.fl_value.specs.declared.value.PlanNo.{PlanNo}
-use Rattle.fl_value.specs.Value.{TheCall}
 use Rattle.fl_queues.specs.Binding.{all_differ, most_bindings}
 use Rattle.fl_queues.specs.Events.{DispatcherId, Kind, by_queues, by_ring, by_route, Event, add_interface, set_cores, add_link, add_dispatcher}
 use Rattle.fl_queues.specs.Events as event
@@ -20,7 +16,7 @@ use Rattle.fl_laws.proofs.Small.{is_not, both_are}
 use Rattle.fl_jobs.specs.CoresFile.{CoresFile, Reading, beginning, DoesCommand, Does, Outcome, is_file, refused_at, Behind, Follows, ReadsFrom, Reads, job_by, file_of}
 use Rattle.fl_jobs.specs.CoresFile.{is_too_long, belongs, does, does_block, named_by, numbers_of, which_opened, lines_in}
 use Rattle.fl_jobs.specs.Draft as draft
-use Rattle.fl_jobs.specs.Draft.{Draft, nothing_yet, Wanted, takes}
+use Rattle.fl_jobs.specs.Draft.{Draft, Wanted, takes}
 use Rattle.fl_jobs.specs.Jobs.{Job, opens, replies, calls}
 use Rattle.fl_jobs.specs.Verdicts.{Verdict, stops, goes_on}
 use Rattle.fl_lines.specs.Asked.{is_taken, Asked, refuses, asks, Asks, asks_interface}

@@ -1,16 +1,14 @@
 -- The jobs of one core, where none opens a binding: each is a call, and what is handed in at ends is what the file says.
-use Rattle.std.proofs.Common.{◌≡◌, ◌≢◌, refl, sym, ◌∙◌, ap, subst, ℕ, zero, suc, ◌+◌, ◌<◌, ◌≤◌, ◌==◌, Bool, true, false, if◌then◌else◌, List, [], ◌∷◌, ◌++◌}
+use Rattle.std.proofs.Common.{◌≡◌, refl, sym, ◌∙◌, ap, subst, ℕ, zero, suc, ◌+◌, ◌<◌, ◌≤◌, ◌==◌, Bool, true, false, if◌then◌else◌, List, [], ◌∷◌, ◌++◌}
 use Rattle.std.proofs.Common.{length, length-append, map, take, slice_get, Option, Some, None, arith}
 use Rattle.std.specs.List.{flat_map, range_with_len}
 use Rattle.std.proofs.lemmas.List.{length-map}
 use Rattle.fl_base.specs.declared.identity.EndId.{EndId}
 use Rattle.fl_base.specs.declared.identity.Side.{Side}
 use Rattle.fl_base.specs.declared.identity.Side.TheVariants.{Client, Server}
-use Rattle.fl_base.specs.Ends.{peer}
-use Rattle.fl_value.specs.declared.value.Call.{Call}
 use Rattle.fl_value.specs.Value.{TheCall, call_of}
 use Rattle.fl_hop.proofs.Lists.{at_within, within}
-use Rattle.fl_node.specs.View.{client_of, server_of, slot_of}
+use Rattle.fl_node.specs.View.{client_of, server_of}
 use Rattle.fl_queues.specs.Given.{given}
 use Rattle.fl_queues.specs.Runs.{same_end}
 use Rattle.fl_running.specs.declared.job.Job.{Job as CoreJob}
@@ -20,16 +18,15 @@ use Rattle.fl_running.specs.Carried.{is_rule, HasNoRule}
 use Rattle.fl_running.specs.Logs.{calls_of_job}
 use Rattle.fl_running.specs.Made.{calls_of_jobs}
 use Rattle.fl_worlds.specs.declared.binding.Binding.{Binding}
-use Rattle.fl_jobs.specs.Jobs.{Job, Wish, own_calls, handed_in, reply_to}
+use Rattle.fl_jobs.specs.Jobs.{Job, Wish, own_calls, reply_to}
 use Rattle.fl_dockets.specs.declared.docket.Bound.{Bound}
 use Rattle.fl_dockets.specs.Dockets.{TheDocket, docket_at, end_of, places_of, calls_at, core_calls, reply_by, IsAsked, IsDocket}
 use Rattle.fl_dockets.specs.Joined.{core_of}
 use Rattle.fl_dockets.specs.State.{TheJoined, AreJoined}
-use Rattle.fl_dockets.specs.Whole.{About, about, wish_in, all_about, bound_of, AreBound, AreDue}
-use Rattle.fl_cores.specs.Begins.{ends_at, ends_from, core_at, owns, desk_by, desk_for, two_desks, desks_of}
-use Rattle.fl_alone.specs.Calls.{Post, AreCalls, EachCalls, post_of}
+use Rattle.fl_dockets.specs.Whole.{About, about, wish_in, bound_of, AreBound, AreDue}
+use Rattle.fl_cores.specs.Begins.{ends_from, core_at, desk_by, desk_for, two_desks, desks_of}
+use Rattle.fl_alone.specs.Calls.{Post, AreCalls, post_of}
 use Rattle.fl_alone.specs.Shown.{desk_of}
-use Rattle.fl_alone.specs.Turns.{Desk}
 use Rattle.fl_reports.specs.OneCore.{both_ends, post_for}
 
 -- ---- each job is a call

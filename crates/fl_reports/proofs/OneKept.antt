@@ -1,5 +1,5 @@
 -- What turns of one core by itself leave of desks: their jobs, what is due there, and that no opening was refused.
-use Rattle.std.proofs.Common.{◌≡◌, refl, sym, ◌∙◌, ap, subst, ℕ, zero, suc, Bool, true, false, if◌then◌else◌, List, [], ◌∷◌, length, map, slice_get, slice_set}
+use Rattle.std.proofs.Common.{◌≡◌, refl, ◌∙◌, ap, ℕ, zero, suc, Bool, true, false, if◌then◌else◌, List, length, map, slice_get, slice_set}
 use Rattle.std.proofs.Common.{Option, Some, None}
 use Rattle.fl_base.specs.declared.identity.EndId.{EndId}
 use Rattle.fl_hop.proofs.Lists.{set_same}
@@ -10,7 +10,7 @@ use Rattle.fl_queues.specs.Events.{call, turn, write, Answer, accepted, handle}
 use Rattle.fl_queues.specs.Step.{step}
 use Rattle.fl_running.specs.declared.job.Job.{Job}
 use Rattle.fl_running.specs.declared.job.Job.TheVariants as job
-use Rattle.fl_alone.specs.Turns.{Desk, Alone, advanced, with_handled, next_job, goes, is_there, call_noted, calls, rules, tries, serves, here, due_at, is_before_calls}
+use Rattle.fl_alone.specs.Turns.{Desk, Alone, advanced, with_handled, next_job, goes, is_there, call_noted, tries, serves, here, due_at, is_before_calls}
 use Rattle.fl_alone.specs.Turns.{turn_noted, turns_at, takes_turn, Work, swept, serves_at, one_turn, turned}
 use Rattle.fl_alone.proofs.Desks.{get_some, map_set}
 

@@ -1,5 +1,5 @@
 -- One core by itself behind a report: it begins with what the set-up and the rules come to, and its turns are the machine's.
-use Rattle.std.proofs.Common.{◌≡◌, ◌≢◌, refl, sym, ◌∙◌, ap, subst, ℕ, ◌||◌, Bool, true, false, List, [], ◌∷◌, length, map, slice_get, Some, None}
+use Rattle.std.proofs.Common.{◌≡◌, ◌≢◌, refl, sym, ◌∙◌, ap, subst, ℕ, ◌||◌, true, false, List, [], ◌∷◌, length, map, slice_get, Some, None}
 use Rattle.std.specs.List.{list_any}
 use Rattle.fl_ring.specs.SharedSides.{TheSide}
 use Rattle.fl_node.specs.View.{TheCore}
@@ -17,7 +17,7 @@ use Rattle.fl_system.specs.declared.parts.Parts.{Parts}
 use Rattle.fl_running.specs.declared.run.End.{End}
 use Rattle.fl_running.specs.declared.run.End.TheVariants.{Finished, Unfinished, Told}
 use Rattle.fl_running.specs.Run.{TheRun}
-use Rattle.fl_running.specs.Ran.{Task, moment, task, GoesOn}
+use Rattle.fl_running.specs.Ran.{moment, task, GoesOn}
 use Rattle.fl_dockets.specs.declared.docket.Bound.{Bound}
 use Rattle.fl_dockets.specs.Joined.{AreBindings}
 use Rattle.fl_dockets.specs.State.{TheJoined}

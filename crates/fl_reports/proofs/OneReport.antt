@@ -1,15 +1,14 @@
 -- The report of a run of one core is that which the machine tells: its turns, and the calls of its ends.
-use Rattle.std.proofs.Common.{◌≡◌, refl, sym, ◌∙◌, ap, subst, ℕ, zero, suc, ◌+◌, ◌*◌, ◌<◌, ◌≤◌, ◌==◌, ◌&&◌, ◌||◌, ◌++◌, nat_lt, Bool, true, false, if◌then◌else◌}
-use Rattle.std.proofs.Common.{List, [], ◌∷◌, length, length-append, map, take, slice_get, Option, Some, None, arith}
-use Rattle.std.specs.List.{flat_map, list_any, range_with_len}
+use Rattle.std.proofs.Common.{◌≡◌, refl, sym, ◌∙◌, ap, subst, ℕ, zero, suc, ◌+◌, ◌<◌, ◌≤◌, ◌==◌, ◌||◌, ◌++◌, nat_lt, Bool, true, false, if◌then◌else◌}
+use Rattle.std.proofs.Common.{List, [], ◌∷◌, length, length-append, map, take, slice_get, Some, None, arith}
+use Rattle.std.specs.List.{flat_map, range_with_len}
 use Rattle.std.proofs.lemmas.Bool.Decides.{nat_tests}
 use Rattle.std.proofs.lemmas.Option.{same_Some}
 use Rattle.fl_base.specs.declared.identity.EndId.{EndId}
 use Rattle.fl_base.specs.declared.identity.Side.{Side}
-use Rattle.fl_base.specs.declared.identity.Side.TheVariants.{Client, Server}
 use Rattle.fl_base.specs.Ends.{peer}
 use Rattle.fl_base.specs.Prefix.{IsPrefix}
-use Rattle.fl_value.specs.Value.{TheCall, call_of}
+use Rattle.fl_value.specs.Value.{TheCall}
 use Rattle.fl_hop.proofs.Lists.{within, map_same}
 use Rattle.fl_laws.proofs.Small.{both_are}
 use Rattle.fl_node.specs.View.{client_of, server_of, slot_of}
@@ -17,16 +16,15 @@ use Rattle.fl_queues.specs.Given.{given}
 use Rattle.fl_queues.specs.Sound.{Sound}
 use Rattle.fl_queues.specs.State.{State}
 use Rattle.fl_running.specs.declared.run.End.{End}
-use Rattle.fl_running.specs.declared.run.End.TheVariants.{Finished, Unfinished}
 use Rattle.fl_running.specs.Desks.{TheDesk}
 use Rattle.fl_running.specs.Made.{calls_of_jobs}
 use Rattle.fl_jobs.specs.Jobs.{Job, handed_in, reply_to}
-use Rattle.fl_jobs.specs.Report.{BothEnds, TheReport, Ending, complete, turns_out, at_end, Honest}
+use Rattle.fl_jobs.specs.Report.{BothEnds, TheReport, complete, turns_out, at_end, Honest}
 use Rattle.fl_worlds.specs.declared.binding.Binding.{Binding}
-use Rattle.fl_dockets.specs.Dockets.{TheDocket, docket_at, reply_by}
+use Rattle.fl_dockets.specs.Dockets.{docket_at, reply_by}
 use Rattle.fl_dockets.specs.State.{TheJoined, AreJoined}
 use Rattle.fl_dockets.specs.Whole.{wish_in, AreBound, AreDue}
-use Rattle.fl_cores.specs.Begins.{ends_from, core_at, desk_by, desk_for, desks_of}
+use Rattle.fl_cores.specs.Begins.{ends_from, desk_by, desk_for, desks_of}
 use Rattle.fl_cores.specs.Tells.{TheOutcome, desk_left, handled_by, made_by, handled_at, made_at, both_at, refusal_in, refusal_at, is_unfinished}
 use Rattle.fl_alone.specs.Turns.{Desk, Alone, desk_at, Work, turned, is_clear, is_done_at, are_done, is_finished, counted, ran}
 use Rattle.fl_alone.specs.Shown.{desk_of}
@@ -34,7 +32,7 @@ use Rattle.fl_alone.specs.Laws.{end_of, EachDesk, IsClear, HasNoMore}
 use Rattle.fl_alone.specs.Calls.{Post, Solo, Span, post_at, turned as solo_turned, is_finished as solo_finished, counted as solo_counted, AreCalls, EachCalls, post_of}
 use Rattle.fl_alone.specs.Calls.{solo_of, span_of, GoesByCalls}
 use Rattle.fl_alone.proofs.ByCalls.{go_by_calls}
-use Rattle.fl_alone.proofs.Desks.{get_some, get_none}
+use Rattle.fl_alone.proofs.Desks.{get_some}
 use Rattle.fl_alone.proofs.Later.{later_nothing}
 use Rattle.fl_reports.specs.OneCore.{both_ends, ends_in, post_for, span_in, made_at as made_there, handled_at as handled_there, ending_of, told_of}
 use Rattle.fl_reports.proofs.CoresDesks.{at_slot, is_new, told_at}

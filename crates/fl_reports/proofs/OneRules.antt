@@ -19,12 +19,11 @@ use Rattle.fl_queues.specs.State.{Binding, State, Outcome, answers, binding_of, 
 use Rattle.fl_queues.specs.Step.{settles, step}
 use Rattle.fl_queues.specs.Taking.{sets_rule, has_message, arguments_of}
 use Rattle.fl_laws.proofs.SoundSteps.{steps_are_sound}
-use Rattle.fl_shows.specs.Ends.{EndShows}
 use Rattle.fl_shows.specs.EndLaws.{are_messages, have_same_arguments}
 use Rattle.fl_shows.proofs.Rules.{rule_agrees}
 use Rattle.fl_shows.proofs.Tests.{past_not}
 use Rattle.fl_worlds.specs.declared.binding.Binding.{Binding as TheBinding}
-use Rattle.fl_worlds.specs.View.{TheWorld, Spot, nowhere, unmade, made, core_in, spot_at, spot_of, with_core}
+use Rattle.fl_worlds.specs.View.{TheWorld, nowhere, unmade, made, core_in, spot_at, spot_of, with_core}
 use Rattle.fl_worlds.specs.Picture.{IsPicture, Shows}
 use Rattle.fl_worlds.proofs.Frames.{Stands, EndStays}
 use Rattle.fl_worlds.proofs.FramesBase.{same_some, end_of_binding}

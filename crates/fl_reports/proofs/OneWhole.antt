@@ -1,9 +1,8 @@
 -- The report of a run of one core is a function of the configuration, the jobs and the limit.
 use Rattle.std.proofs.Common.{◌≡◌, ◌≢◌, refl, sym, ◌∙◌, ap, subst, ℕ, zero, suc, ◌≤◌, ◌||◌, nat_lt, Bool, true, false, if◌then◌else◌, List, [], ◌∷◌, length, map}
-use Rattle.std.proofs.Common.{slice_get, Some, None, arith}
+use Rattle.std.proofs.Common.{slice_get, None, arith}
 use Rattle.std.specs.List.{flat_map, list_all, range_with_len}
 use Rattle.std.proofs.lemmas.Bool.Decides.{nat_tests}
-use Rattle.fl_base.specs.declared.identity.EndId.{EndId}
 use Rattle.fl_laws.proofs.Start.{world_is_sound}
 use Rattle.fl_node.specs.View.{TheCore}
 use Rattle.fl_queues.specs.Making.{most_cores}
@@ -14,9 +13,7 @@ use Rattle.fl_queues.specs.Worlds.{start_with}
 use Rattle.fl_ring.specs.SharedSides.{TheSide}
 use Rattle.fl_running.specs.declared.run.End.{End}
 use Rattle.fl_running.specs.declared.run.End.TheVariants.{Finished, Unfinished, Told}
-use Rattle.fl_running.specs.declared.word.Word.{Word}
 use Rattle.fl_running.specs.Finished.{is_finished as is_finished_run}
-use Rattle.fl_running.specs.Run.{TheRun}
 use Rattle.fl_running.specs.Ran.{Task, Moment, moment, task, TakesStock, CountedTurn, EndsAs}
 use Rattle.fl_running.specs.Turn.{Swept}
 use Rattle.fl_running.specs.Words.{Stock}
@@ -28,7 +25,7 @@ use Rattle.fl_worlds.specs.Laws.{StepsAgree}
 use Rattle.fl_worlds.proofs.FramesBase.{same_some}
 use Rattle.fl_system.specs.declared.parts.Parts.{Parts}
 use Rattle.fl_system.specs.Apart.{is_making, AreParts}
-use Rattle.fl_system.specs.Booting.{TheConfig, has_bad_cores}
+use Rattle.fl_system.specs.Booting.{TheConfig}
 use Rattle.fl_setups.specs.Start.{StartsFresh, SetUpsStartFresh}
 use Rattle.fl_dockets.specs.Rules.{RulesOf}
 use Rattle.fl_dockets.specs.State.{TheJoined, AreJoined}
@@ -37,12 +34,12 @@ use Rattle.fl_cores.specs.Begins.{TheStation, Places, ends_from, IsStation, AreS
 use Rattle.fl_cores.specs.Promised.{cores_by, Reports}
 use Rattle.fl_cores.specs.Tells.{shared_ways, TheOutcome, RanTo, Each2, made_at, handled_at, both_at, refusal_at, is_unfinished, Tells}
 use Rattle.fl_cores.proofs.Booted.{all_making}
-use Rattle.fl_alone.specs.Calls.{Solo, Span, turned, is_finished, are_done, counted, first_finished}
+use Rattle.fl_alone.specs.Calls.{Solo, turned, is_finished, are_done, first_finished}
 use Rattle.fl_reports.specs.Honesty.{RunsReportHonestly}
-use Rattle.fl_reports.specs.OneCore.{begins, both_ends, ends_in, solo_for, span_in, turns_of, comes_to, made_at as made_there, handled_at as handled_there, ending_of, report_of_one}
+use Rattle.fl_reports.specs.OneCore.{begins, both_ends, ends_in, solo_for, span_in, comes_to, made_at as made_there, handled_at as handled_there, ending_of, report_of_one}
 use Rattle.fl_reports.specs.OneCore.{RunsOfOneCore}
-use Rattle.fl_reports.proofs.CoresStations.{WasAt, on_boards}
-use Rattle.fl_reports.proofs.OneBare.{no_rings, no_lanes, one_of, none_in, the_one}
+use Rattle.fl_reports.proofs.CoresStations.{on_boards}
+use Rattle.fl_reports.proofs.OneBare.{no_rings, no_lanes, one_of, none_in}
 use Rattle.fl_reports.proofs.OneJoined as joined
 use Rattle.fl_reports.proofs.OneRan.{IsAlone, not_told, one_ran}
 use Rattle.fl_reports.proofs.OneReport.{told, same_report}

@@ -1,6 +1,6 @@
 -- What a text comes to, with an honest report.
 use Rattle.std.proofs.Common.{ℕ, List}
-use Rattle.fl_jobs.specs.CoresFile.{CoresFile, Outcome, Reads, is_file, refused_at}
+use Rattle.fl_jobs.specs.CoresFile.{Outcome, Reads, is_file, refused_at}
 use Rattle.fl_cores.specs.declared.text.CoresEnd.{CoresEnd}
 use Rattle.fl_cores.specs.Promised as plain
 use Rattle.fl_cores.specs.Promised.{config_in}
