@@ -30,7 +30,7 @@ get_none f [] n q = refl
 get_none f (y ∷ xs) zero q = absurd (cc)
 get_none f (y ∷ xs) (suc n) q = get_none f xs n q
 
-map_set : {X Y : Type 0} (f : X → Y) (xs : List X) (n : ℕ) (x : X) → map f (slice_set xs n x) ≡ slice_set (map f xs) n (f x)
+pub map_set : {X Y : Type 0} (f : X → Y) (xs : List X) (n : ℕ) (x : X) → map f (slice_set xs n x) ≡ slice_set (map f xs) n (f x)
 map_set f [] n x = refl
 map_set f (y ∷ xs) zero x = refl
 map_set f (y ∷ xs) (suc n) x = ap (λ ys. f y ∷ ys) (map_set f xs n x)

@@ -12,3 +12,4 @@ pub mod Finishing
 pub mod Counting
 pub mod Later
 pub mod Handing
+pub mod ByCalls

@@ -3,3 +3,4 @@ pub mod Turns
 pub mod Shown
 pub mod Laws
 pub mod Handed
+pub mod Calls

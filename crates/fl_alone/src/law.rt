@@ -1,6 +1,7 @@
 //! What is promised of the run of one core by itself: laws, as the contracts of functions that do nothing.
 
 ghost use Rattle.fl_running.specs.Run.{ways};
+ghost use Rattle.fl_alone.specs.Calls.{JobsGoByCalls};
 ghost use Rattle.fl_alone.specs.Handed.{HandedShow};
 ghost use Rattle.fl_alone.specs.Laws.{CallsAreTheMachines, RulesAreTheMachines, WritesAreTheMachines, TurnsAreTheMachines};
 ghost use Rattle.fl_alone.specs.Laws.{RoundsAreTheMachines, CountsAreTheMachines, RunsAreTheMachines, LaterTurnsChangeNothing};
@@ -44,4 +45,10 @@ pub fn later_turns_change_nothing()
 /// A core that names its queues by other numbers, and has them where these say, shows what it showed.
 pub fn handed_cores_show()
     ensures show { HandedShow }
+{}
+
+/// Where each job is a call, turns by jobs are turns by these calls: as many of them come to the same, as many
+/// are counted, and by the one nothing is left to do where nothing is by the other.
+pub fn jobs_go_by_calls()
+    ensures calls { JobsGoByCalls }
 {}

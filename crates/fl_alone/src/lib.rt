@@ -9,7 +9,9 @@
 //! which nothing is left to do, or at the limit ([`runs_are_the_machines`], `specs/Laws.antt`). Turns behind
 //! these change no desk, where each was clear, and none has more handled in the end than is to be
 //! ([`later_turns_change_nothing`]). A core that is handed to its thread with other numbers for its queues
-//! shows what it showed ([`handed_cores_show`], `specs/Handed.antt`).
+//! shows what it showed ([`handed_cores_show`], `specs/Handed.antt`). Where each job is a call, the same turns
+//! are told by the calls that are handed in at each end, with no word of jobs ([`jobs_go_by_calls`],
+//! `specs/Calls.antt`); so a report of one core can be.
 //!
 //! - `law.rt`: the laws
 #![tactic(auto)]
@@ -17,6 +19,6 @@
 mod law;
 
 pub use law::{
-    events_are_the_machines, handed_cores_show, later_turns_change_nothing, runs_are_the_machines,
-    turns_are_the_machines,
+    events_are_the_machines, handed_cores_show, jobs_go_by_calls, later_turns_change_nothing,
+    runs_are_the_machines, turns_are_the_machines,
 };

@@ -11,7 +11,7 @@ use Rattle.fl_jobs.specs.Jobs.{Job}
 use Rattle.fl_jobs.specs.Report.{TheReport, at_end, refusal_of, Honest}
 use Rattle.fl_endings.specs.Refused.{WasRefused}
 use Rattle.fl_reports.specs.Cores.{joined_in}
-use Rattle.fl_reports.specs.Outcomes.{RefusedAreOpened, SetUpHandleFew, HonestHandleFew, CompleteHasAll}
+use Rattle.fl_reports.specs.Outcomes.{ReportsKeepTurns, RefusedAreOpened, SetUpHandleFew, HonestHandleFew, CompleteHasAll}
 use Rattle.fl_cores.specs.Promised.{Reports}
 use Rattle.fl_reports.specs.Honesty.{RunsReportHonestly}
 use Rattle.fl_reports.specs.Endings.{bindings_by, EndsAsTold, RunsEndAsTold}
@@ -46,8 +46,9 @@ module _ (c : TheConfig) (jobs : List Job) (limit : ℕ) (r : TheReport) (w : Re
   silent_by opened e None is some = absurd (some is)
   silent_by opened e (Some fault) is some = silent_at e (opened c jobs limit r w e.binding fault is) e.side refl
 
-  pub ends_as_told : CompleteHasAll → RefusedAreOpened → RefusalsHaveReasons → SetUpHandleFew → HonestHandleFew → EndsAsTold w
-  ends_as_told all opened reasons few few_there = record {
+  pub ends_as_told : ReportsKeepTurns → CompleteHasAll → RefusedAreOpened → RefusalsHaveReasons → SetUpHandleFew → HonestHandleFew → EndsAsTold w
+  ends_as_told keep all opened reasons few few_there = record {
+    turns = keep c jobs limit r w;
     all = all c jobs limit r w honest;
     unrefused = λ n below. unrefused_by opened n below (refusal_of r n) refl;
     silent = λ e some. silent_by opened e (refusal_of r e.binding) refl some;
@@ -59,6 +60,7 @@ module _ (c : TheConfig) (jobs : List Job) (limit : ℕ) (r : TheReport) (w : Re
     few_there = λ n d turns core ends at are told. few_there c jobs limit r w honest n d turns core ends at are told;
   }
 
-pub runs_end_as_told : RunsReportHonestly → CompleteHasAll → RefusedAreOpened → RefusalsHaveReasons → SetUpHandleFew → HonestHandleFew → RunsEndAsTold
-runs_end_as_told honest all opened reasons few few_there c jobs limit r w =
-    ends_as_told c jobs limit r w (honest c jobs limit r w) all opened reasons few few_there
+pub runs_end_as_told : RunsReportHonestly → ReportsKeepTurns → CompleteHasAll → RefusedAreOpened → RefusalsHaveReasons → SetUpHandleFew → HonestHandleFew
+    → RunsEndAsTold
+runs_end_as_told honest keep all opened reasons few few_there c jobs limit r w =
+    ends_as_told c jobs limit r w (honest c jobs limit r w) keep all opened reasons few few_there

@@ -35,8 +35,8 @@ use Rattle.fl_honest.specs.Reasons.{LeadsNowhere, IsUsedUp as UsedUp, LeadsOverU
 use Rattle.fl_honest.specs.Runs.{AreSetUp}
 use Rattle.fl_endings.specs.Begins.{Ran, refusal_by}
 use Rattle.fl_endings.specs.Cores.{OneCore as EndedCore}
-use Rattle.fl_cores.specs.Begins.{TheStation}
-use Rattle.fl_cores.specs.Tells.{TheOutcome, RanTo, Each2}
+use Rattle.fl_threads.specs.Begins.{TheStation}
+use Rattle.fl_threads.specs.Tells.{TheOutcome, RanTo, Each2}
 use Rattle.fl_cores.specs.Promised.{Reports}
 use Rattle.fl_reports.specs.Cores.{joined_in, cores_in}
 use Rattle.fl_reports.specs.Outcomes.{ReportsAreOfRuns}

@@ -10,6 +10,7 @@ use Rattle.fl_system.specs.Booting.{TheConfig}
 use Rattle.fl_honest.specs.Reasons.{IsReason}
 use Rattle.fl_endings.specs.Cores.{OneCore}
 use Rattle.fl_endings.specs.Few.{AreEnds, handled_at_all}
+use Rattle.fl_endings.specs.Turns.{KeepsTurns}
 use Rattle.fl_cores.specs.Promised.{Reports}
 use Rattle.fl_reports.specs.Cores.{joined_in, cores_in}
 use Rattle.fl_reports.specs.Outcomes.{AreSetUpAt}
@@ -20,6 +21,8 @@ abbrev pub bindings_by : TheConfig → ℕ
 bindings_by c = length (reached (start_with c.cores) c.setup).bindings
 
 pub record EndsAsTold {c : TheConfig} {jobs : List Job} {limit : ℕ} {r : TheReport} (w : Reports c jobs limit r) : Type 0 where
+  -- there are as many turns as cores, none above the limit, and `turns out` comes only where a core that hadn't finished took all of its turns
+  pub turns : KeepsTurns (cores_in w) limit r
   -- `complete` comes only where each end, of any binding, handled all that was handed in for it, but on bindings that are named as refused
   pub all : r.ending ≡ complete → AllHandled jobs r
   -- these are none of the set-up, and neither end of one handled anything

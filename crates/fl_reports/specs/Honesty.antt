@@ -1,4 +1,4 @@
--- That what is reported of a run of cores is honest, and that it ended as is told. Public promises rest on this file.
+-- That what is reported of a run of cores is honest, that it ended as is told, and what the report of one core is. Public promises rest on this file.
 use Rattle.std.specs.Prelude.{ℕ, List}
 use Rattle.fl_jobs.specs.CoresFile.{CoresFile, Outcome, Reads, is_file, refused_at}
 use Rattle.fl_jobs.specs.Jobs.{Job}
@@ -7,6 +7,7 @@ use Rattle.fl_system.specs.Booting.{TheConfig}
 use Rattle.fl_cores.specs.declared.text.CoresEnd.{CoresEnd}
 use Rattle.fl_cores.specs.Promised.{Reports, AppendsReport, AppendsRefusal}
 use Rattle.fl_reports.specs.Endings.{EndsAsTold}
+use Rattle.fl_reports.specs.OneCore.{IsThatOfOne, IsThatOfFile}
 
 -- ---- cores
 
@@ -15,6 +16,8 @@ pub record ReportsHonestly (c : TheConfig) (jobs : List Job) (limit : ℕ) (r : 
   pub reports : Reports c jobs limit r
   pub honest : Honest jobs r
   pub ends : EndsAsTold reports
+  -- of one core it is a function of the configuration, the jobs and the limit
+  pub one : IsThatOfOne c jobs limit r
 
 -- each report of a run is honest. Law
 abbrev pub RunsReportHonestly : Type 0
@@ -27,6 +30,8 @@ pub record AppendsHonestly (file : CoresFile) (limit : ℕ) (e : CoresEnd) (befo
   pub appends : AppendsReport file limit e before after
   pub honest : Honest file.jobs appends.report
   pub ends : EndsAsTold appends.reports
+  -- of one core it is a function of the file and the limit
+  pub one : IsThatOfFile file limit appends.report
 
 abbrev pub AppendsFor : Outcome → ℕ → CoresEnd → List ℕ → List ℕ → Type 0
 AppendsFor (is_file file) limit e before after = AppendsHonestly file limit e before after

@@ -4,4 +4,6 @@ pub mod Outcomes
 pub mod Runs
 pub mod Reasons
 pub mod Endings
+pub mod OneCore
 pub mod Honesty
+pub mod Again

@@ -1,18 +1,22 @@
 //! That the report of a run of cores is honest, and that it ended as is told: laws, as the contracts of functions that do nothing.
 
+ghost use Rattle.fl_reports.specs.Again.{OneReport, OneText};
 ghost use Rattle.fl_reports.specs.Endings.{RunsEndAsTold};
 ghost use Rattle.fl_reports.specs.Honesty.{RunsReportHonestly};
+ghost use Rattle.fl_reports.specs.OneCore.{RunsOfOneCore};
 ghost use Rattle.fl_reports.specs.Reasons.{RefusalsHaveReasons};
 
 use crate::outcomes::{
     complete_has_all, dispatchers_handle_few, refused_are_opened, reports_are_of_runs,
-    reports_handle_few,
+    reports_handle_few, reports_keep_turns,
 };
 use fl_deal::dealt_go_on;
 use fl_honest::{cores_go, desks_tell_reasons, runs_are_honest};
+use fl_jobs::one_outcome;
 use fl_ring::SharedSide;
 use fl_running::{leads_at_first, sides_go};
 use fl_setups::set_ups_start_fresh;
+use fl_worlds::steps_agree;
 
 /// What each end is reported to have handled is the first of what the other end made, and what it made is the first of what was handed in for it: on every
 /// binding, by queues, by a ring or over a circuit.
@@ -29,7 +33,7 @@ pub fn runs_report_honestly()
 
 /// A binding is told as refused for a reason alone: a dispatcher without a place (E54), a core of its route without a link that leads on (E73), or a link whose
 /// numbers are used up (E74); and each only where that is so: where the set-up made no link between two cores of its route, where a core of it gave all its
-/// numbers on a link, and where the client's or the service's dispatcher has 1,024 ends.
+/// numbers on a link, and where the client's or the service's dispatcher has 1,024 ends, or the service's isn't there.
 pub fn refusals_have_reasons()
     ensures reasons { RefusalsHaveReasons }
 {
@@ -42,15 +46,37 @@ pub fn refusals_have_reasons()
     reports_are_of_runs();
 }
 
-/// `complete` is told only where all that was handed in was handled, at both ends of each binding that isn't told as refused; none of the set-up is, and
-/// neither end of one that is handled anything; each that is has its reason; and no dispatcher handled more calls than its core took turns.
+/// `complete` is told only where all that was handed in was handled, at both ends of each binding that isn't told as
+/// refused, and `turns out` only where a core that hadn't finished took all its turns; none of the set-up is refused,
+/// and neither end of one that is handled anything; each that is has its reason; and no dispatcher handled more calls
+/// than its core took turns.
 pub fn runs_end_as_told()
     ensures ends { RunsEndAsTold }
 {
     runs_report_honestly();
+    reports_keep_turns();
     complete_has_all();
     refused_are_opened();
     refusals_have_reasons();
     dispatchers_handle_few();
     reports_handle_few();
+}
+
+/// The report of a run of one core, in which no job opens a binding, is a function of the configuration, the jobs and the limit: what so many turns of the
+/// machine come to, from the state that the set-up leads to, with the rules of the jobs.
+pub fn runs_of_one_core()
+    ensures one { RunsOfOneCore }
+{
+    set_ups_start_fresh();
+    steps_agree();
+    runs_report_honestly();
+}
+
+/// So two runs of one configuration on one core, with the same jobs and limit, have one report; and two runs of such a file append the same text.
+pub fn one_report()
+    ensures report { OneReport }
+    ensures text { OneText }
+{
+    one_outcome();
+    runs_of_one_core();
 }

@@ -5,18 +5,22 @@
 //! and the run ended as is told (`specs/Endings.antt`), bindings being refused for the reasons that are told
 //! (`specs/Reasons.antt`). Behind each report stand cores as `fl_honest` and
 //! `fl_endings` speak of them (`specs/Outcomes.antt`), so it follows by their laws from what `fl_cores`
-//! tells of a run.
+//! tells of a run. With one core, where no job opens a binding, the report is a function of the
+//! configuration, the jobs and the limit: that of so many turns of the queue machine (`specs/OneCore.antt`,
+//! by the laws of `fl_alone`), so two runs of a file tell the same ([`one_report`], `specs/Again.antt`).
 //!
 //! - `run.rt`: cores, and a cores file, run
 //! - `outcomes.rt`: which cores stand behind a report, and what of the laws of endings holds of it
-//! - `law.rt`: each report is honest, and tells how the run ended, and why bindings were refused
+//! - `law.rt`: each report is honest, and tells how the run ended, and why bindings were refused; what that of one core is
 #![tactic(auto)]
 
 mod law;
 mod outcomes;
 mod run;
 
-pub use law::{refusals_have_reasons, runs_end_as_told, runs_report_honestly};
+pub use law::{
+    one_report, refusals_have_reasons, runs_end_as_told, runs_of_one_core, runs_report_honestly,
+};
 pub use outcomes::{
     complete_has_all, dispatchers_handle_few, refused_are_opened, reports_are_of_runs,
     reports_handle_few, reports_keep_turns,

@@ -7,7 +7,7 @@ ghost use Rattle.fl_system.specs.Booting.{config_of};
 ghost use Rattle.fl_cores.specs.Promised.{IsFault};
 ghost use Rattle.fl_reports.specs.Honesty.{ReportsHonestly, Appends};
 
-use crate::law::{runs_end_as_told, runs_report_honestly};
+use crate::law::{runs_end_as_told, runs_of_one_core, runs_report_honestly};
 use fl_cores::{CoresEnd, CoresFault, run_cores, run_cores_text};
 use fl_jobs::{Job, Report};
 use fl_running::Gate;
@@ -16,7 +16,8 @@ use std::alloc::Global;
 use std::sync::Wait;
 use std::thread::Threads;
 
-/// Runs cores on threads of their own, as [`run_cores`] does, and reports honestly what each end made and handled, and how the run ended.
+/// Runs cores on threads of their own, as [`run_cores`] does, and reports honestly what each end made and handled, and how the run ended. With one core the
+/// report is a function of the configuration, the jobs and the limit.
 ///
 /// # Errors
 /// [`CoresFault`]. Every thread was joined then.
@@ -33,6 +34,7 @@ pub fn report_cores<R: Threads + Wait + Sync, G: Gate + Sync>(
 {
     runs_report_honestly();
     runs_end_as_told();
+    runs_of_one_core();
     run_cores(rt, alloc, config, jobs, limit, gate)
 }
 
@@ -53,5 +55,6 @@ pub fn report_cores_text<R: Threads + Wait + Sync, G: Gate + Sync>(
 {
     runs_report_honestly();
     runs_end_as_told();
+    runs_of_one_core();
     run_cores_text(rt, alloc, text, limit, gate, out)
 }

@@ -3,4 +3,9 @@ use Rattle.fl_reports.proofs.run.report_cores.Goals as goal
 
 pub returns-clause-reports : goal.returns-clause-reports
 returns-clause-reports g c =
-    IfOk-weaker c.run_cores.result _ _ (λ r told. record { reports = told; honest = c.runs_report_honestly.ensures.honest _ _ _ _ told; ends = c.runs_end_as_told.ensures.ends _ _ _ _ told }) c.run_cores.ensures.reports
+    IfOk-weaker c.run_cores.result _ _ (λ r told. record {
+      reports = told;
+      honest = c.runs_report_honestly.ensures.honest _ _ _ _ told;
+      ends = c.runs_end_as_told.ensures.ends _ _ _ _ told;
+      one = c.runs_of_one_core.ensures.one _ _ _ _ told;
+    }) c.run_cores.ensures.reports

@@ -1,0 +1,248 @@
+-- The report of a run of one core is a function of the configuration, the jobs and the limit.
+use Rattle.std.proofs.Common.{◌≡◌, ◌≢◌, refl, sym, ◌∙◌, ap, subst, ℕ, zero, suc, ◌≤◌, ◌||◌, nat_lt, Bool, true, false, if◌then◌else◌, List, [], ◌∷◌, length, map}
+use Rattle.std.proofs.Common.{slice_get, None, arith}
+use Rattle.std.specs.List.{flat_map, list_all, range_with_len}
+use Rattle.std.proofs.lemmas.Bool.Decides.{nat_tests}
+use Rattle.fl_laws.proofs.Start.{world_is_sound}
+use Rattle.fl_node.specs.View.{TheCore}
+use Rattle.fl_queues.specs.Making.{most_cores}
+use Rattle.fl_queues.specs.Runs.{reached}
+use Rattle.fl_queues.specs.Sound.{Sound}
+use Rattle.fl_queues.specs.State.{State}
+use Rattle.fl_queues.specs.Worlds.{start_with}
+use Rattle.fl_ring.specs.SharedSides.{TheSide}
+use Rattle.fl_running.specs.declared.run.End.{End}
+use Rattle.fl_running.specs.declared.run.End.TheVariants.{Finished, Unfinished, Told}
+use Rattle.fl_running.specs.Finished.{is_finished as is_finished_run}
+use Rattle.fl_running.specs.Ran.{Task, Moment, moment, task, TakesStock, CountedTurn, EndsAs}
+use Rattle.fl_running.specs.Turn.{Swept}
+use Rattle.fl_running.specs.Words.{Stock}
+use Rattle.fl_jobs.specs.Jobs.{Job}
+use Rattle.fl_jobs.specs.Report.{TheReport, complete, turns_out}
+use Rattle.fl_worlds.specs.View.{TheWorld}
+use Rattle.fl_worlds.specs.Picture.{Shows}
+use Rattle.fl_worlds.specs.Laws.{StepsAgree}
+use Rattle.fl_worlds.proofs.FramesBase.{same_some}
+use Rattle.fl_worlds.specs.declared.parts.Parts.{Parts}
+use Rattle.fl_worlds.specs.Apart.{is_making, AreParts}
+use Rattle.fl_system.specs.Booting.{TheConfig}
+use Rattle.fl_setups.specs.Start.{StartsFresh, SetUpsStartFresh}
+use Rattle.fl_dockets.specs.Rules.{RulesOf}
+use Rattle.fl_dockets.specs.State.{TheJoined, AreJoined}
+use Rattle.fl_dockets.specs.Whole.{wish_in}
+use Rattle.fl_threads.specs.Begins.{TheStation, Places, ends_from, IsStation, AreStations, common_in}
+use Rattle.fl_cores.specs.Promised.{cores_by, Reports}
+use Rattle.fl_threads.specs.Tells.{shared_ways, TheOutcome, RanTo, Each2, made_at, handled_at, both_at, refusal_at, is_unfinished, Tells}
+use Rattle.fl_cores.proofs.Booted.{all_making}
+use Rattle.fl_alone.specs.Calls.{Solo, turned, is_finished, are_done, first_finished}
+use Rattle.fl_reports.specs.Honesty.{RunsReportHonestly}
+use Rattle.fl_reports.specs.OneCore.{begins, both_ends, ends_in, solo_for, span_in, comes_to, made_at as made_there, handled_at as handled_there, ending_of, report_of_one}
+use Rattle.fl_reports.specs.OneCore.{RunsOfOneCore}
+use Rattle.fl_reports.proofs.CoresStations.{on_boards}
+use Rattle.fl_reports.proofs.OneBare.{no_rings, no_lanes, one_of, none_in}
+use Rattle.fl_reports.proofs.OneJoined as joined
+use Rattle.fl_reports.proofs.OneRan.{IsAlone, not_told, one_ran}
+use Rattle.fl_reports.proofs.OneReport.{told, same_report}
+use Rattle.fl_reports.proofs.OneRules.{ShownWith, rules_shown}
+
+either_false : (a b : Bool) → (a || b) ≡ false → (a ≡ false) × (b ≡ false)
+either_false false b q = (refl, q)
+either_false true b q = absurd (cc)
+
+at_least : (n m : ℕ) → nat_lt n m ≡ false → m ≤ n
+at_least n m q = grind (arith, nat_tests, q)
+
+-- ---- nothing was made: no end, and so no turn
+
+-- its thread, and what came of that
+pub record Single (p : Parts) (j : TheJoined) (limit : ℕ) (r : TheReport) (at : Places) : Type 0 where
+  pub core : TheCore
+  pub station : TheStation
+  pub outcome : TheOutcome
+  pub is : IsStation (common_in p j at) 0 core station
+  pub ran : RanTo j.jobs limit station outcome
+  pub tells : Tells j (outcome ∷ []) r
+
+single : (p : Parts) (j : TheJoined) (limit : ℕ) (r : TheReport) (at : Places) (k : TheCore) (cores : List TheCore) (stations : List TheStation)
+    (outcomes : List TheOutcome) → cores ≡ k ∷ [] → AreStations (common_in p j at) 0 cores stations → Each2 (RanTo j.jobs limit) stations outcomes
+    → Tells j outcomes r → Single p j limit r at
+single p j limit r at k cores stations outcomes one begin ran tells =
+    by stations outcomes (subst (λ ks. AreStations (common_in p j at) 0 ks stations) one begin) ran tells
+  where
+    by : (sts : List TheStation) (os : List TheOutcome) → AreStations (common_in p j at) 0 (k ∷ []) sts → Each2 (RanTo j.jobs limit) sts os → Tells j os r
+        → Single p j limit r at
+    by [] os b e t = absurd b
+    by (st ∷ st2 ∷ sts) os b e t = absurd b.1
+    by (st ∷ []) [] b e t = absurd e
+    by (st ∷ []) (o ∷ o2 ∷ os) b e t = absurd e.1
+    by (st ∷ []) (o ∷ []) b e t = record { core = k; station = st; outcome = o; is = b.0; ran = e.0; tells = t }
+
+module _ (p : Parts) (j : TheJoined) (limit : ℕ) (r : TheReport) (at : Places) (h : Single p j limit r at) (none : j.bindings ≡ []) where
+  abbrev t : Task
+  t = task h.station.plan j.jobs limit
+
+  ends : h.station.plan.ends.items ≡ []
+  ends = h.is.ends ∙ ap (ends_from 0 0) none
+
+  never_left : {P : Type 0} (m : Moment TheSide) (c : Stock) → TakesStock h.station.plan m c false → P
+  never_left m c takes =
+      let done : is_finished_run m.run h.station.plan.ends.items c.words ≡ true = ap (λ es. is_finished_run m.run es c.words) ends in
+      let both : true ≡ false = sym done ∙ takes.1 in
+      absurd (cc)
+
+  no_turn : (n : ℕ) (a b : Moment TheSide) → Swept (λ k. CountedTurn shared_ways t) n a b → n ≡ 0
+  no_turn zero a b u = refl
+  no_turn (suc n) a b (m, before, step) = never_left m step.stock step.left
+
+  pub no_turns : h.outcome.part.turns ≡ 0
+  no_turns = no_turn h.outcome.part.turns (moment h.station.run h.station.ticket) h.ran.counted.after h.ran.counted.turns
+
+  ended : (end : End) (m : Moment TheSide) (c : Stock) → EndsAs t h.outcome.part.turns end m c → end ≢ Told → end ≡ Finished
+  ended Finished m c u not = refl
+  ended Unfinished m c u not = never_left m c u.1
+  ended Told m c u not = absurd (not refl)
+
+  pub finished : h.outcome.part.end ≡ Finished
+  finished = ended h.outcome.part.end h.ran.counted.after h.ran.middle.ticket h.ran.counted.ends (not_told h.outcome h.tells.none_told)
+
+-- ---- one core
+
+module _ (law : StepsAgree) (fresh : SetUpsStartFresh) (honest : RunsReportHonestly) (c : TheConfig) (jobs : List Job) (limit : ℕ) (r : TheReport)
+    (w : Reports c jobs limit r) (one_core : cores_by c ≡ 1) (no_wish : flat_map wish_in jobs ≡ []) where
+  abbrev j : TheJoined
+  j = w.ran.ran.joined
+
+  abbrev made : Parts
+  made = w.ran.parts
+
+  abbrev parts : Parts
+  parts = w.ran.ran.parts
+
+  abbrev world : TheWorld
+  world = w.ran.made.world
+
+  abbrev state : State
+  state = begins c jobs
+
+  are_parts : AreParts world made
+  are_parts = w.ran.made.parts
+
+  shown : Shows world (reached (start_with c.cores) c.setup)
+  shown = w.ran.made.stands.1.shown
+
+  making : list_all is_making c.setup ≡ true
+  making = all_making c.setup w.accepted.making
+
+  starts : StartsFresh world
+  starts = fresh c.cores c.setup world making shown
+
+  -- ---- behind the set-up
+
+  count : length world.cores ≡ 1
+  count = shown.picture.cores.count ∙ one_core
+
+  sound_start : Sound (start_with c.cores)
+  sound_start =
+      let both = either_false (nat_lt c.cores 1) (nat_lt most_cores c.cores) w.accepted.cores in
+      world_is_sound c.cores (at_least c.cores 1 both.0) (at_least most_cores c.cores both.1)
+
+  bare_world : world.rings ≡ []
+  bare_world =
+      none_in world.rings (shown.picture.rings.count
+      ∙ ap (λ rs. length rs) (no_rings c.setup (start_with c.cores) making sound_start (λ q. refl) one_core))
+
+  -- ---- with the rules
+
+  rules : RulesOf world.bindings jobs world.cores parts.cores.items
+  rules =
+      subst (λ bs. RulesOf bs jobs world.cores parts.cores.items) are_parts.bindings
+      (subst (λ ks. RulesOf made.bindings.items jobs ks parts.cores.items) are_parts.cores w.ran.ran.rules)
+
+  ruled : ShownWith world parts.cores.items state
+  ruled = rules_shown jobs world (reached (start_with c.cores) c.setup) parts.cores.items shown rules
+
+  one_made : length made.cores.items ≡ 1
+  one_made = ap (λ ks. length ks) are_parts.cores ∙ count
+
+  one_part : (k : TheCore) × (parts.cores.items ≡ k ∷ [])
+  one_part = one_of parts.cores.items ((on_boards made.bindings.items jobs made.cores.items parts.cores.items w.ran.ran.rules).count ∙ one_made)
+
+  no_links : one_part.0.lanes ≡ []
+  no_links =
+      let was = (on_boards made.bindings.items jobs made.cores.items parts.cores.items w.ran.ran.rules).each 0 one_part.0
+      (ap (λ ks. slice_get ks 0) one_part.1) in
+      let (k, only) = one_of world.cores count in
+      let same : was.core ≡ k
+      = same_some (slice_get made.cores.items 0) was.core k was.core_is (ap (λ ks. slice_get ks 0) (are_parts.cores ∙ only)) in
+      was.lanes ∙ ap (λ (x : TheCore). x.lanes) same ∙ no_lanes world k only starts.links
+
+  are_joined : AreJoined 1 jobs j
+  are_joined = subst (λ n. AreJoined n jobs j) one_made w.ran.ran.are_joined
+
+  as_many : length j.bindings ≡ length state.bindings
+  as_many =
+      joined.many made.bindings.items jobs j are_joined w.ran.ran.are_bound w.ran.ran.are_due no_wish
+      ∙ ap (λ bs. length bs) (are_parts.bindings ∙ sym ruled.bindings) ∙ ruled.shows.picture.bindings.count
+
+  -- ---- where the number of cores stands
+
+  alone : state.may_set_cores ≡ false → IsAlone parts j state
+  alone stands = record {
+    world = ruled.world;
+    shows = ruled.shows;
+    core = one_part.0;
+    core_is = ruled.cores_are ∙ one_part.1;
+    cores = one_part.1;
+    queues = w.ran.ran.beside.queues ∙ are_parts.queues ∙ sym ruled.queues;
+    rings = w.ran.ran.beside.rings ∙ are_parts.rings ∙ bare_world;
+    no_rings = ruled.rings ∙ bare_world;
+    no_links = no_links;
+    stands = stands;
+    bindings = are_joined.bindings;
+    unopened = joined.unopened made.bindings.items jobs j are_joined w.ran.ran.are_bound w.ran.ran.are_due no_wish;
+  }
+
+  by_turns : state.may_set_cores ≡ false → r ≡ report_of_one c jobs limit
+  by_turns stands =
+      let ran = w.ran.ran.ran in
+      told jobs limit r state j made.bindings.items are_joined w.ran.ran.are_bound w.ran.ran.are_due no_wish (honest c jobs limit r w) ruled.shows.sound stands
+      as_many (one_ran law parts j limit r state (alone stands) ran.places ran.stations ran.outcomes ran.begin ran.ran ran.shares ran.sound ran.tells)
+
+  -- ---- and where it may still be set: there is nothing
+
+  nothing_left : (x : Solo) → ends_in state ≡ [] → is_finished (span_in state) x ≡ true
+  nothing_left x none = ap (λ es. are_done x es (length es)) none
+
+  first_none : (n : ℕ) → ends_in state ≡ [] → first_finished (span_in state) (solo_for c jobs) 0 n ≡ 0
+  first_none zero none = refl
+  first_none (suc n) none =
+      ap (λ b. if b then 0 else first_finished (span_in state) (solo_for c jobs) 1 n) (nothing_left (turned (span_in state) 0 (solo_for c jobs)) none)
+
+  by_nothing : state.may_set_cores ≡ true → r ≡ report_of_one c jobs limit
+  by_nothing may =
+      let no_bindings : length state.bindings ≡ 0 = ap (λ bs. length bs) (ruled.shows.sound.bare may).bindings in
+      let none : ends_in state ≡ [] = ap (λ n. flat_map both_ends (range_with_len 0 n)) no_bindings in
+      let many : length j.bindings ≡ 0 = as_many ∙ no_bindings in
+      let ran = w.ran.ran.ran in
+      let h = single parts j limit r ran.places one_part.0 parts.cores.items ran.stations ran.outcomes one_part.1 ran.begin ran.ran ran.tells in
+      let bindings = none_in j.bindings many in
+      same_report r (report_of_one c jobs limit)
+      (h.tells.made ∙ ap (λ n. map (both_at (made_at j (h.outcome ∷ []))) (range_with_len 0 n)) many
+      ∙ sym (ap (λ n. map (both_at (made_there jobs (comes_to c jobs limit))) (range_with_len 0 n)) no_bindings))
+      (h.tells.handled ∙ ap (λ n. map (both_at (handled_at j (h.outcome ∷ []))) (range_with_len 0 n)) many
+      ∙ sym (ap (λ n. map (both_at (handled_there (comes_to c jobs limit))) (range_with_len 0 n)) no_bindings))
+      (h.tells.refused ∙ ap (λ n. map (refusal_at j (h.outcome ∷ [])) (range_with_len 0 n)) many
+      ∙ sym (ap (λ n. map (λ k. None) (range_with_len 0 n)) no_bindings))
+      (h.tells.turns ∙ ap (λ n. n ∷ []) (no_turns parts j limit r ran.places h bindings ∙ sym (first_none limit none)))
+      (h.tells.ending ∙ ap (λ e. if is_unfinished e || false then turns_out else complete) (finished parts j limit r ran.places h bindings)
+      ∙ sym (ap ending_of (nothing_left (comes_to c jobs limit) none)))
+
+  pub report_is : r ≡ report_of_one c jobs limit
+  report_is = by state.may_set_cores refl
+    where
+      by : (b : Bool) → state.may_set_cores ≡ b → r ≡ report_of_one c jobs limit
+      by false q = by_turns q
+      by true q = by_nothing q
+
+pub of_one_core : StepsAgree → SetUpsStartFresh → RunsReportHonestly → RunsOfOneCore
+of_one_core law fresh honest c jobs limit r w one_core no_wish = report_is law fresh honest c jobs limit r w one_core no_wish
