@@ -4,6 +4,7 @@ pub mod Inlets
 pub mod Wordings
 pub mod Stock
 pub mod Counting
+pub mod Idle
 pub mod Logging
 pub mod Handling
 pub mod Turning

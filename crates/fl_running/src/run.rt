@@ -100,7 +100,7 @@ fn counted_turns<S: PutSide + TakeSide + Drop, G: Gate>(
 }
 
 // Turns that aren't counted: until all cores have ended, or one stopped.
-#[tactic(auto, using(crate::proofs::Counting::seen_ended, crate::proofs::Counting::seen_stored, crate::proofs::Counting::seen_heard, crate::proofs::Counting::no_turns, crate::proofs::Stock::quiet, crate::proofs::Stock::quiet_then))]
+#[tactic(auto, using(crate::proofs::Idle::idle))]
 fn idle_turns<R: Wait, S: PutSide + TakeSide + Drop, G: Gate>(
     rt: &R,
     run: &mut Running<S>,
