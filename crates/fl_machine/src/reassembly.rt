@@ -151,6 +151,15 @@ fn look_on(
     go_on(program, begun, tape, frag)
 }
 
+// Whether the call that a fragment begins has no more arguments than a fragment has words.
+#[inline(always)]
+fn has_few_args(program: &Program, frag: &Frag) -> bool {
+    match program.interface().messages.get(usize::from(frag.msg().0)) {
+        Some(message) => message.args.len() < 8,
+        None => false,
+    }
+}
+
 impl Gathered {
     // A call whose last fragment came to this: one that goes on is under way then, and one that is whole is told.
     #[inline(always)]
@@ -182,9 +191,9 @@ impl Gathered {
         }
     }
 
-    // Takes a fragment between two calls.
-    #[inline(always)]
-    fn take_first(
+    // Takes a fragment between two calls, on the tape. Out of line, so that a call of one fragment has nothing of it.
+    #[inline(never)]
+    fn take_begun(
         &mut self,
         alloc: Global,
         program: &Program,
@@ -200,6 +209,35 @@ impl Gathered {
         match look_first(program, &mut begun, &mut self.tape, self.capacity, frag) {
             Ok(fed) => self.keep(alloc, program, &begun, frag, fed),
             Err(fault) => Err(TakeFault::Wire(fault)),
+        }
+    }
+
+    // Takes a fragment between two calls. Where its call has few arguments it is mostly whole: its numbers are no more than its
+    // bytes, so they are read without the tape, which lies in memory that is seldom touched.
+    #[inline(always)]
+    fn take_first(
+        &mut self,
+        alloc: Global,
+        program: &Program,
+        frag: &Frag,
+    ) -> Result<Taken, TakeFault>
+        requires gathered { IsGathered (program_of program.now) self.old }
+        requires between { self.old.begun ≡ None }
+        ensures gathered { IsGathered (program_of program.now) self.new }
+        ensures takes { Takes (reassembling program.now self.old) frag.now result (reassembling program.now self.new) }
+    {
+        let _plan = program.plan();
+        if !has_few_args(program, frag) {
+            return self.take_begun(alloc, program, frag);
+        }
+        let mut begun = Begun::new();
+        let mut places = [0; 56];
+        match begin(program, &mut begun, &mut places, frag) {
+            Ok(Fed::Whole) => match whole(alloc, program, begun.ended(), &places) {
+                Ok(call) => Ok(Taken::Whole(call)),
+                Err(_) => Err(TakeFault::Memory),
+            },
+            _ => self.take_begun(alloc, program, frag),
         }
     }
 
