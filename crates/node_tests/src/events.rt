@@ -1,38 +1,20 @@
 //! A core's events, whose answers are words.
 
-use crate::common::Common;
-use crate::words::{Word, is_as, refused, state_of};
-use fl_base::{CoreId, EndId, IRef, LinkId, MsgNo, Side};
+use crate::known::{Known, ping};
+use crate::words::{Word, refused};
+use fl_base::{CoreId, EndId, Frag, IRef, LinkId, Side};
 use fl_compile::Program;
 use fl_core::TurnAnswer;
 use fl_endpoint::WriteAnswer;
 use fl_hop::{Outcome, move_on};
-use fl_link::{PutSide, TakeSide};
+use fl_link::{PutSide, QueueLink, TakeSide};
 use fl_monitor::{Opening, Path};
 use fl_node::{Ahead, Core, Inlet, LinkFault, MonitorAnswer, MonitorWrite};
 use fl_value::{Call, Value};
-use std::alloc::{AllocError, Global};
-
-/// How circuits are asked for: with this program, on this link, for service 1 along this route.
-#[derive(Drop)]
-pub struct Asking {
-    pub alloc: Global,
-    pub program: Program,
-    pub link: u16,
-    pub route: &'static [CoreId],
-}
-
-fn opening(binding: u32, route: &[CoreId]) -> Option<Opening> {
-    let path = Path::new(route)?;
-    Some(Opening {
-        binding,
-        service: IRef(1),
-        path,
-    })
-}
+use std::alloc::Global;
 
 // Begins the circuit of an opening whose client's end isn't there.
-fn open(core: &mut Core, program: Program, link: u16, opening: &Opening) -> Word {
+fn open(core: &mut Core, program: Program, link: LinkId, opening: &Opening) -> Word {
     let name = EndId {
         binding: opening.binding as usize,
         side: Side::Client,
@@ -40,45 +22,40 @@ fn open(core: &mut Core, program: Program, link: u16, opening: &Opening) -> Word
     if opening.binding >= 1_024 || core.board().dispatchers() == 0 || core.place(name).is_some() {
         return Word::Other;
     }
-    match core.open(0, program, LinkId(link), opening) {
+    match core.open(0, program, link, opening) {
         Ok(_) => Word::Begun,
         Err(fault) => refused(fault.number()),
     }
 }
 
-impl Asking {
-    /// Begins the circuit of a binding at a core.
-    pub fn asks(&self, core: &mut Core, binding: u32) -> Word {
-        let Some(opening) = opening(binding, self.route) else {
-            return Word::Other;
-        };
-        match self.program.duplicate(self.alloc) {
-            Ok(program) => open(core, program, self.link, &opening),
-            Err(_) => Word::NoMemory,
-        }
-    }
-
-    /// The same; where it is refused for want of memory, the core is as it was, and it is done again.
-    pub fn insists(&self, core: &mut Core, binding: u32) -> Word {
-        let before = state_of(core);
-        let word = self.asks(core, binding);
-        if word != Word::NoMemory {
-            return word;
-        }
-        if !is_as(core, &before) {
-            return Word::Changed;
-        }
-        self.asks(core, binding)
+/// Begins the circuit of a binding at a core, to service 1 over a link and along a route.
+pub fn asks(core: &mut Core, known: &Known, link: LinkId, route: &[CoreId], binding: u32) -> Word {
+    let Some(path) = Path::new(route) else {
+        return Word::Other;
+    };
+    let opening = Opening {
+        binding,
+        service: IRef(1),
+        path,
+    };
+    match known.program.duplicate(known.alloc) {
+        Ok(program) => open(core, program, link, &opening),
+        Err(_) => Word::NoMemory,
     }
 }
 
-/// A core's monitor writes on a link.
-pub fn say<P: PutSide>(core: &mut Core, link: u16, out: &mut P) -> Word {
-    match core.monitor_write(LinkId(link), out) {
+// A core's monitor writes on a link.
+fn say<P: PutSide>(core: &mut Core, link: LinkId, out: &mut P) -> Word {
+    match core.monitor_write(link, out) {
         MonitorWrite::Written => Word::Written,
         MonitorWrite::Full | MonitorWrite::Spent => Word::Full,
         MonitorWrite::Nothing => Word::Nothing,
     }
+}
+
+/// What is said on a core's second link goes to a queue.
+pub fn say_to(core: &mut Core, out: &mut QueueLink) -> Word {
+    say(core, LinkId(1), out)
 }
 
 fn heard(answer: Result<MonitorAnswer, LinkFault>) -> Word {
@@ -99,23 +76,15 @@ fn arrived(answer: Result<Outcome, LinkFault>) -> Word {
     }
 }
 
-fn moved(outcome: Outcome) -> Word {
-    match outcome {
-        Outcome::Moved => Word::Passed,
-        Outcome::Full | Outcome::Spent => Word::Full,
-    }
-}
-
-/// What a forward of a monitors' message, or of a fragment for an end of the core, answers.
-pub fn hear<T: TakeSide>(core: &mut Core, link: u16, from: &mut T, common: &Common) -> Word {
-    let link = LinkId(link);
+// What a forward of a monitors' message, or of a fragment for an end of the core, answers.
+fn hear<T: TakeSide>(core: &mut Core, link: LinkId, from: &mut T, known: &Known) -> Word {
     if core.side(link).is_none() {
         return Word::Other;
     }
     match core.look(link, from) {
         Ok(Ahead::Nothing) => Word::Nothing,
         Ok(Ahead::Message(frag)) => {
-            heard(core.hear(link, from, &frag, &common.names, common.programs.as_slice()))
+            heard(core.hear(link, from, &frag, &known.names, known.programs.as_slice()))
         }
         Ok(Ahead::Arrival(frag, end)) => arrived(core.arrive(link, from, &frag, end)),
         Ok(Ahead::Acknowledged | Ahead::Onward(_, _, _)) => Word::Other,
@@ -126,21 +95,23 @@ pub fn hear<T: TakeSide>(core: &mut Core, link: u16, from: &mut T, common: &Comm
 /// Passes on what stands first on a link.
 pub fn pass<T: TakeSide, P: PutSide>(
     core: &mut Core,
-    link: u16,
+    link: LinkId,
     from: &mut T,
     onto: &mut P,
 ) -> Word {
-    let link = LinkId(link);
     if core.side(link).is_none() {
         return Word::Other;
     }
     match core.look(link, from) {
-        Ok(Ahead::Onward(frag, _, circuit)) => moved(move_on(from, onto, &frag, circuit)),
+        Ok(Ahead::Onward(frag, _, circuit)) => match move_on(from, onto, &frag, circuit) {
+            Outcome::Moved => Word::Passed,
+            Outcome::Full | Outcome::Spent => Word::Full,
+        },
         _ => Word::Other,
     }
 }
 
-fn written<P: PutSide>(core: &mut Core, out: &mut P) -> Word {
+fn write<P: PutSide>(core: &mut Core, out: &mut P) -> Word {
     if core.board().ends() == 0 {
         return Word::Other;
     }
@@ -152,7 +123,7 @@ fn written<P: PutSide>(core: &mut Core, out: &mut P) -> Word {
     }
 }
 
-fn called(core: &mut Core, call: &Call) -> Word {
+fn call(core: &mut Core, call: &Call) -> Word {
     if core.board().ends() == 0 {
         return Word::Other;
     }
@@ -162,13 +133,52 @@ fn called(core: &mut Core, call: &Call) -> Word {
     }
 }
 
-/// Makes a call at a core's first end, and writes its fragment.
-pub fn send<P: PutSide>(core: &mut Core, call: &Call, out: &mut P) -> Word {
-    let word = called(core, call);
+// Makes a call at a core's first end, and writes its fragment.
+fn send<P: PutSide>(core: &mut Core, alloc: Global, v: i128, out: &mut P) -> Word {
+    let Ok(made) = ping(alloc, v) else {
+        return Word::NoMemory;
+    };
+    let word = call(core, &made);
     if word != Word::Done {
         return word;
     }
-    written(core, out)
+    write(core, out)
+}
+
+// Puts a fragment as a neighbour would that may do what it likes.
+fn put<P: PutSide>(out: &mut P, frag: &Frag) -> Word {
+    if frag.is_ack_only() {
+        return Word::Other;
+    }
+    match out.put(frag) {
+        Ok(()) => Word::Done,
+        Err(_) => Word::Full,
+    }
+}
+
+/// What is done at a core and its side of a link.
+#[derive(Clone, Copy)]
+pub enum Deed {
+    Say,
+    Hear,
+    /// A call with this argument at the first end.
+    Send(i128),
+    Put(Frag),
+}
+
+pub fn act<L: PutSide + TakeSide>(
+    core: &mut Core,
+    link: LinkId,
+    side: &mut L,
+    deed: Deed,
+    known: &Known,
+) -> Word {
+    match deed {
+        Deed::Say => say(core, link, side),
+        Deed::Hear => hear(core, link, side, known),
+        Deed::Send(v) => send(core, known.alloc, v, side),
+        Deed::Put(frag) => put(side, &frag),
+    }
 }
 
 fn handled(call: &Call) -> Word {
@@ -193,22 +203,5 @@ pub fn turn(core: &mut Core) -> Word {
         Ok(TurnAnswer::Handle(call)) => handled(&call),
         Ok(_) => Word::Other,
         Err(_) => Word::NoMemory,
-    }
-}
-
-fn ping_once(alloc: Global, v: i128) -> Result<Call, AllocError> {
-    let mut args = Vec::new(alloc);
-    args.push(Value::Int(v))?;
-    Ok(Call {
-        msg: MsgNo(0),
-        args,
-    })
-}
-
-/// A call of the interface's only message.
-pub fn ping(alloc: Global, v: i128) -> Result<Call, AllocError> {
-    match ping_once(alloc, v) {
-        Ok(call) => Ok(call),
-        Err(_) => ping_once(alloc, v),
     }
 }

@@ -1,34 +1,34 @@
 //! Tests of whole cores, over their public calls alone. They stand here and not in `fl_node`, since a crate with tests is proved twice.
 //!
+//! - `rows.rt`: tables, of which a test tells the first row that isn't so
 //! - `words.rt`: what steps come to, and what is compared of a core
-//! - `common.rt`: what the tests' cores are made of
+//! - `known.rt`: what the cores know in common, and how they are made
 //! - `events.rt`: a core's events, whose answers are words
-//! - `rings.rt`: the same over the two sides of a ring
+//! - `ends.rt`: ends and links that are added, joined and taken back
+//! - `rings.rt`: what is done at the two sides of a ring
 //! - `line.rt`: three cores in a line, with rings between them, driven by steps
-//! - `circuits.rt`: a circuit over them opened, used and refused
-//! - `limits.rt`: ends, numbers and outboxes
+//! - `scripts.rt`: scripts of steps: a circuit opened, used and refused; limits; ends and links
 //! - `forged.rt`: messages and fragments out of their place
-//! - `makers.rt`: ends and links that are added and taken back
 //!
 //! What is refused for want of memory leaves its cores as they were, and is done again. So with any one allocation refused
 //! (`rt try --test --fail-alloc N`) all tests pass.
 #![tactic(auto)]
 
 #[cfg(test)]
-mod circuits;
-#[cfg(test)]
-mod common;
+mod ends;
 #[cfg(test)]
 mod events;
 #[cfg(test)]
 mod forged;
 #[cfg(test)]
-mod limits;
+mod known;
 #[cfg(test)]
 mod line;
 #[cfg(test)]
-mod makers;
-#[cfg(test)]
 mod rings;
+#[cfg(test)]
+mod rows;
+#[cfg(test)]
+mod scripts;
 #[cfg(test)]
 mod words;

@@ -1,10 +1,10 @@
 //! What steps come to, and what is compared of a core.
 
-use fl_base::{Circuit, LinkId};
-use fl_node::Core;
+use fl_base::{Circuit, LinkId, MsgNo};
+use fl_node::{Core, Inlet, Outlet};
 
 /// What a step came to.
-#[derive(Clone, Copy, Debug, PartialEq, Eq)]
+#[derive(Clone, Copy, PartialEq, Eq)]
 pub enum Word {
     Begun,
     Written,
@@ -20,6 +20,19 @@ pub enum Word {
     Handled(i128),
     /// Refused for the fault of this number.
     Refused(u8),
+    /// So many were done in turn, and then all were, or the next had no room.
+    Times(usize),
+    /// So many were done in turn, and the next was refused for the fault of this number.
+    Until(usize, u8),
+    /// The places of both ends of a binding.
+    Joined(usize, usize),
+    /// A place, if there is one.
+    At(Option<usize>),
+    /// Where an end puts, and from where it takes.
+    Queues(Outlet, Inlet),
+    Linked(LinkId),
+    /// To which message the first one is replied, at an end and at another.
+    Rules(Option<MsgNo>, Option<MsgNo>),
     NoMemory,
     /// Refused for want of memory, and a core is not as it was.
     Changed,
@@ -34,37 +47,38 @@ pub fn refused(number: u8) -> Word {
     Word::Refused(number)
 }
 
-/// What is compared of a core: how many ends it has, and which is due; what waits for its links, its own next numbers there and the neighbours'.
+// What waits for a link, its own next number there and the neighbour's.
+#[derive(Clone, Copy, PartialEq, Eq)]
+struct Lane {
+    waiting: Option<usize>,
+    next: Option<Circuit>,
+    expected: Option<Circuit>,
+}
+
+/// What is compared of a core: how many ends it has, and which is due; and its first two links.
 #[derive(Clone, Copy, PartialEq, Eq)]
 pub struct State {
     ends: usize,
     due: Option<usize>,
-    waiting: [usize; 2],
-    next: [Option<Circuit>; 2],
-    expected: [Option<Circuit>; 2],
+    near: Lane,
+    far: Lane,
 }
 
-fn waiting(core: &Core, link: u16) -> usize {
-    match core.monitor().outbox(LinkId(link)) {
-        Some(outbox) => outbox.waiting(),
-        None => 0,
+fn waiting(core: &Core, link: LinkId) -> Option<usize> {
+    let outbox = core.monitor().outbox(link)?;
+    Some(outbox.waiting())
+}
+
+fn lane_of(core: &Core, link: LinkId) -> Lane {
+    Lane {
+        waiting: waiting(core, link),
+        next: core.monitor().circuits().next(link),
+        expected: core.monitor().circuits().expected(link),
     }
 }
 
-fn next(core: &Core, link: u16) -> Option<Circuit> {
-    core.monitor().circuits().next(LinkId(link))
-}
-
-fn expected(core: &Core, link: u16) -> Option<Circuit> {
-    core.monitor().circuits().expected(LinkId(link))
-}
-
-fn ends(core: &Core) -> usize {
-    core.board().ends()
-}
-
-/// The end that is due at a core's first dispatcher.
-pub fn due(core: &Core) -> Option<usize> {
+// The end that is due at a core's first dispatcher.
+fn due(core: &Core) -> Option<usize> {
     if core.board().dispatchers() == 0 {
         return None;
     }
@@ -73,15 +87,9 @@ pub fn due(core: &Core) -> Option<usize> {
 
 pub fn state_of(core: &Core) -> State {
     State {
-        ends: ends(core),
+        ends: core.board().ends(),
         due: due(core),
-        waiting: [waiting(core, 0), waiting(core, 1)],
-        next: [next(core, 0), next(core, 1)],
-        expected: [expected(core, 0), expected(core, 1)],
+        near: lane_of(core, LinkId(0)),
+        far: lane_of(core, LinkId(1)),
     }
-}
-
-/// Whether a core is as it was.
-pub fn is_as(core: &Core, before: &State) -> bool {
-    state_of(core) == *before
 }

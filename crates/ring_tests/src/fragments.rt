@@ -6,7 +6,7 @@ ghost use Rattle.fl_base.specs.Control.{is_ack_only};
 use fl_base::Frag;
 use fl_link::{Link, Passed, PutFault, PutSide, Sight, TakeSide, Told, pass};
 
-// The only fragment of `ping(v)`, message 0 of its interface.
+/// The only fragment of `ping(v)`, message 0 of its interface.
 pub fn ping(v: u64) -> Frag
     ensures data { is_ack_only result ≡ false }
 {
@@ -16,7 +16,7 @@ pub fn ping(v: u64) -> Frag
     }
 }
 
-// What a look finds where `ping(v)` stands with this control word.
+/// What a look finds where `ping(v)` stands with this control word.
 pub fn arrived(v: u64, control: u64) -> Sight {
     Sight::Data(Frag {
         words: [v, 0, 0, 0, 0, 0, 0],
@@ -24,7 +24,7 @@ pub fn arrived(v: u64, control: u64) -> Sight {
     })
 }
 
-// A caller that knows only the traits: it puts until there is no room, and says how often it could.
+/// A caller that knows only the traits: it puts until there is no room, and says how often it could.
 pub fn fill<L: Link>(link: &mut L, from: u64) -> u64 {
     for v in 0..8 {
         if link.put(&ping(from.wrapping_add(v))).is_err() {
@@ -34,8 +34,8 @@ pub fn fill<L: Link>(link: &mut L, from: u64) -> u64 {
     8
 }
 
-// A call of a link or of one of its sides, and what it has to answer. A fragment is told by its first word
-// and its control word.
+/// A call of a link or of one of its sides, and what it has to answer. A fragment is told by its first word
+/// and its control word.
 #[derive(Clone, Copy)]
 pub enum Step {
     Put(u64, Result<(), PutFault>),
@@ -49,9 +49,11 @@ pub enum Step {
     NextEpoch(u64),
     NextTold(u16),
     Known(u64),
+    /// A fragment with this last word and control word is put, looked at and taken: whether it is of a call.
+    Form(u64, u64, bool),
 }
 
-// Passes a fragment on between any two sides.
+/// Passes a fragment on between any two sides.
 pub fn pass_on<T: TakeSide, P: PutSide>(from: &mut T, to: &mut P) -> Passed {
     pass(from, to)
 }

@@ -1,47 +1,32 @@
 //! Worked examples: queues that fill, and a fragment passed on.
 
 use crate::fragments::{Step, arrived, fill, pass_on, ping};
+use crate::rows::{Row, all_hold};
 use fl_base::Frag;
 use fl_link::{
-    Cursor, LinkFault, Passed, PutFault, PutSide, QueueLink, Sight, Told, calls_alone,
-    filters_join, looks_join, queue_conserves,
+    Cursor, Passed, PutFault, PutSide, QueueLink, Sight, Told, calls_alone, filters_join,
+    looks_join, queue_conserves,
 };
-use std::process::Abort;
+use std::alloc::Global;
 use std::test::Fail;
 
-// A number of slots, and whether a local and an acked queue may have it.
-const SIZES: &[(usize, bool, bool)] = &[
-    (0, false, false),
-    (1, true, false),
-    (2, true, true),
-    (3, true, false),
-    (1_024, true, true),
-    (1_025, false, false),
-];
-
-#[test]
-fn queue_sizes(rt: HostRuntime) {
-    for (size, local, acked) in SIZES {
-        let made = QueueLink::local(rt.alloc(), *size).is_ok();
-        assert_eq!(rt; (size, made), (size, *local));
-        let made = QueueLink::acked(rt.alloc(), *size).is_ok();
-        assert_eq!(rt; (size, made), (size, *acked));
+// Puts the fragment and takes it again; says whether a look sees a fragment of a call. `None` where it
+// isn't put, or the take gets something else than the look saw.
+fn is_data(queue: &mut QueueLink, frag: &Frag) -> Option<bool> {
+    if queue.put(frag) != Ok(()) {
+        return None;
     }
+    let seen = queue.peek();
+    if queue.take() != seen {
+        return None;
+    }
+    Some(seen != Sight::Acknowledgement)
 }
 
-fn has_room_or_no_memory(rt: &impl Abort, made: Result<QueueLink, LinkFault>) {
-    match made {
-        Ok(queue) => assert!(rt; queue.room()),
-        Err(fault) => assert_eq!(rt; fault, LinkFault::Memory),
-    }
-}
-
-// The one allocation of each maker is made, or refused with the fault that says so.
-#[test]
-fn queues_without_memory(rt: HostRuntime) {
-    for size in [2, 1_024] {
-        has_room_or_no_memory(&rt, QueueLink::local(rt.alloc(), size));
-        has_room_or_no_memory(&rt, QueueLink::acked(rt.alloc(), size));
+fn with_last_word(word: u64, control: u64) -> Frag {
+    Frag {
+        words: [0, 0, 0, 0, 0, 0, word],
+        control,
     }
 }
 
@@ -59,16 +44,26 @@ fn answers(queue: &mut QueueLink, step: Step) -> bool {
         Step::NextEpoch(epoch) => queue.next_epoch() == epoch,
         Step::NextTold(told) => queue.next_told() == told,
         Step::Known(known) => queue.known() == known,
+        Step::Form(word, control, is) => {
+            is_data(queue, &with_last_word(word, control)) == Some(is)
+        }
     }
 }
 
-// Takes the steps in turn.
-fn follow(rt: &impl Abort, queue: &mut QueueLink, steps: &[Step]) {
-    for (row, step) in steps.iter().enumerate() {
-        assert_eq!(rt; (row, answers(queue, *step)), (row, true));
+// Whether the queue answers so to the steps in turn.
+fn follows(queue: &mut QueueLink, steps: &[Step]) -> bool {
+    for step in steps {
+        if !answers(queue, *step) {
+            return false;
+        }
     }
+    true
 }
 
+// Whether the queue is acked, its slots, and the steps that it takes.
+struct Script(bool, usize, &'static [Step]);
+
+// A local queue frees a slot by a take.
 const LOCAL: &[Step] = &[
     Step::Put(7, Ok(())),
     Step::Put(8, Ok(())),
@@ -83,15 +78,11 @@ const LOCAL: &[Step] = &[
     Step::TakeNothing,
 ];
 
-#[test]
-fn local_frees_by_take(rt: HostRuntime) -> Result<(), Fail> {
-    let mut queue = QueueLink::local(rt.alloc(), 2)?;
-    follow(&rt, &mut queue, LOCAL);
-    Ok(())
-}
-
-// After the queue was filled with 1 and 2.
+// An acked queue frees a slot by a tell.
 const ACKED: &[Step] = &[
+    Step::Put(1, Ok(())),
+    Step::Put(2, Ok(())),
+    Step::Put(3, Err(PutFault::Full)),
     Step::Take(1, 3),
     Step::Put(9, Err(PutFault::Full)),
     Step::Tell(Told::Written),
@@ -101,61 +92,44 @@ const ACKED: &[Step] = &[
     Step::Take(9, 2),
 ];
 
-#[test]
-fn acked_frees_by_tell(rt: HostRuntime) -> Result<(), Fail> {
-    let mut queue = QueueLink::acked(rt.alloc(), 2)?;
-    assert_eq!(rt; fill(&mut queue, 1), 2);
-    follow(&rt, &mut queue, ACKED);
-    Ok(())
-}
-
-// Puts the fragment and takes it again; says whether a look sees a fragment of a call. `None` where it
-// isn't put, or the take gets something else than the look saw.
-fn is_data(queue: &mut QueueLink, frag: &Frag) -> Option<bool> {
-    if queue.put(frag) != Ok(()) {
-        return None;
-    }
-    let seen = queue.peek();
-    if queue.take() != seen {
-        return None;
-    }
-    Some(seen != Sight::Acknowledgement)
-}
-
-// A word, a control word, and whether they make a fragment of a call.
-const FORMS: &[(u64, u64, bool)] = &[(0, 4, false), (1, 4, true), (0, 6, true), (0, 12, true)];
-
 // Bit 2 alone makes no acknowledgement: the rest has to be 0 too.
-#[test]
-fn acknowledges_by_its_whole_form(rt: HostRuntime) -> Result<(), Fail> {
-    let mut queue = QueueLink::local(rt.alloc(), 1)?;
-    for (word, control, data) in FORMS {
-        let frag = Frag {
-            words: [0, 0, 0, 0, 0, 0, *word],
-            control: *control,
+const FORMS: &[Step] = &[
+    Step::Form(0, 4, false),
+    Step::Form(1, 4, true),
+    Step::Form(0, 6, true),
+    Step::Form(0, 12, true),
+];
+
+const SCRIPTS: &[Script] = &[
+    Script(false, 2, LOCAL),
+    Script(true, 2, ACKED),
+    Script(false, 1, FORMS),
+];
+
+impl Row for Script {
+    fn holds(&self, alloc: Global) -> Result<bool, Fail> {
+        let mut queue = if self.0 {
+            QueueLink::acked(alloc, self.1)?
+        } else {
+            QueueLink::local(alloc, self.1)?
         };
-        assert_eq!(rt;
-            (control, is_data(&mut queue, &frag)),
-            (control, Some(*data))
-        );
+        Ok(follows(&mut queue, self.2))
     }
-    Ok(())
+}
+
+fn place_and_epoch(cursor: &Cursor) -> (usize, u64) {
+    (cursor.place(), cursor.epoch())
 }
 
 // The index needn't begin at 0: 65,530 is in the third place of a round of four whose epoch is 1.
-#[test]
-fn a_cursor_goes_round(rt: HostRuntime) {
+fn goes_round() -> bool {
     let mut cursor = Cursor::at(4, 65_530);
-    assert_eq!(rt; (cursor.index(), cursor.size()), (65_530, 4));
-    assert_eq!(rt; (cursor.place(), cursor.epoch()), (2, 1));
+    let begins = cursor.index() == 65_530 && cursor.size() == 4;
+    let third = place_and_epoch(&cursor);
     cursor.advance();
-    assert_eq!(rt; (cursor.place(), cursor.epoch()), (3, 1));
+    let fourth = place_and_epoch(&cursor);
     cursor.advance();
-    assert_eq!(rt; (cursor.place(), cursor.epoch()), (0, 0));
-}
-
-fn put(queue: &mut QueueLink, frag: &Frag) -> Result<(), PutFault> {
-    queue.put(frag)
+    begins && third == (2, 1) && fourth == (3, 1) && place_and_epoch(&cursor) == (0, 0)
 }
 
 const ACKNOWLEDGEMENT: Frag = Frag {
@@ -163,27 +137,57 @@ const ACKNOWLEDGEMENT: Frag = Frag {
     control: 4,
 };
 
+// One of four fragments goes on to a queue of one; the next stays first.
+fn moves_one(from: &mut QueueLink, to: &mut QueueLink) -> bool {
+    pass_on(from, to) == Passed::Nothing
+        && fill(from, 5) == 4
+        && pass_on(from, to) == Passed::Moved
+        && pass_on(from, to) == Passed::Full
+        && follows(to, &[Step::Take(5, 3), Step::NextTold(0), Step::Known(0)])
+        && follows(from, &[Step::Peek(6, 3)])
+}
+
+// What only acknowledges goes no further.
+fn keeps_acknowledgement(from: &mut QueueLink, to: &mut QueueLink) -> bool {
+    from.put(&ACKNOWLEDGEMENT) == Ok(())
+        && pass_on(from, to) == Passed::Acknowledged
+        && follows(from, &[Step::TakeNothing])
+        && follows(to, &[Step::TakeNothing])
+}
+
+fn passes_on(alloc: Global) -> Result<bool, Fail> {
+    let mut to = QueueLink::local(alloc, 1)?;
+    let mut from = QueueLink::acked(alloc, 4)?;
+    let mut acknowledges = QueueLink::local(alloc, 1)?;
+    Ok(moves_one(&mut from, &mut to) && keeps_acknowledgement(&mut acknowledges, &mut to))
+}
+
+// Examples of other things than one queue.
+#[derive(Clone, Copy)]
+enum Example {
+    Cursor,
+    PassesOn,
+}
+
+impl Row for Example {
+    fn holds(&self, alloc: Global) -> Result<bool, Fail> {
+        match self {
+            Example::Cursor => Ok(goes_round()),
+            Example::PassesOn => passes_on(alloc),
+        }
+    }
+}
+
 #[test]
-fn passes_on(rt: HostRuntime) -> Result<(), Fail> {
-    let mut from = QueueLink::acked(rt.alloc(), 4)?;
-    let mut to = QueueLink::local(rt.alloc(), 1)?;
+fn queues(rt: HostRuntime) -> Result<(), Fail> {
     looks_join::<QueueLink>();
     filters_join();
     calls_alone();
     queue_conserves();
-    assert_eq!(rt; pass_on(&mut from, &mut to), Passed::Nothing);
-    assert_eq!(rt; fill(&mut from, 5), 4);
-    assert_eq!(rt; pass_on(&mut from, &mut to), Passed::Moved);
-    assert_eq!(rt; pass_on(&mut from, &mut to), Passed::Full);
-    follow(
-        &rt,
-        &mut to,
-        &[Step::Take(5, 3), Step::NextTold(0), Step::Known(0)],
-    );
-    follow(&rt, &mut from, &[Step::Peek(6, 3)]);
-    let mut acknowledges = QueueLink::local(rt.alloc(), 1)?;
-    assert_eq!(rt; put(&mut acknowledges, &ACKNOWLEDGEMENT), Ok(()));
-    assert_eq!(rt; pass_on(&mut acknowledges, &mut to), Passed::Acknowledged);
-    follow(&rt, &mut acknowledges, &[Step::TakeNothing]);
-    Ok(())
+    all_hold(rt.alloc(), "scripts", SCRIPTS)?;
+    all_hold(
+        rt.alloc(),
+        "examples",
+        &[Example::Cursor, Example::PassesOn],
+    )
 }

@@ -1,10 +1,71 @@
-//! Lists: the worked example, each refusal of memory, and random calls.
+//! Lists: worked examples, and random calls beside slow lists.
 
-use crate::three_vectors::{ThreeVectors, next_random, random_place};
+use crate::rows::{Row, all_hold};
+use crate::slow::{Slow, next_random, random_place};
 use fl_lists::{Lists, Place};
-use std::alloc::AllocError;
-use std::process::Abort;
+use std::alloc::{AllocError, Global};
 use std::test::Fail;
+
+// What is asked of lists.
+#[derive(Clone, Copy)]
+enum Asked {
+    /// To have a node go to the back of a list, or out of all, by the call for it; and where it stood.
+    Go(usize, Option<Place>),
+    /// Where a node stands.
+    Stands(usize),
+    /// Which node is the first of a list.
+    First(Place),
+    /// The same, and to take it out.
+    Pop(Place),
+}
+
+// What lists say.
+#[derive(Clone, Copy, PartialEq, Eq)]
+enum Said {
+    At(Option<Place>),
+    Node(Option<usize>),
+}
+
+// Lists of so many nodes are asked these in turn.
+struct Script(usize, &'static [(Asked, Said)]);
+
+const MOVES: &[(Asked, Said)] = &[
+    // pushed
+    (Asked::Go(0, Some(Place::Polled)), Said::At(None)),
+    (Asked::Go(1, Some(Place::Polled)), Said::At(None)),
+    (Asked::Go(2, Some(Place::Polled)), Said::At(None)),
+    // moved, also to the back of its own list
+    (
+        Asked::Go(1, Some(Place::Pending)),
+        Said::At(Some(Place::Polled)),
+    ),
+    (
+        Asked::Go(0, Some(Place::Polled)),
+        Said::At(Some(Place::Polled)),
+    ),
+    // pushed behind a node that was moved there
+    (Asked::Go(3, Some(Place::Pending)), Said::At(None)),
+    // taken out
+    (Asked::Go(1, None), Said::At(Some(Place::Pending))),
+    // where they stand then
+    (Asked::Stands(0), Said::At(Some(Place::Polled))),
+    (Asked::Stands(1), Said::At(None)),
+    (Asked::Stands(3), Said::At(Some(Place::Pending))),
+    (Asked::First(Place::Idle), Said::Node(None)),
+    (Asked::First(Place::Polled), Said::Node(Some(2))),
+    // and in which order
+    (Asked::Pop(Place::Polled), Said::Node(Some(2))),
+    (Asked::Pop(Place::Polled), Said::Node(Some(0))),
+    (Asked::Pop(Place::Polled), Said::Node(None)),
+    (Asked::Pop(Place::Pending), Said::Node(Some(3))),
+    (Asked::Pop(Place::Pending), Said::Node(None)),
+    (Asked::Pop(Place::Idle), Said::Node(None)),
+];
+
+const SCRIPTS: &[Script] = &[
+    Script(4, MOVES),
+    Script(0, &[(Asked::Pop(Place::Pending), Said::Node(None))]),
+];
 
 // What a list says of a node, where there is one.
 fn place_of(lists: &Lists, node: usize) -> Option<Place> {
@@ -14,7 +75,7 @@ fn place_of(lists: &Lists, node: usize) -> Option<Place> {
     None
 }
 
-// Has the node go to the back of this list, or out of all, by the call for it; and says where it stood.
+// Has a node go by the call for it; and says where it stood.
 fn go(lists: &mut Lists, node: usize, to: Option<Place>) -> Option<Place> {
     if node >= lists.size() {
         return None;
@@ -29,137 +90,110 @@ fn go(lists: &mut Lists, node: usize, to: Option<Place>) -> Option<Place> {
     was
 }
 
-fn first(lists: &Lists, place: Place) -> Option<usize> {
-    lists.front(place)
+fn ask(lists: &mut Lists, asked: Asked) -> Said {
+    match asked {
+        Asked::Go(node, to) => Said::At(go(lists, node, to)),
+        Asked::Stands(node) => Said::At(place_of(lists, node)),
+        Asked::First(place) => Said::Node(lists.front(place)),
+        Asked::Pop(place) => Said::Node(lists.pop_front(place)),
+    }
 }
 
-fn pop(lists: &mut Lists, place: Place) -> Option<usize> {
-    lists.pop_front(place)
-}
-
-// A node, where it stands, and where it goes.
-const MOVES: &[(usize, Option<Place>, Option<Place>)] = &[
-    // pushed
-    (0, None, Some(Place::Polled)),
-    (1, None, Some(Place::Polled)),
-    (2, None, Some(Place::Polled)),
-    // moved
-    (1, Some(Place::Polled), Some(Place::Pending)),
-    (0, Some(Place::Polled), Some(Place::Polled)),
-    // pushed
-    (3, None, Some(Place::Pending)),
-    // taken out
-    (1, Some(Place::Pending), None),
-];
-
-// A node, and where it stands then.
-const STOOD: &[(usize, Option<Place>)] = &[
-    (0, Some(Place::Polled)),
-    (1, None),
-    (3, Some(Place::Pending)),
-];
-
-// A list, and the node that is popped off it.
-const POPPED: &[(Place, Option<usize>)] = &[
-    (Place::Polled, Some(2)),
-    (Place::Polled, Some(0)),
-    (Place::Polled, None),
-    (Place::Pending, Some(3)),
-    (Place::Pending, None),
-    (Place::Idle, None),
-];
-
-#[test]
-fn pushes_moves_and_takes_out(rt: HostRuntime) -> Result<(), Fail> {
-    let mut lists = Lists::new(rt.alloc(), 4)?;
-    assert_eq!(rt; lists.size(), 4);
-    for (node, was, to) in MOVES {
-        assert_eq!(rt; (node, go(&mut lists, *node, *to)), (node, *was));
-    }
-    for (node, place) in STOOD {
-        assert_eq!(rt; (node, place_of(&lists, *node)), (node, *place));
-    }
-    assert_eq!(rt; first(&lists, Place::Idle), None);
-    assert_eq!(rt; first(&lists, Place::Polled), Some(2));
-    for (place, node) in POPPED {
-        assert_eq!(rt; (place, pop(&mut lists, *place)), (place, *node));
-    }
-    Ok(())
-}
-
-// The one allocation is made, or refused with the error that says so.
-#[test]
-fn lists_without_memory(rt: HostRuntime) {
-    for size in [1, 1_024] {
-        if let Ok(lists) = Lists::new(rt.alloc(), size) {
-            assert_eq!(rt; lists.size(), size);
-            assert_eq!(rt; lists.place_of(size - 1), None);
+fn answer(lists: &mut Lists, rows: &[(Asked, Said)]) -> bool {
+    for (asked, said) in rows {
+        if ask(lists, *asked) != *said {
+            return false;
         }
     }
-    assert!(rt; Lists::new(rt.alloc(), usize::MAX).is_err());
+    true
 }
 
-#[test]
-fn no_nodes(rt: HostRuntime) -> Result<(), Fail> {
-    let mut lists = Lists::new(rt.alloc(), 0)?;
-    assert_eq!(rt; lists.size(), 0);
-    assert_eq!(rt; lists.pop_front(Place::Pending), None);
-    Ok(())
+impl Row for Script {
+    fn holds(&self, alloc: Global) -> Result<bool, Fail> {
+        let mut lists = Lists::new(alloc, self.0)?;
+        Ok(lists.size() == self.0 && answer(&mut lists, self.1))
+    }
 }
 
-// One call of each of the two, which have to answer alike.
+// One call of each of the two: whether they answer alike.
 fn call(
-    rt: &impl Abort,
     fast: &mut Lists,
-    slow: &mut ThreeVectors,
+    slow: &mut Slow,
     c: u16,
     place: Place,
     moves: bool,
-) -> Result<(), AllocError> {
-    let node = usize::from(c);
-    if node >= fast.size() {
-        return Ok(());
-    }
-    let was = fast.place_of(node);
-    assert_eq!(rt; was, slow.place_of(c), "node {c}");
+) -> Result<bool, AllocError> {
+    let was = slow.place_of(c);
+    let to = if moves || was.is_none() {
+        Some(place)
+    } else {
+        None
+    };
     slow.remove(c);
-    if was.is_none() {
-        fast.push_back(node, place);
-        return slow.push(c, place);
+    if let Some(place) = to {
+        slow.push(c, place)?;
     }
-    if moves {
-        fast.move_to_back(node, place);
-        return slow.push(c, place);
-    }
-    fast.unlink(node);
-    Ok(())
+    Ok(
+        go(fast, usize::from(c), to) == was
+            && fast.front(place) == slow.first(place).map(usize::from),
+    )
 }
 
-// The lists are the same, from the first node to the last.
-fn drain(rt: &impl Abort, fast: &mut Lists, place: Place, wanted: &[u16]) {
-    for c in wanted {
-        assert_eq!(rt; fast.pop_front(place), Some(usize::from(*c)));
-    }
-    assert_eq!(rt; fast.pop_front(place), None);
-}
-
-// Random calls over six nodes. After ever more calls the lists agree.
-#[test]
-fn lists_agree_with_three_vectors(rt: HostRuntime) -> Result<(), Fail> {
-    let mut random: u64 = 7;
-    for calls in 0..80 {
-        let mut fast = Lists::new(rt.alloc(), 6)?;
-        let mut slow = ThreeVectors::new(rt.alloc());
-        for _ in 0..calls {
-            random = next_random(random);
-            let place = random_place(random);
-            let c = ((random >> 40) % 6) as u16;
-            call(&rt, &mut fast, &mut slow, c, place, random >> 33 & 3 != 0)?;
-            assert_eq!(rt; fast.front(place), slow.first(place).map(usize::from));
+// Whether so many random calls are answered alike; `random` goes on.
+fn call_each(
+    fast: &mut Lists,
+    slow: &mut Slow,
+    calls: usize,
+    random: &mut u64,
+) -> Result<bool, AllocError> {
+    for _ in 0..calls {
+        *random = next_random(*random);
+        let c = ((*random >> 40) % 6) as u16;
+        if !call(fast, slow, c, random_place(*random), *random >> 33 & 3 != 0)? {
+            return Ok(false);
         }
-        drain(&rt, &mut fast, Place::Idle, &slow.idle);
-        drain(&rt, &mut fast, Place::Polled, &slow.polled);
-        drain(&rt, &mut fast, Place::Pending, &slow.pending);
     }
-    Ok(())
+    Ok(true)
+}
+
+const PLACES: &[Place] = &[Place::Idle, Place::Polled, Place::Pending];
+
+// Whether the lists are the same, from the first node to the last.
+fn drain(fast: &mut Lists, slow: &mut Slow) -> bool {
+    for place in PLACES {
+        for _ in 0..7 {
+            if fast.pop_front(*place) != slow.pop(*place).map(usize::from) {
+                return false;
+            }
+        }
+    }
+    true
+}
+
+// So many random calls over six nodes.
+struct Random(usize);
+
+fn agrees(alloc: Global, calls: usize, random: &mut u64) -> Result<bool, AllocError> {
+    let mut fast = Lists::new(alloc, 6)?;
+    let mut slow = Slow::new(alloc);
+    Ok(call_each(&mut fast, &mut slow, calls, random)? && drain(&mut fast, &mut slow))
+}
+
+// After each number of calls the lists agree.
+impl Row for Random {
+    fn holds(&self, alloc: Global) -> Result<bool, Fail> {
+        let mut random: u64 = 7;
+        for calls in 0..self.0 {
+            if !agrees(alloc, calls, &mut random)? {
+                return Ok(false);
+            }
+        }
+        Ok(true)
+    }
+}
+
+#[test]
+fn lists_answer(rt: HostRuntime) -> Result<(), Fail> {
+    all_hold(rt.alloc(), "scripts", SCRIPTS)?;
+    all_hold(rt.alloc(), "random calls", &[Random(80)])
 }

@@ -6,11 +6,10 @@ ghost use Rattle.fl_link.specs.Looks.{placed, peeked, taken};
 ghost use Rattle.fl_ring.specs.Duo.{DuoPuts, DuoTakes};
 
 use crate::fragments::{Step, arrived, fill, pass_on, ping};
+use crate::rows::{Row, all_hold};
 use fl_base::Frag;
 use fl_link::{Link, Passed, PutFault, PutSide, QueueLink, Sight, TakeSide, Told};
-use fl_ring::{
-    OneDuo, OneRing, RingFault, Which, count_from, duo_conserves, forgets_looks, ring_conserves,
-};
+use fl_ring::{OneDuo, OneRing, Which, count_from, duo_conserves, forgets_looks, ring_conserves};
 use std::alloc::{AllocError, Global};
 use std::test::Fail;
 
@@ -85,34 +84,6 @@ fn look_and_take_memory(
     }
 }
 
-// A number of slots, and whether a ring and a duo may have it.
-const SIZES: &[(usize, bool, bool)] = &[
-    (0, false, false),
-    (1, false, false),
-    (2, true, false),
-    (3, false, false),
-    (4, true, true),
-    (1_024, true, true),
-    (1_025, false, false),
-    (2_048, false, false),
-];
-
-#[test]
-fn ring_sizes(rt: HostRuntime) {
-    for (size, ring, duo) in SIZES {
-        let made = OneRing::new(rt.alloc(), *size).is_ok();
-        assert_eq!(rt; (size, made), (size, *ring));
-        let made = OneDuo::new(rt.alloc(), *size).is_ok();
-        assert_eq!(rt; (size, made), (size, *duo));
-    }
-}
-
-// Short names for the calls below.
-
-fn put(ring: &mut OneRing, v: u64) -> Result<(), PutFault> {
-    ring.put(&ping(v))
-}
-
 // Whether each of these words stands in its place.
 fn stand(words: &[u64], wanted: &[(usize, u64)]) -> bool {
     for (i, value) in wanted {
@@ -123,32 +94,22 @@ fn stand(words: &[u64], wanted: &[(usize, u64)]) -> bool {
     true
 }
 
-fn put_at(duo: &mut OneDuo, which: Which, v: u64) -> Result<(), PutFault> {
-    put_by_side(duo, which, &ping(v))
-}
-
-fn take_at(duo: &mut OneDuo, which: Which) -> Sight {
-    take_by_side(duo, which)
-}
-
-fn tell_at(duo: &mut OneDuo, which: Which) -> Result<Told, PutFault> {
-    duo.tell(which)
-}
-
-fn take(ring: &mut OneRing) -> Sight {
-    ring.take()
-}
-
-fn tell(ring: &mut OneRing) -> Told {
-    ring.tell()
+// How many words there are, if all are 0.
+fn zeros(words: &[u64]) -> Option<usize> {
+    for word in words {
+        if *word != 0 {
+            return None;
+        }
+    }
+    Some(words.len())
 }
 
 // Takes a step, and says whether the ring answers so.
 fn ring_answers(ring: &mut OneRing, step: Step) -> bool {
     match step {
-        Step::Put(v, answer) => put(ring, v) == answer,
-        Step::Take(v, control) => take(ring) == arrived(v, control),
-        Step::Tell(told) => tell(ring) == told,
+        Step::Put(v, answer) => ring.put(&ping(v)) == answer,
+        Step::Take(v, control) => ring.take() == arrived(v, control),
+        Step::Tell(told) => ring.tell() == told,
         _ => false,
     }
 }
@@ -164,29 +125,44 @@ const RING_OF_TWO: &[(Step, &[(usize, u64)])] = &[
     (Step::Put(7, Ok(())), &[(7, 2), (15, 3)]),
 ];
 
-#[test]
-fn a_ring_of_two(rt: HostRuntime) -> Result<(), Fail> {
-    let mut ring = OneRing::new(rt.alloc(), 2)?;
-    for (row, (step, words)) in RING_OF_TWO.iter().enumerate() {
-        assert_eq!(rt; (row, ring_answers(&mut ring, *step)), (row, true));
-        assert_eq!(rt; (row, stand(ring.words(), words)), (row, true));
+fn ring_follows(ring: &mut OneRing, rows: &[(Step, &[(usize, u64)])]) -> bool {
+    for (step, words) in rows {
+        if !ring_answers(ring, *step) || !stand(ring.words(), words) {
+            return false;
+        }
     }
-    Ok(())
+    true
+}
+
+fn a_ring_of_two(alloc: Global) -> Result<bool, Fail> {
+    let mut ring = OneRing::new(alloc, 2)?;
+    Ok(ring_follows(&mut ring, RING_OF_TWO))
+}
+
+fn begins_with_zeros(alloc: Global) -> Result<bool, Fail> {
+    let ring = OneRing::new(alloc, 4)?;
+    Ok(zeros(ring.words()) == Some(33))
 }
 
 // Takes a step at this side, and says whether it answers so.
 fn duo_answers(duo: &mut OneDuo, which: Which, step: Step) -> bool {
     match step {
-        Step::Put(v, answer) => put_at(duo, which, v) == answer,
-        Step::Take(v, control) => take_at(duo, which) == arrived(v, control),
-        Step::TakeAcknowledgement => take_at(duo, which) == Sight::Acknowledgement,
-        Step::Tell(told) => tell_at(duo, which) == Ok(told),
+        Step::Put(v, answer) => put_by_side(duo, which, &ping(v)) == answer,
+        Step::Take(v, control) => take_by_side(duo, which) == arrived(v, control),
+        Step::TakeAcknowledgement => take_by_side(duo, which) == Sight::Acknowledgement,
+        Step::Tell(told) => duo.tell(which) == Ok(told),
         _ => false,
     }
 }
 
-// After side one was filled: whose step it is, the step, and words that stand there then.
-const DUO_OF_FOUR: &[(Which, Step, &[(usize, u64)])] = &[
+// Whose step it is, the step, and words that stand there then.
+type DuoRow = (Which, Step, &'static [(usize, u64)]);
+
+const DUO_OF_FOUR: &[DuoRow] = &[
+    (Which::One, Step::Put(0, Ok(())), &[]),
+    (Which::One, Step::Put(1, Ok(())), &[]),
+    (Which::One, Step::Put(2, Ok(())), &[]),
+    (Which::One, Step::Put(3, Err(PutFault::Full)), &[]),
     (Which::Two, Step::Take(0, 3), &[]),
     (Which::Two, Step::Tell(Told::Nothing), &[]),
     (Which::One, Step::Put(4, Err(PutFault::Full)), &[]),
@@ -205,77 +181,42 @@ const DUO_OF_FOUR: &[(Which, Step, &[(usize, u64)])] = &[
     ),
 ];
 
-#[test]
-fn a_duo_of_four(rt: HostRuntime) -> Result<(), Fail> {
-    let mut duo = OneDuo::new(rt.alloc(), 4)?;
-    assert_eq!(rt; fill(&mut duo.side(Which::One), 0), 3);
-    for (row, (which, step, words)) in DUO_OF_FOUR.iter().enumerate() {
-        assert_eq!(rt; (row, duo_answers(&mut duo, *which, *step)), (row, true));
-        assert_eq!(rt; (row, stand(duo.words(), words)), (row, true));
+fn duo_follows(duo: &mut OneDuo, rows: &[DuoRow]) -> bool {
+    for (which, step, words) in rows {
+        if !duo_answers(duo, *which, *step) || !stand(duo.words(), words) {
+            return false;
+        }
     }
-    Ok(())
+    true
 }
 
-fn known_at(duo: &OneDuo, which: Which) -> u64 {
-    duo.known(which)
-}
-
-fn look_at(duo: &mut OneDuo, which: Which) -> Sight {
-    duo.peek(which)
-}
-
-fn look_and_forget_at(duo: &mut OneDuo, which: Which) -> Sight {
-    look_and_forget(duo, which)
+// It begins with zeros.
+fn a_duo_of_four(alloc: Global) -> Result<bool, Fail> {
+    let mut duo = OneDuo::new(alloc, 4)?;
+    Ok(zeros(duo.words()) == Some(64) && duo_follows(&mut duo, DUO_OF_FOUR))
 }
 
 // Side one puts a fragment and side two takes it, and answers with one that tells so.
-fn ask_and_answer(duo: &mut OneDuo) -> bool {
-    put_at(duo, Which::One, 7) == Ok(())
-        && take_at(duo, Which::Two) == arrived(7, 3)
-        && put_at(duo, Which::Two, 8) == Ok(())
-}
+const ASKED_AND_ANSWERED: &[DuoRow] = &[
+    (Which::One, Step::Put(7, Ok(())), &[]),
+    (Which::Two, Step::Take(7, 3), &[]),
+    (Which::Two, Step::Put(8, Ok(())), &[]),
+];
 
 // A look tells side one that its fragment was taken; forgotten, it is told again by the next.
-#[test]
-fn forgets_what_a_look_told(rt: HostRuntime) -> Result<(), Fail> {
-    let mut duo = OneDuo::new(rt.alloc(), 4)?;
-    assert!(rt; ask_and_answer(&mut duo));
+fn forgets(duo: &mut OneDuo) -> bool {
     let answer = arrived(8, 0x0001_0000_0000_0003);
-    assert_eq!(rt; look_and_forget_at(&mut duo, Which::One), answer);
-    assert_eq!(rt; known_at(&duo, Which::One), 0);
-    assert_eq!(rt; look_at(&mut duo, Which::One), answer);
-    assert_eq!(rt; known_at(&duo, Which::One), 1);
-    let room = look_and_take_memory(rt.alloc(), &mut duo, Which::One)?;
-    assert!(rt; room.is_empty());
-    ring_conserves();
-    duo_conserves();
-    Ok(())
+    look_and_forget(duo, Which::One) == answer
+        && duo.known(Which::One) == 0
+        && duo.peek(Which::One) == answer
+        && duo.known(Which::One) == 1
 }
 
-// Whether all of these words are 0, and how many they are.
-fn zeros(words: &[u64]) -> (usize, bool) {
-    (words.len(), words.iter().all(|word| *word == 0))
-}
-
-#[test]
-fn begin_with_zeros(rt: HostRuntime) -> Result<(), Fail> {
-    let ring = OneRing::new(rt.alloc(), 4)?;
-    assert_eq!(rt; zeros(ring.words()), (33, true));
-    let duo = OneDuo::new(rt.alloc(), 4)?;
-    assert_eq!(rt; zeros(duo.words()), (64, true));
-    Ok(())
-}
-
-fn put_local(queue: &mut QueueLink, v: u64) -> Result<(), PutFault> {
-    PutSide::put(queue, &ping(v))
-}
-
-fn take_local(queue: &mut QueueLink) -> Sight {
-    TakeSide::take(queue)
-}
-
-fn tell_acked(queue: &mut QueueLink) -> Result<Told, PutFault> {
-    TakeSide::tell(queue)
+fn forgets_what_a_look_told(alloc: Global) -> Result<bool, Fail> {
+    let mut duo = OneDuo::new(alloc, 4)?;
+    let forgets = duo_follows(&mut duo, ASKED_AND_ANSWERED) && forgets(&mut duo);
+    let room = look_and_take_memory(alloc, &mut duo, Which::One)?;
+    Ok(forgets && room.is_empty())
 }
 
 // What a tell of side two of a duo does after the fragment `v`, and then a look of side one: side two tells
@@ -287,116 +228,176 @@ fn told_and_passed(v: u64) -> (Told, Passed) {
     (Told::Written, Passed::Acknowledged)
 }
 
-// Whether a fragment goes through each kind of link in turn.
-fn goes_through(
-    local: &mut QueueLink,
-    acked: &mut QueueLink,
-    ring: &mut OneRing,
-    duo: &mut OneDuo,
-    v: u64,
-) -> bool {
-    let (told, passed) = told_and_passed(v);
-    pass_on(&mut duo.side(Which::Two), local) == Passed::Nothing
-        && put_local(local, v) == Ok(())
+fn put_local(queue: &mut QueueLink, v: u64) -> bool {
+    PutSide::put(queue, &ping(v)) == Ok(())
+}
+
+fn take_local(queue: &mut QueueLink) -> Sight {
+    TakeSide::take(queue)
+}
+
+// Whether a fragment goes from a local queue through an acked one into a ring.
+fn goes_to_ring(local: &mut QueueLink, acked: &mut QueueLink, ring: &mut OneRing, v: u64) -> bool {
+    put_local(local, v)
         && pass_on(local, acked) == Passed::Moved
         && pass_on(acked, ring) == Passed::Moved
+        && TakeSide::tell(acked) == Ok(Told::Written)
+}
+
+// Whether it goes from there through a duo into the local queue, and what the duo's sides tell then.
+fn goes_from_ring(local: &mut QueueLink, ring: &mut OneRing, duo: &mut OneDuo, v: u64) -> bool {
+    let (told, passed) = told_and_passed(v);
+    pass_on(&mut duo.side(Which::Two), local) == Passed::Nothing
         && pass_on(ring, &mut duo.side(Which::One)) == Passed::Moved
         && pass_on(&mut duo.side(Which::Two), local) == Passed::Moved
         && take_local(local) == arrived(v, 3)
-        && tell_acked(acked) == Ok(Told::Written)
-        && tell(ring) == Told::Written
-        && tell_at(duo, Which::Two) == Ok(told)
+        && ring.tell() == Told::Written
+        && duo.tell(Which::Two) == Ok(told)
         && pass_on(&mut duo.side(Which::One), local) == passed
 }
 
 // Ten of them, so that each link wraps round.
-#[test]
-fn passes_through_each(rt: HostRuntime) -> Result<(), Fail> {
-    let mut local = QueueLink::local(rt.alloc(), 1)?;
-    let mut acked = QueueLink::acked(rt.alloc(), 2)?;
-    let mut ring = OneRing::new(rt.alloc(), 2)?;
-    let mut duo = OneDuo::new(rt.alloc(), 4)?;
+fn ten_go_through(
+    local: &mut QueueLink,
+    acked: &mut QueueLink,
+    ring: &mut OneRing,
+    duo: &mut OneDuo,
+) -> bool {
     for v in 0..10 {
-        let goes = goes_through(&mut local, &mut acked, &mut ring, &mut duo, v);
-        assert_eq!(rt; (v, goes), (v, true));
+        if !goes_to_ring(local, acked, ring, v) || !goes_from_ring(local, ring, duo, v) {
+            return false;
+        }
     }
-    Ok(())
+    true
+}
+
+fn passes_through_each(alloc: Global) -> Result<bool, Fail> {
+    let mut local = QueueLink::local(alloc, 1)?;
+    let mut acked = QueueLink::acked(alloc, 2)?;
+    let mut ring = OneRing::new(alloc, 2)?;
+    let mut duo = OneDuo::new(alloc, 4)?;
+    Ok(ten_go_through(&mut local, &mut acked, &mut ring, &mut duo))
 }
 
 // What a link says of itself.
 type Said = (bool, u64, u16, u64);
 
 // How many fragments fill the link; what it says then; what a look, a take and a tell do; and what it says then.
-fn of_itself<L: Link>(link: &mut L) -> (u64, Said, (Sight, Sight, bool), Said) {
+type OfItself = (u64, Said, (Sight, Sight, bool), Said);
+
+fn of_itself<L: Link>(link: &mut L) -> OfItself {
     let filled = fill(link, 0);
     let full = said(link);
     let looked = look_take_tell(link);
     (filled, full, looked, said(link))
 }
 
-// The same of a duo that is filled by side two and read by side one; and what each says then.
-fn duo_of_itself(duo: &mut OneDuo) -> (u64, Said, (Sight, Sight, bool), Said, Said) {
+// The same of a duo that is filled by side two and read by side one; and what that one says then.
+fn duo_of_itself(duo: &mut OneDuo) -> (OfItself, Said) {
     let filled = fill(&mut duo.side(Which::Two), 0);
     let full = said(&duo.side(Which::Two));
     let looked = look_take_tell(&mut duo.side(Which::One));
     let two = said(&duo.side(Which::Two));
-    (filled, full, looked, two, said(&duo.side(Which::One)))
+    ((filled, full, looked, two), said(&duo.side(Which::One)))
 }
 
-#[test]
-fn each_tells_of_itself(rt: HostRuntime) -> Result<(), Fail> {
-    let first = arrived(0, 3);
-    let (kept, told) = ((first, first, false), (first, first, true));
-    let mut local = QueueLink::local(rt.alloc(), 2)?;
-    let (full, then) = ((false, 1, 0, 0), (true, 1, 0, 0));
-    assert_eq!(rt; of_itself(&mut local), (2, full, kept, then));
-    let mut acked = QueueLink::acked(rt.alloc(), 2)?;
-    let (full, then) = ((false, 0, 0, 0), (true, 0, 0, 0));
-    assert_eq!(rt; of_itself(&mut acked), (2, full, told, then));
-    let mut ring = OneRing::new(rt.alloc(), 2)?;
-    let then = (true, 0, 0, 1);
-    assert_eq!(rt; of_itself(&mut ring), (2, full, told, then));
-    let mut duo = OneDuo::new(rt.alloc(), 4)?;
-    let (two, one) = ((false, 1, 0, 0), (true, 1, 1, 0));
-    assert_eq!(rt; duo_of_itself(&mut duo), (3, two, kept, two, one));
-    Ok(())
+// What a look and a take get of the first fragment, and whether a tell then writes.
+fn first(tells: bool) -> (Sight, Sight, bool) {
+    (arrived(0, 3), arrived(0, 3), tells)
 }
 
-// The one allocation of each maker is made, or refused with the fault that says so.
-#[test]
-fn rings_without_memory(rt: HostRuntime) {
-    for size in [4, 1_024] {
-        match OneRing::new(rt.alloc(), size) {
-            Ok(ring) => assert!(rt; ring.room()),
-            Err(fault) => assert_eq!(rt; fault, RingFault::Memory),
-        }
-        match OneDuo::new(rt.alloc(), size) {
-            Ok(duo) => assert!(rt; duo.room(Which::One)),
-            Err(fault) => assert_eq!(rt; fault, RingFault::Memory),
-        }
-    }
+fn a_local_queue(alloc: Global) -> Result<bool, Fail> {
+    let mut queue = QueueLink::local(alloc, 2)?;
+    let wanted = (2, (false, 1, 0, 0), first(false), (true, 1, 0, 0));
+    Ok(of_itself(&mut queue) == wanted)
+}
+
+fn an_acked_queue(alloc: Global) -> Result<bool, Fail> {
+    let mut queue = QueueLink::acked(alloc, 2)?;
+    let wanted = (2, (false, 0, 0, 0), first(true), (true, 0, 0, 0));
+    Ok(of_itself(&mut queue) == wanted)
+}
+
+fn a_ring(alloc: Global) -> Result<bool, Fail> {
+    let mut ring = OneRing::new(alloc, 2)?;
+    let wanted = (2, (false, 0, 0, 0), first(true), (true, 0, 0, 1));
+    Ok(of_itself(&mut ring) == wanted)
+}
+
+fn a_duo(alloc: Global) -> Result<bool, Fail> {
+    let mut duo = OneDuo::new(alloc, 4)?;
+    let two = (false, 1, 0, 0);
+    Ok(duo_of_itself(&mut duo) == ((3, two, first(false), two), (true, 1, 1, 0)))
 }
 
 // What is known, a number of 16 bits, and the count that it names.
-const COUNTS: &[(u64, u16, u64)] = &[
-    (0, 0, 0),
-    (0, 2, 2),
-    (65_530, 65_535, 65_535),
-    (65_530, 0, 65_536),
-    (65_536, 65_535, 131_071),
+struct Count(u64, u16, u64);
+
+const COUNTS: &[Count] = &[
+    Count(0, 0, 0),
+    Count(0, 2, 2),
+    Count(65_530, 65_535, 65_535),
+    Count(65_530, 0, 65_536),
+    Count(65_536, 65_535, 131_071),
 ];
 
-// The count, where it is far from the end of all counts.
-fn named(known: u64, number: u16) -> Option<u64> {
-    if known >= 1 << 62 {
-        return None;
+impl Row for Count {
+    // The counts are far from the end of all counts.
+    fn holds(&self, _alloc: Global) -> Result<bool, Fail> {
+        let known = self.0;
+        if known >= 1 << 62 {
+            return Ok(false);
+        }
+        Ok(count_from(known, self.1) == self.2)
     }
-    Some(count_from(known, number))
+}
+
+#[derive(Clone, Copy)]
+enum Example {
+    RingOfTwo,
+    BeginsWithZeros,
+    DuoOfFour,
+    Forgets,
+    PassesThroughEach,
+    // what each tells of itself
+    LocalQueue,
+    AckedQueue,
+    Ring,
+    Duo,
+}
+
+const EXAMPLES: &[Example] = &[
+    Example::RingOfTwo,
+    Example::BeginsWithZeros,
+    Example::DuoOfFour,
+    Example::Forgets,
+    Example::PassesThroughEach,
+    Example::LocalQueue,
+    Example::AckedQueue,
+    Example::Ring,
+    Example::Duo,
+];
+
+impl Row for Example {
+    fn holds(&self, alloc: Global) -> Result<bool, Fail> {
+        match self {
+            Example::RingOfTwo => a_ring_of_two(alloc),
+            Example::BeginsWithZeros => begins_with_zeros(alloc),
+            Example::DuoOfFour => a_duo_of_four(alloc),
+            Example::Forgets => forgets_what_a_look_told(alloc),
+            Example::PassesThroughEach => passes_through_each(alloc),
+            Example::LocalQueue => a_local_queue(alloc),
+            Example::AckedQueue => an_acked_queue(alloc),
+            Example::Ring => a_ring(alloc),
+            Example::Duo => a_duo(alloc),
+        }
+    }
 }
 
 #[test]
-fn a_number_names_one_count(rt: HostRuntime) {
-    for (known, number, count) in COUNTS {
-        assert_eq!(rt; (known, named(*known, *number)), (known, Some(*count)));
-    }
+fn rings(rt: HostRuntime) -> Result<(), Fail> {
+    ring_conserves();
+    duo_conserves();
+    all_hold(rt.alloc(), "counts", COUNTS)?;
+    all_hold(rt.alloc(), "examples", EXAMPLES)
 }

@@ -3,6 +3,7 @@
 ghost use Rattle.std.specs.Prelude.{◌≡◌, ◌≤◌, ◌^◌};
 
 use crate::fragments::{Step, arrived, pass_on, ping};
+use crate::rows::{Row, all_hold};
 use fl_link::{Passed, PutFault, Sight, Told};
 use fl_ring::{
     RingFault, RingRx, RingTx, SharedSide, Which, duo, duo_from, receiver_conserves, ring,
@@ -13,59 +14,6 @@ use std::hint;
 use std::sync::Wait;
 use std::test::Fail;
 use std::thread::{Threads, join};
-
-// A number of slots, and whether a ring may have it.
-const RING_SIZES: &[(usize, bool)] = &[
-    (0, false),
-    (1, false),
-    (2, true),
-    (3, false),
-    (1_024, true),
-    (1_025, false),
-    (2_048, false),
-];
-
-// The same of a duo.
-const DUO_SIZES: &[(usize, bool)] = &[
-    (0, false),
-    (2, false),
-    (3, false),
-    (4, true),
-    (1_024, true),
-    (1_025, false),
-];
-
-// Why no ring is made, if none is.
-fn ring_refused(alloc: Global, size: usize) -> Option<RingFault> {
-    ring(alloc, size).err()
-}
-
-fn duo_refused(alloc: Global, size: usize) -> Option<RingFault> {
-    duo(alloc, size).err()
-}
-
-fn bad_size_unless(is_made: bool) -> Option<RingFault> {
-    if is_made {
-        return None;
-    }
-    Some(RingFault::BadSize)
-}
-
-#[test]
-fn shared_sizes(rt: HostRuntime) {
-    for (size, is_made) in RING_SIZES {
-        let refused = ring_refused(rt.alloc(), *size);
-        assert_eq!(rt; (size, refused), (size, bad_size_unless(*is_made)));
-    }
-}
-
-#[test]
-fn duo_sizes(rt: HostRuntime) {
-    for (size, is_made) in DUO_SIZES {
-        let refused = duo_refused(rt.alloc(), *size);
-        assert_eq!(rt; (size, refused), (size, bad_size_unless(*is_made)));
-    }
-}
 
 // Takes a step by the side for it, and says whether it answers so.
 fn ring_answers(tx: &mut RingTx, rx: &mut RingRx, step: Step) -> bool {
@@ -100,13 +48,18 @@ const RING_OF_TWO: &[Step] = &[
     Step::TakeNothing,
 ];
 
-#[test]
-fn a_shared_ring_of_two(rt: HostRuntime) -> Result<(), Fail> {
-    let (mut tx, mut rx) = ring(rt.alloc(), 2)?;
-    for (row, step) in RING_OF_TWO.iter().enumerate() {
-        assert_eq!(rt; (row, ring_answers(&mut tx, &mut rx, *step)), (row, true));
+fn ring_follows(tx: &mut RingTx, rx: &mut RingRx, steps: &[Step]) -> bool {
+    for step in steps {
+        if !ring_answers(tx, rx, *step) {
+            return false;
+        }
     }
-    Ok(())
+    true
+}
+
+fn a_ring_of_two(alloc: Global) -> Result<bool, Fail> {
+    let (mut tx, mut rx) = ring(alloc, 2)?;
+    Ok(ring_follows(&mut tx, &mut rx, RING_OF_TWO))
 }
 
 // Takes a step, and says whether the side answers so.
@@ -123,7 +76,21 @@ fn side_answers(side: &mut SharedSide, step: Step) -> bool {
         Step::NextEpoch(epoch) => side.next_epoch() == epoch,
         Step::NextTold(told) => side.next_told() == told,
         Step::Known(known) => side.known() == known,
+        Step::Form(_, _, _) => false,
     }
+}
+
+fn sides_follow(one: &mut SharedSide, two: &mut SharedSide, rows: &[(Which, Step)]) -> bool {
+    for (which, step) in rows {
+        let answers = match which {
+            Which::One => side_answers(one, *step),
+            Which::Two => side_answers(two, *step),
+        };
+        if !answers {
+            return false;
+        }
+    }
+    true
 }
 
 // Whose step it is, and the step.
@@ -146,56 +113,14 @@ const DUO_OF_FOUR: &[(Which, Step)] = &[
     (Which::One, Step::NextTold(1)),
 ];
 
-#[test]
-fn a_shared_duo_of_four(rt: HostRuntime) -> Result<(), Fail> {
-    let (mut one, mut two) = duo(rt.alloc(), 4)?;
-    for (row, (which, step)) in DUO_OF_FOUR.iter().enumerate() {
-        let answers = match which {
-            Which::One => side_answers(&mut one, *step),
-            Which::Two => side_answers(&mut two, *step),
-        };
-        assert_eq!(rt; (row, answers), (row, true));
-    }
-    Ok(())
+fn a_duo_of_four(alloc: Global) -> Result<bool, Fail> {
+    let (mut one, mut two) = duo(alloc, 4)?;
+    Ok(sides_follow(&mut one, &mut two, DUO_OF_FOUR))
 }
 
-// The sides of a new ring go together again.
-#[test]
-fn settled_at_once(rt: HostRuntime) -> Result<(), Fail> {
-    let (tx, rx) = ring(rt.alloc(), 2)?;
-    settle(tx, rx);
-    let (one, two) = duo(rt.alloc(), 4)?;
-    settle_duo(one, two);
-    Ok(())
-}
-
-// Each allocation of a maker is made, or refused with the fault that says so.
-#[test]
-fn shared_rings_without_memory(rt: HostRuntime) {
-    for size in [4, 1_024] {
-        match ring(rt.alloc(), size) {
-            Ok((tx, rx)) => {
-                assert!(rt; tx.room());
-                settle(tx, rx);
-            }
-            Err(fault) => assert_eq!(rt; fault, RingFault::Memory),
-        }
-        match duo(rt.alloc(), size) {
-            Ok((one, two)) => {
-                assert!(rt; one.room());
-                settle_duo(one, two);
-            }
-            Err(fault) => assert_eq!(rt; fault, RingFault::Memory),
-        }
-    }
-}
-
-// Puts a fragment at one side and takes it at the other.
-fn cross(from: &mut SharedSide, to: &mut SharedSide, word: u64) -> Option<Sight> {
-    match from.try_put(&ping(word)) {
-        Ok(()) => Some(to.try_take()),
-        Err(_) => None,
-    }
+// Whether a fragment that is put at one side is taken with this control word at the other.
+fn crosses(from: &mut SharedSide, to: &mut SharedSide, word: u64, control: u64) -> bool {
+    from.try_put(&ping(word)) == Ok(()) && to.try_take() == arrived(word, control)
 }
 
 // Through this ring so many fragments have passed each way. Its sides are told nothing of them, so
@@ -220,21 +145,19 @@ const CROSSED: &[(u64, u64, u64)] = &[
     (9, 0x0003_0000_0000_0003, 0x0004_0000_0000_0003),
 ];
 
-// The numbers told turn over at 65,536, and the epochs every four fragments.
-#[test]
-fn a_duo_that_began_long_ago(rt: HostRuntime) -> Result<(), Fail> {
-    let (mut one, mut two) = began_long_ago(rt.alloc(), 65_530)?;
+fn each_crosses(one: &mut SharedSide, two: &mut SharedSide) -> bool {
     for (word, there, back) in CROSSED {
-        assert_eq!(rt;
-            cross(&mut one, &mut two, *word),
-            Some(arrived(*word, *there))
-        );
-        assert_eq!(rt;
-            cross(&mut two, &mut one, *word),
-            Some(arrived(*word, *back))
-        );
+        if !crosses(one, two, *word, *there) || !crosses(two, one, *word, *back) {
+            return false;
+        }
     }
-    Ok(())
+    true
+}
+
+// The numbers told turn over at 65,536, and the epochs every four fragments.
+fn a_duo_that_began_long_ago(alloc: Global) -> Result<bool, Fail> {
+    let (mut one, mut two) = began_long_ago(alloc, 65_530)?;
+    Ok(each_crosses(&mut one, &mut two))
 }
 
 // Whose step it is, and the step: through this ring 2^62 fragments less two have passed each way. A side puts two more, and
@@ -257,32 +180,66 @@ const DUO_AT_ITS_END: &[(Which, Step)] = &[
     (Which::Two, Step::Take(5, 0xfffe_0000_0000_0002)),
 ];
 
-#[test]
-fn a_duo_at_its_end(rt: HostRuntime) -> Result<(), Fail> {
-    let (mut one, mut two) = began_long_ago(rt.alloc(), (1 << 62) - 2)?;
-    for (row, (which, step)) in DUO_AT_ITS_END.iter().enumerate() {
-        let answers = match which {
-            Which::One => side_answers(&mut one, *step),
-            Which::Two => side_answers(&mut two, *step),
-        };
-        assert_eq!(rt; (row, answers), (row, true));
+fn a_duo_at_its_end(alloc: Global) -> Result<bool, Fail> {
+    let (mut one, mut two) = began_long_ago(alloc, (1 << 62) - 2)?;
+    Ok(sides_follow(&mut one, &mut two, DUO_AT_ITS_END))
+}
+
+// A fragment goes from a ring through a duo into the ring.
+fn goes_round(
+    tx: &mut RingTx,
+    rx: &mut RingRx,
+    one: &mut SharedSide,
+    two: &mut SharedSide,
+) -> bool {
+    ring_answers(tx, rx, Step::Put(5, Ok(())))
+        && pass_on(rx, one) == Passed::Moved
+        && pass_on(two, tx) == Passed::Moved
+        && ring_answers(tx, rx, Step::Take(5, 3))
+        && pass_on(rx, one) == Passed::Nothing
+}
+
+fn passes_between(alloc: Global) -> Result<bool, Fail> {
+    let (mut tx, mut rx) = ring(alloc, 2)?;
+    let (mut one, mut two) = duo(alloc, 4)?;
+    Ok(goes_round(&mut tx, &mut rx, &mut one, &mut two))
+}
+
+#[derive(Clone, Copy)]
+enum Example {
+    RingOfTwo,
+    DuoOfFour,
+    LongAgo,
+    AtItsEnd,
+    PassesBetween,
+}
+
+const EXAMPLES: &[Example] = &[
+    Example::RingOfTwo,
+    Example::DuoOfFour,
+    Example::LongAgo,
+    Example::AtItsEnd,
+    Example::PassesBetween,
+];
+
+impl Row for Example {
+    fn holds(&self, alloc: Global) -> Result<bool, Fail> {
+        match self {
+            Example::RingOfTwo => a_ring_of_two(alloc),
+            Example::DuoOfFour => a_duo_of_four(alloc),
+            Example::LongAgo => a_duo_that_began_long_ago(alloc),
+            Example::AtItsEnd => a_duo_at_its_end(alloc),
+            Example::PassesBetween => passes_between(alloc),
+        }
     }
-    sender_conserves();
-    receiver_conserves();
-    side_conserves();
-    Ok(())
 }
 
 #[test]
-fn passes_between_shared(rt: HostRuntime) -> Result<(), Fail> {
-    let (mut tx, mut rx) = ring(rt.alloc(), 2)?;
-    let (mut one, mut two) = duo(rt.alloc(), 4)?;
-    assert!(rt; ring_answers(&mut tx, &mut rx, Step::Put(5, Ok(()))));
-    assert_eq!(rt; pass_on(&mut rx, &mut one), Passed::Moved);
-    assert_eq!(rt; pass_on(&mut two, &mut tx), Passed::Moved);
-    assert!(rt; ring_answers(&mut tx, &mut rx, Step::Take(5, 3)));
-    assert_eq!(rt; pass_on(&mut rx, &mut one), Passed::Nothing);
-    Ok(())
+fn shared_rings(rt: HostRuntime) -> Result<(), Fail> {
+    sender_conserves();
+    receiver_conserves();
+    side_conserves();
+    all_hold(rt.alloc(), "examples", EXAMPLES)
 }
 
 const COUNT: u64 = 10_000;
@@ -353,13 +310,6 @@ fn pass_counted<R: Threads + Wait + Sync>(rt: &R, tx: RingTx, rx: RingRx) -> u64
     count
 }
 
-#[test]
-fn ten_thousand_in_order(rt: HostRuntime) -> Result<(), Fail> {
-    let (tx, rx) = ring(rt.alloc(), 2)?;
-    assert_eq!(rt; pass_counted(&rt, tx, rx), COUNT);
-    Ok(())
-}
-
 // Puts the next fragment, if one is left to put and there is room, and counts it.
 fn put_next(side: &mut SharedSide, sent: u64) -> u64
     ensures { side.new.ring ≡ side.old.ring }
@@ -422,8 +372,10 @@ fn both_counted<R: Threads + Wait + Sync>(rt: &R, one: SharedSide, two: SharedSi
 }
 
 #[test]
-fn ten_thousand_each_way(rt: HostRuntime) -> Result<(), Fail> {
+fn ten_thousand_in_order(rt: HostRuntime) -> Result<(), Fail> {
+    let (tx, rx) = ring(rt.alloc(), 2)?;
     let (one, two) = duo(rt.alloc(), 4)?;
-    assert_eq!(rt; both_counted(&rt, one, two), (COUNT, COUNT));
+    let counts = (pass_counted(&rt, tx, rx), both_counted(&rt, one, two));
+    assert_eq!(rt; counts, (COUNT, (COUNT, COUNT)));
     Ok(())
 }

@@ -1,10 +1,10 @@
-//! Waitsets: worked examples, and random calls beside three vectors.
+//! Waitsets: worked examples, and random calls beside slow lists.
 
-use crate::three_vectors::{ThreeVectors, next_random, random_place};
+use crate::rows::{Row, all_hold};
+use crate::slow::{Slow, next_random, random_place};
 use fl_base::ChanId;
 use fl_waitset::{Pick, Place, WaitFault, Waitset};
-use std::alloc::AllocError;
-use std::process::Abort;
+use std::alloc::{AllocError, Global};
 use std::test::Fail;
 
 // A call of a waitset.
@@ -18,17 +18,33 @@ enum Asked {
     NextEvent,
 }
 
-// What the waitset answers: a pick where it is asked for the next event, else nothing.
-fn ask(waitset: &mut Waitset, asked: Asked) -> Result<Option<Pick>, WaitFault> {
-    match asked {
-        Asked::Register(c) => waitset.register(c)?,
-        Asked::RegisterPolled(c) => waitset.register_polled(c)?,
-        Asked::Deregister(c) => waitset.deregister(c)?,
-        Asked::Trigger(c) => waitset.trigger(c)?,
-        Asked::PutBack(c, place) => waitset.put_back(c, place)?,
-        Asked::NextEvent => return Ok(Some(waitset.next_event()?)),
+// A pick where it is asked for the next event, else nothing.
+type Answer = Result<Option<Pick>, WaitFault>;
+
+fn done(answer: Result<(), WaitFault>) -> Answer {
+    match answer {
+        Ok(()) => Ok(None),
+        Err(fault) => Err(fault),
     }
-    Ok(None)
+}
+
+fn picked(answer: Result<Pick, WaitFault>) -> Answer {
+    match answer {
+        Ok(pick) => Ok(Some(pick)),
+        Err(fault) => Err(fault),
+    }
+}
+
+// What the waitset answers.
+fn ask(waitset: &mut Waitset, asked: Asked) -> Answer {
+    match asked {
+        Asked::Register(c) => done(waitset.register(c)),
+        Asked::RegisterPolled(c) => done(waitset.register_polled(c)),
+        Asked::Deregister(c) => done(waitset.deregister(c)),
+        Asked::Trigger(c) => done(waitset.trigger(c)),
+        Asked::PutBack(c, place) => done(waitset.put_back(c, place)),
+        Asked::NextEvent => picked(waitset.next_event()),
+    }
 }
 
 // Two channels, and one that there isn't.
@@ -40,7 +56,9 @@ const B: ChanId = ChanId(1);
 const NONE: ChanId = ChanId(2);
 
 // A waitset of two channels is asked these in turn.
-const ANSWERS: &[(Asked, Result<Option<Pick>, WaitFault>)] = &[
+struct Script(&'static [(Asked, Answer)]);
+
+const ANSWERS: &[(Asked, Answer)] = &[
     (Asked::NextEvent, Err(WaitFault::NoEvent)),
     (Asked::Register(NONE), Err(WaitFault::NoChannel)),
     (Asked::Trigger(A), Ok(None)),
@@ -65,147 +83,188 @@ const ANSWERS: &[(Asked, Result<Option<Pick>, WaitFault>)] = &[
     (Asked::Deregister(NONE), Err(WaitFault::NoChannel)),
 ];
 
-#[test]
-fn answers(rt: HostRuntime) -> Result<(), Fail> {
-    let mut waitset = Waitset::new(rt.alloc(), 2)?;
-    for (row, (asked, answer)) in ANSWERS.iter().enumerate() {
-        assert_eq!(rt; (row, ask(&mut waitset, *asked)), (row, *answer));
-    }
-    Ok(())
-}
-
-// The one allocation of a waitset is made, or refused with the fault that says so.
-#[test]
-fn waitsets_without_memory(rt: HostRuntime) {
-    for size in [0, 1, 1_024] {
-        match Waitset::new(rt.alloc(), size) {
-            Ok(waitset) => assert_eq!(rt; waitset.next_event(), Err(WaitFault::NoEvent)),
-            Err(fault) => assert_eq!(rt; fault, WaitFault::Memory),
+fn answers(waitset: &mut Waitset, rows: &[(Asked, Answer)]) -> bool {
+    for (asked, answer) in rows {
+        if ask(waitset, *asked) != *answer {
+            return false;
         }
     }
+    true
 }
 
-#[test]
-fn waitsets_too_large(rt: HostRuntime) {
-    for size in [1_025, usize::MAX] {
-        assert!(rt; matches!(Waitset::new(rt.alloc(), size), Err(WaitFault::TooMany)));
-    }
-}
-
-// What a waitset of so many channels answers, by the vectors.
-fn known(slow: &ThreeVectors, channels: u16, c: ChanId) -> Result<Option<Place>, WaitFault> {
-    if c.0 >= channels {
-        return Err(WaitFault::NoChannel);
-    }
-    Ok(slow.place_of(c.0))
-}
-
-fn registered(slow: &ThreeVectors, channels: u16, c: ChanId) -> Result<(), WaitFault> {
-    match known(slow, channels, c)? {
-        Some(_) => Ok(()),
-        None => Err(WaitFault::NotRegistered),
-    }
-}
-
-fn unregistered(slow: &ThreeVectors, channels: u16, c: ChanId) -> Result<(), WaitFault> {
-    match known(slow, channels, c)? {
-        Some(_) => Err(WaitFault::Registered),
-        None => Ok(()),
-    }
-}
-
-fn next_event(slow: &ThreeVectors) -> Result<Pick, WaitFault> {
-    if let Some(c) = slow.first(Place::Pending) {
-        return Ok(Pick::Pending(ChanId(c)));
-    }
-    match slow.first(Place::Polled) {
-        Some(c) => Ok(Pick::Polled(ChanId(c))),
-        None => Err(WaitFault::NoEvent),
+impl Row for Script {
+    fn holds(&self, alloc: Global) -> Result<bool, Fail> {
+        let mut waitset = Waitset::new(alloc, 2)?;
+        Ok(answers(&mut waitset, self.0))
     }
 }
 
 const CHANNELS: u16 = 6;
 
-// One call of each of the two, which have to answer alike.
-fn call(
-    rt: &impl Abort,
-    fast: &mut Waitset,
-    slow: &mut ThreeVectors,
-    kind: u64,
-    c: ChanId,
-    place: Place,
-) -> Result<(), AllocError> {
-    let (answer, wanted) = match kind {
-        0 => (fast.register(c), unregistered(slow, CHANNELS, c)),
-        1 => (fast.register_polled(c), unregistered(slow, CHANNELS, c)),
-        2 => (fast.deregister(c), registered(slow, CHANNELS, c)),
-        3 | 4 => (fast.trigger(c), known(slow, CHANNELS, c).map(|_| ())),
-        _ => (fast.put_back(c, place), registered(slow, CHANNELS, c)),
-    };
-    assert_eq!(rt; answer, wanted, "call {kind} of channel {}", c.0);
-    if wanted.is_err() {
-        return Ok(());
+// What the slow lists answer to a call for a channel that has to be registered, or has not to be.
+fn slow_answer(slow: &Slow, c: ChanId, registered: bool) -> Answer {
+    if c.0 >= CHANNELS {
+        return Err(WaitFault::NoChannel);
     }
-    let moves = match kind {
-        0 => Some(Place::Idle),
-        1 => Some(Place::Polled),
-        2 => None,
-        3 | 4 => match slow.place_of(c.0) {
-            Some(Place::Idle) => Some(Place::Pending),
-            _ => return Ok(()),
+    match slow.place_of(c.0) {
+        Some(_) => if registered {
+            Ok(None)
+        } else {
+            Err(WaitFault::Registered)
         },
-        _ => Some(place),
-    };
+        None => if registered {
+            Err(WaitFault::NotRegistered)
+        } else {
+            Ok(None)
+        },
+    }
+}
+
+// The channel goes to the back of this list, or out of all.
+fn go(slow: &mut Slow, c: ChanId, to: Option<Place>) -> Result<(), AllocError> {
     slow.remove(c.0);
-    match moves {
+    match to {
         Some(place) => slow.push(c.0, place),
         None => Ok(()),
     }
 }
 
-// The next event is this one, and its channel is taken out.
-fn take_out(rt: &impl Abort, fast: &mut Waitset, pick: Pick, c: ChanId) {
-    assert_eq!(rt; ask(fast, Asked::NextEvent), Ok(Some(pick)));
-    assert_eq!(rt; ask(fast, Asked::Deregister(c)), Ok(None));
+// A trigger moves a channel that is idle, and is heard by none that isn't registered.
+fn slow_trigger(slow: &mut Slow, c: ChanId) -> Result<Answer, AllocError> {
+    if c.0 >= CHANNELS {
+        return Ok(Err(WaitFault::NoChannel));
+    }
+    if slow.place_of(c.0) == Some(Place::Idle) {
+        go(slow, c, Some(Place::Pending))?;
+    }
+    Ok(Ok(None))
 }
 
-// Takes each channel out as a turn would see it: those pending, then those polled, and those idle once
-// they are triggered. No call shows in which order these stood.
-fn drain(rt: &impl Abort, fast: &mut Waitset, slow: &ThreeVectors) {
-    for c in &slow.pending {
-        take_out(rt, fast, Pick::Pending(ChanId(*c)), ChanId(*c));
+fn slow_next(slow: &Slow) -> Answer {
+    if let Some(c) = slow.first(Place::Pending) {
+        return Ok(Some(Pick::Pending(ChanId(c))));
     }
-    for c in &slow.polled {
-        take_out(rt, fast, Pick::Polled(ChanId(*c)), ChanId(*c));
-    }
-    assert_eq!(rt; ask(fast, Asked::NextEvent), Err(WaitFault::NoEvent));
-    for c in &slow.idle {
-        assert_eq!(rt; ask(fast, Asked::Trigger(ChanId(*c))), Ok(None));
-        take_out(rt, fast, Pick::Pending(ChanId(*c)), ChanId(*c));
-    }
-    for c in 0..CHANNELS {
-        assert_eq!(rt;
-            ask(fast, Asked::Deregister(ChanId(c))),
-            Err(WaitFault::NotRegistered)
-        );
+    match slow.first(Place::Polled) {
+        Some(c) => Ok(Some(Pick::Polled(ChanId(c)))),
+        None => Err(WaitFault::NoEvent),
     }
 }
 
-// Random calls over six channels and one that there isn't. After ever more calls the lists agree.
-#[test]
-fn waitset_agrees_with_three_vectors(rt: HostRuntime) -> Result<(), Fail> {
-    let mut random: u64 = 1;
-    for calls in 0..80 {
-        let mut fast = Waitset::new(rt.alloc(), usize::from(CHANNELS))?;
-        let mut slow = ThreeVectors::new(rt.alloc());
-        for _ in 0..calls {
-            random = next_random(random);
-            let place = random_place(random);
-            let c = ChanId(((random >> 40) % 7) as u16);
-            call(&rt, &mut fast, &mut slow, (random >> 33) % 6, c, place)?;
-            assert_eq!(rt; fast.next_event(), next_event(&slow));
+fn slow_move(
+    slow: &mut Slow,
+    c: ChanId,
+    registered: bool,
+    to: Option<Place>,
+) -> Result<Answer, AllocError> {
+    let answer = slow_answer(slow, c, registered);
+    if answer.is_ok() {
+        go(slow, c, to)?;
+    }
+    Ok(answer)
+}
+
+// What the slow lists answer.
+fn ask_slow(slow: &mut Slow, asked: Asked) -> Result<Answer, AllocError> {
+    match asked {
+        Asked::Register(c) => slow_move(slow, c, false, Some(Place::Idle)),
+        Asked::RegisterPolled(c) => slow_move(slow, c, false, Some(Place::Polled)),
+        Asked::Deregister(c) => slow_move(slow, c, true, None),
+        Asked::Trigger(c) => slow_trigger(slow, c),
+        Asked::PutBack(c, place) => slow_move(slow, c, true, Some(place)),
+        Asked::NextEvent => Ok(slow_next(slow)),
+    }
+}
+
+fn random_call(random: u64) -> Asked {
+    let c = ChanId(((random >> 40) % 7) as u16);
+    match (random >> 33) % 6 {
+        0 => Asked::Register(c),
+        1 => Asked::RegisterPolled(c),
+        2 => Asked::Deregister(c),
+        3 | 4 => Asked::Trigger(c),
+        _ => Asked::PutBack(c, random_place(random)),
+    }
+}
+
+// Whether the two answer alike to a call, and to the question for the next event after it.
+fn alike(fast: &mut Waitset, slow: &mut Slow, asked: Asked) -> Result<bool, AllocError> {
+    Ok(ask(fast, asked) == ask_slow(slow, asked)? && picked(fast.next_event()) == slow_next(slow))
+}
+
+// Whether so many random calls are answered alike; `random` goes on.
+fn call_each(
+    fast: &mut Waitset,
+    slow: &mut Slow,
+    calls: usize,
+    random: &mut u64,
+) -> Result<bool, AllocError> {
+    for _ in 0..calls {
+        *random = next_random(*random);
+        if !alike(fast, slow, random_call(*random))? {
+            return Ok(false);
         }
-        drain(&rt, &mut fast, &slow);
     }
-    Ok(())
+    Ok(true)
+}
+
+fn pick_of(answer: Answer) -> Option<ChanId> {
+    match answer {
+        Ok(Some(Pick::Pending(c) | Pick::Polled(c))) => Some(c),
+        _ => None,
+    }
+}
+
+// Whether the two pick the same channels until none waits, where each is taken out.
+fn drain(fast: &mut Waitset, slow: &mut Slow) -> Result<bool, AllocError> {
+    for _ in 0..CHANNELS {
+        let Some(c) = pick_of(slow_next(slow)) else {
+            break;
+        };
+        if !alike(fast, slow, Asked::Deregister(c))? {
+            return Ok(false);
+        }
+    }
+    Ok(picked(fast.next_event()) == Err(WaitFault::NoEvent))
+}
+
+// Whether the same channels are idle: no call shows in which order they stood, so each in turn is triggered.
+fn drain_idle(fast: &mut Waitset, slow: &mut Slow) -> Result<bool, AllocError> {
+    for c in 0..CHANNELS {
+        if !alike(fast, slow, Asked::Trigger(ChanId(c)))? {
+            return Ok(false);
+        }
+    }
+    drain(fast, slow)
+}
+
+// So many random calls over six channels and one that there isn't.
+struct Random(usize);
+
+fn agree_after(alloc: Global, calls: usize, random: &mut u64) -> Result<bool, Fail> {
+    let mut fast = Waitset::new(alloc, usize::from(CHANNELS))?;
+    let mut slow = Slow::new(alloc);
+    Ok(
+        call_each(&mut fast, &mut slow, calls, random)?
+            && drain(&mut fast, &mut slow)?
+            && drain_idle(&mut fast, &mut slow)?,
+    )
+}
+
+// After each number of calls the lists agree.
+impl Row for Random {
+    fn holds(&self, alloc: Global) -> Result<bool, Fail> {
+        let mut random: u64 = 1;
+        for calls in 0..self.0 {
+            if !agree_after(alloc, calls, &mut random)? {
+                return Ok(false);
+            }
+        }
+        Ok(true)
+    }
+}
+
+#[test]
+fn waitsets_answer(rt: HostRuntime) -> Result<(), Fail> {
+    all_hold(rt.alloc(), "scripts", &[Script(ANSWERS)])?;
+    all_hold(rt.alloc(), "random calls", &[Random(80)])
 }

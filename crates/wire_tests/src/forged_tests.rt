@@ -1,10 +1,11 @@
 //! What lists of fragments read as, under both plans: whole calls and a rest, and of forged ones the first fault.
 
 use crate::interfaces::interface;
+use crate::rows::{Row, all_hold};
 use fl_base::Frag;
-use fl_check::{Interface, TextFault};
+use fl_check::Interface;
 use fl_value::{Call, PlanNo, print_call};
-use fl_wire::{Reading, WireFault, read_frags};
+use fl_wire::{WireFault, read_frags};
 use std::alloc::{AllocError, Global};
 use std::test::Fail;
 
@@ -20,56 +21,59 @@ const COLOURS: &[u8] =
 // How many calls fragments read as, and how many fragments are left over; or the number of their first fault.
 type Outcome = Result<(usize, usize), u8>;
 
-// The control word of one fragment, its first three words, and what it reads as.
-type Row = (u64, [u64; 3], Outcome);
+// Where a fragment stands.
+#[derive(Clone, Copy)]
+enum Place {
+    /// First, of `bool b, string s[2]`.
+    Short,
+    /// First, of an enumerator, a number and enumerators.
+    Colours,
+    /// First, of a call without arguments or of letters.
+    Blob,
+    /// Behind the first fragment of 49 letters.
+    Second,
+}
 
-// Of `bool b, string s[2]`.
-const ALONE: &[Row] = &[
-    (1, [0, 0, 0], Err(60)),
-    (3, [2, 0, 0], Err(65)),
-    (3, [1, 3, 0], Err(66)),
-    (3, [257, 0, 0], Err(63)),
-    (3, [1, 1, 0], Err(65)),
-    (11, [0, 0, 0], Err(63)),
-    (65_539, [0, 0, 0], Err(62)),
-    (3, [1, 1, 0x61], Ok((1, 0))),
+// Its control word, its first three words, and what it reads as.
+struct Fragment(Place, u64, [u64; 3], Outcome);
+
+const FRAGMENTS: &[Fragment] = &[
+    Fragment(Place::Short, 1, [0, 0, 0], Err(60)),
+    Fragment(Place::Short, 3, [2, 0, 0], Err(65)),
+    Fragment(Place::Short, 3, [1, 3, 0], Err(66)),
+    Fragment(Place::Short, 3, [257, 0, 0], Err(63)),
+    Fragment(Place::Short, 3, [1, 1, 0], Err(65)),
+    Fragment(Place::Short, 11, [0, 0, 0], Err(63)),
+    Fragment(Place::Short, 65_539, [0, 0, 0], Err(62)),
+    Fragment(Place::Short, 3, [1, 1, 0x61], Ok((1, 0))),
     // several faults in one fragment
-    (65_545, [2, 3, 0], Err(63)),
-    (0x1_0000_0003, [1, 0, 0], Err(63)),
-    (65_537, [2, 3, 0], Err(60)),
-    (65_539, [2, 3, 0], Err(62)),
-    (3, [2, 3, 1], Err(65)),
-    (3, [0x101, 3, 1], Err(63)),
-    (3, [1, 3, 1], Err(66)),
-];
-
-// Behind the first fragment of 49 letters.
-const SECOND: &[Row] = &[
-    (3, [0x61, 0, 0], Err(61)),
-    (65_537, [0x61, 0, 0], Err(62)),
-    (1, [0x6161, 0, 0], Err(63)),
-    (1, [0, 0, 0], Err(65)),
-    (1, [0x61, 0, 0], Ok((1, 0))),
-    (65_539, [0, 0, 0], Err(61)),
-    (65_551, [0, 0, 0], Err(63)),
-];
-
-// Of an enumerator, a number and enumerators. Of a number the byte at fault is the first with which it reaches the
-// bound; what stands before it may be one of a fitting call.
-const NUMBERS: &[Row] = &[
-    (3, [2, 0, 0], Ok((1, 0))),
-    (3, [3, 0, 0], Err(65)),
-    (3, [0x100_0002, 0, 0], Err(65)),
-    (3, [2, 300, 0], Ok((0, 1))),
-    (3, [2, 301, 0], Err(66)),
-    (3, [2, 0x1_0000_0000, 0], Err(66)),
-    (3, [0x1_0000_0000_0002, 0, 0], Err(63)),
-];
-
-// Of a call without arguments.
-const EMPTY: &[Row] = &[
-    (65_538, [0, 0, 1], Err(63)),
-    (0xfffa_0000_0001_0003, [0, 0, 0], Ok((1, 0))),
+    Fragment(Place::Short, 65_545, [2, 3, 0], Err(63)),
+    Fragment(Place::Short, 0x1_0000_0003, [1, 0, 0], Err(63)),
+    Fragment(Place::Short, 65_537, [2, 3, 0], Err(60)),
+    Fragment(Place::Short, 65_539, [2, 3, 0], Err(62)),
+    Fragment(Place::Short, 3, [2, 3, 1], Err(65)),
+    Fragment(Place::Short, 3, [0x101, 3, 1], Err(63)),
+    Fragment(Place::Short, 3, [1, 3, 1], Err(66)),
+    // behind the first fragment of 49 letters
+    Fragment(Place::Second, 3, [0x61, 0, 0], Err(61)),
+    Fragment(Place::Second, 65_537, [0x61, 0, 0], Err(62)),
+    Fragment(Place::Second, 1, [0x6161, 0, 0], Err(63)),
+    Fragment(Place::Second, 1, [0, 0, 0], Err(65)),
+    Fragment(Place::Second, 1, [0x61, 0, 0], Ok((1, 0))),
+    Fragment(Place::Second, 65_539, [0, 0, 0], Err(61)),
+    Fragment(Place::Second, 65_551, [0, 0, 0], Err(63)),
+    // of a number the byte at fault is the first with which it reaches the bound; what stands before it may be one of a
+    // fitting call
+    Fragment(Place::Colours, 3, [2, 0, 0], Ok((1, 0))),
+    Fragment(Place::Colours, 3, [3, 0, 0], Err(65)),
+    Fragment(Place::Colours, 3, [0x100_0002, 0, 0], Err(65)),
+    Fragment(Place::Colours, 3, [2, 300, 0], Ok((0, 1))),
+    Fragment(Place::Colours, 3, [2, 301, 0], Err(66)),
+    Fragment(Place::Colours, 3, [2, 0x1_0000_0000, 0], Err(66)),
+    Fragment(Place::Colours, 3, [0x1_0000_0000_0002, 0, 0], Err(63)),
+    // of a call without arguments
+    Fragment(Place::Blob, 65_538, [0, 0, 1], Err(63)),
+    Fragment(Place::Blob, 0xfffa_0000_0001_0003, [0, 0, 0], Ok((1, 0))),
 ];
 
 // Eight of 49 letters `a`.
@@ -107,16 +111,19 @@ const NO_FIRST_NOP: Frag = Frag {
     control: 65_536,
 };
 
-const LISTS: &[(&[Frag], Outcome)] = &[
-    (&[], Ok((0, 0))),
-    (&[FIRST], Ok((0, 1))),
-    (&[WRONG, SPOILED], Err(65)),
-    (&[FIRST, SPOILED, WRONG], Err(63)),
-    (&[FIRST, LAST, LAST], Err(60)),
-    (&[FIRST, LAST, FIRST, FIRST], Err(61)),
-    (&[FIRST, LAST, FIRST, LAST], Ok((2, 0))),
-    (&[NOP, NOP, FIRST], Ok((2, 1))),
-    (&[NOP, NO_FIRST_NOP], Err(60)),
+// Fragments of `blob` and `nop`, one behind another.
+struct List(&'static [Frag], Outcome);
+
+const LISTS: &[List] = &[
+    List(&[], Ok((0, 0))),
+    List(&[FIRST], Ok((0, 1))),
+    List(&[WRONG, SPOILED], Err(65)),
+    List(&[FIRST, SPOILED, WRONG], Err(63)),
+    List(&[FIRST, LAST, LAST], Err(60)),
+    List(&[FIRST, LAST, FIRST, FIRST], Err(61)),
+    List(&[FIRST, LAST, FIRST, LAST], Ok((2, 0))),
+    List(&[NOP, NOP, FIRST], Ok((2, 1))),
+    List(&[NOP, NO_FIRST_NOP], Err(60)),
 ];
 
 // A row's fragment.
@@ -128,17 +135,8 @@ fn starting(control: u64, words: [u64; 3]) -> Frag {
     }
 }
 
-fn read(
-    alloc: Global,
-    interface: &Interface,
-    plan: PlanNo,
-    frags: &[Frag],
-) -> Result<Reading, WireFault> {
-    read_frags(alloc, interface, frags, plan)
-}
-
 fn outcome(alloc: Global, interface: &Interface, plan: PlanNo, frags: &[Frag]) -> Outcome {
-    match read(alloc, interface, plan, frags) {
+    match read_frags(alloc, interface, frags, plan) {
         Ok(reading) => Ok((reading.calls.len(), reading.rest)),
         Err(fault) => Err(fault.number()),
     }
@@ -150,55 +148,33 @@ fn is_read(alloc: Global, interface: &Interface, frags: &[Frag], wanted: Outcome
         && outcome(alloc, interface, PlanNo::Two, frags) == wanted
 }
 
-// The first of the rows that reads otherwise.
-fn wrong_row(alloc: Global, interface: &Interface, rows: &[Row]) -> Option<usize> {
-    rows.iter().position(|(control, words, wanted)| {
-        !is_read(alloc, interface, &[starting(*control, *words)], *wanted)
-    })
+// The text of its interface.
+fn text_at(place: Place) -> &'static [u8] {
+    match place {
+        Place::Short => SHORT,
+        Place::Colours => COLOURS,
+        Place::Blob | Place::Second => BLOB,
+    }
 }
 
-fn wrong_row_of(alloc: Global, text: &[u8], rows: &[Row]) -> Result<Option<usize>, TextFault> {
-    Ok(wrong_row(alloc, &interface(alloc, text)?, rows))
+impl Row for Fragment {
+    fn holds(&self, alloc: Global) -> Result<bool, Fail> {
+        let interface = interface(alloc, text_at(self.0))?;
+        let frags = [FIRST, starting(self.1, self.2)];
+        let skipped = if matches!(self.0, Place::Second) {
+            0
+        } else {
+            1
+        };
+        Ok(is_read(alloc, &interface, &frags[skipped..], self.3))
+    }
 }
 
-#[test]
-fn one_fragment(rt: HostRuntime) -> Result<(), Fail> {
-    assert_eq!(rt; wrong_row_of(rt.alloc(), SHORT, ALONE)?, None);
-    assert_eq!(rt; wrong_row_of(rt.alloc(), COLOURS, NUMBERS)?, None);
-    assert_eq!(rt; wrong_row_of(rt.alloc(), BLOB, EMPTY)?, None);
-    Ok(())
-}
-
-// The first of the rows that reads otherwise behind the first fragment.
-fn wrong_second(alloc: Global, interface: &Interface) -> Option<usize> {
-    SECOND.iter().position(|(control, words, wanted)| {
-        !is_read(
-            alloc,
-            interface,
-            &[FIRST, starting(*control, *words)],
-            *wanted,
-        )
-    })
-}
-
-#[test]
-fn the_second_fragment(rt: HostRuntime) -> Result<(), Fail> {
-    let blob = interface(rt.alloc(), BLOB)?;
-    assert_eq!(rt; wrong_second(rt.alloc(), &blob), None);
-    Ok(())
-}
-
-// The first of the lists that reads otherwise.
-fn wrong_list(alloc: Global, interface: &Interface) -> Option<usize> {
-    LISTS.iter().position(|(frags, wanted)| !is_read(alloc, interface, frags, *wanted))
-}
-
-#[test]
-fn the_first_fault_of_several_fragments(rt: HostRuntime) -> Result<(), Fail> {
-    let blob = interface(rt.alloc(), BLOB)?;
-    assert_eq!(rt; wrong_list(rt.alloc(), &blob), None);
-    assert_eq!(rt; WireFault::Memory.number(), 99);
-    Ok(())
+impl Row for List {
+    fn holds(&self, alloc: Global) -> Result<bool, Fail> {
+        let interface = interface(alloc, BLOB)?;
+        Ok(is_read(alloc, &interface, self.0, self.1))
+    }
 }
 
 // The texts of calls of `blob`, one behind another.
@@ -217,7 +193,7 @@ fn is_a_call_and_a_rest(
     plan: PlanNo,
     frags: &[Frag],
 ) -> Result<bool, AllocError> {
-    match read(alloc, interface, plan, frags) {
+    match read_frags(alloc, interface, frags, plan) {
         Ok(reading) => Ok(
             reading.rest == 1 && texts(alloc, &reading.calls)?.as_slice() == BLOB_CALL,
         ),
@@ -225,11 +201,24 @@ fn is_a_call_and_a_rest(
     }
 }
 
-#[test]
-fn a_call_and_part_of_another(rt: HostRuntime) -> Result<(), Fail> {
-    let blob = interface(rt.alloc(), BLOB)?;
-    for plan in [PlanNo::One, PlanNo::Two] {
-        assert!(rt; is_a_call_and_a_rest(rt.alloc(), &blob, plan, &[FIRST, LAST, FIRST])?);
+// Whether a call and a part of another are read so, under a plan.
+struct CallAndRest(PlanNo);
+
+impl Row for CallAndRest {
+    fn holds(&self, alloc: Global) -> Result<bool, Fail> {
+        let interface = interface(alloc, BLOB)?;
+        Ok(is_a_call_and_a_rest(alloc, &interface, self.0, &[FIRST, LAST, FIRST])?)
     }
-    Ok(())
+}
+
+#[test]
+fn fragments_are_read(rt: HostRuntime) -> Result<(), Fail> {
+    assert!(rt; WireFault::Memory.number() == 99);
+    all_hold(rt.alloc(), "fragments", FRAGMENTS)?;
+    all_hold(rt.alloc(), "lists", LISTS)?;
+    all_hold(
+        rt.alloc(),
+        "plans",
+        &[CallAndRest(PlanNo::One), CallAndRest(PlanNo::Two)],
+    )
 }

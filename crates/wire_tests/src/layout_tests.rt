@@ -1,23 +1,24 @@
 //! The worked rows of layouts under both plans: lengths of payloads and tapes, fragments, places and sizes of
 //! arguments.
 
-use crate::interfaces::{STRING, STRINGS, interface, letters};
+use crate::interfaces::{STRING, interface, letters};
+use crate::payload_tests::sent;
+use crate::rows::{Row, all_hold};
 use fl_base::MsgNo;
 use fl_layout::{Plans, plan};
 use fl_value::{Call, PlanNo, ValueFault, fits, read_call};
-use fl_wire::{fragment_count, payload};
-use std::alloc::{AllocError, Global};
+use fl_wire::fragment_count;
+use std::alloc::Global;
 use std::test::Fail;
 
 // An interface's text, a plan, a message's number, and what is told of it and of its arguments: the least payload, the
-// greatest, its fragments, and the longest tape; then a place and a size each.
-struct Row {
+// greatest, its fragments, and the longest tape, if there is such a message; then a place and a size each.
+struct Told {
     text: &'static [u8],
     plan: PlanNo,
     msg: MsgNo,
-    figures: [usize; 4],
-    places: &'static [Option<usize>],
-    sizes: &'static [usize],
+    figures: Option<[usize; 4]>,
+    arguments: &'static [(Option<usize>, usize)],
 }
 
 const BETWEEN: &[u8] = b"interface i { message m(uint8 a, string s, uint16 b); };";
@@ -49,134 +50,138 @@ const DYNAMIC: &[u8] = b"interface i { message m(string s[3], uint8 b[n, 2], uin
 const STRUCTS: &[u8] =
     b"interface i { typedef struct { uint8 a; uint64 b; } t; message m(t x[n]); }";
 
-const ROWS: &[Row] = &[
-    Row {
+const TOLD: &[Told] = &[
+    Told {
         text: BETWEEN,
         plan: PlanNo::One,
         msg: MsgNo(0),
-        figures: [18, 2066, 37, 2050],
-        places: &[Some(0), Some(8), None],
-        sizes: &[1, 1, 2],
+        figures: Some([18, 2066, 37, 2050]),
+        arguments: &[(Some(0), 1), (Some(8), 1), (None, 2)],
     },
-    Row {
+    Told {
         text: BETWEEN,
         plan: PlanNo::Two,
         msg: MsgNo(0),
-        figures: [16, 2063, 37, 2050],
-        places: &[Some(2), Some(8), Some(0)],
-        sizes: &[1, 1, 2],
+        figures: Some([16, 2063, 37, 2050]),
+        arguments: &[(Some(2), 1), (Some(8), 1), (Some(0), 2)],
     },
-    Row {
+    Told {
         text: LONGEST,
         plan: PlanNo::One,
         msg: MsgNo(0),
-        figures: [8, 32768, 586, 4096],
-        places: &[Some(0)],
-        sizes: &[8],
+        figures: Some([8, 32768, 586, 4096]),
+        arguments: &[(Some(0), 8)],
     },
-    Row {
+    Told {
         text: LONGEST,
         plan: PlanNo::Two,
         msg: MsgNo(0),
-        figures: [8, 32768, 586, 4096],
-        places: &[Some(0)],
-        sizes: &[8],
+        figures: Some([8, 32768, 586, 4096]),
+        arguments: &[(Some(0), 8)],
     },
-    Row {
+    Told {
         text: LONGER,
         plan: PlanNo::One,
         msg: MsgNo(0),
-        figures: [9, 32761, 586, 4096],
-        places: &[Some(0), None],
-        sizes: &[8, 1],
+        figures: Some([9, 32761, 586, 4096]),
+        arguments: &[(Some(0), 8), (None, 1)],
     },
-    Row {
+    Told {
         text: LONGER,
         plan: PlanNo::Two,
         msg: MsgNo(0),
-        figures: [16, 32768, 586, 4096],
-        places: &[Some(8), Some(0)],
-        sizes: &[8, 1],
+        figures: Some([16, 32768, 586, 4096]),
+        arguments: &[(Some(8), 8), (Some(0), 1)],
     },
-    Row {
+    Told {
         text: BLOCK,
         plan: PlanNo::One,
         msg: MsgNo(0),
-        figures: [0, 0, 1, 0],
-        places: &[],
-        sizes: &[],
+        figures: Some([0, 0, 1, 0]),
+        arguments: &[],
     },
-    Row {
+    Told {
         text: BLOCK,
         plan: PlanNo::Two,
         msg: MsgNo(0),
-        figures: [0, 0, 1, 0],
-        places: &[],
-        sizes: &[],
+        figures: Some([0, 0, 1, 0]),
+        arguments: &[],
     },
-    Row {
+    Told {
         text: BLOCK,
         plan: PlanNo::One,
         msg: MsgNo(1),
-        figures: [50, 50, 1, 21],
-        places: &[Some(0), Some(8), Some(48)],
-        sizes: &[1, 40, 2],
+        figures: Some([50, 50, 1, 21]),
+        arguments: &[(Some(0), 1), (Some(8), 40), (Some(48), 2)],
     },
-    Row {
+    Told {
         text: BLOCK,
         plan: PlanNo::Two,
         msg: MsgNo(1),
-        figures: [43, 43, 1, 21],
-        places: &[Some(42), Some(0), Some(40)],
-        sizes: &[1, 40, 2],
+        figures: Some([43, 43, 1, 21]),
+        arguments: &[(Some(42), 1), (Some(0), 40), (Some(40), 2)],
     },
-    Row {
+    Told {
         text: BLOCK,
         plan: PlanNo::One,
         msg: MsgNo(2),
-        figures: [9, 129, 3, 59],
-        places: &[Some(0), None],
-        sizes: &[40, 1],
+        figures: Some([9, 129, 3, 59]),
+        arguments: &[(Some(0), 40), (None, 1)],
     },
-    Row {
+    Told {
         text: BLOCK,
         plan: PlanNo::Two,
         msg: MsgNo(2),
-        figures: [16, 136, 3, 59],
-        places: &[Some(8), Some(0)],
-        sizes: &[40, 1],
+        figures: Some([16, 136, 3, 59]),
+        arguments: &[(Some(8), 40), (Some(0), 1)],
     },
-    Row {
+    Told {
         text: MIXED,
         plan: PlanNo::One,
         msg: MsgNo(0),
-        figures: [36, 44, 1, 13],
-        places: &[Some(0), Some(4), Some(16), Some(24), None],
-        sizes: &[1, 12, 4, 1, 4],
+        figures: Some([36, 44, 1, 13]),
+        arguments: &[
+            (Some(0), 1),
+            (Some(4), 12),
+            (Some(16), 4),
+            (Some(24), 1),
+            (None, 4),
+        ],
     },
-    Row {
+    Told {
         text: MIXED,
         plan: PlanNo::Two,
         msg: MsgNo(0),
-        figures: [32, 37, 1, 13],
-        places: &[Some(20), Some(0), Some(16), Some(24), Some(12)],
-        sizes: &[1, 12, 4, 1, 4],
+        figures: Some([32, 37, 1, 13]),
+        arguments: &[
+            (Some(20), 1),
+            (Some(0), 12),
+            (Some(16), 4),
+            (Some(24), 1),
+            (Some(12), 4),
+        ],
     },
-    Row {
+    Told {
         text: DYNAMIC,
         plan: PlanNo::One,
         msg: MsgNo(0),
-        figures: [18, 34, 1, 8],
-        places: &[Some(0), None, None],
-        sizes: &[1, 1, 2],
+        figures: Some([18, 34, 1, 8]),
+        arguments: &[(Some(0), 1), (None, 1), (None, 2)],
     },
-    Row {
+    Told {
         text: DYNAMIC,
         plan: PlanNo::Two,
         msg: MsgNo(0),
-        figures: [24, 34, 1, 8],
-        places: &[Some(8), None, Some(0)],
-        sizes: &[1, 1, 2],
+        figures: Some([24, 34, 1, 8]),
+        arguments: &[(Some(8), 1), (None, 1), (Some(0), 2)],
+    },
+    // a message that isn't there
+    Told {
+        text: BETWEEN,
+        plan: PlanNo::Two,
+        msg: MsgNo(1),
+        figures: None,
+        arguments: &[],
     },
 ];
 
@@ -200,99 +205,71 @@ fn figures(plans: &Plans, msg: MsgNo) -> Option<[usize; 4]> {
     ])
 }
 
-fn place_of(plans: &Plans, msg: MsgNo, argument: usize) -> Option<usize> {
-    plans.place(msg, argument)
+// An argument's place and size.
+fn argument(plans: &Plans, msg: MsgNo, j: usize) -> (Option<usize>, usize) {
+    (plans.place(msg, j), plans.arg_size(msg, j))
 }
 
-fn size_of(plans: &Plans, msg: MsgNo, argument: usize) -> usize {
-    plans.arg_size(msg, argument)
-}
-
-// Whether a message's arguments have these places, and there is none behind them.
-fn has_places(plans: &Plans, msg: MsgNo, places: &[Option<usize>]) -> bool {
-    for (j, place) in places.iter().enumerate() {
-        if place_of(plans, msg, j) != *place {
+// Whether a message's arguments have these places and sizes, and there is none behind them.
+fn has_arguments(plans: &Plans, msg: MsgNo, wanted: &[(Option<usize>, usize)]) -> bool {
+    for (j, one) in wanted.iter().enumerate() {
+        if argument(plans, msg, j) != *one {
             return false;
         }
     }
-    place_of(plans, msg, places.len()) == None
+    argument(plans, msg, wanted.len()) == (None, 0)
 }
 
-// Whether a message's arguments have these sizes, and there is none behind them.
-fn has_sizes(plans: &Plans, msg: MsgNo, sizes: &[usize]) -> bool {
-    for (j, size) in sizes.iter().enumerate() {
-        if size_of(plans, msg, j) != *size {
-            return false;
-        }
+impl Row for Told {
+    fn holds(&self, alloc: Global) -> Result<bool, Fail> {
+        let plans = planned(alloc, self.text, self.plan)?;
+        Ok(
+            figures(&plans, self.msg) == self.figures
+                && has_arguments(&plans, self.msg, self.arguments),
+        )
     }
-    size_of(plans, msg, sizes.len()) == 0
-}
-
-fn tells(plans: &Plans, row: &Row) -> bool {
-    figures(plans, row.msg) == Some(row.figures)
-        && has_places(plans, row.msg, row.places)
-        && has_sizes(plans, row.msg, row.sizes)
-}
-
-fn is_told(alloc: Global, row: &Row) -> Result<bool, Fail> {
-    Ok(tells(&planned(alloc, row.text, row.plan)?, row))
-}
-
-#[test]
-fn lengths_places_and_sizes(rt: HostRuntime) -> Result<(), Fail> {
-    for row in ROWS {
-        assert!(rt; is_told(rt.alloc(), row)?);
-    }
-    Ok(())
-}
-
-#[test]
-fn nothing_is_told_of_a_message_that_is_not_there(rt: HostRuntime) -> Result<(), Fail> {
-    let plans = planned(rt.alloc(), BETWEEN, PlanNo::Two)?;
-    assert!(rt; has_places(&plans, MsgNo(1), &[]) && has_sizes(&plans, MsgNo(1), &[]));
-    Ok(())
 }
 
 // An interface's text, a call of it, and the bytes and fragments that it has under each plan.
-struct Sent {
+struct Extent {
     text: &'static [u8],
     call: &'static [u8],
     one: (usize, usize),
     two: (usize, usize),
 }
 
-const SENT: &[Sent] = &[
-    Sent {
+const EXTENTS: &[Extent] = &[
+    Extent {
         text: BETWEEN,
         call: b"m(1, \"hi\", 5)",
         one: (26, 1),
         two: (18, 1),
     },
-    Sent {
+    Extent {
         text: BETWEEN,
         call: b"m(1, \"\", 5)",
         one: (18, 1),
         two: (16, 1),
     },
-    Sent {
+    Extent {
         text: BLOCK,
         call: b"nop()",
         one: (0, 1),
         two: (0, 1),
     },
-    Sent {
+    Extent {
         text: MIXED,
         call: b"m(-1, [0, 1, 0], [-2, 3], \"four\", 5)",
         one: (44, 1),
         two: (36, 1),
     },
-    Sent {
+    Extent {
         text: DYNAMIC,
         call: b"m(\"\", [], 7)",
         one: (18, 1),
         two: (24, 1),
     },
-    Sent {
+    Extent {
         text: STRUCTS,
         call: b"m([{1, 11}, {2, 12}, {3, 13}, {4, 14}, {5, 15}, {6, 16}, {7, 17}])",
         one: (120, 3),
@@ -308,16 +285,7 @@ fn measured(plans: &Plans, call: &Call) -> Option<(usize, usize)> {
     Some((plans.size_of(call), plans.fragments_of(call)))
 }
 
-// The length of a call's payload; nothing where the call doesn't fit.
-fn payload_len(alloc: Global, plans: &Plans, call: &Call) -> Result<Option<usize>, AllocError> {
-    if !fits(call, &plans.interface) {
-        return Ok(None);
-    }
-    let bytes = payload(alloc, &plans.interface, plans.plan, call)?;
-    Ok(Some(bytes.len()))
-}
-
-// Whether a call that stands as text has so many bytes and fragments, and its payload so many bytes.
+// Whether a call that stands as text has so many bytes and fragments, as the plans say and as it is sent.
 fn measures(
     alloc: Global,
     plans: &Plans,
@@ -325,49 +293,57 @@ fn measures(
     wanted: (usize, usize),
 ) -> Result<bool, ValueFault> {
     let call = read_call(alloc, text, &plans.interface)?;
-    let len = payload_len(alloc, plans, &call)?;
-    Ok(measured(plans, &call) == Some(wanted) && len == Some(wanted.0))
-}
-
-fn is_sent(alloc: Global, sent: &Sent, plan: PlanNo, wanted: (usize, usize)) -> Result<bool, Fail> {
-    let plans = planned(alloc, sent.text, plan)?;
-    Ok(measures(alloc, &plans, sent.call, wanted)?)
-}
-
-#[test]
-fn bytes_and_fragments_of_calls(rt: HostRuntime) -> Result<(), Fail> {
-    for sent in SENT {
-        assert!(rt; is_sent(rt.alloc(), sent, PlanNo::One, sent.one)?);
-        assert!(rt; is_sent(rt.alloc(), sent, PlanNo::Two, sent.two)?);
+    match sent(alloc, plans.plan, &plans.interface, &call)? {
+        Some((len, frags)) => Ok(
+            (len, frags.len()) == wanted && measured(plans, &call) == Some(wanted),
+        ),
+        None => Ok(false),
     }
-    Ok(())
 }
 
-// Whether the call of so many letters has so many bytes and fragments.
-fn measures_letters(
+fn is_sent(
     alloc: Global,
-    plans: &Plans,
-    count: usize,
+    text: &[u8],
+    call: &[u8],
+    plan: PlanNo,
     wanted: (usize, usize),
-) -> Result<bool, ValueFault> {
-    let text = letters(alloc, count)?;
-    measures(alloc, plans, &text, wanted)
+) -> Result<bool, Fail> {
+    let plans = planned(alloc, text, plan)?;
+    Ok(measures(alloc, &plans, call, wanted)?)
 }
 
-// The first of the lengths that has others, under a plan.
-fn wrong_string(alloc: Global, plan: PlanNo) -> Result<Option<usize>, Fail> {
-    let plans = planned(alloc, STRING, plan)?;
-    for (count, wanted) in STRINGS {
-        if !measures_letters(alloc, &plans, *count, *wanted)? {
-            return Ok(Some(*count));
-        }
+impl Row for Extent {
+    fn holds(&self, alloc: Global) -> Result<bool, Fail> {
+        Ok(
+            is_sent(alloc, self.text, self.call, PlanNo::One, self.one)?
+                && is_sent(alloc, self.text, self.call, PlanNo::Two, self.two)?,
+        )
     }
-    Ok(None)
+}
+
+// A call of so many letters, the length of its payload and the number of its fragments under either plan.
+struct OfLetters(usize, (usize, usize));
+
+const OF_LETTERS: &[OfLetters] = &[
+    OfLetters(0, (8, 1)),
+    OfLetters(48, (56, 1)),
+    OfLetters(49, (57, 2)),
+    OfLetters(4096, (4104, 74)),
+];
+
+impl Row for OfLetters {
+    fn holds(&self, alloc: Global) -> Result<bool, Fail> {
+        let call = letters(alloc, self.0)?;
+        Ok(
+            is_sent(alloc, STRING, &call, PlanNo::One, self.1)?
+                && is_sent(alloc, STRING, &call, PlanNo::Two, self.1)?,
+        )
+    }
 }
 
 #[test]
-fn strings_of_all_lengths(rt: HostRuntime) -> Result<(), Fail> {
-    assert_eq!(rt; wrong_string(rt.alloc(), PlanNo::One)?, None);
-    assert_eq!(rt; wrong_string(rt.alloc(), PlanNo::Two)?, None);
-    Ok(())
+fn lengths_places_and_sizes(rt: HostRuntime) -> Result<(), Fail> {
+    all_hold(rt.alloc(), "what is told of messages", TOLD)?;
+    all_hold(rt.alloc(), "calls", EXTENTS)?;
+    all_hold(rt.alloc(), "strings", OF_LETTERS)
 }

@@ -2,6 +2,7 @@
 //! fragments. The rows of a kind stand in a table; each file has those of one crate or one call.
 //!
 //! - `interfaces.rt`: interfaces made from their texts
+//! - `rows.rt`: tables, of which a test tells the first row that isn't so
 //! - `value_tests.rt`, `tape_tests.rt`: calls as text, which calls fit, and calls as tapes
 //! - `layout_tests.rt`: lengths, places and sizes
 //! - `payload_tests.rt`: payloads, fragments, and calls read back from them
@@ -16,6 +17,8 @@ mod interfaces;
 mod layout_tests;
 #[cfg(test)]
 mod payload_tests;
+#[cfg(test)]
+mod rows;
 #[cfg(test)]
 mod tape_tests;
 #[cfg(test)]

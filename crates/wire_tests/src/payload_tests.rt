@@ -2,7 +2,8 @@
 //! plans, and the calls read back. A fragment has epoch 0 until it is put; what `show` writes, 3 and 1, has the
 //! epoch that a local queue sets.
 
-use crate::interfaces::{STRING, STRINGS, interface, letters};
+use crate::interfaces::interface;
+use crate::rows::{Row, all_hold};
 use fl_base::{Frag, MsgNo};
 use fl_check::Interface;
 use fl_value::{Call, PlanNo, ValueFault, fits, print_call, read_call};
@@ -15,7 +16,7 @@ use std::test::Fail;
 
 // An interface's text, a call of its message `m` as it is printed, and under each of these plans the length of the
 // call's payload, and its fragments.
-struct Row {
+struct Carried {
     text: &'static [u8],
     call: &'static [u8],
     plans: &'static [PlanNo],
@@ -51,8 +52,8 @@ const BY_TURNS: &[u8] =
 // Eight letters `a`.
 const LETTERS: u64 = 0x6161_6161_6161_6161;
 
-const ROWS: &[Row] = &[
-    Row {
+const CARRIED: &[Carried] = &[
+    Carried {
         text: b"interface i { message m(uint32 v); }",
         call: b"m(7)",
         plans: BOTH,
@@ -62,7 +63,7 @@ const ROWS: &[Row] = &[
             control: 2,
         }],
     },
-    Row {
+    Carried {
         text: b"interface i { message m(); }",
         call: b"m()",
         plans: BOTH,
@@ -72,7 +73,7 @@ const ROWS: &[Row] = &[
             control: 2,
         }],
     },
-    Row {
+    Carried {
         text: b"interface i { message m(uint8 a, uint64 b); }",
         call: b"m(1, 2)",
         plans: TWO,
@@ -82,7 +83,7 @@ const ROWS: &[Row] = &[
             control: 2,
         }],
     },
-    Row {
+    Carried {
         text: b"interface i {
             message m(uint64 a, uint64 b, uint64 c, uint64 d, uint64 e, uint64 f, uint64 g, uint64 h);
         }",
@@ -100,7 +101,7 @@ const ROWS: &[Row] = &[
             },
         ],
     },
-    Row {
+    Carried {
         text: NUMBERS,
         call: b"m(-128, -1, 255)",
         plans: ONE,
@@ -110,7 +111,7 @@ const ROWS: &[Row] = &[
             control: 2,
         }],
     },
-    Row {
+    Carried {
         text: NUMBERS,
         call: b"m(-128, -1, 255)",
         plans: TWO,
@@ -120,7 +121,7 @@ const ROWS: &[Row] = &[
             control: 2,
         }],
     },
-    Row {
+    Carried {
         text: BETWEEN,
         call: b"m(1, \"hi\", 5)",
         plans: ONE,
@@ -130,7 +131,7 @@ const ROWS: &[Row] = &[
             control: 2,
         }],
     },
-    Row {
+    Carried {
         text: BETWEEN,
         call: b"m(1, \"hi\", 5)",
         plans: TWO,
@@ -140,7 +141,7 @@ const ROWS: &[Row] = &[
             control: 2,
         }],
     },
-    Row {
+    Carried {
         text: STRUCTS,
         call: SEVEN,
         plans: BOTH,
@@ -160,7 +161,7 @@ const ROWS: &[Row] = &[
             },
         ],
     },
-    Row {
+    Carried {
         text: b"interface i { typedef struct { uint8 a; uint64 b; } t; message m(t x[n, 1024]); }",
         call: SEVEN,
         plans: BOTH,
@@ -180,7 +181,7 @@ const ROWS: &[Row] = &[
             },
         ],
     },
-    Row {
+    Carried {
         text: b"interface i { message m(string s); }",
         call: b"m(\"aaaaaaaaaaaaaaaaaaaaaaaaaaaaaaaaaaaaaaaaaaaaaaaaa\")",
         plans: BOTH,
@@ -196,7 +197,7 @@ const ROWS: &[Row] = &[
             },
         ],
     },
-    Row {
+    Carried {
         text: NESTED,
         call: b"m(9, {1, [{2, 3}, {4, 5}], 6}, 7)",
         plans: ONE,
@@ -214,7 +215,7 @@ const ROWS: &[Row] = &[
             control: 2,
         }],
     },
-    Row {
+    Carried {
         text: NESTED,
         call: b"m(9, {1, [{2, 3}, {4, 5}], 6}, 7)",
         plans: TWO,
@@ -224,7 +225,7 @@ const ROWS: &[Row] = &[
             control: 2,
         }],
     },
-    Row {
+    Carried {
         text: BY_TURNS,
         call: b"m(\"a\", [], 3, \"bc\")",
         plans: ONE,
@@ -234,7 +235,7 @@ const ROWS: &[Row] = &[
             control: 2,
         }],
     },
-    Row {
+    Carried {
         text: BY_TURNS,
         call: b"m(\"a\", [], 3, \"bc\")",
         plans: TWO,
@@ -244,7 +245,7 @@ const ROWS: &[Row] = &[
             control: 2,
         }],
     },
-    Row {
+    Carried {
         text: b"interface i { typedef enum { a, b, c } e; typedef e es[2]; message m(es x, int16 z); }",
         call: b"m([2, 1], -2)",
         plans: BOTH,
@@ -307,8 +308,8 @@ fn has_frags(
     Ok(frag_of(alloc, plan, interface, call, frags.len())?.is_none())
 }
 
-// The payload's length and the fragments of a call; nothing where it doesn't fit, or has others one by one.
-fn sent(
+/// The payload's length and the fragments of a call; nothing where it doesn't fit, or has others one by one.
+pub fn sent(
     alloc: Global,
     plan: PlanNo,
     interface: &Interface,
@@ -359,7 +360,7 @@ fn is_sent(
     alloc: Global,
     plan: PlanNo,
     interface: &Interface,
-    row: &Row,
+    row: &Carried,
 ) -> Result<bool, ValueFault> {
     let call = read_call(alloc, row.call, interface)?;
     match sent(alloc, plan, interface, &call)? {
@@ -368,72 +369,26 @@ fn is_sent(
     }
 }
 
-// Whether the row's call has its payload and its fragments, and is read back, under each of its plans.
-fn holds(alloc: Global, row: &Row) -> Result<bool, Fail> {
-    let interface = interface(alloc, row.text)?;
-    numbers_fit_words(&interface);
-    for plan in row.plans {
-        if !is_sent(alloc, *plan, &interface, row)?
-            || !is_read(alloc, *plan, &interface, row.frags, row.call)?
-        {
-            return Ok(false);
+// It is so under each of the plans, and the fragments are read back.
+impl Row for Carried {
+    fn holds(&self, alloc: Global) -> Result<bool, Fail> {
+        let interface = interface(alloc, self.text)?;
+        numbers_fit_words(&interface);
+        for plan in self.plans {
+            if !is_sent(alloc, *plan, &interface, self)?
+                || !is_read(alloc, *plan, &interface, self.frags, self.call)?
+            {
+                return Ok(false);
+            }
         }
+        Ok(true)
     }
-    Ok(true)
-}
-
-// The first of the rows that doesn't hold.
-fn wrong_row(alloc: Global) -> Result<Option<usize>, Fail> {
-    for (index, row) in ROWS.iter().enumerate() {
-        if !holds(alloc, row)? {
-            return Ok(Some(index));
-        }
-    }
-    Ok(None)
 }
 
 #[test]
 fn calls_are_sent_and_read(rt: HostRuntime) -> Result<(), Fail> {
-    assert_eq!(rt; wrong_row(rt.alloc())?, None);
     one_reading();
     none_begins_with_another();
     reads_once();
-    Ok(())
-}
-
-// The length of the payload and the number of fragments of `m("aa..")`.
-fn lengths(
-    alloc: Global,
-    plan: PlanNo,
-    interface: &Interface,
-    count: usize,
-) -> Result<Option<(usize, usize)>, ValueFault> {
-    let text = letters(alloc, count)?;
-    let call = read_call(alloc, &text, interface)?;
-    match sent(alloc, plan, interface, &call)? {
-        Some((len, frags)) => Ok(Some((len, frags.len()))),
-        None => Ok(None),
-    }
-}
-
-// The first of the numbers of letters that has other lengths, under a plan.
-fn wrong_string(
-    alloc: Global,
-    plan: PlanNo,
-    interface: &Interface,
-) -> Result<Option<usize>, ValueFault> {
-    for (count, wanted) in STRINGS {
-        if lengths(alloc, plan, interface, *count)? != Some(*wanted) {
-            return Ok(Some(*count));
-        }
-    }
-    Ok(None)
-}
-
-#[test]
-fn strings_of_all_lengths(rt: HostRuntime) -> Result<(), Fail> {
-    let string = interface(rt.alloc(), STRING)?;
-    assert_eq!(rt; wrong_string(rt.alloc(), PlanNo::One, &string)?, None);
-    assert_eq!(rt; wrong_string(rt.alloc(), PlanNo::Two, &string)?, None);
-    Ok(())
+    all_hold(rt.alloc(), "calls", CARRIED)
 }

@@ -1,6 +1,7 @@
 //! Tapes: the numbers of calls in each plan's order, and lists of numbers that are no call's.
 
 use crate::interfaces::interface;
+use crate::rows::{Row, all_hold};
 use fl_base::MsgNo;
 use fl_check::Interface;
 use fl_value::{PlanNo, ValueFault, flatten, one_call_of_a_tape, read_call, unflatten};
@@ -8,7 +9,7 @@ use std::alloc::{AllocError, Global};
 use std::test::Fail;
 
 // An interface's text, a call of it, and the call's tape under each plan.
-struct Row {
+struct Flat {
     text: &'static [u8],
     call: &'static [u8],
     one: &'static [u64],
@@ -16,14 +17,14 @@ struct Row {
 }
 
 // Plan 2 puts wider arguments first.
-const ROWS: &[Row] = &[
-    Row {
+const FLAT: &[Flat] = &[
+    Flat {
         text: b"interface i { message m(int8 a, string b[2048], uint16 c); }",
         call: b"m(-128, \"hi\", 5)",
         one: &[128, 2, 104, 105, 5],
         two: &[5, 128, 2, 104, 105],
     },
-    Row {
+    Flat {
         text: b"interface i {
             typedef uint8 two[2];
             message m(bool a, string b[4], uint16 c, two d, uint32 e[n, 4], int64 f);
@@ -41,37 +42,89 @@ const TEXT: &[u8] = b"interface i { message m(string x[2]); }";
 
 const BOOLS: &[u8] = b"interface i { message m(bool x[n, 2]); }";
 
-// An interface's text, and a list of numbers that is no tape of its message, under either plan.
-const NO_TAPES: &[(&[u8], &[u64])] = &[
-    (b"interface i { message m(bool x); }", &[2]),
-    (b"interface i { message m(uint8 x); }", &[256]),
-    (b"interface i { message m(char x); }", &[256]),
-    (b"interface i { message m(int8 x); }", &[256]),
-    (b"interface i { message m(uint16 x); }", &[0x1_0000]),
-    (b"interface i { message m(int16 x); }", &[0x1_0000]),
-    (b"interface i { message m(uint32 x); }", &[0x1_0000_0000]),
-    (
+const BOOL: &[u8] = b"interface i { message m(bool x); }";
+
+// An interface's text, a message, a list of numbers, and whether it is a tape of the message, under either plan.
+struct Tape(&'static [u8], MsgNo, &'static [u64], bool);
+
+const TAPES: &[Tape] = &[
+    Tape(BOOL, MsgNo(0), &[2], false),
+    Tape(
+        b"interface i { message m(uint8 x); }",
+        MsgNo(0),
+        &[256],
+        false,
+    ),
+    Tape(
+        b"interface i { message m(char x); }",
+        MsgNo(0),
+        &[256],
+        false,
+    ),
+    Tape(
+        b"interface i { message m(int8 x); }",
+        MsgNo(0),
+        &[256],
+        false,
+    ),
+    Tape(
+        b"interface i { message m(uint16 x); }",
+        MsgNo(0),
+        &[0x1_0000],
+        false,
+    ),
+    Tape(
+        b"interface i { message m(int16 x); }",
+        MsgNo(0),
+        &[0x1_0000],
+        false,
+    ),
+    Tape(
+        b"interface i { message m(uint32 x); }",
+        MsgNo(0),
+        &[0x1_0000_0000],
+        false,
+    ),
+    Tape(
         b"interface i { message m(int32 x); }",
+        MsgNo(0),
         &[0xffff_ffff_8000_0000],
+        false,
     ),
-    (b"interface i { message m(uint64 x); }", &[]),
-    (b"interface i { message m(uint64 x); }", &[1, 2]),
-    (
+    Tape(
+        b"interface i { message m(uint64 x); }",
+        MsgNo(0),
+        &[],
+        false,
+    ),
+    Tape(
+        b"interface i { message m(uint64 x); }",
+        MsgNo(0),
+        &[1, 2],
+        false,
+    ),
+    Tape(
         b"interface i { typedef enum { a, b, c } e; message m(e x); }",
+        MsgNo(0),
         &[3],
+        false,
     ),
-    (POINT, &[1]),
-    (POINT, &[1, 2, 3]),
-    (TEXT, &[]),
-    (TEXT, &[2, 104]),
-    (TEXT, &[3, 104, 105, 112]),
-    (TEXT, &[1, 0]),
-    (TEXT, &[1, 256]),
-    (TEXT, &[0xffff_ffff_ffff_ffff, 104]),
-    (BOOLS, &[3, 0, 1, 0]),
-    (BOOLS, &[2, 0]),
-    (BOOLS, &[2, 0, 2]),
-    (BOOLS, &[1, 0, 1]),
+    Tape(POINT, MsgNo(0), &[1], false),
+    Tape(POINT, MsgNo(0), &[1, 2, 3], false),
+    Tape(TEXT, MsgNo(0), &[], false),
+    Tape(TEXT, MsgNo(0), &[2, 104], false),
+    Tape(TEXT, MsgNo(0), &[3, 104, 105, 112], false),
+    Tape(TEXT, MsgNo(0), &[1, 0], false),
+    Tape(TEXT, MsgNo(0), &[1, 256], false),
+    Tape(TEXT, MsgNo(0), &[0xffff_ffff_ffff_ffff, 104], false),
+    Tape(BOOLS, MsgNo(0), &[3, 0, 1, 0], false),
+    Tape(BOOLS, MsgNo(0), &[2, 0], false),
+    Tape(BOOLS, MsgNo(0), &[2, 0, 2], false),
+    Tape(BOOLS, MsgNo(0), &[1, 0, 1], false),
+    Tape(BOOL, MsgNo(0), &[1], true),
+    // a message that isn't there
+    Tape(BOOL, MsgNo(1), &[1], false),
+    Tape(BOOL, MsgNo(65535), &[], false),
 ];
 
 // Whether a call that stands as text has this tape.
@@ -86,22 +139,14 @@ fn has_tape(
     Ok(flatten(alloc, &call, interface, plan)?.as_slice() == tape)
 }
 
-// Whether the row's call has the row's tapes.
-fn holds(alloc: Global, row: &Row) -> Result<bool, Fail> {
-    let interface = interface(alloc, row.text)?;
-    Ok(
-        has_tape(alloc, &interface, PlanNo::One, row.call, row.one)?
-            && has_tape(alloc, &interface, PlanNo::Two, row.call, row.two)?,
-    )
-}
-
-#[test]
-fn tapes_follow_the_plan(rt: HostRuntime) -> Result<(), Fail> {
-    for row in ROWS {
-        assert!(rt; holds(rt.alloc(), row)?);
+impl Row for Flat {
+    fn holds(&self, alloc: Global) -> Result<bool, Fail> {
+        let interface = interface(alloc, self.text)?;
+        Ok(
+            has_tape(alloc, &interface, PlanNo::One, self.call, self.one)?
+                && has_tape(alloc, &interface, PlanNo::Two, self.call, self.two)?,
+        )
     }
-    one_call_of_a_tape();
-    Ok(())
 }
 
 // Whether a message's call has a tape.
@@ -115,43 +160,19 @@ fn is_tape(
     Ok(unflatten(alloc, msg, tape, interface, plan)?.is_some())
 }
 
-// Whether this is no tape of message 0, under either plan.
-fn is_no_tape(alloc: Global, text: &[u8], tape: &[u64]) -> Result<bool, Fail> {
-    let interface = interface(alloc, text)?;
-    Ok(
-        !is_tape(alloc, &interface, PlanNo::One, MsgNo(0), tape)?
-            && !is_tape(alloc, &interface, PlanNo::Two, MsgNo(0), tape)?,
-    )
-}
-
-// The first of the lists that is a tape under some plan.
-fn wrong_row(alloc: Global) -> Result<Option<usize>, Fail> {
-    for (index, (text, tape)) in NO_TAPES.iter().enumerate() {
-        if !is_no_tape(alloc, text, tape)? {
-            return Ok(Some(index));
-        }
+impl Row for Tape {
+    fn holds(&self, alloc: Global) -> Result<bool, Fail> {
+        let interface = interface(alloc, self.0)?;
+        Ok(
+            is_tape(alloc, &interface, PlanNo::One, self.1, self.2)? == self.3
+                && is_tape(alloc, &interface, PlanNo::Two, self.1, self.2)? == self.3,
+        )
     }
-    Ok(None)
 }
 
 #[test]
-fn a_bad_tape_gives_no_call(rt: HostRuntime) -> Result<(), Fail> {
-    assert_eq!(rt; wrong_row(rt.alloc())?, None);
-    Ok(())
-}
-
-// Whether these are tapes: one of a message, the same of none, and an empty one of none.
-fn tapes_of_messages(alloc: Global, interface: &Interface) -> Result<[bool; 3], AllocError> {
-    Ok([
-        is_tape(alloc, interface, PlanNo::Two, MsgNo(0), &[1])?,
-        is_tape(alloc, interface, PlanNo::Two, MsgNo(1), &[1])?,
-        is_tape(alloc, interface, PlanNo::One, MsgNo(65535), &[])?,
-    ])
-}
-
-#[test]
-fn a_message_that_is_not_there_has_no_tape(rt: HostRuntime) -> Result<(), Fail> {
-    let one = interface(rt.alloc(), b"interface i { message m(bool x); }")?;
-    assert_eq!(rt; tapes_of_messages(rt.alloc(), &one)?, [true, false, false]);
-    Ok(())
+fn tapes_follow_the_plan(rt: HostRuntime) -> Result<(), Fail> {
+    one_call_of_a_tape();
+    all_hold(rt.alloc(), "calls", FLAT)?;
+    all_hold(rt.alloc(), "tapes", TAPES)
 }

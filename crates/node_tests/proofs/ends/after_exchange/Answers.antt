@@ -4,7 +4,7 @@ use Rattle.fl_core.specs.declared.kind.Kind.{Kind}
 use Rattle.fl_core.specs.View.{TheBoard, TheSeat}
 use Rattle.fl_core.specs.Events.{Adds, Holds}
 use Rattle.fl_core.proofs.Places.{push_last}
-use Rattle.node_tests.proofs.makers.after_exchange.Goals as goal
+use Rattle.node_tests.proofs.ends.after_exchange.Goals as goal
 
 -- an end that was added sits where it was said to
 sits : (b b2 : TheBoard) (n e : ℕ) (s t : TheEnd) (kind : Kind) → Adds b n s kind (Ok e) b2 → interface_in s ≡ interface_in t → Holds b2 e (λ u. interface_in u.end ≡ interface_in t)

@@ -1,6 +1,6 @@
 use Rattle.std.proofs.Common.{rules}
 use Rattle.fl_node.specs.declared.wire.Wire.TheVariants.{Ring}
-use Rattle.node_tests.proofs.makers.pass_through.Goals as goal
+use Rattle.node_tests.proofs.ends.pass_through.Goals as goal
 
 pub take_back_end-requires : goal.take_back_end-requires
 take_back_end-requires c = record {
