@@ -134,7 +134,8 @@ pub record HeardRefused (said heard : ℕ → List Frag) (m : TheMonitor) (o : O
 
 -- why an opening is refused at a core that offers these services: for a reason of its own; for want of the service; or as it heard from further on
 abbrev pub IsRefusedFor : List TheRegistration → (Opening → Type 0) → TheCircuits → (ℕ → List Frag) → (ℕ → List Frag) → TheMonitor → Opening → ℕ → Type 0
-IsRefusedFor names NoPlace t said heard m o reason = Refuses names NoPlace t m.circuits o reason ⊎ (by_iref o.service.0 names ≡ None) ⊎ HeardRefused said heard m o reason
+IsRefusedFor names NoPlace t said heard m o reason =
+    Refuses names NoPlace t m.circuits o reason ⊎ (by_iref o.service.0 names ≡ None) ⊎ HeardRefused said heard m o reason
 
 -- where an entry leads this way, its opening was heard there, or a job here wishes for it
 abbrev pub IsFrom : (Opening → Type 0) → TheCircuits → (ℕ → List Frag) → Way → Opening → Type 0
@@ -149,7 +150,8 @@ pub record IsFor (Wishes : Opening → Type 0) (t : TheCircuits) (said heard : �
   pub only : AsksOnly said m l n opening
 
 -- of a monitor that said and heard these fragments, by link; jobs here wish for these openings, and there was no place for those
-pub record AreReasoned (names : List TheRegistration) (NoPlace Wishes : Opening → Type 0) (t : TheCircuits) (said heard : ℕ → List Frag) (m : TheMonitor) : Type 0 where
+pub record AreReasoned (names : List TheRegistration) (NoPlace Wishes : Opening → Type 0) (t : TheCircuits) (said heard : ℕ → List Frag)
+    (m : TheMonitor) : Type 0 where
   -- what it asks for, or has still to ask for, such a job wishes for, or it was heard
   pub asked : (l : ℕ) (f : Frag) (c : Circuit) (o : Opening) → Has f (said l) ⊎ Has f (waiting_for m.outboxes l) → Says f (asks c o)
       → Wishes o ⊎ ((k n : ℕ) × CameUnder t heard k n o)
@@ -259,7 +261,8 @@ pub record IsRefused (jobs : List CoreJob) (cores : List OneCore) (c : OneCore) 
   pub wish : Wish
   pub job_is : slice_get jobs place ≡ Some (job.Open wish)
   pub end_is : client_of wish.opening.binding ≡ e
-  pub why : RefusesWish (WasFull jobs c.finish) c.start.core.monitor.circuits c.finish.core.monitor.circuits wish reason ⊎ RefusesOne jobs cores wish.opening reason
+  pub why : RefusesWish (WasFull jobs c.finish) c.start.core.monitor.circuits c.finish.core.monitor.circuits wish reason
+      ⊎ RefusesOne jobs cores wish.opening reason
 
 -- so it is where a refusal stands at a desk in the end, where none stood there as the run began, and memory was never wanted for an opening
 abbrev pub DesksTellReasons : Type 0
