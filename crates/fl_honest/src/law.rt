@@ -307,8 +307,8 @@ pub fn cores_reason()
     on_another_circuit();
 }
 
-/// So where cores were set up together, what is heard between them to be refused one of them refuses: the way forth
-/// along the route ends, and what jobs wish for is there.
+/// So where cores were set up together, what is heard between them to be refused one of them refuses: the way forth along the route ends, and what jobs
+/// wish for is there.
 pub fn reasons_alone()
     ensures reasons { ReasonsAlone }
 {

@@ -1,4 +1,4 @@
--- Why bindings are named as refused: by the jobs as cores do them, what the machine has behind the set-up, and how cores ended. Public promises rest on this file.
+-- Why bindings are named as refused: by the jobs as cores do them, what the set-up made, and how cores ended. Public promises rest on this file.
 use Rattle.std.specs.Prelude.{ℕ, ◌≡◌, ◌⊎◌, ◌+◌, ◌<◌, ◌≤◌, false, List, length, slice_get, Some, None}
 use Rattle.fl_base.specs.declared.identity.CoreId.{CoreId}
 use Rattle.fl_nameserv.specs.declared.registration.Service.{Service}
