@@ -1,12 +1,10 @@
 //! What a core finds out of its place, one by one, at core 1 between core 0 and core 2: each message once on the link from the lower core and once on that from
 //! the higher one. What comes on that link has failed then for good, and nothing else has.
 
-use crate::line::{Leg, Line, Plan, Step, Words, make_line};
-use crate::rows::{Row, all_hold};
+use crate::examples::{Example, Said};
+use crate::line::{Leg, Line, Step, Words};
 use crate::words::Word;
-use fl_base::{CoreId, Frag, LinkId};
-use std::alloc::{AllocError, Global};
-use std::test::Fail;
+use fl_base::{CoreId, Frag};
 
 const LINE: &[CoreId] = &[CoreId(0), CoreId(1), CoreId(2)];
 
@@ -33,20 +31,6 @@ const BEGINS_BACK: &[CoreId] = &[CoreId(1), CoreId(0)];
 
 const GAP_BACK: &[CoreId] = &[CoreId(2), CoreId(0), CoreId(1)];
 
-// Service 1 is at core 2, and service 2 at core 1.
-const PLAN: Plan = Plan {
-    service: Some(2),
-    link: LinkId(0),
-    route: LINE,
-    is_shared: false,
-};
-
-// A message that comes on a link.
-type Said = (u16, Words);
-
-// What is heard first, and what is out of its place then.
-struct Astray(&'static [Said], Said);
-
 const BEGUN: &[Said] = &[(0, Words::Open(1, 0, 1, LINE))];
 
 const ANSWERED: &[Said] = &[(0, Words::Open(1, 0, 1, LINE)), (1, Words::Opened(1))];
@@ -67,74 +51,74 @@ const UNDONE_BACK: &[Said] = &[
 
 const ENDED_BACK: &[Said] = &[(1, Words::Open(2, 0, 2, ENDS_BACK))];
 
-// From the lower core.
-const ASTRAY: &[Astray] = &[
+/// From the lower core.
+pub const ASTRAY: &[Example] = &[
     // a number that isn't the neighbour's next
-    Astray(&[], (0, Words::Open(3, 0, 1, LINE))),
-    Astray(&[], (0, Words::Open(2, 0, 1, LINE))),
-    Astray(&[], (0, Words::Open(0, 0, 1, LINE))),
-    Astray(BEGUN, (0, Words::Open(1, 1, 1, LINE))),
+    Example::Astray(&[], (0, Words::Open(3, 0, 1, LINE))),
+    Example::Astray(&[], (0, Words::Open(2, 0, 1, LINE))),
+    Example::Astray(&[], (0, Words::Open(0, 0, 1, LINE))),
+    Example::Astray(BEGUN, (0, Words::Open(1, 1, 1, LINE))),
     // a binding that there can't be
-    Astray(&[], (0, Words::Open(1, 1_024, 1, LINE))),
+    Example::Astray(&[], (0, Words::Open(1, 1_024, 1, LINE))),
     // a route that doesn't lead here from the neighbour, or names a core twice
-    Astray(&[], (0, Words::Open(1, 0, 1, PAST))),
-    Astray(&[], (0, Words::Open(1, 0, 1, TWICE))),
-    Astray(&[], (0, Words::Open(1, 0, 1, TURNED))),
-    Astray(&[], (0, Words::Open(1, 0, 1, BEGINS))),
-    Astray(&[], (0, Words::Open(1, 0, 1, GAP))),
-    Astray(&[], (0, Words::Open(1, 0, 1, &[]))),
-    Astray(&[], (1, Words::Open(1, 0, 1, LINE))),
+    Example::Astray(&[], (0, Words::Open(1, 0, 1, PAST))),
+    Example::Astray(&[], (0, Words::Open(1, 0, 1, TWICE))),
+    Example::Astray(&[], (0, Words::Open(1, 0, 1, TURNED))),
+    Example::Astray(&[], (0, Words::Open(1, 0, 1, BEGINS))),
+    Example::Astray(&[], (0, Words::Open(1, 0, 1, GAP))),
+    Example::Astray(&[], (0, Words::Open(1, 0, 1, &[]))),
+    Example::Astray(&[], (1, Words::Open(1, 0, 1, LINE))),
     // a route that ends here, at a service of another core
-    Astray(&[], (0, Words::Open(1, 0, 1, ENDS))),
+    Example::Astray(&[], (0, Words::Open(1, 0, 1, ENDS))),
     // a binding that stands here, or has an end here
-    Astray(BEGUN, (0, Words::Open(3, 0, 1, LINE))),
-    Astray(ENDED, (0, Words::Open(3, 0, 1, LINE))),
+    Example::Astray(BEGUN, (0, Words::Open(3, 0, 1, LINE))),
+    Example::Astray(ENDED, (0, Words::Open(3, 0, 1, LINE))),
     // answers to no opening of this core's
-    Astray(&[], (1, Words::Opened(1))),
-    Astray(&[], (1, Words::Refused(1, 70))),
-    Astray(BEGUN, (0, Words::Opened(1))),
-    Astray(BEGUN, (1, Words::Opened(3))),
-    Astray(ENDED, (0, Words::Refused(1, 70))),
+    Example::Astray(&[], (1, Words::Opened(1))),
+    Example::Astray(&[], (1, Words::Refused(1, 70))),
+    Example::Astray(BEGUN, (0, Words::Opened(1))),
+    Example::Astray(BEGUN, (1, Words::Opened(3))),
+    Example::Astray(ENDED, (0, Words::Refused(1, 70))),
     // an answer that came already
-    Astray(ANSWERED, (1, Words::Opened(1))),
-    Astray(ANSWERED, (1, Words::Refused(1, 70))),
-    Astray(UNDONE, (1, Words::Opened(1))),
-    Astray(UNDONE, (1, Words::Refused(1, 70))),
+    Example::Astray(ANSWERED, (1, Words::Opened(1))),
+    Example::Astray(ANSWERED, (1, Words::Refused(1, 70))),
+    Example::Astray(UNDONE, (1, Words::Opened(1))),
+    Example::Astray(UNDONE, (1, Words::Refused(1, 70))),
 ];
 
-// From the higher core.
-const ASTRAY_BACK: &[Astray] = &[
+/// From the higher core.
+pub const ASTRAY_BACK: &[Example] = &[
     // a number that isn't the neighbour's next
-    Astray(&[], (1, Words::Open(4, 0, 1, TURNED))),
-    Astray(&[], (1, Words::Open(1, 0, 1, TURNED))),
-    Astray(&[], (1, Words::Open(0, 0, 1, TURNED))),
-    Astray(BEGUN_BACK, (1, Words::Open(2, 1, 1, TURNED))),
+    Example::Astray(&[], (1, Words::Open(4, 0, 1, TURNED))),
+    Example::Astray(&[], (1, Words::Open(1, 0, 1, TURNED))),
+    Example::Astray(&[], (1, Words::Open(0, 0, 1, TURNED))),
+    Example::Astray(BEGUN_BACK, (1, Words::Open(2, 1, 1, TURNED))),
     // a binding that there can't be
-    Astray(&[], (1, Words::Open(2, 1_024, 1, TURNED))),
+    Example::Astray(&[], (1, Words::Open(2, 1_024, 1, TURNED))),
     // a route that doesn't lead here from the neighbour, or names a core twice
-    Astray(&[], (1, Words::Open(2, 0, 1, PAST_BACK))),
-    Astray(&[], (1, Words::Open(2, 0, 1, TWICE_BACK))),
-    Astray(&[], (1, Words::Open(2, 0, 1, LINE))),
-    Astray(&[], (1, Words::Open(2, 0, 1, BEGINS_BACK))),
-    Astray(&[], (1, Words::Open(2, 0, 1, GAP_BACK))),
-    Astray(&[], (1, Words::Open(2, 0, 1, &[]))),
-    Astray(&[], (0, Words::Open(1, 0, 1, TURNED))),
+    Example::Astray(&[], (1, Words::Open(2, 0, 1, PAST_BACK))),
+    Example::Astray(&[], (1, Words::Open(2, 0, 1, TWICE_BACK))),
+    Example::Astray(&[], (1, Words::Open(2, 0, 1, LINE))),
+    Example::Astray(&[], (1, Words::Open(2, 0, 1, BEGINS_BACK))),
+    Example::Astray(&[], (1, Words::Open(2, 0, 1, GAP_BACK))),
+    Example::Astray(&[], (1, Words::Open(2, 0, 1, &[]))),
+    Example::Astray(&[], (0, Words::Open(1, 0, 1, TURNED))),
     // a route that ends here, at a service of another core
-    Astray(&[], (1, Words::Open(2, 0, 1, ENDS_BACK))),
+    Example::Astray(&[], (1, Words::Open(2, 0, 1, ENDS_BACK))),
     // a binding that stands here, or has an end here
-    Astray(BEGUN_BACK, (1, Words::Open(4, 0, 1, TURNED))),
-    Astray(ENDED_BACK, (1, Words::Open(4, 0, 1, TURNED))),
+    Example::Astray(BEGUN_BACK, (1, Words::Open(4, 0, 1, TURNED))),
+    Example::Astray(ENDED_BACK, (1, Words::Open(4, 0, 1, TURNED))),
     // answers to no opening of this core's
-    Astray(&[], (0, Words::Opened(2))),
-    Astray(&[], (0, Words::Refused(2, 70))),
-    Astray(BEGUN_BACK, (1, Words::Opened(2))),
-    Astray(BEGUN_BACK, (0, Words::Opened(4))),
-    Astray(ENDED_BACK, (1, Words::Refused(2, 70))),
+    Example::Astray(&[], (0, Words::Opened(2))),
+    Example::Astray(&[], (0, Words::Refused(2, 70))),
+    Example::Astray(BEGUN_BACK, (1, Words::Opened(2))),
+    Example::Astray(BEGUN_BACK, (0, Words::Opened(4))),
+    Example::Astray(ENDED_BACK, (1, Words::Refused(2, 70))),
     // an answer that came already
-    Astray(ANSWERED_BACK, (0, Words::Opened(2))),
-    Astray(ANSWERED_BACK, (0, Words::Refused(2, 70))),
-    Astray(UNDONE_BACK, (0, Words::Opened(2))),
-    Astray(UNDONE_BACK, (0, Words::Refused(2, 70))),
+    Example::Astray(ANSWERED_BACK, (0, Words::Opened(2))),
+    Example::Astray(ANSWERED_BACK, (0, Words::Refused(2, 70))),
+    Example::Astray(UNDONE_BACK, (0, Words::Opened(2))),
+    Example::Astray(UNDONE_BACK, (0, Words::Refused(2, 70))),
 ];
 
 // Messages come to core 1 by its link 0 from core 0, and by its link 1 from core 2.
@@ -160,68 +144,46 @@ fn fails_for_good(line: &mut Line, link: u16, fault: u8) -> bool {
         && line.step(Step::Hear(leg_of(other))) == Word::Nothing
 }
 
-impl Row for Astray {
-    fn holds(&self, alloc: Global) -> Result<bool, AllocError> {
-        let mut line = make_line(alloc, PLAN)?;
-        for said in self.0 {
-            told(&mut line, *said);
-        }
-        let (link, words) = self.1;
-        Ok(
-            line.step(Step::Tell(leg_of(link), words)) == Word::Done
-                && fails_for_good(&mut line, link, 67),
-        )
+/// Whether what is out of its place is refused, behind what is heard first.
+pub fn is_astray(line: &mut Line, before: &[Said], said: Said) -> bool {
+    for one in before {
+        told(line, *one);
     }
+    let (link, words) = said;
+    line.step(Step::Tell(leg_of(link), words)) == Word::Done && fails_for_good(line, link, 67)
 }
 
-// Behind an opening that made an end: a control word, the first word, and what the fragment is answered at core 1.
-struct Forged(Said, u64, u64, u8);
+/// Whether a fragment is refused for this fault, behind an opening that made an end.
+pub fn is_forged(line: &mut Line, opening: Said, frag: Frag, fault: u8) -> bool {
+    let link = opening.0;
+    told(line, opening) == Word::Opened
+        && line.step(Step::Put(leg_of(link), frag)) == Word::Done
+        && fails_for_good(line, link, fault)
+}
 
 const TO_AN_END: Said = (0, Words::Open(1, 0, 2, ENDS));
 
 const TO_AN_END_BACK: Said = (1, Words::Open(2, 0, 2, ENDS_BACK));
 
-const FRAGMENTS: &[Forged] = &[
+/// Behind an opening that made an end: a control word, the first word, and what the fragment is answered at core 1.
+pub const FRAGMENTS: &[Example] = &[
     // where circuit 1 of link 0 leads to an end
     // no message: not a first fragment, no such number, a reserved bit, a byte that isn't 0 where nothing stands
-    Forged(TO_AN_END, 0, 0, 60),
-    Forged(TO_AN_END, 0x3_0002, 0, 62),
-    Forged(TO_AN_END, 0x1_8002, 0, 63),
-    Forged(TO_AN_END, 0x1_0002, 0x1_0000, 63),
+    Example::Forged(TO_AN_END, 0, 0, 60),
+    Example::Forged(TO_AN_END, 0x3_0002, 0, 62),
+    Example::Forged(TO_AN_END, 0x1_8002, 0, 63),
+    Example::Forged(TO_AN_END, 0x1_0002, 0x1_0000, 63),
     // a circuit without an entry, and one of this core's own numbers
-    Forged(TO_AN_END, 0x3_0000_0002, 0, 67),
-    Forged(TO_AN_END, 0x2_0000_0002, 0, 67),
+    Example::Forged(TO_AN_END, 0x3_0000_0002, 0, 67),
+    Example::Forged(TO_AN_END, 0x2_0000_0002, 0, 67),
     // a circuit whose fragment would only acknowledge
-    Forged(TO_AN_END, 0x1_0000_0004, 0, 63),
+    Example::Forged(TO_AN_END, 0x1_0000_0004, 0, 63),
     // where circuit 2 of link 1 does
-    Forged(TO_AN_END_BACK, 0, 0, 60),
-    Forged(TO_AN_END_BACK, 0x3_0002, 0, 62),
-    Forged(TO_AN_END_BACK, 0x1_8002, 0, 63),
-    Forged(TO_AN_END_BACK, 0x1_0002, 0x1_0000, 63),
-    Forged(TO_AN_END_BACK, 0x4_0000_0002, 0, 67),
-    Forged(TO_AN_END_BACK, 0x1_0000_0002, 0, 67),
-    Forged(TO_AN_END_BACK, 0x2_0000_0004, 0, 63),
+    Example::Forged(TO_AN_END_BACK, 0, 0, 60),
+    Example::Forged(TO_AN_END_BACK, 0x3_0002, 0, 62),
+    Example::Forged(TO_AN_END_BACK, 0x1_8002, 0, 63),
+    Example::Forged(TO_AN_END_BACK, 0x1_0002, 0x1_0000, 63),
+    Example::Forged(TO_AN_END_BACK, 0x4_0000_0002, 0, 67),
+    Example::Forged(TO_AN_END_BACK, 0x1_0000_0002, 0, 67),
+    Example::Forged(TO_AN_END_BACK, 0x2_0000_0004, 0, 63),
 ];
-
-impl Row for Forged {
-    fn holds(&self, alloc: Global) -> Result<bool, AllocError> {
-        let mut line = make_line(alloc, PLAN)?;
-        let link = self.0.0;
-        let frag = Frag {
-            words: [self.2, 0, 0, 0, 0, 0, 0],
-            control: self.1,
-        };
-        Ok(
-            told(&mut line, self.0) == Word::Opened
-                && line.step(Step::Put(leg_of(link), frag)) == Word::Done
-                && fails_for_good(&mut line, link, self.3),
-        )
-    }
-}
-
-#[test]
-fn out_of_place(rt: HostRuntime) -> Result<(), Fail> {
-    all_hold(rt.alloc(), "messages from the lower core", ASTRAY)?;
-    all_hold(rt.alloc(), "messages from the higher core", ASTRAY_BACK)?;
-    all_hold(rt.alloc(), "fragments", FRAGMENTS)
-}

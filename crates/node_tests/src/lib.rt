@@ -7,6 +7,7 @@
 //! - `ends.rt`: ends and links that are added, joined and taken back
 //! - `rings.rt`: what is done at the two sides of a ring
 //! - `line.rt`: three cores in a line, with rings between them, driven by steps
+//! - `examples.rt`: what an example is, and the test of all
 //! - `scripts.rt`: scripts of steps: a circuit opened, used and refused; limits; ends and links
 //! - `forged.rt`: messages and fragments out of their place
 //!
@@ -18,6 +19,8 @@
 mod ends;
 #[cfg(test)]
 mod events;
+#[cfg(test)]
+mod examples;
 #[cfg(test)]
 mod forged;
 #[cfg(test)]

@@ -139,9 +139,9 @@ fn make_rings(alloc: Global, is_shared: bool) -> Result<Rings, AllocError> {
 /// A line of three cores.
 pub fn make_line(alloc: Global, plan: Plan) -> Result<Line, AllocError> {
     Ok(Line {
-        cores: make_cores(alloc)?,
-        rings: make_rings(alloc, plan.is_shared)?,
         known: make_known(alloc, plan.service)?,
+        rings: make_rings(alloc, plan.is_shared)?,
+        cores: make_cores(alloc)?,
         plan,
     })
 }
@@ -375,14 +375,24 @@ impl Line {
         }
     }
 
-    /// Whether the steps come to these words.
-    pub fn follows(&mut self, rows: &[(Step, Word)]) -> Result<bool, AllocError> {
+    // Whether the steps come to these words.
+    fn follows(&mut self, rows: &[(Step, Word)]) -> Result<bool, AllocError> {
         for (step, wanted) in rows {
             let word = self.comes_to(*step);
             if word == Word::NoMemory {
                 return Err(AllocError);
             }
             if word != *wanted {
+                return Ok(false);
+            }
+        }
+        Ok(true)
+    }
+
+    /// The same of steps in parts.
+    pub fn follows_all(&mut self, parts: &[&[(Step, Word)]]) -> Result<bool, AllocError> {
+        for rows in parts {
+            if !self.follows(rows)? {
                 return Ok(false);
             }
         }

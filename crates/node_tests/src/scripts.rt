@@ -1,13 +1,11 @@
 //! Scripts: a circuit over three cores opened, used both ways, and refused at the second and at the third core; the limits of a core;
 //! ends and links that are added and taken back.
 
-use crate::line::{At, Leg, Plan, Step, make_line};
-use crate::rows::{Row, all_hold};
+use crate::examples::Example;
+use crate::line::{At, Leg, Plan, Step};
 use crate::words::Word;
 use fl_base::{CoreId, EndId, LinkId, MsgNo, Side};
 use fl_node::{Inlet, Outlet};
-use std::alloc::{AllocError, Global};
-use std::test::Fail;
 
 const LINE: &[CoreId] = &[CoreId(0), CoreId(1), CoreId(2)];
 
@@ -15,7 +13,8 @@ const FORK: &[CoreId] = &[CoreId(0), CoreId(1), CoreId(3)];
 
 const ASIDE: &[CoreId] = &[CoreId(0), CoreId(2)];
 
-const PLAN: Plan = Plan {
+/// Service 1 is at core 2, and service 2 at core 1.
+pub const PLAN: Plan = Plan {
     service: Some(2),
     link: LinkId(0),
     route: LINE,
@@ -250,46 +249,26 @@ const RULES_EXCHANGED: &[(Step, Word)] = &[(
     Word::Rules(Some(MsgNo(0)), None),
 )];
 
-// A line's plan, and what it comes to, in parts.
-struct Script(Plan, &'static [&'static [(Step, Word)]]);
-
-const SCRIPTS: &[Script] = &[
-    Script(PLAN, &[OPENED]),
-    Script(SHARED, &[OPENED]),
-    Script(
+pub const SCRIPTS: &[Example] = &[
+    Example::Script(PLAN, &[OPENED]),
+    Example::Script(SHARED, &[OPENED]),
+    Example::Script(
         TO_CORE_3,
         &[ASKED_AT_SECOND, FOR_REASON_73, UNBOUND_FOR_GOOD],
     ),
-    Script(
+    Example::Script(
         PLAN,
         &[USED_UP, ASKED_AT_SECOND, FOR_REASON_74, UNBOUND_FOR_GOOD],
     ),
-    Script(NO_SERVICE, &[ASKED_AT_THIRD, FOR_REASON_70, UNBOUND]),
-    Script(PLAN, &[CROWDED, ASKED_AT_THIRD, FOR_REASON_54, UNBOUND]),
-    Script(PLAN, &[FULL_OUTBOX]),
-    Script(PLAN, &[FULL_ON_THE_WAY]),
-    Script(PLAN, &[JOINED]),
-    Script(PLAN, &[TWO_PLACES]),
-    Script(PLAN, &[ONE_PLACE_FOR_TWO]),
-    Script(PLAN, &[NO_PLACE]),
-    Script(PLAN, &[END_TAKEN_BACK]),
-    Script(SECOND_LINK, &[LINK_TAKEN_BACK]),
-    Script(PLAN, &[RULES_EXCHANGED]),
+    Example::Script(NO_SERVICE, &[ASKED_AT_THIRD, FOR_REASON_70, UNBOUND]),
+    Example::Script(PLAN, &[CROWDED, ASKED_AT_THIRD, FOR_REASON_54, UNBOUND]),
+    Example::Script(PLAN, &[FULL_OUTBOX]),
+    Example::Script(PLAN, &[FULL_ON_THE_WAY]),
+    Example::Script(PLAN, &[JOINED]),
+    Example::Script(PLAN, &[TWO_PLACES]),
+    Example::Script(PLAN, &[ONE_PLACE_FOR_TWO]),
+    Example::Script(PLAN, &[NO_PLACE]),
+    Example::Script(PLAN, &[END_TAKEN_BACK]),
+    Example::Script(SECOND_LINK, &[LINK_TAKEN_BACK]),
+    Example::Script(PLAN, &[RULES_EXCHANGED]),
 ];
-
-impl Row for Script {
-    fn holds(&self, alloc: Global) -> Result<bool, AllocError> {
-        let mut line = make_line(alloc, self.0)?;
-        for rows in self.1 {
-            if !line.follows(rows)? {
-                return Ok(false);
-            }
-        }
-        Ok(true)
-    }
-}
-
-#[test]
-fn scripts(rt: HostRuntime) -> Result<(), Fail> {
-    all_hold(rt.alloc(), "scripts", SCRIPTS)
-}
