@@ -1,3 +1,1 @@
 mod Doing
-mod Asking
-mod PlainWords

@@ -1,6 +1,2 @@
--- Public promises rest on all of these files: what words ask for, what commands do with files and streams, and the statuses.
+-- Public promises rest on this file: what `cores` and whole runs do.
 pub mod Commands
-pub mod Deeds
-pub mod Status
-pub mod Streams
-pub mod Words

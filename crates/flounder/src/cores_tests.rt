@@ -1,9 +1,9 @@
-//! Whole runs of `cores`: words and a file in; standard output, standard error and a status out. The files and
+//! `cores`, by whole runs: words and a file in; standard output, standard error and a status out. The files and
 //! reports are those of `examples`.
 
-use crate::fault::Fault;
-use crate::run::{finish, outcome_of};
+use crate::cores::{outcome_of, tell_no_report};
 use crate::tests::{Shelf, go, into};
+use fl_command::finish;
 use fl_cores::{CoresEnd, CoresFault};
 use std::io;
 
@@ -150,114 +150,81 @@ handle p.s ping(3)
 complete
 ";
 
+// Files, how many turns are counted, the status and the report.
+const FILES: &[(&[u8], &str, u8, &[u8])] = &[
+    (CALLS, "2", 5, CALLS_REPORT),
+    (CALLS, "3", 0, ALL_CALLS),
+    (CALLS, MANY, 0, ALL_CALLS),
+    (CALLS, "0", 5, b"turns out\n"),
+    (b"", "0", 0, b"complete\n"),
+    (DISK, MANY, 0, DISK_REPORT),
+    (ECHO, MANY, 0, ECHO_REPORT),
+    (HOPS, MANY, 0, HOPS_REPORT),
+    (WRONG, "8", 2, WRONG_REPORT),
+    (b"disp d 0\nwrite p.c\n", "8", 2, b"line 2 refused E90\n"),
+];
+
 #[test]
 fn files_are_run(rt: HostRuntime) {
-    for (content, turns, status, told) in [
-        (CALLS, "2", 5, CALLS_REPORT),
-        (CALLS, "3", 0, ALL_CALLS),
-        (CALLS, MANY, 0, ALL_CALLS),
-        (CALLS, "0", 5, b"turns out\n".as_slice()),
-        (b"".as_slice(), "0", 0, b"complete\n".as_slice()),
-        (DISK, MANY, 0, DISK_REPORT),
-        (ECHO, MANY, 0, ECHO_REPORT),
-        (HOPS, MANY, 0, HOPS_REPORT),
-        (WRONG, "8", 2, WRONG_REPORT),
-        (b"disp d 0\nwrite p.c\n", "8", 2, b"line 2 refused E90\n"),
-    ] {
-        let (mut out, mut err) = (Vec::new(rt.alloc()), Vec::new(rt.alloc()));
-        let shelf = Shelf::Holds("x", content);
-        let words = ["flounder", "cores", "x", "--turns", turns];
-        assert_eq!(rt; go(&rt, &words, &shelf, &mut out, &mut err), status);
-        assert!(rt; out.as_slice() == told);
-        assert_eq!(rt; err.is_empty(), status == 0);
+    for (content, turns, status, report) in FILES {
+        let words = ["flounder", "cores", "x", "--turns", *turns];
+        let ran = go(&rt, &words, Shelf::Holds("x", content), b"");
+        assert!(rt; ran.status == *status && ran.out.as_slice() == *report);
+        assert_eq!(rt; ran.err.is_empty(), *status == 0);
     }
 }
 
-// The option may also stand first, and be one word with its number.
-#[test]
-fn turns_are_told(rt: HostRuntime) {
-    let shelf = Shelf::Holds("x", CALLS);
-    for words in [
-        ["flounder", "cores", "--turns", "2", "x"].as_slice(),
-        &["flounder", "cores", "--turns=2", "x"],
-        &["flounder", "cores", "x", "--turns=+2"],
-    ] {
-        let (mut out, mut err) = (Vec::new(rt.alloc()), Vec::new(rt.alloc()));
-        assert_eq!(rt; go(&rt, words, &shelf, &mut out, &mut err), 5);
-        assert!(rt; out.as_slice() == CALLS_REPORT);
-    }
-}
+// Reading the file, its content, writing: standard output takes 5 bytes.
+const FIRST_FAULTS: &[(Shelf, u8)] = &[
+    (Shelf::Fails(io::ErrorKind::Other), 4),
+    (Shelf::Fails(io::ErrorKind::OutOfMemory), 3),
+    (Shelf::Holds("y", CALLS), 4),
+    (Shelf::Holds("x", CALLS), 4),
+    (Shelf::Holds("x", WRONG), 4),
+];
 
-// No file is read for them: reading this one would fail.
-#[test]
-fn words_that_tell_no_turns(rt: HostRuntime) {
-    let unread = Shelf::Fails(io::ErrorKind::Other);
-    for words in [
-        ["flounder", "cores"].as_slice(),
-        &["flounder", "cores", "x"],
-        &["flounder", "cores", "--turns", "2"],
-        &["flounder", "cores", "x", "--turns"],
-        &["flounder", "cores", "x", "--turns", ""],
-        &["flounder", "cores", "x", "--turns", "-1"],
-        &["flounder", "cores", "x", "--turns", "2x"],
-        &["flounder", "cores", "x", "--turns", "1000000000001"],
-        &["flounder", "cores", "x", "--turns", "18446744073709551617"],
-        &["flounder", "cores", "x", "--turns", "2", "more"],
-        &["flounder", "cores", "x", "--turns", "2", "--turns", "2"],
-    ] {
-        let (mut out, mut err) = (Vec::new(rt.alloc()), Vec::new(rt.alloc()));
-        assert_eq!(rt; go(&rt, words, &unread, &mut out, &mut err), 1);
-        assert!(rt; out.is_empty());
-        assert!(rt; !err.is_empty());
-    }
-}
-
-// Reading the file, its content, writing.
 #[test]
 fn the_first_fault_of_cores_counts(rt: HostRuntime) {
     let words = ["flounder", "cores", "x", "--turns", "2"];
-    for (shelf, status) in [
-        (Shelf::Fails(io::ErrorKind::Other), 4),
-        (Shelf::Fails(io::ErrorKind::OutOfMemory), 3),
-        (Shelf::Holds("y", CALLS), 4),
-        (Shelf::Holds("x", CALLS), 4),
-        (Shelf::Holds("x", WRONG), 4),
-    ] {
-        assert_eq!(rt; into(&rt, &words, &shelf, 5), status);
+    for (shelf, status) in FIRST_FAULTS {
+        assert_eq!(rt; into(&rt, &words, *shelf, 5), *status);
     }
 }
 
+const ENDS: &[(CoresEnd, u8)] = &[
+    (CoresEnd::Complete, 0),
+    (CoresEnd::Refused, 2),
+    (CoresEnd::TurnsOut, 5),
+];
+
+const SETUP: CoresFault = CoresFault::Setup {
+    number: 94,
+    place: 0,
+};
+
+const JOB: CoresFault = CoresFault::Job {
+    number: 92,
+    place: 1,
+};
+
+const FAULTS: &[(CoresFault, u8)] = &[
+    (SETUP, 2),
+    (JOB, 2),
+    (CoresFault::Memory, 3),
+    (CoresFault::Thread, 3),
+];
+
+// A fault is told, and nothing else.
 #[test]
 fn statuses_of_runs(rt: HostRuntime) {
-    for (end, status) in [
-        (CoresEnd::Complete, 0),
-        (CoresEnd::Refused, 2),
-        (CoresEnd::TurnsOut, 5),
-    ] {
+    for (end, status) in ENDS {
         let mut err = Vec::new(rt.alloc());
-        assert_eq!(rt; finish(outcome_of("x", 2, end), &mut err), status);
-        assert_eq!(rt; err.is_empty(), status == 0);
+        assert_eq!(rt; finish(outcome_of("x", 2, *end), &mut err), *status);
+        assert_eq!(rt; err.is_empty(), *status == 0);
     }
-    for (fault, status) in [
-        (
-            CoresFault::Setup {
-                number: 94,
-                place: 0,
-            },
-            2,
-        ),
-        (
-            CoresFault::Job {
-                number: 92,
-                place: 1,
-            },
-            2,
-        ),
-        (CoresFault::Memory, 3),
-        (CoresFault::Thread, 3),
-    ] {
+    for (fault, status) in FAULTS {
         let mut err = Vec::new(rt.alloc());
-        assert_eq!(rt; finish(Err(Fault::Cores(fault)), &mut err), status);
+        assert_eq!(rt; tell_no_report(*fault, &mut err), *status);
         assert!(rt; !err.is_empty());
     }
 }

@@ -4,22 +4,15 @@
 //! FILE --turns N` runs a cores file, with a thread for each core.
 #![tactic(auto)]
 
-mod fault;
-mod files;
-mod law;
+mod cores;
 mod run;
-mod told;
-mod words;
 
-use crate::fault::Fault;
-use crate::files::Disk;
-use crate::run::{finish, no_words, run};
+use crate::run::run;
+use fl_command::{Disk, Fault, finish, no_words};
 use std::env;
 use std::io::BufWriter;
 use std::process::ExitCode;
 
-#[cfg(test)]
-mod compile_tests;
 #[cfg(test)]
 mod cores_tests;
 #[cfg(test)]

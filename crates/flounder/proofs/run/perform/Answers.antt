@@ -1,5 +1,5 @@
 use Rattle.std.proofs.Common.{refl}
-use Rattle.flounder.specs.Streams.{streams_of}
+use Rattle.fl_command.specs.Streams.{streams_of}
 use Rattle.flounder.proofs.Doing.{performs_exec, performs_show, performs_compile, performs_cores}
 use Rattle.flounder.proofs.run.perform.Goals as goal
 

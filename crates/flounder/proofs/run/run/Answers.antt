@@ -1,8 +1,10 @@
 use Rattle.std.proofs.Common.{refl, map}
 use Rattle.clap.specs.Words.{kind_of}
-use Rattle.flounder.specs.Streams.{output_of, streams_of}
-use Rattle.flounder.specs.Words.{asked_by}
-use Rattle.flounder.proofs.Doing.{helps, runs_asked, runs_refused}
+use Rattle.fl_command.specs.Streams.{output_of, streams_of}
+use Rattle.fl_words.specs.Words.{asked_by}
+use Rattle.fl_command.specs.Commands.{Helps}
+use Rattle.fl_command.proofs.Deeds.{finished}
+use Rattle.flounder.proofs.Doing.{runs_asked, runs_refused}
 use Rattle.flounder.proofs.run.run.Goals as goal
 
 pub returns-in-Ok : goal.returns-in-Ok
@@ -19,6 +21,6 @@ returns-in-Err g c = record {
       runs_refused (g.F.FileStore.deeds c.args.files.now) (map g.S.AsStr.text c.args.words.now)
       (streams_of g.R.Read.remaining g.W.Write.contents c.args.input.now c.args.input.now c.args.output.now c.tell_usage.new.output)
       c.in-Err.error c.finish.result refl c.in-Err.ensures.refused
-      (helps c.tell_usage.result (kind_of c.in-Err.error) (output_of g.W.Write.contents c.args.output.now c.tell_usage.new.output) c.finish.result
+      (finished c.tell_usage.result (Helps (kind_of c.in-Err.error) (output_of g.W.Write.contents c.args.output.now c.tell_usage.new.output)) c.finish.result
       c.tell_usage.ensures.told c.finish.ensures.done c.finish.ensures.fault);
 }

@@ -1,0 +1,2 @@
+pub mod Deeds
+mod Doing

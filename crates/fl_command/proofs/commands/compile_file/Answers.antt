@@ -1,0 +1,25 @@
+use Rattle.std.proofs.Common.{◌∷◌}
+use Rattle.fl_command.specs.Commands.{Compiles}
+use Rattle.fl_command.specs.Deeds.{Does, was_read}
+use Rattle.fl_command.specs.Status.{status_of}
+use Rattle.fl_command.proofs.Deeds.{finished}
+use Rattle.fl_command.proofs.Doing.{compile_done, not_read}
+use Rattle.fl_command.proofs.commands.compile_file.Goals as goal
+
+pub returns-in-Ok : goal.returns-in-Ok
+returns-in-Ok g c =
+    let old = g.F.FileStore.deeds c.read.new.self in
+    let new = g.F.FileStore.deeds c.compile_read.new.files in
+    record {
+      compiled =
+          compile_done (g.F.FileStore.deeds c.args.files.now) old new c.args.file.now c.args.out.now c.in-Ok.content.items c.deref.result.now c.finish.result c.in-Ok.ensures.done c.deref.ensures.value
+          (finished c.compile_read.result (λ status. Does old new (λ deeds. Compiles c.args.file.now c.args.out.now status (was_read c.args.file.now c.deref.result.now ∷ deeds))) c.finish.result
+          c.compile_read.ensures.compiled c.finish.ensures.done c.finish.ensures.fault);
+    }
+
+pub returns-in-Err : goal.returns-in-Err
+returns-in-Err g c = record {
+  compiled =
+      not_read (g.F.FileStore.deeds c.args.files.now) (g.F.FileStore.deeds c.read.new.self) c.args.file.now c.args.out.now _ c.finish-in-Err.result (status_of c.unread.result)
+      c.in-Err.ensures.done c.finish-in-Err.ensures.fault c.unread.ensures.failed;
+}

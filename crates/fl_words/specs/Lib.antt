@@ -1,0 +1,2 @@
+-- Public promises rest on this file: what words ask for.
+pub mod Words

@@ -1,0 +1,26 @@
+use Rattle.std.proofs.Common.{refl, [], ◌∷◌}
+use Rattle.fl_command.specs.Deeds.{was_read}
+use Rattle.fl_command.specs.Streams.{output_of}
+use Rattle.fl_command.proofs.Deeds.{finished}
+use Rattle.flounder.specs.Commands.{RunsCores}
+use Rattle.flounder.proofs.Doing.{all_told, cores_failed, cores_so}
+use Rattle.flounder.proofs.cores.cores_read.Goals as goal
+
+pub returns-in-Ok : goal.returns-in-Ok
+returns-in-Ok g c =
+    let o = output_of g.W.Write.contents c.args.output.now c.print_told.new.output in
+    record {
+      ran =
+          finished c.print_told.result (λ status. RunsCores c.args.file.now c.args.turns o status (was_read c.args.file.now c.args.content.now ∷ [])) c.finish.result
+          (cores_so c.print_told.result c.args.file.now c.args.content.now c.report_cores_text.new.out.items c.deref.result.now c.args.turns c.in-Ok.end o c.deref.ensures.value
+          (all_told c.args.content.now c.new-told.result.items c.report_cores_text.new.out.items c.args.turns c.in-Ok.end c.in-Ok.ensures.told c.new-told.ensures.items)
+          c.print_told.ensures.told)
+          c.finish.ensures.done c.finish.ensures.fault;
+    }
+
+pub returns : goal.returns
+returns g c = record {
+  ran =
+      cores_failed c.args.file.now c.args.content.now c.args.turns (output_of g.W.Write.contents c.args.output.now c.args.output.now) c.in-Err.fault c.tell_no_report.result refl
+      c.tell_no_report.ensures.status;
+}

@@ -1,0 +1,105 @@
+//! The command `cores`.
+
+ghost use Rattle.std.specs.Prelude.{◌≡◌, ◌∷◌, [], MatchResult};
+ghost use Rattle.fl_command.specs.Deeds.{Does, was_read};
+ghost use Rattle.fl_command.specs.Parts.{EndsSo};
+ghost use Rattle.fl_command.specs.Status.{status_of};
+ghost use Rattle.fl_command.specs.Streams.{output_of};
+ghost use Rattle.flounder.specs.Commands.{RunsCores, TellsCores, cores_status, end_status};
+
+use fl_base::CoreId;
+use fl_command::{Fault, FileStore, finish, print, unread};
+use fl_cores::{CoresEnd, CoresFault};
+use fl_reports::report_cores_text;
+use fl_running::Gate;
+use std::alloc::Global;
+use std::io::{BufWriter, Write};
+use std::sync::Wait;
+use std::thread::Threads;
+
+// Cores go on at once.
+#[derive(Clone, Copy)]
+struct NoGate;
+
+impl Gate for NoGate {
+    fn before_turn(&self, _core: CoreId) {}
+}
+
+/// `cores FILE --turns N`: runs a cores file on threads, and prints what is told of that: the report, or the line
+/// that is refused.
+pub fn cores_file<T: Threads + Wait + Sync, F: FileStore, W: Write + Drop, E: Write>(
+    rt: &T,
+    alloc: Global,
+    file: &str,
+    turns: u64,
+    files: &mut F,
+    output: &mut BufWriter<W>,
+    errors: &mut E,
+) -> u8
+    ensures ran { Does (F.deeds files.old) (F.deeds files.new)
+        (RunsCores file.now turns (output_of W.contents output.old output.new) result) }
+{
+    match files.read(alloc, file) {
+        Ok(content) => cores_read(rt, alloc, file, &content, turns, output, errors),
+        Err(error) => finish(Err(unread(file, error)), errors),
+    }
+}
+
+// Runs a cores file that was read, and prints what is told of that.
+fn cores_read<T: Threads + Wait + Sync, W: Write + Drop, E: Write>(
+    rt: &T,
+    alloc: Global,
+    file: &str,
+    content: &[u8],
+    turns: u64,
+    output: &mut BufWriter<W>,
+    errors: &mut E,
+) -> u8
+    ensures ran { RunsCores file.now turns (output_of W.contents output.old output.new) result (was_read file.now content.now ∷ []) }
+{
+    let mut told = Vec::new(alloc);
+    match report_cores_text(rt, alloc, content, turns, &NoGate, &mut told) {
+        Ok(end) => finish(print_told(file, turns, end, &told, output), errors),
+        Err(fault) => tell_no_report(fault, errors),
+    }
+}
+
+// Prints what is told of cores that ran, and answers what is wrong where they didn't all finish.
+fn print_told<'a, W: Write + Drop>(
+    file: &'a str,
+    turns: u64,
+    end: CoresEnd,
+    told: &[u8],
+    output: &mut BufWriter<W>,
+) -> Result<(), Fault<'a>>
+    ensures told { EndsSo result (λ status. TellsCores end told.now (output_of W.contents output.old output.new) status) }
+{
+    match print(told, output) {
+        Ok(()) => outcome_of(file, turns, end),
+        Err(fault) => Err(fault),
+    }
+}
+
+/// What is wrong where the cores of a file didn't all finish.
+pub fn outcome_of(file: &str, turns: u64, end: CoresEnd) -> Result<(), Fault<'_>>
+    ensures status { MatchResult result (λ _. end_status end ≡ 0) (λ fault. status_of fault ≡ end_status end) }
+{
+    match end {
+        CoresEnd::Complete => Ok(()),
+        CoresEnd::Refused => Err(Fault::Line { file }),
+        CoresEnd::TurnsOut => Err(Fault::TurnsOut { turns }),
+    }
+}
+
+/// Tells why a run of cores came to no report, and answers the status.
+pub fn tell_no_report<E: Write>(fault: CoresFault, errors: &mut E) -> u8
+    ensures status { result ≡ cores_status fault }
+{
+    let _told = write!(errors, "{fault}\n");
+    match fault {
+        CoresFault::Setup { .. } => 2,
+        CoresFault::Job { .. } => 2,
+        CoresFault::Memory => 3,
+        CoresFault::Thread => 3,
+    }
+}
