@@ -1,9 +1,12 @@
 //! The fragments that the tests put, and the circuit field.
 
+use crate::rows::Row;
 use fl_base::{Circuit, Frag, MsgNo, control};
 use fl_link::PutSide;
+use std::alloc::Global;
+use std::test::Fail;
 
-// The first fragment of a call of message 0 on a circuit.
+/// The first fragment of a call of message 0 on a circuit.
 pub fn call(v: u64, circuit: u16) -> Frag {
     Frag {
         words: [v, 0, 0, 0, 0, 0, 0],
@@ -11,7 +14,7 @@ pub fn call(v: u64, circuit: u16) -> Frag {
     }
 }
 
-// Whether a link took the fragment.
+/// Whether a link took the fragment.
 pub fn put<P: PutSide>(side: &mut P, frag: Frag) -> bool {
     if frag.is_ack_only() {
         return false;
@@ -19,21 +22,25 @@ pub fn put<P: PutSide>(side: &mut P, frag: Frag) -> bool {
     side.put(&frag).is_ok()
 }
 
-// Bits 32 to 47 change, and nothing else.
-#[test]
-fn circuits_of_fragments(rt: HostRuntime) {
-    for (control, circuit, changed) in [
-        (0x0000_0000_0000_0003, 1, 0x0000_0001_0000_0003),
-        (0x0000_0001_0000_0003, 3, 0x0000_0003_0000_0003),
-        (0xfffa_07fe_0005_0002, 0, 0xfffa_0000_0005_0002),
-        (0xffff_ffff_ffff_ffff, 2_046, 0xffff_07fe_ffff_ffff),
-    ] {
-        let words = [1, 2, 3, 4, 5, 6, u64::MAX];
-        let frag = Frag { words, control };
-        let changed = Frag {
-            words,
-            control: changed,
+/// A control word, a circuit, and the control word of the same fragment on that circuit: bits 32 to 47 change, and nothing else.
+pub struct OnCircuit(u64, u16, u64);
+
+pub const ON_CIRCUITS: &[OnCircuit] = &[
+    OnCircuit(0x0000_0000_0000_0003, 1, 0x0000_0001_0000_0003),
+    OnCircuit(0x0000_0001_0000_0003, 3, 0x0000_0003_0000_0003),
+    OnCircuit(0xfffa_07fe_0005_0002, 0, 0xfffa_0000_0005_0002),
+    OnCircuit(0xffff_ffff_ffff_ffff, 2_046, 0xffff_07fe_ffff_ffff),
+];
+
+const WORDS: [u64; 7] = [1, 2, 3, 4, 5, 6, u64::MAX];
+
+impl Row for OnCircuit {
+    fn holds(&self, _alloc: Global) -> Result<bool, Fail> {
+        let frag = Frag {
+            words: WORDS,
+            control: self.0,
         };
-        assert_eq!(rt; frag.with_circuit(Circuit(circuit)), changed);
+        let changed = frag.with_circuit(Circuit(self.1));
+        Ok(changed.words == WORDS && changed.control == self.2)
     }
 }

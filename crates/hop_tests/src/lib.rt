@@ -1,6 +1,7 @@
 //! Tests of circuits at cores, over their public calls alone. They stand here and not in `fl_hop`, since a crate with
 //! tests is proved twice.
 //!
+//! - `rows.rt`, `examples.rt`: tables, of which a test tells the first row that isn't so, and all of them
 //! - `openings.rt`: links, numbers, and each way in which an entry comes and goes
 //! - `routes.rt`: circuits over two links and over one, with real rings between the cores
 //! - `fragments.rt`: the fragments that they put, and the circuit field
@@ -11,6 +12,8 @@
 #![tactic(auto)]
 
 #[cfg(test)]
+mod examples;
+#[cfg(test)]
 mod faults;
 #[cfg(test)]
 mod fragments;
@@ -18,3 +21,5 @@ mod fragments;
 mod openings;
 #[cfg(test)]
 mod routes;
+#[cfg(test)]
+mod rows;
