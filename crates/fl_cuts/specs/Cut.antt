@@ -1,0 +1,73 @@
+-- A cut: what one core knows of the machine's state. When a core that runs, with the sides and queues that it is lent, shows a cut.
+use Rattle.std.specs.Prelude.{ℕ, ◌≡◌, false, List, [], ◌∷◌, length, map, slice_get, slice_set, Option, Some, None}
+use Rattle.fl_base.specs.declared.identity.EndId.{EndId}
+use Rattle.fl_link.specs.Queue.{TheQueue}
+use Rattle.fl_ring.specs.SharedSides.{TheSide}
+use Rattle.fl_core.specs.View.{TheDispatcher, TheSeat}
+use Rattle.fl_node.specs.declared.wire.Port.{Port}
+use Rattle.fl_node.specs.View.{TheCore}
+use Rattle.fl_running.specs.Run.{TheRun}
+use Rattle.fl_queues.specs.Given.{given}
+use Rattle.fl_queues.specs.Ends.{Queue, Seat}
+use Rattle.fl_queues.specs.Waits.{Dispatcher}
+use Rattle.fl_queues.specs.Monitors.{Core}
+use Rattle.fl_shows.specs.Cores.{MonitorShows}
+use Rattle.fl_cuts.specs.Sides.{SideCut, ShowsSide}
+use Rattle.fl_cuts.specs.Ends.{EndCut, ShowsEnd}
+
+-- one for one, of two lists of one length
+abbrev pub Each2 : {A B : Type 0} → (A → B → Type 0) → List A → List B → Type 0
+Each2 R [] [] = Unit {0}
+Each2 R (x ∷ xs) (y ∷ ys) = R x y × Each2 R xs ys
+Each2 R xs ys = ⊥
+
+pub record Cut : Type 0 where
+  -- the machine's core: its waitsets, and its circuits and outboxes
+  pub core : Core
+  -- its ends, by their places at the core; and by name their places
+  pub ends : List EndCut
+  pub places : List (Option ℕ)
+  -- its sides of rings, its local queues, and the arrival queues of its ends of circuits
+  pub sides : List SideCut
+  pub queues : List Queue
+  pub arrivals : List Queue
+
+-- ---- parts
+
+-- as many fragments stand in a queue as the machine's has labels, and it has as much room
+pub record ShowsQueue (q : Queue) (t : TheQueue) : Type 0 where
+  pub stand : length t.items ≡ length q.labels
+  pub capacity : t.capacity ≡ q.capacity
+  -- a slot is free again once its fragment is taken
+  pub freed : t.acked ≡ false
+  pub untold : t.untold ≡ 0
+  pub sent : t.sent ≡ 0
+
+-- the names of ends, by their places
+abbrev pub name_at : List Port → ℕ → Option EndId
+name_at ports place = given (slice_get ports place) None λ p. Some p.name
+
+-- the same channels wait, and each is the same end's
+pub record ShowsWaits (ports : List Port) (x : Dispatcher) (d : TheDispatcher) : Type 0 where
+  pub lists : d.lists ≡ x.lists
+  pub ends : map (name_at ports) d.ends ≡ map (λ e. Some e) x.ends
+
+-- where an end sits at this core
+abbrev pub seat_at : ℕ → TheSeat → Seat
+seat_at core t = record { dispatcher = record { core = core; place = t.dispatcher }; channel = t.channel }
+
+pub record ShowsSeat (core : ℕ) (x : EndCut) (t : TheSeat) : Type 0 where
+  pub shows : ShowsEnd x t.end
+  pub seat : x.end.seat ≡ Some (seat_at core t)
+
+-- ---- the whole
+
+pub record ShowsCut (a : Cut) (s : TheRun TheSide) : Type 0 where
+  pub monitor : MonitorShows a.core s.core.monitor
+  pub waits : Each2 (ShowsWaits s.core.ports) a.core.dispatchers s.core.board.dispatchers
+  pub ends : Each2 (ShowsSeat s.core.monitor.circuits.core) a.ends s.core.board.seats
+  pub names : map (λ (x : EndCut). x.name) a.ends ≡ map (λ (p : Port). p.name) s.core.ports
+  pub places : a.places ≡ s.core.places
+  pub sides : Each2 ShowsSide a.sides s.rings
+  pub queues : Each2 ShowsQueue a.queues s.queues
+  pub arrivals : Each2 ShowsQueue a.arrivals s.core.arrivals
