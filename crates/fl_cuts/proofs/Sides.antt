@@ -175,13 +175,13 @@ put_agrees label x s t (placed f) h (kind, less, (m, k, enough, e)) =
       subst (ShowsSide (put_on label f (sure_of for_data y.sight x))) (sym e) (written_shows label f (sure_of for_data y.sight x) m y.shows),
     )
 put_agrees label x s t no_room h (less, k, before, few) =
-    let y = sure for_data x s t h less k in λ f. (
+    let y = sure for_data x s t h less k in (
       sure_of for_data y.sight x,
       (y.sight, too_little for_data (sure_of for_data y.sight x) t y.shows (still_unspent for_data s t k less) few, refl),
       y.shows,
     )
 put_agrees label x s t spent h (full, e) =
-    let y = sure_spent for_data x s h full in λ f. (
+    let y = sure_spent for_data x s h full in (
       sure_of for_data None x,
       (None, no_more for_data (sure_of for_data None x) s y full, refl),
       subst (ShowsSide (sure_of for_data None x)) (sym e) y,

@@ -89,17 +89,17 @@ abbrev pub wrote_next : EndCut → EndCut
 wrote_next x = record x { end = with_out (λ d. (writes x.planned d there_is_room).direction) x.end }
 
 -- what becomes of the end, and of the side, to which the label of the next fragment goes
-abbrev pub Writes : {P : Type 0} → (Label → Frag → Placing → P → P → Type 0) → Result WriteAnswer EndFault → EndCut → P → EndCut → P → Type 0
+abbrev pub Writes : {P : Type 0} → (Label → Placing → P → P → Type 0) → Result WriteAnswer EndFault → EndCut → P → EndCut → P → Type 0
 Writes places (Ok (write.Written number count)) x p y q =
     HasMore x.planned x.end × ((writes x.planned x.end.out there_is_room).answer ≡ written number count)
-    × ((f : Frag) × (next_fragment x.planned x.end ≡ Some f) × places (next_label x) f goes_on p q) × (y ≡ wrote_next x)
+    × ((f : Frag) × (next_fragment x.planned x.end ≡ Some f) × places (next_label x) (goes_on f) p q) × (y ≡ wrote_next x)
 Writes places (Ok write.Full) x p y q =
     HasMore x.planned x.end × ((writes x.planned x.end.out none_free).answer ≡ full)
-    × ((f : Frag) → places (next_label x) f is_full p q) × (y ≡ x)
+    × places (next_label x) is_full p q × (y ≡ x)
 Writes places (Ok write.Nothing) x p y q = (is_bound x.end ≡ true) × (is_busy x.planned x.end.out ≡ false) × (q ≡ p) × (y ≡ x)
 Writes places (Err Spent) x p y q =
     HasMore x.planned x.end × ((writes x.planned x.end.out used_up).answer ≡ refused (fault_number Spent))
-    × ((f : Frag) → places (next_label x) f is_spent p q) × (y ≡ x)
+    × places (next_label x) is_spent p q × (y ≡ x)
 Writes places (Err NotBound) x p y q = (is_bound x.end ≡ false) × (q ≡ p) × (y ≡ x)
 Writes places (Err Failed) x p y q = (x.failed ≡ true) × (q ≡ p) × (y ≡ x)
 Writes places (Err fault) x p y q = ⊥

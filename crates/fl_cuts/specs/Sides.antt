@@ -68,17 +68,17 @@ owes_one x = owes first_side x.ring ≡ true
 
 -- ---- events at a side
 
--- one tries to put a label's fragment: there is room, or not, or the ring is spent
+-- one tries to put the fragment of a label: there is room, or not, or the ring is spent
 pub data Placing : Type 0 where
-  goes_on : Placing
+  goes_on : Frag → Placing
   is_full : Placing
   is_spent : Placing
 
-abbrev pub Places : Label → Frag → Placing → SideCut → SideCut → Type 0
-Places label f goes_on x y =
+abbrev pub Places : Label → Placing → SideCut → SideCut → Type 0
+Places label (goes_on f) x y =
     (sight : Sight) × (room_of for_data (sure_of for_data sight x) ≡ there_is_room) × (y ≡ put_on label f (sure_of for_data sight x))
-Places label f is_full x y = (sight : Sight) × (room_of for_data (sure_of for_data sight x) ≡ none_free) × (y ≡ sure_of for_data sight x)
-Places label f is_spent x y = (sight : Sight) × (room_of for_data (sure_of for_data sight x) ≡ used_up) × (y ≡ sure_of for_data sight x)
+Places label is_full x y = (sight : Sight) × (room_of for_data (sure_of for_data sight x) ≡ none_free) × (y ≡ sure_of for_data sight x)
+Places label is_spent x y = (sight : Sight) × (room_of for_data (sure_of for_data sight x) ≡ used_up) × (y ≡ sure_of for_data sight x)
 
 -- one looks or takes, and this comes of it
 pub data Gave : Type 0 where
@@ -120,9 +120,9 @@ abbrev pub Becomes : (SideCut → SideCut → Type 0) → SideCut → TheSide �
 Becomes Event x t = (y : SideCut) × Event x y × ShowsSide y t
 
 abbrev pub PutShows : Label → Look → SideCut → TheSide → Type 0
-PutShows label (placed f) x t = Becomes (Places label f goes_on) x t
-PutShows label no_room x t = (f : Frag) → Becomes (Places label f is_full) x t
-PutShows label spent x t = (f : Frag) → Becomes (Places label f is_spent) x t
+PutShows label (placed f) x t = Becomes (Places label (goes_on f)) x t
+PutShows label no_room x t = Becomes (Places label is_full) x t
+PutShows label spent x t = Becomes (Places label is_spent) x t
 PutShows label look x t = ⊥
 
 abbrev pub SidePuts : Type 0
