@@ -1,2 +1,10 @@
-pub mod Tests
 pub mod Sides
+pub mod Counted
+pub mod Ends
+pub mod Lists
+pub mod Queues
+pub mod Turning
+pub mod Cuts
+pub mod Events
+pub mod Logs
+pub mod Starting

@@ -13,7 +13,7 @@ use Rattle.fl_ring.proofs.Places.{epoch_bit}
 use Rattle.fl_queues.specs.Rings.{Label, acknowledges, RingLabel, Ring, first_side, looks, takes, puts, makes_sure, free, is_spent, Room, room, owes}
 use Rattle.fl_queues.specs.Rings.{there_is_room, no_room as none_free, spent as used_up, for_data, for_acknowledgement}
 use Rattle.fl_cuts.specs.Sides.{SideCut, ShowsSide, Sight, seeing, telling, looked_at, took, sure_of, room_of, put_on, Places, goes_on, is_full, SideGives, Tells, Becomes, PutShows, LookShows, gave_one, gave_ack}
-use Rattle.fl_cuts.proofs.Tests.{by_test, then_is, else_is, le_true, le_false, true_le, false_le}
+use Rattle.fl_shows.proofs.Tests.{by_test, then_is, else_is, le_true, le_false, true_le, false_le}
 
 -- ---- room
 

@@ -1,5 +1,7 @@
+-- The laws rest on these, in this order.
 pub mod Sides
 pub mod Ends
 pub mod Cut
 pub mod Events
+pub mod Start
 pub mod Laws

@@ -1,0 +1,143 @@
+-- The events of a log, and turns, of a core without links.
+use Rattle.std.proofs.Common.{◌≡◌, ◌≢◌, refl, sym, ◌∙◌, ap, subst, ℕ, nat_lt, ◌&&◌, Bool, true, false, if◌then◌else◌, List, [], ◌∷◌, length, slice_get, Option, Some, None, arith}
+use Rattle.std.specs.Prelude.{Result, Ok, Err}
+use Rattle.fl_base.specs.declared.fragment.Frag.{Frag}
+use Rattle.fl_base.specs.declared.identity.EndId.{EndId}
+use Rattle.fl_base.specs.declared.identity.LinkId.{LinkId}
+use Rattle.fl_link.specs.Looks.{Look}
+use Rattle.fl_ring.specs.SharedSides.{TheSide}
+use Rattle.fl_monitor.specs.Monitors.{can_say}
+use Rattle.fl_monitor.specs.Routing.{given as given_at}
+use Rattle.fl_node.specs.declared.wire.Port.{Port}
+use Rattle.fl_node.specs.declared.wire.Wire.{Wire}
+use Rattle.fl_node.specs.declared.wire.Wire.TheVariants.{Queues, Ring as OverRing, Circuit}
+use Rattle.fl_node.specs.declared.wire.Outlet.TheVariants as outlet
+use Rattle.fl_node.specs.declared.wire.Inlet.{Inlet}
+use Rattle.fl_node.specs.declared.wire.Inlet.TheVariants as inlet
+use Rattle.fl_node.specs.declared.wire.Lane.{Lane}
+use Rattle.fl_node.specs.View.{TheCore, place_of, side_of_link, inlet_by, inlet_of}
+use Rattle.fl_node.specs.Sound.{IsCore, IsWired}
+use Rattle.fl_running.specs.declared.job.Job.{Job}
+use Rattle.fl_running.specs.declared.plan.Plan.{Plan}
+use Rattle.fl_running.specs.declared.lent.Berth.{Berth}
+use Rattle.fl_running.specs.Run.{TheRun, side_in, lent_lane, lent_berth}
+use Rattle.fl_running.specs.Deeds.{Deed, looked, passed, arrived, heard, said, told, opened, called, ruled, wrote, acked, turned, Happens}
+use Rattle.fl_running.specs.Turn.{Turned}
+use Rattle.fl_running.specs.Logs.{InPlace, Goes}
+use Rattle.fl_running.proofs.Aside.{desks_alone}
+use Rattle.fl_running.proofs.Laning.{puts_to, takes_from, some_is}
+use Rattle.fl_running.proofs.Logging.{turns_logged}
+use Rattle.fl_shows.specs.EndLaws.{TakeShows}
+use Rattle.fl_cuts.specs.Cut.{Cut, ShowsCut}
+use Rattle.fl_cuts.specs.Events.{CutGoes}
+use Rattle.fl_cuts.specs.Laws.{HasNoLinks, shared, Follows, FollowsAll, TurnsFollow}
+use Rattle.fl_cuts.proofs.Events.{After, calls_follow, rules_follow, side_writes_follow, queue_writes_follow, side_turns_follow, queue_turns_follow, acks_follow}
+
+-- ---- without links
+
+no_lane : {P : Type 0} (s : TheRun TheSide) (l : LinkId) (n : ℕ) → HasNoLinks s.core → lent_lane s l ≡ Some n → P
+no_lane s l n h q =
+    let none : lent_lane s l ≡ None
+    = ap (λ (lanes : List Lane). given_at (side_of_link lanes l.0) None λ m. if nat_lt m (length s.rings) then Some m else None) h.lanes in
+    let clash : None ≡ Some n = sym none ∙ q in
+    absurd (cc)
+
+and_false : (b : Bool) → (b && false) ≡ false
+and_false true = refl
+and_false false = refl
+
+says_nothing : {P : Type 0} (k : TheCore) (l : ℕ) (b : Bool) → HasNoLinks k → (b && can_say k.monitor.outboxes l) ≡ true → P
+says_nothing k l b h q =
+    let none : (b && can_say k.monitor.outboxes l) ≡ false
+    = ap (λ (frags : List (List Frag)). b && can_say frags l) h.outboxes ∙ and_false b in
+    let clash : true ≡ false = sym q ∙ none in
+    absurd (cc)
+
+-- an end that takes from an arrival queue is on a link
+no_arrivals : {P : Type 0} (k : TheCore) (e : ℕ) → HasNoLinks k → IsCore k → inlet_of k e ≡ Some inlet.Arrivals → P
+no_arrivals {P} k e h core q = by_port (slice_get k.ports e) refl q where
+  by_wire : (p : Port) (wire : Wire) → IsWired k wire → inlet_by wire ≡ inlet.Arrivals → P
+  by_wire p (Queues out from) w r = absurd (cc)
+  by_wire p (OverRing side) w r = absurd (cc)
+  by_wire p (Circuit link arrivals) w r =
+      let long : length k.lanes ≡ 0 = ap length h.lanes in
+      let less = w.0 in
+      absurd (omega (arith, long, less))
+
+  by_port : (o : Option Port) → slice_get k.ports e ≡ o → (given_at o None λ p. Some (inlet_by p.wire)) ≡ Some inlet.Arrivals → P
+  by_port None r x = absurd (cc)
+  by_port (Some p) r x = by_wire p p.wire (core.wired e p r) (some_is (inlet_by p.wire) inlet.Arrivals x)
+
+-- where an end that acknowledges takes from
+berth_by : (s : TheRun TheSide) (o : Option Inlet) (f : ℕ) (b : Berth)
+    → (given_at o None λ from. given_at (side_in from) None λ n. if nat_lt n (length s.rings) then (let p : Berth = record { end = f; side = n } in Some p) else None)
+    ≡ Some b → o ≡ Some (inlet.Side b.side)
+berth_by s None f b is = absurd (cc)
+berth_by s (Some (inlet.Queue n)) f b is = absurd (cc)
+berth_by s (Some inlet.Arrivals) f b is = absurd (cc)
+berth_by s (Some (inlet.Side n)) f b is = by (nat_lt n (length s.rings)) is where
+  by : (t : Bool) → (if t then (let p : Berth = record { end = f; side = n } in Some p) else None) ≡ Some b → Some (inlet.Side n) ≡ Some (inlet.Side b.side)
+  by true h = ap (λ (o : Option Berth). given_at o None λ (p : Berth). Some (inlet.Side p.side)) h
+  by false h = absurd (cc)
+
+acks_at : (s : TheRun TheSide) (name : EndId) (f : ℕ) (b : Berth) (n : ℕ) → place_of s.core name ≡ Some f → lent_berth s name ≡ Some b → b.side ≡ n
+    → inlet_of s.core f ≡ Some (inlet.Side n)
+acks_at s name f b n at is same =
+    berth_by s (inlet_of s.core f) f b
+    (sym (ap (λ (o : Option ℕ). given_at o None λ (e : ℕ). given_at (inlet_of s.core e) None λ (x : Inlet). given_at (side_in x) None λ (m : ℕ).
+    if nat_lt m (length s.rings) then (let p : Berth = record { end = e; side = m } in Some p) else None) at) ∙ is)
+    ∙ ap (λ (m : ℕ). Some (inlet.Side m)) same
+
+-- ---- one event
+
+one_follows : TakeShows → (front : TheSide → Look) (jobs : List Job) (a : Cut) (s t : TheRun TheSide) (deed : Deed) → ShowsCut a s → HasNoLinks s.core
+    → Happens (shared front) deed s t → InPlace jobs s deed → After deed a s t
+one_follows law front jobs a s t (looked n l answer) h none k by = no_lane s l n none by
+one_follows law front jobs a s t (passed n m frag c outcome) h none k by = no_lane s by.link n none by.leads.lane
+one_follows law front jobs a s t (arrived n l frag e answer) h none k by = no_lane s l n none by.lane
+one_follows law front jobs a s t (heard n l frag answer) h none k by = no_lane s l n none by.0
+one_follows law front jobs a s t (said n l answer) h none k by = no_lane s l n none by
+one_follows law front jobs a s t (told n l answer) h none k by = no_lane s l n none by
+one_follows law front jobs a s t (opened name wish answer) h none k by = says_nothing s.core wish.link.0 _ none by.1
+one_follows law front jobs a s t (called name c answer) h none (m, (e, at, on), notes, sound, soundly) by =
+    calls_follow a s m t name c answer e h sound at on (desks_alone m t (called name c answer) notes)
+one_follows law front jobs a s t (ruled name msg reply answer) h none (m, (e, at, on), notes, sound, soundly) by =
+    rules_follow a s m t name msg reply answer e h sound at on (desks_alone m t (ruled name msg reply answer) notes)
+one_follows law front jobs a s t (wrote name (outlet.Side n) answer) h none (m, (e, at, on), notes, sound, soundly) (post, post_is, out_is) =
+    side_writes_follow a s m t name n answer e h sound at (puts_to s name e post (outlet.Side n) at post_is out_is) on
+    (desks_alone m t (wrote name (outlet.Side n) answer) notes)
+one_follows law front jobs a s t (wrote name (outlet.Queue n) answer) h none (m, (e, at, on), notes, sound, soundly) (post, post_is, out_is) =
+    queue_writes_follow a s m t name n answer e h sound at (puts_to s name e post (outlet.Queue n) at post_is out_is) on
+    (desks_alone m t (wrote name (outlet.Queue n) answer) notes)
+one_follows law front jobs a s t (turned d name (inlet.Side n) answer) h none (m, (e, at, due_is, on), notes, sound, soundly) (due, lent, place, from, waits) =
+    side_turns_follow law a s m t d name n answer e h sound soundly at (takes_from s d e due (inlet.Side n) due_is lent from) on
+    (desks_alone m t (turned d name (inlet.Side n) answer) notes)
+one_follows law front jobs a s t (turned d name (inlet.Queue n) answer) h none (m, (e, at, due_is, on), notes, sound, soundly) (due, lent, place, from, waits) =
+    queue_turns_follow law a s m t d name n answer e h sound soundly at (takes_from s d e due (inlet.Queue n) due_is lent from) on
+    (desks_alone m t (turned d name (inlet.Queue n) answer) notes)
+one_follows law front jobs a s t (turned d name inlet.Arrivals answer) h none (m, (e, at, due_is, on), notes, sound, soundly) (due, lent, place, from, waits) =
+    no_arrivals s.core e none sound.core (takes_from s d e due inlet.Arrivals due_is lent from)
+one_follows law front jobs a s t (acked name n answer) h none (m, (e, at, on), notes, sound, soundly) (berth, berth_is, side_is) =
+    acks_follow a s m t name n answer e h sound at (acks_at s name e berth n at berth_is side_is) on (desks_alone m t (acked name n answer) notes)
+
+pub events_follow : TakeShows → (front : TheSide → Look) (jobs : List Job) (a : Cut) (s t : TheRun TheSide) (deed : Deed) → ShowsCut a s → HasNoLinks s.core
+    → Happens (shared front) deed s t → InPlace jobs s deed → Follows deed a t
+events_follow law front jobs a s t deed h none k by =
+    let one = one_follows law front jobs a s t deed h none k by in
+    record { after = one.after; does = one.does; shows = one.shows }
+
+-- ---- a log
+
+pub logs_follow : TakeShows → (front : TheSide → Look) (jobs : List Job) (a : Cut) (s t : TheRun TheSide) (log : List Deed) → ShowsCut a s → HasNoLinks s.core
+    → Goes (shared front) jobs s log t → FollowsAll log a t
+logs_follow law front jobs a s t [] h none k = record { after = a; goes = refl; shows = subst (ShowsCut a) (sym k) h }
+logs_follow law front jobs a s t (deed ∷ log) h none (m, happens, by, rest) =
+    let one = one_follows law front jobs a s m deed h none happens by in
+    let all = logs_follow law front jobs one.after m t log one.shows (one.links none) rest in
+    record { after = all.after; goes = (one.after, one.does, all.goes); shows = all.shows }
+
+pub turns_follow : TakeShows → (front : TheSide → Look) (plan : Plan) (jobs : List Job) (k : ℕ) (a : Cut) (s t : TheRun TheSide) → ShowsCut a s → HasNoLinks s.core
+    → Turned (shared front) plan jobs k s t → TurnsFollow front jobs a s t
+turns_follow law front plan jobs k a s t h none turns =
+    let logged = turns_logged (shared front) plan jobs k s t turns in
+    record { log = logged.log; happened = logged.goes; follows = logs_follow law front jobs a s t logged.log h none logged.goes }

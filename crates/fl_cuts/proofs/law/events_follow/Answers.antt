@@ -1,0 +1,5 @@
+use Rattle.fl_cuts.proofs.Logs.{events_follow}
+use Rattle.fl_cuts.proofs.law.events_follow.Goals as goal
+
+pub returns : goal.returns
+returns c = record { follow = events_follow c.take_shows.ensures.shows }
