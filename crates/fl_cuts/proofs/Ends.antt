@@ -110,15 +110,15 @@ pub record Called (x : EndCut) (c : TheCall) (answer : Result (Unit {0}) EndFaul
   pub after : EndCut
   pub calls : Calls c answer x after
   pub shows : ShowsEnd after t
-  pub name : after.name ≡ x.name
+  pub port : after.port ≡ x.port
   pub seat : after.end.seat ≡ x.end.seat
 
 refused_call : (x : EndCut) (c : TheCall) (answer : Result (Unit {0}) EndFault) (s t : TheEnd) → ShowsEnd x s → t ≡ s → Calls c answer x x → Called x c answer t
-refused_call x c answer s t h e calls = record { after = x; calls = calls; shows = same x s t h e; name = refl; seat = refl }
+refused_call x c answer s t h e calls = record { after = x; calls = calls; shows = same x s t h e; port = refl; seat = refl }
 
 pub call_shows : (x : EndCut) (c : TheCall) (answer : Result (Unit {0}) EndFault) (s t : TheEnd) → ShowsEnd x s → EndCalls s c answer t → Called x c answer t
 call_shows x c (Ok done) s t h a =
-    let g = call_agrees x.name c x.planned x.end nothing_known (plain s) (plain t) (Ok done) (plainly x s h) h.counted
+    let g = call_agrees x.port.name c x.planned x.end nothing_known (plain s) (plain t) (Ok done) (plainly x s h) h.counted
     (plain_calls s t c (Ok done) (λ e. absurd (cc)) a) in
     let idle = idle_is x.planned x.end nothing_known (plain s) (plainly x s h) a.2 in
     record {
@@ -126,23 +126,23 @@ call_shows x c (Ok done) s t h a =
       calls = (g.0, refl);
       shows = shown x (with_out (accepts c) x.end) s t h g.1 (ap (λ (z : TheEnd). z.parts) a.3) (ap (λ (z : TheEnd). z.failed) a.3)
           (called_counts x.planned c x.end.out idle (counts_of x s h));
-      name = refl;
+      port = refl;
       seat = refl;
     }
 call_shows x c (Err UnknownMessage) s t h a =
-    let g = call_agrees x.name c x.planned x.end nothing_known (plain s) (plain t) (Err UnknownMessage) (plainly x s h) h.counted
+    let g = call_agrees x.port.name c x.planned x.end nothing_known (plain s) (plain t) (Err UnknownMessage) (plainly x s h) h.counted
     (plain_calls s t c (Err UnknownMessage) (λ e. absurd (cc)) a) in
     refused_call x c (Err UnknownMessage) s t h a.1 (g.0, refl)
 call_shows x c (Err Misfit) s t h a =
-    let g = call_agrees x.name c x.planned x.end nothing_known (plain s) (plain t) (Err Misfit) (plainly x s h) h.counted
+    let g = call_agrees x.port.name c x.planned x.end nothing_known (plain s) (plain t) (Err Misfit) (plainly x s h) h.counted
     (plain_calls s t c (Err Misfit) (λ e. absurd (cc)) a) in
     refused_call x c (Err Misfit) s t h a.2 (g.0, refl)
 call_shows x c (Err NotBound) s t h a =
-    let g = call_agrees x.name c x.planned x.end nothing_known (plain s) (plain t) (Err NotBound) (plainly x s h) h.counted
+    let g = call_agrees x.port.name c x.planned x.end nothing_known (plain s) (plain t) (Err NotBound) (plainly x s h) h.counted
     (plain_calls s t c (Err NotBound) (λ e. absurd (cc)) a) in
     refused_call x c (Err NotBound) s t h a.2 (g.0, refl)
 call_shows x c (Err Busy) s t h a =
-    let g = call_agrees x.name c x.planned x.end nothing_known (plain s) (plain t) (Err Busy) (plainly x s h) h.counted
+    let g = call_agrees x.port.name c x.planned x.end nothing_known (plain s) (plain t) (Err Busy) (plainly x s h) h.counted
     (plain_calls s t c (Err Busy) (λ e. absurd (cc)) a) in
     refused_call x c (Err Busy) s t h a.3 (g.0, refl)
 call_shows x c (Err Memory) s t h a = refused_call x c (Err Memory) s t h a.3 refl
@@ -163,7 +163,7 @@ pub record Ruled (x : EndCut) (msg reply : ℕ) (answer : Result (Unit {0}) EndF
   pub after : EndCut
   pub sets : SetsRule msg reply answer x after
   pub shows : ShowsEnd after t
-  pub name : after.name ≡ x.name
+  pub port : after.port ≡ x.port
   pub seat : after.end.seat ≡ x.end.seat
 
 pub rule_shows : (x : EndCut) (msg reply : ℕ) (answer : Result (Unit {0}) EndFault) (s t : TheEnd) → ShowsEnd x s → EndSets s msg reply answer t
@@ -174,16 +174,16 @@ rule_shows x msg reply (Ok done) s t h a =
       after = record x { end = machine_rule msg reply x.end };
       sets = (g.0, g.1, refl);
       shows = shown x (machine_rule msg reply x.end) s t h g.2 (ap (λ (z : TheEnd). z.parts) a.3) (ap (λ (z : TheEnd). z.failed) a.3) (counts_of x s h);
-      name = refl;
+      port = refl;
       seat = refl;
     }
 rule_shows x msg reply (Err UnknownMessage) s t h a =
     let g = rule_agrees x.planned msg reply x.end nothing_known (plain s) (plain t) (Err UnknownMessage) (plainly x s h)
     (plain_rule s t msg reply (Err UnknownMessage) a) in
-    record { after = x; sets = (g.0, refl); shows = same x s t h a.1; name = refl; seat = refl }
+    record { after = x; sets = (g.0, refl); shows = same x s t h a.1; port = refl; seat = refl }
 rule_shows x msg reply (Err Misfit) s t h a =
     let g = rule_agrees x.planned msg reply x.end nothing_known (plain s) (plain t) (Err Misfit) (plainly x s h) (plain_rule s t msg reply (Err Misfit) a) in
-    record { after = x; sets = (g.0, g.1, refl); shows = same x s t h a.3; name = refl; seat = refl }
+    record { after = x; sets = (g.0, g.1, refl); shows = same x s t h a.3; port = refl; seat = refl }
 rule_shows x msg reply (Err fault) s t h a = absurd a
 
 -- ---- a write, over a side that shows what is placed
@@ -211,7 +211,7 @@ pub record Wrote {T V : Type 0} (Shows : V → T → Type 0) (places : Label →
   pub does : Writes places answer x v after side
   pub shows : ShowsEnd after t
   pub side_shows : Shows side q
-  pub name : after.name ≡ x.name
+  pub port : after.port ≡ x.port
   pub seat : after.end.seat ≡ x.end.seat
 
 module _ {T V : Type 0} (puts : T → Look → T → Type 0) (Shows : V → T → Type 0) (places : Label → Placing → V → V → Type 0) where
@@ -228,14 +228,14 @@ module _ {T V : Type 0} (puts : T → Look → T → Type 0) (Shows : V → T �
         shows = shown x (with_out (λ d. (writes x.planned d there_is_room).direction) x.end) s t h g.3
             (ap (λ (z : TheEnd). z.parts) a.1.6) (ap (λ (z : TheEnd). z.failed) a.1.6) (written_counts x.planned x.end.out g.0.1 (counts_of x s h));
         side_shows = w.2;
-        name = refl;
+        port = refl;
         seat = refl;
       }
   write_shows law x v (Ok write.Full) s t p q h k a =
       let g = write_agrees puts x.planned x.end nothing_known p q (plain s) (plain t) (Ok write.Full) (plainly x s h) h.counted h.stations
       (plain_writes puts s t p q (Ok write.Full) (λ e. absurd (cc)) a) in
       let w = law.full (next_label x) v p q k g.1 in
-      record { after = x; side = w.0; does = (g.0, g.2, w.1, refl); shows = same x s t h a.3; side_shows = w.2; name = refl; seat = refl }
+      record { after = x; side = w.0; does = (g.0, g.2, w.1, refl); shows = same x s t h a.3; side_shows = w.2; port = refl; seat = refl }
   write_shows law x v (Ok write.Nothing) s t p q h k a =
       let g = write_agrees puts x.planned x.end nothing_known p q (plain s) (plain t) (Ok write.Nothing) (plainly x s h) h.counted h.stations
       (plain_writes puts s t p q (Ok write.Nothing) (λ e. absurd (cc)) a) in
@@ -245,21 +245,21 @@ module _ {T V : Type 0} (puts : T → Look → T → Type 0) (Shows : V → T �
         does = (g.0, g.1, refl, refl);
         shows = same x s t h a.3;
         side_shows = subst (Shows v) (sym a.2) k;
-        name = refl;
+        port = refl;
         seat = refl;
       }
   write_shows law x v (Err Spent) s t p q h k a =
       let g = write_agrees puts x.planned x.end nothing_known p q (plain s) (plain t) (Err Spent) (plainly x s h) h.counted h.stations
       (plain_writes puts s t p q (Err Spent) (λ e. absurd (cc)) a) in
       let w = law.over (next_label x) v p q k g.1 in
-      record { after = x; side = w.0; does = (g.0, g.2, w.1, refl); shows = same x s t h a.3; side_shows = w.2; name = refl; seat = refl }
+      record { after = x; side = w.0; does = (g.0, g.2, w.1, refl); shows = same x s t h a.3; side_shows = w.2; port = refl; seat = refl }
   write_shows law x v (Err NotBound) s t p q h k a = record {
     after = x;
     side = v;
     does = (unbound_is x.planned x.end nothing_known (plain s) (plainly x s h) a.0, refl, refl);
     shows = same x s t h a.2;
     side_shows = subst (Shows v) (sym a.1) k;
-    name = refl;
+    port = refl;
     seat = refl;
   }
   write_shows law x v (Err Failed) s t p q h k a = record {
@@ -268,7 +268,7 @@ module _ {T V : Type 0} (puts : T → Look → T → Type 0) (Shows : V → T �
     does = (sym h.failed ∙ a.0.1, refl, refl);
     shows = same x s t h a.2;
     side_shows = subst (Shows v) (sym a.1) k;
-    name = refl;
+    port = refl;
     seat = refl;
   }
   write_shows law x v (Err fault) s t p q h k a = absurd a
@@ -302,7 +302,7 @@ pub record Took (x : EndCut) (f : Frag) (taken : Taken) (t : TheEnd) : Type 0 wh
   pub after : EndCut
   pub takes : Takes f taken x after
   pub shows : ShowsEnd after t
-  pub name : after.name ≡ x.name
+  pub port : after.port ≡ x.port
   pub seat : after.end.seat ≡ x.end.seat
 
 -- no call more is whole
@@ -342,7 +342,7 @@ take_part x f s t h a =
         stations = h.stations;
         exits = exit_stays x.came h.exits;
       });
-      name = refl;
+      port = refl;
       seat = refl;
     }
 
@@ -461,7 +461,7 @@ take_whole law x f call s t h sound ready bare_is a =
         stations = counts.stations;
         exits = exit_stays (accepts (call_of call) x.came) h.exits;
       };
-      name = refl;
+      port = refl;
       seat = replied_seat x.planned (whole (call_of call)) x.end;
     }
 
@@ -469,7 +469,7 @@ pub record Failing (x : EndCut) (f : Frag) (fault : WireFault) (t : TheEnd) : Ty
   pub after : EndCut
   pub fails : Fails f fault x after
   pub shows : ShowsEnd after t
-  pub name : after.name ≡ x.name
+  pub port : after.port ≡ x.port
   pub seat : after.end.seat ≡ x.end.seat
 
 pub take_wrong : (x : EndCut) (f : Frag) (fault : WireFault) (s t : TheEnd) → ShowsEnd x s → TakesIn s f (Err (Wire fault)) t → Failing x f fault t
@@ -493,6 +493,6 @@ take_wrong x f fault s t h a = record {
     stations = h.stations;
     exits = h.exits;
   });
-  name = refl;
+  port = refl;
   seat = refl;
 }

@@ -52,14 +52,15 @@ use Rattle.fl_shows.specs.EndLaws.{TakeShows}
 use Rattle.fl_cuts.specs.Sides.{SideCut, ShowsSide, Places, Gave, SideGives, Tells, is_told, is_little, finds_none}
 use Rattle.fl_cuts.specs.Ends.{EndCut, ShowsEnd, Calls, SetsRule, Writes}
 use Rattle.fl_cuts.specs.Cut.{Each2, Cut, ShowsQueue, name_at, ShowsWaits, ShowsSeat, ShowsCut}
-use Rattle.fl_cuts.specs.Events.{QueuePlaces, QueueGives, Spot, Giving, ring_gives, queue_gives, Turns, Acks, EndAt, ChangesEnd, ChangesBoth, triggers_end, woken_by, with_waits, WritesOver, end_due, HasTurn, TurnsOver, AcksOver, CutDoes}
+use Rattle.fl_cuts.specs.Events.{QueuePlaces, QueueGives, Spot, Giving, ring_gives, queue_gives, Turns, Acks, EndAt, ChangesEnd, ChangesBoth, triggers_end, woken_by, with_waits, WritesOver, end_due, HasTurn, TurnsOverSide, TurnsOverQueue, AcksOver}
+use Rattle.fl_cuts.specs.Does.{CutDoes}
 use Rattle.fl_cuts.specs.Laws.{HasNoLinks}
 use Rattle.fl_cuts.proofs.Lists.{there, set_both, only_one}
 use Rattle.fl_cuts.proofs.Sides.{put_agrees, look_agrees, takes_one, takes_ack}
 use Rattle.fl_cuts.proofs.Ends.{PutLaw, call_shows, rule_shows, write_shows, is_bound_now, unbound_now}
 use Rattle.fl_cuts.proofs.Queues.{queue_puts, queue_misses, queue_leaves, queue_gives_one, queue_gives_ack, some_wait, none_wait, seen_some}
 use Rattle.fl_cuts.proofs.Turning.{GivingLaw, due_of, due_is, turn_shows}
-use Rattle.fl_cuts.proofs.Cuts.{built, changed, shown_by, board_run, ring_run, queue_run, Seen, seen, end_at, seated, ends_shown, names_same, Triggered, on_board, triggers_shown}
+use Rattle.fl_cuts.proofs.Cuts.{built, changed, shown_by, board_run, ring_run, queue_run, Seen, seen, end_at, seated, ends_shown, ports_same, Triggered, on_board, triggers_shown}
 
 -- ---- sides and queues, as laws of what they do
 
@@ -93,7 +94,7 @@ queue_waits v p q place.Pending h (Rattle.std.proofs.Common.inr (first, e)) =
 queue_waits v p q place.Idle h (none, e) = (none_wait v p h none, subst (ShowsQueue v) (sym e) h)
 queue_waits v p q place.Polled h a = absurd a
 
-all_gives : GivingLaw QueueTakes ShowsQueue queue_gives kind.Queue
+pub all_gives : GivingLaw QueueTakes ShowsQueue queue_gives kind.Queue
 all_gives = record { misses = queue_misses; leaves = queue_leaves; gives_one = queue_gives_one; gives_ack = queue_gives_ack; waits = queue_waits }
 
 -- ---- what an event comes to
@@ -125,13 +126,13 @@ one_boarded s m t e Event on desks = record {
 }
 
 end_changed : (a : Cut) (s t : TheRun TheSide) (name : EndId) (e : ℕ) (seat : TheSeat) (z : TheEnd) (y : EndCut) → ShowsCut a s → Boarded s t e seat z
-    → (x : Seen a s.core.monitor.circuits.core name e seat) → ShowsEnd y z → y.name ≡ x.end.name → y.end.seat ≡ x.end.end.seat
+    → (x : Seen a s.core.monitor.circuits.core name e seat) → ShowsEnd y z → y.port ≡ x.end.port → y.end.seat ≡ x.end.end.seat
     → ShowsCut (record a { ends = slice_set a.ends e y }) t
 end_changed a s t name e seat z y h b x shows same sits =
     subst (ShowsCut (record a { ends = slice_set a.ends e y })) (sym b.run)
     (shown_by a s h a.core.dispatchers (slice_set a.ends e y) a.sides a.queues (with_end s.core.board e seat z) s.rings s.queues t.desks h.waits
     (ends_shown a s.core.monitor.circuits.core name e seat s.core.board.seats x y z h.ends (record { shows = shows; seat = sits ∙ x.shows.seat }))
-    (names_same a s.core.monitor.circuits.core name e seat x y same) h.sides h.queues)
+    (ports_same a s.core.monitor.circuits.core name e seat x y same) h.sides h.queues)
 
 pub calls_follow : (a : Cut) (s m t : TheRun TheSide) (name : EndId) (c : TheCall) (answer : Result (Unit {0}) EndFault) (e : ℕ) → ShowsCut a s → IsSound s.core
     → place_of s.core name ≡ Some e → OnCore s (λ k k2. OnBoard k (λ b b2. BoardChanges b e (λ x y. EndCalls x c answer y) b2) k2) m
@@ -144,7 +145,7 @@ calls_follow a s m t name c answer e h sound at on desks =
     record {
       after = record a { ends = slice_set a.ends e one.after };
       does = record { at = end_at a s.core.monitor.circuits.core name e change.seat x; after = one.after; event = one.calls; rest = refl };
-      shows = end_changed a s t name e change.seat change.end one.after h boarded x one.shows one.name one.seat;
+      shows = end_changed a s t name e change.seat change.end one.after h boarded x one.shows one.port one.seat;
       links = still_none s t (with_end s.core.board e change.seat change.end) (ap (λ (r : TheRun TheSide). r.core) boarded.run);
     }
 
@@ -160,7 +161,7 @@ rules_follow a s m t name msg reply answer e h sound at on desks =
     record {
       after = record a { ends = slice_set a.ends e one.after };
       does = record { at = end_at a s.core.monitor.circuits.core name e change.seat x; after = one.after; event = one.sets; rest = refl };
-      shows = end_changed a s t name e change.seat change.end one.after h boarded x one.shows one.name one.seat;
+      shows = end_changed a s t name e change.seat change.end one.after h boarded x one.shows one.port one.seat;
       links = still_none s t (with_end s.core.board e change.seat change.end) (ap (λ (r : TheRun TheSide). r.core) boarded.run);
     }
 
@@ -207,12 +208,20 @@ woken_same a k e name (Ok write.Nothing) h = refl
 woken_same a k e name (Err fault) h = refl
 
 -- how fragments come to an end, by its wire
-kind_at : (seats : List TheSeat) (ports : List Port) (e : ℕ) (seat : TheSeat) (p : Port)
+pub kind_at : (seats : List TheSeat) (ports : List Port) (e : ℕ) (seat : TheSeat) (p : Port)
     → map (λ (x : TheSeat). x.kind) seats ≡ map (λ (q : Port). kind_of q.wire) ports → slice_get seats e ≡ Some seat → slice_get ports e ≡ Some p
     → seat.kind ≡ kind_of p.wire
-kind_at seats ports e seat p h x y = Rattle.fl_cuts.proofs.Lists.map_at (λ (z : TheSeat). z.kind) (λ (q : Port). kind_of q.wire) seats ports e seat p h x y
+kind_at [] ports e seat p h x y = absurd (cc)
+kind_at (s ∷ seats) [] e seat p h x y = absurd (cc)
+kind_at (s ∷ seats) (q ∷ ports) zero seat p h x y =
+    let first : s.kind ≡ kind_of q.wire = cc in
+    let left : s ≡ seat = cc in
+    let right : q ≡ p = cc in
+    ap (λ (z : TheSeat). z.kind) (sym left) ∙ first ∙ ap (λ (z : Port). kind_of z.wire) right
+kind_at (s ∷ seats) (q ∷ ports) (suc e) seat p h x y =
+    let rest : map (λ (z : TheSeat). z.kind) seats ≡ map (λ (z : Port). kind_of z.wire) ports = cc in kind_at seats ports e seat p rest x y
 
-kind_from : (k : TheCore) (e : ℕ) (seat : TheSeat) (from : Inlet) (expected : Kind) → IsCore k → slice_get k.board.seats e ≡ Some seat → inlet_of k e ≡ Some from
+pub kind_from : (k : TheCore) (e : ℕ) (seat : TheSeat) (from : Inlet) (expected : Kind) → IsCore k → slice_get k.board.seats e ≡ Some seat → inlet_of k e ≡ Some from
     → ((wire : Wire) → inlet_by wire ≡ from → kind_of wire ≡ expected) → seat.kind ≡ expected
 kind_from k e seat from expected core at h by = by_port (slice_get k.ports e) refl h where
   same : (x y : Inlet) → Some x ≡ Some y → x ≡ y
@@ -270,7 +279,7 @@ side_writes_follow a s m t name n answer e h sound at out on desks =
           (with_end s.core.board e change.seat change.end) (slice_set s.rings n on.after) s.queues t.desks h.waits
           (ends_shown a core name e change.seat s.core.board.seats x one.after change.end h.ends
           (record { shows = one.shows; seat = one.seat ∙ x.shows.seat }))
-          (names_same a core name e change.seat x one.after one.name)
+          (ports_same a core name e change.seat x one.after one.port)
           (set_both ShowsSide a.sides s.rings n one.side on.after h.sides one.side_shows) h.queues);
       links = still_none s t (with_end s.core.board e change.seat change.end) (ap (λ (r : TheRun TheSide). r.core) run);
     }
@@ -324,7 +333,7 @@ queue_writes_follow a s m t name n answer e h sound at out on desks =
       shows = subst (ShowsCut next) (sym run)
           (shown_by a s h (triggers_end (woken_by name answer a) (slice_set a.ends e one.after) a.core.dispatchers) (slice_set a.ends e one.after) a.sides
           (slice_set a.queues n one.side) m.core.board s.rings (slice_set s.queues n on.after) t.desks triggered.waits_show triggered.ends_show
-          (names_same a core name e change.seat x one.after one.name) h.sides
+          (ports_same a core name e change.seat x one.after one.port) h.sides
           (set_both ShowsQueue a.queues s.queues n one.side on.after h.queues one.side_shows));
       links = still_none s t m.core.board (ap (λ (r : TheRun TheSide). r.core) run);
     }
@@ -360,7 +369,7 @@ pub record TurnShown {T P : Type 0} (Shows : P → T → Type 0) (g : Giving P) 
   pub turn : HasTurn g d name answer a xs n waits ends sides
   pub waits_show : Each2 (ShowsWaits ports) waits b.dispatchers
   pub ends_show : Each2 (ShowsSeat core) ends b.seats
-  pub names : map (λ (x : EndCut). x.name) ends ≡ map (λ (x : EndCut). x.name) a.ends
+  pub ports_are : map (λ (x : EndCut). x.port) ends ≡ map (λ (x : EndCut). x.port) a.ends
   pub sides_show : Each2 Shows sides qs
 
 turn_on : {T P : Type 0} (Shows : P → T → Type 0) (g : Giving P) (d : ℕ) (name : EndId) (answer : TurnAnswer) (a : Cut) (xs : List P) (n : ℕ)
@@ -409,7 +418,7 @@ module _ {T P : Type 0} (takes : T → Look → T → Type 0) (Shows : P → T �
             (record { lists = one.lists_are; ends = w.2.ends ∙ ap (map (λ y. Some y)) (sym one.ends_are) });
         ends_show = ends_shown a number name e t.seat s.core.board.seats x one.after.end t.end h.ends
             (record { shows = one.shows; seat = one.seat ∙ x.shows.seat });
-        names = names_same a number name e t.seat x one.after.end one.name;
+        ports_are = ports_same a number name e t.seat x one.after.end one.port;
         sides_show = set_both Shows xs ps n one.after.side q sides one.side_shows;
       })
 
@@ -427,7 +436,7 @@ side_turns_follow law a s m t d name n answer e h sound soundly at from on desks
       does = (one.turn, refl);
       shows = subst (ShowsCut next) (sym run)
           (shown_by a s h one.waits one.ends one.sides a.queues m.core.board (slice_set s.rings n on.after) s.queues t.desks
-          one.waits_show one.ends_show one.names one.sides_show h.queues);
+          one.waits_show one.ends_show one.ports_are one.sides_show h.queues);
       links = still_none s t m.core.board (ap (λ (r : TheRun TheSide). r.core) run);
     }
 
@@ -445,7 +454,7 @@ queue_turns_follow law a s m t d name n answer e h sound soundly at from on desk
       does = (one.turn, refl);
       shows = subst (ShowsCut next) (sym run)
           (shown_by a s h one.waits one.ends a.sides one.sides m.core.board s.rings (slice_set s.queues n on.after) t.desks
-          one.waits_show one.ends_show one.names h.sides one.sides_show);
+          one.waits_show one.ends_show one.ports_are h.sides one.sides_show);
       links = still_none s t m.core.board (ap (λ (r : TheRun TheSide). r.core) run);
     }
 

@@ -6,5 +6,6 @@ pub mod Queues
 pub mod Turning
 pub mod Cuts
 pub mod Events
+pub mod Links
 pub mod Logs
 pub mod Starting

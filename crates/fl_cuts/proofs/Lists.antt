@@ -26,17 +26,17 @@ map_same {A} {C} f (z ∷ xs) zero x y e same =
     let here : z ≡ x = cc in ap (λ (c : C). c ∷ map f xs) (same ∙ ap f (sym here))
 map_same {A} {C} f (z ∷ xs) (suc n) x y e same = ap (λ (cs : List C). f z ∷ cs) (map_same f xs n x y e same)
 
--- the same functions' values at a place
-pub map_at : {A B C : Type 0} (f : A → C) (g : B → C) (xs : List A) (ys : List B) (n : ℕ) (x : A) (y : B) → map f xs ≡ map g ys
-    → slice_get xs n ≡ Some x → slice_get ys n ≡ Some y → f x ≡ g y
-map_at f g [] ys n x y e p q = absurd (cc)
-map_at f g (w ∷ xs) [] n x y e p q = absurd (cc)
-map_at {A} {B} {C} f g (w ∷ xs) (z ∷ ys) zero x y e p q =
-    let first : f w ≡ g z = cc in
+-- what a function makes of what stands at a place
+pub map_at : {A C : Type 0} (f : A → C) (xs : List A) (ys : List C) (n : ℕ) (x : A) (y : C) → map f xs ≡ ys → slice_get xs n ≡ Some x → slice_get ys n ≡ Some y
+    → f x ≡ y
+map_at f [] ys n x y e p q = absurd (cc)
+map_at f (w ∷ xs) [] n x y e p q = absurd (cc)
+map_at {A} {C} f (w ∷ xs) (z ∷ ys) zero x y e p q =
+    let first : f w ≡ z = cc in
     let left : w ≡ x = cc in
     let right : z ≡ y = cc in
-    ap f (sym left) ∙ first ∙ ap g right
-map_at {A} {B} {C} f g (w ∷ xs) (z ∷ ys) (suc n) x y e p q = let rest : map f xs ≡ map g ys = cc in map_at f g xs ys n x y rest p q
+    ap f (sym left) ∙ first ∙ right
+map_at {A} {C} f (w ∷ xs) (z ∷ ys) (suc n) x y e p q = let rest : map f xs ≡ ys = cc in map_at f xs ys n x y rest p q
 
 pub not_both : {X P : Type 0} (o : Option X) (x : X) → o ≡ None → o ≡ Some x → P
 not_both o x e f = absurd (let none : None ≡ Some x = sym e ∙ f in cc)

@@ -111,12 +111,12 @@ queue_misses label v p q h (none, e) =
     (v, (none_left v.labels (omega (arith, stand, long)), refl), subst (ShowsQueue v) (sym e) h)
 
 pub queue_leaves : (label : Label) (v : Queue) (p q : TheQueue) (f : Frag) → ShowsQueue v p → QueueTakes p (saw f) q
-    → (w : Queue) × QueueGives label left_one v w × ShowsQueue w q
+    → (w : Queue) × QueueGives label (left_one f) v w × ShowsQueue w q
 queue_leaves label v p q f h (first, e) =
     (v, (some_left v p h (seen_some p.items (saw f) first (λ a. absurd (cc))), refl), subst (ShowsQueue v) (sym e) h)
 
 pub queue_gives_one : (label : Label) (v : Queue) (p m q : TheQueue) (f : Frag) → ShowsQueue v p → QueueTakes p (saw f) m → QueueTakes m (found f) q
-    → (w : Queue) × QueueGives label gave_one v w × ShowsQueue w q
+    → (w : Queue) × QueueGives label (gave_one f) v w × ShowsQueue w q
 queue_gives_one label v p m q f h (first, e) (again, (one, rest, are, is)) =
     let k = subst (ShowsQueue v) (sym e) h in
     (without_first v, (some_left v p h (seen_some p.items (saw f) first (λ a. absurd (cc))), refl), taken_one v m q one rest k are is)

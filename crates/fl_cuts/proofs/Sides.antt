@@ -4,11 +4,13 @@ use Rattle.std.proofs.lemmas.List.{length_push, map_push}
 use Rattle.fl_base.specs.declared.fragment.Frag.{Frag}
 use Rattle.fl_base.specs.Control.{told_of, stamped, bare}
 use Rattle.fl_link.specs.Cursor.{epoch_at}
+use Rattle.fl_link.specs.Calls.{bare_calls}
 use Rattle.fl_link.specs.Looks.{Look, placed, no_room, spent, saw, saw_ack, found, found_ack, missed, told, kept}
 use Rattle.fl_link.proofs.Carried.{bare-stamped}
 use Rattle.fl_ring.specs.Counts.{count_from}
 use Rattle.fl_ring.specs.Duo.{acknowledgement}
 use Rattle.fl_ring.specs.SharedSides.{TheSide, free_of, side_missed, side_counted, side_seen, side_taken, side_written, untold_of, MayStand, KnowsSent, Looked, SharedPuts, SharedTakes}
+use Rattle.fl_ring.proofs.Conserved.{side_conserves}
 use Rattle.fl_ring.proofs.Places.{epoch_bit}
 use Rattle.fl_queues.specs.Rings.{Label, acknowledges, RingLabel, Ring, first_side, looks, takes, puts, makes_sure, free, is_spent, Room, room, owes}
 use Rattle.fl_queues.specs.Rings.{there_is_room, no_room as none_free, spent as used_up, for_data, for_acknowledgement}
@@ -58,7 +60,7 @@ seen_so sight x = record x { ring = seeing sight x.ring }
 
 -- the same counts, whatever stands first
 sees : (sight : Sight) (x : SideCut) (s : TheSide) → ShowsSide x s → ShowsSide (seen_so sight x) s
-sees sight x s h = record { size = h.size; sent = h.sent; known = h.known; read = h.read; told = h.told; put = h.put }
+sees sight x s h = record { size = h.size; sent = h.sent; known = h.known; read = h.read; told = h.told; put = h.put; got = h.got }
 
 abbrev is_sure : ℕ → SideCut → Bool
 is_sure need x = is_spent first_side x.ring || nat_le need (free first_side x.ring)
@@ -79,26 +81,34 @@ test_is need x s b h less e =
     ∙ ap (nat_le need) (free_is x s h) ∙ e
 
 missed_shows : (x : SideCut) (s : TheSide) → ShowsSide x s → ShowsSide (looked_at None x) (side_missed s)
-missed_shows x s h = record { size = h.size; sent = h.sent; known = h.known; read = h.read; told = h.told; put = h.put }
+missed_shows x s h = record { size = h.size; sent = h.sent; known = h.known; read = h.read; told = h.told; put = h.put; got = h.got }
 
 counted_shows : (label : Label) (count : ℕ) (x : SideCut) (s : TheSide) → ShowsSide x s
     → ShowsSide (looked_at (Some (telling label count)) x) (side_counted s count)
-counted_shows label count x s h = record { size = h.size; sent = h.sent; known = refl; read = h.read; told = h.told; put = h.put }
+counted_shows label count x s h = record { size = h.size; sent = h.sent; known = refl; read = h.read; told = h.told; put = h.put; got = h.got }
 
 seen_shows : (label : Label) (f : Frag) (x : SideCut) (s : TheSide) → ShowsSide x s
     → ShowsSide (looked_at (Some (telling label (count_from s.known (told_of f.control)))) x) (side_seen s f)
-seen_shows label f x s h = record { size = h.size; sent = h.sent; known = refl; read = h.read; told = h.told; put = h.put }
+seen_shows label f x s h = record { size = h.size; sent = h.sent; known = refl; read = h.read; told = h.told; put = h.put; got = h.got }
 
-taken_shows : (label : Label) (f : Frag) (x : SideCut) (s : TheSide) → ShowsSide x s
-    → ShowsSide (took (Some (telling label (count_from s.known (told_of f.control)))) x) (side_taken s f)
-taken_shows label f x s h = record {
+taken_shows : (label : Label) (frags : List Frag) (f : Frag) (x : SideCut) (s : TheSide) → ShowsSide x s → bare_calls (s.got ++ f ∷ []) ≡ bare_calls s.got ++ frags
+    → ShowsSide (took frags (Some (telling label (count_from s.known (told_of f.control)))) x) (side_taken s f)
+taken_shows label frags f x s h more = record {
   size = h.size;
   sent = h.sent;
   known = refl;
   read = length_push s.got f ∙ ap (λ (n : ℕ). n + 1) h.read;
   told = h.told;
   put = h.put;
+  got = more ∙ ap (λ (fs : List Frag). fs ++ frags) h.got;
 }
+
+-- what a take adds to the fragments of calls
+got_one : (s t : TheSide) (f first : Frag) → SharedTakes s (found f) t → t ≡ side_taken s first → bare_calls (s.got ++ first ∷ []) ≡ bare_calls s.got ++ f ∷ []
+got_one s t f first a e = ap (λ (y : TheSide). bare_calls y.got) (sym e) ∙ (side_conserves s t (found f ∷ []) (t, inr a, refl)).took
+
+got_none : (s t : TheSide) (first : Frag) → SharedTakes s found_ack t → t ≡ side_taken s first → bare_calls (s.got ++ first ∷ []) ≡ bare_calls s.got ++ []
+got_none s t first a e = ap (λ (y : TheSide). bare_calls y.got) (sym e) ∙ (side_conserves s t (found_ack ∷ []) (t, inr a, refl)).took
 
 -- the side once it has made sure, by whatever its look found
 record Sure (need : ℕ) (x : SideCut) (m : TheSide) : Type 0 where
@@ -161,6 +171,7 @@ written_shows label f x s h = record {
   known = h.known;
   read = h.read;
   told = h.read;
+  got = h.got;
   put = map_push bare s.sent (stamped f (epoch_at s.size (length s.sent)) (length s.got % 65536))
       ∙ ap (λ (g : Frag). map bare s.sent ++ g ∷ [])
       (bare-stamped f (epoch_at s.size (length s.sent)) (length s.got % 65536) (epoch_bit s.size (length s.sent)))
@@ -243,27 +254,38 @@ look_agrees label x s t no_room h (half, inr (less, k, before, few)) =
     )
 look_agrees label x s t look h a = tt
 
--- a look, and then a take, which knows what it tells
+-- a take, which knows what it tells
+pub takes_again : (label : Label) (x : SideCut) (s t : TheSide) (f : Frag) → ShowsSide x s → SharedTakes s (found f) t → Becomes (SideGives label (gave_one f)) x t
+takes_again label x s t f h (first, at, (may, e, knows)) = (
+  took (f ∷ []) (Some (telling label (told_by s first))) x,
+  (told_by s first, refl),
+  subst (ShowsSide (took (f ∷ []) (Some (telling label (told_by s first))) x)) (sym e)
+      (taken_shows label (f ∷ []) first x s h (got_one s t f first (first, at, (may, e, knows)) e)),
+)
+
+-- a look, and then a take
 pub takes_one : (label : Label) (x : SideCut) (s m t : TheSide) (f : Frag) → ShowsSide x s → SharedTakes s (saw f) m → SharedTakes m (found f) t
-    → Becomes (SideGives label gave_one) x t
+    → Becomes (SideGives label (gave_one f)) x t
 takes_one label x s m t f h (first, at, (may, e, knows)) (again, at2, (may2, e2, knows2)) =
     let seen = subst (ShowsSide (looked_at (Some (telling label (told_by s first))) x)) (sym e) (seen_shows label first x s h) in
-    let y = taken_shows label again (looked_at (Some (telling label (told_by s first))) x) m seen in
-    let z : ShowsSide (took (Some (telling label (told_by m again))) x) (side_taken m again)
-    = record { size = y.size; sent = y.sent; known = y.known; read = y.read; told = y.told; put = y.put } in (
-      took (Some (telling label (told_by m again))) x,
+    let y = taken_shows label (f ∷ []) again (looked_at (Some (telling label (told_by s first))) x) m seen
+    (got_one m t f again (again, at2, (may2, e2, knows2)) e2) in
+    let z : ShowsSide (took (f ∷ []) (Some (telling label (told_by m again))) x) (side_taken m again)
+    = record { size = y.size; sent = y.sent; known = y.known; read = y.read; told = y.told; put = y.put; got = y.got } in (
+      took (f ∷ []) (Some (telling label (told_by m again))) x,
       (told_by m again, refl),
-      subst (ShowsSide (took (Some (telling label (told_by m again))) x)) (sym e2) z,
+      subst (ShowsSide (took (f ∷ []) (Some (telling label (told_by m again))) x)) (sym e2) z,
     )
 
 pub takes_ack : (label : Label) (x : SideCut) (s m t : TheSide) → ShowsSide x s → SharedTakes s saw_ack m → SharedTakes m found_ack t
     → Becomes (SideGives label gave_ack) x t
 takes_ack label x s m t h (first, at, (may, e, knows)) (again, at2, (may2, e2, knows2)) =
     let seen = subst (ShowsSide (looked_at (Some (telling acknowledges (told_by s first))) x)) (sym e) (seen_shows acknowledges first x s h) in
-    let y = taken_shows acknowledges again (looked_at (Some (telling acknowledges (told_by s first))) x) m seen in
-    let z : ShowsSide (took (Some (telling acknowledges (told_by m again))) x) (side_taken m again)
-    = record { size = y.size; sent = y.sent; known = y.known; read = y.read; told = y.told; put = y.put } in (
-      took (Some (telling acknowledges (told_by m again))) x,
+    let y = taken_shows acknowledges [] again (looked_at (Some (telling acknowledges (told_by s first))) x) m seen
+    (got_none m t again (again, at2, (may2, e2, knows2)) e2) in
+    let z : ShowsSide (took [] (Some (telling acknowledges (told_by m again))) x) (side_taken m again)
+    = record { size = y.size; sent = y.sent; known = y.known; read = y.read; told = y.told; put = y.put; got = y.got } in (
+      took [] (Some (telling acknowledges (told_by m again))) x,
       (told_by m again, refl),
-      subst (ShowsSide (took (Some (telling acknowledges (told_by m again))) x)) (sym e2) z,
+      subst (ShowsSide (took [] (Some (telling acknowledges (told_by m again))) x)) (sym e2) z,
     )

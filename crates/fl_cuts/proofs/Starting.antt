@@ -6,6 +6,7 @@ use Rattle.fl_base.specs.declared.identity.EndId.{EndId}
 use Rattle.fl_base.specs.Control.{bare}
 use Rattle.fl_value.specs.Fits.{fits_of}
 use Rattle.fl_wire.specs.Reading.{Reads}
+use Rattle.fl_link.specs.Calls.{bare_calls}
 use Rattle.fl_link.specs.Queue.{TheQueue}
 use Rattle.fl_ring.specs.SharedSides.{TheSide}
 use Rattle.fl_endpoint.specs.View.{TheEnd}
@@ -45,8 +46,8 @@ nothing_read i = record {
   part = inl refl;
 }
 
-end_first : (core : ℕ) (name : EndId) (seat : TheSeat) → IsFirstEnd seat.end → ShowsEnd (first_end core name seat) seat.end
-end_first core name seat h =
+end_first : (core : ℕ) (port : Port) (seat : TheSeat) → IsFirstEnd seat.end → ShowsEnd (first_end core port seat) seat.end
+end_first core port seat h =
     let i : Planned = planned_of seat.end.program in
     let g = fresh_is seat.end.program 2 None i refl in
     record {
@@ -69,18 +70,18 @@ ends_first core [] ports k h = tt
 ends_first core (seat ∷ seats) [] k h = absurd (cc)
 ends_first core (seat ∷ seats) (p ∷ ports) k h =
     let rest : map (λ (x : TheSeat). x.kind) seats ≡ map (λ (q : Port). kind_of q.wire) ports = cc in (
-      record { shows = end_first core p.name seat (h 0 seat refl); seat = refl },
+      record { shows = end_first core p seat (h 0 seat refl); seat = refl },
       ends_first core seats ports rest (λ e x q. h (suc e) x q),
     )
 
-names_first : (core : ℕ) (seats : List TheSeat) (ports : List Port) → map (λ (x : TheSeat). x.kind) seats ≡ map (λ (p : Port). kind_of p.wire) ports
-    → map (λ (x : EndCut). x.name) (first_ends core seats ports) ≡ map (λ (p : Port). p.name) ports
-names_first core [] [] k = refl
-names_first core [] (p ∷ ports) k = absurd (cc)
-names_first core (seat ∷ seats) [] k = absurd (cc)
-names_first core (seat ∷ seats) (p ∷ ports) k =
+ports_first : (core : ℕ) (seats : List TheSeat) (ports : List Port) → map (λ (x : TheSeat). x.kind) seats ≡ map (λ (p : Port). kind_of p.wire) ports
+    → map (λ (x : EndCut). x.port) (first_ends core seats ports) ≡ ports
+ports_first core [] [] k = refl
+ports_first core [] (p ∷ ports) k = absurd (cc)
+ports_first core (seat ∷ seats) [] k = absurd (cc)
+ports_first core (seat ∷ seats) (p ∷ ports) k =
     let rest : map (λ (x : TheSeat). x.kind) seats ≡ map (λ (q : Port). kind_of q.wire) ports = cc in
-    ap (λ (names : List EndId). p.name ∷ names) (names_first core seats ports rest)
+    ap (λ (qs : List Port). p ∷ qs) (ports_first core seats ports rest)
 
 -- ---- waitsets
 
@@ -104,7 +105,7 @@ all_named ports (e ∷ places) h =
 
 -- ---- sides and queues
 
-side_first : (s : TheSide) → IsFirstSide s → ShowsSide (record { ring = fresh_ring s.size; put = [] }) s
+side_first : (s : TheSide) → IsFirstSide s → ShowsSide (record { ring = fresh_ring s.size; put = []; got = [] }) s
 side_first s h = record {
   size = refl;
   sent = ap length h.sent;
@@ -112,6 +113,7 @@ side_first s h = record {
   read = ap length h.got;
   told = h.told;
   put = ap (map bare) h.sent;
+  got = ap bare_calls h.got;
 }
 
 queue_first : (q : TheQueue) → IsFirstQueue q → ShowsQueue (fresh_queue q.capacity) q
@@ -129,9 +131,10 @@ starts_show k s h m = record {
     port_there s.core.board.seats s.core.ports e channel.seat h.core.kinds channel.seat_is);
   });
   ends = ends_first s.core.monitor.circuits.core s.core.board.seats s.core.ports h.core.kinds h.ends;
-  names = names_first s.core.monitor.circuits.core s.core.board.seats s.core.ports h.core.kinds;
+  ports = ports_first s.core.monitor.circuits.core s.core.board.seats s.core.ports h.core.kinds;
   places = refl;
-  sides = mapped ShowsSide (λ (x : TheSide). let y : SideCut = record { ring = fresh_ring x.size; put = [] } in y) s.rings
+  lanes = refl;
+  sides = mapped ShowsSide (λ (x : TheSide). let y : SideCut = record { ring = fresh_ring x.size; put = []; got = [] } in y) s.rings
       (λ n x q. side_first x (h.sides n x q));
   queues = mapped ShowsQueue (λ (q : TheQueue). fresh_queue q.capacity) s.queues (λ n q r. queue_first q (h.queues n q r));
   arrivals = mapped ShowsQueue (λ (q : TheQueue). fresh_queue q.capacity) s.core.arrivals (λ n q r. queue_first q (h.arrivals n q r));

@@ -30,9 +30,9 @@ use Rattle.fl_cuts.proofs.Ends.{is_bound_now, holds_now, take_part, take_whole, 
 -- what a kind of side does that shows what gives
 pub record GivingLaw {T P : Type 0} (takes : T → Look → T → Type 0) (Shows : P → T → Type 0) (g : Giving P) (kind : Kind) : Type 0 where
   pub misses : (label : Label) (v : P) (p q : T) → Shows v p → takes p missed q → (w : P) × g.gives label nothing_stands v w × Shows w q
-  pub leaves : (label : Label) (v : P) (p q : T) (f : Frag) → Shows v p → takes p (saw f) q → (w : P) × g.gives label left_one v w × Shows w q
+  pub leaves : (label : Label) (v : P) (p q : T) (f : Frag) → Shows v p → takes p (saw f) q → (w : P) × g.gives label (left_one f) v w × Shows w q
   pub gives_one : (label : Label) (v : P) (p m q : T) (f : Frag) → Shows v p → takes p (saw f) m → takes m (found f) q
-      → (w : P) × g.gives label gave_one v w × Shows w q
+      → (w : P) × g.gives label (gave_one f) v w × Shows w q
   pub gives_ack : (label : Label) (v : P) (p m q : T) → Shows v p → takes p saw_ack m → takes m found_ack q
       → (w : P) × g.gives label gave_ack v w × Shows w q
   pub waits : (v : P) (p q : T) (to : Place) → Shows v p → WaitsIn takes kind p to q → (to ≡ g.waits_at v) × Shows v q
@@ -59,7 +59,7 @@ pub record Turned {T P : Type 0} (Shows : P → T → Type 0) (g : Giving P) (du
   pub side_shows : Shows after.side q
   pub lists_are : lists ≡ after.waits.lists
   pub ends_are : after.waits.ends ≡ a.waits.ends
-  pub name : after.end.name ≡ a.end.name
+  pub port : after.end.port ≡ a.end.port
   pub seat : after.end.end.seat ≡ a.end.end.seat
 
 module _ {T P : Type 0} (takes : T → Look → T → Type 0) (Shows : P → T → Type 0) (g : Giving P) (kind : Kind) where
@@ -84,12 +84,12 @@ module _ {T P : Type 0} (takes : T → Look → T → Type 0) (Shows : P → T �
       let took = take_whole takes_law x f call s t h sound open_.0.1 is_bare in_ in
       record {
         after = spot (puts_off place.Pending c (g.waits_at one.0) waits) took.after one.0;
-        turns = (is_open x s h sound open_.0 open_.1, (f, took.takes), (one.1, refl));
+        turns = (is_open x s h sound open_.0 open_.1, (f, took.takes, (one.1, refl)));
         shows = took.shows;
         side_shows = there.1;
         lists_are = goes_so waits w u place.Pending c to (g.waits_at one.0) same there.0 e;
         ends_are = refl;
-        name = took.name;
+        port = took.port;
         seat = took.seat;
       }
   given_turn law takes_law waits x v c w u s t p q turn.Part h sound k same (m, (open_, (f, between, is_bare, seen, taken, in_)), (to, wait, e)) =
@@ -98,12 +98,12 @@ module _ {T P : Type 0} (takes : T → Look → T → Type 0) (Shows : P → T �
       let took = take_part x f s t h in_ in
       record {
         after = spot (puts_off place.Pending c (g.waits_at one.0) waits) took.after one.0;
-        turns = (is_open x s h sound open_.0 open_.1, (f, took.takes), (one.1, refl));
+        turns = (is_open x s h sound open_.0 open_.1, (f, took.takes, (one.1, refl)));
         shows = took.shows;
         side_shows = there.1;
         lists_are = goes_so waits w u place.Pending c to (g.waits_at one.0) same there.0 e;
         ends_are = refl;
-        name = took.name;
+        port = took.port;
         seat = took.seat;
       }
   given_turn law takes_law waits x v c w u s t p q turn.Quiet h sound k same (m, (open_, (between, seen, taken), is), (to, wait, e)) =
@@ -116,7 +116,7 @@ module _ {T P : Type 0} (takes : T → Look → T → Type 0) (Shows : P → T �
         side_shows = there.1;
         lists_are = goes_so waits w u place.Pending c to (g.waits_at one.0) same there.0 e;
         ends_are = refl;
-        name = refl;
+        port = refl;
         seat = refl;
       }
   given_turn law takes_law waits x v c w u s t p q turn.Nothing h sound k same (m, (open_, none, is), (to, wait, e)) =
@@ -129,7 +129,7 @@ module _ {T P : Type 0} (takes : T → Look → T → Type 0) (Shows : P → T �
         side_shows = there.1;
         lists_are = goes_so waits w u place.Pending c to (g.waits_at one.0) same there.0 e;
         ends_are = refl;
-        name = refl;
+        port = refl;
         seat = refl;
       }
   given_turn law takes_law waits x v c w u s t p q turn.Full h sound k same ((ready, holds, side_is, is), e) = record {
@@ -139,7 +139,7 @@ module _ {T P : Type 0} (takes : T → Look → T → Type 0) (Shows : P → T �
     side_shows = subst (Shows v) (sym side_is) k;
     lists_are = goes_so waits w u place.Pending c place.Pending place.Pending same refl e;
     ends_are = refl;
-    name = refl;
+    port = refl;
     seat = refl;
   }
   given_turn law takes_law waits x v c w u s t p q (turn.Refused fault) h sound k same ((open_, (f, is_bare, seen, in_)), e) =
@@ -147,12 +147,12 @@ module _ {T P : Type 0} (takes : T → Look → T → Type 0) (Shows : P → T �
       let failing = take_wrong x f fault s t h in_ in
       record {
         after = spot (deregisters c waits) failing.after one.0;
-        turns = (is_open x s h sound open_.0 open_.1, (f, failing.fails), one.1, refl);
+        turns = (is_open x s h sound open_.0 open_.1, (f, failing.fails, one.1), refl);
         shows = failing.shows;
         side_shows = one.2;
         lists_are = e ∙ ap (λ (y : ThreeLists). unlinked y c) same;
         ends_are = refl;
-        name = failing.name;
+        port = failing.port;
         seat = failing.seat;
       }
   given_turn law takes_law waits x v c w u s t p q turn.Ready h sound k same a = absurd a
@@ -164,12 +164,12 @@ module _ {T P : Type 0} (takes : T → Look → T → Type 0) (Shows : P → T �
       let one = law.leaves (label_due x) v p q f k seen in
       record {
         after = spot (puts_off place.Polled c place.Pending waits) x one.0;
-        turns = (refl, one.1, refl);
+        turns = (refl, (f, one.1), refl);
         shows = subst (ShowsEnd x) (sym is) h;
         side_shows = one.2;
         lists_are = goes_so waits w u place.Polled c place.Pending place.Pending same refl e;
         ends_are = refl;
-        name = refl;
+        port = refl;
         seat = refl;
       }
   examined_turn law waits x v c w u s t p q turn.Quiet h k same ((inl none, e), is) =
@@ -181,7 +181,7 @@ module _ {T P : Type 0} (takes : T → Look → T → Type 0) (Shows : P → T �
         side_shows = one.2;
         lists_are = goes_so waits w u place.Polled c place.Polled place.Polled same refl e;
         ends_are = refl;
-        name = refl;
+        port = refl;
         seat = refl;
       }
   examined_turn law waits x v c w u s t p q turn.Quiet h k same ((inr (between, seen, taken), e), is) =
@@ -193,7 +193,7 @@ module _ {T P : Type 0} (takes : T → Look → T → Type 0) (Shows : P → T �
         side_shows = one.2;
         lists_are = goes_so waits w u place.Polled c place.Polled place.Polled same refl e;
         ends_are = refl;
-        name = refl;
+        port = refl;
         seat = refl;
       }
   examined_turn law waits x v c w u s t p q (turn.Handle call) h k same a = absurd a.0

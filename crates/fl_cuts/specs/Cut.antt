@@ -4,6 +4,7 @@ use Rattle.fl_base.specs.declared.identity.EndId.{EndId}
 use Rattle.fl_link.specs.Queue.{TheQueue}
 use Rattle.fl_ring.specs.SharedSides.{TheSide}
 use Rattle.fl_core.specs.View.{TheDispatcher, TheSeat}
+use Rattle.fl_node.specs.declared.wire.Lane.{Lane}
 use Rattle.fl_node.specs.declared.wire.Port.{Port}
 use Rattle.fl_node.specs.View.{TheCore}
 use Rattle.fl_running.specs.Run.{TheRun}
@@ -27,6 +28,8 @@ pub record Cut : Type 0 where
   -- its ends, by their places at the core; and by name their places
   pub ends : List EndCut
   pub places : List (Option ℕ)
+  -- of each of its links which side is its own, and whether what comes there has failed
+  pub lanes : List Lane
   -- its sides of rings, its local queues, and the arrival queues of its ends of circuits
   pub sides : List SideCut
   pub queues : List Queue
@@ -66,8 +69,9 @@ pub record ShowsCut (a : Cut) (s : TheRun TheSide) : Type 0 where
   pub monitor : MonitorShows a.core s.core.monitor
   pub waits : Each2 (ShowsWaits s.core.ports) a.core.dispatchers s.core.board.dispatchers
   pub ends : Each2 (ShowsSeat s.core.monitor.circuits.core) a.ends s.core.board.seats
-  pub names : map (λ (x : EndCut). x.name) a.ends ≡ map (λ (p : Port). p.name) s.core.ports
+  pub ports : map (λ (x : EndCut). x.port) a.ends ≡ s.core.ports
   pub places : a.places ≡ s.core.places
+  pub lanes : a.lanes ≡ s.core.lanes
   pub sides : Each2 ShowsSide a.sides s.rings
   pub queues : Each2 ShowsQueue a.queues s.queues
   pub arrivals : Each2 ShowsQueue a.arrivals s.core.arrivals

@@ -1,7 +1,6 @@
 -- An end as its own core knows it: the machine's end; and of the calls that the other end makes those that the fragments read as which this one took.
 use Rattle.std.specs.Prelude.{ℕ, ◌≡◌, ◌≤◌, true, false, Bool, List, [], ◌∷◌, ◌++◌, length, Some, Result, Ok, Err}
 use Rattle.fl_base.specs.declared.fragment.Frag.{Frag}
-use Rattle.fl_base.specs.declared.identity.EndId.{EndId}
 use Rattle.fl_wire.specs.declared.fault.WireFault.{WireFault}
 use Rattle.fl_value.specs.Value.{TheCall, call_of}
 use Rattle.fl_wire.specs.Reading.{Reads}
@@ -12,6 +11,7 @@ use Rattle.fl_endpoint.specs.declared.answer.WriteAnswer.{WriteAnswer}
 use Rattle.fl_endpoint.specs.declared.answer.WriteAnswer.TheVariants as write
 use Rattle.fl_endpoint.specs.Faults.{fault_number}
 use Rattle.fl_endpoint.specs.View.{TheEnd}
+use Rattle.fl_node.specs.declared.wire.Port.{Port}
 use Rattle.fl_queues.specs.Events.{accepted, full, written, refused}
 use Rattle.fl_queues.specs.Calls.{Planned}
 use Rattle.fl_queues.specs.Rings.{Label, next_of, Room, there_is_room, no_room as none_free, spent as used_up}
@@ -25,7 +25,8 @@ use Rattle.fl_shows.specs.EndLaws.{with_out, HasMore, are_messages, have_same_ar
 use Rattle.fl_cuts.specs.Sides.{Placing, goes_on, is_full, is_spent}
 
 pub record EndCut : Type 0 where
-  pub name : EndId
+  -- its name and its wire
+  pub port : Port
   -- the interface of its binding, and the plan
   pub planned : Planned
   -- the machine's end; the queue that it takes from stands among the core's
@@ -55,10 +56,10 @@ pub record ShowsEnd (x : EndCut) (t : TheEnd) : Type 0 where
 -- ---- a call, as the machine makes it of this end in any state
 
 abbrev pub MachineCalls : EndCut → TheCall → State → Type 0
-MachineCalls x c z = makes_call x.name c x.planned x.end z ≡ answers (change_out x.name (accepts c) z) accepted
+MachineCalls x c z = makes_call x.port.name c x.planned x.end z ≡ answers (change_out x.port.name (accepts c) z) accepted
 
 abbrev pub MachineRefuses : EndCut → TheCall → ℕ → State → Type 0
-MachineRefuses x c fault z = makes_call x.name c x.planned x.end z ≡ answers z (refused fault)
+MachineRefuses x c fault z = makes_call x.port.name c x.planned x.end z ≡ answers z (refused fault)
 
 -- it is accepted, or refused for the machine's reason; want of memory is none, nor that the end has failed
 abbrev pub Calls : TheCall → Result (Unit {0}) EndFault → EndCut → EndCut → Type 0
@@ -82,7 +83,7 @@ SetsRule msg reply (Err fault) x y = ⊥
 
 -- the label of the next of all the end's fragments
 abbrev pub next_label : EndCut → Label
-next_label x = next_of x.name (written_of x.end.out)
+next_label x = next_of x.port.name (written_of x.end.out)
 
 -- the next fragment is written, and this is answered
 abbrev pub wrote_next : EndCut → EndCut

@@ -18,17 +18,14 @@ use Rattle.fl_core.specs.declared.fault.BoardFault.{BoardFault}
 use Rattle.fl_core.specs.declared.fault.BoardFault.TheVariants.{NotBound}
 use Rattle.fl_node.specs.declared.wire.Outlet.{Outlet}
 use Rattle.fl_node.specs.declared.wire.Outlet.TheVariants as outlet
-use Rattle.fl_node.specs.declared.wire.Inlet.{Inlet}
-use Rattle.fl_node.specs.declared.wire.Inlet.TheVariants as inlet
 use Rattle.fl_node.specs.View.{place_in}
-use Rattle.fl_running.specs.Deeds.{Deed, called, ruled, wrote, acked, turned}
 use Rattle.fl_queues.specs.Given.{given, changed_at}
 use Rattle.fl_queues.specs.Rings.{Label, next_of, there_is_room, no_room as none_free}
 use Rattle.fl_queues.specs.Ends.{Queue, joined_by, without_first, queue_room, taken_of, End, is_bound, holds_back, Seat, whole, a_part}
 use Rattle.fl_queues.specs.Waits.{Dispatcher, waits_in, deregisters, triggers, puts_off, Due, pending, polled, no_one, due}
 use Rattle.fl_cuts.specs.Sides.{SideCut, Placing, goes_on, is_full, is_spent, Places, Gave, nothing_stands, left_one, gave_one, gave_ack, SideGives}
 use Rattle.fl_cuts.specs.Sides.{is_told, is_little, finds_none, Tells}
-use Rattle.fl_cuts.specs.Ends.{EndCut, Calls, SetsRule, Writes, Takes, Fails}
+use Rattle.fl_cuts.specs.Ends.{EndCut, Writes, Takes, Fails}
 use Rattle.fl_cuts.specs.Cut.{Cut}
 
 -- ---- queues, in which a label's fragment stands, or isn't there
@@ -40,7 +37,7 @@ QueuePlaces label is_spent q r = ⊥
 
 abbrev pub QueueGives : Label → Gave → Queue → Queue → Type 0
 QueueGives label nothing_stands q r = (q.labels ≡ []) × (r ≡ q)
-QueueGives label left_one q r = (q.labels ≢ []) × (r ≡ q)
+QueueGives label (left_one f) q r = (q.labels ≢ []) × (r ≡ q)
 QueueGives label gave q r = (q.labels ≢ []) × (r ≡ without_first q)
 
 -- ---- a turn
@@ -64,7 +61,7 @@ queue_gives = record { gives = QueueGives; waits_at = λ q. waits_in (Some q) }
 
 -- the label of the next of the other end's fragments
 abbrev pub label_due : EndCut → Label
-label_due x = next_of (peer x.name) (taken_of x.came)
+label_due x = next_of (peer x.port.name) (taken_of x.came)
 
 -- an end that takes fragments
 abbrev pub IsOpen : EndCut → Type 0
@@ -76,8 +73,8 @@ Given g gave c a b = g.gives (label_due a.end) gave a.side b.side × (b.waits �
 
 -- by what is answered
 abbrev pub Gives : {P : Type 0} → Giving P → ℕ → TurnAnswer → Spot P → Spot P → Type 0
-Gives g c (turn.Handle call) a b = IsOpen a.end × ((f : Frag) × Takes f (whole (call_of call)) a.end b.end) × Given g gave_one c a b
-Gives g c turn.Part a b = IsOpen a.end × ((f : Frag) × Takes f a_part a.end b.end) × Given g gave_one c a b
+Gives g c (turn.Handle call) a b = IsOpen a.end × ((f : Frag) × Takes f (whole (call_of call)) a.end b.end × Given g (gave_one f) c a b)
+Gives g c turn.Part a b = IsOpen a.end × ((f : Frag) × Takes f a_part a.end b.end × Given g (gave_one f) c a b)
 Gives g c turn.Quiet a b = IsOpen a.end × (b.end ≡ a.end) × Given g gave_ack c a b
 Gives g c turn.Nothing a b = IsOpen a.end × (b.end ≡ a.end) × Given g nothing_stands c a b
 -- 16 replies wait
@@ -86,13 +83,13 @@ Gives g c turn.Full a b =
     × (b.waits ≡ puts_off Pending c Pending a.waits)
 -- the end has failed, and its channel is registered no more: the machine has no such case
 Gives g c (turn.Refused fault) a b =
-    IsOpen a.end × ((f : Frag) × Fails f fault a.end b.end) × g.gives (label_due a.end) left_one a.side b.side × (b.waits ≡ deregisters c a.waits)
+    IsOpen a.end × ((f : Frag) × Fails f fault a.end b.end × g.gives (label_due a.end) (left_one f) a.side b.side) × (b.waits ≡ deregisters c a.waits)
 Gives g c turn.Ready a b = ⊥
 
 -- the first polled channel, c, is examined
 abbrev pub Examines : {P : Type 0} → Giving P → ℕ → TurnAnswer → Spot P → Spot P → Type 0
 Examines g c turn.Ready a b =
-    (b.end ≡ a.end) × g.gives (label_due a.end) left_one a.side b.side × (b.waits ≡ puts_off Polled c Pending a.waits)
+    (b.end ≡ a.end) × ((f : Frag) × g.gives (label_due a.end) (left_one f) a.side b.side) × (b.waits ≡ puts_off Polled c Pending a.waits)
 Examines g c turn.Quiet a b =
     (b.end ≡ a.end) × (g.gives (label_due a.end) nothing_stands a.side b.side ⊎ g.gives (label_due a.end) gave_ack a.side b.side)
     × (b.waits ≡ puts_off Polled c Polled a.waits)
@@ -121,7 +118,7 @@ pub record EndAt (a : Cut) (name : EndId) : Type 0 where
   pub place_is : place_in a.places name ≡ Some place
   pub end : EndCut
   pub end_is : slice_get a.ends place ≡ Some end
-  pub name_is : end.name ≡ name
+  pub name_is : end.port.name ≡ name
 
 -- that end alone has changed, as the event says
 pub record ChangesEnd (a : Cut) (name : EndId) (Event : EndCut → EndCut → Type 0) (b : Cut) : Type 0 where
@@ -189,15 +186,16 @@ pub record HasTurn {P : Type 0} (g : Giving P) (d : ℕ) (name : EndId) (answer 
   pub ends_are : ends_after ≡ slice_set a.ends at.place after.end
   pub sides_are : ys ≡ slice_set xs n after.side
 
-abbrev pub TurnsOver : ℕ → EndId → Inlet → TurnAnswer → Cut → Cut → Type 0
-TurnsOver d name (inlet.Side n) answer a b =
+-- over a side of a ring, or a local queue
+abbrev pub TurnsOverSide : ℕ → EndId → ℕ → TurnAnswer → Cut → Cut → Type 0
+TurnsOverSide d name n answer a b =
     HasTurn ring_gives d name answer a a.sides n b.core.dispatchers b.ends b.sides
     × (b ≡ record (with_waits a b.core.dispatchers) { ends = b.ends; sides = b.sides })
-TurnsOver d name (inlet.Queue n) answer a b =
+
+abbrev pub TurnsOverQueue : ℕ → EndId → ℕ → TurnAnswer → Cut → Cut → Type 0
+TurnsOverQueue d name n answer a b =
     HasTurn queue_gives d name answer a a.queues n b.core.dispatchers b.ends b.queues
     × (b ≡ record (with_waits a b.core.dispatchers) { ends = b.ends; queues = b.queues })
--- an end of a circuit: not said yet
-TurnsOver d name inlet.Arrivals answer a b = ⊥
 
 -- an end acknowledges over side n
 pub record AcksOver (n : ℕ) (name : EndId) (answer : Result AckAnswer BoardFault) (a b : Cut) : Type 0 where
@@ -207,18 +205,3 @@ pub record AcksOver (n : ℕ) (name : EndId) (answer : Result AckAnswer BoardFau
   pub after : SideCut
   pub event : Acks answer at.end side after
   pub rest : b ≡ record a { sides = slice_set a.sides n after }
-
--- ---- by the deeds of a core without links
-
-abbrev pub CutDoes : Deed → Cut → Cut → Type 0
-CutDoes (called name c answer) a b = ChangesEnd a name (Calls c answer) b
-CutDoes (ruled name msg reply answer) a b = ChangesEnd a name (SetsRule msg.0 reply.0 answer) b
-CutDoes (wrote name out answer) a b = WritesOver out name answer a b
-CutDoes (turned d name from answer) a b = TurnsOver d name from answer a b
-CutDoes (acked name n answer) a b = AcksOver n name answer a b
-CutDoes deed a b = ⊥
-
--- the events of a log, one after another
-abbrev pub CutGoes : Cut → List Deed → Cut → Type 0
-CutGoes a [] b = b ≡ a
-CutGoes a (deed ∷ log) b = (m : Cut) × CutDoes deed a m × CutGoes m log b

@@ -3,5 +3,7 @@ pub mod Sides
 pub mod Ends
 pub mod Cut
 pub mod Events
+pub mod Links
+pub mod Does
 pub mod Start
 pub mod Laws

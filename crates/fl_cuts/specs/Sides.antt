@@ -3,6 +3,7 @@
 use Rattle.std.specs.Prelude.{ℕ, ◌≡◌, ◌⊎◌, true, false, List, [], ◌∷◌, ◌++◌, length, map, Option, Some, None}
 use Rattle.fl_base.specs.declared.fragment.Frag.{Frag}
 use Rattle.fl_base.specs.Control.{bare}
+use Rattle.fl_link.specs.Calls.{bare_calls}
 use Rattle.fl_link.specs.Looks.{Look, placed, no_room, spent, saw, saw_ack, found, found_ack, missed, told, kept}
 use Rattle.fl_ring.specs.Duo.{acknowledgement}
 use Rattle.fl_ring.specs.SharedSides.{TheSide, SharedPuts, SharedTakes}
@@ -12,8 +13,9 @@ use Rattle.fl_queues.specs.Rings.{there_is_room, no_room as none_free, spent as 
 pub record SideCut : Type 0 where
   -- the machine's ring, of which this side is the first: of the other's half what this one read and told, of its own what it sent and knows
   pub ring : Ring
-  -- the fragments that it put, epochs and counts set aside
+  -- the fragments that it put, and those of calls that it took, epochs and counts set aside
   pub put : List Frag
+  pub got : List Frag
 
 pub record ShowsSide (x : SideCut) (s : TheSide) : Type 0 where
   pub size : s.size ≡ x.ring.size
@@ -22,6 +24,7 @@ pub record ShowsSide (x : SideCut) (s : TheSide) : Type 0 where
   pub read : length s.got ≡ x.ring.by_second.read
   pub told : s.told ≡ x.ring.by_second.told
   pub put : map bare s.sent ≡ x.put
+  pub got : bare_calls s.got ≡ x.got
 
 -- ---- what a look finds
 
@@ -43,12 +46,12 @@ seeing sight r = record r { by_second = record r.by_second { waiting = first_see
 
 -- ---- what the machine makes of a side, by what its look finds
 
--- it has looked; or it has taken what stands first, and knows what a look at that tells
+-- it has looked; or it has taken what stands first, these fragments of calls, and knows what a look at that tells
 abbrev pub looked_at : Sight → SideCut → SideCut
 looked_at sight x = record x { ring = looks first_side (seeing sight x.ring) }
 
-abbrev pub took : Sight → SideCut → SideCut
-took sight x = record x { ring = takes first_side (looks first_side (seeing sight x.ring)) }
+abbrev pub took : List Frag → Sight → SideCut → SideCut
+took frags sight x = record x { ring = takes first_side (looks first_side (seeing sight x.ring)); got = x.got ++ frags }
 
 -- before it puts something that needs so many free slots it has looked, where it knew of fewer
 abbrev pub sure_of : ℕ → Sight → SideCut → SideCut
@@ -60,7 +63,7 @@ room_of need x = room need first_side x.ring
 
 -- it has put this label's fragment
 abbrev pub put_on : Label → Frag → SideCut → SideCut
-put_on label f x = record { ring = puts first_side label x.ring; put = x.put ++ bare f ∷ [] }
+put_on label f x = record x { ring = puts first_side label x.ring; put = x.put ++ bare f ∷ [] }
 
 -- half of the slots were read and aren't told
 abbrev pub owes_one : SideCut → Type 0
@@ -85,16 +88,16 @@ pub data Gave : Type 0 where
   -- nothing stands there
   nothing_stands : Gave
   -- a fragment of a call was looked at, and left; was taken
-  left_one : Gave
-  gave_one : Gave
+  left_one : Frag → Gave
+  gave_one : Frag → Gave
   -- one that only acknowledges was taken
   gave_ack : Gave
 
 abbrev pub SideGives : Label → Gave → SideCut → SideCut → Type 0
 SideGives label nothing_stands x y = y ≡ looked_at None x
-SideGives label left_one x y = (count : ℕ) × (y ≡ looked_at (Some (telling label count)) x)
-SideGives label gave_one x y = (count : ℕ) × (y ≡ took (Some (telling label count)) x)
-SideGives label gave_ack x y = (count : ℕ) × (y ≡ took (Some (telling acknowledges count)) x)
+SideGives label (left_one f) x y = (count : ℕ) × (y ≡ looked_at (Some (telling label count)) x)
+SideGives label (gave_one f) x y = (count : ℕ) × (y ≡ took (f ∷ []) (Some (telling label count)) x)
+SideGives label gave_ack x y = (count : ℕ) × (y ≡ took [] (Some (telling acknowledges count)) x)
 
 -- one tells what was read: where half of the slots aren't told, and one is free
 pub data Telling : Type 0 where
@@ -130,7 +133,7 @@ SidePuts = (label : Label) (x : SideCut) (s t : TheSide) (look : Look) → Shows
 
 -- one look or take alone
 abbrev pub LookShows : Label → Look → SideCut → TheSide → Type 0
-LookShows label (saw f) x t = Becomes (SideGives label left_one) x t
+LookShows label (saw f) x t = Becomes (SideGives label (left_one f)) x t
 LookShows label missed x t = Becomes (SideGives label nothing_stands) x t
 LookShows label told x t = Becomes (Tells is_told) x t
 LookShows label kept x t = Becomes (Tells is_little) x t
@@ -140,9 +143,10 @@ LookShows label look x t = Unit {0}
 abbrev pub SideLooks : Type 0
 SideLooks = (label : Label) (x : SideCut) (s t : TheSide) (look : Look) → ShowsSide x s → SharedTakes s look t → LookShows label look x t
 
--- a look, and then a take
+-- a take, also where a look came before it
 pub record SideTakes : Type 0 where
+  pub again : (label : Label) (x : SideCut) (s t : TheSide) (f : Frag) → ShowsSide x s → SharedTakes s (found f) t → Becomes (SideGives label (gave_one f)) x t
   pub one : (label : Label) (x : SideCut) (s m t : TheSide) (f : Frag) → ShowsSide x s → SharedTakes s (saw f) m → SharedTakes m (found f) t
-      → Becomes (SideGives label gave_one) x t
+      → Becomes (SideGives label (gave_one f)) x t
   pub ack : (label : Label) (x : SideCut) (s m t : TheSide) → ShowsSide x s → SharedTakes s saw_ack m → SharedTakes m found_ack t
       → Becomes (SideGives label gave_ack) x t

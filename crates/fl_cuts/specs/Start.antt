@@ -54,11 +54,11 @@ pub record IsStarting (s : TheRun TheSide) : Type 0 where
 -- ---- the cut
 
 -- no call was accepted, or came
-abbrev pub first_end : ℕ → EndId → TheSeat → EndCut
-first_end core name seat =
+abbrev pub first_end : ℕ → Port → TheSeat → EndCut
+first_end core port seat =
     let i = planned_of seat.end.program in
     record {
-      name = name;
+      port = port;
       planned = i;
       end = record (unbound_end (length i.interface.messages) 2 None) { seat = Some (seat_at core seat); circuit = Some 0 };
       got = [];
@@ -69,7 +69,7 @@ first_end core name seat =
 abbrev pub first_ends : ℕ → List TheSeat → List Port → List EndCut
 first_ends core [] ports = []
 first_ends core (seat ∷ seats) [] = []
-first_ends core (seat ∷ seats) (p ∷ ports) = first_end core p.name seat ∷ first_ends core seats ports
+first_ends core (seat ∷ seats) (p ∷ ports) = first_end core p seat ∷ first_ends core seats ports
 
 -- the names of the ends at these places
 abbrev pub names_of : List Port → List ℕ → List EndId
@@ -85,7 +85,8 @@ first_cut k s = record {
   core = record k { dispatchers = map (first_waits s.core.ports) s.core.board.dispatchers };
   ends = first_ends s.core.monitor.circuits.core s.core.board.seats s.core.ports;
   places = s.core.places;
-  sides = map (λ (x : TheSide). let y : SideCut = record { ring = fresh_ring x.size; put = [] } in y) s.rings;
+  lanes = s.core.lanes;
+  sides = map (λ (x : TheSide). let y : SideCut = record { ring = fresh_ring x.size; put = []; got = [] } in y) s.rings;
   queues = map (λ (q : TheQueue). fresh_queue q.capacity) s.queues;
   arrivals = map (λ (q : TheQueue). fresh_queue q.capacity) s.core.arrivals;
 }

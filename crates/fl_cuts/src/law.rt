@@ -4,7 +4,7 @@ ghost use Rattle.fl_cuts.specs.Laws.{AllTurnsFollow, EventsFollow, LogsFollow};
 ghost use Rattle.fl_cuts.specs.Sides.{SideLooks, SidePuts, SideTakes};
 ghost use Rattle.fl_cuts.specs.Start.{StartsShow};
 
-use fl_shows::take_shows;
+use fl_shows::{outboxes_are_shown, take_shows};
 
 /// Whatever a side of a ring between threads comes to, it shows what the machine makes of what it showed, by
 /// what its looks found; and it finds the machine's room.
@@ -19,18 +19,21 @@ pub fn starts_show()
     ensures show { StartsShow }
 {}
 
-/// Each event of a core without links is the machine's on the cut that it shows, whatever other cores do: the
-/// answer is the machine's, and afterwards the core shows what the machine makes of the cut.
+/// Each event of a running core by which no circuit is opened is the machine's on the cut that the core shows,
+/// whatever other cores do: the answer is the machine's, and afterwards the core shows what the machine makes of
+/// the cut. So are the events of a log, one after another.
 pub fn events_follow()
     ensures follow { EventsFollow }
+    ensures logs { LogsFollow }
 {
     take_shows();
+    outboxes_are_shown();
 }
 
-/// So are the events of its log, one after another, and so many turns.
+/// So are all events of so many turns of a core without links, at which no circuit can be opened.
 pub fn turns_follow()
-    ensures logs { LogsFollow }
     ensures turns { AllTurnsFollow }
 {
     take_shows();
+    outboxes_are_shown();
 }
