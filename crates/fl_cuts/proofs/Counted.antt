@@ -1,5 +1,5 @@
 -- Directions of calls, counted in fragments: all calls but the last are written, whatever an end does.
-use Rattle.std.proofs.Common.{◌≡◌, refl, sym, ◌∙◌, ap, subst, ℕ, ◌+◌, ◌≤◌, ◌<◌, true, false, List, [], ◌∷◌, ◌++◌, length, Option, Some, None, slice_get, slice_set, arith}
+use Rattle.std.proofs.Common.{◌≡◌, refl, ℕ, ◌+◌, ◌≤◌, ◌<◌, true, false, List, [], ◌∷◌, ◌++◌, length, Option, Some, None, slice_get, slice_set, arith}
 use Rattle.std.proofs.lemmas.List.{length-set}
 use Rattle.fl_value.specs.Value.{TheCall}
 use Rattle.fl_queues.specs.Given.{given, changed_at}

@@ -1,13 +1,12 @@
 -- A cut of which parts are changed shows a core of which these parts have changed.
-use Rattle.std.proofs.Common.{◌≡◌, refl, sym, ◌∙◌, ap, subst, ℕ, zero, suc, List, [], ◌∷◌, map, slice_get, slice_set, Option, Some, None}
+use Rattle.std.proofs.Common.{◌≡◌, refl, sym, ◌∙◌, ap, subst, ℕ, List, map, slice_get, slice_set, Option, Some, None}
 use Rattle.fl_base.specs.declared.identity.EndId.{EndId}
 use Rattle.fl_lists.specs.ThreeLists.{ThreeLists}
 use Rattle.fl_waitset.specs.Waiting.{triggered}
 use Rattle.fl_link.specs.Queue.{TheQueue}
 use Rattle.fl_ring.specs.SharedSides.{TheSide}
 use Rattle.fl_endpoint.specs.View.{TheEnd}
-use Rattle.fl_core.specs.View.{TheDispatcher, TheSeat, TheBoard}
-use Rattle.fl_core.specs.Events.{ChangesLists}
+use Rattle.fl_core.specs.View.{TheSeat, TheBoard}
 use Rattle.fl_hop.specs.Table.{TheCircuits}
 use Rattle.fl_monitor.specs.Monitors.{TheMonitor}
 use Rattle.fl_node.specs.declared.wire.Lane.{Lane}
@@ -18,13 +17,13 @@ use Rattle.fl_node.specs.Ends.{TriggersIf}
 use Rattle.fl_running.specs.Desks.{TheDesk}
 use Rattle.fl_running.specs.Run.{TheRun}
 use Rattle.fl_queues.specs.Given.{given}
-use Rattle.fl_queues.specs.Ends.{Queue, End, Seat}
+use Rattle.fl_queues.specs.Ends.{Queue, Seat}
 use Rattle.fl_queues.specs.Waits.{Dispatcher, triggers}
 use Rattle.fl_queues.specs.Monitors.{Core}
 use Rattle.fl_shows.specs.Cores.{MonitorShows}
 use Rattle.fl_cuts.specs.Sides.{SideCut, ShowsSide}
 use Rattle.fl_cuts.specs.Ends.{EndCut}
-use Rattle.fl_cuts.specs.Cut.{Each2, Cut, ShowsQueue, ShowsWaits, seat_at, ShowsSeat, ShowsCut}
+use Rattle.fl_cuts.specs.Cut.{Each2, Cut, ShowsQueue, ShowsWaits, ShowsSeat, ShowsCut}
 use Rattle.fl_cuts.specs.Events.{EndAt, triggers_seat, triggers_end, with_waits}
 use Rattle.fl_cuts.proofs.Lists.{there, set_both, map_same, map_at}
 
@@ -198,7 +197,7 @@ pub record Triggered (core : ℕ) (ports : List Port) (waits : List Dispatcher) 
   pub waits_show : Each2 (ShowsWaits ports) waits b.dispatchers
   pub ends_show : Each2 (ShowsSeat core) ends b.seats
 
-on_board : (core : ℕ) (ports : List Port) (waits : List Dispatcher) (ends : List EndCut) (b c : TheBoard) → c ≡ b → Triggered core ports waits ends b
+pub on_board : (core : ℕ) (ports : List Port) (waits : List Dispatcher) (ends : List EndCut) (b c : TheBoard) → c ≡ b → Triggered core ports waits ends b
     → Triggered core ports waits ends c
 on_board core ports waits ends b c e h = subst (Triggered core ports waits ends) (sym e) h
 
@@ -218,7 +217,7 @@ triggers_shown core ports (Some place) waits ends b c t w h =
     } in
     on_board core ports (triggers_end (Some place) ends waits) ends _ c t.board (record {
       waits_show = subst (λ (ds : List Dispatcher). Each2 (ShowsWaits ports) ds
-      (slice_set b.dispatchers t.seat.dispatcher (record { lists = t.lists; ends = t.dispatcher.ends }))) (sym is)
-      (set_both (ShowsWaits ports) waits b.dispatchers t.seat.dispatcher (triggers t.seat.channel d.0) (record { lists = t.lists; ends = t.dispatcher.ends }) w shows);
+          (slice_set b.dispatchers t.seat.dispatcher (record { lists = t.lists; ends = t.dispatcher.ends }))) (sym is)
+          (set_both (ShowsWaits ports) waits b.dispatchers t.seat.dispatcher (triggers t.seat.channel d.0) (record { lists = t.lists; ends = t.dispatcher.ends }) w shows);
       ends_show = h;
     })

@@ -1,5 +1,5 @@
 -- Ends: what an event makes of an end is what the machine makes of the end that it shows.
-use Rattle.std.proofs.Common.{◌≡◌, ◌≢◌, inl, inr, refl, sym, ◌∙◌, ap, subst, ℕ, zero, suc, ◌+◌, ◌-◌, ◌≤◌, ◌<◌, nat_le, true, false, if◌then◌else◌, List, [], ◌∷◌, ◌++◌, length, map, take, drop, slice_get, Option, Some, None, append_assoc, arith}
+use Rattle.std.proofs.Common.{◌≡◌, ◌≢◌, inl, inr, refl, sym, ◌∙◌, ap, subst, ℕ, zero, suc, ◌+◌, ◌-◌, ◌≤◌, true, false, List, [], ◌∷◌, ◌++◌, length, map, take, drop, slice_get, Option, Some, None, append_assoc, arith}
 use Rattle.std.specs.Prelude.{Result, Ok, Err}
 use Rattle.std.specs.List.{flat_map}
 use Rattle.std.proofs.lemmas.List.{append-nil, length-append, length-map, length_push, map-append, take_at}
@@ -21,16 +21,15 @@ use Rattle.fl_endpoint.specs.declared.fault.EndFault.TheVariants.{Spent, Busy, U
 use Rattle.fl_endpoint.specs.declared.answer.WriteAnswer.{WriteAnswer}
 use Rattle.fl_endpoint.specs.declared.answer.WriteAnswer.TheVariants as write
 use Rattle.fl_endpoint.specs.declared.answer.ReceiveAnswer.TheVariants as receive
-use Rattle.fl_endpoint.specs.View.{TheEnd, TheOutgoing, with_call, with_written, with_part, with_handled, with_failed, with_rule, holds_back as end_holds_back}
+use Rattle.fl_endpoint.specs.View.{TheEnd, TheOutgoing, holds_back as end_holds_back}
 use Rattle.fl_endpoint.specs.Events.{Calls as EndCalls, Writes as EndWrites, SetsRule as EndSets, TakesIn, AreCall, IsReady}
 use Rattle.fl_endpoint.specs.Accounts.{Sound}
 use Rattle.fl_queues.specs.Given.{given}
 use Rattle.fl_queues.specs.Calls.{Planned, fragments, total, whole_in, stream}
 use Rattle.fl_queues.specs.Rings.{Label, there_is_room}
-use Rattle.fl_queues.specs.Ends.{Direction, taken_of, is_busy, accepts, writes, End, is_bound, holds_back, with_rule as machine_rule, Taken, whole, a_part, takes_one, handled, comes_to, replies}
-use Rattle.fl_queues.specs.SoundLabels.{IsCounted}
+use Rattle.fl_queues.specs.Ends.{Direction, taken_of, accepts, writes, End, is_bound, holds_back, with_rule as machine_rule, Taken, whole, a_part, takes_one, handled, comes_to, replies}
 use Rattle.fl_queues.specs.SoundCalls.{AllFit}
-use Rattle.fl_shows.specs.Ends.{planned_of, outgoing_of, circuit_of, parts_of, EndShows}
+use Rattle.fl_shows.specs.Ends.{circuit_of, parts_of, EndShows}
 use Rattle.fl_shows.specs.EndLaws.{with_out, TakeShows}
 use Rattle.fl_shows.proofs.Streams.{length_frags, length_stream, whole_append, whole_short, whole_one}
 use Rattle.fl_shows.proofs.Calling.{idle_is, bound_is, unbound_is, call_agrees, write_agrees}
@@ -38,7 +37,7 @@ use Rattle.fl_shows.proofs.Taking.{taken_grows}
 use Rattle.fl_shows.proofs.Receiving.{holds_is}
 use Rattle.fl_shows.proofs.Rules.{rule_agrees}
 use Rattle.fl_cuts.specs.Sides.{Placing, goes_on, is_full, is_spent}
-use Rattle.fl_cuts.specs.Ends.{EndCut, ShowsEnd, Calls, SetsRule, Writes, wrote_next, next_label, known_by, Takes, Fails}
+use Rattle.fl_cuts.specs.Ends.{EndCut, ShowsEnd, Calls, SetsRule, Writes, wrote_next, next_label, Takes, Fails}
 use Rattle.fl_cuts.proofs.Counted.{Counts, written_counts, called_counts, replied_counts, replied_seat, exit_stays}
 
 -- ---- what it is to send is told by the machine's end, whatever it took

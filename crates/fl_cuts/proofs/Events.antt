@@ -1,7 +1,6 @@
 -- Each event of a core without links: what the machine makes of the cut is what the core shows then.
 use Rattle.std.proofs.Common.{◌≡◌, refl, sym, ◌∙◌, ap, subst, ℕ, zero, suc, List, [], ◌∷◌, map, slice_get, slice_set, Option, Some, None}
 use Rattle.std.specs.Prelude.{Result, Ok, Err}
-use Rattle.std.specs.declared.alloc.AllocError.{AllocError}
 use Rattle.fl_base.specs.declared.identity.EndId.{EndId}
 use Rattle.fl_base.specs.declared.identity.MsgNo.{MsgNo}
 use Rattle.fl_base.specs.Ends.{peer}
@@ -11,15 +10,14 @@ use Rattle.fl_lists.specs.ThreeLists.{ThreeLists}
 use Rattle.fl_value.specs.Value.{TheCall}
 use Rattle.fl_waitset.specs.declared.waitset.Pick.{Pick}
 use Rattle.fl_waitset.specs.declared.waitset.Pick.TheVariants as pick
-use Rattle.fl_link.specs.Looks.{Look, placed, no_room, spent, saw, saw_ack, found, found_ack, missed, told, kept}
-use Rattle.fl_link.specs.Queue.{TheQueue, QueuePuts, QueueTakes, front_of}
+use Rattle.fl_link.specs.Looks.{Look, placed, no_room, spent, saw, saw_ack, missed, told, kept}
+use Rattle.fl_link.specs.Queue.{TheQueue, QueuePuts, QueueTakes}
 use Rattle.fl_ring.specs.SharedSides.{TheSide, SharedPuts, SharedTakes}
 use Rattle.fl_endpoint.specs.declared.fault.EndFault.{EndFault}
 use Rattle.fl_endpoint.specs.declared.answer.WriteAnswer.{WriteAnswer}
 use Rattle.fl_endpoint.specs.declared.answer.WriteAnswer.TheVariants as write
 use Rattle.fl_endpoint.specs.View.{TheEnd}
-use Rattle.fl_endpoint.specs.Events.{Calls as EndCalls, Writes as EndWrites, SetsRule as EndSets, IsUnbound}
-use Rattle.fl_endpoint.specs.Accounts.{Sound as IsEnd}
+use Rattle.fl_endpoint.specs.Events.{Calls as EndCalls, SetsRule as EndSets}
 use Rattle.fl_core.specs.declared.kind.Kind.{Kind}
 use Rattle.fl_core.specs.declared.kind.Kind.TheVariants as kind
 use Rattle.fl_core.specs.declared.answer.TurnAnswer.{TurnAnswer}
@@ -27,17 +25,15 @@ use Rattle.fl_core.specs.declared.answer.AckAnswer.{AckAnswer}
 use Rattle.fl_core.specs.declared.answer.AckAnswer.TheVariants as ack
 use Rattle.fl_core.specs.declared.fault.BoardFault.{BoardFault}
 use Rattle.fl_core.specs.declared.fault.BoardFault.TheVariants as board
-use Rattle.fl_core.specs.View.{TheDispatcher, TheSeat, TheBoard, channel_of, with_end, due as due_place}
+use Rattle.fl_core.specs.View.{TheSeat, TheBoard, channel_of, with_end}
 use Rattle.fl_core.specs.Events.{ChangesEnd as BoardChanges, Acks as EndAcks}
 use Rattle.fl_core.specs.Turns.{WaitsIn, Turns as BoardTurns, LooksAt, moment, over}
 use Rattle.fl_node.specs.declared.wire.Port.{Port}
 use Rattle.fl_node.specs.declared.wire.Wire.{Wire}
 use Rattle.fl_node.specs.declared.wire.Wire.TheVariants.{Queues, Ring as OverRing, Circuit}
-use Rattle.fl_node.specs.declared.wire.Outlet.{Outlet}
 use Rattle.fl_node.specs.declared.wire.Outlet.TheVariants as outlet
 use Rattle.fl_node.specs.declared.wire.Inlet.{Inlet}
 use Rattle.fl_node.specs.declared.wire.Inlet.TheVariants as inlet
-use Rattle.fl_node.specs.declared.wire.Lane.{Lane}
 use Rattle.fl_monitor.specs.Routing.{given as given_at}
 use Rattle.fl_node.specs.View.{TheCore, with_board, place_in, place_of, kind_of, side_of_link, outlet_by, outlet_of, inlet_by, inlet_of, joined_by, joined_to}
 use Rattle.fl_node.specs.Sound.{IsCore}
@@ -49,18 +45,18 @@ use Rattle.fl_queues.specs.Rings.{Label}
 use Rattle.fl_queues.specs.Ends.{Queue}
 use Rattle.fl_queues.specs.Waits.{Dispatcher, Due, pending, polled, due}
 use Rattle.fl_shows.specs.EndLaws.{TakeShows}
-use Rattle.fl_cuts.specs.Sides.{SideCut, ShowsSide, Places, Gave, SideGives, Tells, is_told, is_little, finds_none}
-use Rattle.fl_cuts.specs.Ends.{EndCut, ShowsEnd, Calls, SetsRule, Writes}
+use Rattle.fl_cuts.specs.Sides.{SideCut, ShowsSide, Places}
+use Rattle.fl_cuts.specs.Ends.{EndCut, ShowsEnd}
 use Rattle.fl_cuts.specs.Cut.{Each2, Cut, ShowsQueue, name_at, ShowsWaits, ShowsSeat, ShowsCut}
-use Rattle.fl_cuts.specs.Events.{QueuePlaces, QueueGives, Spot, Giving, ring_gives, queue_gives, Turns, Acks, EndAt, ChangesEnd, ChangesBoth, triggers_end, woken_by, with_waits, WritesOver, end_due, HasTurn, TurnsOverSide, TurnsOverQueue, AcksOver}
+use Rattle.fl_cuts.specs.Events.{QueuePlaces, Giving, ring_gives, queue_gives, Turns, Acks, triggers_end, woken_by, end_due, HasTurn}
 use Rattle.fl_cuts.specs.Does.{CutDoes}
 use Rattle.fl_cuts.specs.Laws.{HasNoLinks}
-use Rattle.fl_cuts.proofs.Lists.{there, set_both, only_one}
+use Rattle.fl_cuts.proofs.Lists.{there, set_both}
 use Rattle.fl_cuts.proofs.Sides.{put_agrees, look_agrees, takes_one, takes_ack}
-use Rattle.fl_cuts.proofs.Ends.{PutLaw, call_shows, rule_shows, write_shows, is_bound_now, unbound_now}
+use Rattle.fl_cuts.proofs.Ends.{PutLaw, call_shows, rule_shows, write_shows, unbound_now}
 use Rattle.fl_cuts.proofs.Queues.{queue_puts, queue_misses, queue_leaves, queue_gives_one, queue_gives_ack, some_wait, none_wait, seen_some}
 use Rattle.fl_cuts.proofs.Turning.{GivingLaw, due_of, due_is, turn_shows}
-use Rattle.fl_cuts.proofs.Cuts.{built, changed, shown_by, board_run, ring_run, queue_run, Seen, seen, end_at, seated, ends_shown, ports_same, Triggered, on_board, triggers_shown}
+use Rattle.fl_cuts.proofs.Cuts.{built, changed, shown_by, board_run, ring_run, queue_run, Seen, seen, end_at, ends_shown, ports_same, Triggered, on_board, triggers_shown}
 
 -- ---- sides and queues, as laws of what they do
 

@@ -7,8 +7,8 @@ use Rattle.fl_base.specs.declared.identity.EndId.{EndId}
 use Rattle.fl_base.specs.declared.identity.LinkId.{LinkId}
 use Rattle.fl_base.specs.declared.identity.Circuit.{Circuit as Number}
 use Rattle.fl_base.specs.Control.{bare, circuit_of, with_circuit}
-use Rattle.fl_link.specs.Looks.{Look, placed, no_room, spent, saw, saw_ack, found, found_ack, missed, told, kept}
-use Rattle.fl_link.specs.Queue.{TheQueue, QueuePuts, QueueTakes}
+use Rattle.fl_link.specs.Looks.{Look, placed, no_room, spent, saw, found, missed, told, kept}
+use Rattle.fl_link.specs.Queue.{TheQueue, QueueTakes}
 use Rattle.fl_ring.specs.SharedSides.{TheSide, SharedPuts, SharedTakes}
 use Rattle.fl_hop.specs.declared.entry.Way.{Way}
 use Rattle.fl_hop.specs.declared.forward.Outcome.{Outcome}
@@ -20,7 +20,7 @@ use Rattle.fl_core.specs.declared.kind.Kind.TheVariants as kind
 use Rattle.fl_core.specs.declared.answer.TurnAnswer.{TurnAnswer}
 use Rattle.fl_core.specs.declared.answer.AckAnswer.{AckAnswer}
 use Rattle.fl_core.specs.declared.answer.AckAnswer.TheVariants as ack
-use Rattle.fl_core.specs.View.{TheSeat, TheBoard}
+use Rattle.fl_core.specs.View.{TheSeat}
 use Rattle.fl_core.specs.Turns.{Turns as BoardTurns, over}
 use Rattle.fl_monitor.specs.Monitors.{TheMonitor, waiting_for, without_first}
 use Rattle.fl_monitor.specs.Outboxes.{AreFragsOf}
@@ -37,10 +37,10 @@ use Rattle.fl_node.specs.declared.wire.Lane.{Lane}
 use Rattle.fl_node.specs.declared.wire.Port.{Port}
 use Rattle.fl_node.specs.declared.wire.Wire.{Wire}
 use Rattle.fl_node.specs.declared.wire.Wire.TheVariants.{Queues, Ring as OverRing, Circuit}
-use Rattle.fl_node.specs.View.{TheCore, with_board, with_monitor, with_failed, with_arrivals, failed_at, place_in, place_of, side_of_link, arrivals_by, arrivals_of, arriving, arriving_at, inlet_by, inlet_of, kind_of}
+use Rattle.fl_node.specs.View.{TheCore, with_monitor, failed_at, place_in, place_of, side_of_link, arrivals_by, arrivals_of, arriving, arriving_at, inlet_by, inlet_of, kind_of}
 use Rattle.fl_node.specs.Sound.{IsCore}
-use Rattle.fl_node.specs.Ends.{OverArrivals, TriggersIf}
-use Rattle.fl_node.specs.Links.{MonitorWrites, IsLane, Seen as HasSeen, LooksAhead, reached, ArrivesAt, Acknowledges}
+use Rattle.fl_node.specs.Ends.{OverArrivals}
+use Rattle.fl_node.specs.Links.{MonitorWrites, IsLane, LooksAhead, ArrivesAt, Acknowledges}
 use Rattle.fl_running.specs.Run.{TheRun}
 use Rattle.fl_running.specs.Deeds.{looked, passed, arrived, said, told as has_told, turned, OnCore, OnRing, IsSound, IsSoundAt}
 use Rattle.fl_queues.specs.Given.{given}
@@ -53,17 +53,17 @@ use Rattle.fl_shows.specs.Fragments.{message_of, said_frag}
 use Rattle.fl_shows.specs.Cores.{OutboxesShow, MonitorShows}
 use Rattle.fl_shows.specs.CoreLaws.{OutboxesAreShown, SendsFirst}
 use Rattle.fl_shows.specs.EndLaws.{TakeShows}
-use Rattle.fl_cuts.specs.Sides.{SideCut, ShowsSide, Places, goes_on, is_full, is_spent, SideGives, gave_one, is_told, is_little, finds_none, Tells}
+use Rattle.fl_cuts.specs.Sides.{SideCut, ShowsSide}
 use Rattle.fl_cuts.specs.Ends.{EndCut}
-use Rattle.fl_cuts.specs.Cut.{Each2, Cut, ShowsQueue, ShowsSeat, ShowsCut}
-use Rattle.fl_cuts.specs.Events.{QueuePlaces, queue_gives, triggers_end, with_waits}
-use Rattle.fl_cuts.specs.Links.{OverOne, HasFailed, Finds, lanes_after, PassesOver, ArrivesIn, ArrivesOver, first_said, SaysOver, TellsBy}
+use Rattle.fl_cuts.specs.Cut.{Cut, ShowsQueue, ShowsCut}
+use Rattle.fl_cuts.specs.Events.{queue_gives, triggers_end, with_waits}
+use Rattle.fl_cuts.specs.Links.{HasFailed, Finds, lanes_after, first_said, TellsBy}
 use Rattle.fl_cuts.specs.Laws.{HasNoLinks}
 use Rattle.fl_cuts.proofs.Lists.{there, set_both, map_at}
 use Rattle.fl_cuts.proofs.Sides.{put_agrees, look_agrees, takes_again, takes_ack}
 use Rattle.fl_cuts.proofs.Queues.{queue_puts}
-use Rattle.fl_cuts.proofs.Cuts.{shown_lanes, shown_monitor, shown_arrivals, Seen, seen, end_at, on_board, Triggered, triggers_shown}
-use Rattle.fl_cuts.proofs.Events.{After, all_gives, kind_at, kind_from, turn_follows}
+use Rattle.fl_cuts.proofs.Cuts.{shown_lanes, shown_monitor, shown_arrivals, Seen, seen, end_at, triggers_shown}
+use Rattle.fl_cuts.proofs.Events.{After, all_gives, kind_from, turn_follows}
 
 -- ---- a side alone
 
@@ -287,9 +287,9 @@ linked k m l f rest h e = by (slice_get m.outboxes l) refl e where
   by (Some frags) q r = let x = outbox_at k.links m.outboxes l frags h.outboxes q in (x.link, x.there)
 
 record SaysSo (a : Cut) (l : ℕ) (f : Frag) (m : TheMonitor) : Type 0 where
-  pub said : Said
-  pub is : first_said a l ≡ Some said
-  pub frag : f ≡ said_frag said
+  pub word : Said
+  pub is : first_said a l ≡ Some word
+  pub frag : f ≡ said_frag word
   pub gone : MonitorShows (without_first_said l a.core) (without_first l m)
 
 said_first : OutboxesAreShown → (a : Cut) (m : TheMonitor) (l : ℕ) (f : Frag) (rest : List Frag) → MonitorShows a.core m → waiting_for m.outboxes l ≡ f ∷ rest
@@ -306,10 +306,10 @@ said_first law a m l f rest h e =
         let none = sends.none q in
         let clash : None ≡ Some f = sym none ∙ first in
         absurd (cc)
-    by x at sends first (Some said) q = record {
-      said = said;
+    by x at sends first (Some word) q = record {
+      word = word;
       is = ap (λ (o : Option Link). given o None λ y. slice_get y.outbox 0) at ∙ q;
-      frag = same_Some f (said_frag said) (sym first ∙ sends.next said q);
+      frag = same_Some f (said_frag word) (sym first ∙ sends.next word q);
       gone = sends.gone;
     }
 
@@ -317,9 +317,9 @@ said_none : OutboxesAreShown → (a : Cut) (m : TheMonitor) (l : ℕ) → Monito
 said_none law a m l h e = by (slice_get a.core.links l) refl where
   by_first : (x : Link) → SendsFirst l x a.core m → (o : Option Said) → slice_get x.outbox 0 ≡ o → o ≡ None
   by_first x sends None q = refl
-  by_first x sends (Some said) q =
-      let first = sends.next said q in
-      let clash : None ≡ Some (said_frag said) = sym (ap (λ (fs : List Frag). slice_get fs 0) e) ∙ first in
+  by_first x sends (Some word) q =
+      let first = sends.next word q in
+      let clash : None ≡ Some (said_frag word) = sym (ap (λ (fs : List Frag). slice_get fs 0) e) ∙ first in
       absurd (cc)
 
   by : (o : Option Link) → slice_get a.core.links l ≡ o → (given o None λ y. slice_get y.outbox 0) ≡ None
@@ -341,12 +341,12 @@ says_follow law a s m t n l write.Written h lane on desks =
     let (f, rest, waits, put, core) = on.event in
     let first = said_first law a s.core.monitor l.0 f rest h.monitor waits in
     let v = there ShowsSide a.sides s.rings n on.before h.sides on.before_is in
-    let one = put_agrees (says first.said) v.0 on.before on.after (placed (said_frag first.said)) v.2
+    let one = put_agrees (says first.word) v.0 on.before on.after (placed (said_frag first.word)) v.2
     (subst (λ (g : Frag). SharedPuts on.before (placed g) on.after) first.frag put) in
     let next : Cut = record a { core = without_first_said l.0 a.core; sides = slice_set a.sides n one.0 } in
     record {
       after = next;
-      does = (first.said, first.is, record { before = v.0; before_is = v.1; after = one.0; event = one.1; rest = refl }, refl);
+      does = (first.word, first.is, record { before = v.0; before_is = v.1; after = one.0; event = one.1; rest = refl }, refl);
       shows = desks_shown next m t
           (subst (ShowsCut next) (sym (monitor_run s m (without_first l.0 s.core.monitor) (slice_set s.rings n on.after) on.rest core))
           (shown_monitor a s h (slice_set a.sides n one.0) (without_first_said l.0 a.core) (without_first l.0 s.core.monitor) (slice_set s.rings n on.after) s.desks
@@ -358,11 +358,11 @@ says_follow law a s m t n l write.Full h lane on desks =
     let x = some_waits (waiting_for s.core.monitor.outboxes l.0) some in
     let first = said_first law a s.core.monitor l.0 x.0 x.1 h.monitor x.2 in
     let v = there ShowsSide a.sides s.rings n on.before h.sides on.before_is in
-    let one = put_agrees (says first.said) v.0 on.before on.after no_room v.2 put in
+    let one = put_agrees (says first.word) v.0 on.before on.after no_room v.2 put in
     let next : Cut = record a { sides = slice_set a.sides n one.0 } in
     record {
       after = next;
-      does = (first.said, first.is, record { before = v.0; before_is = v.1; after = one.0; event = one.1; rest = refl }, refl);
+      does = (first.word, first.is, record { before = v.0; before_is = v.1; after = one.0; event = one.1; rest = refl }, refl);
       shows = desks_shown next m t (side_shown a s m n one.0 on.after h one.2 on.rest core) desks;
       links = λ none. unlinked s.core l.0 n none lane;
     }
@@ -371,11 +371,11 @@ says_follow law a s m t n l write.Spent h lane on desks =
     let x = some_waits (waiting_for s.core.monitor.outboxes l.0) some in
     let first = said_first law a s.core.monitor l.0 x.0 x.1 h.monitor x.2 in
     let v = there ShowsSide a.sides s.rings n on.before h.sides on.before_is in
-    let one = put_agrees (says first.said) v.0 on.before on.after spent v.2 put in
+    let one = put_agrees (says first.word) v.0 on.before on.after spent v.2 put in
     let next : Cut = record a { sides = slice_set a.sides n one.0 } in
     record {
       after = next;
-      does = (first.said, first.is, record { before = v.0; before_is = v.1; after = one.0; event = one.1; rest = refl }, refl);
+      does = (first.word, first.is, record { before = v.0; before_is = v.1; after = one.0; event = one.1; rest = refl }, refl);
       shows = desks_shown next m t (side_shown a s m n one.0 on.after h one.2 on.rest core) desks;
       links = λ none. unlinked s.core l.0 n none lane;
     }

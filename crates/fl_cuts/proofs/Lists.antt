@@ -1,5 +1,5 @@
 -- Two lists, one for one.
-use Rattle.std.proofs.Common.{◌≡◌, refl, sym, ◌∙◌, ap, subst, ℕ, zero, suc, List, [], ◌∷◌, length, map, slice_get, slice_set, Option, Some, None}
+use Rattle.std.proofs.Common.{◌≡◌, refl, sym, ◌∙◌, ap, subst, ℕ, zero, suc, List, [], ◌∷◌, map, slice_get, slice_set, Option, Some, None}
 use Rattle.fl_cuts.specs.Cut.{Each2}
 
 module _ {A B : Type 0} (R : A → B → Type 0) where

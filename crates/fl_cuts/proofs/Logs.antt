@@ -1,6 +1,5 @@
 -- The events of a log, and turns, of a core without links.
-use Rattle.std.proofs.Common.{◌≡◌, ◌≢◌, refl, sym, ◌∙◌, ap, subst, ℕ, nat_lt, ◌&&◌, Bool, true, false, if◌then◌else◌, List, [], ◌∷◌, length, slice_get, Option, Some, None, arith}
-use Rattle.std.specs.Prelude.{Result, Ok, Err}
+use Rattle.std.proofs.Common.{◌≡◌, refl, sym, ◌∙◌, ap, subst, ℕ, nat_lt, ◌&&◌, Bool, true, false, if◌then◌else◌, List, [], ◌∷◌, length, slice_get, Option, Some, None, arith}
 use Rattle.fl_base.specs.declared.fragment.Frag.{Frag}
 use Rattle.fl_base.specs.declared.identity.EndId.{EndId}
 use Rattle.fl_base.specs.declared.identity.LinkId.{LinkId}
@@ -20,8 +19,7 @@ use Rattle.fl_node.specs.View.{TheCore, place_of, side_of_link, inlet_by, inlet_
 use Rattle.fl_node.specs.Sound.{IsCore, IsWired}
 use Rattle.fl_running.specs.declared.job.Job.{Job}
 use Rattle.fl_running.specs.declared.plan.Plan.{Plan}
-use Rattle.fl_running.specs.declared.lent.Berth.{Berth}
-use Rattle.fl_running.specs.Run.{TheRun, side_in, lent_lane, lent_berth}
+use Rattle.fl_running.specs.Run.{TheRun, side_in, lent_lane}
 use Rattle.fl_running.specs.Deeds.{Deed, looked, passed, arrived, heard, said, told, opened, called, ruled, wrote, acked, turned, Happens}
 use Rattle.fl_running.specs.Turn.{Turned}
 use Rattle.fl_running.specs.Logs.{InPlace, Goes}
@@ -31,7 +29,7 @@ use Rattle.fl_running.proofs.Logging.{turns_logged}
 use Rattle.fl_shows.specs.CoreLaws.{OutboxesAreShown}
 use Rattle.fl_shows.specs.EndLaws.{TakeShows}
 use Rattle.fl_cuts.specs.Cut.{Cut, ShowsCut}
-use Rattle.fl_cuts.specs.Does.{OpensNothing, CutGoes, OpenNothing}
+use Rattle.fl_cuts.specs.Does.{OpensNothing, OpenNothing}
 use Rattle.fl_cuts.specs.Laws.{HasNoLinks, shared, Follows, FollowsAll, TurnsFollow}
 use Rattle.fl_cuts.proofs.Events.{After, calls_follow, rules_follow, side_writes_follow, queue_writes_follow, side_turns_follow, queue_turns_follow, acks_follow}
 use Rattle.fl_cuts.proofs.Links.{looks_follow, passes_follow, stays_full, stays_spent, arrives_follow, says_follow, tells_follow, arrivals_turn_follow}
@@ -71,24 +69,29 @@ no_arrivals {P} k e h core q = by_port (slice_get k.ports e) refl q where
   by_port None r x = absurd (cc)
   by_port (Some p) r x = by_wire p p.wire (core.wired e p r) (some_is (inlet_by p.wire) inlet.Arrivals x)
 
--- where an end that acknowledges takes from
-berth_by : (s : TheRun TheSide) (o : Option Inlet) (f : ℕ) (b : Berth)
-    → (given_at o None λ from. given_at (side_in from) None λ n. if nat_lt n (length s.rings) then (let p : Berth = record { end = f; side = n } in Some p) else None)
-    ≡ Some b → o ≡ Some (inlet.Side b.side)
-berth_by s None f b is = absurd (cc)
-berth_by s (Some (inlet.Queue n)) f b is = absurd (cc)
-berth_by s (Some inlet.Arrivals) f b is = absurd (cc)
-berth_by s (Some (inlet.Side n)) f b is = by (nat_lt n (length s.rings)) is where
-  by : (t : Bool) → (if t then (let p : Berth = record { end = f; side = n } in Some p) else None) ≡ Some b → Some (inlet.Side n) ≡ Some (inlet.Side b.side)
-  by true h = ap (λ (o : Option Berth). given_at o None λ (p : Berth). Some (inlet.Side p.side)) h
+-- where an end that acknowledges takes from, by its berth
+berth_by : {B : Type 0} (b : B) (make : ℕ → ℕ → B) (side : B → ℕ) → ((e m : ℕ) → side (make e m) ≡ m) → (s : TheRun TheSide) (o : Option Inlet) (f : ℕ)
+    → (given_at o None λ from. given_at (side_in from) None λ n. if nat_lt n (length s.rings) then Some (make f n) else None) ≡ Some b
+    → o ≡ Some (inlet.Side (side b))
+berth_by b make side law s None f is = absurd (cc)
+berth_by b make side law s (Some (inlet.Queue n)) f is = absurd (cc)
+berth_by b make side law s (Some inlet.Arrivals) f is = absurd (cc)
+berth_by {B} b make side law s (Some (inlet.Side n)) f is = by (nat_lt n (length s.rings)) is where
+  by : (t : Bool) → (if t then Some (make f n) else None) ≡ Some b → Some (inlet.Side n) ≡ Some (inlet.Side (side b))
+  by true h =
+      let same : make f n ≡ b = some_is (make f n) b h in
+      ap (λ (m : ℕ). Some (inlet.Side m)) (sym (law f n) ∙ ap side same)
   by false h = absurd (cc)
 
-acks_at : (s : TheRun TheSide) (name : EndId) (f : ℕ) (b : Berth) (n : ℕ) → place_of s.core name ≡ Some f → lent_berth s name ≡ Some b → b.side ≡ n
-    → inlet_of s.core f ≡ Some (inlet.Side n)
-acks_at s name f b n at is same =
-    berth_by s (inlet_of s.core f) f b
+acks_at : {B : Type 0} (b : B) (make : ℕ → ℕ → B) (side : B → ℕ) → ((e m : ℕ) → side (make e m) ≡ m) → (s : TheRun TheSide) (name : EndId) (f n : ℕ)
+    → place_of s.core name ≡ Some f
+    → (given_at (place_of s.core name) None λ e. given_at (inlet_of s.core e) None λ from. given_at (side_in from) None λ m.
+    if nat_lt m (length s.rings) then Some (make e m) else None) ≡ Some b
+    → side b ≡ n → inlet_of s.core f ≡ Some (inlet.Side n)
+acks_at b make side law s name f n at is same =
+    berth_by b make side law s (inlet_of s.core f) f
     (sym (ap (λ (o : Option ℕ). given_at o None λ (e : ℕ). given_at (inlet_of s.core e) None λ (x : Inlet). given_at (side_in x) None λ (m : ℕ).
-    if nat_lt m (length s.rings) then (let p : Berth = record { end = e; side = m } in Some p) else None) at) ∙ is)
+    if nat_lt m (length s.rings) then Some (make e m) else None) at) ∙ is)
     ∙ ap (λ (m : ℕ). Some (inlet.Side m)) same
 
 -- the side of a link, as it is lent
@@ -143,7 +146,7 @@ one_follows law boxes front jobs a s t (turned d name inlet.Arrivals answer) h q
     arrivals_turn_follow law a s m t d name answer e h sound soundly at at_arrivals on (λ none. no_arrivals s.core e none sound.core at_arrivals)
     (desks_alone m t (turned d name inlet.Arrivals answer) notes)
 one_follows law boxes front jobs a s t (acked name n answer) h quiet (m, (e, at, on), notes, sound, soundly) (berth, berth_is, side_is) =
-    acks_follow a s m t name n answer e h sound at (acks_at s name e berth n at berth_is side_is) on (desks_alone m t (acked name n answer) notes)
+    acks_follow a s m t name n answer e h sound at (acks_at berth (λ e2 m2. record { end = e2; side = m2 }) (λ b. b.side) (λ e2 m2. refl) s name e n at berth_is side_is) on (desks_alone m t (acked name n answer) notes)
 
 pub events_follow : TakeShows → OutboxesAreShown → (front : TheSide → Look) (jobs : List Job) (a : Cut) (s t : TheRun TheSide) (deed : Deed) → ShowsCut a s
     → OpensNothing deed → Happens (shared front) deed s t → InPlace jobs s deed → Follows deed a t

@@ -1,17 +1,16 @@
 -- Queues: as many fragments stand there as the machine's queue has labels.
-use Rattle.std.proofs.Common.{◌≡◌, ◌≢◌, refl, sym, ◌∙◌, ap, subst, ℕ, zero, suc, ◌+◌, ◌≤◌, ◌<◌, ◌^◌, nat_lt, Bool, true, false, if◌then◌else◌, List, [], ◌∷◌, ◌++◌, length, drop, Some, None, arith}
+use Rattle.std.proofs.Common.{◌≡◌, ◌≢◌, refl, sym, ◌∙◌, ap, subst, ℕ, suc, ◌+◌, nat_lt, List, [], ◌∷◌, ◌++◌, length, drop, Some, arith}
 use Rattle.std.proofs.lemmas.List.{length_push}
 use Rattle.fl_base.specs.declared.fragment.Frag.{Frag}
 use Rattle.fl_base.specs.Control.{stamped}
-use Rattle.fl_lists.specs.declared.place.Place.{Place}
 use Rattle.fl_lists.specs.declared.place.Place.TheVariants as place
-use Rattle.fl_link.specs.Looks.{Look, placed, no_room, spent, saw, saw_ack, found, found_ack, missed, told, kept}
+use Rattle.fl_link.specs.Looks.{Look, placed, no_room, spent, saw, saw_ack, found, found_ack, missed}
 use Rattle.fl_link.specs.Queue.{TheQueue, QueuePuts, QueueTakes, front_of, next_epoch_of, with_put, with_taken}
 use Rattle.fl_queues.specs.Rings.{Label, there_is_room, no_room as none_free}
-use Rattle.fl_queues.specs.Ends.{Queue, has_room, queue_room, joined_by, without_first}
+use Rattle.fl_queues.specs.Ends.{Queue, has_room, joined_by, without_first}
 use Rattle.fl_queues.specs.Waits.{waits_in}
 use Rattle.fl_shows.proofs.Tests.{lt_true, lt_false, then_is, else_is}
-use Rattle.fl_cuts.specs.Sides.{Gave, nothing_stands, left_one, gave_one, gave_ack, goes_on, is_full, is_spent}
+use Rattle.fl_cuts.specs.Sides.{nothing_stands, left_one, gave_one, gave_ack, goes_on, is_full, is_spent}
 use Rattle.fl_cuts.specs.Cut.{ShowsQueue}
 use Rattle.fl_cuts.specs.Events.{QueuePlaces, QueueGives}
 use Rattle.fl_cuts.proofs.Ends.{PutLaw}
@@ -68,7 +67,7 @@ some_left v p h some none =
     let stand = h.stand in
     some (none_left p.items (omega (arith, long, stand)))
 
-seen_some : (items : List Frag) (look : Look) → front_of items ≡ look → look ≢ missed → items ≢ []
+pub seen_some : (items : List Frag) (look : Look) → front_of items ≡ look → look ≢ missed → items ≢ []
 seen_some items look e n none = n (sym e ∙ ap front_of none)
 
 taken_one : (v : Queue) (p q : TheQueue) (first : Frag) (rest : List Frag) → ShowsQueue v p → p.items ≡ first ∷ rest → q ≡ with_taken p rest
@@ -89,7 +88,7 @@ taken_one v p q first rest h e is =
     dropped (l ∷ ls) n a = omega (arith, a)
 
 -- what is left there says where its channel waits
-some_wait : (v : Queue) (p : TheQueue) → ShowsQueue v p → p.items ≢ [] → place.Pending ≡ waits_in (Some v)
+pub some_wait : (v : Queue) (p : TheQueue) → ShowsQueue v p → p.items ≢ [] → place.Pending ≡ waits_in (Some v)
 some_wait v p h some = by_length v.labels refl where
   by_length : (ls : List Label) → v.labels ≡ ls → place.Pending ≡ waits_in (Some v)
   by_length [] e = absurd (some_left v p h some e)
@@ -97,7 +96,7 @@ some_wait v p h some = by_length v.labels refl where
       let long : length v.labels ≡ suc (length ls) = ap length e in
       sym (then_is (nat_lt 0 (length v.labels)) place.Pending place.Idle (lt_true 0 (length v.labels) (omega (arith, long))))
 
-none_wait : (v : Queue) (p : TheQueue) → ShowsQueue v p → p.items ≡ [] → place.Idle ≡ waits_in (Some v)
+pub none_wait : (v : Queue) (p : TheQueue) → ShowsQueue v p → p.items ≡ [] → place.Idle ≡ waits_in (Some v)
 none_wait v p h none =
     let stand = h.stand in
     let long : length p.items ≡ 0 = ap length none in

@@ -1,5 +1,5 @@
 -- Rings, by the side that puts, looks, takes or tells.
-use Rattle.std.proofs.Common.{◌≡◌, ◌⊎◌, inl, inr, refl, sym, ◌∙◌, ap, subst, ℕ, ◌+◌, ◌-◌, ◌/◌, ◌%◌, ◌≤◌, ◌<◌, ◌^◌, ◌||◌, nat_le, Bool, true, false, if◌then◌else◌, List, [], ◌∷◌, ◌++◌, length, map, Option, Some, None, arith}
+use Rattle.std.proofs.Common.{◌≡◌, ◌⊎◌, inl, inr, refl, sym, ◌∙◌, ap, subst, ℕ, ◌+◌, ◌-◌, ◌/◌, ◌%◌, ◌≤◌, ◌<◌, ◌^◌, ◌||◌, nat_le, Bool, true, false, if◌then◌else◌, List, [], ◌∷◌, ◌++◌, length, map, Some, None, arith}
 use Rattle.std.proofs.lemmas.List.{length_push, map_push}
 use Rattle.fl_base.specs.declared.fragment.Frag.{Frag}
 use Rattle.fl_base.specs.Control.{told_of, stamped, bare}
@@ -12,9 +12,9 @@ use Rattle.fl_ring.specs.Duo.{acknowledgement}
 use Rattle.fl_ring.specs.SharedSides.{TheSide, free_of, side_missed, side_counted, side_seen, side_taken, side_written, untold_of, MayStand, KnowsSent, Looked, SharedPuts, SharedTakes}
 use Rattle.fl_ring.proofs.Conserved.{side_conserves}
 use Rattle.fl_ring.proofs.Places.{epoch_bit}
-use Rattle.fl_queues.specs.Rings.{Label, acknowledges, RingLabel, Ring, first_side, looks, takes, puts, makes_sure, free, is_spent, Room, room, owes}
+use Rattle.fl_queues.specs.Rings.{Label, acknowledges, Ring, first_side, looks, free, is_spent, Room, owes}
 use Rattle.fl_queues.specs.Rings.{there_is_room, no_room as none_free, spent as used_up, for_data, for_acknowledgement}
-use Rattle.fl_cuts.specs.Sides.{SideCut, ShowsSide, Sight, seeing, telling, looked_at, took, sure_of, room_of, put_on, Places, goes_on, is_full, SideGives, Tells, Becomes, PutShows, LookShows, gave_one, gave_ack}
+use Rattle.fl_cuts.specs.Sides.{SideCut, ShowsSide, Sight, seeing, telling, looked_at, took, sure_of, room_of, put_on, SideGives, Becomes, PutShows, LookShows, gave_one, gave_ack}
 use Rattle.fl_shows.proofs.Tests.{by_test, then_is, else_is, le_true, le_false, true_le, false_le}
 
 -- ---- room
@@ -146,10 +146,10 @@ sure need x s m h less k = by_test (nat_le need (free_of s)) enough few where
 same_sent : (need : ℕ) (s m : TheSide) → Looked need s m → m.sent ≡ s.sent
 same_sent need s m k = by_test (nat_le need (free_of s)) (λ q. ap (λ (x : TheSide). x.sent) (k.by_known (true_le need (free_of s) q)))
     (λ q. either (k.by_look (false_le need (free_of s) q))) where
-  either : ((s.peeked ≡ None) × (m ≡ side_missed s)) ⊎ ((control : ℕ) × MayStand s control × (m ≡ side_counted s (count_from s.known (told_of control))) × KnowsSent m)
-      → m.sent ≡ s.sent
-  either (inl (none, e)) = ap (λ (x : TheSide). x.sent) e
-  either (inr (control, may, e, knows)) = ap (λ (x : TheSide). x.sent) e
+      either : ((s.peeked ≡ None) × (m ≡ side_missed s)) ⊎ ((control : ℕ) × MayStand s control × (m ≡ side_counted s (count_from s.known (told_of control))) × KnowsSent m)
+          → m.sent ≡ s.sent
+      either (inl (none, e)) = ap (λ (x : TheSide). x.sent) e
+      either (inr (control, may, e, knows)) = ap (λ (x : TheSide). x.sent) e
 
 still_unspent : (need : ℕ) (s m : TheSide) → Looked need s m → length s.sent < 2 ^ 62 → length m.sent < 2 ^ 62
 still_unspent need s m k less = subst (λ (n : ℕ). n < 2 ^ 62) (sym (ap length (same_sent need s m k))) less

@@ -1,7 +1,6 @@
 -- A core with which nothing was done yet shows the first cut.
 use Rattle.std.proofs.Common.{◌≡◌, inl, refl, sym, ◌∙◌, ap, subst, ℕ, zero, suc, ◌+◌, ◌≤◌, ◌<◌, false, List, [], ◌∷◌, length, map, slice_get, Option, Some, None, arith}
 use Rattle.std.proofs.lemmas.List.Elements.{All-nil}
-use Rattle.fl_base.specs.declared.fragment.Frag.{Frag}
 use Rattle.fl_base.specs.declared.identity.EndId.{EndId}
 use Rattle.fl_base.specs.Control.{bare}
 use Rattle.fl_value.specs.Fits.{fits_of}
@@ -9,18 +8,14 @@ use Rattle.fl_wire.specs.Reading.{Reads}
 use Rattle.fl_link.specs.Calls.{bare_calls}
 use Rattle.fl_link.specs.Queue.{TheQueue}
 use Rattle.fl_ring.specs.SharedSides.{TheSide}
-use Rattle.fl_endpoint.specs.View.{TheEnd}
-use Rattle.fl_core.specs.declared.kind.Kind.{Kind}
-use Rattle.fl_core.specs.View.{TheDispatcher, TheSeat}
-use Rattle.fl_core.specs.Sound.{IsDispatcher}
+use Rattle.fl_core.specs.View.{TheSeat}
 use Rattle.fl_node.specs.declared.wire.Port.{Port}
 use Rattle.fl_node.specs.View.{kind_of}
 use Rattle.fl_running.specs.Run.{TheRun}
 use Rattle.fl_queues.specs.Given.{given}
 use Rattle.fl_queues.specs.Calls.{Planned}
 use Rattle.fl_queues.specs.Rings.{fresh_ring}
-use Rattle.fl_queues.specs.Ends.{Queue, fresh_queue, fresh_direction}
-use Rattle.fl_queues.specs.Waits.{Dispatcher}
+use Rattle.fl_queues.specs.Ends.{fresh_queue}
 use Rattle.fl_queues.specs.Monitors.{Core}
 use Rattle.fl_shows.specs.Ends.{planned_of}
 use Rattle.fl_shows.specs.Cores.{MonitorShows}
@@ -127,8 +122,8 @@ starts_show k s h m = record {
   waits = mapped (ShowsWaits s.core.ports) (first_waits s.core.ports) s.core.board.dispatchers (λ n d q. record {
     lists = refl;
     ends = all_named s.core.ports d.ends (λ c e r.
-    let channel = (h.board.dispatchers n d q).ends c e r in
-    port_there s.core.board.seats s.core.ports e channel.seat h.core.kinds channel.seat_is);
+        let channel = (h.board.dispatchers n d q).ends c e r in
+        port_there s.core.board.seats s.core.ports e channel.seat h.core.kinds channel.seat_is);
   });
   ends = ends_first s.core.monitor.circuits.core s.core.board.seats s.core.ports h.core.kinds h.ends;
   ports = ports_first s.core.monitor.circuits.core s.core.board.seats s.core.ports h.core.kinds;

@@ -1,11 +1,10 @@
 -- A dispatcher's turn at the end that is due, whatever it takes from.
-use Rattle.std.proofs.Common.{◌≡◌, ◌⊎◌, inl, inr, refl, sym, ◌∙◌, ap, subst, ℕ, true, false, List, [], ◌∷◌}
-use Rattle.std.specs.Prelude.{Result, Ok, Err}
+use Rattle.std.proofs.Common.{◌≡◌, inl, inr, refl, sym, ◌∙◌, ap, subst, ℕ, false, List, [], ◌∷◌}
+use Rattle.std.specs.Prelude.{Ok}
 use Rattle.fl_base.specs.declared.fragment.Frag.{Frag}
 use Rattle.fl_lists.specs.declared.place.Place.{Place}
 use Rattle.fl_lists.specs.declared.place.Place.TheVariants as place
 use Rattle.fl_lists.specs.ThreeLists.{ThreeLists, unlinked}
-use Rattle.fl_value.specs.Value.{call_of}
 use Rattle.fl_waitset.specs.declared.waitset.Pick.{Pick}
 use Rattle.fl_waitset.specs.declared.waitset.Pick.TheVariants as pick
 use Rattle.fl_waitset.specs.Waiting.{first_of, next_pick}
@@ -17,14 +16,13 @@ use Rattle.fl_endpoint.specs.Accounts.{Sound}
 use Rattle.fl_core.specs.declared.kind.Kind.{Kind}
 use Rattle.fl_core.specs.declared.answer.TurnAnswer.{TurnAnswer}
 use Rattle.fl_core.specs.declared.answer.TurnAnswer.TheVariants as turn
-use Rattle.fl_core.specs.Turns.{WaitsIn, put_off, moment, Examines as EndExamines, Gives as EndGives, LooksAt}
+use Rattle.fl_core.specs.Turns.{WaitsIn, put_off, moment, Gives as EndGives, LooksAt}
 use Rattle.fl_queues.specs.Rings.{Label}
-use Rattle.fl_queues.specs.Ends.{holds_back, whole, a_part}
 use Rattle.fl_queues.specs.Waits.{Dispatcher, Due, pending, polled, first_due, puts_off, deregisters}
 use Rattle.fl_shows.specs.EndLaws.{TakeShows}
-use Rattle.fl_cuts.specs.Sides.{Gave, nothing_stands, left_one, gave_one, gave_ack}
+use Rattle.fl_cuts.specs.Sides.{nothing_stands, left_one, gave_one, gave_ack}
 use Rattle.fl_cuts.specs.Ends.{EndCut, ShowsEnd}
-use Rattle.fl_cuts.specs.Events.{Spot, Giving, label_due, IsOpen, Gives, Examines, Turns}
+use Rattle.fl_cuts.specs.Events.{Spot, Giving, label_due, IsOpen, Turns}
 use Rattle.fl_cuts.proofs.Ends.{is_bound_now, holds_now, take_part, take_whole, take_wrong}
 
 -- what a kind of side does that shows what gives
@@ -44,7 +42,6 @@ due_of (pick.Polled c) = polled c.0
 
 pub due_is : (w : ThreeLists) (picked : Pick) → next_pick w ≡ Ok picked → first_due w.pending w.polled ≡ due_of picked
 due_is w picked e = by_lists w.pending w.polled e where
-
   by_lists : (xs ys : List ℕ) → first_of xs ys ≡ Ok picked → first_due xs ys ≡ due_of picked
   by_lists (c ∷ cs) ys h = let same : pick.Pending (record { 0 = c }) ≡ picked = cc in ap due_of same
   by_lists [] (c ∷ cs) h = let same : pick.Polled (record { 0 = c }) ≡ picked = cc in ap due_of same

@@ -2,7 +2,7 @@
 use Rattle.std.specs.Prelude.{ℕ, ◌≡◌, ◌≤◌, true, false, Bool, List, [], ◌∷◌, ◌++◌, length, Some, Result, Ok, Err}
 use Rattle.fl_base.specs.declared.fragment.Frag.{Frag}
 use Rattle.fl_wire.specs.declared.fault.WireFault.{WireFault}
-use Rattle.fl_value.specs.Value.{TheCall, call_of}
+use Rattle.fl_value.specs.Value.{TheCall}
 use Rattle.fl_wire.specs.Reading.{Reads}
 use Rattle.fl_machine.specs.Receiving.{IsRefused}
 use Rattle.fl_endpoint.specs.declared.fault.EndFault.{EndFault}
@@ -14,7 +14,7 @@ use Rattle.fl_endpoint.specs.View.{TheEnd}
 use Rattle.fl_node.specs.declared.wire.Port.{Port}
 use Rattle.fl_queues.specs.Events.{accepted, full, written, refused}
 use Rattle.fl_queues.specs.Calls.{Planned}
-use Rattle.fl_queues.specs.Rings.{Label, next_of, Room, there_is_room, no_room as none_free, spent as used_up}
+use Rattle.fl_queues.specs.Rings.{Label, next_of, there_is_room, no_room as none_free, spent as used_up}
 use Rattle.fl_queues.specs.Ends.{Direction, written_of, taken_of, is_busy, accepts, writes, End, is_bound, with_rule, Taken, whole, a_part, takes_one}
 use Rattle.fl_queues.specs.Ends.{comes_to, replies}
 use Rattle.fl_queues.specs.State.{State, answers, change_out}

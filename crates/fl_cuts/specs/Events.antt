@@ -1,6 +1,6 @@
 -- What the machine makes of a cut by each event at an end, and by a dispatcher's turn, where the look is given: what stands first at the side, or that nothing
 -- does. Each is made of the machine's own functions on one component.
-use Rattle.std.specs.Prelude.{ℕ, ◌≡◌, ◌≢◌, ◌⊎◌, true, false, List, [], ◌∷◌, slice_get, slice_set, Option, Some, None, Result, Ok, Err}
+use Rattle.std.specs.Prelude.{ℕ, ◌≡◌, ◌≢◌, ◌⊎◌, true, false, List, [], slice_get, slice_set, Option, Some, None, Result, Ok, Err}
 use Rattle.fl_base.specs.declared.fragment.Frag.{Frag}
 use Rattle.fl_base.specs.declared.identity.EndId.{EndId}
 use Rattle.fl_base.specs.Ends.{peer}
@@ -21,7 +21,7 @@ use Rattle.fl_node.specs.declared.wire.Outlet.TheVariants as outlet
 use Rattle.fl_node.specs.View.{place_in}
 use Rattle.fl_queues.specs.Given.{given, changed_at}
 use Rattle.fl_queues.specs.Rings.{Label, next_of, there_is_room, no_room as none_free}
-use Rattle.fl_queues.specs.Ends.{Queue, joined_by, without_first, queue_room, taken_of, End, is_bound, holds_back, Seat, whole, a_part}
+use Rattle.fl_queues.specs.Ends.{Queue, joined_by, without_first, queue_room, taken_of, is_bound, holds_back, Seat, whole, a_part}
 use Rattle.fl_queues.specs.Waits.{Dispatcher, waits_in, deregisters, triggers, puts_off, Due, pending, polled, no_one, due}
 use Rattle.fl_cuts.specs.Sides.{SideCut, Placing, goes_on, is_full, is_spent, Places, Gave, nothing_stands, left_one, gave_one, gave_ack, SideGives}
 use Rattle.fl_cuts.specs.Sides.{is_told, is_little, finds_none, Tells}

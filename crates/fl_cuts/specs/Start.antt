@@ -12,7 +12,7 @@ use Rattle.fl_running.specs.Flows.{IsNew}
 use Rattle.fl_running.specs.Run.{TheRun}
 use Rattle.fl_queues.specs.Given.{given}
 use Rattle.fl_queues.specs.Rings.{fresh_ring}
-use Rattle.fl_queues.specs.Ends.{Queue, fresh_queue, fresh_direction, unbound_end}
+use Rattle.fl_queues.specs.Ends.{fresh_queue, fresh_direction, unbound_end}
 use Rattle.fl_queues.specs.Waits.{Dispatcher}
 use Rattle.fl_queues.specs.Monitors.{Core}
 use Rattle.fl_shows.specs.Ends.{planned_of}
