@@ -17,13 +17,13 @@ use Rattle.fl_node.specs.Ends.{TriggersIf}
 use Rattle.fl_running.specs.Desks.{TheDesk}
 use Rattle.fl_running.specs.Run.{TheRun}
 use Rattle.fl_queues.specs.Given.{given}
-use Rattle.fl_queues.specs.Ends.{Queue, Seat}
+use Rattle.fl_queues.specs.Ends.{Seat}
 use Rattle.fl_queues.specs.Waits.{Dispatcher, triggers}
 use Rattle.fl_queues.specs.Monitors.{Core}
 use Rattle.fl_shows.specs.Cores.{MonitorShows}
 use Rattle.fl_cuts.specs.Sides.{SideCut, ShowsSide}
 use Rattle.fl_cuts.specs.Ends.{EndCut}
-use Rattle.fl_cuts.specs.Cut.{Each2, Cut, ShowsQueue, ShowsWaits, ShowsSeat, ShowsCut}
+use Rattle.fl_cuts.specs.Cut.{Each2, QueueCut, Cut, ShowsQueue, ShowsWaits, ShowsSeat, ShowsCut}
 use Rattle.fl_cuts.specs.Events.{EndAt, triggers_seat, triggers_end, with_waits}
 use Rattle.fl_cuts.proofs.Lists.{there, set_both, map_same, map_at}
 
@@ -66,13 +66,13 @@ shown_all a s h b p monitor waits ends ports places lanes sides queues arrivals 
 abbrev pub built : TheRun TheSide → TheBoard → List TheSide → List TheQueue → List TheDesk → TheRun TheSide
 built s b rings stands desks = record s { core = with_board s.core b; rings = rings; queues = stands; desks = desks }
 
-abbrev pub changed : Cut → List Dispatcher → List EndCut → List SideCut → List Queue → Cut
+abbrev pub changed : Cut → List Dispatcher → List EndCut → List SideCut → List QueueCut → Cut
 changed a waits ends sides queues = record (with_waits a waits) { ends = ends; sides = sides; queues = queues }
 
 same_monitor : (a : Cut) (s : TheRun TheSide) (waits : List Dispatcher) → ShowsCut a s → MonitorShows (record a.core { dispatchers = waits }) s.core.monitor
 same_monitor a s waits h = record { circuits = h.monitor.circuits; outboxes = h.monitor.outboxes }
 
-pub shown_by : (a : Cut) (s : TheRun TheSide) → ShowsCut a s → (waits : List Dispatcher) (ends : List EndCut) (sides : List SideCut) (queues : List Queue)
+pub shown_by : (a : Cut) (s : TheRun TheSide) → ShowsCut a s → (waits : List Dispatcher) (ends : List EndCut) (sides : List SideCut) (queues : List QueueCut)
     (b : TheBoard) (rings : List TheSide) (stands : List TheQueue) (desks : List TheDesk) → Each2 (ShowsWaits s.core.ports) waits b.dispatchers
     → Each2 (ShowsSeat s.core.monitor.circuits.core) ends b.seats → map (λ (x : EndCut). x.port) ends ≡ map (λ (x : EndCut). x.port) a.ends
     → Each2 ShowsSide sides rings → Each2 ShowsQueue queues stands → ShowsCut (changed a waits ends sides queues) (built s b rings stands desks)
@@ -88,7 +88,7 @@ shown_by a s h waits ends sides queues b rings stands desks waits_show ends_show
     }) (same_monitor a s waits h) waits_show ends_show ports refl h.lanes sides_show queues_show h.arrivals
 
 -- over the end's own arrival queue
-pub shown_arrivals : (a : Cut) (s : TheRun TheSide) → ShowsCut a s → (waits : List Dispatcher) (ends : List EndCut) (sides : List SideCut) (arrivals : List Queue)
+pub shown_arrivals : (a : Cut) (s : TheRun TheSide) → ShowsCut a s → (waits : List Dispatcher) (ends : List EndCut) (sides : List SideCut) (arrivals : List QueueCut)
     (b : TheBoard) (rings : List TheSide) (stands : List TheQueue) (desks : List TheDesk) → Each2 (ShowsWaits s.core.ports) waits b.dispatchers
     → Each2 (ShowsSeat s.core.monitor.circuits.core) ends b.seats → map (λ (x : EndCut). x.port) ends ≡ map (λ (x : EndCut). x.port) a.ends
     → Each2 ShowsSide sides rings → Each2 ShowsQueue arrivals stands

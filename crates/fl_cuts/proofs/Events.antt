@@ -42,12 +42,11 @@ use Rattle.fl_running.specs.Run.{TheRun}
 use Rattle.fl_running.specs.Deeds.{Deed, called, ruled, wrote, acked, turned, OnCore, OnRing, OnQueue, IsSound, IsSoundAt}
 use Rattle.fl_queues.specs.Given.{given}
 use Rattle.fl_queues.specs.Rings.{Label}
-use Rattle.fl_queues.specs.Ends.{Queue}
 use Rattle.fl_queues.specs.Waits.{Dispatcher, Due, pending, polled, due}
 use Rattle.fl_shows.specs.EndLaws.{TakeShows}
 use Rattle.fl_cuts.specs.Sides.{SideCut, ShowsSide, Places}
 use Rattle.fl_cuts.specs.Ends.{EndCut, ShowsEnd}
-use Rattle.fl_cuts.specs.Cut.{Each2, Cut, ShowsQueue, name_at, ShowsWaits, ShowsSeat, ShowsCut}
+use Rattle.fl_cuts.specs.Cut.{Each2, QueueCut, Cut, ShowsQueue, name_at, ShowsWaits, ShowsSeat, ShowsCut}
 use Rattle.fl_cuts.specs.Events.{QueuePlaces, Giving, ring_gives, queue_gives, Turns, Acks, triggers_end, woken_by, end_due, HasTurn}
 use Rattle.fl_cuts.specs.Does.{CutDoes}
 use Rattle.fl_cuts.specs.Laws.{HasNoLinks}
@@ -81,7 +80,7 @@ side_gives = record {
   waits = ring_waits;
 }
 
-queue_waits : (v : Queue) (p q : TheQueue) (to : Place) → ShowsQueue v p → WaitsIn QueueTakes kind.Queue p to q
+queue_waits : (v : QueueCut) (p q : TheQueue) (to : Place) → ShowsQueue v p → WaitsIn QueueTakes kind.Queue p to q
     → (to ≡ queue_gives.waits_at v) × ShowsQueue v q
 queue_waits v p q place.Pending h (Rattle.std.proofs.Common.inl (f, (first, e))) =
     (some_wait v p h (seen_some p.items (saw f) first (λ a. absurd (cc))), subst (ShowsQueue v) (sym e) h)

@@ -45,7 +45,6 @@ use Rattle.fl_running.specs.Run.{TheRun}
 use Rattle.fl_running.specs.Deeds.{looked, passed, arrived, said, told as has_told, turned, OnCore, OnRing, IsSound, IsSoundAt}
 use Rattle.fl_queues.specs.Given.{given}
 use Rattle.fl_queues.specs.Rings.{Label, acknowledges, Said, says}
-use Rattle.fl_queues.specs.Ends.{Queue}
 use Rattle.fl_queues.specs.Waits.{Dispatcher}
 use Rattle.fl_queues.specs.Monitors.{Core, Link}
 use Rattle.fl_queues.specs.Forwarding.{without_first_said}
@@ -55,7 +54,7 @@ use Rattle.fl_shows.specs.CoreLaws.{OutboxesAreShown, SendsFirst}
 use Rattle.fl_shows.specs.EndLaws.{TakeShows}
 use Rattle.fl_cuts.specs.Sides.{SideCut, ShowsSide}
 use Rattle.fl_cuts.specs.Ends.{EndCut}
-use Rattle.fl_cuts.specs.Cut.{Cut, ShowsQueue, ShowsCut}
+use Rattle.fl_cuts.specs.Cut.{QueueCut, Cut, ShowsQueue, ShowsCut}
 use Rattle.fl_cuts.specs.Events.{queue_gives, triggers_end, with_waits}
 use Rattle.fl_cuts.specs.Links.{HasFailed, Finds, lanes_after, first_said, TellsBy}
 use Rattle.fl_cuts.specs.Laws.{HasNoLinks}
@@ -527,7 +526,7 @@ arrives_follow a s m t n l frag name (Ok Full) h core lane on desks =
     let put = queue_puts.full some_label w.0 x.before x.after w.2 x.puts in
     let board = triggers_shown number s.core.ports None a.core.dispatchers a.ends s.core.board m.core.board x.triggers h.waits h.ends in
     let sides : ShowsSide v.0 on.after = subst (ShowsSide v.0) (sym x.left) v.2 in
-    let kept_queue : ShowsQueue w.0 x.after = subst (λ (y : Queue). ShowsQueue y x.after) put.1.1 put.2 in
+    let kept_queue : ShowsQueue w.0 x.after = subst (λ (y : QueueCut). ShowsQueue y x.after) put.1.1 put.2 in
     let changed_so : ShowsCut (record a { sides = slice_set a.sides n v.0; arrivals = slice_set a.arrivals x.queue w.0 }) m
     = subst (ShowsCut (record a { sides = slice_set a.sides n v.0; arrivals = slice_set a.arrivals x.queue w.0 }))
     (sym (arrived_run s m (slice_set s.core.arrivals x.queue x.after) (slice_set s.rings n on.after) on.rest x.rest))
@@ -537,7 +536,7 @@ arrives_follow a s m t n l frag name (Ok Full) h core lane on desks =
     (set_both ShowsQueue a.arrivals s.core.arrivals x.queue w.0 x.after h.arrivals kept_queue)) in
     let same : ShowsCut a m
     = subst (λ (sides : List SideCut). ShowsCut (record a { sides = sides }) m) (set_same a.sides n v.0 v.1)
-    (subst (λ (arrivals : List Queue). ShowsCut (record a { sides = slice_set a.sides n v.0; arrivals = arrivals }) m) (set_same a.arrivals x.queue w.0 w.1) changed_so) in
+    (subst (λ (arrivals : List QueueCut). ShowsCut (record a { sides = slice_set a.sides n v.0; arrivals = arrivals }) m) (set_same a.arrivals x.queue w.0 w.1) changed_so) in
     record {
       after = a;
       does = (

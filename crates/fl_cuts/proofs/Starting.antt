@@ -23,7 +23,7 @@ use Rattle.fl_shows.proofs.Calling.{fresh_is}
 use Rattle.fl_cuts.specs.Sides.{SideCut, ShowsSide}
 use Rattle.fl_cuts.specs.Ends.{EndCut, ShowsEnd}
 use Rattle.fl_cuts.specs.Cut.{Each2, name_at, ShowsQueue, ShowsWaits, ShowsSeat, ShowsCut}
-use Rattle.fl_cuts.specs.Start.{IsFirstEnd, IsFirstSide, IsFirstQueue, IsStarting, first_end, first_ends, names_of, first_waits, first_cut}
+use Rattle.fl_cuts.specs.Start.{IsFirstEnd, IsFirstSide, IsFirstQueue, IsStarting, first_end, first_ends, names_of, first_waits, first_queue, first_side, first_cut}
 
 -- each of a list, and what is made of it
 mapped : {A B : Type 0} (R : A → B → Type 0) (f : B → A) (ys : List B) → ((n : ℕ) (y : B) → slice_get ys n ≡ Some y → R (f y) y) → Each2 R (map f ys) ys
@@ -100,7 +100,7 @@ all_named ports (e ∷ places) h =
 
 -- ---- sides and queues
 
-side_first : (s : TheSide) → IsFirstSide s → ShowsSide (record { ring = fresh_ring s.size; put = []; got = [] }) s
+side_first : (s : TheSide) → IsFirstSide s → ShowsSide (first_side s) s
 side_first s h = record {
   size = refl;
   sent = ap length h.sent;
@@ -111,8 +111,8 @@ side_first s h = record {
   got = ap bare_calls h.got;
 }
 
-queue_first : (q : TheQueue) → IsFirstQueue q → ShowsQueue (fresh_queue q.capacity) q
-queue_first q h = record { stand = ap length h.items; capacity = refl; freed = h.freed; untold = h.untold; sent = h.sent }
+queue_first : (q : TheQueue) → IsFirstQueue q → ShowsQueue (first_queue q) q
+queue_first q h = record { frags = ap (map bare) h.items; labels = refl; capacity = refl; freed = h.freed; untold = h.untold; sent = h.sent }
 
 -- ---- the whole
 
@@ -129,8 +129,8 @@ starts_show k s h m = record {
   ports = ports_first s.core.monitor.circuits.core s.core.board.seats s.core.ports h.core.kinds;
   places = refl;
   lanes = refl;
-  sides = mapped ShowsSide (λ (x : TheSide). let y : SideCut = record { ring = fresh_ring x.size; put = []; got = [] } in y) s.rings
+  sides = mapped ShowsSide first_side s.rings
       (λ n x q. side_first x (h.sides n x q));
-  queues = mapped ShowsQueue (λ (q : TheQueue). fresh_queue q.capacity) s.queues (λ n q r. queue_first q (h.queues n q r));
-  arrivals = mapped ShowsQueue (λ (q : TheQueue). fresh_queue q.capacity) s.core.arrivals (λ n q r. queue_first q (h.arrivals n q r));
+  queues = mapped ShowsQueue first_queue s.queues (λ n q r. queue_first q (h.queues n q r));
+  arrivals = mapped ShowsQueue first_queue s.core.arrivals (λ n q r. queue_first q (h.arrivals n q r));
 }

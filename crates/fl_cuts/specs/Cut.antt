@@ -1,6 +1,8 @@
 -- A cut: what one core knows of the machine's state. When a core that runs, with the sides and queues that it is lent, shows a cut.
 use Rattle.std.specs.Prelude.{ℕ, ◌≡◌, false, List, [], ◌∷◌, length, map, slice_get, Option, Some, None}
+use Rattle.fl_base.specs.declared.fragment.Frag.{Frag}
 use Rattle.fl_base.specs.declared.identity.EndId.{EndId}
+use Rattle.fl_base.specs.Control.{bare}
 use Rattle.fl_link.specs.Queue.{TheQueue}
 use Rattle.fl_ring.specs.SharedSides.{TheSide}
 use Rattle.fl_core.specs.View.{TheDispatcher, TheSeat}
@@ -21,6 +23,11 @@ Each2 R [] [] = Unit {0}
 Each2 R (x ∷ xs) (y ∷ ys) = R x y × Each2 R xs ys
 Each2 R xs ys = ⊥
 
+-- the machine's queue, and the fragments that stand there, one for each label, epochs and counts set aside
+pub record QueueCut : Type 0 where
+  pub queue : Queue
+  pub frags : List Frag
+
 pub record Cut : Type 0 where
   -- the machine's core: its waitsets, and its circuits and outboxes
   pub core : Core
@@ -31,15 +38,15 @@ pub record Cut : Type 0 where
   pub lanes : List Lane
   -- its sides of rings, its local queues, and the arrival queues of its ends of circuits
   pub sides : List SideCut
-  pub queues : List Queue
-  pub arrivals : List Queue
+  pub queues : List QueueCut
+  pub arrivals : List QueueCut
 
 -- ---- parts
 
--- as many fragments stand in a queue as the machine's has labels, and it has as much room
-pub record ShowsQueue (q : Queue) (t : TheQueue) : Type 0 where
-  pub stand : length t.items ≡ length q.labels
-  pub capacity : t.capacity ≡ q.capacity
+pub record ShowsQueue (x : QueueCut) (t : TheQueue) : Type 0 where
+  pub frags : map bare t.items ≡ x.frags
+  pub labels : length x.frags ≡ length x.queue.labels
+  pub capacity : t.capacity ≡ x.queue.capacity
   -- a slot is free again once its fragment is taken
   pub freed : t.acked ≡ false
   pub untold : t.untold ≡ 0

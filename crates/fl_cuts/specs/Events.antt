@@ -1,8 +1,9 @@
 -- What the machine makes of a cut by each event at an end, and by a dispatcher's turn, where the look is given: what stands first at the side, or that nothing
 -- does. Each is made of the machine's own functions on one component.
-use Rattle.std.specs.Prelude.{ℕ, ◌≡◌, ◌≢◌, ◌⊎◌, true, false, List, [], slice_get, slice_set, Option, Some, None, Result, Ok, Err}
+use Rattle.std.specs.Prelude.{ℕ, ◌≡◌, ◌≢◌, ◌⊎◌, true, false, List, [], ◌∷◌, ◌++◌, drop, slice_get, slice_set, Option, Some, None, Result, Ok, Err}
 use Rattle.fl_base.specs.declared.fragment.Frag.{Frag}
 use Rattle.fl_base.specs.declared.identity.EndId.{EndId}
+use Rattle.fl_base.specs.Control.{bare}
 use Rattle.fl_base.specs.Ends.{peer}
 use Rattle.fl_lists.specs.declared.place.Place.{Place}
 use Rattle.fl_lists.specs.declared.place.Place.TheVariants.{Polled, Pending}
@@ -21,24 +22,36 @@ use Rattle.fl_node.specs.declared.wire.Outlet.TheVariants as outlet
 use Rattle.fl_node.specs.View.{place_in}
 use Rattle.fl_queues.specs.Given.{given, changed_at}
 use Rattle.fl_queues.specs.Rings.{Label, next_of, there_is_room, no_room as none_free}
-use Rattle.fl_queues.specs.Ends.{Queue, joined_by, without_first, queue_room, taken_of, is_bound, holds_back, Seat, whole, a_part}
+use Rattle.fl_queues.specs.Ends.{joined_by, without_first, queue_room, taken_of, is_bound, holds_back, Seat, whole, a_part}
 use Rattle.fl_queues.specs.Waits.{Dispatcher, waits_in, deregisters, triggers, puts_off, Due, pending, polled, no_one, due}
 use Rattle.fl_cuts.specs.Sides.{SideCut, Placing, goes_on, is_full, is_spent, Places, Gave, nothing_stands, left_one, gave_one, gave_ack, SideGives}
 use Rattle.fl_cuts.specs.Sides.{is_told, is_little, finds_none, Tells}
 use Rattle.fl_cuts.specs.Ends.{EndCut, Writes, Takes, Fails}
-use Rattle.fl_cuts.specs.Cut.{Cut}
+use Rattle.fl_cuts.specs.Cut.{QueueCut, Cut}
 
--- ---- queues, in which a label's fragment stands, or isn't there
+-- ---- queues
 
-abbrev pub QueuePlaces : Label → Placing → Queue → Queue → Type 0
-QueuePlaces label (goes_on f) q r = (queue_room q ≡ there_is_room) × (r ≡ joined_by label q)
-QueuePlaces label is_full q r = (queue_room q ≡ none_free) × (r ≡ q)
-QueuePlaces label is_spent q r = ⊥
+-- a label's fragment has come to the back; the first has gone
+abbrev pub joined_one : Label → Frag → QueueCut → QueueCut
+joined_one label f x = record { queue = joined_by label x.queue; frags = x.frags ++ bare f ∷ [] }
 
-abbrev pub QueueGives : Label → Gave → Queue → Queue → Type 0
-QueueGives label nothing_stands q r = (q.labels ≡ []) × (r ≡ q)
-QueueGives label (left_one f) q r = (q.labels ≢ []) × (r ≡ q)
-QueueGives label gave q r = (q.labels ≢ []) × (r ≡ without_first q)
+abbrev pub without_one : QueueCut → QueueCut
+without_one x = record { queue = without_first x.queue; frags = drop 1 x.frags }
+
+abbrev pub QueuePlaces : Label → Placing → QueueCut → QueueCut → Type 0
+QueuePlaces label (goes_on f) x y = (queue_room x.queue ≡ there_is_room) × (y ≡ joined_one label f x)
+QueuePlaces label is_full x y = (queue_room x.queue ≡ none_free) × (y ≡ x)
+QueuePlaces label is_spent x y = ⊥
+
+-- this fragment stands first
+abbrev pub StandsFirst : Frag → QueueCut → Type 0
+StandsFirst f x = (rest : List Frag) × (x.frags ≡ f ∷ rest)
+
+abbrev pub QueueGives : Label → Gave → QueueCut → QueueCut → Type 0
+QueueGives label nothing_stands x y = (x.queue.labels ≡ []) × (y ≡ x)
+QueueGives label (left_one f) x y = StandsFirst f x × (y ≡ x)
+QueueGives label (gave_one f) x y = StandsFirst f x × (y ≡ without_one x)
+QueueGives label gave_ack x y = (x.queue.labels ≢ []) × (y ≡ without_one x)
 
 -- ---- a turn
 
@@ -56,8 +69,8 @@ pub record Giving (P : Type 0) : Type 1 where
 abbrev pub ring_gives : Giving SideCut
 ring_gives = record { gives = SideGives; waits_at = λ x. Polled }
 
-abbrev pub queue_gives : Giving Queue
-queue_gives = record { gives = QueueGives; waits_at = λ q. waits_in (Some q) }
+abbrev pub queue_gives : Giving QueueCut
+queue_gives = record { gives = QueueGives; waits_at = λ x. waits_in (Some x.queue) }
 
 -- the label of the next of the other end's fragments
 abbrev pub label_due : EndCut → Label

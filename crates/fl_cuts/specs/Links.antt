@@ -24,12 +24,11 @@ use Rattle.fl_node.specs.declared.wire.Lane.{Lane}
 use Rattle.fl_node.specs.View.{side_of_link, arrivals_by, place_in, failed_at}
 use Rattle.fl_queues.specs.Given.{given}
 use Rattle.fl_queues.specs.Rings.{Said, Label, says}
-use Rattle.fl_queues.specs.Ends.{Queue}
 use Rattle.fl_queues.specs.Forwarding.{without_first_said}
 use Rattle.fl_shows.specs.Fragments.{said_frag}
 use Rattle.fl_cuts.specs.Sides.{SideCut, goes_on, is_full, is_spent, Places, nothing_stands, left_one, gave_one, gave_ack, SideGives}
 use Rattle.fl_cuts.specs.Sides.{is_told, is_little, finds_none, Tells}
-use Rattle.fl_cuts.specs.Cut.{Cut}
+use Rattle.fl_cuts.specs.Cut.{QueueCut, Cut}
 use Rattle.fl_cuts.specs.Events.{QueuePlaces, queue_gives, EndAt, triggers_end, with_waits, HasTurn}
 
 -- a side or queue of number n of a list alone has changed, as the event says
@@ -89,7 +88,7 @@ PassesOver n m frag c Spent a b = (label : Label) × OverOne a.sides m (Places l
 
 -- ---- it arrives for the end of a name: its label comes into the end's arrival queue, where that has room, and the end's channel is triggered
 
-pub record ArrivesIn (name : EndId) (a : Cut) (Event : Queue → Queue → Type 0) (queues : List Queue) : Type 0 where
+pub record ArrivesIn (name : EndId) (a : Cut) (Event : QueueCut → QueueCut → Type 0) (queues : List QueueCut) : Type 0 where
   pub at : EndAt a name
   pub number : ℕ
   pub number_is : arrivals_by at.end.port.wire ≡ Some number

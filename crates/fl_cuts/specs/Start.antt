@@ -19,7 +19,7 @@ use Rattle.fl_shows.specs.Ends.{planned_of}
 use Rattle.fl_shows.specs.Cores.{MonitorShows}
 use Rattle.fl_cuts.specs.Sides.{SideCut}
 use Rattle.fl_cuts.specs.Ends.{EndCut}
-use Rattle.fl_cuts.specs.Cut.{Cut, seat_at, ShowsCut}
+use Rattle.fl_cuts.specs.Cut.{QueueCut, Cut, seat_at, ShowsCut}
 
 -- ---- nothing was done
 
@@ -79,6 +79,12 @@ names_of ports (place ∷ places) = given (slice_get ports place) (names_of port
 abbrev pub first_waits : List Port → TheDispatcher → Dispatcher
 first_waits ports d = record { lists = d.lists; ends = names_of ports d.ends }
 
+abbrev pub first_queue : TheQueue → QueueCut
+first_queue q = record { queue = fresh_queue q.capacity; frags = [] }
+
+abbrev pub first_side : TheSide → SideCut
+first_side s = record { ring = fresh_ring s.size; put = []; got = [] }
+
 -- with these circuits and outboxes
 abbrev pub first_cut : Core → TheRun TheSide → Cut
 first_cut k s = record {
@@ -86,9 +92,9 @@ first_cut k s = record {
   ends = first_ends s.core.monitor.circuits.core s.core.board.seats s.core.ports;
   places = s.core.places;
   lanes = s.core.lanes;
-  sides = map (λ (x : TheSide). let y : SideCut = record { ring = fresh_ring x.size; put = []; got = [] } in y) s.rings;
-  queues = map (λ (q : TheQueue). fresh_queue q.capacity) s.queues;
-  arrivals = map (λ (q : TheQueue). fresh_queue q.capacity) s.core.arrivals;
+  sides = map first_side s.rings;
+  queues = map first_queue s.queues;
+  arrivals = map first_queue s.core.arrivals;
 }
 
 abbrev pub StartsShow : Type 0
