@@ -7,5 +7,6 @@ pub mod Turning
 pub mod Cuts
 pub mod Events
 pub mod Links
-pub mod Logs
 pub mod Starting
+pub mod Opening
+pub mod Logs

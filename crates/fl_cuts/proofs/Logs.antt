@@ -26,12 +26,13 @@ use Rattle.fl_running.specs.Logs.{InPlace, Goes}
 use Rattle.fl_running.proofs.Aside.{desks_alone}
 use Rattle.fl_running.proofs.Laning.{puts_to, takes_from, some_is}
 use Rattle.fl_running.proofs.Logging.{turns_logged}
-use Rattle.fl_shows.specs.CoreLaws.{OutboxesAreShown}
+use Rattle.fl_shows.specs.CoreLaws.{OutboxesAreShown, RoomsAgree, OpensAgree}
 use Rattle.fl_shows.specs.EndLaws.{TakeShows}
 use Rattle.fl_cuts.specs.Cut.{Cut, ShowsCut}
-use Rattle.fl_cuts.specs.Does.{OpensNothing, OpenNothing}
+use Rattle.fl_cuts.specs.Does.{HearsNothing, HearNothing}
 use Rattle.fl_cuts.specs.Laws.{HasNoLinks, shared, Follows, FollowsAll, TurnsFollow}
 use Rattle.fl_cuts.proofs.Events.{After, calls_follow, rules_follow, side_writes_follow, queue_writes_follow, side_turns_follow, queue_turns_follow, acks_follow}
+use Rattle.fl_cuts.proofs.Opening.{opens_follow}
 use Rattle.fl_cuts.proofs.Links.{looks_follow, passes_follow, stays_full, stays_spent, arrives_follow, says_follow, tells_follow, arrivals_turn_follow}
 
 -- ---- without links
@@ -107,89 +108,95 @@ lane_of s l n h = by (side_of_link s.core.lanes l.0) h where
 
 -- ---- one event
 
-one_follows : TakeShows → OutboxesAreShown → (front : TheSide → Look) (jobs : List Job) (a : Cut) (s t : TheRun TheSide) (deed : Deed) → ShowsCut a s
-    → OpensNothing deed → Happens (shared front) deed s t → InPlace jobs s deed → After deed a s t
-one_follows law boxes front jobs a s t (looked n l answer) h quiet (m, on, notes, sound, soundly) by =
+one_follows : TakeShows → OutboxesAreShown → RoomsAgree → OpensAgree → (front : TheSide → Look) (jobs : List Job) (a : Cut) (s t : TheRun TheSide) (deed : Deed) → ShowsCut a s
+    → HearsNothing deed → Happens (shared front) deed s t → InPlace jobs s deed → After deed a s t
+one_follows law boxes rooms openings front jobs a s t (looked n l answer) h quiet (m, on, notes, sound, soundly) by =
     looks_follow front a s m t n l answer h (lane_of s l n by) on (desks_alone m t (looked n l answer) notes)
-one_follows law boxes front jobs a s t (passed n k frag c Moved) h quiet (m, (mid, put, took), notes, sound, soundly) by =
+one_follows law boxes rooms openings front jobs a s t (passed n k frag c Moved) h quiet (m, (mid, put, took), notes, sound, soundly) by =
     passes_follow a s mid m t n k by.link.0 frag c h (lane_of s by.link n by.leads.lane) put took (desks_alone m t (passed n k frag c Moved) notes)
-one_follows law boxes front jobs a s t (passed n k frag c Full) h quiet (m, put, notes, sound, soundly) by =
+one_follows law boxes rooms openings front jobs a s t (passed n k frag c Full) h quiet (m, put, notes, sound, soundly) by =
     stays_full a s m t n k by.link.0 frag c h (lane_of s by.link n by.leads.lane) put (desks_alone m t (passed n k frag c Full) notes)
-one_follows law boxes front jobs a s t (passed n k frag c Spent) h quiet (m, put, notes, sound, soundly) by =
+one_follows law boxes rooms openings front jobs a s t (passed n k frag c Spent) h quiet (m, put, notes, sound, soundly) by =
     stays_spent a s m t n k by.link.0 frag c h (lane_of s by.link n by.leads.lane) put (desks_alone m t (passed n k frag c Spent) notes)
-one_follows law boxes front jobs a s t (arrived n l frag e answer) h quiet (m, on, notes, sound, soundly) by =
+one_follows law boxes rooms openings front jobs a s t (arrived n l frag e answer) h quiet (m, on, notes, sound, soundly) by =
     arrives_follow a s m t n l frag e answer h sound.core (lane_of s l n by.lane) on (desks_alone m t (arrived n l frag e answer) notes)
-one_follows law boxes front jobs a s t (said n l answer) h quiet (m, on, notes, sound, soundly) by =
+one_follows law boxes rooms openings front jobs a s t (said n l answer) h quiet (m, on, notes, sound, soundly) by =
     says_follow boxes a s m t n l answer h (lane_of s l n by) on (desks_alone m t (said n l answer) notes)
-one_follows law boxes front jobs a s t (told n l answer) h quiet (m, on, notes, sound, soundly) by =
+one_follows law boxes rooms openings front jobs a s t (told n l answer) h quiet (m, on, notes, sound, soundly) by =
     tells_follow a s m t n l answer h (lane_of s l n by) on (desks_alone m t (told n l answer) notes)
-one_follows law boxes front jobs a s t (heard n l frag answer) h quiet k by = absurd quiet
-one_follows law boxes front jobs a s t (opened name wish answer) h quiet k by = absurd quiet
-one_follows law boxes front jobs a s t (called name c answer) h quiet (m, (e, at, on), notes, sound, soundly) by =
+one_follows law boxes rooms openings front jobs a s t (heard n l frag answer) h quiet k by = absurd quiet
+one_follows law boxes rooms openings front jobs a s t (opened name wish answer) h quiet (m, on, notes, sound, soundly) by =
+    opens_follow rooms openings a s m t name wish answer h sound on (λ none. says_nothing s.core wish.link.0 _ none by.1) (desks_alone m t (opened name wish answer) notes)
+one_follows law boxes rooms openings front jobs a s t (called name c answer) h quiet (m, (e, at, on), notes, sound, soundly) by =
     calls_follow a s m t name c answer e h sound at on (desks_alone m t (called name c answer) notes)
-one_follows law boxes front jobs a s t (ruled name msg reply answer) h quiet (m, (e, at, on), notes, sound, soundly) by =
+one_follows law boxes rooms openings front jobs a s t (ruled name msg reply answer) h quiet (m, (e, at, on), notes, sound, soundly) by =
     rules_follow a s m t name msg reply answer e h sound at on (desks_alone m t (ruled name msg reply answer) notes)
-one_follows law boxes front jobs a s t (wrote name (outlet.Side n) answer) h quiet (m, (e, at, on), notes, sound, soundly) (post, post_is, out_is) =
+one_follows law boxes rooms openings front jobs a s t (wrote name (outlet.Side n) answer) h quiet (m, (e, at, on), notes, sound, soundly) (post, post_is, out_is) =
     side_writes_follow a s m t name n answer e h sound at (puts_to s name e post (outlet.Side n) at post_is out_is) on
     (desks_alone m t (wrote name (outlet.Side n) answer) notes)
-one_follows law boxes front jobs a s t (wrote name (outlet.Queue n) answer) h quiet (m, (e, at, on), notes, sound, soundly) (post, post_is, out_is) =
+one_follows law boxes rooms openings front jobs a s t (wrote name (outlet.Queue n) answer) h quiet (m, (e, at, on), notes, sound, soundly) (post, post_is, out_is) =
     queue_writes_follow a s m t name n answer e h sound at (puts_to s name e post (outlet.Queue n) at post_is out_is) on
     (desks_alone m t (wrote name (outlet.Queue n) answer) notes)
-one_follows law boxes front jobs a s t (turned d name (inlet.Side n) answer) h quiet (m, (e, at, due_is, on), notes, sound, soundly) (due, lent, place, from, waits) =
+one_follows law boxes rooms openings front jobs a s t (turned d name (inlet.Side n) answer) h quiet (m, (e, at, due_is, on), notes, sound, soundly) (due, lent, place, from, waits) =
     side_turns_follow law a s m t d name n answer e h sound soundly at (takes_from s d e due (inlet.Side n) due_is lent from) on
     (desks_alone m t (turned d name (inlet.Side n) answer) notes)
-one_follows law boxes front jobs a s t (turned d name (inlet.Queue n) answer) h quiet (m, (e, at, due_is, on), notes, sound, soundly) (due, lent, place, from, waits) =
+one_follows law boxes rooms openings front jobs a s t (turned d name (inlet.Queue n) answer) h quiet (m, (e, at, due_is, on), notes, sound, soundly) (due, lent, place, from, waits) =
     queue_turns_follow law a s m t d name n answer e h sound soundly at (takes_from s d e due (inlet.Queue n) due_is lent from) on
     (desks_alone m t (turned d name (inlet.Queue n) answer) notes)
-one_follows law boxes front jobs a s t (turned d name inlet.Arrivals answer) h quiet (m, (e, at, due_is, on), notes, sound, soundly) (due, lent, place, from, waits) =
+one_follows law boxes rooms openings front jobs a s t (turned d name inlet.Arrivals answer) h quiet (m, (e, at, due_is, on), notes, sound, soundly) (due, lent, place, from, waits) =
     let at_arrivals = takes_from s d e due inlet.Arrivals due_is lent from in
     arrivals_turn_follow law a s m t d name answer e h sound soundly at at_arrivals on (λ none. no_arrivals s.core e none sound.core at_arrivals)
     (desks_alone m t (turned d name inlet.Arrivals answer) notes)
-one_follows law boxes front jobs a s t (acked name n answer) h quiet (m, (e, at, on), notes, sound, soundly) (berth, berth_is, side_is) =
+one_follows law boxes rooms openings front jobs a s t (acked name n answer) h quiet (m, (e, at, on), notes, sound, soundly) (berth, berth_is, side_is) =
     acks_follow a s m t name n answer e h sound at (acks_at berth (λ e2 m2. record { end = e2; side = m2 }) (λ b. b.side) (λ e2 m2. refl) s name e n at berth_is side_is) on (desks_alone m t (acked name n answer) notes)
 
-pub events_follow : TakeShows → OutboxesAreShown → (front : TheSide → Look) (jobs : List Job) (a : Cut) (s t : TheRun TheSide) (deed : Deed) → ShowsCut a s
-    → OpensNothing deed → Happens (shared front) deed s t → InPlace jobs s deed → Follows deed a t
-events_follow law boxes front jobs a s t deed h quiet k by =
-    let one = one_follows law boxes front jobs a s t deed h quiet k by in
+pub events_follow : TakeShows → OutboxesAreShown → RoomsAgree → OpensAgree → (front : TheSide → Look) (jobs : List Job) (a : Cut) (s t : TheRun TheSide) (deed : Deed) → ShowsCut a s
+    → HearsNothing deed → Happens (shared front) deed s t → InPlace jobs s deed → Follows deed a t
+events_follow law boxes rooms openings front jobs a s t deed h quiet k by =
+    let one = one_follows law boxes rooms openings front jobs a s t deed h quiet k by in
     record { after = one.after; does = one.does; shows = one.shows }
 
 -- ---- a log
 
-pub logs_follow : TakeShows → OutboxesAreShown → (front : TheSide → Look) (jobs : List Job) (a : Cut) (s t : TheRun TheSide) (log : List Deed) → ShowsCut a s
-    → OpenNothing log → Goes (shared front) jobs s log t → FollowsAll log a t
-logs_follow law boxes front jobs a s t [] h quiet k = record { after = a; goes = refl; shows = subst (ShowsCut a) (sym k) h }
-logs_follow law boxes front jobs a s t (deed ∷ log) h quiet (m, happens, by, rest) =
-    let one = one_follows law boxes front jobs a s m deed h quiet.0 happens by in
-    let all = logs_follow law boxes front jobs one.after m t log one.shows quiet.1 rest in
+pub logs_follow : TakeShows → OutboxesAreShown → RoomsAgree → OpensAgree → (front : TheSide → Look) (jobs : List Job) (a : Cut) (s t : TheRun TheSide) (log : List Deed) → ShowsCut a s
+    → HearNothing log → Goes (shared front) jobs s log t → FollowsAll log a t
+logs_follow law boxes rooms openings front jobs a s t [] h quiet k = record { after = a; goes = refl; shows = subst (ShowsCut a) (sym k) h }
+logs_follow law boxes rooms openings front jobs a s t (deed ∷ log) h quiet (m, happens, by, rest) =
+    let one = one_follows law boxes rooms openings front jobs a s m deed h quiet.0 happens by in
+    let all = logs_follow law boxes rooms openings front jobs one.after m t log one.shows quiet.1 rest in
     record { after = all.after; goes = (one.after, one.does, all.goes); shows = all.shows }
 
--- without links no circuit is opened
-opens_none : (front : TheSide → Look) (jobs : List Job) (s t : TheRun TheSide) (deed : Deed) → HasNoLinks s.core → Happens (shared front) deed s t → InPlace jobs s deed
-    → OpensNothing deed
-opens_none front jobs s t (heard n l frag answer) none k by = no_lane s l n none by.0
-opens_none front jobs s t (opened name wish answer) none k by = says_nothing s.core wish.link.0 _ none by.1
-opens_none front jobs s t (looked n l answer) none k by = tt
-opens_none front jobs s t (passed n m frag c outcome) none k by = tt
-opens_none front jobs s t (arrived n l frag e answer) none k by = tt
-opens_none front jobs s t (said n l answer) none k by = tt
-opens_none front jobs s t (told n l answer) none k by = tt
-opens_none front jobs s t (called name c answer) none k by = tt
-opens_none front jobs s t (ruled name msg reply answer) none k by = tt
-opens_none front jobs s t (wrote name out answer) none k by = tt
-opens_none front jobs s t (acked name n answer) none k by = tt
-opens_none front jobs s t (turned d name from answer) none k by = tt
+-- without links no message is heard
+hears_none : (front : TheSide → Look) (jobs : List Job) (s t : TheRun TheSide) (deed : Deed) → HasNoLinks s.core → Happens (shared front) deed s t → InPlace jobs s deed
+    → HearsNothing deed
+hears_none front jobs s t (heard n l frag answer) none k by = no_lane s l n none by.0
+hears_none front jobs s t (opened name wish answer) none k by = tt
+hears_none front jobs s t (looked n l answer) none k by = tt
+hears_none front jobs s t (passed n m frag c outcome) none k by = tt
+hears_none front jobs s t (arrived n l frag e answer) none k by = tt
+hears_none front jobs s t (said n l answer) none k by = tt
+hears_none front jobs s t (told n l answer) none k by = tt
+hears_none front jobs s t (called name c answer) none k by = tt
+hears_none front jobs s t (ruled name msg reply answer) none k by = tt
+hears_none front jobs s t (wrote name out answer) none k by = tt
+hears_none front jobs s t (acked name n answer) none k by = tt
+hears_none front jobs s t (turned d name from answer) none k by = tt
 
-unlinked_logs : TakeShows → OutboxesAreShown → (front : TheSide → Look) (jobs : List Job) (a : Cut) (s t : TheRun TheSide) (log : List Deed) → ShowsCut a s
-    → HasNoLinks s.core → Goes (shared front) jobs s log t → FollowsAll log a t
-unlinked_logs law boxes front jobs a s t [] h none k = record { after = a; goes = refl; shows = subst (ShowsCut a) (sym k) h }
-unlinked_logs law boxes front jobs a s t (deed ∷ log) h none (m, happens, by, rest) =
-    let one = one_follows law boxes front jobs a s m deed h (opens_none front jobs s m deed none happens by) happens by in
-    let all = unlinked_logs law boxes front jobs one.after m t log one.shows (one.links none) rest in
-    record { after = all.after; goes = (one.after, one.does, all.goes); shows = all.shows }
+quiet_logs : TakeShows → OutboxesAreShown → RoomsAgree → OpensAgree → (front : TheSide → Look) (jobs : List Job) (a : Cut) (s t : TheRun TheSide) (log : List Deed)
+    → ShowsCut a s → Goes (shared front) jobs s log t → HasNoLinks s.core → HearNothing log
+quiet_logs law boxes rooms openings front jobs a s t [] h k none = tt
+quiet_logs law boxes rooms openings front jobs a s t (deed ∷ log) h (m, happens, by, rest) none =
+    let quiet = hears_none front jobs s m deed none happens by in
+    let one = one_follows law boxes rooms openings front jobs a s m deed h quiet happens by in
+    (quiet, quiet_logs law boxes rooms openings front jobs one.after m t log one.shows rest (one.links none))
 
-pub turns_follow : TakeShows → OutboxesAreShown → (front : TheSide → Look) (plan : Plan) (jobs : List Job) (k : ℕ) (a : Cut) (s t : TheRun TheSide) → ShowsCut a s
-    → HasNoLinks s.core → Turned (shared front) plan jobs k s t → TurnsFollow front jobs a s t
-turns_follow law boxes front plan jobs k a s t h none turns =
+pub turns_follow : TakeShows → OutboxesAreShown → RoomsAgree → OpensAgree → (front : TheSide → Look) (plan : Plan) (jobs : List Job) (k : ℕ) (a : Cut)
+    (s t : TheRun TheSide) → ShowsCut a s → Turned (shared front) plan jobs k s t → TurnsFollow front jobs a s t
+turns_follow law boxes rooms openings front plan jobs k a s t h turns =
     let logged = turns_logged (shared front) plan jobs k s t turns in
-    record { log = logged.log; happened = logged.goes; follows = unlinked_logs law boxes front jobs a s t logged.log h none logged.goes }
+    record {
+      log = logged.log;
+      happened = logged.goes;
+      follows = λ quiet. logs_follow law boxes rooms openings front jobs a s t logged.log h quiet logged.goes;
+      quiet = quiet_logs law boxes rooms openings front jobs a s t logged.log h logged.goes;
+    }

@@ -32,7 +32,7 @@ mapped R f (y ∷ ys) h = (h 0 y refl, mapped R f ys (λ n z q. h (suc n) z q))
 
 -- ---- ends
 
-nothing_read : (i : Planned) → Reads i.plan i.interface [] [] []
+pub nothing_read : (i : Planned) → Reads i.plan i.interface [] [] []
 nothing_read i = record {
   whole = [];
   joined = refl;

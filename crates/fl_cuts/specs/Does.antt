@@ -5,6 +5,7 @@ use Rattle.fl_running.specs.Deeds.{Deed, looked, passed, arrived, heard, said, t
 use Rattle.fl_cuts.specs.Ends.{Calls, SetsRule}
 use Rattle.fl_cuts.specs.Cut.{Cut}
 use Rattle.fl_cuts.specs.Events.{ChangesEnd, WritesOver, TurnsOverSide, TurnsOverQueue, AcksOver}
+use Rattle.fl_cuts.specs.Opening.{OpensOver}
 use Rattle.fl_cuts.specs.Links.{LooksOver, PassesOver, ArrivesOver, SaysOver, TellsOver, TurnsOverArrivals}
 
 abbrev pub CutDoes : Deed → Cut → Cut → Type 0
@@ -20,15 +21,14 @@ CutDoes (acked name n answer) a b = AcksOver n name answer a b
 CutDoes (turned d name (Side n) answer) a b = TurnsOverSide d name n answer a b
 CutDoes (turned d name (Queue n) answer) a b = TurnsOverQueue d name n answer a b
 CutDoes (turned d name Arrivals answer) a b = TurnsOverArrivals d name answer a b
--- what opens circuits isn't said yet
+CutDoes (opened name wish answer) a b = OpensOver wish answer a b
+-- what hearing a monitors' message comes to isn't said yet
 CutDoes (heard n l frag answer) a b = ⊥
-CutDoes (opened name wish answer) a b = ⊥
 
--- no monitors' message is heard by it, and no circuit asked for
-abbrev pub OpensNothing : Deed → Type 0
-OpensNothing (heard n l frag answer) = ⊥
-OpensNothing (opened name wish answer) = ⊥
-OpensNothing deed = Unit {0}
+-- no monitors' message is heard by it
+abbrev pub HearsNothing : Deed → Type 0
+HearsNothing (heard n l frag answer) = ⊥
+HearsNothing deed = Unit {0}
 
 -- ---- the deeds of a log, one after another
 
@@ -36,6 +36,6 @@ abbrev pub CutGoes : Cut → List Deed → Cut → Type 0
 CutGoes a [] b = b ≡ a
 CutGoes a (deed ∷ log) b = (m : Cut) × CutDoes deed a m × CutGoes m log b
 
-abbrev pub OpenNothing : List Deed → Type 0
-OpenNothing [] = Unit {0}
-OpenNothing (deed ∷ log) = OpensNothing deed × OpenNothing log
+abbrev pub HearNothing : List Deed → Type 0
+HearNothing [] = Unit {0}
+HearNothing (deed ∷ log) = HearsNothing deed × HearNothing log

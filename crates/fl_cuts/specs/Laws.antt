@@ -10,7 +10,7 @@ use Rattle.fl_running.specs.Deeds.{Deed, Happens}
 use Rattle.fl_running.specs.Turn.{Turned}
 use Rattle.fl_running.specs.Logs.{InPlace, Goes}
 use Rattle.fl_cuts.specs.Cut.{Cut, ShowsCut}
-use Rattle.fl_cuts.specs.Does.{CutDoes, OpensNothing, CutGoes, OpenNothing}
+use Rattle.fl_cuts.specs.Does.{CutDoes, HearsNothing, CutGoes, HearNothing}
 
 -- no link leads to another core, and nothing waits for one
 pub record HasNoLinks (k : TheCore) : Type 0 where
@@ -27,9 +27,9 @@ pub record Follows (deed : Deed) (a : Cut) (t : TheRun TheSide) : Type 0 where
   pub does : CutDoes deed a after
   pub shows : ShowsCut after t
 
--- so it is of each event by which no circuit is opened, whatever the other cores do
+-- so it is of each event but a monitors' message that is heard, whatever the other cores do
 abbrev pub EventsFollow : Type 0
-EventsFollow = (front : TheSide → Look) (jobs : List Job) (a : Cut) (s t : TheRun TheSide) (deed : Deed) → ShowsCut a s → OpensNothing deed
+EventsFollow = (front : TheSide → Look) (jobs : List Job) (a : Cut) (s t : TheRun TheSide) (deed : Deed) → ShowsCut a s → HearsNothing deed
     → Happens (shared front) deed s t → InPlace jobs s deed → Follows deed a t
 
 -- ---- by a log's events, in their order
@@ -40,17 +40,19 @@ pub record FollowsAll (log : List Deed) (a : Cut) (t : TheRun TheSide) : Type 0 
   pub shows : ShowsCut after t
 
 abbrev pub LogsFollow : Type 0
-LogsFollow = (front : TheSide → Look) (jobs : List Job) (a : Cut) (s t : TheRun TheSide) (log : List Deed) → ShowsCut a s → OpenNothing log
+LogsFollow = (front : TheSide → Look) (jobs : List Job) (a : Cut) (s t : TheRun TheSide) (log : List Deed) → ShowsCut a s → HearNothing log
     → Goes (shared front) jobs s log t → FollowsAll log a t
 
--- ---- by so many turns: their log, and what the machine makes of the cut by it
+-- ---- by so many turns: what the machine makes of the cut by their log
 
 pub record TurnsFollow (front : TheSide → Look) (jobs : List Job) (a : Cut) (s t : TheRun TheSide) : Type 0 where
   pub log : List Deed
   pub happened : Goes (shared front) jobs s log t
-  pub follows : FollowsAll log a t
+  -- where no message is heard meanwhile
+  pub follows : HearNothing log → FollowsAll log a t
+  -- none is heard at a core without links
+  pub quiet : HasNoLinks s.core → HearNothing log
 
--- of a core without links, at which no circuit can be opened
 abbrev pub AllTurnsFollow : Type 0
-AllTurnsFollow = (front : TheSide → Look) (plan : Plan) (jobs : List Job) (k : ℕ) (a : Cut) (s t : TheRun TheSide) → ShowsCut a s → HasNoLinks s.core
+AllTurnsFollow = (front : TheSide → Look) (plan : Plan) (jobs : List Job) (k : ℕ) (a : Cut) (s t : TheRun TheSide) → ShowsCut a s
     → Turned (shared front) plan jobs k s t → TurnsFollow front jobs a s t

@@ -4,6 +4,7 @@ pub mod Ends
 pub mod Cut
 pub mod Events
 pub mod Links
+pub mod Opening
 pub mod Does
 pub mod Start
 pub mod Laws

@@ -4,7 +4,7 @@ ghost use Rattle.fl_cuts.specs.Laws.{AllTurnsFollow, EventsFollow, LogsFollow};
 ghost use Rattle.fl_cuts.specs.Sides.{SideLooks, SidePuts, SideTakes};
 ghost use Rattle.fl_cuts.specs.Start.{StartsShow};
 
-use fl_shows::{outboxes_are_shown, take_shows};
+use fl_shows::{opens_agree, outboxes_are_shown, rooms_agree, take_shows};
 
 /// Whatever a side of a ring between threads comes to, it shows what the machine makes of what it showed, by
 /// what its looks found; and it finds the machine's room.
@@ -19,7 +19,7 @@ pub fn starts_show()
     ensures show { StartsShow }
 {}
 
-/// Each event of a running core by which no circuit is opened is the machine's on the cut that the core shows,
+/// Each event of a running core, but a monitors' message that is heard, is the machine's on the cut that the core shows,
 /// whatever other cores do: the answer is the machine's, and afterwards the core shows what the machine makes of
 /// the cut. So are the events of a log, one after another.
 pub fn events_follow()
@@ -28,12 +28,16 @@ pub fn events_follow()
 {
     take_shows();
     outboxes_are_shown();
+    rooms_agree();
+    opens_agree();
 }
 
-/// So are all events of so many turns of a core without links, at which no circuit can be opened.
+/// So are the events of so many turns, where no message is heard meanwhile, as none is at a core without links.
 pub fn turns_follow()
     ensures turns { AllTurnsFollow }
 {
     take_shows();
     outboxes_are_shown();
+    rooms_agree();
+    opens_agree();
 }
