@@ -12,7 +12,7 @@ use Rattle.fl_monitor.specs.Monitors.{TheMonitor}
 use Rattle.fl_node.specs.declared.wire.Lane.{Lane}
 use Rattle.fl_node.specs.declared.wire.Port.{Port}
 use Rattle.fl_node.specs.View.{TheCore, with_board, place_in, place_of}
-use Rattle.fl_node.specs.Sound.{IsCore}
+use Rattle.fl_node.specs.Sound.{IsCore, IsPlaced}
 use Rattle.fl_node.specs.Ends.{TriggersIf}
 use Rattle.fl_running.specs.Desks.{TheDesk}
 use Rattle.fl_running.specs.Run.{TheRun}
@@ -162,11 +162,12 @@ pub record Seen (a : Cut) (core : ℕ) (name : EndId) (e : ℕ) (seat : TheSeat)
   pub place_is : place_in a.places name ≡ Some e
   pub shows : ShowsSeat core end seat
 
-pub seen : (a : Cut) (s : TheRun TheSide) (name : EndId) (e : ℕ) (seat : TheSeat) → ShowsCut a s → IsCore s.core → place_of s.core name ≡ Some e
+pub seen_by : (a : Cut) (s : TheRun TheSide) (name : EndId) (e : ℕ) (seat : TheSeat) → ShowsCut a s
+    → ((who : EndId) (f : ℕ) → place_of s.core who ≡ Some f → IsPlaced s.core.ports who f) → place_of s.core name ≡ Some e
     → slice_get s.core.board.seats e ≡ Some seat → Seen a s.core.monitor.circuits.core name e seat
-seen a s name e seat h core at seat_is =
+seen_by a s name e seat h all at seat_is =
     let x = there (ShowsSeat s.core.monitor.circuits.core) a.ends s.core.board.seats e seat h.ends seat_is in
-    let placed = core.placed name e at in
+    let placed = all name e at in
     record {
       end = x.0;
       end_is = x.1;
@@ -174,6 +175,10 @@ seen a s name e seat h core at seat_is =
       place_is = ap (λ (places : List (Option ℕ)). place_in places name) h.places ∙ at;
       shows = x.2;
     }
+
+pub seen : (a : Cut) (s : TheRun TheSide) (name : EndId) (e : ℕ) (seat : TheSeat) → ShowsCut a s → IsCore s.core → place_of s.core name ≡ Some e
+    → slice_get s.core.board.seats e ≡ Some seat → Seen a s.core.monitor.circuits.core name e seat
+seen a s name e seat h core at seat_is = seen_by a s name e seat h core.placed at seat_is
 
 abbrev pub end_at : (a : Cut) (core : ℕ) (name : EndId) (e : ℕ) (seat : TheSeat) → Seen a core name e seat → EndAt a name
 end_at a core name e seat x = record { place = e; place_is = x.place_is; end = x.end; end_is = x.end_is; name_is = x.name_is }

@@ -48,7 +48,7 @@ use Rattle.fl_cuts.specs.Sides.{SideCut, ShowsSide, Places}
 use Rattle.fl_cuts.specs.Ends.{EndCut, ShowsEnd}
 use Rattle.fl_cuts.specs.Cut.{Each2, QueueCut, Cut, ShowsQueue, name_at, ShowsWaits, ShowsSeat, ShowsCut}
 use Rattle.fl_cuts.specs.Events.{QueuePlaces, Giving, ring_gives, queue_gives, Turns, Acks, triggers_end, woken_by, end_due, HasTurn}
-use Rattle.fl_cuts.specs.Does.{CutDoes}
+use Rattle.fl_cuts.specs.Does.{CutActs}
 use Rattle.fl_cuts.specs.Laws.{HasNoLinks}
 use Rattle.fl_cuts.proofs.Lists.{there, set_both}
 use Rattle.fl_cuts.proofs.Sides.{put_agrees, look_agrees, takes_one, takes_ack}
@@ -80,7 +80,7 @@ side_gives = record {
   waits = ring_waits;
 }
 
-queue_waits : (v : QueueCut) (p q : TheQueue) (to : Place) → ShowsQueue v p → WaitsIn QueueTakes kind.Queue p to q
+pub queue_waits : (v : QueueCut) (p q : TheQueue) (to : Place) → ShowsQueue v p → WaitsIn QueueTakes kind.Queue p to q
     → (to ≡ queue_gives.waits_at v) × ShowsQueue v q
 queue_waits v p q place.Pending h (Rattle.std.proofs.Common.inl (f, (first, e))) =
     (some_wait v p h (seen_some p.items (saw f) first (λ a. absurd (cc))), subst (ShowsQueue v) (sym e) h)
@@ -96,7 +96,7 @@ all_gives = record { misses = queue_misses; leaves = queue_leaves; gives_one = q
 
 pub record After (deed : Deed) (a : Cut) (s t : TheRun TheSide) : Type 0 where
   pub after : Cut
-  pub does : CutDoes deed a after
+  pub does : CutActs deed a after
   pub shows : ShowsCut after t
   -- nothing of links has changed
   pub links : HasNoLinks s.core → HasNoLinks t.core

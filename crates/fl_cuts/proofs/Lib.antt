@@ -9,4 +9,5 @@ pub mod Events
 pub mod Links
 pub mod Starting
 pub mod Opening
+pub mod Hearing
 pub mod Logs

@@ -85,11 +85,11 @@ desks_shown a m t h e =
     })
 
 -- a side has changed, and the lanes
-lanes_run : (s m : TheRun TheSide) (lanes : List Lane) (rings : List TheSide) → m ≡ record s { core = m.core; rings = rings } → m.core ≡ record s.core { lanes = lanes }
+pub lanes_run : (s m : TheRun TheSide) (lanes : List Lane) (rings : List TheSide) → m ≡ record s { core = m.core; rings = rings } → m.core ≡ record s.core { lanes = lanes }
     → m ≡ record s { core = record s.core { lanes = lanes }; rings = rings; desks = s.desks }
 lanes_run s m lanes rings rest core = rest ∙ ap (λ (k : TheCore). record s { core = k; rings = rings }) core
 
-side_lanes : (a : Cut) (s m : TheRun TheSide) (n : ℕ) (v : SideCut) (q : TheSide) (here lanes : List Lane) → ShowsCut a s → ShowsSide v q → here ≡ lanes
+pub side_lanes : (a : Cut) (s m : TheRun TheSide) (n : ℕ) (v : SideCut) (q : TheSide) (here lanes : List Lane) → ShowsCut a s → ShowsSide v q → here ≡ lanes
     → m ≡ record s { core = record s.core { lanes = lanes }; rings = slice_set s.rings n q; desks = s.desks }
     → ShowsCut (record a { sides = slice_set a.sides n v; lanes = here }) m
 side_lanes a s m n v q here lanes h k same run =
@@ -102,7 +102,7 @@ pub side_shown : (a : Cut) (s m : TheRun TheSide) (n : ℕ) (v : SideCut) (q : T
 side_shown a s m n v q h k rest core =
     side_lanes a s m n v q a.lanes s.core.lanes h k h.lanes (lanes_run s m s.core.lanes (slice_set s.rings n q) rest core)
 
-set_same : {X : Type 0} (xs : List X) (i : ℕ) (x : X) → slice_get xs i ≡ Some x → slice_set xs i x ≡ xs
+pub set_same : {X : Type 0} (xs : List X) (i : ℕ) (x : X) → slice_get xs i ≡ Some x → slice_set xs i x ≡ xs
 set_same [] i x e = refl
 set_same {X} (y ∷ xs) zero x e = ap (λ (z : X). z ∷ xs) (sym (same_Some y x e))
 set_same {X} (y ∷ xs) (suc i) x e = ap (λ (zs : List X). y ∷ zs) (set_same xs i x e)
@@ -413,11 +413,11 @@ tells_follow a s m t n l answer h lane on desks =
 -- ---- arrival queues
 
 -- an end on a circuit, and its arrival queue
-record Arriving_ (k : TheCore) (name : EndId) (e a : ℕ) : Type 0 where
+pub record Arriving_ (k : TheCore) (name : EndId) (e a : ℕ) : Type 0 where
   pub place : place_of k name ≡ Some e
   pub number : arrivals_of k e ≡ Some a
 
-arrives_at : (k : TheCore) (name : EndId) (e a : ℕ) → arriving_at k name ≡ Some (arriving e a) → Arriving_ k name e a
+pub arrives_at : (k : TheCore) (name : EndId) (e a : ℕ) → arriving_at k name ≡ Some (arriving e a) → Arriving_ k name e a
 arrives_at k name e a h = by (place_of k name) refl h where
   by_queue : (f : ℕ) (o : Option ℕ) → place_of k name ≡ Some f → arrivals_of k f ≡ o → (given_at o None λ b. Some (arriving f b)) ≡ Some (arriving e a)
       → Arriving_ k name e a
@@ -443,7 +443,7 @@ seat_there (s ∷ seats) (x ∷ ports) zero p h q = (s, refl)
 seat_there (s ∷ seats) (x ∷ ports) (suc e) p h q =
     let rest : map (λ (y : TheSeat). y.kind) seats ≡ map (λ (r : Port). kind_of r.wire) ports = cc in seat_there seats ports e p rest q
 
-port_at : (k : TheCore) (e a : ℕ) → arrivals_of k e ≡ Some a → (p : Port) × (slice_get k.ports e ≡ Some p) × (arrivals_by p.wire ≡ Some a)
+pub port_at : (k : TheCore) (e a : ℕ) → arrivals_of k e ≡ Some a → (p : Port) × (slice_get k.ports e ≡ Some p) × (arrivals_by p.wire ≡ Some a)
 port_at k e a h = by (slice_get k.ports e) refl h where
   by : (o : Option Port) → slice_get k.ports e ≡ o → (given_at o None λ p. arrivals_by p.wire) ≡ Some a
       → (p : Port) × (slice_get k.ports e ≡ Some p) × (arrivals_by p.wire ≡ Some a)
@@ -451,17 +451,17 @@ port_at k e a h = by (slice_get k.ports e) refl h where
   by (Some p) q r = (p, q, r)
 
 -- the end that a fragment arrives for
-record Arriver (a : Cut) (s : TheRun TheSide) (name : EndId) (e number : ℕ) : Type 0 where
+pub record Arriver (a : Cut) (s : TheRun TheSide) (name : EndId) (e number : ℕ) : Type 0 where
   pub seat : TheSeat
   pub end_seen : Seen a s.core.monitor.circuits.core name e seat
   pub own : arrivals_by end_seen.end.port.wire ≡ Some number
 
-own_number : (a : Cut) (s : TheRun TheSide) (e number : ℕ) (x : EndCut) (p : Port) → ShowsCut a s → slice_get a.ends e ≡ Some x → slice_get s.core.ports e ≡ Some p
+pub own_number : (a : Cut) (s : TheRun TheSide) (e number : ℕ) (x : EndCut) (p : Port) → ShowsCut a s → slice_get a.ends e ≡ Some x → slice_get s.core.ports e ≡ Some p
     → arrivals_by p.wire ≡ Some number → arrivals_by x.port.wire ≡ Some number
 own_number a s e number x p h at q own =
     ap (λ (y : Port). arrivals_by y.wire) (map_at (λ (y : EndCut). y.port) a.ends s.core.ports e x p h.ports at q) ∙ own
 
-arriver : (a : Cut) (s : TheRun TheSide) (name : EndId) (e number : ℕ) → ShowsCut a s → IsCore s.core → arriving_at s.core name ≡ Some (arriving e number)
+pub arriver : (a : Cut) (s : TheRun TheSide) (name : EndId) (e number : ℕ) → ShowsCut a s → IsCore s.core → arriving_at s.core name ≡ Some (arriving e number)
     → Arriver a s name e number
 arriver a s name e number h core at =
     let x = arrives_at s.core name e number at in

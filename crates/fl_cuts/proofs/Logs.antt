@@ -1,4 +1,4 @@
--- The events of a log, and turns, of a core without links.
+-- The events of a log, and turns.
 use Rattle.std.proofs.Common.{◌≡◌, refl, sym, ◌∙◌, ap, subst, ℕ, nat_lt, ◌&&◌, Bool, true, false, if◌then◌else◌, List, [], ◌∷◌, length, slice_get, Option, Some, None, arith}
 use Rattle.fl_base.specs.declared.fragment.Frag.{Frag}
 use Rattle.fl_base.specs.declared.identity.EndId.{EndId}
@@ -26,12 +26,14 @@ use Rattle.fl_running.specs.Logs.{InPlace, Goes}
 use Rattle.fl_running.proofs.Aside.{desks_alone}
 use Rattle.fl_running.proofs.Laning.{puts_to, takes_from, some_is}
 use Rattle.fl_running.proofs.Logging.{turns_logged}
-use Rattle.fl_shows.specs.CoreLaws.{OutboxesAreShown, RoomsAgree, OpensAgree}
+use Rattle.fl_queues.specs.Monitors.{Service}
+use Rattle.fl_shows.specs.CoreLaws.{OutboxesAreShown, RoomsAgree, OpensAgree, HearsAgree}
 use Rattle.fl_shows.specs.EndLaws.{TakeShows}
 use Rattle.fl_cuts.specs.Cut.{Cut, ShowsCut}
-use Rattle.fl_cuts.specs.Does.{HearsNothing, HearNothing}
-use Rattle.fl_cuts.specs.Laws.{HasNoLinks, shared, Follows, FollowsAll, TurnsFollow}
+use Rattle.fl_cuts.specs.Does.{CutActs, CutDoes, InOrder, HearsNothing, HearNothing}
+use Rattle.fl_cuts.specs.Laws.{HasNoLinks, shared, Follows, GoesOn, FollowsAll, TurnsFollow}
 use Rattle.fl_cuts.proofs.Events.{After, calls_follow, rules_follow, side_writes_follow, queue_writes_follow, side_turns_follow, queue_turns_follow, acks_follow}
+use Rattle.fl_cuts.proofs.Hearing.{hears_follow}
 use Rattle.fl_cuts.proofs.Opening.{opens_follow}
 use Rattle.fl_cuts.proofs.Links.{looks_follow, passes_follow, stays_full, stays_spent, arrives_follow, says_follow, tells_follow, arrivals_turn_follow}
 
@@ -150,21 +152,82 @@ one_follows law boxes rooms openings front jobs a s t (turned d name inlet.Arriv
 one_follows law boxes rooms openings front jobs a s t (acked name n answer) h quiet (m, (e, at, on), notes, sound, soundly) (berth, berth_is, side_is) =
     acks_follow a s m t name n answer e h sound at (acks_at berth (λ e2 m2. record { end = e2; side = m2 }) (λ b. b.side) (λ e2 m2. refl) s name e n at berth_is side_is) on (desks_alone m t (acked name n answer) notes)
 
-pub events_follow : TakeShows → OutboxesAreShown → RoomsAgree → OpensAgree → (front : TheSide → Look) (jobs : List Job) (a : Cut) (s t : TheRun TheSide) (deed : Deed) → ShowsCut a s
-    → HearsNothing deed → Happens (shared front) deed s t → InPlace jobs s deed → Follows deed a t
-events_follow law boxes rooms openings front jobs a s t deed h quiet k by =
+-- by a deed by which no message is heard
+acts : (services : List Service) (deed : Deed) (a b : Cut) → HearsNothing deed → CutActs deed a b → CutDoes services deed a b
+acts services (heard n l frag answer) a b quiet x = absurd quiet
+acts services (looked n l answer) a b quiet x = x
+acts services (passed n m frag c outcome) a b quiet x = x
+acts services (arrived n l frag e answer) a b quiet x = x
+acts services (said n l answer) a b quiet x = x
+acts services (told n l answer) a b quiet x = x
+acts services (opened name wish answer) a b quiet x = x
+acts services (called name c answer) a b quiet x = x
+acts services (ruled name msg reply answer) a b quiet x = x
+acts services (wrote name out answer) a b quiet x = x
+acts services (acked name n answer) a b quiet x = x
+acts services (turned d name (inlet.Side n) answer) a b quiet x = x
+acts services (turned d name (inlet.Queue n) answer) a b quiet x = x
+acts services (turned d name inlet.Arrivals answer) a b quiet x = x
+
+one_acts : TakeShows → OutboxesAreShown → RoomsAgree → OpensAgree → (front : TheSide → Look) (jobs : List Job) (services : List Service) (a : Cut)
+    (s t : TheRun TheSide) (deed : Deed) → ShowsCut a s → HearsNothing deed → Happens (shared front) deed s t → InPlace jobs s deed → Follows services deed a t
+one_acts law boxes rooms openings front jobs services a s t deed h quiet k by =
     let one = one_follows law boxes rooms openings front jobs a s t deed h quiet k by in
+    record { after = one.after; does = acts services deed a one.after quiet one.does; shows = one.shows }
+
+pub events_follow : TakeShows → OutboxesAreShown → RoomsAgree → OpensAgree → HearsAgree → (front : TheSide → Look) (jobs : List Job) (services : List Service)
+    (a : Cut) (s t : TheRun TheSide) (deed : Deed) → ShowsCut a s → InOrder services deed a s → Happens (shared front) deed s t → InPlace jobs s deed
+    → Follows services deed a t
+events_follow law boxes rooms openings hears front jobs services a s t (heard n l frag answer) h order (m, on, notes, sound, soundly) by =
+    let one = hears_follow hears services a s m t n l frag answer h sound order.0 order.1 on (desks_alone m t (heard n l frag answer) notes) in
     record { after = one.after; does = one.does; shows = one.shows }
+events_follow law boxes rooms openings hears front jobs services a s t (looked n l answer) h order k by =
+    one_acts law boxes rooms openings front jobs services a s t (looked n l answer) h tt k by
+events_follow law boxes rooms openings hears front jobs services a s t (passed n m frag c outcome) h order k by =
+    one_acts law boxes rooms openings front jobs services a s t (passed n m frag c outcome) h tt k by
+events_follow law boxes rooms openings hears front jobs services a s t (arrived n l frag e answer) h order k by =
+    one_acts law boxes rooms openings front jobs services a s t (arrived n l frag e answer) h tt k by
+events_follow law boxes rooms openings hears front jobs services a s t (said n l answer) h order k by =
+    one_acts law boxes rooms openings front jobs services a s t (said n l answer) h tt k by
+events_follow law boxes rooms openings hears front jobs services a s t (told n l answer) h order k by =
+    one_acts law boxes rooms openings front jobs services a s t (told n l answer) h tt k by
+events_follow law boxes rooms openings hears front jobs services a s t (opened name wish answer) h order k by =
+    one_acts law boxes rooms openings front jobs services a s t (opened name wish answer) h tt k by
+events_follow law boxes rooms openings hears front jobs services a s t (called name c answer) h order k by =
+    one_acts law boxes rooms openings front jobs services a s t (called name c answer) h tt k by
+events_follow law boxes rooms openings hears front jobs services a s t (ruled name msg reply answer) h order k by =
+    one_acts law boxes rooms openings front jobs services a s t (ruled name msg reply answer) h tt k by
+events_follow law boxes rooms openings hears front jobs services a s t (wrote name out answer) h order k by =
+    one_acts law boxes rooms openings front jobs services a s t (wrote name out answer) h tt k by
+events_follow law boxes rooms openings hears front jobs services a s t (acked name n answer) h order k by =
+    one_acts law boxes rooms openings front jobs services a s t (acked name n answer) h tt k by
+events_follow law boxes rooms openings hears front jobs services a s t (turned d name from answer) h order k by =
+    one_acts law boxes rooms openings front jobs services a s t (turned d name from answer) h tt k by
 
 -- ---- a log
 
-pub logs_follow : TakeShows → OutboxesAreShown → RoomsAgree → OpensAgree → (front : TheSide → Look) (jobs : List Job) (a : Cut) (s t : TheRun TheSide) (log : List Deed) → ShowsCut a s
-    → HearNothing log → Goes (shared front) jobs s log t → FollowsAll log a t
-logs_follow law boxes rooms openings front jobs a s t [] h quiet k = record { after = a; goes = refl; shows = subst (ShowsCut a) (sym k) h }
-logs_follow law boxes rooms openings front jobs a s t (deed ∷ log) h quiet (m, happens, by, rest) =
-    let one = one_follows law boxes rooms openings front jobs a s m deed h quiet.0 happens by in
-    let all = logs_follow law boxes rooms openings front jobs one.after m t log one.shows quiet.1 rest in
+goes_on : TakeShows → OutboxesAreShown → RoomsAgree → OpensAgree → HearsAgree → (front : TheSide → Look) (jobs : List Job) (services : List Service) (a : Cut)
+    (s t : TheRun TheSide) (log : List Deed) → ShowsCut a s → Goes (shared front) jobs s log t → GoesOn front services a s log t
+goes_on law boxes rooms openings hears front jobs services a s t [] h k = (k, subst (ShowsCut a) (sym k) h)
+goes_on law boxes rooms openings hears front jobs services a s t (deed ∷ log) h (m, happens, by, rest) = λ order.
+    let one = events_follow law boxes rooms openings hears front jobs services a s m deed h order happens by in
+    (one.after, m, happens, one.does, one.shows, goes_on law boxes rooms openings hears front jobs services one.after m t log one.shows rest)
+
+quietly : TakeShows → OutboxesAreShown → RoomsAgree → OpensAgree → (front : TheSide → Look) (jobs : List Job) (services : List Service) (a : Cut)
+    (s t : TheRun TheSide) (log : List Deed) → ShowsCut a s → HearNothing log → Goes (shared front) jobs s log t → FollowsAll services log a t
+quietly law boxes rooms openings front jobs services a s t [] h quiet k = record { after = a; goes = refl; shows = subst (ShowsCut a) (sym k) h }
+quietly law boxes rooms openings front jobs services a s t (deed ∷ log) h quiet (m, happens, by, rest) =
+    let one = one_acts law boxes rooms openings front jobs services a s m deed h quiet.0 happens by in
+    let all = quietly law boxes rooms openings front jobs services one.after m t log one.shows quiet.1 rest in
     record { after = all.after; goes = (one.after, one.does, all.goes); shows = all.shows }
+
+pub logs_follow : TakeShows → OutboxesAreShown → RoomsAgree → OpensAgree → HearsAgree → (front : TheSide → Look) (jobs : List Job) (services : List Service)
+    (a : Cut) (s t : TheRun TheSide) (log : List Deed) → ShowsCut a s → Goes (shared front) jobs s log t
+    → GoesOn front services a s log t × (HearNothing log → FollowsAll services log a t)
+logs_follow law boxes rooms openings hears front jobs services a s t log h k = (
+  goes_on law boxes rooms openings hears front jobs services a s t log h k,
+  λ quiet. quietly law boxes rooms openings front jobs services a s t log h quiet k,
+)
 
 -- without links no message is heard
 hears_none : (front : TheSide → Look) (jobs : List Job) (s t : TheRun TheSide) (deed : Deed) → HasNoLinks s.core → Happens (shared front) deed s t → InPlace jobs s deed
@@ -190,13 +253,14 @@ quiet_logs law boxes rooms openings front jobs a s t (deed ∷ log) h (m, happen
     let one = one_follows law boxes rooms openings front jobs a s m deed h quiet happens by in
     (quiet, quiet_logs law boxes rooms openings front jobs one.after m t log one.shows rest (one.links none))
 
-pub turns_follow : TakeShows → OutboxesAreShown → RoomsAgree → OpensAgree → (front : TheSide → Look) (plan : Plan) (jobs : List Job) (k : ℕ) (a : Cut)
-    (s t : TheRun TheSide) → ShowsCut a s → Turned (shared front) plan jobs k s t → TurnsFollow front jobs a s t
-turns_follow law boxes rooms openings front plan jobs k a s t h turns =
+pub turns_follow : TakeShows → OutboxesAreShown → RoomsAgree → OpensAgree → HearsAgree → (front : TheSide → Look) (plan : Plan) (jobs : List Job) (k : ℕ)
+    (services : List Service) (a : Cut) (s t : TheRun TheSide) → ShowsCut a s → Turned (shared front) plan jobs k s t → TurnsFollow front jobs services a s t
+turns_follow law boxes rooms openings hears front plan jobs k services a s t h turns =
     let logged = turns_logged (shared front) plan jobs k s t turns in
     record {
       log = logged.log;
       happened = logged.goes;
-      follows = λ quiet. logs_follow law boxes rooms openings front jobs a s t logged.log h quiet logged.goes;
+      goes_on = goes_on law boxes rooms openings hears front jobs services a s t logged.log h logged.goes;
+      follows = λ quiet. quietly law boxes rooms openings front jobs services a s t logged.log h quiet logged.goes;
       quiet = quiet_logs law boxes rooms openings front jobs a s t logged.log h logged.goes;
     }

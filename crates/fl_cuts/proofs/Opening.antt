@@ -82,7 +82,7 @@ there_still [] n x y e = absurd (cc)
 there_still (z ∷ xs) zero x y e = e
 there_still (z ∷ xs) (suc n) x y e = there_still xs n x y e
 
-last_there : {X : Type 0} (xs : List X) (y : X) → slice_get (xs ++ y ∷ []) (length xs) ≡ Some y
+pub last_there : {X : Type 0} (xs : List X) (y : X) → slice_get (xs ++ y ∷ []) (length xs) ≡ Some y
 last_there [] y = refl
 last_there (z ∷ xs) y = last_there xs y
 
@@ -152,15 +152,16 @@ added_run s b m p e = record s {
 
 -- it shows the cut with an end more
 pub added_shows : (a : Cut) (s : TheRun TheSide) (place : ℕ) (d : TheDispatcher) (waits : Dispatcher) (program : Program) (stations e : ℕ) (p : Port) (x : EndCut)
-    (t : TheEnd) (core : Core) (m : TheMonitor) → ShowsCut a s → IsCore s.core → slice_get s.core.board.dispatchers place ≡ Some d
+    (t : TheEnd) (core : Core) (m : TheMonitor) → ShowsCut a s
+    → map (λ (y : TheSeat). y.kind) s.core.board.seats ≡ map (λ (q : Port). kind_of q.wire) s.core.ports → slice_get s.core.board.dispatchers place ≡ Some d
     → slice_get a.core.dispatchers place ≡ Some waits → ShowsWaits s.core.ports waits d → e ≡ length s.core.board.seats
     → ShowsSeat m.circuits.core x (record { end = t; dispatcher = place; channel = length d.ends; kind = kind.Queue }) → x.port ≡ p
     → MonitorShows core m → core.dispatchers ≡ slice_set a.core.dispatchers place (with_end p.name waits) → m.circuits.core ≡ s.core.monitor.circuits.core
     → ShowsCut (record (with_new_end place waits x a) { core = core }) (added_run s (board_with_end s.core.board place d t kind.Queue) m p e)
-added_shows a s place d waits program stations e p x t core m h sound d_is waits_is shows e_is sits port monitor_shows cores number =
+added_shows a s place d waits program stations e p x t core m h kinds d_is waits_is shows e_is sits port monitor_shows cores number =
     let ports : List Port = s.core.ports ++ p ∷ [] in
     let long : length s.core.board.seats ≡ length s.core.ports
-    = sym (length-map s.core.board.seats (λ (y : TheSeat). y.kind)) ∙ ap length sound.kinds ∙ length-map s.core.ports (λ (q : Port). kind_of q.wire) in
+    = sym (length-map s.core.board.seats (λ (y : TheSeat). y.kind)) ∙ ap length kinds ∙ length-map s.core.ports (λ (q : Port). kind_of q.wire) in
     let ends : length a.ends ≡ length s.core.board.seats = same_length (ShowsSeat s.core.monitor.circuits.core) a.ends s.core.board.seats h.ends in
     let last : name_at (s.core.ports ++ p ∷ []) (length s.core.board.seats) ≡ Some p.name
     = ap (λ (n : ℕ). name_at (s.core.ports ++ p ∷ []) n) long ∙ ap (λ (o : Option Port). given o None λ q. Some q.name) (last_there s.core.ports p) in
@@ -194,7 +195,7 @@ added_shows a s place d waits program stations e p x t core m h sound d_is waits
 
 -- ---- the opening
 
-path_same : (path : List CoreId) → map core_id (map (λ (x : CoreId). x.0) path) ≡ path
+pub path_same : (path : List CoreId) → map core_id (map (λ (x : CoreId). x.0) path) ≡ path
 path_same [] = refl
 path_same (x ∷ path) = ap (λ (xs : List CoreId). x ∷ xs) (path_same path)
 
@@ -208,7 +209,7 @@ opens_so law wish k before after c h a =
     law wish.link.0 (opening_with c.0 wish.opening) k before after c h refl
     (subst (λ (o : Asked). Opens wish.link o before (Ok c) after) (sym (asked_same c.0 wish.opening)) a)
 
-place_left : (waits : Dispatcher) (d : TheDispatcher) (ports : List Port) → ShowsWaits ports waits d → length waits.ends ≡ length d.ends
+pub place_left : (waits : Dispatcher) (d : TheDispatcher) (ports : List Port) → ShowsWaits ports waits d → length waits.ends ≡ length d.ends
 place_left waits d ports h =
     sym (length-map waits.ends (λ (e : EndId). Some e)) ∙ ap length (sym h.ends) ∙ length-map d.ends (name_at ports)
 
@@ -265,7 +266,7 @@ opens_follow rooms law a s m t name wish (Ok e) h sound on links desks =
       };
       shows = desks_shown next m t
           (subst (ShowsCut next) (sym run)
-          (added_shows a s wish.dispatcher d w.0 on.event.program (length wish.opening.path + 1) e p x (fresh on.event.program None) core m.core.monitor h sound.core d_is w.1 w.2 e_is
+          (added_shows a s wish.dispatcher d w.0 on.event.program (length wish.opening.path + 1) e p x (fresh on.event.program None) core m.core.monitor h sound.core.kinds d_is w.1 w.2 e_is
           sits (ap (λ (n : ℕ). circuit_port (client_of wish.opening.binding) wish.link n) queues) shown_monitor refl same_core)) desks;
       links = links;
     }

@@ -5,6 +5,7 @@ pub mod Cut
 pub mod Events
 pub mod Links
 pub mod Opening
+pub mod Hearing
 pub mod Does
 pub mod Start
 pub mod Laws

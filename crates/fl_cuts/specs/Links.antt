@@ -1,4 +1,4 @@
--- What the machine makes of a cut by each event on a link: a look at what stands first, a fragment that goes on or arrives, a monitor's write, and what is told.
+-- What the machine makes of a cut by each event on a link: a look, a fragment that goes on or arrives, a monitor's write, what is told.
 use Rattle.std.specs.Prelude.{ℕ, ◌≡◌, ◌≢◌, Bool, true, false, List, slice_get, slice_set, Option, Some, None, Result, Ok, Err}
 use Rattle.fl_base.specs.declared.fragment.Frag.{Frag}
 use Rattle.fl_base.specs.declared.identity.EndId.{EndId}

@@ -1,5 +1,6 @@
--- A ring as one side of it knows it, in the machine's words. Of what it writes a side knows how many fragments it put, which, and of how many it was told that they
--- were read; of what it reads, how many it took, and of how many it told. What the other side knows isn't in it: what stands first is found by a look alone.
+-- A ring as one side of it knows it, in the machine's words. Of what it writes a side knows how many fragments it put, which, and of how many
+-- it was told that they were read; of what it reads, how many it took, and of how many it told. What the other side knows isn't in it: what stands
+-- first is found by a look alone.
 use Rattle.std.specs.Prelude.{ℕ, ◌≡◌, ◌⊎◌, true, false, List, [], ◌∷◌, ◌++◌, length, map, Option, Some, None}
 use Rattle.fl_base.specs.declared.fragment.Frag.{Frag}
 use Rattle.fl_base.specs.Control.{bare}
