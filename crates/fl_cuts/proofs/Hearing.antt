@@ -1,8 +1,7 @@
 -- A monitors' message is heard as the machine hears it.
-use Rattle.std.proofs.Common.{◌≡◌, ◌≢◌, ◌⊎◌, inl, inr, refl, sym, ◌∙◌, ap, subst, ℕ, zero, suc, ◌+◌, ◌||◌, ◌≤◌, ◌<◌, Bool, true, false, if◌then◌else◌, List, [], ◌∷◌, ◌++◌, length, map, drop, slice_get, slice_set, Option, Some, None, arith}
+use Rattle.std.proofs.Common.{◌≡◌, inl, inr, refl, sym, ◌∙◌, ap, subst, ℕ, zero, suc, ◌+◌, ◌||◌, ◌≤◌, Bool, true, false, List, [], ◌∷◌, ◌++◌, length, map, slice_get, slice_set, Option, Some, None, arith}
 use Rattle.std.specs.Prelude.{Result, Ok, Err, IsSome}
 use Rattle.std.proofs.lemmas.Bool.{false≢true}
-use Rattle.std.proofs.lemmas.List.{length-map}
 use Rattle.std.proofs.lemmas.Option.{same_Some, slice_get_past}
 use Rattle.fl_base.specs.declared.fragment.Frag.{Frag}
 use Rattle.fl_base.specs.declared.identity.CoreId.{CoreId}
@@ -14,7 +13,7 @@ use Rattle.fl_lists.specs.declared.place.Place.{Place}
 use Rattle.fl_lists.specs.declared.place.Place.TheVariants as place
 use Rattle.fl_lists.specs.ThreeLists.{ThreeLists, list_at, is_in, pushed}
 use Rattle.fl_waitset.specs.Waiting.{is_registered}
-use Rattle.fl_link.specs.Looks.{Look, found}
+use Rattle.fl_link.specs.Looks.{found}
 use Rattle.fl_link.specs.Queue.{TheQueue, QueueTakes}
 use Rattle.fl_ring.specs.SharedSides.{TheSide, SharedTakes}
 use Rattle.fl_hop.specs.declared.entry.Way.{Way}
@@ -32,8 +31,8 @@ use Rattle.fl_core.specs.declared.kind.Kind.{Kind}
 use Rattle.fl_core.specs.declared.kind.Kind.TheVariants as kind
 use Rattle.fl_core.specs.View.{TheDispatcher, TheSeat, TheBoard}
 use Rattle.fl_core.specs.View.{with_new_end as board_with_end, with_end as board_set}
-use Rattle.fl_core.specs.Sound.{IsBoard, IsDispatcher, MayTurn}
-use Rattle.fl_core.specs.Events.{Adds, ChangesEnd, ChangesLists, Registers}
+use Rattle.fl_core.specs.Sound.{IsBoard}
+use Rattle.fl_core.specs.Events.{ChangesLists, Registers}
 use Rattle.fl_core.specs.Turns.{lent}
 use Rattle.fl_monitor.specs.declared.fault.MonitorFault.TheVariants as monitor
 use Rattle.fl_monitor.specs.declared.heard.Heard.{Heard}
@@ -48,41 +47,39 @@ use Rattle.fl_node.specs.declared.answer.MonitorAnswer.{MonitorAnswer}
 use Rattle.fl_node.specs.declared.answer.MonitorAnswer.TheVariants as answer
 use Rattle.fl_node.specs.declared.fault.LinkFault.{LinkFault}
 use Rattle.fl_node.specs.declared.fault.LinkFault.TheVariants as link
-use Rattle.fl_wire.specs.declared.fault.WireFault.{WireFault}
 use Rattle.fl_wire.specs.declared.fault.WireFault.TheVariants as wire
 use Rattle.fl_node.specs.declared.wire.Arriving.{Arriving}
 use Rattle.fl_node.specs.declared.wire.Lane.{Lane}
 use Rattle.fl_node.specs.declared.wire.Port.{Port}
 use Rattle.fl_node.specs.declared.wire.Wire.{Wire}
 use Rattle.fl_node.specs.declared.wire.Wire.TheVariants.{Queues, Ring as OverRing, Circuit as ByCircuit}
-use Rattle.fl_node.specs.View.{TheCore, with_board, with_monitor, with_failed, failed_at, place_in, place_of, arriving, arriving_at, arrivals_by, circuit_port, server_of, kind_of, new_arrivals as node_arrivals}
-use Rattle.fl_node.specs.Ends.{RegistersAt}
+use Rattle.fl_node.specs.View.{TheCore, with_monitor, with_failed, failed_at, place_in, place_of, arriving, arriving_at, arrivals_by, circuit_port, server_of, kind_of, new_arrivals as node_arrivals}
 use Rattle.fl_node.specs.Hearing.{known_for, offer_for, MakesServer as NodeMakes, Binds, BindsIf as NodeBindsIf, Follows as NodeFollows, HearsAll, HearsFrag, TakesHeard}
-use Rattle.fl_node.specs.Sound.{IsCore, IsPlaced}
+use Rattle.fl_node.specs.Sound.{IsPlaced}
 use Rattle.fl_running.specs.Run.{TheRun}
 use Rattle.fl_running.specs.Deeds.{OnRing, IsSound}
 use Rattle.fl_queues.specs.Events.{DispatcherId}
-use Rattle.fl_queues.specs.Given.{given, changed_at}
+use Rattle.fl_queues.specs.Given.{given}
 use Rattle.fl_queues.specs.Rings.{Said, says, open_circuit, circuit_opened, circuit_refused, Opening}
-use Rattle.fl_queues.specs.Ends.{Direction, End, Seat, is_busy}
-use Rattle.fl_queues.specs.Calls.{Planned, last_count}
-use Rattle.fl_queues.specs.Waits.{Dispatcher, waits_in, registers, with_end}
+use Rattle.fl_queues.specs.Ends.{Direction, Seat}
+use Rattle.fl_queues.specs.Calls.{Planned}
+use Rattle.fl_queues.specs.Waits.{Dispatcher, waits_in, registers}
 use Rattle.fl_queues.specs.Monitors.{Core, Service, Fate, goes_on, ends_at, fails, can_say, Hearing, hears, hears_opening, hears_opened, hears_refused, fate, saying, with_said, with_circuits, goes_astray}
 use Rattle.fl_queues.specs.Monitors.{Heard as MachineHeard, no_outbox, astray, opening_went_on, server_made, opening_failed, answer_went_on, end_opened, end_refused}
 use Rattle.fl_shows.specs.Fragments.{message_of}
 use Rattle.fl_shows.specs.Cores.{MonitorShows, NamesShow}
-use Rattle.fl_shows.specs.CoreLaws.{SameHeard, MayBeHeard, HearAgrees, HearsAgree}
+use Rattle.fl_shows.specs.CoreLaws.{SameHeard, HearsAgree}
 use Rattle.fl_shows.specs.Ends.{planned_of, outgoing_of, circuit_of}
 use Rattle.fl_shows.proofs.Tests.{either}
-use Rattle.fl_cuts.specs.Sides.{SideCut, ShowsSide, SideGives, gave_one}
+use Rattle.fl_cuts.specs.Sides.{SideCut, ShowsSide}
 use Rattle.fl_cuts.specs.Ends.{EndCut, ShowsEnd}
-use Rattle.fl_cuts.specs.Cut.{Each2, QueueCut, Cut, ShowsQueue, ShowsWaits, seat_at, ShowsSeat, ShowsCut}
+use Rattle.fl_cuts.specs.Cut.{Each2, QueueCut, Cut, ShowsQueue, ShowsWaits, ShowsSeat, ShowsCut}
 use Rattle.fl_cuts.specs.Events.{EndAt, with_waits}
-use Rattle.fl_cuts.specs.Opening.{new_arrivals, new_end, next_seat, with_new_end, opening_with}
-use Rattle.fl_cuts.specs.Hearing.{said_of, route_length, hearing, MakesServer, registers_seat, bound_to, BindsEnd, BindsIf, Follows, Hears, HearsOver, IsUnbound, IsInOrder}
+use Rattle.fl_cuts.specs.Opening.{new_arrivals, new_end, next_seat, with_new_end}
+use Rattle.fl_cuts.specs.Hearing.{said_of, route_length, hearing, MakesServer, registers_seat, bound_to, BindsEnd, BindsIf, ThenFollows, Hears, HearsOver, IsUnbound, IsInOrder}
 use Rattle.fl_cuts.proofs.Lists.{there, set_both}
 use Rattle.fl_cuts.proofs.Sides.{takes_again}
-use Rattle.fl_cuts.proofs.Cuts.{shown_all, shown_by, built, changed, Seen, seen_by, end_at, seated, ends_shown, ports_same}
+use Rattle.fl_cuts.proofs.Cuts.{shown_all, shown_by, built, seen_by, end_at, seated, ends_shown, ports_same}
 use Rattle.fl_cuts.proofs.Events.{queue_waits, kind_at}
 use Rattle.fl_cuts.proofs.Links.{desks_shown, side_shown, side_lanes, lanes_run, set_same, arrives_at, port_at, own_number}
 use Rattle.fl_cuts.proofs.Opening.{path_same, new_shows, added_shows, added_run, same_length, place_left, last_there}
@@ -202,9 +199,9 @@ registers_shown core ports waits ends b c e q p r ch w h shown queue some ready 
     } in
     subst (Joined core ports (registers_seat x.end.seat q waits) ends) (sym ch.board) (record {
       waits_show = subst (λ (ds : List Dispatcher). Each2 (ShowsWaits ports) ds
-      (slice_set b.dispatchers ch.seat.dispatcher (record { lists = ch.lists; ends = ch.dispatcher.ends }))) (sym is)
-      (set_both (ShowsWaits ports) waits b.dispatchers ch.seat.dispatcher (registers ch.seat.channel (waits_in (Some q.queue)) d.0)
-      (record { lists = ch.lists; ends = ch.dispatcher.ends }) w shows);
+          (slice_set b.dispatchers ch.seat.dispatcher (record { lists = ch.lists; ends = ch.dispatcher.ends }))) (sym is)
+          (set_both (ShowsWaits ports) waits b.dispatchers ch.seat.dispatcher (registers ch.seat.channel (waits_in (Some q.queue)) d.0)
+          (record { lists = ch.lists; ends = ch.dispatcher.ends }) w shows);
       ends_show = h;
     })
 
@@ -426,7 +423,7 @@ binds_end name c e number a s t h kinds placed sound at none b rest =
 
 record Followed (l : LinkId) (stations : ℕ) (w : MachineHeard) (told : MonitorAnswer) (a : Cut) (t : TheRun TheSide) : Type 0 where
   pub after : Cut
-  pub follows : Follows l stations w told a after
+  pub follows : ThenFollows l stations w told a after
   pub shows : ShowsCut after t
 
 same_core : (a : Cut) (s t : TheRun TheSide) → ShowsCut a s → t.core ≡ s.core → t ≡ record s { core = t.core } → ShowsCut a t

@@ -1,44 +1,34 @@
 -- A circuit is asked for: the core's client's end is the machine's, and so is the opening.
-use Rattle.std.proofs.Common.{◌≡◌, inl, refl, sym, ◌∙◌, ap, subst, ℕ, zero, suc, ◌+◌, ◌≤◌, ◌<◌, nat_le, true, false, List, [], ◌∷◌, ◌++◌, length, map, slice_get, slice_set, Option, Some, None, arith}
+use Rattle.std.proofs.Common.{◌≡◌, refl, sym, ◌∙◌, ap, subst, ℕ, zero, suc, ◌+◌, ◌≤◌, true, List, [], ◌∷◌, ◌++◌, length, map, slice_get, slice_set, Option, Some, None, arith}
 use Rattle.std.specs.Prelude.{Result, Ok, Err}
-use Rattle.std.proofs.lemmas.List.{length-map, length_push, map_push}
-use Rattle.std.proofs.lemmas.Option.{same_Some}
-use Rattle.std.proofs.lemmas.List.Elements.{All-nil}
+use Rattle.std.proofs.lemmas.List.{length-map, map_push}
 use Rattle.fl_base.specs.declared.identity.CoreId.{CoreId}
 use Rattle.fl_base.specs.declared.identity.EndId.{EndId}
-use Rattle.fl_base.specs.declared.identity.LinkId.{LinkId}
 use Rattle.fl_base.specs.declared.identity.Circuit.{Circuit}
 use Rattle.fl_compile.specs.declared.program.Program.{Program}
 use Rattle.fl_hop.specs.Table.{TheCircuits}
 use Rattle.fl_hop.specs.Numbers.{next_own}
-use Rattle.fl_link.specs.Queue.{TheQueue}
 use Rattle.fl_endpoint.specs.View.{TheEnd, fresh}
-use Rattle.fl_core.specs.declared.fault.BoardFault.{BoardFault}
 use Rattle.fl_core.specs.declared.fault.BoardFault.TheVariants as board
 use Rattle.fl_core.specs.View.{TheDispatcher, TheSeat, TheBoard}
 use Rattle.fl_core.specs.View.{with_new_end as board_with_end}
-use Rattle.fl_core.specs.Events.{Adds}
-use Rattle.fl_core.specs.declared.kind.Kind.{Kind}
 use Rattle.fl_core.specs.declared.kind.Kind.TheVariants as kind
 use Rattle.fl_monitor.specs.declared.fault.MonitorFault.{MonitorFault}
 use Rattle.fl_monitor.specs.declared.fault.MonitorFault.TheVariants as monitor
 use Rattle.fl_monitor.specs.declared.opening.Opening.{Opening as Asked}
 use Rattle.fl_monitor.specs.Monitors.{TheMonitor, Opens}
-use Rattle.fl_monitor.specs.Monitors.{can_say as monitor_can_say}
 use Rattle.fl_monitor.specs.Monitors.{RefusesOpening}
 use Rattle.fl_node.specs.declared.fault.OpenFault.{OpenFault}
 use Rattle.fl_node.specs.declared.fault.OpenFault.TheVariants as opening
 use Rattle.fl_node.specs.declared.wire.Port.{Port}
 use Rattle.fl_node.specs.View.{TheCore, client_of, slot_of, circuit_port, kind_of, new_arrivals as node_arrivals}
-use Rattle.fl_node.specs.Making.{asked, Asks, Begins}
-use Rattle.fl_node.specs.Sound.{IsCore}
+use Rattle.fl_node.specs.Making.{asked, Asks}
 use Rattle.fl_running.specs.declared.job.Wish.{Wish}
 use Rattle.fl_running.specs.Run.{TheRun}
 use Rattle.fl_running.specs.Deeds.{opened, OnCore, AsksFor, IsSound}
 use Rattle.fl_ring.specs.SharedSides.{TheSide}
 use Rattle.fl_queues.specs.Given.{given}
 use Rattle.fl_queues.specs.Calls.{Planned}
-use Rattle.fl_queues.specs.Rings.{Opening}
 use Rattle.fl_queues.specs.Ends.{Seat, fresh_direction}
 use Rattle.fl_queues.specs.Waits.{Dispatcher, has_places, with_end}
 use Rattle.fl_queues.specs.Monitors.{Core, can_say, opens}
@@ -49,8 +39,8 @@ use Rattle.fl_shows.specs.Ends.{planned_of}
 use Rattle.fl_shows.proofs.Calling.{fresh_is}
 use Rattle.fl_shows.proofs.Tests.{le_true, le_false}
 use Rattle.fl_cuts.specs.Ends.{EndCut, ShowsEnd}
-use Rattle.fl_cuts.specs.Cut.{Each2, Cut, name_at, ShowsQueue, ShowsWaits, seat_at, ShowsSeat, ShowsCut}
-use Rattle.fl_cuts.specs.Opening.{new_arrivals, new_end, next_seat, with_new_end, opening_with, OpensSo, RefusesFor}
+use Rattle.fl_cuts.specs.Cut.{Each2, Cut, name_at, ShowsQueue, ShowsWaits, ShowsSeat, ShowsCut}
+use Rattle.fl_cuts.specs.Opening.{new_arrivals, new_end, next_seat, with_new_end, opening_with, RefusesFor}
 use Rattle.fl_cuts.specs.Laws.{HasNoLinks}
 use Rattle.fl_cuts.proofs.Lists.{there, set_both}
 use Rattle.fl_cuts.proofs.Events.{After}
@@ -177,7 +167,7 @@ added_shows a s place d waits program stations e p x t core m h kinds d_is waits
     record {
       monitor = monitor_shows;
       waits = subst (λ (ds : List Dispatcher). Each2 (ShowsWaits (s.core.ports ++ p ∷ [])) ds
-      (slice_set s.core.board.dispatchers place (record { lists = d.lists; ends = d.ends ++ length s.core.board.seats ∷ [] }))) (sym cores)
+          (slice_set s.core.board.dispatchers place (record { lists = d.lists; ends = d.ends ++ length s.core.board.seats ∷ [] }))) (sym cores)
           (set_both (ShowsWaits (s.core.ports ++ p ∷ [])) a.core.dispatchers s.core.board.dispatchers place (with_end p.name waits)
           (record { lists = d.lists; ends = d.ends ++ length s.core.board.seats ∷ [] }) all more);
       ends = push_both (ShowsSeat m.circuits.core) a.ends s.core.board.seats x _

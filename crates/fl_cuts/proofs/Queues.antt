@@ -1,20 +1,19 @@
 -- Queues: for each label that the machine's queue has a fragment stands there.
-use Rattle.std.proofs.Common.{◌≡◌, ◌≢◌, refl, sym, ◌∙◌, ap, subst, ℕ, zero, suc, ◌+◌, ◌≤◌, ◌<◌, ◌^◌, nat_lt, Bool, true, false, if◌then◌else◌, List, [], ◌∷◌, ◌++◌, length, map, drop, Some, None, arith}
+use Rattle.std.proofs.Common.{◌≡◌, ◌≢◌, refl, sym, ◌∙◌, ap, subst, ℕ, suc, ◌+◌, ◌<◌, nat_lt, List, [], ◌∷◌, ◌++◌, length, map, drop, Some, arith}
 use Rattle.std.proofs.lemmas.List.{length_push, length-map, map_push}
 use Rattle.fl_base.specs.declared.fragment.Frag.{Frag}
 use Rattle.fl_base.specs.Control.{bare, stamped}
-use Rattle.fl_lists.specs.declared.place.Place.{Place}
 use Rattle.fl_lists.specs.declared.place.Place.TheVariants as place
 use Rattle.fl_link.specs.Cursor.{epoch_at}
-use Rattle.fl_link.specs.Looks.{Look, placed, no_room, spent, saw, saw_ack, found, found_ack, missed, told, kept}
-use Rattle.fl_link.specs.Queue.{TheQueue, QueuePuts, QueueTakes, front_of, look_at, next_epoch_of, with_put, with_taken}
+use Rattle.fl_link.specs.Looks.{Look, placed, no_room, spent, saw, saw_ack, found, found_ack, missed}
+use Rattle.fl_link.specs.Queue.{TheQueue, QueuePuts, QueueTakes, front_of, next_epoch_of, with_taken}
 use Rattle.fl_link.proofs.Carried.{bare-stamped}
 use Rattle.fl_link.proofs.Conserved.{sees_call}
 use Rattle.fl_queues.specs.Rings.{Label, there_is_room, no_room as none_free}
-use Rattle.fl_queues.specs.Ends.{Queue, has_room, queue_room, joined_by, without_first}
+use Rattle.fl_queues.specs.Ends.{has_room}
 use Rattle.fl_queues.specs.Waits.{waits_in}
 use Rattle.fl_shows.proofs.Tests.{lt_true, lt_false, then_is, else_is}
-use Rattle.fl_cuts.specs.Sides.{Gave, nothing_stands, left_one, gave_one, gave_ack, goes_on, is_full, is_spent}
+use Rattle.fl_cuts.specs.Sides.{nothing_stands, left_one, gave_one, gave_ack, goes_on, is_full, is_spent}
 use Rattle.fl_cuts.specs.Cut.{QueueCut, ShowsQueue}
 use Rattle.fl_cuts.specs.Events.{joined_one, without_one, StandsFirst, QueuePlaces, QueueGives}
 use Rattle.fl_cuts.proofs.Ends.{PutLaw}

@@ -14,13 +14,11 @@ use Rattle.fl_node.specs.View.{kind_of}
 use Rattle.fl_running.specs.Run.{TheRun}
 use Rattle.fl_queues.specs.Given.{given}
 use Rattle.fl_queues.specs.Calls.{Planned}
-use Rattle.fl_queues.specs.Rings.{fresh_ring}
-use Rattle.fl_queues.specs.Ends.{fresh_queue}
 use Rattle.fl_queues.specs.Monitors.{Core}
 use Rattle.fl_shows.specs.Ends.{planned_of}
 use Rattle.fl_shows.specs.Cores.{MonitorShows}
 use Rattle.fl_shows.proofs.Calling.{fresh_is}
-use Rattle.fl_cuts.specs.Sides.{SideCut, ShowsSide}
+use Rattle.fl_cuts.specs.Sides.{ShowsSide}
 use Rattle.fl_cuts.specs.Ends.{EndCut, ShowsEnd}
 use Rattle.fl_cuts.specs.Cut.{Each2, name_at, ShowsQueue, ShowsWaits, ShowsSeat, ShowsCut}
 use Rattle.fl_cuts.specs.Start.{IsFirstEnd, IsFirstSide, IsFirstQueue, IsStarting, first_end, first_ends, names_of, first_waits, first_queue, first_side, first_cut}

@@ -1,7 +1,6 @@
 -- What the machine makes of a cut when its core hears a monitors' message.
-use Rattle.std.specs.Prelude.{ℕ, ◌≡◌, ◌⊎◌, ◌+◌, false, List, [], ◌∷◌, length, map, slice_get, slice_set, Option, Some, None, Result, Ok, Err}
+use Rattle.std.specs.Prelude.{ℕ, ◌≡◌, ◌⊎◌, ◌+◌, false, List, [], length, slice_get, slice_set, Option, Some, None, Result, Ok, Err}
 use Rattle.fl_base.specs.declared.fragment.Frag.{Frag}
-use Rattle.fl_base.specs.declared.identity.CoreId.{CoreId}
 use Rattle.fl_base.specs.declared.identity.EndId.{EndId}
 use Rattle.fl_base.specs.declared.identity.LinkId.{LinkId}
 use Rattle.fl_base.specs.Control.{bare}
@@ -14,15 +13,15 @@ use Rattle.fl_node.specs.declared.answer.MonitorAnswer.{MonitorAnswer}
 use Rattle.fl_node.specs.declared.answer.MonitorAnswer.TheVariants.{Full, Done, Opened, OpeningRefused}
 use Rattle.fl_node.specs.declared.fault.LinkFault.{LinkFault}
 use Rattle.fl_node.specs.declared.fault.LinkFault.TheVariants.{Memory}
-use Rattle.fl_node.specs.View.{arrivals_by, place_in, failed_at, circuit_port, server_of}
+use Rattle.fl_node.specs.View.{arrivals_by, failed_at, circuit_port, server_of}
 use Rattle.fl_node.specs.Hearing.{here_for}
 use Rattle.fl_running.specs.Run.{TheRun}
 use Rattle.fl_queues.specs.Events.{DispatcherId}
-use Rattle.fl_queues.specs.Given.{given, changed_at}
+use Rattle.fl_queues.specs.Given.{changed_at}
 use Rattle.fl_queues.specs.Rings.{Said, open_circuit, circuit_opened, circuit_refused, says}
 use Rattle.fl_queues.specs.Ends.{Seat}
-use Rattle.fl_queues.specs.Waits.{Dispatcher, waits_in, registers, with_end}
-use Rattle.fl_queues.specs.Monitors.{Core, Service, Heard, no_outbox, opening_went_on, server_made, opening_failed, answer_went_on, end_opened, end_refused}
+use Rattle.fl_queues.specs.Waits.{Dispatcher, waits_in, registers}
+use Rattle.fl_queues.specs.Monitors.{Service, Heard, no_outbox, opening_went_on, server_made, opening_failed, answer_went_on, end_opened, end_refused}
 use Rattle.fl_queues.specs.Monitors.{Hearing, hears}
 use Rattle.fl_shows.specs.Ends.{planned_of}
 use Rattle.fl_shows.specs.CoreLaws.{MayBeHeard}
@@ -85,14 +84,14 @@ abbrev pub BindsIf : EndId → ℕ → Cut → Cut → Type 0
 BindsIf name c a b = BindsEnd name c a b ⊎ (((at : EndAt a name) → arrivals_by at.end.port.wire ≡ None) × (b ≡ a))
 
 -- by what the machine hears, from the cut in which the message was taken and the core's table and outboxes are as after it
-abbrev pub Follows : LinkId → ℕ → Heard → MonitorAnswer → Cut → Cut → Type 0
-Follows l stations (opening_went_on n c) told a b = (told ≡ Done) × (b ≡ a)
-Follows l stations (opening_failed n fault) told a b = (told ≡ Done) × (b ≡ a)
-Follows l stations (answer_went_on n) told a b = (told ≡ Done) × (b ≡ a)
-Follows l stations (server_made n d c) told a b = (told ≡ Opened (server_of n)) × MakesServer stations n d c l a b
-Follows l stations (end_opened e c) told a b = (told ≡ Opened e) × BindsIf e c a b
-Follows l stations (end_refused e fault) told a b = (told ≡ OpeningRefused e fault) × (b ≡ a)
-Follows l stations other told a b = ⊥
+abbrev pub ThenFollows : LinkId → ℕ → Heard → MonitorAnswer → Cut → Cut → Type 0
+ThenFollows l stations (opening_went_on n c) told a b = (told ≡ Done) × (b ≡ a)
+ThenFollows l stations (opening_failed n fault) told a b = (told ≡ Done) × (b ≡ a)
+ThenFollows l stations (answer_went_on n) told a b = (told ≡ Done) × (b ≡ a)
+ThenFollows l stations (server_made n d c) told a b = (told ≡ Opened (server_of n)) × MakesServer stations n d c l a b
+ThenFollows l stations (end_opened e c) told a b = (told ≡ Opened e) × BindsIf e c a b
+ThenFollows l stations (end_refused e fault) told a b = (told ≡ OpeningRefused e fault) × (b ≡ a)
+ThenFollows l stations other told a b = ⊥
 
 -- it was taken, and heard
 pub record Hears (services : List Service) (n : ℕ) (l : LinkId) (frag : Frag) (told : MonitorAnswer) (a b : Cut) : Type 0 where
@@ -101,7 +100,7 @@ pub record Hears (services : List Service) (n : ℕ) (l : LinkId) (frag : Frag) 
   pub middle : Cut
   pub sides : OverOne a.sides n (SideGives (says (said_of message)) (gave_one (bare frag))) middle.sides
   pub middle_is : middle ≡ record a { core = (hearing services l.0 message a).core; sides = middle.sides }
-  pub follows : Follows l (route_length message + 1) (hearing services l.0 message a).heard told middle b
+  pub follows : ThenFollows l (route_length message + 1) (hearing services l.0 message a).heard told middle b
 
 abbrev pub HearsOver : List Service → ℕ → LinkId → Frag → Result MonitorAnswer LinkFault → Cut → Cut → Type 0
 HearsOver services n l frag (Ok Full) a b =

@@ -1,14 +1,9 @@
 -- What the machine makes of a cut when its core asks for a circuit: the client's end has its seat, the circuit's entry is made, and the opening is to be said.
-use Rattle.std.specs.Prelude.{ℕ, ◌≡◌, ◌+◌, ◌≤◌, true, false, List, [], ◌∷◌, ◌++◌, length, map, slice_get, slice_set, Some, None, Result, Ok, Err}
+use Rattle.std.specs.Prelude.{ℕ, ◌≡◌, ◌+◌, true, false, [], ◌∷◌, ◌++◌, length, map, slice_get, slice_set, Some, None, Result, Ok, Err}
 use Rattle.fl_base.specs.declared.identity.CoreId.{CoreId}
-use Rattle.fl_base.specs.declared.identity.EndId.{EndId}
-use Rattle.fl_base.specs.declared.identity.LinkId.{LinkId}
 use Rattle.fl_compile.specs.declared.program.Program.{Program}
 use Rattle.fl_hop.specs.Numbers.{next_own}
-use Rattle.fl_hop.specs.Openings.{open_fault}
-use Rattle.fl_core.specs.declared.fault.BoardFault.{BoardFault}
 use Rattle.fl_core.specs.declared.fault.BoardFault.TheVariants as board
-use Rattle.fl_monitor.specs.declared.fault.MonitorFault.{MonitorFault}
 use Rattle.fl_monitor.specs.declared.fault.MonitorFault.TheVariants.{OutboxFull, Memory}
 use Rattle.fl_monitor.specs.declared.opening.Opening.{Opening as Asked}
 use Rattle.fl_monitor.specs.Monitors.{RefusesOpening}
@@ -21,7 +16,7 @@ use Rattle.fl_queues.specs.Calls.{Planned}
 use Rattle.fl_queues.specs.Rings.{Opening}
 use Rattle.fl_queues.specs.Ends.{fresh_queue, fresh_direction, unbound_end, Seat}
 use Rattle.fl_queues.specs.Waits.{Dispatcher, has_places, with_end}
-use Rattle.fl_queues.specs.Monitors.{Core, can_say, opens}
+use Rattle.fl_queues.specs.Monitors.{can_say, opens}
 use Rattle.fl_shows.specs.Ends.{planned_of}
 use Rattle.fl_cuts.specs.Ends.{EndCut}
 use Rattle.fl_cuts.specs.Cut.{QueueCut, Cut}
