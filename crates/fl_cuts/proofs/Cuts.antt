@@ -49,9 +49,9 @@ with_parts s p = record s {
 
 pub shown_all : (a : Cut) (s : TheRun TheSide) → ShowsCut a s → (b : Cut) (p : Parts) → MonitorShows b.core p.monitor
     → Each2 (ShowsWaits s.core.ports) b.core.dispatchers p.board.dispatchers → Each2 (ShowsSeat p.monitor.circuits.core) b.ends p.board.seats
-    → map (λ (x : EndCut). x.port) b.ends ≡ map (λ (x : EndCut). x.port) a.ends → b.places ≡ a.places → b.lanes ≡ p.lanes → Each2 ShowsSide b.sides p.rings
+    → map (λ (x : EndCut). x.port) b.ends ≡ map (λ (x : EndCut). x.port) a.ends → b.places ≡ a.places → b.plans ≡ a.plans → b.lanes ≡ p.lanes → Each2 ShowsSide b.sides p.rings
     → Each2 ShowsQueue b.queues p.stands → Each2 ShowsQueue b.arrivals p.arrivals → ShowsCut b (with_parts s p)
-shown_all a s h b p monitor waits ends ports places lanes sides queues arrivals = record {
+shown_all a s h b p monitor waits ends ports places plans lanes sides queues arrivals = record {
   monitor = monitor;
   waits = waits;
   ends = ends;
@@ -61,6 +61,7 @@ shown_all a s h b p monitor waits ends ports places lanes sides queues arrivals 
   sides = sides;
   queues = queues;
   arrivals = arrivals;
+  plans = h.plans ∙ sym plans;
 }
 
 abbrev pub built : TheRun TheSide → TheBoard → List TheSide → List TheQueue → List TheDesk → TheRun TheSide
@@ -85,7 +86,7 @@ shown_by a s h waits ends sides queues b rings stands desks waits_show ends_show
       rings = rings;
       stands = stands;
       desks = desks;
-    }) (same_monitor a s waits h) waits_show ends_show ports refl h.lanes sides_show queues_show h.arrivals
+    }) (same_monitor a s waits h) waits_show ends_show ports refl refl h.lanes sides_show queues_show h.arrivals
 
 -- over the end's own arrival queue
 pub shown_arrivals : (a : Cut) (s : TheRun TheSide) → ShowsCut a s → (waits : List Dispatcher) (ends : List EndCut) (sides : List SideCut) (arrivals : List QueueCut)
@@ -103,7 +104,7 @@ shown_arrivals a s h waits ends sides arrivals b rings stands desks waits_show e
       rings = rings;
       stands = s.queues;
       desks = desks;
-    }) (same_monitor a s waits h) waits_show ends_show ports refl h.lanes sides_show h.queues arrivals_show
+    }) (same_monitor a s waits h) waits_show ends_show ports refl refl h.lanes sides_show h.queues arrivals_show
 
 -- sides and lanes alone
 pub shown_lanes : (a : Cut) (s : TheRun TheSide) → ShowsCut a s → (sides : List SideCut) (here lanes : List Lane) (rings : List TheSide) (desks : List TheDesk)
@@ -118,7 +119,7 @@ shown_lanes a s h sides here lanes rings desks sides_show same =
       rings = rings;
       stands = s.queues;
       desks = desks;
-    }) h.monitor h.waits h.ends refl refl same sides_show h.queues h.arrivals
+    }) h.monitor h.waits h.ends refl refl refl same sides_show h.queues h.arrivals
 
 -- sides and outboxes alone
 pub shown_monitor : (a : Cut) (s : TheRun TheSide) → ShowsCut a s → (sides : List SideCut) (core : Core) (m : TheMonitor) (rings : List TheSide) (desks : List TheDesk)
@@ -134,7 +135,7 @@ shown_monitor a s h sides core m rings desks sides_show monitor waits circuits =
       stands = s.queues;
       desks = desks;
     }) monitor (subst (λ (ds : List Dispatcher). Each2 (ShowsWaits s.core.ports) ds s.core.board.dispatchers) (sym waits) h.waits)
-    (subst (λ (t : TheCircuits). Each2 (ShowsSeat t.core) a.ends s.core.board.seats) (sym circuits) h.ends) refl refl h.lanes sides_show h.queues h.arrivals
+    (subst (λ (t : TheCircuits). Each2 (ShowsSeat t.core) a.ends s.core.board.seats) (sym circuits) h.ends) refl refl refl h.lanes sides_show h.queues h.arrivals
 
 -- the board has changed, and the desks, and nothing else; or a side, or a queue, too
 pub board_run : (s m t : TheRun TheSide) → m ≡ record s { core = m.core } → m.core ≡ with_board s.core m.core.board → t ≡ record m { desks = t.desks }

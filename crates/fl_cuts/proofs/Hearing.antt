@@ -1,5 +1,5 @@
 -- A monitors' message is heard as the machine hears it.
-use Rattle.std.proofs.Common.{◌≡◌, inl, inr, refl, sym, ◌∙◌, ap, subst, ℕ, zero, suc, ◌+◌, ◌||◌, ◌≤◌, Bool, true, false, List, [], ◌∷◌, ◌++◌, length, map, slice_get, slice_set, Option, Some, None, arith}
+use Rattle.std.proofs.Common.{◌≡◌, inl, inr, refl, sym, ◌∙◌, ap, subst, ℕ, zero, suc, ◌+◌, ◌||◌, ◌≤◌, Bool, true, false, if◌then◌else◌, List, [], ◌∷◌, ◌++◌, length, map, slice_get, slice_set, Option, Some, None, arith}
 use Rattle.std.specs.Prelude.{Result, Ok, Err, IsSome}
 use Rattle.std.proofs.lemmas.Bool.{false≢true}
 use Rattle.std.proofs.lemmas.Option.{same_Some, slice_get_past}
@@ -54,7 +54,7 @@ use Rattle.fl_node.specs.declared.wire.Port.{Port}
 use Rattle.fl_node.specs.declared.wire.Wire.{Wire}
 use Rattle.fl_node.specs.declared.wire.Wire.TheVariants.{Queues, Ring as OverRing, Circuit as ByCircuit}
 use Rattle.fl_node.specs.View.{TheCore, with_monitor, with_failed, failed_at, place_in, place_of, arriving, arriving_at, arrivals_by, circuit_port, server_of, kind_of, new_arrivals as node_arrivals}
-use Rattle.fl_node.specs.Hearing.{known_for, offer_for, MakesServer as NodeMakes, Binds, BindsIf as NodeBindsIf, Follows as NodeFollows, HearsAll, HearsFrag, TakesHeard}
+use Rattle.fl_node.specs.Hearing.{Offers, known_for, may_offer, offer_of, offer_for, MakesServer as NodeMakes, Binds, BindsIf as NodeBindsIf, Follows as NodeFollows, HearsAll, HearsFrag, TakesHeard}
 use Rattle.fl_node.specs.Sound.{IsPlaced}
 use Rattle.fl_running.specs.Run.{TheRun}
 use Rattle.fl_running.specs.Deeds.{OnRing, IsSound}
@@ -64,11 +64,13 @@ use Rattle.fl_queues.specs.Rings.{Said, says, open_circuit, circuit_opened, circ
 use Rattle.fl_queues.specs.Ends.{Direction, Seat}
 use Rattle.fl_queues.specs.Calls.{Planned}
 use Rattle.fl_queues.specs.Waits.{Dispatcher, waits_in, registers}
-use Rattle.fl_queues.specs.Monitors.{Core, Service, Fate, goes_on, ends_at, fails, can_say, Hearing, hears, hears_opening, hears_opened, hears_refused, fate, saying, with_said, with_circuits, goes_astray}
+use Rattle.fl_queues.specs.Monitors.{Core, Service, service_of, Fate, goes_on, ends_at, fails, can_say, Hearing, hears, hears_opening, hears_opened, hears_refused, fate, saying, with_said, with_circuits, goes_astray}
 use Rattle.fl_queues.specs.Monitors.{Heard as MachineHeard, no_outbox, astray, opening_went_on, server_made, opening_failed, answer_went_on, end_opened, end_refused}
 use Rattle.fl_shows.specs.Fragments.{message_of}
 use Rattle.fl_shows.specs.Cores.{MonitorShows, NamesShow}
-use Rattle.fl_shows.specs.CoreLaws.{SameHeard, HearsAgree}
+use Rattle.fl_nameserv.specs.Registrations.{TheRegistration}
+use Rattle.fl_shows.proofs.Names.{names_agree}
+use Rattle.fl_shows.specs.CoreLaws.{registration_of, NamesAgree, SameHeard, HearsAgree}
 use Rattle.fl_shows.specs.Ends.{planned_of, outgoing_of, circuit_of}
 use Rattle.fl_shows.proofs.Tests.{either}
 use Rattle.fl_cuts.specs.Sides.{SideCut, ShowsSide}
@@ -76,13 +78,13 @@ use Rattle.fl_cuts.specs.Ends.{EndCut, ShowsEnd}
 use Rattle.fl_cuts.specs.Cut.{Each2, QueueCut, Cut, ShowsQueue, ShowsWaits, ShowsSeat, ShowsCut}
 use Rattle.fl_cuts.specs.Events.{EndAt, with_waits}
 use Rattle.fl_cuts.specs.Opening.{new_arrivals, new_end, next_seat, with_new_end}
-use Rattle.fl_cuts.specs.Hearing.{said_of, route_length, hearing, MakesServer, registers_seat, bound_to, BindsEnd, BindsIf, ThenFollows, Hears, HearsOver, IsUnbound, IsInOrder}
+use Rattle.fl_cuts.specs.Hearing.{said_of, asked_service, route_length, hearing, MakesServer, registers_seat, bound_to, BindsEnd, BindsIf, ThenFollows, Hears, HearsOver, IsUnbound, IsInOrder}
 use Rattle.fl_cuts.proofs.Lists.{there, set_both}
 use Rattle.fl_cuts.proofs.Sides.{takes_again}
 use Rattle.fl_cuts.proofs.Cuts.{shown_all, shown_by, built, seen_by, end_at, seated, ends_shown, ports_same}
 use Rattle.fl_cuts.proofs.Events.{queue_waits, kind_at}
 use Rattle.fl_cuts.proofs.Links.{desks_shown, side_shown, side_lanes, lanes_run, set_same, arrives_at, port_at, own_number}
-use Rattle.fl_cuts.proofs.Opening.{path_same, new_shows, added_shows, added_run, same_length, place_left, last_there}
+use Rattle.fl_cuts.proofs.Opening.{copied, path_same, new_shows, added_shows, added_run, same_length, place_left, last_there}
 
 -- ---- the message, as the machine has it
 
@@ -143,7 +145,7 @@ heard_shows a s sides core m rings h sides_show monitor_shows waits number =
       stands = s.queues;
       desks = s.desks;
     }) monitor_shows (subst (λ (ds : List Dispatcher). Each2 (ShowsWaits s.core.ports) ds s.core.board.dispatchers) (sym waits) h.waits)
-    (subst (λ (n : ℕ). Each2 (ShowsSeat n) a.ends s.core.board.seats) (sym number) h.ends) refl refl h.lanes sides_show h.queues h.arrivals
+    (subst (λ (n : ℕ). Each2 (ShowsSeat n) a.ends s.core.board.seats) (sym number) h.ends) refl refl refl h.lanes sides_show h.queues h.arrivals
 
 -- ---- a channel is registered
 
@@ -234,16 +236,49 @@ server_shows port program stations c seat some =
       exits = g.exits;
     }
 
-record Made (stations n : ℕ) (d : DispatcherId) (c : ℕ) (l : LinkId) (a : Cut) (t : TheRun TheSide) : Type 0 where
+record Made (asked : Option Service) (stations n : ℕ) (d : DispatcherId) (c : ℕ) (l : LinkId) (a : Cut) (t : TheRun TheSide) : Type 0 where
   pub after : Cut
-  pub makes : MakesServer stations n d c l a after
+  pub makes : MakesServer asked stations n d c l a after
   pub shows : ShowsCut after t
 
-makes_server : (programs : List Program) (offer : Option Offered) (l : LinkId) (n stations : ℕ) (d : DispatcherId) (c : Circuit) (a : Cut) (s t : TheRun TheSide)
-    → ShowsCut a s → map (λ (y : TheSeat). y.kind) s.core.board.seats ≡ map (λ (q : Port). kind_of q.wire) s.core.ports → IsBoard s.core.board → 1 ≤ stations
-    → NodeMakes programs offer l n d.place c s.core t.core → t ≡ record s { core = t.core } → Made stations n d c.0 l a t
-makes_server programs offer l n stations d c a s t h kinds sound some make rest =
+-- the offer is the service that is asked for
+abbrev Fits : Option Service → Option Offered → Type 0
+Fits asked offer = (x : Offered) → offer ≡ Some x → (y : Service) × (asked ≡ Some y) × (y.interface ≡ x.interface)
+
+offer_fits : (services : List Service) (o : Offers) (k : TheCore) (m : Message) → NamesShow services o.names → Fits (asked_service services m) (offer_for o k m)
+offer_fits services o k (CircuitOpened c) names x e = absurd (cc)
+offer_fits services o k (CircuitRefused c reason) names x e = absurd (cc)
+offer_fits services o k (OpenCircuit c binding service path) names x e = by (service_of services service.0) refl where
+  agree : NamesAgree services o.names
+  agree = names_agree services o.names names
+
+  by_test : (y : Service) (t : Bool) → (if t then Some (let z : Offered = record { dispatcher = y.dispatcher.place; interface = y.interface } in z) else None) ≡ Some x
+      → y.interface ≡ x.interface
+  by_test y true q = ap (λ (z : Offered). z.interface) (same_Some (let z : Offered = record { dispatcher = y.dispatcher.place; interface = y.interface } in z) x q)
+  by_test y false q = absurd (cc)
+
+  by : (s : Option Service) → service_of services service.0 ≡ s → (y : Service) × (service_of services service.0 ≡ Some y) × (y.interface ≡ x.interface)
+  by None q =
+      let none : offer_of o k service.0 ≡ None
+      = ap (λ (r : Option TheRegistration). given_at r None λ z. if may_offer o k z then Some (let w : Offered = record {
+        dispatcher = z.service.dispatcher;
+        interface = z.service.interface;
+      } in w) else None) (agree.none service.0 q) in
+      let clash : None ≡ Some x = sym none ∙ e in
+      absurd (cc)
+  by (Some y) q = (y, q, by_test y (may_offer o k (registration_of service.0 y))
+      (sym (ap (λ (r : Option TheRegistration). given_at r None λ z. if may_offer o k z then Some (let w : Offered = record {
+        dispatcher = z.service.dispatcher;
+        interface = z.service.interface;
+      } in w) else None) (agree.found service.0 y q)) ∙ e))
+
+makes_server : (asked : Option Service) (programs : List Program) (offer : Option Offered) (l : LinkId) (n stations : ℕ) (d : DispatcherId) (c : Circuit) (a : Cut) (s t : TheRun TheSide)
+    → Fits asked offer → map (λ (p : Program). planned_of p) programs ≡ a.plans → ShowsCut a s → map (λ (y : TheSeat). y.kind) s.core.board.seats ≡ map (λ (q : Port). kind_of q.wire) s.core.ports → IsBoard s.core.board → 1 ≤ stations
+    → NodeMakes programs offer l n d.place c s.core t.core → t ≡ record s { core = t.core } → Made asked stations n d c.0 l a t
+makes_server asked programs offer l n stations d c a s t fits lent_plans h kinds sound some make rest =
     let (e_is, (w, w_is, few, board_is)) = make.adds in
+    let copy = make.program_is in
+    let (y_asked, y_is, y_interface) = fits copy.offered copy.offered_is in
     let number : ℕ = s.core.monitor.circuits.core in
     let waits = there (ShowsWaits s.core.ports) a.core.dispatchers s.core.board.dispatchers d.place w h.waits w_is in
     let many = place_left waits.0 w s.core.ports waits.2 in
@@ -288,7 +323,10 @@ makes_server programs offer l n stations d c a s t h kinds sound some make rest 
     record {
       after = next;
       makes = record {
-        program = make.program;
+        service = y_asked;
+        service_is = y_is;
+        planned = planned_of make.program;
+        planned_is = copied programs a.plans y_asked.interface make.program copy.source lent_plans (ap (slice_get programs) y_interface ∙ copy.source_is) copy.same;
         waits = waits.0;
         waits_is = waits.1;
         end = x;
@@ -421,9 +459,9 @@ binds_end name c e number a s t h kinds placed sound at none b rest =
 
 -- ---- what follows
 
-record Followed (l : LinkId) (stations : ℕ) (w : MachineHeard) (told : MonitorAnswer) (a : Cut) (t : TheRun TheSide) : Type 0 where
+record Followed (asked : Option Service) (l : LinkId) (stations : ℕ) (w : MachineHeard) (told : MonitorAnswer) (a : Cut) (t : TheRun TheSide) : Type 0 where
   pub after : Cut
-  pub follows : ThenFollows l stations w told a after
+  pub follows : ThenFollows asked l stations w told a after
   pub shows : ShowsCut after t
 
 same_core : (a : Cut) (s t : TheRun TheSide) → ShowsCut a s → t.core ≡ s.core → t ≡ record s { core = t.core } → ShowsCut a t
@@ -459,54 +497,54 @@ binds_if name c (Some x) a s t h kinds placed sound at none b rest =
     let one = binds_end name c x.end x.queue a s t h kinds placed sound at none b rest in
     record { after = one.after; binds = inl one.binds; shows = one.shows }
 
-follows_on : (programs : List Program) (offer : Option Offered) (l : LinkId) (stations : ℕ) (w : MachineHeard) (x : Heard) (told : MonitorAnswer) (a : Cut)
-    (s t : TheRun TheSide) → ShowsCut a s → map (λ (y : TheSeat). y.kind) s.core.board.seats ≡ map (λ (q : Port). kind_of q.wire) s.core.ports
+follows_on : (asked : Option Service) (programs : List Program) (offer : Option Offered) (l : LinkId) (stations : ℕ) (w : MachineHeard) (x : Heard) (told : MonitorAnswer) (a : Cut)
+    (s t : TheRun TheSide) → Fits asked offer → map (λ (p : Program). planned_of p) programs ≡ a.plans → ShowsCut a s → map (λ (y : TheSeat). y.kind) s.core.board.seats ≡ map (λ (q : Port). kind_of q.wire) s.core.ports
     → ((who : EndId) (f : ℕ) → place_of s.core who ≡ Some f → IsPlaced s.core.ports who f) → IsBoard s.core.board → 1 ≤ stations
     → ((e : EndId) (c : ℕ) (at : EndAt a e) → w ≡ end_opened e c → IsUnbound at.end) → SameHeard w x → NodeFollows programs offer l x s.core told t.core
-    → t ≡ record s { core = t.core } → Followed l stations w told a t
-follows_on programs offer l stations no_outbox x told a s t h kinds placed sound some free same f rest = absurd same
-follows_on programs offer l stations astray x told a s t h kinds placed sound some free same f rest = absurd same
-follows_on programs offer l stations (opening_went_on u0 u1) (was.OpeningWentOn v0 v1 v2) told a s t h kinds placed sound some free same f rest =
+    → t ≡ record s { core = t.core } → Followed asked l stations w told a t
+follows_on asked programs offer l stations no_outbox x told a s t fits lent_plans h kinds placed sound some free same f rest = absurd same
+follows_on asked programs offer l stations astray x told a s t fits lent_plans h kinds placed sound some free same f rest = absurd same
+follows_on asked programs offer l stations (opening_went_on u0 u1) (was.OpeningWentOn v0 v1 v2) told a s t fits lent_plans h kinds placed sound some free same f rest =
     record { after = a; follows = (f.0, refl); shows = same_core a s t h f.1 rest }
-follows_on programs offer l stations (opening_went_on u0 u1) (was.ServerMade v0 v1 v2) told a s t h kinds placed sound some free same f rest = absurd same
-follows_on programs offer l stations (opening_went_on u0 u1) (was.OpeningFailed v0 v1) told a s t h kinds placed sound some free same f rest = absurd same
-follows_on programs offer l stations (opening_went_on u0 u1) (was.AnswerWentOn v0 v1 v2) told a s t h kinds placed sound some free same f rest = absurd same
-follows_on programs offer l stations (opening_went_on u0 u1) (was.EndOpened v0 v1) told a s t h kinds placed sound some free same f rest = absurd same
-follows_on programs offer l stations (opening_went_on u0 u1) (was.EndRefused v0 v1) told a s t h kinds placed sound some free same f rest = absurd same
-follows_on programs offer l stations (server_made u0 u1 u2) (was.OpeningWentOn v0 v1 v2) told a s t h kinds placed sound some free same f rest = absurd same
-follows_on programs offer l stations (server_made u0 u1 u2) (was.ServerMade v0 v1 v2) told a s t h kinds placed sound some free same f rest =
+follows_on asked programs offer l stations (opening_went_on u0 u1) (was.ServerMade v0 v1 v2) told a s t fits lent_plans h kinds placed sound some free same f rest = absurd same
+follows_on asked programs offer l stations (opening_went_on u0 u1) (was.OpeningFailed v0 v1) told a s t fits lent_plans h kinds placed sound some free same f rest = absurd same
+follows_on asked programs offer l stations (opening_went_on u0 u1) (was.AnswerWentOn v0 v1 v2) told a s t fits lent_plans h kinds placed sound some free same f rest = absurd same
+follows_on asked programs offer l stations (opening_went_on u0 u1) (was.EndOpened v0 v1) told a s t fits lent_plans h kinds placed sound some free same f rest = absurd same
+follows_on asked programs offer l stations (opening_went_on u0 u1) (was.EndRefused v0 v1) told a s t fits lent_plans h kinds placed sound some free same f rest = absurd same
+follows_on asked programs offer l stations (server_made u0 u1 u2) (was.OpeningWentOn v0 v1 v2) told a s t fits lent_plans h kinds placed sound some free same f rest = absurd same
+follows_on asked programs offer l stations (server_made u0 u1 u2) (was.ServerMade v0 v1 v2) told a s t fits lent_plans h kinds placed sound some free same f rest =
     let (same_n, same_d, same_c) = same in
     let make : NodeMakes programs offer l u0 u1.place v2 s.core t.core = subst (λ (n : ℕ). NodeMakes programs offer l n u1.place v2 s.core t.core) same_n
     (subst (λ (d : ℕ). NodeMakes programs offer l v0 d v2 s.core t.core) same_d f.1) in
-    let one = makes_server programs offer l u0 stations u1 v2 a s t h kinds sound some make rest in
+    let one = makes_server asked programs offer l u0 stations u1 v2 a s t fits lent_plans h kinds sound some make rest in
     record {
       after = one.after;
-      follows = (f.0 ∙ ap (λ (n : ℕ). answer.Opened (server_of n)) same_n, subst (λ (c : ℕ). MakesServer stations u0 u1 c l a one.after) same_c one.makes);
+      follows = (f.0 ∙ ap (λ (n : ℕ). answer.Opened (server_of n)) same_n, subst (λ (c : ℕ). MakesServer asked stations u0 u1 c l a one.after) same_c one.makes);
       shows = one.shows;
     }
-follows_on programs offer l stations (server_made u0 u1 u2) (was.OpeningFailed v0 v1) told a s t h kinds placed sound some free same f rest = absurd same
-follows_on programs offer l stations (server_made u0 u1 u2) (was.AnswerWentOn v0 v1 v2) told a s t h kinds placed sound some free same f rest = absurd same
-follows_on programs offer l stations (server_made u0 u1 u2) (was.EndOpened v0 v1) told a s t h kinds placed sound some free same f rest = absurd same
-follows_on programs offer l stations (server_made u0 u1 u2) (was.EndRefused v0 v1) told a s t h kinds placed sound some free same f rest = absurd same
-follows_on programs offer l stations (opening_failed u0 u1) (was.OpeningWentOn v0 v1 v2) told a s t h kinds placed sound some free same f rest = absurd same
-follows_on programs offer l stations (opening_failed u0 u1) (was.ServerMade v0 v1 v2) told a s t h kinds placed sound some free same f rest = absurd same
-follows_on programs offer l stations (opening_failed u0 u1) (was.OpeningFailed v0 v1) told a s t h kinds placed sound some free same f rest =
+follows_on asked programs offer l stations (server_made u0 u1 u2) (was.OpeningFailed v0 v1) told a s t fits lent_plans h kinds placed sound some free same f rest = absurd same
+follows_on asked programs offer l stations (server_made u0 u1 u2) (was.AnswerWentOn v0 v1 v2) told a s t fits lent_plans h kinds placed sound some free same f rest = absurd same
+follows_on asked programs offer l stations (server_made u0 u1 u2) (was.EndOpened v0 v1) told a s t fits lent_plans h kinds placed sound some free same f rest = absurd same
+follows_on asked programs offer l stations (server_made u0 u1 u2) (was.EndRefused v0 v1) told a s t fits lent_plans h kinds placed sound some free same f rest = absurd same
+follows_on asked programs offer l stations (opening_failed u0 u1) (was.OpeningWentOn v0 v1 v2) told a s t fits lent_plans h kinds placed sound some free same f rest = absurd same
+follows_on asked programs offer l stations (opening_failed u0 u1) (was.ServerMade v0 v1 v2) told a s t fits lent_plans h kinds placed sound some free same f rest = absurd same
+follows_on asked programs offer l stations (opening_failed u0 u1) (was.OpeningFailed v0 v1) told a s t fits lent_plans h kinds placed sound some free same f rest =
     record { after = a; follows = (f.0, refl); shows = same_core a s t h f.1 rest }
-follows_on programs offer l stations (opening_failed u0 u1) (was.AnswerWentOn v0 v1 v2) told a s t h kinds placed sound some free same f rest = absurd same
-follows_on programs offer l stations (opening_failed u0 u1) (was.EndOpened v0 v1) told a s t h kinds placed sound some free same f rest = absurd same
-follows_on programs offer l stations (opening_failed u0 u1) (was.EndRefused v0 v1) told a s t h kinds placed sound some free same f rest = absurd same
-follows_on programs offer l stations (answer_went_on u0) (was.OpeningWentOn v0 v1 v2) told a s t h kinds placed sound some free same f rest = absurd same
-follows_on programs offer l stations (answer_went_on u0) (was.ServerMade v0 v1 v2) told a s t h kinds placed sound some free same f rest = absurd same
-follows_on programs offer l stations (answer_went_on u0) (was.OpeningFailed v0 v1) told a s t h kinds placed sound some free same f rest = absurd same
-follows_on programs offer l stations (answer_went_on u0) (was.AnswerWentOn v0 v1 v2) told a s t h kinds placed sound some free same f rest =
+follows_on asked programs offer l stations (opening_failed u0 u1) (was.AnswerWentOn v0 v1 v2) told a s t fits lent_plans h kinds placed sound some free same f rest = absurd same
+follows_on asked programs offer l stations (opening_failed u0 u1) (was.EndOpened v0 v1) told a s t fits lent_plans h kinds placed sound some free same f rest = absurd same
+follows_on asked programs offer l stations (opening_failed u0 u1) (was.EndRefused v0 v1) told a s t fits lent_plans h kinds placed sound some free same f rest = absurd same
+follows_on asked programs offer l stations (answer_went_on u0) (was.OpeningWentOn v0 v1 v2) told a s t fits lent_plans h kinds placed sound some free same f rest = absurd same
+follows_on asked programs offer l stations (answer_went_on u0) (was.ServerMade v0 v1 v2) told a s t fits lent_plans h kinds placed sound some free same f rest = absurd same
+follows_on asked programs offer l stations (answer_went_on u0) (was.OpeningFailed v0 v1) told a s t fits lent_plans h kinds placed sound some free same f rest = absurd same
+follows_on asked programs offer l stations (answer_went_on u0) (was.AnswerWentOn v0 v1 v2) told a s t fits lent_plans h kinds placed sound some free same f rest =
     record { after = a; follows = (f.0, refl); shows = same_core a s t h f.1 rest }
-follows_on programs offer l stations (answer_went_on u0) (was.EndOpened v0 v1) told a s t h kinds placed sound some free same f rest = absurd same
-follows_on programs offer l stations (answer_went_on u0) (was.EndRefused v0 v1) told a s t h kinds placed sound some free same f rest = absurd same
-follows_on programs offer l stations (end_opened u0 u1) (was.OpeningWentOn v0 v1 v2) told a s t h kinds placed sound some free same f rest = absurd same
-follows_on programs offer l stations (end_opened u0 u1) (was.ServerMade v0 v1 v2) told a s t h kinds placed sound some free same f rest = absurd same
-follows_on programs offer l stations (end_opened u0 u1) (was.OpeningFailed v0 v1) told a s t h kinds placed sound some free same f rest = absurd same
-follows_on programs offer l stations (end_opened u0 u1) (was.AnswerWentOn v0 v1 v2) told a s t h kinds placed sound some free same f rest = absurd same
-follows_on programs offer l stations (end_opened u0 u1) (was.EndOpened v0 v1) told a s t h kinds placed sound some free same f rest =
+follows_on asked programs offer l stations (answer_went_on u0) (was.EndOpened v0 v1) told a s t fits lent_plans h kinds placed sound some free same f rest = absurd same
+follows_on asked programs offer l stations (answer_went_on u0) (was.EndRefused v0 v1) told a s t fits lent_plans h kinds placed sound some free same f rest = absurd same
+follows_on asked programs offer l stations (end_opened u0 u1) (was.OpeningWentOn v0 v1 v2) told a s t fits lent_plans h kinds placed sound some free same f rest = absurd same
+follows_on asked programs offer l stations (end_opened u0 u1) (was.ServerMade v0 v1 v2) told a s t fits lent_plans h kinds placed sound some free same f rest = absurd same
+follows_on asked programs offer l stations (end_opened u0 u1) (was.OpeningFailed v0 v1) told a s t fits lent_plans h kinds placed sound some free same f rest = absurd same
+follows_on asked programs offer l stations (end_opened u0 u1) (was.AnswerWentOn v0 v1 v2) told a s t fits lent_plans h kinds placed sound some free same f rest = absurd same
+follows_on asked programs offer l stations (end_opened u0 u1) (was.EndOpened v0 v1) told a s t fits lent_plans h kinds placed sound some free same f rest =
     let b : NodeBindsIf (arriving_at s.core u0) v1 s.core t.core = subst (λ (e : EndId). NodeBindsIf (arriving_at s.core e) v1 s.core t.core) same.0 f.1 in
     let one = binds_if u0 v1 (arriving_at s.core u0) a s t h kinds placed sound refl (λ at. free u0 u1 at refl) b rest in
     record {
@@ -514,13 +552,13 @@ follows_on programs offer l stations (end_opened u0 u1) (was.EndOpened v0 v1) to
       follows = (f.0 ∙ ap (λ (e : EndId). answer.Opened e) same.0, subst (λ (c : ℕ). BindsIf u0 c a one.after) same.1 one.binds);
       shows = one.shows;
     }
-follows_on programs offer l stations (end_opened u0 u1) (was.EndRefused v0 v1) told a s t h kinds placed sound some free same f rest = absurd same
-follows_on programs offer l stations (end_refused u0 u1) (was.OpeningWentOn v0 v1 v2) told a s t h kinds placed sound some free same f rest = absurd same
-follows_on programs offer l stations (end_refused u0 u1) (was.ServerMade v0 v1 v2) told a s t h kinds placed sound some free same f rest = absurd same
-follows_on programs offer l stations (end_refused u0 u1) (was.OpeningFailed v0 v1) told a s t h kinds placed sound some free same f rest = absurd same
-follows_on programs offer l stations (end_refused u0 u1) (was.AnswerWentOn v0 v1 v2) told a s t h kinds placed sound some free same f rest = absurd same
-follows_on programs offer l stations (end_refused u0 u1) (was.EndOpened v0 v1) told a s t h kinds placed sound some free same f rest = absurd same
-follows_on programs offer l stations (end_refused u0 u1) (was.EndRefused v0 v1) told a s t h kinds placed sound some free same f rest = record {
+follows_on asked programs offer l stations (end_opened u0 u1) (was.EndRefused v0 v1) told a s t fits lent_plans h kinds placed sound some free same f rest = absurd same
+follows_on asked programs offer l stations (end_refused u0 u1) (was.OpeningWentOn v0 v1 v2) told a s t fits lent_plans h kinds placed sound some free same f rest = absurd same
+follows_on asked programs offer l stations (end_refused u0 u1) (was.ServerMade v0 v1 v2) told a s t fits lent_plans h kinds placed sound some free same f rest = absurd same
+follows_on asked programs offer l stations (end_refused u0 u1) (was.OpeningFailed v0 v1) told a s t fits lent_plans h kinds placed sound some free same f rest = absurd same
+follows_on asked programs offer l stations (end_refused u0 u1) (was.AnswerWentOn v0 v1 v2) told a s t fits lent_plans h kinds placed sound some free same f rest = absurd same
+follows_on asked programs offer l stations (end_refused u0 u1) (was.EndOpened v0 v1) told a s t fits lent_plans h kinds placed sound some free same f rest = absurd same
+follows_on asked programs offer l stations (end_refused u0 u1) (was.EndRefused v0 v1) told a s t fits lent_plans h kinds placed sound some free same f rest = record {
   after = a;
   follows = (f.0 ∙ ap (λ (e : EndId). answer.OpeningRefused e v1) same.0 ∙ ap (λ (r : ℕ). answer.OpeningRefused u0 r) same.1, refl);
   shows = same_core a s t h f.1 rest;
@@ -551,7 +589,8 @@ hears_all law services a s m n l frag msg told before after h sound names order 
     let base : TheRun TheSide = heard_run s all.monitor (slice_set s.rings n after) in
     let shown : ShowsCut middle base = heard_shows a s (slice_set a.sides n one.0) (hearing services l.0 msg a).core all.monitor (slice_set s.rings n after) h
     (set_both ShowsSide a.sides s.rings n one.0 after h.sides one.2) agree.1 keeps.waits number in
-    let next = follows_on s.offers.programs (offer_for s.offers s.core msg) l (route_length msg + 1) (hearing services l.0 msg a).heard all.heard told middle base m shown
+    let next = follows_on (asked_service services msg) s.offers.programs (offer_for s.offers s.core msg) l (route_length msg + 1) (hearing services l.0 msg a).heard all.heard told middle base m
+    (offer_fits services s.offers s.core msg names) h.plans shown
     sound.core.kinds sound.core.placed sound.board (omega (arith)) (λ e c at w. order.unbound e c (below at) w) agree.0 all.follows rest in
     record {
       after = next.after;

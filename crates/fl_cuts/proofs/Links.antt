@@ -82,6 +82,7 @@ desks_shown a m t h e =
       sides = h.sides;
       queues = h.queues;
       arrivals = h.arrivals;
+      plans = h.plans;
     })
 
 -- a side has changed, and the lanes

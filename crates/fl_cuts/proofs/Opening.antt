@@ -5,6 +5,7 @@ use Rattle.std.proofs.lemmas.List.{length-map, map_push}
 use Rattle.fl_base.specs.declared.identity.CoreId.{CoreId}
 use Rattle.fl_base.specs.declared.identity.EndId.{EndId}
 use Rattle.fl_base.specs.declared.identity.Circuit.{Circuit}
+use Rattle.fl_compile.specs.Programs.{TheProgram, program_of}
 use Rattle.fl_compile.specs.declared.program.Program.{Program}
 use Rattle.fl_hop.specs.Table.{TheCircuits}
 use Rattle.fl_hop.specs.Numbers.{next_own}
@@ -54,6 +55,18 @@ push_both R [] [] x y h r = (r, tt)
 push_both R [] (z ∷ ys) x y h r = absurd h
 push_both R (w ∷ xs) [] x y h r = absurd h
 push_both R (w ∷ xs) (z ∷ ys) x y h r = (h.0, push_both R xs ys x y h.1 r)
+
+-- of a copy of a program that is lent
+pub copied : (programs : List Program) (plans : List Planned) (n : ℕ) (p source : Program) → map (λ (q : Program). planned_of q) programs ≡ plans
+    → slice_get programs n ≡ Some source → program_of p ≡ program_of source → slice_get plans n ≡ Some (planned_of p)
+copied programs plans n p source h at same =
+    ap (λ (is : List Planned). slice_get is n) (sym h) ∙ lent_at programs n at
+    ∙ ap (λ (q : TheProgram). Some (let i : Planned = record { interface = q.interface; plan = q.plan } in i)) (sym same)
+  where
+    lent_at : (ps : List Program) (m : ℕ) → slice_get ps m ≡ Some source → slice_get (map (λ (q : Program). planned_of q) ps) m ≡ Some (planned_of source)
+    lent_at [] m q = absurd (cc)
+    lent_at (x ∷ ps) zero q = let first : x ≡ source = cc in ap (λ (z : Program). Some (planned_of z)) first
+    lent_at (x ∷ ps) (suc m) q = lent_at ps m q
 
 pub same_length : {A B : Type 0} (R : A → B → Type 0) (xs : List A) (ys : List B) → Each2 R xs ys → length xs ≡ length ys
 same_length R [] [] h = refl
@@ -165,6 +178,7 @@ added_shows a s place d waits program stations e p x t core m h kinds d_is waits
     let all = weaker (ShowsWaits s.core.ports) (ShowsWaits (s.core.ports ++ p ∷ []))
     (λ w f k. record { lists = k.lists; ends = names_still s.core.ports p f.ends w.ends k.ends }) a.core.dispatchers s.core.board.dispatchers h.waits in
     record {
+      plans = h.plans;
       monitor = monitor_shows;
       waits = subst (λ (ds : List Dispatcher). Each2 (ShowsWaits (s.core.ports ++ p ∷ [])) ds
           (slice_set s.core.board.dispatchers place (record { lists = d.lists; ends = d.ends ++ length s.core.board.seats ∷ [] }))) (sym cores)
@@ -242,7 +256,8 @@ opens_follow rooms law a s m t name wish (Ok e) h sound on links desks =
     record {
       after = next;
       does = record {
-        program = on.event.program;
+        planned = planned_of on.event.program;
+        planned_is = copied s.offers.programs a.plans wish.interface on.event.program on.event.copy.source h.plans on.event.copy.source_is on.event.copy.same;
         waits = w.0;
         waits_is = w.1;
         place = there_is;

@@ -131,4 +131,5 @@ starts_show k s h m = record {
       (λ n x q. side_first x (h.sides n x q));
   queues = mapped ShowsQueue first_queue s.queues (λ n q r. queue_first q (h.queues n q r));
   arrivals = mapped ShowsQueue first_queue s.core.arrivals (λ n q r. queue_first q (h.arrivals n q r));
+  plans = refl;
 }

@@ -3,6 +3,7 @@ use Rattle.std.specs.Prelude.{ℕ, ◌≡◌, false, List, [], ◌∷◌, length
 use Rattle.fl_base.specs.declared.fragment.Frag.{Frag}
 use Rattle.fl_base.specs.declared.identity.EndId.{EndId}
 use Rattle.fl_base.specs.Control.{bare}
+use Rattle.fl_compile.specs.declared.program.Program.{Program}
 use Rattle.fl_link.specs.Queue.{TheQueue}
 use Rattle.fl_ring.specs.SharedSides.{TheSide}
 use Rattle.fl_core.specs.View.{TheDispatcher, TheSeat}
@@ -10,9 +11,11 @@ use Rattle.fl_node.specs.declared.wire.Lane.{Lane}
 use Rattle.fl_node.specs.declared.wire.Port.{Port}
 use Rattle.fl_running.specs.Run.{TheRun}
 use Rattle.fl_queues.specs.Given.{given}
+use Rattle.fl_queues.specs.Calls.{Planned}
 use Rattle.fl_queues.specs.Ends.{Queue, Seat}
 use Rattle.fl_queues.specs.Waits.{Dispatcher}
 use Rattle.fl_queues.specs.Monitors.{Core}
+use Rattle.fl_shows.specs.Ends.{planned_of}
 use Rattle.fl_shows.specs.Cores.{MonitorShows}
 use Rattle.fl_cuts.specs.Sides.{SideCut, ShowsSide}
 use Rattle.fl_cuts.specs.Ends.{EndCut, ShowsEnd}
@@ -40,6 +43,8 @@ pub record Cut : Type 0 where
   pub sides : List SideCut
   pub queues : List QueueCut
   pub arrivals : List QueueCut
+  -- the interfaces and plans of the programs that it is lent
+  pub plans : List Planned
 
 -- ---- parts
 
@@ -81,3 +86,4 @@ pub record ShowsCut (a : Cut) (s : TheRun TheSide) : Type 0 where
   pub sides : Each2 ShowsSide a.sides s.rings
   pub queues : Each2 ShowsQueue a.queues s.queues
   pub arrivals : Each2 ShowsQueue a.arrivals s.core.arrivals
+  pub plans : map (λ (p : Program). planned_of p) s.offers.programs ≡ a.plans

@@ -4,7 +4,6 @@ use Rattle.fl_base.specs.declared.fragment.Frag.{Frag}
 use Rattle.fl_base.specs.declared.identity.EndId.{EndId}
 use Rattle.fl_base.specs.declared.identity.LinkId.{LinkId}
 use Rattle.fl_base.specs.Control.{bare}
-use Rattle.fl_compile.specs.declared.program.Program.{Program}
 use Rattle.fl_ring.specs.SharedSides.{TheSide}
 use Rattle.fl_monitor.specs.declared.message.Message.{Message}
 use Rattle.fl_monitor.specs.declared.message.Message.TheVariants.{OpenCircuit, CircuitOpened, CircuitRefused}
@@ -21,9 +20,9 @@ use Rattle.fl_queues.specs.Given.{changed_at}
 use Rattle.fl_queues.specs.Rings.{Said, open_circuit, circuit_opened, circuit_refused, says}
 use Rattle.fl_queues.specs.Ends.{Seat}
 use Rattle.fl_queues.specs.Waits.{Dispatcher, waits_in, registers}
-use Rattle.fl_queues.specs.Monitors.{Service, Heard, no_outbox, opening_went_on, server_made, opening_failed, answer_went_on, end_opened, end_refused}
+use Rattle.fl_queues.specs.Monitors.{Service, service_of, Heard, no_outbox, opening_went_on, server_made, opening_failed, answer_went_on, end_opened, end_refused}
 use Rattle.fl_queues.specs.Monitors.{Hearing, hears}
-use Rattle.fl_shows.specs.Ends.{planned_of}
+use Rattle.fl_queues.specs.Calls.{Planned}
 use Rattle.fl_shows.specs.CoreLaws.{MayBeHeard}
 use Rattle.fl_cuts.specs.Sides.{gave_one, SideGives}
 use Rattle.fl_cuts.specs.Ends.{EndCut}
@@ -38,6 +37,11 @@ abbrev pub said_of : Message → Said
 said_of (OpenCircuit c binding service path) = open_circuit (opening_with c.0 (record { binding = binding; service = service; path = path }))
 said_of (CircuitOpened c) = circuit_opened c.0
 said_of (CircuitRefused c reason) = circuit_refused c.0 reason
+
+-- the service for which it asks
+abbrev pub asked_service : List Service → Message → Option Service
+asked_service services (OpenCircuit c binding service path) = service_of services service.0
+asked_service services m = None
 
 -- how many cores its route has, if it asks for a circuit
 abbrev pub route_length : Message → ℕ
@@ -60,12 +64,16 @@ abbrev pub bound_to : ℕ → EndCut → EndCut
 bound_to c x = record x { end = record x.end { circuit = Some c } }
 
 -- the server's end is made, bound to this circuit, and its channel registered
-pub record MakesServer (stations n : ℕ) (d : DispatcherId) (c : ℕ) (l : LinkId) (a b : Cut) : Type 0 where
-  pub program : Program
+pub record MakesServer (asked : Option Service) (stations n : ℕ) (d : DispatcherId) (c : ℕ) (l : LinkId) (a b : Cut) : Type 0 where
+  pub service : Service
+  pub service_is : asked ≡ Some service
+  -- of the service's program, of which the end has a copy
+  pub planned : Planned
+  pub planned_is : slice_get a.plans service.interface ≡ Some planned
   pub waits : Dispatcher
   pub waits_is : slice_get a.core.dispatchers d.place ≡ Some waits
   pub end : EndCut
-  pub end_is : end ≡ new_end (circuit_port (server_of n) l (length a.arrivals)) (planned_of program) stations (next_seat a.core.circuits.core d.place waits)
+  pub end_is : end ≡ new_end (circuit_port (server_of n) l (length a.arrivals)) planned stations (next_seat a.core.circuits.core d.place waits)
   pub made : Cut
   pub made_is : made ≡ with_new_end d.place waits (bound_to c end) a
   pub rest : b ≡ with_waits made (registers_seat end.end.seat new_arrivals made.core.dispatchers)
@@ -84,14 +92,14 @@ abbrev pub BindsIf : EndId → ℕ → Cut → Cut → Type 0
 BindsIf name c a b = BindsEnd name c a b ⊎ (((at : EndAt a name) → arrivals_by at.end.port.wire ≡ None) × (b ≡ a))
 
 -- by what the machine hears, from the cut in which the message was taken and the core's table and outboxes are as after it
-abbrev pub ThenFollows : LinkId → ℕ → Heard → MonitorAnswer → Cut → Cut → Type 0
-ThenFollows l stations (opening_went_on n c) told a b = (told ≡ Done) × (b ≡ a)
-ThenFollows l stations (opening_failed n fault) told a b = (told ≡ Done) × (b ≡ a)
-ThenFollows l stations (answer_went_on n) told a b = (told ≡ Done) × (b ≡ a)
-ThenFollows l stations (server_made n d c) told a b = (told ≡ Opened (server_of n)) × MakesServer stations n d c l a b
-ThenFollows l stations (end_opened e c) told a b = (told ≡ Opened e) × BindsIf e c a b
-ThenFollows l stations (end_refused e fault) told a b = (told ≡ OpeningRefused e fault) × (b ≡ a)
-ThenFollows l stations other told a b = ⊥
+abbrev pub ThenFollows : Option Service → LinkId → ℕ → Heard → MonitorAnswer → Cut → Cut → Type 0
+ThenFollows asked l stations (opening_went_on n c) told a b = (told ≡ Done) × (b ≡ a)
+ThenFollows asked l stations (opening_failed n fault) told a b = (told ≡ Done) × (b ≡ a)
+ThenFollows asked l stations (answer_went_on n) told a b = (told ≡ Done) × (b ≡ a)
+ThenFollows asked l stations (server_made n d c) told a b = (told ≡ Opened (server_of n)) × MakesServer asked stations n d c l a b
+ThenFollows asked l stations (end_opened e c) told a b = (told ≡ Opened e) × BindsIf e c a b
+ThenFollows asked l stations (end_refused e fault) told a b = (told ≡ OpeningRefused e fault) × (b ≡ a)
+ThenFollows asked l stations other told a b = ⊥
 
 -- it was taken, and heard
 pub record Hears (services : List Service) (n : ℕ) (l : LinkId) (frag : Frag) (told : MonitorAnswer) (a b : Cut) : Type 0 where
@@ -100,7 +108,7 @@ pub record Hears (services : List Service) (n : ℕ) (l : LinkId) (frag : Frag) 
   pub middle : Cut
   pub sides : OverOne a.sides n (SideGives (says (said_of message)) (gave_one (bare frag))) middle.sides
   pub middle_is : middle ≡ record a { core = (hearing services l.0 message a).core; sides = middle.sides }
-  pub follows : ThenFollows l (route_length message + 1) (hearing services l.0 message a).heard told middle b
+  pub follows : ThenFollows (asked_service services message) l (route_length message + 1) (hearing services l.0 message a).heard told middle b
 
 abbrev pub HearsOver : List Service → ℕ → LinkId → Frag → Result MonitorAnswer LinkFault → Cut → Cut → Type 0
 HearsOver services n l frag (Ok Full) a b =

@@ -1,7 +1,6 @@
 -- What the machine makes of a cut when its core asks for a circuit: the client's end has its seat, the circuit's entry is made, and the opening is to be said.
 use Rattle.std.specs.Prelude.{ℕ, ◌≡◌, ◌+◌, true, false, [], ◌∷◌, ◌++◌, length, map, slice_get, slice_set, Some, None, Result, Ok, Err}
 use Rattle.fl_base.specs.declared.identity.CoreId.{CoreId}
-use Rattle.fl_compile.specs.declared.program.Program.{Program}
 use Rattle.fl_hop.specs.Numbers.{next_own}
 use Rattle.fl_core.specs.declared.fault.BoardFault.TheVariants as board
 use Rattle.fl_monitor.specs.declared.fault.MonitorFault.TheVariants.{OutboxFull, Memory}
@@ -17,7 +16,6 @@ use Rattle.fl_queues.specs.Rings.{Opening}
 use Rattle.fl_queues.specs.Ends.{fresh_queue, fresh_direction, unbound_end, Seat}
 use Rattle.fl_queues.specs.Waits.{Dispatcher, has_places, with_end}
 use Rattle.fl_queues.specs.Monitors.{can_say, opens}
-use Rattle.fl_shows.specs.Ends.{planned_of}
 use Rattle.fl_cuts.specs.Ends.{EndCut}
 use Rattle.fl_cuts.specs.Cut.{QueueCut, Cut}
 use Rattle.fl_cuts.specs.Events.{with_waits}
@@ -59,8 +57,9 @@ opening_with number o =
     record { circuit = number; binding = o.binding; service = o.service.0; path = map (λ (x : CoreId). x.0) o.path }
 
 pub record OpensSo (wish : Wish) (e : ℕ) (a b : Cut) : Type 0 where
-  -- the client's program, of which the end has a copy
-  pub program : Program
+  -- of the client's program, of which the end has a copy
+  pub planned : Planned
+  pub planned_is : slice_get a.plans wish.interface ≡ Some planned
   pub waits : Dispatcher
   pub waits_is : slice_get a.core.dispatchers wish.dispatcher ≡ Some waits
   pub place : has_places 1 waits ≡ true
@@ -70,7 +69,7 @@ pub record OpensSo (wish : Wish) (e : ℕ) (a b : Cut) : Type 0 where
   pub end_is : e ≡ length a.ends
   pub opened : Cut
   pub opened_is : opened ≡ with_new_end wish.dispatcher waits
-      (new_end (circuit_port (client_of wish.opening.binding) wish.link (length a.arrivals)) (planned_of program) (length wish.opening.path + 1)
+      (new_end (circuit_port (client_of wish.opening.binding) wish.link (length a.arrivals)) planned (length wish.opening.path + 1)
       (next_seat a.core.circuits.core wish.dispatcher waits)) a
   pub rest : b ≡ record opened { core = opens wish.link.0 number (opening_with number wish.opening) opened.core }
 

@@ -1,5 +1,6 @@
 -- A core with which nothing was done yet, as a set-up leaves it, and the cut that it shows. Law.
 use Rattle.std.specs.Prelude.{ℕ, ◌≡◌, false, List, [], ◌∷◌, length, map, slice_get, Some, None}
+use Rattle.fl_compile.specs.declared.program.Program.{Program}
 use Rattle.fl_base.specs.declared.identity.EndId.{EndId}
 use Rattle.fl_link.specs.Queue.{TheQueue}
 use Rattle.fl_ring.specs.SharedSides.{TheSide}
@@ -95,6 +96,7 @@ first_cut k s = record {
   sides = map first_side s.rings;
   queues = map first_queue s.queues;
   arrivals = map first_queue s.core.arrivals;
+  plans = map (λ (p : Program). planned_of p) s.offers.programs;
 }
 
 abbrev pub StartsShow : Type 0
