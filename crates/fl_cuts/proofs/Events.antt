@@ -1,0 +1,504 @@
+-- Each event of a core without links: what the machine makes of the cut is what the core shows then.
+use Rattle.std.proofs.Common.{◌≡◌, refl, sym, ◌∙◌, ap, subst, ℕ, zero, suc, List, [], ◌∷◌, map, slice_get, slice_set, Option, Some, None}
+use Rattle.std.specs.Prelude.{Result, Ok, Err}
+use Rattle.fl_base.specs.declared.identity.EndId.{EndId}
+use Rattle.fl_base.specs.declared.identity.MsgNo.{MsgNo}
+use Rattle.fl_base.specs.Ends.{peer}
+use Rattle.fl_lists.specs.declared.place.Place.{Place}
+use Rattle.fl_lists.specs.declared.place.Place.TheVariants as place
+use Rattle.fl_lists.specs.ThreeLists.{ThreeLists}
+use Rattle.fl_value.specs.Value.{TheCall}
+use Rattle.fl_waitset.specs.declared.waitset.Pick.{Pick}
+use Rattle.fl_waitset.specs.declared.waitset.Pick.TheVariants as pick
+use Rattle.fl_link.specs.Looks.{Look, placed, no_room, spent, saw, saw_ack, missed, told, kept}
+use Rattle.fl_link.specs.Queue.{TheQueue, QueuePuts, QueueTakes}
+use Rattle.fl_ring.specs.SharedSides.{TheSide, SharedPuts, SharedTakes}
+use Rattle.fl_endpoint.specs.declared.fault.EndFault.{EndFault}
+use Rattle.fl_endpoint.specs.declared.answer.WriteAnswer.{WriteAnswer}
+use Rattle.fl_endpoint.specs.declared.answer.WriteAnswer.TheVariants as write
+use Rattle.fl_endpoint.specs.View.{TheEnd}
+use Rattle.fl_endpoint.specs.Events.{Calls as EndCalls, SetsRule as EndSets}
+use Rattle.fl_core.specs.declared.kind.Kind.{Kind}
+use Rattle.fl_core.specs.declared.kind.Kind.TheVariants as kind
+use Rattle.fl_core.specs.declared.answer.TurnAnswer.{TurnAnswer}
+use Rattle.fl_core.specs.declared.answer.AckAnswer.{AckAnswer}
+use Rattle.fl_core.specs.declared.answer.AckAnswer.TheVariants as ack
+use Rattle.fl_core.specs.declared.fault.BoardFault.{BoardFault}
+use Rattle.fl_core.specs.declared.fault.BoardFault.TheVariants as board
+use Rattle.fl_core.specs.View.{TheSeat, TheBoard, channel_of, with_end}
+use Rattle.fl_core.specs.Events.{ChangesEnd as BoardChanges, Acks as EndAcks}
+use Rattle.fl_core.specs.Turns.{WaitsIn, Turns as BoardTurns, LooksAt, moment, over}
+use Rattle.fl_node.specs.declared.wire.Port.{Port}
+use Rattle.fl_node.specs.declared.wire.Wire.{Wire}
+use Rattle.fl_node.specs.declared.wire.Wire.TheVariants.{Queues, Ring as OverRing, Circuit}
+use Rattle.fl_node.specs.declared.wire.Outlet.TheVariants as outlet
+use Rattle.fl_node.specs.declared.wire.Inlet.{Inlet}
+use Rattle.fl_node.specs.declared.wire.Inlet.TheVariants as inlet
+use Rattle.fl_monitor.specs.Routing.{given as given_at}
+use Rattle.fl_node.specs.View.{TheCore, with_board, place_in, place_of, kind_of, side_of_link, outlet_by, outlet_of, inlet_by, inlet_of, joined_by, joined_to}
+use Rattle.fl_node.specs.Sound.{IsCore}
+use Rattle.fl_node.specs.Ends.{OnBoard, TriggersIf, WritesAt, woken_by as node_woken}
+use Rattle.fl_running.specs.Run.{TheRun}
+use Rattle.fl_running.specs.Deeds.{Deed, called, ruled, wrote, acked, turned, OnCore, OnRing, OnQueue, IsSound, IsSoundAt}
+use Rattle.fl_queues.specs.Given.{given}
+use Rattle.fl_queues.specs.Rings.{Label}
+use Rattle.fl_queues.specs.Waits.{Dispatcher, Due, pending, polled, due}
+use Rattle.fl_shows.specs.EndLaws.{TakeShows}
+use Rattle.fl_cuts.specs.Sides.{SideCut, ShowsSide, Places}
+use Rattle.fl_cuts.specs.Ends.{EndCut, ShowsEnd}
+use Rattle.fl_cuts.specs.Cut.{Each2, QueueCut, Cut, ShowsQueue, name_at, ShowsWaits, ShowsSeat, ShowsCut}
+use Rattle.fl_cuts.specs.Events.{QueuePlaces, Giving, ring_gives, queue_gives, Turns, Acks, triggers_end, woken_by, end_due, HasTurn}
+use Rattle.fl_cuts.specs.Does.{CutActs}
+use Rattle.fl_cuts.specs.Laws.{HasNoLinks}
+use Rattle.fl_cuts.proofs.Lists.{there, set_both}
+use Rattle.fl_cuts.proofs.Sides.{put_agrees, look_agrees, takes_one, takes_ack}
+use Rattle.fl_cuts.proofs.Ends.{PutLaw, call_shows, rule_shows, write_shows, unbound_now}
+use Rattle.fl_cuts.proofs.Queues.{queue_puts, queue_misses, queue_leaves, queue_gives_one, queue_gives_ack, some_wait, none_wait, seen_some}
+use Rattle.fl_cuts.proofs.Turning.{GivingLaw, due_of, due_is, turn_shows}
+use Rattle.fl_cuts.proofs.Cuts.{built, changed, shown_by, board_run, ring_run, queue_run, Seen, seen, end_at, ends_shown, ports_same, Triggered, on_board, triggers_shown}
+
+-- ---- sides and queues, as laws of what they do
+
+side_puts : PutLaw SharedPuts ShowsSide Places
+side_puts = record {
+  one = λ label v p q f h a. put_agrees label v p q (placed f) h a;
+  full = λ label v p q h a. put_agrees label v p q no_room h a;
+  over = λ label v p q h a. put_agrees label v p q spent h a;
+}
+
+ring_waits : (v : SideCut) (p q : TheSide) (to : Place) → ShowsSide v p → WaitsIn SharedTakes kind.Ring p to q → (to ≡ place.Polled) × ShowsSide v q
+ring_waits v p q place.Polled h a = (refl, subst (ShowsSide v) (sym a) h)
+ring_waits v p q place.Idle h a = absurd a
+ring_waits v p q place.Pending h a = absurd a
+
+side_gives : GivingLaw SharedTakes ShowsSide ring_gives kind.Ring
+side_gives = record {
+  misses = λ label v p q h a. look_agrees label v p q missed h a;
+  leaves = λ label v p q f h a. look_agrees label v p q (saw f) h a;
+  gives_one = λ label v p m q f h a b. takes_one label v p m q f h a b;
+  gives_ack = λ label v p m q h a b. takes_ack label v p m q h a b;
+  waits = ring_waits;
+}
+
+pub queue_waits : (v : QueueCut) (p q : TheQueue) (to : Place) → ShowsQueue v p → WaitsIn QueueTakes kind.Queue p to q
+    → (to ≡ queue_gives.waits_at v) × ShowsQueue v q
+queue_waits v p q place.Pending h (Rattle.std.proofs.Common.inl (f, (first, e))) =
+    (some_wait v p h (seen_some p.items (saw f) first (λ a. absurd (cc))), subst (ShowsQueue v) (sym e) h)
+queue_waits v p q place.Pending h (Rattle.std.proofs.Common.inr (first, e)) =
+    (some_wait v p h (seen_some p.items saw_ack first (λ a. absurd (cc))), subst (ShowsQueue v) (sym e) h)
+queue_waits v p q place.Idle h (none, e) = (none_wait v p h none, subst (ShowsQueue v) (sym e) h)
+queue_waits v p q place.Polled h a = absurd a
+
+pub all_gives : GivingLaw QueueTakes ShowsQueue queue_gives kind.Queue
+all_gives = record { misses = queue_misses; leaves = queue_leaves; gives_one = queue_gives_one; gives_ack = queue_gives_ack; waits = queue_waits }
+
+-- ---- what an event comes to
+
+pub record After (deed : Deed) (a : Cut) (s t : TheRun TheSide) : Type 0 where
+  pub after : Cut
+  pub does : CutActs deed a after
+  pub shows : ShowsCut after t
+  -- nothing of links has changed
+  pub links : HasNoLinks s.core → HasNoLinks t.core
+
+still_none : (s t : TheRun TheSide) (b : TheBoard) → t.core ≡ with_board s.core b → HasNoLinks s.core → HasNoLinks t.core
+still_none s t b e h = record {
+  lanes = ap (λ (k : TheCore). k.lanes) e ∙ h.lanes;
+  outboxes = ap (λ (k : TheCore). k.monitor.outboxes) e ∙ h.outboxes;
+}
+
+-- ---- a call, and a reply rule
+
+-- of the board one end has changed
+pub record Boarded (s t : TheRun TheSide) (e : ℕ) (seat : TheSeat) (y : TheEnd) : Type 0 where
+  pub run : t ≡ built s (with_end s.core.board e seat y) s.rings s.queues t.desks
+
+one_boarded : (s m t : TheRun TheSide) (e : ℕ) (Event : TheEnd → TheEnd → Type 0) (on : OnCore s (λ k k2. OnBoard k (λ b b2. BoardChanges b e Event b2) k2) m)
+    → t ≡ record m { desks = t.desks } → Boarded s t e on.event.event.seat on.event.event.end
+one_boarded s m t e Event on desks = record {
+  run = board_run s m t on.rest on.event.rest desks
+      ∙ ap (λ (b : TheBoard). built s b s.rings s.queues t.desks) on.event.event.board;
+}
+
+end_changed : (a : Cut) (s t : TheRun TheSide) (name : EndId) (e : ℕ) (seat : TheSeat) (z : TheEnd) (y : EndCut) → ShowsCut a s → Boarded s t e seat z
+    → (x : Seen a s.core.monitor.circuits.core name e seat) → ShowsEnd y z → y.port ≡ x.end.port → y.end.seat ≡ x.end.end.seat
+    → ShowsCut (record a { ends = slice_set a.ends e y }) t
+end_changed a s t name e seat z y h b x shows same sits =
+    subst (ShowsCut (record a { ends = slice_set a.ends e y })) (sym b.run)
+    (shown_by a s h a.core.dispatchers (slice_set a.ends e y) a.sides a.queues (with_end s.core.board e seat z) s.rings s.queues t.desks h.waits
+    (ends_shown a s.core.monitor.circuits.core name e seat s.core.board.seats x y z h.ends (record { shows = shows; seat = sits ∙ x.shows.seat }))
+    (ports_same a s.core.monitor.circuits.core name e seat x y same) h.sides h.queues)
+
+pub calls_follow : (a : Cut) (s m t : TheRun TheSide) (name : EndId) (c : TheCall) (answer : Result (Unit {0}) EndFault) (e : ℕ) → ShowsCut a s → IsSound s.core
+    → place_of s.core name ≡ Some e → OnCore s (λ k k2. OnBoard k (λ b b2. BoardChanges b e (λ x y. EndCalls x c answer y) b2) k2) m
+    → t ≡ record m { desks = t.desks } → After (called name c answer) a s t
+calls_follow a s m t name c answer e h sound at on desks =
+    let change = on.event.event in
+    let x = seen a s name e change.seat h sound.core at change.seat_is in
+    let one = call_shows x.end c answer change.seat.end change.end x.shows.shows change.event in
+    let boarded = one_boarded s m t e (λ y z. EndCalls y c answer z) on desks in
+    record {
+      after = record a { ends = slice_set a.ends e one.after };
+      does = record { at = end_at a s.core.monitor.circuits.core name e change.seat x; after = one.after; event = one.calls; rest = refl };
+      shows = end_changed a s t name e change.seat change.end one.after h boarded x one.shows one.port one.seat;
+      links = still_none s t (with_end s.core.board e change.seat change.end) (ap (λ (r : TheRun TheSide). r.core) boarded.run);
+    }
+
+pub rules_follow : (a : Cut) (s m t : TheRun TheSide) (name : EndId) (msg reply : MsgNo) (answer : Result (Unit {0}) EndFault) (e : ℕ) → ShowsCut a s
+    → IsSound s.core → place_of s.core name ≡ Some e
+    → OnCore s (λ k k2. OnBoard k (λ b b2. BoardChanges b e (λ x y. EndSets x msg.0 reply.0 answer y) b2) k2) m
+    → t ≡ record m { desks = t.desks } → After (ruled name msg reply answer) a s t
+rules_follow a s m t name msg reply answer e h sound at on desks =
+    let change = on.event.event in
+    let x = seen a s name e change.seat h sound.core at change.seat_is in
+    let one = rule_shows x.end msg.0 reply.0 answer change.seat.end change.end x.shows.shows change.event in
+    let boarded = one_boarded s m t e (λ y z. EndSets y msg.0 reply.0 answer z) on desks in
+    record {
+      after = record a { ends = slice_set a.ends e one.after };
+      does = record { at = end_at a s.core.monitor.circuits.core name e change.seat x; after = one.after; event = one.sets; rest = refl };
+      shows = end_changed a s t name e change.seat change.end one.after h boarded x one.shows one.port one.seat;
+      links = still_none s t (with_end s.core.board e change.seat change.end) (ap (λ (r : TheRun TheSide). r.core) boarded.run);
+    }
+
+-- ---- wires
+
+-- an end that puts to a side has nobody to wake
+not_joined : (k : TheCore) (e n : ℕ) → outlet_of k e ≡ Some (outlet.Side n) → joined_to k e ≡ None
+not_joined k e n h = by_port (slice_get k.ports e) h where
+  by_wire : (p : Port) (wire : Wire) → outlet_by k.lanes wire ≡ Some (outlet.Side n) → joined_by k p.name wire ≡ None
+  by_wire p (Queues out from) q = absurd (cc)
+  by_wire p (OverRing side) q = refl
+  by_wire p (Circuit link arrivals) q = refl
+
+  by_port : (o : Option Port) → (given_at o None λ p. outlet_by k.lanes p.wire) ≡ Some (outlet.Side n) → (given_at o None λ p. joined_by k p.name p.wire) ≡ None
+  by_port None q = refl
+  by_port (Some p) q = by_wire p p.wire q
+
+woken_none : (k : TheCore) (e : ℕ) (answer : Result WriteAnswer EndFault) → joined_to k e ≡ None → node_woken k e answer ≡ None
+woken_none k e (Ok (write.Written number count)) h = h
+woken_none k e (Ok write.Full) h = refl
+woken_none k e (Ok write.Nothing) h = refl
+woken_none k e (Err fault) h = refl
+
+-- one that puts to a queue wakes the other end of its binding
+joined_so : (k : TheCore) (e n : ℕ) (p : Port) → slice_get k.ports e ≡ Some p → outlet_of k e ≡ Some (outlet.Queue n) → joined_to k e ≡ place_of k (peer p.name)
+joined_so k e n p at h =
+    ap (λ (o : Option Port). given_at o None λ q. joined_by k q.name q.wire) at
+    ∙ by_wire p.wire (sym (ap (λ (o : Option Port). given_at o None λ q. outlet_by k.lanes q.wire) at) ∙ h)
+  where
+    by_lane : (o : Option ℕ) → (given_at o None λ side. Some (outlet.Side side)) ≡ Some (outlet.Queue n) → ⊥
+    by_lane None q = absurd (cc)
+    by_lane (Some side) q = absurd (cc)
+
+    by_wire : (wire : Wire) → outlet_by k.lanes wire ≡ Some (outlet.Queue n) → joined_by k p.name wire ≡ place_of k (peer p.name)
+    by_wire (Queues out from) q = refl
+    by_wire (OverRing side) q = absurd (cc)
+    by_wire (Circuit link arrivals) q = absurd (by_lane (side_of_link k.lanes link.0) q)
+
+woken_same : (a : Cut) (k : TheCore) (e : ℕ) (name : EndId) (answer : Result WriteAnswer EndFault) → joined_to k e ≡ place_in a.places (peer name)
+    → node_woken k e answer ≡ woken_by name answer a
+woken_same a k e name (Ok (write.Written number count)) h = h
+woken_same a k e name (Ok write.Full) h = refl
+woken_same a k e name (Ok write.Nothing) h = refl
+woken_same a k e name (Err fault) h = refl
+
+-- how fragments come to an end, by its wire
+pub kind_at : (seats : List TheSeat) (ports : List Port) (e : ℕ) (seat : TheSeat) (p : Port)
+    → map (λ (x : TheSeat). x.kind) seats ≡ map (λ (q : Port). kind_of q.wire) ports → slice_get seats e ≡ Some seat → slice_get ports e ≡ Some p
+    → seat.kind ≡ kind_of p.wire
+kind_at [] ports e seat p h x y = absurd (cc)
+kind_at (s ∷ seats) [] e seat p h x y = absurd (cc)
+kind_at (s ∷ seats) (q ∷ ports) zero seat p h x y =
+    let first : s.kind ≡ kind_of q.wire = cc in
+    let left : s ≡ seat = cc in
+    let right : q ≡ p = cc in
+    ap (λ (z : TheSeat). z.kind) (sym left) ∙ first ∙ ap (λ (z : Port). kind_of z.wire) right
+kind_at (s ∷ seats) (q ∷ ports) (suc e) seat p h x y =
+    let rest : map (λ (z : TheSeat). z.kind) seats ≡ map (λ (z : Port). kind_of z.wire) ports = cc in kind_at seats ports e seat p rest x y
+
+pub kind_from : (k : TheCore) (e : ℕ) (seat : TheSeat) (from : Inlet) (expected : Kind) → IsCore k → slice_get k.board.seats e ≡ Some seat → inlet_of k e ≡ Some from
+    → ((wire : Wire) → inlet_by wire ≡ from → kind_of wire ≡ expected) → seat.kind ≡ expected
+kind_from k e seat from expected core at h by = by_port (slice_get k.ports e) refl h where
+  same : (x y : Inlet) → Some x ≡ Some y → x ≡ y
+  same x y q = cc
+
+  by_port : (o : Option Port) → slice_get k.ports e ≡ o → (given_at o None λ p. Some (inlet_by p.wire)) ≡ Some from → seat.kind ≡ expected
+  by_port None q r = absurd (cc)
+  by_port (Some p) q r = kind_at k.board.seats k.ports e seat p core.kinds at q ∙ by p.wire (same (inlet_by p.wire) from r)
+
+ring_kind : (n : ℕ) (wire : Wire) → inlet_by wire ≡ inlet.Side n → kind_of wire ≡ kind.Ring
+ring_kind n (Queues out from) h = absurd (cc)
+ring_kind n (OverRing side) h = refl
+ring_kind n (Circuit link arrivals) h = absurd (cc)
+
+queue_kind : (n : ℕ) (wire : Wire) → inlet_by wire ≡ inlet.Queue n → kind_of wire ≡ kind.Queue
+queue_kind n (Queues out from) h = refl
+queue_kind n (OverRing side) h = absurd (cc)
+queue_kind n (Circuit link arrivals) h = absurd (cc)
+
+-- ---- a write
+
+pub side_writes_follow : (a : Cut) (s m t : TheRun TheSide) (name : EndId) (n : ℕ) (answer : Result WriteAnswer EndFault) (e : ℕ) → ShowsCut a s → IsSound s.core
+    → place_of s.core name ≡ Some e → outlet_of s.core e ≡ Some (outlet.Side n) → OnRing n s (λ k p k2 q. WritesAt SharedPuts e k p answer k2 q) m
+    → t ≡ record m { desks = t.desks } → After (wrote name (outlet.Side n) answer) a s t
+side_writes_follow a s m t name n answer e h sound at out on desks =
+    let wrote_at = on.event in
+    let change = wrote_at.writes in
+    let core : ℕ = s.core.monitor.circuits.core in
+    let x = seen a s name e change.seat h sound.core at change.seat_is in
+    let v = there ShowsSide a.sides s.rings n on.before h.sides on.before_is in
+    let one = write_shows SharedPuts ShowsSide Places side_puts x.end v.0 answer change.seat.end change.end on.before on.after x.shows.shows v.2 change.event in
+    let nobody : node_woken s.core e answer ≡ None = woken_none s.core e answer (not_joined s.core e n out) in
+    let quiet : m.core.board ≡ wrote_at.wrote = subst (λ (o : Option ℕ). TriggersIf o wrote_at.wrote m.core.board) nobody wrote_at.triggers in
+    let board : m.core.board ≡ with_end s.core.board e change.seat change.end = quiet ∙ change.board in
+    let run : t ≡ built s (with_end s.core.board e change.seat change.end) (slice_set s.rings n on.after) s.queues t.desks
+    = ring_run s m t (slice_set s.rings n on.after) on.rest wrote_at.rest desks
+    ∙ ap (λ (b : TheBoard). built s b (slice_set s.rings n on.after) s.queues t.desks) board in
+    record {
+      after = record a { ends = slice_set a.ends e one.after; sides = slice_set a.sides n one.side };
+      does = (
+        record {
+          at = end_at a core name e change.seat x;
+          side = v.0;
+          side_is = v.1;
+          after = one.after;
+          side_after = one.side;
+          event = one.does;
+          ends_are = refl;
+          sides_are = refl;
+        },
+        refl,
+      );
+      shows = subst (ShowsCut (record a { ends = slice_set a.ends e one.after; sides = slice_set a.sides n one.side })) (sym run)
+          (shown_by a s h a.core.dispatchers (slice_set a.ends e one.after) (slice_set a.sides n one.side) a.queues
+          (with_end s.core.board e change.seat change.end) (slice_set s.rings n on.after) s.queues t.desks h.waits
+          (ends_shown a core name e change.seat s.core.board.seats x one.after change.end h.ends
+          (record { shows = one.shows; seat = one.seat ∙ x.shows.seat }))
+          (ports_same a core name e change.seat x one.after one.port)
+          (set_both ShowsSide a.sides s.rings n one.side on.after h.sides one.side_shows) h.queues);
+      links = still_none s t (with_end s.core.board e change.seat change.end) (ap (λ (r : TheRun TheSide). r.core) run);
+    }
+
+pub queue_writes_follow : (a : Cut) (s m t : TheRun TheSide) (name : EndId) (n : ℕ) (answer : Result WriteAnswer EndFault) (e : ℕ) → ShowsCut a s
+    → IsSound s.core → place_of s.core name ≡ Some e → outlet_of s.core e ≡ Some (outlet.Queue n)
+    → OnQueue n s (λ k p k2 q. WritesAt QueuePuts e k p answer k2 q) m
+    → t ≡ record m { desks = t.desks } → After (wrote name (outlet.Queue n) answer) a s t
+queue_writes_follow a s m t name n answer e h sound at out on desks =
+    let wrote_at = on.event in
+    let change = wrote_at.writes in
+    let core : ℕ = s.core.monitor.circuits.core in
+    let x = seen a s name e change.seat h sound.core at change.seat_is in
+    let v = there ShowsQueue a.queues s.queues n on.before h.queues on.before_is in
+    let one = write_shows QueuePuts ShowsQueue QueuePlaces queue_puts x.end v.0 answer change.seat.end change.end on.before on.after x.shows.shows v.2 change.event in
+    let placed_at = sound.core.placed name e at in
+    let joined : joined_to s.core e ≡ place_in a.places (peer name)
+    = joined_so s.core e n placed_at.port placed_at.port_is out
+    ∙ ap (λ (i : EndId). place_of s.core (peer i)) placed_at.name_is
+    ∙ ap (λ (places : List (Option ℕ)). place_in places (peer name)) (sym h.places) in
+    let ends : List EndCut = slice_set a.ends e one.after in
+    let woken : TriggersIf (woken_by name answer a) wrote_at.wrote m.core.board
+    = subst (λ (o : Option ℕ). TriggersIf o wrote_at.wrote m.core.board) (woken_same a s.core e name answer joined) wrote_at.triggers in
+    let before : Triggered core s.core.ports a.core.dispatchers (slice_set a.ends e one.after) wrote_at.wrote
+    = on_board core s.core.ports a.core.dispatchers (slice_set a.ends e one.after) (with_end s.core.board e change.seat change.end) wrote_at.wrote change.board (record {
+      waits_show = h.waits;
+      ends_show = ends_shown a core name e change.seat s.core.board.seats x one.after change.end h.ends
+          (record { shows = one.shows; seat = one.seat ∙ x.shows.seat });
+    }) in
+    let triggered = triggers_shown core s.core.ports (woken_by name answer a) a.core.dispatchers (slice_set a.ends e one.after) wrote_at.wrote m.core.board woken
+    before.waits_show before.ends_show in
+    let run : t ≡ built s m.core.board s.rings (slice_set s.queues n on.after) t.desks
+    = queue_run s m t (slice_set s.queues n on.after) on.rest wrote_at.rest desks in
+    let next : Cut = changed a (triggers_end (woken_by name answer a) (slice_set a.ends e one.after) a.core.dispatchers) (slice_set a.ends e one.after) a.sides
+    (slice_set a.queues n one.side) in
+    record {
+      after = next;
+      does = (
+        record {
+          at = end_at a core name e change.seat x;
+          side = v.0;
+          side_is = v.1;
+          after = one.after;
+          side_after = one.side;
+          event = one.does;
+          ends_are = refl;
+          sides_are = refl;
+        },
+        refl,
+      );
+      shows = subst (ShowsCut next) (sym run)
+          (shown_by a s h (triggers_end (woken_by name answer a) (slice_set a.ends e one.after) a.core.dispatchers) (slice_set a.ends e one.after) a.sides
+          (slice_set a.queues n one.side) m.core.board s.rings (slice_set s.queues n on.after) t.desks triggered.waits_show triggered.ends_show
+          (ports_same a core name e change.seat x one.after one.port) h.sides
+          (set_both ShowsQueue a.queues s.queues n one.side on.after h.queues one.side_shows));
+      links = still_none s t m.core.board (ap (λ (r : TheRun TheSide). r.core) run);
+    }
+
+-- ---- a turn
+
+-- the name of the end at a channel
+names_at : (f : ℕ → Option EndId) (xs : List ℕ) (ys : List EndId) (n x : ℕ) (name : EndId) → map f xs ≡ map (λ e. Some e) ys → slice_get xs n ≡ Some x
+    → f x ≡ Some name → slice_get ys n ≡ Some name
+names_at f [] ys n x name h q r = absurd (cc)
+names_at f (y ∷ xs) [] n x name h q r = absurd (cc)
+names_at f (y ∷ xs) (z ∷ ys) zero x name h q r =
+    let first : f y ≡ Some z = cc in
+    let here : y ≡ x = cc in
+    sym first ∙ ap f here ∙ r
+names_at f (y ∷ xs) (z ∷ ys) (suc n) x name h q r = let rest : map f xs ≡ map (λ e. Some e) ys = cc in names_at f xs ys n x name rest q r
+
+due_end : (w : Dispatcher) (picked : Pick) (name : EndId) → slice_get w.ends (channel_of picked) ≡ Some name → end_due w (due_of picked) ≡ Some name
+due_end w (pick.Pending c) name h = h
+due_end w (pick.Polled c) name h = h
+
+name_there : (k : TheCore) (name : EndId) (e : ℕ) → IsCore k → place_of k name ≡ Some e → name_at k.ports e ≡ Some name
+name_there k name e core at =
+    let placed_at = core.placed name e at in
+    ap (λ (o : Option Port). given o None λ p. Some p.name) placed_at.port_is ∙ ap Some placed_at.name_is
+
+-- what a turn makes of the parts
+pub record TurnShown {T P : Type 0} (Shows : P → T → Type 0) (g : Giving P) (d : ℕ) (name : EndId) (answer : TurnAnswer) (a : Cut) (xs : List P) (n : ℕ)
+    (core : ℕ) (ports : List Port) (b : TheBoard) (qs : List T) : Type 0 where
+  pub waits : List Dispatcher
+  pub ends : List EndCut
+  pub sides : List P
+  pub turn : HasTurn g d name answer a xs n waits ends sides
+  pub waits_show : Each2 (ShowsWaits ports) waits b.dispatchers
+  pub ends_show : Each2 (ShowsSeat core) ends b.seats
+  pub ports_are : map (λ (x : EndCut). x.port) ends ≡ map (λ (x : EndCut). x.port) a.ends
+  pub sides_show : Each2 Shows sides qs
+
+turn_on : {T P : Type 0} (Shows : P → T → Type 0) (g : Giving P) (d : ℕ) (name : EndId) (answer : TurnAnswer) (a : Cut) (xs : List P) (n : ℕ)
+    (core : ℕ) (ports : List Port) (b c : TheBoard) (qs : List T) → c ≡ b → TurnShown Shows g d name answer a xs n core ports b qs
+    → TurnShown Shows g d name answer a xs n core ports c qs
+turn_on Shows g d name answer a xs n core ports b c qs e h = subst (λ (x : TheBoard). TurnShown Shows g d name answer a xs n core ports x qs) (sym e) h
+
+module _ {T P : Type 0} (takes : T → Look → T → Type 0) (Shows : P → T → Type 0) (g : Giving P) (expected : Kind) where
+  pub turn_follows : GivingLaw takes Shows g expected → TakeShows → (a : Cut) (s : TheRun TheSide) (d : ℕ) (name : EndId) (n e : ℕ) (answer : TurnAnswer)
+      (b2 : TheBoard) (xs : List P) (ps : List T) (p q : T) → ShowsCut a s → IsCore s.core → IsSoundAt s name → place_of s.core name ≡ Some e → Each2 Shows xs ps
+      → slice_get ps n ≡ Some p → ((seat : TheSeat) → slice_get s.core.board.seats e ≡ Some seat → seat.kind ≡ expected)
+      → BoardTurns takes d e (over s.core.board p) (Ok answer) (over b2 q)
+      → TurnShown Shows g d name answer a xs n s.core.monitor.circuits.core s.core.ports b2 (slice_set ps n q)
+  turn_follows law takes_law a s d name n e answer b2 xs ps p q h core soundly at sides side_is kind_is t =
+      let number : ℕ = s.core.monitor.circuits.core in
+      let x = seen a s name e t.seat h core at t.seat_is in
+      let v = there Shows xs ps n p sides side_is in
+      let w = there (ShowsWaits s.core.ports) a.core.dispatchers s.core.board.dispatchers d t.dispatcher h.waits t.dispatcher_is in
+      let looks : LooksAt takes t.picked expected (moment t.dispatcher.lists t.seat.end p) (Ok answer) (moment t.lists t.end q)
+      = subst (λ (k : Kind). LooksAt takes t.picked k (moment t.dispatcher.lists t.seat.end p) (Ok answer) (moment t.lists t.end q)) (kind_is t.seat t.seat_is) t.looks in
+      let one = turn_shows takes Shows g expected law takes_law w.0 x.end v.0 t.picked t.dispatcher.lists t.lists t.seat.end t.end p q answer
+      x.shows.shows (soundly e t.seat at t.seat_is) v.2 w.2.lists looks in
+      let whose : due w.0 ≡ due_of t.picked
+      = ap (λ (l : ThreeLists). Rattle.fl_queues.specs.Waits.first_due l.pending l.polled) (sym w.2.lists) ∙ due_is t.dispatcher.lists t.picked t.picked_is in
+      let ended : slice_get w.0.ends (channel_of t.picked) ≡ Some name
+      = names_at (name_at s.core.ports) t.dispatcher.ends w.0.ends (channel_of t.picked) e name w.2.ends t.end_is (name_there s.core name e core at) in
+      turn_on Shows g d name answer a xs n number s.core.ports _ b2 (slice_set ps n q) t.board (record {
+        waits = slice_set a.core.dispatchers d one.after.waits;
+        ends = slice_set a.ends e one.after.end;
+        sides = slice_set xs n one.after.side;
+        turn = record {
+          waits = w.0;
+          waits_is = w.1;
+          due_is = ap (end_due w.0) whose ∙ due_end w.0 t.picked name ended;
+          at = end_at a number name e t.seat x;
+          side = v.0;
+          side_is = v.1;
+          after = one.after;
+          turns = subst (λ (y : Due). Turns g y answer (record { waits = w.0; end = x.end; side = v.0 }) one.after) (sym whose) one.turns;
+          waits_are = refl;
+          ends_are = refl;
+          sides_are = refl;
+        };
+        waits_show = set_both (ShowsWaits s.core.ports) a.core.dispatchers s.core.board.dispatchers d one.after.waits
+            (record { lists = t.lists; ends = t.dispatcher.ends }) h.waits
+            (record { lists = one.lists_are; ends = w.2.ends ∙ ap (map (λ y. Some y)) (sym one.ends_are) });
+        ends_show = ends_shown a number name e t.seat s.core.board.seats x one.after.end t.end h.ends
+            (record { shows = one.shows; seat = one.seat ∙ x.shows.seat });
+        ports_are = ports_same a number name e t.seat x one.after.end one.port;
+        sides_show = set_both Shows xs ps n one.after.side q sides one.side_shows;
+      })
+
+pub side_turns_follow : TakeShows → (a : Cut) (s m t : TheRun TheSide) (d : ℕ) (name : EndId) (n : ℕ) (answer : TurnAnswer) (e : ℕ) → ShowsCut a s → IsSound s.core
+    → IsSoundAt s name → place_of s.core name ≡ Some e → inlet_of s.core e ≡ Some (inlet.Side n)
+    → OnRing n s (λ k p k2 q. OnBoard k (λ b c. BoardTurns SharedTakes d e (over b p) (Ok answer) (over c q)) k2) m
+    → t ≡ record m { desks = t.desks } → After (turned d name (inlet.Side n) answer) a s t
+side_turns_follow law a s m t d name n answer e h sound soundly at from on desks =
+    let one = turn_follows SharedTakes ShowsSide ring_gives kind.Ring side_gives law a s d name n e answer m.core.board a.sides s.rings on.before on.after h sound.core
+    soundly at h.sides on.before_is (λ seat is. kind_from s.core e seat (inlet.Side n) kind.Ring sound.core is from (ring_kind n)) on.event.event in
+    let run = ring_run s m t (slice_set s.rings n on.after) on.rest on.event.rest desks in
+    let next : Cut = changed a one.waits one.ends one.sides a.queues in
+    record {
+      after = next;
+      does = (one.turn, refl);
+      shows = subst (ShowsCut next) (sym run)
+          (shown_by a s h one.waits one.ends one.sides a.queues m.core.board (slice_set s.rings n on.after) s.queues t.desks
+          one.waits_show one.ends_show one.ports_are one.sides_show h.queues);
+      links = still_none s t m.core.board (ap (λ (r : TheRun TheSide). r.core) run);
+    }
+
+pub queue_turns_follow : TakeShows → (a : Cut) (s m t : TheRun TheSide) (d : ℕ) (name : EndId) (n : ℕ) (answer : TurnAnswer) (e : ℕ) → ShowsCut a s → IsSound s.core
+    → IsSoundAt s name → place_of s.core name ≡ Some e → inlet_of s.core e ≡ Some (inlet.Queue n)
+    → OnQueue n s (λ k p k2 q. OnBoard k (λ b c. BoardTurns QueueTakes d e (over b p) (Ok answer) (over c q)) k2) m
+    → t ≡ record m { desks = t.desks } → After (turned d name (inlet.Queue n) answer) a s t
+queue_turns_follow law a s m t d name n answer e h sound soundly at from on desks =
+    let one = turn_follows QueueTakes ShowsQueue queue_gives kind.Queue all_gives law a s d name n e answer m.core.board a.queues s.queues on.before on.after h sound.core
+    soundly at h.queues on.before_is (λ seat is. kind_from s.core e seat (inlet.Queue n) kind.Queue sound.core is from (queue_kind n)) on.event.event in
+    let run = queue_run s m t (slice_set s.queues n on.after) on.rest on.event.rest desks in
+    let next : Cut = changed a one.waits one.ends a.sides one.sides in
+    record {
+      after = next;
+      does = (one.turn, refl);
+      shows = subst (ShowsCut next) (sym run)
+          (shown_by a s h one.waits one.ends a.sides one.sides m.core.board s.rings (slice_set s.queues n on.after) t.desks
+          one.waits_show one.ends_show one.ports_are h.sides one.sides_show);
+      links = still_none s t m.core.board (ap (λ (r : TheRun TheSide). r.core) run);
+    }
+
+-- ---- an acknowledgement
+
+record Acked (answer : Result AckAnswer BoardFault) (x : EndCut) (v : SideCut) (q : TheSide) : Type 0 where
+  pub side : SideCut
+  pub acks : Acks answer x v side
+  pub shows : ShowsSide side q
+
+label_none : Label
+label_none = Rattle.fl_queues.specs.Rings.acknowledges
+
+bound_now : (x : EndCut) (s : TheEnd) → ShowsEnd x s → Rattle.std.specs.Prelude.IsSome s.circuit → Rattle.fl_queues.specs.Ends.is_bound x.end ≡ Rattle.std.proofs.Common.true
+bound_now x s h b = subst (λ (o : Option ℕ). Rattle.std.specs.Prelude.is_some o ≡ Rattle.std.proofs.Common.true) h.circuit b
+
+ack_shows : (answer : Result AckAnswer BoardFault) (x : EndCut) (v : SideCut) (s : TheEnd) (p q : TheSide) → ShowsEnd x s → ShowsSide v p
+    → EndAcks SharedTakes kind.Ring s p answer q → Acked answer x v q
+ack_shows (Ok ack.Done) x v s p q h k (b, a) =
+    let one = look_agrees label_none v p q told k a in record { side = one.0; acks = (bound_now x s h b, one.1); shows = one.2 }
+ack_shows (Ok ack.Nothing) x v s p q h k (b, a) =
+    let one = look_agrees label_none v p q kept k a in record { side = one.0; acks = (bound_now x s h b, one.1); shows = one.2 }
+ack_shows (Ok ack.Full) x v s p q h k (b, a) =
+    let one = look_agrees label_none v p q no_room k a in record { side = one.0; acks = (bound_now x s h b, one.1); shows = one.2 }
+ack_shows (Err board.NotBound) x v s p q h k (b, e) =
+    record { side = v; acks = (unbound_now x s h b, refl); shows = subst (ShowsSide v) (sym e) k }
+ack_shows (Err fault) x v s p q h k a = absurd a
+
+pub acks_follow : (a : Cut) (s m t : TheRun TheSide) (name : EndId) (n : ℕ) (answer : Result AckAnswer BoardFault) (e : ℕ) → ShowsCut a s → IsSound s.core
+    → place_of s.core name ≡ Some e → inlet_of s.core e ≡ Some (inlet.Side n)
+    → OnRing n s (λ k p k2 q. Rattle.fl_core.specs.Events.Holds k.board e (λ x. EndAcks SharedTakes x.kind x.end p answer q) × (k2 ≡ k)) m
+    → t ≡ record m { desks = t.desks } → After (acked name n answer) a s t
+acks_follow a s m t name n answer e h sound at from on desks =
+    let (holds, core_same) = on.event in
+    let (seat, seat_is, acks) = holds in
+    let core : ℕ = s.core.monitor.circuits.core in
+    let x = seen a s name e seat h sound.core at seat_is in
+    let v = there ShowsSide a.sides s.rings n on.before h.sides on.before_is in
+    let ring : seat.kind ≡ kind.Ring = kind_from s.core e seat (inlet.Side n) kind.Ring sound.core seat_is from (ring_kind n) in
+    let one = ack_shows answer x.end v.0 seat.end on.before on.after x.shows.shows v.2
+    (subst (λ (k : Kind). EndAcks SharedTakes k seat.end on.before answer on.after) ring acks) in
+    let run : t ≡ built s s.core.board (slice_set s.rings n on.after) s.queues t.desks
+    = ring_run s m t (slice_set s.rings n on.after) on.rest (core_same ∙ ap (λ (k : TheCore). with_board s.core k.board) (sym core_same)) desks
+    ∙ ap (λ (k : TheCore). built s k.board (slice_set s.rings n on.after) s.queues t.desks) core_same in
+    record {
+      after = record a { sides = slice_set a.sides n one.side };
+      does = record { at = end_at a core name e seat x; side = v.0; side_is = v.1; after = one.side; event = one.acks; rest = refl };
+      shows = subst (ShowsCut (record a { sides = slice_set a.sides n one.side })) (sym run)
+          (shown_by a s h a.core.dispatchers a.ends (slice_set a.sides n one.side) a.queues s.core.board (slice_set s.rings n on.after) s.queues t.desks
+          h.waits h.ends refl (set_both ShowsSide a.sides s.rings n one.side on.after h.sides one.shows) h.queues);
+      links = still_none s t s.core.board (ap (λ (r : TheRun TheSide). r.core) run);
+    }

@@ -1,0 +1,681 @@
+-- A monitors' message is heard as the machine hears it.
+use Rattle.std.proofs.Common.{◌≡◌, inl, inr, refl, sym, ◌∙◌, ap, subst, ℕ, zero, suc, ◌+◌, ◌||◌, ◌≤◌, Bool, true, false, if◌then◌else◌, List, [], ◌∷◌, ◌++◌, length, map, slice_get, slice_set, Option, Some, None, arith}
+use Rattle.std.specs.Prelude.{Result, Ok, Err, IsSome}
+use Rattle.std.proofs.lemmas.Bool.{false≢true}
+use Rattle.std.proofs.lemmas.Option.{same_Some, slice_get_past}
+use Rattle.fl_base.specs.declared.fragment.Frag.{Frag}
+use Rattle.fl_base.specs.declared.identity.CoreId.{CoreId}
+use Rattle.fl_base.specs.declared.identity.EndId.{EndId}
+use Rattle.fl_base.specs.declared.identity.LinkId.{LinkId}
+use Rattle.fl_base.specs.declared.identity.Circuit.{Circuit}
+use Rattle.fl_base.specs.Control.{bare}
+use Rattle.fl_lists.specs.declared.place.Place.{Place}
+use Rattle.fl_lists.specs.declared.place.Place.TheVariants as place
+use Rattle.fl_lists.specs.ThreeLists.{ThreeLists, list_at, is_in, pushed}
+use Rattle.fl_waitset.specs.Waiting.{is_registered}
+use Rattle.fl_link.specs.Looks.{found}
+use Rattle.fl_link.specs.Queue.{TheQueue, QueueTakes}
+use Rattle.fl_ring.specs.SharedSides.{TheSide, SharedTakes}
+use Rattle.fl_hop.specs.declared.entry.Way.{Way}
+use Rattle.fl_hop.specs.declared.entry.Way.TheVariants.{Link as to_link, End as to_end}
+use Rattle.fl_hop.specs.declared.entry.Hop.{Hop}
+use Rattle.fl_hop.specs.Table.{TheCircuits, hop_at}
+use Rattle.fl_compile.specs.declared.program.Program.{Program}
+use Rattle.fl_value.specs.Value.{TheCall}
+use Rattle.fl_endpoint.specs.View.{TheEnd, fresh, bound}
+use Rattle.fl_core.proofs.Places.{set_here}
+use Rattle.fl_node.specs.declared.hearing.Offered.{Offered}
+use Rattle.fl_core.specs.declared.fault.BoardFault.{BoardFault}
+use Rattle.fl_core.specs.declared.fault.BoardFault.TheVariants as board
+use Rattle.fl_core.specs.declared.kind.Kind.{Kind}
+use Rattle.fl_core.specs.declared.kind.Kind.TheVariants as kind
+use Rattle.fl_core.specs.View.{TheDispatcher, TheSeat, TheBoard}
+use Rattle.fl_core.specs.View.{with_new_end as board_with_end, with_end as board_set}
+use Rattle.fl_core.specs.Sound.{IsBoard}
+use Rattle.fl_core.specs.Events.{ChangesLists, Registers}
+use Rattle.fl_core.specs.Turns.{lent}
+use Rattle.fl_monitor.specs.declared.fault.MonitorFault.TheVariants as monitor
+use Rattle.fl_monitor.specs.declared.heard.Heard.{Heard}
+use Rattle.fl_monitor.specs.declared.heard.Heard.TheVariants as was
+use Rattle.fl_monitor.specs.declared.message.Message.{Message}
+use Rattle.fl_monitor.specs.declared.message.Message.TheVariants.{OpenCircuit, CircuitOpened, CircuitRefused}
+use Rattle.fl_monitor.specs.Monitors.{TheMonitor, Hears as MonitorHears}
+use Rattle.fl_monitor.specs.Routing.{given as given_at}
+use Rattle.fl_monitor.specs.Fates.{Known}
+use Rattle.fl_monitor.specs.Saying.{Says}
+use Rattle.fl_node.specs.declared.answer.MonitorAnswer.{MonitorAnswer}
+use Rattle.fl_node.specs.declared.answer.MonitorAnswer.TheVariants as answer
+use Rattle.fl_node.specs.declared.fault.LinkFault.{LinkFault}
+use Rattle.fl_node.specs.declared.fault.LinkFault.TheVariants as link
+use Rattle.fl_wire.specs.declared.fault.WireFault.TheVariants as wire
+use Rattle.fl_node.specs.declared.wire.Arriving.{Arriving}
+use Rattle.fl_node.specs.declared.wire.Lane.{Lane}
+use Rattle.fl_node.specs.declared.wire.Port.{Port}
+use Rattle.fl_node.specs.declared.wire.Wire.{Wire}
+use Rattle.fl_node.specs.declared.wire.Wire.TheVariants.{Queues, Ring as OverRing, Circuit as ByCircuit}
+use Rattle.fl_node.specs.View.{TheCore, with_monitor, with_failed, failed_at, place_in, place_of, arriving, arriving_at, arrivals_by, circuit_port, server_of, kind_of, new_arrivals as node_arrivals}
+use Rattle.fl_node.specs.Hearing.{Offers, known_for, may_offer, offer_of, offer_for, MakesServer as NodeMakes, Binds, BindsIf as NodeBindsIf, Follows as NodeFollows, HearsAll, HearsFrag, TakesHeard}
+use Rattle.fl_node.specs.Sound.{IsPlaced}
+use Rattle.fl_running.specs.Run.{TheRun}
+use Rattle.fl_running.specs.Deeds.{OnRing, IsSound}
+use Rattle.fl_queues.specs.Events.{DispatcherId}
+use Rattle.fl_queues.specs.Given.{given}
+use Rattle.fl_queues.specs.Rings.{Said, says, open_circuit, circuit_opened, circuit_refused, Opening}
+use Rattle.fl_queues.specs.Ends.{Direction, Seat}
+use Rattle.fl_queues.specs.Calls.{Planned}
+use Rattle.fl_queues.specs.Waits.{Dispatcher, waits_in, registers}
+use Rattle.fl_queues.specs.Monitors.{Core, Service, service_of, Fate, goes_on, ends_at, fails, can_say, Hearing, hears, hears_opening, hears_opened, hears_refused, fate, saying, with_said, with_circuits, goes_astray}
+use Rattle.fl_queues.specs.Monitors.{Heard as MachineHeard, no_outbox, astray, opening_went_on, server_made, opening_failed, answer_went_on, end_opened, end_refused}
+use Rattle.fl_shows.specs.Fragments.{message_of}
+use Rattle.fl_shows.specs.Cores.{MonitorShows, NamesShow}
+use Rattle.fl_nameserv.specs.Registrations.{TheRegistration}
+use Rattle.fl_shows.proofs.Names.{names_agree}
+use Rattle.fl_shows.specs.CoreLaws.{registration_of, NamesAgree, SameHeard, HearsAgree}
+use Rattle.fl_shows.specs.Ends.{planned_of, outgoing_of, circuit_of}
+use Rattle.fl_shows.proofs.Tests.{either}
+use Rattle.fl_cuts.specs.Sides.{SideCut, ShowsSide}
+use Rattle.fl_cuts.specs.Ends.{EndCut, ShowsEnd}
+use Rattle.fl_cuts.specs.Cut.{Each2, QueueCut, Cut, ShowsQueue, ShowsWaits, ShowsSeat, ShowsCut}
+use Rattle.fl_cuts.specs.Events.{EndAt, with_waits}
+use Rattle.fl_cuts.specs.Opening.{new_arrivals, new_end, next_seat, with_new_end}
+use Rattle.fl_cuts.specs.Hearing.{said_of, asked_service, route_length, hearing, MakesServer, registers_seat, bound_to, BindsEnd, BindsIf, ThenFollows, Hears, HearsOver, IsUnbound, IsInOrder}
+use Rattle.fl_cuts.proofs.Lists.{there, set_both}
+use Rattle.fl_cuts.proofs.Sides.{takes_again}
+use Rattle.fl_cuts.proofs.Cuts.{shown_all, shown_by, built, seen_by, end_at, seated, ends_shown, ports_same}
+use Rattle.fl_cuts.proofs.Events.{queue_waits, kind_at}
+use Rattle.fl_cuts.proofs.Links.{desks_shown, side_shown, side_lanes, lanes_run, set_same, arrives_at, port_at, own_number}
+use Rattle.fl_cuts.proofs.Opening.{copied, path_same, new_shows, added_shows, added_run, same_length, place_left, last_there}
+
+-- ---- the message, as the machine has it
+
+message_same : (m : Message) → message_of (said_of m) ≡ m
+message_same (OpenCircuit c binding service path) = ap (λ (p : List CoreId). OpenCircuit c binding service p) (path_same path)
+message_same (CircuitOpened c) = refl
+message_same (CircuitRefused c reason) = refl
+
+-- ---- what a machine's core keeps when it hears
+
+record Keeps (k : Core) (h : Hearing) : Type 0 where
+  pub waits : h.core.dispatchers ≡ k.dispatchers
+  pub number : h.core.circuits.core ≡ k.circuits.core
+
+saying_keeps : (l : ℕ) (m : Said) (t : TheCircuits) (word : MachineHeard) (k : Core) → t.core ≡ k.circuits.core → Keeps k (saying l m t word k)
+saying_keeps l m t word k e =
+    either (Keeps k) (can_say l k) (record { core = with_said l m (with_circuits t k); heard = word }) (record { core = k; heard = no_outbox })
+    (λ q. record { waits = refl; number = e }) (λ q. record { waits = refl; number = refl })
+
+opening_keeps : (l : ℕ) (o : Opening) (f : Fate) (k : Core) → Keeps k (hears_opening l o f k)
+opening_keeps l o (goes_on m n) k = saying_keeps m _ _ _ k refl
+opening_keeps l o (ends_at d) k = saying_keeps l _ _ _ k refl
+opening_keeps l o (fails fault) k = saying_keeps l _ _ _ k refl
+
+opened_keeps : (l c : ℕ) (hop : Hop) (way : Way) (k : Core) → Keeps k (hears_opened l c hop way k)
+opened_keeps l c hop (to_link m d) k = saying_keeps m.0 _ _ _ k refl
+opened_keeps l c hop (to_end e) k = record { waits = refl; number = refl }
+
+refused_keeps : (l c fault : ℕ) (hop : Hop) (way : Way) (k : Core) → Keeps k (hears_refused l c fault hop way k)
+refused_keeps l c fault hop (to_link m d) k = saying_keeps m.0 _ _ _ k refl
+refused_keeps l c fault hop (to_end e) k = record { waits = refl; number = refl }
+
+by_hop : (k : Core) (o : Option Hop) (f : Hop → Hearing) → ((hop : Hop) → Keeps k (f hop)) → Keeps k (given o (goes_astray k) f)
+by_hop k None f h = record { waits = refl; number = refl }
+by_hop k (Some hop) f h = h hop
+
+hears_keeps : (services : List Service) (l : ℕ) (m : Said) (k : Core) → Keeps k (hears services l m k)
+hears_keeps services l (open_circuit o) k = opening_keeps l o (fate services o k) k
+hears_keeps services l (circuit_opened c) k = by_hop k (hop_at k.circuits l c) (λ hop. hears_opened l c hop hop.way k) (λ hop. opened_keeps l c hop hop.way k)
+hears_keeps services l (circuit_refused c fault) k =
+    by_hop k (hop_at k.circuits l c) (λ hop. hears_refused l c fault hop hop.way k) (λ hop. refused_keeps l c fault hop hop.way k)
+
+-- ---- the core once its monitor has heard
+
+abbrev heard_run : TheRun TheSide → TheMonitor → List TheSide → TheRun TheSide
+heard_run s m rings = record s { core = with_monitor s.core m; rings = rings }
+
+heard_shows : (a : Cut) (s : TheRun TheSide) (sides : List SideCut) (core : Core) (m : TheMonitor) (rings : List TheSide) → ShowsCut a s → Each2 ShowsSide sides rings
+    → MonitorShows core m → core.dispatchers ≡ a.core.dispatchers → m.circuits.core ≡ s.core.monitor.circuits.core
+    → ShowsCut (record a { core = core; sides = sides }) (heard_run s m rings)
+heard_shows a s sides core m rings h sides_show monitor_shows waits number =
+    shown_all a s h (record a { core = core; sides = sides }) (record {
+      board = s.core.board;
+      monitor = m;
+      lanes = s.core.lanes;
+      arrivals = s.core.arrivals;
+      rings = rings;
+      stands = s.queues;
+      desks = s.desks;
+    }) monitor_shows (subst (λ (ds : List Dispatcher). Each2 (ShowsWaits s.core.ports) ds s.core.board.dispatchers) (sym waits) h.waits)
+    (subst (λ (n : ℕ). Each2 (ShowsSeat n) a.ends s.core.board.seats) (sym number) h.ends) refl refl refl h.lanes sides_show h.queues h.arrivals
+
+-- ---- a channel is registered
+
+-- none is, of an end that isn't ready
+in_some : (w : ThreeLists) (c : ℕ) → is_registered w c ≡ true → (list : Place) × (is_in c (list_at w list) ≡ true)
+in_some w c h = by (is_in c w.idle) (is_in c w.polled) (is_in c w.pending) refl refl refl h where
+  by : (x y z : Bool) → is_in c w.idle ≡ x → is_in c w.polled ≡ y → is_in c w.pending ≡ z → (x || y || z) ≡ true → (list : Place) × (is_in c (list_at w list) ≡ true)
+  by true y z p q r e = (place.Idle, p)
+  by false true z p q r e = (place.Polled, q)
+  by false false true p q r e = (place.Pending, r)
+  by false false false p q r e = absurd (false≢true e)
+
+-- what registering makes of a dispatcher's lists
+record Registered (w v : ThreeLists) (c : ℕ) (q : QueueCut) : Type 0 where
+  pub lists : v ≡ pushed w c (waits_in (Some q.queue))
+
+registers_so : (seat : TheSeat) (w v : ThreeLists) (q : QueueCut) (p : TheQueue) (r : Result (Unit {0}) BoardFault) → ShowsQueue q p → seat.kind ≡ kind.Queue
+    → IsSome seat.end.circuit → seat.end.failed ≡ false → (is_registered w seat.channel ≡ true → ⊥) → Registers QueueTakes seat (lent w p) r (lent v p)
+    → Registered w v seat.channel q
+registers_so seat w v q p (Ok done) h queue is_bound ready free (is_ready, (none, (to, waits, lists))) =
+    let at = queue_waits q p p to h (subst (λ (k : Kind). Rattle.fl_core.specs.Turns.WaitsIn QueueTakes k p to p) queue waits) in
+    record { lists = lists ∙ ap (pushed w seat.channel) at.0 }
+registers_so seat w v q p (Err board.Registered) h queue is_bound ready free (is_ready, (some, same, lists)) = absurd (free some)
+registers_so seat w v q p (Err board.NotBound) h queue is_bound ready free (unbound, same, lists) =
+    absurd (false≢true (subst (λ (o : Option ℕ). Rattle.std.specs.Prelude.is_some o ≡ true) unbound is_bound))
+registers_so seat w v q p (Err board.Failed) h queue is_bound ready free ((some, failed), same, lists) = absurd (let clash : true ≡ false = sym failed ∙ ready in cc)
+registers_so seat w v q p (Err board.NotRegistered) h queue is_bound ready free x = absurd x
+registers_so seat w v q p (Err board.TooManyEnds) h queue is_bound ready free x = absurd x
+registers_so seat w v q p (Err board.Memory) h queue is_bound ready free x = absurd x
+
+-- the waitsets then
+record Joined (core : ℕ) (ports : List Port) (waits : List Dispatcher) (ends : List EndCut) (b : TheBoard) : Type 0 where
+  pub waits_show : Each2 (ShowsWaits ports) waits b.dispatchers
+  pub ends_show : Each2 (ShowsSeat core) ends b.seats
+
+registers_shown : (core : ℕ) (ports : List Port) (waits : List Dispatcher) (ends : List EndCut) (b c : TheBoard) (e : ℕ) (q : QueueCut) (p : TheQueue)
+    (r : Result (Unit {0}) BoardFault) (ch : ChangesLists b e (λ s w v. Registers QueueTakes s (lent w p) r (lent v p)) c) → Each2 (ShowsWaits ports) waits b.dispatchers
+    → Each2 (ShowsSeat core) ends b.seats → ShowsQueue q p → ch.seat.kind ≡ kind.Queue → IsSome ch.seat.end.circuit → ch.seat.end.failed ≡ false
+    → (is_registered ch.dispatcher.lists ch.seat.channel ≡ true → ⊥) → (x : EndCut) → slice_get ends e ≡ Some x
+    → Joined core ports (registers_seat x.end.seat q waits) ends c
+registers_shown core ports waits ends b c e q p r ch w h shown queue some ready free x x_is =
+    let y = there (ShowsSeat core) ends b.seats e ch.seat h ch.seat_is in
+    let d = there (ShowsWaits ports) waits b.dispatchers ch.seat.dispatcher ch.dispatcher w ch.dispatcher_is in
+    let joined = registers_so ch.seat ch.dispatcher.lists ch.lists q p r shown queue some ready free ch.event in
+    let same : x ≡ y.0 = same_Some x y.0 (sym x_is ∙ y.1) in
+    let is : registers_seat x.end.seat q waits ≡ slice_set waits ch.seat.dispatcher (registers ch.seat.channel (waits_in (Some q.queue)) d.0)
+    = ap (λ (z : EndCut). registers_seat z.end.seat q waits) same
+    ∙ ap (λ (o : Option Seat). registers_seat o q waits) y.2.seat
+    ∙ ap (λ (o : Option Dispatcher). given o waits λ z. slice_set waits ch.seat.dispatcher (registers ch.seat.channel (waits_in (Some q.queue)) z)) d.1 in
+    let shows : ShowsWaits ports (registers ch.seat.channel (waits_in (Some q.queue)) d.0) (record { lists = ch.lists; ends = ch.dispatcher.ends }) = record {
+      lists = joined.lists ∙ ap (λ (l : ThreeLists). pushed l ch.seat.channel (waits_in (Some q.queue))) d.2.lists;
+      ends = d.2.ends;
+    } in
+    subst (Joined core ports (registers_seat x.end.seat q waits) ends) (sym ch.board) (record {
+      waits_show = subst (λ (ds : List Dispatcher). Each2 (ShowsWaits ports) ds
+          (slice_set b.dispatchers ch.seat.dispatcher (record { lists = ch.lists; ends = ch.dispatcher.ends }))) (sym is)
+          (set_both (ShowsWaits ports) waits b.dispatchers ch.seat.dispatcher (registers ch.seat.channel (waits_in (Some q.queue)) d.0)
+          (record { lists = ch.lists; ends = ch.dispatcher.ends }) w shows);
+      ends_show = h;
+    })
+
+-- ---- the server's end
+
+-- a new channel isn't registered
+new_free : (b : TheBoard) (n : ℕ) (d : TheDispatcher) → IsBoard b → slice_get b.dispatchers n ≡ Some d → is_registered d.lists (length d.ends) ≡ true → ⊥
+new_free b n d sound at h =
+    let is = sound.dispatchers n d at in
+    let listed = in_some d.lists (length d.ends) h in
+    let turn = is.registered listed.0 (length d.ends) listed.1 in
+    let past : slice_get d.ends (length d.ends) ≡ None = slice_get_past d.ends (length d.ends) (omega arith) in
+    let clash : None ≡ Some turn.place = sym past ∙ turn.place_is in
+    absurd (cc)
+
+server_shows : (port : Port) (program : Program) (stations c : ℕ) (seat : Seat) → 1 ≤ stations
+    → ShowsEnd (bound_to c (new_end port (planned_of program) stations seat)) (fresh program (Some c))
+server_shows port program stations c seat some =
+    let g = new_shows port program stations seat some in
+    record {
+      program = g.program;
+      circuit = refl;
+      rules = g.rules;
+      outgoing = g.outgoing;
+      reads = g.reads;
+      taken = g.taken;
+      failed = g.failed;
+      counted = record { before = g.counted.before; most = g.counted.most };
+      stations = g.stations;
+      exits = g.exits;
+    }
+
+record Made (asked : Option Service) (stations n : ℕ) (d : DispatcherId) (c : ℕ) (l : LinkId) (a : Cut) (t : TheRun TheSide) : Type 0 where
+  pub after : Cut
+  pub makes : MakesServer asked stations n d c l a after
+  pub shows : ShowsCut after t
+
+-- the offer is the service that is asked for
+abbrev Fits : Option Service → Option Offered → Type 0
+Fits asked offer = (x : Offered) → offer ≡ Some x → (y : Service) × (asked ≡ Some y) × (y.interface ≡ x.interface)
+
+offer_fits : (services : List Service) (o : Offers) (k : TheCore) (m : Message) → NamesShow services o.names → Fits (asked_service services m) (offer_for o k m)
+offer_fits services o k (CircuitOpened c) names x e = absurd (cc)
+offer_fits services o k (CircuitRefused c reason) names x e = absurd (cc)
+offer_fits services o k (OpenCircuit c binding service path) names x e = by (service_of services service.0) refl where
+  agree : NamesAgree services o.names
+  agree = names_agree services o.names names
+
+  by_test : (y : Service) (t : Bool) → (if t then Some (let z : Offered = record { dispatcher = y.dispatcher.place; interface = y.interface } in z) else None) ≡ Some x
+      → y.interface ≡ x.interface
+  by_test y true q = ap (λ (z : Offered). z.interface) (same_Some (let z : Offered = record { dispatcher = y.dispatcher.place; interface = y.interface } in z) x q)
+  by_test y false q = absurd (cc)
+
+  by : (s : Option Service) → service_of services service.0 ≡ s → (y : Service) × (service_of services service.0 ≡ Some y) × (y.interface ≡ x.interface)
+  by None q =
+      let none : offer_of o k service.0 ≡ None
+      = ap (λ (r : Option TheRegistration). given_at r None λ z. if may_offer o k z then Some (let w : Offered = record {
+        dispatcher = z.service.dispatcher;
+        interface = z.service.interface;
+      } in w) else None) (agree.none service.0 q) in
+      let clash : None ≡ Some x = sym none ∙ e in
+      absurd (cc)
+  by (Some y) q = (y, q, by_test y (may_offer o k (registration_of service.0 y))
+      (sym (ap (λ (r : Option TheRegistration). given_at r None λ z. if may_offer o k z then Some (let w : Offered = record {
+        dispatcher = z.service.dispatcher;
+        interface = z.service.interface;
+      } in w) else None) (agree.found service.0 y q)) ∙ e))
+
+makes_server : (asked : Option Service) (programs : List Program) (offer : Option Offered) (l : LinkId) (n stations : ℕ) (d : DispatcherId) (c : Circuit) (a : Cut) (s t : TheRun TheSide)
+    → Fits asked offer → map (λ (p : Program). planned_of p) programs ≡ a.plans → ShowsCut a s → map (λ (y : TheSeat). y.kind) s.core.board.seats ≡ map (λ (q : Port). kind_of q.wire) s.core.ports → IsBoard s.core.board → 1 ≤ stations
+    → NodeMakes programs offer l n d.place c s.core t.core → t ≡ record s { core = t.core } → Made asked stations n d c.0 l a t
+makes_server asked programs offer l n stations d c a s t fits lent_plans h kinds sound some make rest =
+    let (e_is, (w, w_is, few, board_is)) = make.adds in
+    let copy = make.program_is in
+    let (y_asked, y_is, y_interface) = fits copy.offered copy.offered_is in
+    let number : ℕ = s.core.monitor.circuits.core in
+    let waits = there (ShowsWaits s.core.ports) a.core.dispatchers s.core.board.dispatchers d.place w h.waits w_is in
+    let many = place_left waits.0 w s.core.ports waits.2 in
+    let queues : length a.arrivals ≡ length s.core.arrivals = same_length ShowsQueue a.arrivals s.core.arrivals h.arrivals in
+    let p : Port = circuit_port (server_of n) l (length s.core.arrivals) in
+    let x : EndCut = new_end (circuit_port (server_of n) l (length a.arrivals)) (planned_of make.program) stations (next_seat a.core.circuits.core d.place waits.0) in
+    let y : EndCut = bound_to c.0 x in
+    let new_seat : TheSeat = record { end = fresh make.program (Some c.0); dispatcher = d.place; channel = length w.ends; kind = kind.Queue } in
+    let sits : ShowsSeat s.core.monitor.circuits.core y new_seat = record {
+      shows = server_shows (circuit_port (server_of n) l (length a.arrivals)) make.program stations c.0 (next_seat a.core.circuits.core d.place waits.0) some;
+      seat = ap (λ (k : ℕ). Some (let z : Seat = record { dispatcher = record { core = k; place = d.place }; channel = length waits.0.ends } in z))
+          (ap (λ (z : TheCircuits). z.core) (sym h.monitor.circuits))
+          ∙ ap (λ (k : ℕ). Some (let z : Seat = record { dispatcher = record { core = s.core.monitor.circuits.core; place = d.place }; channel = k } in z)) many;
+    } in
+    let made : Cut = with_new_end d.place waits.0 y a in
+    let before = added_shows a s d.place w waits.0 make.program stations make.end p y (fresh make.program (Some c.0)) made.core s.core.monitor h kinds w_is waits.1 waits.2 e_is
+    sits (ap (λ (k : ℕ). circuit_port (server_of n) l k) queues) (record { circuits = h.monitor.circuits; outboxes = h.monitor.outboxes }) refl refl in
+    let same_board : make.added ≡ board_with_end s.core.board d.place w (fresh make.program (Some c.0)) kind.Queue = board_is in
+    let r = make.joins.0 in
+    let ch : ChangesLists (board_with_end s.core.board d.place w (fresh make.program (Some c.0)) kind.Queue) make.end
+    (λ z v u. Registers QueueTakes z (lent v node_arrivals) r (lent u node_arrivals)) t.core.board
+    = subst (λ (b : TheBoard). ChangesLists b make.end (λ z v u. Registers QueueTakes z (lent v node_arrivals) r (lent u node_arrivals)) t.core.board) same_board make.joins.1 in
+    let its_seat : ch.seat ≡ new_seat
+    = same_Some ch.seat new_seat (sym ch.seat_is ∙ ap (slice_get (s.core.board.seats ++ new_seat ∷ [])) e_is ∙ last_there s.core.board.seats new_seat) in
+    let its_lists : ch.dispatcher.lists ≡ w.lists
+    = ap (λ (z : TheDispatcher). z.lists) (same_Some ch.dispatcher (record { lists = w.lists; ends = w.ends ++ length s.core.board.seats ∷ [] })
+    (sym ch.dispatcher_is
+    ∙ ap (λ (z : TheSeat). slice_get (slice_set s.core.board.dispatchers d.place (record { lists = w.lists; ends = w.ends ++ length s.core.board.seats ∷ [] })) z.dispatcher) its_seat
+    ∙ set_here s.core.board.dispatchers d.place w (record { lists = w.lists; ends = w.ends ++ length s.core.board.seats ∷ [] }) w_is)) in
+    let last : slice_get (a.ends ++ y ∷ []) make.end ≡ Some y
+    = ap (slice_get (a.ends ++ y ∷ [])) (e_is ∙ sym (same_length (ShowsSeat s.core.monitor.circuits.core) a.ends s.core.board.seats h.ends)) ∙ last_there a.ends y in
+    let joined = registers_shown s.core.monitor.circuits.core (s.core.ports ++ p ∷ []) made.core.dispatchers (a.ends ++ y ∷ [])
+    (board_with_end s.core.board d.place w (fresh make.program (Some c.0)) kind.Queue) t.core.board make.end new_arrivals node_arrivals r ch before.waits before.ends
+    (record { frags = refl; labels = refl; capacity = refl; freed = refl; untold = refl; sent = refl })
+    (ap (λ (z : TheSeat). z.kind) its_seat) (subst (λ (z : TheSeat). IsSome z.end.circuit) (sym its_seat) refl) (ap (λ (z : TheSeat). z.end.failed) its_seat)
+    (λ listed. new_free s.core.board d.place w sound w_is
+    (ap (λ (z : ThreeLists). is_registered z (length w.ends)) (sym its_lists) ∙ ap (λ (z : TheSeat). is_registered ch.dispatcher.lists z.channel) (sym its_seat) ∙ listed))
+    y last in
+    let between : TheRun TheSide = added_run s (board_with_end s.core.board d.place w (fresh make.program (Some c.0)) kind.Queue) s.core.monitor p make.end in
+    let next : Cut = with_waits made (registers_seat x.end.seat new_arrivals made.core.dispatchers) in
+    let run : t ≡ built between t.core.board s.rings s.queues s.desks = rest ∙ ap (λ (k : TheCore). record s { core = k }) make.rest in
+    record {
+      after = next;
+      makes = record {
+        service = y_asked;
+        service_is = y_is;
+        planned = planned_of make.program;
+        planned_is = copied programs a.plans y_asked.interface make.program copy.source lent_plans (ap (slice_get programs) y_interface ∙ copy.source_is) copy.same;
+        waits = waits.0;
+        waits_is = waits.1;
+        end = x;
+        end_is = refl;
+        made = made;
+        made_is = refl;
+        rest = refl;
+      };
+      shows = subst (ShowsCut next) (sym run)
+          (shown_by made between before (registers_seat x.end.seat new_arrivals made.core.dispatchers) (a.ends ++ y ∷ []) a.sides a.queues t.core.board s.rings s.queues s.desks
+          joined.waits_show joined.ends_show refl h.sides h.queues);
+    }
+
+-- ---- an end is bound
+
+-- what isn't ready isn't registered
+unready_free : (b : TheBoard) (e : ℕ) (seat : TheSeat) (d : TheDispatcher) → IsBoard b → slice_get b.seats e ≡ Some seat → slice_get b.dispatchers seat.dispatcher ≡ Some d
+    → seat.end.circuit ≡ None → is_registered d.lists seat.channel ≡ true → ⊥
+unready_free b e seat d sound at there_ unbound h =
+    let is = sound.dispatchers seat.dispatcher d there_ in
+    let listed = in_some d.lists seat.channel h in
+    let turn = is.registered listed.0 seat.channel listed.1 in
+    let sits = sound.seats e seat at in
+    let same_dispatcher : d ≡ sits.dispatcher = same_Some d sits.dispatcher (sym there_ ∙ sits.dispatcher_is) in
+    let back : slice_get d.ends seat.channel ≡ Some e = ap (λ (z : TheDispatcher). slice_get z.ends seat.channel) same_dispatcher ∙ sits.leads_back in
+    let same_place : turn.place ≡ e = same_Some turn.place e (sym turn.place_is ∙ back) in
+    let same_seat : turn.seat ≡ seat = same_Some turn.seat seat (sym turn.seat_is ∙ ap (slice_get b.seats) same_place ∙ at) in
+    let some : IsSome turn.seat.end.circuit = turn.ready.0 in
+    let none : turn.seat.end.circuit ≡ None = ap (λ (z : TheSeat). z.end.circuit) same_seat ∙ unbound in
+    false≢true (subst (λ (o : Option ℕ). Rattle.std.specs.Prelude.is_some o ≡ true) none some)
+
+-- nothing was accepted, so nothing is to be sent, on whatever circuit
+same_outgoing : (c : ℕ) (i : Planned) (d : Direction) → d.accepted ≡ [] → d.waiting ≡ [] → outgoing_of 0 i d ≡ outgoing_of c i d
+same_outgoing c i d accepted waiting =
+    ap (λ (cs : List TheCall). outgoing_of 0 i (record d { accepted = cs })) accepted
+    ∙ ap (λ (cs : List TheCall). outgoing_of 0 i (record { accepted = []; waiting = cs; passed = d.passed })) waiting
+    ∙ sym (ap (λ (cs : List TheCall). outgoing_of c i (record { accepted = []; waiting = cs; passed = d.passed })) waiting)
+    ∙ sym (ap (λ (cs : List TheCall). outgoing_of c i (record d { accepted = cs })) accepted)
+
+bound_shows : (x : EndCut) (s : TheEnd) (c : ℕ) → ShowsEnd x s → IsUnbound x → ShowsEnd (bound_to c x) (bound s c)
+bound_shows x s c h none =
+    let unbound : s.circuit ≡ None = h.circuit ∙ none.circuit in
+    let zero_first : outgoing_of (circuit_of x.end) x.planned x.end.out ≡ outgoing_of 0 x.planned x.end.out
+    = ap (λ (o : Option ℕ). outgoing_of (Rattle.fl_endpoint.specs.View.number_or_0 o) x.planned x.end.out) none.circuit in
+    let becomes : bound s c ≡ record s { circuit = Some c } = ap (λ (o : Option ℕ). Rattle.fl_endpoint.specs.View.bound_by o c s) unbound in
+    subst (ShowsEnd (bound_to c x)) (sym becomes) (record {
+      program = h.program;
+      circuit = refl;
+      rules = h.rules;
+      outgoing = h.outgoing ∙ zero_first ∙ same_outgoing c x.planned x.end.out none.accepted none.waiting;
+      reads = h.reads;
+      taken = h.taken;
+      failed = h.failed;
+      counted = h.counted;
+      stations = h.stations;
+      exits = h.exits;
+    })
+
+queue_by_number : (wire : Wire) (number : ℕ) → arrivals_by wire ≡ Some number → kind_of wire ≡ kind.Queue
+queue_by_number (Queues out from) number h = absurd (cc)
+queue_by_number (OverRing side) number h = absurd (cc)
+queue_by_number (ByCircuit link arrivals) number h = refl
+
+-- the port of an end that is there
+port_of : (ends : List EndCut) (ports : List Port) (e : ℕ) (x : EndCut) → map (λ (y : EndCut). y.port) ends ≡ ports → slice_get ends e ≡ Some x
+    → slice_get ports e ≡ Some x.port
+port_of [] ports e x h at = absurd (cc)
+port_of (y ∷ ends) [] e x h at = absurd (cc)
+port_of (y ∷ ends) (p ∷ ports) zero x h at =
+    let first : y.port ≡ p = cc in
+    let same : y ≡ x = cc in
+    ap Some (sym first ∙ ap (λ (z : EndCut). z.port) same)
+port_of (y ∷ ends) (p ∷ ports) (suc e) x h at = let rest : map (λ (z : EndCut). z.port) ends ≡ ports = cc in port_of ends ports e x rest at
+
+record Bound (name : EndId) (c : ℕ) (a : Cut) (t : TheRun TheSide) : Type 0 where
+  pub after : Cut
+  pub binds : BindsEnd name c a after
+  pub shows : ShowsCut after t
+
+binds_end : (name : EndId) (c : Circuit) (e number : ℕ) (a : Cut) (s t : TheRun TheSide) → ShowsCut a s
+    → map (λ (y : TheSeat). y.kind) s.core.board.seats ≡ map (λ (q : Port). kind_of q.wire) s.core.ports
+    → ((who : EndId) (f : ℕ) → place_of s.core who ≡ Some f → IsPlaced s.core.ports who f) → IsBoard s.core.board → arriving_at s.core name ≡ Some (arriving e number)
+    → ((at : EndAt a name) → IsUnbound at.end) → Binds (arriving e number) c s.core t.core → t ≡ record s { core = t.core } → Bound name c.0 a t
+binds_end name c e number a s t h kinds placed sound at none b rest =
+    let core : ℕ = s.core.monitor.circuits.core in
+    let found_at = arrives_at s.core name e number at in
+    let port = port_at s.core e number found_at.number in
+    let seat : TheSeat = b.binds.seat in
+    let end : TheEnd = b.binds.end in
+    let x = seen_by a s name e seat h placed found_at.place b.binds.seat_is in
+    let y : EndCut = bound_to c.0 x.end in
+    let unbound = none (end_at a core name e seat x) in
+    let was_none : seat.end.circuit ≡ None = x.shows.shows.circuit ∙ unbound.circuit in
+    let shows : ShowsEnd y end = subst (ShowsEnd y) (sym b.binds.event) (bound_shows x.end seat.end c.0 x.shows.shows unbound) in
+    let sits : ShowsSeat core y (seated seat end) = record { shows = shows; seat = x.shows.seat } in
+    let ends : Each2 (ShowsSeat core) (slice_set a.ends e y) (slice_set s.core.board.seats e (seated seat end))
+    = ends_shown a core name e seat s.core.board.seats x y end h.ends sits in
+    let q = there ShowsQueue a.arrivals s.core.arrivals number b.queue h.arrivals b.queue_is in
+    let ch : ChangesLists (board_set s.core.board e seat end) e (λ z v u. Registers QueueTakes z (lent v b.queue) b.answer (lent u b.queue)) t.core.board
+    = subst (λ (w : TheBoard). ChangesLists w e (λ z v u. Registers QueueTakes z (lent v b.queue) b.answer (lent u b.queue)) t.core.board) b.binds.board b.registers in
+    let its_seat : ch.seat ≡ seated seat end
+    = same_Some ch.seat (seated seat end) (sym ch.seat_is ∙ set_here s.core.board.seats e seat (seated seat end) b.binds.seat_is) in
+    let its_dispatcher : slice_get s.core.board.dispatchers seat.dispatcher ≡ Some ch.dispatcher
+    = ap (λ (z : TheSeat). slice_get s.core.board.dispatchers z.dispatcher) (sym its_seat) ∙ ch.dispatcher_is in
+    let is_queue : seat.kind ≡ kind.Queue
+    = kind_at s.core.board.seats s.core.ports e seat port.0 kinds b.binds.seat_is port.1 ∙ queue_by_number port.0.wire number port.2 in
+    let joined = registers_shown core s.core.ports a.core.dispatchers (slice_set a.ends e y) (board_set s.core.board e seat end) t.core.board e q.0 b.queue b.answer ch
+    h.waits ends q.2 (ap (λ (z : TheSeat). z.kind) its_seat ∙ is_queue)
+    (subst (λ (z : TheSeat). IsSome z.end.circuit) (sym its_seat) (subst (λ (o : Option ℕ). IsSome o) (sym shows.circuit) refl))
+    (ap (λ (z : TheSeat). z.end.failed) its_seat ∙ shows.failed ∙ unbound.sound)
+    (λ listed. unready_free s.core.board e seat ch.dispatcher sound b.binds.seat_is its_dispatcher was_none
+    (ap (λ (z : TheSeat). is_registered ch.dispatcher.lists z.channel) (sym its_seat) ∙ listed))
+    y (set_here a.ends e x.end y x.end_is) in
+    let next : Cut = record (with_waits a (registers_seat x.end.end.seat q.0 a.core.dispatchers)) { ends = slice_set a.ends e y } in
+    let run : t ≡ built s t.core.board s.rings s.queues s.desks = rest ∙ ap (λ (k : TheCore). record s { core = k }) b.rest in
+    record {
+      after = next;
+      binds = record {
+        at = end_at a core name e seat x;
+        number = number;
+        number_is = own_number a s e number x.end port.0 h x.end_is port.1 port.2;
+        queue = q.0;
+        queue_is = q.1;
+        rest = refl;
+      };
+      shows = subst (ShowsCut next) (sym run)
+          (shown_by a s h (registers_seat x.end.end.seat q.0 a.core.dispatchers) (slice_set a.ends e y) a.sides a.queues t.core.board s.rings s.queues s.desks
+          joined.waits_show joined.ends_show (ports_same a core name e seat x y refl) h.sides h.queues);
+    }
+
+-- ---- what follows
+
+record Followed (asked : Option Service) (l : LinkId) (stations : ℕ) (w : MachineHeard) (told : MonitorAnswer) (a : Cut) (t : TheRun TheSide) : Type 0 where
+  pub after : Cut
+  pub follows : ThenFollows asked l stations w told a after
+  pub shows : ShowsCut after t
+
+same_core : (a : Cut) (s t : TheRun TheSide) → ShowsCut a s → t.core ≡ s.core → t ≡ record s { core = t.core } → ShowsCut a t
+same_core a s t h core rest = let same : t ≡ s = rest ∙ ap (λ (k : TheCore). record s { core = k }) core in subst (ShowsCut a) (sym same) h
+
+-- an end without an arrival queue
+none_arrives : (a : Cut) (s : TheRun TheSide) (name : EndId) → ShowsCut a s → arriving_at s.core name ≡ None → (at : EndAt a name) → arrivals_by at.end.port.wire ≡ None
+none_arrives a s name h none at =
+    let place : place_of s.core name ≡ Some at.place = sym (ap (λ (places : List (Option ℕ)). place_in places name) h.places) ∙ at.place_is in
+    let port : slice_get s.core.ports at.place ≡ Some at.end.port = port_of a.ends s.core.ports at.place at.end h.ports at.end_is in
+    by (arrivals_by at.end.port.wire) refl
+    (sym (ap (λ (o : Option ℕ). given_at o None λ (f : ℕ). given_at (given_at (slice_get s.core.ports f) None λ (p : Port). arrivals_by p.wire) None λ (b : ℕ). Some (arriving f b))
+    place ∙ ap (λ (o : Option Port). given_at (given_at o None λ (p : Port). arrivals_by p.wire) None λ (b : ℕ). Some (arriving at.place b)) port) ∙ none)
+  where
+    by : (o : Option ℕ) → arrivals_by at.end.port.wire ≡ o → (given_at (arrivals_by at.end.port.wire) None λ (b : ℕ). Some (arriving at.place b)) ≡ None
+        → arrivals_by at.end.port.wire ≡ None
+    by None p q = p
+    by (Some b) p q =
+        let clash : Some (arriving at.place b) ≡ None = sym (ap (λ (o : Option ℕ). given_at o None λ (d : ℕ). Some (arriving at.place d)) p) ∙ q in absurd (cc)
+
+record BoundIf (name : EndId) (c : ℕ) (a : Cut) (t : TheRun TheSide) : Type 0 where
+  pub after : Cut
+  pub binds : BindsIf name c a after
+  pub shows : ShowsCut after t
+
+binds_if : (name : EndId) (c : Circuit) (o : Option Arriving) (a : Cut) (s t : TheRun TheSide) → ShowsCut a s
+    → map (λ (y : TheSeat). y.kind) s.core.board.seats ≡ map (λ (q : Port). kind_of q.wire) s.core.ports
+    → ((who : EndId) (f : ℕ) → place_of s.core who ≡ Some f → IsPlaced s.core.ports who f) → IsBoard s.core.board → arriving_at s.core name ≡ o
+    → ((at : EndAt a name) → IsUnbound at.end) → NodeBindsIf o c s.core t.core → t ≡ record s { core = t.core } → BoundIf name c.0 a t
+binds_if name c None a s t h kinds placed sound at none b rest =
+    record { after = a; binds = inr (none_arrives a s name h at, refl); shows = same_core a s t h b rest }
+binds_if name c (Some x) a s t h kinds placed sound at none b rest =
+    let one = binds_end name c x.end x.queue a s t h kinds placed sound at none b rest in
+    record { after = one.after; binds = inl one.binds; shows = one.shows }
+
+follows_on : (asked : Option Service) (programs : List Program) (offer : Option Offered) (l : LinkId) (stations : ℕ) (w : MachineHeard) (x : Heard) (told : MonitorAnswer) (a : Cut)
+    (s t : TheRun TheSide) → Fits asked offer → map (λ (p : Program). planned_of p) programs ≡ a.plans → ShowsCut a s → map (λ (y : TheSeat). y.kind) s.core.board.seats ≡ map (λ (q : Port). kind_of q.wire) s.core.ports
+    → ((who : EndId) (f : ℕ) → place_of s.core who ≡ Some f → IsPlaced s.core.ports who f) → IsBoard s.core.board → 1 ≤ stations
+    → ((e : EndId) (c : ℕ) (at : EndAt a e) → w ≡ end_opened e c → IsUnbound at.end) → SameHeard w x → NodeFollows programs offer l x s.core told t.core
+    → t ≡ record s { core = t.core } → Followed asked l stations w told a t
+follows_on asked programs offer l stations no_outbox x told a s t fits lent_plans h kinds placed sound some free same f rest = absurd same
+follows_on asked programs offer l stations astray x told a s t fits lent_plans h kinds placed sound some free same f rest = absurd same
+follows_on asked programs offer l stations (opening_went_on u0 u1) (was.OpeningWentOn v0 v1 v2) told a s t fits lent_plans h kinds placed sound some free same f rest =
+    record { after = a; follows = (f.0, refl); shows = same_core a s t h f.1 rest }
+follows_on asked programs offer l stations (opening_went_on u0 u1) (was.ServerMade v0 v1 v2) told a s t fits lent_plans h kinds placed sound some free same f rest = absurd same
+follows_on asked programs offer l stations (opening_went_on u0 u1) (was.OpeningFailed v0 v1) told a s t fits lent_plans h kinds placed sound some free same f rest = absurd same
+follows_on asked programs offer l stations (opening_went_on u0 u1) (was.AnswerWentOn v0 v1 v2) told a s t fits lent_plans h kinds placed sound some free same f rest = absurd same
+follows_on asked programs offer l stations (opening_went_on u0 u1) (was.EndOpened v0 v1) told a s t fits lent_plans h kinds placed sound some free same f rest = absurd same
+follows_on asked programs offer l stations (opening_went_on u0 u1) (was.EndRefused v0 v1) told a s t fits lent_plans h kinds placed sound some free same f rest = absurd same
+follows_on asked programs offer l stations (server_made u0 u1 u2) (was.OpeningWentOn v0 v1 v2) told a s t fits lent_plans h kinds placed sound some free same f rest = absurd same
+follows_on asked programs offer l stations (server_made u0 u1 u2) (was.ServerMade v0 v1 v2) told a s t fits lent_plans h kinds placed sound some free same f rest =
+    let (same_n, same_d, same_c) = same in
+    let make : NodeMakes programs offer l u0 u1.place v2 s.core t.core = subst (λ (n : ℕ). NodeMakes programs offer l n u1.place v2 s.core t.core) same_n
+    (subst (λ (d : ℕ). NodeMakes programs offer l v0 d v2 s.core t.core) same_d f.1) in
+    let one = makes_server asked programs offer l u0 stations u1 v2 a s t fits lent_plans h kinds sound some make rest in
+    record {
+      after = one.after;
+      follows = (f.0 ∙ ap (λ (n : ℕ). answer.Opened (server_of n)) same_n, subst (λ (c : ℕ). MakesServer asked stations u0 u1 c l a one.after) same_c one.makes);
+      shows = one.shows;
+    }
+follows_on asked programs offer l stations (server_made u0 u1 u2) (was.OpeningFailed v0 v1) told a s t fits lent_plans h kinds placed sound some free same f rest = absurd same
+follows_on asked programs offer l stations (server_made u0 u1 u2) (was.AnswerWentOn v0 v1 v2) told a s t fits lent_plans h kinds placed sound some free same f rest = absurd same
+follows_on asked programs offer l stations (server_made u0 u1 u2) (was.EndOpened v0 v1) told a s t fits lent_plans h kinds placed sound some free same f rest = absurd same
+follows_on asked programs offer l stations (server_made u0 u1 u2) (was.EndRefused v0 v1) told a s t fits lent_plans h kinds placed sound some free same f rest = absurd same
+follows_on asked programs offer l stations (opening_failed u0 u1) (was.OpeningWentOn v0 v1 v2) told a s t fits lent_plans h kinds placed sound some free same f rest = absurd same
+follows_on asked programs offer l stations (opening_failed u0 u1) (was.ServerMade v0 v1 v2) told a s t fits lent_plans h kinds placed sound some free same f rest = absurd same
+follows_on asked programs offer l stations (opening_failed u0 u1) (was.OpeningFailed v0 v1) told a s t fits lent_plans h kinds placed sound some free same f rest =
+    record { after = a; follows = (f.0, refl); shows = same_core a s t h f.1 rest }
+follows_on asked programs offer l stations (opening_failed u0 u1) (was.AnswerWentOn v0 v1 v2) told a s t fits lent_plans h kinds placed sound some free same f rest = absurd same
+follows_on asked programs offer l stations (opening_failed u0 u1) (was.EndOpened v0 v1) told a s t fits lent_plans h kinds placed sound some free same f rest = absurd same
+follows_on asked programs offer l stations (opening_failed u0 u1) (was.EndRefused v0 v1) told a s t fits lent_plans h kinds placed sound some free same f rest = absurd same
+follows_on asked programs offer l stations (answer_went_on u0) (was.OpeningWentOn v0 v1 v2) told a s t fits lent_plans h kinds placed sound some free same f rest = absurd same
+follows_on asked programs offer l stations (answer_went_on u0) (was.ServerMade v0 v1 v2) told a s t fits lent_plans h kinds placed sound some free same f rest = absurd same
+follows_on asked programs offer l stations (answer_went_on u0) (was.OpeningFailed v0 v1) told a s t fits lent_plans h kinds placed sound some free same f rest = absurd same
+follows_on asked programs offer l stations (answer_went_on u0) (was.AnswerWentOn v0 v1 v2) told a s t fits lent_plans h kinds placed sound some free same f rest =
+    record { after = a; follows = (f.0, refl); shows = same_core a s t h f.1 rest }
+follows_on asked programs offer l stations (answer_went_on u0) (was.EndOpened v0 v1) told a s t fits lent_plans h kinds placed sound some free same f rest = absurd same
+follows_on asked programs offer l stations (answer_went_on u0) (was.EndRefused v0 v1) told a s t fits lent_plans h kinds placed sound some free same f rest = absurd same
+follows_on asked programs offer l stations (end_opened u0 u1) (was.OpeningWentOn v0 v1 v2) told a s t fits lent_plans h kinds placed sound some free same f rest = absurd same
+follows_on asked programs offer l stations (end_opened u0 u1) (was.ServerMade v0 v1 v2) told a s t fits lent_plans h kinds placed sound some free same f rest = absurd same
+follows_on asked programs offer l stations (end_opened u0 u1) (was.OpeningFailed v0 v1) told a s t fits lent_plans h kinds placed sound some free same f rest = absurd same
+follows_on asked programs offer l stations (end_opened u0 u1) (was.AnswerWentOn v0 v1 v2) told a s t fits lent_plans h kinds placed sound some free same f rest = absurd same
+follows_on asked programs offer l stations (end_opened u0 u1) (was.EndOpened v0 v1) told a s t fits lent_plans h kinds placed sound some free same f rest =
+    let b : NodeBindsIf (arriving_at s.core u0) v1 s.core t.core = subst (λ (e : EndId). NodeBindsIf (arriving_at s.core e) v1 s.core t.core) same.0 f.1 in
+    let one = binds_if u0 v1 (arriving_at s.core u0) a s t h kinds placed sound refl (λ at. free u0 u1 at refl) b rest in
+    record {
+      after = one.after;
+      follows = (f.0 ∙ ap (λ (e : EndId). answer.Opened e) same.0, subst (λ (c : ℕ). BindsIf u0 c a one.after) same.1 one.binds);
+      shows = one.shows;
+    }
+follows_on asked programs offer l stations (end_opened u0 u1) (was.EndRefused v0 v1) told a s t fits lent_plans h kinds placed sound some free same f rest = absurd same
+follows_on asked programs offer l stations (end_refused u0 u1) (was.OpeningWentOn v0 v1 v2) told a s t fits lent_plans h kinds placed sound some free same f rest = absurd same
+follows_on asked programs offer l stations (end_refused u0 u1) (was.ServerMade v0 v1 v2) told a s t fits lent_plans h kinds placed sound some free same f rest = absurd same
+follows_on asked programs offer l stations (end_refused u0 u1) (was.OpeningFailed v0 v1) told a s t fits lent_plans h kinds placed sound some free same f rest = absurd same
+follows_on asked programs offer l stations (end_refused u0 u1) (was.AnswerWentOn v0 v1 v2) told a s t fits lent_plans h kinds placed sound some free same f rest = absurd same
+follows_on asked programs offer l stations (end_refused u0 u1) (was.EndOpened v0 v1) told a s t fits lent_plans h kinds placed sound some free same f rest = absurd same
+follows_on asked programs offer l stations (end_refused u0 u1) (was.EndRefused v0 v1) told a s t fits lent_plans h kinds placed sound some free same f rest = record {
+  after = a;
+  follows = (f.0 ∙ ap (λ (e : EndId). answer.OpeningRefused e v1) same.0 ∙ ap (λ (r : ℕ). answer.OpeningRefused u0 r) same.1, refl);
+  shows = same_core a s t h f.1 rest;
+}
+
+-- ---- a message is heard
+
+record AllHeard (services : List Service) (n : ℕ) (l : LinkId) (frag : Frag) (told : MonitorAnswer) (a : Cut) (t : TheRun TheSide) : Type 0 where
+  pub after : Cut
+  pub hears : Hears services n l frag told a after
+  pub shows : ShowsCut after t
+
+hears_all : HearsAgree → (services : List Service) (a : Cut) (s m : TheRun TheSide) (n : ℕ) (l : LinkId) (frag : Frag) (msg : Message) (told : MonitorAnswer)
+    (before after : TheSide) → ShowsCut a s → IsSound s.core → NamesShow services s.offers.names → IsInOrder services l.0 a s msg → Says frag msg
+    → slice_get s.rings n ≡ Some before → HearsAll s.offers l msg s.core told m.core → SharedTakes before (found (bare frag)) after
+    → m ≡ record s { core = m.core; rings = slice_set s.rings n after } → AllHeard services n l frag told a m
+hears_all law services a s m n l frag msg told before after h sound names order is before_is all takes rest =
+    let v = there ShowsSide a.sides s.rings n before h.sides before_is in
+    let one = takes_again (says (said_of msg)) v.0 before after (bare frag) v.2 takes in
+    let known : Known = known_for s.offers s.core msg in
+    let agree = law known services l.0 (said_of msg) a.core s.core.monitor all.monitor (Ok all.heard) h.monitor names order.may
+    (subst (λ (x : Message). MonitorHears known l x s.core.monitor (Ok all.heard) all.monitor) (sym (message_same msg)) all.hears) in
+    let keeps = hears_keeps services l.0 (said_of msg) a.core in
+    let number : all.monitor.circuits.core ≡ s.core.monitor.circuits.core
+    = ap (λ (c : TheCircuits). c.core) agree.1.circuits ∙ keeps.number ∙ sym (ap (λ (c : TheCircuits). c.core) h.monitor.circuits) in
+    let sides : List SideCut = slice_set a.sides n one.0 in
+    let middle : Cut = record a { core = (hearing services l.0 msg a).core; sides = slice_set a.sides n one.0 } in
+    let base : TheRun TheSide = heard_run s all.monitor (slice_set s.rings n after) in
+    let shown : ShowsCut middle base = heard_shows a s (slice_set a.sides n one.0) (hearing services l.0 msg a).core all.monitor (slice_set s.rings n after) h
+    (set_both ShowsSide a.sides s.rings n one.0 after h.sides one.2) agree.1 keeps.waits number in
+    let next = follows_on (asked_service services msg) s.offers.programs (offer_for s.offers s.core msg) l (route_length msg + 1) (hearing services l.0 msg a).heard all.heard told middle base m
+    (offer_fits services s.offers s.core msg names) h.plans shown
+    sound.core.kinds sound.core.placed sound.board (omega (arith)) (λ e c at w. order.unbound e c (below at) w) agree.0 all.follows rest in
+    record {
+      after = next.after;
+      hears = record {
+        message = msg;
+        says_it = is;
+        middle = middle;
+        sides = record { before = v.0; before_is = v.1; after = one.0; event = one.1; rest = refl };
+        middle_is = refl;
+        follows = next.follows;
+      };
+      shows = next.shows;
+    }
+  where
+    below : {e : EndId} {core : Core} {sides : List SideCut} → EndAt (record a { core = core; sides = sides }) e → EndAt a e
+    below at = record { place = at.place; place_is = at.place_is; end = at.end; end_is = at.end_is; name_is = at.name_is }
+
+-- nothing has changed, or what comes on the link has failed
+still : (a : Cut) (s m : TheRun TheSide) (n : ℕ) (before after : TheSide) → ShowsCut a s → slice_get s.rings n ≡ Some before → after ≡ before
+    → m ≡ record s { core = m.core; rings = slice_set s.rings n after } → m.core ≡ s.core → ShowsCut a m
+still a s m n before after h at same rest core =
+    let v = there ShowsSide a.sides s.rings n before h.sides at in
+    subst (λ (sides : List SideCut). ShowsCut (record a { sides = sides }) m) (set_same a.sides n v.0 v.1)
+    (side_shown a s m n v.0 after h (subst (ShowsSide v.0) (sym same) v.2) rest core)
+
+fails_for_good : (a : Cut) (s m : TheRun TheSide) (n l : ℕ) (before after : TheSide) → ShowsCut a s → slice_get s.rings n ≡ Some before → after ≡ before
+    → m ≡ record s { core = m.core; rings = slice_set s.rings n after } → m.core ≡ with_failed s.core l → ShowsCut (record a { lanes = failed_at a.lanes l }) m
+fails_for_good a s m n l before after h at same rest core =
+    let v = there ShowsSide a.sides s.rings n before h.sides at in
+    subst (λ (sides : List SideCut). ShowsCut (record a { sides = sides; lanes = failed_at a.lanes l }) m) (set_same a.sides n v.0 v.1)
+    (side_lanes a s m n v.0 after (failed_at a.lanes l) (failed_at s.core.lanes l) h (subst (ShowsSide v.0) (sym same) v.2)
+    (ap (λ (lanes : List Lane). failed_at lanes l) h.lanes) (lanes_run s m (failed_at s.core.lanes l) (slice_set s.rings n after) rest core))
+
+pub record HeardAs (services : List Service) (n : ℕ) (l : LinkId) (frag : Frag) (answer : Result MonitorAnswer LinkFault) (a : Cut)
+    (t : TheRun TheSide) : Type 0 where
+  pub after : Cut
+  pub does : HearsOver services n l frag answer a after
+  pub shows : ShowsCut after t
+
+abbrev failing : LinkId → Cut → Cut
+failing l a = record a { lanes = failed_at a.lanes l.0 }
+
+pub hears_follow : HearsAgree → (services : List Service) (a : Cut) (s m t : TheRun TheSide) (n : ℕ) (l : LinkId) (frag : Frag) (answer : Result MonitorAnswer LinkFault)
+    → ShowsCut a s → IsSound s.core → NamesShow services s.offers.names → ((x : Message) → Says frag x → IsInOrder services l.0 a s x)
+    → OnRing n s (λ k p k2 q. HearsFrag s.offers l frag k answer k2 × TakesHeard SharedTakes frag p answer q) m → t ≡ record m { desks = t.desks }
+    → HeardAs services n l frag answer a t
+hears_follow law services a s m t n l frag (Ok answer.Full) h sound names order on desks =
+    let ((msg, is, both), same) = on.event in
+    let known : Known = known_for s.offers s.core msg in
+    let agree = law known services l.0 (said_of msg) a.core s.core.monitor s.core.monitor (Err monitor.OutboxFull) h.monitor names (order msg is).may
+    (subst (λ (x : Message). MonitorHears known l x s.core.monitor (Err monitor.OutboxFull) s.core.monitor) (sym (message_same msg)) both.0) in
+    record {
+      after = a;
+      does = (msg, is, agree.0, refl);
+      shows = desks_shown a m t (still a s m n on.before on.after h on.before_is same on.rest both.1) desks;
+    }
+hears_follow law services a s m t n l frag (Ok answer.Done) h sound names order on desks =
+    let ((msg, is, all), takes) = on.event in
+    let one = hears_all law services a s m n l frag msg answer.Done on.before on.after h sound names (order msg is) is on.before_is all takes on.rest in
+    record { after = one.after; does = one.hears; shows = desks_shown one.after m t one.shows desks }
+hears_follow law services a s m t n l frag (Ok (answer.Opened e)) h sound names order on desks =
+    let ((msg, is, all), takes) = on.event in
+    let one = hears_all law services a s m n l frag msg (answer.Opened e) on.before on.after h sound names (order msg is) is on.before_is all takes on.rest in
+    record { after = one.after; does = one.hears; shows = desks_shown one.after m t one.shows desks }
+hears_follow law services a s m t n l frag (Ok (answer.OpeningRefused e reason)) h sound names order on desks =
+    let ((msg, is, all), takes) = on.event in
+    let one = hears_all law services a s m n l frag msg (answer.OpeningRefused e reason) on.before on.after h sound names (order msg is) is on.before_is all takes on.rest in
+    record { after = one.after; does = one.hears; shows = desks_shown one.after m t one.shows desks }
+hears_follow law services a s m t n l frag (Err (link.Wire wire.NotFirst)) h sound names order on desks =
+    record { after = failing l a; does = refl; shows = desks_shown (failing l a) m t (fails_for_good a s m n l.0 on.before on.after h on.before_is on.event.1 on.rest on.event.0.1) desks }
+hears_follow law services a s m t n l frag (Err (link.Wire wire.FirstInside)) h sound names order on desks =
+    record { after = failing l a; does = refl; shows = desks_shown (failing l a) m t (fails_for_good a s m n l.0 on.before on.after h on.before_is on.event.1 on.rest on.event.0.1) desks }
+hears_follow law services a s m t n l frag (Err (link.Wire wire.UnknownMessage)) h sound names order on desks =
+    record { after = failing l a; does = refl; shows = desks_shown (failing l a) m t (fails_for_good a s m n l.0 on.before on.after h on.before_is on.event.1 on.rest on.event.0.1) desks }
+hears_follow law services a s m t n l frag (Err (link.Wire wire.NotZero)) h sound names order on desks =
+    record { after = failing l a; does = refl; shows = desks_shown (failing l a) m t (fails_for_good a s m n l.0 on.before on.after h on.before_is on.event.1 on.rest on.event.0.1) desks }
+hears_follow law services a s m t n l frag (Err (link.Wire wire.OutOfType)) h sound names order on desks =
+    record { after = failing l a; does = refl; shows = desks_shown (failing l a) m t (fails_for_good a s m n l.0 on.before on.after h on.before_is on.event.1 on.rest on.event.0.1) desks }
+hears_follow law services a s m t n l frag (Err (link.Wire wire.TooLong)) h sound names order on desks =
+    record { after = failing l a; does = refl; shows = desks_shown (failing l a) m t (fails_for_good a s m n l.0 on.before on.after h on.before_is on.event.1 on.rest on.event.0.1) desks }
+hears_follow law services a s m t n l frag (Err (link.Wire wire.Memory)) h sound names order on desks = absurd on.event.0
+hears_follow law services a s m t n l frag (Err link.Astray) h sound names order on desks =
+    let ((msg, is, both), same) = on.event in
+    record { after = failing l a; does = refl; shows = desks_shown (failing l a) m t (fails_for_good a s m n l.0 on.before on.after h on.before_is same on.rest both.1) desks }
+hears_follow law services a s m t n l frag (Err link.Memory) h sound names order on desks =
+    record { after = a; does = refl; shows = desks_shown a m t (still a s m n on.before on.after h on.before_is on.event.1 on.rest on.event.0) desks }
+hears_follow law services a s m t n l frag (Err link.Failed) h sound names order on desks = let ((msg, is, none), same) = on.event in absurd none
+hears_follow law services a s m t n l frag (Err link.Marked) h sound names order on desks = let ((msg, is, none), same) = on.event in absurd none

@@ -1,0 +1,13 @@
+pub mod Sides
+pub mod Counted
+pub mod Ends
+pub mod Lists
+pub mod Queues
+pub mod Turning
+pub mod Cuts
+pub mod Events
+pub mod Links
+pub mod Starting
+pub mod Opening
+pub mod Hearing
+pub mod Logs

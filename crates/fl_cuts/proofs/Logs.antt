@@ -1,0 +1,266 @@
+-- The events of a log, and turns.
+use Rattle.std.proofs.Common.{◌≡◌, refl, sym, ◌∙◌, ap, subst, ℕ, nat_lt, ◌&&◌, Bool, true, false, if◌then◌else◌, List, [], ◌∷◌, length, slice_get, Option, Some, None, arith}
+use Rattle.fl_base.specs.declared.fragment.Frag.{Frag}
+use Rattle.fl_base.specs.declared.identity.EndId.{EndId}
+use Rattle.fl_base.specs.declared.identity.LinkId.{LinkId}
+use Rattle.fl_link.specs.Looks.{Look}
+use Rattle.fl_ring.specs.SharedSides.{TheSide}
+use Rattle.fl_monitor.specs.Monitors.{can_say}
+use Rattle.fl_monitor.specs.Routing.{given as given_at}
+use Rattle.fl_hop.specs.declared.forward.Outcome.TheVariants.{Moved, Full, Spent}
+use Rattle.fl_node.specs.declared.wire.Port.{Port}
+use Rattle.fl_node.specs.declared.wire.Wire.{Wire}
+use Rattle.fl_node.specs.declared.wire.Wire.TheVariants.{Queues, Ring as OverRing, Circuit}
+use Rattle.fl_node.specs.declared.wire.Outlet.TheVariants as outlet
+use Rattle.fl_node.specs.declared.wire.Inlet.{Inlet}
+use Rattle.fl_node.specs.declared.wire.Inlet.TheVariants as inlet
+use Rattle.fl_node.specs.declared.wire.Lane.{Lane}
+use Rattle.fl_node.specs.View.{TheCore, place_of, side_of_link, inlet_by, inlet_of}
+use Rattle.fl_node.specs.Sound.{IsCore, IsWired}
+use Rattle.fl_running.specs.declared.job.Job.{Job}
+use Rattle.fl_running.specs.declared.plan.Plan.{Plan}
+use Rattle.fl_running.specs.Run.{TheRun, side_in, lent_lane}
+use Rattle.fl_running.specs.Deeds.{Deed, looked, passed, arrived, heard, said, told, opened, called, ruled, wrote, acked, turned, Happens}
+use Rattle.fl_running.specs.Turn.{Turned}
+use Rattle.fl_running.specs.Logs.{InPlace, Goes}
+use Rattle.fl_running.proofs.Aside.{desks_alone}
+use Rattle.fl_running.proofs.Laning.{puts_to, takes_from, some_is}
+use Rattle.fl_running.proofs.Logging.{turns_logged}
+use Rattle.fl_queues.specs.Monitors.{Service}
+use Rattle.fl_shows.specs.CoreLaws.{OutboxesAreShown, RoomsAgree, OpensAgree, HearsAgree}
+use Rattle.fl_shows.specs.EndLaws.{TakeShows}
+use Rattle.fl_cuts.specs.Cut.{Cut, ShowsCut}
+use Rattle.fl_cuts.specs.Does.{CutActs, CutDoes, InOrder, HearsNothing, HearNothing}
+use Rattle.fl_cuts.specs.Laws.{HasNoLinks, shared, Follows, GoesOn, FollowsAll, TurnsFollow}
+use Rattle.fl_cuts.proofs.Events.{After, calls_follow, rules_follow, side_writes_follow, queue_writes_follow, side_turns_follow, queue_turns_follow, acks_follow}
+use Rattle.fl_cuts.proofs.Hearing.{hears_follow}
+use Rattle.fl_cuts.proofs.Opening.{opens_follow}
+use Rattle.fl_cuts.proofs.Links.{looks_follow, passes_follow, stays_full, stays_spent, arrives_follow, says_follow, tells_follow, arrivals_turn_follow}
+
+-- ---- without links
+
+no_lane : {P : Type 0} (s : TheRun TheSide) (l : LinkId) (n : ℕ) → HasNoLinks s.core → lent_lane s l ≡ Some n → P
+no_lane s l n h q =
+    let none : lent_lane s l ≡ None
+    = ap (λ (lanes : List Lane). given_at (side_of_link lanes l.0) None λ m. if nat_lt m (length s.rings) then Some m else None) h.lanes in
+    let clash : None ≡ Some n = sym none ∙ q in
+    absurd (cc)
+
+and_false : (b : Bool) → (b && false) ≡ false
+and_false true = refl
+and_false false = refl
+
+says_nothing : {P : Type 0} (k : TheCore) (l : ℕ) (b : Bool) → HasNoLinks k → (b && can_say k.monitor.outboxes l) ≡ true → P
+says_nothing k l b h q =
+    let none : (b && can_say k.monitor.outboxes l) ≡ false
+    = ap (λ (frags : List (List Frag)). b && can_say frags l) h.outboxes ∙ and_false b in
+    let clash : true ≡ false = sym q ∙ none in
+    absurd (cc)
+
+-- an end that takes from an arrival queue is on a link
+no_arrivals : {P : Type 0} (k : TheCore) (e : ℕ) → HasNoLinks k → IsCore k → inlet_of k e ≡ Some inlet.Arrivals → P
+no_arrivals {P} k e h core q = by_port (slice_get k.ports e) refl q where
+  by_wire : (p : Port) (wire : Wire) → IsWired k wire → inlet_by wire ≡ inlet.Arrivals → P
+  by_wire p (Queues out from) w r = absurd (cc)
+  by_wire p (OverRing side) w r = absurd (cc)
+  by_wire p (Circuit link arrivals) w r =
+      let long : length k.lanes ≡ 0 = ap length h.lanes in
+      let less = w.0 in
+      absurd (omega (arith, long, less))
+
+  by_port : (o : Option Port) → slice_get k.ports e ≡ o → (given_at o None λ p. Some (inlet_by p.wire)) ≡ Some inlet.Arrivals → P
+  by_port None r x = absurd (cc)
+  by_port (Some p) r x = by_wire p p.wire (core.wired e p r) (some_is (inlet_by p.wire) inlet.Arrivals x)
+
+-- where an end that acknowledges takes from, by its berth
+berth_by : {B : Type 0} (b : B) (make : ℕ → ℕ → B) (side : B → ℕ) → ((e m : ℕ) → side (make e m) ≡ m) → (s : TheRun TheSide) (o : Option Inlet) (f : ℕ)
+    → (given_at o None λ from. given_at (side_in from) None λ n. if nat_lt n (length s.rings) then Some (make f n) else None) ≡ Some b
+    → o ≡ Some (inlet.Side (side b))
+berth_by b make side law s None f is = absurd (cc)
+berth_by b make side law s (Some (inlet.Queue n)) f is = absurd (cc)
+berth_by b make side law s (Some inlet.Arrivals) f is = absurd (cc)
+berth_by {B} b make side law s (Some (inlet.Side n)) f is = by (nat_lt n (length s.rings)) is where
+  by : (t : Bool) → (if t then Some (make f n) else None) ≡ Some b → Some (inlet.Side n) ≡ Some (inlet.Side (side b))
+  by true h =
+      let same : make f n ≡ b = some_is (make f n) b h in
+      ap (λ (m : ℕ). Some (inlet.Side m)) (sym (law f n) ∙ ap side same)
+  by false h = absurd (cc)
+
+acks_at : {B : Type 0} (b : B) (make : ℕ → ℕ → B) (side : B → ℕ) → ((e m : ℕ) → side (make e m) ≡ m) → (s : TheRun TheSide) (name : EndId) (f n : ℕ)
+    → place_of s.core name ≡ Some f
+    → (given_at (place_of s.core name) None λ e. given_at (inlet_of s.core e) None λ from. given_at (side_in from) None λ m.
+    if nat_lt m (length s.rings) then Some (make e m) else None) ≡ Some b
+    → side b ≡ n → inlet_of s.core f ≡ Some (inlet.Side n)
+acks_at b make side law s name f n at is same =
+    berth_by b make side law s (inlet_of s.core f) f
+    (sym (ap (λ (o : Option ℕ). given_at o None λ (e : ℕ). given_at (inlet_of s.core e) None λ (x : Inlet). given_at (side_in x) None λ (m : ℕ).
+    if nat_lt m (length s.rings) then Some (make e m) else None) at) ∙ is)
+    ∙ ap (λ (m : ℕ). Some (inlet.Side m)) same
+
+-- the side of a link, as it is lent
+lane_of : (s : TheRun TheSide) (l : LinkId) (n : ℕ) → lent_lane s l ≡ Some n → side_of_link s.core.lanes l.0 ≡ Some n
+lane_of s l n h = by (side_of_link s.core.lanes l.0) h where
+  by_test : (m : ℕ) (t : Bool) → (if t then Some m else None) ≡ Some n → Some m ≡ Some n
+  by_test m true q = q
+  by_test m false q = absurd (cc)
+
+  by : (o : Option ℕ) → (given_at o None λ m. if nat_lt m (length s.rings) then Some m else None) ≡ Some n → o ≡ Some n
+  by None q = absurd (cc)
+  by (Some m) q = by_test m (nat_lt m (length s.rings)) q
+
+-- ---- one event
+
+one_follows : TakeShows → OutboxesAreShown → RoomsAgree → OpensAgree → (front : TheSide → Look) (jobs : List Job) (a : Cut) (s t : TheRun TheSide) (deed : Deed) → ShowsCut a s
+    → HearsNothing deed → Happens (shared front) deed s t → InPlace jobs s deed → After deed a s t
+one_follows law boxes rooms openings front jobs a s t (looked n l answer) h quiet (m, on, notes, sound, soundly) by =
+    looks_follow front a s m t n l answer h (lane_of s l n by) on (desks_alone m t (looked n l answer) notes)
+one_follows law boxes rooms openings front jobs a s t (passed n k frag c Moved) h quiet (m, (mid, put, took), notes, sound, soundly) by =
+    passes_follow a s mid m t n k by.link.0 frag c h (lane_of s by.link n by.leads.lane) put took (desks_alone m t (passed n k frag c Moved) notes)
+one_follows law boxes rooms openings front jobs a s t (passed n k frag c Full) h quiet (m, put, notes, sound, soundly) by =
+    stays_full a s m t n k by.link.0 frag c h (lane_of s by.link n by.leads.lane) put (desks_alone m t (passed n k frag c Full) notes)
+one_follows law boxes rooms openings front jobs a s t (passed n k frag c Spent) h quiet (m, put, notes, sound, soundly) by =
+    stays_spent a s m t n k by.link.0 frag c h (lane_of s by.link n by.leads.lane) put (desks_alone m t (passed n k frag c Spent) notes)
+one_follows law boxes rooms openings front jobs a s t (arrived n l frag e answer) h quiet (m, on, notes, sound, soundly) by =
+    arrives_follow a s m t n l frag e answer h sound.core (lane_of s l n by.lane) on (desks_alone m t (arrived n l frag e answer) notes)
+one_follows law boxes rooms openings front jobs a s t (said n l answer) h quiet (m, on, notes, sound, soundly) by =
+    says_follow boxes a s m t n l answer h (lane_of s l n by) on (desks_alone m t (said n l answer) notes)
+one_follows law boxes rooms openings front jobs a s t (told n l answer) h quiet (m, on, notes, sound, soundly) by =
+    tells_follow a s m t n l answer h (lane_of s l n by) on (desks_alone m t (told n l answer) notes)
+one_follows law boxes rooms openings front jobs a s t (heard n l frag answer) h quiet k by = absurd quiet
+one_follows law boxes rooms openings front jobs a s t (opened name wish answer) h quiet (m, on, notes, sound, soundly) by =
+    opens_follow rooms openings a s m t name wish answer h sound on (λ none. says_nothing s.core wish.link.0 _ none by.1) (desks_alone m t (opened name wish answer) notes)
+one_follows law boxes rooms openings front jobs a s t (called name c answer) h quiet (m, (e, at, on), notes, sound, soundly) by =
+    calls_follow a s m t name c answer e h sound at on (desks_alone m t (called name c answer) notes)
+one_follows law boxes rooms openings front jobs a s t (ruled name msg reply answer) h quiet (m, (e, at, on), notes, sound, soundly) by =
+    rules_follow a s m t name msg reply answer e h sound at on (desks_alone m t (ruled name msg reply answer) notes)
+one_follows law boxes rooms openings front jobs a s t (wrote name (outlet.Side n) answer) h quiet (m, (e, at, on), notes, sound, soundly) (post, post_is, out_is) =
+    side_writes_follow a s m t name n answer e h sound at (puts_to s name e post (outlet.Side n) at post_is out_is) on
+    (desks_alone m t (wrote name (outlet.Side n) answer) notes)
+one_follows law boxes rooms openings front jobs a s t (wrote name (outlet.Queue n) answer) h quiet (m, (e, at, on), notes, sound, soundly) (post, post_is, out_is) =
+    queue_writes_follow a s m t name n answer e h sound at (puts_to s name e post (outlet.Queue n) at post_is out_is) on
+    (desks_alone m t (wrote name (outlet.Queue n) answer) notes)
+one_follows law boxes rooms openings front jobs a s t (turned d name (inlet.Side n) answer) h quiet (m, (e, at, due_is, on), notes, sound, soundly) (due, lent, place, from, waits) =
+    side_turns_follow law a s m t d name n answer e h sound soundly at (takes_from s d e due (inlet.Side n) due_is lent from) on
+    (desks_alone m t (turned d name (inlet.Side n) answer) notes)
+one_follows law boxes rooms openings front jobs a s t (turned d name (inlet.Queue n) answer) h quiet (m, (e, at, due_is, on), notes, sound, soundly) (due, lent, place, from, waits) =
+    queue_turns_follow law a s m t d name n answer e h sound soundly at (takes_from s d e due (inlet.Queue n) due_is lent from) on
+    (desks_alone m t (turned d name (inlet.Queue n) answer) notes)
+one_follows law boxes rooms openings front jobs a s t (turned d name inlet.Arrivals answer) h quiet (m, (e, at, due_is, on), notes, sound, soundly) (due, lent, place, from, waits) =
+    let at_arrivals = takes_from s d e due inlet.Arrivals due_is lent from in
+    arrivals_turn_follow law a s m t d name answer e h sound soundly at at_arrivals on (λ none. no_arrivals s.core e none sound.core at_arrivals)
+    (desks_alone m t (turned d name inlet.Arrivals answer) notes)
+one_follows law boxes rooms openings front jobs a s t (acked name n answer) h quiet (m, (e, at, on), notes, sound, soundly) (berth, berth_is, side_is) =
+    acks_follow a s m t name n answer e h sound at (acks_at berth (λ e2 m2. record { end = e2; side = m2 }) (λ b. b.side) (λ e2 m2. refl) s name e n at berth_is side_is) on (desks_alone m t (acked name n answer) notes)
+
+-- by a deed by which no message is heard
+acts : (services : List Service) (deed : Deed) (a b : Cut) → HearsNothing deed → CutActs deed a b → CutDoes services deed a b
+acts services (heard n l frag answer) a b quiet x = absurd quiet
+acts services (looked n l answer) a b quiet x = x
+acts services (passed n m frag c outcome) a b quiet x = x
+acts services (arrived n l frag e answer) a b quiet x = x
+acts services (said n l answer) a b quiet x = x
+acts services (told n l answer) a b quiet x = x
+acts services (opened name wish answer) a b quiet x = x
+acts services (called name c answer) a b quiet x = x
+acts services (ruled name msg reply answer) a b quiet x = x
+acts services (wrote name out answer) a b quiet x = x
+acts services (acked name n answer) a b quiet x = x
+acts services (turned d name (inlet.Side n) answer) a b quiet x = x
+acts services (turned d name (inlet.Queue n) answer) a b quiet x = x
+acts services (turned d name inlet.Arrivals answer) a b quiet x = x
+
+one_acts : TakeShows → OutboxesAreShown → RoomsAgree → OpensAgree → (front : TheSide → Look) (jobs : List Job) (services : List Service) (a : Cut)
+    (s t : TheRun TheSide) (deed : Deed) → ShowsCut a s → HearsNothing deed → Happens (shared front) deed s t → InPlace jobs s deed → Follows services deed a t
+one_acts law boxes rooms openings front jobs services a s t deed h quiet k by =
+    let one = one_follows law boxes rooms openings front jobs a s t deed h quiet k by in
+    record { after = one.after; does = acts services deed a one.after quiet one.does; shows = one.shows }
+
+pub events_follow : TakeShows → OutboxesAreShown → RoomsAgree → OpensAgree → HearsAgree → (front : TheSide → Look) (jobs : List Job) (services : List Service)
+    (a : Cut) (s t : TheRun TheSide) (deed : Deed) → ShowsCut a s → InOrder services deed a s → Happens (shared front) deed s t → InPlace jobs s deed
+    → Follows services deed a t
+events_follow law boxes rooms openings hears front jobs services a s t (heard n l frag answer) h order (m, on, notes, sound, soundly) by =
+    let one = hears_follow hears services a s m t n l frag answer h sound order.0 order.1 on (desks_alone m t (heard n l frag answer) notes) in
+    record { after = one.after; does = one.does; shows = one.shows }
+events_follow law boxes rooms openings hears front jobs services a s t (looked n l answer) h order k by =
+    one_acts law boxes rooms openings front jobs services a s t (looked n l answer) h tt k by
+events_follow law boxes rooms openings hears front jobs services a s t (passed n m frag c outcome) h order k by =
+    one_acts law boxes rooms openings front jobs services a s t (passed n m frag c outcome) h tt k by
+events_follow law boxes rooms openings hears front jobs services a s t (arrived n l frag e answer) h order k by =
+    one_acts law boxes rooms openings front jobs services a s t (arrived n l frag e answer) h tt k by
+events_follow law boxes rooms openings hears front jobs services a s t (said n l answer) h order k by =
+    one_acts law boxes rooms openings front jobs services a s t (said n l answer) h tt k by
+events_follow law boxes rooms openings hears front jobs services a s t (told n l answer) h order k by =
+    one_acts law boxes rooms openings front jobs services a s t (told n l answer) h tt k by
+events_follow law boxes rooms openings hears front jobs services a s t (opened name wish answer) h order k by =
+    one_acts law boxes rooms openings front jobs services a s t (opened name wish answer) h tt k by
+events_follow law boxes rooms openings hears front jobs services a s t (called name c answer) h order k by =
+    one_acts law boxes rooms openings front jobs services a s t (called name c answer) h tt k by
+events_follow law boxes rooms openings hears front jobs services a s t (ruled name msg reply answer) h order k by =
+    one_acts law boxes rooms openings front jobs services a s t (ruled name msg reply answer) h tt k by
+events_follow law boxes rooms openings hears front jobs services a s t (wrote name out answer) h order k by =
+    one_acts law boxes rooms openings front jobs services a s t (wrote name out answer) h tt k by
+events_follow law boxes rooms openings hears front jobs services a s t (acked name n answer) h order k by =
+    one_acts law boxes rooms openings front jobs services a s t (acked name n answer) h tt k by
+events_follow law boxes rooms openings hears front jobs services a s t (turned d name from answer) h order k by =
+    one_acts law boxes rooms openings front jobs services a s t (turned d name from answer) h tt k by
+
+-- ---- a log
+
+goes_on : TakeShows → OutboxesAreShown → RoomsAgree → OpensAgree → HearsAgree → (front : TheSide → Look) (jobs : List Job) (services : List Service) (a : Cut)
+    (s t : TheRun TheSide) (log : List Deed) → ShowsCut a s → Goes (shared front) jobs s log t → GoesOn front services a s log t
+goes_on law boxes rooms openings hears front jobs services a s t [] h k = (k, subst (ShowsCut a) (sym k) h)
+goes_on law boxes rooms openings hears front jobs services a s t (deed ∷ log) h (m, happens, by, rest) = λ order.
+    let one = events_follow law boxes rooms openings hears front jobs services a s m deed h order happens by in
+    (one.after, m, happens, one.does, one.shows, goes_on law boxes rooms openings hears front jobs services one.after m t log one.shows rest)
+
+quietly : TakeShows → OutboxesAreShown → RoomsAgree → OpensAgree → (front : TheSide → Look) (jobs : List Job) (services : List Service) (a : Cut)
+    (s t : TheRun TheSide) (log : List Deed) → ShowsCut a s → HearNothing log → Goes (shared front) jobs s log t → FollowsAll services log a t
+quietly law boxes rooms openings front jobs services a s t [] h quiet k = record { after = a; goes = refl; shows = subst (ShowsCut a) (sym k) h }
+quietly law boxes rooms openings front jobs services a s t (deed ∷ log) h quiet (m, happens, by, rest) =
+    let one = one_acts law boxes rooms openings front jobs services a s m deed h quiet.0 happens by in
+    let all = quietly law boxes rooms openings front jobs services one.after m t log one.shows quiet.1 rest in
+    record { after = all.after; goes = (one.after, one.does, all.goes); shows = all.shows }
+
+pub logs_follow : TakeShows → OutboxesAreShown → RoomsAgree → OpensAgree → HearsAgree → (front : TheSide → Look) (jobs : List Job) (services : List Service)
+    (a : Cut) (s t : TheRun TheSide) (log : List Deed) → ShowsCut a s → Goes (shared front) jobs s log t
+    → GoesOn front services a s log t × (HearNothing log → FollowsAll services log a t)
+logs_follow law boxes rooms openings hears front jobs services a s t log h k = (
+  goes_on law boxes rooms openings hears front jobs services a s t log h k,
+  λ quiet. quietly law boxes rooms openings front jobs services a s t log h quiet k,
+)
+
+-- without links no message is heard
+hears_none : (front : TheSide → Look) (jobs : List Job) (s t : TheRun TheSide) (deed : Deed) → HasNoLinks s.core → Happens (shared front) deed s t → InPlace jobs s deed
+    → HearsNothing deed
+hears_none front jobs s t (heard n l frag answer) none k by = no_lane s l n none by.0
+hears_none front jobs s t (opened name wish answer) none k by = tt
+hears_none front jobs s t (looked n l answer) none k by = tt
+hears_none front jobs s t (passed n m frag c outcome) none k by = tt
+hears_none front jobs s t (arrived n l frag e answer) none k by = tt
+hears_none front jobs s t (said n l answer) none k by = tt
+hears_none front jobs s t (told n l answer) none k by = tt
+hears_none front jobs s t (called name c answer) none k by = tt
+hears_none front jobs s t (ruled name msg reply answer) none k by = tt
+hears_none front jobs s t (wrote name out answer) none k by = tt
+hears_none front jobs s t (acked name n answer) none k by = tt
+hears_none front jobs s t (turned d name from answer) none k by = tt
+
+quiet_logs : TakeShows → OutboxesAreShown → RoomsAgree → OpensAgree → (front : TheSide → Look) (jobs : List Job) (a : Cut) (s t : TheRun TheSide) (log : List Deed)
+    → ShowsCut a s → Goes (shared front) jobs s log t → HasNoLinks s.core → HearNothing log
+quiet_logs law boxes rooms openings front jobs a s t [] h k none = tt
+quiet_logs law boxes rooms openings front jobs a s t (deed ∷ log) h (m, happens, by, rest) none =
+    let quiet = hears_none front jobs s m deed none happens by in
+    let one = one_follows law boxes rooms openings front jobs a s m deed h quiet happens by in
+    (quiet, quiet_logs law boxes rooms openings front jobs one.after m t log one.shows rest (one.links none))
+
+pub turns_follow : TakeShows → OutboxesAreShown → RoomsAgree → OpensAgree → HearsAgree → (front : TheSide → Look) (plan : Plan) (jobs : List Job) (k : ℕ)
+    (services : List Service) (a : Cut) (s t : TheRun TheSide) → ShowsCut a s → Turned (shared front) plan jobs k s t → TurnsFollow front jobs services a s t
+turns_follow law boxes rooms openings hears front plan jobs k services a s t h turns =
+    let logged = turns_logged (shared front) plan jobs k s t turns in
+    record {
+      log = logged.log;
+      happened = logged.goes;
+      goes_on = goes_on law boxes rooms openings hears front jobs services a s t logged.log h logged.goes;
+      follows = λ quiet. quietly law boxes rooms openings front jobs services a s t logged.log h quiet logged.goes;
+      quiet = quiet_logs law boxes rooms openings front jobs a s t logged.log h logged.goes;
+    }

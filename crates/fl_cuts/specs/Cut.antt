@@ -1,0 +1,89 @@
+-- A cut: what one core knows of the machine's state. When a core that runs, with the sides and queues that it is lent, shows a cut.
+use Rattle.std.specs.Prelude.{ℕ, ◌≡◌, false, List, [], ◌∷◌, length, map, slice_get, Option, Some, None}
+use Rattle.fl_base.specs.declared.fragment.Frag.{Frag}
+use Rattle.fl_base.specs.declared.identity.EndId.{EndId}
+use Rattle.fl_base.specs.Control.{bare}
+use Rattle.fl_compile.specs.declared.program.Program.{Program}
+use Rattle.fl_link.specs.Queue.{TheQueue}
+use Rattle.fl_ring.specs.SharedSides.{TheSide}
+use Rattle.fl_core.specs.View.{TheDispatcher, TheSeat}
+use Rattle.fl_node.specs.declared.wire.Lane.{Lane}
+use Rattle.fl_node.specs.declared.wire.Port.{Port}
+use Rattle.fl_running.specs.Run.{TheRun}
+use Rattle.fl_queues.specs.Given.{given}
+use Rattle.fl_queues.specs.Calls.{Planned}
+use Rattle.fl_queues.specs.Ends.{Queue, Seat}
+use Rattle.fl_queues.specs.Waits.{Dispatcher}
+use Rattle.fl_queues.specs.Monitors.{Core}
+use Rattle.fl_shows.specs.Ends.{planned_of}
+use Rattle.fl_shows.specs.Cores.{MonitorShows}
+use Rattle.fl_cuts.specs.Sides.{SideCut, ShowsSide}
+use Rattle.fl_cuts.specs.Ends.{EndCut, ShowsEnd}
+
+-- one for one, of two lists of one length
+abbrev pub Each2 : {A B : Type 0} → (A → B → Type 0) → List A → List B → Type 0
+Each2 R [] [] = Unit {0}
+Each2 R (x ∷ xs) (y ∷ ys) = R x y × Each2 R xs ys
+Each2 R xs ys = ⊥
+
+-- the machine's queue, and the fragments that stand there, one for each label, epochs and counts set aside
+pub record QueueCut : Type 0 where
+  pub queue : Queue
+  pub frags : List Frag
+
+pub record Cut : Type 0 where
+  -- the machine's core: its waitsets, and its circuits and outboxes
+  pub core : Core
+  -- its ends, by their places at the core; and by name their places
+  pub ends : List EndCut
+  pub places : List (Option ℕ)
+  -- of each of its links which side is its own, and whether what comes there has failed
+  pub lanes : List Lane
+  -- its sides of rings, its local queues, and the arrival queues of its ends of circuits
+  pub sides : List SideCut
+  pub queues : List QueueCut
+  pub arrivals : List QueueCut
+  -- the interfaces and plans of the programs that it is lent
+  pub plans : List Planned
+
+-- ---- parts
+
+pub record ShowsQueue (x : QueueCut) (t : TheQueue) : Type 0 where
+  pub frags : map bare t.items ≡ x.frags
+  pub labels : length x.frags ≡ length x.queue.labels
+  pub capacity : t.capacity ≡ x.queue.capacity
+  -- a slot is free again once its fragment is taken
+  pub freed : t.acked ≡ false
+  pub untold : t.untold ≡ 0
+  pub sent : t.sent ≡ 0
+
+-- the names of ends, by their places
+abbrev pub name_at : List Port → ℕ → Option EndId
+name_at ports place = given (slice_get ports place) None λ p. Some p.name
+
+-- the same channels wait, and each is the same end's
+pub record ShowsWaits (ports : List Port) (x : Dispatcher) (d : TheDispatcher) : Type 0 where
+  pub lists : d.lists ≡ x.lists
+  pub ends : map (name_at ports) d.ends ≡ map (λ e. Some e) x.ends
+
+-- where an end sits at this core
+abbrev pub seat_at : ℕ → TheSeat → Seat
+seat_at core t = record { dispatcher = record { core = core; place = t.dispatcher }; channel = t.channel }
+
+pub record ShowsSeat (core : ℕ) (x : EndCut) (t : TheSeat) : Type 0 where
+  pub shows : ShowsEnd x t.end
+  pub seat : x.end.seat ≡ Some (seat_at core t)
+
+-- ---- the whole
+
+pub record ShowsCut (a : Cut) (s : TheRun TheSide) : Type 0 where
+  pub monitor : MonitorShows a.core s.core.monitor
+  pub waits : Each2 (ShowsWaits s.core.ports) a.core.dispatchers s.core.board.dispatchers
+  pub ends : Each2 (ShowsSeat s.core.monitor.circuits.core) a.ends s.core.board.seats
+  pub ports : map (λ (x : EndCut). x.port) a.ends ≡ s.core.ports
+  pub places : a.places ≡ s.core.places
+  pub lanes : a.lanes ≡ s.core.lanes
+  pub sides : Each2 ShowsSide a.sides s.rings
+  pub queues : Each2 ShowsQueue a.queues s.queues
+  pub arrivals : Each2 ShowsQueue a.arrivals s.core.arrivals
+  pub plans : map (λ (p : Program). planned_of p) s.offers.programs ≡ a.plans

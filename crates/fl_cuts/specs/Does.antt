@@ -1,0 +1,58 @@
+-- What the machine makes of a cut by each deed of a core, and by those of a log.
+use Rattle.std.specs.Prelude.{◌≡◌, List, [], ◌∷◌}
+use Rattle.fl_monitor.specs.declared.message.Message.{Message}
+use Rattle.fl_monitor.specs.Saying.{Says}
+use Rattle.fl_node.specs.declared.wire.Inlet.TheVariants.{Side, Queue, Arrivals}
+use Rattle.fl_running.specs.Deeds.{Deed, looked, passed, arrived, heard, said, told, opened, called, ruled, wrote, acked, turned}
+use Rattle.fl_ring.specs.SharedSides.{TheSide}
+use Rattle.fl_running.specs.Run.{TheRun}
+use Rattle.fl_queues.specs.Monitors.{Service}
+use Rattle.fl_shows.specs.Cores.{NamesShow}
+use Rattle.fl_cuts.specs.Ends.{Calls, SetsRule}
+use Rattle.fl_cuts.specs.Cut.{Cut}
+use Rattle.fl_cuts.specs.Events.{ChangesEnd, WritesOver, TurnsOverSide, TurnsOverQueue, AcksOver}
+use Rattle.fl_cuts.specs.Opening.{OpensOver}
+use Rattle.fl_cuts.specs.Links.{LooksOver, PassesOver, ArrivesOver, SaysOver, TellsOver, TurnsOverArrivals}
+use Rattle.fl_cuts.specs.Hearing.{HearsOver, IsInOrder}
+
+-- by each but a message that is heard
+abbrev pub CutActs : Deed → Cut → Cut → Type 0
+CutActs (looked n l answer) a b = LooksOver n l answer a b
+CutActs (passed n m frag c outcome) a b = PassesOver n m frag c outcome a b
+CutActs (arrived n l frag name answer) a b = ArrivesOver n l frag name answer a b
+CutActs (said n l answer) a b = SaysOver n l answer a b
+CutActs (told n l answer) a b = TellsOver n answer a b
+CutActs (called name c answer) a b = ChangesEnd a name (Calls c answer) b
+CutActs (ruled name msg reply answer) a b = ChangesEnd a name (SetsRule msg.0 reply.0 answer) b
+CutActs (wrote name out answer) a b = WritesOver out name answer a b
+CutActs (acked name n answer) a b = AcksOver n name answer a b
+CutActs (turned d name (Side n) answer) a b = TurnsOverSide d name n answer a b
+CutActs (turned d name (Queue n) answer) a b = TurnsOverQueue d name n answer a b
+CutActs (turned d name Arrivals answer) a b = TurnsOverArrivals d name answer a b
+CutActs (opened name wish answer) a b = OpensOver wish answer a b
+CutActs (heard n l frag answer) a b = ⊥
+
+-- with the services of the machine's table of names
+abbrev pub CutDoes : List Service → Deed → Cut → Cut → Type 0
+CutDoes services (heard n l frag answer) a b = HearsOver services n l frag answer a b
+CutDoes services deed a b = CutActs deed a b
+
+-- a message that is heard is one that comes to a core of the machine, which has the machine's table of names
+abbrev pub InOrder : List Service → Deed → Cut → TheRun TheSide → Type 0
+InOrder services (heard n l frag answer) a s = NamesShow services s.offers.names × ((m : Message) → Says frag m → IsInOrder services l.0 a s m)
+InOrder services deed a s = Unit {0}
+
+-- no monitors' message is heard by it
+abbrev pub HearsNothing : Deed → Type 0
+HearsNothing (heard n l frag answer) = ⊥
+HearsNothing deed = Unit {0}
+
+-- ---- the deeds of a log, one after another
+
+abbrev pub CutGoes : List Service → Cut → List Deed → Cut → Type 0
+CutGoes services a [] b = b ≡ a
+CutGoes services a (deed ∷ log) b = (m : Cut) × CutDoes services deed a m × CutGoes services m log b
+
+abbrev pub HearNothing : List Deed → Type 0
+HearNothing [] = Unit {0}
+HearNothing (deed ∷ log) = HearsNothing deed × HearNothing log

@@ -1,0 +1,134 @@
+-- What the machine makes of a cut when its core hears a monitors' message.
+use Rattle.std.specs.Prelude.{ℕ, ◌≡◌, ◌⊎◌, ◌+◌, false, List, [], length, slice_get, slice_set, Option, Some, None, Result, Ok, Err}
+use Rattle.fl_base.specs.declared.fragment.Frag.{Frag}
+use Rattle.fl_base.specs.declared.identity.EndId.{EndId}
+use Rattle.fl_base.specs.declared.identity.LinkId.{LinkId}
+use Rattle.fl_base.specs.Control.{bare}
+use Rattle.fl_ring.specs.SharedSides.{TheSide}
+use Rattle.fl_monitor.specs.declared.message.Message.{Message}
+use Rattle.fl_monitor.specs.declared.message.Message.TheVariants.{OpenCircuit, CircuitOpened, CircuitRefused}
+use Rattle.fl_monitor.specs.Saying.{Says}
+use Rattle.fl_node.specs.declared.answer.MonitorAnswer.{MonitorAnswer}
+use Rattle.fl_node.specs.declared.answer.MonitorAnswer.TheVariants.{Full, Done, Opened, OpeningRefused}
+use Rattle.fl_node.specs.declared.fault.LinkFault.{LinkFault}
+use Rattle.fl_node.specs.declared.fault.LinkFault.TheVariants.{Memory}
+use Rattle.fl_node.specs.View.{arrivals_by, failed_at, circuit_port, server_of}
+use Rattle.fl_node.specs.Hearing.{here_for}
+use Rattle.fl_running.specs.Run.{TheRun}
+use Rattle.fl_queues.specs.Events.{DispatcherId}
+use Rattle.fl_queues.specs.Given.{changed_at}
+use Rattle.fl_queues.specs.Rings.{Said, open_circuit, circuit_opened, circuit_refused, says}
+use Rattle.fl_queues.specs.Ends.{Seat}
+use Rattle.fl_queues.specs.Waits.{Dispatcher, waits_in, registers}
+use Rattle.fl_queues.specs.Monitors.{Service, service_of, Heard, no_outbox, opening_went_on, server_made, opening_failed, answer_went_on, end_opened, end_refused}
+use Rattle.fl_queues.specs.Monitors.{Hearing, hears}
+use Rattle.fl_queues.specs.Calls.{Planned}
+use Rattle.fl_shows.specs.CoreLaws.{MayBeHeard}
+use Rattle.fl_cuts.specs.Sides.{gave_one, SideGives}
+use Rattle.fl_cuts.specs.Ends.{EndCut}
+use Rattle.fl_cuts.specs.Cut.{QueueCut, Cut}
+use Rattle.fl_cuts.specs.Events.{EndAt, with_waits}
+use Rattle.fl_cuts.specs.Links.{OverOne}
+use Rattle.fl_cuts.specs.Opening.{new_arrivals, new_end, next_seat, with_new_end, opening_with}
+
+-- ---- a message, as the machine has it
+
+abbrev pub said_of : Message → Said
+said_of (OpenCircuit c binding service path) = open_circuit (opening_with c.0 (record { binding = binding; service = service; path = path }))
+said_of (CircuitOpened c) = circuit_opened c.0
+said_of (CircuitRefused c reason) = circuit_refused c.0 reason
+
+-- the service for which it asks
+abbrev pub asked_service : List Service → Message → Option Service
+asked_service services (OpenCircuit c binding service path) = service_of services service.0
+asked_service services m = None
+
+-- how many cores its route has, if it asks for a circuit
+abbrev pub route_length : Message → ℕ
+route_length (OpenCircuit c binding service path) = length path
+route_length m = 0
+
+-- what the machine makes of the core by it, with these services
+abbrev pub hearing : List Service → ℕ → Message → Cut → Hearing
+hearing services l m a = hears services l (said_of m) a.core
+
+-- ---- what follows
+
+-- the channel at a seat is registered, by what stands in its queue
+abbrev pub registers_seat : Option Seat → QueueCut → List Dispatcher → List Dispatcher
+registers_seat None x waits = waits
+registers_seat (Some seat) x waits = changed_at seat.dispatcher.place (registers seat.channel (waits_in (Some x.queue))) waits
+
+-- on this circuit now
+abbrev pub bound_to : ℕ → EndCut → EndCut
+bound_to c x = record x { end = record x.end { circuit = Some c } }
+
+-- the server's end is made, bound to this circuit, and its channel registered
+pub record MakesServer (asked : Option Service) (stations n : ℕ) (d : DispatcherId) (c : ℕ) (l : LinkId) (a b : Cut) : Type 0 where
+  pub service : Service
+  pub service_is : asked ≡ Some service
+  -- of the service's program, of which the end has a copy
+  pub planned : Planned
+  pub planned_is : slice_get a.plans service.interface ≡ Some planned
+  pub waits : Dispatcher
+  pub waits_is : slice_get a.core.dispatchers d.place ≡ Some waits
+  pub end : EndCut
+  pub end_is : end ≡ new_end (circuit_port (server_of n) l (length a.arrivals)) planned stations (next_seat a.core.circuits.core d.place waits)
+  pub made : Cut
+  pub made_is : made ≡ with_new_end d.place waits (bound_to c end) a
+  pub rest : b ≡ with_waits made (registers_seat end.end.seat new_arrivals made.core.dispatchers)
+
+-- an end of this core is bound to this circuit, and its channel registered
+pub record BindsEnd (name : EndId) (c : ℕ) (a b : Cut) : Type 0 where
+  pub at : EndAt a name
+  pub number : ℕ
+  pub number_is : arrivals_by at.end.port.wire ≡ Some number
+  pub queue : QueueCut
+  pub queue_is : slice_get a.arrivals number ≡ Some queue
+  pub rest : b ≡ record (with_waits a (registers_seat at.end.end.seat queue a.core.dispatchers)) { ends = slice_set a.ends at.place (bound_to c at.end) }
+
+-- where it is at this core, and on a circuit
+abbrev pub BindsIf : EndId → ℕ → Cut → Cut → Type 0
+BindsIf name c a b = BindsEnd name c a b ⊎ (((at : EndAt a name) → arrivals_by at.end.port.wire ≡ None) × (b ≡ a))
+
+-- by what the machine hears, from the cut in which the message was taken and the core's table and outboxes are as after it
+abbrev pub ThenFollows : Option Service → LinkId → ℕ → Heard → MonitorAnswer → Cut → Cut → Type 0
+ThenFollows asked l stations (opening_went_on n c) told a b = (told ≡ Done) × (b ≡ a)
+ThenFollows asked l stations (opening_failed n fault) told a b = (told ≡ Done) × (b ≡ a)
+ThenFollows asked l stations (answer_went_on n) told a b = (told ≡ Done) × (b ≡ a)
+ThenFollows asked l stations (server_made n d c) told a b = (told ≡ Opened (server_of n)) × MakesServer asked stations n d c l a b
+ThenFollows asked l stations (end_opened e c) told a b = (told ≡ Opened e) × BindsIf e c a b
+ThenFollows asked l stations (end_refused e fault) told a b = (told ≡ OpeningRefused e fault) × (b ≡ a)
+ThenFollows asked l stations other told a b = ⊥
+
+-- it was taken, and heard
+pub record Hears (services : List Service) (n : ℕ) (l : LinkId) (frag : Frag) (told : MonitorAnswer) (a b : Cut) : Type 0 where
+  pub message : Message
+  pub says_it : Says frag message
+  pub middle : Cut
+  pub sides : OverOne a.sides n (SideGives (says (said_of message)) (gave_one (bare frag))) middle.sides
+  pub middle_is : middle ≡ record a { core = (hearing services l.0 message a).core; sides = middle.sides }
+  pub follows : ThenFollows (asked_service services message) l (route_length message + 1) (hearing services l.0 message a).heard told middle b
+
+abbrev pub HearsOver : List Service → ℕ → LinkId → Frag → Result MonitorAnswer LinkFault → Cut → Cut → Type 0
+HearsOver services n l frag (Ok Full) a b =
+    (m : Message) × Says frag m × ((hearing services l.0 m a).heard ≡ no_outbox) × (b ≡ a)
+HearsOver services n l frag (Ok told) a b = Hears services n l frag told a b
+HearsOver services n l frag (Err Memory) a b = b ≡ a
+-- the machine has no such case: the fragment says nothing, or the message is out of its place. What comes on the link has failed
+HearsOver services n l frag (Err fault) a b = b ≡ record a { lanes = failed_at a.lanes l.0 }
+
+-- ---- the messages that come
+
+-- an end to which an answer comes isn't bound yet, so nothing was accepted there, and it never failed
+pub record IsUnbound (x : EndCut) : Type 0 where
+  pub circuit : x.end.circuit ≡ None
+  pub accepted : x.end.out.accepted ≡ []
+  pub waiting : x.end.out.waiting ≡ []
+  pub sound : x.failed ≡ false
+
+-- the message is one that comes to a core of the machine: an opening leads on, and of one that ends here the dispatcher is there, and its program is lent; an
+-- answer comes to an end that waits for it
+pub record IsInOrder (services : List Service) (l : ℕ) (a : Cut) (s : TheRun TheSide) (m : Message) : Type 0 where
+  pub may : MayBeHeard services l (said_of m) a.core (here_for s.offers s.core m)
+  pub unbound : (e : EndId) (c : ℕ) (at : EndAt a e) → (hearing services l m a).heard ≡ end_opened e c → IsUnbound at.end

@@ -1,0 +1,140 @@
+-- What the machine makes of a cut by each event on a link: a look, a fragment that goes on or arrives, a monitor's write, what is told.
+use Rattle.std.specs.Prelude.{ℕ, ◌≡◌, ◌≢◌, Bool, true, false, List, slice_get, slice_set, Option, Some, None, Result, Ok, Err}
+use Rattle.fl_base.specs.declared.fragment.Frag.{Frag}
+use Rattle.fl_base.specs.declared.identity.EndId.{EndId}
+use Rattle.fl_base.specs.declared.identity.LinkId.{LinkId}
+use Rattle.fl_base.specs.declared.identity.Circuit.{Circuit}
+use Rattle.fl_base.specs.Control.{bare, circuit_of, with_circuit, is_ack_only}
+use Rattle.fl_hop.specs.declared.entry.Way.TheVariants.{Link as ToLink, End as ToEnd}
+use Rattle.fl_hop.specs.declared.forward.Outcome.{Outcome}
+use Rattle.fl_hop.specs.declared.forward.Outcome.TheVariants.{Moved, Full, Spent}
+use Rattle.fl_hop.specs.Table.{hop_at}
+use Rattle.fl_hop.specs.Later.{way_at}
+use Rattle.fl_hop.specs.OfCircuit.{as_carried}
+use Rattle.fl_core.specs.declared.answer.TurnAnswer.{TurnAnswer}
+use Rattle.fl_core.specs.declared.answer.AckAnswer.{AckAnswer}
+use Rattle.fl_core.specs.declared.answer.AckAnswer.TheVariants as ack
+use Rattle.fl_node.specs.declared.answer.Ahead.{Ahead}
+use Rattle.fl_node.specs.declared.answer.Ahead.TheVariants.{Nothing, Acknowledged, Message, Onward, Arrival}
+use Rattle.fl_node.specs.declared.answer.MonitorWrite.{MonitorWrite}
+use Rattle.fl_node.specs.declared.answer.MonitorWrite.TheVariants as write
+use Rattle.fl_node.specs.declared.fault.LinkFault.{LinkFault}
+use Rattle.fl_node.specs.declared.fault.LinkFault.TheVariants.{Failed, Astray, Marked}
+use Rattle.fl_node.specs.declared.wire.Lane.{Lane}
+use Rattle.fl_node.specs.View.{side_of_link, arrivals_by, place_in, failed_at}
+use Rattle.fl_queues.specs.Given.{given}
+use Rattle.fl_queues.specs.Rings.{Said, Label, says}
+use Rattle.fl_queues.specs.Forwarding.{without_first_said}
+use Rattle.fl_shows.specs.Fragments.{said_frag}
+use Rattle.fl_cuts.specs.Sides.{SideCut, goes_on, is_full, is_spent, Places, nothing_stands, left_one, gave_one, gave_ack, SideGives}
+use Rattle.fl_cuts.specs.Sides.{is_told, is_little, finds_none, Tells}
+use Rattle.fl_cuts.specs.Cut.{QueueCut, Cut}
+use Rattle.fl_cuts.specs.Events.{QueuePlaces, queue_gives, EndAt, triggers_end, with_waits, HasTurn}
+
+-- a side or queue of number n of a list alone has changed, as the event says
+pub record OverOne {P : Type 0} (xs : List P) (n : ℕ) (Event : P → P → Type 0) (ys : List P) : Type 0 where
+  pub before : P
+  pub before_is : slice_get xs n ≡ Some before
+  pub after : P
+  pub event : Event before after
+  pub rest : ys ≡ slice_set xs n after
+
+-- ---- a look
+
+-- whether what comes on link l has failed
+abbrev pub HasFailed : Cut → ℕ → Bool → Type 0
+HasFailed a l failed = (lane : Lane) × (slice_get a.lanes l ≡ Some lane) × (lane.failed ≡ failed)
+
+-- a call's fragment or a monitors' message stands first, and is left there
+abbrev pub Leaves : Frag → SideCut → SideCut → Type 0
+Leaves frag v w = (label : Label) × SideGives label (left_one (bare frag)) v w
+
+-- by what is found; a call's fragment is found to go the way of its circuit's entry
+abbrev pub Finds : Cut → ℕ → Result Ahead LinkFault → SideCut → SideCut → Type 0
+Finds a l (Ok Nothing) v w = HasFailed a l false × ((label : Label) × SideGives label nothing_stands v w)
+Finds a l (Ok Acknowledged) v w = HasFailed a l false × ((label : Label) × SideGives label gave_ack v w)
+Finds a l (Ok (Message frag)) v w = HasFailed a l false × (circuit_of frag.control ≡ 0) × Leaves frag v w
+Finds a l (Ok (Onward frag side c)) v w =
+    HasFailed a l false × (circuit_of frag.control ≢ 0)
+    × ((m : LinkId) × (way_at a.core.circuits l (circuit_of frag.control) ≡ Some (ToLink m c)) × (side_of_link a.lanes m.0 ≡ Some side))
+    × Leaves frag v w
+Finds a l (Ok (Arrival frag e)) v w =
+    HasFailed a l false × (circuit_of frag.control ≢ 0) × (way_at a.core.circuits l (circuit_of frag.control) ≡ Some (ToEnd e)) × Leaves frag v w
+-- the machine has none of these: what comes there failed earlier; or it fails now, for a circuit without an entry, or a fragment of the wrong form
+Finds a l (Err Failed) v w = HasFailed a l true × (w ≡ v)
+Finds a l (Err Astray) v w =
+    HasFailed a l false
+    × ((frag : Frag) × (circuit_of frag.control ≢ 0) × (hop_at a.core.circuits l (circuit_of frag.control) ≡ None) × Leaves frag v w)
+Finds a l (Err Marked) v w = HasFailed a l false × ((frag : Frag) × (is_ack_only (with_circuit 0 frag) ≡ true) × Leaves frag v w)
+Finds a l (Err fault) v w = ⊥
+
+abbrev pub lanes_after : ℕ → Result Ahead LinkFault → List Lane → List Lane
+lanes_after l (Err Astray) lanes = failed_at lanes l
+lanes_after l (Err Marked) lanes = failed_at lanes l
+lanes_after l answer lanes = lanes
+
+pub record LooksOver (n : ℕ) (l : LinkId) (answer : Result Ahead LinkFault) (a b : Cut) : Type 0 where
+  pub look : OverOne a.sides n (Finds a l.0 answer) b.sides
+  pub rest : b ≡ record a { sides = b.sides; lanes = lanes_after l.0 answer a.lanes }
+
+-- ---- a fragment goes on from side n to side m: its label is put there, and then taken here
+
+abbrev pub PassesOver : ℕ → ℕ → Frag → Circuit → Outcome → Cut → Cut → Type 0
+PassesOver n m frag c Moved a b =
+    (label : Label) × (sides : List SideCut) × OverOne a.sides m (Places label (goes_on (bare (with_circuit c.0 frag)))) sides
+    × OverOne sides n (SideGives label (gave_one (bare frag))) b.sides × (b ≡ record a { sides = b.sides })
+PassesOver n m frag c Full a b = (label : Label) × OverOne a.sides m (Places label is_full) b.sides × (b ≡ record a { sides = b.sides })
+PassesOver n m frag c Spent a b = (label : Label) × OverOne a.sides m (Places label is_spent) b.sides × (b ≡ record a { sides = b.sides })
+
+-- ---- it arrives for the end of a name: its label comes into the end's arrival queue, where that has room, and the end's channel is triggered
+
+pub record ArrivesIn (name : EndId) (a : Cut) (Event : QueueCut → QueueCut → Type 0) (queues : List QueueCut) : Type 0 where
+  pub at : EndAt a name
+  pub number : ℕ
+  pub number_is : arrivals_by at.end.port.wire ≡ Some number
+  pub queue : OverOne a.arrivals number Event queues
+
+abbrev pub ArrivesOver : ℕ → LinkId → Frag → EndId → Result Outcome LinkFault → Cut → Cut → Type 0
+ArrivesOver n l frag name (Ok Moved) a b =
+    (label : Label) × ArrivesIn name a (QueuePlaces label (goes_on (as_carried frag))) b.arrivals
+    × OverOne a.sides n (SideGives label (gave_one (bare frag))) b.sides
+    × (b ≡ record (with_waits a (triggers_end (place_in a.places name) a.ends a.core.dispatchers)) { sides = b.sides; arrivals = b.arrivals })
+ArrivesOver n l frag name (Ok Full) a b = (label : Label) × ArrivesIn name a (QueuePlaces label is_full) a.arrivals × (b ≡ a)
+ArrivesOver n l frag name (Ok Spent) a b = ⊥
+-- an entry that leads to an end that isn't here, which the machine has no case for: what comes on the link has failed
+ArrivesOver n l frag name (Err Astray) a b = b ≡ record a { lanes = failed_at a.lanes l.0 }
+ArrivesOver n l frag name (Err fault) a b = ⊥
+
+-- ---- a monitor writes the first message of its outbox
+
+-- what is to be said first on the machine's link of this number
+abbrev pub first_said : Cut → ℕ → Option Said
+first_said a l = given (slice_get a.core.links l) None λ link. slice_get link.outbox 0
+
+abbrev pub SaysOver : ℕ → LinkId → MonitorWrite → Cut → Cut → Type 0
+SaysOver n l write.Written a b =
+    (m : Said) × (first_said a l.0 ≡ Some m) × OverOne a.sides n (Places (says m) (goes_on (said_frag m))) b.sides
+    × (b ≡ record a { core = without_first_said l.0 a.core; sides = b.sides })
+SaysOver n l write.Full a b =
+    (m : Said) × (first_said a l.0 ≡ Some m) × OverOne a.sides n (Places (says m) is_full) b.sides × (b ≡ record a { sides = b.sides })
+SaysOver n l write.Spent a b =
+    (m : Said) × (first_said a l.0 ≡ Some m) × OverOne a.sides n (Places (says m) is_spent) b.sides × (b ≡ record a { sides = b.sides })
+SaysOver n l write.Nothing a b = (first_said a l.0 ≡ None) × (b ≡ a)
+
+-- ---- a core tells what it took from a link
+
+abbrev pub TellsBy : AckAnswer → SideCut → SideCut → Type 0
+TellsBy ack.Done v w = Tells is_told v w
+TellsBy ack.Nothing v w = Tells is_little v w
+TellsBy ack.Full v w = Tells finds_none v w
+
+abbrev pub TellsOver : ℕ → AckAnswer → Cut → Cut → Type 0
+TellsOver n answer a b = OverOne a.sides n (TellsBy answer) b.sides × (b ≡ record a { sides = b.sides })
+
+-- ---- a turn of an end of a circuit, over its own arrival queue
+
+pub record TurnsOverArrivals (d : ℕ) (name : EndId) (answer : TurnAnswer) (a b : Cut) : Type 0 where
+  pub number : ℕ
+  pub turn : HasTurn queue_gives d name answer a a.arrivals number b.core.dispatchers b.ends b.arrivals
+  pub own : arrivals_by turn.at.end.port.wire ≡ Some number
+  pub rest : b ≡ record (with_waits a b.core.dispatchers) { ends = b.ends; arrivals = b.arrivals }
