@@ -266,11 +266,15 @@ offer_fits services o k (OpenCircuit c binding service path) names x e = by (ser
       } in w) else None) (agree.none service.0 q) in
       let clash : None ≡ Some x = sym none ∙ e in
       absurd (cc)
-  by (Some y) q = (y, q, by_test y (may_offer o k (registration_of service.0 y))
-      (sym (ap (λ (r : Option TheRegistration). given_at r None λ z. if may_offer o k z then Some (let w : Offered = record {
-        dispatcher = z.service.dispatcher;
-        interface = z.service.interface;
-      } in w) else None) (agree.found service.0 y q)) ∙ e))
+  by (Some y) q = (
+    y,
+    q,
+    by_test y (may_offer o k (registration_of service.0 y))
+        (sym (ap (λ (r : Option TheRegistration). given_at r None λ z. if may_offer o k z then Some (let w : Offered = record {
+          dispatcher = z.service.dispatcher;
+          interface = z.service.interface;
+        } in w) else None) (agree.found service.0 y q)) ∙ e),
+  )
 
 makes_server : (asked : Option Service) (programs : List Program) (offer : Option Offered) (l : LinkId) (n stations : ℕ) (d : DispatcherId) (c : Circuit) (a : Cut) (s t : TheRun TheSide)
     → Fits asked offer → map (λ (p : Program). planned_of p) programs ≡ a.plans → ShowsCut a s → map (λ (y : TheSeat). y.kind) s.core.board.seats ≡ map (λ (q : Port). kind_of q.wire) s.core.ports → IsBoard s.core.board → 1 ≤ stations
