@@ -266,11 +266,15 @@ offer_fits services o k (OpenCircuit c binding service path) names x e = by (ser
       } in w) else None) (agree.none service.0 q) in
       let clash : None ≡ Some x = sym none ∙ e in
       absurd (cc)
-  by (Some y) q = (y, q, by_test y (may_offer o k (registration_of service.0 y))
-      (sym (ap (λ (r : Option TheRegistration). given_at r None λ z. if may_offer o k z then Some (let w : Offered = record {
-        dispatcher = z.service.dispatcher;
-        interface = z.service.interface;
-      } in w) else None) (agree.found service.0 y q)) ∙ e))
+  by (Some y) q = (
+    y,
+    q,
+    by_test y (may_offer o k (registration_of service.0 y))
+        (sym (ap (λ (r : Option TheRegistration). given_at r None λ z. if may_offer o k z then Some (let w : Offered = record {
+          dispatcher = z.service.dispatcher;
+          interface = z.service.interface;
+        } in w) else None) (agree.found service.0 y q)) ∙ e),
+  )
 
 makes_server : (asked : Option Service) (programs : List Program) (offer : Option Offered) (l : LinkId) (n stations : ℕ) (d : DispatcherId) (c : Circuit) (a : Cut) (s t : TheRun TheSide)
     → Fits asked offer → map (λ (p : Program). planned_of p) programs ≡ a.plans → ShowsCut a s → map (λ (y : TheSeat). y.kind) s.core.board.seats ≡ map (λ (q : Port). kind_of q.wire) s.core.ports → IsBoard s.core.board → 1 ≤ stations
@@ -633,11 +637,11 @@ pub record HeardAs (services : List Service) (n : ℕ) (l : LinkId) (frag : Frag
 abbrev failing : LinkId → Cut → Cut
 failing l a = record a { lanes = failed_at a.lanes l.0 }
 
-pub hears_follow : HearsAgree → (services : List Service) (a : Cut) (s m t : TheRun TheSide) (n : ℕ) (l : LinkId) (frag : Frag) (answer : Result MonitorAnswer LinkFault)
+pub hears_follow : HearsAgree → (services : List Service) (a : Cut) (s m t : TheRun TheSide) (n : ℕ) (l : LinkId) (frag : Frag) (told : MonitorAnswer)
     → ShowsCut a s → IsSound s.core → NamesShow services s.offers.names → ((x : Message) → Says frag x → IsInOrder services l.0 a s x)
-    → OnRing n s (λ k p k2 q. HearsFrag s.offers l frag k answer k2 × TakesHeard SharedTakes frag p answer q) m → t ≡ record m { desks = t.desks }
-    → HeardAs services n l frag answer a t
-hears_follow law services a s m t n l frag (Ok answer.Full) h sound names order on desks =
+    → OnRing n s (λ k p k2 q. HearsFrag s.offers l frag k (Ok told) k2 × TakesHeard SharedTakes frag p (Ok told) q) m → t ≡ record m { desks = t.desks }
+    → HeardAs services n l frag (Ok told) a t
+hears_follow law services a s m t n l frag answer.Full h sound names order on desks =
     let ((msg, is, both), same) = on.event in
     let known : Known = known_for s.offers s.core msg in
     let agree = law known services l.0 (said_of msg) a.core s.core.monitor s.core.monitor (Err monitor.OutboxFull) h.monitor names (order msg is).may
@@ -647,35 +651,40 @@ hears_follow law services a s m t n l frag (Ok answer.Full) h sound names order 
       does = (msg, is, agree.0, refl);
       shows = desks_shown a m t (still a s m n on.before on.after h on.before_is same on.rest both.1) desks;
     }
-hears_follow law services a s m t n l frag (Ok answer.Done) h sound names order on desks =
+hears_follow law services a s m t n l frag answer.Done h sound names order on desks =
     let ((msg, is, all), takes) = on.event in
     let one = hears_all law services a s m n l frag msg answer.Done on.before on.after h sound names (order msg is) is on.before_is all takes on.rest in
     record { after = one.after; does = one.hears; shows = desks_shown one.after m t one.shows desks }
-hears_follow law services a s m t n l frag (Ok (answer.Opened e)) h sound names order on desks =
+hears_follow law services a s m t n l frag (answer.Opened e) h sound names order on desks =
     let ((msg, is, all), takes) = on.event in
     let one = hears_all law services a s m n l frag msg (answer.Opened e) on.before on.after h sound names (order msg is) is on.before_is all takes on.rest in
     record { after = one.after; does = one.hears; shows = desks_shown one.after m t one.shows desks }
-hears_follow law services a s m t n l frag (Ok (answer.OpeningRefused e reason)) h sound names order on desks =
+hears_follow law services a s m t n l frag (answer.OpeningRefused e reason) h sound names order on desks =
     let ((msg, is, all), takes) = on.event in
     let one = hears_all law services a s m n l frag msg (answer.OpeningRefused e reason) on.before on.after h sound names (order msg is) is on.before_is all takes on.rest in
     record { after = one.after; does = one.hears; shows = desks_shown one.after m t one.shows desks }
-hears_follow law services a s m t n l frag (Err (link.Wire wire.NotFirst)) h sound names order on desks =
+
+-- one that isn't heard, whatever it says
+pub fails_follow : (services : List Service) (a : Cut) (s m t : TheRun TheSide) (n : ℕ) (l : LinkId) (frag : Frag) (fault : LinkFault) → ShowsCut a s
+    → OnRing n s (λ k p k2 q. HearsFrag s.offers l frag k (Err fault) k2 × TakesHeard SharedTakes frag p (Err fault) q) m → t ≡ record m { desks = t.desks }
+    → HeardAs services n l frag (Err fault) a t
+fails_follow services a s m t n l frag (link.Wire wire.NotFirst) h on desks =
     record { after = failing l a; does = refl; shows = desks_shown (failing l a) m t (fails_for_good a s m n l.0 on.before on.after h on.before_is on.event.1 on.rest on.event.0.1) desks }
-hears_follow law services a s m t n l frag (Err (link.Wire wire.FirstInside)) h sound names order on desks =
+fails_follow services a s m t n l frag (link.Wire wire.FirstInside) h on desks =
     record { after = failing l a; does = refl; shows = desks_shown (failing l a) m t (fails_for_good a s m n l.0 on.before on.after h on.before_is on.event.1 on.rest on.event.0.1) desks }
-hears_follow law services a s m t n l frag (Err (link.Wire wire.UnknownMessage)) h sound names order on desks =
+fails_follow services a s m t n l frag (link.Wire wire.UnknownMessage) h on desks =
     record { after = failing l a; does = refl; shows = desks_shown (failing l a) m t (fails_for_good a s m n l.0 on.before on.after h on.before_is on.event.1 on.rest on.event.0.1) desks }
-hears_follow law services a s m t n l frag (Err (link.Wire wire.NotZero)) h sound names order on desks =
+fails_follow services a s m t n l frag (link.Wire wire.NotZero) h on desks =
     record { after = failing l a; does = refl; shows = desks_shown (failing l a) m t (fails_for_good a s m n l.0 on.before on.after h on.before_is on.event.1 on.rest on.event.0.1) desks }
-hears_follow law services a s m t n l frag (Err (link.Wire wire.OutOfType)) h sound names order on desks =
+fails_follow services a s m t n l frag (link.Wire wire.OutOfType) h on desks =
     record { after = failing l a; does = refl; shows = desks_shown (failing l a) m t (fails_for_good a s m n l.0 on.before on.after h on.before_is on.event.1 on.rest on.event.0.1) desks }
-hears_follow law services a s m t n l frag (Err (link.Wire wire.TooLong)) h sound names order on desks =
+fails_follow services a s m t n l frag (link.Wire wire.TooLong) h on desks =
     record { after = failing l a; does = refl; shows = desks_shown (failing l a) m t (fails_for_good a s m n l.0 on.before on.after h on.before_is on.event.1 on.rest on.event.0.1) desks }
-hears_follow law services a s m t n l frag (Err (link.Wire wire.Memory)) h sound names order on desks = absurd on.event.0
-hears_follow law services a s m t n l frag (Err link.Astray) h sound names order on desks =
+fails_follow services a s m t n l frag (link.Wire wire.Memory) h on desks = absurd on.event.0
+fails_follow services a s m t n l frag link.Astray h on desks =
     let ((msg, is, both), same) = on.event in
     record { after = failing l a; does = refl; shows = desks_shown (failing l a) m t (fails_for_good a s m n l.0 on.before on.after h on.before_is same on.rest both.1) desks }
-hears_follow law services a s m t n l frag (Err link.Memory) h sound names order on desks =
+fails_follow services a s m t n l frag link.Memory h on desks =
     record { after = a; does = refl; shows = desks_shown a m t (still a s m n on.before on.after h on.before_is on.event.1 on.rest on.event.0) desks }
-hears_follow law services a s m t n l frag (Err link.Failed) h sound names order on desks = let ((msg, is, none), same) = on.event in absurd none
-hears_follow law services a s m t n l frag (Err link.Marked) h sound names order on desks = let ((msg, is, none), same) = on.event in absurd none
+fails_follow services a s m t n l frag link.Failed h on desks = let ((msg, is, none), same) = on.event in absurd none
+fails_follow services a s m t n l frag link.Marked h on desks = let ((msg, is, none), same) = on.event in absurd none

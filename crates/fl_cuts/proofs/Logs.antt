@@ -1,5 +1,6 @@
 -- The events of a log, and turns.
 use Rattle.std.proofs.Common.{◌≡◌, refl, sym, ◌∙◌, ap, subst, ℕ, nat_lt, ◌&&◌, Bool, true, false, if◌then◌else◌, List, [], ◌∷◌, length, slice_get, Option, Some, None, arith}
+use Rattle.std.specs.Prelude.{Ok, Err}
 use Rattle.fl_base.specs.declared.fragment.Frag.{Frag}
 use Rattle.fl_base.specs.declared.identity.EndId.{EndId}
 use Rattle.fl_base.specs.declared.identity.LinkId.{LinkId}
@@ -33,7 +34,7 @@ use Rattle.fl_cuts.specs.Cut.{Cut, ShowsCut}
 use Rattle.fl_cuts.specs.Does.{CutActs, CutDoes, InOrder, HearsNothing, HearNothing}
 use Rattle.fl_cuts.specs.Laws.{HasNoLinks, shared, Follows, GoesOn, FollowsAll, TurnsFollow}
 use Rattle.fl_cuts.proofs.Events.{After, calls_follow, rules_follow, side_writes_follow, queue_writes_follow, side_turns_follow, queue_turns_follow, acks_follow}
-use Rattle.fl_cuts.proofs.Hearing.{hears_follow}
+use Rattle.fl_cuts.proofs.Hearing.{hears_follow, fails_follow}
 use Rattle.fl_cuts.proofs.Opening.{opens_follow}
 use Rattle.fl_cuts.proofs.Links.{looks_follow, passes_follow, stays_full, stays_spent, arrives_follow, says_follow, tells_follow, arrivals_turn_follow}
 
@@ -178,8 +179,11 @@ one_acts law boxes rooms openings front jobs services a s t deed h quiet k by =
 pub events_follow : TakeShows → OutboxesAreShown → RoomsAgree → OpensAgree → HearsAgree → (front : TheSide → Look) (jobs : List Job) (services : List Service)
     (a : Cut) (s t : TheRun TheSide) (deed : Deed) → ShowsCut a s → InOrder services deed a s → Happens (shared front) deed s t → InPlace jobs s deed
     → Follows services deed a t
-events_follow law boxes rooms openings hears front jobs services a s t (heard n l frag answer) h order (m, on, notes, sound, soundly) by =
-    let one = hears_follow hears services a s m t n l frag answer h sound order.0 order.1 on (desks_alone m t (heard n l frag answer) notes) in
+events_follow law boxes rooms openings hears front jobs services a s t (heard n l frag (Ok word)) h order (m, on, notes, sound, soundly) by =
+    let one = hears_follow hears services a s m t n l frag word h sound order.0 order.1 on (desks_alone m t (heard n l frag (Ok word)) notes) in
+    record { after = one.after; does = one.does; shows = one.shows }
+events_follow law boxes rooms openings hears front jobs services a s t (heard n l frag (Err fault)) h order (m, on, notes, sound, soundly) by =
+    let one = fails_follow services a s m t n l frag fault h on (desks_alone m t (heard n l frag (Err fault)) notes) in
     record { after = one.after; does = one.does; shows = one.shows }
 events_follow law boxes rooms openings hears front jobs services a s t (looked n l answer) h order k by =
     one_acts law boxes rooms openings front jobs services a s t (looked n l answer) h tt k by

@@ -1,5 +1,5 @@
 -- What the machine makes of a cut by each deed of a core, and by those of a log.
-use Rattle.std.specs.Prelude.{◌≡◌, List, [], ◌∷◌}
+use Rattle.std.specs.Prelude.{◌≡◌, List, [], ◌∷◌, Ok}
 use Rattle.fl_monitor.specs.declared.message.Message.{Message}
 use Rattle.fl_monitor.specs.Saying.{Says}
 use Rattle.fl_node.specs.declared.wire.Inlet.TheVariants.{Side, Queue, Arrivals}
@@ -37,9 +37,9 @@ abbrev pub CutDoes : List Service → Deed → Cut → Cut → Type 0
 CutDoes services (heard n l frag answer) a b = HearsOver services n l frag answer a b
 CutDoes services deed a b = CutActs deed a b
 
--- a message that is heard is one that comes to a core of the machine, which has the machine's table of names
+-- a message that is heard, and not refused, is one that comes to a core of the machine, which has the machine's table of names
 abbrev pub InOrder : List Service → Deed → Cut → TheRun TheSide → Type 0
-InOrder services (heard n l frag answer) a s = NamesShow services s.offers.names × ((m : Message) → Says frag m → IsInOrder services l.0 a s m)
+InOrder services (heard n l frag (Ok word)) a s = NamesShow services s.offers.names × ((m : Message) → Says frag m → IsInOrder services l.0 a s m)
 InOrder services deed a s = Unit {0}
 
 -- no monitors' message is heard by it

@@ -20,8 +20,8 @@ use Rattle.fl_queues.specs.Given.{changed_at}
 use Rattle.fl_queues.specs.Rings.{Said, open_circuit, circuit_opened, circuit_refused, says}
 use Rattle.fl_queues.specs.Ends.{Seat}
 use Rattle.fl_queues.specs.Waits.{Dispatcher, waits_in, registers}
-use Rattle.fl_queues.specs.Monitors.{Service, service_of, Heard, no_outbox, opening_went_on, server_made, opening_failed, answer_went_on, end_opened, end_refused}
-use Rattle.fl_queues.specs.Monitors.{Hearing, hears}
+use Rattle.fl_queues.specs.Monitors.{Service, service_of, Hearing, hears}
+use Rattle.fl_queues.specs.Monitors.{Heard, no_outbox, opening_went_on, server_made, opening_failed, answer_went_on, end_opened, end_refused}
 use Rattle.fl_queues.specs.Calls.{Planned}
 use Rattle.fl_shows.specs.CoreLaws.{MayBeHeard}
 use Rattle.fl_cuts.specs.Sides.{gave_one, SideGives}
