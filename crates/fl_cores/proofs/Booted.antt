@@ -1,5 +1,5 @@
 -- What a set-up comes to, and why there may be no report.
-use Rattle.std.proofs.Common.{◌≡◌, refl, sym, ap, ◌∙◌, subst, ℕ, suc, ◌+◌, Bool, true, false, ◌&&◌, not, cond, nat_lt, List, [], ◌∷◌, length, map, Option, Some, None, arith}
+use Rattle.std.proofs.Common.{◌≡◌, refl, sym, ap, ◌∙◌, subst, ℕ, suc, ◌+◌, Bool, true, false, ◌&&◌, not, cond, nat_lt, List, [], ◌∷◌, length, map, Some, None, arith}
 use Rattle.std.proofs.lemmas.List.{length-map}
 use Rattle.std.specs.List.{list_all, position, position_or_len}
 use Rattle.std.proofs.lemmas.Bool.Decides.{nat_tests}
@@ -14,10 +14,12 @@ use Rattle.fl_worlds.specs.Apart.{is_making, AreParts}
 use Rattle.fl_system.specs.Booting.{TheConfig, Stands, IsFaultOf}
 use Rattle.fl_jobs.specs.Jobs.{Job as TheJob}
 use Rattle.fl_threads.specs.Faults.{IsRunFault}
+use Rattle.fl_cores.specs.declared.fault.CoresFault.{CoresFault}
+use Rattle.fl_cores.specs.declared.fault.CoresFault.TheVariants as fault
 use Rattle.fl_threads.specs.declared.fault.RunFault.{RunFault}
 use Rattle.fl_threads.specs.declared.fault.RunFault.TheVariants as run
 use Rattle.fl_cores.specs.Faults.{by_boot, by_run}
-use Rattle.fl_cores.specs.Promised.{is_other, asks_other, cores_by, IsAccepted, Made, IsRefusedAt, IsRefused, IsFault}
+use Rattle.fl_cores.specs.Promised.{is_other, asks_other, cores_by, IsAccepted, Made, IsRefusedAt, IsFault, IsLater}
 
 -- ---- no other event: each makes something at once
 
@@ -51,11 +53,16 @@ not_booted c jobs (boot.Refused number place) making is = subst (λ late. IsRefu
 not_booted c jobs boot.Memory making is = making
 
 -- a fault behind an accepted set-up
-pub late_fault : (c : TheConfig) (jobs : List TheJob) (p : Parts) (fault : RunFault) → IsAccepted c → Made c p → IsRunFault p jobs fault
-    → IsFault c jobs (by_run fault)
-late_fault c jobs p (run.Refused number place) accepted made is = record { accepted = accepted; parts = p; made = made; refused = is }
-late_fault c jobs p run.Memory accepted made is = accepted.making
-late_fault c jobs p run.Thread accepted made is = accepted
+pub late_fault : (c : TheConfig) (jobs : List TheJob) (p : Parts) (f : CoresFault) → IsAccepted c → Made c p → IsLater p jobs f → IsFault c jobs f
+late_fault c jobs p (fault.Setup number place) accepted made is = absurd is
+late_fault c jobs p (fault.Job number place) accepted made is = record { accepted = accepted; parts = p; made = made; refused = is }
+late_fault c jobs p fault.Memory accepted made is = accepted.making
+late_fault c jobs p fault.Thread accepted made is = accepted
+
+pub later_fault : (p : Parts) (jobs : List TheJob) (f : RunFault) → IsRunFault p jobs f → IsLater p jobs (by_run f)
+later_fault p jobs (run.Refused number place) is = is
+later_fault p jobs run.Memory is = tt
+later_fault p jobs run.Thread is = tt
 
 -- ---- the first other event
 

@@ -86,6 +86,13 @@ IsFault c jobs (fault.Job number place) = RefusesJob c jobs number place
 IsFault c jobs fault.Memory = position is_other c.setup ≡ None
 IsFault c jobs fault.Thread = IsAccepted c
 
+-- a fault behind the set-up that made these parts
+abbrev pub IsLater : Parts → List Job → CoresFault → Type 0
+IsLater p jobs (fault.Setup number place) = ⊥
+IsLater p jobs (fault.Job number place) = IsRunFault p jobs (run.Refused number place)
+IsLater p jobs fault.Memory = Unit {0}
+IsLater p jobs fault.Thread = Unit {0}
+
 -- ---- a cores file
 
 abbrev pub config_in : CoresFile → TheConfig

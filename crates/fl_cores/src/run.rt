@@ -6,7 +6,8 @@ ghost use Rattle.fl_jobs.specs.Reports.{report_of};
 ghost use Rattle.fl_worlds.specs.Apart.{is_making};
 ghost use Rattle.fl_system.specs.Booting.{config_of, IsFaultOf};
 ghost use Rattle.fl_jobs.specs.Views.{job_of};
-ghost use Rattle.fl_cores.specs.Promised.{is_other, asks_other, cores_by, IsAccepted, Made, Reports, IsFault};
+ghost use Rattle.fl_cores.specs.Promised.{is_other, asks_other, cores_by, IsAccepted, Made, Reports, IsFault, IsLater};
+ghost use Rattle.fl_threads.specs.Ran.{Keeps, RanFrom};
 
 use crate::fault::CoresFault;
 use fl_jobs::{Job, Report};
@@ -83,6 +84,27 @@ fn boot(alloc: Global, config: &Config<'_>) -> Result<Parts, BootFault>
     }
 }
 
+// The run of what a set-up made, with these jobs.
+#[tactic(auto, using(crate::proofs::Booted::later_fault))]
+fn run_made<R: Threads + Wait + Sync, G: Gate + Sync>(
+    rt: &R,
+    alloc: Global,
+    parts: Parts,
+    jobs: Vec<Job<'_>>,
+    limit: u64,
+    gate: &G,
+) -> Result<Report, CoresFault>
+    requires few { length parts.cores.items ≤ 16 }
+    ensures ran { IfOk result (λ r. RanFrom parts (map job_of jobs.entry.items) limit (report_of r)) }
+    ensures keeps { IfOk result (λ r. Keeps (length parts.cores.items) limit (report_of r)) }
+    ensures later { IfErr result (λ fault. IsLater parts (map job_of jobs.entry.items) fault) }
+{
+    match run_parts(rt, alloc, parts, jobs, limit, gate) {
+        Ok(report) => Ok(report),
+        Err(fault) => Err(CoresFault::from(fault)),
+    }
+}
+
 /// Runs cores on threads of their own, each with its jobs, until all have finished or so many turns of one are counted.
 ///
 /// # Errors
@@ -106,6 +128,5 @@ pub fn run_cores<R: Threads + Wait + Sync, G: Gate + Sync>(
         });
     }
     let parts = boot(alloc, config)?;
-    let report = run_parts(rt, alloc, parts, jobs, limit, gate)?;
-    Ok(report)
+    run_made(rt, alloc, parts, jobs, limit, gate)
 }

@@ -6,5 +6,5 @@ use Rattle.fl_cores.proofs.run.run_cores.Goals as goal
 
 pub returns-clause-reports : goal.returns-clause-reports
 returns-clause-reports g c =
-    reports_ran (config_of c.args.config.now) (map job_of c.args.jobs.items) c.args.limit c.in_ok-parts.parts c.run_parts.result
-    c.in_ok-parts.ensures.accepted c.in_ok-parts.ensures.made c.in_ok-parts.ensures.cores c.run_parts.ensures.ran c.run_parts.ensures.keeps
+    reports_ran (config_of c.args.config.now) (map job_of c.args.jobs.items) c.args.limit c.in_ok-parts.parts c.run_made.result
+    c.in_ok-parts.ensures.accepted c.in_ok-parts.ensures.made c.in_ok-parts.ensures.cores c.run_made.ensures.ran c.run_made.ensures.keeps
