@@ -17,15 +17,8 @@ use crate::draft::{Bound, Draft, Offer, Use};
 use crate::job::{Job, Wish};
 use crate::setup::is_ring_size;
 use crate::stop::Stop;
+use fl_base::{MAX_BINDINGS, MAX_CHANNELS, MAX_CORES, MAX_QUEUE};
 use fl_lines::{BackEnd, DispatcherId, Event, Route};
-
-const MAX_BINDINGS: usize = 1_024;
-
-const MAX_ENDS: usize = 1_024;
-
-const MAX_ROUTE: usize = 16;
-
-const MAX_QUEUE: u32 = 1_024;
 
 /// What a binding is asked for, once its service is known.
 #[derive(Clone, Copy, Debug)]
@@ -87,7 +80,7 @@ impl<'a> Draft<'a> {
         requires few { n ≤ 2 }
         ensures same { result ≡ has_places n (id_of dispatcher) (draft_of self.now) }
     {
-        count_ends(dispatcher, &self.seats) <= MAX_ENDS - n
+        count_ends(dispatcher, &self.seats) <= MAX_CHANNELS - n
     }
 
     // Whether there are places for both ends.
@@ -134,7 +127,7 @@ impl<'a> Draft<'a> {
         if want.client.core != want.server.core {
             return Err(Stop::Refused(73));
         }
-        if slots < 1 || slots > MAX_QUEUE {
+        if slots < 1 || slots as usize > MAX_QUEUE {
             return Err(Stop::Refused(32));
         }
         if !self.has_both_places(want) {
@@ -164,7 +157,7 @@ impl<'a> Draft<'a> {
     {
         let count = route.len();
         count >= 2
-            && count <= MAX_ROUTE
+            && count <= MAX_CORES
             && are_cores(route, self.cores)
             && route[0] == want.client.core
             && route[count - 1] == want.server.core

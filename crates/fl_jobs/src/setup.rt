@@ -12,17 +12,10 @@ ghost use Rattle.fl_jobs.specs.Views.{planned_of, joint_of, draft_of};
 
 use crate::draft::{Draft, Joint, Offer, Planned};
 use crate::stop::Stop;
+use fl_base::{MAX_CORES, MAX_DISPATCHERS, MAX_INTERFACES, MAX_SERVICES};
 use fl_check::Interface;
 use fl_lines::{DispatcherId, Event};
 use fl_value::PlanNo;
-
-const MAX_CORES: u32 = 16;
-
-const MAX_INTERFACES: usize = 64;
-
-const MAX_DISPATCHERS: usize = 256;
-
-const MAX_SERVICES: usize = 256;
 
 // Whether a number is among these.
 fn is_among(number: u32, sizes: &[u32]) -> bool
@@ -123,7 +116,7 @@ impl<'a> Draft<'a> {
         if self.settled {
             return Err(Stop::Refused(93));
         }
-        if n < 1 || n > MAX_CORES {
+        if n < 1 || n as usize > MAX_CORES {
             return Err(Stop::Refused(94));
         }
         self.settled = true;

@@ -8,7 +8,7 @@ ghost use Rattle.fl_hop.specs.Openings.{is_next};
 
 use crate::opening::Opening;
 use crate::routing::{is_on_route, next_on};
-use fl_base::{Circuit, CoreId, IRef, LinkId};
+use fl_base::{Circuit, CoreId, IRef, LinkId, MAX_BINDINGS};
 use fl_hop::Circuits;
 use fl_nameserv::Names;
 
@@ -31,9 +31,6 @@ pub(crate) enum Fate {
     /// Nowhere, for the fault of this number.
     Fails(u32),
 }
-
-// The most bindings, which are numbered from 0.
-const MAX_BINDINGS: u32 = 1_024;
 
 // At the last core.
 fn arrival(names: &Names, here: Here, service: IRef) -> Fate
@@ -146,7 +143,7 @@ pub(crate) fn is_in_place(
     ensures place { result ≡ is_in_place (record { names = names.now; here = here }) circuits.now link.0 circuit.0 opening.now }
 {
     is_due(circuits, link, circuit)
-        && opening.binding < MAX_BINDINGS
+        && (opening.binding as usize) < MAX_BINDINGS
         && !here.has_end
         && !circuits.stands(opening.binding as usize)
         && comes_along(circuits, link, opening.path.cores())

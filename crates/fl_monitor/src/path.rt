@@ -2,11 +2,11 @@
 
 ghost use Rattle.std.specs.Prelude.{◌≡◌, ◌≤◌, ◌<◌, length, IfSome, IfNone};
 
-use fl_base::CoreId;
+use fl_base::{CoreId, MAX_CORES};
 use std::marker::Model;
 
 /// The most cores of a route.
-pub const MAX_ROUTE: usize = 16;
+pub const MAX_ROUTE: usize = MAX_CORES;
 
 /// A route: the cores that a circuit goes over, the client's first and the service's last. It has at most
 /// [`MAX_ROUTE`] of them, and takes no memory.

@@ -3,10 +3,7 @@
 ghost use Rattle.std.specs.Prelude.{◌≡◌, ◌<◌, ◌≤◌, Some, None, length, slice_set};
 ghost use Rattle.fl_node.specs.View.{side_number, slot_of, place_in};
 
-use fl_base::{EndId, Side};
-
-// Bindings are numbered below this.
-const MAX_BINDINGS: usize = 1_024;
+use fl_base::{EndId, MAX_BINDINGS, Side};
 
 /// So many names there are.
 pub(crate) const NAMES: usize = 2 * MAX_BINDINGS;

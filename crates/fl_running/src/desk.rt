@@ -4,13 +4,10 @@ ghost use Rattle.std.specs.Prelude.{◌≡◌, ◌<◌, [], length, slice_get, I
 ghost use Rattle.fl_node.specs.View.{side_number};
 ghost use Rattle.fl_running.specs.Desks.{advanced, is_clear, with_handled, with_refusal, desk_place};
 
-use fl_base::{EndId, Side};
+use fl_base::{EndId, MAX_BINDINGS, Side};
 use fl_value::Call;
 use std::alloc::{AllocError, Global};
 use std::marker::Model;
-
-// Bindings are numbered below this.
-const MAX_BINDINGS: usize = 1_024;
 
 /// The desk of an end: its jobs, how far they are done, and the calls that it handled.
 #[derive(Drop)]

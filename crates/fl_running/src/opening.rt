@@ -13,16 +13,13 @@ use crate::desk::find;
 use crate::ends::advance;
 use crate::job::Wish;
 use crate::running::{Running, sound};
-use fl_base::{EndId, LinkId, Side};
+use fl_base::{EndId, LinkId, MAX_BINDINGS, Side};
 use fl_compile::Program;
 use fl_core::BoardFault;
 use fl_link::{PutSide, TakeSide};
 use fl_monitor::{Monitor, MonitorFault};
 use fl_node::OpenFault;
 use std::alloc::AllocError;
-
-// Bindings are numbered below this.
-const MAX_BINDINGS: usize = 1_024;
 
 // Whether the outbox of a link has room.
 fn can_say(monitor: &Monitor, link: LinkId) -> bool

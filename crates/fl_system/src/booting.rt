@@ -10,8 +10,8 @@ ghost use Rattle.fl_worlds.specs.Apart.{AllUnused, is_making, KeepsUnused};
 ghost use Rattle.fl_system.specs.Booting.{config_of, Passes, Stands, IsFaultOf, number_of, StopsBy, StopsAt};
 ghost use Rattle.fl_system.specs.Stepping.{fault_in};
 
-use crate::making::MAX_CORES;
 use crate::world::World;
+use fl_base::MAX_CORES;
 use fl_lines::{Answer, Event};
 use fl_worlds::fresh_shows;
 use std::alloc::Global;
@@ -99,7 +99,7 @@ impl World {
         ensures unused { IfOk result (λ w. list_all is_making (config_of config.now).setup ≡ true → AllUnused w.rings) }
     {
         let cores = u32::from(config.cores);
-        if cores < 1 || cores > MAX_CORES {
+        if cores < 1 || cores as usize > MAX_CORES {
             return Err(BootFault::Refused {
                 number: 94,
                 place: 0,

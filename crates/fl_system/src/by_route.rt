@@ -23,7 +23,7 @@ ghost use Rattle.fl_system.specs.Routes.{MayOpenFrom, OpensOnLink, OpensAlong};
 use crate::binding::{Wish, has_end};
 use crate::lending::whole;
 use crate::world::World;
-use fl_base::{CoreId, LinkId};
+use fl_base::{CoreId, LinkId, MAX_CORES};
 use fl_compile::Program;
 use fl_core::BoardFault;
 use fl_endpoint::End;
@@ -32,9 +32,6 @@ use fl_monitor::{MonitorFault, Opening, Path};
 use fl_node::{Core, OpenFault};
 use fl_worlds::Binding;
 use std::alloc::{AllocError, Global};
-
-// The cores of a route at most.
-const MAX_CORES: usize = 16;
 
 /// What a core makes of an opening.
 #[derive(Clone, Copy, Debug, PartialEq, Eq)]

@@ -17,7 +17,7 @@ ghost use Rattle.fl_system.specs.Parts.{LinksBoth, is_no_pair};
 
 use crate::lending::whole;
 use crate::world::World;
-use fl_base::CoreId;
+use fl_base::{CoreId, MAX_CORES, MAX_DISPATCHERS, MAX_INTERFACES, MAX_SERVICES};
 use fl_check::Interface;
 use fl_compile::{Program, compile};
 use fl_lines::{Answer, DispatcherId};
@@ -26,16 +26,6 @@ use fl_node::Core;
 use fl_ring::{OneDuo, RingFault};
 use fl_value::PlanNo;
 use std::alloc::{AllocError, Global};
-
-// How many interfaces, dispatchers and services a world has at most.
-const MAX_INTERFACES: usize = 64;
-
-const MAX_DISPATCHERS: usize = 256;
-
-const MAX_SERVICES: usize = 256;
-
-// How many cores.
-pub(crate) const MAX_CORES: u32 = 16;
 
 // So many cores with nothing on them.
 fn fresh_cores(alloc: Global, n: u32) -> Result<Vec<Core>, AllocError>
@@ -177,7 +167,7 @@ impl World {
         if !self.may_set_cores {
             return Ok(Answer::Refused(93));
         }
-        if n < 1 || n > MAX_CORES {
+        if n < 1 || n as usize > MAX_CORES {
             return Ok(Answer::Refused(94));
         }
         self.cores = fresh_cores(self.alloc, n)?;
