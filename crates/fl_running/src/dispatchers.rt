@@ -42,6 +42,16 @@ fn turn_over<S: PutSide + TakeSide + Drop>(
     }
 }
 
+// Whether a turn found a fragment that it could do something with.
+fn found_something(answer: &TurnAnswer) -> bool {
+    match answer {
+        TurnAnswer::Handle(_) | TurnAnswer::Part | TurnAnswer::Ready => true,
+        TurnAnswer::Quiet | TurnAnswer::Full | TurnAnswer::Nothing | TurnAnswer::Refused(_) => {
+            false
+        }
+    }
+}
+
 // The same, where the end has this name.
 #[tactic(auto, using(crate::proofs::Counting::turn_done))]
 fn turn_named<S: PutSide + TakeSide + Drop>(
@@ -60,6 +70,9 @@ fn turn_named<S: PutSide + TakeSide + Drop>(
     ensures left { IfErr result (λ error. TurnsOver (ways S.puts S.takes S.front) dispatcher e inlet (Err error) (run_of run.old) (run_of run.new)) }
 {
     let answer = turn_over(run, dispatcher, e, inlet)?;
+    if found_something(&answer) {
+        run.idle = 0;
+    }
     Ok(answer)
 }
 

@@ -209,7 +209,10 @@ fn write<S: PutSide + TakeSide + Drop>(run: &mut Running<S>, name: EndId)
         None => (),
         Some(post) => {
             sound_at(run, name, post.end);
-            let _ = write_to(run, name, post.end, post.outlet);
+            let answer = write_to(run, name, post.end, post.outlet);
+            if matches!(answer, Ok(WriteAnswer::Written { .. })) {
+                run.idle = 0;
+            }
         }
     }
 }

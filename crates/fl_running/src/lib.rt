@@ -23,6 +23,7 @@
 //! - `word.rt`, `ticket.rt`: what is told of refused openings
 //! - `finish.rt`: when nothing is left to do
 //! - `run.rt`, `gate.rt`, `fault.rt`: the whole run
+//! - `rest.rt`: pauses between turns that find nothing
 //! - `law.rt`: what holds of turns
 #![tactic(auto)]
 
@@ -38,6 +39,7 @@ mod lent;
 mod links;
 mod opening;
 mod plan;
+mod rest;
 mod run;
 mod running;
 mod ticket;

@@ -166,20 +166,33 @@ fn deal<S: PutSide + TakeSide + Drop>(
 {
     sound(run);
     match found {
-        Ok(Ahead::Nothing) | Ok(Ahead::Acknowledged) | Err(_) => Ok(()),
+        Ok(Ahead::Nothing) | Err(_) => Ok(()),
+        Ok(Ahead::Acknowledged) => {
+            run.idle = 0;
+            Ok(())
+        }
         Ok(Ahead::Message(frag)) => {
             let answer = hear(run, n, link, &frag)?;
             note(run, answer);
+            if !matches!(answer, Ok(MonitorAnswer::Full)) {
+                run.idle = 0;
+            }
             Ok(())
         }
         Ok(Ahead::Onward(frag, to, circuit)) => {
             if to != n && to < run.rings.len() {
-                let _ = cross(run, n, to, &frag, circuit);
+                let outcome = cross(run, n, to, &frag, circuit);
+                if matches!(outcome, Outcome::Moved) {
+                    run.idle = 0;
+                }
             }
             Ok(())
         }
         Ok(Ahead::Arrival(frag, end)) => {
-            let _ = arrive(run, n, link, &frag, end);
+            let outcome = arrive(run, n, link, &frag, end);
+            if matches!(outcome, Ok(Outcome::Moved)) {
+                run.idle = 0;
+            }
             Ok(())
         }
     }

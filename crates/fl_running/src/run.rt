@@ -12,6 +12,7 @@ use crate::finish::is_finished;
 use crate::gate::Gate;
 use crate::job::Job;
 use crate::plan::Plan;
+use crate::rest::rest;
 use crate::running::Running;
 use crate::ticket::Ticket;
 use crate::word::exchange_all;
@@ -86,6 +87,7 @@ fn counted_turns<S: PutSide + TakeSide + Drop, G: Gate>(
         }
         gate.before_turn(core);
         run.turn(plan, jobs)?;
+        rest(run.idle);
     }
     if take_stock(run, plan, ticket) {
         return Ok(Part {
@@ -124,6 +126,7 @@ fn idle_turns<R: Wait, S: PutSide + TakeSide + Drop, G: Gate>(
         }
         gate.before_turn(core);
         run.turn(plan, jobs)?;
+        rest(run.idle);
     }
     Ok(())
 }

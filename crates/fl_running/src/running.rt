@@ -36,6 +36,8 @@ pub struct Running<S> {
     pub names: Names,
     /// The programs of the services' interfaces, by their places.
     pub programs: Vec<Program>,
+    /// How many turns on end found nothing to do: after those the core pauses. No clause speaks of it.
+    pub idle: u32,
 }
 
 // What is known of its core at any time. It does nothing.
@@ -67,6 +69,7 @@ impl<S: PutSide + TakeSide + Drop> Running<S> {
         ensures turn { OnOk result (OneTurn (ways S.puts S.takes S.front) plan.now jobs.now (run_of self.old) (run_of self.new)) }
         ensures part { OnErr result (PartOfTurn (ways S.puts S.takes S.front) plan.now jobs.now (run_of self.old) (run_of self.new)) }
     {
+        self.idle = self.idle.saturating_add(1);
         forward_all(self, &plan.links)?;
         say_all(self, &plan.links);
         serve_all(self, &plan.ends, jobs)?;

@@ -229,6 +229,7 @@ impl Common<'_> {
             desks: desks_for(self.alloc, k, self.joined)?,
             names: self.names.duplicate()?,
             programs: copies(self.alloc, self.programs)?,
+            idle: 0,
         };
         Ok(Station {
             running,

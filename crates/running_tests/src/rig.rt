@@ -123,6 +123,7 @@ fn running(
             desks: desks(alloc, calls)?,
             names: Names::new(alloc),
             programs: Vec::new(alloc),
+            idle: 0,
         },
         plan: Plan {
             links: Vec::new(alloc),
