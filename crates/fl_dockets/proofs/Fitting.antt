@@ -86,9 +86,9 @@ rule_passes programs j e msg answer none =
 -- ---- a job more
 
 -- jobs and bindings of before are there
-record Grows (j j2 : TheJoined) : Type 0 where
-  jobs : (n : ℕ) (job : CoreJob) → slice_get j.jobs n ≡ Some job → slice_get j2.jobs n ≡ Some job
-  bindings : (n : ℕ) (b : Bound) → slice_get j.bindings n ≡ Some b → slice_get j2.bindings n ≡ Some b
+pub record Grows (j j2 : TheJoined) : Type 0 where
+  pub jobs : (n : ℕ) (job : CoreJob) → slice_get j.jobs n ≡ Some job → slice_get j2.jobs n ≡ Some job
+  pub bindings : (n : ℕ) (b : Bound) → slice_get j.bindings n ≡ Some b → slice_get j2.bindings n ≡ Some b
 
 module _ (names : List TheRegistration) (programs : List Program) where
   nothing_new : (j j2 : TheJoined) → j2.jobs ≡ j.jobs → NewFit names programs j j2
@@ -161,7 +161,7 @@ rule_grows false j j1 j2 e message reply jobs bindings is =
     (ap (λ (t : TheJoined). t.jobs) is ∙ ap (λ (xs : List CoreJob). xs ++ core.Reply e message reply ∷ []) jobs)
     (ap (λ (t : TheJoined). t.bindings) is ∙ bindings ∙ append_none j.bindings)
 
-grows : (set_up : List Binding) (one : Job) (j : TheJoined) (ks : List TheCore) (j2 : TheJoined) (ks2 : List TheCore) → Joins set_up one j ks j2 ks2 → Grows j j2
+pub grows : (set_up : List Binding) (one : Job) (j : TheJoined) (ks : List TheCore) (j2 : TheJoined) (ks2 : List TheCore) → Joins set_up one j ks j2 ks2 → Grows j j2
 grows set_up (opens w) j ks j2 ks2 (o, same) =
     one_grows j j2 (core.Open o.wish) (o.bound ∷ []) (ap (λ (t : TheJoined). t.jobs) o.rest) (ap (λ (t : TheJoined). t.bindings) o.rest)
 grows set_up (replies e msg answer) j ks j2 ks2 r =

@@ -13,6 +13,7 @@ mod Setting
 mod Slots
 mod Sources
 mod Stepwise
+mod Wished
 mod Owed
 mod Alike
 mod Refusing

@@ -140,7 +140,7 @@ count_of set_up job j ks j2 ks2 joins = as_many_cores set_up job ks ks2 (rule_of
 
 -- ---- a turn of the loop over jobs
 
-one_mapped : (done : List RustJob) (x : RustJob) → map job_of done ++ job_of x ∷ [] ≡ map job_of (done ++ x ∷ [])
+pub one_mapped : (done : List RustJob) (x : RustJob) → map job_of done ++ job_of x ∷ [] ≡ map job_of (done ++ x ∷ [])
 one_mapped done x = sym (map-append job_of done (x ∷ []))
 
 pub joined_turn : (n : ℕ) (done : List RustJob) (x : RustJob) (set_up : List Binding) (j : TheJoined) (ks : List TheCore) (j2 : TheJoined) (ks2 : List TheCore)
@@ -177,7 +177,7 @@ about_set_up x = about (bound_of x)
 abbrev about_wish : Wish → About
 about_wish w = let a : About = record { interface = w.interface; client = w.client.core } in a
 
-wishes_more : (jobs : List Job) (job : Job) → flat_map wish_in (jobs ++ job ∷ []) ≡ flat_map wish_in jobs ++ wish_in job
+pub wishes_more : (jobs : List Job) (job : Job) → flat_map wish_in (jobs ++ job ∷ []) ≡ flat_map wish_in jobs ++ wish_in job
 wishes_more jobs job =
     flat_map-append wish_in jobs (job ∷ [])
     ∙ ap (λ (t : List Wish). flat_map wish_in jobs ++ t) (flat_map-cons wish_in job [] ∙ append-nil (wish_in job))
@@ -197,7 +197,7 @@ count_of_wishes set_up ws =
     let n = length-map ws about_wish in
     omega (arith, l, m, n)
 
-count_bound : (set_up : List Binding) (jobs : List Job) (j : TheJoined) → map about j.bindings ≡ all_about set_up jobs
+pub count_bound : (set_up : List Binding) (jobs : List Job) (j : TheJoined) → map about j.bindings ≡ all_about set_up jobs
     → length j.bindings ≡ length set_up + length (flat_map wish_in jobs)
 count_bound set_up jobs j is =
     sym (length-map j.bindings about) ∙ ap (λ (t : List About). length t) is ∙ count_of_wishes set_up (flat_map wish_in jobs)

@@ -6,3 +6,4 @@ pub mod State
 pub mod Whole
 pub mod Faults
 pub mod Fitting
+pub mod Wished

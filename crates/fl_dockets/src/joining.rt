@@ -13,6 +13,7 @@ ghost use Rattle.fl_dockets.specs.Fitting.{NewFit};
 ghost use Rattle.fl_dockets.specs.Joined.{AreBindings, HasDockets};
 ghost use Rattle.fl_dockets.specs.State.{joined_of, nothing_joined, with_binding, with_owner, changing, with_job, with_calls};
 ghost use Rattle.fl_dockets.specs.State.{SetAt, IsSafe, Opened, CallPlanned, RulePlanned, AreJoined};
+ghost use Rattle.fl_dockets.specs.Wished.{AddsOpening};
 
 use crate::docket::{Bound, Docket, slot_of};
 use crate::opening::ask;
@@ -123,6 +124,7 @@ impl Joined {
         requires safe { IsSafe (length parts.now.cores.items) (joined_of self.old) }
         ensures opened { OnOk result (Opened (length parts.now.cores.items) (wish_of wish.now) (joined_of self.old) (joined_of self.new)) }
         ensures fits { OnOk result (NewFit parts.now.names parts.now.programs.items (joined_of self.old) (joined_of self.new)) }
+        ensures wished { OnOk result (AddsOpening parts.now.names parts.now.cores.items (wish_of wish.now) (joined_of self.old) (joined_of self.new)) }
     {
         let binding = self.bindings.as_slice().len();
         let asked = ask(alloc, parts, wish, binding)?;

@@ -3,8 +3,9 @@
 //! Contract for the layer above: [`join_jobs`] takes what a set-up made and the jobs, and gives the jobs as cores do them, the bindings, and by end a
 //! docket: which jobs are done there, the reply rules, and how many calls are to be handled. Each end's docket has just what the jobs ask of it
 //! (`AreJoined`, `specs/State.antt`), as many calls are due as are handed in at its other end (`AreDue`), and the bindings are those that are set up and behind
-//! them those that jobs open (`AreBound`, `specs/Whole.antt`). Circuits are opened to services of their bindings' cores and interfaces, and rules are between
-//! messages of the interface (`JobsFit`, `specs/Fitting.antt`). Rules are set at once at ends that are there (`specs/Rules.antt`). Otherwise the first
+//! them those that jobs open (`AreBound`, `specs/Whole.antt`), each by the wish of its place: to the service of that name, over that route, which its client's
+//! core may ask for (`AreWished`, `specs/Wished.antt`). Circuits are opened to services of their bindings' cores and interfaces, and rules are between messages
+//! of the interface (`JobsFit`, `specs/Fitting.antt`). Rules are set at once at ends that are there (`specs/Rules.antt`). Otherwise the first
 //! job is told that is refused, as the reader of cores files refuses it (`RefusedAt`, `specs/Faults.antt`); of a refused wish only the place is told.
 //!
 //! - `whole.rt`: the jobs of a whole file

@@ -2,6 +2,7 @@
 
 ghost use Rattle.std.specs.Prelude.{◌≡◌, ◌<◌, length, IfOk, OnOk};
 ghost use Rattle.fl_dockets.specs.Fitting.{IsOffered};
+ghost use Rattle.fl_dockets.specs.Wished.{cores_on, IsNamed, BeginsOn, BeginsAt};
 
 use fl_base::{CoreId, IRef, LinkId, MAX_BINDINGS};
 use fl_compile::Program;
@@ -31,6 +32,7 @@ struct Found {
 // The service of the name, where it is offered under the interface.
 fn find(names: &Names, wish: &Wish<'_>) -> Result<Found, Stop>
     ensures offered { IfOk result (λ f. IsOffered names.now f.iref.0 wish.now.interface f.core.0) }
+    ensures named { IfOk result (λ f. IsNamed names.now wish.now.service.now f.iref.0) }
 {
     found_is_registered(names);
     each_is_found(names);
@@ -47,7 +49,9 @@ fn find(names: &Names, wish: &Wish<'_>) -> Result<Found, Stop>
 }
 
 // The route over these cores.
-fn path_over(alloc: Global, cores: &[u32]) -> Result<Path, Stop> {
+fn path_over(alloc: Global, cores: &[u32]) -> Result<Path, Stop>
+    ensures route { IfOk result (λ path. cores_on path ≡ cores.now) }
+{
     let mut ids = Vec::new(alloc);
     for core in cores {
         let core = *core;
@@ -72,6 +76,7 @@ fn first_link(
     cores: usize,
 ) -> Result<LinkId, Stop>
     ensures there { OnOk result (server.0 < cores) }
+    ensures begins { IfOk result (λ link. BeginsOn core.now.monitor.circuits path server.0 cores link.0) }
 {
     match core
         .monitor()
@@ -97,6 +102,9 @@ pub(crate) fn ask(
     ensures program { IfOk result (λ a. a.wish.interface ≡ wish.now.interface) }
     ensures binding { IfOk result (λ a. a.wish.opening.binding ≡ binding) }
     ensures offered { IfOk result (λ a. IsOffered parts.now.names a.wish.opening.service.0 wish.now.interface a.server) }
+    ensures named { IfOk result (λ a. IsNamed parts.now.names wish.now.service.now a.wish.opening.service.0) }
+    ensures route { IfOk result (λ a. cores_on a.wish.opening.path ≡ wish.now.route.items) }
+    ensures begins { IfOk result (λ a. BeginsAt parts.now.cores.items wish.now.client.core a.wish.opening.path a.server a.wish.link.0) }
 {
     let client = wish.client.core as usize;
     let Some(core) = parts.cores.get(client) else {

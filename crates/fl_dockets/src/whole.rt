@@ -11,6 +11,7 @@ ghost use Rattle.fl_dockets.specs.Kept.{AreKept};
 ghost use Rattle.fl_dockets.specs.State.{joined_of, IsSafe, ArePlaced, AreJoined};
 ghost use Rattle.fl_dockets.specs.Rules.{RulesOf};
 ghost use Rattle.fl_dockets.specs.Whole.{bound_of, SetUp, Ruled, Joins, IsBeside, AreBound, AreDue, fault_at, FirstRefused, IsFault, HadSet};
+ghost use Rattle.fl_dockets.specs.Wished.{AddsWished, AreWished};
 
 use crate::docket::Bound;
 use crate::fault::JobFault;
@@ -78,6 +79,7 @@ impl Joined {
         ensures joins { OnOk result (Joins parts.old.bindings.items (job_of job.entry)
             (joined_of self.old) parts.old.cores.items (joined_of self.new) parts.new.cores.items) }
         ensures fits { OnOk result (NewFit parts.old.names parts.old.programs.items (joined_of self.old) (joined_of self.new)) }
+        ensures wished { OnOk result (AddsWished parts.old.names parts.old.cores.items (job_of job.entry) (joined_of self.old) (joined_of self.new)) }
         ensures beside { IsBeside parts.old parts.new }
         ensures refused { IfErr result (λ stop. (asked : List TheJob) → AreJoined (length parts.old.cores.items) asked (joined_of self.old)
             → JobStops parts.old asked (joined_of self.old) (job_of job.entry) stop) }
@@ -109,6 +111,8 @@ impl Joined {
         ensures bound { OnOk result (AreBound parts.old.bindings.items (map job_of jobs.entry.items) (joined_of self.new)) }
         ensures kept { OnOk result (AreKept parts.old.bindings.items (map job_of jobs.entry.items) (joined_of self.new)) }
         ensures fits { OnOk result (JobsFit parts.old.names parts.old.programs.items (joined_of self.new)) }
+        ensures wished { OnOk result (AreWished parts.old.names parts.old.cores.items (length parts.old.bindings.items)
+            (map job_of jobs.entry.items) (joined_of self.new)) }
         ensures rules { OnOk result (RulesOf parts.old.bindings.items (map job_of jobs.entry.items) parts.old.cores.items parts.new.cores.items) }
         ensures count { OnOk result (length parts.new.cores.items ≡ length parts.old.cores.items) }
         ensures beside { IsBeside parts.old parts.new }
@@ -162,6 +166,8 @@ pub fn join_jobs(alloc: Global, parts: &mut Parts, jobs: Vec<Job<'_>>) -> Result
     ensures joined { IfOk result (λ j. AreJoined (length parts.old.cores.items) (map job_of jobs.entry.items) (joined_of j)) }
     ensures bound { IfOk result (λ j. AreBound parts.old.bindings.items (map job_of jobs.entry.items) (joined_of j)) }
     ensures fits { IfOk result (λ j. JobsFit parts.old.names parts.old.programs.items (joined_of j)) }
+    ensures wished { IfOk result (λ j. AreWished parts.old.names parts.old.cores.items (length parts.old.bindings.items)
+        (map job_of jobs.entry.items) (joined_of j)) }
     ensures due { IfOk result (λ j. AreDue (map job_of jobs.entry.items) (joined_of j)) }
     ensures rules { OnOk result (RulesOf parts.old.bindings.items (map job_of jobs.entry.items) parts.old.cores.items parts.new.cores.items) }
     ensures beside { IsBeside parts.old parts.new }

@@ -55,7 +55,7 @@ settled_then s m t f g e place seat at there =
 
 settled_by : (jobs : List CoreJob) (deed : Deed) (s t : TheRun TheSide) → Happens shared_ways deed s t → InPlace jobs s deed → Settled s t
 settled_by jobs deed s t h by e place seat at there =
-    let (after, stands, same) = does_keep shared_ways deed s h.0 h.1 place seat there in
+    let (after, stands, same) = (does_keep shared_ways deed s h.0 h.1).seats place seat there in
     (after, end_stays shared_ways jobs deed s t e place h by at, ap (λ k. slice_get k.board.seats place) (core_aside h.0 t deed h.2) ∙ stands, same)
 
 pub settles : (jobs : List CoreJob) (log : List Deed) (s t : TheRun TheSide) → Goes shared_ways jobs s log t → Settled s t

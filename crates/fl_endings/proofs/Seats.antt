@@ -1,7 +1,8 @@
--- An end stays with its dispatcher.
-use Rattle.std.proofs.Common.{◌≡◌, ◌≢◌, refl, sym, ap, ◌∙◌, subst, ℕ, ◌==◌, List, slice_get, slice_set, Option, Some, None, Bool, true, false, Result, Ok, Err, arith}
+-- An end stays with its dispatcher, and none of these goes.
+use Rattle.std.proofs.Common.{◌≡◌, ◌≢◌, refl, sym, ap, ◌∙◌, subst, ℕ, ◌==◌, List, length, slice_get, slice_set, Option, Some, None, Bool, true, false, Result, Ok, Err, arith}
 use Rattle.std.specs.declared.alloc.AllocError.{AllocError}
 use Rattle.std.proofs.lemmas.Bool.Decides.{nat_tests}
+use Rattle.std.proofs.lemmas.List.{length-set}
 use Rattle.fl_base.specs.declared.fragment.Frag.{Frag}
 use Rattle.fl_base.specs.declared.identity.EndId.{EndId}
 use Rattle.fl_base.specs.declared.identity.LinkId.{LinkId}
@@ -45,21 +46,31 @@ use Rattle.fl_running.specs.Deeds.{Deed, looked, passed, arrived, heard, said, t
 
 -- ---- boards
 
--- each end that sits there is still there, at the same dispatcher
-abbrev pub Keeps : TheBoard → TheBoard → Type 0
-Keeps b c = (e : ℕ) (s : TheSeat) → slice_get b.seats e ≡ Some s → (t : TheSeat) × (slice_get c.seats e ≡ Some t) × (t.dispatcher ≡ s.dispatcher)
+-- each end that sits there is still there, at the same dispatcher; and there are as many dispatchers
+abbrev pub KeepsSeats : TheBoard → TheBoard → Type 0
+KeepsSeats b c = (e : ℕ) (s : TheSeat) → slice_get b.seats e ≡ Some s → (t : TheSeat) × (slice_get c.seats e ≡ Some t) × (t.dispatcher ≡ s.dispatcher)
 
-pub keeps_seats : (b c : TheBoard) → c.seats ≡ b.seats → Keeps b c
-keeps_seats b c same e s at = (s, ap (λ (xs : List TheSeat). slice_get xs e) same ∙ at, refl)
+pub record Keeps (b c : TheBoard) : Type 0 where
+  pub seats : KeepsSeats b c
+  pub many : length c.dispatchers ≡ length b.dispatchers
+
+seats_same : (b c : TheBoard) → c.seats ≡ b.seats → KeepsSeats b c
+seats_same b c same e s at = (s, ap (λ (xs : List TheSeat). slice_get xs e) same ∙ at, refl)
 
 pub keeps_same : (b c : TheBoard) → c ≡ b → Keeps b c
-keeps_same b c same = keeps_seats b c (ap (λ (x : TheBoard). x.seats) same)
+keeps_same b c same = record {
+  seats = seats_same b c (ap (λ (x : TheBoard). x.seats) same);
+  many = ap (λ (x : TheBoard). length x.dispatchers) same;
+}
 
-pub keeps_then : (b c d : TheBoard) → Keeps b c → Keeps c d → Keeps b d
-keeps_then b c d f g e s at =
+seats_then : (b c d : TheBoard) → KeepsSeats b c → KeepsSeats c d → KeepsSeats b d
+seats_then b c d f g e s at =
     let (t, there, one) = f e s at in
     let (u, then_there, two) = g e t there in
     (u, then_there, two ∙ one)
+
+pub keeps_then : (b c d : TheBoard) → Keeps b c → Keeps c d → Keeps b d
+keeps_then b c d f g = record { seats = seats_then b c d f.seats g.seats; many = g.many ∙ f.many }
 
 set_by : (b c : TheBoard) (f : ℕ) (seat after : TheSeat) → slice_get b.seats f ≡ Some seat → after.dispatcher ≡ seat.dispatcher → c.seats ≡ slice_set b.seats f after
     → (e : ℕ) (s : TheSeat) → slice_get b.seats e ≡ Some s → (same : Bool) → (e == f) ≡ same → (t : TheSeat) × (slice_get c.seats e ≡ Some t) × (t.dispatcher ≡ s.dispatcher)
@@ -74,25 +85,37 @@ set_by b c f seat after there same is e s at false test =
     let ne : e ≢ f = λ eq. absurd (grind (arith, nat_tests, test, eq)) in
     (s, ap (λ (xs : List TheSeat). slice_get xs e) is ∙ set_elsewhere b.seats f e after ne ∙ at, refl)
 
-keeps_set : (b c : TheBoard) (f : ℕ) (seat after : TheSeat) → slice_get b.seats f ≡ Some seat → after.dispatcher ≡ seat.dispatcher → c.seats ≡ slice_set b.seats f after → Keeps b c
-keeps_set b c f seat after there same is e s at = set_by b c f seat after there same is e s at (e == f) refl
+seats_set : (b c : TheBoard) (f : ℕ) (seat after : TheSeat) → slice_get b.seats f ≡ Some seat → after.dispatcher ≡ seat.dispatcher → c.seats ≡ slice_set b.seats f after → KeepsSeats b c
+seats_set b c f seat after there same is e s at = set_by b c f seat after there same is e s at (e == f) refl
 
 pub keeps_end : (b c : TheBoard) (e : ℕ) (Event : TheEnd → TheEnd → Type 0) → ChangesEnd b e Event c → Keeps b c
-keeps_end b c e Event h = keeps_set b c e h.seat _ h.seat_is refl (ap (λ (x : TheBoard). x.seats) h.board)
+keeps_end b c e Event h = record {
+  seats = seats_set b c e h.seat _ h.seat_is refl (ap (λ (x : TheBoard). x.seats) h.board);
+  many = ap (λ (x : TheBoard). length x.dispatchers) h.board;
+}
 
 keeps_lists : (b c : TheBoard) (e : ℕ) (Event : TheSeat → ThreeLists → ThreeLists → Type 0) → ChangesLists b e Event c → Keeps b c
-keeps_lists b c e Event h = keeps_seats b c (ap (λ (x : TheBoard). x.seats) h.board)
+keeps_lists b c e Event h = record {
+  seats = seats_same b c (ap (λ (x : TheBoard). x.seats) h.board);
+  many = ap (λ (x : TheBoard). length x.dispatchers) h.board ∙ length-set b.dispatchers h.seat.dispatcher _;
+}
 
 keeps_triggers : (o : Option ℕ) (b c : TheBoard) → TriggersIf o b c → Keeps b c
 keeps_triggers None b c h = keeps_same b c h
 keeps_triggers (Some e) b c h = keeps_lists b c e _ h
 
 keeps_adds : (b c : TheBoard) (n e : ℕ) (x : TheEnd) (kind : Kind) → Adds b n x kind (Ok e) c → Keeps b c
-keeps_adds b c n e x kind h f s at = (s, ap (λ (d : TheBoard). slice_get d.seats f) h.1.3 ∙ push_stays b.seats _ f s at, refl)
+keeps_adds b c n e x kind h = record {
+  seats = λ f s at. (s, ap (λ (d : TheBoard). slice_get d.seats f) h.1.3 ∙ push_stays b.seats _ f s at, refl);
+  many = ap (λ (d : TheBoard). length d.dispatchers) h.1.3 ∙ length-set b.dispatchers n _;
+}
 
 keeps_turn : {T : Type 0} (takes : T → _ → T → Type 0) (d e : ℕ) (b : Over T) (answer : Result TurnAnswer AllocError) (c : Over T) → Turns takes d e b answer c
     → Keeps b.board c.board
-keeps_turn takes d e b answer c h = keeps_set b.board c.board e h.seat _ h.seat_is refl (ap (λ (x : TheBoard). x.seats) h.board)
+keeps_turn takes d e b answer c h = record {
+  seats = seats_set b.board c.board e h.seat _ h.seat_is refl (ap (λ (x : TheBoard). x.seats) h.board);
+  many = ap (λ (x : TheBoard). length x.dispatchers) h.board ∙ length-set b.board.dispatchers d _;
+}
 
 -- ---- a core, by what happened there
 

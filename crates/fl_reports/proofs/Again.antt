@@ -10,7 +10,7 @@ use Rattle.fl_reports.specs.OneCore.{RunsOfOneCore}
 use Rattle.fl_reports.specs.Again.{OneReport, OneText}
 
 pub one_report : RunsOfOneCore → OneReport
-one_report one c jobs limit r q cores none x y = one c jobs limit r x cores none ∙ sym (one c jobs limit q y cores none)
+one_report one c jobs limit r q cores x y = one c jobs limit r x cores ∙ sym (one c jobs limit q y cores)
 
 -- what stands for a file
 read_as : OneOutcome → (text : List ℕ) (limit : ℕ) (file : CoresFile) (e : CoresEnd) (before after : List ℕ) → Reads text (is_file file)

@@ -140,7 +140,7 @@ module _ (fresh : SetUpsStartFresh) (c : TheConfig) (jobs : List Job) (limit : �
         let places : place_of one.station.run.core e ≡ Some s.place =
         ap (λ (k : TheCore). place_of k e) station.station.core_is ∙ ap (λ (ps : List (Option ℕ)). place_in ps e) was.places ∙ ap (λ (k : TheCore). place_of k e) same_core
         ∙ s.place_is in
-        let (sat, sat_is, sat_same) = was.seats s.place s.seat (subst (λ (k : TheCore). slice_get k.board.seats s.place ≡ Some s.seat) (sym same_core) s.seat_is) in
+        let (sat, sat_is, sat_same) = was.seats.seats s.place s.seat (subst (λ (k : TheCore). slice_get k.board.seats s.place ≡ Some s.seat) (sym same_core) s.seat_is) in
         let seats : slice_get one.station.run.core.board.seats s.place ≡ Some sat = ap (λ (k : TheCore). slice_get k.board.seats s.place) station.station.core_is ∙ sat_is in
         let stays : IsAt core.finish sat.dispatcher e =
         stay jobs (joined_in w) limit (cores_in w) r ran d.core s.place core e sat at (ap (λ (x : TheRun TheSide). place_of x.core e) begun ∙ places)

@@ -27,10 +27,10 @@ pub mod ToldDesks
 pub mod Told
 pub mod Ends
 pub mod OneBare
-pub mod OneFile
 pub mod Texts
 pub mod RunsSetUp
 pub mod Whole
+pub mod Wishes
 pub mod ReasonsSetUp
 pub mod ReasonsFull
 pub mod Reasons

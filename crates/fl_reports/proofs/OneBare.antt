@@ -232,15 +232,6 @@ no_rings (v ∷ vs) s makes sound h =
     let both = both_are (is_making v) (list_all is_making vs) makes in
     no_rings vs (step s v).state both.1 (steps_are_sound s v sound) (step_after v s (leaves_cores v) refl both.0 sound h)
 
--- where no event sets their number there are as many cores as before
-pub as_many_cores : (vs : List Event) (s : State) → list_all is_making vs ≡ true → list_all leaves_cores vs ≡ true
-    → length (reached s vs).cores ≡ length s.cores
-as_many_cores [] s makes leaves = refl
-as_many_cores (v ∷ vs) s makes leaves =
-    let both = both_are (is_making v) (list_all is_making vs) makes in
-    let each = both_are (leaves_cores v) (list_all leaves_cores vs) leaves in
-    as_many_cores vs (step s v).state both.1 each.1 ∙ (settled s v (does v s) (does_after v s both.0 each.0)).cores
-
 -- ---- no link: each leads to another core, and back
 
 pub one_of : {X : Type 0} (xs : List X) → length xs ≡ 1 → (x : X) × (xs ≡ x ∷ [])

@@ -44,6 +44,7 @@ use Rattle.fl_reports.proofs.OneJoined as joined
 use Rattle.fl_reports.proofs.OneRan.{IsAlone, not_told, one_ran}
 use Rattle.fl_reports.proofs.OneReport.{told, same_report}
 use Rattle.fl_reports.proofs.OneRules.{ShownWith, rules_shown}
+use Rattle.fl_reports.proofs.Wishes.{none_wished}
 
 either_false : (a b : Bool) → (a || b) ≡ false → (a ≡ false) × (b ≡ false)
 either_false false b q = (refl, q)
@@ -108,7 +109,7 @@ module _ (p : Parts) (j : TheJoined) (limit : ℕ) (r : TheReport) (at : Places)
 -- ---- one core
 
 module _ (law : StepsAgree) (fresh : SetUpsStartFresh) (honest : RunsReportHonestly) (c : TheConfig) (jobs : List Job) (limit : ℕ) (r : TheReport)
-    (w : Reports c jobs limit r) (one_core : cores_by c ≡ 1) (no_wish : flat_map wish_in jobs ≡ []) where
+    (w : Reports c jobs limit r) (one_core : cores_by c ≡ 1) where
   abbrev j : TheJoined
   j = w.ran.ran.joined
 
@@ -179,6 +180,11 @@ module _ (law : StepsAgree) (fresh : SetUpsStartFresh) (honest : RunsReportHones
   are_joined : AreJoined 1 jobs j
   are_joined = subst (λ n. AreJoined n jobs j) one_made w.ran.ran.are_joined
 
+  -- no binding is wished for
+  no_wish : flat_map wish_in jobs ≡ []
+  no_wish =
+      none_wished made.names made.cores.items made.bindings.items jobs j w.ran.ran.are_joined w.ran.ran.are_bound w.ran.ran.are_wished one_made
+
   as_many : length j.bindings ≡ length state.bindings
   as_many =
       joined.many made.bindings.items jobs j are_joined w.ran.ran.are_bound w.ran.ran.are_due no_wish
@@ -245,4 +251,4 @@ module _ (law : StepsAgree) (fresh : SetUpsStartFresh) (honest : RunsReportHones
       by true q = by_nothing q
 
 pub of_one_core : StepsAgree → SetUpsStartFresh → RunsReportHonestly → RunsOfOneCore
-of_one_core law fresh honest c jobs limit r w one_core no_wish = report_is law fresh honest c jobs limit r w one_core no_wish
+of_one_core law fresh honest c jobs limit r w one_core = report_is law fresh honest c jobs limit r w one_core

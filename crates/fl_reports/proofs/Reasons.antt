@@ -1,20 +1,24 @@
 -- A binding is told as refused for a reason alone: what stands at its client's desk is what the laws over cores say.
-use Rattle.std.proofs.Common.{◌≡◌, ◌⊎◌, inl, inr, refl, sym, ap, ◌∙◌, subst, ℕ, zero, suc, ◌==◌, if◌then◌else◌, Bool, true, false, List, [], ◌∷◌, map, slice_get, get_or, Option, Some, None, arith}
+use Rattle.std.proofs.Common.{◌≡◌, inl, inr, refl, sym, ap, ◌∙◌, subst, ℕ, zero, suc, ◌+◌, ◌<◌, ◌≤◌, ◌==◌, if◌then◌else◌, Bool, true, false, List, [], ◌∷◌, map, length, slice_get, get_or, Option, Some, None, IsSome, arith}
 use Rattle.std.proofs.lemmas.Bool.Decides.{nat_tests}
+use Rattle.std.proofs.lemmas.List.{length-map}
 use Rattle.std.proofs.lemmas.Option.{same_Some, slice_get_within}
 use Rattle.fl_base.specs.declared.identity.CoreId.{CoreId}
 use Rattle.fl_base.specs.declared.identity.EndId.{EndId}
 use Rattle.fl_compile.specs.Programs.{program_of}
 use Rattle.fl_ring.specs.SharedSides.{TheSide}
+use Rattle.fl_nameserv.specs.declared.registration.Service.{Service as Offer}
 use Rattle.fl_nameserv.specs.Registrations.{TheRegistration, by_iref}
+use Rattle.fl_hop.specs.declared.links.LinkState.{LinkState}
 use Rattle.fl_hop.specs.Table.{TheCircuits, link_of}
 use Rattle.fl_monitor.specs.declared.opening.Opening.{Opening}
 use Rattle.fl_monitor.specs.Routing.{given, all_differ}
 use Rattle.fl_node.specs.Hearing.{Offers}
-use Rattle.fl_node.specs.View.{client_of}
+use Rattle.fl_node.specs.View.{TheCore, client_of}
 use Rattle.fl_running.specs.declared.job.Job.{Job as CoreJob}
 use Rattle.fl_running.specs.declared.job.Job.TheVariants as job
 use Rattle.fl_running.specs.declared.job.Wish.{Wish}
+use Rattle.fl_running.specs.Deeds.{Deed}
 use Rattle.fl_running.specs.Desks.{TheDesk, desk_place}
 use Rattle.fl_running.specs.Led.{LeadsAtFirst}
 use Rattle.fl_running.specs.Logs.{Goes}
@@ -22,13 +26,20 @@ use Rattle.fl_running.specs.Made.{desk_of}
 use Rattle.fl_running.specs.Ran.{task, moment}
 use Rattle.fl_running.specs.Run.{TheRun}
 use Rattle.fl_running.specs.Words.{refusal_at}
+use Rattle.fl_queues.specs.Given.{given as in_machine}
 use Rattle.fl_queues.specs.Making.{has_link}
+use Rattle.fl_queues.specs.Monitors.{Core}
 use Rattle.fl_queues.specs.State.{core_of}
+use Rattle.fl_shows.specs.CoreLaws.{NamesAreShown}
+use Rattle.fl_shows.specs.Cores.{NamesShow}
+use Rattle.fl_shows.specs.Ends.{planned_of}
+use Rattle.fl_worlds.specs.Picture.{Shows}
 use Rattle.fl_system.specs.Booting.{TheConfig}
 use Rattle.fl_jobs.specs.Jobs.{Job}
 use Rattle.fl_jobs.specs.Report.{TheReport, refusal_of}
 use Rattle.fl_dockets.specs.declared.docket.Bound.{Bound}
 use Rattle.fl_dockets.specs.State.{TheJoined}
+use Rattle.fl_dockets.specs.Wished.{IsWished}
 use Rattle.fl_setups.specs.Start.{SetUpsStartFresh}
 use Rattle.fl_honest.specs.Cores.{shared_ways, OneCore, AreAmple, AllAmple, CoresGoAmply}
 use Rattle.fl_honest.specs.Reasons.{LeadsNowhere, IsUsedUp as UsedUp, LeadsOverUsedUp, HasNoPlace, Refuses, RefusesWish, FoundNoPlace, WasFull, RefusesOne, IsRefused, DesksTellReasons, RefusedForReason}
@@ -40,15 +51,16 @@ use Rattle.fl_threads.specs.Tells.{TheOutcome, RanTo, Each2}
 use Rattle.fl_cores.specs.Promised.{Reports}
 use Rattle.fl_reports.specs.Cores.{joined_in, cores_in}
 use Rattle.fl_reports.specs.Outcomes.{ReportsAreOfRuns}
-use Rattle.fl_reports.specs.Reasons.{behind, Opener, HasGap, BeginsNowhere, IsUnlinked, IsUsedUp, LeadsOver, IsSpent, SitsAt, IsFull, HasNone, IsCrowded, HasReason, RefusalsHaveReasons}
+use Rattle.fl_reports.specs.Reasons.{behind, IsAsked, IsUnlinked, IsUsedUp, IsSpent, SitsAt, IsFull, IsServiceFull, IsCrowded, HasReason, RefusalsHaveReasons}
 use Rattle.fl_reports.specs.Runs.{AreRuns}
 use Rattle.fl_reports.proofs.CoresStations.{at_core, as_many_cores}
-use Rattle.fl_reports.proofs.ReasonsFull.{ends_apart, sits_there, still_sits, own_service, lacks_what, no_place_why}
-use Rattle.fl_reports.proofs.ReasonsSetUp.{stands_on, starts_as, no_link, its_core}
+use Rattle.fl_reports.proofs.ReasonsFull.{ends_apart, sits_there, still_sits, still_many, own_service, lacks_what, no_place_why}
+use Rattle.fl_reports.proofs.ReasonsSetUp.{stands_on, starts_as, made_as, as_many_dispatchers, no_link, its_core}
 use Rattle.fl_reports.proofs.Runs.{is_there, run_at, as_many}
 use Rattle.fl_reports.proofs.SidesCross.{SideLaws}
 use Rattle.fl_reports.proofs.StartBindings.{TheBeginning, IsBegun}
 use Rattle.fl_reports.proofs.Whole.{beginning, begun, set_up}
+use Rattle.fl_reports.proofs.Wishes.{step_of, MayGo, may_go, position_below, some_below, IsService, its_service}
 
 -- ---- logs in which memory was never wanted for an opening
 
@@ -95,7 +107,7 @@ told_number number fault told = told_by number fault (number == 0) refl told
 
 -- ---- a report
 
-module _ (fresh : SetUpsStartFresh) (tell : DesksTellReasons) (for_reason : RefusedForReason) (runs : ReportsAreOfRuns) (c : TheConfig) (asked : List Job) (limit : ℕ) (r : TheReport) (x : Reports c asked limit r) (cores : List OneCore)
+module _ (names_agree : NamesAreShown) (fresh : SetUpsStartFresh) (tell : DesksTellReasons) (for_reason : RefusedForReason) (runs : ReportsAreOfRuns) (c : TheConfig) (asked : List Job) (limit : ℕ) (r : TheReport) (x : Reports c asked limit r) (cores : List OneCore)
     (are : AreRuns x.ran.ran.joined.jobs x.ran.ran.ran.stations x.ran.ran.ran.outcomes cores) (ample : AllAmple cores)
     (set : AreSetUp asked x.ran.ran.joined cores x.ran.parts.names (map program_of x.ran.parts.programs.items)) where
   abbrev j : TheJoined
@@ -129,7 +141,7 @@ module _ (fresh : SetUpsStartFresh) (tell : DesksTellReasons) (for_reason : Refu
         finish = run.is.finish ∙ ap (λ (o : TheOutcome). o.run) outcomes ∙ ap (λ (y : EndedCore). y.finish) at.core_is;
       }
 
-  -- ---- no link
+  -- ---- what was asked for
 
   abbrev all : TheBeginning
   all = beginning fresh c asked limit r x cores are
@@ -137,48 +149,97 @@ module _ (fresh : SetUpsStartFresh) (tell : DesksTellReasons) (for_reason : Refu
   begins : IsBegun all
   begins = begun fresh c asked limit r x cores are
 
+  shown : Shows x.ran.made.world (behind c)
+  shown = x.ran.made.stands.1.shown
+
+  many : length x.ran.parts.bindings.items ≡ length (behind c).bindings
+  many = ap length x.ran.made.parts.bindings ∙ shown.picture.bindings.count
+
+  -- a core's job that opens binding n, and what is wished for there
+  record Opener (n : ℕ) (b : Bound) (w : Wish) : Type 0 where
+    pub is : IsWished x.ran.parts.names x.ran.parts.cores.items (length x.ran.parts.bindings.items) asked j.bindings w
+    pub binding : w.opening.binding ≡ n
+    pub bound : is.bound ≡ b
+    pub client : is.wish.client.core ≡ b.client
+
+  opener : (n : ℕ) (b : Bound) → slice_get j.bindings n ≡ Some b → (place : ℕ) (w : Wish) → slice_get j.jobs place ≡ Some (job.Open w)
+      → client_of w.opening.binding ≡ client_of n → Opener n b w
+  opener n b bound place w job_is end_is =
+      let i = x.ran.ran.are_wished place w job_is in
+      let binding : w.opening.binding ≡ n = ap (λ (e : EndId). e.binding) end_is in
+      let same : i.bound ≡ b = same_Some i.bound b (sym i.bound_is ∙ ap (slice_get j.bindings) binding ∙ bound) in
+      record { is = i; binding = binding; bound = same; client = sym i.client ∙ ap (λ (y : Bound). y.client) same }
+
+  abbrev asked_at : (n : ℕ) (b : Bound) (w : Wish) → Opener n b w → IsAsked c asked n
+  asked_at n b w o = record {
+    place = o.is.place;
+    number = sym o.binding ∙ o.is.number ∙ ap (λ (k : ℕ). k + o.is.place) many;
+    wish = o.is.wish;
+    wish_is = o.is.wish_is;
+  }
+
+  -- its route may be asked for, by the table with which its core began
+  goes_on : (n : ℕ) (b : Bound) (w : Wish) → Opener n b w → (two : OneCore) → slice_get cores b.client ≡ Some two
+      → MayGo two.start.core.monitor.circuits w.opening.path w.link.0
+  goes_on n b w o two two_is =
+      let at = o.is.asks.begins in
+      let (k, k_is) = its_core all begins (behind c) shown b.client two two_is in
+      let there : slice_get x.ran.made.world.cores b.client ≡ Some at.core =
+      ap (λ (ks : List TheCore). slice_get ks b.client) (sym x.ran.made.parts.cores) ∙ ap (slice_get x.ran.parts.cores.items) (sym o.client) ∙ at.core_is in
+      subst (λ (t : TheCircuits). MayGo t w.opening.path w.link.0) (sym (made_as all begins (behind c) shown b.client two two_is k k_is at.core there))
+      (may_go at.core.monitor.circuits w.opening.path o.is.bound.server (length x.ran.parts.cores.items) w.link.0 at.begins)
+
+  apart_on : (n : ℕ) (b : Bound) (w : Wish) → Opener n b w → all_differ w.opening.path ≡ true
+  apart_on n b w o =
+      let at = o.is.asks.begins in
+      (may_go at.core.monitor.circuits w.opening.path o.is.bound.server (length x.ran.parts.cores.items) w.link.0 at.begins).apart
+
+  -- ---- no link
+
   -- a core to which the route leads from one of the cores, and to which that has no link
-  gap : (n : ℕ) (one : OneCore) → slice_get cores n ≡ Some one → (path : List CoreId) → LeadsNowhere one.start.core.monitor.circuits path
-      → HasGap c path ⊎ (all_differ path ≡ false)
-  gap n one one_is path lost = elim lost.none [
-    | inl none ↦ inl
-        (let s = stands_on path one.start.core.monitor.circuits.core lost.next lost.next_is in
-        let number : s.here.0 ≡ n = s.same ∙ set.numbered n one one_is in
+  gap : (n : ℕ) (b : Bound) (w : Wish) → Opener n b w → (i : ℕ) (one : OneCore) → slice_get cores i ≡ Some one
+      → LeadsNowhere one.start.core.monitor.circuits w.opening.path → IsUnlinked c asked n
+  gap n b w o i one one_is lost = elim lost.none [
+    | inl none ↦
+        (let s = stands_on w.opening.path one.start.core.monitor.circuits.core lost.next lost.next_is in
+        let number : s.here.0 ≡ i = s.same ∙ set.numbered i one one_is in
         record {
-          place = s.place;
-          core = s.here;
-          core_is = s.here_is;
-          next = lost.next;
-          next_is = s.next_is;
-          none = ap (λ (i : ℕ). has_link i lost.next.0 (behind c)) number ∙ no_link all begins (behind c) x.ran.made.stands.1.shown n one one_is lost.next.0 none;
+          asked = asked_at n b w o;
+          step = step_of w.opening.path o.is.wish.route o.is.asks.route s.place s.here lost.next s.here_is s.next_is;
+          none = ap (λ (m : ℕ). has_link m lost.next.0 (behind c)) number ∙ no_link all begins (behind c) shown i one one_is lost.next.0 none;
         })
-    | inr twice ↦ inr twice
+    | inr twice ↦ absurd (let once = apart_on n b w o in cc (once, twice))
   ]
 
-  -- a refusal for want of a link, by the core itself or by another
-  by_own : (n : ℕ) (one : OneCore) → slice_get cores n ≡ Some one → (w : Wish) → RefusesWish (WasFull j.jobs one.finish) one.start.core.monitor.circuits one.finish.core.monitor.circuits w 73
-      → BeginsNowhere c n w
-  by_own n one one_is w (inl full) = absurd (let is = full.0 in omega (arith, is))
-  by_own n one one_is w (inr (inl lost)) =
-      let (k, k_is) = its_core all begins (behind c) x.ran.made.stands.1.shown n one one_is in
-      record {
-        core = k;
-        core_is = k_is;
-        none = ap (λ (t : TheCircuits). slice_get t.links w.link.0) (sym (starts_as all begins (behind c) x.ran.made.stands.1.shown n one one_is k k_is)) ∙ lost.1;
-      }
-  by_own n one one_is w (inr (inr used)) = absurd (let is = used.0 in omega (arith, is))
+  -- its own core has the link on which it begins
+  begins_there : (t : TheCircuits) (path : List CoreId) (link : ℕ) → MayGo t path link → slice_get t.links link ≡ None → ⊥
+  begins_there t path link go none =
+      let below = position_below (λ (l : LinkState). l.neighbour.0 == go.next.0) t.links link go.link_is in
+      let (l, l_is) = is_there t.links link below in
+      let clash : Some l ≡ None = sym l_is ∙ none in absurd (cc)
 
-  by_another : (o : Opening) (y : RefusesOne j.jobs cores o 73) → Refuses y.core.start.offers.names (FoundNoPlace j.jobs y.core) y.core.start.core.monitor.circuits y.core.finish.core.monitor.circuits o 73
-      → HasGap c o.path ⊎ (all_differ o.path ≡ false)
-  by_another o y (inl full) = absurd (let is = full.0 in omega (arith, is))
-  by_another o y (inr (inl lost)) = gap y.place y.core y.core_is o.path lost.1
-  by_another o y (inr (inr used)) = absurd (let is = used.0 in omega (arith, is))
+  unlinked_own : (n : ℕ) (b : Bound) (w : Wish) → Opener n b w → (two : OneCore) → slice_get cores b.client ≡ Some two
+      → RefusesWish (WasFull j.jobs two.finish) two.start.core.monitor.circuits two.finish.core.monitor.circuits w 73 → IsUnlinked c asked n
+  unlinked_own n b w o two two_is (inl full) = absurd (let is = full.0 in omega (arith, is))
+  unlinked_own n b w o two two_is (inr (inl lost)) =
+      absurd (begins_there two.start.core.monitor.circuits w.opening.path w.link.0 (goes_on n b w o two two_is) lost.1)
+  unlinked_own n b w o two two_is (inr (inr used)) = absurd (let is = used.0 in omega (arith, is))
 
-  -- the job that opens a binding
-  abbrev opener_of : (n : ℕ) (b : Bound) → slice_get j.bindings n ≡ Some b → (place : ℕ) (w : Wish) → slice_get j.jobs place ≡ Some (job.Open w) → client_of w.opening.binding ≡ client_of n
-      → Opener x n
-  opener_of n b bound place w job_is end_is =
-      record { bound = b; bound_is = bound; place = place; wish = w; job_is = job_is; binding_is = ap (λ (e : EndId). e.binding) end_is }
+  unlinked_other : (n : ℕ) (b : Bound) (w : Wish) → Opener n b w → (y : RefusesOne j.jobs cores w.opening 73)
+      → Refuses y.core.start.offers.names (FoundNoPlace j.jobs y.core) y.core.start.core.monitor.circuits y.core.finish.core.monitor.circuits w.opening 73
+      → IsUnlinked c asked n
+  unlinked_other n b w o y (inl full) = absurd (let is = full.0 in omega (arith, is))
+  unlinked_other n b w o y (inr (inl lost)) = gap n b w o y.place y.core y.core_is lost.1
+  unlinked_other n b w o y (inr (inr used)) = absurd (let is = used.0 in omega (arith, is))
+
+  unlinked_by : (n : ℕ) (b : Bound) → slice_get j.bindings n ≡ Some b → (one : OneCore) → slice_get cores b.client ≡ Some one
+      → IsRefused j.jobs cores one (client_of n) 73 → IsUnlinked c asked n
+  unlinked_by n b bound one one_is y =
+      let o = opener n b bound y.place y.wish y.job_is y.end_is in
+      elim y.why [
+        | inl own ↦ unlinked_own n b y.wish o one one_is own
+        | inr other ↦ unlinked_other n b y.wish o other other.why
+      ]
 
   -- ---- numbers that are used up
 
@@ -188,46 +249,49 @@ module _ (fresh : SetUpsStartFresh) (tell : DesksTellReasons) (for_reason : Refu
       let t = twin i two two_is in
       record { core = t.one; core_is = t.one_is; used_up = subst (λ (s : TheRun TheSide). UsedUp s.core.monitor.circuits l) t.finish used }
 
-  over_by : (n : ℕ) (two : OneCore) → slice_get cores n ≡ Some two → (path : List CoreId) → LeadsOverUsedUp two.start.core.monitor.circuits two.finish.core.monitor.circuits path
-      → LeadsOver x path
-  over_by n two two_is path used =
-      let s = stands_on path two.start.core.monitor.circuits.core used.next used.next_is in
-      let number : s.here.0 ≡ n = s.same ∙ set.numbered n two two_is in
-      let (k, k_is) = its_core all begins (behind c) x.ran.made.stands.1.shown n two two_is in
-      let table = starts_as all begins (behind c) x.ran.made.stands.1.shown n two two_is k k_is in
+  -- one that the route leads on from it
+  over : (n : ℕ) (b : Bound) (w : Wish) → Opener n b w → (i : ℕ) (two : OneCore) → slice_get cores i ≡ Some two → (place : ℕ) (here next : CoreId)
+      → slice_get w.opening.path place ≡ Some here → slice_get w.opening.path (place + 1) ≡ Some next → here.0 ≡ i → (link : ℕ)
+      → link_of two.start.core.monitor.circuits next.0 ≡ Some link → UsedUp two.finish.core.monitor.circuits link → IsSpent x n
+  over n b w o i two two_is place here next here_is next_is number link link_is used =
+      let (k, k_is) = its_core all begins (behind c) shown i two two_is in
+      let table = starts_as all begins (behind c) shown i two two_is k k_is in
       record {
-        place = s.place;
-        core = s.here;
-        core_is = s.here_is;
-        next = used.next;
-        next_is = s.next_is;
-        behind_it = k;
-        behind_is = ap (core_of (behind c)) number ∙ k_is;
-        link = used.link;
-        link_is = ap (λ (t : TheCircuits). link_of t used.next.0) (sym table) ∙ used.link_is;
-        used_up = subst (λ (i : ℕ). IsUsedUp x i used.link) (sym number) (used_at n two two_is used.link used.used_up);
+        asked = asked_at n b w o;
+        step = step_of w.opening.path o.is.wish.route o.is.asks.route place here next here_is next_is;
+        core = k;
+        core_is = ap (core_of (behind c)) number ∙ k_is;
+        link = link;
+        link_is = ap (λ (t : TheCircuits). link_of t next.0) (sym table) ∙ link_is;
+        used_up = subst (λ (m : ℕ). IsUsedUp x m link) (sym number) (used_at i two two_is link used);
       }
 
-  own_used : (n : ℕ) (two : OneCore) → slice_get cores n ≡ Some two → (w : Wish) → RefusesWish (WasFull j.jobs two.finish) two.start.core.monitor.circuits two.finish.core.monitor.circuits w 74
-      → IsUsedUp x n w.link.0
-  own_used n two two_is w (inl full) = absurd (let is = full.0 in omega (arith, is))
-  own_used n two two_is w (inr (inl lost)) = absurd (let is = lost.0 in omega (arith, is))
-  own_used n two two_is w (inr (inr used)) = used_at n two two_is w.link.0 used.1
+  spent_own : (n : ℕ) (b : Bound) (w : Wish) → Opener n b w → (two : OneCore) → slice_get cores b.client ≡ Some two
+      → RefusesWish (WasFull j.jobs two.finish) two.start.core.monitor.circuits two.finish.core.monitor.circuits w 74 → IsSpent x n
+  spent_own n b w o two two_is (inl full) = absurd (let is = full.0 in omega (arith, is))
+  spent_own n b w o two two_is (inr (inl lost)) = absurd (let is = lost.0 in omega (arith, is))
+  spent_own n b w o two two_is (inr (inr used)) =
+      let go = goes_on n b w o two two_is in
+      over n b w o b.client two two_is 0 go.here go.next go.here_is go.next_is (go.same ∙ set.numbered b.client two two_is) w.link.0 go.link_is used.1
 
-  another_used : (o : Opening) (y : RefusesOne j.jobs cores o 74) → Refuses y.core.start.offers.names (FoundNoPlace j.jobs y.core) y.core.start.core.monitor.circuits y.core.finish.core.monitor.circuits o 74 → LeadsOver x o.path
-  another_used o y (inl full) = absurd (let is = full.0 in omega (arith, is))
-  another_used o y (inr (inl lost)) = absurd (let is = lost.0 in omega (arith, is))
-  another_used o y (inr (inr used)) = over_by y.place y.core y.core_is o.path used.1
+  spent_other : (n : ℕ) (b : Bound) (w : Wish) → Opener n b w → (y : RefusesOne j.jobs cores w.opening 74)
+      → Refuses y.core.start.offers.names (FoundNoPlace j.jobs y.core) y.core.start.core.monitor.circuits y.core.finish.core.monitor.circuits w.opening 74
+      → IsSpent x n
+  spent_other n b w o y (inl full) = absurd (let is = full.0 in omega (arith, is))
+  spent_other n b w o y (inr (inl lost)) = absurd (let is = lost.0 in omega (arith, is))
+  spent_other n b w o y (inr (inr used)) =
+      let s = stands_on w.opening.path y.core.start.core.monitor.circuits.core used.1.next used.1.next_is in
+      over n b w o y.place y.core y.core_is s.place s.here used.1.next s.here_is s.next_is (s.same ∙ set.numbered y.place y.core y.core_is)
+      used.1.link used.1.link_is used.1.used_up
 
   spent_by : (n : ℕ) (b : Bound) → slice_get j.bindings n ≡ Some b → (one : OneCore) → slice_get cores b.client ≡ Some one
       → IsRefused j.jobs cores one (client_of n) 74 → IsSpent x n
-  spent_by n b bound one one_is y = record {
-    opener = opener_of n b bound y.place y.wish y.job_is y.end_is;
-    why = elim y.why [
-      | inl own ↦ inr (own_used b.client one one_is y.wish own)
-      | inr other ↦ inl (another_used y.wish.opening other other.why)
-    ];
-  }
+  spent_by n b bound one one_is y =
+      let o = opener n b bound y.place y.wish y.job_is y.end_is in
+      elim y.why [
+        | inl own ↦ spent_own n b y.wish o one one_is own
+        | inr other ↦ spent_other n b y.wish o other other.why
+      ]
 
   -- ---- places that are taken
 
@@ -245,27 +309,52 @@ module _ (fresh : SetUpsStartFresh) (tell : DesksTellReasons) (for_reason : Refu
             (sits_there f.moment.core.board f.board d f.dispatcher f.dispatcher_is f.full k below));
       }
 
-  -- a service's own core found no place for it: its dispatcher is full, or not there
-  service_full : (n : ℕ) (two : OneCore) → slice_get cores n ≡ Some two → (o : Opening) (g : TheRegistration) → by_iref o.service.0 x.ran.parts.names ≡ Some g
-      → HasNoPlace two.start.offers.names (FoundNoPlace j.jobs two) two.start.core.monitor.circuits o → IsFull x g.service.core.0 g.service.dispatcher ⊎ HasNone x g.service.core.0 g.service
-  service_full n two two_is o g g_is h =
-      let t = twin n two two_is in
+  -- the dispatcher of a service is there whenever its core looks for a place, and so is its program
+  dispatcher_there : (i : ℕ) (two : OneCore) → slice_get cores i ≡ Some two → (f : TheRun TheSide) (log : List Deed) → Goes shared_ways j.jobs f log two.finish
+      → (k : Core) → core_of (behind c) i ≡ Some k → (d : ℕ) → d < length k.dispatchers → slice_get f.core.board.dispatchers d ≡ None → ⊥
+  dispatcher_there i two two_is f log goes k k_is d below none =
+      let run = run_at j.jobs x.ran.ran.ran.stations x.ran.ran.ran.outcomes cores are i two two_is in
+      let first = as_many_dispatchers all begins (behind c) shown i two two_is k k_is in
+      let later = still_many j.jobs two.log two.start two.finish run.is.goes in
+      let last = still_many j.jobs log f two.finish goes in
+      let (y, y_is) = is_there f.core.board.dispatchers d (omega (arith, below, first, later, last)) in
+      let clash : Some y ≡ None = sym y_is ∙ none in absurd (cc)
+
+  program_there : (i : ℕ) (two : OneCore) → slice_get cores i ≡ Some two → (offers : Offers) → offers ≡ two.start.offers → (n : ℕ) → n < length (behind c).interfaces
+      → length offers.programs ≤ n → ⊥
+  program_there i two two_is offers same n below past =
+      let first : length offers.programs ≡ length two.start.offers.programs = ap (λ (o : Offers). length o.programs) same in
+      let one = length-map two.start.offers.programs program_of in
+      let two_of = length-map x.ran.parts.programs.items program_of in
+      let both = ap length (set.programmed i two two_is) in
+      let made = ap length x.ran.made.parts.programs in
+      let drawn = length-map x.ran.made.world.programs planned_of in
+      let all_of = ap length shown.picture.programs in
+      absurd (omega (arith, first, one, two_of, both, made, drawn, all_of, below, past))
+
+  -- a service's own core found no place for it: its dispatcher is full
+  service_full : (i : ℕ) (two : OneCore) → slice_get cores i ≡ Some two → (o : Opening) (g : TheRegistration) → by_iref o.service.0 x.ran.parts.names ≡ Some g
+      → (name : List ℕ) → IsService (behind c).services name g → HasNoPlace two.start.offers.names (FoundNoPlace j.jobs two) two.start.core.monitor.circuits o
+      → IsServiceFull x name
+  service_full i two two_is o g g_is name s h =
       let f = h.none in
-      let found : by_iref o.service.0 two.start.offers.names ≡ Some g = ap (by_iref o.service.0) (set.named n two two_is) ∙ g_is in
+      let found : by_iref o.service.0 two.start.offers.names ≡ Some g = ap (by_iref o.service.0) (set.named i two two_is) ∙ g_is in
       let at_home : g.service.core.0 ≡ two.start.core.monitor.circuits.core = own_service two.start.offers.names two.start.core.monitor.circuits.core o.service.0 g found h.own in
-      let number : g.service.core.0 ≡ n = at_home ∙ set.numbered n two two_is in
+      let number : g.service.core.0 ≡ i = at_home ∙ set.numbered i two two_is in
       let there : by_iref o.service.0 f.moment.offers.names ≡ Some g = ap (λ (y : Offers). by_iref o.service.0 y.names) f.offers ∙ found in
-      elim (lacks_what f.moment.offers f.moment.core o.service.0 g there (at_home ∙ sym f.number) f.none) [
+      let (k, k_is) = its_core all begins (behind c) shown i two two_is in
+      let core_is : s.service.dispatcher.core ≡ i = sym (ap (λ (y : Offer). y.core.0) s.offer) ∙ number in
+      let place_is : g.service.dispatcher ≡ s.service.dispatcher.place = ap (λ (y : Offer). y.dispatcher) s.offer in
+      let interface_is : g.service.interface ≡ s.service.interface = ap (λ (y : Offer). y.interface) s.offer in
+      let stands = shown.sound.services s.place s.service s.service_is in
+      let k_there : core_of (behind c) s.service.dispatcher.core ≡ Some k = ap (core_of (behind c)) core_is ∙ k_is in
+      let below : s.service.dispatcher.place < length k.dispatchers =
+      some_below k.dispatchers s.service.dispatcher.place
+      (subst (λ (q : Option Core). IsSome (in_machine q None λ y. slice_get y.dispatchers s.service.dispatcher.place)) k_there stands.0) in
+      let full : IsFull x i g.service.dispatcher = elim (lacks_what f.moment.offers f.moment.core o.service.0 g there (at_home ∙ sym f.number) f.none) [
         | inl full ↦ elim (no_place_why f.moment.core.board f.board g.service.dispatcher full) [
-          | inl none ↦ inr (record {
-            core = t.one;
-            core_is = ap (slice_get (cores_in x)) number ∙ t.one_is;
-            moment = f.moment;
-            log = f.log;
-            goes = subst (λ (s : TheRun TheSide). Goes shared_ways j.jobs f.moment f.log s) t.finish f.goes;
-            none = inl none;
-          })
-          | inr taken ↦ inl (subst (λ (i : ℕ). IsFull x i g.service.dispatcher) (sym number) (full_at n two two_is g.service.dispatcher (record {
+          | inl none ↦ absurd (dispatcher_there i two two_is f.moment f.log f.goes k k_is g.service.dispatcher (omega (arith, below, place_is)) none)
+          | inr taken ↦ full_at i two two_is g.service.dispatcher (record {
             moment = f.moment;
             log = f.log;
             goes = f.goes;
@@ -273,57 +362,51 @@ module _ (fresh : SetUpsStartFresh) (tell : DesksTellReasons) (for_reason : Refu
             dispatcher = taken.0;
             dispatcher_is = taken.1;
             full = taken.2;
-          })))
+          })
         ]
-        | inr past ↦ inr (record {
-          core = t.one;
-          core_is = ap (slice_get (cores_in x)) number ∙ t.one_is;
-          moment = f.moment;
-          log = f.log;
-          goes = subst (λ (s : TheRun TheSide). Goes shared_ways j.jobs f.moment f.log s) t.finish f.goes;
-          none = inr past;
-        })
-      ]
+        | inr past ↦ absurd (program_there i two two_is f.moment.offers f.offers g.service.interface
+            (let known = some_below (behind c).interfaces s.service.interface stands.1 in omega (arith, known, interface_is)) past)
+      ] in
+      record {
+        place = s.place;
+        place_is = s.place_is;
+        service = s.service;
+        service_is = s.service_is;
+        full = subst (λ (m : ℕ). IsFull x m s.service.dispatcher.place) (sym core_is) (subst (λ (d : ℕ). IsFull x i d) place_is full);
+      }
 
-  own_crowded : (n : ℕ) (two : OneCore) → slice_get cores n ≡ Some two → (w : Wish)
-      → RefusesWish (WasFull j.jobs two.finish) two.start.core.monitor.circuits two.finish.core.monitor.circuits w 54 → IsFull x n w.dispatcher
-  own_crowded n two two_is w (inl full) = full_at n two two_is w.dispatcher full.1
-  own_crowded n two two_is w (inr (inl lost)) = absurd (let is = lost.0 in omega (arith, is))
-  own_crowded n two two_is w (inr (inr used)) = absurd (let is = used.0 in omega (arith, is))
+  crowded_own : (n : ℕ) (b : Bound) (w : Wish) → Opener n b w → (two : OneCore) → slice_get cores b.client ≡ Some two
+      → RefusesWish (WasFull j.jobs two.finish) two.start.core.monitor.circuits two.finish.core.monitor.circuits w 54 → IsCrowded x n
+  crowded_own n b w o two two_is (inl full) = record {
+    asked = asked_at n b w o;
+    why = inl (subst (λ (m : ℕ). IsFull x m o.is.wish.client.place) (sym o.client)
+        (subst (λ (d : ℕ). IsFull x b.client d) o.is.asks.dispatcher (full_at b.client two two_is w.dispatcher full.1)));
+  }
+  crowded_own n b w o two two_is (inr (inl lost)) = absurd (let is = lost.0 in omega (arith, is))
+  crowded_own n b w o two two_is (inr (inr used)) = absurd (let is = used.0 in omega (arith, is))
 
-  another_crowded : (o : Opening) (g : TheRegistration) → by_iref o.service.0 x.ran.parts.names ≡ Some g → (y : RefusesOne j.jobs cores o 54)
-      → Refuses y.core.start.offers.names (FoundNoPlace j.jobs y.core) y.core.start.core.monitor.circuits y.core.finish.core.monitor.circuits o 54
-      → IsFull x g.service.core.0 g.service.dispatcher ⊎ HasNone x g.service.core.0 g.service
-  another_crowded o g g_is y (inl full) = service_full y.place y.core y.core_is o g g_is full.1
-  another_crowded o g g_is y (inr (inl lost)) = absurd (let is = lost.0 in omega (arith, is))
-  another_crowded o g g_is y (inr (inr used)) = absurd (let is = used.0 in omega (arith, is))
+  crowded_other : (n : ℕ) (b : Bound) (w : Wish) → Opener n b w → (y : RefusesOne j.jobs cores w.opening 54)
+      → Refuses y.core.start.offers.names (FoundNoPlace j.jobs y.core) y.core.start.core.monitor.circuits y.core.finish.core.monitor.circuits w.opening 54
+      → IsCrowded x n
+  crowded_other n b w o y (inl full) =
+      let g = o.is.asks.service in
+      let shows : NamesShow (behind c).services x.ran.parts.names = x.ran.made.parts.names ∙ shown.picture.names in
+      let s = its_service names_agree (behind c).services x.ran.parts.names shows o.is.wish.service g.registration g.named in
+      record {
+        asked = asked_at n b w o;
+        why = inr (service_full y.place y.core y.core_is w.opening g.registration g.registered o.is.wish.service s full.1);
+      }
+  crowded_other n b w o y (inr (inl lost)) = absurd (let is = lost.0 in omega (arith, is))
+  crowded_other n b w o y (inr (inr used)) = absurd (let is = used.0 in omega (arith, is))
 
   crowded_by : (n : ℕ) (b : Bound) → slice_get j.bindings n ≡ Some b → (one : OneCore) → slice_get cores b.client ≡ Some one
       → IsRefused j.jobs cores one (client_of n) 54 → IsCrowded x n
   crowded_by n b bound one one_is y =
-      let binding : y.wish.opening.binding ≡ n = ap (λ (e : EndId). e.binding) y.end_is in
-      let offered = set.wishes y.place y.wish b y.job_is (ap (slice_get j.bindings) binding ∙ bound) in
-      record {
-        opener = opener_of n b bound y.place y.wish y.job_is y.end_is;
-        why = elim y.why [
-          | inl own ↦ inl (own_crowded b.client one one_is y.wish own)
-          | inr other ↦ inr (record {
-            registration = offered.registration;
-            registered = offered.service;
-            why = another_crowded y.wish.opening offered.registration offered.service other other.why;
-          })
-        ];
-      }
-
-  unlinked_by : (n : ℕ) (b : Bound) → slice_get j.bindings n ≡ Some b → (one : OneCore) → slice_get cores b.client ≡ Some one
-      → IsRefused j.jobs cores one (client_of n) 73 → IsUnlinked x n
-  unlinked_by n b bound one one_is y = record {
-    opener = opener_of n b bound y.place y.wish y.job_is y.end_is;
-    why = elim y.why [
-      | inl own ↦ inr (inr (by_own b.client one one_is y.wish own))
-      | inr other ↦ elim (by_another y.wish.opening other other.why) [ inl lost ↦ inl lost | inr twice ↦ inr (inl twice) ]
-    ];
-  }
+      let o = opener n b bound y.place y.wish y.job_is y.end_is in
+      elim y.why [
+        | inl own ↦ crowded_own n b y.wish o one one_is own
+        | inr other ↦ crowded_other n b y.wish o other other.why
+      ]
 
   has_reason : (n fault : ℕ) (b : Bound) → slice_get j.bindings n ≡ Some b → (one : OneCore) → slice_get cores b.client ≡ Some one
       → IsRefused j.jobs cores one (client_of n) fault → HasReason x n fault
@@ -357,8 +440,8 @@ module _ (fresh : SetUpsStartFresh) (tell : DesksTellReasons) (for_reason : Refu
   by_bound n fault None is told = absurd (let clash : None ≡ Some fault = sym (ran.desks.no_refusal n is) ∙ told in cc)
   by_bound n fault (Some b) is told = at_client n fault b is told
 
-pub refusals_have : SetUpsStartFresh → CoresGoAmply → SideLaws → LeadsAtFirst → DesksTellReasons → RefusedForReason → ReportsAreOfRuns → RefusalsHaveReasons
-refusals_have fresh go l first tell for_reason runs c asked limit r x n fault told =
+pub refusals_have : NamesAreShown → SetUpsStartFresh → CoresGoAmply → SideLaws → LeadsAtFirst → DesksTellReasons → RefusedForReason → ReportsAreOfRuns → RefusalsHaveReasons
+refusals_have names_agree fresh go l first tell for_reason runs c asked limit r x n fault told =
     let f = x.ran.ran in
     let (cores, are, ample) = ample_runs go f.joined.jobs limit f.ran.stations f.ran.outcomes f.ran.ran in
-    by_bound fresh tell for_reason runs c asked limit r x cores are ample (set_up fresh c asked limit r x cores are l first) n fault (slice_get f.joined.bindings n) refl told
+    by_bound names_agree fresh tell for_reason runs c asked limit r x cores are ample (set_up fresh c asked limit r x cores are l first) n fault (slice_get f.joined.bindings n) refl told

@@ -56,8 +56,13 @@ goes_keep jobs (deed ∷ log) s t h =
 
 pub still_sits : (jobs : List Job) (log : List Deed) (s t : TheRun TheSide) → Goes shared_ways jobs s log t → (d place : ℕ) → SitsAt s.core.board d place → SitsAt t.core.board d place
 still_sits jobs log s t goes d place x =
-    let (seat, there, same) = goes_keep jobs log s t goes place x.seat x.seat_is in
+    let (seat, there, same) = (goes_keep jobs log s t goes).seats place x.seat x.seat_is in
     record { seat = seat; seat_is = there; dispatcher_is = same ∙ x.dispatcher_is }
+
+-- there are as many dispatchers
+pub still_many : (jobs : List Job) (log : List Deed) (s t : TheRun TheSide) → Goes shared_ways jobs s log t
+    → length t.core.board.dispatchers ≡ length s.core.board.dispatchers
+still_many jobs log s t goes = (goes_keep jobs log s t goes).many
 
 -- ---- why there is no offer
 

@@ -1,5 +1,5 @@
 -- Links of a set-up: as a core's run begins it has just those that the machine has behind the set-up.
-use Rattle.std.proofs.Common.{◌≡◌, refl, sym, ap, ◌∙◌, subst, ℕ, ◌+◌, true, false, is_some, List, slice_get, position, Option, Some, None, ◌==◌, arith}
+use Rattle.std.proofs.Common.{◌≡◌, refl, sym, ap, ◌∙◌, subst, ℕ, ◌+◌, true, false, is_some, List, length, slice_get, position, Option, Some, None, ◌==◌, arith}
 use Rattle.std.proofs.lemmas.Bool.Decides.{nat_tests}
 use Rattle.std.proofs.lemmas.List.Quantifiers.{position-Some}
 use Rattle.std.proofs.lemmas.Option.{slice_get_within, get_or_from_slice_get}
@@ -16,6 +16,7 @@ use Rattle.fl_worlds.specs.Picture.{Shows}
 use Rattle.fl_dockets.specs.Rules.{RulesOf}
 use Rattle.fl_honest.specs.Cores.{OneCore}
 use Rattle.fl_reports.proofs.Runs.{is_there}
+use Rattle.fl_reports.proofs.CoresStations.{on_boards}
 use Rattle.fl_reports.proofs.StartBindings.{TheBeginning, IsBegun, made_of}
 use Rattle.fl_reports.proofs.StartRested.{was_at}
 
@@ -54,6 +55,19 @@ module _ (b : TheBeginning) (h : IsBegun b) (s : State) (shows : Shows b.world s
       let was = was_at b.made.bindings.items b.asked b.world.cores b.parts.cores.items of_them n m.core m.core_is in
       let monitors : c.start.core.monitor ≡ was.core.monitor = ap (λ (x : TheCore). x.monitor) m.numbers ∙ ap (λ (x : TheCore). x.monitor) was.rests.same in
       ap (λ (x : TheMonitor). x.circuits) monitors ∙ (shows.picture.cores.each n k was.core k_is was.core_is).monitor.circuits
+
+  -- and so is that of the core that was made
+  pub made_as : (n : ℕ) (c : OneCore) → slice_get b.cores n ≡ Some c → (k : Core) → core_of s n ≡ Some k → (made : TheCore) → slice_get b.world.cores n ≡ Some made
+      → c.start.core.monitor.circuits ≡ made.monitor.circuits
+  made_as n c c_is k k_is made made_is = starts_as n c c_is k k_is ∙ sym (shows.picture.cores.each n k made k_is made_is).monitor.circuits
+
+  -- there are as many dispatchers as the machine's core has
+  pub as_many_dispatchers : (n : ℕ) (c : OneCore) → slice_get b.cores n ≡ Some c → (k : Core) → core_of s n ≡ Some k
+      → length c.start.core.board.dispatchers ≡ length k.dispatchers
+  as_many_dispatchers n c c_is k k_is =
+      let m = made_of b h n c c_is in
+      let was = (on_boards b.made.bindings.items b.asked b.world.cores b.parts.cores.items of_them).each n m.core m.core_is in
+      ap (λ (x : TheCore). length x.board.dispatchers) m.numbers ∙ was.seats.many ∙ (shows.picture.cores.each n k was.core k_is was.core_is).count
 
   no_link_by : (n : ℕ) (c : OneCore) → slice_get b.cores n ≡ Some c → (next : ℕ) → link_of c.start.core.monitor.circuits next ≡ None
       → (o : Option Core) → core_of s n ≡ o → in_machine o false (λ k. is_some (link_of k.circuits next)) ≡ false

@@ -1,19 +1,16 @@
 -- Two runs of one core come to the same: what is told is a function of what is run. Laws.
-use Rattle.std.specs.Prelude.{ℕ, ◌≡◌, List, []}
-use Rattle.std.specs.List.{flat_map}
+use Rattle.std.specs.Prelude.{ℕ, ◌≡◌, List}
 use Rattle.fl_jobs.specs.CoresFile.{CoresFile, Reads, is_file}
 use Rattle.fl_jobs.specs.Jobs.{Job}
 use Rattle.fl_jobs.specs.Report.{TheReport}
 use Rattle.fl_system.specs.Booting.{TheConfig}
-use Rattle.fl_dockets.specs.Whole.{wish_in}
 use Rattle.fl_cores.specs.declared.text.CoresEnd.{CoresEnd}
 use Rattle.fl_cores.specs.Promised.{cores_by, Reports, config_in}
 use Rattle.fl_reports.specs.Honesty.{Appends}
 
 -- two reports of one configuration, with the same jobs and limit, are equal
 abbrev pub OneReport : Type 0
-OneReport = (c : TheConfig) (jobs : List Job) (limit : ℕ) (r q : TheReport) → cores_by c ≡ 1 → flat_map wish_in jobs ≡ []
-    → Reports c jobs limit r → Reports c jobs limit q → r ≡ q
+OneReport = (c : TheConfig) (jobs : List Job) (limit : ℕ) (r q : TheReport) → cores_by c ≡ 1 → Reports c jobs limit r → Reports c jobs limit q → r ≡ q
 
 -- two runs of one file, with the same limit, end alike, and append the same text
 abbrev pub OneText : Type 0

@@ -31,11 +31,11 @@ pub record EndsAsTold {c : TheConfig} {jobs : List Job} {limit : ℕ} {r : TheRe
   -- each is for a reason: a dispatcher had no place for one end more (54), a core of the route had no link that leads on (73), or no number was left on that
   -- link (74)
   pub reasons : (n fault : ℕ) → refusal_of r n ≡ Some fault → IsReason fault
-  -- for want of a link only where the set-up makes none between two cores of the route
-  pub unlinked : (n : ℕ) → refusal_of r n ≡ Some 73 → IsUnlinked w n
-  -- for want of a number only where a core of the route gave all that it has on its link to the next
+  -- for want of a link only where the set-up makes none from a core of its route to the next
+  pub unlinked : (n : ℕ) → refusal_of r n ≡ Some 73 → IsUnlinked c jobs n
+  -- for want of a number only where a core of its route gave all that it has on its link to the next
   pub spent : (n : ℕ) → refusal_of r n ≡ Some 74 → IsSpent w n
-  -- and for want of a place only where 1,024 ends sit at the client's dispatcher or the service's, or that isn't there
+  -- and for want of a place only where 1,024 ends sit at its client's dispatcher or its service's
   pub crowded : (n : ℕ) → refusal_of r n ≡ Some 54 → IsCrowded w n
   -- what ends that the set-up makes at one dispatcher handled is together at most the turns that are told of its core
   pub few : (d : DispatcherId) (ends : List EndId) (turns : ℕ) → AreSetUpAt c d ends → slice_get r.turns d.core ≡ Some turns

@@ -1,4 +1,4 @@
--- The report of a run of one core, where no job opens a binding: a function of the configuration, the jobs and the limit. Public promises rest on this file.
+-- The report of a run of one core: a function of the configuration, the jobs and the limit. Public promises rest on this file.
 use Rattle.std.specs.Prelude.{ℕ, ◌≡◌, Bool, true, false, List, [], ◌∷◌, ◌++◌, map, take, length, None}
 use Rattle.std.specs.List.{flat_map, range_with_len}
 use Rattle.fl_base.specs.declared.identity.EndId.{EndId}
@@ -15,7 +15,6 @@ use Rattle.fl_jobs.specs.CoresFile.{CoresFile}
 use Rattle.fl_jobs.specs.Jobs.{Job, replies, own_calls, handed_in, reply_to}
 use Rattle.fl_jobs.specs.Report.{TheReport, Ending, complete, turns_out}
 use Rattle.fl_system.specs.Booting.{TheConfig}
-use Rattle.fl_dockets.specs.Whole.{wish_in}
 use Rattle.fl_cores.specs.Promised.{cores_by, config_in, Reports}
 use Rattle.fl_threads.specs.Tells.{both_at}
 use Rattle.fl_alone.specs.Calls.{Post, Solo, post_at, Span, turned, is_finished, counted}
@@ -88,13 +87,13 @@ report_of_one c jobs limit =
 
 -- ---- what is promised
 
--- where the set-up makes one core, and no job opens a binding, the report is that
+-- where the set-up makes one core, the report is that: no job opens a binding then
 abbrev pub IsThatOfOne : TheConfig → List Job → ℕ → TheReport → Type 0
-IsThatOfOne c jobs limit r = cores_by c ≡ 1 → flat_map wish_in jobs ≡ [] → r ≡ report_of_one c jobs limit
+IsThatOfOne c jobs limit r = cores_by c ≡ 1 → r ≡ report_of_one c jobs limit
 
--- and so it is of a cores file where it makes one core: then none of its lines opens a binding
+-- and so it is of a cores file
 abbrev pub IsThatOfFile : CoresFile → ℕ → TheReport → Type 0
-IsThatOfFile file limit r = cores_by (config_in file) ≡ 1 → r ≡ report_of_one (config_in file) file.jobs limit
+IsThatOfFile file limit r = IsThatOfOne (config_in file) file.jobs limit r
 
 -- so it is of each report of a run. Law
 abbrev pub RunsOfOneCore : Type 0

@@ -1,65 +1,50 @@
--- Why bindings are named as refused: by the jobs as cores do them, what the set-up made, and how cores ended. Public promises rest on this file.
-use Rattle.std.specs.Prelude.{ℕ, ◌≡◌, ◌⊎◌, ◌+◌, ◌<◌, ◌≤◌, false, List, length, slice_get, Some, None}
-use Rattle.fl_base.specs.declared.identity.CoreId.{CoreId}
-use Rattle.fl_nameserv.specs.declared.registration.Service.{Service}
-use Rattle.fl_nameserv.specs.Registrations.{TheRegistration, by_iref}
-use Rattle.fl_ring.specs.SharedSides.{TheSide}
+-- Why bindings are named as refused: by what jobs wish for, what the set-up made, and how cores ended. Public promises rest on this file.
+use Rattle.std.specs.Prelude.{ℕ, ◌≡◌, ◌⊎◌, ◌+◌, ◌<◌, false, List, length, slice_get, Some}
+use Rattle.std.specs.List.{flat_map}
 use Rattle.fl_core.specs.View.{TheSeat, TheBoard}
-use Rattle.fl_monitor.specs.Routing.{all_differ}
-use Rattle.fl_running.specs.declared.job.Job.TheVariants as job
-use Rattle.fl_running.specs.declared.job.Wish.{Wish}
-use Rattle.fl_running.specs.Deeds.{Deed}
-use Rattle.fl_running.specs.Logs.{Goes}
-use Rattle.fl_running.specs.Run.{TheRun}
+use Rattle.fl_queues.specs.Binding.{place_of_service}
 use Rattle.fl_queues.specs.Making.{has_link}
-use Rattle.fl_queues.specs.Monitors.{Core, link_to}
+use Rattle.fl_queues.specs.Monitors.{Core, Service, link_to}
 use Rattle.fl_queues.specs.Runs.{reached}
 use Rattle.fl_queues.specs.State.{State, core_of}
 use Rattle.fl_queues.specs.Worlds.{start_with}
-use Rattle.fl_jobs.specs.Jobs.{Job}
+use Rattle.fl_jobs.specs.Jobs.{Wish, Job}
 use Rattle.fl_jobs.specs.Report.{TheReport, refusal_of}
 use Rattle.fl_system.specs.Booting.{TheConfig}
-use Rattle.fl_dockets.specs.declared.docket.Bound.{Bound}
-use Rattle.fl_honest.specs.Cores.{shared_ways}
+use Rattle.fl_dockets.specs.Whole.{wish_in}
 use Rattle.fl_honest.specs.Reasons.{IsReason, IsUsedUp as UsedUp}
 use Rattle.fl_endings.specs.Cores.{OneCore}
 use Rattle.fl_cores.specs.Promised.{Reports}
-use Rattle.fl_reports.specs.Cores.{joined_in, cores_in}
+use Rattle.fl_reports.specs.Cores.{cores_in}
+
+-- ---- what is asked for
 
 -- what the machine is behind the set-up
 abbrev pub behind : TheConfig → State
 behind c = reached (start_with c.cores) c.setup
 
--- binding n, and the job that opens it, as the client's core does that
-pub record Opener {c : TheConfig} {jobs : List Job} {limit : ℕ} {r : TheReport} (w : Reports c jobs limit r) (n : ℕ) : Type 0 where
-  pub bound : Bound
-  pub bound_is : slice_get (joined_in w).bindings n ≡ Some bound
+-- what the job wishes for that opens binding n: those of the set-up come first, and behind them those that jobs open, in their order
+pub record IsAsked (c : TheConfig) (jobs : List Job) (n : ℕ) : Type 0 where
   pub place : ℕ
+  pub number : n ≡ length (behind c).bindings + place
   pub wish : Wish
-  pub job_is : slice_get (joined_in w).jobs place ≡ Some (job.Open wish)
-  pub binding_is : wish.opening.binding ≡ n
+  pub wish_is : slice_get (flat_map wish_in jobs) place ≡ Some wish
+
+-- a core of a route, and the one behind it
+pub record Step (route : List ℕ) : Type 0 where
+  pub place : ℕ
+  pub core : ℕ
+  pub core_is : slice_get route place ≡ Some core
+  pub next : ℕ
+  pub next_is : slice_get route (place + 1) ≡ Some next
 
 -- ---- no link (73)
 
--- a core of the route has no link to the one behind it
-pub record HasGap (c : TheConfig) (path : List CoreId) : Type 0 where
-  pub place : ℕ
-  pub core : CoreId
-  pub core_is : slice_get path place ≡ Some core
-  pub next : CoreId
-  pub next_is : slice_get path (place + 1) ≡ Some next
-  pub none : has_link core.0 next.0 (behind c) ≡ false
-
--- the link on which the route is to begin isn't one of the client's core
-pub record BeginsNowhere (c : TheConfig) (client : ℕ) (wish : Wish) : Type 0 where
-  pub core : Core
-  pub core_is : core_of (behind c) client ≡ Some core
-  pub none : slice_get core.circuits.links wish.link.0 ≡ None
-
--- so it is of the job that opens binding n; or its route names a core twice, or it begins nowhere
-pub record IsUnlinked {c : TheConfig} {jobs : List Job} {limit : ℕ} {r : TheReport} (w : Reports c jobs limit r) (n : ℕ) : Type 0 where
-  pub opener : Opener w n
-  pub why : HasGap c opener.wish.opening.path ⊎ (all_differ opener.wish.opening.path ≡ false) ⊎ BeginsNowhere c opener.bound.client opener.wish
+-- a core of the route that is wished for has no link to the one behind it
+pub record IsUnlinked (c : TheConfig) (jobs : List Job) (n : ℕ) : Type 0 where
+  pub asked : IsAsked c jobs n
+  pub step : Step asked.wish.route
+  pub none : has_link step.core step.next (behind c) ≡ false
 
 -- ---- no number left (74)
 
@@ -69,23 +54,15 @@ pub record IsUsedUp {c : TheConfig} {jobs : List Job} {limit : ℕ} {r : TheRepo
   pub core_is : slice_get (cores_in w) n ≡ Some core
   pub used_up : UsedUp core.finish.core.monitor.circuits l
 
--- the route leads from a core over such a link to the core behind it
-pub record LeadsOver {c : TheConfig} {jobs : List Job} {limit : ℕ} {r : TheReport} (w : Reports c jobs limit r) (path : List CoreId) : Type 0 where
-  pub place : ℕ
-  pub core : CoreId
-  pub core_is : slice_get path place ≡ Some core
-  pub next : CoreId
-  pub next_is : slice_get path (place + 1) ≡ Some next
-  pub behind_it : Core
-  pub behind_is : core_of (behind c) core.0 ≡ Some behind_it
-  pub link : ℕ
-  pub link_is : link_to next.0 behind_it ≡ Some link
-  pub used_up : IsUsedUp w core.0 link
-
--- so does that of the job which opens binding n, or the link on which that is to begin is such a one
+-- the route that is wished for leads from a core over such a link to the one behind it
 pub record IsSpent {c : TheConfig} {jobs : List Job} {limit : ℕ} {r : TheReport} (w : Reports c jobs limit r) (n : ℕ) : Type 0 where
-  pub opener : Opener w n
-  pub why : LeadsOver w opener.wish.opening.path ⊎ IsUsedUp w opener.bound.client opener.wish.link.0
+  pub asked : IsAsked c jobs n
+  pub step : Step asked.wish.route
+  pub core : Core
+  pub core_is : core_of (behind c) step.core ≡ Some core
+  pub link : ℕ
+  pub link_is : link_to step.next core ≡ Some link
+  pub used_up : IsUsedUp w step.core link
 
 -- ---- no place (54)
 
@@ -103,32 +80,25 @@ pub record IsFull {c : TheConfig} {jobs : List Job} {limit : ℕ} {r : TheReport
   pub apart : (i k : ℕ) → i < 1024 → k < 1024 → ends i ≡ ends k → i ≡ k
   pub sits : (i : ℕ) → i < 1024 → SitsAt core.finish.core.board d (ends i)
 
--- at some moment of a run of this core it had no such dispatcher, or no program for the service
-pub record HasNone {c : TheConfig} {jobs : List Job} {limit : ℕ} {r : TheReport} (w : Reports c jobs limit r) (n : ℕ) (service : Service) : Type 0 where
-  pub core : OneCore
-  pub core_is : slice_get (cores_in w) n ≡ Some core
-  pub moment : TheRun TheSide
-  pub log : List Deed
-  pub goes : Goes shared_ways (joined_in w).jobs moment log core.finish
-  pub none : (slice_get moment.core.board.dispatchers service.dispatcher ≡ None) ⊎ (length moment.offers.programs ≤ service.interface)
+-- the dispatcher of the service of this name is full, which the set-up exports
+pub record IsServiceFull {c : TheConfig} {jobs : List Job} {limit : ℕ} {r : TheReport} (w : Reports c jobs limit r) (name : List ℕ) : Type 0 where
+  pub place : ℕ
+  pub place_is : place_of_service name (behind c).services ≡ Some place
+  pub service : Service
+  pub service_is : slice_get (behind c).services place ≡ Some service
+  pub full : IsFull w service.dispatcher.core service.dispatcher.place
 
--- the dispatcher of the service that is wished for is full, or isn't there
-pub record IsServiceFull {c : TheConfig} {jobs : List Job} {limit : ℕ} {r : TheReport} (w : Reports c jobs limit r) (wish : Wish) : Type 0 where
-  pub registration : TheRegistration
-  pub registered : by_iref wish.opening.service.0 w.ran.parts.names ≡ Some registration
-  pub why : IsFull w registration.service.core.0 registration.service.dispatcher ⊎ HasNone w registration.service.core.0 registration.service
-
--- so it is of the job which opens binding n, or its client's dispatcher is full
+-- so is that of the service that is wished for, or the client's
 pub record IsCrowded {c : TheConfig} {jobs : List Job} {limit : ℕ} {r : TheReport} (w : Reports c jobs limit r) (n : ℕ) : Type 0 where
-  pub opener : Opener w n
-  pub why : IsFull w opener.bound.client opener.wish.dispatcher ⊎ IsServiceFull w opener.wish
+  pub asked : IsAsked c jobs n
+  pub why : IsFull w asked.wish.client.core asked.wish.client.place ⊎ IsServiceFull w asked.wish.service
 
 -- ---- law
 
 -- a binding is named as refused for a reason alone
 pub record HasReason {c : TheConfig} {jobs : List Job} {limit : ℕ} {r : TheReport} (w : Reports c jobs limit r) (n fault : ℕ) : Type 0 where
   pub reason : IsReason fault
-  pub unlinked : fault ≡ 73 → IsUnlinked w n
+  pub unlinked : fault ≡ 73 → IsUnlinked c jobs n
   pub spent : fault ≡ 74 → IsSpent w n
   pub crowded : fault ≡ 54 → IsCrowded w n
 

@@ -16,6 +16,7 @@ use fl_jobs::one_outcome;
 use fl_ring::SharedSide;
 use fl_running::{leads_at_first, sides_go};
 use fl_setups::set_ups_start_fresh;
+use fl_shows::names_are_shown;
 use fl_worlds::steps_agree;
 
 /// What each end is reported to have handled is the first of what the other end made, and what it made is the first of what was handed in for it: on every
@@ -32,11 +33,12 @@ pub fn runs_report_honestly()
 }
 
 /// A binding is told as refused for a reason alone: a dispatcher without a place (E54), a core of its route without a link that leads on (E73), or a link whose
-/// numbers are used up (E74); and each only where that is so: where the set-up made no link between two cores of its route, where a core of it gave all its
-/// numbers on a link, and where the client's or the service's dispatcher has 1,024 ends, or the service's isn't there.
+/// numbers are used up (E74); and each only where that is so of what its job wishes for: where the set-up made no link from some core of the route to the next,
+/// where a core of the route gave all its numbers on its link to the next, and where the client's dispatcher or the service's has 1,024 ends.
 pub fn refusals_have_reasons()
     ensures reasons { RefusalsHaveReasons }
 {
+    names_are_shown();
     set_ups_start_fresh();
     cores_go();
     dealt_go_on();
@@ -62,8 +64,8 @@ pub fn runs_end_as_told()
     reports_handle_few();
 }
 
-/// The report of a run of one core, in which no job opens a binding, is a function of the configuration, the jobs and the limit: what so many turns of the
-/// machine come to, from the state that the set-up leads to, with the rules of the jobs.
+/// The report of a run of one core is a function of the configuration, the jobs and the limit: what so many turns of the machine come to, from the state that
+/// the set-up leads to, with the rules of the jobs. No job opens a binding there, since a route has two cores.
 pub fn runs_of_one_core()
     ensures one { RunsOfOneCore }
 {

@@ -5,9 +5,9 @@
 //! and the run ended as is told (`specs/Endings.antt`), bindings being refused for the reasons that are told
 //! (`specs/Reasons.antt`). Behind each report stand cores as `fl_honest` and
 //! `fl_endings` speak of them (`specs/Outcomes.antt`), so it follows by their laws from what `fl_cores`
-//! tells of a run. With one core, where no job opens a binding, the report is a function of the
-//! configuration, the jobs and the limit: that of so many turns of the queue machine (`specs/OneCore.antt`,
-//! by the laws of `fl_alone`), so two runs of a file tell the same ([`one_report`], `specs/Again.antt`).
+//! tells of a run. With one core the report is a function of the configuration, the jobs and the limit:
+//! that of so many turns of the queue machine (`specs/OneCore.antt`, by the laws of `fl_alone`), so two runs
+//! of a file tell the same ([`one_report`], `specs/Again.antt`).
 //!
 //! - `run.rt`: cores, and a cores file, run
 //! - `outcomes.rt`: which cores stand behind a report, and what of the laws of endings holds of it

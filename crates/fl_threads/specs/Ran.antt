@@ -7,6 +7,7 @@ use Rattle.fl_dockets.specs.Fitting.{JobsFit}
 use Rattle.fl_dockets.specs.Rules.{RulesOf}
 use Rattle.fl_dockets.specs.State.{TheJoined, AreJoined}
 use Rattle.fl_dockets.specs.Whole.{AreBound, AreDue, IsBeside}
+use Rattle.fl_dockets.specs.Wished.{AreWished}
 use Rattle.fl_threads.specs.Begins.{TheStation, Places, common_in, AreStations}
 use Rattle.fl_threads.specs.Tells.{TheOutcome, RanTo, Each2, seats_left, HeardAsTold, Tells}
 use Rattle.fl_threads.specs.Shares.{Shares, AreSound}
@@ -37,6 +38,7 @@ pub record RanFrom (p : Parts) (jobs : List Job) (limit : ℕ) (r : TheReport) :
   pub are_joined : AreJoined (length p.cores.items) jobs joined
   pub are_bound : AreBound p.bindings.items jobs joined
   pub are_fit : JobsFit p.names p.programs.items joined
+  pub are_wished : AreWished p.names p.cores.items (length p.bindings.items) jobs joined
   pub are_due : AreDue jobs joined
   pub parts : Parts
   pub rules : RulesOf p.bindings.items jobs p.cores.items parts.cores.items

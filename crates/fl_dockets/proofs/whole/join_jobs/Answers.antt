@@ -5,6 +5,7 @@ use Rattle.fl_dockets.proofs.Fitting.{told_fits}
 use Rattle.fl_dockets.proofs.Keeping.{told_kept, all_joined}
 use Rattle.fl_dockets.proofs.Owed.{told_placed, all_due}
 use Rattle.fl_dockets.proofs.Stepwise.{told_bound}
+use Rattle.fl_dockets.proofs.Wished.{told_wished}
 use Rattle.fl_dockets.proofs.whole.join_jobs.Goals as goal
 
 pub returns-clause-joined : goal.returns-clause-joined
@@ -34,6 +35,11 @@ pub returns-clause-fits : goal.returns-clause-fits
 returns-clause-fits c =
     told_fits c.args.parts.now.names c.args.parts.now.programs.items _ (joined_of c.join_all.new.self) (joined_of c.set_dues.new.self)
     c.in_ok-join_all.ensures.fits c.set_dues.ensures.dues
+
+pub returns-clause-wished : goal.returns-clause-wished
+returns-clause-wished c =
+    told_wished c.args.parts.now.names c.args.parts.now.cores.items (length c.args.parts.now.bindings.items) (map job_of c.args.jobs.items) _
+    (joined_of c.join_all.new.self) (joined_of c.set_dues.new.self) c.in_ok-join_all.ensures.wished c.set_dues.ensures.dues
 
 pub join_all-requires-clause-none : goal.join_all-requires-clause-none
 join_all-requires-clause-none c = c.in-Ok.ensures.none

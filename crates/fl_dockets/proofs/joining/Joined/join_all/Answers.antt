@@ -1,10 +1,11 @@
-use Rattle.std.proofs.Common.{rules, refl, ◌∙◌, ℕ, sym, subst, map, length}
+use Rattle.std.proofs.Common.{rules, refl, ◌∙◌, ℕ, sym, subst, [], map, length}
 use Rattle.std.specs.Vec.Iter.{into_iter_items}
 use Rattle.fl_jobs.specs.Views.{job_of}
 use Rattle.fl_dockets.specs.State.{joined_of, AreJoined}
 use Rattle.fl_dockets.proofs.Fitting.{fits_turn, fits_none}
 use Rattle.fl_dockets.proofs.Keeping.{kept_turn, all_joined}
 use Rattle.fl_dockets.proofs.Stepwise.{joined_turn, bound_turn, rules_turn, count_of, place_turn, beside_still}
+use Rattle.fl_dockets.proofs.Wished.{wished_none, wished_turn}
 use Rattle.fl_dockets.proofs.Refusing.{left_turn, whole_of, first_refused, had_set}
 use Rattle.fl_dockets.proofs.joining.Joined.join_all.Goals as goal
 
@@ -13,6 +14,8 @@ loop-job-init c = record {
   joined = c.requires.joined;
   bound = c.requires.bound;
   kept = c.requires.kept;
+  wished = wished_none c.args.parts.now.names c.args.parts.now.cores.items (length c.args.parts.now.bindings.items) [] (joined_of c.args.self.now)
+      c.requires.none;
   fits = fits_none c.args.parts.now.names c.args.parts.now.programs.items (joined_of c.args.self.now) c.requires.none;
   rules = refl;
   count = refl;
@@ -32,6 +35,9 @@ loop-job-preserved c =
           c.loop-job.parts.cores.items (joined_of c.join_one.new.self) c.join_one.new.parts.cores.items joins i.bound;
       kept = kept_turn _ c.loop-job.yielded c.in-Some.job c.args.parts.now.bindings.items c.loop-job.parts.bindings.items (joined_of c.loop-job.self)
           c.loop-job.parts.cores.items (joined_of c.join_one.new.self) c.join_one.new.parts.cores.items i.beside.bindings joins i.joined i.kept;
+      wished = wished_turn c.args.parts.now.names c.loop-job.parts.names c.args.parts.now.bindings.items c.loop-job.parts.bindings.items c.loop-job.yielded
+          c.in-Some.job (joined_of c.loop-job.self) c.args.parts.now.cores.items c.loop-job.parts.cores.items (joined_of c.join_one.new.self)
+          c.join_one.new.parts.cores.items i.beside.names i.rules i.count joins c.in_default.ensures.wished i.bound i.wished;
       fits = fits_turn c.args.parts.now.names c.args.parts.now.programs.items c.loop-job.parts.names c.loop-job.parts.programs.items c.loop-job.parts.bindings.items
           (job_of c.in-Some.job) (joined_of c.loop-job.self) c.loop-job.parts.cores.items (joined_of c.join_one.new.self) c.join_one.new.parts.cores.items
           i.beside.names i.beside.programs joins c.in_default.ensures.fits i.fits;

@@ -6,6 +6,7 @@ use Rattle.fl_dockets.specs.Rules.{RulesOf}
 use Rattle.fl_dockets.specs.State.{joined_of, ArePlaced}
 use Rattle.fl_dockets.specs.Kept.{AreKept}
 use Rattle.fl_dockets.specs.Whole.{IsBeside, AreBound}
+use Rattle.fl_dockets.specs.Wished.{AreWished}
 use Rattle.fl_dockets.proofs.joining.Joined.join_all.Given as goal
 
 -- the jobs so far
@@ -14,6 +15,7 @@ invariant-loop-job l = record {
   joined : ArePlaced (length l.fn.parts.cores.items) (map job_of l.yielded) (joined_of l.self);
   bound : AreBound l.fn.parts.bindings.items (map job_of l.yielded) (joined_of l.self);
   kept : AreKept l.fn.parts.bindings.items (map job_of l.yielded) (joined_of l.self);
+  wished : AreWished l.fn.parts.names l.fn.parts.cores.items (length l.fn.parts.bindings.items) (map job_of l.yielded) (joined_of l.self);
   fits : JobsFit l.fn.parts.names l.fn.parts.programs.items (joined_of l.self);
   rules : RulesOf l.fn.parts.bindings.items (map job_of l.yielded) l.fn.parts.cores.items l.parts.cores.items;
   count : length l.parts.cores.items ≡ length l.fn.parts.cores.items;

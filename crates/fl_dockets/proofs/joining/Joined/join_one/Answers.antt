@@ -4,12 +4,19 @@ use Rattle.fl_value.specs.Value.{call_of}
 use Rattle.fl_dockets.specs.State.{joined_of}
 use Rattle.fl_dockets.proofs.Fitting.{call_fits}
 use Rattle.fl_dockets.proofs.Refusing.{rule_stops, call_stops}
+use Rattle.fl_dockets.proofs.Wished.{nothing_wished}
 use Rattle.fl_dockets.proofs.joining.Joined.join_one.Goals as goal
 
 pub returns-in-Reply-clause-refused : goal.returns-in-Reply-clause-refused
 returns-in-Reply-clause-refused c =
     rw c.in-Reply.is (rule_stops c.rule.result (length c.args.parts.now.cores.items) c.args.parts.now (joined_of c.args.self.now) c.in-Reply.end
     c.in-Reply.message.0 c.in-Reply.answer.0 c.rule.ensures.refused)
+
+pub returns-in-Reply-clause-wished : goal.returns-in-Reply-clause-wished
+returns-in-Reply-clause-wished c = rw c.in-Reply.is (nothing_wished c.rule.result)
+
+pub returns-in-Call-clause-wished : goal.returns-in-Call-clause-wished
+returns-in-Call-clause-wished c = rw c.in-Call.is (nothing_wished c.plan_call.result)
 
 pub returns-in-Call-clause-joins : goal.returns-in-Call-clause-joins
 returns-in-Call-clause-joins c = rw c.in-Call.is (on_ok_weaker c.plan_call.result (λ p. ((c.in-Call.call, refl, p), refl)) c.plan_call.ensures.planned)

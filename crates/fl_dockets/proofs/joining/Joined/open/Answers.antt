@@ -1,7 +1,7 @@
 use Rattle.std.proofs.Common.{refl, ◌∙◌, ap, subst, ◌<◌, List, length, Some}
 use Rattle.fl_node.specs.View.{client_of}
 use Rattle.fl_dockets.specs.declared.docket.Bound.{Bound}
-use Rattle.fl_dockets.specs.State.{joined_of}
+use Rattle.fl_dockets.specs.State.{TheJoined, joined_of}
 use Rattle.fl_dockets.proofs.Fitting.{opening_fits}
 use Rattle.fl_dockets.proofs.joining.Joined.open.Goals as goal
 
@@ -41,3 +41,28 @@ returns-clause-fits c =
     opening_fits c.args.parts.now.names c.args.parts.now.programs.items (joined_of c.args.self.now) (joined_of c.add_opening.new.self)
     (client_of (length c.args.self.now.bindings.items)) bound c.in_ok-asked.asked.wish c.in_ok-add_opening.ensures.added
     (asked.binding ∙ ap (λ bindings. length bindings) c.as_slice-binding.ensures.value) asked.program asked.offered
+
+pub returns-clause-wished : goal.returns-clause-wished
+returns-clause-wished c =
+    let asked = c.in_ok-asked.ensures in
+    let bound : Bound = record {
+      interface = c.args.wish.now.interface;
+      client = c.in_ok-asked.asked.client;
+      server = c.in_ok-asked.asked.server;
+      opened = Some (length c.as_slice.result.now);
+    } in
+    record {
+      bound = bound;
+      wish = c.in_ok-asked.asked.wish;
+      bindings = ap (λ (t : TheJoined). t.bindings) c.in_ok-add_opening.ensures.added;
+      jobs = ap (λ (t : TheJoined). t.jobs) c.in_ok-add_opening.ensures.added;
+      binding = asked.binding ∙ ap (λ bindings. length bindings) c.as_slice-binding.ensures.value;
+      client = asked.owner;
+      asks = record {
+        dispatcher = asked.dispatcher;
+        interface = asked.program;
+        service = asked.named;
+        route = asked.route;
+        begins = asked.begins;
+      };
+    }
