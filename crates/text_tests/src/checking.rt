@@ -232,29 +232,39 @@ const REPEATED: &[Repeated] = &[
     ),
 ];
 
-// The item with its numbers.
-fn push_items(
-    alloc: Global,
-    text: &mut Vec<u8>,
-    before: &str,
-    behind: &str,
-    count: u16,
-) -> Result<(), AllocError> {
-    for number in 100..100 + u32::from(count) {
-        let digits = number.to_string(alloc)?;
-        text.extend_from_slice(before.as_bytes())?;
-        text.extend_from_slice(digits.as_bytes())?;
-        text.extend_from_slice(behind.as_bytes())?;
+// Puts pieces behind a text.
+fn push_all(text: &mut Vec<u8>, pieces: &[&[u8]]) -> Result<(), AllocError> {
+    for piece in pieces {
+        text.extend_from_slice(piece)?;
     }
     Ok(())
 }
 
+fn push_items(alloc: Global, text: &mut Vec<u8>, row: &Repeated) -> Result<(), AllocError> {
+    push_all(text, &[row.0.as_bytes()])?;
+    for number in 100..100 + u32::from(row.3) {
+        let digits = number.to_string(alloc)?;
+        push_all(
+            text,
+            &[row.1.as_bytes(), digits.as_bytes(), row.2.as_bytes()],
+        )?;
+    }
+    push_all(text, &[row.4.as_bytes()])
+}
+
+// This fault at an offset, if there is one.
+fn fault_at(number: u8, offset: Option<usize>) -> Option<(u8, Option<usize>)> {
+    match offset {
+        Some(_) => Some((number, offset)),
+        None => None,
+    }
+}
+
 impl Row for Repeated {
     fn holds(&self, alloc: Global) -> Result<bool, Fail> {
-        let mut text = self.0.as_bytes().to_vec(alloc)?;
-        push_items(alloc, &mut text, self.1, self.2, self.3)?;
-        text.extend_from_slice(self.4.as_bytes())?;
-        Ok(fault(alloc, &text) == self.5.map(|at| (19, Some(at))))
+        let mut text = Vec::new(alloc);
+        push_items(alloc, &mut text, self)?;
+        Ok(fault(alloc, &text) == fault_at(19, self.5))
     }
 }
 
@@ -275,28 +285,29 @@ const NESTED: &[Nested] = &[
 
 const NAMES: &[u8] = b"abcdefghijklmnopq";
 
-fn nest(alloc: Global, kinds: &str) -> Result<Vec<u8>, AllocError> {
-    let mut text = b"interface i { ".to_vec(alloc)?;
+fn push_type(text: &mut Vec<u8>, kind: u8, inner: &[u8], name: &[u8]) -> Result<(), AllocError> {
+    if kind == b'a' {
+        push_all(text, &[b"typedef ", inner, b" ", name, b"[1]; "])
+    } else {
+        push_all(text, &[b"typedef struct { ", inner, b" x; } ", name, b"; "])
+    }
+}
+
+fn push_types(text: &mut Vec<u8>, kinds: &str) -> Result<(), AllocError> {
+    push_all(text, &[b"interface i { "])?;
     let mut inner = b"bool".as_slice();
     for (kind, name) in kinds.as_bytes().iter().zip(NAMES.chunks(1)) {
-        let [begin, between, end] = if *kind == b'a' {
-            [b"typedef ".as_slice(), b" ", b"[1]; "]
-        } else {
-            [b"typedef struct { ".as_slice(), b" x; } ", b"; "]
-        };
-        for piece in [begin, inner, between, name, end] {
-            text.extend_from_slice(piece)?;
-        }
+        push_type(text, *kind, inner, name)?;
         inner = name;
     }
-    text.push(b'}')?;
-    Ok(text)
+    push_all(text, &[b"}"])
 }
 
 impl Row for Nested {
     fn holds(&self, alloc: Global) -> Result<bool, Fail> {
-        let text = nest(alloc, self.0)?;
-        Ok(fault(alloc, &text) == self.1.map(|at| (17, Some(at))))
+        let mut text = Vec::new(alloc);
+        push_types(&mut text, self.0)?;
+        Ok(fault(alloc, &text) == fault_at(17, self.1))
     }
 }
 

@@ -105,35 +105,42 @@ impl Row for Worded {
     }
 }
 
-// Names have 64 bytes at most, and words in a text too.
-fn words_end_at_64_bytes(alloc: Global) -> bool {
+// Names have 64 bytes at most, words any number.
+fn names_end_at_64_bytes() -> bool {
     let word = [b'w'; 65];
-    is_name(&word[..64])
-        && is_word(&word)
-        && !is_name(&word)
-        && fault_of(alloc, &word[..64]) == (0, None)
-        && fault_of(alloc, &word) == (4, Some(0))
+    is_name(&word[..64]) && is_word(&word) && !is_name(&word)
 }
 
-fn texts_end_at_65536_bytes(alloc: Global) -> Result<bool, Fail> {
-    let longest = vec![in alloc; b';'; MAX_TEXT]?;
-    let longer = vec![in alloc; b'-'; MAX_TEXT + 1]?;
-    Ok(fault_of(alloc, &longest) == (0, None) && fault_of(alloc, &longer) == (6, Some(65_536)))
+// A byte so many times, and the fault's number and place; 0 where it has tokens.
+struct Filled(u8, usize, u8, Option<usize>);
+
+const FILLED: &[Filled] = &[
+    // a word ends at 64 bytes
+    Filled(b'w', 64, 0, None),
+    Filled(b'w', 65, 4, Some(0)),
+    // and a text at 65,536, before any other fault
+    Filled(b';', MAX_TEXT, 0, None),
+    Filled(b'-', MAX_TEXT + 1, 6, Some(65_536)),
+];
+
+impl Row for Filled {
+    fn holds(&self, alloc: Global) -> Result<bool, Fail> {
+        let text = vec![in alloc; self.0; self.1]?;
+        Ok(fault_of(alloc, &text) == (self.2, self.3))
+    }
 }
 
 #[derive(Clone, Copy)]
 enum Example {
     Tokens,
-    LongWords,
-    LongTexts,
+    Names,
 }
 
 impl Row for Example {
     fn holds(&self, alloc: Global) -> Result<bool, Fail> {
         match self {
             Example::Tokens => has_tokens(alloc),
-            Example::LongWords => Ok(words_end_at_64_bytes(alloc)),
-            Example::LongTexts => texts_end_at_65536_bytes(alloc),
+            Example::Names => Ok(names_end_at_64_bytes()),
         }
     }
 }
@@ -142,9 +149,6 @@ impl Row for Example {
 fn lexing(rt: HostRuntime) -> Result<(), Fail> {
     all_hold(rt.alloc(), "faults", FAULTS)?;
     all_hold(rt.alloc(), "words", WORDS)?;
-    all_hold(
-        rt.alloc(),
-        "examples",
-        &[Example::Tokens, Example::LongWords, Example::LongTexts],
-    )
+    all_hold(rt.alloc(), "one byte many times", FILLED)?;
+    all_hold(rt.alloc(), "examples", &[Example::Tokens, Example::Names])
 }
