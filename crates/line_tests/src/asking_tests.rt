@@ -1,105 +1,171 @@
 //! What commands ask by the names so far, and in which order they are refused.
 
+use crate::names::{interface, names_of};
+use crate::rows::{Row, all_hold};
 use fl_base::{EndId, Side};
-use fl_check::{Interface, TextFault, check};
-use fl_lex::lex;
+use fl_check::Interface;
 use fl_lines::{
-    Answer, BackEnd, DispatcherId, Event, Line, LineFault, Names, Naming, names_of_interface,
-    one_asked, parse_line,
+    Answer, BackEnd, DispatcherId, Event, Line, LineFault, Names, one_asked, parse_line,
 };
-use fl_parse::parse;
 use fl_value::PlanNo;
 use std::alloc::{AllocError, Global};
 use std::test::Fail;
 
 const TEXT: &[u8] = b"interface i { message ping(uint32 v); rpc echo(in uint32 x, out uint32 y); }";
 
-// Lines, and what each asks by the names that those before it gave, were each answered `ok`.
-const ASKED: [(&[u8], &[u8]); 38] = [
-    (b"cores 2", b"cores 2"),
-    (b"link 0 1 4", b"link 0 1 4"),
-    (b"disp d 0", b"disp 0"),
-    (b"disp d 1", b"refused 92"),
-    (b"disp e 1", b"disp 1"),
-    (b"disp f 0", b"disp 0"),
-    (b"disp g 999999999", b"disp 999999999"),
-    (b"export s e i", b"export 1 0 0 s"),
-    (b"export s f i", b"export 0 1 0 s"),
-    (b"export s x i", b"refused 92"),
-    (b"export s e j", b"refused 92"),
-    (b"bind p d i s local 4", b"bind 0 0 0 0 4 s"),
-    (b"bind p d i s local 4", b"refused 92"),
-    (b"bind q f i t ump 8", b"bind 0 1 0 1 8 t"),
-    (b"bind r d i s hop 0 1", b"bind 0 0 0 2 0 s"),
-    (b"bind t x i s ump 4", b"refused 92"),
-    (b"bind t d x s ump 4", b"refused 92"),
-    (b"call p.c ping(7)", b"call 0 0 0 1"),
-    (b"call q.s echo_response(1, 2, 3)", b"call 1 1 2 3"),
+// A line, and what it asks by the names that those before it gave, were each answered `ok`: a word, numbers and a name; or the number of its
+// fault.
+struct Asked(
+    &'static [u8],
+    &'static [u8],
+    &'static [usize],
+    &'static [u8],
+);
+
+const ASKED: &[Asked] = &[
+    Asked(b"cores 2", b"cores", &[2], b""),
+    Asked(b"link 0 1 4", b"link", &[0, 1, 4], b""),
+    Asked(b"disp d 0", b"disp", &[0], b""),
+    Asked(b"disp d 1", b"refused", &[92], b""),
+    Asked(b"disp e 1", b"disp", &[1], b""),
+    Asked(b"disp f 0", b"disp", &[0], b""),
+    Asked(b"disp g 999999999", b"disp", &[999_999_999], b""),
+    Asked(b"export s e i", b"export", &[1, 0, 0], b"s"),
+    Asked(b"export s f i", b"export", &[0, 1, 0], b"s"),
+    Asked(b"export s x i", b"refused", &[92], b""),
+    Asked(b"export s e j", b"refused", &[92], b""),
+    Asked(b"bind p d i s local 4", b"bind", &[0, 0, 0, 0, 4], b"s"),
+    Asked(b"bind p d i s local 4", b"refused", &[92], b""),
+    Asked(b"bind q f i t ump 8", b"bind", &[0, 1, 0, 1, 8], b"t"),
+    Asked(b"bind r d i s hop 0 1", b"bind", &[0, 0, 0, 2, 0], b"s"),
+    Asked(b"bind t x i s ump 4", b"refused", &[92], b""),
+    Asked(b"bind t d x s ump 4", b"refused", &[92], b""),
+    Asked(b"call p.c ping(7)", b"call", &[0, 0, 0, 1], b""),
+    Asked(
+        b"call q.s echo_response(1, 2, 3)",
+        b"call",
+        &[1, 1, 2, 3],
+        b"",
+    ),
     // no call's text comes before an unknown end, and that before an unknown message
-    (b"call x.c ping(7", b"refused 90"),
-    (b"call p.c", b"refused 90"),
-    (b"call x.c pong(7)", b"refused 92"),
-    (b"call p.c pong(7)", b"refused 41"),
-    (b"call p.c echo(7)", b"refused 41"),
-    (b"show r.c", b"show 2 0"),
-    (b"write q.s", b"write 1 1"),
-    (b"turn e", b"turn 1 0"),
-    (b"turn p", b"refused 92"),
-    (b"ack p.s", b"ack 0 1"),
-    (b"register p.c", b"register 0 0"),
-    (b"deregister t.c", b"refused 92"),
-    (b"reply p.s echo_call echo_response", b"reply 0 1 1 2"),
-    (b"reply x.s pong ping", b"refused 92"),
-    (b"reply p.s pong ping", b"refused 41"),
-    (b"reply p.s ping pong", b"refused 41"),
-    (b"mwrite 0 1", b"mwrite 0 1"),
-    (b"forward 1 0", b"forward 1 0"),
-    (b"mack 2 1", b"mack 2 1"),
+    Asked(b"call x.c ping(7", b"refused", &[90], b""),
+    Asked(b"call p.c", b"refused", &[90], b""),
+    Asked(b"call x.c pong(7)", b"refused", &[92], b""),
+    Asked(b"call p.c pong(7)", b"refused", &[41], b""),
+    Asked(b"call p.c echo(7)", b"refused", &[41], b""),
+    Asked(b"show r.c", b"show", &[2, 0], b""),
+    Asked(b"write q.s", b"write", &[1, 1], b""),
+    Asked(b"turn e", b"turn", &[1, 0], b""),
+    Asked(b"turn p", b"refused", &[92], b""),
+    Asked(b"ack p.s", b"ack", &[0, 1], b""),
+    Asked(b"register p.c", b"register", &[0, 0], b""),
+    Asked(b"deregister t.c", b"refused", &[92], b""),
+    Asked(
+        b"reply p.s echo_call echo_response",
+        b"reply",
+        &[0, 1, 1, 2],
+        b"",
+    ),
+    Asked(b"reply x.s pong ping", b"refused", &[92], b""),
+    Asked(b"reply p.s pong ping", b"refused", &[41], b""),
+    Asked(b"reply p.s ping pong", b"refused", &[41], b""),
+    Asked(b"mwrite 0 1", b"mwrite", &[0, 1], b""),
+    Asked(b"forward 1 0", b"forward", &[1, 0], b""),
+    Asked(b"mack 2 1", b"mack", &[2, 1], b""),
 ];
 
-fn interface(alloc: Global, text: &[u8]) -> Result<Interface, TextFault> {
-    let tokens = lex(alloc, text)?;
-    let tree = parse(alloc, &tokens)?;
-    Ok(check(alloc, &tree)?)
-}
-
-// A word, and numbers behind it.
-fn say(alloc: Global, word: &[u8], numbers: &[usize]) -> Result<Vec<u8>, AllocError> {
-    let mut said = Vec::from_slice(alloc, word)?;
-    for number in numbers {
-        let number = *number;
-        let text = format!(in alloc; " {number}")?;
-        said.extend_from_slice(text.as_bytes())?;
+impl Asked {
+    fn is(&self, word: &[u8], numbers: &[usize], name: &[u8]) -> bool {
+        self.1 == word && self.2 == numbers && self.3 == name
     }
-    Ok(said)
-}
 
-fn say_end(alloc: Global, word: &[u8], end: EndId) -> Result<Vec<u8>, AllocError> {
-    let side = match end.side {
-        Side::Client => 0,
-        Side::Server => 1,
-    };
-    say(alloc, word, &[end.binding, side])
-}
-
-fn say_of(alloc: Global, said: Vec<u8>, name: &[u8]) -> Result<Vec<u8>, AllocError> {
-    let mut said = said;
-    said.extend_from_slice(b" ")?;
-    said.extend_from_slice(name)?;
-    Ok(said)
-}
-
-// The kind of a back end, and its slots.
-fn numbers_of(back_end: BackEnd<'_>) -> (usize, usize) {
-    match back_end {
-        BackEnd::Local(slots) => (0, slots as usize),
-        BackEnd::Ump(slots) => (1, slots as usize),
-        BackEnd::Hop(route) => (2, route.first as usize),
+    fn is_at(&self, word: &[u8], end: EndId) -> bool {
+        self.is(word, &[end.binding, side_of(end)], b"")
     }
-}
 
-fn say_cores(alloc: Global, word: &[u8], core: u32, other: u32) -> Result<Vec<u8>, AllocError> {
-    say(alloc, word, &[core as usize, other as usize])
+    fn is_between(&self, word: &[u8], core: u32, other: u32) -> bool {
+        self.is(word, &[core as usize, other as usize], b"")
+    }
+
+    fn is_bind(
+        &self,
+        client: DispatcherId,
+        interface: usize,
+        service: &[u8],
+        to: BackEnd<'_>,
+    ) -> bool {
+        let (kind, slots) = numbers_of(to);
+        self.is(
+            b"bind",
+            &[client.core as usize, client.place, interface, kind, slots],
+            service,
+        )
+    }
+
+    fn is_event(&self, event: &Event<'_>) -> bool {
+        match event {
+            Event::AddInterface { .. } => false,
+            Event::SetCores(n) => self.is(b"cores", &[*n as usize], b""),
+            Event::AddLink { a, b, slots } => {
+                self.is(b"link", &[*a as usize, *b as usize, *slots as usize], b"")
+            }
+            Event::AddDispatcher(core) => self.is(b"disp", &[*core as usize], b""),
+            Event::Export {
+                name,
+                dispatcher,
+                interface,
+            } => self.is(
+                b"export",
+                &[dispatcher.core as usize, dispatcher.place, *interface],
+                name,
+            ),
+            Event::Bind {
+                client,
+                interface,
+                service,
+                back_end,
+            } => self.is_bind(*client, *interface, service, *back_end),
+            Event::Call(end, call) => self.is(
+                b"call",
+                &[
+                    end.binding,
+                    side_of(*end),
+                    usize::from(call.msg.0),
+                    call.args.len(),
+                ],
+                b"",
+            ),
+            Event::Show(end) => self.is_at(b"show", *end),
+            Event::Write(end) => self.is_at(b"write", *end),
+            Event::Turn(dispatcher) => {
+                self.is(b"turn", &[dispatcher.core as usize, dispatcher.place], b"")
+            }
+            Event::Acknowledge(end) => self.is_at(b"ack", *end),
+            Event::Register(end) => self.is_at(b"register", *end),
+            Event::Deregister(end) => self.is_at(b"deregister", *end),
+            Event::Reply {
+                end,
+                message,
+                answer,
+            } => self.is(
+                b"reply",
+                &[
+                    end.binding,
+                    side_of(*end),
+                    usize::from(message.0),
+                    usize::from(answer.0),
+                ],
+                b"",
+            ),
+            Event::MonitorWrite { core, neighbour } => self.is_between(
+                b"mwrite", *core, *neighbour,
+            ),
+            Event::Forward { core, neighbour } => self.is_between(b"forward", *core, *neighbour),
+            Event::MonitorAcknowledge { core, neighbour } => {
+                self.is_between(b"mack", *core, *neighbour)
+            }
+        }
+    }
 }
 
 fn side_of(end: EndId) -> usize {
@@ -109,106 +175,45 @@ fn side_of(end: EndId) -> usize {
     }
 }
 
-fn event_words(alloc: Global, event: &Event<'_>) -> Result<Vec<u8>, AllocError> {
-    match event {
-        Event::AddInterface { .. } => say(alloc, b"interface", &[]),
-        Event::SetCores(n) => say(alloc, b"cores", &[*n as usize]),
-        Event::AddLink { a, b, slots } => {
-            say(alloc, b"link", &[*a as usize, *b as usize, *slots as usize])
-        }
-        Event::AddDispatcher(core) => say(alloc, b"disp", &[*core as usize]),
-        Event::Export {
-            name,
-            dispatcher: DispatcherId { core, place },
-            interface,
-        } => {
-            let said = say(alloc, b"export", &[*core as usize, *place, *interface])?;
-            say_of(alloc, said, name)
-        }
-        Event::Bind {
-            client: DispatcherId { core, place },
-            interface,
-            service,
-            back_end,
-        } => {
-            let (kind, slots) = numbers_of(*back_end);
-            let said = say(
-                alloc,
-                b"bind",
-                &[*core as usize, *place, *interface, kind, slots],
-            )?;
-            say_of(alloc, said, service)
-        }
-        Event::Call(end, call) => say(
-            alloc,
-            b"call",
-            &[
-                end.binding,
-                side_of(*end),
-                usize::from(call.msg.0),
-                call.args.len(),
-            ],
-        ),
-        Event::Show(end) => say_end(alloc, b"show", *end),
-        Event::Write(end) => say_end(alloc, b"write", *end),
-        Event::Turn(DispatcherId { core, place }) => say(alloc, b"turn", &[*core as usize, *place]),
-        Event::Acknowledge(end) => say_end(alloc, b"ack", *end),
-        Event::Register(end) => say_end(alloc, b"register", *end),
-        Event::Deregister(end) => say_end(alloc, b"deregister", *end),
-        Event::Reply {
-            end,
-            message,
-            answer,
-        } => say(
-            alloc,
-            b"reply",
-            &[
-                end.binding,
-                side_of(*end),
-                usize::from(message.0),
-                usize::from(answer.0),
-            ],
-        ),
-        Event::MonitorWrite { core, neighbour } => say_cores(alloc, b"mwrite", *core, *neighbour),
-        Event::Forward { core, neighbour } => say_cores(alloc, b"forward", *core, *neighbour),
-        Event::MonitorAcknowledge { core, neighbour } => {
-            say_cores(alloc, b"mack", *core, *neighbour)
-        }
+// The kind of a back end, and its slots; of a route the first core.
+fn numbers_of(back_end: BackEnd<'_>) -> (usize, usize) {
+    match back_end {
+        BackEnd::Local(slots) => (0, slots as usize),
+        BackEnd::Ump(slots) => (1, slots as usize),
+        BackEnd::Hop(route) => (2, route.first as usize),
     }
 }
 
-// What a line asks; its name is taken up, as after `ok`.
-fn told(alloc: Global, names: &mut Names, line: &[u8]) -> Result<Vec<u8>, AllocError> {
-    let Line::Command(command) = parse_line(line) else {
-        return say(alloc, b"unread", &[]);
+// Whether a line asks so; its name is taken up, as after `ok`.
+fn asks_so(names: &mut Names, row: &Asked) -> Result<bool, AllocError> {
+    let Line::Command(command) = parse_line(row.0) else {
+        return Ok(false);
     };
     match names.ask(command) {
-        Err(fault) => say(alloc, b"refused", &[usize::from(fault.number())]),
+        Err(fault) => Ok(row.is(b"refused", &[usize::from(fault.number())], b"")),
         Ok(asked) => {
-            let words = event_words(alloc, &asked.event)?;
+            let is_so = row.is_event(&asked.event);
             names.take_up(asked.naming, &Answer::Done)?;
-            Ok(words)
+            Ok(is_so)
         }
     }
 }
 
-fn names_with(alloc: Global, interface: &Interface) -> Result<Names, AllocError> {
-    let mut names = Names::new(alloc);
-    let new = names_of_interface(alloc, interface)?;
-    names.take_up(Naming::Interface(new), &Answer::Done)?;
-    Ok(names)
+// Tells which line is the first that doesn't ask so, one after another.
+fn ask_so(names: &mut Names, rows: &[Asked]) -> Result<(), Fail> {
+    for (index, row) in rows.iter().enumerate() {
+        if !asks_so(names, row)? {
+            return Err(Fail::new(format_args!(
+                "line {index}, counted from 0, asks something else"
+            )));
+        }
+    }
+    Ok(())
 }
 
-#[test]
-fn commands_ask_by_names(rt: HostRuntime) -> Result<(), Fail> {
-    let one = interface(rt.alloc(), TEXT)?;
-    let mut names = names_with(rt.alloc(), &one)?;
-    for (line, words) in ASKED {
-        let got = told(rt.alloc(), &mut names, line)?;
-        assert_eq!(rt; (line, got.as_slice()), (line, words));
-    }
-    one_asked();
-    Ok(())
+fn commands_ask_by_names(alloc: Global) -> Result<(), Fail> {
+    let mut names = names_of(alloc, TEXT)?;
+    ask_so(&mut names, ASKED)
 }
 
 // The number of the fault of an interface's block.
@@ -219,23 +224,54 @@ fn fault_of(names: &Names, interface: Interface) -> Option<u8> {
     }
 }
 
-#[test]
-fn an_interface_is_named_once(rt: HostRuntime) -> Result<(), Fail> {
-    let none = Names::new(rt.alloc());
-    assert_eq!(rt; fault_of(&none, interface(rt.alloc(), TEXT)?), None);
-    let one = interface(rt.alloc(), TEXT)?;
-    let names = names_with(rt.alloc(), &one)?;
-    assert_eq!(rt; fault_of(&names, one), Some(92));
-    let other = interface(rt.alloc(), b"interface ii { }")?;
-    assert_eq!(rt; fault_of(&names, other), None);
-    Ok(())
+// The text of an interface that has been named, if one has; another's; and the number of the fault of that.
+struct Named(Option<&'static [u8]>, &'static [u8], Option<u8>);
+
+const NAMED: &[Named] = &[
+    Named(None, TEXT, None),
+    Named(Some(TEXT), TEXT, Some(92)),
+    Named(Some(TEXT), b"interface ii { }", None),
+];
+
+fn names_before(alloc: Global, text: Option<&[u8]>) -> Result<Names, Fail> {
+    match text {
+        Some(text) => names_of(alloc, text),
+        None => Ok(Names::new(alloc)),
+    }
+}
+
+fn answers(alloc: Global, names: &Names, row: &Named) -> Result<bool, Fail> {
+    let other = interface(alloc, row.1)?;
+    Ok(fault_of(names, other) == row.2)
+}
+
+impl Row for Named {
+    fn holds(&self, alloc: Global) -> Result<bool, Fail> {
+        let names = names_before(alloc, self.0)?;
+        answers(alloc, &names, self)
+    }
+}
+
+// A fault and its number.
+struct Numbered(LineFault, u8);
+
+const NUMBERED: &[Numbered] = &[
+    Numbered(LineFault::NotACall, 90),
+    Numbered(LineFault::Name, 92),
+    Numbered(LineFault::NoSuchMessage, 41),
+    Numbered(LineFault::Memory, 99),
+];
+
+impl Row for Numbered {
+    fn holds(&self, _alloc: Global) -> Result<bool, Fail> {
+        Ok(self.0.number() == self.1)
+    }
 }
 
 #[test]
-fn faults_have_numbers(rt: HostRuntime) -> Result<(), Fail> {
-    assert_eq!(rt; LineFault::NotACall.number(), 90);
-    assert_eq!(rt; LineFault::Name.number(), 92);
-    assert_eq!(rt; LineFault::NoSuchMessage.number(), 41);
-    assert_eq!(rt; LineFault::Memory.number(), 99);
-    Ok(())
+fn commands_ask(rt: HostRuntime) -> Result<(), Fail> {
+    one_asked();
+    commands_ask_by_names(rt.alloc())?;
+    all_hold(rt.alloc(), "interfaces", NAMED)?;
+    all_hold(rt.alloc(), "faults", NUMBERED)
 }

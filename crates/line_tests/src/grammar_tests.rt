@@ -1,5 +1,6 @@
 //! What lines spell, and which are not read.
 
+use crate::rows::{Row, all_hold};
 use fl_lines::{
     BackEnd, Command, Line, one_line, parse_line, print_command, printed_reads, spelled_reads,
 };
@@ -8,95 +9,118 @@ use std::alloc::{AllocError, Global};
 use std::test::Fail;
 
 // A line, and its command as it is printed.
-const SPELLED: [(&[u8], &[u8]); 26] = [
-    (b"cores 2", b"cores 2"),
-    (b"cores 999999999", b"cores 999999999"),
-    (b"  link\t0 1   4 ", b"link 0 1 4"),
-    (b"disp d 007", b"disp d 7"),
-    (b"disp _9 000000000", b"disp _9 0"),
-    (b"export s d i", b"export s d i"),
-    (b"export idl disp call", b"export idl disp call"),
-    (b"bind p d i s local 4", b"bind p d i s local 4"),
-    (b"bind p d i s ump 8", b"bind p d i s ump 8"),
-    (b"bind p d i s hop 0 1 2", b"bind p d i s hop 0 1 2"),
-    (b"bind p d i s  hop\t3", b"bind p d i s hop 3"),
-    (
+struct Spelled(&'static [u8], &'static [u8]);
+
+const SPELLED: &[Spelled] = &[
+    Spelled(b"cores 2", b"cores 2"),
+    Spelled(b"cores 999999999", b"cores 999999999"),
+    Spelled(b"  link\t0 1   4 ", b"link 0 1 4"),
+    Spelled(b"disp d 007", b"disp d 7"),
+    Spelled(b"disp _9 000000000", b"disp _9 0"),
+    Spelled(b"export s d i", b"export s d i"),
+    Spelled(b"export idl disp call", b"export idl disp call"),
+    Spelled(b"bind p d i s local 4", b"bind p d i s local 4"),
+    Spelled(b"bind p d i s ump 8", b"bind p d i s ump 8"),
+    Spelled(b"bind p d i s hop 0 1 2", b"bind p d i s hop 0 1 2"),
+    Spelled(b"bind p d i s  hop\t3", b"bind p d i s hop 3"),
+    Spelled(
         b"bind local ump hop s hop 00 01 ",
         b"bind local ump hop s hop 0 1",
     ),
-    (b"call p.c ping(7)", b"call p.c ping(7)"),
+    Spelled(b"call p.c ping(7)", b"call p.c ping(7)"),
     // a call's text is what stands behind its end, and is looked at later
-    (b"call p.s   ping( 7", b"call p.s ping( 7"),
-    (b"call p.s", b"call p.s "),
-    (b"show p.c", b"show p.c"),
-    (b"write c.s\t", b"write c.s"),
-    (b"turn d", b"turn d"),
-    (b"ack p.s", b"ack p.s"),
-    (b"register p.c", b"register p.c"),
-    (b"deregister p.c", b"deregister p.c"),
-    (
+    Spelled(b"call p.s   ping( 7", b"call p.s ping( 7"),
+    Spelled(b"call p.s", b"call p.s "),
+    Spelled(b"show p.c", b"show p.c"),
+    Spelled(b"write c.s\t", b"write c.s"),
+    Spelled(b"turn d", b"turn d"),
+    Spelled(b"ack p.s", b"ack p.s"),
+    Spelled(b"register p.c", b"register p.c"),
+    Spelled(b"deregister p.c", b"deregister p.c"),
+    Spelled(
         b"reply p.s echo_call echo_response",
         b"reply p.s echo_call echo_response",
     ),
-    (b"mwrite 0 1", b"mwrite 0 1"),
-    (b"forward 15 0", b"forward 15 0"),
-    (b"mack 2 1", b"mack 2 1"),
-    (
+    Spelled(b"mwrite 0 1", b"mwrite 0 1"),
+    Spelled(b"forward 15 0", b"forward 15 0"),
+    Spelled(b"mack 2 1", b"mack 2 1"),
+    Spelled(
         b"turn aaaaaaaaaaaaaaaaaaaaaaaaaaaaaaaaaaaaaaaaaaaaaaaaaaaaaaaaaaaaaaaa",
         b"turn aaaaaaaaaaaaaaaaaaaaaaaaaaaaaaaaaaaaaaaaaaaaaaaaaaaaaaaaaaaaaaaa",
     ),
 ];
 
-// Lines that aren't read.
-const UNREAD: [&[u8]; 33] = [
-    b"cores",
-    b"cores x",
-    b"cores 1 2",
-    b"cores 1234567890",
-    b"cores -1",
-    b"cores +1",
-    b"core 1",
-    b"coress 1",
-    b"Cores 1",
-    b"idl 2",
-    b"idl 01",
-    b"idl 1 1",
-    b"idl x",
-    b"link 0 1",
-    b"link 0 1 4 4",
-    b"disp d",
-    b"disp 9d 0",
-    b"disp d-e 0",
-    b"disp d 0 # zero",
-    b"export s d",
-    b"bind p d i s hop",
-    b"bind p d i s hop 0 x",
-    b"bind p d i s tcp 4",
-    b"bind p d i s local",
-    b"bind p d i s local 4 4",
-    b"call p ping(7)",
-    b"show p.x",
-    b"show .c",
-    b"show p.c.s",
-    b"turn d\r",
-    b"reply p.s echo_call",
-    b"mack 2",
-    b"turn aaaaaaaaaaaaaaaaaaaaaaaaaaaaaaaaaaaaaaaaaaaaaaaaaaaaaaaaaaaaaaaaa",
+// Which kind a line is of.
+struct Kind(&'static [u8], u8);
+
+// 0 for a line without an answer, 1 and 2 for the head of a block under a plan, 3 for a command, 4 for the rest.
+const KINDS: &[Kind] = &[
+    // lines that aren't read
+    Kind(b"cores", 4),
+    Kind(b"cores x", 4),
+    Kind(b"cores 1 2", 4),
+    Kind(b"cores 1234567890", 4),
+    Kind(b"cores -1", 4),
+    Kind(b"cores +1", 4),
+    Kind(b"core 1", 4),
+    Kind(b"coress 1", 4),
+    Kind(b"Cores 1", 4),
+    Kind(b"idl 2", 4),
+    Kind(b"idl 01", 4),
+    Kind(b"idl 1 1", 4),
+    Kind(b"idl x", 4),
+    Kind(b"link 0 1", 4),
+    Kind(b"link 0 1 4 4", 4),
+    Kind(b"disp d", 4),
+    Kind(b"disp 9d 0", 4),
+    Kind(b"disp d-e 0", 4),
+    Kind(b"disp d 0 # zero", 4),
+    Kind(b"export s d", 4),
+    Kind(b"bind p d i s hop", 4),
+    Kind(b"bind p d i s hop 0 x", 4),
+    Kind(b"bind p d i s tcp 4", 4),
+    Kind(b"bind p d i s local", 4),
+    Kind(b"bind p d i s local 4 4", 4),
+    Kind(b"call p ping(7)", 4),
+    Kind(b"show p.x", 4),
+    Kind(b"show .c", 4),
+    Kind(b"show p.c.s", 4),
+    Kind(b"turn d\r", 4),
+    Kind(b"reply p.s echo_call", 4),
+    Kind(b"mack 2", 4),
+    Kind(
+        b"turn aaaaaaaaaaaaaaaaaaaaaaaaaaaaaaaaaaaaaaaaaaaaaaaaaaaaaaaaaaaaaaaaa",
+        4,
+    ),
+    // lines without an answer
+    Kind(b"", 0),
+    Kind(b" \t ", 0),
+    Kind(b"#", 0),
+    Kind(b"  # cores 2", 0),
+    Kind(b"#cores 2", 0),
+    // blocks under a plan
+    Kind(b"idl", 2),
+    Kind(b"\tidl ", 2),
+    Kind(b"idl 1", 1),
+    Kind(b" idl  1 ", 1),
 ];
 
-// Lines without an answer.
-const SILENT: [&[u8]; 5] = [b"", b" \t ", b"#", b"  # cores 2", b"#cores 2"];
-
-// The command of a line as it is printed; nothing where it has none.
-fn printed(alloc: Global, line: &[u8]) -> Result<Vec<u8>, AllocError> {
+// Whether the command of a line is printed so.
+fn is_printed(alloc: Global, line: &[u8], text: &[u8]) -> Result<bool, AllocError> {
     let mut out = Vec::new(alloc);
     if let Line::Command(command) = parse_line(line) {
         print_command(alloc, &mut out, command)?;
     }
-    Ok(out)
+    Ok(out.as_slice() == text)
 }
 
-// 0 for a line without an answer, 1 and 2 for the head of a block under a plan, 3 for a command, 4 for the rest.
+// The printed command is printed as it is.
+impl Row for Spelled {
+    fn holds(&self, alloc: Global) -> Result<bool, Fail> {
+        Ok(is_printed(alloc, self.0, self.1)? && is_printed(alloc, self.1, self.1)?)
+    }
+}
+
 fn kind_of(line: &[u8]) -> u8 {
     match parse_line(line) {
         Line::Silent => 0,
@@ -119,43 +143,33 @@ fn cores_of(alloc: Global, line: &[u8]) -> Result<Vec<u32>, AllocError> {
     }
 }
 
+impl Row for Kind {
+    fn holds(&self, _alloc: Global) -> Result<bool, Fail> {
+        Ok(kind_of(self.0) == self.1)
+    }
+}
+
+// A line, and the cores of its route.
+struct Route(&'static [u8], &'static [u32]);
+
+const ROUTES: &[Route] = &[
+    Route(b"bind p d i s hop 0 12 345678901", &[0, 12, 345_678_901]),
+    Route(b"bind p d i s hop 7 ", &[7]),
+];
+
+impl Row for Route {
+    fn holds(&self, alloc: Global) -> Result<bool, Fail> {
+        let cores = cores_of(alloc, self.0)?;
+        Ok(cores.as_slice() == self.1)
+    }
+}
+
 #[test]
 fn lines_spell_commands(rt: HostRuntime) -> Result<(), Fail> {
-    for (line, text) in SPELLED {
-        assert_eq!(rt; printed(rt.alloc(), line)?.as_slice(), text);
-        assert_eq!(rt; printed(rt.alloc(), text)?.as_slice(), text);
-    }
     one_line();
     printed_reads();
     spelled_reads();
-    Ok(())
-}
-
-#[test]
-fn other_lines_are_not_read(rt: HostRuntime) -> Result<(), Fail> {
-    for line in UNREAD {
-        assert_eq!(rt; (line, kind_of(line)), (line, 4));
-    }
-    for line in SILENT {
-        assert_eq!(rt; (line, kind_of(line)), (line, 0));
-    }
-    Ok(())
-}
-
-#[test]
-fn blocks_have_a_plan(rt: HostRuntime) -> Result<(), Fail> {
-    assert_eq!(rt; kind_of(b"idl"), 2);
-    assert_eq!(rt; kind_of(b"\tidl "), 2);
-    assert_eq!(rt; kind_of(b"idl 1"), 1);
-    assert_eq!(rt; kind_of(b" idl  1 "), 1);
-    Ok(())
-}
-
-#[test]
-fn routes_have_their_cores(rt: HostRuntime) -> Result<(), Fail> {
-    let cores = cores_of(rt.alloc(), b"bind p d i s hop 0 12 345678901")?;
-    assert_eq!(rt; cores.as_slice(), [0, 12, 345_678_901].as_slice());
-    let one = cores_of(rt.alloc(), b"bind p d i s hop 7 ")?;
-    assert_eq!(rt; one.as_slice(), [7].as_slice());
-    Ok(())
+    all_hold(rt.alloc(), "lines", SPELLED)?;
+    all_hold(rt.alloc(), "kinds of lines", KINDS)?;
+    all_hold(rt.alloc(), "routes", ROUTES)
 }

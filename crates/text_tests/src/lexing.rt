@@ -1,50 +1,55 @@
 //! What is a token, which fault of the bytes stands where, and the limits.
 
-use fl_lex::{MAX_TEXT, Mark, TokenKind, is_name, is_word, lex};
+use crate::rows::{Row, all_hold};
+use fl_lex::{MAX_TEXT, Mark, TokenKind, Tokens, is_name, is_word, lex};
+use std::alloc::Global;
 use std::test::Fail;
 
 // The number and the place of the text's fault; 0 where it has tokens.
-fn fault_of(rt: &HostRuntime, text: &[u8]) -> (u8, Option<usize>) {
-    match lex(rt.alloc(), text) {
+fn fault_of(alloc: Global, text: &[u8]) -> (u8, Option<usize>) {
+    match lex(alloc, text) {
         Ok(_) => (0, None),
         Err(fault) => (fault.number(), fault.offset()),
     }
 }
 
-const FAULTS: [(&[u8], u8, usize); 22] = [
-    (b"a / b", 1, 2),
-    (b"a /", 1, 2),
-    (b"a\x80", 1, 1),
-    (b"a\x00", 1, 1),
-    (b"a//b\x80\n\x80", 1, 6),
-    (b"interface i { /* }", 2, 14),
-    (b"/*/", 2, 0),
-    (b"// /* \n /*", 2, 8),
-    (b"/**", 2, 0),
-    (b"/*/ */ /*", 2, 7),
-    (b"/* * /", 2, 0),
-    (b"x \"abc", 3, 2),
-    (b"\"a\nb\"", 3, 0),
-    (b"\"a\"\"", 3, 3),
-    (b"\"a\\\" b\"", 3, 6),
-    (b"4x 1000001y", 5, 3),
-    (b"00001000001", 5, 0),
-    (b"99999999999999999999999999", 5, 0),
+// A text, and the number and the place of its fault.
+struct Faulty(&'static [u8], u8, usize);
+
+const FAULTS: &[Faulty] = &[
+    Faulty(b"a / b", 1, 2),
+    Faulty(b"a /", 1, 2),
+    Faulty(b"a\x80", 1, 1),
+    Faulty(b"a\x00", 1, 1),
+    Faulty(b"a//b\x80\n\x80", 1, 6),
+    Faulty(b"interface i { /* }", 2, 14),
+    Faulty(b"/*/", 2, 0),
+    Faulty(b"// /* \n /*", 2, 8),
+    Faulty(b"/**", 2, 0),
+    Faulty(b"/*/ */ /*", 2, 7),
+    Faulty(b"/* * /", 2, 0),
+    Faulty(b"x \"abc", 3, 2),
+    Faulty(b"\"a\nb\"", 3, 0),
+    Faulty(b"\"a\"\"", 3, 3),
+    Faulty(b"\"a\\\" b\"", 3, 6),
+    Faulty(b"4x 1000001y", 5, 3),
+    Faulty(b"00001000001", 5, 0),
+    Faulty(b"99999999999999999999999999", 5, 0),
     // the first fault of two
-    (b"1000001 - \"", 5, 0),
-    (b"\"open\n 1000001", 3, 0),
-    (b"- /*", 1, 0),
-    (b"\"/*\" /*", 2, 5),
+    Faulty(b"1000001 - \"", 5, 0),
+    Faulty(b"\"open\n 1000001", 3, 0),
+    Faulty(b"- /*", 1, 0),
+    Faulty(b"\"/*\" /*", 2, 5),
 ];
 
-#[test]
-fn faults(rt: HostRuntime) {
-    for (text, number, at) in FAULTS {
-        assert_eq!(rt; fault_of(&rt, text), (number, Some(at)));
+impl Row for Faulty {
+    fn holds(&self, alloc: Global) -> Result<bool, Fail> {
+        Ok(fault_of(alloc, self.0) == (self.1, Some(self.2)))
     }
 }
 
-const TOKENS: [(TokenKind, usize, usize); 17] = [
+// What each token is, its place and its length.
+const TOKENS: &[(TokenKind, usize, usize)] = &[
     (TokenKind::Word, 0, 5),
     (TokenKind::Description, 6, 7),
     (TokenKind::Mark(Mark::OpenBrace), 13, 1),
@@ -64,54 +69,86 @@ const TOKENS: [(TokenKind, usize, usize); 17] = [
     (TokenKind::Description, 59, 4),
 ];
 
-#[test]
-fn tokens(rt: HostRuntime) -> Result<(), Fail> {
-    let text = b"in_t9 \"a \\ b\"{}()[],;4x 007 1000000//\r[\n/**/y/* */ /***/_\t\x0b\"\xc3\xbc\"";
-    let found = lex(rt.alloc(), text)?;
-    assert_eq!(rt; (found.items.len(), found.end), (TOKENS.len(), text.len()));
-    for (token, wanted) in found.items.iter().zip(&TOKENS) {
-        assert_eq!(rt; (token.kind, token.at, token.text.len()), *wanted);
+const TEXT: &[u8] =
+    b"in_t9 \"a \\ b\"{}()[],;4x 007 1000000//\r[\n/**/y/* */ /***/_\t\x0b\"\xc3\xbc\"";
+
+fn are_tokens(found: &Tokens<'_>, wanted: &[(TokenKind, usize, usize)]) -> bool {
+    for (token, one) in found.items.iter().zip(wanted) {
+        if (token.kind, token.at, token.text.len()) != *one {
+            return false;
+        }
     }
-    Ok(())
+    found.items.len() == wanted.len()
 }
 
-const WORDS: [(&[u8], bool); 7] = [
-    (b"_", true),
-    (b"a9_Z", true),
-    (b"", false),
-    (b"9a", false),
-    (b"a b", false),
-    (b"a-", false),
-    (b"\xc3\xbc", false),
+fn has_tokens(alloc: Global) -> Result<bool, Fail> {
+    let found = lex(alloc, TEXT)?;
+    Ok(found.end == TEXT.len() && are_tokens(&found, TOKENS))
+}
+
+// Bytes, and whether they are a word and a name.
+struct Worded(&'static [u8], bool);
+
+const WORDS: &[Worded] = &[
+    Worded(b"_", true),
+    Worded(b"a9_Z", true),
+    Worded(b"", false),
+    Worded(b"9a", false),
+    Worded(b"a b", false),
+    Worded(b"a-", false),
+    Worded(b"\xc3\xbc", false),
 ];
 
-#[test]
-fn words(rt: HostRuntime) {
-    for (bytes, wanted) in WORDS {
-        assert_eq!(rt; (is_word(bytes), is_name(bytes)), (wanted, wanted));
+impl Row for Worded {
+    fn holds(&self, _alloc: Global) -> Result<bool, Fail> {
+        Ok(is_word(self.0) == self.1 && is_name(self.0) == self.1)
     }
-    assert_eq!(rt;
-        (
-            is_name(&[b'w'; 64]),
-            is_word(&[b'w'; 65]),
-            is_name(&[b'w'; 65])
-        ),
-        (true, true, false)
-    );
 }
 
-#[test]
-fn words_end_at_64_bytes(rt: HostRuntime) {
+// Names have 64 bytes at most, words any number.
+fn names_end_at_64_bytes() -> bool {
     let word = [b'w'; 65];
-    assert_eq!(rt; fault_of(&rt, &word[..64]), (0, None));
-    assert_eq!(rt; fault_of(&rt, &word), (4, Some(0)));
+    is_name(&word[..64]) && is_word(&word) && !is_name(&word)
+}
+
+// A byte so many times, and the fault's number and place; 0 where it has tokens.
+struct Filled(u8, usize, u8, Option<usize>);
+
+const FILLED: &[Filled] = &[
+    // a word ends at 64 bytes
+    Filled(b'w', 64, 0, None),
+    Filled(b'w', 65, 4, Some(0)),
+    // and a text at 65,536, before any other fault
+    Filled(b';', MAX_TEXT, 0, None),
+    Filled(b'-', MAX_TEXT + 1, 6, Some(65_536)),
+];
+
+impl Row for Filled {
+    fn holds(&self, alloc: Global) -> Result<bool, Fail> {
+        let text = vec![in alloc; self.0; self.1]?;
+        Ok(fault_of(alloc, &text) == (self.2, self.3))
+    }
+}
+
+#[derive(Clone, Copy)]
+enum Example {
+    Tokens,
+    Names,
+}
+
+impl Row for Example {
+    fn holds(&self, alloc: Global) -> Result<bool, Fail> {
+        match self {
+            Example::Tokens => has_tokens(alloc),
+            Example::Names => Ok(names_end_at_64_bytes()),
+        }
+    }
 }
 
 #[test]
-fn texts_end_at_65536_bytes(rt: HostRuntime) -> Result<(), Fail> {
-    let longest = vec![in rt.alloc(); b';'; MAX_TEXT]?;
-    assert_eq!(rt; fault_of(&rt, &longest), (0, None));
-    let longer = vec![in rt.alloc(); b'-'; MAX_TEXT + 1]?;
-    assert_eq!(rt; fault_of(&rt, &longer), (6, Some(65_536)));
-    Ok(())
+fn lexing(rt: HostRuntime) -> Result<(), Fail> {
+    all_hold(rt.alloc(), "faults", FAULTS)?;
+    all_hold(rt.alloc(), "words", WORDS)?;
+    all_hold(rt.alloc(), "one byte many times", FILLED)?;
+    all_hold(rt.alloc(), "examples", &[Example::Tokens, Example::Names])
 }
