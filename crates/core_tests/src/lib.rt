@@ -1,8 +1,9 @@
 //! Tests of one core's board, over its public calls alone. They stand here and not in `fl_core`, since a crate with tests is proved
 //! twice.
 //!
-//! - `rig.rt`: a board with its ends and their queues, driven by commands whose answers are words
-//! - `rows.rt`: worked rows of commands and answers
+//! - `tables.rt`, `boards.rt`: tables, of which a test tells the first row that isn't so, and all of them
+//! - `rig.rt`: a board with its ends and their queues, driven by deeds whose answers are words
+//! - `rows.rt`: worked rows of deeds and answers
 //! - `refusals.rt`: what is refused, and limits
 //! - `faults.rt`: the numbers and words of the faults
 //!
@@ -11,6 +12,8 @@
 #![tactic(auto)]
 
 #[cfg(test)]
+mod boards;
+#[cfg(test)]
 mod faults;
 #[cfg(test)]
 mod refusals;
@@ -18,3 +21,5 @@ mod refusals;
 mod rig;
 #[cfg(test)]
 mod rows;
+#[cfg(test)]
+mod tables;

@@ -1,143 +1,127 @@
 //! What is refused, limits, and no memory.
 
-use crate::rig::{Command, Line, Rig, program};
-use fl_base::{Circuit, Frag, MsgNo};
-use fl_core::{AckAnswer, Board, BoardFault, Kind};
-use fl_endpoint::{End, EndFault};
-use fl_link::{QueueLink, Sight};
-use std::alloc::Global;
-use std::test::Fail;
+use crate::rig::{Binding, Deed, Example, Said, Step, add_end, program};
+use crate::tables::Row;
+use fl_base::Circuit;
+use fl_core::{Board, BoardFault, Kind};
+use fl_endpoint::End;
+use std::alloc::{AllocError, Global};
 
 const SHORT: &[u8] = b"interface i { message m(bool b, string s[2]); }";
 
 const ECHO: &[u8] = b"interface i { rpc echo(in uint32 x, out uint32 y); }";
 
 // Its bool is 2.
-const FORGED: Frag = Frag {
-    words: [2, 0, 0, 0, 0, 0, 0],
-    control: 3,
-};
+const FORGED: [u64; 7] = [2, 0, 0, 0, 0, 0, 0];
 
-// An end that failed answers E64 to all but acknowledging and deregistering.
-const FAILED: [Line; 8] = [
-    (Command::Turn, 1, b"", b"refused E65 p.s"),
-    (Command::Turn, 1, b"", b"nothing"),
-    (Command::Call, 1, b"m(1, \"\")", b"refused E64"),
-    (Command::Show, 1, b"", b"refused E64"),
-    (Command::Write, 1, b"", b"refused E64"),
-    (Command::Register, 1, b"", b"refused E64"),
-    (Command::Deregister, 1, b"", b"refused E51"),
-    (Command::Ack, 1, b"", b"nothing"),
+// An end that failed answers E64 to all but acknowledging and deregistering, and the forged fragment stays.
+const FAILED: &[Step] = &[
+    (0, Deed::Put(3, FORGED), Said::Done),
+    (1, Deed::Deregister, Said::Done),
+    (1, Deed::Register, Said::Done),
+    (1, Deed::Turn(b""), Said::RefusedAt(1, 65)),
+    (1, Deed::Turn(b""), Said::Nothing),
+    (1, Deed::Call(b"m(1, \"\")"), Said::Refused(64)),
+    (1, Deed::Show, Said::Refused(64)),
+    (1, Deed::Write, Said::Refused(64)),
+    (1, Deed::Register, Said::Refused(64)),
+    (1, Deed::Deregister, Said::Refused(51)),
+    (1, Deed::Ack, Said::Nothing),
+    (0, Deed::Peek, Said::Stands(3, FORGED)),
 ];
 
-// The forged fragment stays.
-#[test]
-fn an_end_that_failed(rt: HostRuntime) -> Result<(), Fail> {
-    let mut rig = Rig::new(rt.alloc(), 2)?;
-    rig.bind(SHORT, [0, 1], Kind::Queue, 4)?;
-    if let Some(queue) = rig.queues.get_mut(0) {
-        queue.put(&FORGED)?;
-    }
-    rig.step(Command::Deregister, 1, b"")?;
-    rig.step(Command::Register, 1, b"")?;
-    assert_eq!(rt; rig.differs(&FAILED)?, None);
-    if let Some(queue) = rig.queues.get_mut(0) {
-        assert_eq!(rt; queue.peek(), Sight::Data(FORGED));
-    }
-    Ok(())
-}
-
-// A board with one dispatcher and an end there that isn't bound.
-fn unbound(alloc: Global) -> Result<Board, Fail> {
-    let mut board = Board::new(alloc);
-    board.add_dispatcher()?;
-    let end = End::unbound(alloc, program(alloc, ECHO)?)?;
-    if board.dispatchers() > 0 {
-        board.add_end(0, end, Kind::Queue)?;
-    }
-    Ok(board)
-}
-
 // Until it is bound an end is told E43, but may have rules; then a trigger moves its channel to pending once.
-#[test]
-fn an_end_not_bound(rt: HostRuntime) -> Result<(), Fail> {
-    let mut board = unbound(rt.alloc())?;
-    let mut queue = QueueLink::local(rt.alloc(), 1)?;
-    assert_eq!(rt; board.ends(), 1);
-    for bound in [false, true] {
-        let wanted = if bound {
-            Ok(())
-        } else {
-            Err(BoardFault::NotBound)
-        };
-        if board.ends() > 0 {
-            assert_eq!(rt; board.register(0, &mut queue), wanted);
-        }
-        if board.ends() > 0 {
-            assert_eq!(rt; board.ack(0, &mut queue).is_ok(), bound);
-        }
-        if board.ends() > 0 {
-            board.trigger(0);
-        }
-        if board.dispatchers() > 0 {
-            assert_eq!(rt; board.due(0).is_some(), bound);
-        }
-        if board.ends() > 0 {
-            assert_eq!(rt; board.deregister(0), wanted);
-        }
-        if board.ends() > 0 {
-            assert_eq!(rt; board.reply_rule(0, MsgNo(0), MsgNo(1)), Ok(()));
-        }
-        if board.ends() > 0 {
-            board.bind(0, Circuit(0));
-        }
-    }
-    Ok(())
+const NOT_BOUND: &[Step] = &[
+    (0, Deed::Register, Said::Refused(43)),
+    (0, Deed::Ack, Said::Refused(43)),
+    (0, Deed::Trigger, Said::Done),
+    (0, Deed::Due, Said::Due(None)),
+    (0, Deed::Deregister, Said::Refused(43)),
+    (0, Deed::Reply, Said::Done),
+    (0, Deed::Bind(Circuit(0)), Said::Done),
+    (0, Deed::Register, Said::Done),
+    (0, Deed::Ack, Said::Nothing),
+    (0, Deed::Trigger, Said::Done),
+    (0, Deed::Due, Said::Due(Some(0))),
+    (0, Deed::Deregister, Said::Done),
+    (0, Deed::Reply, Said::Done),
+];
+
+const BOUND: Binding = Binding {
+    text: ECHO,
+    at: [0, 1],
+    circuit: Some(Circuit(0)),
+    kind: Kind::Queue,
+    is_acked: false,
+    size: 4,
+};
+
+// The last two: what an end acknowledges at a queue, and at a ring.
+pub const EXAMPLES: &[Example] = &[
+    Example {
+        dispatchers: 2,
+        bindings: &[Binding {
+            text: SHORT,
+            ..BOUND
+        }],
+        rows: FAILED,
+    },
+    Example {
+        dispatchers: 2,
+        bindings: &[Binding {
+            circuit: None,
+            ..BOUND
+        }],
+        rows: NOT_BOUND,
+    },
+    Example {
+        dispatchers: 2,
+        bindings: &[Binding {
+            is_acked: true,
+            ..BOUND
+        }],
+        rows: &[(0, Deed::Ack, Said::Nothing)],
+    },
+    Example {
+        dispatchers: 2,
+        bindings: &[Binding {
+            is_acked: true,
+            kind: Kind::Ring,
+            ..BOUND
+        }],
+        rows: &[(0, Deed::Ack, Said::Done)],
+    },
+];
+
+fn unbound(alloc: Global) -> Result<End, AllocError> {
+    End::unbound(alloc, program(alloc, ECHO)?)
 }
 
-// The 1,025th end of a dispatcher is refused, and one of another dispatcher isn't.
-#[test]
-fn too_many_ends(rt: HostRuntime) -> Result<(), Fail> {
-    let mut board = Board::new(rt.alloc());
-    board.add_dispatcher()?;
-    board.add_dispatcher()?;
-    for j in 0..1_026_usize {
-        let at = if j == 1_025 { 1 } else { 0 };
-        let wanted = match j {
-            1_024 => Err(BoardFault::TooManyEnds),
-            1_025 => Ok(1_024),
-            place => Ok(place),
-        };
-        let end = End::unbound(rt.alloc(), program(rt.alloc(), ECHO)?)?;
-        if at < board.dispatchers() {
-            assert_eq!(rt; board.add_end(at, end, Kind::Ring), wanted);
-        }
+fn ends_at(board: &Board, dispatcher: usize) -> usize {
+    if dispatcher >= board.dispatchers() {
+        return 0;
     }
-    if board.dispatchers() > 0 {
-        assert_eq!(rt; board.ends_at(0), 1_024);
-    }
-    Ok(())
+    board.ends_at(dispatcher)
 }
 
-// What an end acknowledges at a queue, and at a ring.
-#[test]
-fn acknowledgements(rt: HostRuntime) -> Result<(), Fail> {
-    for (kind, wanted) in [
-        (Kind::Queue, AckAnswer::Nothing),
-        (Kind::Ring, AckAnswer::Done),
-    ] {
-        let mut board = Board::new(rt.alloc());
-        board.add_dispatcher()?;
-        let end = End::new(rt.alloc(), program(rt.alloc(), ECHO)?, Circuit(0))?;
-        if board.dispatchers() > 0 {
-            board.add_end(0, end, kind)?;
-        }
-        let mut queue = QueueLink::acked(rt.alloc(), 2)?;
-        if board.ends() > 0 {
-            assert_eq!(rt; board.ack(0, &mut queue), Ok(wanted));
+// What is answered to one end more at a dispatcher.
+fn adds(alloc: Global, board: &mut Board, dispatcher: usize) -> Result<usize, BoardFault> {
+    match unbound(alloc) {
+        Ok(end) => add_end(board, dispatcher, end, Kind::Ring),
+        Err(_) => Err(BoardFault::Memory),
+    }
+}
+
+/// Whether the 1,025th end of a dispatcher is refused, and one of another dispatcher isn't.
+pub fn too_many_ends(alloc: Global, board: &mut Board) -> bool {
+    for place in 0..1_024 {
+        if adds(alloc, board, 0) != Ok(place) {
+            return false;
         }
     }
-    Ok(())
+    ends_at(board, 0) == 1_024
+        && adds(alloc, board, 0) == Err(BoardFault::TooManyEnds)
+        && adds(alloc, board, 1) == Ok(1_024)
 }
 
 // Whether an end was added, and then taken back.
@@ -155,86 +139,76 @@ fn comes_and_goes(board: &mut Board, end: End) -> bool {
     }
 }
 
-// The place and the channel of an end that was taken back are those of the next.
-#[test]
-fn an_end_taken_back(rt: HostRuntime) -> Result<(), Fail> {
-    let mut board = Board::new(rt.alloc());
-    board.add_dispatcher()?;
-    for place in 0..2_usize {
-        let end = End::unbound(rt.alloc(), program(rt.alloc(), ECHO)?)?;
-        assert!(rt; comes_and_goes(&mut board, end));
-        assert_eq!(rt; board.ends(), place);
-        let end = End::unbound(rt.alloc(), program(rt.alloc(), ECHO)?)?;
-        if board.dispatchers() > 0 {
-            assert_eq!(rt; board.ends_at(0), place);
-        }
-        if board.dispatchers() > 0 {
-            assert_eq!(rt; board.add_end(0, end, Kind::Ring), Ok(place));
-        }
-    }
-    Ok(())
+// Whether an end is taken back behind so many, and the next has its place and its channel.
+fn is_taken_back(alloc: Global, board: &mut Board, place: usize) -> Result<bool, AllocError> {
+    let end = unbound(alloc)?;
+    Ok(
+        comes_and_goes(board, end)
+            && board.ends() == place
+            && ends_at(board, 0) == place
+            && adds(alloc, board, 0) == Ok(place),
+    )
 }
 
-// A dispatcher or an end for which there is no memory leaves the board as it was, and may be added again.
-#[test]
-fn adds_without_memory(rt: HostRuntime) {
-    let mut board = Board::new(rt.alloc());
-    if board.add_dispatcher().is_err() {
-        assert_eq!(rt; board.dispatchers(), 0);
-        assert!(rt; board.add_dispatcher().is_ok());
-    }
-    for count in 0..6_usize {
-        for _ in 0..2 {
-            let Ok(program) = program(rt.alloc(), ECHO) else {
-                continue;
-            };
-            let Ok(end) = End::unbound(rt.alloc(), program) else {
-                continue;
-            };
-            if board.ends() > count || board.dispatchers() == 0 {
-                continue;
-            }
-            match board.add_end(0, end, Kind::Queue) {
-                Ok(place) => assert_eq!(rt; place, count),
-                Err(fault) => assert_eq!(rt; fault, BoardFault::Memory),
-            }
-        }
-        assert_eq!(rt; board.ends(), count + 1);
+/// Whether ends are taken back so, the first and a later one.
+///
+/// # Errors
+/// Want of memory.
+pub fn taken_back(alloc: Global, board: &mut Board) -> Result<bool, AllocError> {
+    Ok(is_taken_back(alloc, board, 0)? && is_taken_back(alloc, board, 1)?)
+}
+
+// A dispatcher, where memory that runs out once is met by asking again: how many there were before.
+fn add_dispatcher(board: &mut Board) -> Result<usize, AllocError> {
+    match board.add_dispatcher() {
+        Ok(place) => Ok(place),
+        Err(_) if board.dispatchers() > 0 => Err(AllocError),
+        Err(_) => board.add_dispatcher(),
     }
 }
 
-const CALL: [Line; 2] = [
-    (Command::Call, 0, b"echo_call(9)", b"accepted"),
-    (Command::Write, 0, b"", b"written 1 of 1"),
-];
+// The same of an end.
+fn adds_at_last(alloc: Global, board: &mut Board) -> Result<usize, BoardFault> {
+    let before = board.ends();
+    match adds(alloc, board, 0) {
+        Err(BoardFault::Memory) if board.ends() == before => adds(alloc, board, 0),
+        answer => answer,
+    }
+}
 
-// A turn for which there is no memory leaves the fragment and the channel, and the next turn handles the call.
-#[test]
-fn turns_without_memory(rt: HostRuntime) -> Result<(), Fail> {
-    let Ok(mut rig) = Rig::new(rt.alloc(), 2) else {
-        return Ok(());
-    };
-    if rig.bind(ECHO, [0, 1], Kind::Queue, 4).is_err() {
-        return Ok(());
-    }
-    let Ok(None) = rig.differs(&CALL) else {
-        return Ok(());
-    };
-    for _ in 0..2 {
-        if rig.board.dispatchers() < 2 {
-            continue;
-        }
-        assert_eq!(rt; rig.board.due(1), Some(1));
-        let Ok(answer) = rig.step(Command::Turn, 1, b"") else {
-            return Ok(());
-        };
-        if answer.as_slice() != b"refused E99".as_slice() {
-            assert_eq!(rt; answer.as_slice(), b"handle p.s echo_call(9)".as_slice());
-            break;
+fn adds_each(alloc: Global, board: &mut Board) -> bool {
+    for place in 0..6_usize {
+        if adds_at_last(alloc, board) != Ok(place) {
+            return false;
         }
     }
-    if rig.board.dispatchers() >= 2 {
-        assert_eq!(rt; rig.board.due(1), None);
+    true
+}
+
+/// A dispatcher or an end for which there is no memory leaves the board as it was, and may be added again.
+pub fn adds_without_memory(alloc: Global) -> bool {
+    let mut board = Board::new(alloc);
+    add_dispatcher(&mut board) == Ok(0) && adds_each(alloc, &mut board)
+}
+
+// The channel stays due until the call is handled.
+const TURN: Example = Example {
+    dispatchers: 2,
+    bindings: &[BOUND],
+    rows: &[
+        (0, Deed::CallAtLast(b"echo_call(9)"), Said::Done),
+        (0, Deed::Write, Said::Written(1, 1)),
+        (1, Deed::Due, Said::Due(Some(1))),
+        (1, Deed::TurnAtLast(b"echo_call(9)"), Said::Handled(1)),
+        (1, Deed::Due, Said::Due(None)),
+    ],
+};
+
+/// A turn for which there is no memory leaves the fragment and the channel, and the next turn handles the call. Where memory runs out
+/// before the turn there is nothing to show.
+pub fn turns_without_memory(alloc: Global) -> bool {
+    match TURN.holds(alloc) {
+        Ok(holds) => holds,
+        Err(_) => true,
     }
-    Ok(())
 }

@@ -1,71 +1,133 @@
-//! A board with its ends and their queues, driven by commands whose answers are words.
+//! A board with its ends and their queues, driven by deeds whose answers are words.
 
+use crate::tables::Row;
 use fl_base::{Circuit, Frag, MsgNo};
-use fl_check::{Interface, TextFault, check};
+use fl_check::check;
 use fl_compile::{Program, compile};
-use fl_core::{AckAnswer, Board, Kind, TurnAnswer};
-use fl_endpoint::{End, WriteAnswer};
-use fl_lex::lex;
-use fl_link::QueueLink;
-use fl_parse::parse;
+use fl_core::{AckAnswer, Board, BoardFault, Kind, TurnAnswer};
+use fl_endpoint::{End, EndFault, WriteAnswer};
+use fl_lex::{Tokens, lex};
+use fl_link::{QueueLink, Sight};
+use fl_parse::{Tree, parse};
 use fl_value::{Call, PlanNo, print_call, read_call};
 use std::alloc::{AllocError, Global};
 
-/// The ends of bindings p, q and r, in the order in which they are bound.
-pub const NAMES: [&[u8]; 6] = [b"p.c", b"p.s", b"q.c", b"q.s", b"r.c", b"r.s"];
-
-/// A command on an end; `Turn` is on a dispatcher.
-#[derive(Clone, Copy, Debug)]
-pub enum Command {
-    Call,
+/// What is done at an end; `Turn` and `Due` are of a dispatcher.
+#[derive(Clone, Copy)]
+pub enum Deed {
+    /// A call by its text.
+    Call(&'static [u8]),
+    /// The same, where memory that runs out once is met by asking again.
+    CallAtLast(&'static [u8]),
+    /// Such a call, and a write.
+    Send(&'static [u8]),
     Show,
     Write,
-    Turn,
+    /// A fragment of these words is put on the queue to which the end puts.
+    Put(u64, [u64; 7]),
+    /// What stands first there.
+    Peek,
     Ack,
     Register,
     Deregister,
+    /// The reply to message 0 is message 1.
     Reply,
+    Trigger,
+    Bind(Circuit),
+    /// A turn, and the text of the call that it has to handle.
+    Turn(&'static [u8]),
+    /// The same, where memory that runs out once is met by asking again.
+    TurnAtLast(&'static [u8]),
+    Due,
 }
 
-/// A command, its place, what it is given, and its answer.
-pub type Line = (Command, usize, &'static [u8], &'static [u8]);
-
-// The queues of an end, and the end that its fragments go to.
-#[derive(Drop)]
-struct Wires {
-    out: usize,
-    from: usize,
-    peer: usize,
-    kind: Kind,
+/// What is answered.
+#[derive(Clone, Copy, PartialEq, Eq)]
+pub enum Said {
+    Done,
+    Written(usize, usize),
+    Full,
+    Nothing,
+    /// A fragment's control word and words.
+    Stands(u64, [u64; 7]),
+    /// Of turns: at which end.
+    Handled(usize),
+    Part(usize),
+    Ready(usize),
+    Quiet(usize),
+    RefusedAt(usize, u8),
+    Refused(u8),
+    Due(Option<usize>),
+    Other,
 }
 
-/// A board, its queues, and which queues each end uses.
+/// A place, what is done there, and what is answered.
+pub type Step = (usize, Deed, Said);
+
+/// The two ends of a binding, at two dispatchers, with a queue each way.
+#[derive(Clone, Copy)]
+pub struct Binding {
+    pub text: &'static [u8],
+    pub at: [usize; 2],
+    /// That of both ends; none where they aren't bound yet.
+    pub circuit: Option<Circuit>,
+    pub kind: Kind,
+    /// Whether the queues are acknowledged.
+    pub is_acked: bool,
+    pub size: usize,
+}
+
+/// What is answered at a new board with so many dispatchers and these bindings, whose ends are numbered in order, client first.
+#[derive(Clone, Copy)]
+pub struct Example {
+    pub dispatchers: usize,
+    pub bindings: &'static [Binding],
+    pub rows: &'static [Step],
+}
+
+// A board, and the queue to which each of its ends puts. An end takes from the queue of its peer.
 #[derive(Drop)]
-pub struct Rig {
+struct Rig {
     alloc: Global,
-    pub board: Board,
-    pub queues: Vec<QueueLink>,
-    wires: Vec<Wires>,
+    board: Board,
+    queues: Vec<QueueLink>,
 }
 
-fn interface(alloc: Global, text: &[u8]) -> Result<Interface, TextFault> {
-    let tokens = lex(alloc, text)?;
-    let tree = parse(alloc, &tokens)?;
-    Ok(check(alloc, &tree)?)
+fn program_of_tree(alloc: Global, tree: &Tree) -> Result<Program, AllocError> {
+    match check(alloc, tree) {
+        Ok(interface) => compile(alloc, &interface, PlanNo::One),
+        Err(_) => Err(AllocError),
+    }
 }
 
-/// The program of an interface; none only where memory runs out.
+fn program_of(alloc: Global, tokens: &Tokens) -> Result<Program, AllocError> {
+    match parse(alloc, tokens) {
+        Ok(tree) => program_of_tree(alloc, &tree),
+        Err(_) => Err(AllocError),
+    }
+}
+
+/// The program of a text; none only where memory runs out.
 pub fn program(alloc: Global, text: &[u8]) -> Result<Program, AllocError> {
-    let Ok(interface) = interface(alloc, text) else {
-        return Err(AllocError);
-    };
-    compile(alloc, &interface, PlanNo::One)
+    match lex(alloc, text) {
+        Ok(tokens) => program_of(alloc, &tokens),
+        Err(_) => Err(AllocError),
+    }
 }
 
-fn queue(alloc: Global, kind: Kind, size: usize) -> Result<QueueLink, AllocError> {
-    let made = match kind {
-        Kind::Queue => QueueLink::local(alloc, size),
-        Kind::Ring => QueueLink::acked(alloc, size),
+fn make_end(alloc: Global, binding: &Binding) -> Result<End, AllocError> {
+    let program = program(alloc, binding.text)?;
+    match binding.circuit {
+        Some(circuit) => End::new(alloc, program, circuit),
+        None => End::unbound(alloc, program),
+    }
+}
+
+fn make_queue(alloc: Global, binding: &Binding) -> Result<QueueLink, AllocError> {
+    let made = if binding.is_acked {
+        QueueLink::acked(alloc, binding.size)
+    } else {
+        QueueLink::local(alloc, binding.size)
     };
     match made {
         Ok(queue) => Ok(queue),
@@ -73,285 +135,319 @@ fn queue(alloc: Global, kind: Kind, size: usize) -> Result<QueueLink, AllocError
     }
 }
 
-fn words(alloc: Global, text: &[u8]) -> Result<Vec<u8>, AllocError> {
-    Vec::from_slice(alloc, text)
+/// A board with so many dispatchers.
+pub fn make_board(alloc: Global, dispatchers: usize) -> Result<Board, AllocError> {
+    let mut board = Board::new(alloc);
+    for _ in 0..dispatchers {
+        board.add_dispatcher()?;
+    }
+    Ok(board)
 }
 
-fn refused(alloc: Global, number: u8) -> Result<Vec<u8>, AllocError> {
-    let text = format!(in alloc; "refused E{number}")?;
-    words(alloc, text.as_bytes())
+/// One end more; refused as not bound where there is no such dispatcher.
+pub fn add_end(
+    board: &mut Board,
+    dispatcher: usize,
+    end: End,
+    kind: Kind,
+) -> Result<usize, BoardFault> {
+    if dispatcher >= board.dispatchers() {
+        return Err(BoardFault::NotBound);
+    }
+    board.add_end(dispatcher, end, kind)
 }
 
-fn name_of(e: usize) -> &'static [u8] {
-    match NAMES.get(e) {
-        Some(name) => *name,
-        None => b"?",
+fn done(answer: Result<(), BoardFault>) -> Said {
+    match answer {
+        Ok(()) => Said::Done,
+        Err(fault) => Said::Refused(fault.number()),
     }
 }
 
-// What is said of an end.
-fn says(alloc: Global, text: &[u8], e: usize) -> Result<Vec<u8>, AllocError> {
-    let mut said = words(alloc, text)?;
-    said.extend_from_slice(b" ")?;
-    said.extend_from_slice(name_of(e))?;
-    Ok(said)
-}
-
-fn handled(alloc: Global, e: usize, call: &Call, end: &End) -> Result<Vec<u8>, AllocError> {
-    let mut said = says(alloc, b"handle", e)?;
-    said.extend_from_slice(b" ")?;
-    let messages = &end.program().interface().messages;
-    if let Some(message) = messages.get(usize::from(call.msg.0)) {
-        print_call(alloc, &mut said, message.name.bytes.as_slice(), &call.args)?;
+fn done_at_end(answer: Result<(), EndFault>) -> Said {
+    match answer {
+        Ok(()) => Said::Done,
+        Err(fault) => Said::Refused(fault.number()),
     }
-    Ok(said)
 }
 
-fn shown(alloc: Global, frag: &Frag) -> Result<Vec<u8>, AllocError> {
-    let text = format!(in alloc; "{:x} {:x}", frag.words[0], frag.control)?;
-    words(alloc, text.as_bytes())
+fn shown(answer: Result<Option<Frag>, EndFault>) -> Said {
+    match answer {
+        Ok(Some(frag)) => Said::Stands(frag.control, frag.words),
+        Ok(None) => Said::Nothing,
+        Err(fault) => Said::Refused(fault.number()),
+    }
+}
+
+fn written(answer: Result<WriteAnswer, EndFault>) -> Said {
+    match answer {
+        Ok(WriteAnswer::Written { number, count }) => Said::Written(number, count),
+        Ok(WriteAnswer::Full) => Said::Full,
+        Ok(WriteAnswer::Nothing) => Said::Nothing,
+        Err(fault) => Said::Refused(fault.number()),
+    }
+}
+
+fn acked(answer: Result<AckAnswer, BoardFault>) -> Said {
+    match answer {
+        Ok(AckAnswer::Done) => Said::Done,
+        Ok(AckAnswer::Nothing) => Said::Nothing,
+        Ok(AckAnswer::Full) => Said::Full,
+        Err(fault) => Said::Refused(fault.number()),
+    }
+}
+
+// What a turn at an end answered that handled no call.
+fn turned(e: usize, answer: TurnAnswer) -> Said {
+    match answer {
+        TurnAnswer::Handle(_) => Said::Other,
+        TurnAnswer::Part => Said::Part(e),
+        TurnAnswer::Ready => Said::Ready(e),
+        TurnAnswer::Quiet => Said::Quiet(e),
+        TurnAnswer::Full => Said::Full,
+        TurnAnswer::Nothing => Said::Nothing,
+        TurnAnswer::Refused(fault) => Said::RefusedAt(e, fault.number()),
+    }
+}
+
+fn put(queue: &mut QueueLink, control: u64, words: [u64; 7]) -> Said {
+    match queue.put(&Frag { words, control }) {
+        Ok(()) => Said::Done,
+        Err(_) => Said::Full,
+    }
+}
+
+fn peek(queue: &QueueLink) -> Said {
+    match queue.peek() {
+        Sight::Data(frag) => Said::Stands(frag.control, frag.words),
+        _ => Said::Nothing,
+    }
+}
+
+// The end that takes from the queue of another, and the other way round.
+fn peer(e: usize) -> usize {
+    e ^ 1
+}
+
+fn call(alloc: Global, board: &mut Board, e: usize, text: &[u8]) -> Said {
+    if e >= board.ends() {
+        return Said::Other;
+    }
+    match read_call(alloc, text, board.end(e).program().interface()) {
+        Ok(call) => done_at_end(board.call(e, &call)),
+        Err(fault) => Said::Refused(fault.number()),
+    }
+}
+
+fn call_at_last(alloc: Global, board: &mut Board, e: usize, text: &[u8]) -> Said {
+    match call(alloc, board, e, text) {
+        Said::Refused(99) => call(alloc, board, e, text),
+        said => said,
+    }
+}
+
+fn trigger(board: &mut Board, e: usize) -> Said {
+    if e < board.ends() {
+        board.trigger(e);
+    }
+    Said::Done
+}
+
+// What is done without a queue.
+fn ask(board: &mut Board, e: usize, deed: Deed) -> Said {
+    if e >= board.ends() {
+        return Said::Other;
+    }
+    match deed {
+        Deed::Deregister => done(board.deregister(e)),
+        Deed::Reply => done_at_end(board.reply_rule(e, MsgNo(0), MsgNo(1))),
+        Deed::Trigger => trigger(board, e),
+        Deed::Bind(circuit) => {
+            board.bind(e, circuit);
+            Said::Done
+        }
+        _ => Said::Other,
+    }
+}
+
+// What is done with the queue to which an end puts.
+fn put_at(board: &mut Board, e: usize, out: &mut QueueLink, deed: Deed) -> Said {
+    if e >= board.ends() {
+        return Said::Other;
+    }
+    match deed {
+        Deed::Show => shown(board.show(e, out)),
+        Deed::Write => written(board.write(e, out)),
+        Deed::Put(control, words) => put(out, control, words),
+        _ => peek(out),
+    }
+}
+
+// What is done with the queue from which it takes.
+fn take_at(board: &mut Board, e: usize, from: &mut QueueLink, deed: Deed) -> Said {
+    if e >= board.ends() {
+        return Said::Other;
+    }
+    match deed {
+        Deed::Ack => acked(board.ack(e, from)),
+        _ => done(board.register(e, from)),
+    }
+}
+
+// Whether this is the text of a call that an end handles.
+fn is_text(alloc: Global, end: &End, call: &Call, text: &[u8]) -> Result<bool, AllocError> {
+    let mut said = Vec::new(alloc);
+    if let Some(message) = end
+        .program()
+        .interface()
+        .messages
+        .get(usize::from(call.msg.0))
+    {
+        print_call(alloc, &mut said, &message.name.bytes, &call.args)?;
+    }
+    Ok(said.as_slice() == text)
 }
 
 impl Rig {
-    /// A board with so many dispatchers.
-    pub fn new(alloc: Global, dispatchers: usize) -> Result<Rig, AllocError> {
-        let mut board = Board::new(alloc);
-        for _ in 0..dispatchers {
-            board.add_dispatcher()?;
-        }
+    fn new(alloc: Global, dispatchers: usize) -> Result<Rig, AllocError> {
         Ok(Rig {
             alloc,
-            board,
+            board: make_board(alloc, dispatchers)?,
             queues: Vec::new(alloc),
-            wires: Vec::new(alloc),
         })
     }
 
-    fn add_end(&mut self, dispatcher: usize, text: &[u8], wires: Wires) -> Result<(), AllocError> {
-        let end = End::new(self.alloc, program(self.alloc, text)?, Circuit(0))?;
-        if dispatcher >= self.board.dispatchers() {
-            return Err(AllocError);
+    fn add(&mut self, binding: &Binding, dispatcher: usize) -> Result<(), AllocError> {
+        self.queues.push(make_queue(self.alloc, binding)?)?;
+        let end = make_end(self.alloc, binding)?;
+        match add_end(&mut self.board, dispatcher, end, binding.kind) {
+            Ok(_) => Ok(()),
+            Err(_) => Err(AllocError),
         }
-        if self.board.add_end(dispatcher, end, wires.kind).is_err() {
-            return Err(AllocError);
-        }
-        self.wires.push(wires)?;
+    }
+
+    // Both ends of a binding, which are registered, client first.
+    fn bind(&mut self, binding: &Binding) -> Result<(), AllocError> {
+        let e = self.queues.len();
+        let [client, server] = binding.at;
+        self.add(binding, client)?;
+        self.add(binding, server)?;
+        self.take(e, Deed::Register);
+        self.take(peer(e), Deed::Register);
         Ok(())
     }
 
-    /// A binding of a client's dispatcher to a server's, with a queue each way; both ends are registered, client first.
-    pub fn bind(
-        &mut self,
-        text: &[u8],
-        dispatchers: [usize; 2],
-        kind: Kind,
-        size: usize,
-    ) -> Result<(), AllocError> {
-        let [client, server] = dispatchers;
-        let (e, to) = (self.wires.len(), self.queues.len());
-        if e > 100 || to > 100 {
-            return Ok(());
-        }
-        for _ in 0..2 {
-            self.queues.push(queue(self.alloc, kind, size)?)?;
-        }
-        let there = Wires {
-            out: to,
-            from: to + 1,
-            peer: e + 1,
-            kind,
-        };
-        let back = Wires {
-            out: to + 1,
-            from: to,
-            peer: e,
-            kind,
-        };
-        self.add_end(client, text, there)?;
-        self.add_end(server, text, back)?;
-        self.register(e)?;
-        self.register(e + 1)?;
-        Ok(())
-    }
-
-    fn call(&mut self, e: usize, text: &[u8]) -> Result<Vec<u8>, AllocError> {
-        if e >= self.board.ends() {
-            return refused(self.alloc, 92);
-        }
-        let interface = self.board.end(e).program().interface();
-        let call = match read_call(self.alloc, text, interface) {
-            Ok(call) => call,
-            Err(fault) => return refused(self.alloc, fault.number()),
-        };
-        match self.board.call(e, &call) {
-            Ok(()) => words(self.alloc, b"accepted"),
-            Err(fault) => refused(self.alloc, fault.number()),
+    fn put(&mut self, e: usize, deed: Deed) -> Said {
+        match self.queues.get_mut(e) {
+            Some(out) => put_at(&mut self.board, e, out, deed),
+            None => Said::Other,
         }
     }
 
-    fn show(&self, e: usize) -> Result<Vec<u8>, AllocError> {
-        let Some(wires) = self.wires.get(e) else {
-            return refused(self.alloc, 92);
-        };
-        let Some(out) = self.queues.get(wires.out) else {
-            return refused(self.alloc, 92);
-        };
-        if e >= self.board.ends() {
-            return refused(self.alloc, 92);
-        }
-        match self.board.show(e, out) {
-            Ok(Some(frag)) => shown(self.alloc, &frag),
-            Ok(None) => words(self.alloc, b"nothing"),
-            Err(fault) => refused(self.alloc, fault.number()),
+    fn take(&mut self, e: usize, deed: Deed) -> Said {
+        match self.queues.get_mut(peer(e)) {
+            Some(from) => take_at(&mut self.board, e, from, deed),
+            None => Said::Other,
         }
     }
 
-    fn write(&mut self, e: usize) -> Result<Vec<u8>, AllocError> {
-        let Some(wires) = self.wires.get(e) else {
-            return refused(self.alloc, 92);
-        };
-        let Some(out) = self.queues.get_mut(wires.out) else {
-            return refused(self.alloc, 92);
-        };
-        if e >= self.board.ends() {
-            return refused(self.alloc, 92);
+    // A write triggers the channel of the peer. That of a ring is polled, and stays so.
+    fn write(&mut self, e: usize) -> Said {
+        let said = self.put(e, Deed::Write);
+        if matches!(said, Said::Written(_, _)) {
+            trigger(&mut self.board, peer(e));
         }
-        let answer = self.board.write(e, out);
-        let peer = wires.peer;
-        match answer {
-            Ok(WriteAnswer::Written { number, count }) => {
-                if matches!(wires.kind, Kind::Queue) && peer < self.board.ends() {
-                    self.board.trigger(peer);
-                }
-                let text = format!(in self.alloc; "written {number} of {count}")?;
-                words(self.alloc, text.as_bytes())
-            }
-            Ok(WriteAnswer::Full) => words(self.alloc, b"full"),
-            Ok(WriteAnswer::Nothing) => words(self.alloc, b"nothing"),
-            Err(fault) => refused(self.alloc, fault.number()),
-        }
+        said
     }
 
-    // What a turn answered at an end.
-    fn turned(&self, e: usize, answer: TurnAnswer) -> Result<Vec<u8>, AllocError> {
-        if e >= self.board.ends() {
-            return refused(self.alloc, 92);
+    fn send(&mut self, e: usize, text: &[u8]) -> Said {
+        let said = call(self.alloc, &mut self.board, e, text);
+        if said != Said::Done {
+            return said;
         }
-        match answer {
-            TurnAnswer::Handle(call) => handled(self.alloc, e, &call, self.board.end(e)),
-            TurnAnswer::Part => says(self.alloc, b"part", e),
-            TurnAnswer::Ready => says(self.alloc, b"ready", e),
-            TurnAnswer::Quiet => says(self.alloc, b"quiet", e),
-            TurnAnswer::Full => words(self.alloc, b"full"),
-            TurnAnswer::Nothing => words(self.alloc, b"nothing"),
-            TurnAnswer::Refused(fault) => {
-                let text = format!(in self.alloc; "refused E{}", fault.number())?;
-                says(self.alloc, text.as_bytes(), e)
-            }
-        }
+        self.write(e)
     }
 
-    fn turn(&mut self, dispatcher: usize) -> Result<Vec<u8>, AllocError> {
+    fn due(&self, dispatcher: usize) -> Option<usize> {
         if dispatcher >= self.board.dispatchers() {
-            return refused(self.alloc, 92);
+            return None;
+        }
+        self.board.due(dispatcher)
+    }
+
+    fn handled(&self, e: usize, call: &Call, text: &[u8]) -> Result<Said, AllocError> {
+        if e >= self.board.ends() || !is_text(self.alloc, self.board.end(e), call, text)? {
+            return Ok(Said::Other);
+        }
+        Ok(Said::Handled(e))
+    }
+
+    fn turn(&mut self, dispatcher: usize, text: &[u8]) -> Result<Said, AllocError> {
+        if dispatcher >= self.board.dispatchers() {
+            return Ok(Said::Other);
         }
         let Some(e) = self.board.due(dispatcher) else {
-            return words(self.alloc, b"nothing");
+            return Ok(Said::Nothing);
         };
-        let Some(wires) = self.wires.get(e) else {
-            return refused(self.alloc, 92);
-        };
-        let Some(from) = self.queues.get_mut(wires.from) else {
-            return refused(self.alloc, 92);
+        let Some(from) = self.queues.get_mut(peer(e)) else {
+            return Ok(Said::Other);
         };
         match self.board.turn(dispatcher, e, from) {
-            Ok(answer) => self.turned(e, answer),
-            Err(AllocError) => refused(self.alloc, 99),
+            Ok(TurnAnswer::Handle(call)) => self.handled(e, &call, text),
+            Ok(answer) => Ok(turned(e, answer)),
+            Err(AllocError) => Ok(Said::Refused(99)),
         }
     }
 
-    fn ack(&mut self, e: usize) -> Result<Vec<u8>, AllocError> {
-        let Some(wires) = self.wires.get(e) else {
-            return refused(self.alloc, 92);
-        };
-        let Some(from) = self.queues.get_mut(wires.from) else {
-            return refused(self.alloc, 92);
-        };
-        if e >= self.board.ends() {
-            return refused(self.alloc, 92);
-        }
-        match self.board.ack(e, from) {
-            Ok(AckAnswer::Done) => words(self.alloc, b"ok"),
-            Ok(AckAnswer::Nothing) => words(self.alloc, b"nothing"),
-            Ok(AckAnswer::Full) => words(self.alloc, b"full"),
-            Err(fault) => refused(self.alloc, fault.number()),
+    fn turn_at_last(&mut self, dispatcher: usize, text: &[u8]) -> Result<Said, AllocError> {
+        match self.turn(dispatcher, text) {
+            Ok(Said::Refused(99)) => self.turn(dispatcher, text),
+            said => said,
         }
     }
 
-    fn register(&mut self, e: usize) -> Result<Vec<u8>, AllocError> {
-        let Some(wires) = self.wires.get(e) else {
-            return refused(self.alloc, 92);
-        };
-        let Some(from) = self.queues.get_mut(wires.from) else {
-            return refused(self.alloc, 92);
-        };
-        if e >= self.board.ends() {
-            return refused(self.alloc, 92);
-        }
-        match self.board.register(e, from) {
-            Ok(()) => words(self.alloc, b"ok"),
-            Err(fault) => refused(self.alloc, fault.number()),
-        }
-    }
-
-    fn deregister(&mut self, e: usize) -> Result<Vec<u8>, AllocError> {
-        if e >= self.board.ends() {
-            return refused(self.alloc, 92);
-        }
-        match self.board.deregister(e) {
-            Ok(()) => words(self.alloc, b"ok"),
-            Err(fault) => refused(self.alloc, fault.number()),
+    // What is answered to a deed.
+    fn answer(&mut self, place: usize, deed: Deed) -> Result<Said, AllocError> {
+        match deed {
+            Deed::Turn(text) => self.turn(place, text),
+            Deed::TurnAtLast(text) => self.turn_at_last(place, text),
+            Deed::Due => Ok(Said::Due(self.due(place))),
+            Deed::Call(text) => Ok(call(self.alloc, &mut self.board, place, text)),
+            Deed::CallAtLast(text) => Ok(call_at_last(self.alloc, &mut self.board, place, text)),
+            Deed::Send(text) => Ok(self.send(place, text)),
+            Deed::Write => Ok(self.write(place)),
+            Deed::Show | Deed::Put(_, _) | Deed::Peek => Ok(self.put(place, deed)),
+            Deed::Ack | Deed::Register => Ok(self.take(place, deed)),
+            _ => Ok(ask(&mut self.board, place, deed)),
         }
     }
 
-    // The reply to message 0 is message 1.
-    fn reply(&mut self, e: usize) -> Result<Vec<u8>, AllocError> {
-        if e >= self.board.ends() {
-            return refused(self.alloc, 92);
-        }
-        match self.board.reply_rule(e, MsgNo(0), MsgNo(1)) {
-            Ok(()) => words(self.alloc, b"ok"),
-            Err(fault) => refused(self.alloc, fault.number()),
-        }
-    }
-
-    /// The answer to a command.
-    pub fn step(
-        &mut self,
-        command: Command,
-        place: usize,
-        text: &[u8],
-    ) -> Result<Vec<u8>, AllocError> {
-        match command {
-            Command::Call => self.call(place, text),
-            Command::Show => self.show(place),
-            Command::Write => self.write(place),
-            Command::Turn => self.turn(place),
-            Command::Ack => self.ack(place),
-            Command::Register => self.register(place),
-            Command::Deregister => self.deregister(place),
-            Command::Reply => self.reply(place),
-        }
-    }
-
-    /// The place, from 0, of the first line that isn't answered so; none where all are.
-    pub fn differs(&mut self, lines: &[Line]) -> Result<Option<usize>, AllocError> {
-        for (at, (command, place, text, wanted)) in lines.iter().enumerate() {
-            let answer = self.step(*command, *place, text)?;
-            if answer.as_slice() != *wanted {
-                return Ok(Some(at));
+    // Whether the rows are answered so, one after another.
+    fn answers(&mut self, rows: &[Step]) -> Result<bool, AllocError> {
+        for (place, deed, said) in rows {
+            if self.answer(*place, *deed)? != *said {
+                return Ok(false);
             }
         }
-        Ok(None)
+        Ok(true)
+    }
+
+    fn bind_all(&mut self, bindings: &[Binding]) -> Result<(), AllocError> {
+        for binding in bindings {
+            self.bind(binding)?;
+        }
+        Ok(())
+    }
+
+    fn goes(&mut self, example: &Example) -> Result<bool, AllocError> {
+        self.bind_all(example.bindings)?;
+        self.answers(example.rows)
+    }
+}
+
+impl Row for Example {
+    fn holds(&self, alloc: Global) -> Result<bool, AllocError> {
+        let mut rig = Rig::new(alloc, self.dispatchers)?;
+        rig.goes(self)
     }
 }

@@ -1,8 +1,9 @@
 //! Fragments that can't follow those before them, and want of memory where a call becomes whole.
 
-use crate::pair::{Deed, Example, Row, Said, first_wrong, handles_at_last};
+use crate::pair::{Deed, Example, Said, Step};
+use crate::tables::Row;
 use fl_base::{Circuit, Side};
-use std::test::Fail;
+use std::alloc::Global;
 
 const SHORT: &[u8] = b"interface i { message m(bool b, string s[2]); }";
 
@@ -18,7 +19,7 @@ const LAST: [u64; 7] = [0x61, 0, 0, 0, 0, 0, 0];
 const LONG: &[u8] = b"blob(\"aaaaaaaaaaaaaaaaaaaaaaaaaaaaaaaaaaaaaaaaaaaaaaaaa\")\n";
 
 // To a new end.
-const FORGED: &[&[Row]] = &[
+const FORGED: &[&[Step]] = &[
     &[(
         Side::Server,
         Deed::Take(1, [0, 0, 0, 0, 0, 0, 0]),
@@ -56,10 +57,10 @@ const FORGED: &[&[Row]] = &[
     )],
 ];
 
-const PART: Row = (Side::Server, Deed::Take(3, FIRST), Said::Part);
+const PART: Step = (Side::Server, Deed::Take(3, FIRST), Said::Part);
 
 // Inside a call of two fragments.
-const INSIDE: &[&[Row]] = &[
+const INSIDE: &[&[Step]] = &[
     &[
         PART,
         (
@@ -95,7 +96,7 @@ const INSIDE: &[&[Row]] = &[
 ];
 
 // A fragment that only acknowledges is of no call, also inside one.
-const QUIET: &[Row] = &[
+const QUIET: &[Step] = &[
     PART,
     (
         Side::Server,
@@ -108,14 +109,14 @@ const QUIET: &[Row] = &[
 const HAS_FAILED: Said = Said::Seen(Some(Circuit(0)), [true, false, true, false]);
 
 // An end that has failed answers E64 to a receive, a write, a look and a call.
-const FAILED: &[Row] = &[
+const FAILED: &[Step] = &[
     (Side::Server, Deed::Look, HAS_FAILED),
     (Side::Server, Deed::Receive, Said::Refused(64)),
     (Side::Server, Deed::Write, Said::Refused(64)),
     (Side::Server, Deed::Show, Said::Refused(64)),
 ];
 
-const EXAMPLES: &[Example] = &[
+pub const EXAMPLES: &[Example] = &[
     Example {
         text: SHORT,
         circuit: Some(Circuit(0)),
@@ -148,14 +149,8 @@ const EXAMPLES: &[Example] = &[
     },
 ];
 
-#[test]
-fn forged_fragments(rt: HostRuntime) -> Result<(), Fail> {
-    assert_eq!(rt; first_wrong(rt.alloc(), EXAMPLES)?, None);
-    Ok(())
-}
-
 // Both fragments of a call, of which the first is taken.
-const HALF_TAKEN: &[Row] = &[
+const HALF_TAKEN: &[Step] = &[
     (Side::Server, Deed::Put(3, FIRST), Said::Done),
     (Side::Server, Deed::Put(1, LAST), Said::Done),
     (Side::Server, Deed::Receive, Said::Part),
@@ -166,13 +161,14 @@ const AT_LAST: Example = Example {
     circuit: Some(Circuit(0)),
     size: 8,
     starts: &[HALF_TAKEN],
-    rows: &[],
+    rows: &[&[(Side::Server, Deed::ReceiveAtLast, Said::Handled)]],
     handled: LONG,
 };
 
-#[test]
-fn receive_without_memory(rt: HostRuntime) {
-    if let Ok(handles) = handles_at_last(rt.alloc(), &AT_LAST) {
-        assert!(rt; handles);
+/// Whether a call becomes whole at last; where memory runs out before that there is nothing to show.
+pub fn receives_without_memory(alloc: Global) -> bool {
+    match AT_LAST.holds(alloc) {
+        Ok(holds) => holds,
+        Err(_) => true,
     }
 }

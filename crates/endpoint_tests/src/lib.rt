@@ -1,6 +1,7 @@
 //! Tests alone, of ends of bindings over queues: worked examples between the two ends of a binding, forged fragments, reply
 //! rules, ends that aren't bound, and no memory.
 //!
+//! - `tables.rt`, `ends.rt`: tables, of which a test tells the first row that isn't so, and all of them
 //! - `pair.rt`: the two ends of a binding, and what they answer
 //! - `rows.rt`: worked examples
 //! - `forged.rt`: fragments that can't follow those before them
@@ -12,6 +13,8 @@
 #![tactic(auto)]
 
 #[cfg(test)]
+mod ends;
+#[cfg(test)]
 mod faults;
 #[cfg(test)]
 mod forged;
@@ -21,3 +24,5 @@ mod pair;
 mod rows;
 #[cfg(test)]
 mod sides;
+#[cfg(test)]
+mod tables;

@@ -1,14 +1,15 @@
 //! The two ends of a binding over queues, and what they answer.
 
 use crate::sides::Refusing;
+use crate::tables::Row;
 use fl_base::{Circuit, Frag, MsgNo, Side};
-use fl_check::{Interface, TextFault, check};
+use fl_check::check;
 use fl_compile::{Program, compile};
 use fl_endpoint::{End, EndFault, ReceiveAnswer, WriteAnswer};
-use fl_lex::lex;
+use fl_lex::{Tokens, lex};
 use fl_link::{PutFault, QueueLink};
-use fl_parse::parse;
-use fl_value::{Call, PlanNo, print_call, read_call};
+use fl_parse::{Tree, parse};
+use fl_value::{Call, PlanNo, ValueFault, print_call, read_call};
 use std::alloc::{AllocError, Global};
 
 /// What is done at an end.
@@ -23,6 +24,8 @@ pub enum Deed {
     Show,
     Write,
     Receive,
+    /// A receive, where memory that runs out once is met by asking again.
+    ReceiveAtLast,
     /// A look at what a write would put on a side that refuses it, and such a write.
     ShowRefused(PutFault),
     WriteRefused(PutFault),
@@ -61,7 +64,7 @@ pub enum Said {
 }
 
 /// A deed at an end, and what the end answers.
-pub type Row = (Side, Deed, Said);
+pub type Step = (Side, Deed, Said);
 
 /// What the ends of a new binding answer under both plans, and the texts of the calls that they handle, a line each.
 #[derive(Clone, Copy)]
@@ -72,9 +75,9 @@ pub struct Example {
     /// How many fragments there is room for each way.
     pub size: usize,
     /// How it begins: each of these is tried with a new binding.
-    pub starts: &'static [&'static [Row]],
+    pub starts: &'static [&'static [Step]],
     /// How each goes on.
-    pub rows: &'static [&'static [Row]],
+    pub rows: &'static [&'static [Step]],
     pub handled: &'static [u8],
 }
 
@@ -94,22 +97,26 @@ struct Pair {
     handled: Vec<u8>,
 }
 
-fn interface_in(alloc: Global, text: &[u8]) -> Result<Interface, TextFault> {
-    let tokens = lex(alloc, text)?;
-    let tree = parse(alloc, &tokens)?;
-    Ok(check(alloc, &tree)?)
-}
-
-// The interface of a text; none only where memory runs out.
-fn interface(alloc: Global, text: &[u8]) -> Result<Interface, AllocError> {
-    match interface_in(alloc, text) {
-        Ok(interface) => Ok(interface),
+fn program_of_tree(alloc: Global, tree: &Tree, plan: PlanNo) -> Result<Program, AllocError> {
+    match check(alloc, tree) {
+        Ok(interface) => compile(alloc, &interface, plan),
         Err(_) => Err(AllocError),
     }
 }
 
+fn program_of(alloc: Global, tokens: &Tokens, plan: PlanNo) -> Result<Program, AllocError> {
+    match parse(alloc, tokens) {
+        Ok(tree) => program_of_tree(alloc, &tree, plan),
+        Err(_) => Err(AllocError),
+    }
+}
+
+// The program of a text; none only where memory runs out.
 fn program(alloc: Global, text: &[u8], plan: PlanNo) -> Result<Program, AllocError> {
-    compile(alloc, &interface(alloc, text)?, plan)
+    match lex(alloc, text) {
+        Ok(tokens) => program_of(alloc, &tokens, plan),
+        Err(_) => Err(AllocError),
+    }
 }
 
 fn end(alloc: Global, program: Program, circuit: Option<Circuit>) -> Result<End, AllocError> {
@@ -165,42 +172,38 @@ fn put(queue: &mut QueueLink, control: u64, words: [u64; 7]) -> Said {
     }
 }
 
-fn call(alloc: Global, end: &mut End, text: &[u8]) -> Said {
-    match read_call(alloc, text, end.program().interface()) {
+// A call as it was read.
+fn say(end: &mut End, read: Result<Call, ValueFault>) -> Said {
+    match read {
         Ok(call) => said_of(end.call(&call)),
         Err(_) => Said::Refused(90),
     }
 }
 
-fn call_by(
-    alloc: Global,
-    end: &mut End,
-    interface: &Interface,
-    text: &[u8],
-) -> Result<Said, AllocError> {
-    match read_call(alloc, text, interface) {
-        Ok(call) => Ok(said_of(end.call(&call))),
-        Err(_) => Err(AllocError),
-    }
+fn call(alloc: Global, end: &mut End, text: &[u8]) -> Said {
+    let read = read_call(alloc, text, end.program().interface());
+    say(end, read)
+}
+
+// The same, read by the interface of another text.
+fn call_by(alloc: Global, end: &mut End, other: &[u8], text: &[u8]) -> Result<Said, AllocError> {
+    let program = program(alloc, other, PlanNo::Two)?;
+    Ok(say(end, read_call(alloc, text, program.interface())))
 }
 
 // Adds the line of a call that an end handles.
-fn write_call(
+fn handle(
     alloc: Global,
     handled: &mut Vec<u8>,
     end: &End,
     call: &Call,
-) -> Result<(), AllocError> {
-    if let Some(message) = end
-        .program()
-        .interface()
-        .messages
-        .get(usize::from(call.msg.0))
-    {
+) -> Result<Said, AllocError> {
+    let messages = &end.program().interface().messages;
+    if let Some(message) = messages.get(usize::from(call.msg.0)) {
         print_call(alloc, handled, &message.name.bytes, &call.args)?;
     }
     handled.push(b'\n')?;
-    Ok(())
+    Ok(Said::Handled)
 }
 
 fn seen(end: &End) -> Said {
@@ -220,11 +223,6 @@ fn counts(end: &End) -> Said {
     )
 }
 
-fn bind(end: &mut End, circuit: Circuit) -> Said {
-    end.bind(circuit);
-    Said::Done
-}
-
 // What an end answers that takes no memory.
 fn ask(end: &mut End, deed: Deed) -> Said {
     match deed {
@@ -232,7 +230,10 @@ fn ask(end: &mut End, deed: Deed) -> Said {
         Deed::RuleFor(msg) => Said::Rule(end.rule_for(msg)),
         Deed::ShowRefused(fault) => said_of_show(end.show(&Refusing(fault))),
         Deed::WriteRefused(fault) => said_of_write(end.write(&mut Refusing(fault))),
-        Deed::Bind(circuit) => bind(end, circuit),
+        Deed::Bind(circuit) => {
+            end.bind(circuit);
+            Said::Done
+        }
         Deed::Look => seen(end),
         _ => counts(end),
     }
@@ -254,15 +255,24 @@ impl Half {
         handled: &mut Vec<u8>,
     ) -> Result<Said, AllocError> {
         match self.end.receive(from) {
-            Ok(ReceiveAnswer::Handle(call)) => {
-                write_call(alloc, handled, &self.end, &call)?;
-                Ok(Said::Handled)
-            }
+            Ok(ReceiveAnswer::Handle(call)) => handle(alloc, handled, &self.end, &call),
             Ok(ReceiveAnswer::Part) => Ok(Said::Part),
             Ok(ReceiveAnswer::Quiet) => Ok(Said::Quiet),
             Ok(ReceiveAnswer::Empty) => Ok(Said::Empty),
             Ok(ReceiveAnswer::HeldBack) => Ok(Said::HeldBack),
             Err(fault) => Ok(Said::Refused(fault.number())),
+        }
+    }
+
+    fn receive_at_last(
+        &mut self,
+        alloc: Global,
+        from: &mut QueueLink,
+        handled: &mut Vec<u8>,
+    ) -> Result<Said, AllocError> {
+        match self.receive(alloc, from, handled) {
+            Ok(Said::Refused(99)) => self.receive(alloc, from, handled),
+            said => said,
         }
     }
 
@@ -276,12 +286,11 @@ impl Half {
         match deed {
             Deed::Call(text) => Ok(call(alloc, &mut self.end, text)),
             Deed::Send(text) => Ok(self.send(alloc, text)),
-            Deed::CallBy(other, text) => {
-                call_by(alloc, &mut self.end, &interface(alloc, other)?, text)
-            }
+            Deed::CallBy(other, text) => call_by(alloc, &mut self.end, other, text),
             Deed::Show => Ok(said_of_show(self.end.show(&self.out))),
             Deed::Write => Ok(said_of_write(self.end.write(&mut self.out))),
             Deed::Receive => self.receive(alloc, from, handled),
+            Deed::ReceiveAtLast => self.receive_at_last(alloc, from, handled),
             Deed::Put(control, words) => Ok(put(from, control, words)),
             Deed::Take(control, words) => {
                 put(from, control, words);
@@ -311,7 +320,7 @@ impl Pair {
     }
 
     // Whether the ends answer so to deeds, one after another.
-    fn answers(&mut self, rows: &[Row]) -> Result<bool, AllocError> {
+    fn answers(&mut self, rows: &[Step]) -> Result<bool, AllocError> {
         for (side, deed, said) in rows {
             if self.answer(*side, *deed)? != *said {
                 return Ok(false);
@@ -320,7 +329,7 @@ impl Pair {
         Ok(true)
     }
 
-    fn goes_on(&mut self, parts: &[&[Row]]) -> Result<bool, AllocError> {
+    fn goes_on(&mut self, parts: &[&[Step]]) -> Result<bool, AllocError> {
         for rows in parts {
             if !self.answers(rows)? {
                 return Ok(false);
@@ -329,46 +338,33 @@ impl Pair {
         Ok(true)
     }
 
-    // Whether the server handles a call, where memory that runs out once is met by asking again.
-    fn handles_at_last(&mut self) -> Result<bool, AllocError> {
-        let mut said = self.answer(Side::Server, Deed::Receive)?;
-        if said == Said::Refused(99) {
-            said = self.answer(Side::Server, Deed::Receive)?;
-        }
-        Ok(said == Said::Handled)
+    fn has_handled(&self, text: &[u8]) -> bool {
+        self.handled.as_slice() == text
+    }
+
+    fn goes(&mut self, example: &Example, start: &[Step]) -> Result<bool, AllocError> {
+        Ok(self.answers(start)? && self.goes_on(example.rows)? && self.has_handled(example.handled))
     }
 }
 
-impl Example {
-    fn holds(&self, alloc: Global, plan: PlanNo, start: &[Row]) -> Result<bool, AllocError> {
-        let mut pair = Pair::new(alloc, plan, self)?;
-        let holds = pair.answers(start)? && pair.goes_on(self.rows)?;
-        Ok(holds && pair.handled.as_slice() == self.handled)
-    }
+// Whether both ends of a new binding answer so, from one of the beginnings on.
+fn goes(
+    alloc: Global,
+    plan: PlanNo,
+    example: &Example,
+    start: &[Step],
+) -> Result<bool, AllocError> {
+    let mut pair = Pair::new(alloc, plan, example)?;
+    pair.goes(example, start)
+}
 
-    fn holds_under(&self, alloc: Global, plan: PlanNo) -> Result<bool, AllocError> {
+impl Row for Example {
+    fn holds(&self, alloc: Global) -> Result<bool, AllocError> {
         for start in self.starts {
-            if !self.holds(alloc, plan, start)? {
+            if !goes(alloc, PlanNo::One, self, start)? || !goes(alloc, PlanNo::Two, self, start)? {
                 return Ok(false);
             }
         }
         Ok(true)
     }
-}
-
-/// The place of the first example that isn't so.
-pub fn first_wrong(alloc: Global, examples: &[Example]) -> Result<Option<usize>, AllocError> {
-    for (place, example) in examples.iter().enumerate() {
-        if !example.holds_under(alloc, PlanNo::One)? || !example.holds_under(alloc, PlanNo::Two)? {
-            return Ok(Some(place));
-        }
-    }
-    Ok(None)
-}
-
-/// Whether an example begins so, and then the server handles a call, where memory that runs out once is met by asking again.
-pub fn handles_at_last(alloc: Global, example: &Example) -> Result<bool, AllocError> {
-    let mut pair = Pair::new(alloc, PlanNo::Two, example)?;
-    let handles = pair.goes_on(example.starts)? && pair.handles_at_last()?;
-    Ok(handles && pair.handled.as_slice() == example.handled)
 }

@@ -1,8 +1,7 @@
 //! Worked examples between the two ends of a binding.
 
-use crate::pair::{Deed, Example, Row, Said, first_wrong};
+use crate::pair::{Deed, Example, Said, Step};
 use fl_base::{Circuit, MsgNo, Side};
-use std::test::Fail;
 
 const PING: &[u8] = b"interface i { message ping(uint32 v); }";
 
@@ -15,7 +14,7 @@ const ECHO: &[u8] = b"interface i { rpc echo(in uint32 x, out uint32 y); }";
 const LONG: &[u8] = b"blob(\"aaaaaaaaaaaaaaaaaaaaaaaaaaaaaaaaaaaaaaaaaaaaaaaaa\")";
 
 // What is shown: control words of a first fragment, on circuit 0 and with epoch 1.
-const ONE_CALL: &[Row] = &[
+const ONE_CALL: &[Step] = &[
     (Side::Client, Deed::Call(b"ping(7)"), Said::Done),
     (
         Side::Client,
@@ -29,7 +28,7 @@ const ONE_CALL: &[Row] = &[
     (Side::Client, Deed::Write, Said::Nothing),
 ];
 
-const NO_ARGUMENTS: &[Row] = &[
+const NO_ARGUMENTS: &[Step] = &[
     (Side::Client, Deed::Call(b"nop()"), Said::Done),
     (
         Side::Client,
@@ -40,7 +39,7 @@ const NO_ARGUMENTS: &[Row] = &[
     (Side::Server, Deed::Receive, Said::Handled),
 ];
 
-const TWO_FRAGMENTS: &[Row] = &[
+const TWO_FRAGMENTS: &[Step] = &[
     (Side::Client, Deed::Call(LONG), Said::Done),
     (Side::Client, Deed::Write, Said::Written(1, 2)),
     (Side::Client, Deed::Call(b"blob(\"x\")"), Said::Refused(40)),
@@ -51,7 +50,7 @@ const TWO_FRAGMENTS: &[Row] = &[
 ];
 
 // A queue of one fragment: the second is put once the first is taken.
-const FULL: &[Row] = &[
+const FULL: &[Step] = &[
     (Side::Server, Deed::Call(LONG), Said::Done),
     (Side::Server, Deed::Write, Said::Written(1, 2)),
     (Side::Server, Deed::Write, Said::Full),
@@ -60,7 +59,7 @@ const FULL: &[Row] = &[
     (Side::Client, Deed::Receive, Said::Handled),
 ];
 
-const REPLY: &[Row] = &[
+const REPLY: &[Step] = &[
     (Side::Server, Deed::Rule(MsgNo(0), MsgNo(1)), Said::Done),
     (Side::Client, Deed::Call(b"echo_call(9)"), Said::Done),
     (Side::Client, Deed::Write, Said::Written(1, 1)),
@@ -75,7 +74,7 @@ const REPLY: &[Row] = &[
 ];
 
 // Eighteen calls are made and written, of which seventeen are handled: one reply is in transmission then, and 16 wait.
-const EIGHTEEN_CALLS: &[Row] = &[
+const EIGHTEEN_CALLS: &[Step] = &[
     (
         Side::Client,
         Deed::Send(b"echo_call(1)"),
@@ -168,14 +167,14 @@ const EIGHTEEN_CALLS: &[Row] = &[
     ),
 ];
 
-const SEVENTEEN_HANDLED: &[Row] = &[(Side::Server, Deed::Receive, Said::Handled); 17];
+const SEVENTEEN_HANDLED: &[Step] = &[(Side::Server, Deed::Receive, Said::Handled); 17];
 
-const SIXTEEN_WAIT: &[Row] = &[(Side::Server, Deed::Count, Said::Counts(16, 2))];
+const SIXTEEN_WAIT: &[Step] = &[(Side::Server, Deed::Count, Said::Counts(16, 2))];
 
-const RULE: &[Row] = &[(Side::Server, Deed::Rule(MsgNo(0), MsgNo(1)), Said::Done)];
+const RULE: &[Step] = &[(Side::Server, Deed::Rule(MsgNo(0), MsgNo(1)), Said::Done)];
 
 // No fragment is looked at while 16 replies wait. A write makes room for one, and the first that waited is in transmission.
-const HELD_BACK: &[Row] = &[
+const HELD_BACK: &[Step] = &[
     (Side::Server, Deed::Receive, Said::HeldBack),
     (
         Side::Server,
@@ -201,7 +200,7 @@ echo_call(13)\necho_call(14)\necho_call(15)\necho_call(16)\necho_call(17)\necho_
 const RULES: &[u8] =
     b"interface i { message a(uint8 x); message b(uint8 y); message c(uint16 x); message d(uint8 z); }";
 
-const LATER_RULE: &[Row] = &[
+const LATER_RULE: &[Step] = &[
     (
         Side::Server,
         Deed::Rule(MsgNo(0), MsgNo(4)),
@@ -228,7 +227,7 @@ const LATER_RULE: &[Row] = &[
 
 const LONG_LINE: &[u8] = b"blob(\"aaaaaaaaaaaaaaaaaaaaaaaaaaaaaaaaaaaaaaaaaaaaaaaaa\")\n";
 
-const EXAMPLES: &[Example] = &[
+pub const EXAMPLES: &[Example] = &[
     Example {
         text: PING,
         circuit: Some(Circuit(0)),
@@ -292,9 +291,3 @@ const EXAMPLES: &[Example] = &[
         handled: b"a(5)\nd(5)\n",
     },
 ];
-
-#[test]
-fn worked_rows(rt: HostRuntime) -> Result<(), Fail> {
-    assert_eq!(rt; first_wrong(rt.alloc(), EXAMPLES)?, None);
-    Ok(())
-}

@@ -2,14 +2,13 @@
 
 ghost use Rattle.std.specs.Prelude.{true};
 
-use crate::pair::{Deed, Example, Row, Said, first_wrong};
+use crate::pair::{Deed, Example, Said, Step};
 use fl_base::{Circuit, Frag, MsgNo, Side};
 use fl_endpoint::{
     accounts_add_up, bind_accounts, call_accounts, handles_in_order, on_another_circuit,
     receive_accounts, replies_add_up, rule_accounts, since_made, takes_in_order, write_accounts,
 };
 use fl_link::{PutFault, PutSide, QueueLink};
-use std::test::Fail;
 
 const PING: &[u8] = b"interface i { message ping(uint32 v); }";
 
@@ -19,7 +18,7 @@ const WIDER: &[u8] = b"interface i { message ping(uint64 v); message pong(uint32
 const TEXT: &[u8] = b"interface i { message ping(string s); }";
 
 // E41 and E42 come before E43, and a rule may be set.
-const UNBOUND: &[Row] = &[
+const UNBOUND: &[Step] = &[
     (
         Side::Client,
         Deed::Look,
@@ -63,7 +62,7 @@ const BUSY_ON_5: Said = Said::Seen(Some(Circuit(5)), [true, true, false, true]);
 const SHOWN_ON_5: Said = Said::Shown(0x0005_0000_0003, [7, 0, 0, 0, 0, 0, 0]);
 
 // Once it is bound: a second binding changes nothing.
-const BOUND: &[Row] = &[
+const BOUND: &[Step] = &[
     (Side::Client, Deed::Bind(Circuit(5)), Said::Done),
     (Side::Client, Deed::Bind(Circuit(6)), Said::Done),
     (Side::Client, Deed::Call(b"ping(7)"), Said::Done),
@@ -78,7 +77,7 @@ const TOLD: Said = Said::Shown(0x0002_0001_0000_0003, [7, 0, 0, 0, 0, 0, 0]);
 const BUSY_ON_1: Said = Said::Seen(Some(Circuit(1)), [true, true, false, false]);
 
 // Neither a spent side nor a full one changes the end; a look has what the side would write.
-const REFUSING: &[Row] = &[
+const REFUSING: &[Step] = &[
     (Side::Client, Deed::Bind(Circuit(1)), Said::Done),
     (
         Side::Client,
@@ -97,7 +96,7 @@ const REFUSING: &[Row] = &[
     (Side::Client, Deed::ShowRefused(PutFault::Full), TOLD),
 ];
 
-const EXAMPLES: &[Example] = &[
+pub const EXAMPLES: &[Example] = &[
     Example {
         text: PING,
         circuit: None,
@@ -115,12 +114,6 @@ const EXAMPLES: &[Example] = &[
         handled: b"",
     },
 ];
-
-#[test]
-fn ends_not_bound_at_first(rt: HostRuntime) -> Result<(), Fail> {
-    assert_eq!(rt; first_wrong(rt.alloc(), EXAMPLES)?, None);
-    Ok(())
-}
 
 /// A side that puts nothing, and would tell a number.
 #[derive(Drop)]
@@ -158,8 +151,7 @@ impl PutSide for Refusing {
     }
 }
 
-#[test]
-fn laws_hold(_rt: HostRuntime) {
+pub fn laws() {
     accounts_add_up();
     replies_add_up();
     call_accounts();
