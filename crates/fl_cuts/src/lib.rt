@@ -15,4 +15,4 @@
 
 mod law;
 
-pub use law::{events_follow, sides_agree, starts_show, turns_follow};
+pub use law::{events_follow, ready_cores_follow, sides_agree, starts_show, turns_follow};
