@@ -67,7 +67,8 @@ each_by R (x ∷ xs) (y ∷ ys) long h =
     let rest : length ys ≡ length xs = omega (arith, long) in (h 0 x y refl refl, each_by R xs ys rest (λ n u v p q. h (suc n) u v p q))
 
 not_bound : (o : Option ℕ) → o ≡ Some 0 → o ≡ None → ⊥
-not_bound o p q = let both : Some 0 ≡ None {A = ℕ} = sym p ∙ q in cc
+not_bound None p q = absurd (cc)
+not_bound (Some x) p q = absurd (cc)
 
 -- no first end is unbound
 first_bound : (core : ℕ) (seats : List TheSeat) (ports : List Port) (e : ℕ) (x : EndCut) → slice_get (first_ends core seats ports) e ≡ Some x
