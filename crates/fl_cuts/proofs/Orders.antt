@@ -1,12 +1,13 @@
 -- A message that a ready core hears comes in order, but for an opening that turns back.
-use Rattle.std.proofs.Common.{◌≡◌, ◌≢◌, ◌⊎◌, inl, inr, refl, sym, ◌∙◌, ap, subst, ℕ, ◌+◌, ◌-◌, ◌==◌, ◌&&◌, ◌<◌, cond, nat_lt, nat_le, not, Bool, true, false, if◌then◌else◌, List, [], ◌∷◌, length, map, slice_get, Option, Some, None, arith}
+use Rattle.std.proofs.Common.{◌≡◌, ◌≢◌, ◌⊎◌, inl, inr, refl, sym, ◌∙◌, ap, subst, ℕ, zero, suc, ◌+◌, ◌-◌, ◌==◌, ◌&&◌, ◌||◌, ◌<◌, cond, nat_lt, nat_le, not, Bool, true, false, if◌then◌else◌, List, [], ◌∷◌, length, map, slice_get, Option, Some, None, arith}
 use Rattle.std.specs.Prelude.{Ok, is_some, position}
 use Rattle.std.specs.List.{position_from}
 use Rattle.std.specs.Option.{option_map}
 use Rattle.std.proofs.lemmas.Bool.Decides.{nat_tests}
 use Rattle.std.proofs.lemmas.Iterator.Adapters.{position_from-zero}
 use Rattle.std.proofs.lemmas.List.{length-map}
-use Rattle.std.proofs.lemmas.Option.{slice_get-map}
+use Rattle.std.proofs.lemmas.List.Quantifiers.{position-Some}
+use Rattle.std.proofs.lemmas.Option.{slice_get-map, get_or_from_slice_get}
 use Rattle.fl_base.specs.declared.identity.CoreId.{CoreId}
 use Rattle.fl_base.specs.declared.identity.EndId.{EndId}
 use Rattle.fl_base.specs.declared.identity.LinkId.{LinkId}
@@ -29,9 +30,13 @@ use Rattle.fl_monitor.specs.declared.message.Message.TheVariants.{OpenCircuit, C
 use Rattle.fl_monitor.specs.declared.opening.Opening.{Opening as Asked}
 use Rattle.fl_monitor.specs.Fates.{Known, is_offered_elsewhere, is_for_another, is_in_place, comes_along}
 use Rattle.fl_monitor.specs.Hearing.{ComesTo}
-use Rattle.fl_monitor.specs.Routing.{is_core, given as given_at, next_on as next_named}
+use Rattle.fl_monitor.specs.Routing.{is_core, given as given_at, next_on as next_named, comes_after, is_named_behind, is_on_route}
+use Rattle.fl_hop.specs.declared.links.LinkState.{LinkState}
 use Rattle.fl_hop.specs.Numbers.{next_due}
 use Rattle.fl_hop.specs.Openings.{is_next}
+use Rattle.fl_hop.proofs.Laws.{is_eq}
+use Rattle.fl_lists.specs.ThreeLists.{is_in}
+use Rattle.fl_queues.specs.Binding.{all_differ}
 use Rattle.fl_nameserv.specs.Registrations.{TheRegistration, by_iref}
 use Rattle.fl_node.specs.declared.hearing.Offered.{Offered}
 use Rattle.fl_node.specs.declared.wire.Port.{Port}
@@ -169,7 +174,13 @@ place_at services a s l c o h names serves placed x last found =
 
 -- ---- where it leads on
 
-pub turns : (l : ℕ) (o : Opening) (a : Cut) → LeadsOn l o a.core ⊎ TurnsBack l o a
+-- or back over the link on which it came
+record Back (l : ℕ) (o : Opening) (a : Cut) : Type 0 where
+  pub next : ℕ
+  pub next_is : next_on o.path a.core.circuits.core ≡ Some next
+  pub back : link_to next a.core ≡ Some l
+
+turns : (l : ℕ) (o : Opening) (a : Cut) → LeadsOn l o a.core ⊎ Back l o a
 turns l o a = by_next (next_on o.path a.core.circuits.core) refl where
   same_link : (n m next x : ℕ) → next_on o.path a.core.circuits.core ≡ Some n → link_to n a.core ≡ Some m → next_on o.path a.core.circuits.core ≡ Some next
       → link_to next a.core ≡ Some x → m ≡ x
@@ -178,7 +189,7 @@ turns l o a = by_next (next_on o.path a.core.circuits.core) refl where
       let both : Some m ≡ Some x = sym q ∙ ap (λ (i : ℕ). link_to i a.core) one ∙ k in
       cc
 
-  by_link : (n : ℕ) → next_on o.path a.core.circuits.core ≡ Some n → (m : Option ℕ) → link_to n a.core ≡ m → LeadsOn l o a.core ⊎ TurnsBack l o a
+  by_link : (n : ℕ) → next_on o.path a.core.circuits.core ≡ Some n → (m : Option ℕ) → link_to n a.core ≡ m → LeadsOn l o a.core ⊎ Back l o a
   by_link n p None q = inl (λ next m r k.
       let one : n ≡ next = (let both : Some n ≡ Some next = sym p ∙ r in cc) in
       let both : None ≡ Some m = sym q ∙ ap (λ (i : ℕ). link_to i a.core) one ∙ k in
@@ -188,9 +199,98 @@ turns l o a = by_next (next_on o.path a.core.circuits.core) refl where
     | inr other ↦ inl (λ next x r k same. other (same ∙ sym (same_link n m next x p q r k)))
   ]
 
-  by_next : (n : Option ℕ) → next_on o.path a.core.circuits.core ≡ n → LeadsOn l o a.core ⊎ TurnsBack l o a
+  by_next : (n : Option ℕ) → next_on o.path a.core.circuits.core ≡ n → LeadsOn l o a.core ⊎ Back l o a
   by_next None p = inl (λ next m r k. let both : None ≡ Some next = sym p ∙ r in absurd (cc))
   by_next (Some n) p = by_link n p (link_to n a.core) refl
+
+-- ---- a route that leads back
+
+or_true : (b : Bool) → (b || true) ≡ true
+or_true true = refl
+or_true false = refl
+
+and_none : (b : Bool) → (b && false) ≡ false
+and_none true = refl
+and_none false = refl
+
+listed_in : (xs : List ℕ) (i x : ℕ) → slice_get xs i ≡ Some x → is_in x xs ≡ true
+listed_in [] i x p = absurd (cc)
+listed_in (y ∷ ys) zero x p = let same : y ≡ x = cc in ap (λ (b : Bool). b || is_in x ys) (is_eq y x same)
+listed_in (y ∷ ys) (suc i) x p = ap (λ (b : Bool). (y == x) || b) (listed_in ys i x p) ∙ or_true (y == x)
+
+-- it names a core before and behind another
+twice_in : (xs : List ℕ) (i x : ℕ) → slice_get xs i ≡ Some x → slice_get xs (suc (suc i)) ≡ Some x → all_differ xs ≡ false
+twice_in [] i x p q = absurd (cc)
+twice_in (y ∷ ys) zero x p q =
+    let same : y ≡ x = cc in ap (λ (b : Bool). not b && all_differ ys) (ap (λ (z : ℕ). is_in z ys) same ∙ listed_in ys 1 x q)
+twice_in (y ∷ ys) (suc i) x p q = ap (λ (b : Bool). not (is_in y ys) && b) (twice_in ys i x p q) ∙ and_none (not (is_in y ys))
+
+-- where the core stands on a route that leads here from its link
+record Along (t : TheCircuits) (l : ℕ) (path : List CoreId) : Type 0 where
+  pub link : LinkState
+  pub link_is : slice_get t.links l ≡ Some link
+  pub place : ℕ
+  pub place_is : position (is_core t.core) path ≡ Some place
+  pub after : comes_after path place link.neighbour.0 ≡ true
+
+first_of_two : (a b : Bool) → (a && b) ≡ true → a ≡ true
+first_of_two true b h = refl
+first_of_two false b h = absurd (cc)
+
+along : (t : TheCircuits) (l : ℕ) (path : List CoreId) → comes_along t l path ≡ true → Along t l path
+along t l path h = by_link (slice_get t.links l) refl h where
+  by_place : (link : LinkState) → slice_get t.links l ≡ Some link → (o : Option ℕ) → position (is_core t.core) path ≡ o
+      → (given_at o false λ place. comes_after path place link.neighbour.0 && not (is_named_behind path place t.core)) ≡ true → Along t l path
+  by_place link p None q r = absurd (cc)
+  by_place link p (Some place) q r =
+      record { link = link; link_is = p; place = place; place_is = q; after = first_of_two (comes_after path place link.neighbour.0) (not (is_named_behind path place t.core)) r }
+
+  by_link : (o : Option LinkState) → slice_get t.links l ≡ o → (given_at o false λ link. is_on_route path link.neighbour.0 t.core) ≡ true → Along t l path
+  by_link None p r = absurd (cc)
+  by_link (Some link) p r = by_place link p (position (is_core t.core) path) refl r
+
+-- the core before this one
+record Before (path : List CoreId) (place neighbour : ℕ) : Type 0 where
+  pub some : 0 < place
+  pub core : CoreId
+  pub core_is : slice_get path (place - 1) ≡ Some core
+  pub same : core.0 ≡ neighbour
+
+before : (path : List CoreId) (place neighbour : ℕ) → comes_after path place neighbour ≡ true → Before path place neighbour
+before path place neighbour h = by (nat_lt 0 place) refl h where
+  by_core : nat_lt 0 place ≡ true → (o : Option CoreId) → slice_get path (place - 1) ≡ o → (given_at o false (is_core neighbour)) ≡ true → Before path place neighbour
+  by_core p None q r = absurd (cc)
+  by_core p (Some c) q r = record { some = true_lt 0 place p; core = c; core_is = q; same = same_number c.0 neighbour r }
+
+  by : (b : Bool) → nat_lt 0 place ≡ b → (if b then given_at (slice_get path (place - 1)) false (is_core neighbour) else false) ≡ true → Before path place neighbour
+  by true p r = by_core p (slice_get path (place - 1)) refl r
+  by false p r = absurd (cc)
+
+names_twice : (a : Cut) (s : TheRun TheSide) (l : ℕ) (c : Circuit) (o : Asked) → ShowsCut a s → comes_along s.core.monitor.circuits l o.path ≡ true
+    → Back l (opening_with c.0 o) a → all_differ (opening_with c.0 o).path ≡ false
+names_twice a s l c o h leads back =
+    let t : TheCircuits = s.core.monitor.circuits in
+    let here = along t l o.path leads in
+    let prior = before o.path here.place here.link.neighbour.0 here.after in
+    let some : 0 < here.place = prior.some in
+    let next : next_named o.path t.core ≡ Some (core_id back.next)
+    = ap (λ (u : TheCircuits). next_named o.path u.core) h.monitor.circuits ∙ next_of o.path a.core.circuits.core ∙ ap (option_map core_id) back.next_is in
+    let behind : slice_get o.path (here.place + 1) ≡ Some (core_id back.next)
+    = sym (ap (λ (x : Option ℕ). given_at x None λ place. slice_get o.path (place + 1)) here.place_is) ∙ next in
+    let linked : position (λ (x : LinkState). x.neighbour.0 == back.next) t.links ≡ Some l
+    = ap (λ (u : TheCircuits). position (λ (x : LinkState). x.neighbour.0 == back.next) u.links) h.monitor.circuits ∙ back.back in
+    let test = (position-Some (λ (x : LinkState). x.neighbour.0 == back.next) t.links l here.link linked).1 in
+    let neighbour : here.link.neighbour.0 ≡ back.next
+    = same_number here.link.neighbour.0 back.next
+    (ap (λ (x : LinkState). x.neighbour.0 == back.next) (sym (get_or_from_slice_get t.links l here.link here.link here.link_is)) ∙ test) in
+    let first : slice_get (map (λ (x : CoreId). x.0) o.path) (here.place - 1) ≡ Some back.next
+    = slice_get-map (λ (x : CoreId). x.0) o.path (here.place - 1) ∙ ap (option_map (λ (x : CoreId). x.0)) prior.core_is
+    ∙ ap (λ (n : ℕ). Some n) (prior.same ∙ neighbour) in
+    let place : here.place + 1 ≡ suc (suc (here.place - 1)) = omega (arith, some) in
+    let second : slice_get (map (λ (x : CoreId). x.0) o.path) (suc (suc (here.place - 1))) ≡ Some back.next
+    = ap (slice_get (map (λ (x : CoreId). x.0) o.path)) (sym place) ∙ slice_get-map (λ (x : CoreId). x.0) o.path (here.place + 1)
+    ∙ ap (option_map (λ (x : CoreId). x.0)) behind in
+    twice_in (map (λ (x : CoreId). x.0) o.path) (here.place - 1) back.next first second
 
 -- ---- where an answer ends
 
@@ -287,7 +387,14 @@ ordered services l a s (OpenCircuit c binding service path) h sound names serves
           may = (place_at services a s l.0 c o h names serves comes.0, leads);
           unbound = λ e n number at w own. opening_other l.0 (opening_with c.0 o) (fate services (opening_with c.0 o) a.core) a.core e n w;
         })
-      | inr back ↦ inr (opening_with c.0 o, refl, back)
+      | inr back ↦ inr (opening_with c.0 o, refl, record {
+          next = back.next;
+          next_is = back.next_is;
+          back = back.back;
+          twice = names_twice a s l.0 c o h (last_two (is_next (next_due s.core.monitor.circuits l.0) c.0) (nat_lt binding 1024)
+              (not (here_for s.offers s.core (OpenCircuit c binding service path)).has_end) (not (stands s.core.monitor.circuits binding))
+              (comes_along s.core.monitor.circuits l.0 path) (not (is_for_another s.offers.names s.core.monitor.circuits o)) comes.0).0 back;
+        })
     ]
 ordered services l a s (CircuitOpened c) h sound names serves quiet led (heard, comes) =
     let there : hop_at a.core.circuits l.0 c.0 ≡ Some comes.0 = ap (λ (t : TheCircuits). hop_at t l.0 c.0) (sym h.monitor.circuits) ∙ comes.1.there in

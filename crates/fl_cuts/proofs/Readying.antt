@@ -10,7 +10,7 @@ use Rattle.fl_endpoint.specs.Laws.{OnAnotherCircuit}
 use Rattle.fl_link.specs.Looks.{Look, found}
 use Rattle.fl_ring.specs.SharedSides.{TheSide, SharedTakes}
 use Rattle.fl_hop.specs.declared.forward.Outcome.TheVariants.{Moved, Full, Spent}
-use Rattle.fl_hop.specs.Numbers.{after_taking}
+use Rattle.fl_hop.specs.Numbers.{after_taking, next_own}
 use Rattle.fl_hop.specs.Table.{TheCircuits, link_of}
 use Rattle.fl_hop.proofs.Laws.{is_eq}
 use Rattle.fl_monitor.specs.declared.heard.Heard.{Heard}
@@ -42,8 +42,8 @@ use Rattle.fl_running.proofs.Flowing.{flows}
 use Rattle.fl_running.proofs.Growing.{does_grow}
 use Rattle.fl_running.proofs.Logging.{turns_logged}
 use Rattle.fl_queues.specs.Given.{given}
-use Rattle.fl_queues.specs.Rings.{Opening, says, open_circuit, circuit_refused}
-use Rattle.fl_queues.specs.Monitors.{Core, Service, fails, next_on, link_to, can_say, with_said, with_circuits, link_id, saying, Hearing, hears_opening, no_outbox, opening_failed}
+use Rattle.fl_queues.specs.Rings.{Opening, Said, says, open_circuit, circuit_refused}
+use Rattle.fl_queues.specs.Monitors.{Core, Service, Fate, fate, arrival, passage, goes_on, hears, fails, next_on, link_to, can_say, with_said, with_circuits, link_id, saying, Hearing, hears_opening, no_outbox, opening_failed}
 use Rattle.fl_shows.specs.Fragments.{core_id, message_of}
 use Rattle.fl_shows.specs.Cores.{MonitorShows, NamesShow}
 use Rattle.fl_shows.specs.CoreLaws.{OutboxesAreShown, RoomsAgree, OpensAgree, HearsAgree}
@@ -53,7 +53,7 @@ use Rattle.fl_shows.proofs.Tests.{then_is, else_is}
 use Rattle.fl_cuts.specs.Sides.{SideCut, ShowsSide}
 use Rattle.fl_cuts.specs.Cut.{Cut, ShowsCut}
 use Rattle.fl_cuts.specs.Opening.{opening_with}
-use Rattle.fl_cuts.specs.Hearing.{said_of, IsInOrder}
+use Rattle.fl_cuts.specs.Hearing.{said_of, hearing}
 use Rattle.fl_cuts.specs.Does.{HearsNothing}
 use Rattle.fl_cuts.specs.Laws.{shared}
 use Rattle.fl_cuts.specs.Ready.{IsReady, TurnsBack, refusing, RefusesBack, CutMakes, CutMakesAll, Makes, TurnsMake}
@@ -113,6 +113,19 @@ pub record Heard_ (services : List Service) (deed : Deed) (a : Cut) (t : TheRun 
   pub makes : CutMakes services deed a after
   pub shows : ShowsCut after t
 
+-- the machine's core says something on that link too, whatever the opening comes to
+nothing_said : (services : List Service) (l : ℕ) (o : Opening) (a : Cut) → TurnsBack l o a → can_say l a.core ≡ false
+    → (hears services l (open_circuit o) a.core).heard ≡ no_outbox
+nothing_said services l o a back room = ap (λ (f : Fate). (hears_opening l o f a.core).heard) fate_is ∙ by (next_own a.core.circuits l) where
+  fate_is : fate services o a.core ≡ (given (next_own a.core.circuits l) (fails 74) λ n. goes_on l n)
+  fate_is =
+      ap (λ (x : Option ℕ). given x (arrival services o.service a.core) λ n. passage n a.core) back.next_is
+      ∙ ap (λ (x : Option ℕ). given x (fails 73) λ m. given (next_own a.core.circuits m) (fails 74) λ n. goes_on m n) back.back
+
+  by : (x : Option ℕ) → (hears_opening l o (given x (fails 74) λ n. goes_on l n) a.core).heard ≡ no_outbox
+  by None = ap (λ (y : Hearing). y.heard) (else_is (can_say l a.core) _ (record { core = a.core; heard = no_outbox }) room)
+  by (Some n) = ap (λ (y : Hearing). y.heard) (else_is (can_say l a.core) _ (record { core = a.core; heard = no_outbox }) room)
+
 -- the outbox is full
 full_back : (services : List Service) (a : Cut) (s m t : TheRun TheSide) (n : ℕ) (l : LinkId) (frag : Frag) (msg : Message) (o : Opening) → ShowsCut a s
     → (on : OnRing n s (λ k p k2 q. HearsFrag s.offers l frag k (Ok answer.Full) k2 × TakesHeard SharedTakes frag p (Ok answer.Full) q) m)
@@ -125,14 +138,11 @@ full_back services a s m t n l frag msg o h on desks is asked back (w, comes, fu
     let none : monitor_can_say s.core.monitor.outboxes l.0 ≡ false
     = sym (ap (λ y. may_say y s.core.monitor.outboxes) (ap (says_then l msg) w_is ∙ answer_back l msg o x)) ∙ full in
     let room : can_say l.0 a.core ≡ false = sym (same_room a.core.links s.core.monitor.outboxes l.0 h.monitor.outboxes) ∙ none in
-    let nothing : (refusing l.0 o a).heard ≡ no_outbox
-    = ap (λ (y : Hearing). y.heard) (else_is (can_say l.0 a.core) (record {
-      core = with_said l.0 (circuit_refused o.circuit 73) (with_circuits (after_taking a.core.circuits l.0) a.core);
-      heard = opening_failed o.binding 73;
-    }) (record { core = a.core; heard = no_outbox }) room) in
+    let nothing : (hearing services l.0 msg a).heard ≡ no_outbox
+    = ap (λ (y : Said). (hears services l.0 y a.core).heard) asked ∙ nothing_said services l.0 o a back room in
     record {
       after = a;
-      makes = inr (msg, o, is, asked, back, nothing, refl);
+      makes = inl (msg, is, nothing, refl);
       shows = desks_shown a m t (still a s m n on.before on.after h on.before_is on.event.1 on.rest core) desks;
     }
 
@@ -248,7 +258,7 @@ offers_done w (turned d name (inlet.Side n) answer) s m h = ap (λ (x : TheRun T
 offers_done w (turned d name inlet.Arrivals answer) s m h = ap (λ (x : TheRun TheSide). x.offers) h.3.rest
 
 refuses_stay : (deed : Deed) (a b : Cut) → RefusesBack deed a b → Stays a b
-refuses_stay (heard n l frag (Ok answer.Full)) a b h = by a b _ h.6 (itself a)
+refuses_stay (heard n l frag (Ok answer.Full)) a b h = absurd h
 refuses_stay (heard n l frag (Ok answer.Done)) a b h =
     let keeps = opening_keeps l.0 h.1 (fails 73) a.core in
     by a b _ h.7 (record { number = keeps.number; waits = ap length keeps.waits; plans = refl; quiet = λ q. q })

@@ -1,10 +1,10 @@
 -- That messages come to a running core as they come to one of the machine: what the core keeps, whatever others say to it. Laws.
-use Rattle.std.specs.Prelude.{ℕ, ◌≡◌, ◌⊎◌, ◌<◌, List, [], ◌∷◌, length, slice_get, Some, None, Ok}
+use Rattle.std.specs.Prelude.{ℕ, ◌≡◌, ◌⊎◌, ◌<◌, false, List, [], ◌∷◌, length, slice_get, Some, None, Ok}
 use Rattle.fl_base.specs.Control.{bare}
 use Rattle.fl_link.specs.Looks.{Look}
 use Rattle.fl_monitor.specs.declared.message.Message.{Message}
 use Rattle.fl_monitor.specs.Saying.{Says}
-use Rattle.fl_node.specs.declared.answer.MonitorAnswer.TheVariants.{Full, Done}
+use Rattle.fl_node.specs.declared.answer.MonitorAnswer.TheVariants.{Done}
 use Rattle.fl_ring.specs.SharedSides.{TheSide}
 use Rattle.fl_running.specs.declared.job.Job.{Job}
 use Rattle.fl_running.specs.declared.plan.Plan.{Plan}
@@ -14,7 +14,8 @@ use Rattle.fl_running.specs.Led.{IsLed}
 use Rattle.fl_running.specs.Logs.{Goes}
 use Rattle.fl_running.specs.Run.{TheRun}
 use Rattle.fl_running.specs.Turn.{Turned}
-use Rattle.fl_queues.specs.Monitors.{Service, next_on, link_to, fails, Hearing, hears_opening, no_outbox, opening_failed}
+use Rattle.fl_queues.specs.Binding.{all_differ}
+use Rattle.fl_queues.specs.Monitors.{Service, next_on, link_to, fails, Hearing, hears_opening, opening_failed}
 use Rattle.fl_queues.specs.Rings.{Opening, open_circuit, says}
 use Rattle.fl_shows.specs.Cores.{NamesShow}
 use Rattle.fl_cuts.specs.Sides.{gave_one, SideGives}
@@ -46,19 +47,18 @@ pub record IsReady (services : List Service) (a : Cut) (s : TheRun TheSide) : Ty
 
 -- ---- an opening that turns back
 
--- the fragment asks for a circuit whose route leads back over link l, on which it came. The machine has no such case: its routes name no core twice
+-- its route leads back over link l, on which it came; so it names a core twice, as no route of the machine does
 pub record TurnsBack (l : ℕ) (o : Opening) (a : Cut) : Type 0 where
   pub next : ℕ
   pub next_is : next_on o.path a.core.circuits.core ≡ Some next
   pub back : link_to next a.core ≡ Some l
+  pub twice : all_differ o.path ≡ false
 
--- the core then refuses it, as the machine's does where no link leads on
+-- the core refuses it, as the machine's does where no link leads on; where the outbox is full it leaves it, as the machine's leaves any
 abbrev pub refusing : ℕ → Opening → Cut → Hearing
 refusing l o a = hears_opening l o (fails 73) a.core
 
 abbrev pub RefusesBack : Deed → Cut → Cut → Type 0
-RefusesBack (heard n l frag (Ok Full)) a b =
-    (m : Message) × (o : Opening) × Says frag m × (said_of m ≡ open_circuit o) × TurnsBack l.0 o a × ((refusing l.0 o a).heard ≡ no_outbox) × (b ≡ a)
 RefusesBack (heard n l frag (Ok Done)) a b =
     (m : Message) × (o : Opening) × Says frag m × (said_of m ≡ open_circuit o) × TurnsBack l.0 o a
     × ((refusing l.0 o a).heard ≡ opening_failed o.binding 73)
