@@ -20,10 +20,3 @@ pub fn runs_follow()
     starts_show();
     ready_cores_follow();
 }
-
-ghost use Rattle.fl_follows.specs.Probe.{Probe};
-
-/// Probe.
-pub fn probe()
-    ensures probe { Probe }
-{}

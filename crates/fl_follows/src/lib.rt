@@ -11,4 +11,4 @@
 
 mod law;
 
-pub use law::{probe, runs_follow};
+pub use law::runs_follow;
