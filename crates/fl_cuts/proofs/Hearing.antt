@@ -1,6 +1,7 @@
 -- A monitors' message is heard as the machine hears it.
 use Rattle.std.proofs.Common.{◌≡◌, inl, inr, refl, sym, ◌∙◌, ap, subst, ℕ, zero, suc, ◌+◌, ◌||◌, ◌≤◌, Bool, true, false, if◌then◌else◌, List, [], ◌∷◌, ◌++◌, length, map, slice_get, slice_set, Option, Some, None, arith}
 use Rattle.std.specs.Prelude.{Result, Ok, Err, IsSome}
+use Rattle.std.specs.Option.{option_map}
 use Rattle.std.proofs.lemmas.Bool.{false≢true}
 use Rattle.std.proofs.lemmas.Option.{same_Some, slice_get_past}
 use Rattle.fl_base.specs.declared.fragment.Frag.{Frag}
@@ -19,6 +20,8 @@ use Rattle.fl_ring.specs.SharedSides.{TheSide, SharedTakes}
 use Rattle.fl_hop.specs.declared.entry.Way.{Way}
 use Rattle.fl_hop.specs.declared.entry.Way.TheVariants.{Link as to_link, End as to_end}
 use Rattle.fl_hop.specs.declared.entry.Hop.{Hop}
+use Rattle.fl_hop.specs.declared.links.LinkState.{LinkState}
+use Rattle.fl_hop.specs.Numbers.{with_opening, with_taking, changed, count_opening, count_taking}
 use Rattle.fl_hop.specs.Table.{TheCircuits, hop_at}
 use Rattle.fl_compile.specs.declared.program.Program.{Program}
 use Rattle.fl_value.specs.Value.{TheCall}
@@ -93,32 +96,62 @@ message_same (OpenCircuit c binding service path) = ap (λ (p : List CoreId). Op
 message_same (CircuitOpened c) = refl
 message_same (CircuitRefused c reason) = refl
 
+-- ---- neighbours
+
+-- the core on a link's other side
+abbrev pub beside : TheCircuits → ℕ → Option CoreId
+beside t l = option_map (λ (x : LinkState). x.neighbour) (slice_get t.links l)
+
+set_beside : (xs : List LinkState) (i l : ℕ) (a b : LinkState) → slice_get xs i ≡ Some a → b.neighbour ≡ a.neighbour
+    → option_map (λ (x : LinkState). x.neighbour) (slice_get (slice_set xs i b) l) ≡ option_map (λ (x : LinkState). x.neighbour) (slice_get xs l)
+set_beside [] i l a b at same = absurd (cc)
+set_beside (x ∷ xs) zero zero a b at same = let one : x ≡ a = cc in ap (λ (c : CoreId). Some c) (same ∙ ap (λ (y : LinkState). y.neighbour) (sym one))
+set_beside (x ∷ xs) zero (suc l) a b at same = refl
+set_beside (x ∷ xs) (suc i) zero a b at same = refl
+set_beside (x ∷ xs) (suc i) (suc l) a b at same = set_beside xs i l a b at same
+
+-- no count changes it
+changed_beside : (f : LinkState → LinkState) → ((a : LinkState) → (f a).neighbour ≡ a.neighbour) → (xs : List LinkState) (i l : ℕ) (o : Option LinkState) → slice_get xs i ≡ o
+    → option_map (λ (x : LinkState). x.neighbour) (slice_get (changed f xs i o) l) ≡ option_map (λ (x : LinkState). x.neighbour) (slice_get xs l)
+changed_beside f keeps xs i l None at = refl
+changed_beside f keeps xs i l (Some a) at = set_beside xs i l a (f a) at (keeps a)
+
+pub opening_beside : (xs : List LinkState) (i l : ℕ)
+    → option_map (λ (x : LinkState). x.neighbour) (slice_get (count_opening xs i) l) ≡ option_map (λ (x : LinkState). x.neighbour) (slice_get xs l)
+opening_beside xs i l = changed_beside with_opening (λ a. refl) xs i l (slice_get xs i) refl
+
+taking_beside : (xs : List LinkState) (i l : ℕ)
+    → option_map (λ (x : LinkState). x.neighbour) (slice_get (count_taking xs i) l) ≡ option_map (λ (x : LinkState). x.neighbour) (slice_get xs l)
+taking_beside xs i l = changed_beside with_taking (λ a. refl) xs i l (slice_get xs i) refl
+
 -- ---- what a machine's core keeps when it hears
 
 pub record Keeps (k : Core) (h : Hearing) : Type 0 where
   pub waits : h.core.dispatchers ≡ k.dispatchers
   pub number : h.core.circuits.core ≡ k.circuits.core
+  pub links : (i : ℕ) → beside h.core.circuits i ≡ beside k.circuits i
 
-saying_keeps : (l : ℕ) (m : Said) (t : TheCircuits) (word : MachineHeard) (k : Core) → t.core ≡ k.circuits.core → Keeps k (saying l m t word k)
-saying_keeps l m t word k e =
+saying_keeps : (l : ℕ) (m : Said) (t : TheCircuits) (word : MachineHeard) (k : Core) → t.core ≡ k.circuits.core → ((i : ℕ) → beside t i ≡ beside k.circuits i)
+    → Keeps k (saying l m t word k)
+saying_keeps l m t word k e h =
     either (Keeps k) (can_say l k) (record { core = with_said l m (with_circuits t k); heard = word }) (record { core = k; heard = no_outbox })
-    (λ q. record { waits = refl; number = e }) (λ q. record { waits = refl; number = refl })
+    (λ q. record { waits = refl; number = e; links = h }) (λ q. record { waits = refl; number = refl; links = λ i. refl })
 
 pub opening_keeps : (l : ℕ) (o : Opening) (f : Fate) (k : Core) → Keeps k (hears_opening l o f k)
-opening_keeps l o (goes_on m n) k = saying_keeps m _ _ _ k refl
-opening_keeps l o (ends_at d) k = saying_keeps l _ _ _ k refl
-opening_keeps l o (fails fault) k = saying_keeps l _ _ _ k refl
+opening_keeps l o (goes_on m n) k = saying_keeps m _ _ _ k refl (λ i. opening_beside (count_taking k.circuits.links l) m i ∙ taking_beside k.circuits.links l i)
+opening_keeps l o (ends_at d) k = saying_keeps l _ _ _ k refl (λ i. taking_beside k.circuits.links l i)
+opening_keeps l o (fails fault) k = saying_keeps l _ _ _ k refl (λ i. taking_beside k.circuits.links l i)
 
 opened_keeps : (l c : ℕ) (hop : Hop) (way : Way) (k : Core) → Keeps k (hears_opened l c hop way k)
-opened_keeps l c hop (to_link m d) k = saying_keeps m.0 _ _ _ k refl
-opened_keeps l c hop (to_end e) k = record { waits = refl; number = refl }
+opened_keeps l c hop (to_link m d) k = saying_keeps m.0 _ _ _ k refl (λ i. refl)
+opened_keeps l c hop (to_end e) k = record { waits = refl; number = refl; links = λ i. refl }
 
 refused_keeps : (l c fault : ℕ) (hop : Hop) (way : Way) (k : Core) → Keeps k (hears_refused l c fault hop way k)
-refused_keeps l c fault hop (to_link m d) k = saying_keeps m.0 _ _ _ k refl
-refused_keeps l c fault hop (to_end e) k = record { waits = refl; number = refl }
+refused_keeps l c fault hop (to_link m d) k = saying_keeps m.0 _ _ _ k refl (λ i. refl)
+refused_keeps l c fault hop (to_end e) k = record { waits = refl; number = refl; links = λ i. refl }
 
 by_hop : (k : Core) (o : Option Hop) (f : Hop → Hearing) → ((hop : Hop) → Keeps k (f hop)) → Keeps k (given o (goes_astray k) f)
-by_hop k None f h = record { waits = refl; number = refl }
+by_hop k None f h = record { waits = refl; number = refl; links = λ i. refl }
 by_hop k (Some hop) f h = h hop
 
 pub hears_keeps : (services : List Service) (l : ℕ) (m : Said) (k : Core) → Keeps k (hears services l m k)

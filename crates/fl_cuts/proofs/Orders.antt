@@ -382,18 +382,22 @@ pub ordered : (services : List Service) (l : LinkId) (a : Cut) (s : TheRun TheSi
     → Serves services a → EndsAreQuiet a.ends → IsLed s.core → Comes s l m → Ordered services l a s m
 ordered services l a s (OpenCircuit c binding service path) h sound names serves quiet led (heard, comes) =
     let o : Asked = record { binding = binding; service = service; path = path } in
+    let leads : comes_along s.core.monitor.circuits l.0 path ≡ true
+    = (last_two (is_next (next_due s.core.monitor.circuits l.0) c.0) (nat_lt binding 1024)
+    (not (here_for s.offers s.core (OpenCircuit c binding service path)).has_end) (not (stands s.core.monitor.circuits binding))
+    (comes_along s.core.monitor.circuits l.0 path) (not (is_for_another s.offers.names s.core.monitor.circuits o)) comes.0).0 in
     elim (turns l.0 (opening_with c.0 o) a) [
-      | inl leads ↦ inl (record {
-          may = (place_at services a s l.0 c o h names serves comes.0, leads);
+      | inl on ↦ inl (record {
+          may = (place_at services a s l.0 c o h names serves comes.0, on);
           unbound = λ e n number at w own. opening_other l.0 (opening_with c.0 o) (fate services (opening_with c.0 o) a.core) a.core e n w;
         })
       | inr back ↦ inr (opening_with c.0 o, refl, record {
+          along = ap (λ (p : List CoreId). comes_along a.core.circuits l.0 p) (path_same path)
+              ∙ ap (λ (t : TheCircuits). comes_along t l.0 path) (sym h.monitor.circuits) ∙ leads;
           next = back.next;
           next_is = back.next_is;
           back = back.back;
-          twice = names_twice a s l.0 c o h (last_two (is_next (next_due s.core.monitor.circuits l.0) c.0) (nat_lt binding 1024)
-              (not (here_for s.offers s.core (OpenCircuit c binding service path)).has_end) (not (stands s.core.monitor.circuits binding))
-              (comes_along s.core.monitor.circuits l.0 path) (not (is_for_another s.offers.names s.core.monitor.circuits o)) comes.0).0 back;
+          twice = names_twice a s l.0 c o h leads back;
         })
     ]
 ordered services l a s (CircuitOpened c) h sound names serves quiet led (heard, comes) =

@@ -68,13 +68,13 @@ use Rattle.fl_cuts.proofs.Staying.{Stays, by, itself, does_stay, still_serves}
 -- ---- an opening that turns back is refused
 
 -- the message is this opening
-record Asks (m : Message) (o : Opening) : Type 0 where
+pub record Asks (m : Message) (o : Opening) : Type 0 where
   pub circuit : Rattle.fl_base.specs.declared.identity.Circuit.Circuit
   pub asked : Rattle.fl_monitor.specs.declared.opening.Opening.Opening
   pub message : m ≡ OpenCircuit circuit asked.binding asked.service asked.path
   pub opening : o ≡ opening_with circuit.0 asked
 
-asks_for : (m : Message) (o : Opening) → said_of m ≡ open_circuit o → Asks m o
+pub asks_for : (m : Message) (o : Opening) → said_of m ≡ open_circuit o → Asks m o
 asks_for (OpenCircuit c binding service path) o e =
     let same : opening_with c.0 (record { binding = binding; service = service; path = path }) ≡ o = cc in
     record { circuit = c; asked = record { binding = binding; service = service; path = path }; message = refl; opening = sym same }
@@ -261,7 +261,7 @@ refuses_stay : (deed : Deed) (a b : Cut) → RefusesBack deed a b → Stays a b
 refuses_stay (heard n l frag (Ok answer.Full)) a b h = absurd h
 refuses_stay (heard n l frag (Ok answer.Done)) a b h =
     let keeps = opening_keeps l.0 h.1 (fails 73) a.core in
-    by a b _ h.7 (record { number = keeps.number; waits = ap length keeps.waits; plans = refl; quiet = λ q. q })
+    by a b _ h.7 (record { number = keeps.number; links = keeps.links; waits = ap length keeps.waits; plans = refl; quiet = λ q. q })
 refuses_stay (heard n l frag (Ok (answer.Opened e))) a b h = absurd h
 refuses_stay (heard n l frag (Ok (answer.OpeningRefused e reason))) a b h = absurd h
 refuses_stay (heard n l frag (Err fault)) a b h = absurd h
@@ -277,7 +277,7 @@ refuses_stay (wrote name out r) a b h = absurd h
 refuses_stay (acked name n r) a b h = absurd h
 refuses_stay (turned d name from r) a b h = absurd h
 
-makes_stay : (services : List Service) (deed : Deed) (a b : Cut) → CutMakes services deed a b → Stays a b
+pub makes_stay : (services : List Service) (deed : Deed) (a b : Cut) → CutMakes services deed a b → Stays a b
 makes_stay services deed a b (inl h) = does_stay services deed a b h
 makes_stay services deed a b (inr h) = refuses_stay deed a b h
 

@@ -46,10 +46,12 @@ use Rattle.fl_cuts.specs.Opening.{OpensOver, new_end, next_seat}
 use Rattle.fl_cuts.specs.Hearing.{registers_seat, ThenFollows, Hears, HearsOver, hearing, said_of, asked_service, route_length, bound_to, IsUnbound}
 use Rattle.fl_cuts.specs.Does.{CutActs, CutDoes}
 use Rattle.fl_cuts.specs.Ready.{EndsAreQuiet, Serves, refusing, RefusesBack, CutMakes}
-use Rattle.fl_cuts.proofs.Hearing.{hears_keeps, opening_keeps}
+use Rattle.fl_hop.specs.Table.{TheCircuits}
+use Rattle.fl_cuts.proofs.Hearing.{beside, opening_beside, hears_keeps, opening_keeps}
 
 pub record Stays (a b : Cut) : Type 0 where
   pub number : b.core.circuits.core ≡ a.core.circuits.core
+  pub links : (i : ℕ) → beside b.core.circuits i ≡ beside a.core.circuits i
   pub waits : length b.core.dispatchers ≡ length a.core.dispatchers
   pub plans : b.plans ≡ a.plans
   pub quiet : EndsAreQuiet a.ends → EndsAreQuiet b.ends
@@ -59,11 +61,12 @@ pub by : (a b c : Cut) → b ≡ c → Stays a c → Stays a b
 by a b c e h = subst (Stays a) (sym e) h
 
 pub itself : (a : Cut) → Stays a a
-itself a = record { number = refl; waits = refl; plans = refl; quiet = λ q. q }
+itself a = record { number = refl; links = λ i. refl; waits = refl; plans = refl; quiet = λ q. q }
 
 then_stays : (a m b : Cut) → Stays a m → Stays m b → Stays a b
 then_stays a m b h k = record {
   number = k.number ∙ h.number;
+  links = λ i. k.links i ∙ h.links i;
   waits = k.waits ∙ h.waits;
   plans = k.plans ∙ h.plans;
   quiet = λ q. k.quiet (h.quiet q);
@@ -203,11 +206,12 @@ module _ {P : Type 0} (g : Giving P) where
 
   -- a dispatcher's turn
   turn_stays : (d n : ℕ) (name : EndId) (r : TurnAnswer) (a b : Cut) (xs ys : List P) → HasTurn g d name r a xs n b.core.dispatchers b.ends ys
-      → b.core.circuits.core ≡ a.core.circuits.core → b.plans ≡ a.plans → Stays a b
-  turn_stays d n name r a b xs ys h number plans =
+      → b.core.circuits ≡ a.core.circuits → b.plans ≡ a.plans → Stays a b
+  turn_stays d n name r a b xs ys h circuits plans =
     let spot : Spot P = record { waits = h.waits; end = h.at.end; side = h.side } in
     record {
-    number = number;
+    number = ap (λ (t : TheCircuits). t.core) circuits;
+    links = λ i. ap (λ (t : TheCircuits). beside t i) circuits;
     waits = ap length h.waits_are ∙ length-set a.core.dispatchers d h.after.waits;
     plans = plans;
     quiet = λ q. subst EndsAreQuiet (sym h.ends_are)
@@ -217,47 +221,50 @@ module _ {P : Type 0} (g : Giving P) where
 -- ---- deeds
 
 looks_stay : (n : ℕ) (l : LinkId) (r : Result Ahead LinkFault) (a b : Cut) → LooksOver n l r a b → Stays a b
-looks_stay n l r a b h = by a b _ h.rest (record { number = refl; waits = refl; plans = refl; quiet = λ q. q })
+looks_stay n l r a b h = by a b _ h.rest (record { number = refl; links = λ i. refl; waits = refl; plans = refl; quiet = λ q. q })
 
 arrives_stay : (n : ℕ) (l : LinkId) (frag : Frag) (name : EndId) (r : Result Outcome LinkFault) (a b : Cut) → ArrivesOver n l frag name r a b → Stays a b
 arrives_stay n l frag name (Ok Moved) a b h =
-    by a b _ h.3 (record { number = refl; waits = triggered_long _ a.ends a.core.dispatchers; plans = refl; quiet = λ q. q })
+    by a b _ h.3 (record { number = refl; links = λ i. refl; waits = triggered_long _ a.ends a.core.dispatchers; plans = refl; quiet = λ q. q })
 arrives_stay n l frag name (Ok Full) a b h = by a b _ h.2 (itself a)
 arrives_stay n l frag name (Ok Spent) a b h = absurd h
-arrives_stay n l frag name (Err link.Astray) a b h = by a b _ h (record { number = refl; waits = refl; plans = refl; quiet = λ q. q })
+arrives_stay n l frag name (Err link.Astray) a b h = by a b _ h (record { number = refl; links = λ i. refl; waits = refl; plans = refl; quiet = λ q. q })
 arrives_stay n l frag name (Err link.Failed) a b h = absurd h
 arrives_stay n l frag name (Err link.Marked) a b h = absurd h
 arrives_stay n l frag name (Err link.Memory) a b h = absurd h
 arrives_stay n l frag name (Err (link.Wire fault)) a b h = absurd h
 
 says_stay : (n : ℕ) (l : LinkId) (r : MonitorWrite) (a b : Cut) → SaysOver n l r a b → Stays a b
-says_stay n l said_as.Written a b h = by a b _ h.3 (record { number = refl; waits = refl; plans = refl; quiet = λ q. q })
-says_stay n l said_as.Full a b h = by a b _ h.3 (record { number = refl; waits = refl; plans = refl; quiet = λ q. q })
-says_stay n l said_as.Spent a b h = by a b _ h.3 (record { number = refl; waits = refl; plans = refl; quiet = λ q. q })
+says_stay n l said_as.Written a b h = by a b _ h.3 (record { number = refl; links = λ i. refl; waits = refl; plans = refl; quiet = λ q. q })
+says_stay n l said_as.Full a b h = by a b _ h.3 (record { number = refl; links = λ i. refl; waits = refl; plans = refl; quiet = λ q. q })
+says_stay n l said_as.Spent a b h = by a b _ h.3 (record { number = refl; links = λ i. refl; waits = refl; plans = refl; quiet = λ q. q })
 says_stay n l said_as.Nothing a b h = by a b _ h.1 (itself a)
 
 pub acts_stay : (deed : Deed) (a b : Cut) → CutActs deed a b → Stays a b
 acts_stay (looked n l r) a b h = looks_stay n l r a b h
-acts_stay (passed n m frag c Moved) a b h = by a b _ h.4 (record { number = refl; waits = refl; plans = refl; quiet = λ q. q })
-acts_stay (passed n m frag c Full) a b h = by a b _ h.2 (record { number = refl; waits = refl; plans = refl; quiet = λ q. q })
-acts_stay (passed n m frag c Spent) a b h = by a b _ h.2 (record { number = refl; waits = refl; plans = refl; quiet = λ q. q })
+acts_stay (passed n m frag c Moved) a b h = by a b _ h.4 (record { number = refl; links = λ i. refl; waits = refl; plans = refl; quiet = λ q. q })
+acts_stay (passed n m frag c Full) a b h = by a b _ h.2 (record { number = refl; links = λ i. refl; waits = refl; plans = refl; quiet = λ q. q })
+acts_stay (passed n m frag c Spent) a b h = by a b _ h.2 (record { number = refl; links = λ i. refl; waits = refl; plans = refl; quiet = λ q. q })
 acts_stay (arrived n l frag name r) a b h = arrives_stay n l frag name r a b h
 acts_stay (said n l r) a b h = says_stay n l r a b h
-acts_stay (told n l r) a b h = by a b _ h.1 (record { number = refl; waits = refl; plans = refl; quiet = λ q. q })
+acts_stay (told n l r) a b h = by a b _ h.1 (record { number = refl; links = λ i. refl; waits = refl; plans = refl; quiet = λ q. q })
 acts_stay (called name c r) a b h = by a b _ h.rest (record {
   number = refl;
+  links = λ i. refl;
   waits = refl;
   plans = refl;
   quiet = λ q. quiet_set a.ends h.at.place h.after (calls_quiet h.at.end h.after c r h.event (q h.at.place h.at.end h.at.end_is)) q;
 })
 acts_stay (ruled name msg reply r) a b h = by a b _ h.rest (record {
   number = refl;
+  links = λ i. refl;
   waits = refl;
   plans = refl;
   quiet = λ q. quiet_set a.ends h.at.place h.after (rules_quiet h.at.end h.after msg.0 reply.0 r h.event (q h.at.place h.at.end h.at.end_is)) q;
 })
 acts_stay (wrote name (outlet.Side n) r) a b h = record {
   number = ap (λ (c : Cut). c.core.circuits.core) h.1;
+  links = λ i. ap (λ (c : Cut). beside c.core.circuits i) h.1;
   waits = ap (λ (c : Cut). length c.core.dispatchers) h.1;
   plans = ap (λ (c : Cut). c.plans) h.1;
   quiet = λ q. subst EndsAreQuiet (sym h.0.ends_are)
@@ -265,26 +272,34 @@ acts_stay (wrote name (outlet.Side n) r) a b h = record {
 }
 acts_stay (wrote name (outlet.Queue n) r) a b h = record {
   number = ap (λ (c : Cut). c.core.circuits.core) h.1;
+  links = λ i. ap (λ (c : Cut). beside c.core.circuits i) h.1;
   waits = ap (λ (c : Cut). length c.core.dispatchers) h.1 ∙ triggered_long _ b.ends a.core.dispatchers;
   plans = ap (λ (c : Cut). c.plans) h.1;
   quiet = λ q. subst EndsAreQuiet (sym h.0.ends_are)
       (quiet_set a.ends h.0.at.place h.0.after (writes_quiet QueuePlaces h.0.at.end h.0.after h.0.side h.0.side_after r h.0.event (q h.0.at.place h.0.at.end h.0.at.end_is)) q);
 }
-acts_stay (acked name n r) a b h = by a b _ h.rest (record { number = refl; waits = refl; plans = refl; quiet = λ q. q })
+acts_stay (acked name n r) a b h = by a b _ h.rest (record { number = refl; links = λ i. refl; waits = refl; plans = refl; quiet = λ q. q })
 acts_stay (turned d name (inlet.Side n) r) a b h =
-    turn_stays _ d n name r a b a.sides b.sides h.0 (ap (λ (c : Cut). c.core.circuits.core) h.1) (ap (λ (c : Cut). c.plans) h.1)
+    turn_stays _ d n name r a b a.sides b.sides h.0 (ap (λ (c : Cut). c.core.circuits) h.1) (ap (λ (c : Cut). c.plans) h.1)
 acts_stay (turned d name (inlet.Queue n) r) a b h =
-    turn_stays _ d n name r a b a.queues b.queues h.0 (ap (λ (c : Cut). c.core.circuits.core) h.1) (ap (λ (c : Cut). c.plans) h.1)
+    turn_stays _ d n name r a b a.queues b.queues h.0 (ap (λ (c : Cut). c.core.circuits) h.1) (ap (λ (c : Cut). c.plans) h.1)
 acts_stay (turned d name inlet.Arrivals r) a b h =
-    turn_stays _ d h.number name r a b a.arrivals b.arrivals h.turn (ap (λ (c : Cut). c.core.circuits.core) h.rest) (ap (λ (c : Cut). c.plans) h.rest)
+    turn_stays _ d h.number name r a b a.arrivals b.arrivals h.turn (ap (λ (c : Cut). c.core.circuits) h.rest) (ap (λ (c : Cut). c.plans) h.rest)
 acts_stay (opened name wish (Ok e)) a b h =
     let made : Stays a h.opened = by a h.opened _ h.opened_is (record {
       number = refl;
+  links = λ i. refl;
       waits = length-set a.core.dispatchers wish.dispatcher _;
       plans = refl;
       quiet = λ q. quiet_more a.ends _ (λ none. record { circuit = refl; accepted = refl; waiting = refl; sound = refl }) q;
     }) in
-    by a b _ h.rest (record { number = made.number; waits = made.waits; plans = made.plans; quiet = made.quiet })
+    by a b _ h.rest (record {
+      number = made.number;
+      links = λ i. opening_beside h.opened.core.circuits.links wish.link.0 i ∙ made.links i;
+      waits = made.waits;
+      plans = made.plans;
+      quiet = made.quiet;
+    })
 acts_stay (opened name wish (Err fault)) a b h = by a b _ h.1 (itself a)
 acts_stay (heard n l frag r) a b h = absurd h
 
@@ -299,18 +314,21 @@ follows_stay asked l stations (server_made n d c) r a b h =
     let m = h.1 in
     let made : Stays a m.made = by a m.made _ m.made_is (record {
       number = refl;
+  links = λ i. refl;
       waits = length-set a.core.dispatchers d.place _;
       plans = refl;
       quiet = λ q. quiet_more a.ends (bound_to c m.end) (bound_quiet (bound_to c m.end) refl) q;
     }) in
     by a b _ m.rest (record {
       number = made.number;
+      links = made.links;
       waits = registered_long m.end.end.seat _ m.made.core.dispatchers ∙ made.waits;
       plans = made.plans;
       quiet = made.quiet;
     })
 follows_stay asked l stations (end_opened e c) r a b (is, inl x) = by a b _ x.rest (record {
   number = refl;
+  links = λ i. refl;
   waits = registered_long x.at.end.end.seat x.queue a.core.dispatchers;
   plans = refl;
   quiet = λ q. quiet_set a.ends x.at.place (bound_to c x.at.end) (bound_quiet (bound_to c x.at.end) refl) q;
@@ -324,7 +342,7 @@ hears_stay : (services : List Service) (n : ℕ) (l : LinkId) (frag : Frag) (r :
 hears_stay services n l frag r a b h =
     let keeps = hears_keeps services l.0 (said_of h.message) a.core in
     then_stays a h.middle b
-    (by a h.middle _ h.middle_is (record { number = keeps.number; waits = ap length keeps.waits; plans = refl; quiet = λ q. q }))
+    (by a h.middle _ h.middle_is (record { number = keeps.number; links = keeps.links; waits = ap length keeps.waits; plans = refl; quiet = λ q. q }))
     (follows_stay (asked_service services h.message) l (route_length h.message + 1) (hearing services l.0 h.message a).heard r h.middle b h.follows)
 
 pub does_stay : (services : List Service) (deed : Deed) (a b : Cut) → CutDoes services deed a b → Stays a b
@@ -333,10 +351,10 @@ does_stay services (heard n l frag (Ok answer.Done)) a b h = hears_stay services
 does_stay services (heard n l frag (Ok (answer.Opened e))) a b h = hears_stay services n l frag (answer.Opened e) a b h
 does_stay services (heard n l frag (Ok (answer.OpeningRefused e reason))) a b h = hears_stay services n l frag (answer.OpeningRefused e reason) a b h
 does_stay services (heard n l frag (Err link.Memory)) a b h = by a b _ h (itself a)
-does_stay services (heard n l frag (Err link.Astray)) a b h = by a b _ h (record { number = refl; waits = refl; plans = refl; quiet = λ q. q })
-does_stay services (heard n l frag (Err link.Failed)) a b h = by a b _ h (record { number = refl; waits = refl; plans = refl; quiet = λ q. q })
-does_stay services (heard n l frag (Err link.Marked)) a b h = by a b _ h (record { number = refl; waits = refl; plans = refl; quiet = λ q. q })
-does_stay services (heard n l frag (Err (link.Wire fault))) a b h = by a b _ h (record { number = refl; waits = refl; plans = refl; quiet = λ q. q })
+does_stay services (heard n l frag (Err link.Astray)) a b h = by a b _ h (record { number = refl; links = λ i. refl; waits = refl; plans = refl; quiet = λ q. q })
+does_stay services (heard n l frag (Err link.Failed)) a b h = by a b _ h (record { number = refl; links = λ i. refl; waits = refl; plans = refl; quiet = λ q. q })
+does_stay services (heard n l frag (Err link.Marked)) a b h = by a b _ h (record { number = refl; links = λ i. refl; waits = refl; plans = refl; quiet = λ q. q })
+does_stay services (heard n l frag (Err (link.Wire fault))) a b h = by a b _ h (record { number = refl; links = λ i. refl; waits = refl; plans = refl; quiet = λ q. q })
 does_stay services (looked n l r) a b h = acts_stay (looked n l r) a b h
 does_stay services (passed n m frag c r) a b h = acts_stay (passed n m frag c r) a b h
 does_stay services (arrived n l frag name r) a b h = acts_stay (arrived n l frag name r) a b h

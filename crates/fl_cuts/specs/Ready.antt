@@ -1,8 +1,9 @@
 -- That messages come to a running core as they come to one of the machine: what the core keeps, whatever others say to it. Laws.
-use Rattle.std.specs.Prelude.{ℕ, ◌≡◌, ◌⊎◌, ◌<◌, false, List, [], ◌∷◌, length, slice_get, Some, None, Ok}
+use Rattle.std.specs.Prelude.{ℕ, ◌≡◌, ◌⊎◌, ◌<◌, true, false, List, [], ◌∷◌, length, map, slice_get, Some, None, Ok}
 use Rattle.fl_base.specs.Control.{bare}
 use Rattle.fl_link.specs.Looks.{Look}
 use Rattle.fl_monitor.specs.declared.message.Message.{Message}
+use Rattle.fl_monitor.specs.Fates.{comes_along}
 use Rattle.fl_monitor.specs.Saying.{Says}
 use Rattle.fl_node.specs.declared.answer.MonitorAnswer.TheVariants.{Done}
 use Rattle.fl_ring.specs.SharedSides.{TheSide}
@@ -18,6 +19,7 @@ use Rattle.fl_queues.specs.Binding.{all_differ}
 use Rattle.fl_queues.specs.Monitors.{Service, next_on, link_to, fails, Hearing, hears_opening, opening_failed}
 use Rattle.fl_queues.specs.Rings.{Opening, open_circuit, says}
 use Rattle.fl_shows.specs.Cores.{NamesShow}
+use Rattle.fl_shows.specs.Fragments.{core_id}
 use Rattle.fl_cuts.specs.Sides.{gave_one, SideGives}
 use Rattle.fl_cuts.specs.Ends.{EndCut}
 use Rattle.fl_cuts.specs.Cut.{Cut, ShowsCut}
@@ -47,8 +49,9 @@ pub record IsReady (services : List Service) (a : Cut) (s : TheRun TheSide) : Ty
 
 -- ---- an opening that turns back
 
--- its route leads back over link l, on which it came; so it names a core twice, as no route of the machine does
+-- it came along its route over link l, and leads back over that; so the route names a core twice, as none of the machine does
 pub record TurnsBack (l : ℕ) (o : Opening) (a : Cut) : Type 0 where
+  pub along : comes_along a.core.circuits l (map core_id o.path) ≡ true
   pub next : ℕ
   pub next_is : next_on o.path a.core.circuits.core ≡ Some next
   pub back : link_to next a.core ≡ Some l
