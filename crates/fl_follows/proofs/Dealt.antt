@@ -24,7 +24,7 @@ own_is_one core (o ∷ owners) (t ∷ things) i x at = by (o == core) i at (λ n
   by true (suc n) is rest = later (rest n is)
   by false n is rest = later (rest n is)
 
-new_one : (size : ℕ) (one two : TheSide) → AreNew size one two → IsFirstSide one × IsFirstSide two
+pub new_one : (size : ℕ) (one two : TheSide) → AreNew size one two → IsFirstSide one × IsFirstSide two
 new_one size one two new = (
   record {
     sent = ap (λ (s : TheSide). s.sent) new.one_is;

@@ -3,13 +3,16 @@
 ghost use Rattle.fl_follows.specs.Runs.{RunsFollow};
 
 use fl_cuts::{ready_cores_follow, starts_show};
-use fl_ring::SharedSide;
-use fl_running::{counted_are_turns, leads_at_first};
+use fl_deal::dealt_go_on;
+use fl_honest::{cores_go, wishes_alone};
+use fl_ring::{side_conserves, SharedSide};
+use fl_running::{counted_are_turns, leads_at_first, sides_go};
 use fl_setups::{set_ups_start_fresh, set_ups_touch_nothing};
 
 /// Of each core of a run that is reported: as it began it shows the first cut, with the machine's core of its number
 /// behind the set-up and the machine's ends; it took so many turns, no fewer than were counted; and as it ended it shows what the machine
-/// makes of that cut by what happened in these turns, whatever the other cores did.
+/// makes of that cut by what happened in these turns, whatever the other cores did. Where no job's route names a
+/// core twice, the machine has a case for each of these events.
 pub fn runs_follow()
     ensures follow { RunsFollow }
 {
@@ -19,4 +22,9 @@ pub fn runs_follow()
     counted_are_turns::<SharedSide>();
     starts_show();
     ready_cores_follow();
+    cores_go();
+    dealt_go_on();
+    sides_go::<SharedSide>();
+    wishes_alone();
+    side_conserves();
 }
