@@ -5,7 +5,7 @@ use Rattle.fl_hop.proofs.Lists.{set_cases, set_here, set_there, push_cases, push
 use Rattle.fl_link.specs.Queue.{TheQueue}
 use Rattle.fl_node.specs.declared.wire.Port.{Port}
 use Rattle.fl_node.specs.declared.wire.Wire.{Wire}
-use Rattle.fl_cuts.specs.Cut.{Each2, QueueCut, ShowsQueue, IsUsed, QueuesShow}
+use Rattle.fl_cuts.specs.Cut.{Each2, QueueCut, ShowsQueue, QueuesShow}
 
 module _ {A B : Type 0} (R : A → B → Type 0) where
   -- what stands where one of the second list does

@@ -1,6 +1,6 @@
 -- A message that a ready core hears comes in order, but for an opening that turns back.
-use Rattle.std.proofs.Common.{◌≡◌, ◌≢◌, ◌⊎◌, inl, inr, refl, sym, ◌∙◌, ap, subst, ℕ, zero, suc, ◌+◌, ◌-◌, ◌==◌, ◌&&◌, ◌||◌, ◌<◌, cond, nat_lt, nat_le, not, Bool, true, false, if◌then◌else◌, List, [], ◌∷◌, length, map, slice_get, Option, Some, None, arith}
-use Rattle.std.specs.Prelude.{Ok, is_some, position}
+use Rattle.std.proofs.Common.{◌≡◌, ◌⊎◌, inl, inr, refl, sym, ◌∙◌, ap, subst, ℕ, zero, suc, ◌+◌, ◌-◌, ◌==◌, ◌&&◌, ◌||◌, ◌<◌, cond, nat_lt, nat_le, not, Bool, true, false, if◌then◌else◌, List, [], ◌∷◌, length, map, slice_get, Option, Some, None, arith}
+use Rattle.std.specs.Prelude.{is_some, position}
 use Rattle.std.specs.List.{position_from}
 use Rattle.std.specs.Option.{option_map}
 use Rattle.std.proofs.lemmas.Bool.Decides.{nat_tests}
@@ -12,8 +12,7 @@ use Rattle.fl_base.specs.declared.identity.CoreId.{CoreId}
 use Rattle.fl_base.specs.declared.identity.EndId.{EndId}
 use Rattle.fl_base.specs.declared.identity.LinkId.{LinkId}
 use Rattle.fl_base.specs.declared.identity.Circuit.{Circuit}
-use Rattle.fl_compile.specs.declared.program.Program.{Program}
-use Rattle.fl_core.specs.View.{TheDispatcher, TheSeat}
+use Rattle.fl_core.specs.View.{TheDispatcher}
 use Rattle.fl_hop.proofs.Answering.{numbers_apart}
 use Rattle.fl_hop.proofs.Entering.{same_or}
 use Rattle.fl_hop.proofs.Lists.{at_within}
@@ -39,7 +38,6 @@ use Rattle.fl_lists.specs.ThreeLists.{is_in}
 use Rattle.fl_queues.specs.Binding.{all_differ}
 use Rattle.fl_nameserv.specs.Registrations.{TheRegistration, by_iref}
 use Rattle.fl_node.specs.declared.hearing.Offered.{Offered}
-use Rattle.fl_node.specs.declared.wire.Port.{Port}
 use Rattle.fl_node.specs.declared.wire.Wire.{Wire}
 use Rattle.fl_node.specs.declared.wire.Wire.TheVariants.{Queues, Ring as OverRing, Circuit as ByCircuit}
 use Rattle.fl_node.specs.Hearing.{may_offer, has_place, has_end, here_for, known_for}
@@ -53,17 +51,17 @@ use Rattle.fl_ring.specs.SharedSides.{TheSide}
 use Rattle.fl_queues.specs.Given.{given}
 use Rattle.fl_queues.specs.Rings.{Opening, Said, open_circuit}
 use Rattle.fl_queues.specs.Waits.{has_places}
-use Rattle.fl_queues.specs.Monitors.{Core, Service, service_of, next_on, link_to, Fate, goes_on, ends_at, fails, fate, can_say, saying, with_said, with_circuits, Hearing, hears, hears_opening, hears_opened, hears_refused, goes_astray}
-use Rattle.fl_queues.specs.Monitors.{Heard as MachineHeard, no_outbox, astray, opening_went_on, server_made, opening_failed, answer_went_on, end_opened, end_refused}
+use Rattle.fl_queues.specs.Monitors.{Core, Service, service_of, next_on, link_to, Fate, goes_on, ends_at, fails, fate, can_say, saying, with_said, with_circuits, Hearing, hears_opening, hears_opened, hears_refused, goes_astray}
+use Rattle.fl_queues.specs.Monitors.{Heard as MachineHeard, no_outbox, end_opened}
 use Rattle.fl_shows.specs.Fragments.{core_id}
 use Rattle.fl_shows.specs.Cores.{NamesShow}
-use Rattle.fl_shows.specs.CoreLaws.{registration_of, HasPlaceAt, LeadsOn, MayBeHeard}
+use Rattle.fl_shows.specs.CoreLaws.{registration_of, HasPlaceAt, LeadsOn}
 use Rattle.fl_shows.proofs.Names.{names_agree}
 use Rattle.fl_shows.proofs.Tests.{either, by_test, le_true, le_false, lt_true, true_lt, false_lt}
 use Rattle.fl_cuts.specs.Ends.{EndCut}
 use Rattle.fl_cuts.specs.Cut.{Cut, ShowsWaits, ShowsSeat, ShowsCut}
 use Rattle.fl_cuts.specs.Events.{EndAt}
-use Rattle.fl_cuts.specs.Hearing.{said_of, hearing, IsUnbound, IsInOrder}
+use Rattle.fl_cuts.specs.Hearing.{said_of, IsUnbound, IsInOrder}
 use Rattle.fl_cuts.specs.Opening.{opening_with}
 use Rattle.fl_cuts.specs.Ready.{EndsAreQuiet, Serves, TurnsBack}
 use Rattle.fl_cuts.proofs.Lists.{there}
@@ -169,7 +167,7 @@ place_at services a s l c o h names serves placed x last found =
       d.0,
       d.1,
       ap (λ (r : Option TheRegistration). is_some (given_at r None λ y. if may_offer s.offers s.core y
-      then Some (let z : Offered = record { dispatcher = y.service.dispatcher; interface = y.service.interface } in z) else None)) registered ∙ offers,
+          then Some (let z : Offered = record { dispatcher = y.service.dispatcher; interface = y.service.interface } in z) else None)) registered ∙ offers,
     )
 
 -- ---- where it leads on
@@ -388,17 +386,21 @@ ordered services l a s (OpenCircuit c binding service path) h sound names serves
     (comes_along s.core.monitor.circuits l.0 path) (not (is_for_another s.offers.names s.core.monitor.circuits o)) comes.0).0 in
     elim (turns l.0 (opening_with c.0 o) a) [
       | inl on ↦ inl (record {
-          may = (place_at services a s l.0 c o h names serves comes.0, on);
-          unbound = λ e n number at w own. opening_other l.0 (opening_with c.0 o) (fate services (opening_with c.0 o) a.core) a.core e n w;
-        })
-      | inr back ↦ inr (opening_with c.0 o, refl, record {
+        may = (place_at services a s l.0 c o h names serves comes.0, on);
+        unbound = λ e n number at w own. opening_other l.0 (opening_with c.0 o) (fate services (opening_with c.0 o) a.core) a.core e n w;
+      })
+      | inr back ↦ inr (
+        opening_with c.0 o,
+        refl,
+        record {
           along = ap (λ (p : List CoreId). comes_along a.core.circuits l.0 p) (path_same path)
               ∙ ap (λ (t : TheCircuits). comes_along t l.0 path) (sym h.monitor.circuits) ∙ leads;
           next = back.next;
           next_is = back.next_is;
           back = back.back;
           twice = names_twice a s l.0 c o h leads back;
-        })
+        },
+      )
     ]
 ordered services l a s (CircuitOpened c) h sound names serves quiet led (heard, comes) =
     let there : hop_at a.core.circuits l.0 c.0 ≡ Some comes.0 = ap (λ (t : TheCircuits). hop_at t l.0 c.0) (sym h.monitor.circuits) ∙ comes.1.there in

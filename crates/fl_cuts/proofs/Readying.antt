@@ -1,9 +1,8 @@
 -- A ready core's log makes of its cut what the machine does, and leaves it ready.
-use Rattle.std.proofs.Common.{◌≡◌, ◌⊎◌, inl, inr, refl, sym, ◌∙◌, ap, subst, ℕ, ◌==◌, true, false, if◌then◌else◌, List, [], ◌∷◌, length, slice_get, slice_set, Option, Some, None}
-use Rattle.std.specs.Prelude.{Result, Ok, Err}
+use Rattle.std.proofs.Common.{◌≡◌, inl, inr, refl, sym, ◌∙◌, ap, subst, ℕ, ◌==◌, true, false, List, [], ◌∷◌, length, slice_get, slice_set, Option, Some, None}
+use Rattle.std.specs.Prelude.{Ok, Err}
 use Rattle.std.specs.Option.{option_map}
 use Rattle.fl_base.specs.declared.fragment.Frag.{Frag}
-use Rattle.fl_base.specs.declared.identity.CoreId.{CoreId}
 use Rattle.fl_base.specs.declared.identity.LinkId.{LinkId}
 use Rattle.fl_base.specs.Control.{bare}
 use Rattle.fl_endpoint.specs.Laws.{OnAnotherCircuit}
@@ -20,8 +19,8 @@ use Rattle.fl_monitor.specs.declared.message.Message.TheVariants.{OpenCircuit, C
 use Rattle.fl_monitor.specs.declared.fault.MonitorFault.TheVariants as monitor
 use Rattle.fl_monitor.specs.Fates.{fate as fate_of}
 use Rattle.fl_monitor.specs.Hearing.{heard_by, says as says_then}
-use Rattle.fl_monitor.specs.Monitors.{TheMonitor, can_say as monitor_can_say, may_say, AllSaid, Hears as MonitorHears}
-use Rattle.fl_monitor.specs.Routing.{given as given_at, next_on as next_named}
+use Rattle.fl_monitor.specs.Monitors.{can_say as monitor_can_say, may_say, AllSaid, Hears as MonitorHears}
+use Rattle.fl_monitor.specs.Routing.{next_on as next_named}
 use Rattle.fl_monitor.specs.Saying.{Says}
 use Rattle.fl_node.specs.declared.answer.MonitorAnswer.{MonitorAnswer}
 use Rattle.fl_node.specs.declared.answer.MonitorAnswer.TheVariants as answer
@@ -31,7 +30,7 @@ use Rattle.fl_node.specs.Hearing.{known_for, offer_for, Follows as NodeFollows, 
 use Rattle.fl_node.specs.View.{TheCore, with_monitor}
 use Rattle.fl_running.specs.declared.job.Job.{Job}
 use Rattle.fl_running.specs.declared.plan.Plan.{Plan}
-use Rattle.fl_running.specs.Deeds.{Deed, looked, passed, arrived, heard, said, told, opened, called, ruled, wrote, acked, turned, OnRing, Does, Notes, Happens, IsSound}
+use Rattle.fl_running.specs.Deeds.{Deed, looked, passed, arrived, heard, said, told, opened, called, ruled, wrote, acked, turned, OnRing, Does, Happens, IsSound}
 use Rattle.fl_running.specs.Flows.{IsApart}
 use Rattle.fl_running.specs.Logs.{InPlace, Goes}
 use Rattle.fl_running.specs.Run.{Ways, TheRun}
@@ -43,9 +42,9 @@ use Rattle.fl_running.proofs.Growing.{does_grow}
 use Rattle.fl_running.proofs.Logging.{turns_logged}
 use Rattle.fl_queues.specs.Given.{given}
 use Rattle.fl_queues.specs.Rings.{Opening, Said, says, open_circuit, circuit_refused}
-use Rattle.fl_queues.specs.Monitors.{Core, Service, Fate, fate, arrival, passage, goes_on, hears, fails, next_on, link_to, can_say, with_said, with_circuits, link_id, saying, Hearing, hears_opening, no_outbox, opening_failed}
+use Rattle.fl_queues.specs.Monitors.{Service, Fate, fate, arrival, passage, goes_on, hears, fails, next_on, can_say, with_said, with_circuits, Hearing, hears_opening, no_outbox, opening_failed}
 use Rattle.fl_shows.specs.Fragments.{core_id, message_of}
-use Rattle.fl_shows.specs.Cores.{MonitorShows, NamesShow}
+use Rattle.fl_shows.specs.Cores.{MonitorShows}
 use Rattle.fl_shows.specs.CoreLaws.{OutboxesAreShown, RoomsAgree, OpensAgree, HearsAgree}
 use Rattle.fl_shows.specs.EndLaws.{TakeShows}
 use Rattle.fl_shows.proofs.Boxes.{same_room, said_shows}
@@ -56,14 +55,14 @@ use Rattle.fl_cuts.specs.Opening.{opening_with}
 use Rattle.fl_cuts.specs.Hearing.{said_of, hearing}
 use Rattle.fl_cuts.specs.Does.{HearsNothing}
 use Rattle.fl_cuts.specs.Laws.{shared}
-use Rattle.fl_cuts.specs.Ready.{IsReady, TurnsBack, refusing, RefusesBack, CutMakes, CutMakesAll, Makes, TurnsMake}
+use Rattle.fl_cuts.specs.Ready.{IsReady, TurnsBack, refusing, RefusesBack, CutMakes, Makes, TurnsMake}
 use Rattle.fl_cuts.proofs.Lists.{there, set_both}
 use Rattle.fl_cuts.proofs.Sides.{takes_again}
 use Rattle.fl_cuts.proofs.Links.{desks_shown}
 use Rattle.fl_cuts.proofs.Hearing.{message_same, opening_keeps, heard_run, heard_shows, hears_all, still, fails_follow}
 use Rattle.fl_cuts.proofs.Logs.{one_acts}
-use Rattle.fl_cuts.proofs.Orders.{next_of, Comes, ordered}
-use Rattle.fl_cuts.proofs.Staying.{Stays, by, itself, does_stay, still_serves}
+use Rattle.fl_cuts.proofs.Orders.{next_of, ordered}
+use Rattle.fl_cuts.proofs.Staying.{Stays, by, does_stay, still_serves}
 
 -- ---- an opening that turns back is refused
 
@@ -190,8 +189,16 @@ done_back services a s m t n l frag msg o before after told_so h before_is takes
       follows.0,
       record {
         after = next;
-        makes = inr (msg, o, is, asked, back, ap (λ (y : Hearing). y.heard) made_is,
-        record { before = v.0; before_is = v.1; after = one.0; event = one.1; rest = refl }, refl);
+        makes = inr (
+          msg,
+          o,
+          is,
+          asked,
+          back,
+          ap (λ (y : Hearing). y.heard) made_is,
+          record { before = v.0; before_is = v.1; after = one.0; event = one.1; rest = refl },
+          refl,
+        );
         shows = desks_shown next m t (subst (ShowsCut next) (sym run) shows) desks;
       },
     )

@@ -1,5 +1,5 @@
 -- A core with which nothing was done yet shows the first cut.
-use Rattle.std.proofs.Common.{◌≡◌, inl, refl, sym, ◌∙◌, ap, subst, ℕ, zero, suc, ◌+◌, ◌≤◌, ◌<◌, false, List, [], ◌∷◌, length, map, slice_get, Option, Some, None, arith}
+use Rattle.std.proofs.Common.{◌≡◌, inl, refl, sym, ◌∙◌, ap, subst, ℕ, suc, List, [], ◌∷◌, length, map, slice_get, Some, None, arith}
 use Rattle.std.specs.Option.{option_map}
 use Rattle.std.proofs.lemmas.List.{length-map}
 use Rattle.std.proofs.lemmas.List.Elements.{All-nil}
@@ -19,7 +19,7 @@ use Rattle.fl_shows.proofs.Calling.{fresh_is}
 use Rattle.fl_cuts.specs.Sides.{ShowsSide}
 use Rattle.fl_cuts.specs.Ends.{EndCut, ShowsEnd}
 use Rattle.fl_cuts.specs.Cut.{Each2, QueueCut, ShowsQueue, ShowsSeat}
-use Rattle.fl_cuts.specs.Start.{IsFirstEnd, IsFirstSide, IsFirstQueue, IsStarting, first_end, first_ends, first_queue, first_side, first_cut, StartsShow}
+use Rattle.fl_cuts.specs.Start.{IsFirstEnd, IsFirstSide, IsFirstQueue, first_end, first_ends, first_queue, first_side, StartsShow}
 
 -- each of a list, and what is made of it
 mapped : {A B : Type 0} (R : A → B → Type 0) (f : B → A) (ys : List B) → ((n : ℕ) (y : B) → slice_get ys n ≡ Some y → R (f y) y) → Each2 R (map f ys) ys

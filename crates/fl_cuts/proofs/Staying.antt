@@ -33,7 +33,6 @@ use Rattle.fl_queues.specs.Calls.{Planned}
 use Rattle.fl_shows.specs.EndLaws.{with_out}
 use Rattle.fl_queues.specs.Ends.{End, Seat, Taken, whole, a_part, accepts, is_bound, is_busy, rule_at, accepts_or_waits, replies}
 use Rattle.fl_queues.specs.Monitors.{Service, Heard, no_outbox, astray, opening_went_on, server_made, opening_failed, answer_went_on, end_opened, end_refused}
-use Rattle.fl_queues.specs.Sending.{makes_call}
 use Rattle.fl_queues.specs.State.{State, Outcome as MachineOutcome, answers, change_out}
 use Rattle.fl_queues.specs.Waits.{Dispatcher, Due, pending, polled, no_one, due}
 use Rattle.fl_queues.specs.Worlds.{start_with}
@@ -41,13 +40,12 @@ use Rattle.fl_cuts.specs.Sides.{Placing, Places}
 use Rattle.fl_cuts.specs.Ends.{EndCut, MachineCalls, Calls, SetsRule, Writes, wrote_next}
 use Rattle.fl_cuts.specs.Cut.{QueueCut, Cut}
 use Rattle.fl_cuts.specs.Events.{QueuePlaces, Spot, Giving, Turns, triggers_seat, triggers_end, HasTurn}
-use Rattle.fl_cuts.specs.Links.{LooksOver, PassesOver, ArrivesOver, SaysOver}
-use Rattle.fl_cuts.specs.Opening.{OpensOver, new_end, next_seat}
-use Rattle.fl_cuts.specs.Hearing.{registers_seat, ThenFollows, Hears, HearsOver, hearing, said_of, asked_service, route_length, bound_to, IsUnbound}
+use Rattle.fl_cuts.specs.Links.{LooksOver, ArrivesOver, SaysOver}
+use Rattle.fl_cuts.specs.Hearing.{registers_seat, ThenFollows, Hears, hearing, said_of, asked_service, route_length, bound_to, IsUnbound}
 use Rattle.fl_cuts.specs.Does.{CutActs, CutDoes}
-use Rattle.fl_cuts.specs.Ready.{EndsAreQuiet, Serves, refusing, RefusesBack, CutMakes}
+use Rattle.fl_cuts.specs.Ready.{EndsAreQuiet, Serves}
 use Rattle.fl_hop.specs.Table.{TheCircuits}
-use Rattle.fl_cuts.proofs.Hearing.{beside, opening_beside, hears_keeps, opening_keeps}
+use Rattle.fl_cuts.proofs.Hearing.{beside, opening_beside, hears_keeps}
 
 pub record Stays (a b : Cut) : Type 0 where
   pub number : b.core.circuits.core ≡ a.core.circuits.core
@@ -129,13 +127,13 @@ same_quiet x y e h = subst IsQuiet (sym e) h
 accepted_bound : (x : EndCut) (c : TheCall) (z : State) → MachineCalls x c z → is_bound x.end ≡ true
 accepted_bound x c z h =
     cases (nat_le (length x.planned.interface.messages) c.msg) (not (fits_of x.planned.interface c)) (is_bound x.end) (is_busy x.planned x.end.out) (ap (λ (o : MachineOutcome). o.answer) h) where
-  cases : (most fits bound busy : Bool)
-      → (if most then answers z (refused 41) else if fits then answers z (refused 42) else if not bound then answers z (refused 43)
-      else if busy then answers z (refused 40) else answers (change_out x.port.name (accepts c) z) accepted).answer ≡ accepted → bound ≡ true
-  cases true fits bound busy e = absurd (cc)
-  cases false true bound busy e = absurd (cc)
-  cases false false false busy e = absurd (cc)
-  cases false false true busy e = refl
+      cases : (most fits bound busy : Bool)
+          → (if most then answers z (refused 41) else if fits then answers z (refused 42) else if not bound then answers z (refused 43)
+          else if busy then answers z (refused 40) else answers (change_out x.port.name (accepts c) z) accepted).answer ≡ accepted → bound ≡ true
+      cases true fits bound busy e = absurd (cc)
+      cases false true bound busy e = absurd (cc)
+      cases false false false busy e = absurd (cc)
+      cases false false true busy e = refl
 
 calls_quiet : (x y : EndCut) (c : TheCall) (r : Result (Unit {0}) EndFault) → Calls c r x y → IsQuiet x → IsQuiet y
 calls_quiet x y c (Ok done) h q =
@@ -208,15 +206,15 @@ module _ {P : Type 0} (g : Giving P) where
   turn_stays : (d n : ℕ) (name : EndId) (r : TurnAnswer) (a b : Cut) (xs ys : List P) → HasTurn g d name r a xs n b.core.dispatchers b.ends ys
       → b.core.circuits ≡ a.core.circuits → b.plans ≡ a.plans → Stays a b
   turn_stays d n name r a b xs ys h circuits plans =
-    let spot : Spot P = record { waits = h.waits; end = h.at.end; side = h.side } in
-    record {
-    number = ap (λ (t : TheCircuits). t.core) circuits;
-    links = λ i. ap (λ (t : TheCircuits). beside t i) circuits;
-    waits = ap length h.waits_are ∙ length-set a.core.dispatchers d h.after.waits;
-    plans = plans;
-    quiet = λ q. subst EndsAreQuiet (sym h.ends_are)
-        (quiet_set a.ends h.at.place h.after.end (turns_quiet (due h.waits) r spot h.after h.turns (q h.at.place h.at.end h.at.end_is)) q);
-  }
+      let spot : Spot P = record { waits = h.waits; end = h.at.end; side = h.side } in
+      record {
+        number = ap (λ (t : TheCircuits). t.core) circuits;
+        links = λ i. ap (λ (t : TheCircuits). beside t i) circuits;
+        waits = ap length h.waits_are ∙ length-set a.core.dispatchers d h.after.waits;
+        plans = plans;
+        quiet = λ q. subst EndsAreQuiet (sym h.ends_are)
+            (quiet_set a.ends h.at.place h.after.end (turns_quiet (due h.waits) r spot h.after h.turns (q h.at.place h.at.end h.at.end_is)) q);
+      }
 
 -- ---- deeds
 
@@ -288,7 +286,7 @@ acts_stay (turned d name inlet.Arrivals r) a b h =
 acts_stay (opened name wish (Ok e)) a b h =
     let made : Stays a h.opened = by a h.opened _ h.opened_is (record {
       number = refl;
-  links = λ i. refl;
+      links = λ i. refl;
       waits = length-set a.core.dispatchers wish.dispatcher _;
       plans = refl;
       quiet = λ q. quiet_more a.ends _ (λ none. record { circuit = refl; accepted = refl; waiting = refl; sound = refl }) q;
@@ -314,7 +312,7 @@ follows_stay asked l stations (server_made n d c) r a b h =
     let m = h.1 in
     let made : Stays a m.made = by a m.made _ m.made_is (record {
       number = refl;
-  links = λ i. refl;
+      links = λ i. refl;
       waits = length-set a.core.dispatchers d.place _;
       plans = refl;
       quiet = λ q. quiet_more a.ends (bound_to c m.end) (bound_quiet (bound_to c m.end) refl) q;

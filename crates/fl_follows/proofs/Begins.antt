@@ -1,12 +1,12 @@
 -- A core as its run begins shows the first cut, and is ready.
 use Rattle.std.proofs.Common.{◌≡◌, inl, inr, refl, sym, ◌∙◌, ap, subst, ℕ, zero, suc, ◌<◌, List, [], ◌∷◌, length, map, slice_get, Option, Some, None, arith}
-use Rattle.std.specs.Prelude.{IsSome, unwrap_or}
+use Rattle.std.specs.Prelude.{IsSome}
 use Rattle.std.specs.Option.{option_map}
 use Rattle.std.proofs.lemmas.List.{length-map}
 use Rattle.std.proofs.lemmas.Option.{slice_get-map}
 use Rattle.fl_base.specs.declared.identity.EndId.{EndId}
 use Rattle.fl_compile.specs.declared.program.Program.{Program}
-use Rattle.fl_compile.specs.Programs.{TheProgram, program_of}
+use Rattle.fl_compile.specs.Programs.{program_of}
 use Rattle.fl_core.specs.View.{TheDispatcher, TheSeat}
 use Rattle.fl_hop.proofs.Lists.{at_within, within}
 use Rattle.fl_link.specs.Queue.{TheQueue}
@@ -16,15 +16,12 @@ use Rattle.fl_node.specs.declared.wire.Wire.{Wire}
 use Rattle.fl_node.specs.declared.wire.Wire.TheVariants.{Queues, Ring, Circuit}
 use Rattle.fl_node.specs.Numbers.{moved, moved_wire, moved_port, renumbered}
 use Rattle.fl_node.specs.Sound.{IsCore}
-use Rattle.fl_node.specs.View.{TheCore, place_in, place_of, arrivals_by}
+use Rattle.fl_node.specs.View.{TheCore, place_of, arrivals_by}
 use Rattle.fl_node.proofs.Numbering.{came_from}
 use Rattle.fl_running.specs.Led.{LeadsAtFirst}
-use Rattle.fl_running.specs.Run.{TheRun}
 use Rattle.fl_queues.specs.Given.{given}
-use Rattle.fl_queues.specs.Calls.{Planned}
-use Rattle.fl_queues.specs.Monitors.{Core, Service}
-use Rattle.fl_queues.specs.State.{State, core_of, dispatcher_of}
-use Rattle.fl_queues.specs.Waits.{Dispatcher}
+use Rattle.fl_queues.specs.Monitors.{Core}
+use Rattle.fl_queues.specs.State.{core_of}
 use Rattle.fl_shows.specs.Ends.{planned_of}
 use Rattle.fl_shows.specs.Cores.{MonitorShows, NamesShow}
 use Rattle.fl_worlds.specs.declared.parts.Parts.{Parts}
@@ -34,7 +31,6 @@ use Rattle.fl_worlds.specs.View.{TheWorld}
 use Rattle.fl_jobs.specs.Jobs.{Job}
 use Rattle.fl_jobs.specs.Report.{TheReport}
 use Rattle.fl_system.specs.Booting.{TheConfig}
-use Rattle.fl_deal.specs.Dealt.{hand_at}
 use Rattle.fl_setups.specs.Untouched.{SetUpsTouchNothing}
 use Rattle.fl_setups.specs.Start.{SetUpsStartFresh, StartsFresh, NamesQueue}
 use Rattle.fl_threads.specs.Begins.{TheStation, Places, common_in}
@@ -44,12 +40,12 @@ use Rattle.fl_cores.specs.Promised.{Reports}
 use Rattle.fl_reports.specs.Cores.{joined_in}
 use Rattle.fl_reports.proofs.CoresStart.{StartsQuiet, ruled_quiet, quiet_renumbered}
 use Rattle.fl_reports.proofs.CoresStations.{AtStation, at_station}
-use Rattle.fl_reports.proofs.SidesPlaces.{there_is, moved_to, hand_is}
+use Rattle.fl_reports.proofs.SidesPlaces.{moved_to, hand_is}
 use Rattle.fl_reports.proofs.StartShared.{AreReady, are_ready, queue_owner, begins_apart}
 use Rattle.fl_cuts.specs.Ends.{EndCut}
-use Rattle.fl_cuts.specs.Cut.{Each2, ShowsWaits, name_at, UsesQueue, UsesArrivals, IsUsed, ShowsCut}
+use Rattle.fl_cuts.specs.Cut.{Each2, ShowsWaits, name_at, UsesQueue, IsUsed, ShowsCut}
 use Rattle.fl_cuts.specs.Start.{IsFirstEnd, IsFirstSide, IsFirstQueue, IsStarting, first_end, first_ends, first_cut, StartsShow}
-use Rattle.fl_cuts.specs.Ready.{EndsAreQuiet, Serves, IsReady}
+use Rattle.fl_cuts.specs.Ready.{Serves, IsReady}
 use Rattle.fl_follows.specs.Runs.{behind, IsOfMachine}
 use Rattle.fl_follows.proofs.Dealt.{own_is_one, new_sides}
 use Rattle.fl_follows.proofs.Ends.{first_at, of_machine}

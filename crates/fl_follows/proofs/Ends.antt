@@ -1,5 +1,5 @@
 -- An end of the first cut is the machine's behind the set-up.
-use Rattle.std.proofs.Common.{◌≡◌, refl, sym, ◌∙◌, ap, subst, ℕ, zero, suc, List, [], ◌∷◌, slice_get, Option, Some, None}
+use Rattle.std.proofs.Common.{◌≡◌, refl, sym, ◌∙◌, ap, ℕ, zero, suc, List, [], ◌∷◌, slice_get, Option, Some, None}
 use Rattle.fl_base.specs.declared.identity.EndId.{EndId}
 use Rattle.fl_base.specs.declared.identity.Side.{Side}
 use Rattle.fl_base.specs.declared.identity.Side.TheVariants.{Client, Server}
@@ -9,7 +9,7 @@ use Rattle.fl_node.specs.View.{TheCore, place_of}
 use Rattle.fl_queues.specs.Calls.{Planned}
 use Rattle.fl_queues.specs.Ends.{Direction, fresh_direction, Seat, End}
 use Rattle.fl_queues.specs.Given.{given}
-use Rattle.fl_queues.specs.State.{Binding, State, binding_of, interface_of, end_in, end_of}
+use Rattle.fl_queues.specs.State.{Binding, State, end_in}
 use Rattle.fl_shows.specs.Ends.{planned_of}
 use Rattle.fl_worlds.specs.Picture.{Shows}
 use Rattle.fl_worlds.specs.View.{TheWorld}

@@ -77,19 +77,19 @@ core_ruled e msg answer k k2 r =
       ends = λ n seat at. elim (set_cases k.board.seats r.place
           (record { end = change.end; dispatcher = change.seat.dispatcher; channel = change.seat.channel; kind = change.seat.kind }) n seat
           (ap (λ (b : TheBoard). slice_get b.seats n) (sym change.board) ∙ at)) [
-        | inl (here, same) ↦ record {
-          before = change.seat;
-          before_is = ap (slice_get k.board.seats) here ∙ change.seat_is;
-          program = ap (λ (x : TheSeat). x.end.program) same ∙ ap (λ (x : TheEnd). x.program) change.event.3;
-          outgoing = ap (λ (x : TheSeat). x.end.outgoing) same ∙ ap (λ (x : TheEnd). x.outgoing) change.event.3;
-          parts = ap (λ (x : TheSeat). x.end.parts) same ∙ ap (λ (x : TheEnd). x.parts) change.event.3;
-          circuit = ap (λ (x : TheSeat). x.end.circuit) same ∙ ap (λ (x : TheEnd). x.circuit) change.event.3;
-          failed = ap (λ (x : TheSeat). x.end.failed) same ∙ ap (λ (x : TheEnd). x.failed) change.event.3;
-          dispatcher = ap (λ (x : TheSeat). x.dispatcher) same;
-          channel = ap (λ (x : TheSeat). x.channel) same;
-        }
-        | inr (other, there_is) ↦ seat_itself k.board.seats n seat there_is
-      ];
+            | inl (here, same) ↦ record {
+              before = change.seat;
+              before_is = ap (slice_get k.board.seats) here ∙ change.seat_is;
+              program = ap (λ (x : TheSeat). x.end.program) same ∙ ap (λ (x : TheEnd). x.program) change.event.3;
+              outgoing = ap (λ (x : TheSeat). x.end.outgoing) same ∙ ap (λ (x : TheEnd). x.outgoing) change.event.3;
+              parts = ap (λ (x : TheSeat). x.end.parts) same ∙ ap (λ (x : TheEnd). x.parts) change.event.3;
+              circuit = ap (λ (x : TheSeat). x.end.circuit) same ∙ ap (λ (x : TheEnd). x.circuit) change.event.3;
+              failed = ap (λ (x : TheSeat). x.end.failed) same ∙ ap (λ (x : TheEnd). x.failed) change.event.3;
+              dispatcher = ap (λ (x : TheSeat). x.dispatcher) same;
+              channel = ap (λ (x : TheSeat). x.channel) same;
+            }
+            | inr (other, there_is) ↦ seat_itself k.board.seats n seat there_is
+          ];
     }
 
 -- ---- all cores

@@ -1,5 +1,5 @@
 -- Each core of a run follows the machine.
-use Rattle.std.proofs.Common.{◌≡◌, ◌⊎◌, inl, inr, refl, sym, ◌∙◌, ap, subst, ℕ, zero, suc, List, [], ◌∷◌, map, slice_get, Some, None, arith}
+use Rattle.std.proofs.Common.{◌≡◌, ◌⊎◌, inl, inr, sym, ◌∙◌, ap, subst, ℕ, zero, suc, List, [], ◌∷◌, map, slice_get, Some, arith}
 use Rattle.fl_running.specs.declared.job.Job.{Job as CoreJob}
 use Rattle.fl_base.specs.declared.identity.LinkId.{LinkId}
 use Rattle.fl_compile.specs.Programs.{TheProgram, program_of}
@@ -22,7 +22,7 @@ use Rattle.fl_threads.specs.Tells.{TheOutcome, RanTo, Each2, shared_ways}
 use Rattle.fl_cores.specs.Promised.{Reports}
 use Rattle.fl_cuts.specs.Start.{first_cut, StartsShow}
 use Rattle.fl_cuts.specs.Ready.{ReadyTurnsFollow}
-use Rattle.fl_follows.specs.Runs.{behind, RoutesDiffer, CoreFollows, RunsFollow}
+use Rattle.fl_follows.specs.Runs.{behind, RoutesDiffer, RunsFollow}
 use Rattle.fl_follows.proofs.Begins.{machine, begins, ends_are, is_ready}
 use Rattle.fl_dockets.specs.State.{TheJoined}
 use Rattle.fl_honest.specs.Asked.{AreBeside, WishesAlone}

@@ -1,5 +1,5 @@
 -- A core's whole run is turns: those that are counted, and then some that aren't.
-use Rattle.std.proofs.Common.{◌≡◌, refl, sym, ap, subst, ℕ, zero, suc, ◌+◌, ◌≤◌, List, arith}
+use Rattle.std.proofs.Common.{sym, subst, ℕ, zero, suc, ◌≤◌, List, arith}
 use Rattle.fl_ring.specs.SharedSides.{TheSide}
 use Rattle.fl_running.specs.declared.job.Job.{Job}
 use Rattle.fl_running.specs.declared.plan.Plan.{Plan}

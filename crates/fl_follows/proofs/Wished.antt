@@ -31,23 +31,22 @@ use Rattle.fl_running.specs.Logs.{InPlace, Goes, LogsLook}
 use Rattle.fl_running.specs.Run.{TheRun}
 use Rattle.fl_running.proofs.Apart.{side_before}
 use Rattle.fl_running.proofs.Aside.{rings_aside, core_aside}
-use Rattle.fl_running.proofs.Growing.{Grows, does_grow}
+use Rattle.fl_running.proofs.Growing.{does_grow}
 use Rattle.fl_running.proofs.Laning.{lane_of}
 use Rattle.fl_queues.specs.Binding.{all_differ}
 use Rattle.fl_queues.specs.Monitors.{Service}
 use Rattle.fl_queues.specs.Rings.{Opening, open_circuit}
-use Rattle.fl_honest.specs.Asked.{HasDeed, AsksBy, GoesWished, AreBeside}
+use Rattle.fl_honest.specs.Asked.{HasDeed, AsksBy, GoesWished}
 use Rattle.fl_honest.specs.Cores.{OneCore}
 use Rattle.fl_honest.specs.Named.{Has}
 use Rattle.fl_threads.specs.Tells.{shared_ways}
 use Rattle.fl_cuts.specs.Cut.{Cut}
 use Rattle.fl_cuts.specs.Does.{CutGoes}
 use Rattle.fl_cuts.specs.Hearing.{said_of}
-use Rattle.fl_cuts.specs.Opening.{opening_with}
 use Rattle.fl_cuts.specs.Ready.{TurnsBack, RefusesBack, CutMakesAll}
 use Rattle.fl_cuts.proofs.Hearing.{beside}
 use Rattle.fl_cuts.proofs.Opening.{path_same}
-use Rattle.fl_cuts.proofs.Readying.{Asks, asks_for, makes_stay}
+use Rattle.fl_cuts.proofs.Readying.{asks_for, makes_stay}
 use Rattle.fl_shows.specs.Fragments.{core_id}
 use Rattle.fl_follows.specs.Runs.{RoutesDiffer}
 
@@ -232,9 +231,12 @@ pub exactly : (services : List Service) (t : TheCircuits) (a b : Cut) (log : Lis
     → CutGoes services a log b
 exactly services t a b [] laid h none = h
 exactly services t a b (deed ∷ log) laid (m, inl does, rest) none =
-    let stays = makes_stay services deed a m (inl does) in
-    (m, does, exactly services t m b log (record { core = stays.number ∙ laid.core; links = λ i. stays.links i ∙ laid.links i }) rest
-    (λ n l frag msg o has says asked along. none n l frag msg o (inr has) says asked along))
+    let stays = makes_stay services deed a m (inl does) in (
+      m,
+      does,
+      exactly services t m b log (record { core = stays.number ∙ laid.core; links = λ i. stays.links i ∙ laid.links i }) rest
+          (λ n l frag msg o has says asked along. none n l frag msg o (inr has) says asked along),
+    )
 exactly services t a b (deed ∷ log) laid (m, inr turned_back, rest) none =
     let x = back_twice deed a m turned_back in
     let along : comes_along t x.l.0 (map core_id x.opening.path) ≡ true
