@@ -23,7 +23,7 @@ use Rattle.fl_queues.specs.Monitors.{Core}
 use Rattle.fl_shows.specs.Cores.{MonitorShows}
 use Rattle.fl_cuts.specs.Sides.{SideCut, ShowsSide}
 use Rattle.fl_cuts.specs.Ends.{EndCut}
-use Rattle.fl_cuts.specs.Cut.{Each2, QueueCut, Cut, ShowsQueue, ShowsWaits, ShowsSeat, ShowsCut}
+use Rattle.fl_cuts.specs.Cut.{Each2, QueueCut, Cut, UsesQueue, UsesArrivals, QueuesShow, ShowsWaits, ShowsSeat, ShowsCut}
 use Rattle.fl_cuts.specs.Events.{EndAt, triggers_seat, triggers_end, with_waits}
 use Rattle.fl_cuts.proofs.Lists.{there, set_both, map_same, map_at}
 
@@ -50,7 +50,7 @@ with_parts s p = record s {
 pub shown_all : (a : Cut) (s : TheRun TheSide) → ShowsCut a s → (b : Cut) (p : Parts) → MonitorShows b.core p.monitor
     → Each2 (ShowsWaits s.core.ports) b.core.dispatchers p.board.dispatchers → Each2 (ShowsSeat p.monitor.circuits.core) b.ends p.board.seats
     → map (λ (x : EndCut). x.port) b.ends ≡ map (λ (x : EndCut). x.port) a.ends → b.places ≡ a.places → b.plans ≡ a.plans → b.lanes ≡ p.lanes → Each2 ShowsSide b.sides p.rings
-    → Each2 ShowsQueue b.queues p.stands → Each2 ShowsQueue b.arrivals p.arrivals → ShowsCut b (with_parts s p)
+    → QueuesShow UsesQueue s.core.ports b.queues p.stands → QueuesShow UsesArrivals s.core.ports b.arrivals p.arrivals → ShowsCut b (with_parts s p)
 shown_all a s h b p monitor waits ends ports places plans lanes sides queues arrivals = record {
   monitor = monitor;
   waits = waits;
@@ -76,7 +76,7 @@ same_monitor a s waits h = record { circuits = h.monitor.circuits; outboxes = h.
 pub shown_by : (a : Cut) (s : TheRun TheSide) → ShowsCut a s → (waits : List Dispatcher) (ends : List EndCut) (sides : List SideCut) (queues : List QueueCut)
     (b : TheBoard) (rings : List TheSide) (stands : List TheQueue) (desks : List TheDesk) → Each2 (ShowsWaits s.core.ports) waits b.dispatchers
     → Each2 (ShowsSeat s.core.monitor.circuits.core) ends b.seats → map (λ (x : EndCut). x.port) ends ≡ map (λ (x : EndCut). x.port) a.ends
-    → Each2 ShowsSide sides rings → Each2 ShowsQueue queues stands → ShowsCut (changed a waits ends sides queues) (built s b rings stands desks)
+    → Each2 ShowsSide sides rings → QueuesShow UsesQueue s.core.ports queues stands → ShowsCut (changed a waits ends sides queues) (built s b rings stands desks)
 shown_by a s h waits ends sides queues b rings stands desks waits_show ends_show ports sides_show queues_show =
     shown_all a s h (changed a waits ends sides queues) (record {
       board = b;
@@ -92,7 +92,7 @@ shown_by a s h waits ends sides queues b rings stands desks waits_show ends_show
 pub shown_arrivals : (a : Cut) (s : TheRun TheSide) → ShowsCut a s → (waits : List Dispatcher) (ends : List EndCut) (sides : List SideCut) (arrivals : List QueueCut)
     (b : TheBoard) (rings : List TheSide) (stands : List TheQueue) (desks : List TheDesk) → Each2 (ShowsWaits s.core.ports) waits b.dispatchers
     → Each2 (ShowsSeat s.core.monitor.circuits.core) ends b.seats → map (λ (x : EndCut). x.port) ends ≡ map (λ (x : EndCut). x.port) a.ends
-    → Each2 ShowsSide sides rings → Each2 ShowsQueue arrivals stands
+    → Each2 ShowsSide sides rings → QueuesShow UsesArrivals s.core.ports arrivals stands
     → ShowsCut (record (with_waits a waits) { ends = ends; sides = sides; arrivals = arrivals })
     (record s { core = record s.core { board = b; arrivals = stands }; rings = rings; desks = desks })
 shown_arrivals a s h waits ends sides arrivals b rings stands desks waits_show ends_show ports sides_show arrivals_show =

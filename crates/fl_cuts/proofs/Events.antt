@@ -1,5 +1,5 @@
 -- Each event of a core without links: what the machine makes of the cut is what the core shows then.
-use Rattle.std.proofs.Common.{◌≡◌, refl, sym, ◌∙◌, ap, subst, ℕ, zero, suc, List, [], ◌∷◌, map, slice_get, slice_set, Option, Some, None}
+use Rattle.std.proofs.Common.{◌≡◌, inl, inr, refl, sym, ◌∙◌, ap, subst, ℕ, zero, suc, List, [], ◌∷◌, map, slice_get, slice_set, Option, Some, None}
 use Rattle.std.specs.Prelude.{Result, Ok, Err}
 use Rattle.fl_base.specs.declared.identity.EndId.{EndId}
 use Rattle.fl_base.specs.declared.identity.MsgNo.{MsgNo}
@@ -46,11 +46,12 @@ use Rattle.fl_queues.specs.Waits.{Dispatcher, Due, pending, polled, due}
 use Rattle.fl_shows.specs.EndLaws.{TakeShows}
 use Rattle.fl_cuts.specs.Sides.{SideCut, ShowsSide, Places}
 use Rattle.fl_cuts.specs.Ends.{EndCut, ShowsEnd}
-use Rattle.fl_cuts.specs.Cut.{Each2, QueueCut, Cut, ShowsQueue, name_at, ShowsWaits, ShowsSeat, ShowsCut}
+use Rattle.fl_cuts.specs.Cut.{Each2, QueueCut, Cut, ShowsQueue, UsesQueue, IsUsed, QueuesShow, name_at, ShowsWaits, ShowsSeat, ShowsCut}
 use Rattle.fl_cuts.specs.Events.{QueuePlaces, Giving, ring_gives, queue_gives, Turns, Acks, triggers_end, woken_by, end_due, HasTurn}
 use Rattle.fl_cuts.specs.Does.{CutActs}
 use Rattle.fl_cuts.specs.Laws.{HasNoLinks}
-use Rattle.fl_cuts.proofs.Lists.{there, set_both}
+use Rattle.fl_running.proofs.Laning.{port_out, port_in}
+use Rattle.fl_cuts.proofs.Lists.{there, set_both, set_used}
 use Rattle.fl_cuts.proofs.Sides.{put_agrees, look_agrees, takes_one, takes_ack}
 use Rattle.fl_cuts.proofs.Ends.{PutLaw, call_shows, rule_shows, write_shows, unbound_now}
 use Rattle.fl_cuts.proofs.Queues.{queue_puts, queue_misses, queue_leaves, queue_gives_one, queue_gives_ack, some_wait, none_wait, seen_some}
@@ -236,6 +237,34 @@ queue_kind n (Queues out from) h = refl
 queue_kind n (OverRing side) h = absurd (cc)
 queue_kind n (Circuit link arrivals) h = absurd (cc)
 
+-- ---- the queues that an end uses
+
+-- it puts there
+uses_out : (k : TheCore) (e n : ℕ) → outlet_of k e ≡ Some (outlet.Queue n) → IsUsed UsesQueue k.ports n
+uses_out k e n h =
+    let p = port_out k e (outlet.Queue n) (slice_get k.ports e) refl h in
+    record { place = e; port = p.0; port_is = p.1; uses = by p.0.wire p.2 }
+  where
+    over_link : {P : Type 0} (o : Option ℕ) → (given_at o None λ side. Some (outlet.Side side)) ≡ Some (outlet.Queue n) → P
+    over_link None q = absurd (cc)
+    over_link (Some side) q = absurd (cc)
+
+    by : (wire : Wire) → outlet_by k.lanes wire ≡ Some (outlet.Queue n) → UsesQueue n wire
+    by (Queues out from) q = let same : out ≡ n = cc in inl same
+    by (OverRing side) q = absurd (cc)
+    by (Circuit link arrivals) q = over_link (side_of_link k.lanes link.0) q
+
+-- it takes from there
+uses_in : (k : TheCore) (e n : ℕ) → inlet_of k e ≡ Some (inlet.Queue n) → IsUsed UsesQueue k.ports n
+uses_in k e n h =
+    let p = port_in k e (inlet.Queue n) (slice_get k.ports e) refl h in
+    record { place = e; port = p.0; port_is = p.1; uses = by p.0.wire p.2 }
+  where
+    by : (wire : Wire) → inlet_by wire ≡ inlet.Queue n → UsesQueue n wire
+    by (Queues out from) q = let same : from ≡ n = cc in inr same
+    by (OverRing side) q = absurd (cc)
+    by (Circuit link arrivals) q = absurd (cc)
+
 -- ---- a write
 
 pub side_writes_follow : (a : Cut) (s m t : TheRun TheSide) (name : EndId) (n : ℕ) (answer : Result WriteAnswer EndFault) (e : ℕ) → ShowsCut a s → IsSound s.core
@@ -288,7 +317,7 @@ queue_writes_follow a s m t name n answer e h sound at out on desks =
     let change = wrote_at.writes in
     let core : ℕ = s.core.monitor.circuits.core in
     let x = seen a s name e change.seat h sound.core at change.seat_is in
-    let v = there ShowsQueue a.queues s.queues n on.before h.queues on.before_is in
+    let v = h.queues.each n on.before (uses_out s.core e n out) on.before_is in
     let one = write_shows QueuePuts ShowsQueue QueuePlaces queue_puts x.end v.0 answer change.seat.end change.end on.before on.after x.shows.shows v.2 change.event in
     let placed_at = sound.core.placed name e at in
     let joined : joined_to s.core e ≡ place_in a.places (peer name)
@@ -329,7 +358,7 @@ queue_writes_follow a s m t name n answer e h sound at out on desks =
           (shown_by a s h (triggers_end (woken_by name answer a) (slice_set a.ends e one.after) a.core.dispatchers) (slice_set a.ends e one.after) a.sides
           (slice_set a.queues n one.side) m.core.board s.rings (slice_set s.queues n on.after) t.desks triggered.waits_show triggered.ends_show
           (ports_same a core name e change.seat x one.after one.port) h.sides
-          (set_both ShowsQueue a.queues s.queues n one.side on.after h.queues one.side_shows));
+          (set_used UsesQueue s.core.ports a.queues s.queues n one.side on.after h.queues one.side_shows));
       links = still_none s t m.core.board (ap (λ (r : TheRun TheSide). r.core) run);
     }
 
@@ -357,7 +386,7 @@ name_there k name e core at =
 
 -- what a turn makes of the parts
 pub record TurnShown {T P : Type 0} (Shows : P → T → Type 0) (g : Giving P) (d : ℕ) (name : EndId) (answer : TurnAnswer) (a : Cut) (xs : List P) (n : ℕ)
-    (core : ℕ) (ports : List Port) (b : TheBoard) (qs : List T) : Type 0 where
+    (core : ℕ) (ports : List Port) (b : TheBoard) (q : T) : Type 0 where
   pub waits : List Dispatcher
   pub ends : List EndCut
   pub sides : List P
@@ -365,23 +394,24 @@ pub record TurnShown {T P : Type 0} (Shows : P → T → Type 0) (g : Giving P) 
   pub waits_show : Each2 (ShowsWaits ports) waits b.dispatchers
   pub ends_show : Each2 (ShowsSeat core) ends b.seats
   pub ports_are : map (λ (x : EndCut). x.port) ends ≡ map (λ (x : EndCut). x.port) a.ends
-  pub sides_show : Each2 Shows sides qs
+  pub side : P
+  pub sides_are : sides ≡ slice_set xs n side
+  pub side_shows : Shows side q
 
 turn_on : {T P : Type 0} (Shows : P → T → Type 0) (g : Giving P) (d : ℕ) (name : EndId) (answer : TurnAnswer) (a : Cut) (xs : List P) (n : ℕ)
-    (core : ℕ) (ports : List Port) (b c : TheBoard) (qs : List T) → c ≡ b → TurnShown Shows g d name answer a xs n core ports b qs
-    → TurnShown Shows g d name answer a xs n core ports c qs
-turn_on Shows g d name answer a xs n core ports b c qs e h = subst (λ (x : TheBoard). TurnShown Shows g d name answer a xs n core ports x qs) (sym e) h
+    (core : ℕ) (ports : List Port) (b c : TheBoard) (q : T) → c ≡ b → TurnShown Shows g d name answer a xs n core ports b q
+    → TurnShown Shows g d name answer a xs n core ports c q
+turn_on Shows g d name answer a xs n core ports b c q e h = subst (λ (x : TheBoard). TurnShown Shows g d name answer a xs n core ports x q) (sym e) h
 
 module _ {T P : Type 0} (takes : T → Look → T → Type 0) (Shows : P → T → Type 0) (g : Giving P) (expected : Kind) where
   pub turn_follows : GivingLaw takes Shows g expected → TakeShows → (a : Cut) (s : TheRun TheSide) (d : ℕ) (name : EndId) (n e : ℕ) (answer : TurnAnswer)
-      (b2 : TheBoard) (xs : List P) (ps : List T) (p q : T) → ShowsCut a s → IsCore s.core → IsSoundAt s name → place_of s.core name ≡ Some e → Each2 Shows xs ps
-      → slice_get ps n ≡ Some p → ((seat : TheSeat) → slice_get s.core.board.seats e ≡ Some seat → seat.kind ≡ expected)
+      (b2 : TheBoard) (xs : List P) (p q : T) → ShowsCut a s → IsCore s.core → IsSoundAt s name → place_of s.core name ≡ Some e
+      → (v : (y : P) × (slice_get xs n ≡ Some y) × Shows y p) → ((seat : TheSeat) → slice_get s.core.board.seats e ≡ Some seat → seat.kind ≡ expected)
       → BoardTurns takes d e (over s.core.board p) (Ok answer) (over b2 q)
-      → TurnShown Shows g d name answer a xs n s.core.monitor.circuits.core s.core.ports b2 (slice_set ps n q)
-  turn_follows law takes_law a s d name n e answer b2 xs ps p q h core soundly at sides side_is kind_is t =
+      → TurnShown Shows g d name answer a xs n s.core.monitor.circuits.core s.core.ports b2 q
+  turn_follows law takes_law a s d name n e answer b2 xs p q h core soundly at v kind_is t =
       let number : ℕ = s.core.monitor.circuits.core in
       let x = seen a s name e t.seat h core at t.seat_is in
-      let v = there Shows xs ps n p sides side_is in
       let w = there (ShowsWaits s.core.ports) a.core.dispatchers s.core.board.dispatchers d t.dispatcher h.waits t.dispatcher_is in
       let looks : LooksAt takes t.picked expected (moment t.dispatcher.lists t.seat.end p) (Ok answer) (moment t.lists t.end q)
       = subst (λ (k : Kind). LooksAt takes t.picked k (moment t.dispatcher.lists t.seat.end p) (Ok answer) (moment t.lists t.end q)) (kind_is t.seat t.seat_is) t.looks in
@@ -391,7 +421,7 @@ module _ {T P : Type 0} (takes : T → Look → T → Type 0) (Shows : P → T �
       = ap (λ (l : ThreeLists). Rattle.fl_queues.specs.Waits.first_due l.pending l.polled) (sym w.2.lists) ∙ due_is t.dispatcher.lists t.picked t.picked_is in
       let ended : slice_get w.0.ends (channel_of t.picked) ≡ Some name
       = names_at (name_at s.core.ports) t.dispatcher.ends w.0.ends (channel_of t.picked) e name w.2.ends t.end_is (name_there s.core name e core at) in
-      turn_on Shows g d name answer a xs n number s.core.ports _ b2 (slice_set ps n q) t.board (record {
+      turn_on Shows g d name answer a xs n number s.core.ports _ b2 q t.board (record {
         waits = slice_set a.core.dispatchers d one.after.waits;
         ends = slice_set a.ends e one.after.end;
         sides = slice_set xs n one.after.side;
@@ -414,7 +444,9 @@ module _ {T P : Type 0} (takes : T → Look → T → Type 0) (Shows : P → T �
         ends_show = ends_shown a number name e t.seat s.core.board.seats x one.after.end t.end h.ends
             (record { shows = one.shows; seat = one.seat ∙ x.shows.seat });
         ports_are = ports_same a number name e t.seat x one.after.end one.port;
-        sides_show = set_both Shows xs ps n one.after.side q sides one.side_shows;
+        side = one.after.side;
+        sides_are = refl;
+        side_shows = one.side_shows;
       })
 
 pub side_turns_follow : TakeShows → (a : Cut) (s m t : TheRun TheSide) (d : ℕ) (name : EndId) (n : ℕ) (answer : TurnAnswer) (e : ℕ) → ShowsCut a s → IsSound s.core
@@ -422,8 +454,8 @@ pub side_turns_follow : TakeShows → (a : Cut) (s m t : TheRun TheSide) (d : �
     → OnRing n s (λ k p k2 q. OnBoard k (λ b c. BoardTurns SharedTakes d e (over b p) (Ok answer) (over c q)) k2) m
     → t ≡ record m { desks = t.desks } → After (turned d name (inlet.Side n) answer) a s t
 side_turns_follow law a s m t d name n answer e h sound soundly at from on desks =
-    let one = turn_follows SharedTakes ShowsSide ring_gives kind.Ring side_gives law a s d name n e answer m.core.board a.sides s.rings on.before on.after h sound.core
-    soundly at h.sides on.before_is (λ seat is. kind_from s.core e seat (inlet.Side n) kind.Ring sound.core is from (ring_kind n)) on.event.event in
+    let one = turn_follows SharedTakes ShowsSide ring_gives kind.Ring side_gives law a s d name n e answer m.core.board a.sides on.before on.after h sound.core
+    soundly at (there ShowsSide a.sides s.rings n on.before h.sides on.before_is) (λ seat is. kind_from s.core e seat (inlet.Side n) kind.Ring sound.core is from (ring_kind n)) on.event.event in
     let run = ring_run s m t (slice_set s.rings n on.after) on.rest on.event.rest desks in
     let next : Cut = changed a one.waits one.ends one.sides a.queues in
     record {
@@ -431,7 +463,9 @@ side_turns_follow law a s m t d name n answer e h sound soundly at from on desks
       does = (one.turn, refl);
       shows = subst (ShowsCut next) (sym run)
           (shown_by a s h one.waits one.ends one.sides a.queues m.core.board (slice_set s.rings n on.after) s.queues t.desks
-          one.waits_show one.ends_show one.ports_are one.sides_show h.queues);
+          one.waits_show one.ends_show one.ports_are
+          (subst (λ (ys : List SideCut). Each2 ShowsSide ys (slice_set s.rings n on.after)) (sym one.sides_are)
+          (set_both ShowsSide a.sides s.rings n one.side on.after h.sides one.side_shows)) h.queues);
       links = still_none s t m.core.board (ap (λ (r : TheRun TheSide). r.core) run);
     }
 
@@ -440,8 +474,8 @@ pub queue_turns_follow : TakeShows → (a : Cut) (s m t : TheRun TheSide) (d : �
     → OnQueue n s (λ k p k2 q. OnBoard k (λ b c. BoardTurns QueueTakes d e (over b p) (Ok answer) (over c q)) k2) m
     → t ≡ record m { desks = t.desks } → After (turned d name (inlet.Queue n) answer) a s t
 queue_turns_follow law a s m t d name n answer e h sound soundly at from on desks =
-    let one = turn_follows QueueTakes ShowsQueue queue_gives kind.Queue all_gives law a s d name n e answer m.core.board a.queues s.queues on.before on.after h sound.core
-    soundly at h.queues on.before_is (λ seat is. kind_from s.core e seat (inlet.Queue n) kind.Queue sound.core is from (queue_kind n)) on.event.event in
+    let one = turn_follows QueueTakes ShowsQueue queue_gives kind.Queue all_gives law a s d name n e answer m.core.board a.queues on.before on.after h sound.core
+    soundly at (h.queues.each n on.before (uses_in s.core e n from) on.before_is) (λ seat is. kind_from s.core e seat (inlet.Queue n) kind.Queue sound.core is from (queue_kind n)) on.event.event in
     let run = queue_run s m t (slice_set s.queues n on.after) on.rest on.event.rest desks in
     let next : Cut = changed a one.waits one.ends a.sides one.sides in
     record {
@@ -449,7 +483,9 @@ queue_turns_follow law a s m t d name n answer e h sound soundly at from on desk
       does = (one.turn, refl);
       shows = subst (ShowsCut next) (sym run)
           (shown_by a s h one.waits one.ends a.sides one.sides m.core.board s.rings (slice_set s.queues n on.after) t.desks
-          one.waits_show one.ends_show one.ports_are h.sides one.sides_show);
+          one.waits_show one.ends_show one.ports_are h.sides
+          (subst (λ (ys : List QueueCut). QueuesShow UsesQueue s.core.ports ys (slice_set s.queues n on.after)) (sym one.sides_are)
+          (set_used UsesQueue s.core.ports a.queues s.queues n one.side on.after h.queues one.side_shows)));
       links = still_none s t m.core.board (ap (λ (r : TheRun TheSide). r.core) run);
     }
 

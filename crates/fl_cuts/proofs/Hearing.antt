@@ -1,6 +1,7 @@
 -- A monitors' message is heard as the machine hears it.
 use Rattle.std.proofs.Common.{◌≡◌, inl, inr, refl, sym, ◌∙◌, ap, subst, ℕ, zero, suc, ◌+◌, ◌||◌, ◌≤◌, Bool, true, false, if◌then◌else◌, List, [], ◌∷◌, ◌++◌, length, map, slice_get, slice_set, Option, Some, None, arith}
 use Rattle.std.specs.Prelude.{Result, Ok, Err, IsSome}
+use Rattle.std.specs.Option.{option_map}
 use Rattle.std.proofs.lemmas.Bool.{false≢true}
 use Rattle.std.proofs.lemmas.Option.{same_Some, slice_get_past}
 use Rattle.fl_base.specs.declared.fragment.Frag.{Frag}
@@ -19,6 +20,8 @@ use Rattle.fl_ring.specs.SharedSides.{TheSide, SharedTakes}
 use Rattle.fl_hop.specs.declared.entry.Way.{Way}
 use Rattle.fl_hop.specs.declared.entry.Way.TheVariants.{Link as to_link, End as to_end}
 use Rattle.fl_hop.specs.declared.entry.Hop.{Hop}
+use Rattle.fl_hop.specs.declared.links.LinkState.{LinkState}
+use Rattle.fl_hop.specs.Numbers.{with_opening, with_taking, changed, count_opening, count_taking}
 use Rattle.fl_hop.specs.Table.{TheCircuits, hop_at}
 use Rattle.fl_compile.specs.declared.program.Program.{Program}
 use Rattle.fl_value.specs.Value.{TheCall}
@@ -83,45 +86,75 @@ use Rattle.fl_cuts.proofs.Lists.{there, set_both}
 use Rattle.fl_cuts.proofs.Sides.{takes_again}
 use Rattle.fl_cuts.proofs.Cuts.{shown_all, shown_by, built, seen_by, end_at, seated, ends_shown, ports_same}
 use Rattle.fl_cuts.proofs.Events.{queue_waits, kind_at}
-use Rattle.fl_cuts.proofs.Links.{desks_shown, side_shown, side_lanes, lanes_run, set_same, arrives_at, port_at, own_number}
-use Rattle.fl_cuts.proofs.Opening.{copied, path_same, new_shows, added_shows, added_run, same_length, place_left, last_there}
+use Rattle.fl_cuts.proofs.Links.{desks_shown, side_shown, side_lanes, lanes_run, set_same, arrives_at, port_at, used_at, own_number}
+use Rattle.fl_cuts.proofs.Opening.{copied, path_same, new_shows, added_shows, new_own, added_run, same_length, place_left, last_there}
 
 -- ---- the message, as the machine has it
 
-message_same : (m : Message) → message_of (said_of m) ≡ m
+pub message_same : (m : Message) → message_of (said_of m) ≡ m
 message_same (OpenCircuit c binding service path) = ap (λ (p : List CoreId). OpenCircuit c binding service p) (path_same path)
 message_same (CircuitOpened c) = refl
 message_same (CircuitRefused c reason) = refl
 
+-- ---- neighbours
+
+-- the core on a link's other side
+abbrev pub beside : TheCircuits → ℕ → Option CoreId
+beside t l = option_map (λ (x : LinkState). x.neighbour) (slice_get t.links l)
+
+set_beside : (xs : List LinkState) (i l : ℕ) (a b : LinkState) → slice_get xs i ≡ Some a → b.neighbour ≡ a.neighbour
+    → option_map (λ (x : LinkState). x.neighbour) (slice_get (slice_set xs i b) l) ≡ option_map (λ (x : LinkState). x.neighbour) (slice_get xs l)
+set_beside [] i l a b at same = absurd (cc)
+set_beside (x ∷ xs) zero zero a b at same = let one : x ≡ a = cc in ap (λ (c : CoreId). Some c) (same ∙ ap (λ (y : LinkState). y.neighbour) (sym one))
+set_beside (x ∷ xs) zero (suc l) a b at same = refl
+set_beside (x ∷ xs) (suc i) zero a b at same = refl
+set_beside (x ∷ xs) (suc i) (suc l) a b at same = set_beside xs i l a b at same
+
+-- no count changes it
+changed_beside : (f : LinkState → LinkState) → ((a : LinkState) → (f a).neighbour ≡ a.neighbour) → (xs : List LinkState) (i l : ℕ) (o : Option LinkState) → slice_get xs i ≡ o
+    → option_map (λ (x : LinkState). x.neighbour) (slice_get (changed f xs i o) l) ≡ option_map (λ (x : LinkState). x.neighbour) (slice_get xs l)
+changed_beside f keeps xs i l None at = refl
+changed_beside f keeps xs i l (Some a) at = set_beside xs i l a (f a) at (keeps a)
+
+pub opening_beside : (xs : List LinkState) (i l : ℕ)
+    → option_map (λ (x : LinkState). x.neighbour) (slice_get (count_opening xs i) l) ≡ option_map (λ (x : LinkState). x.neighbour) (slice_get xs l)
+opening_beside xs i l = changed_beside with_opening (λ a. refl) xs i l (slice_get xs i) refl
+
+taking_beside : (xs : List LinkState) (i l : ℕ)
+    → option_map (λ (x : LinkState). x.neighbour) (slice_get (count_taking xs i) l) ≡ option_map (λ (x : LinkState). x.neighbour) (slice_get xs l)
+taking_beside xs i l = changed_beside with_taking (λ a. refl) xs i l (slice_get xs i) refl
+
 -- ---- what a machine's core keeps when it hears
 
-record Keeps (k : Core) (h : Hearing) : Type 0 where
+pub record Keeps (k : Core) (h : Hearing) : Type 0 where
   pub waits : h.core.dispatchers ≡ k.dispatchers
   pub number : h.core.circuits.core ≡ k.circuits.core
+  pub links : (i : ℕ) → beside h.core.circuits i ≡ beside k.circuits i
 
-saying_keeps : (l : ℕ) (m : Said) (t : TheCircuits) (word : MachineHeard) (k : Core) → t.core ≡ k.circuits.core → Keeps k (saying l m t word k)
-saying_keeps l m t word k e =
+saying_keeps : (l : ℕ) (m : Said) (t : TheCircuits) (word : MachineHeard) (k : Core) → t.core ≡ k.circuits.core → ((i : ℕ) → beside t i ≡ beside k.circuits i)
+    → Keeps k (saying l m t word k)
+saying_keeps l m t word k e h =
     either (Keeps k) (can_say l k) (record { core = with_said l m (with_circuits t k); heard = word }) (record { core = k; heard = no_outbox })
-    (λ q. record { waits = refl; number = e }) (λ q. record { waits = refl; number = refl })
+    (λ q. record { waits = refl; number = e; links = h }) (λ q. record { waits = refl; number = refl; links = λ i. refl })
 
-opening_keeps : (l : ℕ) (o : Opening) (f : Fate) (k : Core) → Keeps k (hears_opening l o f k)
-opening_keeps l o (goes_on m n) k = saying_keeps m _ _ _ k refl
-opening_keeps l o (ends_at d) k = saying_keeps l _ _ _ k refl
-opening_keeps l o (fails fault) k = saying_keeps l _ _ _ k refl
+pub opening_keeps : (l : ℕ) (o : Opening) (f : Fate) (k : Core) → Keeps k (hears_opening l o f k)
+opening_keeps l o (goes_on m n) k = saying_keeps m _ _ _ k refl (λ i. opening_beside (count_taking k.circuits.links l) m i ∙ taking_beside k.circuits.links l i)
+opening_keeps l o (ends_at d) k = saying_keeps l _ _ _ k refl (λ i. taking_beside k.circuits.links l i)
+opening_keeps l o (fails fault) k = saying_keeps l _ _ _ k refl (λ i. taking_beside k.circuits.links l i)
 
 opened_keeps : (l c : ℕ) (hop : Hop) (way : Way) (k : Core) → Keeps k (hears_opened l c hop way k)
-opened_keeps l c hop (to_link m d) k = saying_keeps m.0 _ _ _ k refl
-opened_keeps l c hop (to_end e) k = record { waits = refl; number = refl }
+opened_keeps l c hop (to_link m d) k = saying_keeps m.0 _ _ _ k refl (λ i. refl)
+opened_keeps l c hop (to_end e) k = record { waits = refl; number = refl; links = λ i. refl }
 
 refused_keeps : (l c fault : ℕ) (hop : Hop) (way : Way) (k : Core) → Keeps k (hears_refused l c fault hop way k)
-refused_keeps l c fault hop (to_link m d) k = saying_keeps m.0 _ _ _ k refl
-refused_keeps l c fault hop (to_end e) k = record { waits = refl; number = refl }
+refused_keeps l c fault hop (to_link m d) k = saying_keeps m.0 _ _ _ k refl (λ i. refl)
+refused_keeps l c fault hop (to_end e) k = record { waits = refl; number = refl; links = λ i. refl }
 
 by_hop : (k : Core) (o : Option Hop) (f : Hop → Hearing) → ((hop : Hop) → Keeps k (f hop)) → Keeps k (given o (goes_astray k) f)
-by_hop k None f h = record { waits = refl; number = refl }
+by_hop k None f h = record { waits = refl; number = refl; links = λ i. refl }
 by_hop k (Some hop) f h = h hop
 
-hears_keeps : (services : List Service) (l : ℕ) (m : Said) (k : Core) → Keeps k (hears services l m k)
+pub hears_keeps : (services : List Service) (l : ℕ) (m : Said) (k : Core) → Keeps k (hears services l m k)
 hears_keeps services l (open_circuit o) k = opening_keeps l o (fate services o k) k
 hears_keeps services l (circuit_opened c) k = by_hop k (hop_at k.circuits l c) (λ hop. hears_opened l c hop hop.way k) (λ hop. opened_keeps l c hop hop.way k)
 hears_keeps services l (circuit_refused c fault) k =
@@ -129,10 +162,10 @@ hears_keeps services l (circuit_refused c fault) k =
 
 -- ---- the core once its monitor has heard
 
-abbrev heard_run : TheRun TheSide → TheMonitor → List TheSide → TheRun TheSide
+abbrev pub heard_run : TheRun TheSide → TheMonitor → List TheSide → TheRun TheSide
 heard_run s m rings = record s { core = with_monitor s.core m; rings = rings }
 
-heard_shows : (a : Cut) (s : TheRun TheSide) (sides : List SideCut) (core : Core) (m : TheMonitor) (rings : List TheSide) → ShowsCut a s → Each2 ShowsSide sides rings
+pub heard_shows : (a : Cut) (s : TheRun TheSide) (sides : List SideCut) (core : Core) (m : TheMonitor) (rings : List TheSide) → ShowsCut a s → Each2 ShowsSide sides rings
     → MonitorShows core m → core.dispatchers ≡ a.core.dispatchers → m.circuits.core ≡ s.core.monitor.circuits.core
     → ShowsCut (record a { core = core; sides = sides }) (heard_run s m rings)
 heard_shows a s sides core m rings h sides_show monitor_shows waits number =
@@ -286,7 +319,7 @@ makes_server asked programs offer l n stations d c a s t fits lent_plans h kinds
     let number : ℕ = s.core.monitor.circuits.core in
     let waits = there (ShowsWaits s.core.ports) a.core.dispatchers s.core.board.dispatchers d.place w h.waits w_is in
     let many = place_left waits.0 w s.core.ports waits.2 in
-    let queues : length a.arrivals ≡ length s.core.arrivals = same_length ShowsQueue a.arrivals s.core.arrivals h.arrivals in
+    let queues : length a.arrivals ≡ length s.core.arrivals = h.arrivals.count in
     let p : Port = circuit_port (server_of n) l (length s.core.arrivals) in
     let x : EndCut = new_end (circuit_port (server_of n) l (length a.arrivals)) (planned_of make.program) stations (next_seat a.core.circuits.core d.place waits.0) in
     let y : EndCut = bound_to c.0 x in
@@ -299,7 +332,7 @@ makes_server asked programs offer l n stations d c a s t fits lent_plans h kinds
     } in
     let made : Cut = with_new_end d.place waits.0 y a in
     let before = added_shows a s d.place w waits.0 make.program stations make.end p y (fresh make.program (Some c.0)) made.core s.core.monitor h kinds w_is waits.1 waits.2 e_is
-    sits (ap (λ (k : ℕ). circuit_port (server_of n) l k) queues) (record { circuits = h.monitor.circuits; outboxes = h.monitor.outboxes }) refl refl in
+    sits (ap (λ (k : ℕ). circuit_port (server_of n) l k) queues) (record { circuits = h.monitor.circuits; outboxes = h.monitor.outboxes }) refl refl (λ k less used. used) (λ k less used. new_own (length s.core.arrivals) k less used) in
     let same_board : make.added ≡ board_with_end s.core.board d.place w (fresh make.program (Some c.0)) kind.Queue = board_is in
     let r = make.joins.0 in
     let ch : ChangesLists (board_with_end s.core.board d.place w (fresh make.program (Some c.0)) kind.Queue) make.end
@@ -341,7 +374,7 @@ makes_server asked programs offer l n stations d c a s t fits lent_plans h kinds
       };
       shows = subst (ShowsCut next) (sym run)
           (shown_by made between before (registers_seat x.end.seat new_arrivals made.core.dispatchers) (a.ends ++ y ∷ []) a.sides a.queues t.core.board s.rings s.queues s.desks
-          joined.waits_show joined.ends_show refl h.sides h.queues);
+          joined.waits_show joined.ends_show refl h.sides before.queues);
     }
 
 -- ---- an end is bound
@@ -395,7 +428,7 @@ queue_by_number (OverRing side) number h = absurd (cc)
 queue_by_number (ByCircuit link arrivals) number h = refl
 
 -- the port of an end that is there
-port_of : (ends : List EndCut) (ports : List Port) (e : ℕ) (x : EndCut) → map (λ (y : EndCut). y.port) ends ≡ ports → slice_get ends e ≡ Some x
+pub port_of : (ends : List EndCut) (ports : List Port) (e : ℕ) (x : EndCut) → map (λ (y : EndCut). y.port) ends ≡ ports → slice_get ends e ≡ Some x
     → slice_get ports e ≡ Some x.port
 port_of [] ports e x h at = absurd (cc)
 port_of (y ∷ ends) [] e x h at = absurd (cc)
@@ -413,7 +446,7 @@ record Bound (name : EndId) (c : ℕ) (a : Cut) (t : TheRun TheSide) : Type 0 wh
 binds_end : (name : EndId) (c : Circuit) (e number : ℕ) (a : Cut) (s t : TheRun TheSide) → ShowsCut a s
     → map (λ (y : TheSeat). y.kind) s.core.board.seats ≡ map (λ (q : Port). kind_of q.wire) s.core.ports
     → ((who : EndId) (f : ℕ) → place_of s.core who ≡ Some f → IsPlaced s.core.ports who f) → IsBoard s.core.board → arriving_at s.core name ≡ Some (arriving e number)
-    → ((at : EndAt a name) → IsUnbound at.end) → Binds (arriving e number) c s.core t.core → t ≡ record s { core = t.core } → Bound name c.0 a t
+    → ((at : EndAt a name) → arrivals_by at.end.port.wire ≡ Some number → IsUnbound at.end) → Binds (arriving e number) c s.core t.core → t ≡ record s { core = t.core } → Bound name c.0 a t
 binds_end name c e number a s t h kinds placed sound at none b rest =
     let core : ℕ = s.core.monitor.circuits.core in
     let found_at = arrives_at s.core name e number at in
@@ -422,13 +455,14 @@ binds_end name c e number a s t h kinds placed sound at none b rest =
     let end : TheEnd = b.binds.end in
     let x = seen_by a s name e seat h placed found_at.place b.binds.seat_is in
     let y : EndCut = bound_to c.0 x.end in
-    let unbound = none (end_at a core name e seat x) in
+    let own = own_number a s e number x.end port.0 h x.end_is port.1 port.2 in
+    let unbound = none (end_at a core name e seat x) own in
     let was_none : seat.end.circuit ≡ None = x.shows.shows.circuit ∙ unbound.circuit in
     let shows : ShowsEnd y end = subst (ShowsEnd y) (sym b.binds.event) (bound_shows x.end seat.end c.0 x.shows.shows unbound) in
     let sits : ShowsSeat core y (seated seat end) = record { shows = shows; seat = x.shows.seat } in
     let ends : Each2 (ShowsSeat core) (slice_set a.ends e y) (slice_set s.core.board.seats e (seated seat end))
     = ends_shown a core name e seat s.core.board.seats x y end h.ends sits in
-    let q = there ShowsQueue a.arrivals s.core.arrivals number b.queue h.arrivals b.queue_is in
+    let q = h.arrivals.each number b.queue (used_at s.core e number found_at.number) b.queue_is in
     let ch : ChangesLists (board_set s.core.board e seat end) e (λ z v u. Registers QueueTakes z (lent v b.queue) b.answer (lent u b.queue)) t.core.board
     = subst (λ (w : TheBoard). ChangesLists w e (λ z v u. Registers QueueTakes z (lent v b.queue) b.answer (lent u b.queue)) t.core.board) b.binds.board b.registers in
     let its_seat : ch.seat ≡ seated seat end
@@ -451,7 +485,7 @@ binds_end name c e number a s t h kinds placed sound at none b rest =
       binds = record {
         at = end_at a core name e seat x;
         number = number;
-        number_is = own_number a s e number x.end port.0 h x.end_is port.1 port.2;
+        number_is = own;
         queue = q.0;
         queue_is = q.1;
         rest = refl;
@@ -468,7 +502,7 @@ record Followed (asked : Option Service) (l : LinkId) (stations : ℕ) (w : Mach
   pub follows : ThenFollows asked l stations w told a after
   pub shows : ShowsCut after t
 
-same_core : (a : Cut) (s t : TheRun TheSide) → ShowsCut a s → t.core ≡ s.core → t ≡ record s { core = t.core } → ShowsCut a t
+pub same_core : (a : Cut) (s t : TheRun TheSide) → ShowsCut a s → t.core ≡ s.core → t ≡ record s { core = t.core } → ShowsCut a t
 same_core a s t h core rest = let same : t ≡ s = rest ∙ ap (λ (k : TheCore). record s { core = k }) core in subst (ShowsCut a) (sym same) h
 
 -- an end without an arrival queue
@@ -494,17 +528,17 @@ record BoundIf (name : EndId) (c : ℕ) (a : Cut) (t : TheRun TheSide) : Type 0 
 binds_if : (name : EndId) (c : Circuit) (o : Option Arriving) (a : Cut) (s t : TheRun TheSide) → ShowsCut a s
     → map (λ (y : TheSeat). y.kind) s.core.board.seats ≡ map (λ (q : Port). kind_of q.wire) s.core.ports
     → ((who : EndId) (f : ℕ) → place_of s.core who ≡ Some f → IsPlaced s.core.ports who f) → IsBoard s.core.board → arriving_at s.core name ≡ o
-    → ((at : EndAt a name) → IsUnbound at.end) → NodeBindsIf o c s.core t.core → t ≡ record s { core = t.core } → BoundIf name c.0 a t
+    → ((number : ℕ) (at : EndAt a name) → arrivals_by at.end.port.wire ≡ Some number → IsUnbound at.end) → NodeBindsIf o c s.core t.core → t ≡ record s { core = t.core } → BoundIf name c.0 a t
 binds_if name c None a s t h kinds placed sound at none b rest =
     record { after = a; binds = inr (none_arrives a s name h at, refl); shows = same_core a s t h b rest }
 binds_if name c (Some x) a s t h kinds placed sound at none b rest =
-    let one = binds_end name c x.end x.queue a s t h kinds placed sound at none b rest in
+    let one = binds_end name c x.end x.queue a s t h kinds placed sound at (none x.queue) b rest in
     record { after = one.after; binds = inl one.binds; shows = one.shows }
 
 follows_on : (asked : Option Service) (programs : List Program) (offer : Option Offered) (l : LinkId) (stations : ℕ) (w : MachineHeard) (x : Heard) (told : MonitorAnswer) (a : Cut)
     (s t : TheRun TheSide) → Fits asked offer → map (λ (p : Program). planned_of p) programs ≡ a.plans → ShowsCut a s → map (λ (y : TheSeat). y.kind) s.core.board.seats ≡ map (λ (q : Port). kind_of q.wire) s.core.ports
     → ((who : EndId) (f : ℕ) → place_of s.core who ≡ Some f → IsPlaced s.core.ports who f) → IsBoard s.core.board → 1 ≤ stations
-    → ((e : EndId) (c : ℕ) (at : EndAt a e) → w ≡ end_opened e c → IsUnbound at.end) → SameHeard w x → NodeFollows programs offer l x s.core told t.core
+    → ((e : EndId) (c number : ℕ) (at : EndAt a e) → w ≡ end_opened e c → arrivals_by at.end.port.wire ≡ Some number → IsUnbound at.end) → SameHeard w x → NodeFollows programs offer l x s.core told t.core
     → t ≡ record s { core = t.core } → Followed asked l stations w told a t
 follows_on asked programs offer l stations no_outbox x told a s t fits lent_plans h kinds placed sound some free same f rest = absurd same
 follows_on asked programs offer l stations astray x told a s t fits lent_plans h kinds placed sound some free same f rest = absurd same
@@ -550,7 +584,7 @@ follows_on asked programs offer l stations (end_opened u0 u1) (was.OpeningFailed
 follows_on asked programs offer l stations (end_opened u0 u1) (was.AnswerWentOn v0 v1 v2) told a s t fits lent_plans h kinds placed sound some free same f rest = absurd same
 follows_on asked programs offer l stations (end_opened u0 u1) (was.EndOpened v0 v1) told a s t fits lent_plans h kinds placed sound some free same f rest =
     let b : NodeBindsIf (arriving_at s.core u0) v1 s.core t.core = subst (λ (e : EndId). NodeBindsIf (arriving_at s.core e) v1 s.core t.core) same.0 f.1 in
-    let one = binds_if u0 v1 (arriving_at s.core u0) a s t h kinds placed sound refl (λ at. free u0 u1 at refl) b rest in
+    let one = binds_if u0 v1 (arriving_at s.core u0) a s t h kinds placed sound refl (λ number at own. free u0 u1 number at refl own) b rest in
     record {
       after = one.after;
       follows = (f.0 ∙ ap (λ (e : EndId). answer.Opened e) same.0, subst (λ (c : ℕ). BindsIf u0 c a one.after) same.1 one.binds);
@@ -570,12 +604,12 @@ follows_on asked programs offer l stations (end_refused u0 u1) (was.EndRefused v
 
 -- ---- a message is heard
 
-record AllHeard (services : List Service) (n : ℕ) (l : LinkId) (frag : Frag) (told : MonitorAnswer) (a : Cut) (t : TheRun TheSide) : Type 0 where
+pub record AllHeard (services : List Service) (n : ℕ) (l : LinkId) (frag : Frag) (told : MonitorAnswer) (a : Cut) (t : TheRun TheSide) : Type 0 where
   pub after : Cut
   pub hears : Hears services n l frag told a after
   pub shows : ShowsCut after t
 
-hears_all : HearsAgree → (services : List Service) (a : Cut) (s m : TheRun TheSide) (n : ℕ) (l : LinkId) (frag : Frag) (msg : Message) (told : MonitorAnswer)
+pub hears_all : HearsAgree → (services : List Service) (a : Cut) (s m : TheRun TheSide) (n : ℕ) (l : LinkId) (frag : Frag) (msg : Message) (told : MonitorAnswer)
     (before after : TheSide) → ShowsCut a s → IsSound s.core → NamesShow services s.offers.names → IsInOrder services l.0 a s msg → Says frag msg
     → slice_get s.rings n ≡ Some before → HearsAll s.offers l msg s.core told m.core → SharedTakes before (found (bare frag)) after
     → m ≡ record s { core = m.core; rings = slice_set s.rings n after } → AllHeard services n l frag told a m
@@ -595,7 +629,7 @@ hears_all law services a s m n l frag msg told before after h sound names order 
     (set_both ShowsSide a.sides s.rings n one.0 after h.sides one.2) agree.1 keeps.waits number in
     let next = follows_on (asked_service services msg) s.offers.programs (offer_for s.offers s.core msg) l (route_length msg + 1) (hearing services l.0 msg a).heard all.heard told middle base m
     (offer_fits services s.offers s.core msg names) h.plans shown
-    sound.core.kinds sound.core.placed sound.board (omega (arith)) (λ e c at w. order.unbound e c (below at) w) agree.0 all.follows rest in
+    sound.core.kinds sound.core.placed sound.board (omega (arith)) (λ e c number at w own. order.unbound e c number (below at) w own) agree.0 all.follows rest in
     record {
       after = next.after;
       hears = record {
@@ -613,7 +647,7 @@ hears_all law services a s m n l frag msg told before after h sound names order 
     below at = record { place = at.place; place_is = at.place_is; end = at.end; end_is = at.end_is; name_is = at.name_is }
 
 -- nothing has changed, or what comes on the link has failed
-still : (a : Cut) (s m : TheRun TheSide) (n : ℕ) (before after : TheSide) → ShowsCut a s → slice_get s.rings n ≡ Some before → after ≡ before
+pub still : (a : Cut) (s m : TheRun TheSide) (n : ℕ) (before after : TheSide) → ShowsCut a s → slice_get s.rings n ≡ Some before → after ≡ before
     → m ≡ record s { core = m.core; rings = slice_set s.rings n after } → m.core ≡ s.core → ShowsCut a m
 still a s m n before after h at same rest core =
     let v = there ShowsSide a.sides s.rings n before h.sides at in

@@ -11,3 +11,6 @@ pub mod Starting
 pub mod Opening
 pub mod Hearing
 pub mod Logs
+pub mod Staying
+pub mod Orders
+pub mod Readying

@@ -54,11 +54,11 @@ use Rattle.fl_shows.specs.CoreLaws.{OutboxesAreShown, SendsFirst}
 use Rattle.fl_shows.specs.EndLaws.{TakeShows}
 use Rattle.fl_cuts.specs.Sides.{SideCut, ShowsSide}
 use Rattle.fl_cuts.specs.Ends.{EndCut}
-use Rattle.fl_cuts.specs.Cut.{QueueCut, Cut, ShowsQueue, ShowsCut}
+use Rattle.fl_cuts.specs.Cut.{QueueCut, Cut, ShowsQueue, UsesArrivals, IsUsed, QueuesShow, ShowsCut}
 use Rattle.fl_cuts.specs.Events.{queue_gives, triggers_end, with_waits}
 use Rattle.fl_cuts.specs.Links.{HasFailed, Finds, lanes_after, first_said, TellsBy}
 use Rattle.fl_cuts.specs.Laws.{HasNoLinks}
-use Rattle.fl_cuts.proofs.Lists.{there, set_both, map_at}
+use Rattle.fl_cuts.proofs.Lists.{there, set_both, map_at, set_used}
 use Rattle.fl_cuts.proofs.Sides.{put_agrees, look_agrees, takes_again, takes_ack}
 use Rattle.fl_cuts.proofs.Queues.{queue_puts}
 use Rattle.fl_cuts.proofs.Cuts.{shown_lanes, shown_monitor, shown_arrivals, Seen, seen, end_at, triggers_shown}
@@ -451,6 +451,13 @@ port_at k e a h = by (slice_get k.ports e) refl h where
   by None q r = absurd (cc)
   by (Some p) q r = (p, q, r)
 
+-- its arrival queue is one that an end uses
+pub used_at : (k : TheCore) (e a : ℕ) → arrivals_of k e ≡ Some a → IsUsed UsesArrivals k.ports a
+used_at k e a h = let p = port_at k e a h in record { place = e; port = p.0; port_is = p.1; uses = p.2 }
+
+uses_arrivals : (k : TheCore) (name : EndId) (e a : ℕ) → arriving_at k name ≡ Some (arriving e a) → IsUsed UsesArrivals k.ports a
+uses_arrivals k name e a h = used_at k e a (arrives_at k name e a h).number
+
 -- the end that a fragment arrives for
 pub record Arriver (a : Cut) (s : TheRun TheSide) (name : EndId) (e number : ℕ) : Type 0 where
   pub seat : TheSeat
@@ -484,7 +491,7 @@ arrives_follow a s m t n l frag name (Ok Moved) h core lane on desks =
     let number : ℕ = s.core.monitor.circuits.core in
     let end = arriver a s name x.end x.queue h core x.at in
     let v = there ShowsSide a.sides s.rings n on.before h.sides on.before_is in
-    let w = there ShowsQueue a.arrivals s.core.arrivals x.queue x.before h.arrivals x.before_is in
+    let w = h.arrivals.each x.queue x.before (uses_arrivals s.core name x.end x.queue x.at) x.before_is in
     let put = queue_puts.one some_label w.0 x.before x.after (as_carried frag) w.2 x.puts in
     let one = takes_again some_label v.0 on.before on.after (bare frag) v.2 x.left in
     let waits : List Dispatcher = triggers_end (Some x.end) a.ends a.core.dispatchers in
@@ -515,7 +522,7 @@ arrives_follow a s m t n l frag name (Ok Moved) h core lane on desks =
           (shown_arrivals a s h (triggers_end (Some x.end) a.ends a.core.dispatchers) a.ends (slice_set a.sides n one.0) (slice_set a.arrivals x.queue put.0)
           m.core.board (slice_set s.rings n on.after) (slice_set s.core.arrivals x.queue x.after) s.desks woken.waits_show woken.ends_show refl
           (set_both ShowsSide a.sides s.rings n one.0 on.after h.sides one.2)
-          (set_both ShowsQueue a.arrivals s.core.arrivals x.queue put.0 x.after h.arrivals put.2))) desks;
+          (set_used UsesArrivals s.core.ports a.arrivals s.core.arrivals x.queue put.0 x.after h.arrivals put.2))) desks;
       links = λ none. unlinked s.core l.0 n none lane;
     }
 arrives_follow a s m t n l frag name (Ok Full) h core lane on desks =
@@ -523,7 +530,7 @@ arrives_follow a s m t n l frag name (Ok Full) h core lane on desks =
     let number : ℕ = s.core.monitor.circuits.core in
     let end = arriver a s name x.end x.queue h core x.at in
     let v = there ShowsSide a.sides s.rings n on.before h.sides on.before_is in
-    let w = there ShowsQueue a.arrivals s.core.arrivals x.queue x.before h.arrivals x.before_is in
+    let w = h.arrivals.each x.queue x.before (uses_arrivals s.core name x.end x.queue x.at) x.before_is in
     let put = queue_puts.full some_label w.0 x.before x.after w.2 x.puts in
     let board = triggers_shown number s.core.ports None a.core.dispatchers a.ends s.core.board m.core.board x.triggers h.waits h.ends in
     let sides : ShowsSide v.0 on.after = subst (ShowsSide v.0) (sym x.left) v.2 in
@@ -534,7 +541,7 @@ arrives_follow a s m t n l frag name (Ok Full) h core lane on desks =
     (shown_arrivals a s h a.core.dispatchers a.ends (slice_set a.sides n v.0) (slice_set a.arrivals x.queue w.0)
     m.core.board (slice_set s.rings n on.after) (slice_set s.core.arrivals x.queue x.after) s.desks board.waits_show board.ends_show refl
     (set_both ShowsSide a.sides s.rings n v.0 on.after h.sides sides)
-    (set_both ShowsQueue a.arrivals s.core.arrivals x.queue w.0 x.after h.arrivals kept_queue)) in
+    (set_used UsesArrivals s.core.ports a.arrivals s.core.arrivals x.queue w.0 x.after h.arrivals kept_queue)) in
     let same : ShowsCut a m
     = subst (λ (sides : List SideCut). ShowsCut (record a { sides = sides }) m) (set_same a.sides n v.0 v.1)
     (subst (λ (arrivals : List QueueCut). ShowsCut (record a { sides = slice_set a.sides n v.0; arrivals = arrivals }) m) (set_same a.arrivals x.queue w.0 w.1) changed_so) in
@@ -555,7 +562,7 @@ arrives_follow a s m t n l frag name (Ok Full) h core lane on desks =
     }
 arrives_follow a s m t n l frag name (Ok Spent) h core lane on desks =
     let x = on.event in
-    let w = there ShowsQueue a.arrivals s.core.arrivals x.queue x.before h.arrivals x.before_is in
+    let w = h.arrivals.each x.queue x.before (uses_arrivals s.core name x.end x.queue x.at) x.before_is in
     let put = queue_puts.over some_label w.0 x.before x.after w.2 x.puts in
     absurd put.1
 arrives_follow a s m t n l frag name (Err link.Astray) h core lane on desks =
@@ -590,8 +597,8 @@ pub arrivals_turn_follow : TakeShows → (a : Cut) (s m t : TheRun TheSide) (d :
     → (HasNoLinks s.core → HasNoLinks t.core) → t ≡ record m { desks = t.desks } → After (turned d name inlet.Arrivals answer) a s t
 arrivals_turn_follow law a s m t d name answer e h sound soundly at from on links desks =
     let x = on.event in
-    let one = turn_follows QueueTakes ShowsQueue queue_gives kind.Queue all_gives law a s d name x.place e answer m.core.board a.arrivals s.core.arrivals x.before x.after h
-    sound.core soundly at h.arrivals x.before_is (λ seat is. kind_from s.core e seat inlet.Arrivals kind.Queue sound.core is from queue_by_arrivals) x.event in
+    let one = turn_follows QueueTakes ShowsQueue queue_gives kind.Queue all_gives law a s d name x.place e answer m.core.board a.arrivals x.before x.after h
+    sound.core soundly at (h.arrivals.each x.place x.before (used_at s.core e x.place x.place_is) x.before_is) (λ seat is. kind_from s.core e seat inlet.Arrivals kind.Queue sound.core is from queue_by_arrivals) x.event in
     let next : Cut = record (with_waits a one.waits) { ends = one.ends; arrivals = one.sides } in
     let p = port_at s.core e x.place x.place_is in
     let same_place : one.turn.at.place ≡ e = same_Some one.turn.at.place e (sym one.turn.at.place_is ∙ ap (λ (places : List (Option ℕ)). place_in places name) h.places ∙ at) in
@@ -608,6 +615,8 @@ arrivals_turn_follow law a s m t d name answer e h sound soundly at from on link
       shows = desks_shown next m t
           (subst (ShowsCut next) (sym run)
           (shown_arrivals a s h one.waits one.ends a.sides one.sides m.core.board s.rings (slice_set s.core.arrivals x.place x.after) s.desks
-          one.waits_show one.ends_show one.ports_are h.sides one.sides_show)) desks;
+          one.waits_show one.ends_show one.ports_are h.sides
+          (subst (λ (ys : List QueueCut). QueuesShow UsesArrivals s.core.ports ys (slice_set s.core.arrivals x.place x.after)) (sym one.sides_are)
+          (set_used UsesArrivals s.core.ports a.arrivals s.core.arrivals x.place one.side x.after h.arrivals one.side_shows)))) desks;
       links = links;
     }

@@ -1,6 +1,11 @@
 -- Two lists, one for one.
-use Rattle.std.proofs.Common.{◌≡◌, refl, sym, ◌∙◌, ap, subst, ℕ, zero, suc, List, [], ◌∷◌, map, slice_get, slice_set, Option, Some, None}
-use Rattle.fl_cuts.specs.Cut.{Each2}
+use Rattle.std.proofs.Common.{◌≡◌, inl, inr, refl, sym, ◌∙◌, ap, subst, ℕ, zero, suc, ◌+◌, ◌<◌, List, [], ◌∷◌, ◌++◌, length, map, slice_get, slice_set, Option, Some, None, arith}
+use Rattle.std.proofs.lemmas.List.{length-set, length_push}
+use Rattle.fl_hop.proofs.Lists.{set_cases, set_here, set_there, push_cases, push_keeps, at_within, within}
+use Rattle.fl_link.specs.Queue.{TheQueue}
+use Rattle.fl_node.specs.declared.wire.Port.{Port}
+use Rattle.fl_node.specs.declared.wire.Wire.{Wire}
+use Rattle.fl_cuts.specs.Cut.{Each2, QueueCut, ShowsQueue, QueuesShow}
 
 module _ {A B : Type 0} (R : A → B → Type 0) where
   -- what stands where one of the second list does
@@ -43,3 +48,48 @@ not_both o x e f = absurd (let none : None ≡ Some x = sym e ∙ f in cc)
 
 pub only_one : {X : Type 0} (o : Option X) (x y : X) → o ≡ Some x → o ≡ Some y → x ≡ y
 only_one o x y e f = let same : Some x ≡ Some y = sym e ∙ f in cc
+
+-- ---- queues that ends use
+
+last_is : {X : Type 0} (xs : List X) (x : X) → slice_get (xs ++ x ∷ []) (length xs) ≡ Some x
+last_is [] x = refl
+last_is (y ∷ xs) x = last_is xs x
+
+module _ (Uses : ℕ → Wire → Type 0) (ports : List Port) where
+  -- one has changed
+  pub set_used : (xs : List QueueCut) (ts : List TheQueue) (n : ℕ) (x : QueueCut) (t : TheQueue) → QueuesShow Uses ports xs ts → ShowsQueue x t
+      → QueuesShow Uses ports (slice_set xs n x) (slice_set ts n t)
+  set_used xs ts n x t h shows =
+      let many : length (slice_set ts n t) ≡ length ts = length-set ts n t in
+      record {
+        count = length-set xs n x ∙ h.count ∙ sym many;
+        each = λ m y used at. elim (set_cases ts n t m y at) [
+          | inl (here, same) ↦ (let below = within (slice_set ts n t) m y at in
+              let same_many = h.count in
+              let old = at_within xs n (omega (arith, below, here, many, same_many)) in
+              (x, ap (slice_get (slice_set xs n x)) here ∙ set_here xs n old.0 x old.1, subst (ShowsQueue x) (sym same) shows))
+          | inr (other, there_is) ↦ (let old = h.each m y used there_is in (old.0, set_there xs n x m old.0 old.1 other, old.2))
+        ];
+      }
+
+  -- one more
+  pub push_used : (xs : List QueueCut) (ts : List TheQueue) (x : QueueCut) (t : TheQueue) → QueuesShow Uses ports xs ts → ShowsQueue x t
+      → QueuesShow Uses ports (xs ++ x ∷ []) (ts ++ t ∷ [])
+  push_used xs ts x t h shows = record {
+    count = length_push xs x ∙ ap (λ (n : ℕ). n + 1) h.count ∙ sym (length_push ts t);
+    each = λ m y used at. elim (push_cases ts t m y at) [
+      | inl before ↦ (let old = h.each m y used before in (old.0, push_keeps xs (x ∷ []) m old.0 old.1, old.2))
+      | inr (last, same) ↦ (x, ap (slice_get (xs ++ x ∷ [])) (last ∙ sym h.count) ∙ last_is xs x, subst (ShowsQueue x) (sym same) shows)
+    ];
+  }
+
+  -- an end more, that uses none of them
+  pub more_ports : (p : Port) (xs : List QueueCut) (ts : List TheQueue) → ((n : ℕ) → n < length ts → Uses n p.wire → ⊥) → QueuesShow Uses ports xs ts
+      → QueuesShow Uses (ports ++ p ∷ []) xs ts
+  more_ports p xs ts none h = record {
+    count = h.count;
+    each = λ m y used at. elim (push_cases ports p used.place used.port used.port_is) [
+      | inl before ↦ h.each m y (record { place = used.place; port = used.port; port_is = before; uses = used.uses }) at
+      | inr (last, same) ↦ absurd (none m (within ts m y at) (subst (λ (q : Port). Uses m q.wire) same used.uses))
+    ];
+  }

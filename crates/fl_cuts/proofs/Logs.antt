@@ -170,7 +170,7 @@ acts services (turned d name (inlet.Side n) answer) a b quiet x = x
 acts services (turned d name (inlet.Queue n) answer) a b quiet x = x
 acts services (turned d name inlet.Arrivals answer) a b quiet x = x
 
-one_acts : TakeShows → OutboxesAreShown → RoomsAgree → OpensAgree → (front : TheSide → Look) (jobs : List Job) (services : List Service) (a : Cut)
+pub one_acts : TakeShows → OutboxesAreShown → RoomsAgree → OpensAgree → (front : TheSide → Look) (jobs : List Job) (services : List Service) (a : Cut)
     (s t : TheRun TheSide) (deed : Deed) → ShowsCut a s → HearsNothing deed → Happens (shared front) deed s t → InPlace jobs s deed → Follows services deed a t
 one_acts law boxes rooms openings front jobs services a s t deed h quiet k by =
     let one = one_follows law boxes rooms openings front jobs a s t deed h quiet k by in

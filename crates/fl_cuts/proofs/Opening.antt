@@ -1,5 +1,5 @@
 -- A circuit is asked for: the core's client's end is the machine's, and so is the opening.
-use Rattle.std.proofs.Common.{◌≡◌, refl, sym, ◌∙◌, ap, subst, ℕ, zero, suc, ◌+◌, ◌≤◌, true, List, [], ◌∷◌, ◌++◌, length, map, slice_get, slice_set, Option, Some, None, arith}
+use Rattle.std.proofs.Common.{◌≡◌, refl, sym, ◌∙◌, ap, subst, ℕ, zero, suc, ◌+◌, ◌≤◌, ◌<◌, true, List, [], ◌∷◌, ◌++◌, length, map, slice_get, slice_set, Option, Some, None, arith}
 use Rattle.std.specs.Prelude.{Result, Ok, Err}
 use Rattle.std.proofs.lemmas.List.{length-map, map_push}
 use Rattle.fl_base.specs.declared.identity.CoreId.{CoreId}
@@ -40,10 +40,10 @@ use Rattle.fl_shows.specs.Ends.{planned_of}
 use Rattle.fl_shows.proofs.Calling.{fresh_is}
 use Rattle.fl_shows.proofs.Tests.{le_true, le_false}
 use Rattle.fl_cuts.specs.Ends.{EndCut, ShowsEnd}
-use Rattle.fl_cuts.specs.Cut.{Each2, Cut, name_at, ShowsQueue, ShowsWaits, ShowsSeat, ShowsCut}
+use Rattle.fl_cuts.specs.Cut.{Each2, Cut, name_at, UsesQueue, UsesArrivals, ShowsWaits, ShowsSeat, ShowsCut}
 use Rattle.fl_cuts.specs.Opening.{new_arrivals, new_end, next_seat, with_new_end, opening_with, RefusesFor}
 use Rattle.fl_cuts.specs.Laws.{HasNoLinks}
-use Rattle.fl_cuts.proofs.Lists.{there, set_both}
+use Rattle.fl_cuts.proofs.Lists.{there, set_both, push_used, more_ports}
 use Rattle.fl_cuts.proofs.Events.{After}
 use Rattle.fl_cuts.proofs.Links.{desks_shown}
 use Rattle.fl_cuts.proofs.Starting.{nothing_read}
@@ -153,6 +153,10 @@ added_run s b m p e = record s {
   };
 }
 
+-- a new arrival queue is no other's
+pub new_own : (many n : ℕ) → n < many → Some many ≡ Some n → ⊥
+new_own many n less e = let same : many ≡ n = cc in omega (arith, less, same)
+
 -- it shows the cut with an end more
 pub added_shows : (a : Cut) (s : TheRun TheSide) (place : ℕ) (d : TheDispatcher) (waits : Dispatcher) (program : Program) (stations e : ℕ) (p : Port) (x : EndCut)
     (t : TheEnd) (core : Core) (m : TheMonitor) → ShowsCut a s
@@ -160,8 +164,9 @@ pub added_shows : (a : Cut) (s : TheRun TheSide) (place : ℕ) (d : TheDispatche
     → slice_get a.core.dispatchers place ≡ Some waits → ShowsWaits s.core.ports waits d → e ≡ length s.core.board.seats
     → ShowsSeat m.circuits.core x (record { end = t; dispatcher = place; channel = length d.ends; kind = kind.Queue }) → x.port ≡ p
     → MonitorShows core m → core.dispatchers ≡ slice_set a.core.dispatchers place (with_end p.name waits) → m.circuits.core ≡ s.core.monitor.circuits.core
+    → ((n : ℕ) → n < length s.queues → UsesQueue n p.wire → ⊥) → ((n : ℕ) → n < length s.core.arrivals → UsesArrivals n p.wire → ⊥)
     → ShowsCut (record (with_new_end place waits x a) { core = core }) (added_run s (board_with_end s.core.board place d t kind.Queue) m p e)
-added_shows a s place d waits program stations e p x t core m h kinds d_is waits_is shows e_is sits port monitor_shows cores number =
+added_shows a s place d waits program stations e p x t core m h kinds d_is waits_is shows e_is sits port monitor_shows cores number none own =
     let ports : List Port = s.core.ports ++ p ∷ [] in
     let long : length s.core.board.seats ≡ length s.core.ports
     = sym (length-map s.core.board.seats (λ (y : TheSeat). y.kind)) ∙ ap length kinds ∙ length-map s.core.ports (λ (q : Port). kind_of q.wire) in
@@ -192,8 +197,9 @@ added_shows a s place d waits program stations e p x t core m h kinds d_is waits
           ∙ ap (λ (n : ℕ). slice_set s.core.places (slot_of p.name) (Some n)) (ends ∙ sym e_is);
       lanes = h.lanes;
       sides = h.sides;
-      queues = h.queues;
-      arrivals = push_both ShowsQueue a.arrivals s.core.arrivals new_arrivals node_arrivals h.arrivals
+      queues = more_ports UsesQueue s.core.ports p a.queues s.queues none h.queues;
+      arrivals = push_used UsesArrivals (s.core.ports ++ p ∷ []) a.arrivals s.core.arrivals new_arrivals node_arrivals
+          (more_ports UsesArrivals s.core.ports p a.arrivals s.core.arrivals own h.arrivals)
           (record { frags = refl; labels = refl; capacity = refl; freed = refl; untold = refl; sent = refl });
     }
 
@@ -231,7 +237,7 @@ opens_follow rooms law a s m t name wish (Ok e) h sound on links desks =
     = ap (λ (y : TheCircuits). next_own y wish.link.0) (sym h.monitor.circuits) ∙ begins.opens.2 in
     let has_room : can_say wish.link.0 a.core ≡ true = sym (rooms a.core s.core.monitor wish.link.0 h.monitor) ∙ begins.opens.1 in
     let there_is : has_places 1 w.0 ≡ true = le_true (length w.0.ends + 1) 1024 (omega (arith, few, many)) in
-    let queues : length a.arrivals ≡ length s.core.arrivals = same_length ShowsQueue a.arrivals s.core.arrivals h.arrivals in
+    let queues : length a.arrivals ≡ length s.core.arrivals = h.arrivals.count in
     let ends : length a.ends ≡ length s.core.board.seats = same_length (ShowsSeat s.core.monitor.circuits.core) a.ends s.core.board.seats h.ends in
     let p : Port = circuit_port (client_of wish.opening.binding) wish.link (length s.core.arrivals) in
     let q : Port = circuit_port (client_of wish.opening.binding) wish.link (length a.arrivals) in
@@ -272,7 +278,7 @@ opens_follow rooms law a s m t name wish (Ok e) h sound on links desks =
       shows = desks_shown next m t
           (subst (ShowsCut next) (sym run)
           (added_shows a s wish.dispatcher d w.0 on.event.program (length wish.opening.path + 1) e p x (fresh on.event.program None) core m.core.monitor h sound.core.kinds d_is w.1 w.2 e_is
-          sits (ap (λ (n : ℕ). circuit_port (client_of wish.opening.binding) wish.link n) queues) shown_monitor refl same_core)) desks;
+          sits (ap (λ (n : ℕ). circuit_port (client_of wish.opening.binding) wish.link n) queues) shown_monitor refl same_core (λ k less used. used) (λ k less used. new_own (length s.core.arrivals) k less used))) desks;
       links = links;
     }
 opens_follow rooms law a s m t name wish (Err fault) h sound on links desks = record {

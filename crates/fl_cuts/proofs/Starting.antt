@@ -1,7 +1,9 @@
 -- A core with which nothing was done yet shows the first cut.
-use Rattle.std.proofs.Common.{◌≡◌, inl, refl, sym, ◌∙◌, ap, subst, ℕ, zero, suc, ◌+◌, ◌≤◌, ◌<◌, false, List, [], ◌∷◌, length, map, slice_get, Option, Some, None, arith}
+use Rattle.std.proofs.Common.{◌≡◌, inl, refl, sym, ◌∙◌, ap, subst, ℕ, suc, List, [], ◌∷◌, length, map, slice_get, Some, None, arith}
+use Rattle.std.specs.Option.{option_map}
+use Rattle.std.proofs.lemmas.List.{length-map}
 use Rattle.std.proofs.lemmas.List.Elements.{All-nil}
-use Rattle.fl_base.specs.declared.identity.EndId.{EndId}
+use Rattle.std.proofs.lemmas.Option.{slice_get-map}
 use Rattle.fl_base.specs.Control.{bare}
 use Rattle.fl_value.specs.Fits.{fits_of}
 use Rattle.fl_wire.specs.Reading.{Reads}
@@ -11,17 +13,13 @@ use Rattle.fl_ring.specs.SharedSides.{TheSide}
 use Rattle.fl_core.specs.View.{TheSeat}
 use Rattle.fl_node.specs.declared.wire.Port.{Port}
 use Rattle.fl_node.specs.View.{kind_of}
-use Rattle.fl_running.specs.Run.{TheRun}
-use Rattle.fl_queues.specs.Given.{given}
 use Rattle.fl_queues.specs.Calls.{Planned}
-use Rattle.fl_queues.specs.Monitors.{Core}
 use Rattle.fl_shows.specs.Ends.{planned_of}
-use Rattle.fl_shows.specs.Cores.{MonitorShows}
 use Rattle.fl_shows.proofs.Calling.{fresh_is}
 use Rattle.fl_cuts.specs.Sides.{ShowsSide}
 use Rattle.fl_cuts.specs.Ends.{EndCut, ShowsEnd}
-use Rattle.fl_cuts.specs.Cut.{Each2, name_at, ShowsQueue, ShowsWaits, ShowsSeat, ShowsCut}
-use Rattle.fl_cuts.specs.Start.{IsFirstEnd, IsFirstSide, IsFirstQueue, IsStarting, first_end, first_ends, names_of, first_waits, first_queue, first_side, first_cut}
+use Rattle.fl_cuts.specs.Cut.{Each2, QueueCut, ShowsQueue, ShowsSeat}
+use Rattle.fl_cuts.specs.Start.{IsFirstEnd, IsFirstSide, IsFirstQueue, first_end, first_ends, first_queue, first_side, StartsShow}
 
 -- each of a list, and what is made of it
 mapped : {A B : Type 0} (R : A → B → Type 0) (f : B → A) (ys : List B) → ((n : ℕ) (y : B) → slice_get ys n ≡ Some y → R (f y) y) → Each2 R (map f ys) ys
@@ -46,9 +44,9 @@ end_first core port seat h =
     record {
       program = refl;
       circuit = h.circuit;
-      rules = h.new.rules;
-      outgoing = h.new.outgoing ∙ g.outgoing;
-      reads = subst (Reads (planned_of seat.end.program).plan (planned_of seat.end.program).interface [] []) (sym h.new.parts)
+      rules = refl;
+      outgoing = h.outgoing ∙ g.outgoing;
+      reads = subst (Reads (planned_of seat.end.program).plan (planned_of seat.end.program).interface [] []) (sym h.parts)
           (nothing_read (planned_of seat.end.program));
       taken = refl;
       failed = h.sound;
@@ -76,26 +74,6 @@ ports_first core (seat ∷ seats) (p ∷ ports) k =
     let rest : map (λ (x : TheSeat). x.kind) seats ≡ map (λ (q : Port). kind_of q.wire) ports = cc in
     ap (λ (qs : List Port). p ∷ qs) (ports_first core seats ports rest)
 
--- ---- waitsets
-
-port_there : (seats : List TheSeat) (ports : List Port) (e : ℕ) (seat : TheSeat) → map (λ (x : TheSeat). x.kind) seats ≡ map (λ (p : Port). kind_of p.wire) ports
-    → slice_get seats e ≡ Some seat → (p : Port) × (slice_get ports e ≡ Some p)
-port_there [] ports e seat k q = absurd (cc)
-port_there (x ∷ seats) [] e seat k q = absurd (cc)
-port_there (x ∷ seats) (p ∷ ports) zero seat k q = (p, refl)
-port_there (x ∷ seats) (p ∷ ports) (suc e) seat k q =
-    let rest : map (λ (y : TheSeat). y.kind) seats ≡ map (λ (r : Port). kind_of r.wire) ports = cc in port_there seats ports e seat rest q
-
-all_named : (ports : List Port) (places : List ℕ) → ((c e : ℕ) → slice_get places c ≡ Some e → (p : Port) × (slice_get ports e ≡ Some p))
-    → map (name_at ports) places ≡ map (λ e. Some e) (names_of ports places)
-all_named ports [] h = refl
-all_named ports (e ∷ places) h =
-    let p = h 0 e refl in
-    let rest = all_named ports places (λ c f q. h (suc c) f q) in
-    ap (λ (o : Option Port). (given o None λ r. Some r.name) ∷ map (name_at ports) places) p.1
-    ∙ ap (λ (os : List (Option EndId)). Some p.0.name ∷ os) rest
-    ∙ sym (ap (λ (o : Option Port). map (λ f. Some f) (given o (names_of ports places) λ r. r.name ∷ names_of ports places)) p.1)
-
 -- ---- sides and queues
 
 side_first : (s : TheSide) → IsFirstSide s → ShowsSide (first_side s) s
@@ -112,24 +90,23 @@ side_first s h = record {
 queue_first : (q : TheQueue) → IsFirstQueue q → ShowsQueue (first_queue q) q
 queue_first q h = record { frags = ap (map bare) h.items; labels = refl; capacity = refl; freed = h.freed; untold = h.untold; sent = h.sent }
 
+-- what stands where a queue does
+used_first : (qs : List TheQueue) (n : ℕ) (q : TheQueue) → slice_get qs n ≡ Some q → IsFirstQueue q
+    → (x : QueueCut) × (slice_get (map first_queue qs) n ≡ Some x) × ShowsQueue x q
+used_first qs n q at h = (first_queue q, slice_get-map first_queue qs n ∙ ap (option_map first_queue) at, queue_first q h)
+
 -- ---- the whole
 
-pub starts_show : (k : Core) (s : TheRun TheSide) → IsStarting s → MonitorShows k s.core.monitor → ShowsCut (first_cut k s) s
-starts_show k s h m = record {
-  monitor = record { circuits = m.circuits; outboxes = m.outboxes };
-  waits = mapped (ShowsWaits s.core.ports) (first_waits s.core.ports) s.core.board.dispatchers (λ n d q. record {
-    lists = refl;
-    ends = all_named s.core.ports d.ends (λ c e r.
-        let channel = (h.board.dispatchers n d q).ends c e r in
-        port_there s.core.board.seats s.core.ports e channel.seat h.core.kinds channel.seat_is);
-  });
+pub starts_show : StartsShow
+starts_show k s h m waits = record {
+  monitor = m;
+  waits = waits;
   ends = ends_first s.core.monitor.circuits.core s.core.board.seats s.core.ports h.core.kinds h.ends;
   ports = ports_first s.core.monitor.circuits.core s.core.board.seats s.core.ports h.core.kinds;
   places = refl;
   lanes = refl;
-  sides = mapped ShowsSide first_side s.rings
-      (λ n x q. side_first x (h.sides n x q));
-  queues = mapped ShowsQueue first_queue s.queues (λ n q r. queue_first q (h.queues n q r));
-  arrivals = mapped ShowsQueue first_queue s.core.arrivals (λ n q r. queue_first q (h.arrivals n q r));
+  sides = mapped ShowsSide first_side s.rings (λ n x q. side_first x (h.sides n x q));
+  queues = record { count = length-map s.queues first_queue; each = λ n q used at. used_first s.queues n q at (h.queues n q used at) };
+  arrivals = record { count = length-map s.core.arrivals first_queue; each = λ n q used at. used_first s.core.arrivals n q at (h.arrivals n q used at) };
   plans = refl;
 }

@@ -1,5 +1,5 @@
 -- A cut: what one core knows of the machine's state. When a core that runs, with the sides and queues that it is lent, shows a cut.
-use Rattle.std.specs.Prelude.{ℕ, ◌≡◌, false, List, [], ◌∷◌, length, map, slice_get, Option, Some, None}
+use Rattle.std.specs.Prelude.{ℕ, ◌≡◌, ◌⊎◌, false, List, [], ◌∷◌, length, map, slice_get, Option, Some, None}
 use Rattle.fl_base.specs.declared.fragment.Frag.{Frag}
 use Rattle.fl_base.specs.declared.identity.EndId.{EndId}
 use Rattle.fl_base.specs.Control.{bare}
@@ -9,6 +9,9 @@ use Rattle.fl_ring.specs.SharedSides.{TheSide}
 use Rattle.fl_core.specs.View.{TheDispatcher, TheSeat}
 use Rattle.fl_node.specs.declared.wire.Lane.{Lane}
 use Rattle.fl_node.specs.declared.wire.Port.{Port}
+use Rattle.fl_node.specs.declared.wire.Wire.{Wire}
+use Rattle.fl_node.specs.declared.wire.Wire.TheVariants.{Queues, Ring, Circuit}
+use Rattle.fl_node.specs.View.{arrivals_by}
 use Rattle.fl_running.specs.Run.{TheRun}
 use Rattle.fl_queues.specs.Given.{given}
 use Rattle.fl_queues.specs.Calls.{Planned}
@@ -57,6 +60,27 @@ pub record ShowsQueue (x : QueueCut) (t : TheQueue) : Type 0 where
   pub untold : t.untold ≡ 0
   pub sent : t.sent ≡ 0
 
+-- an end of this wire puts to this queue, or takes from it; and this is its arrival queue
+abbrev pub UsesQueue : ℕ → Wire → Type 0
+UsesQueue n (Queues out from) = (out ≡ n) ⊎ (from ≡ n)
+UsesQueue n (Ring side) = ⊥
+UsesQueue n (Circuit link arrivals) = ⊥
+
+abbrev pub UsesArrivals : ℕ → Wire → Type 0
+UsesArrivals n wire = arrivals_by wire ≡ Some n
+
+-- one of the ends does
+pub record IsUsed (Uses : ℕ → Wire → Type 0) (ports : List Port) (n : ℕ) : Type 0 where
+  pub place : ℕ
+  pub port : Port
+  pub port_is : slice_get ports place ≡ Some port
+  pub uses : Uses n port.wire
+
+-- there are as many, and each that an end uses shows what it is; of others nothing is known
+pub record QueuesShow (Uses : ℕ → Wire → Type 0) (ports : List Port) (xs : List QueueCut) (ts : List TheQueue) : Type 0 where
+  pub count : length xs ≡ length ts
+  pub each : (n : ℕ) (t : TheQueue) → IsUsed Uses ports n → slice_get ts n ≡ Some t → (x : QueueCut) × (slice_get xs n ≡ Some x) × ShowsQueue x t
+
 -- the names of ends, by their places
 abbrev pub name_at : List Port → ℕ → Option EndId
 name_at ports place = given (slice_get ports place) None λ p. Some p.name
@@ -84,6 +108,6 @@ pub record ShowsCut (a : Cut) (s : TheRun TheSide) : Type 0 where
   pub places : a.places ≡ s.core.places
   pub lanes : a.lanes ≡ s.core.lanes
   pub sides : Each2 ShowsSide a.sides s.rings
-  pub queues : Each2 ShowsQueue a.queues s.queues
-  pub arrivals : Each2 ShowsQueue a.arrivals s.core.arrivals
+  pub queues : QueuesShow UsesQueue s.core.ports a.queues s.queues
+  pub arrivals : QueuesShow UsesArrivals s.core.ports a.arrivals s.core.arrivals
   pub plans : map (λ (p : Program). planned_of p) s.offers.programs ≡ a.plans

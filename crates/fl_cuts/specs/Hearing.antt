@@ -128,7 +128,8 @@ pub record IsUnbound (x : EndCut) : Type 0 where
   pub sound : x.failed ≡ false
 
 -- the message is one that comes to a core of the machine: an opening leads on, and of one that ends here the dispatcher is there, and its program is lent; an
--- answer comes to an end that waits for it
+-- answer comes to an end that waits for it, where that is on a circuit
 pub record IsInOrder (services : List Service) (l : ℕ) (a : Cut) (s : TheRun TheSide) (m : Message) : Type 0 where
   pub may : MayBeHeard services l (said_of m) a.core (here_for s.offers s.core m)
-  pub unbound : (e : EndId) (c : ℕ) (at : EndAt a e) → (hearing services l m a).heard ≡ end_opened e c → IsUnbound at.end
+  pub unbound : (e : EndId) (c number : ℕ) (at : EndAt a e) → (hearing services l m a).heard ≡ end_opened e c
+      → arrivals_by at.end.port.wire ≡ Some number → IsUnbound at.end

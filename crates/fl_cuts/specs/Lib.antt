@@ -9,3 +9,4 @@ pub mod Hearing
 pub mod Does
 pub mod Start
 pub mod Laws
+pub mod Ready

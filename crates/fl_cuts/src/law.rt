@@ -1,9 +1,11 @@
 //! What is promised of cuts: laws, as the contracts of functions that do nothing.
 
 ghost use Rattle.fl_cuts.specs.Laws.{AllTurnsFollow, EventsFollow, LogsFollow};
+ghost use Rattle.fl_cuts.specs.Ready.{ReadyFollow, ReadyTurnsFollow};
 ghost use Rattle.fl_cuts.specs.Sides.{SideLooks, SidePuts, SideTakes};
 ghost use Rattle.fl_cuts.specs.Start.{StartsShow};
 
+use fl_endpoint::on_another_circuit;
 use fl_shows::{hears_agree, opens_agree, outboxes_are_shown, rooms_agree, take_shows};
 
 /// Whatever a side of a ring between threads comes to, it shows what the machine makes of what it showed, by
@@ -14,7 +16,8 @@ pub fn sides_agree()
     ensures takes { SideTakes }
 {}
 
-/// A core with which nothing was done yet shows the cut in which no call was accepted, and none came.
+/// A core with which nothing was done yet shows the cut in which no call was accepted, and none came: with the
+/// core of the machine that it shows.
 pub fn starts_show()
     ensures show { StartsShow }
 {}
@@ -43,4 +46,21 @@ pub fn turns_follow()
     rooms_agree();
     opens_agree();
     hears_agree();
+}
+
+/// A core that is ready meets what is asked of messages, whatever is said to it: where its names are the machine's
+/// services, which it serves, its ends that aren't bound accepted nothing, and its table leads to them. So the events
+/// of a log are the machine's on its cut, one after another, and so are those of so many turns; and it is ready still.
+/// But for one case, which the machine hasn't: an opening whose route leads back over the link on which it came is
+/// refused, as the machine refuses it where no link leads on.
+pub fn ready_cores_follow()
+    ensures logs { ReadyFollow }
+    ensures turns { ReadyTurnsFollow }
+{
+    take_shows();
+    outboxes_are_shown();
+    rooms_agree();
+    opens_agree();
+    hears_agree();
+    on_another_circuit();
 }

@@ -7,12 +7,12 @@
 //! functions on one component (`specs/Events.antt`, `specs/Links.antt`, `specs/Opening.antt`,
 //! `specs/Hearing.antt`; `specs/Does.antt` has them all). Of a core that shows a cut, each event is the machine's
 //! on it ([`events_follow`], `specs/Laws.antt`), and so are its turns ([`turns_follow`]), as long as the monitors'
-//! messages that it hears come in order; a core with which nothing was done yet shows one ([`starts_show`],
-//! `specs/Start.antt`).
+//! messages that it hears come in order. A core that is ready meets that by itself ([`ready_cores_follow`],
+//! `specs/Ready.antt`); a core with which nothing was done yet shows a cut ([`starts_show`], `specs/Start.antt`).
 //!
 //! - `law.rt`: the laws
 #![tactic(auto)]
 
 mod law;
 
-pub use law::{events_follow, sides_agree, starts_show, turns_follow};
+pub use law::{events_follow, ready_cores_follow, sides_agree, starts_show, turns_follow};

@@ -1,0 +1,328 @@
+-- A core as its run begins shows the first cut, and is ready.
+use Rattle.std.proofs.Common.{◌≡◌, inl, inr, refl, sym, ◌∙◌, ap, subst, ℕ, zero, suc, ◌<◌, List, [], ◌∷◌, length, map, slice_get, Option, Some, None, arith}
+use Rattle.std.specs.Prelude.{IsSome}
+use Rattle.std.specs.Option.{option_map}
+use Rattle.std.proofs.lemmas.List.{length-map}
+use Rattle.std.proofs.lemmas.Option.{slice_get-map}
+use Rattle.fl_base.specs.declared.identity.EndId.{EndId}
+use Rattle.fl_compile.specs.declared.program.Program.{Program}
+use Rattle.fl_compile.specs.Programs.{program_of}
+use Rattle.fl_core.specs.View.{TheDispatcher, TheSeat}
+use Rattle.fl_hop.proofs.Lists.{at_within, within}
+use Rattle.fl_link.specs.Queue.{TheQueue}
+use Rattle.fl_ring.specs.SharedSides.{TheSide}
+use Rattle.fl_node.specs.declared.wire.Port.{Port}
+use Rattle.fl_node.specs.declared.wire.Wire.{Wire}
+use Rattle.fl_node.specs.declared.wire.Wire.TheVariants.{Queues, Ring, Circuit}
+use Rattle.fl_node.specs.Numbers.{moved, moved_wire, moved_port, renumbered}
+use Rattle.fl_node.specs.Sound.{IsCore}
+use Rattle.fl_node.specs.View.{TheCore, place_of, arrivals_by}
+use Rattle.fl_node.proofs.Numbering.{came_from}
+use Rattle.fl_running.specs.Led.{LeadsAtFirst}
+use Rattle.fl_queues.specs.Given.{given}
+use Rattle.fl_queues.specs.Monitors.{Core}
+use Rattle.fl_queues.specs.State.{core_of}
+use Rattle.fl_shows.specs.Ends.{planned_of}
+use Rattle.fl_shows.specs.Cores.{MonitorShows, NamesShow}
+use Rattle.fl_worlds.specs.declared.parts.Parts.{Parts}
+use Rattle.fl_worlds.specs.Binding.{new_queue}
+use Rattle.fl_worlds.specs.Picture.{CoreShows, wire_of, Shows}
+use Rattle.fl_worlds.specs.View.{TheWorld}
+use Rattle.fl_jobs.specs.Jobs.{Job}
+use Rattle.fl_jobs.specs.Report.{TheReport}
+use Rattle.fl_system.specs.Booting.{TheConfig}
+use Rattle.fl_setups.specs.Untouched.{SetUpsTouchNothing}
+use Rattle.fl_setups.specs.Start.{SetUpsStartFresh, StartsFresh, NamesQueue}
+use Rattle.fl_threads.specs.Begins.{TheStation, Places, common_in}
+use Rattle.fl_threads.specs.Shares.{sides_given, queues_given}
+use Rattle.fl_cores.proofs.Booted.{all_making}
+use Rattle.fl_cores.specs.Promised.{Reports}
+use Rattle.fl_reports.specs.Cores.{joined_in}
+use Rattle.fl_reports.proofs.CoresStart.{StartsQuiet, ruled_quiet, quiet_renumbered}
+use Rattle.fl_reports.proofs.CoresStations.{AtStation, at_station}
+use Rattle.fl_reports.proofs.SidesPlaces.{moved_to, hand_is}
+use Rattle.fl_reports.proofs.StartShared.{AreReady, are_ready, queue_owner, begins_apart}
+use Rattle.fl_cuts.specs.Ends.{EndCut}
+use Rattle.fl_cuts.specs.Cut.{Each2, ShowsWaits, name_at, UsesQueue, IsUsed, ShowsCut}
+use Rattle.fl_cuts.specs.Start.{IsFirstEnd, IsFirstSide, IsFirstQueue, IsStarting, first_end, first_ends, first_cut, StartsShow}
+use Rattle.fl_cuts.specs.Ready.{Serves, IsReady}
+use Rattle.fl_follows.specs.Runs.{behind, IsOfMachine}
+use Rattle.fl_follows.proofs.Dealt.{own_is_one, new_sides}
+use Rattle.fl_follows.proofs.Ends.{first_at, of_machine}
+use Rattle.fl_follows.proofs.Ruled.{WasEnd, Was, were}
+
+-- ---- lists
+
+-- two lists of one length, one for one
+each_by : {A B : Type 0} (R : A → B → Type 0) (xs : List A) (ys : List B) → length ys ≡ length xs
+    → ((n : ℕ) (x : A) (y : B) → slice_get xs n ≡ Some x → slice_get ys n ≡ Some y → R x y) → Each2 R xs ys
+each_by R [] [] long h = tt
+each_by R [] (y ∷ ys) long h = absurd (cc)
+each_by R (x ∷ xs) [] long h = absurd (cc)
+each_by R (x ∷ xs) (y ∷ ys) long h =
+    let rest : length ys ≡ length xs = omega (arith, long) in (h 0 x y refl refl, each_by R xs ys rest (λ n u v p q. h (suc n) u v p q))
+
+not_bound : (o : Option ℕ) → o ≡ Some 0 → o ≡ None → ⊥
+not_bound None p q = absurd (cc)
+not_bound (Some x) p q = absurd (cc)
+
+-- no first end is unbound
+first_bound : (core : ℕ) (seats : List TheSeat) (ports : List Port) (e : ℕ) (x : EndCut) → slice_get (first_ends core seats ports) e ≡ Some x
+    → x.end.circuit ≡ None → ⊥
+first_bound core [] ports e x at none = absurd (cc)
+first_bound core (seat ∷ seats) [] e x at none = absurd (cc)
+first_bound core (seat ∷ seats) (p ∷ ports) zero x at none =
+    not_bound x.end.circuit (sym (ap (λ (o : Option EndCut). given o (Some 0) λ y. y.end.circuit) at)) none
+first_bound core (seat ∷ seats) (p ∷ ports) (suc e) x at none = first_bound core seats ports e x at none
+
+-- each end has a port
+port_by : (seats : List TheSeat) (ports : List Port) → length ports ≡ length seats → (e : ℕ) (seat : TheSeat) → slice_get seats e ≡ Some seat
+    → (p : Port) × (slice_get ports e ≡ Some p)
+port_by seats ports long e seat at = let below = within seats e seat at in at_within ports e (omega (arith, long, below))
+
+-- the same names, whatever numbers are named
+same_name : (sides queues : List ℕ) (ports : List Port) (e : ℕ) → name_at (map (moved_port sides queues) ports) e ≡ name_at ports e
+same_name sides queues ports e =
+    ap (λ (o : Option Port). given o None λ p. Some p.name) (slice_get-map (moved_port sides queues) ports e) ∙ by (slice_get ports e)
+  where
+    by : (o : Option Port) → (given (option_map (moved_port sides queues) o) None λ p. Some p.name) ≡ (given o None λ p. Some p.name)
+    by None = refl
+    by (Some p) = refl
+
+same_names : (sides queues : List ℕ) (ports : List Port) (es : List ℕ) → map (name_at (map (moved_port sides queues) ports)) es ≡ map (name_at ports) es
+same_names sides queues ports [] = refl
+same_names sides queues ports (e ∷ es) =
+    ap (λ (o : Option EndId). o ∷ map (name_at (map (moved_port sides queues) ports)) es) (same_name sides queues ports e)
+    ∙ ap (λ (os : List (Option EndId)). name_at ports e ∷ os) (same_names sides queues ports es)
+
+-- ---- a queue that an end uses
+
+-- which queue of the set-up it is
+record WasQueue (k : TheCore) (queues : List ℕ) (n : ℕ) : Type 0 where
+  pub queue : ℕ
+  pub named : NamesQueue k queue
+  pub moved_is : moved queues queue ≡ n
+
+wire_there : (k : TheCore) (e : ℕ) (p : Port) → IsCore k → slice_get k.ports e ≡ Some p → wire_of k p.name ≡ Some p.wire
+wire_there k e p core at =
+    ap (λ (o : Option ℕ). given o None λ place. given (slice_get k.ports place) None λ q. Some q.wire) (core.named e p at)
+    ∙ ap (λ (o : Option Port). given o None λ q. Some q.wire) at
+
+queue_before : (k : TheCore) (sides queues : List ℕ) (n : ℕ) (p : Port) → wire_of k p.name ≡ Some p.wire → UsesQueue n (moved_wire sides queues p.wire) → WasQueue k queues n
+queue_before k sides queues n p is uses = by p.wire is uses where
+  by : (wire : Wire) → wire_of k p.name ≡ Some wire → UsesQueue n (moved_wire sides queues wire) → WasQueue k queues n
+  by (Queues out from) w (inl q) = record { queue = out; named = inl (p.name, from, w); moved_is = q }
+  by (Queues out from) w (inr q) = record { queue = from; named = inr (p.name, out, w); moved_is = q }
+  by (Ring side) w u = absurd u
+  by (Circuit link arrivals) w u = absurd u
+
+first_queue_is : (q : TheQueue) (slots : ℕ) → q ≡ new_queue slots → IsFirstQueue q
+first_queue_is q slots e = record {
+  items = ap (λ (x : TheQueue). x.items) e;
+  freed = ap (λ (x : TheQueue). x.acked) e;
+  untold = ap (λ (x : TheQueue). x.untold) e;
+  sent = ap (λ (x : TheQueue). x.sent) e;
+}
+
+-- ---- a core of a run
+
+module _ (fresh : SetUpsStartFresh) (c : TheConfig) (jobs : List Job) (limit : ℕ) (r : TheReport) (w : Reports c jobs limit r) where
+  abbrev world : TheWorld
+  world = w.ran.made.world
+
+  abbrev parts : Parts
+  parts = w.ran.ran.parts
+
+  shown : Shows world (behind c)
+  shown = w.ran.made.stands.1.shown
+
+  starts : StartsFresh world
+  starts = fresh c.cores c.setup world (all_making c.setup w.accepted.making) shown
+
+  ready : AreReady world parts
+  ready = are_ready world w.ran.parts parts jobs starts w.ran.made.parts w.ran.ran.rules w.ran.ran.beside
+
+  module _ (n : ℕ) (s : TheStation) (at : slice_get w.ran.ran.ran.stations n ≡ Some s) where
+    abbrev places : Places
+    places = w.ran.ran.ran.places
+
+    pub station : AtStation (common_in parts (joined_in w) places) n parts.cores.items n s
+    station = at_station (common_in parts (joined_in w) places) 0 parts.cores.items w.ran.ran.ran.stations n n s w.ran.ran.ran.begin at (omega arith)
+
+    abbrev k : TheCore
+    k = station.core
+
+    pub was : Was world.cores n k
+    was = were w.ran.parts.bindings.items jobs world.cores parts.cores.items
+        (subst (λ (ks : List TheCore). Rattle.fl_dockets.specs.Rules.RulesOf w.ran.parts.bindings.items jobs ks parts.cores.items) w.ran.made.parts.cores w.ran.ran.rules) n k station.core_is
+
+    core : IsCore s.run.core
+    core = w.ran.ran.ran.sound.begin n s at
+
+    -- but for the numbers of sides and queues, it is the world's core with rules
+    run_is : s.run.core ≡ renumbered places.sides places.queues k
+    run_is = station.station.core_is
+
+    was_core : IsCore (renumbered places.sides places.queues k)
+    was_core = subst IsCore run_is core
+
+    own_core : IsCore k
+    own_core = Rattle.fl_reports.proofs.StartNumbers.core_before places.sides places.queues k was_core
+
+    -- ---- the machine's core
+
+    pub machine : (x : Core) × (core_of (behind c) n ≡ Some x) × CoreShows x was.core
+    machine =
+        let below = within world.cores n was.core was.core_is in
+        let many = shown.picture.cores.count in
+        let x = at_within (behind c).cores n (omega (arith, below, many)) in
+        (x.0, x.1, shown.picture.cores.each n x.0 was.core x.1 was.core_is)
+
+    monitor_shows : MonitorShows machine.0 s.run.core.monitor
+    monitor_shows =
+        subst (MonitorShows machine.0) (sym (ap (λ (y : TheCore). y.monitor) run_is ∙ ap (λ (y : TheCore). y.monitor) was.ruled.rest)) machine.2.monitor
+
+    same_waits : s.run.core.board.dispatchers ≡ was.core.board.dispatchers
+    same_waits = ap (λ (y : TheCore). y.board.dispatchers) run_is ∙ was.ruled.dispatchers
+
+    ports_are : s.run.core.ports ≡ map (moved_port places.sides places.queues) was.core.ports
+    ports_are = ap (λ (y : TheCore). y.ports) run_is ∙ ap (λ (y : TheCore). map (moved_port places.sides places.queues) y.ports) was.ruled.rest
+
+    waits_show : Each2 (ShowsWaits s.run.core.ports) machine.0.dispatchers s.run.core.board.dispatchers
+    waits_show =
+        each_by (ShowsWaits s.run.core.ports) machine.0.dispatchers s.run.core.board.dispatchers (ap length same_waits ∙ machine.2.count)
+        (λ i x d x_is d_is.
+        let is = machine.2.dispatchers i x d x_is (ap (λ (ds : List TheDispatcher). slice_get ds i) (sym same_waits) ∙ d_is) in
+        record {
+          lists = is.lists;
+          ends = ap (λ (ps : List Port). map (name_at ps) d.ends) ports_are ∙ same_names places.sides places.queues was.core.ports d.ends ∙ is.ends;
+        })
+
+    -- ---- its ends
+
+    -- in the world
+    record InWorld (e : ℕ) (seat : TheSeat) (p : Port) : Type 0 where
+      pub old : WasEnd was.core.board.seats e seat
+      pub here : place_of was.core p.name ≡ Some e
+
+    in_world : (e : ℕ) (seat : TheSeat) (p : Port) → slice_get s.run.core.board.seats e ≡ Some seat → slice_get s.run.core.ports e ≡ Some p → InWorld e seat p
+    in_world e seat p seat_is p_is =
+        let seats_are : s.run.core.board.seats ≡ k.board.seats = ap (λ (y : TheCore). y.board.seats) run_is in
+        record {
+          old = was.ruled.ends e seat (ap (λ (ss : List TheSeat). slice_get ss e) (sym seats_are) ∙ seat_is);
+          here = sym (ap (λ (y : TheCore). place_of y p.name) was.ruled.rest) ∙ sym (ap (λ (y : TheCore). place_of y p.name) run_is) ∙ core.named e p p_is;
+        }
+
+    end_first : (e : ℕ) (seat : TheSeat) → slice_get s.run.core.board.seats e ≡ Some seat → IsFirstEnd seat.end
+    end_first e seat seat_is =
+        let long : length s.run.core.ports ≡ length s.run.core.board.seats
+        = sym (length-map s.run.core.ports _) ∙ sym (ap length core.kinds) ∙ length-map s.run.core.board.seats _ in
+        let p = port_by s.run.core.board.seats s.run.core.ports long e seat seat_is in
+        let x = in_world e seat p.0 seat_is p.1 in
+        let old = x.old in
+        let new = starts.ends n e was.core p.0.name old.before was.core_is x.here old.before_is in
+        record {
+          outgoing = old.outgoing ∙ new.new.outgoing;
+          parts = old.parts ∙ new.new.parts;
+          circuit = old.circuit ∙ new.circuit;
+          sound = old.failed ∙ new.sound;
+        }
+
+    -- ---- its sides and queues
+
+    side_first : (i : ℕ) (side : TheSide) → slice_get s.run.rings i ≡ Some side → IsFirstSide side
+    side_first i side side_is =
+        let shares = w.ran.ran.ran.shares in
+        let hand : slice_get (sides_given w.ran.ran.ran.stations) n ≡ Some s.run.rings
+        = slice_get-map (λ (x : TheStation). x.run.rings) w.ran.ran.ran.stations n ∙ ap (option_map (λ (x : TheStation). x.run.rings)) at in
+        let own = sym (hand_is (sides_given w.ran.ran.ran.stations) n s.run.rings hand) ∙ shares.sides.dealt.each n in
+        let one = own_is_one n shares.side_owners (Rattle.fl_deal.specs.Settled.sides_of shares.pairs) i side (ap (λ (xs : List TheSide). slice_get xs i) (sym own) ∙ side_is) in
+        new_sides parts.rings.items shares.pairs shares.new one.0 side one.1
+
+    queue_first : (i : ℕ) (q : TheQueue) → IsUsed UsesQueue s.run.core.ports i → slice_get s.run.queues i ≡ Some q → IsFirstQueue q
+    queue_first i q used q_is =
+        let shares = w.ran.ran.ran.shares in
+        let from = came_from (moved_port places.sides places.queues) k.ports used.place used.port
+        (ap (λ (y : TheCore). slice_get y.ports used.place) (sym run_is) ∙ used.port_is) in
+        let uses : UsesQueue i (moved_wire places.sides places.queues from.first.wire) = subst (λ (p : Port). UsesQueue i p.wire) from.same used.uses in
+        let old = queue_before k places.sides places.queues i from.first (wire_there k used.place from.first own_core from.first_is) uses in
+        let new = ready.new n old.queue k station.core_is old.named in
+        let owner = queue_owner world parts ready places w.ran.ran.ran.stations w.ran.ran.ran.outcomes shares n old.queue k station.core_is old.named in
+        let thing : slice_get parts.queues.items old.queue ≡ Some (new_queue new.0) = ap (λ (qs : List TheQueue). slice_get qs old.queue) ready.queues ∙ new.1 in
+        let put = shares.queues.at old.queue n (new_queue new.0) owner thing in
+        let hand : slice_get (queues_given w.ran.ran.ran.stations) n ≡ Some s.run.queues
+        = slice_get-map (λ (x : TheStation). x.run.queues) w.ran.ran.ran.stations n ∙ ap (option_map (λ (x : TheStation). x.run.queues)) at in
+        let place : put.place ≡ i = sym (moved_to places.queues old.queue put.place put.place_is) ∙ old.moved_is in
+        let stands : slice_get s.run.queues i ≡ Some (new_queue new.0)
+        = ap (slice_get s.run.queues) (sym place)
+        ∙ ap (λ (xs : List TheQueue). slice_get xs put.place) (sym (hand_is (queues_given w.ran.ran.ran.stations) n s.run.queues hand)) ∙ put.stands in
+        let same : q ≡ new_queue new.0 = (let both : Some q ≡ Some (new_queue new.0) = sym q_is ∙ stands in cc) in
+        first_queue_is q new.0 same
+
+    quiet : StartsQuiet (joined_in w) s.run.core
+    quiet = quiet_renumbered (joined_in w) places.sides places.queues k s.run.core run_is (ruled_quiet fresh c jobs limit r w n k station.core_is)
+
+    no_arrivals : (e : ℕ) (p : Port) → slice_get s.run.core.ports e ≡ Some p → arrivals_by p.wire ≡ None
+    no_arrivals e p p_is = quiet.off_links p.name e p (core.named e p p_is) p_is
+
+    pub is_starting : IsStarting s.run
+    is_starting = record {
+      core = core;
+      ends = end_first;
+      sides = side_first;
+      queues = queue_first;
+      arrivals = λ i q used q_is. (let none : None ≡ Some i = sym (no_arrivals used.place used.port used.port_is) ∙ used.uses in absurd (cc));
+    }
+
+    pub begins : StartsShow → ShowsCut (first_cut machine.0 s.run) s.run
+    begins law = law machine.0 s.run is_starting monitor_shows waits_show
+
+    -- each of its ends is the machine's
+    pub ends_are : SetUpsTouchNothing → (place : ℕ) (x : EndCut) → slice_get (first_cut machine.0 s.run).ends place ≡ Some x → IsOfMachine (behind c) x
+    ends_are law place x x_is =
+        let number : s.run.core.monitor.circuits.core ≡ n
+        = ap (λ (y : TheCore). y.monitor.circuits.core) run_is ∙ ap (λ (y : TheCore). y.monitor.circuits.core) was.ruled.rest ∙ starts.numbers n was.core was.core_is in
+        let at_first = first_at s.run.core.monitor.circuits.core s.run.core.board.seats s.run.core.ports place x x_is in
+        let inside = in_world place at_first.seat at_first.port at_first.seat_is at_first.port_is in
+        let is = of_machine world (behind c) n was.core place at_first.port inside.old.before at_first.seat shown
+        (law c.cores c.setup (all_making c.setup w.accepted.making)) was.core_is inside.here inside.old.before_is (ap planned_of inside.old.program) inside.old.dispatcher
+        inside.old.channel in
+        subst (IsOfMachine (behind c)) (sym (at_first.end_is ∙ ap (λ (m : ℕ). first_end m at_first.port at_first.seat) number)) is
+
+    -- ---- it is ready
+
+    names : NamesShow (behind c).services s.run.offers.names
+    names =
+        subst (NamesShow (behind c).services) (sym (station.station.names ∙ w.ran.ran.beside.names ∙ w.ran.made.parts.names)) shown.picture.names
+
+    serves : Serves (behind c).services (first_cut machine.0 s.run)
+    serves i x x_is here =
+        let stands = shown.sound.services i x x_is in
+        let number : machine.0.circuits.core ≡ n
+        = sym (ap (λ t. t.core) machine.2.monitor.circuits) ∙ starts.numbers n was.core was.core_is in
+        let own : core_of (behind c) x.dispatcher.core ≡ Some machine.0 = ap (core_of (behind c)) (here ∙ number) ∙ machine.1 in
+        let dispatcher : IsSome (slice_get machine.0.dispatchers x.dispatcher.place)
+        = subst (λ (o : Option Core). IsSome (given o None λ y. slice_get y.dispatchers x.dispatcher.place)) own stands.0 in
+        let lent : length s.run.offers.programs ≡ length world.programs
+        = sym (length-map s.run.offers.programs program_of) ∙ ap length station.station.programs ∙ length-map parts.programs.items program_of
+        ∙ ap length (w.ran.ran.beside.programs ∙ w.ran.made.parts.programs) in
+        let plans : length (map (λ (p : Program). planned_of p) s.run.offers.programs) ≡ length (behind c).interfaces
+        = length-map s.run.offers.programs _ ∙ lent ∙ sym (length-map world.programs planned_of) ∙ ap length shown.picture.programs in
+        let interface = below (behind c).interfaces x.interface stands.1 in
+        (below machine.0.dispatchers x.dispatcher.place dispatcher, omega (arith, interface, plans))
+      where
+        below : {X : Type 0} (xs : List X) (i : ℕ) → IsSome (slice_get xs i) → i < length xs
+        below xs i some = by (slice_get xs i) refl some where
+          by : (o : Option _) → slice_get xs i ≡ o → IsSome o → i < length xs
+          by None q none = absurd (cc)
+          by (Some y) q none = within xs i y q
+
+    pub is_ready : LeadsAtFirst → IsReady (behind c).services (first_cut machine.0 s.run) s.run
+    is_ready leads = record {
+      names = names;
+      serves = serves;
+      quiet = λ e x x_is none. absurd (first_bound s.run.core.monitor.circuits.core s.run.core.board.seats s.run.core.ports e x x_is none);
+      apart = subst Rattle.fl_running.specs.Flows.IsApart (sym run_is)
+          (begins_apart world parts ready places w.ran.ran.ran.stations w.ran.ran.ran.outcomes w.ran.ran.ran.shares n k station.core_is was_core);
+      led = leads s.run.core no_arrivals quiet.quiet;
+    }
