@@ -16,7 +16,6 @@ use Rattle.fl_monitor.specs.Routing.{given, all_differ}
 use Rattle.fl_node.specs.Hearing.{Offers}
 use Rattle.fl_node.specs.View.{TheCore, client_of}
 use Rattle.fl_running.specs.declared.job.Job.{Job as CoreJob}
-use Rattle.fl_running.specs.declared.job.Job.TheVariants as job
 use Rattle.fl_running.specs.declared.job.Wish.{Wish}
 use Rattle.fl_running.specs.Deeds.{Deed}
 use Rattle.fl_running.specs.Desks.{TheDesk, desk_place}
