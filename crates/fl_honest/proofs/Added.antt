@@ -23,6 +23,16 @@ added_there b c n place x kind h =
       end_is = refl;
     }
 
+-- and at this dispatcher
+pub added_seat : (b c : TheBoard) (n place : ℕ) (x : TheEnd) (kind : Kind) → Adds b n x kind (Ok place) c
+    → (seat : TheSeat) × (slice_get c.seats place ≡ Some seat) × (seat.dispatcher ≡ n)
+added_seat b c n place x kind h =
+    let seat : TheSeat = record { end = x; dispatcher = n; channel = length h.1.0.ends; kind = kind } in (
+      seat,
+      ap (λ (d : TheBoard). slice_get d.seats place) h.1.3 ∙ ap (λ (j : ℕ). slice_get (b.seats ++ seat ∷ []) j) h.0 ∙ push_last b.seats seat,
+      refl,
+    )
+
 -- and is found by its name there, and no other is
 module _ (k : TheCore) (core : IsCore k) (place : ℕ) (new : EndId) (last : place ≡ length k.board.seats) where
   only : (n : EndId) → place_in (slice_set k.places (slot_of new) (Some place)) n ≡ Some place → (n ≡ new) ⊎ (slot_of n ≢ slot_of new) → n ≡ new

@@ -86,9 +86,9 @@ module _ (asked : List Job) (j : TheJoined) (cores : List OneCore) (names : List
             (ap (λ (r : TheRegistration). r.service.interface) same ∙ f.offered) x.same;
       }
 
-  client_home : (binding : ℕ) (b : Bound) → slice_get j.bindings binding ≡ Some b → IsOpenedBy j.jobs c.start c.log (client_of binding) seat.end.program
+  client_home : (binding d : ℕ) (b : Bound) → slice_get j.bindings binding ≡ Some b → IsOpenedBy j.jobs c.start c.log (client_of binding) seat.end.program d
       → IsAtHome (client_of binding) b programs n seat
-  client_home binding b bound x =
+  client_home binding d b bound x =
       let own = staffed.desks n c x.opener x.desk x.turn x.place is x.desk_is x.place_is in
       let docket : slice_get (places_of x.opener 0 j.jobs) own.turn ≡ Some x.place = ap (λ (xs : List ℕ). slice_get xs own.turn) (sym (joined.each x.opener).places) ∙ own.job_is in
       let opener : x.opener ≡ client_of binding = done_there j.jobs x.opener own.turn x.place (job.Open x.wish) docket x.job_is ∙ sym x.name_is in
@@ -107,5 +107,5 @@ ends_home servers clients asked j cores names programs joined staffed e b n c se
   by Server binding at m =
       server_home asked j cores names programs joined staffed n c is seat binding b at (servers j.jobs cores staffed.beside n c is binding m.place seat m.absent m.place_is m.seat_is)
   by Client binding at m =
-      client_home asked j cores names programs joined staffed n c is seat binding b at
-      (clients j.jobs c (staffed.beside.leading n c is) (staffed.beside.unused n c is) binding m.place seat m.absent m.place_is m.seat_is)
+      let made = clients j.jobs c (staffed.beside.leading n c is) (staffed.beside.unused n c is) binding m.place seat m.absent m.place_is m.seat_is in
+      client_home asked j cores names programs joined staffed n c is seat binding made.0 b at made.2

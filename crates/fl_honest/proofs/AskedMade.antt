@@ -17,7 +17,7 @@ use Rattle.fl_hop.specs.OfCircuit.{as_carried, of_circuit}
 use Rattle.fl_hop.specs.Stretch.{Step, heard as hop_heard, taken_from}
 use Rattle.fl_hop.proofs.Laws.{is_eq}
 use Rattle.fl_core.proofs.Places.{one_stands}
-use Rattle.fl_core.specs.View.{TheSeat}
+use Rattle.fl_core.specs.View.{TheSeat, TheBoard}
 use Rattle.fl_monitor.specs.declared.opening.Opening.{Opening}
 use Rattle.fl_monitor.specs.Fates.{comes_along}
 use Rattle.fl_monitor.specs.Hearing.{ComesTo, opening_of}
@@ -59,21 +59,23 @@ use Rattle.fl_running.proofs.Laning.{steps_of, event_steps}
 use Rattle.fl_running.proofs.Seating.{HasEnd, lists_same, Sits}
 use Rattle.fl_running.proofs.Stepping.{log_steps}
 use Rattle.fl_honest.specs.Named.{Has}
-use Rattle.fl_honest.specs.Asked.{IsServedBy, IsOpenedBy}
+use Rattle.fl_honest.specs.Asked.{SatAt, IsServedBy, IsOpenedBy}
 use Rattle.fl_honest.proofs.Named.{has_first, has_last}
-use Rattle.fl_honest.proofs.Added.{added_there, sits_last}
+use Rattle.fl_honest.proofs.Added.{added_there, added_seat, sits_last}
 use Rattle.fl_honest.proofs.Logged.{heard_joins, eq_true}
 use Rattle.fl_honest.proofs.Zero.{carried_zero, says_zero}
 use Rattle.fl_honest.proofs.Asked.{asks_of, came_along, came_more}
 use Rattle.fl_honest.proofs.AskedLaid.{Laid, laid_along, does_laid}
 use Rattle.fl_honest.proofs.AskedDesks.{job_there, JobsStay, event_jobs, desk_before, offers_stay}
 
--- an end of this name was made, of which this holds
-record MadeBy (name : EndId) (How : TheEnd → Type 0) (k : TheCore) : Type 0 where
+-- an end of this name was made, and sits at a dispatcher, of which this holds
+record MadeBy (name : EndId) (How : ℕ → TheEnd → Type 0) (k : TheCore) : Type 0 where
   pub place : ℕ
   pub end : TheEnd
   pub here : IsHere name place end k
-  pub how : How end
+  pub dispatcher : ℕ
+  pub at : here.has.seat.dispatcher ≡ dispatcher
+  pub how : How dispatcher end
 
 first_test : (a b c : Bool) → (a && b && c) ≡ true → a ≡ true
 first_test true b c h = refl
@@ -82,8 +84,8 @@ first_test false b c h = absurd (cc)
 same_value : {X : Type 0} (a b : X) → Some a ≡ Some b → a ≡ b
 same_value a b is = cc
 
--- a message on a link, by its route, asks for the server's end of this name, at a service of this core's, of which this is the program
-record ForOffer (o : Offers) (k : TheCore) (l : LinkId) (msg : Message) (name : EndId) (program : Program) : Type 0 where
+-- a message on a link, by its route, asks for the server's end of this name, at a service of this core's, of which these are the program and the dispatcher
+record ForOffer (o : Offers) (k : TheCore) (l : LinkId) (msg : Message) (name : EndId) (program : Program) (d : ℕ) : Type 0 where
   pub opening : Opening
   pub opening_is : opening_of msg ≡ Some opening
   pub along : comes_along k.monitor.circuits l.0 opening.path ≡ true
@@ -91,6 +93,7 @@ record ForOffer (o : Offers) (k : TheCore) (l : LinkId) (msg : Message) (name : 
   pub registration : TheRegistration
   pub service : by_iref opening.service.0 o.names ≡ Some registration
   pub core_is : registration.service.core.0 ≡ k.monitor.circuits.core
+  pub dispatcher : registration.service.dispatcher ≡ d
   pub source : Program
   pub source_is : slice_get o.programs registration.service.interface ≡ Some source
   pub same : program_of program ≡ program_of source
@@ -140,7 +143,8 @@ module _ (name : EndId) (k : TheCore) (absent : place_of k name ≡ None) where
   -- ---- an end is made
 
   module _ (core : IsCore k) where
-    module _ (How : TheEnd → Type 0) (k2 : TheCore) (place : ℕ) (new : EndId) (x : TheEnd) (has : HasEnd k2.board place x) (how : name ≡ new → How x) (last : place ≡ length k.board.seats)
+    module _ (How : ℕ → TheEnd → Type 0) (k2 : TheCore) (place : ℕ) (new : EndId) (x : TheEnd) (d : ℕ) (has : HasEnd k2.board place x)
+        (seat : (y : TheSeat) × (slice_get k2.board.seats place ≡ Some y) × (y.dispatcher ≡ d)) (how : name ≡ new → How d x) (last : place ≡ length k.board.seats)
         (few : new.binding < 1024) (places : k2.places ≡ slice_set k.places (slot_of new) (Some place)) where
       sits : name ≡ new → Sits k2.places name place
       sits same = subst (λ (n : EndId). Sits k2.places n place) (sym same) (sits_last k core place new last few k2.places places)
@@ -152,6 +156,8 @@ module _ (name : EndId) (k : TheCore) (absent : place_of k name ≡ None) where
           place = place;
           end = x;
           here = record { has = has; sits = sits same };
+          dispatcher = d;
+          at = ap (λ (y : TheSeat). y.dispatcher) (one_stands k2.board.seats place has.seat seat.0 has.seat_is seat.1) ∙ seat.2;
           how = how same;
         })
         | inr other ↦ inl (ap (λ (xs : List (Option ℕ)). place_in xs name) places ∙ put_elsewhere k.places new name (Some place) other ∙ absent)
@@ -161,12 +167,13 @@ module _ (name : EndId) (k : TheCore) (absent : place_of k name ≡ None) where
 
     module _ (o : Offers) (l : LinkId) (msg : Message) where
       abbrev Comes : TheCore → Type 0
-      Comes k2 = (place_of k2 name ≡ None) ⊎ MadeBy name (λ x. ForOffer o k l msg name x.program) k2
+      Comes k2 = (place_of k2 name ≡ None) ⊎ MadeBy name (λ d x. ForOffer o k l msg name x.program d) k2
 
       -- the offer for which an end is made
       for_offer : (h : Heard) → ComesTo (known_for o k msg) k.monitor.circuits l msg h → (binding : ℕ) (opening : Opening) → opening_of msg ≡ Some opening → binding ≡ opening.binding
-          → (program : Program) → IsCopyFor o.programs (offer_for o k msg) program → name ≡ server_of binding → ForOffer o k l msg name program
-      for_offer h comes binding opening opening_is binding_is program it named =
+          → (registration : TheRegistration) → by_iref opening.service.0 o.names ≡ Some registration → (d : ℕ) → registration.service.dispatcher ≡ d
+          → (program : Program) → IsCopyFor o.programs (offer_for o k msg) program → name ≡ server_of binding → ForOffer o k l msg name program d
+      for_offer h comes binding opening opening_is binding_is registration found d dispatcher_is program it named =
           let f = offer_found o k msg it.offered it.offered_is in
           let openings : opening ≡ f.opening = same_value opening f.opening (sym opening_is ∙ f.opening_is) in
           record {
@@ -178,6 +185,8 @@ module _ (name : EndId) (k : TheCore) (absent : place_of k name ≡ None) where
             service = f.service;
             core_is = sym (eq_true f.registration.service.core.0 k.monitor.circuits.core
                 (first_test (f.registration.service.core.0 == k.monitor.circuits.core) (has_place k.board f.registration.service.dispatcher) (nat_lt f.registration.service.interface (length o.programs)) f.may));
+            dispatcher = ap (λ (r : TheRegistration). r.service.dispatcher) (same_value f.registration registration
+                (sym f.service ∙ ap (λ (x : Opening). by_iref x.service.0 o.names) (sym openings) ∙ found)) ∙ dispatcher_is;
             source = it.source;
             source_is = ap (slice_get o.programs) (sym f.interface) ∙ it.source_is;
             same = it.same;
@@ -188,9 +197,12 @@ module _ (name : EndId) (k : TheCore) (absent : place_of k name ≡ None) where
       follows_come m (outcome.ServerMade binding dispatcher c) answered k2 comes f =
           let new = made_for (known_for o k msg) k.monitor.circuits l msg (outcome.ServerMade binding dispatcher c) _ comes refl in
           let few = made_new o k msg _ new in
-          one_made (λ x. ForOffer o k l msg name x.program) k2 f.1.end (server_of binding) _
+          let put = added_seat k.board f.1.added dispatcher f.1.end _ _ f.1.adds in
+          one_made (λ d x. ForOffer o k l msg name x.program d) k2 f.1.end (server_of binding) _ dispatcher
           (lists_same f.1.added k2.board f.1.end f.1.end _ _ f.1.joins.1 (added_there k.board f.1.added dispatcher f.1.end _ _ f.1.adds))
-          (λ same. for_offer (outcome.ServerMade binding dispatcher c) comes binding new.opening new.opening_is new.binding f.1.program f.1.program_is same) f.1.adds.0 few.0 (ap (λ (y : TheCore). y.places) f.1.rest)
+          (put.0, ap (λ (b : TheBoard). slice_get b.seats f.1.end) f.1.joins.1.board ∙ put.1, put.2)
+          (λ same. for_offer (outcome.ServerMade binding dispatcher c) comes binding new.opening new.opening_is new.binding new.registration new.service dispatcher
+          (sym new.dispatcher) f.1.program f.1.program_is same) f.1.adds.0 few.0 (ap (λ (y : TheCore). y.places) f.1.rest)
       follows_come m (outcome.EndOpened n c) answered k2 comes f = inl (binds_none m (arriving_at (with_monitor k m) n) c k2 f.1)
       follows_come m (outcome.EndRefused n reason) answered k2 comes f = inl (places_stay k2 (ap (λ (y : TheCore). y.places) f.1))
       follows_come m (outcome.OpeningWentOn binding n c) answered k2 comes f = inl (places_stay k2 (ap (λ (y : TheCore). y.places) f.1))
@@ -205,7 +217,7 @@ module _ (name : EndId) (k : TheCore) (absent : place_of k name ≡ None) where
 module _ {S : Type 0} (w : Ways S) (jobs : List Job) (name : EndId) where
   -- an end was made, as was asked for
   abbrev MadeIn : TheRun S → TheRun S → List Step → List Deed → Type 0
-  MadeIn s m steps log = MadeBy name (λ x. IsServedBy s (λ l. of_circuit 0 (taken_from l steps)) name x.program ⊎ IsOpenedBy jobs s log name x.program) m.core
+  MadeIn s m steps log = MadeBy name (λ d x. IsServedBy s (λ l. of_circuit 0 (taken_from l steps)) name x.program d ⊎ IsOpenedBy jobs s log name x.program d) m.core
 
   abbrev ComesBy : TheRun S → TheRun S → List Step → List Deed → Type 0
   ComesBy s m steps log = (place_of m.core name ≡ None) ⊎ MadeIn s m steps log
@@ -220,8 +232,8 @@ module _ {S : Type 0} (w : Ways S) (jobs : List Job) (name : EndId) where
         let one : taken_from l.0 steps_heard ≡ bare frag ∷ [] = ap (λ (b : Bool). (if b then bare frag ∷ [] else []) ++ []) (is_eq l.0 l.0 refl) in
         subst (λ (xs : List Frag). Has (as_carried (bare frag)) xs) (sym (ap (of_circuit 0) one ∙ says_zero frag msg says_it)) (inl refl)
 
-    served : (program : Program) → ForOffer s.offers s.core l msg name program → IsServedBy s (λ i. of_circuit 0 (taken_from i steps_heard)) name program
-    served program f =
+    served : (program : Program) (d : ℕ) → ForOffer s.offers s.core l msg name program d → IsServedBy s (λ i. of_circuit 0 (taken_from i steps_heard)) name program d
+    served program d f =
         let now : Says (as_carried (bare frag)) msg = says_the_same frag (as_carried (bare frag)) msg (carried_zero frag zero) says_it in
         record {
           opening = f.opening;
@@ -230,14 +242,16 @@ module _ {S : Type 0} (w : Ways S) (jobs : List Job) (name : EndId) where
           registration = f.registration;
           service = f.service;
           core_is = f.core_is;
+          dispatcher = f.dispatcher;
           source = f.source;
           source_is = f.source_is;
           same = f.same;
         }
 
-    by_message : (log : List Deed) → (place_of m.core name ≡ None) ⊎ MadeBy name (λ x. ForOffer s.offers s.core l msg name x.program) m.core → ComesBy s m steps_heard log
+    by_message : (log : List Deed) → (place_of m.core name ≡ None) ⊎ MadeBy name (λ d x. ForOffer s.offers s.core l msg name x.program d) m.core → ComesBy s m steps_heard log
     by_message log (inl still) = inl still
-    by_message log (inr a) = inr (record { place = a.place; end = a.end; here = a.here; how = inl (served a.end.program a.how) })
+    by_message log (inr a) =
+        inr (record { place = a.place; end = a.end; here = a.here; dispatcher = a.dispatcher; at = a.at; how = inl (served a.end.program a.dispatcher a.how) })
 
   module _ (s m : TheRun S) (core : IsCore s.core) (absent : place_of s.core name ≡ None) where
     hears_come : (n : ℕ) (l : LinkId) (frag : Frag) (answer : Result MonitorAnswer LinkFault) (by : InPlace jobs s (heard n l frag answer)) (h : Does w (heard n l frag answer) s m)
@@ -266,7 +280,8 @@ module _ {S : Type 0} (w : Ways S) (jobs : List Job) (name : EndId) where
         → IsCopyOf s.offers.programs wish.interface program → Asks (asked wish.dispatcher program wish.link wish.opening) s.core answer m.core → ComesBy s m [] (opened n wish answer ∷ [])
     opens_come n wish (Ok place) program by few copy h =
         let j = job_there jobs s n wish by.0 in
-        one_made name s.core absent core _ m.core place (client_of wish.opening.binding) _ (added_there s.core.board m.core.board wish.dispatcher place _ _ h.adds)
+        one_made name s.core absent core _ m.core place (client_of wish.opening.binding) _ wish.dispatcher
+        (added_there s.core.board m.core.board wish.dispatcher place _ _ h.adds) (added_seat s.core.board m.core.board wish.dispatcher place _ _ h.adds)
         (λ same. inr (record {
           opener = n;
           desk = j.desk;
@@ -279,6 +294,7 @@ module _ {S : Type 0} (w : Ways S) (jobs : List Job) (name : EndId) where
           at = place;
           done = inl refl;
           name_is = same;
+          dispatcher = refl;
           source = copy.source;
           source_is = copy.source_is;
           same = copy.same;
@@ -310,13 +326,13 @@ module _ {S : Type 0} (w : Ways S) (jobs : List Job) (name : EndId) where
 
   -- ---- a log
 
-  abbrev IsMade : TheRun S → List Step → List Deed → Program → Type 0
-  IsMade s steps log program = IsServedBy s (λ l. of_circuit 0 (taken_from l steps)) name program ⊎ IsOpenedBy jobs s log name program
+  abbrev IsMade : TheRun S → List Step → List Deed → Program → ℕ → Type 0
+  IsMade s steps log program d = IsServedBy s (λ l. of_circuit 0 (taken_from l steps)) name program d ⊎ IsOpenedBy jobs s log name program d
 
   -- an event comes before
-  module _ (deed : Deed) (log : List Deed) (s u : TheRun S) (first rest : List Step) (program : Program) (offers : u.offers ≡ s.offers)
+  module _ (deed : Deed) (log : List Deed) (s u : TheRun S) (first rest : List Step) (program : Program) (d : ℕ) (offers : u.offers ≡ s.offers)
       (laid : Laid s.core.monitor.circuits u.core.monitor.circuits) (stay : JobsStay s.desks u.desks) where
-    later : IsMade u rest log program → IsMade s (first ++ rest) (deed ∷ log) program
+    later : IsMade u rest log program d → IsMade s (first ++ rest) (deed ∷ log) program d
     later (inl x) = inl (record {
       opening = x.opening;
       came = record {
@@ -331,6 +347,7 @@ module _ {S : Type 0} (w : Ways S) (jobs : List Job) (name : EndId) where
       registration = x.registration;
       service = ap (λ (o : Offers). by_iref x.opening.service.0 o.names) (sym offers) ∙ x.service;
       core_is = x.core_is ∙ laid.core;
+      dispatcher = x.dispatcher;
       source = x.source;
       source_is = ap (λ (o : Offers). slice_get o.programs x.registration.service.interface) (sym offers) ∙ x.source_is;
       same = x.same;
@@ -349,14 +366,16 @@ module _ {S : Type 0} (w : Ways S) (jobs : List Job) (name : EndId) where
           at = x.at;
           done = inr x.done;
           name_is = x.name_is;
+          dispatcher = x.dispatcher;
           source = x.source;
           source_is = ap (λ (o : Offers). slice_get o.programs x.wish.interface) (sym offers) ∙ x.source_is;
           same = x.same;
         })
 
   -- it is the event, and others follow
-  now : (deed : Deed) (log : List Deed) (s : TheRun S) (first rest : List Step) (program : Program) → IsMade s first (deed ∷ []) program → IsMade s (first ++ rest) (deed ∷ log) program
-  now deed log s first rest program (inl x) = inl (record {
+  now : (deed : Deed) (log : List Deed) (s : TheRun S) (first rest : List Step) (program : Program) (d : ℕ) → IsMade s first (deed ∷ []) program d
+      → IsMade s (first ++ rest) (deed ∷ log) program d
+  now deed log s first rest program d (inl x) = inl (record {
     opening = x.opening;
     came = came_more s.core.monitor.circuits (λ l. of_circuit 0 (taken_from l first)) (λ l. of_circuit 0 (taken_from l (first ++ rest)))
         (λ l f has. subst (Has f) (sym (heard_joins (λ i. []) first rest l)) (has_first f (of_circuit 0 (taken_from l first)) (of_circuit 0 (taken_from l rest)) has)) x.opening x.came;
@@ -364,11 +383,12 @@ module _ {S : Type 0} (w : Ways S) (jobs : List Job) (name : EndId) where
     registration = x.registration;
     service = x.service;
     core_is = x.core_is;
+    dispatcher = x.dispatcher;
     source = x.source;
     source_is = x.source_is;
     same = x.same;
   })
-  now deed log s first rest program (inr x) = inr (record {
+  now deed log s first rest program d (inr x) = inr (record {
     opener = x.opener;
     desk = x.desk;
     desk_is = x.desk_is;
@@ -380,6 +400,7 @@ module _ {S : Type 0} (w : Ways S) (jobs : List Job) (name : EndId) where
     at = x.at;
     done = elim x.done [ inl same ↦ inl same | inr none ↦ absurd none ];
     name_is = x.name_is;
+    dispatcher = x.dispatcher;
     source = x.source;
     source_is = x.source_is;
     same = x.same;
@@ -396,7 +417,7 @@ module _ {S : Type 0} (w : Ways S) (jobs : List Job) (name : EndId) where
       sym (sym (ap (λ (y : TheSeat). y.end.program) seats) ∙ ap (λ (y : TheEnd). y.program) after.has.end_is ∙ after.goes.program)
 
   pub log_made : (log : List Deed) (s t : TheRun S) (h : Goes w jobs s log t) → place_of s.core name ≡ None → (e : ℕ) (seat : TheSeat) → place_of t.core name ≡ Some e
-      → slice_get t.core.board.seats e ≡ Some seat → IsMade s (log_steps w jobs log s t h) log seat.end.program
+      → slice_get t.core.board.seats e ≡ Some seat → (d : ℕ) × SatAt w jobs t name d × IsMade s (log_steps w jobs log s t h) log seat.end.program d
   log_made [] s t h absent e seat at there = absurd (let no : Some e ≡ None = sym at ∙ ap (λ (x : TheRun S). place_of x.core name) h ∙ absent in cc)
   log_made (deed ∷ log) s t h absent e seat at there =
       let m = h.1.0 in
@@ -407,10 +428,25 @@ module _ {S : Type 0} (w : Ways S) (jobs : List Job) (name : EndId) where
       elim (does_come s m h.1.3.core absent deed h.2 h.1.1) [
         | inl still ↦
             (let laid : Laid s.core.monitor.circuits u.core.monitor.circuits = subst (λ (k : TheCore). Laid s.core.monitor.circuits k.monitor.circuits) (sym aside) (does_laid w deed s m h.1.1) in
-            later deed log s u first rest seat.end.program (offers_stay w deed s m u h.1.1 h.1.2) laid (event_jobs w deed s m u h.1.1 h.1.2)
-            (log_made log u t h.3 (ap (λ (k : TheCore). place_of k name) aside ∙ still) e seat at there))
+            let (d, sat, made) = log_made log u t h.3 (ap (λ (k : TheCore). place_of k name) aside ∙ still) e seat at there in (
+              d,
+              sat,
+              later deed log s u first rest seat.end.program d (offers_stay w deed s m u h.1.1 h.1.2) laid (event_jobs w deed s m u h.1.1 h.1.2) made,
+            ))
         | inr a ↦
             (let here : IsHere name a.place a.end u.core = subst (λ (k : TheCore). IsHere name a.place a.end k) (sym aside) a.here in
-            let program = keeps_program log u t h.3 a.place a.end here e seat at there in
-            now deed log s first rest seat.end.program (subst (λ (p : Program). IsMade s first (deed ∷ []) p) program a.how))
+            let program = keeps_program log u t h.3 a.place a.end here e seat at there in (
+              a.dispatcher,
+              record {
+                moment = u;
+                log = log;
+                goes = h.3;
+                place = a.place;
+                place_is = ap (λ (k : TheCore). place_of k name) aside ∙ a.here.sits.here;
+                seat = a.here.has.seat;
+                seat_is = ap (λ (k : TheCore). slice_get k.board.seats a.place) aside ∙ a.here.has.seat_is;
+                dispatcher_is = a.at;
+              },
+              now deed log s first rest seat.end.program a.dispatcher (subst (λ (p : Program). IsMade s first (deed ∷ []) p a.dispatcher) program a.how),
+            ))
       ]

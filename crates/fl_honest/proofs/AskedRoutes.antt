@@ -1,5 +1,5 @@
 -- Over all cores: what is asked for is what jobs wish for, core by core back along the route.
-use Rattle.std.proofs.Common.{◌≡◌, ◌⊎◌, inl, inr, refl, sym, ap, ◌∙◌, ℕ, zero, suc, ◌-◌, ◌<◌, ◌≤◌, nat_lt, ◌&&◌, not, if◌then◌else◌, Bool, true, false, List, slice_get}
+use Rattle.std.proofs.Common.{◌≡◌, ◌⊎◌, inl, inr, refl, sym, ap, ◌∙◌, subst, ℕ, zero, suc, ◌-◌, ◌<◌, ◌≤◌, nat_lt, ◌&&◌, not, if◌then◌else◌, Bool, true, false, List, slice_get}
 use Rattle.std.proofs.Common.{Option, Some, None, position, arith}
 use Rattle.std.proofs.lemmas.Bool.{cases_lt, ltb-true}
 use Rattle.std.proofs.lemmas.List.Quantifiers.{position-Some}
@@ -24,10 +24,10 @@ use Rattle.fl_node.specs.declared.wire.Lane.{Lane}
 use Rattle.fl_node.specs.Sound.{IsCore}
 use Rattle.fl_node.specs.View.{TheCore, side_of_link, client_of, server_of}
 use Rattle.fl_running.specs.declared.job.Job.{Job}
-use Rattle.fl_honest.specs.Cores.{OneCore}
+use Rattle.fl_honest.specs.Cores.{shared_ways, OneCore}
 use Rattle.fl_honest.specs.Circuits.{AreOneLink}
 use Rattle.fl_honest.specs.Named.{Has}
-use Rattle.fl_honest.specs.Asked.{AsksBy, IsWished, CameAlong, IsServedBy, IsOpenedBy, GoesAsking, CoresAsk, AreBeside, GoesWished, WishesAlone, IsServer, ServersAreWished, ClientsAreWished}
+use Rattle.fl_honest.specs.Asked.{AsksBy, IsWished, CameAlong, SatAt, IsServedBy, IsOpenedBy, GoesAsking, CoresAsk, AreBeside, GoesWished, WishesAlone, IsServer, ServersAreWished, ClientsAreWished}
 use Rattle.fl_honest.proofs.OverLinks.{both_ways, has_before}
 use Rattle.fl_honest.proofs.Routes.{CircuitsPrefix}
 
@@ -200,9 +200,11 @@ servers_wished alone jobs cores all n c is binding e seat absent at there = by (
   g : GoesWished jobs c
   g = alone jobs cores all n c is
 
-  by : IsServedBy c.start (λ l. of_circuit 0 (taken_from l g.asking.steps)) (server_of binding) seat.end.program ⊎ IsOpenedBy jobs c.start c.log (server_of binding) seat.end.program
+  by : (d : ℕ) × SatAt shared_ways jobs c.finish (server_of binding) d
+      × (IsServedBy c.start (λ l. of_circuit 0 (taken_from l g.asking.steps)) (server_of binding) seat.end.program d
+      ⊎ IsOpenedBy jobs c.start c.log (server_of binding) seat.end.program d)
       → IsServer jobs c binding seat
-  by (inl x) =
+  by (d, sat, inl x) =
       let w = g.heard x.opening x.came in
       record {
         place = w.place;
@@ -212,18 +214,21 @@ servers_wished alone jobs cores all n c is binding e seat absent at there = by (
         registration = x.registration;
         service = ap (λ (o : Opening). by_iref o.service.0 c.start.offers.names) w.opening_is ∙ x.service;
         core_is = x.core_is;
+        sat = subst (λ (n : ℕ). SatAt shared_ways jobs c.finish (server_of binding) n) (sym x.dispatcher) sat;
         source = x.source;
         source_is = x.source_is;
         same = x.same;
       }
-  by (inr x) = absurd (other_side binding x.wish.opening.binding x.name_is)
+  by (d, sat, inr x) = absurd (other_side binding x.wish.opening.binding x.name_is)
 
 pub clients_wished : CoresAsk → ClientsAreWished
 clients_wished ask jobs c leading unused binding e seat absent at there = by (g.made (client_of binding) e seat absent at there) where
   g : GoesAsking jobs c
   g = ask jobs c leading unused
 
-  by : IsServedBy c.start (λ l. of_circuit 0 (taken_from l g.steps)) (client_of binding) seat.end.program ⊎ IsOpenedBy jobs c.start c.log (client_of binding) seat.end.program
-      → IsOpenedBy jobs c.start c.log (client_of binding) seat.end.program
-  by (inl x) = absurd (other_side x.opening.binding binding (sym x.name_is))
-  by (inr x) = x
+  by : (d : ℕ) × SatAt shared_ways jobs c.finish (client_of binding) d
+      × (IsServedBy c.start (λ l. of_circuit 0 (taken_from l g.steps)) (client_of binding) seat.end.program d
+      ⊎ IsOpenedBy jobs c.start c.log (client_of binding) seat.end.program d)
+      → (d : ℕ) × SatAt shared_ways jobs c.finish (client_of binding) d × IsOpenedBy jobs c.start c.log (client_of binding) seat.end.program d
+  by (d, sat, inl x) = absurd (other_side x.opening.binding binding (sym x.name_is))
+  by (d, sat, inr x) = (d, sat, x)

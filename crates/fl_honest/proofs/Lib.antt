@@ -46,6 +46,7 @@ mod Forth
 mod Standing
 mod Lone
 mod Runs
+mod Sitting
 mod ReasonsOwn
 mod Reasoned
 mod ReasonsKept

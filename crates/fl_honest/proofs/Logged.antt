@@ -20,7 +20,6 @@ use Rattle.fl_hop.specs.Stretch.{Step, passed as hop_passed, wrote as hop_wrote,
 use Rattle.fl_hop.specs.Table.{TheCircuits}
 use Rattle.fl_hop.specs.Numbers.{next_own}
 use Rattle.fl_hop.proofs.Laws.{is_eq, of_join}
-use Rattle.fl_core.specs.Sound.{IsBoard}
 use Rattle.fl_endpoint.specs.Laws.{OnAnotherCircuit}
 use Rattle.fl_monitor.specs.declared.heard.Heard.{Heard}
 use Rattle.fl_monitor.specs.declared.heard.Heard.TheVariants as outcome
@@ -52,7 +51,7 @@ use Rattle.fl_node.specs.Hearing.{Offers, known_for, offer_for, HearsAll, Follow
 use Rattle.fl_running.specs.declared.job.Job.{Job}
 use Rattle.fl_running.specs.declared.job.Wish.{Wish}
 use Rattle.fl_running.specs.Run.{Ways, TheRun}
-use Rattle.fl_running.specs.Deeds.{Deed, looked, passed, arrived, heard, said, told, opened, called, ruled, wrote, acked, turned, Does, ActsSoundly}
+use Rattle.fl_running.specs.Deeds.{IsSound, Deed, looked, passed, arrived, heard, said, told, opened, called, ruled, wrote, acked, turned, Does, ActsSoundly}
 use Rattle.fl_running.specs.Logs.{InPlace, Goes}
 use Rattle.fl_running.specs.Led.{IsLed}
 use Rattle.fl_running.proofs.Aside.{core_aside}
@@ -416,7 +415,7 @@ module _ {Knows : Known → Message → Type 0} {Wishes : Opening → Type 0} (R
 
   -- over a whole log it is kept
   pub log_keeps_by : (log : List Deed) (s t : TheRun S) (h : Goes w jobs s log t) (said_so heard_so : ℕ → List Frag)
-      → ((u : TheRun S) (rest : List Deed) → Goes w jobs u rest t → IsBoard u.core.board → u.offers ≡ s.offers → (msg : Message) → Knows (known_for u.offers u.core msg) msg)
+      → ((u : TheRun S) (rest : List Deed) → Goes w jobs u rest t → IsSound u.core → u.offers ≡ s.offers → (msg : Message) → Knows (known_for u.offers u.core msg) msg)
       → ((name : EndId) (wish : Wish) → JobAt jobs s name wish → Wishes wish.opening) → IsLed s.core → Sound t.core.monitor.circuits → R said_so heard_so s.core.monitor
       → R (then_said said_so (log_steps w jobs log s t h)) (then_heard heard_so (log_steps w jobs log s t h)) t.core.monitor
   log_keeps_by [] s t h said_so heard_so knows own led sound n =
@@ -431,11 +430,11 @@ module _ {Knows : Known → Message → Type 0} {Wishes : Opening → Type 0} (R
       let rest = log_steps w jobs log u t h.3 in
       let sound_u = sound_first log u t h.3 sound in
       let sound_m : Sound m.core.monitor.circuits = subst (λ (k : TheCore). Sound k.monitor.circuits) aside sound_u in
-      let one = does_keep R jobs kept w on said_so heard_so s m h.1.3.core h.1.3.table sound_m led (knows s (deed ∷ log) h h.1.3.board refl) own n deed h.2 h.1.4 h.1.1 in
+      let one = does_keep R jobs kept w on said_so heard_so s m h.1.3.core h.1.3.table sound_m led (knows s (deed ∷ log) h h.1.3 refl) own n deed h.2 h.1.4 h.1.1 in
       let now : R (then_said said_so first) (then_heard heard_so first) u.core.monitor = subst (λ (k : TheCore). R (then_said said_so first) (then_heard heard_so first) k.monitor) (sym aside) one in
       let led_u : IsLed u.core = subst IsLed (sym aside) (does_led w jobs s m h.1.3.core h.1.3.table led deed h.2 h.1.1) in
-      let still = λ (v : TheRun S) (later_on : List Deed) (g : Goes w jobs v later_on t) (board : IsBoard v.core.board) (same : v.offers ≡ u.offers) (msg : Message).
-      knows v later_on g board (same ∙ offers_stay w deed s m u h.1.1 h.1.2) msg in
+      let still = λ (v : TheRun S) (later_on : List Deed) (g : Goes w jobs v later_on t) (well : IsSound v.core) (same : v.offers ≡ u.offers) (msg : Message).
+      knows v later_on g well (same ∙ offers_stay w deed s m u h.1.1 h.1.2) msg in
       let all = log_keeps_by log u t h.3 (then_said said_so first) (then_heard heard_so first) still (λ name wish a. own name wish (job_before jobs s u name wish (event_jobs w deed s m u h.1.1 h.1.2) a)) led_u sound now in
       kept.wider (then_said (then_said said_so first) rest) (then_said said_so (first ++ rest)) (then_heard (then_heard heard_so first) rest) (then_heard heard_so (first ++ rest)) t.core.monitor
       (λ l f has. subst (Has f) (said_joins said_so first rest l) has) (λ l f has. subst (Has f) (sym (heard_joins heard_so first rest l)) has) all

@@ -28,7 +28,6 @@ use Rattle.fl_running.proofs.Stepping.{log_steps}
 use Rattle.fl_running.specs.declared.job.Job.{Job as CoreJob}
 use Rattle.fl_running.specs.declared.job.Job.TheVariants as job
 use Rattle.fl_running.specs.declared.job.Wish.{Wish}
-use Rattle.fl_core.specs.Sound.{IsBoard}
 use Rattle.fl_core.specs.View.{TheDispatcher}
 use Rattle.fl_node.specs.Hearing.{Offers, known_for, offer_for, offer_of}
 use Rattle.fl_node.specs.View.{client_of}
@@ -54,7 +53,7 @@ use Rattle.fl_honest.proofs.OverLinks.{none_waits, both_ways, has_before}
 use Rattle.fl_honest.proofs.ReasonedHears.{AreReasonedFrom, KnowsPlaces, reasons_kept}
 use Rattle.fl_honest.proofs.ReasonsDesks.{Placed, own_wish, told_at, log_tells}
 use Rattle.fl_ring.specs.SharedSides.{TheSide}
-use Rattle.fl_running.specs.Deeds.{Deed}
+use Rattle.fl_running.specs.Deeds.{IsSound, Deed}
 use Rattle.fl_running.specs.Logs.{Goes}
 use Rattle.fl_running.specs.Run.{TheRun}
 use Rattle.fl_honest.proofs.Routes.{CircuitsPrefix}
@@ -101,24 +100,24 @@ no_place : (u : TheRun TheSide) (msg : Message) (o : Opening) → opening_of msg
 no_place u msg o is none =
     sym (ap (λ (x : Option Opening). given x None λ opening. offer_of u.offers u.core opening.service.0) is) ∙ none_there (offer_for u.offers u.core msg) none
 
-knows_places : (jobs : List CoreJob) (c : OneCore) → Leading jobs c → (u : TheRun TheSide) (rest : List Deed) → Goes shared_ways jobs u rest c.finish → IsBoard u.core.board
+knows_places : (jobs : List CoreJob) (c : OneCore) → Leading jobs c → (u : TheRun TheSide) (rest : List Deed) → Goes shared_ways jobs u rest c.finish → IsSound u.core
     → u.offers ≡ c.start.offers → (msg : Message) → KnowsPlaces c.start.offers.names (FoundNoPlace jobs c) (known_for u.offers u.core msg) msg
-knows_places jobs c v u rest goes board same msg = (
+knows_places jobs c v u rest goes sound same msg = (
   ap (λ (o : Offers). o.names) same,
   λ o is none. record {
     moment = u;
     log = rest;
     goes = goes;
-    board = board;
+    sound = sound;
     number = sym (goes_laid shared_ways jobs rest u c.finish goes).core ∙ (goes_laid shared_ways jobs c.log c.start c.finish v.went.goes).core;
     offers = same;
     none = no_place u msg o is none;
   },
 )
 
-was_full : (jobs : List CoreJob) (finish u : TheRun TheSide) (rest : List Deed) → Goes shared_ways jobs u rest finish → IsBoard u.core.board → (d : ℕ) (x : TheDispatcher)
+was_full : (jobs : List CoreJob) (finish u : TheRun TheSide) (rest : List Deed) → Goes shared_ways jobs u rest finish → IsSound u.core → (d : ℕ) (x : TheDispatcher)
     → slice_get u.core.board.dispatchers d ≡ Some x → length x.ends ≡ 1024 → WasFull jobs finish d
-was_full jobs finish u rest goes board d x at full = record { moment = u; log = rest; goes = goes; board = board; dispatcher = x; dispatcher_is = at; full = full }
+was_full jobs finish u rest goes sound d x at full = record { moment = u; log = rest; goes = goes; sound = sound; dispatcher = x; dispatcher_is = at; full = full }
 
 pub cores_reason : OnAnotherCircuit → CoresReason
 cores_reason on jobs c v unused =

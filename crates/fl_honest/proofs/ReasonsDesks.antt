@@ -12,7 +12,6 @@ use Rattle.fl_base.specs.declared.identity.Side.TheVariants.{Client, Server}
 use Rattle.fl_base.specs.declared.identity.Circuit.{Circuit}
 use Rattle.fl_base.specs.Control.{bare}
 use Rattle.fl_core.proofs.Places.{set_here, set_elsewhere}
-use Rattle.fl_core.specs.Sound.{IsBoard}
 use Rattle.fl_core.specs.View.{TheDispatcher}
 use Rattle.fl_core.specs.declared.answer.TurnAnswer.{TurnAnswer}
 use Rattle.fl_core.specs.declared.answer.TurnAnswer.TheVariants as turn
@@ -58,7 +57,7 @@ use Rattle.fl_running.specs.declared.job.Job.{Job}
 use Rattle.fl_running.specs.declared.job.Wish.{Wish}
 use Rattle.fl_running.specs.Desks.{TheDesk, desk_place, advanced, with_handled, with_refusal, ChangesIf}
 use Rattle.fl_running.specs.Run.{Ways, TheRun, AtDesk}
-use Rattle.fl_running.specs.Deeds.{Deed, looked, passed, arrived, heard, said, told, opened, called, ruled, wrote, acked, turned, Does, NotesHeard, NotesOpened, NotesCalled, NotesTurned, Notes}
+use Rattle.fl_running.specs.Deeds.{IsSound, Deed, looked, passed, arrived, heard, said, told, opened, called, ruled, wrote, acked, turned, Does, NotesHeard, NotesOpened, NotesCalled, NotesTurned, Notes}
 use Rattle.fl_running.specs.Led.{IsLed}
 use Rattle.fl_running.specs.Logs.{InPlace, Goes}
 use Rattle.fl_running.specs.Steps.{lacks_to_open}
@@ -516,7 +515,7 @@ module _ (w : Ways TheSide) (on : OnAnotherCircuit) (names : List TheRegistratio
     (t0 : TheCircuits) (Full : ℕ → Type 0) (e : EndId) where
   -- at each moment from which the core came to its end, it knows this when it hears a message
   abbrev Knowing : TheRun TheSide → TheRun TheSide → Type 0
-  Knowing s t = (u : TheRun TheSide) (rest : List Deed) → Goes w jobs u rest t → IsBoard u.core.board → u.offers ≡ s.offers → (msg : Message)
+  Knowing s t = (u : TheRun TheSide) (rest : List Deed) → Goes w jobs u rest t → IsSound u.core → u.offers ≡ s.offers → (msg : Message)
       → KnowsPlaces names NoPlace (known_for u.offers u.core msg) msg
 
   -- ends to which the table leads are there still
@@ -543,7 +542,7 @@ module _ (w : Ways TheSide) (on : OnAnotherCircuit) (names : List TheRegistratio
       log_keeps_by (λ spoken listened m. IsUsedUp m.circuits l) jobs (used_kept (KnowsPlaces names NoPlace) Wishes l) w on log s t h said_so heard_so knows own led sound used
 
   pub log_tells : (log : List Deed) (s t : TheRun TheSide) (h : Goes w jobs s log t) (said_so heard_so : ℕ → List Frag) → AreAmple log → Knowing s t
-      → ((u : TheRun TheSide) (rest : List Deed) → Goes w jobs u rest t → IsBoard u.core.board → (d : ℕ) (x : TheDispatcher) → slice_get u.core.board.dispatchers d ≡ Some x
+      → ((u : TheRun TheSide) (rest : List Deed) → Goes w jobs u rest t → IsSound u.core → (d : ℕ) (x : TheDispatcher) → slice_get u.core.board.dispatchers d ≡ Some x
       → length x.ends ≡ 1024 → Full d)
       → ((name : EndId) (wish : Wish) → JobAt jobs s name wish → Wishes wish.opening) → IsLed s.core → Placed s.core
       → Sound t.core.monitor.circuits → AreReasonedFrom names NoPlace Wishes t0 said_so heard_so s.core.monitor
@@ -558,7 +557,7 @@ module _ (w : Ways TheSide) (on : OnAnotherCircuit) (names : List TheRegistratio
       let rest = log_steps w jobs log u t h.3 in
       let sound_u = sound_first w jobs log u t h.3 sound in
       let sound_m : Sound m.core.monitor.circuits = subst (λ (k : TheCore). Sound k.monitor.circuits) aside sound_u in
-      let one = does_keep (AreReasonedFrom names NoPlace Wishes t0) jobs (reasons_kept names jobs NoPlace Wishes wished t0) w on said_so heard_so s m h.1.3.core h.1.3.table sound_m led (knows s (deed ∷ log) h h.1.3.board refl) own n deed h.2 h.1.4 h.1.1 in
+      let one = does_keep (AreReasonedFrom names NoPlace Wishes t0) jobs (reasons_kept names jobs NoPlace Wishes wished t0) w on said_so heard_so s m h.1.3.core h.1.3.table sound_m led (knows s (deed ∷ log) h h.1.3 refl) own n deed h.2 h.1.4 h.1.1 in
       let now = subst (λ (k : TheCore). AreReasonedFrom names NoPlace Wishes t0 (then_said said_so first) (then_heard heard_so first) k.monitor) (sym aside) one in
       let led_u : IsLed u.core = subst IsLed (sym aside) (does_led w jobs s m h.1.3.core h.1.3.table led deed h.2 h.1.1) in
       let still : Knowing u t = λ v later_on g board same msg. knows v later_on g board (same ∙ offers_stay w deed s m u h.1.1 h.1.2) msg in
@@ -570,7 +569,7 @@ module _ (w : Ways TheSide) (on : OnAnotherCircuit) (names : List TheRegistratio
               (then_heard heard_so (first ++ rest)) (λ l f has. has) (λ l f has. subst (Has f) (sym (heard_joins heard_so first rest l)) (has_first f (then_heard heard_so first l) (of_circuit 0 (taken_from l rest)) has)) (refusal_at t e)
               (event_tells w names NoPlace Wishes t0 jobs said_so heard_so s m h.1.3.table placed n e (then_said said_so (first ++ rest)) t.core.monitor
               (only_then (deed ∷ log) s t h said_so heard_so knows own led sound) (used_then (deed ∷ log) s t h said_so heard_so knows own led sound)
-              Full (fulls s (deed ∷ log) h h.1.3.board) deed h.2 h.1.1 (refusal_at t e) ample.0 (subst (New e deed) (sym same) new)))
+              Full (fulls s (deed ∷ log) h h.1.3) deed h.2 h.1.1 (refusal_at t e) ample.0 (subst (New e deed) (sym same) new)))
         ]
         | inr later ↦ inr (more_told jobs Wishes Full t0 t.core.monitor e s (then_said (then_said said_so first) rest) (then_said said_so (first ++ rest))
             (then_heard (then_heard heard_so first) rest) (then_heard heard_so (first ++ rest)) (λ l f has. subst (Has f) (said_joins said_so first rest l) has)

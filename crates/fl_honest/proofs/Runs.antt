@@ -73,16 +73,8 @@ pub record Ended : Type 0 where
   pub meet : BoundClientsMeet
   pub lone : LoneServersRest
 
-module _ (l : Ended) (asked : List Job) (j : TheJoined) (cores : List OneCore) (names : List TheRegistration) (programs : List TheProgram)
+module _ (asked : List Job) (j : TheJoined) (cores : List OneCore) (names : List TheRegistration) (programs : List TheProgram)
     (s : AreSetUp asked j cores names programs) where
-  -- ---- in the form that the laws below take
-
-  paired : ArePaired j.jobs cores
-  paired = l.paired j.jobs cores s.wired
-
-  beside : AreBeside j.jobs cores
-  beside = all_beside asked j cores names programs s
-
   own_job : (n : ℕ) (e : EndId) (desk : TheDesk) (turn k : ℕ) → slice_get desk.jobs turn ≡ Some k → (desk.jobs ≡ []) ⊎ HasOwn j n e desk.jobs → IsOwnJob j n e k
   own_job n e desk turn k at (inl none) = absurd (let no : None ≡ Some k = sym (ap (λ (xs : List ℕ). slice_get xs turn) none) ∙ at in cc)
   own_job n e desk turn k at (inr own) = record {
@@ -93,15 +85,22 @@ module _ (l : Ended) (asked : List Job) (j : TheJoined) (cores : List OneCore) (
     core_is = own.core_is;
   }
 
-  staffed : AreStaffed j cores names programs
+  pub staffed : AreStaffed j cores names programs
   staffed = record {
-    beside = beside;
+    beside = all_beside asked j cores names programs s;
     numbered = s.numbered;
     named = s.named;
     programmed = s.programmed;
     wishes = s.wishes;
     desks = λ n c e desk turn k is desk_is at. own_job n e desk turn k at (s.own n c e desk is desk_is);
   }
+
+module _ (l : Ended) (asked : List Job) (j : TheJoined) (cores : List OneCore) (names : List TheRegistration) (programs : List TheProgram)
+    (s : AreSetUp asked j cores names programs) where
+  -- ---- in the form that the laws below take
+
+  paired : ArePaired j.jobs cores
+  paired = l.paired j.jobs cores s.wired
 
   -- ---- the binding's ends
 
@@ -110,7 +109,7 @@ module _ (l : Ended) (asked : List Job) (j : TheJoined) (cores : List OneCore) (
     home_of : (e : EndId) → slice_get j.bindings e.binding ≡ Some b → (place : ℕ) (c : OneCore) → slice_get cores place ≡ Some c → (at : ℕ) (seat : TheSeat)
         → place_of c.finish.core e ≡ Some at → slice_get c.finish.core.board.seats at ≡ Some seat → IsAtHome e b programs place seat
     home_of e is place c core_is at seat place_is seat_is =
-        l.at_home asked j cores names programs s.joined staffed e b place c seat is core_is
+        l.at_home asked j cores names programs s.joined (staffed asked j cores names programs s) e b place c seat is core_is
         (record { absent = s.absent place c e b number core_is is opened; place = at; place_is = place_is; seat_is = seat_is })
 
     planned : (e : EndId) → slice_get j.bindings e.binding ≡ Some b → (place : ℕ) (c : OneCore) → slice_get cores place ≡ Some c → IsPlanned j.jobs (docket_at j.dockets e) c e

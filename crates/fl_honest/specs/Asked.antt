@@ -22,8 +22,9 @@ use Rattle.fl_running.specs.declared.job.Job.{Job as CoreJob}
 use Rattle.fl_running.specs.declared.job.Job.TheVariants as job
 use Rattle.fl_running.specs.declared.job.Wish.{Wish}
 use Rattle.fl_running.specs.Desks.{TheDesk}
-use Rattle.fl_running.specs.Run.{TheRun}
+use Rattle.fl_running.specs.Run.{Ways, TheRun}
 use Rattle.fl_running.specs.Deeds.{Deed, opened}
+use Rattle.fl_running.specs.Logs.{Goes}
 use Rattle.fl_running.specs.Flows.{SideCarries}
 use Rattle.fl_running.specs.Made.{desk_of}
 use Rattle.fl_jobs.specs.Jobs.{Job}
@@ -65,14 +66,27 @@ AreAsked jobs t said heard m = (l : ℕ) (f : Frag) (o : Opening) → Has f (sai
 
 -- ---- ends that are made
 
--- a fragment that was heard asks for the server's end of this name, at a service of this core's; the program is that of the service's interface
-pub record IsServedBy {S : Type 0} (s : TheRun S) (heard : ℕ → List Frag) (name : EndId) (program : Program) : Type 0 where
+-- at a moment of a run, which came to this end, the end of this name sat at dispatcher d
+pub record SatAt {S : Type 0} (w : Ways S) (jobs : List CoreJob) (finish : TheRun S) (name : EndId) (d : ℕ) : Type 0 where
+  pub moment : TheRun S
+  pub log : List Deed
+  pub goes : Goes w jobs moment log finish
+  pub place : ℕ
+  pub place_is : place_of moment.core name ≡ Some place
+  pub seat : TheSeat
+  pub seat_is : slice_get moment.core.board.seats place ≡ Some seat
+  pub dispatcher_is : seat.dispatcher ≡ d
+
+-- a fragment that was heard asks for the server's end of this name, at a service of this core's; the program is that of the service's interface, and the
+-- dispatcher the service's
+pub record IsServedBy {S : Type 0} (s : TheRun S) (heard : ℕ → List Frag) (name : EndId) (program : Program) (d : ℕ) : Type 0 where
   pub opening : Opening
   pub came : CameAlong s.core.monitor.circuits heard opening
   pub name_is : name ≡ server_of opening.binding
   pub registration : TheRegistration
   pub service : by_iref opening.service.0 s.offers.names ≡ Some registration
   pub core_is : registration.service.core.0 ≡ s.core.monitor.circuits.core
+  pub dispatcher : registration.service.dispatcher ≡ d
   pub source : Program
   pub source_is : slice_get s.offers.programs registration.service.interface ≡ Some source
   pub same : program_of program ≡ program_of source
@@ -82,8 +96,9 @@ abbrev pub HasDeed : Deed → List Deed → Type 0
 HasDeed deed [] = ⊥
 HasDeed deed (d ∷ log) = (d ≡ deed) ⊎ HasDeed deed log
 
--- in the log a job of a desk is done, which wishes for the client's end of this name; the program is that of the interface that is wished for
-pub record IsOpenedBy {S : Type 0} (jobs : List CoreJob) (s : TheRun S) (log : List Deed) (name : EndId) (program : Program) : Type 0 where
+-- in the log a job of a desk is done, which wishes for the client's end of this name; the program is that of the interface that is wished for, and so is the
+-- dispatcher
+pub record IsOpenedBy {S : Type 0} (jobs : List CoreJob) (s : TheRun S) (log : List Deed) (name : EndId) (program : Program) (d : ℕ) : Type 0 where
   pub opener : EndId
   pub desk : TheDesk
   pub desk_is : desk_of s opener ≡ Some desk
@@ -95,6 +110,7 @@ pub record IsOpenedBy {S : Type 0} (jobs : List CoreJob) (s : TheRun S) (log : L
   pub at : ℕ
   pub done : HasDeed (opened opener wish (Ok at)) log
   pub name_is : name ≡ client_of wish.opening.binding
+  pub dispatcher : wish.dispatcher ≡ d
   pub source : Program
   pub source_is : slice_get s.offers.programs wish.interface ≡ Some source
   pub same : program_of program ≡ program_of source
@@ -110,7 +126,8 @@ pub record GoesAsking (jobs : List CoreJob) (c : OneCore) : Type 0 where
   pub asked : AreAsked jobs c.start.core.monitor.circuits (λ l. of_circuit 0 (put_on l steps)) (λ l. of_circuit 0 (taken_from l steps)) c.finish.core.monitor
   pub made : (name : EndId) (e : ℕ) (seat : TheSeat) → place_of c.start.core name ≡ None → place_of c.finish.core name ≡ Some e
       → slice_get c.finish.core.board.seats e ≡ Some seat
-      → IsServedBy c.start (λ l. of_circuit 0 (taken_from l steps)) name seat.end.program ⊎ IsOpenedBy jobs c.start c.log name seat.end.program
+      → (d : ℕ) × SatAt shared_ways jobs c.finish name d
+      × (IsServedBy c.start (λ l. of_circuit 0 (taken_from l steps)) name seat.end.program d ⊎ IsOpenedBy jobs c.start c.log name seat.end.program d)
 
 -- so it is in every run of a core that had nothing to say before
 abbrev pub CoresAsk : Type 0
@@ -145,7 +162,8 @@ pub record GoesWished (jobs : List CoreJob) (c : OneCore) : Type 0 where
 abbrev pub WishesAlone : Type 0
 WishesAlone = (jobs : List CoreJob) (cores : List OneCore) → AreBeside jobs cores → (n : ℕ) (c : OneCore) → slice_get cores n ≡ Some c → GoesWished jobs c
 
--- so a server's end that was made is that of a job's binding: at the core of the service that the job wishes for, with the program of its interface
+-- so a server's end that was made is that of a job's binding: at the core and the dispatcher of the service that the job wishes for, with the program of its
+-- interface
 pub record IsServer (jobs : List CoreJob) (c : OneCore) (binding : ℕ) (seat : TheSeat) : Type 0 where
   pub place : ℕ
   pub wish : Wish
@@ -154,6 +172,7 @@ pub record IsServer (jobs : List CoreJob) (c : OneCore) (binding : ℕ) (seat : 
   pub registration : TheRegistration
   pub service : by_iref wish.opening.service.0 c.start.offers.names ≡ Some registration
   pub core_is : registration.service.core.0 ≡ c.start.core.monitor.circuits.core
+  pub sat : SatAt shared_ways jobs c.finish (server_of binding) registration.service.dispatcher
   pub source : Program
   pub source_is : slice_get c.start.offers.programs registration.service.interface ≡ Some source
   pub same : program_of seat.end.program ≡ program_of source
@@ -167,7 +186,8 @@ ServersAreWished = (jobs : List CoreJob) (cores : List OneCore) → AreBeside jo
 abbrev pub ClientsAreWished : Type 0
 ClientsAreWished = (jobs : List CoreJob) (c : OneCore) → Leading jobs c → IsUnused c.start.core.monitor
     → (binding e : ℕ) (seat : TheSeat) → place_of c.start.core (client_of binding) ≡ None → place_of c.finish.core (client_of binding) ≡ Some e
-    → slice_get c.finish.core.board.seats e ≡ Some seat → IsOpenedBy jobs c.start c.log (client_of binding) seat.end.program
+    → slice_get c.finish.core.board.seats e ≡ Some seat
+    → (d : ℕ) × SatAt shared_ways jobs c.finish (client_of binding) d × IsOpenedBy jobs c.start c.log (client_of binding) seat.end.program d
 
 -- ---- bindings that jobs open. Law
 

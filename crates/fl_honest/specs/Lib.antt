@@ -17,3 +17,4 @@ pub mod Stands
 pub mod Meeting
 pub mod Runs
 pub mod Reasons
+pub mod Sitting

@@ -19,7 +19,6 @@ use Rattle.fl_monitor.specs.Fates.{comes_along, is_offered_elsewhere}
 use Rattle.fl_monitor.specs.Routing.{next_on, all_differ}
 use Rattle.fl_monitor.specs.Monitors.{TheMonitor, waiting_for, asks}
 use Rattle.fl_monitor.specs.Saying.{Says}
-use Rattle.fl_core.specs.Sound.{IsBoard}
 use Rattle.fl_core.specs.View.{TheDispatcher}
 use Rattle.fl_node.specs.Hearing.{offer_of}
 use Rattle.fl_node.specs.View.{client_of}
@@ -27,7 +26,7 @@ use Rattle.fl_ring.specs.SharedSides.{TheSide}
 use Rattle.fl_running.specs.declared.job.Job.{Job as CoreJob}
 use Rattle.fl_running.specs.declared.job.Job.TheVariants as job
 use Rattle.fl_running.specs.declared.job.Wish.{Wish}
-use Rattle.fl_running.specs.Deeds.{Deed}
+use Rattle.fl_running.specs.Deeds.{Deed, IsSound}
 use Rattle.fl_running.specs.Desks.{TheDesk}
 use Rattle.fl_running.specs.Logs.{Goes}
 use Rattle.fl_running.specs.Made.{desk_of}
@@ -92,7 +91,7 @@ pub record FoundNoPlace (jobs : List CoreJob) (c : OneCore) (o : Opening) : Type
   pub moment : TheRun TheSide
   pub log : List Deed
   pub goes : Goes shared_ways jobs moment log c.finish
-  pub board : IsBoard moment.core.board
+  pub sound : IsSound moment.core
   pub number : moment.core.monitor.circuits.core ≡ c.start.core.monitor.circuits.core
   pub offers : moment.offers ≡ c.start.offers
   pub none : offer_of moment.offers moment.core o.service.0 ≡ None
@@ -102,7 +101,7 @@ pub record WasFull (jobs : List CoreJob) (finish : TheRun TheSide) (d : ℕ) : T
   pub moment : TheRun TheSide
   pub log : List Deed
   pub goes : Goes shared_ways jobs moment log finish
-  pub board : IsBoard moment.core.board
+  pub sound : IsSound moment.core
   pub dispatcher : TheDispatcher
   pub dispatcher_is : slice_get moment.core.board.dispatchers d ≡ Some dispatcher
   pub full : length dispatcher.ends ≡ 1024

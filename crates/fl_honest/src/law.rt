@@ -13,6 +13,7 @@ ghost use Rattle.fl_honest.specs.Whole.{RoutesBegin, BoundEndsMeet, ClientsAreHo
 ghost use Rattle.fl_honest.specs.Asked.{CoresAsk, WishesAlone, ServersAreWished, ClientsAreWished, EndsAreAtHome};
 ghost use Rattle.fl_honest.specs.Stands.{LedClientsStand, LedServersAreBound, PlannedEndsStand};
 ghost use Rattle.fl_honest.specs.Meeting.{WiredArePaired, BoundClientsMeet, LoneServersRest};
+ghost use Rattle.fl_honest.specs.Sitting.{EndsSit};
 ghost use Rattle.fl_honest.specs.Runs.{OffLinkIsHonest, OpenedIsHonest, RunsAreHonest};
 ghost use Rattle.fl_honest.specs.Reasons.{CoresReason, ReasonsAlone, DesksTellReasons, RefusedForReason};
 
@@ -227,6 +228,14 @@ pub fn ends_are_at_home()
     ensures home { EndsAreAtHome }
 {
     ends_are_wished();
+}
+
+/// And where cores were set up together, an end that was made in their run sits at the dispatcher that its job wishes for, or at that of the service.
+pub fn ends_sit()
+    ensures sit { EndsSit }
+{
+    ends_are_wished();
+    ends_are_at_home();
 }
 
 /// In a run of a core that opened nothing before, an end to which its table leads in the end is there, and a server's is bound.

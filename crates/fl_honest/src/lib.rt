@@ -24,9 +24,9 @@ mod law;
 pub use law::{
     bound_clients_meet, bound_ends_meet, bound_is_honest, circuits_are_honest, clients_are_home,
     cores_answer, cores_ask, cores_go, cores_name, cores_reason, cross_off_links,
-    desks_tell_reasons, ends_are_at_home, ends_are_honest, ends_are_wished, entries_lead_back,
-    led_ends_stand, links_are_paired, lone_servers_rest, loose_ends_rest, neighbours_agree,
-    neighbours_open, off_link_is_honest, off_links_are_honest, opened_is_honest,
+    desks_tell_reasons, ends_are_at_home, ends_are_honest, ends_are_wished, ends_sit,
+    entries_lead_back, led_ends_stand, links_are_paired, lone_servers_rest, loose_ends_rest,
+    neighbours_agree, neighbours_open, off_link_is_honest, off_links_are_honest, opened_is_honest,
     planned_ends_stand, reasons_alone, reports_are_honest, routes_begin, routes_go_back,
     rules_are_set, runs_are_honest, wishes_alone,
 };

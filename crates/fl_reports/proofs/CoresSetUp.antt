@@ -43,7 +43,7 @@ core_side : (s : Side) (x : Binding) → core_of s (bound_of x) ≡ core_in s x
 core_side Client x = refl
 core_side Server x = refl
 
-end_there : (o : Option TheBinding) (e : EndId) (x : End) → given o None (λ (b : TheBinding). Some (end_in e.side b)) ≡ Some x → (b : TheBinding) × (o ≡ Some b) × (end_in e.side b ≡ x)
+pub end_there : (o : Option TheBinding) (e : EndId) (x : End) → given o None (λ (b : TheBinding). Some (end_in e.side b)) ≡ Some x → (b : TheBinding) × (o ≡ Some b) × (end_in e.side b ≡ x)
 end_there None e x is = absurd (cc)
 end_there (Some b) e x is = (b, refl, same_Some (end_in e.side b) x is)
 
@@ -74,7 +74,7 @@ module _ (fresh : SetUpsStartFresh) (c : TheConfig) (jobs : List Job) (limit : �
     pub seat_is : slice_get core.board.seats place ≡ Some seat
     pub dispatcher : seat.dispatcher ≡ d.place
 
-  interface_there : (b : TheBinding) (x : Binding) (n : ℕ) → slice_get state.bindings n ≡ Some b → slice_get world.bindings n ≡ Some x → (i : Planned) × (interface_of state b ≡ Some i)
+  pub interface_there : (b : TheBinding) (x : Binding) (n : ℕ) → slice_get state.bindings n ≡ Some b → slice_get world.bindings n ≡ Some x → (i : Planned) × (interface_of state b ≡ Some i)
   interface_there b x n at there =
       let picture = w.ran.made.stands.1.shown.picture in
       let joined = starts.joined n x there in
@@ -109,7 +109,7 @@ module _ (fresh : SetUpsStartFresh) (c : TheConfig) (jobs : List Job) (limit : �
         dispatcher = made.dispatcher ∙ ap (λ (y : DispatcherId). y.place) at.dispatcher;
       }
 
-  sits : (e : EndId) → SetUpAt c d e → Sits e
+  pub sits : (e : EndId) → SetUpAt c d e → Sits e
   sits e at =
       let (b, stands, is) = end_there (slice_get state.bindings e.binding) e at.end at.end_is in
       let below = within state.bindings e.binding b stands in
@@ -132,7 +132,7 @@ module _ (fresh : SetUpsStartFresh) (c : TheConfig) (jobs : List Job) (limit : �
     was : WasAt w.ran.parts.cores.items d.core station.core
     was = (on_boards w.ran.parts.bindings.items jobs w.ran.parts.cores.items w.ran.ran.parts.cores.items w.ran.ran.rules).each d.core station.core station.core_is
 
-    is_at : (e : EndId) → Sits e → IsAt core.finish d.place e
+    pub is_at : (e : EndId) → Sits e → IsAt core.finish d.place e
     is_at e s =
         let same_core : was.core ≡ s.core =
         same_Some was.core s.core (sym was.core_is ∙ ap (λ (ks : List TheCore). slice_get ks d.core) w.ran.made.parts.cores ∙ s.core_is) in

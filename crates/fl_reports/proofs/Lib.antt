@@ -31,6 +31,9 @@ pub mod Texts
 pub mod RunsSetUp
 pub mod Whole
 pub mod Wishes
+pub mod Opener
+pub mod Twins
+pub mod WantedEnds
 pub mod ReasonsSetUp
 pub mod ReasonsFull
 pub mod Reasons

@@ -16,7 +16,6 @@ use Rattle.fl_monitor.specs.Routing.{given, all_differ}
 use Rattle.fl_node.specs.Hearing.{Offers}
 use Rattle.fl_node.specs.View.{TheCore, client_of}
 use Rattle.fl_running.specs.declared.job.Job.{Job as CoreJob}
-use Rattle.fl_running.specs.declared.job.Job.TheVariants as job
 use Rattle.fl_running.specs.declared.job.Wish.{Wish}
 use Rattle.fl_running.specs.Deeds.{Deed}
 use Rattle.fl_running.specs.Desks.{TheDesk, desk_place}
@@ -26,41 +25,44 @@ use Rattle.fl_running.specs.Made.{desk_of}
 use Rattle.fl_running.specs.Ran.{task, moment}
 use Rattle.fl_running.specs.Run.{TheRun}
 use Rattle.fl_running.specs.Words.{refusal_at}
+use Rattle.fl_queues.specs.Events.{DispatcherId}
 use Rattle.fl_queues.specs.Given.{given as in_machine}
 use Rattle.fl_queues.specs.Making.{has_link}
 use Rattle.fl_queues.specs.Monitors.{Core}
 use Rattle.fl_queues.specs.State.{core_of}
 use Rattle.fl_shows.specs.CoreLaws.{NamesAreShown}
-use Rattle.fl_shows.specs.Cores.{NamesShow}
 use Rattle.fl_shows.specs.Ends.{planned_of}
-use Rattle.fl_worlds.specs.Picture.{Shows}
 use Rattle.fl_system.specs.Booting.{TheConfig}
 use Rattle.fl_jobs.specs.Jobs.{Job}
 use Rattle.fl_jobs.specs.Report.{TheReport, refusal_of}
 use Rattle.fl_dockets.specs.declared.docket.Bound.{Bound}
 use Rattle.fl_dockets.specs.State.{TheJoined}
-use Rattle.fl_dockets.specs.Wished.{IsWished}
 use Rattle.fl_setups.specs.Start.{SetUpsStartFresh}
 use Rattle.fl_honest.specs.Cores.{shared_ways, OneCore, AreAmple, AllAmple, CoresGoAmply}
 use Rattle.fl_honest.specs.Reasons.{LeadsNowhere, IsUsedUp as UsedUp, LeadsOverUsedUp, HasNoPlace, Refuses, RefusesWish, FoundNoPlace, WasFull, RefusesOne, IsRefused, DesksTellReasons, RefusedForReason}
 use Rattle.fl_honest.specs.Runs.{AreSetUp}
+use Rattle.fl_honest.specs.Sitting.{EndsSit}
 use Rattle.fl_endings.specs.Begins.{Ran, refusal_by}
-use Rattle.fl_endings.specs.Cores.{OneCore as EndedCore}
+use Rattle.fl_endings.proofs.Few.{settles}
 use Rattle.fl_threads.specs.Begins.{TheStation}
 use Rattle.fl_threads.specs.Tells.{TheOutcome, RanTo, Each2}
 use Rattle.fl_cores.specs.Promised.{Reports}
 use Rattle.fl_reports.specs.Cores.{joined_in, cores_in}
 use Rattle.fl_reports.specs.Outcomes.{ReportsAreOfRuns}
-use Rattle.fl_reports.specs.Reasons.{behind, IsAsked, IsUnlinked, IsUsedUp, IsSpent, SitsAt, IsFull, IsServiceFull, IsCrowded, HasReason, RefusalsHaveReasons}
+use Rattle.fl_reports.specs.Reasons.{IsUnlinked, IsUsedUp, IsSpent, SitsAt, IsFull, IsServiceFull, IsCrowded, HasReason, RefusalsHaveReasons}
 use Rattle.fl_reports.specs.Runs.{AreRuns}
-use Rattle.fl_reports.proofs.CoresStations.{at_core, as_many_cores}
-use Rattle.fl_reports.proofs.ReasonsFull.{ends_apart, sits_there, still_sits, still_many, own_service, lacks_what, no_place_why}
+use Rattle.fl_reports.specs.Wanted.{behind, IsWanted}
+use Rattle.fl_reports.proofs.CoresStations.{as_many_cores}
+use Rattle.fl_reports.proofs.Opener.{shown, Opener, opener, asked_at, service_at}
+use Rattle.fl_reports.proofs.ReasonsFull.{ends_of, still_many, own_service, lacks_what, no_place_why}
 use Rattle.fl_reports.proofs.ReasonsSetUp.{stands_on, starts_as, made_as, as_many_dispatchers, no_link, its_core}
 use Rattle.fl_reports.proofs.Runs.{is_there, run_at, as_many}
 use Rattle.fl_reports.proofs.SidesCross.{SideLaws}
 use Rattle.fl_reports.proofs.StartBindings.{TheBeginning, IsBegun}
+use Rattle.fl_reports.proofs.Twins.{twin}
+use Rattle.fl_reports.proofs.WantedEnds.{same_dispatcher, at_core, sits_wanted}
 use Rattle.fl_reports.proofs.Whole.{beginning, begun, set_up}
-use Rattle.fl_reports.proofs.Wishes.{step_of, MayGo, may_go, position_below, some_below, IsService, its_service}
+use Rattle.fl_reports.proofs.Wishes.{step_of, MayGo, may_go, position_below, some_below, IsService}
 
 -- ---- logs in which memory was never wanted for an opening
 
@@ -107,7 +109,7 @@ told_number number fault told = told_by number fault (number == 0) refl told
 
 -- ---- a report
 
-module _ (names_agree : NamesAreShown) (fresh : SetUpsStartFresh) (tell : DesksTellReasons) (for_reason : RefusedForReason) (runs : ReportsAreOfRuns) (c : TheConfig) (asked : List Job) (limit : ℕ) (r : TheReport) (x : Reports c asked limit r) (cores : List OneCore)
+module _ (names_agree : NamesAreShown) (fresh : SetUpsStartFresh) (tell : DesksTellReasons) (for_reason : RefusedForReason) (sit : EndsSit) (runs : ReportsAreOfRuns) (c : TheConfig) (asked : List Job) (limit : ℕ) (r : TheReport) (x : Reports c asked limit r) (cores : List OneCore)
     (are : AreRuns x.ran.ran.joined.jobs x.ran.ran.ran.stations x.ran.ran.ran.outcomes cores) (ample : AllAmple cores)
     (set : AreSetUp asked x.ran.ran.joined cores x.ran.parts.names (map program_of x.ran.parts.programs.items)) where
   abbrev j : TheJoined
@@ -115,31 +117,6 @@ module _ (names_agree : NamesAreShown) (fresh : SetUpsStartFresh) (tell : DesksT
 
   ran : Ran asked (joined_in x) limit (cores_in x) r
   ran = runs c asked limit r x
-
-  -- one of the cores, as the laws of endings have it: it began and ended as the laws of honesty have it
-  record Twin (i : ℕ) (two : OneCore) : Type 0 where
-    pub one : EndedCore
-    pub one_is : slice_get (cores_in x) i ≡ Some one
-    pub start : two.start ≡ one.begin.run
-    pub finish : two.finish ≡ one.finish
-
-  twin : (i : ℕ) (two : OneCore) → slice_get cores i ≡ Some two → Twin i two
-  twin i two two_is =
-      let every = x.ran.ran.ran in
-      let many = as_many j.jobs every.stations every.outcomes cores are in
-      let all_many = as_many_cores j.jobs limit every.stations every.outcomes every.ran in
-      let inside = slice_get_within cores i two two_is in
-      let (one, one_is) = is_there (cores_in x) i (omega (arith, many, all_many, inside)) in
-      let at = at_core j.jobs limit every.stations every.outcomes every.ran i one one_is in
-      let run = run_at j.jobs every.stations every.outcomes cores are i two two_is in
-      let stations : run.station ≡ at.station = same_Some run.station at.station (sym run.station_is ∙ at.station_is) in
-      let outcomes : run.outcome ≡ at.outcome = same_Some run.outcome at.outcome (sym run.outcome_is ∙ at.outcome_is) in
-      record {
-        one = one;
-        one_is = one_is;
-        start = run.is.start ∙ ap (λ (s : TheStation). s.run) stations ∙ ap (λ (y : EndedCore). y.begin.run) at.core_is;
-        finish = run.is.finish ∙ ap (λ (o : TheOutcome). o.run) outcomes ∙ ap (λ (y : EndedCore). y.finish) at.core_is;
-      }
 
   -- ---- what was asked for
 
@@ -149,47 +126,18 @@ module _ (names_agree : NamesAreShown) (fresh : SetUpsStartFresh) (tell : DesksT
   begins : IsBegun all
   begins = begun fresh c asked limit r x cores are
 
-  shown : Shows x.ran.made.world (behind c)
-  shown = x.ran.made.stands.1.shown
-
-  many : length x.ran.parts.bindings.items ≡ length (behind c).bindings
-  many = ap length x.ran.made.parts.bindings ∙ shown.picture.bindings.count
-
-  -- a core's job that opens binding n, and what is wished for there
-  record Opener (n : ℕ) (b : Bound) (w : Wish) : Type 0 where
-    pub is : IsWished x.ran.parts.names x.ran.parts.cores.items (length x.ran.parts.bindings.items) asked j.bindings w
-    pub binding : w.opening.binding ≡ n
-    pub bound : is.bound ≡ b
-    pub client : is.wish.client.core ≡ b.client
-
-  opener : (n : ℕ) (b : Bound) → slice_get j.bindings n ≡ Some b → (place : ℕ) (w : Wish) → slice_get j.jobs place ≡ Some (job.Open w)
-      → client_of w.opening.binding ≡ client_of n → Opener n b w
-  opener n b bound place w job_is end_is =
-      let i = x.ran.ran.are_wished place w job_is in
-      let binding : w.opening.binding ≡ n = ap (λ (e : EndId). e.binding) end_is in
-      let same : i.bound ≡ b = same_Some i.bound b (sym i.bound_is ∙ ap (slice_get j.bindings) binding ∙ bound) in
-      record { is = i; binding = binding; bound = same; client = sym i.client ∙ ap (λ (y : Bound). y.client) same }
-
-  abbrev asked_at : (n : ℕ) (b : Bound) (w : Wish) → Opener n b w → IsAsked c asked n
-  asked_at n b w o = record {
-    place = o.is.place;
-    number = sym o.binding ∙ o.is.number ∙ ap (λ (k : ℕ). k + o.is.place) many;
-    wish = o.is.wish;
-    wish_is = o.is.wish_is;
-  }
-
   -- its route may be asked for, by the table with which its core began
-  goes_on : (n : ℕ) (b : Bound) (w : Wish) → Opener n b w → (two : OneCore) → slice_get cores b.client ≡ Some two
+  goes_on : (n : ℕ) (b : Bound) (w : Wish) → Opener x n b w → (two : OneCore) → slice_get cores b.client ≡ Some two
       → MayGo two.start.core.monitor.circuits w.opening.path w.link.0
   goes_on n b w o two two_is =
       let at = o.is.asks.begins in
-      let (k, k_is) = its_core all begins (behind c) shown b.client two two_is in
+      let (k, k_is) = its_core all begins (behind c) (shown x) b.client two two_is in
       let there : slice_get x.ran.made.world.cores b.client ≡ Some at.core =
       ap (λ (ks : List TheCore). slice_get ks b.client) (sym x.ran.made.parts.cores) ∙ ap (slice_get x.ran.parts.cores.items) (sym o.client) ∙ at.core_is in
-      subst (λ (t : TheCircuits). MayGo t w.opening.path w.link.0) (sym (made_as all begins (behind c) shown b.client two two_is k k_is at.core there))
+      subst (λ (t : TheCircuits). MayGo t w.opening.path w.link.0) (sym (made_as all begins (behind c) (shown x) b.client two two_is k k_is at.core there))
       (may_go at.core.monitor.circuits w.opening.path o.is.bound.server (length x.ran.parts.cores.items) w.link.0 at.begins)
 
-  apart_on : (n : ℕ) (b : Bound) (w : Wish) → Opener n b w → all_differ w.opening.path ≡ true
+  apart_on : (n : ℕ) (b : Bound) (w : Wish) → Opener x n b w → all_differ w.opening.path ≡ true
   apart_on n b w o =
       let at = o.is.asks.begins in
       (may_go at.core.monitor.circuits w.opening.path o.is.bound.server (length x.ran.parts.cores.items) w.link.0 at.begins).apart
@@ -197,16 +145,16 @@ module _ (names_agree : NamesAreShown) (fresh : SetUpsStartFresh) (tell : DesksT
   -- ---- no link
 
   -- a core to which the route leads from one of the cores, and to which that has no link
-  gap : (n : ℕ) (b : Bound) (w : Wish) → Opener n b w → (i : ℕ) (one : OneCore) → slice_get cores i ≡ Some one
+  gap : (n : ℕ) (b : Bound) (w : Wish) → Opener x n b w → (i : ℕ) (one : OneCore) → slice_get cores i ≡ Some one
       → LeadsNowhere one.start.core.monitor.circuits w.opening.path → IsUnlinked c asked n
   gap n b w o i one one_is lost = elim lost.none [
     | inl none ↦
         (let s = stands_on w.opening.path one.start.core.monitor.circuits.core lost.next lost.next_is in
         let number : s.here.0 ≡ i = s.same ∙ set.numbered i one one_is in
         record {
-          asked = asked_at n b w o;
+          asked = asked_at x n b w o;
           step = step_of w.opening.path o.is.wish.route o.is.asks.route s.place s.here lost.next s.here_is s.next_is;
-          none = ap (λ (m : ℕ). has_link m lost.next.0 (behind c)) number ∙ no_link all begins (behind c) shown i one one_is lost.next.0 none;
+          none = ap (λ (m : ℕ). has_link m lost.next.0 (behind c)) number ∙ no_link all begins (behind c) (shown x) i one one_is lost.next.0 none;
         })
     | inr twice ↦ absurd (let once = apart_on n b w o in cc (once, twice))
   ]
@@ -218,14 +166,14 @@ module _ (names_agree : NamesAreShown) (fresh : SetUpsStartFresh) (tell : DesksT
       let (l, l_is) = is_there t.links link below in
       let clash : Some l ≡ None = sym l_is ∙ none in absurd (cc)
 
-  unlinked_own : (n : ℕ) (b : Bound) (w : Wish) → Opener n b w → (two : OneCore) → slice_get cores b.client ≡ Some two
+  unlinked_own : (n : ℕ) (b : Bound) (w : Wish) → Opener x n b w → (two : OneCore) → slice_get cores b.client ≡ Some two
       → RefusesWish (WasFull j.jobs two.finish) two.start.core.monitor.circuits two.finish.core.monitor.circuits w 73 → IsUnlinked c asked n
   unlinked_own n b w o two two_is (inl full) = absurd (let is = full.0 in omega (arith, is))
   unlinked_own n b w o two two_is (inr (inl lost)) =
       absurd (begins_there two.start.core.monitor.circuits w.opening.path w.link.0 (goes_on n b w o two two_is) lost.1)
   unlinked_own n b w o two two_is (inr (inr used)) = absurd (let is = used.0 in omega (arith, is))
 
-  unlinked_other : (n : ℕ) (b : Bound) (w : Wish) → Opener n b w → (y : RefusesOne j.jobs cores w.opening 73)
+  unlinked_other : (n : ℕ) (b : Bound) (w : Wish) → Opener x n b w → (y : RefusesOne j.jobs cores w.opening 73)
       → Refuses y.core.start.offers.names (FoundNoPlace j.jobs y.core) y.core.start.core.monitor.circuits y.core.finish.core.monitor.circuits w.opening 73
       → IsUnlinked c asked n
   unlinked_other n b w o y (inl full) = absurd (let is = full.0 in omega (arith, is))
@@ -235,7 +183,7 @@ module _ (names_agree : NamesAreShown) (fresh : SetUpsStartFresh) (tell : DesksT
   unlinked_by : (n : ℕ) (b : Bound) → slice_get j.bindings n ≡ Some b → (one : OneCore) → slice_get cores b.client ≡ Some one
       → IsRefused j.jobs cores one (client_of n) 73 → IsUnlinked c asked n
   unlinked_by n b bound one one_is y =
-      let o = opener n b bound y.place y.wish y.job_is y.end_is in
+      let o = opener x n b bound y.place y.wish y.job_is y.end_is in
       elim y.why [
         | inl own ↦ unlinked_own n b y.wish o one one_is own
         | inr other ↦ unlinked_other n b y.wish o other other.why
@@ -246,18 +194,18 @@ module _ (names_agree : NamesAreShown) (fresh : SetUpsStartFresh) (tell : DesksT
   -- a core gave all its numbers on a link
   used_at : (i : ℕ) (two : OneCore) → slice_get cores i ≡ Some two → (l : ℕ) → UsedUp two.finish.core.monitor.circuits l → IsUsedUp x i l
   used_at i two two_is l used =
-      let t = twin i two two_is in
+      let t = twin x cores are i two two_is in
       record { core = t.one; core_is = t.one_is; used_up = subst (λ (s : TheRun TheSide). UsedUp s.core.monitor.circuits l) t.finish used }
 
   -- one that the route leads on from it
-  over : (n : ℕ) (b : Bound) (w : Wish) → Opener n b w → (i : ℕ) (two : OneCore) → slice_get cores i ≡ Some two → (place : ℕ) (here next : CoreId)
+  over : (n : ℕ) (b : Bound) (w : Wish) → Opener x n b w → (i : ℕ) (two : OneCore) → slice_get cores i ≡ Some two → (place : ℕ) (here next : CoreId)
       → slice_get w.opening.path place ≡ Some here → slice_get w.opening.path (place + 1) ≡ Some next → here.0 ≡ i → (link : ℕ)
       → link_of two.start.core.monitor.circuits next.0 ≡ Some link → UsedUp two.finish.core.monitor.circuits link → IsSpent x n
   over n b w o i two two_is place here next here_is next_is number link link_is used =
-      let (k, k_is) = its_core all begins (behind c) shown i two two_is in
-      let table = starts_as all begins (behind c) shown i two two_is k k_is in
+      let (k, k_is) = its_core all begins (behind c) (shown x) i two two_is in
+      let table = starts_as all begins (behind c) (shown x) i two two_is k k_is in
       record {
-        asked = asked_at n b w o;
+        asked = asked_at x n b w o;
         step = step_of w.opening.path o.is.wish.route o.is.asks.route place here next here_is next_is;
         core = k;
         core_is = ap (core_of (behind c)) number ∙ k_is;
@@ -266,7 +214,7 @@ module _ (names_agree : NamesAreShown) (fresh : SetUpsStartFresh) (tell : DesksT
         used_up = subst (λ (m : ℕ). IsUsedUp x m link) (sym number) (used_at i two two_is link used);
       }
 
-  spent_own : (n : ℕ) (b : Bound) (w : Wish) → Opener n b w → (two : OneCore) → slice_get cores b.client ≡ Some two
+  spent_own : (n : ℕ) (b : Bound) (w : Wish) → Opener x n b w → (two : OneCore) → slice_get cores b.client ≡ Some two
       → RefusesWish (WasFull j.jobs two.finish) two.start.core.monitor.circuits two.finish.core.monitor.circuits w 74 → IsSpent x n
   spent_own n b w o two two_is (inl full) = absurd (let is = full.0 in omega (arith, is))
   spent_own n b w o two two_is (inr (inl lost)) = absurd (let is = lost.0 in omega (arith, is))
@@ -274,7 +222,7 @@ module _ (names_agree : NamesAreShown) (fresh : SetUpsStartFresh) (tell : DesksT
       let go = goes_on n b w o two two_is in
       over n b w o b.client two two_is 0 go.here go.next go.here_is go.next_is (go.same ∙ set.numbered b.client two two_is) w.link.0 go.link_is used.1
 
-  spent_other : (n : ℕ) (b : Bound) (w : Wish) → Opener n b w → (y : RefusesOne j.jobs cores w.opening 74)
+  spent_other : (n : ℕ) (b : Bound) (w : Wish) → Opener x n b w → (y : RefusesOne j.jobs cores w.opening 74)
       → Refuses y.core.start.offers.names (FoundNoPlace j.jobs y.core) y.core.start.core.monitor.circuits y.core.finish.core.monitor.circuits w.opening 74
       → IsSpent x n
   spent_other n b w o y (inl full) = absurd (let is = full.0 in omega (arith, is))
@@ -287,7 +235,7 @@ module _ (names_agree : NamesAreShown) (fresh : SetUpsStartFresh) (tell : DesksT
   spent_by : (n : ℕ) (b : Bound) → slice_get j.bindings n ≡ Some b → (one : OneCore) → slice_get cores b.client ≡ Some one
       → IsRefused j.jobs cores one (client_of n) 74 → IsSpent x n
   spent_by n b bound one one_is y =
-      let o = opener n b bound y.place y.wish y.job_is y.end_is in
+      let o = opener x n b bound y.place y.wish y.job_is y.end_is in
       elim y.why [
         | inl own ↦ spent_own n b y.wish o one one_is own
         | inr other ↦ spent_other n b y.wish o other other.why
@@ -295,18 +243,29 @@ module _ (names_agree : NamesAreShown) (fresh : SetUpsStartFresh) (tell : DesksT
 
   -- ---- places that are taken
 
-  -- where a dispatcher was full, as many ends sit there as the core ended
-  full_at : (i : ℕ) (two : OneCore) → slice_get cores i ≡ Some two → (d : ℕ) → WasFull j.jobs two.finish d → IsFull x i d
+  -- where a dispatcher was full, the ends that were there are wanted there, and sit there as the core ended
+  full_at : (i : ℕ) (two : OneCore) → slice_get cores i ≡ Some two → (d : ℕ) → WasFull j.jobs two.finish d → IsFull x (at_core i d)
   full_at i two two_is d f =
-      let t = twin i two two_is in
+      let t = twin x cores are i two two_is in
+      let k = f.moment.core in
+      let its = ends_of k f.sound d f.dispatcher f.dispatcher_is f.full in
+      let still = λ (m : ℕ) (below : m < 1024). (let y = its.named m below in
+      settles j.jobs f.log f.moment two.finish f.goes (its.ends m) y.place y.seat y.place_is y.seat_is) in
       record {
         core = t.one;
         core_is = t.one_is;
-        ends = λ k. get_or f.dispatcher.ends k 0;
-        apart = λ a b below more same. ends_apart f.moment.core.board f.board d f.dispatcher f.dispatcher_is f.full a b below more same;
-        sits = λ k below. subst (λ (s : TheRun TheSide). SitsAt s.core.board d (get_or f.dispatcher.ends k 0)) t.finish
-            (still_sits j.jobs f.log f.moment two.finish f.goes d (get_or f.dispatcher.ends k 0)
-            (sits_there f.moment.core.board f.board d f.dispatcher f.dispatcher_is f.full k below));
+        ends = its.ends;
+        apart = its.apart;
+        wanted = λ m below.
+            (let (after, at, there, same) = still m below in
+            let y = its.named m below in
+            subst (λ (n : ℕ). IsWanted c asked (at_core i n) (its.ends m)) (same ∙ y.dispatcher_is)
+            (sits_wanted names_agree fresh sit x cores are set i two two_is (its.ends m) y.place after at there));
+        sits = λ m below.
+            (let (after, at, there, same) = still m below in
+            let y = its.named m below in
+            subst (λ (u : TheRun TheSide). SitsAt u.core d (its.ends m)) t.finish
+            (record { place = y.place; place_is = at; seat = after; seat_is = there; dispatcher_is = same ∙ y.dispatcher_is }));
       }
 
   -- the dispatcher of a service is there whenever its core looks for a place, and so is its program
@@ -314,7 +273,7 @@ module _ (names_agree : NamesAreShown) (fresh : SetUpsStartFresh) (tell : DesksT
       → (k : Core) → core_of (behind c) i ≡ Some k → (d : ℕ) → d < length k.dispatchers → slice_get f.core.board.dispatchers d ≡ None → ⊥
   dispatcher_there i two two_is f log goes k k_is d below none =
       let run = run_at j.jobs x.ran.ran.ran.stations x.ran.ran.ran.outcomes cores are i two two_is in
-      let first = as_many_dispatchers all begins (behind c) shown i two two_is k k_is in
+      let first = as_many_dispatchers all begins (behind c) (shown x) i two two_is k k_is in
       let later = still_many j.jobs two.log two.start two.finish run.is.goes in
       let last = still_many j.jobs log f two.finish goes in
       let (y, y_is) = is_there f.core.board.dispatchers d (omega (arith, below, first, later, last)) in
@@ -329,7 +288,7 @@ module _ (names_agree : NamesAreShown) (fresh : SetUpsStartFresh) (tell : DesksT
       let both = ap length (set.programmed i two two_is) in
       let made = ap length x.ran.made.parts.programs in
       let drawn = length-map x.ran.made.world.programs planned_of in
-      let all_of = ap length shown.picture.programs in
+      let all_of = ap length (shown x).picture.programs in
       absurd (omega (arith, first, one, two_of, both, made, drawn, all_of, below, past))
 
   -- a service's own core found no place for it: its dispatcher is full
@@ -342,23 +301,23 @@ module _ (names_agree : NamesAreShown) (fresh : SetUpsStartFresh) (tell : DesksT
       let at_home : g.service.core.0 ≡ two.start.core.monitor.circuits.core = own_service two.start.offers.names two.start.core.monitor.circuits.core o.service.0 g found h.own in
       let number : g.service.core.0 ≡ i = at_home ∙ set.numbered i two two_is in
       let there : by_iref o.service.0 f.moment.offers.names ≡ Some g = ap (λ (y : Offers). by_iref o.service.0 y.names) f.offers ∙ found in
-      let (k, k_is) = its_core all begins (behind c) shown i two two_is in
+      let (k, k_is) = its_core all begins (behind c) (shown x) i two two_is in
       let core_is : s.service.dispatcher.core ≡ i = sym (ap (λ (y : Offer). y.core.0) s.offer) ∙ number in
       let place_is : g.service.dispatcher ≡ s.service.dispatcher.place = ap (λ (y : Offer). y.dispatcher) s.offer in
       let interface_is : g.service.interface ≡ s.service.interface = ap (λ (y : Offer). y.interface) s.offer in
-      let stands = shown.sound.services s.place s.service s.service_is in
+      let stands = (shown x).sound.services s.place s.service s.service_is in
       let k_there : core_of (behind c) s.service.dispatcher.core ≡ Some k = ap (core_of (behind c)) core_is ∙ k_is in
       let below : s.service.dispatcher.place < length k.dispatchers =
       some_below k.dispatchers s.service.dispatcher.place
       (subst (λ (q : Option Core). IsSome (in_machine q None λ y. slice_get y.dispatchers s.service.dispatcher.place)) k_there stands.0) in
-      let full : IsFull x i g.service.dispatcher = elim (lacks_what f.moment.offers f.moment.core o.service.0 g there (at_home ∙ sym f.number) f.none) [
-        | inl full ↦ elim (no_place_why f.moment.core.board f.board g.service.dispatcher full) [
+      let full : IsFull x (at_core i g.service.dispatcher) = elim (lacks_what f.moment.offers f.moment.core o.service.0 g there (at_home ∙ sym f.number) f.none) [
+        | inl full ↦ elim (no_place_why f.moment.core.board f.sound.board g.service.dispatcher full) [
           | inl none ↦ absurd (dispatcher_there i two two_is f.moment f.log f.goes k k_is g.service.dispatcher (omega (arith, below, place_is)) none)
           | inr taken ↦ full_at i two two_is g.service.dispatcher (record {
             moment = f.moment;
             log = f.log;
             goes = f.goes;
-            board = f.board;
+            sound = f.sound;
             dispatcher = taken.0;
             dispatcher_is = taken.1;
             full = taken.2;
@@ -368,32 +327,31 @@ module _ (names_agree : NamesAreShown) (fresh : SetUpsStartFresh) (tell : DesksT
             (let known = some_below (behind c).interfaces s.service.interface stands.1 in omega (arith, known, interface_is)) past)
       ] in
       record {
-        place = s.place;
-        place_is = s.place_is;
-        service = s.service;
-        service_is = s.service_is;
-        full = subst (λ (m : ℕ). IsFull x m s.service.dispatcher.place) (sym core_is) (subst (λ (d : ℕ). IsFull x i d) place_is full);
+        dispatcher = s.service.dispatcher;
+        exported = record { place = s.place; place_is = s.place_is; service = s.service; service_is = s.service_is; dispatcher = refl };
+        full = subst (λ (d : DispatcherId). IsFull x d)
+            (sym (same_dispatcher s.service.dispatcher (at_core i g.service.dispatcher) core_is (sym place_is))) full;
       }
 
-  crowded_own : (n : ℕ) (b : Bound) (w : Wish) → Opener n b w → (two : OneCore) → slice_get cores b.client ≡ Some two
+  crowded_own : (n : ℕ) (b : Bound) (w : Wish) → Opener x n b w → (two : OneCore) → slice_get cores b.client ≡ Some two
       → RefusesWish (WasFull j.jobs two.finish) two.start.core.monitor.circuits two.finish.core.monitor.circuits w 54 → IsCrowded x n
   crowded_own n b w o two two_is (inl full) = record {
-    asked = asked_at n b w o;
-    why = inl (subst (λ (m : ℕ). IsFull x m o.is.wish.client.place) (sym o.client)
-        (subst (λ (d : ℕ). IsFull x b.client d) o.is.asks.dispatcher (full_at b.client two two_is w.dispatcher full.1)));
+    asked = asked_at x n b w o;
+    why = inl (subst (λ (d : DispatcherId). IsFull x d)
+        (sym (same_dispatcher o.is.wish.client (at_core b.client w.dispatcher) o.client (sym o.is.asks.dispatcher)))
+        (full_at b.client two two_is w.dispatcher full.1));
   }
   crowded_own n b w o two two_is (inr (inl lost)) = absurd (let is = lost.0 in omega (arith, is))
   crowded_own n b w o two two_is (inr (inr used)) = absurd (let is = used.0 in omega (arith, is))
 
-  crowded_other : (n : ℕ) (b : Bound) (w : Wish) → Opener n b w → (y : RefusesOne j.jobs cores w.opening 54)
+  crowded_other : (n : ℕ) (b : Bound) (w : Wish) → Opener x n b w → (y : RefusesOne j.jobs cores w.opening 54)
       → Refuses y.core.start.offers.names (FoundNoPlace j.jobs y.core) y.core.start.core.monitor.circuits y.core.finish.core.monitor.circuits w.opening 54
       → IsCrowded x n
   crowded_other n b w o y (inl full) =
       let g = o.is.asks.service in
-      let shows : NamesShow (behind c).services x.ran.parts.names = x.ran.made.parts.names ∙ shown.picture.names in
-      let s = its_service names_agree (behind c).services x.ran.parts.names shows o.is.wish.service g.registration g.named in
+      let s = service_at x names_agree n b w o in
       record {
-        asked = asked_at n b w o;
+        asked = asked_at x n b w o;
         why = inr (service_full y.place y.core y.core_is w.opening g.registration g.registered o.is.wish.service s full.1);
       }
   crowded_other n b w o y (inr (inl lost)) = absurd (let is = lost.0 in omega (arith, is))
@@ -402,7 +360,7 @@ module _ (names_agree : NamesAreShown) (fresh : SetUpsStartFresh) (tell : DesksT
   crowded_by : (n : ℕ) (b : Bound) → slice_get j.bindings n ≡ Some b → (one : OneCore) → slice_get cores b.client ≡ Some one
       → IsRefused j.jobs cores one (client_of n) 54 → IsCrowded x n
   crowded_by n b bound one one_is y =
-      let o = opener n b bound y.place y.wish y.job_is y.end_is in
+      let o = opener x n b bound y.place y.wish y.job_is y.end_is in
       elim y.why [
         | inl own ↦ crowded_own n b y.wish o one one_is own
         | inr other ↦ crowded_other n b y.wish o other other.why
@@ -426,7 +384,7 @@ module _ (names_agree : NamesAreShown) (fresh : SetUpsStartFresh) (tell : DesksT
       let all_many = as_many_cores j.jobs limit x.ran.ran.ran.stations x.ran.ran.ran.outcomes x.ran.ran.ran.ran in
       let below = ran.joined.bindings.client n b bound in
       let (two, two_is) = is_there cores b.client (omega (arith, many, all_many, below)) in
-      let t = twin b.client two two_is in
+      let t = twin x cores are b.client two two_is in
       let none : refusal_at two.start e ≡ 0 = ap (λ (s : TheRun TheSide). refusal_at s e) t.start
       ∙ none_stands t.one.begin.run e (λ d is. ((ran.begins b.client t.one t.one_is).untouched e d is).refused) in
       let (number, some) = told_number (refusal_at t.one.finish e) fault (sym (ran.desks.refused n b t.one bound t.one_is) ∙ told) in
@@ -440,8 +398,8 @@ module _ (names_agree : NamesAreShown) (fresh : SetUpsStartFresh) (tell : DesksT
   by_bound n fault None is told = absurd (let clash : None ≡ Some fault = sym (ran.desks.no_refusal n is) ∙ told in cc)
   by_bound n fault (Some b) is told = at_client n fault b is told
 
-pub refusals_have : NamesAreShown → SetUpsStartFresh → CoresGoAmply → SideLaws → LeadsAtFirst → DesksTellReasons → RefusedForReason → ReportsAreOfRuns → RefusalsHaveReasons
-refusals_have names_agree fresh go l first tell for_reason runs c asked limit r x n fault told =
+pub refusals_have : NamesAreShown → SetUpsStartFresh → CoresGoAmply → SideLaws → LeadsAtFirst → DesksTellReasons → RefusedForReason → EndsSit → ReportsAreOfRuns → RefusalsHaveReasons
+refusals_have names_agree fresh go l first tell for_reason sit runs c asked limit r x n fault told =
     let f = x.ran.ran in
     let (cores, are, ample) = ample_runs go f.joined.jobs limit f.ran.stations f.ran.outcomes f.ran.ran in
-    by_bound names_agree fresh tell for_reason runs c asked limit r x cores are ample (set_up fresh c asked limit r x cores are l first) n fault (slice_get f.joined.bindings n) refl told
+    by_bound names_agree fresh tell for_reason sit runs c asked limit r x cores are ample (set_up fresh c asked limit r x cores are l first) n fault (slice_get f.joined.bindings n) refl told

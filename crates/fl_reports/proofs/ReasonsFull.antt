@@ -2,7 +2,9 @@
 use Rattle.std.proofs.Common.{◌≡◌, ◌⊎◌, inl, inr, refl, sym, ap, ◌∙◌, subst, ℕ, ◌<◌, ◌≤◌, ◌==◌, ◌&&◌, not, nat_lt, if◌then◌else◌, Bool, true, false, List, [], ◌∷◌, length, slice_get, get_or}
 use Rattle.std.proofs.Common.{Option, Some, None, arith}
 use Rattle.std.proofs.lemmas.Bool.Decides.{nat_tests}
-use Rattle.std.proofs.lemmas.Option.{get_or_from_slice_get}
+use Rattle.std.proofs.lemmas.List.{length-map}
+use Rattle.std.proofs.lemmas.Option.{same_Some, slice_get_within, get_or_from_slice_get}
+use Rattle.fl_base.specs.declared.identity.EndId.{EndId}
 use Rattle.fl_nameserv.specs.Registrations.{TheRegistration, by_iref}
 use Rattle.fl_ring.specs.SharedSides.{TheSide}
 use Rattle.fl_core.proofs.Places.{one_stands}
@@ -12,15 +14,16 @@ use Rattle.fl_monitor.specs.Fates.{is_offered_elsewhere}
 use Rattle.fl_monitor.specs.Routing.{given}
 use Rattle.fl_node.specs.declared.hearing.Offered.{Offered}
 use Rattle.fl_node.specs.Hearing.{Offers, has_place, may_offer, offer_of}
-use Rattle.fl_node.specs.View.{TheCore}
+use Rattle.fl_node.specs.declared.wire.Port.{Port}
+use Rattle.fl_node.specs.View.{TheCore, place_of, client_of}
 use Rattle.fl_running.specs.declared.job.Job.{Job}
-use Rattle.fl_running.specs.Deeds.{Deed}
+use Rattle.fl_running.specs.Deeds.{Deed, IsSound}
 use Rattle.fl_running.specs.Logs.{Goes}
 use Rattle.fl_running.specs.Run.{TheRun}
 use Rattle.fl_running.proofs.Aside.{core_aside}
+use Rattle.fl_running.proofs.Leading.{as_many}
 use Rattle.fl_endings.proofs.Seats.{Keeps, keeps_same, keeps_then, does_keep}
 use Rattle.fl_honest.specs.Cores.{shared_ways}
-use Rattle.fl_reports.specs.Reasons.{SitsAt}
 use Rattle.fl_reports.proofs.Runs.{is_there}
 
 -- ---- ends of a full dispatcher
@@ -32,16 +35,51 @@ module _ (b : TheBoard) (board : IsBoard b) (d : ℕ) (x : TheDispatcher) (at : 
       let (e, there) = is_there x.ends k (omega (arith, below, full)) in
       subst (HasChannel b.seats d k) (sym (get_or_from_slice_get x.ends k e 0 there)) ((board.dispatchers d x at).ends k e there)
 
-  pub sits_there : (k : ℕ) → k < 1024 → SitsAt b d (get_or x.ends k 0)
-  sits_there k below = let h = channel k below in record { seat = h.seat; seat_is = h.seat_is; dispatcher_is = h.dispatcher_is }
-
   -- and no two are one end's
-  pub ends_apart : (i k : ℕ) → i < 1024 → k < 1024 → get_or x.ends i 0 ≡ get_or x.ends k 0 → i ≡ k
+  ends_apart : (i k : ℕ) → i < 1024 → k < 1024 → get_or x.ends i 0 ≡ get_or x.ends k 0 → i ≡ k
   ends_apart i k below more same =
       let one = channel i below in
       let two = channel k more in
       let seats : one.seat ≡ two.seat = one_stands b.seats (get_or x.ends i 0) one.seat two.seat one.seat_is (ap (slice_get b.seats) same ∙ two.seat_is) in
       sym one.channel_is ∙ ap (λ (s : TheSeat). s.channel) seats ∙ two.channel_is
+
+-- the end of a name, where it sits
+pub record SitsOn (k : TheCore) (d : ℕ) (e : EndId) : Type 0 where
+  pub place : ℕ
+  pub place_is : place_of k e ≡ Some place
+  pub seat : TheSeat
+  pub seat_is : slice_get k.board.seats place ≡ Some seat
+  pub dispatcher_is : seat.dispatcher ≡ d
+
+-- 1,024 of them, each another
+pub record HasEnds (k : TheCore) (d : ℕ) : Type 0 where
+  pub ends : ℕ → EndId
+  pub named : (i : ℕ) → i < 1024 → SitsOn k d (ends i)
+  pub apart : (i m : ℕ) → i < 1024 → m < 1024 → ends i ≡ ends m → i ≡ m
+
+module _ (k : TheCore) (sound : IsSound k) (d : ℕ) (x : TheDispatcher) (at : slice_get k.board.dispatchers d ≡ Some x) (full : length x.ends ≡ 1024) where
+  abbrev end_at : ℕ → EndId
+  end_at i = given (slice_get k.ports (get_or x.ends i 0)) (client_of 0) (λ (p : Port). p.name)
+
+  placed : (i : ℕ) → i < 1024 → place_of k (end_at i) ≡ Some (get_or x.ends i 0)
+  placed i below =
+      let h = channel k.board sound.board d x at full i below in
+      let inside = slice_get_within k.board.seats (get_or x.ends i 0) h.seat h.seat_is in
+      let ports = as_many k sound.core in
+      let seats = length-map k.board.seats (λ (s : TheSeat). s.end.circuit) in
+      let (p, p_is) = is_there k.ports (get_or x.ends i 0) (omega (arith, inside, ports, seats)) in
+      ap (place_of k) (ap (λ (o : Option Port). given o (client_of 0) (λ (q : Port). q.name)) p_is) ∙ sound.core.named (get_or x.ends i 0) p p_is
+
+  pub ends_of : HasEnds k d
+  ends_of = record {
+    ends = end_at;
+    named = λ i below.
+        (let h = channel k.board sound.board d x at full i below in
+        record { place = get_or x.ends i 0; place_is = placed i below; seat = h.seat; seat_is = h.seat_is; dispatcher_is = h.dispatcher_is });
+    apart = λ i m below more same.
+        ends_apart k.board sound.board d x at full i m below more
+        (same_Some (get_or x.ends i 0) (get_or x.ends m 0) (sym (placed i below) ∙ ap (place_of k) same ∙ placed m more));
+  }
 
 -- ---- over a log
 
@@ -53,11 +91,6 @@ goes_keep jobs (deed ∷ log) s t h =
     let aside : u.core ≡ m.core = core_aside m u deed h.1.2 in
     let one : Keeps s.core.board u.core.board = subst (λ (k : TheCore). Keeps s.core.board k.board) (sym aside) (does_keep shared_ways deed s m h.1.1) in
     keeps_then s.core.board u.core.board t.core.board one (goes_keep jobs log u t h.3)
-
-pub still_sits : (jobs : List Job) (log : List Deed) (s t : TheRun TheSide) → Goes shared_ways jobs s log t → (d place : ℕ) → SitsAt s.core.board d place → SitsAt t.core.board d place
-still_sits jobs log s t goes d place x =
-    let (seat, there, same) = (goes_keep jobs log s t goes).seats place x.seat x.seat_is in
-    record { seat = seat; seat_is = there; dispatcher_is = same ∙ x.dispatcher_is }
 
 -- there are as many dispatchers
 pub still_many : (jobs : List Job) (log : List Deed) (s t : TheRun TheSide) → Goes shared_ways jobs s log t

@@ -15,6 +15,7 @@ use Rattle.fl_cores.specs.Promised.{Reports}
 use Rattle.fl_reports.specs.Cores.{joined_in, cores_in}
 use Rattle.fl_reports.specs.Outcomes.{AreSetUpAt}
 use Rattle.fl_reports.specs.Reasons.{IsUnlinked, IsSpent, IsCrowded}
+use Rattle.fl_reports.specs.Wanted.{AreWanted}
 
 -- so many bindings the set-up makes; those that jobs open, over circuits, have the numbers behind them
 abbrev pub bindings_by : TheConfig → ℕ
@@ -35,12 +36,15 @@ pub record EndsAsTold {c : TheConfig} {jobs : List Job} {limit : ℕ} {r : TheRe
   pub unlinked : (n : ℕ) → refusal_of r n ≡ Some 73 → IsUnlinked c jobs n
   -- for want of a number only where a core of its route gave all that it has on its link to the next
   pub spent : (n : ℕ) → refusal_of r n ≡ Some 74 → IsSpent w n
-  -- and for want of a place only where 1,024 ends sit at its client's dispatcher or its service's
+  -- and for want of a place only where 1,024 ends are wanted at its client's dispatcher or its service's
   pub crowded : (n : ℕ) → refusal_of r n ≡ Some 54 → IsCrowded w n
   -- what ends that the set-up makes at one dispatcher handled is together at most the turns that are told of its core
   pub few : (d : DispatcherId) (ends : List EndId) (turns : ℕ) → AreSetUpAt c d ends → slice_get r.turns d.core ≡ Some turns
       → handled_at_all r.handled ends ≤ turns
-  -- so it is of the ends of any bindings, also of those that jobs opened, that sit at one dispatcher of a core in the end
+  -- so it is of all ends that are wanted at one dispatcher, of the set-up and of bindings that jobs open
+  pub few_wanted : (d : DispatcherId) (ends : List EndId) (turns : ℕ) → AreWanted c jobs d ends → slice_get r.turns d.core ≡ Some turns
+      → handled_at_all r.handled ends ≤ turns
+  -- and of the ends of any bindings that sit at one dispatcher of a core in the end
   pub few_there : (n d turns : ℕ) (core : OneCore) (ends : List EndId) → slice_get (cores_in w) n ≡ Some core → AreEnds (joined_in w) n core d ends
       → slice_get r.turns n ≡ Some turns → handled_at_all r.handled ends ≤ turns
 

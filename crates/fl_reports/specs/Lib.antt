@@ -2,6 +2,7 @@
 pub mod Cores
 pub mod Outcomes
 pub mod Runs
+pub mod Wanted
 pub mod Reasons
 pub mod Endings
 pub mod OneCore

@@ -1,34 +1,20 @@
 -- Why bindings are named as refused: by what jobs wish for, what the set-up made, and how cores ended. Public promises rest on this file.
-use Rattle.std.specs.Prelude.{ℕ, ◌≡◌, ◌⊎◌, ◌+◌, ◌<◌, false, List, length, slice_get, Some}
-use Rattle.std.specs.List.{flat_map}
-use Rattle.fl_core.specs.View.{TheSeat, TheBoard}
-use Rattle.fl_queues.specs.Binding.{place_of_service}
+use Rattle.std.specs.Prelude.{ℕ, ◌≡◌, ◌⊎◌, ◌+◌, ◌<◌, false, List, slice_get, Some}
+use Rattle.fl_base.specs.declared.identity.EndId.{EndId}
+use Rattle.fl_core.specs.View.{TheSeat}
+use Rattle.fl_node.specs.View.{TheCore, place_of}
+use Rattle.fl_queues.specs.Events.{DispatcherId}
 use Rattle.fl_queues.specs.Making.{has_link}
-use Rattle.fl_queues.specs.Monitors.{Core, Service, link_to}
-use Rattle.fl_queues.specs.Runs.{reached}
-use Rattle.fl_queues.specs.State.{State, core_of}
-use Rattle.fl_queues.specs.Worlds.{start_with}
-use Rattle.fl_jobs.specs.Jobs.{Wish, Job}
+use Rattle.fl_queues.specs.Monitors.{Core, link_to}
+use Rattle.fl_queues.specs.State.{core_of}
+use Rattle.fl_jobs.specs.Jobs.{Job}
 use Rattle.fl_jobs.specs.Report.{TheReport, refusal_of}
 use Rattle.fl_system.specs.Booting.{TheConfig}
-use Rattle.fl_dockets.specs.Whole.{wish_in}
 use Rattle.fl_honest.specs.Reasons.{IsReason, IsUsedUp as UsedUp}
 use Rattle.fl_endings.specs.Cores.{OneCore}
 use Rattle.fl_cores.specs.Promised.{Reports}
 use Rattle.fl_reports.specs.Cores.{cores_in}
-
--- ---- what is asked for
-
--- what the machine is behind the set-up
-abbrev pub behind : TheConfig → State
-behind c = reached (start_with c.cores) c.setup
-
--- what the job wishes for that opens binding n: those of the set-up come first, and behind them those that jobs open, in their order
-pub record IsAsked (c : TheConfig) (jobs : List Job) (n : ℕ) : Type 0 where
-  pub place : ℕ
-  pub number : n ≡ length (behind c).bindings + place
-  pub wish : Wish
-  pub wish_is : slice_get (flat_map wish_in jobs) place ≡ Some wish
+use Rattle.fl_reports.specs.Wanted.{behind, IsAsked, IsExported, IsWanted}
 
 -- a core of a route, and the one behind it
 pub record Step (route : List ℕ) : Type 0 where
@@ -66,32 +52,33 @@ pub record IsSpent {c : TheConfig} {jobs : List Job} {limit : ℕ} {r : TheRepor
 
 -- ---- no place (54)
 
--- the end at this place of a board sits at dispatcher d
-pub record SitsAt (b : TheBoard) (d place : ℕ) : Type 0 where
+-- the end of this name sits at dispatcher d of a core
+pub record SitsAt (k : TheCore) (d : ℕ) (e : EndId) : Type 0 where
+  pub place : ℕ
+  pub place_is : place_of k e ≡ Some place
   pub seat : TheSeat
-  pub seat_is : slice_get b.seats place ≡ Some seat
+  pub seat_is : slice_get k.board.seats place ≡ Some seat
   pub dispatcher_is : seat.dispatcher ≡ d
 
--- 1,024 ends, each another, sit at dispatcher d of core n, as that ended
-pub record IsFull {c : TheConfig} {jobs : List Job} {limit : ℕ} {r : TheReport} (w : Reports c jobs limit r) (n d : ℕ) : Type 0 where
+-- 1,024 ends, each another, are wanted at dispatcher d, and sit there as its core ended
+pub record IsFull {c : TheConfig} {jobs : List Job} {limit : ℕ} {r : TheReport} (w : Reports c jobs limit r) (d : DispatcherId) : Type 0 where
   pub core : OneCore
-  pub core_is : slice_get (cores_in w) n ≡ Some core
-  pub ends : ℕ → ℕ
+  pub core_is : slice_get (cores_in w) d.core ≡ Some core
+  pub ends : ℕ → EndId
   pub apart : (i k : ℕ) → i < 1024 → k < 1024 → ends i ≡ ends k → i ≡ k
-  pub sits : (i : ℕ) → i < 1024 → SitsAt core.finish.core.board d (ends i)
+  pub wanted : (i : ℕ) → i < 1024 → IsWanted c jobs d (ends i)
+  pub sits : (i : ℕ) → i < 1024 → SitsAt core.finish.core d.place (ends i)
 
--- the dispatcher of the service of this name is full, which the set-up exports
+-- so it is of the dispatcher of the service of this name
 pub record IsServiceFull {c : TheConfig} {jobs : List Job} {limit : ℕ} {r : TheReport} (w : Reports c jobs limit r) (name : List ℕ) : Type 0 where
-  pub place : ℕ
-  pub place_is : place_of_service name (behind c).services ≡ Some place
-  pub service : Service
-  pub service_is : slice_get (behind c).services place ≡ Some service
-  pub full : IsFull w service.dispatcher.core service.dispatcher.place
+  pub dispatcher : DispatcherId
+  pub exported : IsExported c name dispatcher
+  pub full : IsFull w dispatcher
 
--- so is that of the service that is wished for, or the client's
+-- for the binding: of that of the service that is wished for, or of the client's
 pub record IsCrowded {c : TheConfig} {jobs : List Job} {limit : ℕ} {r : TheReport} (w : Reports c jobs limit r) (n : ℕ) : Type 0 where
   pub asked : IsAsked c jobs n
-  pub why : IsFull w asked.wish.client.core asked.wish.client.place ⊎ IsServiceFull w asked.wish.service
+  pub why : IsFull w asked.wish.client ⊎ IsServiceFull w asked.wish.service
 
 -- ---- law
 

@@ -5,13 +5,14 @@ ghost use Rattle.fl_reports.specs.Endings.{RunsEndAsTold};
 ghost use Rattle.fl_reports.specs.Honesty.{RunsReportHonestly};
 ghost use Rattle.fl_reports.specs.OneCore.{RunsOfOneCore};
 ghost use Rattle.fl_reports.specs.Reasons.{RefusalsHaveReasons};
+ghost use Rattle.fl_reports.specs.Wanted.{WantedHandleFew};
 
 use crate::outcomes::{
     complete_has_all, dispatchers_handle_few, refused_are_opened, reports_are_of_runs,
     reports_handle_few, reports_keep_turns,
 };
 use fl_deal::dealt_go_on;
-use fl_honest::{cores_go, desks_tell_reasons, runs_are_honest};
+use fl_honest::{cores_go, desks_tell_reasons, ends_sit, runs_are_honest};
 use fl_jobs::one_outcome;
 use fl_ring::SharedSide;
 use fl_running::{leads_at_first, sides_go};
@@ -34,7 +35,7 @@ pub fn runs_report_honestly()
 
 /// A binding is told as refused for a reason alone: a dispatcher without a place (E54), a core of its route without a link that leads on (E73), or a link whose
 /// numbers are used up (E74); and each only where that is so of what its job wishes for: where the set-up made no link from some core of the route to the next,
-/// where a core of the route gave all its numbers on its link to the next, and where the client's dispatcher or the service's has 1,024 ends.
+/// where a core of the route gave all its numbers on its link to the next, and where 1,024 ends are wanted at the client's dispatcher or the service's.
 pub fn refusals_have_reasons()
     ensures reasons { RefusalsHaveReasons }
 {
@@ -45,7 +46,25 @@ pub fn refusals_have_reasons()
     sides_go::<SharedSide>();
     leads_at_first();
     desks_tell_reasons();
+    ends_sit();
     reports_are_of_runs();
+}
+
+/// What all ends handled that are wanted at one dispatcher, by the set-up or by jobs that open bindings, is together
+/// at most the turns that are told of its core.
+pub fn wanted_handle_few()
+    ensures few { WantedHandleFew }
+{
+    names_are_shown();
+    set_ups_start_fresh();
+    cores_go();
+    dealt_go_on();
+    sides_go::<SharedSide>();
+    leads_at_first();
+    ends_sit();
+    reports_are_of_runs();
+    reports_handle_few();
+    fl_endings::dispatchers_handle_few();
 }
 
 /// `complete` is told only where all that was handed in was handled, at both ends of each binding that isn't told as
@@ -61,6 +80,7 @@ pub fn runs_end_as_told()
     refused_are_opened();
     refusals_have_reasons();
     dispatchers_handle_few();
+    wanted_handle_few();
     reports_handle_few();
 }
 

@@ -20,6 +20,7 @@ mod run;
 
 pub use law::{
     one_report, refusals_have_reasons, runs_end_as_told, runs_of_one_core, runs_report_honestly,
+    wanted_handle_few,
 };
 pub use outcomes::{
     complete_has_all, dispatchers_handle_few, refused_are_opened, reports_are_of_runs,
