@@ -1,12 +1,8 @@
 //! The scripts of `examples/` and their transcripts, as they stand there: `examples/check` tells where they differ.
 
-use crate::rows::transcript;
-use fl_transcript::ExecFault;
-use std::alloc::Global;
-use std::process::Abort;
-use std::test::Fail;
+use crate::scripts::Script;
 
-const CIRCUIT: (&[u8], &[u8]) = (
+const CIRCUIT: Script = Script(
     b"\
 # A circuit over three cores: the monitors open it by messages of their own, and then fragments are forwarded link by link.
 idl
@@ -144,7 +140,7 @@ handle p.s write(11, \"d\")
 ",
 );
 
-const ECHO: (&[u8], &[u8]) = (
+const ECHO: Script = Script(
     b"\
 # An rpc that is answered by a reply rule: whatever the echo server is asked, it answers with the same number.
 idl
@@ -226,7 +222,7 @@ nothing
 ",
 );
 
-const HELLO: (&[u8], &[u8]) = (
+const HELLO: Script = Script(
     b"\
 idl
 interface i { message ping(uint32 v); }
@@ -255,7 +251,7 @@ nothing
 ",
 );
 
-const MEMORY: (&[u8], &[u8]) = (
+const MEMORY: Script = Script(
     b"\
 # the memory server of docs/SCRIPTS.md, and its client
 idl
@@ -324,7 +320,7 @@ nothing
 ",
 );
 
-const NAMES: (&[u8], &[u8]) = (
+const NAMES: Script = Script(
     b"\
 # A name service with two services: a memory server and a block device, each under a name of its own. A binding names the
 # service, and the interface under which it wants to speak to it.
@@ -407,7 +403,7 @@ refused E41
 ",
 );
 
-const REFUSED: (&[u8], &[u8]) = (
+const REFUSED: Script = Script(
     b"\
 # A route that is refused: the first link is there, so the client's monitor asks; the next core has no link to go on by.
 idl
@@ -491,7 +487,7 @@ accepted
 ",
 );
 
-const RING: (&[u8], &[u8]) = (
+const RING: Script = Script(
     b"\
 # A ring between two cores that fills and is acknowledged. Of its four slots one direction can use three here: each put
 # wants two free slots, so that the last is always free for an acknowledgement.
@@ -590,7 +586,7 @@ handle p.c input(13)
 ",
 );
 
-const STUCK: (&[u8], &[u8]) = (
+const STUCK: Script = Script(
     b"\
 # A circuit with calls both ways that sticks, since its links have only four slots and both ends call without waiting.
 # With eight slots the same lines go through: give a link more than twice as many slots as fragments can be under way on it in
@@ -724,56 +720,10 @@ full
 ",
 );
 
-fn expect(rt: &impl Abort, alloc: Global, script: &[u8], wanted: &[u8]) -> Result<(), ExecFault> {
-    let got = transcript(alloc, script)?;
-    assert_eq!(rt; got.as_slice(), wanted);
-    Ok(())
-}
+/// Those that call in turn.
+pub const CALLS: &[Script] = &[ECHO, HELLO, MEMORY, NAMES];
 
-#[test]
-fn circuit(rt: HostRuntime) -> Result<(), Fail> {
-    expect(&rt, rt.alloc(), CIRCUIT.0, CIRCUIT.1)?;
-    Ok(())
-}
+/// Those of links and rings.
+pub const LINKS: &[Script] = &[CIRCUIT, REFUSED];
 
-#[test]
-fn echo(rt: HostRuntime) -> Result<(), Fail> {
-    expect(&rt, rt.alloc(), ECHO.0, ECHO.1)?;
-    Ok(())
-}
-
-#[test]
-fn hello(rt: HostRuntime) -> Result<(), Fail> {
-    expect(&rt, rt.alloc(), HELLO.0, HELLO.1)?;
-    Ok(())
-}
-
-#[test]
-fn memory(rt: HostRuntime) -> Result<(), Fail> {
-    expect(&rt, rt.alloc(), MEMORY.0, MEMORY.1)?;
-    Ok(())
-}
-
-#[test]
-fn names(rt: HostRuntime) -> Result<(), Fail> {
-    expect(&rt, rt.alloc(), NAMES.0, NAMES.1)?;
-    Ok(())
-}
-
-#[test]
-fn refused(rt: HostRuntime) -> Result<(), Fail> {
-    expect(&rt, rt.alloc(), REFUSED.0, REFUSED.1)?;
-    Ok(())
-}
-
-#[test]
-fn ring(rt: HostRuntime) -> Result<(), Fail> {
-    expect(&rt, rt.alloc(), RING.0, RING.1)?;
-    Ok(())
-}
-
-#[test]
-fn stuck(rt: HostRuntime) -> Result<(), Fail> {
-    expect(&rt, rt.alloc(), STUCK.0, STUCK.1)?;
-    Ok(())
-}
+pub const RINGS: &[Script] = &[RING, STUCK];

@@ -1,10 +1,11 @@
 //! Tests of what the program is made of, by the public calls of `fl_system`, `fl_transcript` and `fl_show`. They stand here
 //! and not in those crates, since a crate with tests is proved twice.
 //!
+//! - `scripts.rt`: tables, of which a test tells the first row that isn't so, and scripts with their transcripts
 //! - `examples.rt`: the scripts of `examples/`
-//! - `rows.rt`, `core_rows.rt`: worked examples of one core and of several, and their transcripts
-//! - `transcripts.rt`: lines that ask nothing, and the longest script
-//! - `limits.rt`: one thing more than a world holds
+//! - `rows.rt`, `core_rows.rt`: worked examples of one core and of several
+//! - `lines.rt`: lines that ask nothing, and words that are no command
+//! - `limits.rt`: one thing more than a world holds, and the longest script
 //! - `memory.rt`: memory that is refused
 //! - `tables.rt`: plan tables, and refusals of an interface's text
 //!
@@ -19,13 +20,15 @@ mod examples;
 #[cfg(test)]
 mod limits;
 #[cfg(test)]
+mod lines;
+#[cfg(test)]
 mod memory;
 #[cfg(test)]
 mod rows;
 #[cfg(test)]
-mod tables;
+mod scripts;
 #[cfg(test)]
-mod transcripts;
+mod tables;
 
 // A program that does nothing, since a library so high costs the gate minutes before its proof begins (docs/GATE.md).
 fn main() {}

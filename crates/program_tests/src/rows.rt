@@ -1,21 +1,10 @@
 //! Worked examples, each a script and its transcript, worked out apart from this repository: queues within a core, reply rules, waitsets, and
 //! what is refused.
 
-use fl_system::World;
-use fl_transcript::{ExecFault, exec};
-use std::alloc::Global;
-use std::test::Fail;
+use crate::scripts::Script;
 
-/// A script's transcript.
-pub fn transcript(alloc: Global, script: &[u8]) -> Result<Vec<u8>, ExecFault> {
-    let mut reader = script;
-    let mut out = Vec::new(alloc);
-    exec::<World, _, _>(alloc, &mut reader, &mut out)?;
-    Ok(out)
-}
-
-const ROWS: &[(&[u8], &[u8])] = &[
-    (
+pub const ROWS: &[Script] = &[
+    Script(
         b"\
 idl
 interface i { message ping(uint32 v); }
@@ -43,7 +32,7 @@ handle p.s ping(7)
 nothing
 ",
     ),
-    (
+    Script(
         b"\
 idl
 interface i { message nop(); }
@@ -69,7 +58,7 @@ written 1 of 1
 handle p.s nop()
 ",
     ),
-    (
+    Script(
         b"\
 idl 1
 interface i { message m(uint8 a, string s, uint16 b); }
@@ -91,7 +80,7 @@ accepted
 0000000000000001 0000000000000002 0000000000006968 0000000000000005 0000000000000000 0000000000000000 0000000000000000 0000000000000003
 ",
     ),
-    (
+    Script(
         b"\
 idl
 interface i { message m(uint8 a, string s, uint16 b); }
@@ -113,7 +102,7 @@ accepted
 0000000000010005 0000000000000002 0000000000006968 0000000000000000 0000000000000000 0000000000000000 0000000000000000 0000000000000003
 ",
     ),
-    (
+    Script(
         b"\
 idl 1
 interface i { message m(int8 a, int64 b, uint8 c); }
@@ -135,7 +124,7 @@ accepted
 0000000000000080 ffffffffffffffff 00000000000000ff 0000000000000000 0000000000000000 0000000000000000 0000000000000000 0000000000000003
 ",
     ),
-    (
+    Script(
         b"\
 idl
 interface i { typedef struct { uint8 a; uint64 b; } t; message m(t x[n]); }
@@ -165,7 +154,7 @@ written 2 of 3
 0000000000000011 0000000000000000 0000000000000000 0000000000000000 0000000000000000 0000000000000000 0000000000000000 0000000000000001
 ",
     ),
-    (
+    Script(
         b"\
 idl
 interface i { message blob(string s); }
@@ -197,7 +186,7 @@ accepted
 handle p.s blob(\"aaaaaaaaaaaaaaaaaaaaaaaaaaaaaaaaaaaaaaaaaaaaaaaaa\")
 ",
     ),
-    (
+    Script(
         b"\
 idl
 interface i { message ping(uint32 v); }
@@ -257,7 +246,7 @@ ok
 handle r.s ping(3)
 ",
     ),
-    (
+    Script(
         b"\
 idl
 interface i { message m(cap c); }
@@ -267,7 +256,7 @@ interface i { message m(cap c); }
 refused E14 at 24
 ",
     ),
-    (
+    Script(
         b"\
 idl
 interface i { message ping(uint32 v); }
@@ -297,7 +286,7 @@ refused E92
 nothing
 ",
     ),
-    (
+    Script(
         b"\
 idl
 interface i { rpc echo(in uint32 x, out uint32 y); }
@@ -329,7 +318,7 @@ written 1 of 1
 handle p.c echo_response(9)
 ",
     ),
-    (
+    Script(
         b"\
 idl
 interface i { message ping(uint32 v); }
@@ -361,7 +350,7 @@ refused E73 p.c
 refused E43
 ",
     ),
-    (
+    Script(
         b"\
 idl
 interface i { message m(uint64 x[n, 4096]); }
@@ -371,7 +360,7 @@ interface i { message m(uint64 x[n, 4096]); }
 refused E21 at 22
 ",
     ),
-    (
+    Script(
         b"\
 idl
 interface i { message m(uint64 x[n, 4095]); }
@@ -381,7 +370,7 @@ interface i { message m(uint64 x[n, 4095]); }
 ok
 ",
     ),
-    (
+    Script(
         b"\
 idl
 interface i { message m(uint64 a, uint64 b, uint64 c, uint64 d, uint64 e, uint64 f, uint64 g, uint64 h); }
@@ -413,7 +402,7 @@ written 2 of 2
 handle p.s m(1, 2, 3, 4, 5, 6, 7, 8)
 ",
     ),
-    (
+    Script(
         b"\
 idl
 interface i { rpc echo(in uint32 x, out uint32 y); }
@@ -545,7 +534,7 @@ written 1 of 1
 handle p.s echo_call(18)
 ",
     ),
-    (
+    Script(
         b"\
 idl
 interface i { message m(int8 a, int64 b, uint8 c); }
@@ -568,12 +557,3 @@ ffffffffffffffff 000000000000ff80 0000000000000000 0000000000000000 000000000000
 ",
     ),
 ];
-
-#[test]
-fn rows_are_answered(rt: HostRuntime) -> Result<(), Fail> {
-    for (script, wanted) in ROWS {
-        let got = transcript(rt.alloc(), script)?;
-        assert_eq!(rt; (*script, got.as_slice()), (*script, *wanted));
-    }
-    Ok(())
-}

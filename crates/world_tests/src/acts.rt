@@ -1,12 +1,11 @@
 //! What is asked, as plain data, and the events that are made of it.
 
-use crate::words::Said;
 use fl_base::{EndId, MsgNo, Side};
-use fl_check::{Interface, TextFault, check};
-use fl_lex::lex;
+use fl_check::check;
+use fl_lex::{Tokens, lex};
 use fl_lines::{BackEnd, Command, DispatcherId, Event, Line, parse_line};
-use fl_parse::parse;
-use fl_value::{Call, PlanNo, Value};
+use fl_parse::{Tree, parse};
+use fl_value::{Call, PlanNo, read_spoken};
 use std::alloc::{AllocError, Global};
 
 /// How a binding's ends are to be joined.
@@ -41,8 +40,8 @@ pub enum Act {
     Export(&'static [u8], DispatcherId),
     /// A dispatcher to the service of a name, by the interface of a place.
     Bind(DispatcherId, usize, &'static [u8], Joint),
-    /// A call of a message.
-    Call(EndId, u16, Said),
+    /// A call of a message, with the arguments of this text.
+    Call(EndId, u16, &'static [u8]),
     Show(EndId),
     Write(EndId),
     Turn(DispatcherId),
@@ -106,30 +105,36 @@ pub const AT_2: DispatcherId = DispatcherId { core: 2, place: 0 };
 /// The second of core 0.
 pub const NEXT_AT_0: DispatcherId = DispatcherId { core: 0, place: 1 };
 
-fn interface(alloc: Global, text: &[u8]) -> Result<Interface, TextFault> {
-    let tokens = lex(alloc, text)?;
-    let tree = parse(alloc, &tokens)?;
-    Ok(check(alloc, &tree)?)
+fn adding_tree(alloc: Global, tree: &Tree, plan: PlanNo) -> Result<Event<'static>, AllocError> {
+    match check(alloc, tree) {
+        Ok(interface) => Ok(Event::AddInterface { interface, plan }),
+        Err(_) => Err(AllocError),
+    }
 }
 
+fn adding_tokens(
+    alloc: Global,
+    tokens: &Tokens,
+    plan: PlanNo,
+) -> Result<Event<'static>, AllocError> {
+    match parse(alloc, tokens) {
+        Ok(tree) => adding_tree(alloc, &tree, plan),
+        Err(_) => Err(AllocError),
+    }
+}
+
+// The event that adds the interface of a text.
 fn adding(alloc: Global, text: &[u8], plan: PlanNo) -> Result<Event<'static>, AllocError> {
-    let Ok(interface) = interface(alloc, text) else {
-        return Err(AllocError);
-    };
-    Ok(Event::AddInterface { interface, plan })
-}
-
-fn back_end_of(command: Command<'static>) -> BackEnd<'static> {
-    match command {
-        Command::Bind { back_end, .. } => back_end,
-        _ => BackEnd::Local(0),
+    match lex(alloc, text) {
+        Ok(tokens) => adding_tokens(alloc, &tokens, plan),
+        Err(_) => Err(AllocError),
     }
 }
 
 // The back end of a line that binds.
 fn back_end_in(line: &'static [u8]) -> BackEnd<'static> {
     match parse_line(line) {
-        Line::Command(command) => back_end_of(command),
+        Line::Command(Command::Bind { back_end, .. }) => back_end,
         _ => BackEnd::Local(0),
     }
 }
@@ -142,57 +147,12 @@ fn back_end(joint: Joint) -> BackEnd<'static> {
     }
 }
 
-fn numbers(alloc: Global, numbers: &[i128]) -> Result<Vec<Value>, AllocError> {
-    let mut values = Vec::with_capacity(alloc, numbers.len())?;
-    for v in numbers {
-        values.push(Value::Int(*v))?;
+fn calling(alloc: Global, end: EndId, msg: u16, text: &[u8]) -> Result<Event<'static>, AllocError> {
+    let msg = MsgNo(msg);
+    match read_spoken(alloc, text) {
+        Ok((_name, args)) => Ok(Event::Call(end, Call { msg, args })),
+        Err(_) => Err(AllocError),
     }
-    Ok(values)
-}
-
-// A list of structs of two numbers.
-fn pairs(alloc: Global, pairs: &[[i128; 2]]) -> Result<Vec<Value>, AllocError> {
-    let mut values = Vec::with_capacity(alloc, pairs.len())?;
-    for pair in pairs {
-        values.push(Value::Fields(numbers(alloc, pair)?))?;
-    }
-    Ok(values)
-}
-
-fn text(alloc: Global, bytes: &[u8]) -> Result<Value, AllocError> {
-    let mut text = Vec::with_capacity(alloc, bytes.len())?;
-    text.extend_from_slice(bytes)?;
-    Ok(Value::Text(text))
-}
-
-fn one(alloc: Global, value: Value) -> Result<Vec<Value>, AllocError> {
-    let mut values = Vec::new(alloc);
-    values.push(value)?;
-    Ok(values)
-}
-
-fn arguments(alloc: Global, said: Said) -> Result<Vec<Value>, AllocError> {
-    match said {
-        Said::Nothing => Ok(Vec::new(alloc)),
-        Said::Number(v) => one(alloc, Value::Int(v)),
-        Said::Numbers(all) => numbers(alloc, all),
-        Said::Text(bytes) => one(alloc, text(alloc, bytes)?),
-        Said::Pairs(all) => one(alloc, Value::List(pairs(alloc, all)?)),
-        Said::Between(a, bytes, b) => {
-            let mut values = one(alloc, Value::Int(a))?;
-            values.push(text(alloc, bytes)?)?;
-            values.push(Value::Int(b))?;
-            Ok(values)
-        }
-    }
-}
-
-fn call(alloc: Global, msg: u16, said: Said) -> Result<Call, AllocError> {
-    let args = arguments(alloc, said)?;
-    Ok(Call {
-        msg: MsgNo(msg),
-        args,
-    })
 }
 
 // Events of links, and of nothing else.
@@ -252,26 +212,19 @@ pub fn event(alloc: Global, act: Act) -> Result<Event<'static>, AllocError> {
     match act {
         Act::Interface(text) => adding(alloc, text, PlanNo::Two),
         Act::InterfaceOne(text) => adding(alloc, text, PlanNo::One),
-        Act::Call(end, msg, said) => Ok(Event::Call(end, call(alloc, msg, said)?)),
+        Act::Call(end, msg, text) => calling(alloc, end, msg, text),
         _ => Ok(making(act)),
     }
 }
 
-fn events_once(alloc: Global, acts: &[Act]) -> Result<Vec<Event<'static>>, AllocError> {
+/// The events that acts ask for.
+///
+/// # Errors
+/// Want of memory.
+pub fn events(alloc: Global, acts: &[Act]) -> Result<Vec<Event<'static>>, AllocError> {
     let mut events = Vec::with_capacity(alloc, acts.len())?;
     for act in acts {
         events.push(event(alloc, *act)?)?;
     }
     Ok(events)
-}
-
-/// The events that acts ask for; where memory is refused once, they are made again.
-///
-/// # Errors
-/// Want of memory.
-pub fn events(alloc: Global, acts: &[Act]) -> Result<Vec<Event<'static>>, AllocError> {
-    match events_once(alloc, acts) {
-        Ok(events) => Ok(events),
-        Err(_) => events_once(alloc, acts),
-    }
 }

@@ -11,10 +11,9 @@ use fl_base::EndId;
 use fl_lines::{BackEnd, Event};
 use fl_node::Core;
 use fl_ring::{OneDuo, Which};
-use fl_system::{BootFault, Config, World};
+use fl_system::{Config, World};
 use fl_worlds::Parts;
 use std::alloc::{AllocError, Global};
-use std::test::Fail;
 
 // Two cores, with a link, a binding over a ring and one within a core.
 const SET_UP: &[Act] = &[
@@ -59,26 +58,14 @@ fn all_making(events: &[Event<'_>]) -> bool
     each_makes(events)
 }
 
-fn apart_once(alloc: Global, config: &Config<'_>) -> Result<Option<Parts>, BootFault> {
+// The parts of a world after a set-up that makes each thing at once.
+fn apart(alloc: Global, config: &Config<'_>) -> Result<Parts, AllocError> {
     if !all_making(config.setup.as_slice()) {
-        return Ok(None);
+        return Err(AllocError);
     }
     match World::boot(alloc, config) {
-        Ok(world) => Ok(Some(world.into_parts())),
-        Err(fault) => Err(fault),
-    }
-}
-
-// The parts of a world after the set-up.
-fn apart(alloc: Global) -> Result<Parts, AllocError> {
-    let config = config(alloc, 2, SET_UP)?;
-    let parts = match apart_once(alloc, &config) {
-        Err(BootFault::Memory) => apart_once(alloc, &config),
-        outcome => outcome,
-    };
-    match parts {
-        Ok(Some(parts)) => Ok(parts),
-        _ => Err(AllocError),
+        Ok(world) => Ok(world.into_parts()),
+        Err(_) => Err(AllocError),
     }
 }
 
@@ -155,19 +142,16 @@ fn services_are(parts: &Parts) -> bool {
         && service(parts, b"u").is_none()
 }
 
-// Which parts are as they should be.
-fn are(alloc: Global) -> Result<[bool; 4], AllocError> {
-    let parts = apart(alloc)?;
-    Ok([
-        cores_are(&parts),
-        joints_are(&parts),
-        bindings_are(&parts),
-        services_are(&parts),
-    ])
+fn are_right(alloc: Global, config: &Config<'_>) -> Result<bool, AllocError> {
+    let parts = apart(alloc, config)?;
+    Ok(cores_are(&parts) && joints_are(&parts) && bindings_are(&parts) && services_are(&parts))
 }
 
-#[test]
-fn the_parts_of_a_world(rt: HostRuntime) -> Result<(), Fail> {
-    assert_eq!(rt; are(rt.alloc())?, [true; 4]);
-    Ok(())
+/// Whether the parts of a world are as they should be.
+///
+/// # Errors
+/// Want of memory for the world.
+pub fn parts(alloc: Global) -> Result<bool, AllocError> {
+    let config = config(alloc, 2, SET_UP)?;
+    are_right(alloc, &config)
 }

@@ -6,10 +6,10 @@ use crate::acts::{
     SERVER, SERVER_1, SERVER_2,
 };
 use crate::rows::LETTERS;
-use crate::words::{Said, Word};
-use crate::worlds::Row;
+use crate::runs::Row;
+use crate::words::Word;
 
-const OTHER_LETTERS: Said = Said::Text(b"bbbbbbbbbbbbbbbbbbbbbbbbbbbbbbbbbbbbbbbbbbbbbbbbb");
+const OTHER_LETTERS: &[u8] = b"m(\"bbbbbbbbbbbbbbbbbbbbbbbbbbbbbbbbbbbbbbbbbbbbbbbbb\")";
 
 // A ring of four slots each way, of which one stays free for an acknowledgement.
 const BY_RING: &[Act] = &[
@@ -20,31 +20,31 @@ const BY_RING: &[Act] = &[
     Act::Bind(AT_0, 0, b"s", Joint::Ump(4)),
 ];
 
-const RINGS: &[Row] = &[
+pub const RINGS: &[Row] = &[
     // it fills, and is acknowledged
     Row {
         cores: 2,
         set_up: BY_RING,
         asked: &[
-            (Act::Call(CLIENT, 0, Said::Number(1)), Word::Accepted),
+            (Act::Call(CLIENT, 0, b"m(1)"), Word::Accepted),
             (Act::Write(CLIENT), Word::Written(1, 1)),
-            (Act::Call(CLIENT, 0, Said::Number(2)), Word::Accepted),
+            (Act::Call(CLIENT, 0, b"m(2)"), Word::Accepted),
             (Act::Write(CLIENT), Word::Written(1, 1)),
-            (Act::Call(CLIENT, 0, Said::Number(3)), Word::Accepted),
+            (Act::Call(CLIENT, 0, b"m(3)"), Word::Accepted),
             (Act::Write(CLIENT), Word::Written(1, 1)),
-            (Act::Call(CLIENT, 0, Said::Number(4)), Word::Accepted),
+            (Act::Call(CLIENT, 0, b"m(4)"), Word::Accepted),
             (Act::Write(CLIENT), Word::Full),
             (Act::Turn(AT_1), Word::Ready(SERVER)),
-            (Act::Turn(AT_1), Word::Handle(SERVER, 0, Said::Number(1))),
+            (Act::Turn(AT_1), Word::Handle(SERVER, 0, b"m(1)")),
             (Act::Acknowledge(SERVER), Word::Nothing),
             (Act::Write(CLIENT), Word::Full),
             (Act::Turn(AT_1), Word::Ready(SERVER)),
-            (Act::Turn(AT_1), Word::Handle(SERVER, 0, Said::Number(2))),
+            (Act::Turn(AT_1), Word::Handle(SERVER, 0, b"m(2)")),
             (Act::Acknowledge(SERVER), Word::Done),
             (Act::Write(CLIENT), Word::Written(1, 1)),
             (Act::Turn(AT_0), Word::Quiet(CLIENT)),
             (Act::Turn(AT_0), Word::Quiet(CLIENT)),
-            (Act::Call(CLIENT, 0, Said::Number(5)), Word::Accepted),
+            (Act::Call(CLIENT, 0, b"m(5)"), Word::Accepted),
             (
                 Act::Show(CLIENT),
                 Word::Words([5, 0, 0, 0, 0, 0, 0], 0x1_0000_0000_0002),
@@ -57,37 +57,37 @@ const RINGS: &[Row] = &[
         cores: 2,
         set_up: BY_RING,
         asked: &[
-            (Act::Call(CLIENT, 0, Said::Number(1)), Word::Accepted),
+            (Act::Call(CLIENT, 0, b"m(1)"), Word::Accepted),
             (Act::Show(CLIENT), Word::Words([1, 0, 0, 0, 0, 0, 0], 3)),
             (Act::Write(CLIENT), Word::Written(1, 1)),
             (Act::Turn(AT_1), Word::Ready(SERVER)),
-            (Act::Turn(AT_1), Word::Handle(SERVER, 0, Said::Number(1))),
+            (Act::Turn(AT_1), Word::Handle(SERVER, 0, b"m(1)")),
             (Act::Acknowledge(SERVER), Word::Nothing),
-            (Act::Call(CLIENT, 0, Said::Number(2)), Word::Accepted),
+            (Act::Call(CLIENT, 0, b"m(2)"), Word::Accepted),
             (Act::Show(CLIENT), Word::Words([2, 0, 0, 0, 0, 0, 0], 3)),
             (Act::Write(CLIENT), Word::Written(1, 1)),
             (Act::Turn(AT_1), Word::Ready(SERVER)),
-            (Act::Turn(AT_1), Word::Handle(SERVER, 0, Said::Number(2))),
+            (Act::Turn(AT_1), Word::Handle(SERVER, 0, b"m(2)")),
             (Act::Acknowledge(SERVER), Word::Done),
-            (Act::Call(CLIENT, 0, Said::Number(3)), Word::Accepted),
+            (Act::Call(CLIENT, 0, b"m(3)"), Word::Accepted),
             (Act::Show(CLIENT), Word::Words([3, 0, 0, 0, 0, 0, 0], 3)),
             (Act::Write(CLIENT), Word::Written(1, 1)),
             (Act::Turn(AT_1), Word::Ready(SERVER)),
-            (Act::Turn(AT_1), Word::Handle(SERVER, 0, Said::Number(3))),
+            (Act::Turn(AT_1), Word::Handle(SERVER, 0, b"m(3)")),
             (Act::Acknowledge(SERVER), Word::Nothing),
-            (Act::Call(CLIENT, 0, Said::Number(4)), Word::Accepted),
+            (Act::Call(CLIENT, 0, b"m(4)"), Word::Accepted),
             (Act::Show(CLIENT), Word::Words([4, 0, 0, 0, 0, 0, 0], 3)),
             (Act::Write(CLIENT), Word::Written(1, 1)),
             (Act::Turn(AT_1), Word::Ready(SERVER)),
-            (Act::Turn(AT_1), Word::Handle(SERVER, 0, Said::Number(4))),
+            (Act::Turn(AT_1), Word::Handle(SERVER, 0, b"m(4)")),
             (Act::Acknowledge(SERVER), Word::Done),
-            (Act::Call(CLIENT, 0, Said::Number(5)), Word::Accepted),
+            (Act::Call(CLIENT, 0, b"m(5)"), Word::Accepted),
             (Act::Show(CLIENT), Word::Words([5, 0, 0, 0, 0, 0, 0], 2)),
             (Act::Write(CLIENT), Word::Written(1, 1)),
             (Act::Turn(AT_1), Word::Ready(SERVER)),
-            (Act::Turn(AT_1), Word::Handle(SERVER, 0, Said::Number(5))),
+            (Act::Turn(AT_1), Word::Handle(SERVER, 0, b"m(5)")),
             (Act::Acknowledge(SERVER), Word::Nothing),
-            (Act::Call(CLIENT, 0, Said::Number(6)), Word::Accepted),
+            (Act::Call(CLIENT, 0, b"m(6)"), Word::Accepted),
             (Act::Write(CLIENT), Word::Full),
             (Act::Turn(AT_0), Word::Quiet(CLIENT)),
             (Act::Write(CLIENT), Word::Written(1, 1)),
@@ -107,28 +107,28 @@ const RINGS: &[Row] = &[
             Act::Bind(NEXT_AT_0, 0, b"s", Joint::Local(4)),
         ],
         asked: &[
-            (Act::Call(CLIENT_2, 0, Said::Number(1)), Word::Accepted),
+            (Act::Call(CLIENT_2, 0, b"m(1)"), Word::Accepted),
             (Act::Write(CLIENT_2), Word::Written(1, 1)),
-            (Act::Call(CLIENT_2, 0, Said::Number(2)), Word::Accepted),
+            (Act::Call(CLIENT_2, 0, b"m(2)"), Word::Accepted),
             (Act::Write(CLIENT_2), Word::Written(1, 1)),
-            (Act::Turn(AT_0), Word::Handle(SERVER_2, 0, Said::Number(1))),
-            (Act::Turn(AT_0), Word::Handle(SERVER_2, 0, Said::Number(2))),
+            (Act::Turn(AT_0), Word::Handle(SERVER_2, 0, b"m(1)")),
+            (Act::Turn(AT_0), Word::Handle(SERVER_2, 0, b"m(2)")),
             (Act::Turn(AT_0), Word::Quiet(SERVER)),
             (Act::Turn(AT_0), Word::Quiet(SERVER_1)),
             (Act::Turn(AT_0), Word::Quiet(SERVER)),
             (Act::Register(SERVER_2), Word::Refused(50)),
             (Act::Deregister(SERVER_2), Word::Done),
             (Act::Deregister(SERVER_2), Word::Refused(51)),
-            (Act::Call(CLIENT_2, 0, Said::Number(3)), Word::Accepted),
+            (Act::Call(CLIENT_2, 0, b"m(3)"), Word::Accepted),
             (Act::Write(CLIENT_2), Word::Written(1, 1)),
             (Act::Turn(AT_0), Word::Quiet(SERVER_1)),
             (Act::Register(SERVER_2), Word::Done),
-            (Act::Turn(AT_0), Word::Handle(SERVER_2, 0, Said::Number(3))),
+            (Act::Turn(AT_0), Word::Handle(SERVER_2, 0, b"m(3)")),
         ],
     },
 ];
 
-const CIRCUITS: &[Row] = &[
+pub const CIRCUITS: &[Row] = &[
     // three cores in a line
     Row {
         cores: 3,
@@ -151,17 +151,17 @@ const CIRCUITS: &[Row] = &[
             (Act::Forward(1, 2), Word::Done),
             (Act::MonitorWrite(1, 0), Word::Written(1, 1)),
             (Act::Forward(0, 1), Word::Opened(CLIENT)),
-            (Act::Call(CLIENT, 0, Said::Number(1)), Word::Accepted),
+            (Act::Call(CLIENT, 0, b"m(1)"), Word::Accepted),
             (Act::Write(CLIENT), Word::Written(1, 1)),
-            (Act::Call(CLIENT, 0, Said::Number(2)), Word::Accepted),
+            (Act::Call(CLIENT, 0, b"m(2)"), Word::Accepted),
             (Act::Write(CLIENT), Word::Written(1, 1)),
-            (Act::Call(CLIENT, 0, Said::Number(3)), Word::Accepted),
+            (Act::Call(CLIENT, 0, b"m(3)"), Word::Accepted),
             (Act::Write(CLIENT), Word::Written(1, 1)),
             (Act::Forward(1, 0), Word::Forwarded),
             (Act::Forward(1, 0), Word::Forwarded),
             (Act::Forward(1, 0), Word::Forwarded),
             (Act::MonitorAcknowledge(1, 0), Word::Done),
-            (Act::Call(CLIENT, 0, Said::Number(4)), Word::Accepted),
+            (Act::Call(CLIENT, 0, b"m(4)"), Word::Accepted),
             (Act::Write(CLIENT), Word::Written(1, 1)),
             (Act::Forward(1, 0), Word::Full),
             (Act::Forward(2, 1), Word::Forwarded),
@@ -227,7 +227,7 @@ const NO_LINK: &[Act] = &[
     Act::Export(b"s", AT_2),
 ];
 
-const REFUSALS: &[Row] = &[
+pub const REFUSALS: &[Row] = &[
     // a route that is refused where it ends
     Row {
         cores: 3,
@@ -238,7 +238,7 @@ const REFUSALS: &[Row] = &[
             (Act::Forward(1, 0), Word::Done),
             (Act::MonitorWrite(1, 0), Word::Written(1, 1)),
             (Act::Forward(0, 1), Word::OpeningRefused(73, CLIENT)),
-            (Act::Call(CLIENT, 0, Said::Number(1)), Word::Refused(43)),
+            (Act::Call(CLIENT, 0, b"m(1)"), Word::Refused(43)),
             (Act::Forward(0, 1), Word::Nothing),
             (Act::Forward(1, 2), Word::Refused(73)),
         ],
@@ -261,6 +261,3 @@ const REFUSALS: &[Row] = &[
         ],
     },
 ];
-
-/// All of them.
-pub const ROWS: &[&[Row]] = &[RINGS, CIRCUITS, REFUSALS];

@@ -1,6 +1,7 @@
 //! Tests of worlds, over their public calls alone, with events as values. They stand here and not in `fl_system`, since a crate with
 //! tests is proved twice. The same rows as scripts stand in `program_tests`.
 //!
+//! - `tables.rt`: all tables, of which the test tells the first row that isn't so
 //! - `acts.rt`: what is asked, as plain data, and the events that are made of it
 //! - `words.rt`: what is said in calls and in answers
 //! - `worlds.rt`: worlds that are booted and driven
@@ -29,6 +30,8 @@ mod limits;
 mod rows;
 #[cfg(test)]
 mod runs;
+#[cfg(test)]
+mod tables;
 #[cfg(test)]
 mod words;
 #[cfg(test)]

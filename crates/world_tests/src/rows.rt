@@ -1,11 +1,11 @@
 //! Worked rows of one core, worked out apart from this repository: queues within a core, reply rules, what is refused.
 
 use crate::acts::{AT_0, Act, BLOB, CLIENT, CLIENT_1, ECHO, Joint, NEXT_AT_0, PING, SERVER};
-use crate::words::{Said, Word};
-use crate::worlds::Row;
+use crate::runs::Row;
+use crate::words::Word;
 
 /// A text of 49 bytes, which takes two fragments.
-pub const LETTERS: Said = Said::Text(b"aaaaaaaaaaaaaaaaaaaaaaaaaaaaaaaaaaaaaaaaaaaaaaaaa");
+pub const LETTERS: &[u8] = b"m(\"aaaaaaaaaaaaaaaaaaaaaaaaaaaaaaaaaaaaaaaaaaaaaaaaa\")";
 
 const MIXED: &[u8] = b"interface i { message m(uint8 a, string s, uint16 b); }";
 
@@ -17,7 +17,7 @@ const STRUCTS: &[u8] =
 const WORDS: &[u8] =
     b"interface i { message m(uint64 a, uint64 b, uint64 c, uint64 d, uint64 e, uint64 f, uint64 g, uint64 h); }";
 
-const CALLS: &[Row] = &[
+pub const CALLS: &[Row] = &[
     Row {
         cores: 1,
         set_up: &[
@@ -28,13 +28,10 @@ const CALLS: &[Row] = &[
             Act::Bind(AT_0, 0, b"s", Joint::Local(4)),
         ],
         asked: &[
-            (Act::Call(CLIENT, 0, Said::Number(7)), Word::Accepted),
+            (Act::Call(CLIENT, 0, b"m(7)"), Word::Accepted),
             (Act::Show(CLIENT), Word::Words([7, 0, 0, 0, 0, 0, 0], 3)),
             (Act::Write(CLIENT), Word::Written(1, 1)),
-            (
-                Act::Turn(NEXT_AT_0),
-                Word::Handle(SERVER, 0, Said::Number(7)),
-            ),
+            (Act::Turn(NEXT_AT_0), Word::Handle(SERVER, 0, b"m(7)")),
             (Act::Turn(NEXT_AT_0), Word::Nothing),
         ],
     },
@@ -48,10 +45,10 @@ const CALLS: &[Row] = &[
             Act::Bind(AT_0, 0, b"s", Joint::Local(1)),
         ],
         asked: &[
-            (Act::Call(CLIENT, 0, Said::Nothing), Word::Accepted),
+            (Act::Call(CLIENT, 0, b"m()"), Word::Accepted),
             (Act::Show(CLIENT), Word::Words([0, 0, 0, 0, 0, 0, 0], 3)),
             (Act::Write(CLIENT), Word::Written(1, 1)),
-            (Act::Turn(NEXT_AT_0), Word::Handle(SERVER, 0, Said::Nothing)),
+            (Act::Turn(NEXT_AT_0), Word::Handle(SERVER, 0, b"m()")),
         ],
     },
     Row {
@@ -66,10 +63,10 @@ const CALLS: &[Row] = &[
         asked: &[
             (Act::Call(CLIENT, 0, LETTERS), Word::Accepted),
             (Act::Write(CLIENT), Word::Written(1, 2)),
-            (Act::Call(CLIENT, 0, Said::Text(b"x")), Word::Refused(40)),
+            (Act::Call(CLIENT, 0, b"m(\"x\")"), Word::Refused(40)),
             (Act::Turn(NEXT_AT_0), Word::Part(SERVER)),
             (Act::Write(CLIENT), Word::Written(2, 2)),
-            (Act::Call(CLIENT, 0, Said::Text(b"x")), Word::Accepted),
+            (Act::Call(CLIENT, 0, b"m(\"x\")"), Word::Accepted),
             (Act::Turn(NEXT_AT_0), Word::Handle(SERVER, 0, LETTERS)),
         ],
     },
@@ -84,7 +81,7 @@ const CALLS: &[Row] = &[
         ],
         asked: &[
             (
-                Act::Call(CLIENT, 0, Said::Numbers(&[1, 2, 3, 4, 5, 6, 7, 8])),
+                Act::Call(CLIENT, 0, b"m(1, 2, 3, 4, 5, 6, 7, 8)"),
                 Word::Accepted,
             ),
             (Act::Write(CLIENT), Word::Written(1, 2)),
@@ -94,14 +91,14 @@ const CALLS: &[Row] = &[
             (Act::Write(CLIENT), Word::Written(2, 2)),
             (
                 Act::Turn(NEXT_AT_0),
-                Word::Handle(SERVER, 0, Said::Numbers(&[1, 2, 3, 4, 5, 6, 7, 8])),
+                Word::Handle(SERVER, 0, b"m(1, 2, 3, 4, 5, 6, 7, 8)"),
             ),
         ],
     },
 ];
 
 // Payloads under either plan.
-const PAYLOADS: &[Row] = &[
+pub const PAYLOADS: &[Row] = &[
     Row {
         cores: 1,
         set_up: &[
@@ -112,10 +109,7 @@ const PAYLOADS: &[Row] = &[
             Act::Bind(AT_0, 0, b"s", Joint::Local(4)),
         ],
         asked: &[
-            (
-                Act::Call(CLIENT, 0, Said::Between(1, b"hi", 5)),
-                Word::Accepted,
-            ),
+            (Act::Call(CLIENT, 0, b"m(1, \"hi\", 5)"), Word::Accepted),
             (
                 Act::Show(CLIENT),
                 Word::Words([1, 2, 0x6968, 5, 0, 0, 0], 3),
@@ -132,10 +126,7 @@ const PAYLOADS: &[Row] = &[
             Act::Bind(AT_0, 0, b"s", Joint::Local(4)),
         ],
         asked: &[
-            (
-                Act::Call(CLIENT, 0, Said::Between(1, b"hi", 5)),
-                Word::Accepted,
-            ),
+            (Act::Call(CLIENT, 0, b"m(1, \"hi\", 5)"), Word::Accepted),
             (
                 Act::Show(CLIENT),
                 Word::Words([0x1_0005, 2, 0x6968, 0, 0, 0, 0], 3),
@@ -152,10 +143,7 @@ const PAYLOADS: &[Row] = &[
             Act::Bind(AT_0, 0, b"s", Joint::Local(4)),
         ],
         asked: &[
-            (
-                Act::Call(CLIENT, 0, Said::Numbers(&[-128, -1, 255])),
-                Word::Accepted,
-            ),
+            (Act::Call(CLIENT, 0, b"m(-128, -1, 255)"), Word::Accepted),
             (
                 Act::Show(CLIENT),
                 Word::Words([0x80, 0xffff_ffff_ffff_ffff, 0xff, 0, 0, 0, 0], 3),
@@ -172,10 +160,7 @@ const PAYLOADS: &[Row] = &[
             Act::Bind(AT_0, 0, b"s", Joint::Local(4)),
         ],
         asked: &[
-            (
-                Act::Call(CLIENT, 0, Said::Numbers(&[-128, -1, 255])),
-                Word::Accepted,
-            ),
+            (Act::Call(CLIENT, 0, b"m(-128, -1, 255)"), Word::Accepted),
             (
                 Act::Show(CLIENT),
                 Word::Words([0xffff_ffff_ffff_ffff, 0xff80, 0, 0, 0, 0, 0], 3),
@@ -196,15 +181,7 @@ const PAYLOADS: &[Row] = &[
                 Act::Call(
                     CLIENT,
                     0,
-                    Said::Pairs(&[
-                        [1, 11],
-                        [2, 12],
-                        [3, 13],
-                        [4, 14],
-                        [5, 15],
-                        [6, 16],
-                        [7, 17],
-                    ]),
+                    b"m([{1, 11}, {2, 12}, {3, 13}, {4, 14}, {5, 15}, {6, 16}, {7, 17}])",
                 ),
                 Word::Accepted,
             ),
@@ -218,7 +195,7 @@ const PAYLOADS: &[Row] = &[
 ];
 
 // Calls that are refused, a reply, and names of what isn't there.
-const REFUSALS: &[Row] = &[
+pub const REFUSALS: &[Row] = &[
     Row {
         cores: 1,
         set_up: &[
@@ -229,13 +206,10 @@ const REFUSALS: &[Row] = &[
             Act::Bind(AT_0, 0, b"s", Joint::Local(1)),
         ],
         asked: &[
-            (
-                Act::Call(CLIENT, 0, Said::Number(0x1_0000_0000)),
-                Word::Refused(42),
-            ),
-            (Act::Call(CLIENT, 0, Said::Text(b"x")), Word::Refused(42)),
-            (Act::Call(CLIENT, 1, Said::Number(1)), Word::Refused(41)),
-            (Act::Call(CLIENT_1, 0, Said::Number(1)), Word::Refused(92)),
+            (Act::Call(CLIENT, 0, b"m(4294967296)"), Word::Refused(42)),
+            (Act::Call(CLIENT, 0, b"m(\"x\")"), Word::Refused(42)),
+            (Act::Call(CLIENT, 1, b"m(1)"), Word::Refused(41)),
+            (Act::Call(CLIENT_1, 0, b"m(1)"), Word::Refused(92)),
             (Act::Write(CLIENT), Word::Nothing),
         ],
     },
@@ -251,18 +225,15 @@ const REFUSALS: &[Row] = &[
         asked: &[
             (Act::Reply(SERVER, 0, 2), Word::Refused(41)),
             (Act::Reply(SERVER, 0, 1), Word::Done),
-            (Act::Call(CLIENT, 0, Said::Number(9)), Word::Accepted),
+            (Act::Call(CLIENT, 0, b"m(9)"), Word::Accepted),
             (Act::Write(CLIENT), Word::Written(1, 1)),
-            (
-                Act::Turn(NEXT_AT_0),
-                Word::Handle(SERVER, 0, Said::Number(9)),
-            ),
+            (Act::Turn(NEXT_AT_0), Word::Handle(SERVER, 0, b"m(9)")),
             (
                 Act::Show(SERVER),
                 Word::Words([9, 0, 0, 0, 0, 0, 0], 0x1_0003),
             ),
             (Act::Write(SERVER), Word::Written(1, 1)),
-            (Act::Turn(AT_0), Word::Handle(CLIENT, 1, Said::Number(9))),
+            (Act::Turn(AT_0), Word::Handle(CLIENT, 1, b"m(9)")),
         ],
     },
     Row {
@@ -271,7 +242,7 @@ const REFUSALS: &[Row] = &[
         asked: &[
             (Act::Export(b"s", AT_0), Word::Refused(92)),
             (Act::Bind(AT_0, 0, b"s", Joint::Local(4)), Word::Refused(92)),
-            (Act::Call(CLIENT, 0, Said::Nothing), Word::Refused(92)),
+            (Act::Call(CLIENT, 0, b"m()"), Word::Refused(92)),
             (Act::Show(CLIENT), Word::Refused(92)),
             (Act::Write(CLIENT), Word::Refused(92)),
             (Act::Turn(NEXT_AT_0), Word::Refused(92)),
@@ -309,6 +280,3 @@ const REFUSALS: &[Row] = &[
         ],
     },
 ];
-
-/// All of them.
-pub const ROWS: &[&[Row]] = &[CALLS, PAYLOADS, REFUSALS];

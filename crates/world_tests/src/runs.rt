@@ -1,16 +1,22 @@
 //! Rows asked one after another, by events that are given, by events that are lent and as lists; and memory that is refused in the midst of a list.
 
 use crate::acts::{Act, event, events};
+use crate::tables::Claim;
 use crate::words::{Word, is};
-use crate::worlds::{Row, answers, answers_again, first_wrong, made};
-use crate::{core_rows, rows};
+use crate::worlds::{Way, answers, answers_all, made};
 use fl_lines::{Answer, DispatcherId, Event};
 use fl_system::World;
 use std::alloc::{AllocError, Global};
-use std::test::Fail;
+
+/// An example: a world of so many cores after a set-up, what is asked of it, and what it has to answer.
+pub struct Row {
+    pub cores: u8,
+    pub set_up: &'static [Act],
+    pub asked: &'static [(Act, Word)],
+}
 
 // What is asked, as a list.
-fn asked_once(alloc: Global, asked: &[(Act, Word)]) -> Result<Vec<Event<'static>>, AllocError> {
+fn events_in(alloc: Global, asked: &[(Act, Word)]) -> Result<Vec<Event<'static>>, AllocError> {
     let mut events = Vec::with_capacity(alloc, asked.len())?;
     for (act, _) in asked {
         events.push(event(alloc, *act)?)?;
@@ -18,113 +24,59 @@ fn asked_once(alloc: Global, asked: &[(Act, Word)]) -> Result<Vec<Event<'static>
     Ok(events)
 }
 
-fn asked(alloc: Global, asked: &[(Act, Word)]) -> Result<Vec<Event<'static>>, AllocError> {
-    match asked_once(alloc, asked) {
-        Ok(events) => Ok(events),
-        Err(_) => asked_once(alloc, asked),
-    }
-}
-
-fn world_of(alloc: Global, row: &Row) -> Result<World, AllocError> {
-    made(alloc, row.cores, row.set_up)
-}
-
-// The first event that is answered otherwise where each is given.
-fn steps(alloc: Global, row: &Row) -> Result<Option<usize>, AllocError> {
-    let mut world = world_of(alloc, row)?;
-    first_wrong(alloc, &mut world, row.asked)
-}
-
-// Whether the event of a place is answered as it should be.
-fn replays_one(
-    world: &mut World,
-    row: &Row,
-    place: usize,
-    event: &Event<'_>,
+fn are_wanted(
+    alloc: Global,
+    answers: &[Answer],
+    asked: &[(Act, Word)],
 ) -> Result<bool, AllocError> {
-    match row.asked.get(place) {
-        Some((_, wanted)) => answers_again(world, event, *wanted),
-        None => Ok(false),
-    }
-}
-
-// The same where each is lent.
-fn replays(alloc: Global, row: &Row, events: &[Event<'_>]) -> Result<Option<usize>, AllocError> {
-    let mut world = world_of(alloc, row)?;
-    for (place, event) in events.iter().enumerate() {
-        if !replays_one(&mut world, row, place, event)? {
-            return Ok(Some(place));
+    for (answer, (_, wanted)) in answers.iter().zip(asked) {
+        if !is(alloc, answer, *wanted)? {
+            return Ok(false);
         }
     }
-    Ok(None)
+    Ok(answers.len() == asked.len())
 }
 
-// The first answer that isn't the wanted one.
-fn first_other(answers: &[Answer], asked: &[(Act, Word)]) -> Option<usize> {
-    for (place, (_, wanted)) in asked.iter().enumerate() {
-        match answers.get(place) {
-            Some(answer) => {
-                if !is(answer, *wanted) {
-                    return Some(place);
-                }
-            }
-            None => return Some(place),
-        }
-    }
-    if answers.len() == asked.len() {
-        None
-    } else {
-        Some(asked.len())
-    }
-}
-
-fn runs_once(alloc: Global, row: &Row, events: &[Event<'_>]) -> Result<Option<usize>, AllocError> {
-    let mut world = world_of(alloc, row)?;
+// Whether a list of events is answered so.
+fn runs(
+    alloc: Global,
+    world: &mut World,
+    events: &[Event<'_>],
+    asked: &[(Act, Word)],
+) -> Result<bool, AllocError> {
     let answers = world.run(events)?;
-    Ok(first_other(answers.as_slice(), row.asked))
+    are_wanted(alloc, &answers, asked)
 }
 
-// The same of the whole list.
-fn runs(alloc: Global, row: &Row, events: &[Event<'_>]) -> Result<Option<usize>, AllocError> {
-    match runs_once(alloc, row, events) {
-        Ok(wrong) => Ok(wrong),
-        Err(_) => runs_once(alloc, row, events),
+fn answers_list(
+    alloc: Global,
+    world: &mut World,
+    asked: &[(Act, Word)],
+) -> Result<bool, AllocError> {
+    let events = events_in(alloc, asked)?;
+    runs(alloc, world, &events, asked)
+}
+
+fn holds_on(alloc: Global, world: &mut World, row: &Row, way: Way) -> Result<bool, AllocError> {
+    match way {
+        Way::Listed => answers_list(alloc, world, row.asked),
+        _ => answers_all(alloc, world, row.asked, way, 0),
     }
 }
 
-// The first event that is answered otherwise in one of three ways.
-fn wrong_in(alloc: Global, row: &Row) -> Result<Option<usize>, AllocError> {
-    let events = asked(alloc, row.asked)?;
-    let stepped = steps(alloc, row)?;
-    let replayed = replays(alloc, row, events.as_slice())?;
-    let ran = runs(alloc, row, events.as_slice())?;
-    Ok(stepped.or(replayed).or(ran))
+fn holds_by(alloc: Global, row: &Row, way: Way) -> Result<bool, AllocError> {
+    let mut world = made(alloc, row.cores, row.set_up)?;
+    holds_on(alloc, &mut world, row, way)
 }
 
-// The first row with such an event, and its place there.
-fn first_of(alloc: Global, rows: &[Row]) -> Result<Option<(usize, usize)>, AllocError> {
-    for (number, row) in rows.iter().enumerate() {
-        if let Some(place) = wrong_in(alloc, row)? {
-            return Ok(Some((number, place)));
-        }
+impl Claim for Row {
+    fn holds(&self, alloc: Global) -> Result<bool, AllocError> {
+        Ok(
+            holds_by(alloc, self, Way::Given)?
+                && holds_by(alloc, self, Way::Lent)?
+                && holds_by(alloc, self, Way::Listed)?,
+        )
     }
-    Ok(None)
-}
-
-#[test]
-fn rows_of_one_core(rt: HostRuntime) -> Result<(), Fail> {
-    for rows in rows::ROWS {
-        assert_eq!(rt; first_of(rt.alloc(), rows)?, None);
-    }
-    Ok(())
-}
-
-#[test]
-fn rows_of_several_cores(rt: HostRuntime) -> Result<(), Fail> {
-    for rows in core_rows::ROWS {
-        assert_eq!(rt; first_of(rt.alloc(), rows)?, None);
-    }
-    Ok(())
 }
 
 const SO_MANY: usize = 12;
@@ -135,36 +87,48 @@ const DISPATCHERS: &[Act] = &[Act::Dispatcher(0); 12];
 fn count(alloc: Global, world: &mut World) -> Result<usize, AllocError> {
     for place in 0..=SO_MANY {
         let turn = Act::Turn(DispatcherId { core: 0, place });
-        if !answers(alloc, world, turn, Word::Nothing)? {
+        if !answers(alloc, world, turn, Word::Nothing, Way::Given)? {
             return Ok(place);
         }
     }
     Ok(SO_MANY + 1)
 }
 
+fn runs_whole(world: &mut World, events: &[Event<'_>]) -> bool {
+    match world.run(events) {
+        Ok(answers) => answers.len() == events.len(),
+        Err(_) => false,
+    }
+}
+
+// Whether what is left of these is run.
+fn runs_rest(alloc: Global, world: &mut World, events: &[Event<'_>]) -> Result<bool, AllocError> {
+    let done = count(alloc, world)?;
+    match events.get(done..) {
+        Some(rest) => Ok(runs_whole(world, rest)),
+        None => Ok(false),
+    }
+}
+
 // Whether all events of a run are answered; where memory is refused in its midst, the first events were done and no others, and the rest
 // are run.
 fn runs_all(alloc: Global, world: &mut World, events: &[Event<'_>]) -> Result<bool, AllocError> {
-    if let Ok(answers) = world.run(events) {
-        return Ok(answers.len() == events.len());
+    match world.run(events) {
+        Ok(answers) => Ok(answers.len() == events.len()),
+        Err(_) => runs_rest(alloc, world, events),
     }
-    let done = count(alloc, world)?;
-    let Some(rest) = events.get(done..) else {
-        return Ok(false);
-    };
-    let answers = world.run(rest)?;
-    Ok(answers.len() == rest.len())
 }
 
-// Whether a run adds so many dispatchers.
-fn adds_all(alloc: Global) -> Result<bool, AllocError> {
-    let asked = events(alloc, DISPATCHERS)?;
+fn adds_each(alloc: Global, events: &[Event<'_>]) -> Result<bool, AllocError> {
     let mut world = made(alloc, 1, &[])?;
-    Ok(runs_all(alloc, &mut world, asked.as_slice())? && count(alloc, &mut world)? == SO_MANY)
+    Ok(runs_all(alloc, &mut world, events)? && count(alloc, &mut world)? == SO_MANY)
 }
 
-#[test]
-fn memory_is_refused_in_a_run(rt: HostRuntime) -> Result<(), Fail> {
-    assert!(rt; adds_all(rt.alloc())?);
-    Ok(())
+/// Whether a run adds so many dispatchers.
+///
+/// # Errors
+/// Want of memory outside the run.
+pub fn adds_all(alloc: Global) -> Result<bool, AllocError> {
+    let asked = events(alloc, DISPATCHERS)?;
+    adds_each(alloc, &asked)
 }

@@ -1,21 +1,9 @@
 //! What is said in calls and in answers, as plain data, and whether an answer is the wanted one.
 
-use fl_base::{EndId, Frag};
+use fl_base::{EndId, Frag, Side};
 use fl_lines::Answer;
-use fl_value::{Call, Value};
-
-/// The arguments of a call.
-#[derive(Clone, Copy)]
-pub enum Said {
-    Nothing,
-    Number(i128),
-    Numbers(&'static [i128]),
-    Text(&'static [u8]),
-    /// A list of structs of two numbers.
-    Pairs(&'static [[i128; 2]]),
-    /// A text between two numbers.
-    Between(i128, &'static [u8], i128),
-}
+use fl_value::{Call, Value, print_call};
+use std::alloc::{AllocError, Global};
 
 /// An answer that is wanted.
 #[derive(Clone, Copy)]
@@ -26,13 +14,15 @@ pub enum Word {
     Full,
     /// Fragment k of n.
     Written(usize, usize),
-    /// A call of a message.
-    Handle(EndId, u16, Said),
+    /// A call of a message, with the arguments of this text.
+    Handle(EndId, u16, &'static [u8]),
     Part(EndId),
     Ready(EndId),
     Quiet(EndId),
     Forwarded,
     Opened(EndId),
+    /// An end of the circuit that is opened in this round.
+    OpenedNow(Side),
     OpeningRefused(u32, EndId),
     /// A fragment's payload and its control word.
     Words([u64; 7], u64),
@@ -41,46 +31,19 @@ pub enum Word {
     Refused(u8),
 }
 
-fn is_number(value: Option<&Value>, v: i128) -> bool {
-    match value {
-        Some(Value::Int(w)) => *w == v,
-        _ => false,
-    }
+// Whether a call of these arguments, of a message called `m`, is printed so.
+fn is_printed(alloc: Global, args: &[Value], text: &[u8]) -> Result<bool, AllocError> {
+    let mut out = Vec::new(alloc);
+    print_call(alloc, &mut out, b"m", args)?;
+    Ok(out.as_slice() == text)
 }
 
-fn is_text(value: Option<&Value>, bytes: &[u8]) -> bool {
-    match value {
-        Some(Value::Text(text)) => text.as_slice() == bytes,
-        _ => false,
-    }
-}
-
-fn are_numbers(values: &[Value], numbers: &[i128]) -> bool {
-    for (place, v) in numbers.iter().enumerate() {
-        if !is_number(values.get(place), *v) {
-            return false;
-        }
-    }
-    values.len() == numbers.len()
-}
-
-// Whether these arguments are said; no row handles a call of the others.
-fn are_said(values: &[Value], said: Said) -> bool {
-    match said {
-        Said::Nothing => values.is_empty(),
-        Said::Number(v) => values.len() == 1 && is_number(values.first(), v),
-        Said::Numbers(numbers) => are_numbers(values, numbers),
-        Said::Text(bytes) => values.len() == 1 && is_text(values.first(), bytes),
-        Said::Pairs(_) | Said::Between(..) => false,
-    }
-}
-
-fn is_handled(end: EndId, call: &Call, wanted: Word) -> bool {
+fn is_handled(alloc: Global, end: EndId, call: &Call, wanted: Word) -> Result<bool, AllocError> {
     match wanted {
-        Word::Handle(at, msg, said) => {
-            at == end && msg == call.msg.0 && are_said(call.args.as_slice(), said)
+        Word::Handle(at, msg, text) => {
+            Ok(at == end && msg == call.msg.0 && is_printed(alloc, &call.args, text)?)
         }
-        _ => false,
+        _ => Ok(false),
     }
 }
 
@@ -121,8 +84,8 @@ fn is_opening_refused(number: u32, end: EndId, wanted: Word) -> bool {
     }
 }
 
-/// Whether an answer is the wanted one.
-pub fn is(answer: &Answer, wanted: Word) -> bool {
+// The same of an answer that tells of no call.
+fn is_word(answer: &Answer, wanted: Word) -> bool {
     match answer {
         Answer::Done => matches!(wanted, Word::Done),
         Answer::Accepted => matches!(wanted, Word::Accepted),
@@ -130,7 +93,7 @@ pub fn is(answer: &Answer, wanted: Word) -> bool {
         Answer::Full => matches!(wanted, Word::Full),
         Answer::Forwarded => matches!(wanted, Word::Forwarded),
         Answer::Written { k, n } => is_written(*k, *n, wanted),
-        Answer::Handle { end, call } => is_handled(*end, call, wanted),
+        Answer::Handle { .. } => false,
         Answer::Part(end) => matches!(wanted, Word::Part(_)) && end_in(wanted) == Some(*end),
         Answer::Ready(end) => matches!(wanted, Word::Ready(_)) && end_in(wanted) == Some(*end),
         Answer::Quiet(end) => matches!(wanted, Word::Quiet(_)) && end_in(wanted) == Some(*end),
@@ -138,5 +101,27 @@ pub fn is(answer: &Answer, wanted: Word) -> bool {
         Answer::OpeningRefused { number, end } => is_opening_refused(*number, *end, wanted),
         Answer::Words(frag) => is_shown(frag, wanted),
         Answer::Refused(number) => is_refused(*number, wanted),
+    }
+}
+
+/// Whether an answer is the wanted one.
+///
+/// # Errors
+/// Want of memory.
+pub fn is(alloc: Global, answer: &Answer, wanted: Word) -> Result<bool, AllocError> {
+    match answer {
+        Answer::Handle { end, call } => is_handled(alloc, *end, call, wanted),
+        _ => Ok(is_word(answer, wanted)),
+    }
+}
+
+/// The wanted answer of a round, by its number.
+pub fn in_round(round: usize, wanted: Word) -> Word {
+    match wanted {
+        Word::OpenedNow(side) => Word::Opened(EndId {
+            binding: round,
+            side,
+        }),
+        _ => wanted,
     }
 }

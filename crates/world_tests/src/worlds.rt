@@ -1,16 +1,18 @@
-//! Worlds that are booted and driven. What is refused for want of memory is done again: the world has to be as it was.
+//! Worlds that are booted and driven. What is refused for want of memory is asked again, once: the world has to be as it was.
 
 use crate::acts::{Act, event, events};
-use crate::words::{Word, is};
-use fl_lines::{Answer, Event};
+use crate::words::{Word, in_round, is};
+use fl_lines::Answer;
 use fl_system::{BootFault, Config, World};
 use std::alloc::{AllocError, Global};
 
-/// An example: a world of so many cores after a set-up, what is asked of it, and what it has to answer.
-pub struct Row {
-    pub cores: u8,
-    pub set_up: &'static [Act],
-    pub asked: &'static [(Act, Word)],
+/// How events are asked.
+#[derive(Clone, Copy)]
+pub enum Way {
+    Given,
+    Lent,
+    /// All of them as one list.
+    Listed,
 }
 
 /// What a world is booted with.
@@ -18,10 +20,8 @@ pub struct Row {
 /// # Errors
 /// Want of memory.
 pub fn config(alloc: Global, cores: u8, acts: &[Act]) -> Result<Config<'static>, AllocError> {
-    Ok(Config {
-        cores,
-        setup: events(alloc, acts)?,
-    })
+    let setup = events(alloc, acts)?;
+    Ok(Config { cores, setup })
 }
 
 /// A world of so many cores after a set-up.
@@ -29,12 +29,9 @@ pub fn config(alloc: Global, cores: u8, acts: &[Act]) -> Result<Config<'static>,
 /// # Errors
 /// Why there is none.
 pub fn booted(alloc: Global, cores: u8, acts: &[Act]) -> Result<World, BootFault> {
-    let Ok(config) = config(alloc, cores, acts) else {
-        return Err(BootFault::Memory);
-    };
-    match World::boot(alloc, &config) {
-        Err(BootFault::Memory) => World::boot(alloc, &config),
-        outcome => outcome,
+    match config(alloc, cores, acts) {
+        Ok(config) => World::boot(alloc, &config),
+        Err(_) => Err(BootFault::Memory),
     }
 }
 
@@ -49,86 +46,53 @@ pub fn made(alloc: Global, cores: u8, acts: &[Act]) -> Result<World, AllocError>
     }
 }
 
-fn step(alloc: Global, world: &mut World, act: Act) -> Result<Answer, AllocError> {
-    world.step(event(alloc, act)?)
+fn ask_once(alloc: Global, world: &mut World, act: Act, way: Way) -> Result<Answer, AllocError> {
+    let event = event(alloc, act)?;
+    match way {
+        Way::Lent => world.replay(&event),
+        _ => world.step(event),
+    }
 }
 
-/// Whether a world answers as it should.
+fn ask(alloc: Global, world: &mut World, act: Act, way: Way) -> Result<Answer, AllocError> {
+    match ask_once(alloc, world, act, way) {
+        Ok(answer) => Ok(answer),
+        Err(_) => ask_once(alloc, world, act, way),
+    }
+}
+
+/// Whether a world answers as it should; not so where memory is refused twice.
 ///
 /// # Errors
-/// Want of memory.
+/// Want of memory for the text of a call.
 pub fn answers(
     alloc: Global,
     world: &mut World,
     act: Act,
     wanted: Word,
+    way: Way,
 ) -> Result<bool, AllocError> {
-    match step(alloc, world, act) {
-        Ok(answer) => Ok(is(&answer, wanted)),
-        Err(_) => Ok(is(&step(alloc, world, act)?, wanted)),
+    match ask(alloc, world, act, way) {
+        Ok(answer) => is(alloc, &answer, wanted),
+        Err(_) => Ok(false),
     }
 }
 
-/// The same of an event that is lent.
+/// Whether it answers so to all acts of a round, one after another.
 ///
 /// # Errors
-/// Want of memory.
-pub fn answers_again(
-    world: &mut World,
-    event: &Event<'_>,
-    wanted: Word,
-) -> Result<bool, AllocError> {
-    match world.replay(event) {
-        Ok(answer) => Ok(is(&answer, wanted)),
-        Err(_) => Ok(is(&world.replay(event)?, wanted)),
-    }
-}
-
-/// The first act that isn't answered as it should be.
-///
-/// # Errors
-/// Want of memory.
-pub fn first_wrong(
+/// Want of memory for the text of a call.
+pub fn answers_all(
     alloc: Global,
     world: &mut World,
     asked: &[(Act, Word)],
-) -> Result<Option<usize>, AllocError> {
-    for (place, (act, wanted)) in asked.iter().enumerate() {
-        if !answers(alloc, world, *act, *wanted)? {
-            return Ok(Some(place));
+    way: Way,
+    round: usize,
+) -> Result<bool, AllocError> {
+    for (act, wanted) in asked {
+        if !answers(alloc, world, *act, in_round(round, *wanted), way)? {
+            return Ok(false);
         }
     }
-    Ok(None)
-}
-
-/// How many times in a row all these acts are answered as they should be, at most so often.
-///
-/// # Errors
-/// Want of memory.
-pub fn times(
-    alloc: Global,
-    world: &mut World,
-    most: usize,
-    asked: &[(Act, Word)],
-) -> Result<usize, AllocError> {
-    for time in 0..most {
-        if first_wrong(alloc, world, asked)?.is_some() {
-            return Ok(time);
-        }
-    }
-    Ok(most)
-}
-
-/// The same in a world of so many cores after a set-up.
-///
-/// # Errors
-/// Want of memory.
-pub fn first_wrong_after(
-    alloc: Global,
-    cores: u8,
-    set_up: &[Act],
-    asked: &[(Act, Word)],
-) -> Result<Option<usize>, AllocError> {
-    let mut world = made(alloc, cores, set_up)?;
-    first_wrong(alloc, &mut world, asked)
+    Ok(true)
 }
