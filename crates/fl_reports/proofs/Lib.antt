@@ -45,3 +45,10 @@ pub mod OneRan
 pub mod OneReport
 pub mod OneWhole
 pub mod Again
+pub mod FollowsRuled
+pub mod FollowsDealt
+pub mod FollowsEnds
+pub mod FollowsBegin
+pub mod FollowsTurns
+pub mod FollowsWished
+pub mod FollowsRuns

@@ -8,3 +8,4 @@ pub mod Endings
 pub mod OneCore
 pub mod Honesty
 pub mod Again
+pub mod Follows

@@ -19,7 +19,7 @@ use Rattle.fl_setups.proofs.Finding.{found}
 use Rattle.fl_cuts.specs.Cut.{seat_at}
 use Rattle.fl_cuts.specs.Ends.{EndCut}
 use Rattle.fl_cuts.specs.Start.{first_end, first_ends}
-use Rattle.fl_follows.specs.Runs.{IsOfMachine}
+use Rattle.fl_reports.specs.Follows.{IsOfMachine}
 
 -- the seat and the port of each first end
 pub record FirstAt (core : ℕ) (seats : List TheSeat) (ports : List Port) (e : ℕ) (x : EndCut) : Type 0 where

@@ -22,8 +22,8 @@ use Rattle.fl_threads.specs.Tells.{TheOutcome, RanTo, Each2, shared_ways}
 use Rattle.fl_cores.specs.Promised.{Reports}
 use Rattle.fl_cuts.specs.Start.{first_cut, StartsShow}
 use Rattle.fl_cuts.specs.Ready.{ReadyTurnsFollow}
-use Rattle.fl_follows.specs.Runs.{behind, RoutesDiffer, RunsFollow}
-use Rattle.fl_follows.proofs.Begins.{machine, begins, ends_are, is_ready}
+use Rattle.fl_reports.specs.Follows.{behind, RoutesDiffer, RunsFollow}
+use Rattle.fl_reports.proofs.FollowsBegin.{machine, begins, ends_are, is_ready}
 use Rattle.fl_dockets.specs.State.{TheJoined}
 use Rattle.fl_honest.specs.Asked.{AreBeside, WishesAlone}
 use Rattle.fl_honest.specs.Runs.{AreSetUp}
@@ -34,9 +34,9 @@ use Rattle.fl_honest.specs.Crossing.{Crosses}
 use Rattle.fl_reports.proofs.Runs.{all_runs, as_many, run_at}
 use Rattle.fl_reports.proofs.SidesCross.{SideLaws}
 use Rattle.fl_reports.proofs.Whole.{set_up}
-use Rattle.fl_follows.proofs.Dealt.{new_one}
-use Rattle.fl_follows.proofs.Turns.{ran_turns}
-use Rattle.fl_follows.proofs.Wished.{NoneTwice, none_twice, Laid, exactly}
+use Rattle.fl_reports.proofs.FollowsDealt.{new_one}
+use Rattle.fl_reports.proofs.FollowsTurns.{ran_turns}
+use Rattle.fl_reports.proofs.FollowsWished.{NoneTwice, none_twice, Laid, exactly}
 use Rattle.fl_cuts.proofs.Hearing.{beside}
 use Rattle.fl_hop.specs.Table.{TheCircuits}
 use Rattle.fl_queues.specs.Monitors.{Core}

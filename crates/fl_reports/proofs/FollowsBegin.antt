@@ -46,10 +46,10 @@ use Rattle.fl_cuts.specs.Ends.{EndCut}
 use Rattle.fl_cuts.specs.Cut.{Each2, ShowsWaits, name_at, UsesQueue, IsUsed, ShowsCut}
 use Rattle.fl_cuts.specs.Start.{IsFirstEnd, IsFirstSide, IsFirstQueue, IsStarting, first_end, first_ends, first_cut, StartsShow}
 use Rattle.fl_cuts.specs.Ready.{Serves, IsReady}
-use Rattle.fl_follows.specs.Runs.{behind, IsOfMachine}
-use Rattle.fl_follows.proofs.Dealt.{own_is_one, new_sides}
-use Rattle.fl_follows.proofs.Ends.{first_at, of_machine}
-use Rattle.fl_follows.proofs.Ruled.{WasEnd, Was, were}
+use Rattle.fl_reports.specs.Follows.{behind, IsOfMachine}
+use Rattle.fl_reports.proofs.FollowsDealt.{own_is_one, new_sides}
+use Rattle.fl_reports.proofs.FollowsEnds.{first_at, of_machine}
+use Rattle.fl_reports.proofs.FollowsRuled.{WasEnd, Was, were}
 
 -- ---- lists
 

@@ -1,5 +1,5 @@
-use Rattle.fl_follows.proofs.Runs.{runs_follow}
-use Rattle.fl_follows.proofs.law.runs_follow.Goals as goal
+use Rattle.fl_reports.proofs.FollowsRuns.{runs_follow}
+use Rattle.fl_reports.proofs.following.runs_follow.Goals as goal
 
 pub returns : goal.returns
 returns c = record {

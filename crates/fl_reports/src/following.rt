@@ -1,6 +1,6 @@
 //! What is promised of each core of a run: a law, as the contract of a function that does nothing.
 
-ghost use Rattle.fl_follows.specs.Runs.{RunsFollow};
+ghost use Rattle.fl_reports.specs.Follows.{RunsFollow};
 
 use fl_cuts::{ready_cores_follow, starts_show};
 use fl_deal::dealt_go_on;
