@@ -22,7 +22,8 @@ use Rattle.fl_threads.specs.Tells.{TheOutcome, RanTo, Each2, shared_ways}
 use Rattle.fl_cores.specs.Promised.{Reports}
 use Rattle.fl_cuts.specs.Start.{first_cut, StartsShow}
 use Rattle.fl_cuts.specs.Ready.{ReadyTurnsFollow}
-use Rattle.fl_reports.specs.Follows.{behind, RoutesDiffer, RunsFollow}
+use Rattle.fl_reports.specs.Follows.{behind, RunsFollow}
+use Rattle.fl_reports.proofs.FollowsRoutes.{routes_differ}
 use Rattle.fl_reports.proofs.FollowsBegin.{machine, begins, ends_are, is_ready}
 use Rattle.fl_dockets.specs.State.{TheJoined}
 use Rattle.fl_honest.specs.Asked.{AreBeside, WishesAlone}
@@ -98,8 +99,9 @@ side_of_ring c d l m n one lane = by one.ring where
 
 module _ (fresh : SetUpsStartFresh) (leads : LeadsAtFirst) (laws : Said) (c : TheConfig) (jobs : List Job) (limit : ℕ) (r : TheReport) (w : Reports c jobs limit r) where
   none_turns : (n : ℕ) (s : TheStation) (o : TheOutcome) → slice_get w.ran.ran.ran.stations n ≡ Some s → slice_get w.ran.ran.ran.outcomes n ≡ Some o → (log : List Deed)
-      → RoutesDiffer w.ran.ran.joined.jobs → Goes shared_ways w.ran.ran.joined.jobs s.run log o.run → NoneTwice s.run.core.monitor.circuits log
-  none_turns n s o at is log differ goes =
+      → Goes shared_ways w.ran.ran.joined.jobs s.run log o.run → NoneTwice s.run.core.monitor.circuits log
+  none_turns n s o at is log goes =
+      let differ = routes_differ c jobs limit r w in
       let (cores, are) = all_runs laws.go w.ran.ran.joined.jobs limit w.ran.ran.ran.stations w.ran.ran.ran.outcomes w.ran.ran.ran.ran in
       let below = within w.ran.ran.ran.stations n s at in
       let many = as_many w.ran.ran.joined.jobs w.ran.ran.ran.stations w.ran.ran.ran.outcomes cores are in
@@ -138,9 +140,8 @@ runs_follow fresh untouched leads counted shows law laws c jobs limit r w n s o 
       log = all.log;
       happened = all.happened;
       after = all.makes.after;
-      makes = all.makes.makes;
-      shows = all.makes.shows;
-      exact = λ differ. exactly (behind c).services s.run.core.monitor.circuits (first_cut core.0 s.run) all.makes.after all.log
+      goes = exactly (behind c).services s.run.core.monitor.circuits (first_cut core.0 s.run) all.makes.after all.log
           (laid_so core.0 s.run first.monitor) all.makes.makes
-          (none_turns fresh leads laws c jobs limit r w n s o at is all.log differ all.happened);
+          (none_turns fresh leads laws c jobs limit r w n s o at is all.log all.happened);
+      shows = all.makes.shows;
     }

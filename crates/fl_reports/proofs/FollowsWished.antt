@@ -48,7 +48,7 @@ use Rattle.fl_cuts.proofs.Hearing.{beside}
 use Rattle.fl_cuts.proofs.Opening.{path_same}
 use Rattle.fl_cuts.proofs.Readying.{asks_for, makes_stay}
 use Rattle.fl_shows.specs.Fragments.{core_id}
-use Rattle.fl_reports.specs.Follows.{RoutesDiffer}
+use Rattle.fl_reports.proofs.FollowsRoutes.{RoutesDiffer}
 
 -- ---- a message that was heard
 

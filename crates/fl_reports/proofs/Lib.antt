@@ -50,5 +50,6 @@ pub mod FollowsDealt
 pub mod FollowsEnds
 pub mod FollowsBegin
 pub mod FollowsTurns
+pub mod FollowsRoutes
 pub mod FollowsWished
 pub mod FollowsRuns

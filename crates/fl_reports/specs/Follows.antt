@@ -1,13 +1,9 @@
 -- That each core of a run goes on as the machine does, from the set-up. Law.
-use Rattle.std.specs.Prelude.{ℕ, ◌≡◌, ◌≤◌, true, List, map, slice_get, Some, None}
-use Rattle.fl_base.specs.declared.identity.CoreId.{CoreId}
+use Rattle.std.specs.Prelude.{ℕ, ◌≡◌, ◌≤◌, List, slice_get, Some, None}
 use Rattle.fl_running.specs.declared.job.Job.{Job as CoreJob}
-use Rattle.fl_running.specs.declared.job.Job.TheVariants as job
-use Rattle.fl_running.specs.declared.job.Wish.{Wish}
 use Rattle.fl_running.specs.Deeds.{Deed}
 use Rattle.fl_running.specs.Logs.{Goes}
 use Rattle.fl_running.specs.Turn.{Turned}
-use Rattle.fl_queues.specs.Binding.{all_differ}
 use Rattle.fl_queues.specs.Ends.{End}
 use Rattle.fl_queues.specs.Monitors.{Core}
 use Rattle.fl_queues.specs.Runs.{reached}
@@ -23,7 +19,6 @@ use Rattle.fl_cuts.specs.Ends.{EndCut}
 use Rattle.fl_cuts.specs.Cut.{Cut, ShowsCut}
 use Rattle.fl_cuts.specs.Does.{CutGoes}
 use Rattle.fl_cuts.specs.Start.{first_cut}
-use Rattle.fl_cuts.specs.Ready.{CutMakesAll}
 
 -- what the machine is behind the set-up
 abbrev pub behind : TheConfig → State
@@ -37,11 +32,6 @@ pub record IsOfMachine (s : State) (x : EndCut) : Type 0 where
   pub binding : Binding
   pub binding_is : binding_of s x.port.name ≡ Some binding
   pub planned_is : interface_of s binding ≡ Some x.planned
-
--- no route for which a job wishes names a core twice
-abbrev pub RoutesDiffer : List CoreJob → Type 0
-RoutesDiffer jobs = (place : ℕ) (wish : Wish) → slice_get jobs place ≡ Some (job.Open wish)
-    → all_differ (map (λ (x : CoreId). x.0) wish.opening.path) ≡ true
 
 -- core n ran, from this station to this outcome
 pub record CoreFollows (c : TheConfig) (jobs : List CoreJob) (n : ℕ) (s : TheStation) (o : TheOutcome) : Type 0 where
@@ -58,10 +48,8 @@ pub record CoreFollows (c : TheConfig) (jobs : List CoreJob) (n : ℕ) (s : TheS
   pub log : List Deed
   pub happened : Goes shared_ways jobs s.run log o.run
   pub after : Cut
-  pub makes : CutMakesAll (behind c).services (first_cut core s.run) log after
+  pub goes : CutGoes (behind c).services (first_cut core s.run) log after
   pub shows : ShowsCut after o.run
-  -- where no job's route names a core twice, no opening turns back: the machine has a case for all of it
-  pub exact : RoutesDiffer jobs → CutGoes (behind c).services (first_cut core s.run) log after
 
 -- each core of a run that is reported
 abbrev pub RunsFollow : Type 0

@@ -11,8 +11,7 @@ use fl_setups::{set_ups_start_fresh, set_ups_touch_nothing};
 
 /// Of each core of a run that is reported: as it began it shows the first cut, with the machine's core of its number
 /// behind the set-up and the machine's ends; it took so many turns, no fewer than were counted; and as it ended it
-/// shows what the machine makes of that cut by what happened in these turns, whatever the other cores did. Where no
-/// job's route names a core twice, the machine has a case for each of these events.
+/// shows what the machine makes of that cut by what happened in these turns, whatever the other cores did.
 pub fn runs_follow()
     ensures follow { RunsFollow }
 {
