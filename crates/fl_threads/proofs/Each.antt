@@ -8,15 +8,13 @@ use Rattle.fl_node.specs.View.{TheCore}
 use Rattle.fl_node.specs.Sound.{IsCore}
 use Rattle.fl_running.specs.declared.job.Job.{Job}
 use Rattle.fl_threads.specs.declared.wiring.Station.{Station}
-use Rattle.fl_threads.specs.declared.fault.Stop.{Stop}
-use Rattle.fl_threads.specs.declared.fault.Stop.TheVariants as stop
 use Rattle.fl_threads.specs.declared.fork.Done.{Done}
 use Rattle.fl_threads.specs.Begins.{TheStation, TheCommon, IsStation, AreStations}
 use Rattle.fl_threads.specs.Shares.{IsLeftSound}
 use Rattle.fl_threads.specs.Tells.{TheOutcome, RanTo, Each2}
 use Rattle.fl_threads.specs.Stations.{IsReady, AllReady, StationRan, station_of, outcome_of}
 
-pub each_push : {A B : Type 0} (R : A → B → Type 0) (xs : List A) (ys : List B) (x : A) (y : B) → Each2 R xs ys → R x y
+each_push : {A B : Type 0} (R : A → B → Type 0) (xs : List A) (ys : List B) (x : A) (y : B) → Each2 R xs ys → R x y
     → Each2 R (xs ++ x ∷ []) (ys ++ y ∷ [])
 each_push R [] [] x y all one = (one, tt)
 each_push R [] (v ∷ ys) x y all one = absurd all
@@ -29,20 +27,22 @@ each_pushed : {A B E : Type 0} (R : A → B → Type 0) (xs : List A) (ys zs : L
 each_pushed R xs ys zs x (Ok y) all one is = subst (Each2 R (xs ++ x ∷ [])) (sym is) (each_push R xs ys x y all one)
 each_pushed R xs ys zs x (Err e) all one is = absurd is
 
-pub each_joined : {A B E F V S : Type 0} (items : V → List B) (R : A → B → Type 0) (xs : List A) (ys : List B) (x : A) (last : Result B E) (result : Result (V × S) F)
-    → Each2 R xs ys → IfOk last (R x) → IfOk result (λ r. IsOkAnd last (λ y. items r.0 ≡ ys ++ y ∷ [])) → IfOk result (λ r. Each2 R (xs ++ x ∷ []) (items r.0))
-each_joined items R xs ys x last (Ok r) all one is = each_pushed R xs ys (items r.0) x last all one is
-each_joined items R xs ys x last (Err e) all one is = tt
+-- as the promise says of the last one
+ran_last : {E : Type 0} (jobs jobs2 : List Job) (limit limit2 : ℕ) (s s2 : Station) (last : Result Done E) → jobs2 ≡ jobs → limit2 ≡ limit → s2 ≡ s
+    → IfOk last (StationRan jobs2 limit2 s2) → IfOk last (StationRan jobs limit s)
+ran_last jobs jobs2 limit limit2 s s2 (Ok d) same_jobs same_limit same ran =
+    subst (λ (x : Station). StationRan jobs limit x d) same
+    (subst (λ (n : ℕ). StationRan jobs n s2 d) same_limit
+    (subst (λ (js : List Job). StationRan js limit2 s2 d) same_jobs ran))
+ran_last jobs jobs2 limit limit2 s s2 (Err e) same_jobs same_limit same ran = tt
 
--- the seat is the one that the others handed back
-pub seat_joined : {V S F : Type 0} (result : Result (V × S) F) (a b : S) → IfOk result (λ r. r.1 ≡ b) → b ≡ a → IfOk result (λ r. r.1 ≡ a)
-seat_joined (Ok r) a b is same = is ∙ same
-seat_joined (Err e) a b is same = tt
-
--- for want of memory no stop was told
-pub none_told : {T S : Type 0} (P : S → Type 0) (result : Result T (Stop × S)) → IfErr result (λ e. e.0 ≡ stop.Memory) → IfErr result (λ e. e.0 ≡ stop.Thread → P e.1)
-none_told P (Ok x) is = tt
-none_told P (Err e) is = λ at. absurd (let no : stop.Memory ≡ stop.Thread = sym is ∙ at in cc)
+pub each_joined : {E F V : Type 0} (items : V → List Done) (jobs jobs2 : List Job) (limit limit2 : ℕ) (xs : List Station) (ys : List Done) (s s2 : Station)
+    (last : Result Done E) (result : Result V F) → jobs2 ≡ jobs → limit2 ≡ limit → s2 ≡ s
+    → Each2 (StationRan jobs limit) xs ys → IfOk last (StationRan jobs2 limit2 s2) → IfOk result (λ v. IsOkAnd last (λ d. items v ≡ ys ++ d ∷ []))
+    → IfOk result (λ v. Each2 (StationRan jobs limit) (xs ++ s ∷ []) (items v))
+each_joined items jobs jobs2 limit limit2 xs ys s s2 last (Ok v) same_jobs same_limit same all ran is =
+    each_pushed (StationRan jobs limit) xs ys (items v) s last all (ran_last jobs jobs2 limit limit2 s s2 last same_jobs same_limit same ran) is
+each_joined items jobs jobs2 limit limit2 xs ys s s2 last (Err e) same_jobs same_limit same all ran is = tt
 
 pub ready_rest : (xs : List Station) (x : Station) → AllReady (xs ++ x ∷ []) → AllReady xs
 ready_rest [] x all = tt

@@ -41,8 +41,12 @@ running_sends core side queue desk names program = struct_send (shape (Running.t
   ),
 )
 
+-- the same in a box
+running_boxed : IsSend (Running.the_field SharedSide.the_row).row → IsSend (Running.the_row SharedSide.the_row)
+running_boxed running = recorded_send (Running.the_field SharedSide.the_row).row _ _ (Running.the_type SharedSide.the_row).to_one running
+
 pub station_field : IsSend (Running.the_field SharedSide.the_row).row → IsSend (Station.the_field).row
-station_field running = struct_send (shape Station.the_type) (running, (plan.the_field_send, (ticket.the_field_send, tt)))
+station_field running = struct_send (shape Station.the_type) (let row = running_boxed running in search (sendable, crosses, row) depth 40, (plan.the_field_send, (ticket.the_field_send, tt)))
 
 pub station_sends : IsSend (Running.the_field SharedSide.the_row).row → IsSend Station.the_row
 station_sends running = recorded_send (Station.the_field).row _ _ (Station.the_type).to_one (station_field running)

@@ -1,9 +1,12 @@
 -- What a core is given for its thread, and what comes of it, as the code has them.
-use Rattle.std.specs.Prelude.{ℕ, ◌≡◌, ◌+◌, ◌-◌, ◌<◌, Bool, List, [], ◌∷◌, map, length}
+use Rattle.std.specs.Prelude.{ℕ, ◌≡◌, ◌+◌, ◌-◌, ◌<◌, Bool, List, [], ◌∷◌, ◌++◌, map, length}
 use Rattle.std.specs.List.{range_with_len}
 use Rattle.fl_tally.specs.declared.board.View.{View}
-use Rattle.fl_tally.specs.Tally.{opening_view, both}
-use Rattle.fl_tally.specs.Seats.{TheSeat}
+use Rattle.fl_tally.specs.Tally.{opening_view, both, core_alone, without_core}
+use Rattle.fl_tally.specs.Seats.{TheSeat, knowing}
+use Rattle.fl_link.specs.Queue.{TheQueue}
+use Rattle.fl_ring.specs.SharedSides.{TheSide}
+use Rattle.fl_node.specs.View.{TheCore}
 use Rattle.fl_node.specs.Sound.{IsCore}
 use Rattle.fl_running.specs.declared.job.Job.{Job}
 use Rattle.fl_running.specs.Run.{run_of}
@@ -13,15 +16,15 @@ use Rattle.fl_threads.specs.declared.wiring.Station.{Station}
 use Rattle.fl_threads.specs.declared.fork.Done.{Done}
 use Rattle.fl_dockets.specs.State.{joined_of}
 use Rattle.fl_threads.specs.declared.wiring.Common.{Common}
-use Rattle.fl_threads.specs.Begins.{TheStation, TheCommon}
+use Rattle.fl_threads.specs.Begins.{TheStation, TheCommon, IsStation}
 use Rattle.fl_threads.specs.Shares.{IsLeftSound}
 use Rattle.fl_threads.specs.Tells.{TheOutcome, RanTo, left_off, was_told}
 
 abbrev pub station_of : Station → TheStation
-station_of s = record { run = run_of s.running; plan = s.plan; ticket = ticket_of s.ticket }
+station_of s = record { run = run_of s.running.value; plan = s.plan; ticket = ticket_of s.ticket }
 
 abbrev pub outcome_of : Done → TheOutcome
-outcome_of d = record { run = run_of d.station.running; ticket = ticket_of d.station.ticket; part = d.part }
+outcome_of d = record { run = run_of d.station.running.value; ticket = ticket_of d.station.ticket; part = d.part }
 
 abbrev pub common_of : Common → TheCommon
 common_of c = record {
@@ -42,7 +45,7 @@ has_been_told d = was_told (outcome_of d)
 
 -- its run may begin: its core is sound, each end of its plan has a word, which its seat may use, and the seat may tell of its end, or of a stop
 pub record IsReady (s : Station) : Type 0 where
-  pub core : IsCore s.running.core
+  pub core : IsCore s.running.value.core
   pub as_many : length s.ticket.words.items ≡ length s.plan.ends.items
   pub may : AreWords s.ticket.words.items s.ticket.seat.knows
   pub finishes : s.ticket.seat.knows.finished < length s.ticket.seat.knows.cores
@@ -52,6 +55,18 @@ pub record IsReady (s : Station) : Type 0 where
 pub record StationRan (jobs : List Job) (limit : ℕ) (s : Station) (d : Done) : Type 0 where
   pub ran : RanTo jobs limit (station_of s) (outcome_of d)
   pub left : IsLeftSound (outcome_of d)
+
+-- a station of the next core stands behind the others, with a seat cut off everybody's
+pub record AddsStation (c : TheCommon) (core : TheCore) (rings : List TheSide) (queues : List TheQueue) (own own2 : TheSeat) (before after : List Station)
+    : Type 0 where
+  pub station : Station
+  pub added : after ≡ before ++ station ∷ []
+  pub ready : IsReady station
+  pub begins : IsStation c (length before) core (station_of station)
+  pub seat : station.ticket.seat ≡ knowing own (core_alone own.knows)
+  pub left : own2 ≡ knowing own (without_core own.knows)
+  pub rings_are : station.running.value.rings.items ≡ rings
+  pub queues_are : station.running.value.queues.items ≡ queues
 
 abbrev pub AllReady : List Station → Type 0
 AllReady [] = Unit {0}

@@ -1,6 +1,6 @@
 //! A thread for each core.
 
-ghost use Rattle.std.specs.Prelude.{ℕ, ◌≡◌, ◌+◌, ◌<◌, ◌∷◌, ◌++◌, [], length, slice_get, Some, IfOk, IfErr, IsOkAnd};
+ghost use Rattle.std.specs.Prelude.{ℕ, ◌≡◌, ◌+◌, ◌<◌, ◌∷◌, ◌++◌, [], length, slice_get, Some, IfOk, IfErr, IfSome, IsOkAnd};
 ghost use Rattle.std.specs.Thread.{IsSync};
 ghost use Rattle.fl_hop.specs.Joined.{Sound as IsTable};
 ghost use Rattle.fl_endpoint.specs.Accounts.{Sound as IsEnd};
@@ -20,7 +20,7 @@ use std::alloc::{AllocError, Global};
 use std::snapshot::Snapshot;
 use std::sync::Wait;
 use std::thread;
-use std::thread::{Promise, Threads};
+use std::thread::{Promise, PromisedHandle, Scope, Threads};
 
 /// A core after its run, and its share of the report.
 #[derive(Drop)]
@@ -74,7 +74,7 @@ fn run_one<R: Wait, G: Gate>(
     let mut station = station;
     match core_run(
         rt,
-        &mut station.running,
+        &mut *station.running,
         &station.plan,
         jobs,
         limit,
@@ -89,29 +89,92 @@ fn run_one<R: Wait, G: Gate>(
     }
 }
 
-// The last core behind those that ran before it.
-fn push_last(
-    rest: Vec<Done>,
-    last: Result<Done, AllocError>,
-    own: EndSeat,
-) -> Result<(Vec<Done>, EndSeat), (Stop, EndSeat)>
-    ensures pushed { IfOk result (λ r. IsOkAnd last (λ d. r.0.items ≡ rest.items ++ d ∷ [])) }
-    ensures own { IfOk result (λ r. r.1 ≡ own) }
-    ensures memory { IfErr result (λ e. e.0 ≡ stop.Memory) }
+// A thread for a core, or none where no thread can be made.
+fn start<'s, 'e: 's, R: Threads + Wait + Sync, G: Gate + Sync>(
+    scope: &Scope<'s, &'e ()>,
+    rt: &'e R,
+    gate: &'e G,
+    station: Station,
+    jobs: &'e [Job],
+    limit: u64,
+) -> Option<PromisedHandle<Result<Done, AllocError>, RunOf<'e>>>
+    requires shared { IsSync R.row }
+    requires gate { IsSync G.row }
+    requires ready { IsReady station }
+    ensures was { IfSome result (λ child. child.promise.was.value ≡ station) }
+    ensures jobs { IfSome result (λ child. child.promise.jobs.now ≡ jobs.now) }
+    ensures limit { IfSome result (λ child. child.promise.limit ≡ limit) }
 {
-    let mut rest = rest;
-    let Ok(last) = last else {
-        return Err((Stop::Memory, own));
+    station_sent();
+    done_sent();
+    job_shared();
+    let promise = RunOf {
+        was: Snapshot::of(&station),
+        jobs,
+        limit,
     };
-    match rest.push(last) {
-        Ok(()) => Ok((rest, own)),
-        Err(_) => Err((Stop::Memory, own)),
+    let run = move || -> Result<Done, AllocError>
+        requires shared { IsSync R.row }
+        requires gate { IsSync G.row }
+        requires ready { IsReady station }
+        ensures ran { IfOk result (λ d. StationRan jobs.entry.now limit station d) }
+    { run_one(rt, gate, station, jobs, limit) };
+    scope.spawn_with(promise, run).ok()
+}
+
+// The last core behind those that ran before it.
+fn push_last(rest: Vec<Done>, last: Result<Done, AllocError>) -> Result<Vec<Done>, Stop>
+    ensures pushed { IfOk result (λ all. IsOkAnd last (λ d. all.items ≡ rest.items ++ d ∷ [])) }
+    ensures memory { IfErr result (λ e. e ≡ stop.Memory) }
+{
+    let mut all = rest;
+    match last {
+        Ok(done) => match all.push(done) {
+            Ok(()) => Ok(all),
+            Err(_) => Err(Stop::Memory),
+        },
+        Err(_) => Err(Stop::Memory),
+    }
+}
+
+// Runs each core on a thread of this scope, the last one first, and joins them all.
+fn run_in<'s, 'e: 's, R: Threads + Wait + Sync, G: Gate + Sync>(
+    scope: &Scope<'s, &'e ()>,
+    rt: &'e R,
+    alloc: Global,
+    gate: &'e G,
+    own: EndSeat,
+    todo: Vec<Station>,
+    jobs: &'e [Job],
+    limit: u64,
+) -> (Result<Vec<Done>, Stop>, EndSeat)
+    requires shared { IsSync R.row }
+    requires gate { IsSync G.row }
+    requires own { own.knows.stopped < own.knows.seats }
+    requires ready { AllReady todo.items }
+    ensures each { IfOk result.0 (λ all. Each2 (StationRan jobs.now limit) todo.items all.items) }
+    ensures own { IfOk result.0 (λ _. result.1 ≡ own) }
+    ensures told { IfErr result.0 (λ e. e ≡ stop.Thread → result.1.knows.stopped ≡ own.knows.stopped + 1) }
+{
+    let mut own = own;
+    let mut todo = todo;
+    let Some(last) = todo.pop() else {
+        return (Ok(Vec::new(alloc)), own);
+    };
+    let Some(child) = start(scope, rt, gate, last, jobs, limit) else {
+        own.stop();
+        return (Err(Stop::Thread), own);
+    };
+    let (rest, own) = run_in(scope, rt, alloc, gate, own, todo, jobs, limit);
+    let last = child.join(rt);
+    match rest {
+        Ok(rest) => (push_last(rest, last), own),
+        Err(fault) => (Err(fault), own),
     }
 }
 
 /// Runs each core on a thread of its own, and joins all threads. The seat is the caller's own: by it the cores are told where a thread doesn't start. It comes
 /// back in either case.
-#[tactic(auto, using(crate::proofs::Each::ready_rest, crate::proofs::Each::ready_last))]
 pub(crate) fn run_each<R: Threads + Wait + Sync, G: Gate + Sync>(
     rt: &R,
     alloc: Global,
@@ -120,57 +183,24 @@ pub(crate) fn run_each<R: Threads + Wait + Sync, G: Gate + Sync>(
     todo: Vec<Station>,
     jobs: &[Job],
     limit: u64,
-) -> Result<(Vec<Done>, EndSeat), (Stop, EndSeat)>
+) -> (Result<Vec<Done>, Stop>, EndSeat)
     requires own { own.knows.stopped < own.knows.seats }
     requires ready { AllReady todo.items }
-    ensures each { IfOk result (λ r. Each2 (StationRan jobs.now limit) todo.items r.0.items) }
-    ensures own { IfOk result (λ r. r.1 ≡ own) }
-    ensures told { IfErr result (λ e. e.0 ≡ stop.Thread → e.1.knows.stopped ≡ own.knows.stopped + 1) }
+    ensures each { IfOk result.0 (λ all. Each2 (StationRan jobs.now limit) todo.items all.items) }
+    ensures own { IfOk result.0 (λ _. result.1 ≡ own) }
+    ensures told { IfErr result.0 (λ e. e ≡ stop.Thread → result.1.knows.stopped ≡ own.knows.stopped + 1) }
 {
-    let mut todo = todo;
-    let Some(last) = todo.pop() else {
-        return Ok((Vec::new(alloc), own));
-    };
     thread::scope(
         thread::scope_env(),
         rt,
-        move |scope| -> Result<(Vec<Done>, EndSeat), (Stop, EndSeat)>
+        move |scope| -> (Result<Vec<Done>, Stop>, EndSeat)
             requires shared { IsSync R.row }
             requires gate { IsSync G.row }
             requires own { own.knows.stopped < own.knows.seats }
             requires ready { AllReady todo.items }
-            requires last { IsReady last }
-            ensures each { IfOk result (λ r. Each2 (StationRan jobs.entry.now limit) (todo.items ++ last ∷ []) r.0.items) }
-            ensures own { IfOk result (λ r. r.1 ≡ own) }
-            ensures told { IfErr result (λ e. e.0 ≡ stop.Thread → e.1.knows.stopped ≡ own.knows.stopped + 1) }
-        {
-            station_sent();
-            done_sent();
-            job_shared();
-            let mut own = own;
-            let promise = RunOf {
-                was: Snapshot::of(&last),
-                jobs,
-                limit,
-            };
-            let Ok(child) = scope.spawn_with(
-                promise,
-                move || -> Result<Done, AllocError>
-                    requires shared { IsSync R.row }
-                    requires gate { IsSync G.row }
-                    requires ready { IsReady last }
-                    ensures ran { IfOk result (λ d. StationRan jobs.entry.now limit last d) }
-                { run_one(rt, gate, last, jobs, limit) },
-            ) else {
-                own.stop();
-                return Err((Stop::Thread, own));
-            };
-            let rest = run_each(rt, alloc, gate, own, todo, jobs, limit);
-            let done = child.join(rt);
-            match rest {
-                Ok((rest, own)) => push_last(rest, done, own),
-                Err(fault) => Err(fault),
-            }
-        },
+            ensures each { IfOk result.0 (λ all. Each2 (StationRan jobs.entry.now limit) todo.items all.items) }
+            ensures own { IfOk result.0 (λ _. result.1 ≡ own) }
+            ensures told { IfErr result.0 (λ e. e ≡ stop.Thread → result.1.knows.stopped ≡ own.knows.stopped + 1) }
+        { run_in(scope, rt, alloc, gate, own, todo, jobs, limit) },
     )
 }

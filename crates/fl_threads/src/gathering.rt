@@ -14,11 +14,11 @@ use std::alloc::{AllocError, Global};
 
 // The sides of rings and the seat that a core has in the end.
 fn parts_of(done: Done) -> (Vec<SharedSide>, EndSeat)
-    ensures rings { result.0.items ≡ done.station.running.rings.items }
+    ensures rings { result.0.items ≡ done.station.running.value.rings.items }
     ensures seat { result.1 ≡ done.station.ticket.seat }
 {
     let station = done.station;
-    let running = station.running;
+    let running = Box::into_inner(station.running);
     let ticket = station.ticket;
     (running.rings, ticket.seat)
 }

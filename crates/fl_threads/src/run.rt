@@ -1,15 +1,21 @@
 //! A run of parts, from their jobs to the report.
 
-ghost use Rattle.std.specs.Prelude.{◌≡◌, ◌≤◌, map, length, IfOk, IfErr};
+ghost use Rattle.std.specs.Prelude.{◌≡◌, ◌≤◌, List, map, length, IfOk, IfErr, OnOk};
+ghost use Rattle.fl_deal.specs.Dealt.{AreDealt};
+ghost use Rattle.fl_deal.specs.Settled.{Pair, sides_of, Each, IsNear, HoldRings};
+ghost use Rattle.fl_tally.specs.Tally.{opening_view};
 ghost use Rattle.fl_jobs.specs.Reports.{report_of};
 ghost use Rattle.fl_jobs.specs.Views.{job_of};
 ghost use Rattle.fl_dockets.specs.Joined.{AreBindings, HasDockets};
 ghost use Rattle.fl_dockets.specs.State.{joined_of};
 ghost use Rattle.fl_threads.specs.Faults.{IsRunFault};
+ghost use Rattle.fl_threads.specs.Shares.{sides_left};
+ghost use Rattle.fl_threads.specs.Tells.{seats_left, HeardAsTold, Tells};
+ghost use Rattle.fl_threads.specs.Stations.{outcome_of, IsRest};
 ghost use Rattle.fl_threads.specs.Ran.{Keeps, CoresRan, RanFrom};
 
 use crate::fault::{RunFault, Stop};
-use crate::fork::run_each;
+use crate::fork::{Done, run_each};
 use crate::settling::{put_together, rings_hold};
 use crate::telling::tell;
 use crate::wiring::wire;
@@ -33,6 +39,41 @@ fn owners_of(alloc: Global, owners: &[usize]) -> Result<Vec<u64>, AllocError>
     Ok(copies)
 }
 
+// Everybody's seat on the table of a run.
+fn seat_of_all(alloc: Global, cores: usize, owners: &[usize]) -> Result<EndSeat, AllocError>
+    requires few { cores ≤ 16 }
+    requires jobs { length owners.now ≤ 65536 }
+    ensures all { IfOk result (λ seat. seat.knows ≡ opening_view cores owners.now) }
+{
+    let plan = Plan {
+        cores: cores as u64,
+        owners: owners_of(alloc, owners)?,
+    };
+    EndSeat::new(alloc, plan)
+}
+
+// The report of cores that ran. Their seats are put in the run's own, and their rings together again.
+fn report_on(
+    alloc: Global,
+    joined: &Joined,
+    own: EndSeat,
+    owners: Vec<usize>,
+    done: Vec<Done>,
+) -> Result<Report, AllocError>
+    requires few { length joined.now.bindings.items ≤ 1024 }
+    requires dockets { HasDockets joined.now.bindings.items joined.now.dockets.items }
+    requires rest { IsRest own (length joined.now.owners.items) (seats_left (map outcome_of done.items)) }
+    requires rings { HoldRings owners.items (sides_left (map outcome_of done.items)) }
+    ensures tells { IfOk result (λ r. Tells (joined_of joined.now) (map outcome_of done.items) (report_of r)) }
+    ensures heard { OnOk result (HeardAsTold (length joined.now.owners.items) (seats_left (map outcome_of done.items))) }
+    ensures near { OnOk result ((after : List Pair) → AreDealt owners.items (sides_of after) (sides_left (map outcome_of done.items)) → Each IsNear after) }
+{
+    let report = tell(alloc, joined, &done)?;
+    let jobs = joined.owners.as_slice().len();
+    put_together(alloc, own, jobs, owners, done)?;
+    Ok(report)
+}
+
 // The run of parts with the jobs that were joined to them.
 fn run_joined<R: Threads + Wait + Sync, G: Gate + Sync>(
     rt: &R,
@@ -47,22 +88,12 @@ fn run_joined<R: Threads + Wait + Sync, G: Gate + Sync>(
     requires dockets { HasDockets joined.bindings.items joined.dockets.items }
     ensures ran { IfOk result (λ r. CoresRan parts (joined_of joined) limit (report_of r)) }
 {
-    let plan = Plan {
-        cores: parts.cores.as_slice().len() as u64,
-        owners: owners_of(alloc, &joined.owners)?,
-    };
-    let mut own = EndSeat::new(alloc, plan)?;
+    let mut own = seat_of_all(alloc, parts.cores.as_slice().len(), &joined.owners)?;
     let wired = wire(alloc, parts, &joined, &mut own)?;
     rings_hold();
-    match run_each(rt, alloc, gate, own, wired.stations, &joined.jobs, limit) {
-        Err((stop, _)) => Err(stop),
-        Ok((done, own)) => {
-            let report = tell(alloc, &joined, &done)?;
-            let jobs = joined.owners.as_slice().len();
-            put_together(alloc, own, jobs, wired.owners, done)?;
-            Ok(report)
-        }
-    }
+    let (ran, own) = run_each(rt, alloc, gate, own, wired.stations, &joined.jobs, limit);
+    let done = ran?;
+    Ok(report_on(alloc, &joined, own, wired.owners, done)?)
 }
 
 /// Runs the cores of a world's parts on threads of their own, each with its jobs, until all have finished or so many turns of one are counted.

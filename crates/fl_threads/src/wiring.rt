@@ -12,7 +12,7 @@ ghost use Rattle.fl_threads.specs.Begins.{core_at, owns, ends_at, ends_from, wor
 ghost use Rattle.fl_threads.specs.Begins.{IsAlone, IsStation, AreStations};
 ghost use Rattle.fl_threads.specs.Shares.{sides_given, queues_given};
 ghost use Rattle.fl_threads.specs.Dealing.{Wires};
-ghost use Rattle.fl_threads.specs.Stations.{IsReady, AllReady, station_of, common_of, seats_given, AreSeats, left_view};
+ghost use Rattle.fl_threads.specs.Stations.{IsReady, AllReady, AddsStation, station_of, common_of, seats_given, AreSeats, left_view};
 
 use crate::sharing::{Owners, deal_queues, deal_sides};
 use fl_base::{EndId, LinkId, Side};
@@ -33,7 +33,8 @@ const MAX_LINKS: u16 = 15;
 /// A core with all that its thread needs.
 #[derive(Drop)]
 pub(crate) struct Station {
-    pub(crate) running: Running<SharedSide>,
+    // in a box: it is large, and a station goes from hand to hand
+    pub(crate) running: Box<Running<SharedSide>>,
     pub(crate) plan: Plan,
     pub(crate) ticket: Ticket,
 }
@@ -191,7 +192,48 @@ struct Common<'a> {
     queues: &'a [usize],
 }
 
+// What a core's run works with besides what is dealt to it.
+#[derive(Drop)]
+struct Outfit {
+    desks: Vec<Desk>,
+    names: Names,
+    programs: Vec<Program>,
+}
+
 impl Common<'_> {
+    // The desks of core k, and its copies of the names and programs.
+    fn outfit(&self, k: usize) -> Result<Outfit, AllocError>
+        requires few { length self.now.joined.now.bindings.items ≤ 1024 }
+        requires dockets { HasDockets self.now.joined.now.bindings.items self.now.joined.now.dockets.items }
+        ensures desks { IfOk result (λ o. o.desks.items ≡ desks_of k (joined_of self.now.joined.now)) }
+        ensures names { IfOk result (λ o. o.names ≡ self.now.names.now) }
+        ensures programs { IfOk result (λ o. map program_of o.programs.items ≡ map program_of self.now.programs.now) }
+    {
+        Ok(Outfit {
+            desks: desks_for(self.alloc, k, self.joined)?,
+            names: self.names.duplicate()?,
+            programs: copies(self.alloc, self.programs)?,
+        })
+    }
+
+    // The plan of core k, and what is known of the openings of its ends.
+    fn plan(&self, k: usize, core: &Core) -> Result<(Plan, Vec<Word>), AllocError>
+        ensures ends { IfOk result (λ r. r.0.ends.items ≡ ends_from k 0 self.now.joined.now.bindings.items) }
+        ensures dispatchers { IfOk result (λ r. r.0.dispatchers ≡ length core.now.board.dispatchers) }
+        ensures cores { IfOk result (λ r. r.0.cores ≡ self.now.cores) }
+        ensures words { IfOk result (λ r. r.1.items ≡ words_of k self.now.joined.now.bindings.items) }
+        ensures as_many { IfOk result (λ r. length r.1.items ≡ length r.0.ends.items) }
+    {
+        let (ends, words) = ends_of(self.alloc, k, &self.joined.bindings)?;
+        let plan = Plan {
+            links: links_of(self.alloc, core)?,
+            ends,
+            dispatchers: core.board().dispatchers(),
+            cores: self.cores as u64,
+        };
+        Ok((plan, words))
+    }
+
     // The station of core k, with its sides, queues and seat.
     fn station(
         &self,
@@ -207,39 +249,53 @@ impl Common<'_> {
         ensures ready { IfOk result IsReady }
         ensures station { IfOk result (λ s. IsStation (common_of self.now) k core (station_of s)) }
         ensures seat { IfOk result (λ s. s.ticket.seat ≡ seat) }
-        ensures rings { IfOk result (λ s. s.running.rings.items ≡ rings.items) }
-        ensures queues { IfOk result (λ s. s.running.queues.items ≡ queues.items) }
+        ensures rings { IfOk result (λ s. s.running.value.rings.items ≡ rings.items) }
+        ensures queues { IfOk result (λ s. s.running.value.queues.items ≡ queues.items) }
     {
-        let dispatchers = core.board().dispatchers();
+        let (plan, words) = self.plan(k, &core)?;
+        let outfit = self.outfit(k)?;
         let mut core = core;
         core.renumber(self.sides, self.queues);
         core.sound();
-        let (ends, words) = ends_of(self.alloc, k, &self.joined.bindings)?;
-        let plan = Plan {
-            links: links_of(self.alloc, &core)?,
-            ends,
-            dispatchers,
-            cores: self.cores as u64,
-        };
         let running = Running {
             alloc: self.alloc,
             core,
             rings,
             queues,
-            desks: desks_for(self.alloc, k, self.joined)?,
-            names: self.names.duplicate()?,
-            programs: copies(self.alloc, self.programs)?,
+            desks: outfit.desks,
+            names: outfit.names,
+            programs: outfit.programs,
             idle: 0,
         };
         Ok(Station {
-            running,
+            running: Box::new(self.alloc, running)?,
             plan,
             ticket: Ticket { seat, words },
         })
     }
 
+    // A station more behind the others, with a seat cut off everybody's.
+    fn add_station(
+        &self,
+        stations: &mut Vec<Station>,
+        own: &mut EndSeat,
+        core: Core,
+        rings: Vec<SharedSide>,
+        queues: Vec<QueueLink>,
+    ) -> Result<(), AllocError>
+        requires bindings { AreBindings self.now.cores self.now.joined.now.bindings.items self.now.joined.now.owners.items }
+        requires dockets { HasDockets self.now.joined.now.bindings.items self.now.joined.now.dockets.items }
+        requires few { length stations.old.items < self.now.cores }
+        requires own { own.old.knows ≡ left_view self.now.cores self.now.joined.now.owners.items (length stations.old.items) }
+        ensures adds { OnOk result (AddsStation (common_of self.now) core rings.items queues.items own.old own.new stations.old.items stations.new.items) }
+    {
+        let k = stations.as_slice().len();
+        let seat = own.split()?;
+        stations.push(self.station(k, core, rings, queues, seat)?)?;
+        Ok(())
+    }
+
     // The stations of the first cores, each with a seat cut off everybody's.
-    #[tactic(auto, using(crate::proofs::Each::ready_push))]
     fn stations(
         &self,
         own: &mut EndSeat,
@@ -265,7 +321,6 @@ impl Common<'_> {
         let Some(core) = cores.pop() else {
             return Ok(Vec::new(self.alloc));
         };
-        let k = cores.as_slice().len();
         let mut sides = sides;
         let mut queues = queues;
         let Some(own_sides) = sides.pop() else {
@@ -275,8 +330,7 @@ impl Common<'_> {
             unreachable!();
         };
         let mut stations = self.stations(own, cores, sides, queues)?;
-        let seat = own.split()?;
-        stations.push(self.station(k, core, own_sides, own_queues, seat)?)?;
+        self.add_station(&mut stations, own, core, own_sides, own_queues)?;
         Ok(stations)
     }
 }

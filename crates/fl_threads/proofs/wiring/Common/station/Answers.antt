@@ -15,8 +15,8 @@ returns c =
     record {
       ready = record {
         core = core_moved c.renumber.new.self _ (search rules) c.sound.ensures.sound;
-        as_many = c.in_ok-ends.ensures.as_many;
-        may = subst (λ (words : List Word). AreWords words knows) (sym (c.in_ok-ends.ensures.words ∙ ap (words_of c.args.k) c.deref.ensures.value))
+        as_many = c.in_ok-plan.ensures.as_many;
+        may = subst (λ (words : List Word). AreWords words knows) (sym c.in_ok-plan.ensures.words)
             (words_are c.args.self.now.cores joined.bindings.items joined.owners.items c.args.k knows c.requires.bindings alone);
         finishes = may_finish joined.owners.items c.args.k knows alone;
         stops = may_stop joined.owners.items c.args.k knows alone;
