@@ -1,7 +1,6 @@
 //! Fragments that can't follow those before them, and want of memory where a call becomes whole.
 
 use crate::pair::{Deed, Example, Said, Step};
-use crate::tables::Row;
 use fl_base::{Circuit, Side};
 use std::alloc::Global;
 
@@ -109,12 +108,11 @@ const QUIET: &[Step] = &[
 const HAS_FAILED: Said = Said::Seen(Some(Circuit(0)), [true, false, true, false]);
 
 // An end that has failed answers E64 to a receive, a write, a look and a call.
-const FAILED: &[Step] = &[
-    (Side::Server, Deed::Look, HAS_FAILED),
-    (Side::Server, Deed::Receive, Said::Refused(64)),
-    (Side::Server, Deed::Write, Said::Refused(64)),
-    (Side::Server, Deed::Show, Said::Refused(64)),
-];
+const RECEIVES: Step = (Side::Server, Deed::Receive, Said::Refused(64));
+
+const WRITES: Step = (Side::Server, Deed::Write, Said::Refused(64));
+
+const SHOWS: Step = (Side::Server, Deed::Show, Said::Refused(64));
 
 pub const EXAMPLES: &[Example] = &[
     Example {
@@ -123,8 +121,11 @@ pub const EXAMPLES: &[Example] = &[
         size: 8,
         starts: FORGED,
         rows: &[
-            FAILED,
-            &[(Side::Server, Deed::Call(b"m(1, \"a\")"), Said::Refused(64))],
+            (Side::Server, Deed::Look, HAS_FAILED),
+            RECEIVES,
+            WRITES,
+            SHOWS,
+            (Side::Server, Deed::Call(b"m(1, \"a\")"), Said::Refused(64)),
         ],
         handled: b"",
     },
@@ -134,8 +135,11 @@ pub const EXAMPLES: &[Example] = &[
         size: 8,
         starts: INSIDE,
         rows: &[
-            FAILED,
-            &[(Side::Server, Deed::Call(b"nop()"), Said::Refused(64))],
+            (Side::Server, Deed::Look, HAS_FAILED),
+            RECEIVES,
+            WRITES,
+            SHOWS,
+            (Side::Server, Deed::Call(b"nop()"), Said::Refused(64)),
         ],
         handled: b"",
     },
@@ -156,19 +160,12 @@ const HALF_TAKEN: &[Step] = &[
     (Side::Server, Deed::Receive, Said::Part),
 ];
 
-const AT_LAST: Example = Example {
+/// A call that becomes whole at last.
+pub const AT_LAST: Example = Example {
     text: BLOB,
     circuit: Some(Circuit(0)),
     size: 8,
     starts: &[HALF_TAKEN],
-    rows: &[&[(Side::Server, Deed::ReceiveAtLast, Said::Handled)]],
+    rows: &[(Side::Server, Deed::ReceiveAtLast, Said::Handled)],
     handled: LONG,
 };
-
-/// Whether a call becomes whole at last; where memory runs out before that there is nothing to show.
-pub fn receives_without_memory(alloc: Global) -> bool {
-    match AT_LAST.holds(alloc) {
-        Ok(holds) => holds,
-        Err(_) => true,
-    }
-}

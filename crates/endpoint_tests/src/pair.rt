@@ -77,7 +77,7 @@ pub struct Example {
     /// How it begins: each of these is tried with a new binding.
     pub starts: &'static [&'static [Step]],
     /// How each goes on.
-    pub rows: &'static [&'static [Step]],
+    pub rows: &'static [Step],
     pub handled: &'static [u8],
 }
 
@@ -206,23 +206,6 @@ fn handle(
     Ok(Said::Handled)
 }
 
-fn seen(end: &End) -> Said {
-    let is = [
-        end.is_bound(),
-        end.is_busy(),
-        end.is_failed(),
-        end.has_rules(),
-    ];
-    Said::Seen(end.circuit(), is)
-}
-
-fn counts(end: &End) -> Said {
-    Said::Counts(
-        end.replies_waiting(),
-        end.program().interface().messages.len(),
-    )
-}
-
 // What an end answers that takes no memory.
 fn ask(end: &mut End, deed: Deed) -> Said {
     match deed {
@@ -234,8 +217,19 @@ fn ask(end: &mut End, deed: Deed) -> Said {
             end.bind(circuit);
             Said::Done
         }
-        Deed::Look => seen(end),
-        _ => counts(end),
+        Deed::Look => {
+            let is = [
+                end.is_bound(),
+                end.is_busy(),
+                end.is_failed(),
+                end.has_rules(),
+            ];
+            Said::Seen(end.circuit(), is)
+        }
+        _ => Said::Counts(
+            end.replies_waiting(),
+            end.program().interface().messages.len(),
+        ),
     }
 }
 
@@ -329,21 +323,12 @@ impl Pair {
         Ok(true)
     }
 
-    fn goes_on(&mut self, parts: &[&[Step]]) -> Result<bool, AllocError> {
-        for rows in parts {
-            if !self.answers(rows)? {
-                return Ok(false);
-            }
-        }
-        Ok(true)
-    }
-
     fn has_handled(&self, text: &[u8]) -> bool {
         self.handled.as_slice() == text
     }
 
     fn goes(&mut self, example: &Example, start: &[Step]) -> Result<bool, AllocError> {
-        Ok(self.answers(start)? && self.goes_on(example.rows)? && self.has_handled(example.handled))
+        Ok(self.answers(start)? && self.answers(example.rows)? && self.has_handled(example.handled))
     }
 }
 

@@ -73,8 +73,15 @@ const REPLY: &[Step] = &[
     (Side::Client, Deed::Receive, Said::Handled),
 ];
 
-// Eighteen calls are made and written, of which seventeen are handled: one reply is in transmission then, and 16 wait.
-const EIGHTEEN_CALLS: &[Step] = &[
+const RULE: &[Step] = &[(Side::Server, Deed::Rule(MsgNo(0), MsgNo(1)), Said::Done)];
+
+const HANDLED: Step = (Side::Server, Deed::Receive, Said::Handled);
+
+const SIXTEEN_WAIT: Step = (Side::Server, Deed::Count, Said::Counts(16, 2));
+
+// Eighteen calls are made and written, of which seventeen are handled: one reply is in transmission then, and 16 wait. No fragment is looked
+// at while they do. A write makes room for one, and the first that waited is in transmission.
+const HELD_BACK: &[Step] = &[
     (
         Side::Client,
         Deed::Send(b"echo_call(1)"),
@@ -165,16 +172,24 @@ const EIGHTEEN_CALLS: &[Step] = &[
         Deed::Send(b"echo_call(18)"),
         Said::Written(1, 1),
     ),
-];
-
-const SEVENTEEN_HANDLED: &[Step] = &[(Side::Server, Deed::Receive, Said::Handled); 17];
-
-const SIXTEEN_WAIT: &[Step] = &[(Side::Server, Deed::Count, Said::Counts(16, 2))];
-
-const RULE: &[Step] = &[(Side::Server, Deed::Rule(MsgNo(0), MsgNo(1)), Said::Done)];
-
-// No fragment is looked at while 16 replies wait. A write makes room for one, and the first that waited is in transmission.
-const HELD_BACK: &[Step] = &[
+    HANDLED,
+    HANDLED,
+    HANDLED,
+    HANDLED,
+    HANDLED,
+    HANDLED,
+    HANDLED,
+    HANDLED,
+    HANDLED,
+    HANDLED,
+    HANDLED,
+    HANDLED,
+    HANDLED,
+    HANDLED,
+    HANDLED,
+    HANDLED,
+    HANDLED,
+    SIXTEEN_WAIT,
     (Side::Server, Deed::Receive, Said::HeldBack),
     (
         Side::Server,
@@ -190,6 +205,7 @@ const HELD_BACK: &[Step] = &[
     (Side::Server, Deed::Receive, Said::Handled),
     (Side::Server, Deed::Receive, Said::HeldBack),
     (Side::Client, Deed::Receive, Said::Handled),
+    SIXTEEN_WAIT,
 ];
 
 const ECHOES: &[u8] = b"echo_call(1)\necho_call(2)\necho_call(3)\necho_call(4)\necho_call(5)\n\
@@ -273,13 +289,7 @@ pub const EXAMPLES: &[Example] = &[
         circuit: Some(Circuit(0)),
         size: 32,
         starts: &[RULE],
-        rows: &[
-            EIGHTEEN_CALLS,
-            SEVENTEEN_HANDLED,
-            SIXTEEN_WAIT,
-            HELD_BACK,
-            SIXTEEN_WAIT,
-        ],
+        rows: HELD_BACK,
         handled: ECHOES,
     },
     Example {

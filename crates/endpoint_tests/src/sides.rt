@@ -102,7 +102,7 @@ pub const EXAMPLES: &[Example] = &[
         circuit: None,
         size: 1,
         starts: &[UNBOUND],
-        rows: &[BOUND],
+        rows: BOUND,
         handled: b"",
     },
     Example {
