@@ -32,7 +32,7 @@ running_sends core side queue desk names program = struct_send (shape (Running.t
             names,
             (
               search (sendable, crosses, program) depth 40,
-              tt,
+              (search (sendable, crosses) depth 20, tt),
             ),
           ),
         ),
