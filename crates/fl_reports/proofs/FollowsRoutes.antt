@@ -2,7 +2,6 @@
 use Rattle.std.proofs.Common.{◌≡◌, refl, ap, ◌∙◌, ℕ, ◌==◌, ◌&&◌, ◌||◌, not, Bool, true, List, [], ◌∷◌, map, length, slice_get, Some}
 use Rattle.std.specs.List.{list_any}
 use Rattle.fl_base.specs.declared.identity.CoreId.{CoreId}
-use Rattle.fl_lists.specs.ThreeLists.{is_in}
 use Rattle.fl_monitor.specs.Routing.{is_core, all_differ}
 use Rattle.fl_queues.specs.Binding.{all_differ as numbers_differ}
 use Rattle.fl_running.specs.declared.job.Job.{Job as CoreJob}
@@ -19,7 +18,7 @@ use Rattle.fl_reports.proofs.Wishes.{may_go}
 abbrev pub RoutesDiffer : List CoreJob → Type 0
 RoutesDiffer jobs = (place : ℕ) (wish : Wish) → slice_get jobs place ≡ Some (job.Open wish) → numbers_differ (cores_on wish.opening.path) ≡ true
 
-among : (n : ℕ) (path : List CoreId) → is_in n (cores_on path) ≡ list_any (is_core n) path
+among : (n : ℕ) (path : List CoreId) → list_any (λ (x : ℕ). x == n) (cores_on path) ≡ list_any (is_core n) path
 among n [] = refl
 among n (c ∷ path) = ap (λ (b : Bool). (c.0 == n) || b) (among n path)
 
