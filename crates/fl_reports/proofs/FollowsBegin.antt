@@ -46,7 +46,8 @@ use Rattle.fl_cuts.specs.Ends.{EndCut}
 use Rattle.fl_cuts.specs.Cut.{Each2, ShowsWaits, name_at, UsesQueue, IsUsed, ShowsCut}
 use Rattle.fl_cuts.specs.Start.{IsFirstEnd, IsFirstSide, IsFirstQueue, IsStarting, first_end, first_ends, first_cut, StartsShow}
 use Rattle.fl_cuts.specs.Ready.{Serves, IsReady}
-use Rattle.fl_reports.specs.Follows.{behind, IsOfMachine}
+use Rattle.fl_reports.specs.Follows.{IsOfMachine}
+use Rattle.fl_reports.specs.Wanted.{behind}
 use Rattle.fl_reports.proofs.FollowsDealt.{own_is_one, new_sides}
 use Rattle.fl_reports.proofs.FollowsEnds.{first_at, of_machine}
 use Rattle.fl_reports.proofs.FollowsRuled.{WasEnd, Was, were}

@@ -22,7 +22,8 @@ use Rattle.fl_threads.specs.Tells.{TheOutcome, RanTo, Each2, shared_ways}
 use Rattle.fl_cores.specs.Promised.{Reports}
 use Rattle.fl_cuts.specs.Start.{first_cut, StartsShow}
 use Rattle.fl_cuts.specs.Ready.{ReadyTurnsFollow}
-use Rattle.fl_reports.specs.Follows.{behind, RunsFollow}
+use Rattle.fl_reports.specs.Follows.{RunsFollow}
+use Rattle.fl_reports.specs.Wanted.{behind}
 use Rattle.fl_reports.proofs.FollowsRoutes.{routes_differ}
 use Rattle.fl_reports.proofs.FollowsBegin.{machine, begins, ends_are, is_ready}
 use Rattle.fl_dockets.specs.State.{TheJoined}

@@ -6,9 +6,7 @@ use Rattle.fl_running.specs.Logs.{Goes}
 use Rattle.fl_running.specs.Turn.{Turned}
 use Rattle.fl_queues.specs.Ends.{End}
 use Rattle.fl_queues.specs.Monitors.{Core}
-use Rattle.fl_queues.specs.Runs.{reached}
 use Rattle.fl_queues.specs.State.{Binding, State, core_of, binding_of, interface_of, end_of}
-use Rattle.fl_queues.specs.Worlds.{start_with}
 use Rattle.fl_jobs.specs.Jobs.{Job}
 use Rattle.fl_jobs.specs.Report.{TheReport}
 use Rattle.fl_system.specs.Booting.{TheConfig}
@@ -19,10 +17,7 @@ use Rattle.fl_cuts.specs.Ends.{EndCut}
 use Rattle.fl_cuts.specs.Cut.{Cut, ShowsCut}
 use Rattle.fl_cuts.specs.Does.{CutGoes}
 use Rattle.fl_cuts.specs.Start.{first_cut}
-
--- what the machine is behind the set-up
-abbrev pub behind : TheConfig → State
-behind c = reached (start_with c.cores) c.setup
+use Rattle.fl_reports.specs.Wanted.{behind}
 
 -- an end of a cut as the machine has it, but for the rules that jobs set; the queue that it takes from stands among the core's
 pub record IsOfMachine (s : State) (x : EndCut) : Type 0 where
