@@ -88,6 +88,20 @@ reply_row line =
 
 -- ---- the first word
 
+-- of a line that makes something, or registers an end
+abbrev pub making_verb_of : List ℕ → Verb
+making_verb_of word =
+    if bytes_eq word (codes "bind") then verb.Bind
+    else if bytes_eq word (codes "disp") then verb.Disp
+    else if bytes_eq word (codes "export") then verb.Export
+    else if bytes_eq word (codes "link") then verb.Link
+    else if bytes_eq word (codes "cores") then verb.Cores
+    else if bytes_eq word (codes "register") then verb.Register
+    else if bytes_eq word (codes "deregister") then verb.Deregister
+    else if bytes_eq word (codes "reply") then verb.Reply
+    else if bytes_eq word (codes "idl") then verb.Idl
+    else verb.Unknown
+
 abbrev pub verb_of : List ℕ → Verb
 verb_of word =
     if bytes_eq word (codes "call") then verb.Call
@@ -98,16 +112,7 @@ verb_of word =
     else if bytes_eq word (codes "mack") then verb.Mack
     else if bytes_eq word (codes "mwrite") then verb.Mwrite
     else if bytes_eq word (codes "show") then verb.Show
-    else if bytes_eq word (codes "bind") then verb.Bind
-    else if bytes_eq word (codes "disp") then verb.Disp
-    else if bytes_eq word (codes "export") then verb.Export
-    else if bytes_eq word (codes "link") then verb.Link
-    else if bytes_eq word (codes "cores") then verb.Cores
-    else if bytes_eq word (codes "register") then verb.Register
-    else if bytes_eq word (codes "deregister") then verb.Deregister
-    else if bytes_eq word (codes "reply") then verb.Reply
-    else if bytes_eq word (codes "idl") then verb.Idl
-    else verb.Unknown
+    else making_verb_of word
 
 -- the commands that have an end alone, or two numbers alone, behind their first word
 abbrev pub with_end : (EndName → Command) → List ℕ → Option Command

@@ -193,6 +193,40 @@ fn put_call(
     print_call(alloc, out, names.message_name(end, call.msg), &call.args)
 }
 
+// The same, behind its word and the end.
+#[tactic(auto, using(crate::proofs::Kept::pieces))]
+fn put_handled(
+    alloc: Global,
+    out: &mut Vec<u8>,
+    names: &Names,
+    end: EndId,
+    call: &Call,
+) -> Result<(), AllocError>
+    ensures ok { OnOk result (out.new.items ≡ out.old.items
+        ++ (codes "handle " ++ end_named (names_of names.now) end ++ codes " " ++ call_at (names_of names.now) end (call_of call.now))) }
+    ensures grows { IsPrefix out.old.items out.new.items }
+{
+    put_of_end(out, b"handle ", names, end)?;
+    out.extend_from_slice(b" ")?;
+    put_call(alloc, out, names, end, call)
+}
+
+// A refused opening.
+#[tactic(auto, using(crate::proofs::Kept::pieces))]
+fn put_opening_refused(
+    out: &mut Vec<u8>,
+    number: u32,
+    names: &Names,
+    end: EndId,
+) -> Result<(), AllocError>
+    ensures ok { OnOk result (out.new.items ≡ out.old.items
+        ++ (codes "refused E" ++ decimal number ++ codes " " ++ end_named (names_of names.now) end)) }
+    ensures grows { IsPrefix out.old.items out.new.items }
+{
+    put_refused(out, number as usize)?;
+    put_of_end(out, b" ", names, end)
+}
+
 // The text of an answer.
 #[tactic(auto, using(crate::proofs::Kept::pieces))]
 fn put_answer(
@@ -210,20 +244,13 @@ fn put_answer(
         Answer::Nothing => out.extend_from_slice(b"nothing"),
         Answer::Full => out.extend_from_slice(b"full"),
         Answer::Written { k, n } => put_written(out, *k, *n),
-        Answer::Handle { end, call } => {
-            put_of_end(out, b"handle ", names, *end)?;
-            out.extend_from_slice(b" ")?;
-            put_call(alloc, out, names, *end, call)
-        }
+        Answer::Handle { end, call } => put_handled(alloc, out, names, *end, call),
         Answer::Part(end) => put_of_end(out, b"part ", names, *end),
         Answer::Ready(end) => put_of_end(out, b"ready ", names, *end),
         Answer::Quiet(end) => put_of_end(out, b"quiet ", names, *end),
         Answer::Forwarded => out.extend_from_slice(b"forwarded"),
         Answer::Opened(end) => put_of_end(out, b"opened ", names, *end),
-        Answer::OpeningRefused { number, end } => {
-            put_refused(out, *number as usize)?;
-            put_of_end(out, b" ", names, *end)
-        }
+        Answer::OpeningRefused { number, end } => put_opening_refused(out, *number, names, *end),
         Answer::Words(frag) => put_frag(out, frag),
         Answer::Refused(number) => put_refused(out, usize::from(*number)),
     }

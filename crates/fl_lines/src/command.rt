@@ -9,14 +9,14 @@ use fl_value::PlanNo;
 use std::alloc::{AllocError, Global};
 
 /// An end as a script names it: a binding's name, and `.c` for the client's end or `.s` for the service's.
-#[derive(Clone, Copy, Debug)]
+#[derive(Clone, Copy)]
 pub struct EndName<'a> {
     pub binding: &'a [u8],
     pub side: Side,
 }
 
 /// The cores of a circuit's route, as a line has them: the first, and the text of the others, which are numbers.
-#[derive(Clone, Copy, Debug)]
+#[derive(Clone, Copy)]
 pub struct Route<'a> {
     pub first: u32,
     pub others: &'a [u8],
@@ -46,7 +46,7 @@ impl Route<'_> {
 }
 
 /// How a binding's two ends are to be joined.
-#[derive(Clone, Copy, Debug)]
+#[derive(Clone, Copy)]
 pub enum BackEnd<'a> {
     /// By queues of so many slots, on one core.
     Local(u32),
@@ -57,7 +57,7 @@ pub enum BackEnd<'a> {
 }
 
 /// What a line asks for. Names are lent by the line.
-#[derive(Clone, Copy, Debug)]
+#[derive(Clone, Copy)]
 pub enum Command<'a> {
     /// The number of cores.
     Cores(u32),
@@ -118,7 +118,7 @@ pub enum Command<'a> {
 }
 
 /// What a line is.
-#[derive(Clone, Copy, Debug)]
+#[derive(Clone, Copy)]
 pub enum Line<'a> {
     /// Blank or a comment: no answer.
     Silent,
@@ -130,7 +130,7 @@ pub enum Line<'a> {
 }
 
 /// What a line is by its first word.
-#[derive(Clone, Copy, Debug)]
+#[derive(Clone, Copy)]
 pub enum Opening<'a> {
     Silent,
     Heading(PlanNo),

@@ -13,7 +13,7 @@ use fl_value::PlanNo;
 use memchr::memchr;
 
 /// One item of a script.
-#[derive(Clone, Copy, Debug)]
+#[derive(Clone, Copy)]
 pub enum Item<'a> {
     /// A line outside blocks; never the head of one.
     Line(Line<'a>),
@@ -24,7 +24,7 @@ pub enum Item<'a> {
 }
 
 /// One item of a script, told by its first word: what stands behind that isn't read yet.
-#[derive(Clone, Copy, Debug)]
+#[derive(Clone, Copy)]
 pub enum Part<'a> {
     Silent,
     /// A line that begins with this word, and what stands behind it: a command, or nothing that is read.

@@ -8,7 +8,7 @@ ghost use Rattle.fl_lines.specs.Grammar.{LineIs};
 ghost use Rattle.fl_lines.specs.Words.{is_none, first_word, words_of, numbers_of};
 ghost use Rattle.fl_lines.specs.Reading.{end_of, one_number, two_numbers, one_end};
 ghost use Rattle.fl_lines.specs.Reading.{with_cores, link_row, disp_row, export_row, route_row, back_end_row};
-ghost use Rattle.fl_lines.specs.Reading.{bind_row, call_row, turn_row, reply_row, verb_of, command_by};
+ghost use Rattle.fl_lines.specs.Reading.{bind_row, call_row, turn_row, reply_row, making_verb_of, verb_of, command_by};
 ghost use Rattle.fl_lines.specs.Reading.{heading_by, line_by, line_with, read_line};
 ghost use Rattle.fl_lines.specs.Views.{end_name_of, back_end_of, command_of, line_of, opening_of};
 
@@ -255,6 +255,33 @@ fn reply_row(line: &[u8]) -> Option<Command<'_>>
     })
 }
 
+// The verb of a line that makes something, or registers an end.
+fn making_verb(word: &[u8]) -> Verb
+    ensures same { result ≡ making_verb_of word.now }
+{
+    if word == b"bind".as_slice() {
+        Verb::Bind
+    } else if word == b"disp".as_slice() {
+        Verb::Disp
+    } else if word == b"export".as_slice() {
+        Verb::Export
+    } else if word == b"link".as_slice() {
+        Verb::Link
+    } else if word == b"cores".as_slice() {
+        Verb::Cores
+    } else if word == b"register".as_slice() {
+        Verb::Register
+    } else if word == b"deregister".as_slice() {
+        Verb::Deregister
+    } else if word == b"reply".as_slice() {
+        Verb::Reply
+    } else if word == b"idl".as_slice() {
+        Verb::Idl
+    } else {
+        Verb::Unknown
+    }
+}
+
 // The verb of a word that is seldom.
 #[inline(never)]
 fn seldom_verb(word: &[u8]) -> Verb
@@ -276,26 +303,8 @@ fn seldom_verb(word: &[u8]) -> Verb
         Verb::Mwrite
     } else if word == b"show".as_slice() {
         Verb::Show
-    } else if word == b"bind".as_slice() {
-        Verb::Bind
-    } else if word == b"disp".as_slice() {
-        Verb::Disp
-    } else if word == b"export".as_slice() {
-        Verb::Export
-    } else if word == b"link".as_slice() {
-        Verb::Link
-    } else if word == b"cores".as_slice() {
-        Verb::Cores
-    } else if word == b"register".as_slice() {
-        Verb::Register
-    } else if word == b"deregister".as_slice() {
-        Verb::Deregister
-    } else if word == b"reply".as_slice() {
-        Verb::Reply
-    } else if word == b"idl".as_slice() {
-        Verb::Idl
     } else {
-        Verb::Unknown
+        making_verb(word)
     }
 }
 
